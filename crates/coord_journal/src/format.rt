@@ -1,0 +1,39 @@
+//! The format of the coordinator's records.
+ghost use Rattle.std.specs.Prelude.{◌≡◌, ◌≤◌, ◌+◌, ◌++◌, List, length, Some, None, IfOk, IsErrOf};
+ghost use Rattle.coord_journal.specs.Exact.{spelled_is_read};
+ghost use Rattle.coord_journal.specs.Spelling.{spelling, reading, IsRecord, InRange};
+
+use crate::decoding::record_of;
+use crate::encoding::{payload_len, put_record};
+use byte_numbers::DecodeErr;
+use fed_rules::CoordRecord;
+use frame_journal::Format;
+use std::alloc::Global;
+
+/// The format of the coordinator's records.
+#[derive(Drop)]
+pub struct CoordFormat;
+
+impl Format<CoordRecord> for CoordFormat {
+    ghost spelling = { spelling };
+
+    ghost reading = { reading };
+
+    ghost in_range = { InRange };
+
+    ghost is_record = { IsRecord };
+
+    ghost spelled_is_read = { spelled_is_read };
+
+    fn payload_len(entry: &CoordRecord) -> usize {
+        payload_len(entry)
+    }
+
+    fn encode(entry: &CoordRecord, out: &mut Vec<u8>) {
+        put_record(entry, out);
+    }
+
+    fn decode(alloc: Global, payload: &[u8]) -> Result<CoordRecord, DecodeErr> {
+        record_of(alloc, payload)
+    }
+}

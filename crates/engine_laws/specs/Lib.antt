@@ -1,0 +1,5 @@
+pub mod Epochs
+pub mod Laws
+pub mod ReplyLaws
+pub mod Unended
+pub mod WrongRules

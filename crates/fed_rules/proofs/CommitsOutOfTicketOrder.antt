@@ -1,0 +1,72 @@
+-- Commits come out of the order of the tickets, and the printed order is that of the tickets.
+use Rattle.std.proofs.Common.{◌≡◌, None, false, List, [], ◌∷◌, map, reverse, refl}
+use Rattle.mdb_base.specs.declared.names.Engine.TheVariants.{Locking}
+use Rattle.mdb_base.specs.declared.names.Tid.{Tid}
+use Rattle.mdb_base.specs.declared.replies.Reply.TheVariants as Reply_is
+use Rattle.presumptions.specs.declared.Decision.TheVariants as Decided
+use Rattle.presumptions.specs.declared.Protocol.TheVariants as By
+use Rattle.fed_rules.specs.declared.answers.Answer.TheVariants as Say
+use Rattle.fed_rules.specs.declared.commands.Line.{Line}
+use Rattle.fed_rules.specs.declared.scenario.Scenario.{Scenario}
+use Rattle.fed_rules.specs.Closing.{closed}
+use Rattle.fed_rules.specs.Orders.{orders, IsMerge}
+use Rattle.fed_rules.specs.Reports.{printed_order}
+use Rattle.fed_rules.specs.Right.{story_told}
+use Rattle.fed_rules.specs.Story.{Story, story_of, lines_of}
+use Rattle.fed_rules.proofs.Opened.{opened}
+use Rattle.fed_rules.proofs.Spelled.{tid, set, site, step_at, global, scenario_of, go, give, take, place, line}
+
+abbrev scenario : Scenario
+scenario =
+    scenario_of
+    (site 1 Locking By.Nothing ∷ [])
+    []
+    (global 1 (step_at 1 (set 1 1) ∷ []) ∷ global 2 (step_at 1 (set 2 2) ∷ []) ∷ [])
+
+-- the lines of the commands, the first one first
+abbrev printed : List Line
+printed =
+    line (go 1) (Say.Begun (tid 1 0)) (place 1 0 ∷ [])
+    ∷ line (go 2) (Say.Begun (tid 2 0)) (place 1 1 ∷ [])
+    ∷ line (give 1 0) (Say.Did (tid 1 0) Reply_is.Done) (place 1 0 ∷ [])
+    ∷ line (give 1 1) (Say.Did (tid 2 0) Reply_is.Done) (place 1 1 ∷ [])
+    ∷ line (take 1 0) Say.Only (place 1 2 ∷ [])
+    ∷ line (take 1 1) Say.Only (place 1 3 ∷ [])
+    ∷ line (give 1 2) (Say.Did (tid 1 0) (Reply_is.Ticket 1)) (place 1 2 ∷ [])
+    ∷ line (take 1 2) Say.Initiates (place 1 4 ∷ [])
+    ∷ line (give 1 4) (Say.VotesYes (tid 1 0) 1) (place 1 3 ∷ [])
+    ∷ line (give 1 3) (Say.Did (tid 2 0) (Reply_is.Ticket 2)) (place 1 4 ∷ [])
+    ∷ line (take 1 4) Say.Initiates (place 1 5 ∷ [])
+    ∷ line (give 1 5) (Say.VotesYes (tid 2 0) 2) (place 1 5 ∷ [])
+    ∷ line (take 1 5) (Say.Decides Decided.Commit None false) (place 1 6 ∷ [])
+    ∷ line (take 1 3) (Say.Decides Decided.Commit None false) (place 1 7 ∷ [])
+    ∷ []
+
+-- the last line first
+abbrev lines : List Line
+lines = reverse printed
+
+abbrev story : Story
+story = story_told scenario lines
+
+lines_are_right : lines_of story ≡ lines
+unfolding opened
+lines_are_right = refl
+
+-- the story with its closing
+abbrev ended_story : Story
+ended_story = story_of scenario (closed scenario (map (λ line. line.command) lines))
+
+abbrev order : List Tid
+order = tid 1 0 ∷ tid 2 0 ∷ []
+
+order_is_right : printed_order scenario ended_story ≡ order
+unfolding opened
+order_is_right = refl
+
+site_orders : orders scenario ended_story ≡ (tid 1 0 ∷ tid 2 0 ∷ []) ∷ []
+unfolding opened
+site_orders = refl
+
+order_is_a_merge : IsMerge scenario ended_story order
+order_is_a_merge = rw site_orders (record { kept = (refl, tt); named = refl })

@@ -1,0 +1,23 @@
+pub mod Spelled
+pub mod Opened
+mod EmptySession
+mod OneLocalTransaction
+mod YoungerDies
+mod OlderWaits
+mod TransferBetweenTwoSites
+mod TimestampOrder
+mod ReadBehindACommitIsInvalid
+mod ReadUnderAPreparedIsInvalid
+mod SumWrapsAround
+mod AttemptsAreSpent
+mod ThreeProtocolsCommit
+mod OppositeTickets
+mod CycleThroughLocals
+mod CommitsOutOfTicketOrder
+mod TicketIsHeld
+mod GivenUpAtTheLastVote
+mod CommitRecordIsKept
+mod CommitRecordIsTorn
+mod OldMessages
+mod LocalRecordIsKept
+mod LocalRecordIsLost

@@ -1,0 +1,255 @@
+-- The story of a scenario and its commands: what each command makes happen, which messages were sent, and which line is printed.
+-- The story is kept newest first. Any message that was sent may be taken at any time, any number of times, or never.
+use Rattle.std.specs.Prelude.{ℕ, zero, suc, nat_le, nat_lt, cond, Option, Some, None, List, [], ◌∷◌, ◌++◌, length, map}
+use Rattle.mdb_base.specs.declared.acts.Step.{Step}
+use Rattle.mdb_base.specs.declared.names.SiteId.{SiteId}
+use Rattle.mdb_base.specs.declared.names.Tid.{Tid}
+use Rattle.mdb_base.specs.declared.names.Tx.{Tx}
+use Rattle.mdb_base.specs.Names.{same_site, same_tid}
+use Rattle.mdb_base.specs.Programs.{plain_act}
+use Rattle.mdb_base.specs.Words.{when, pick, some_of, those, found, item_at}
+use Rattle.fed_rules.specs.declared.answers.Answer.{Answer}
+use Rattle.fed_rules.specs.declared.answers.Answer.TheVariants as Say
+use Rattle.fed_rules.specs.declared.commands.Command.{Command}
+use Rattle.fed_rules.specs.declared.commands.Command.TheVariants as Cmd
+use Rattle.fed_rules.specs.declared.commands.Line.{Line}
+use Rattle.fed_rules.specs.declared.commands.Place.{Place}
+use Rattle.fed_rules.specs.declared.events.CoordEvent.{CoordEvent}
+use Rattle.fed_rules.specs.declared.events.CoordEvent.TheVariants as Coord_event
+use Rattle.fed_rules.specs.declared.events.SiteEvent.{SiteEvent}
+use Rattle.fed_rules.specs.declared.events.SiteEvent.TheVariants as Site_event
+use Rattle.fed_rules.specs.declared.messages.FromSite.{FromSite}
+use Rattle.fed_rules.specs.declared.messages.ToSite.{ToSite}
+use Rattle.fed_rules.specs.declared.scenario.Scenario.{Scenario}
+use Rattle.fed_rules.specs.CoordPast as Coordinator
+use Rattle.fed_rules.specs.CoordPast.{CoordHappening, CoordPast, oldest_first}
+use Rattle.fed_rules.specs.Coord.{coord_line}
+use Rattle.fed_rules.specs.Happenings.{is_down}
+use Rattle.fed_rules.specs.Runs.{Access, Got, Wrote, Run}
+use Rattle.fed_rules.specs.Scenarios.{home_of, local_home, global_program, program_of, protocols}
+use Rattle.fed_rules.specs.Site.{site_line, done}
+use Rattle.fed_rules.specs.SitePast.{SiteHappening, SitePast, live, live_of_tx, attempts_of}
+use Rattle.fed_rules.specs.SiteRecords.{Home}
+
+-- who makes a line: a site, the coordinator, or nobody, where no actor hears of the command
+pub data Happened : Type 0 where
+  AtSite : SiteId → SiteHappening → Happened
+  AtCoordinator : CoordHappening → Happened
+  Nowhere : Answer → Happened
+
+-- a command, and what it made happen
+pub record Told : Type 0 where
+  pub command : Command
+  pub happened : Happened
+
+abbrev pub Story : Type 0
+Story = List Told
+
+abbrev pub with_site : SiteId → Happened → SitePast → SitePast
+with_site site (AtSite at x) past = cond (same_site at site) (x ∷ past) past
+with_site site (AtCoordinator x) past = past
+with_site site (Nowhere answer) past = past
+
+-- the past of a site
+abbrev pub past_of : SiteId → Story → SitePast
+past_of site [] = []
+past_of site (told ∷ story) = with_site site told.happened (past_of site story)
+
+abbrev pub with_coordinator : Happened → CoordPast → CoordPast
+with_coordinator (AtSite at x) past = past
+with_coordinator (AtCoordinator x) past = x ∷ past
+with_coordinator (Nowhere answer) past = past
+
+-- the past of the coordinator
+abbrev pub coord_past : Story → CoordPast
+coord_past [] = []
+coord_past (told ∷ story) = with_coordinator told.happened (coord_past story)
+
+-- what a line sends to a site
+abbrev pub sends_to : SiteId → Happened → List ToSite
+sends_to site (AtSite at x) = []
+sends_to site (AtCoordinator x) = map (λ sent. sent.message) (those (λ sent. same_site sent.site site) x.sends)
+sends_to site (Nowhere answer) = []
+
+-- the messages sent to a site, in the order of sending
+abbrev pub sent_to : SiteId → Story → List ToSite
+sent_to site [] = []
+sent_to site (told ∷ story) = sent_to site story ++ sends_to site told.happened
+
+-- what a line sends from a site
+abbrev pub sends_from : SiteId → Happened → List FromSite
+sends_from site (AtSite at x) = cond (same_site at site) x.sends []
+sends_from site (AtCoordinator x) = []
+sends_from site (Nowhere answer) = []
+
+-- the messages sent from a site, in the order of sending
+abbrev pub sent_from : SiteId → Story → List FromSite
+sent_from site [] = []
+sent_from site (told ∷ story) = sent_from site story ++ sends_from site told.happened
+
+-- how many attempts a transaction has
+abbrev pub most_attempts : ℕ
+most_attempts = 32
+
+-- where all attempts were begun, what would begin a further one answers spent
+abbrev pub unless_begun : Answer → Answer
+unless_begun (Say.Begun tid) = Say.Spent
+unless_begun answer = answer
+
+-- the next event of a site
+abbrev pub at_site : Home → Story → SiteEvent → Happened
+at_site home story event = AtSite home.site (site_line home (past_of home.site story) event)
+
+-- the next event of the coordinator
+abbrev pub at_coordinator : Scenario → Story → CoordEvent → Happened
+at_coordinator scenario story event = AtCoordinator (coord_line (protocols scenario) (coord_past story) event)
+
+-- the attempt that would begin next
+abbrev pub attempt : Tx → ℕ → Tid
+attempt tx n = record { tx = tx; attempt = n }
+
+unfoldable pub begins_local : Home → Story → Tx → ℕ → Happened
+begins_local home story tx n =
+    let event = Site_event.Begin (attempt tx n) in
+    when (nat_le most_attempts n) (Nowhere (unless_begun (site_line home (past_of home.site story) event).answer)) (at_site home story event)
+
+-- `begin`: the next attempt of a local transaction
+unfoldable pub on_begin : Scenario → Story → Tx → Happened
+on_begin scenario story tx =
+    pick (local_home scenario tx) (Nowhere Say.None)
+    (λ home. begins_local home story tx (attempts_of (past_of home.site story) tx))
+
+abbrev pub value_of : Access → Option ℕ
+value_of (Got key value) = Some value
+value_of (Wrote key value) = None
+
+-- the values that a run read, in program order
+abbrev pub run_reads : Run → List ℕ
+run_reads run = oldest_first (found value_of run.acts)
+
+-- the live attempt of a local transaction, with its run; what finds none is answered idle
+unfoldable pub with_live : Home → Story → Tx → (Tid → Run → Happened) → Happened
+with_live home story tx next =
+    when (is_down (past_of home.site story)) (Nowhere Say.Down)
+    (pick (live_of_tx home (past_of home.site story) tx) (Nowhere Say.Idle)
+    (λ tid. pick (live home (past_of home.site story) tid) (Nowhere Say.Idle) (next tid)))
+
+unfoldable pub next_step : Home → Story → List Step → Tid → Run → Happened
+next_step home story steps tid run =
+    pick (item_at steps (done run)) (Nowhere Say.End)
+    (λ step. at_site home story (Site_event.Act tid (plain_act (run_reads run) step.act)))
+
+-- `step`: the next step of the live attempt
+unfoldable pub on_step : Scenario → Story → Tx → Happened
+on_step scenario story tx =
+    pick (local_home scenario tx) (Nowhere Say.None)
+    (λ home. with_live home story tx (next_step home story (program_of scenario tx)))
+
+-- `commit`: every step is done
+unfoldable pub on_commit : Scenario → Story → Tx → Happened
+on_commit scenario story tx =
+    pick (local_home scenario tx) (Nowhere Say.None)
+    (λ home. with_live home story tx (λ tid run.
+    when (nat_lt (done run) (length (program_of scenario tx))) (Nowhere Say.Unfinished) (at_site home story (Site_event.Commit tid))))
+
+-- `abort`
+unfoldable pub on_abort : Scenario → Story → Tx → Happened
+on_abort scenario story tx =
+    pick (local_home scenario tx) (Nowhere Say.None)
+    (λ home. with_live home story tx (λ tid run. at_site home story (Site_event.Abort tid)))
+
+-- `fate`, of a local transaction at its site and of a global one at the coordinator
+unfoldable pub on_fate : Scenario → Story → Tx → Happened
+on_fate scenario story tx =
+    pick (local_home scenario tx)
+    (pick (global_program scenario tx) (Nowhere Say.None) (λ steps. at_coordinator scenario story (Coord_event.Fate tx)))
+    (λ home. at_site home story (Site_event.Fate tx))
+
+unfoldable pub begins_global : Scenario → Story → Tx → List Step → ℕ → Happened
+begins_global scenario story tx steps n =
+    let event = Coord_event.Go (attempt tx n) steps in
+    when (nat_le most_attempts n) (Nowhere (unless_begun (coord_line (protocols scenario) (coord_past story) event).answer))
+    (at_coordinator scenario story event)
+
+-- `go`: the next attempt of a global transaction
+unfoldable pub on_go : Scenario → Story → Tx → Happened
+on_go scenario story tx =
+    pick (global_program scenario tx) (Nowhere Say.None)
+    (λ steps. begins_global scenario story tx steps (Coordinator.attempts_of (coord_past story) tx))
+
+-- an event of the coordinator about an attempt that was begun
+unfoldable pub on_attempt : Scenario → Story → Tid → CoordEvent → Happened
+on_attempt scenario story tid event =
+    when (some_of (same_tid tid) (Coordinator.begun_tids (coord_past story))) (at_coordinator scenario story event) (Nowhere Say.None)
+
+-- an event of a declared site
+unfoldable pub on_site : Scenario → Story → SiteId → SiteEvent → Happened
+on_site scenario story site event = pick (home_of scenario site) (Nowhere Say.None) (λ home. at_site home story event)
+
+-- `give`: the site takes a message that was sent to it
+unfoldable pub on_give : Scenario → Story → SiteId → ℕ → Happened
+on_give scenario story site place =
+    pick (item_at (sent_to site story) place) (Nowhere Say.None) (λ message. on_site scenario story site (Site_event.Give message))
+
+-- `take`: the coordinator takes a message that was sent from the site
+unfoldable pub on_take : Scenario → Story → SiteId → ℕ → Happened
+on_take scenario story site place =
+    pick (item_at (sent_from site story) place) (Nowhere Say.None)
+    (λ message. at_coordinator scenario story (Coord_event.Take site message))
+
+-- an event of an actor: the coordinator is actor 0
+unfoldable pub on_actor : Scenario → Story → ℕ → CoordEvent → SiteEvent → Happened
+on_actor scenario story zero at_coord at_site = at_coordinator scenario story at_coord
+on_actor scenario story (suc n) at_coord at_site = on_site scenario story (record { 0 = suc n }) at_site
+
+-- what a command makes happen
+unfoldable pub happens : Scenario → Story → Command → Happened
+happens scenario story (Cmd.Begin tx) = on_begin scenario story tx
+happens scenario story (Cmd.Step tx) = on_step scenario story tx
+happens scenario story (Cmd.Commit tx) = on_commit scenario story tx
+happens scenario story (Cmd.Abort tx) = on_abort scenario story tx
+happens scenario story (Cmd.Fate tx) = on_fate scenario story tx
+happens scenario story (Cmd.Go tx) = on_go scenario story tx
+happens scenario story (Cmd.Again tid) = on_attempt scenario story tid (Coord_event.Again tid)
+happens scenario story (Cmd.Late tid) = on_attempt scenario story tid (Coord_event.Late tid)
+happens scenario story (Cmd.Give site place) = on_give scenario story site place
+happens scenario story (Cmd.Take site place) = on_take scenario story site place
+happens scenario story (Cmd.Ask site tid) = on_site scenario story site (Site_event.Ask tid)
+happens scenario story (Cmd.Drop site tid) = on_site scenario story site (Site_event.Drop tid)
+happens scenario story (Cmd.Halt actor cut) = on_actor scenario story actor (Coord_event.Halt cut) (Site_event.Halt cut)
+happens scenario story (Cmd.Trip actor calls cut) =
+    on_actor scenario story actor (Coord_event.Trip calls cut) (Site_event.Trip calls cut)
+happens scenario story (Cmd.Back actor) = on_actor scenario story actor Coord_event.Back Site_event.Back
+
+abbrev pub tell : Scenario → Story → Command → Told
+tell scenario story command = record { command = command; happened = happens scenario story command }
+
+-- the story of these commands, the last one first
+abbrev pub story_of : Scenario → List Command → Story
+story_of scenario [] = []
+story_of scenario (command ∷ commands) = tell scenario (story_of scenario commands) command ∷ story_of scenario commands
+
+abbrev pub answer_of : Happened → Answer
+answer_of (AtSite site x) = x.answer
+answer_of (AtCoordinator x) = x.answer
+answer_of (Nowhere answer) = answer
+
+-- the place that a site's message gets, if the line sends one
+abbrev pub place_from : SiteId → ℕ → List FromSite → List Place
+place_from site sent [] = []
+place_from site sent (message ∷ messages) = record { site = site; place = sent } ∷ []
+
+-- the places of what a line sends: each message is numbered in its channel
+abbrev pub places_of : Story → Happened → List Place
+places_of story (AtSite site x) = place_from site (length (sent_from site story)) x.sends
+places_of story (AtCoordinator x) = map (λ sent. record { site = sent.site; place = length (sent_to sent.site story) }) x.sends
+places_of story (Nowhere answer) = []
+
+-- the line of what was told last
+abbrev pub line_of : Story → Told → Line
+line_of story told = record { command = told.command; answer = answer_of told.happened; sends = places_of story told.happened }
+
+-- the lines of a story, the last one first
+abbrev pub lines_of : Story → List Line
+lines_of [] = []
+lines_of (told ∷ story) = line_of story told ∷ lines_of story

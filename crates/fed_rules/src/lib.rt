@@ -1,0 +1,73 @@
+//! The rules of the federation: the plain types of events, answers, messages, records and lines, and in `specs/` the definitions
+//! that every contract cites. There is no code here but types.
+#![tactic(auto)]
+
+mod answers;
+mod commands;
+mod events;
+mod messages;
+mod records;
+mod report;
+mod runs;
+mod scenario;
+
+pub use answers::{Answer, Cause};
+pub use commands::{Command, Line, Place, Stamped};
+pub use events::{CoordEvent, CoordStep, SiteEvent, SiteStep};
+use mdb_base::{ListOf, Rising, SiteRows};
+pub use messages::{Due, FromSite, Sent, ToSite};
+pub use records::{CoordRecord, SiteRecord};
+pub use report::{Outcome, Report, TxReads};
+pub use runs::{Doubt, Kept, Sealed};
+pub use scenario::{ItemLine, LinkLine, Scenario, SiteLine, StopLine, TxLine};
+
+/// Places of sent messages, in the order in which they are printed.
+pub type Places = ListOf<Place>;
+
+/// Lines in the order in which they were made.
+pub type Lines = ListOf<Line>;
+
+/// Stamped lines in the order of their stamps.
+pub type StampedLines = ListOf<Stamped>;
+
+/// Messages to sites by rising site.
+pub type Sends = Rising<Sent>;
+
+/// The operations and Prepares that are outstanding, by rising site.
+pub type Dues = Rising<Due>;
+
+/// Messages to one site in the order of sending.
+pub type ToMessages = ListOf<ToSite>;
+
+/// Messages from one site in the order of sending.
+pub type FromMessages = ListOf<FromSite>;
+
+/// Messages to sites in the order of sending.
+pub type SentMessages = ListOf<Sent>;
+
+/// Commands in the order of their lines.
+pub type Commands = ListOf<Command>;
+
+/// Sites in the order of their lines.
+pub type SiteLines = ListOf<SiteLine>;
+
+/// First rows in the order of their lines.
+pub type ItemLines = ListOf<ItemLine>;
+
+/// Transactions in the order of their lines.
+pub type TxLines = ListOf<TxLine>;
+
+/// Fates of messages in the order of their lines.
+pub type LinkLines = ListOf<LinkLine>;
+
+/// Scripted stops in the order of their lines.
+pub type StopLines = ListOf<StopLine>;
+
+/// The reads of the members of an order, in that order.
+pub type AllReads = ListOf<TxReads>;
+
+/// The outcomes of global attempts by rising attempt.
+pub type Outcomes = ListOf<Outcome>;
+
+/// The tables of the sites by rising site.
+pub type AllRows = ListOf<SiteRows>;

@@ -1,0 +1,4 @@
+pub mod Disk
+pub mod Frames
+pub mod MemDisk
+pub mod Spans

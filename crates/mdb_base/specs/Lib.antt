@@ -1,0 +1,7 @@
+pub mod Names
+pub mod Counts
+pub mod Programs
+pub mod Rising
+pub mod Rows
+pub mod Texts
+pub mod Words

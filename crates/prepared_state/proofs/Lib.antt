@@ -1,0 +1,2 @@
+pub mod ByTid
+pub mod OneMore

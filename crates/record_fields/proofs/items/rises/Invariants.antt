@@ -1,0 +1,9 @@
+use Rattle.std.proofs.Common.{◌≡◌, length}
+use Rattle.record_fields.specs.Items.{rises}
+use Rattle.record_fields.proofs.items.rises.Given as goal
+
+abbrev pub invariant-loop-rest : goal.invariant-loop-rest
+invariant-loop-rest g l = rises g.T.Keyed.key l.rest ≡ rises g.T.Keyed.key l.items
+
+abbrev pub decreases-loop-rest : goal.decreases-loop-rest
+decreases-loop-rest g l = length l.rest

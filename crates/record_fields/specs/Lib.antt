@@ -1,0 +1,6 @@
+pub mod Exact
+pub mod ExactItems
+pub mod Field
+pub mod Items
+pub mod Named
+pub mod ExactNamed

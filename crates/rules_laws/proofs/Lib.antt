@@ -1,0 +1,3 @@
+mod Durable
+mod Heard
+mod Pasts

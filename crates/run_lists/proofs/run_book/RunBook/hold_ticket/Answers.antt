@@ -1,0 +1,12 @@
+use Rattle.std.proofs.Common.{◌∙◌, ap, List}
+use Rattle.run_lists.specs.Held.{Held}
+use Rattle.run_lists.specs.Book.{Book, with_ticket, tickets}
+use Rattle.run_lists.proofs.HeldLemmas.{place-same, set-changed_in}
+use Rattle.run_lists.proofs.run_book.RunBook.hold_ticket.Goals as goal
+
+pub returns : goal.returns
+returns c =
+    let book : List Held → Book = λ hs. record { rows = c.self.inside.rows; unended = hs; committed = c.self.inside.committed.items; marks = c.self.inside.marks } in
+    let is = place-same c.args.tid _ c.as_slice.ensures.value c.place_of-place.ensures.place in
+    ap book (set-changed_in _ c.args.tid _ (with_ticket c.args.ticket) _ _ is c.index_mut.ensures.value c.hold_ticket.ensures)
+    ∙ ap (tickets c.args.tid c.args.ticket) c.self.view_is

@@ -1,0 +1,5 @@
+pub mod Book
+pub mod Held
+pub mod Keeps
+pub mod Rivals
+pub mod Rows

@@ -1,0 +1,165 @@
+//! A granted access.
+ghost use Rattle.std.specs.Prelude.{◌≡◌, IfOk, reverse};
+ghost use Rattle.std.specs.List.{list_any};
+ghost use Rattle.fed_rules.specs.Runs.{Got, Wrote, written};
+ghost use Rattle.fed_rules.specs.Replies.{conflicts, conflicts_with_read, writes, reads, access_key};
+ghost use Rattle.run_lists.specs.Held.{access_value, written_row, own_write};
+
+use mdb_base::{Key, Memory, PlainAct, Put};
+use std::alloc::Global;
+use std::marker::Model;
+
+/// A granted access: the key, with the value that was read or written.
+#[derive(Drop)]
+pub struct Granted {
+    key: Key,
+    value: u64,
+    is_write: bool,
+}
+
+impl Model for Granted {
+    ghost use Rattle.std.specs.Prelude.{cond};
+    ghost use Rattle.fed_rules.specs.Runs.{Access, Got, Wrote};
+
+    ghost Value = { Access };
+
+    ghost view = { λ g. cond g.is_write (Wrote g.key g.value) (Got g.key g.value) };
+}
+
+impl Granted {
+    /// A read of this value.
+    pub fn read(key: Key, value: u64) -> Self
+        ensures { result ≡ Got key value }
+    {
+        Granted {
+            key,
+            value,
+            is_write: false,
+        }
+    }
+
+    /// A write of this value.
+    pub fn write(key: Key, value: u64) -> Self
+        ensures { result ≡ Wrote key value }
+    {
+        Granted {
+            key,
+            value,
+            is_write: true,
+        }
+    }
+
+    /// The key that was read or written.
+    pub fn key(&self) -> Key
+        ensures { result ≡ access_key self.now }
+    {
+        self.key
+    }
+
+    /// The value that was read or written.
+    pub fn value(&self) -> u64
+        ensures { result ≡ access_value self.now }
+    {
+        self.value
+    }
+
+    /// The row that it leaves, where it is a write.
+    pub fn written_row(&self) -> Option<Put>
+        ensures { result ≡ written_row self.now }
+    {
+        if self.is_write {
+            Some(Put {
+                key: self.key,
+                value: self.value,
+            })
+        } else {
+            None
+        }
+    }
+
+    /// Whether an act of another run conflicts with it: the same key, and one of the two a write.
+    pub fn conflicts_with(&self, act: PlainAct) -> bool
+        ensures { result ≡ conflicts act self.now }
+    {
+        match act {
+            PlainAct::Read(key) => self.is_write && self.key.0 == key.0,
+            PlainAct::Write(key, _) => self.key.0 == key.0,
+        }
+    }
+
+    /// Whether it is a read that an act of another run conflicts with.
+    pub fn is_read_against(&self, act: PlainAct) -> bool
+        ensures { result ≡ conflicts_with_read act self.now }
+    {
+        !self.is_write && self.conflicts_with(act)
+    }
+
+    /// Whether it is a read of the key.
+    pub fn reads(&self, key: Key) -> bool
+        ensures { result ≡ reads key self.now }
+    {
+        !self.is_write && self.key.0 == key.0
+    }
+
+    /// Whether it is a write of the key.
+    pub fn writes(&self, key: Key) -> bool
+        ensures { result ≡ writes key self.now }
+    {
+        self.is_write && self.key.0 == key.0
+    }
+}
+
+/// Whether some access conflicts with an act of another run.
+pub(crate) fn any_conflicts(accesses: &[Granted], act: PlainAct) -> bool
+    ensures { result ≡ list_any (conflicts act) accesses.now }
+{
+    accesses.iter().any(|access| access.conflicts_with(act))
+}
+
+/// Whether some access is a read that an act of another run conflicts with.
+pub(crate) fn any_reads_against(accesses: &[Granted], act: PlainAct) -> bool
+    ensures { result ≡ list_any (conflicts_with_read act) accesses.now }
+{
+    accesses.iter().any(|access| access.is_read_against(act))
+}
+
+/// Whether some access is a read of the key.
+pub(crate) fn any_reads(accesses: &[Granted], key: Key) -> bool
+    ensures { result ≡ list_any (reads key) accesses.now }
+{
+    accesses.iter().any(|access| access.reads(key))
+}
+
+/// Whether some access is a write of the key.
+pub(crate) fn any_writes(accesses: &[Granted], key: Key) -> bool
+    ensures { result ≡ list_any (writes key) accesses.now }
+{
+    accesses.iter().any(|access| access.writes(key))
+}
+
+/// The value of the last write of the key, the oldest access first.
+pub(crate) fn last_write(accesses: &[Granted], key: Key) -> Option<u64>
+    ensures { result ≡ own_write key (reverse accesses.now) }
+{
+    let mut last = None;
+    for access in accesses {
+        if access.writes(key) {
+            last = Some(access.value());
+        }
+    }
+    last
+}
+
+/// These rows as granted writes, the last row first.
+pub(crate) fn granted_writes(alloc: Global, rows: &[Put]) -> Result<Vec<Granted>, Memory>
+    ensures { IfOk result (λ writes. reverse writes.items ≡ written rows.now) }
+{
+    let mut writes = Vec::new(alloc);
+    let count = rows.len();
+    for done in 0..count {
+        let row = rows[count - 1 - done];
+        writes.reserve(1)?;
+        writes.push_reserved(Granted::write(row.key, row.value));
+    }
+    Ok(writes)
+}

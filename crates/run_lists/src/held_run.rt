@@ -1,0 +1,226 @@
+//! A run with what it was granted.
+ghost use Rattle.std.specs.Prelude.{◌≡◌, [], ◌∷◌, Some, None, OnOk, IfOk, OnErr, reverse, is_some};
+ghost use Rattle.mdb_base.specs.Words.{some_of};
+ghost use Rattle.fed_rules.specs.Runs.{begun, number, puts_of, restored};
+ghost use Rattle.fed_rules.specs.Replies.{age_of, is_in_the_way, has_read, has_written, conflicts_with_read};
+ghost use Rattle.run_lists.specs.Held.{own_write};
+ghost use Rattle.run_lists.specs.Rivals.{rival_by};
+
+use crate::granted::{
+    Granted, any_conflicts, any_reads, any_reads_against, any_writes, granted_writes, last_write,
+};
+use crate::marks::Marks;
+use crate::rival::Rival;
+use crate::row_list::last_writes;
+use fed_rules::Kept;
+use mdb_base::{Key, Memory, PlainAct, Puts, Tid};
+use std::alloc::Global;
+use std::marker::Model;
+
+/// A run, with its granted accesses, the oldest first, and the marks that were noted at it.
+#[derive(Drop)]
+pub struct HeldRun {
+    tid: Tid,
+    age: u64,
+    sealed: Option<u64>,
+    ticket: Option<u64>,
+    acts: Vec<Granted>,
+    marks: Marks,
+}
+
+impl Model for HeldRun {
+    ghost use Rattle.std.specs.Prelude.{reverse};
+    ghost use Rattle.run_lists.specs.Held.{Held};
+
+    ghost Value = { Held };
+
+    ghost view = { λ h. record {
+      run = record { tid = h.tid; age = h.age; sealed = h.sealed; ticket = h.ticket; acts = reverse h.acts.items };
+      marks = h.marks;
+    } };
+}
+
+impl HeldRun {
+    /// A run that begins.
+    pub fn begun(alloc: Global, tid: Tid, age: u64, marks: Marks) -> Self
+        ensures { result ≡ record { run = begun tid age; marks = marks } }
+    {
+        HeldRun {
+            tid,
+            age,
+            sealed: None,
+            ticket: None,
+            acts: Vec::new(alloc),
+            marks,
+        }
+    }
+
+    /// A run of a transaction in doubt, as a restart finds it.
+    pub fn restored(alloc: Global, kept: &Kept, marks: Marks) -> Result<Self, Memory>
+        ensures { IfOk result (λ held. held ≡ record { run = restored kept.now; marks = marks }) }
+    {
+        Ok(HeldRun {
+            tid: kept.tid,
+            age: kept.number,
+            sealed: Some(kept.number),
+            ticket: Some(kept.ticket),
+            acts: granted_writes(alloc, kept.writes.as_slice())?,
+            marks,
+        })
+    }
+
+    /// Its attempt.
+    pub fn tid(&self) -> Tid
+        ensures { result ≡ self.now.run.tid }
+    {
+        self.tid
+    }
+
+    /// The number that it drew at its begin, or of a restored one its serial number.
+    pub fn age(&self) -> u64
+        ensures { result ≡ self.now.run.age }
+    {
+        self.age
+    }
+
+    /// Its serial number, once it is sealed.
+    pub fn sealed(&self) -> Option<u64>
+        ensures { result ≡ self.now.run.sealed }
+    {
+        self.sealed
+    }
+
+    /// Its serial number, or 0.
+    pub fn number(&self) -> u64
+        ensures { result ≡ number self.now.run }
+    {
+        self.sealed.unwrap_or(0)
+    }
+
+    /// Its ticket, once it has taken one.
+    pub fn ticket(&self) -> Option<u64>
+        ensures { result ≡ self.now.run.ticket }
+    {
+        self.ticket
+    }
+
+    /// The marks that were noted at it.
+    pub fn marks(&self) -> Marks
+        ensures { result ≡ self.now.marks }
+    {
+        self.marks
+    }
+
+    /// Its granted accesses, the oldest first.
+    pub fn accesses(&self) -> &[Granted]
+        ensures { reverse result.now ≡ self.now.run.acts }
+    {
+        self.acts.as_slice()
+    }
+
+    /// It by its age.
+    pub fn by_age(&self) -> Rival
+        ensures { result ≡ rival_by age_of self.now.run }
+    {
+        Rival {
+            tid: self.tid,
+            rank: self.age,
+        }
+    }
+
+    /// It by its serial number, or 0.
+    pub fn by_number(&self) -> Rival
+        ensures { result ≡ rival_by number self.now.run }
+    {
+        Rival {
+            tid: self.tid,
+            rank: self.number(),
+        }
+    }
+
+    /// Whether it has a granted access that conflicts with an act of another run.
+    #[tactic(auto, using(crate::proofs::Words::list_any_turned))]
+    pub fn is_in_the_way(&self, act: PlainAct) -> bool
+        ensures { result ≡ is_in_the_way act self.now.run }
+    {
+        any_conflicts(self.acts.as_slice(), act)
+    }
+
+    /// Whether it has a granted read that conflicts with an act of another run.
+    #[tactic(auto, using(crate::proofs::Words::list_any_turned))]
+    pub fn has_read_against(&self, act: PlainAct) -> bool
+        ensures { result ≡ some_of (conflicts_with_read act) self.now.run.acts }
+    {
+        any_reads_against(self.acts.as_slice(), act)
+    }
+
+    /// Whether it has a granted read of the key.
+    #[tactic(auto, using(crate::proofs::Words::list_any_turned))]
+    pub fn has_read(&self, key: Key) -> bool
+        ensures { result ≡ has_read key self.now.run }
+    {
+        any_reads(self.acts.as_slice(), key)
+    }
+
+    /// Whether it has a granted write of the key.
+    #[tactic(auto, using(crate::proofs::Words::list_any_turned))]
+    pub fn has_written(&self, key: Key) -> bool
+        ensures { result ≡ has_written key self.now.run }
+    {
+        any_writes(self.acts.as_slice(), key)
+    }
+
+    /// The value of its last write of the key.
+    pub fn own_value(&self, key: Key) -> Option<u64>
+        ensures { result ≡ own_write key self.now.run.acts }
+    {
+        last_write(self.acts.as_slice(), key)
+    }
+
+    /// Its last write of each key, by rising key.
+    pub fn puts(&self, alloc: Global) -> Result<Puts, Memory>
+        ensures { IfOk result (λ puts. puts ≡ puts_of self.now.run.acts) }
+    {
+        last_writes(alloc, self.acts.as_slice())
+    }
+
+    /// Adds a granted access.
+    pub fn grant(&mut self, access: Granted) -> Result<(), Memory>
+        ensures granted { OnOk result
+            (self.new ≡ record self.old { run = record self.old.run { acts = access ∷ self.old.run.acts } }) }
+        ensures memory { OnErr result (self.new ≡ self.old) }
+    {
+        self.acts.reserve(1)?;
+        self.acts.push_reserved(access);
+        Ok(())
+    }
+
+    /// Gives it its ticket.
+    pub fn hold_ticket(&mut self, ticket: u64)
+        ensures { self.new ≡ record self.old { run = record self.old.run { ticket = Some ticket } } }
+    {
+        self.ticket = Some(ticket);
+    }
+
+    /// Seals it, and notes these marks.
+    pub fn seal(&mut self, number: u64, marks: Marks)
+        ensures { self.new ≡ record { run = record self.old.run { sealed = Some number }; marks = marks } }
+    {
+        self.sealed = Some(number);
+        self.marks = marks;
+    }
+
+    /// Takes its sealing back.
+    pub fn unseal(&mut self)
+        ensures { self.new ≡ record self.old { run = record self.old.run { sealed = None } } }
+    {
+        self.sealed = None;
+    }
+
+    /// Notes these marks.
+    pub fn note(&mut self, marks: Marks)
+        ensures { self.new ≡ record self.old { marks = marks } }
+    {
+        self.marks = marks;
+    }
+}

@@ -1,0 +1,35 @@
+//! Who stands first in the way.
+ghost use Rattle.std.specs.Prelude.{◌≡◌};
+
+use mdb_base::Tid;
+
+/// A run by its name, and the number by which it is compared: its age or its serial number.
+#[derive(Clone, Copy, Debug, PartialEq, Eq)]
+pub struct Rival {
+    pub tid: Tid,
+    pub rank: u64,
+}
+
+impl Rival {
+    ghost use Rattle.run_lists.specs.Rivals.{lower_of, higher_of};
+
+    /// The one with the lower rank, the first of two alike.
+    pub fn lower(first: Option<Rival>, next: Rival) -> Rival
+        ensures { result ≡ lower_of first next }
+    {
+        match first {
+            Some(first) if first.rank <= next.rank => first,
+            _ => next,
+        }
+    }
+
+    /// The one with the higher rank, the first of two alike.
+    pub fn higher(first: Option<Rival>, next: Rival) -> Rival
+        ensures { result ≡ higher_of first next }
+    {
+        match first {
+            Some(first) if next.rank <= first.rank => first,
+            _ => next,
+        }
+    }
+}

@@ -1,0 +1,13 @@
+pub mod CountLemmas
+pub mod DecimalLemmas
+pub mod DraftLemmas
+pub mod EntryLemmas
+mod Examples
+pub mod LineLemmas
+pub mod ListLemmas
+pub mod Opened
+pub mod PieceLemmas
+pub mod Readings
+pub mod SeenLemmas
+pub mod SizeLemmas
+pub mod StepLemmas

@@ -1,0 +1,11 @@
+pub mod CommandLines
+pub mod Drafts
+pub mod FirstBad
+pub mod Kept
+pub mod Names
+pub mod Pieces
+pub mod Reads
+pub mod ScenarioLines
+pub mod Seen
+pub mod Steps
+pub mod Texts

@@ -1,0 +1,3 @@
+pub mod FrameSizes
+pub mod Behind
+pub mod Found

@@ -1,0 +1,68 @@
+-- Writes of one row and of several.
+use Rattle.std.proofs.Common.{◌≡◌, ℕ, ◌+◌, ◌<◌, Bool, true, false, cond, Option, Some, None, List, [], ◌∷◌, ◌++◌, length, get_or, take, nat_eq, nat_lt, refl, sym, ap, ◌∙◌, arith}
+use Rattle.std.proofs.lemmas.Bool.{eqb-true, le-ltb, cond-true, cond-false}
+use Rattle.std.proofs.lemmas.List.{take_more}
+use Rattle.mdb_base.specs.declared.names.Key.{Key}
+use Rattle.mdb_base.specs.declared.rows.Put.{Put}
+use Rattle.mdb_base.specs.Names.{same_key}
+use Rattle.mdb_base.specs.Rows.{value_in}
+use Rattle.site_tables.specs.declared.versions.Version.{Version}
+use Rattle.site_tables.specs.Tables.{is_newer, written}
+
+-- the first of two values
+abbrev either : Option ℕ → Option ℕ → Option ℕ
+either None o = o
+either (Some value) o = Some value
+
+either-cond : (b : Bool) (value : ℕ) (o p : Option ℕ) → cond b (Some value) (either o p) ≡ either (cond b (Some value) o) p
+either-cond true value o p = refl
+either-cond false value o p = refl
+
+value_in-append : (xs ys : List Put) (key : Key) → value_in (xs ++ ys) key ≡ either (value_in xs key) (value_in ys key)
+value_in-append [] ys key = refl
+value_in-append (x ∷ xs) ys key =
+    ap (cond (same_key x.key key) (Some x.value)) (value_in-append xs ys key)
+    ∙ either-cond (same_key x.key key) x.value (value_in xs key) (value_in ys key)
+
+-- a version
+abbrev by_number : (number value : ℕ) → Version
+by_number number value = record { value = value; number = number }
+
+-- a write by the number that is kept changes nothing
+same_number : (number : ℕ) → nat_lt number number ≡ false
+same_number number = le-ltb number number (omega arith)
+
+written_twice : (number v w : ℕ) (b : Bool) (kept : Option Version) → is_newer number kept ≡ b → written number (Some w) (cond b (Some (by_number number v)) kept) ≡ cond b (Some (by_number number v)) kept
+written_twice number v w true kept e = cond-false _ _ _ (same_number number)
+written_twice number v w false kept e = cond-false _ _ _ e
+
+-- of two writes of a key by one number the first counts
+written-either : (number : ℕ) (o p : Option ℕ) (kept : Option Version) → written number (either o p) kept ≡ written number p (written number o kept)
+written-either number None p kept = refl
+written-either number (Some v) None kept = refl
+written-either number (Some v) (Some w) kept = sym (written_twice number v w (is_newer number kept) kept refl)
+
+-- a write behind the first ones
+pub written_more : (writes : List Put) (i : ℕ) (d : Put) (number : ℕ) (key : Key) (first now old : Option Version) → i < length writes → now ≡ written number (value_in (take i writes) key) first → old ≡ written number (value_in (get_or writes i d ∷ []) key) now → old ≡ written number (value_in (take (i + 1) writes) key) first
+written_more writes i d number key first now old h e f =
+    let put = get_or writes i d in
+    f ∙ ap (written number (value_in (put ∷ []) key)) e
+    ∙ sym (written-either number (value_in (take i writes) key) (value_in (put ∷ []) key) first)
+    ∙ ap (λ o. written number o first) (sym (value_in-append (take i writes) (put ∷ []) key))
+    ∙ ap (λ ws. written number (value_in ws key) first) (sym (take_more writes i d h))
+
+-- a write that counts
+pub writes_one : (number value k q : ℕ) (was kept new : Option Version) → is_newer number was ≡ true → (k ≡ q → kept ≡ was) → new ≡ cond (nat_eq k q) (Some (by_number number value)) kept → new ≡ written number (cond (nat_eq k q) (Some value) None) kept
+writes_one number value k q was kept new counts here e = e ∙ by_test (nat_eq k q) (λ is. here (eqb-true k q is))
+  where
+    by_test : (b : Bool) → (b ≡ true → kept ≡ was) → cond b (Some (by_number number value)) kept ≡ written number (cond b (Some value) None) kept
+    by_test true same = sym (cond-true _ _ _ (ap (is_newer number) (same refl) ∙ counts))
+    by_test false same = refl
+
+-- a write that doesn't
+pub keeps_one : (number value k q : ℕ) (was kept : Option Version) → is_newer number was ≡ false → (k ≡ q → kept ≡ was) → kept ≡ written number (cond (nat_eq k q) (Some value) None) kept
+keeps_one number value k q was kept late here = by_test (nat_eq k q) (λ is. here (eqb-true k q is))
+  where
+    by_test : (b : Bool) → (b ≡ true → kept ≡ was) → kept ≡ written number (cond b (Some value) None) kept
+    by_test true same = sym (cond-false _ _ _ (ap (is_newer number) (same refl) ∙ late))
+    by_test false same = refl

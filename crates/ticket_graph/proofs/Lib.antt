@@ -1,0 +1,9 @@
+pub mod EntryLemmas
+pub mod SearchLemmas
+pub mod StepLemmas
+pub mod TrailLemmas
+pub mod Searching
+pub mod EdgeSites
+pub mod GraphLemmas
+pub mod OrderLemmas
+pub mod TestLemmas

@@ -1,0 +1,24 @@
+-- Words that are joined by spaces.
+use Rattle.std.proofs.Common.{◌≡◌, ℕ, ◌-◌, ◌≤◌, List, [], ◌∷◌, ◌++◌, length, take, drop, get_or, ap, sym, ◌∙◌, append-nil, arith}
+use Rattle.std.proofs.lemmas.Grind.{common_steps}
+use Rattle.trace_lines.specs.declared.word.Word.{Word}
+use Rattle.trace_lines.specs.Words.{word_text}
+use Rattle.trace_lines.specs.Spelling.{spaced, words_bytes}
+
+-- the first word, and each other one behind a space
+pub joined_by_spaces : (word : Word) (words : List Word) → words_bytes (word ∷ words) ≡ word_text word ++ spaced words
+joined_by_spaces word [] = sym (append-nil (word_text word))
+joined_by_spaces word (next ∷ more) = ap (λ rest. word_text word ++ 32 ∷ rest) (joined_by_spaces next more)
+
+-- the same, with the first word and the others by their places
+pub joined_by_places : (words : List Word) (d : Word) → 1 ≤ length words → words_bytes words ≡ word_text (get_or words 0 d) ++ spaced (take (length words - 1) (drop 1 words))
+joined_by_places [] d h = absurd (omega arith)
+joined_by_places (word ∷ more) d h =
+    let all : take (length (word ∷ more) - 1) more ≡ more = grind (arith, common_steps) in
+    joined_by_spaces word more ∙ ap (λ rest. word_text word ++ spaced rest) (sym all)
+
+-- the first word is written where nothing was, and then the others
+pub first_and_others : (none first all : List ℕ) (words : List Word) (d : Word) → 1 ≤ length words → none ≡ [] → first ≡ none ++ word_text (get_or words 0 d) → all ≡ first ++ spaced (take (length words - 1) (drop 1 words)) → all ≡ words_bytes words
+first_and_others none first all words d h e f g =
+    let others : List ℕ = spaced (take (length words - 1) (drop 1 words)) in
+    g ∙ ap (λ front. front ++ others) (f ∙ ap (λ front. front ++ word_text (get_or words 0 d)) e) ∙ sym (joined_by_places words d h)

@@ -1,0 +1,204 @@
+//! Words from bytes.
+ghost use Rattle.std.specs.Prelude.{◌≡◌, ◌<◌, true, List, map, IsTrue, IfOk, IsErrOf, decimal};
+ghost use Rattle.mdb_base.specs.Words.{Each};
+ghost use Rattle.mdb_base.specs.Texts.{tid_text};
+ghost use Rattle.trace_lines.specs.Lexing as lexing;
+ghost use Rattle.trace_lines.specs.Lexing.{Spells, pieces, are_large, numbers_text, site_text, is_target, target_text};
+ghost use Rattle.trace_lines.specs.Range.{is_large, is_site, is_tid, is_place, is_edge, is_word};
+ghost use Rattle.trace_lines.specs.declared.word.Word.{Word};
+ghost use Rattle.trace_lines.specs.Words.{keyword_text, place_text, edge_text, word_text};
+
+use crate::error::LineErr;
+use crate::numbers::site_of;
+use crate::word::{Keyword, Word};
+use fed_rules::Place;
+use itoa::Buffer;
+use mdb_base::{Edge, SiteId, Tid, Tx};
+use std::alloc::Global;
+
+fn keyword_of(text: &str) -> Option<Keyword>
+    ensures { Spells (λ _. true) keyword_text text.now result }
+{
+    Some(match text {
+        "=>" => Keyword::Arrow,
+        "sends" => Keyword::Sends,
+        "begin" => Keyword::Begin,
+        "step" => Keyword::Step,
+        "commit" => Keyword::Commit,
+        "abort" => Keyword::Abort,
+        "fate" => Keyword::Fate,
+        "go" => Keyword::Go,
+        "again" => Keyword::Again,
+        "late" => Keyword::Late,
+        "give" => Keyword::Give,
+        "take" => Keyword::Take,
+        "ask" => Keyword::Ask,
+        "drop" => Keyword::Drop,
+        "halt" => Keyword::Halt,
+        "trip" => Keyword::Trip,
+        "back" => Keyword::Back,
+        "none" => Keyword::None,
+        "down" => Keyword::Down,
+        "idle" => Keyword::Idle,
+        "spent" => Keyword::Spent,
+        "end" => Keyword::End,
+        "unfinished" => Keyword::Unfinished,
+        "unbegun" => Keyword::Unbegun,
+        "aborted" => Keyword::Aborted,
+        "set" => Keyword::Set,
+        "awake" => Keyword::Awake,
+        "defers" => Keyword::Defers,
+        "ignored" => Keyword::Ignored,
+        "waits" => Keyword::Waits,
+        "voted" => Keyword::Voted,
+        "acked" => Keyword::Acked,
+        "forgets" => Keyword::Forgets,
+        "undecided" => Keyword::Undecided,
+        "initiates" => Keyword::Initiates,
+        "committed" => Keyword::Committed,
+        "running" => Keyword::Running,
+        "begun" => Keyword::Begun,
+        "unheld" => Keyword::Unheld,
+        "asks" => Keyword::Asks,
+        "dropped" => Keyword::Dropped,
+        "read" => Keyword::Read,
+        "wrote" => Keyword::Wrote,
+        "dies" => Keyword::Dies,
+        "invalid" => Keyword::Invalid,
+        "number" => Keyword::Number,
+        "stopped" => Keyword::Stopped,
+        "kept" => Keyword::Kept,
+        "did" => Keyword::Did,
+        "done" => Keyword::Done,
+        "value" => Keyword::Value,
+        "ticket" => Keyword::Ticket,
+        "unknown" => Keyword::Unknown,
+        "votes" => Keyword::Votes,
+        "yes" => Keyword::Yes,
+        "no" => Keyword::No,
+        "moved" => Keyword::Moved,
+        "settles" => Keyword::Settles,
+        "answers" => Keyword::Answers,
+        "presumes" => Keyword::Presumes,
+        "decides" => Keyword::Decides,
+        "site" => Keyword::Site,
+        "cycle" => Keyword::Cycle,
+        "up" => Keyword::Up,
+        "epoch" => Keyword::Epoch,
+        "doubtful" => Keyword::Doubtful,
+        "known" => Keyword::Known,
+        _ => return None,
+    })
+}
+
+/// The number that is printed so.
+fn number_of(text: &str) -> Option<u64>
+    ensures { Spells is_large decimal text.now result }
+{
+    let number = text.parse::<u64>().ok()?;
+    let mut buffer = Buffer::new();
+    (buffer.format(number) == text).then_some(number)
+}
+
+/// Two numbers with a mark between them.
+fn numbers_of(text: &str, mark: char) -> Option<(u64, u64)>
+    requires { mark < 48 }
+    ensures { Spells are_large (numbers_text mark) text.now result }
+{
+    let (first, second) = text.split_once(mark)?;
+    Some((number_of(first)?, number_of(second)?))
+}
+
+fn tid_at(tx: u64, attempt: u64) -> Option<Tid>
+    ensures { result ≡ lexing.tid_at (tx, attempt) }
+{
+    match (tx, attempt) {
+        (1..=1024, 0..=31) => Some(Tid {
+            tx: Tx(tx as u32),
+            attempt: attempt as u8,
+        }),
+        _ => None,
+    }
+}
+
+fn tid_of(text: &str) -> Option<Tid>
+    ensures { Spells is_tid tid_text text.now result }
+{
+    let (tx, attempt) = numbers_of(text, '.')?;
+    tid_at(tx, attempt)
+}
+
+fn place_at(site: u64, place: u64) -> Option<Place>
+    ensures { result ≡ lexing.place_at (site, place) }
+{
+    match (site, place) {
+        (1..=8, 0..=0xffff_ffff) => Some(Place {
+            site: SiteId(site as u8),
+            place: place as u32,
+        }),
+        _ => None,
+    }
+}
+
+fn place_of(text: &str) -> Option<Place>
+    ensures { Spells is_place place_text text.now result }
+{
+    let (site, place) = numbers_of(text, '/')?;
+    place_at(site, place)
+}
+
+fn site_named(text: &str) -> Option<SiteId>
+    ensures { Spells is_site site_text text.now result }
+{
+    let number = number_of(text)?;
+    site_of(number)
+}
+
+/// The attempt that an edge goes to, and its site.
+fn target_of(text: &str) -> Option<(Tid, SiteId)>
+    ensures { Spells is_target target_text text.now result }
+{
+    let (to, site) = text.split_once('@')?;
+    Some((tid_of(to)?, site_named(site)?))
+}
+
+fn edge_of(text: &str) -> Option<Edge>
+    ensures { Spells is_edge edge_text text.now result }
+{
+    let (from, target) = text.split_once('>')?;
+    let from = tid_of(from)?;
+    let (to, site) = target_of(target)?;
+    Some(Edge { from, to, site })
+}
+
+/// The word that is spelled so.
+pub fn word_of(text: &str) -> Option<Word>
+    ensures { Spells is_word word_text text.now result }
+{
+    if let Some(keyword) = keyword_of(text) {
+        return Some(Word::Plain(keyword));
+    }
+    if let Some(number) = number_of(text) {
+        return Some(Word::Number(number));
+    }
+    if let Some(tid) = tid_of(text) {
+        return Some(Word::Attempt(tid));
+    }
+    if let Some(sent) = place_of(text) {
+        return Some(Word::Sent(sent));
+    }
+    let edge = edge_of(text)?;
+    Some(Word::Joined(edge))
+}
+
+/// The words of a text, which stand with one space between each two.
+pub fn words_of(alloc: Global, text: &str) -> Result<Vec<Word>, LineErr>
+    ensures found { IfOk result (λ words. Each (λ word. IsTrue (is_word word)) words.items × (map word_text words.items ≡ pieces text.now)) }
+    ensures none { IsErrOf result LineErr.NoLine → (words : List Word) → Each (λ word. IsTrue (is_word word)) words → map word_text words ≡ pieces text.now → ⊥ }
+{
+    let mut words = Vec::new(alloc);
+    for word in text.split(' ') {
+        words.push(word_of(word).ok_or(LineErr::NoLine)?)?;
+    }
+    Ok(words)
+}

@@ -1,0 +1,66 @@
+//! Words as bytes.
+ghost use Rattle.std.specs.Prelude.{◌≡◌, ◌∷◌, ◌++◌, OnOk, IfOk, codes, decimal};
+ghost use Rattle.mdb_base.specs.Texts.{tid_text};
+ghost use Rattle.trace_lines.specs.Words.{place_text, edge_text, word_text};
+ghost use Rattle.trace_lines.specs.Spelling.{spaced, words_bytes};
+
+use crate::word::Word;
+use fed_rules::Place;
+use mdb_base::{Edge, Memory, put_number, put_text, put_tid};
+use std::alloc::Global;
+
+fn put_place(out: &mut Vec<u8>, sent: Place) -> Result<(), Memory>
+    ensures { OnOk result (out.new.items ≡ out.old.items ++ place_text sent) }
+{
+    put_number(out, u64::from(sent.site.0))?;
+    put_text(out, "/")?;
+    put_number(out, u64::from(sent.place))
+}
+
+fn put_edge(out: &mut Vec<u8>, edge: Edge) -> Result<(), Memory>
+    ensures { OnOk result (out.new.items ≡ out.old.items ++ edge_text edge) }
+{
+    put_tid(out, edge.from)?;
+    put_text(out, ">")?;
+    put_tid(out, edge.to)?;
+    put_text(out, "@")?;
+    put_number(out, u64::from(edge.site.0))
+}
+
+fn put_word(out: &mut Vec<u8>, word: Word) -> Result<(), Memory>
+    ensures { OnOk result (out.new.items ≡ out.old.items ++ word_text word) }
+{
+    match word {
+        Word::Plain(keyword) => put_text(out, keyword.text()),
+        Word::Number(number) => put_number(out, number),
+        Word::Attempt(tid) => put_tid(out, tid),
+        Word::Sent(sent) => put_place(out, sent),
+        Word::Joined(edge) => put_edge(out, edge),
+    }
+}
+
+/// Appends words, with one space before each.
+fn put_more(out: &mut Vec<u8>, words: &[Word]) -> Result<(), Memory>
+    ensures { OnOk result (out.new.items ≡ out.old.items ++ spaced words.now) }
+{
+    for word in words {
+        put_text(out, " ")?;
+        put_word(out, *word)?;
+    }
+    Ok(())
+}
+
+/// The bytes of words, with one space between each two.
+pub fn text_of(alloc: Global, words: &[Word]) -> Result<Vec<u8>, Memory>
+    ensures { IfOk result (λ text. text.items ≡ words_bytes words.now) }
+{
+    match words {
+        [] => Ok(Vec::new(alloc)),
+        [first, more @ ..] => {
+            let mut text = Vec::new(alloc);
+            put_word(&mut text, *first)?;
+            put_more(&mut text, more)?;
+            Ok(text)
+        }
+    }
+}
