@@ -1,0 +1,356 @@
+-- Each line of the coordinator is made so, by whichever rule it goes.
+use Rattle.std.proofs.Common.{◌≡◌, ℕ, zero, suc, Bool, true, false, cond, ◌||◌, is_some, is_none, Option, Some, None, List, [], ◌∷◌, ◌++◌, take, map, refl, sym, ap, ◌∙◌}
+use Rattle.mdb_base.specs.declared.acts.Step.{Step}
+use Rattle.mdb_base.specs.declared.names.SiteId.{SiteId}
+use Rattle.mdb_base.specs.declared.names.SiteTicket.{SiteTicket}
+use Rattle.mdb_base.specs.declared.names.Tid.{Tid}
+use Rattle.mdb_base.specs.declared.names.Tx.{Tx}
+use Rattle.mdb_base.specs.declared.replies.Reply.{Reply}
+use Rattle.mdb_base.specs.declared.replies.Reply.TheVariants as Reply_is
+use Rattle.mdb_base.specs.declared.replies.Why.TheVariants as Because
+use Rattle.mdb_base.specs.Names.{same_site}
+use Rattle.mdb_base.specs.Programs.{plain_act}
+use Rattle.mdb_base.specs.Words.{Each, when, found, with_some, those}
+use Rattle.presumptions.specs.declared.Decision.{Decision}
+use Rattle.presumptions.specs.declared.Decision.TheVariants as Decide_is
+use Rattle.presumptions.specs.declared.Participant.{Participant}
+use Rattle.order_laws.specs.Search.{cycle_through}
+use Rattle.order_laws.specs.Tickets.{Ticketed, edge_between}
+use Rattle.fed_rules.specs.declared.answers.Answer.{Answer}
+use Rattle.fed_rules.specs.declared.answers.Answer.TheVariants as Say
+use Rattle.fed_rules.specs.declared.answers.Cause.{Cause}
+use Rattle.fed_rules.specs.declared.events.CoordEvent.{CoordEvent}
+use Rattle.fed_rules.specs.declared.events.CoordEvent.TheVariants as Ev
+use Rattle.fed_rules.specs.declared.messages.Due.{Due}
+use Rattle.fed_rules.specs.declared.messages.Due.TheVariants as Due_is
+use Rattle.fed_rules.specs.declared.messages.FromSite.{FromSite}
+use Rattle.fed_rules.specs.declared.messages.FromSite.TheVariants as From
+use Rattle.fed_rules.specs.declared.records.CoordRecord.{CoordRecord}
+use Rattle.fed_rules.specs.declared.records.CoordRecord.TheVariants as Rec
+use Rattle.fed_rules.specs.Coord.{message_of, send_due, decide_to, sends_dues, all_outstanding, news_at, news, end_calls, forgets_at_once, aborts, commits_it, of_go, did_counts, did_reply, of_did, last_vote, yes_vote, vote_counts, vote_counted, of_vote, missing, ack_counts, acked_while, of_ack, asked_while, of_inquiry, of_take, again_while, of_again, of_late, of_fate, of_back, answered, unless_tripped, coord_line}
+use Rattle.fed_rules.specs.CoordPast.{CoordHappening, CoordPast, disk, records, trip, Standing, Undecided, Decided, Gone, standing, program, visits, participants, reads, epoch_at, count_at, next_step, has_step_left, has_ticket_at, work_at, take_at, prepare_at, outstanding, vote_at, decides, oldest_first}
+use Rattle.fed_rules.specs.CoordRecords.{coord_frame, initiated, commits, initiated_tids, ends_at_once}
+use Rattle.fed_rules.specs.Disk.{Call, Append, Sync, CutBack, Stops, is_torn}
+use Rattle.fed_rules.specs.Happenings.{Trip, quiet, is_down, stopped, tripped}
+use Rattle.fed_rules.specs.Site_of.{due_site}
+use Rattle.federation_laws.proofs.Told.{some-parts}
+use Rattle.federation_laws.proofs.CoordMade.{CommitsNobody, IsAccepted, IsLastVote, Writes, IsAsked, Counts, is_refusal, Decides, Begins, IsMade, uncounted_counts, uncounted_decides, quiet_plain, quiet_uncounted, made_when, made_pick}
+
+due-same : (d due : Due) → Some d ≡ Some due → due_site due ≡ due_site d
+due-same d due e = let p : d ≡ due = some-parts e in sym (ap due_site p)
+
+-- what is outstanding names its site
+work-site : (past : CoordPast) (tid : Tid) (site : SiteId) (step : Option Step) (due : Due) → work_at past tid site step ≡ Some due → due_site due ≡ site
+work-site past tid site None due e = cc
+work-site past tid site (Some step) due e = by_test (same_site step.site site) e
+  where
+    by_test : (t : Bool) → cond t (Some (Due_is.Work site (epoch_at past tid site) (count_at past tid site) (plain_act (reads past tid) step.act))) None ≡ Some due → due_site due ≡ site
+    by_test true e = due-same _ due e
+    by_test false e = cc
+
+prepare-site : (past : CoordPast) (tid : Tid) (site : SiteId) (due : Due) → prepare_at past tid site ≡ Some due → due_site due ≡ site
+prepare-site past tid site due e = by_test (is_none (vote_at past tid site)) e
+  where
+    by_test : (t : Bool) → cond t (Some (Due_is.Prepare site (epoch_at past tid site) (count_at past tid site))) None ≡ Some due → due_site due ≡ site
+    by_test true e = due-same _ due e
+    by_test false e = cc
+
+outstanding-site : (past : CoordPast) (tid : Tid) (site : SiteId) (due : Due) → outstanding past tid site ≡ Some due → due_site due ≡ site
+outstanding-site past tid site due e =
+    by_tests (visits site (program past tid)) (has_step_left past tid site) (has_ticket_at past tid site) e
+  where
+    by_tests : (v l t : Bool) → cond v (cond l (work_at past tid site (next_step past tid)) (cond t (prepare_at past tid site) (take_at past tid site))) None ≡ Some due → due_site due ≡ site
+    by_tests true true t e = work-site past tid site (next_step past tid) due e
+    by_tests true false true e = prepare-site past tid site due e
+    by_tests true false false e = due-same _ due e
+    by_tests false l t e = cc
+
+asks-due : (past : CoordPast) (tid : Tid) (due : Due) → outstanding past tid (due_site due) ≡ Some due → IsAsked past (due_site due) (message_of tid due)
+asks-due past tid (Due_is.Work site epoch n act) e = e
+asks-due past tid (Due_is.Take site epoch n) e = e
+asks-due past tid (Due_is.Prepare site epoch n) e = e
+
+-- the message of what is outstanding at a site asks for it
+asks : (past : CoordPast) (tid : Tid) (site : SiteId) (due : Due) → outstanding past tid site ≡ Some due → IsAsked past (due_site due) (message_of tid due)
+asks past tid site due e = asks-due past tid due (ap (outstanding past tid) (outstanding-site past tid site due e) ∙ e)
+
+-- each of these is outstanding at some site
+abbrev AreDue : CoordPast → Tid → List Due → Type 0
+AreDue past tid dues = Each (λ due. (site : SiteId) × (outstanding past tid site ≡ Some due)) dues
+
+each-found : {A B : Type 0} (P : B → Type 0) (look : A → Option B) (xs : List A) → ((x : A) (y : B) → look x ≡ Some y → P y) → Each P (found look xs)
+each-found P look [] h = tt
+each-found {A} {B} P look (x ∷ xs) h = with-one (look x) (h x) (each-found P look xs h)
+  where
+    with-one : (o : Option B) → ((y : B) → o ≡ Some y → P y) → Each P (found look xs) → Each P (with_some o (found look xs))
+    with-one None f rest = rest
+    with-one (Some y) f rest = (f y refl, rest)
+
+all-due : (protocols : List Participant) (past : CoordPast) (tid : Tid) → AreDue past tid (all_outstanding protocols past tid)
+all-due protocols past tid =
+    each-found (λ due. (site : SiteId) × (outstanding past tid site ≡ Some due)) (λ member. outstanding past tid member.site) (participants protocols past tid)
+    (λ member due e. (member.site, e))
+
+news-due : (protocols : List Participant) (before now : CoordPast) (tid : Tid) (site : SiteId) → AreDue now tid (news protocols before now tid site)
+news-due protocols before now tid site =
+    each-found (λ due. (s : SiteId) × (outstanding now tid s ≡ Some due)) (λ member. news_at before now tid site member.site) (participants protocols before tid)
+    (λ member due e. (member.site, by_test (same_site member.site site || is_none (outstanding before tid member.site)) (outstanding now tid member.site) due e))
+  where
+    by_test : (t : Bool) (o : Option Due) (due : Due) → cond t o None ≡ Some due → o ≡ Some due
+    by_test true o due e = e
+    by_test false o due e = cc
+
+sends-due : (past : CoordPast) (tid : Tid) (dues : List Due) → AreDue past tid dues → Each (λ sent. IsAsked past sent.site sent.message) (map (send_due tid) dues)
+sends-due past tid [] h = tt
+sends-due past tid (due ∷ dues) h = (asks past tid h.0.0 due h.0.1, sends-due past tid dues h.1)
+
+-- decisions ask for nothing
+decides-each : (past : CoordPast) (tid : Tid) (decision : Decision) (members : List Participant) → Each (λ sent. IsAsked past sent.site sent.message) (decide_to tid decision members)
+decides-each past tid decision [] = tt
+decides-each past tid decision (member ∷ members) = (tt, decides-each past tid decision members)
+
+-- operations and Prepares are sent
+dues_made : (protocols : List Participant) (past : CoordPast) (event : CoordEvent) (tid : Tid) (dues : List Due) → AreDue (quiet event Say.Only ∷ past) tid dues → ((answer : Answer) → decides answer ≡ false → Decides event answer) → ((answer : Answer) → Counts past event answer) → IsMade protocols past event (sends_dues protocols past event tid dues)
+unfolding sends_dues
+dues_made protocols past event tid dues h d k =
+    made_when protocols past event _ _ _
+    (λ t. record { heard = refl; accepted = tt; writes = (tt, (tt, tt)); sends = sends-due (quiet event Say.Only ∷ past) tid dues h; counted = k _; decided = d _ refl; begun = tt })
+    (λ t. record { heard = refl; accepted = tt; writes = tt; sends = sends-due (quiet event Say.Only ∷ past) tid dues h; counted = k _; decided = d _ refl; begun = tt })
+
+end_calls-shape : (P : List (Call CoordRecord) → Type 0) (past : CoordPast) (tid : Tid) → P (Append (Rec.End tid) ∷ []) → P [] → (b : Bool) → P (cond b (end_calls past tid) [])
+end_calls-shape P past tid p q true = by_test (is_some (initiated (records past) tid))
+  where
+    by_test : (t : Bool) → P (cond t (Append (Rec.End tid) ∷ []) [])
+    by_test true = p
+    by_test false = q
+end_calls-shape P past tid p q false = q
+
+aborts_made : (protocols : List Participant) (past : CoordPast) (event : CoordEvent) (tid : Tid) (cause : Cause) → ((answer : Answer) → decides answer ≡ true → Decides event answer) → ((answer : Answer) → Counts past event answer) → IsMade protocols past event (aborts protocols past event tid cause)
+unfolding aborts
+aborts_made protocols past event tid cause d k =
+    record {
+      heard = refl;
+      accepted = end_calls-shape (IsAccepted (commits (records past))) past tid tt tt (forgets_at_once past tid Decide_is.Abort);
+      writes = end_calls-shape (λ calls. Each (Writes protocols past event) calls) past tid (tt, tt) tt (forgets_at_once past tid Decide_is.Abort);
+      sends = decides-each (aborts protocols past event tid cause ∷ past) tid Decide_is.Abort (participants protocols past tid);
+      counted = k _;
+      decided = d _ refl;
+      begun = tt;
+    }
+
+commits_made : (protocols : List Participant) (past : CoordPast) (event : CoordEvent) (tid : Tid) (tickets : List SiteTicket) → cycle_through edge_between (record { tid = tid; tickets = tickets }) (commits (records past)) ≡ None → IsLastVote protocols past event tid tickets → ((answer : Answer) → decides answer ≡ true → Decides event answer) → ((answer : Answer) → Counts past event answer) → IsMade protocols past event (commits_it protocols past event tid tickets)
+unfolding commits_it
+commits_made protocols past event tid tickets none last d k =
+    record {
+      heard = refl;
+      accepted = (none, (tt, end_calls-shape (λ calls. Each CommitsNobody calls) past tid (tt, tt) tt (forgets_at_once past tid Decide_is.Commit)));
+      writes = (last, (tt, end_calls-shape (λ calls. Each (Writes protocols past event) calls) past tid (tt, tt) tt (forgets_at_once past tid Decide_is.Commit)));
+      sends = decides-each (commits_it protocols past event tid tickets ∷ past) tid Decide_is.Commit (participants protocols past tid);
+      counted = k _;
+      decided = d _ refl;
+      begun = tt;
+    }
+
+go_made : (protocols : List Participant) (past : CoordPast) (tid : Tid) (steps : List Step) → IsMade protocols past (Ev.Go tid steps) (of_go protocols past tid steps)
+unfolding of_go
+go_made protocols past tid steps =
+    made_pick protocols past _ _ _ _
+    (λ e. made_pick protocols past _ _ _ _
+    (λ f. record { heard = refl; accepted = tt; writes = tt; sends = sends-due (quiet (Ev.Go tid steps) (Say.Begun tid) ∷ past) tid _ (all-due protocols (quiet (Ev.Go tid steps) (Say.Begun tid) ∷ past) tid); counted = tt; decided = tt; begun = (steps, refl) })
+    (λ running f. quiet_plain protocols past _ _ tt tt))
+    (λ committed e. quiet_plain protocols past _ _ tt tt)
+
+-- a reply that counts and goes on
+goes_made : (protocols : List Participant) (past : CoordPast) (site : SiteId) (tid : Tid) (epoch n : ℕ) (reply : Reply) → is_refusal reply ≡ false → did_counts past site tid epoch n reply ≡ true
+    → IsMade protocols past (Ev.Take site (From.Did tid epoch n reply)) (sends_dues protocols past (Ev.Take site (From.Did tid epoch n reply)) tid (news protocols past (quiet (Ev.Take site (From.Did tid epoch n reply)) Say.Only ∷ past) tid site))
+goes_made protocols past site tid epoch n reply r t =
+    dues_made protocols past _ tid _ (news-due protocols past (quiet (Ev.Take site (From.Did tid epoch n reply)) Say.Only ∷ past) tid site) (λ answer no h k. cc) (λ answer h. t)
+
+did-reply_made : (protocols : List Participant) (past : CoordPast) (site : SiteId) (tid : Tid) (epoch n : ℕ) (reply : Reply) → did_counts past site tid epoch n reply ≡ true
+    → IsMade protocols past (Ev.Take site (From.Did tid epoch n reply)) (did_reply protocols past site (From.Did tid epoch n reply) tid reply)
+unfolding did_reply
+did-reply_made protocols past site tid epoch n (Reply_is.Wait by) t = record { heard = refl; accepted = tt; writes = tt; sends = tt; counted = λ h. t; decided = λ h r. cc; begun = tt }
+did-reply_made protocols past site tid epoch n (Reply_is.Refused (Because.Die by)) t = aborts_made protocols past _ tid _ (λ answer d h r. d) (λ answer h. t)
+did-reply_made protocols past site tid epoch n (Reply_is.Refused (Because.Late by)) t = aborts_made protocols past _ tid _ (λ answer d h r. d) (λ answer h. t)
+did-reply_made protocols past site tid epoch n (Reply_is.Refused (Because.Invalid by key)) t = goes_made protocols past site tid epoch n _ refl t
+did-reply_made protocols past site tid epoch n (Reply_is.Refused (Because.TicketMoved by)) t = goes_made protocols past site tid epoch n _ refl t
+did-reply_made protocols past site tid epoch n Reply_is.Unknown t = aborts_made protocols past _ tid _ (λ answer d h r. d) (λ answer h. t)
+did-reply_made protocols past site tid epoch n (Reply_is.Value value) t = goes_made protocols past site tid epoch n _ refl t
+did-reply_made protocols past site tid epoch n Reply_is.Done t = goes_made protocols past site tid epoch n _ refl t
+did-reply_made protocols past site tid epoch n (Reply_is.Ticket ticket) t = goes_made protocols past site tid epoch n _ refl t
+
+did_made : (protocols : List Participant) (past : CoordPast) (site : SiteId) (tid : Tid) (epoch n : ℕ) (reply : Reply) → IsMade protocols past (Ev.Take site (From.Did tid epoch n reply)) (of_did protocols past site tid epoch n reply)
+unfolding of_did
+did_made protocols past site tid epoch n reply =
+    made_when protocols past _ _ _ _ (λ t. did-reply_made protocols past site tid epoch n reply t)
+    (λ t. quiet_uncounted protocols past _ _ refl tt)
+
+last_made : (protocols : List Participant) (past : CoordPast) (site : SiteId) (tid : Tid) (ticket : ℕ) (tickets : List SiteTicket) → vote_counts past site tid ≡ true → IsLastVote protocols past (Ev.Take site (From.Vote tid (Some ticket))) tid tickets
+    → IsMade protocols past (Ev.Take site (From.Vote tid (Some ticket))) (last_vote protocols past (Ev.Take site (From.Vote tid (Some ticket))) tid tickets)
+unfolding last_vote
+last_made protocols past site tid ticket tickets c last =
+    made_pick protocols past _ _ _ _ (λ e. commits_made protocols past _ tid tickets e last (λ answer d. tt) (λ answer h. c))
+    (λ edges e. aborts_made protocols past _ tid _ (λ answer d. tt) (λ answer h. c))
+
+vote_made : (protocols : List Participant) (past : CoordPast) (site : SiteId) (tid : Tid) (vote : Option ℕ) → IsMade protocols past (Ev.Take site (From.Vote tid vote)) (of_vote protocols past site tid vote)
+unfolding of_vote vote_counted yes_vote
+vote_made protocols past site tid None =
+    made_when protocols past _ _ _ _ (λ t. aborts_made protocols past _ tid _ (λ answer d. tt) (λ answer. tt))
+    (λ t. quiet_uncounted protocols past _ _ refl tt)
+vote_made protocols past site tid (Some ticket) =
+    made_when protocols past _ _ _ _
+    (λ t. made_when protocols past _ _ _ _
+    (λ all. last_made protocols past site tid ticket _ t (record { site = site; ticket = ticket; is_vote = refl; is_counted = t; all = all; theirs = refl }))
+    (λ f. record { heard = refl; accepted = tt; writes = tt; sends = tt; counted = λ h. t; decided = tt; begun = tt }))
+    (λ t. quiet_uncounted protocols past _ _ refl tt)
+
+ack_made : (protocols : List Participant) (past : CoordPast) (site : SiteId) (tid : Tid) (s : Standing) → IsMade protocols past (Ev.Take site (From.Ack tid)) (acked_while past site tid s)
+unfolding acked_while ack_counts
+ack_made protocols past site tid (Decided decision) =
+    made_when protocols past _ _ _ _
+    (λ t. made_when protocols past _ _ _ _
+    (λ u. record {
+      heard = refl;
+      accepted = end_calls-shape (IsAccepted (commits (records past))) past tid tt tt true;
+      writes = end_calls-shape (λ calls. Each (Writes protocols past (Ev.Take site (From.Ack tid))) calls) past tid (tt, tt) tt true;
+      sends = tt;
+      counted = tt;
+      decided = tt;
+      begun = tt;
+    })
+    (λ u. quiet_plain protocols past _ _ tt tt))
+    (λ t. quiet_plain protocols past _ _ tt tt)
+ack_made protocols past site tid Undecided = quiet_plain protocols past _ _ tt tt
+ack_made protocols past site tid Gone = quiet_plain protocols past _ _ tt tt
+
+inquiry_made : (protocols : List Participant) (past : CoordPast) (site : SiteId) (tid : Tid) (s : Standing) → IsMade protocols past (Ev.Take site (From.Inquiry tid)) (asked_while protocols site tid s)
+unfolding asked_while
+inquiry_made protocols past site tid Undecided = quiet_plain protocols past _ _ tt tt
+inquiry_made protocols past site tid (Decided decision) = record { heard = refl; accepted = tt; writes = tt; sends = (tt, tt); counted = tt; decided = tt; begun = tt }
+inquiry_made protocols past site tid Gone = record { heard = refl; accepted = tt; writes = tt; sends = (tt, tt); counted = tt; decided = tt; begun = tt }
+
+take_made : (protocols : List Participant) (past : CoordPast) (site : SiteId) (message : FromSite) → IsMade protocols past (Ev.Take site message) (of_take protocols past site message)
+unfolding of_take of_ack of_inquiry
+take_made protocols past site (From.Did tid epoch n reply) = did_made protocols past site tid epoch n reply
+take_made protocols past site (From.Vote tid vote) = vote_made protocols past site tid vote
+take_made protocols past site (From.Ack tid) = ack_made protocols past site tid (standing past tid)
+take_made protocols past site (From.Inquiry tid) = inquiry_made protocols past site tid (standing past tid)
+
+again_made : (protocols : List Participant) (past : CoordPast) (tid : Tid) (s : Standing) → IsMade protocols past (Ev.Again tid) (again_while protocols past tid s)
+unfolding again_while
+again_made protocols past tid Undecided = dues_made protocols past _ tid _ (all-due protocols past tid) (λ answer d. tt) (λ answer. tt)
+again_made protocols past tid (Decided decision) = record { heard = refl; accepted = tt; writes = tt; sends = decides-each (again_while protocols past tid (Decided decision) ∷ past) tid decision (missing past tid decision); counted = tt; decided = tt; begun = tt }
+again_made protocols past tid Gone = quiet_plain protocols past _ _ tt tt
+
+late_made : (protocols : List Participant) (past : CoordPast) (tid : Tid) → IsMade protocols past (Ev.Late tid) (of_late protocols past tid)
+unfolding of_late
+late_made protocols past tid =
+    made_when protocols past _ _ _ _ (λ t. aborts_made protocols past _ tid _ (λ answer d. tt) (λ answer. tt))
+    (λ t. quiet_plain protocols past _ _ tt tt)
+
+fate_made : (protocols : List Participant) (past : CoordPast) (tx : Tx) → IsMade protocols past (Ev.Fate tx) (of_fate past tx)
+unfolding of_fate
+fate_made protocols past tx =
+    made_pick protocols past _ _ _ _
+    (λ e. made_pick protocols past _ _ _ _ (λ f. quiet_plain protocols past _ _ tt (by_test _))
+    (λ running f. quiet_plain protocols past _ _ tt tt))
+    (λ committed e. quiet_plain protocols past _ _ tt tt)
+  where
+    by_test : (t : Bool) → Begins (Ev.Fate tx) (cond t Say.Unbegun Say.Ended)
+    by_test true = tt
+    by_test false = tt
+
+ends-accepted : (others : List Ticketed) (tids : List Tid) → IsAccepted others (map (λ tid. Append (Rec.End tid)) tids)
+ends-accepted others [] = tt
+ends-accepted others (tid ∷ tids) = ends-accepted others tids
+
+ends-write : (protocols : List Participant) (past : CoordPast) (event : CoordEvent) (tids : List Tid) → Each (Writes protocols past event) (map (λ tid. Append (Rec.End tid)) tids)
+ends-write protocols past event [] = tt
+ends-write protocols past event (tid ∷ tids) = (tt, ends-write protocols past event tids)
+
+back_made : (protocols : List Participant) (past : CoordPast) → IsMade protocols past Ev.Back (of_back past)
+unfolding of_back
+back_made protocols past =
+    let ended = oldest_first (those (ends_at_once (records past)) (initiated_tids (records past))) in
+    record {
+      heard = refl;
+      accepted = cut_accepted (is_torn coord_frame (disk past)) ended;
+      writes = cut_writes (is_torn coord_frame (disk past)) ended;
+      sends = tt;
+      counted = tt;
+      decided = tt;
+      begun = tt;
+    }
+  where
+    cut_accepted : (t : Bool) (ended : List Tid) → IsAccepted (commits (records past)) (cond t (CutBack ∷ []) [] ++ map (λ tid. Append (Rec.End tid)) ended)
+    cut_accepted true ended = ends-accepted (commits (records past)) ended
+    cut_accepted false ended = ends-accepted (commits (records past)) ended
+
+    cut_writes : (t : Bool) (ended : List Tid) → Each (Writes protocols past Ev.Back) (cond t (CutBack ∷ []) [] ++ map (λ tid. Append (Rec.End tid)) ended)
+    cut_writes true ended = (tt, ends-write protocols past Ev.Back ended)
+    cut_writes false ended = ends-write protocols past Ev.Back ended
+
+-- what the coordinator answers while it is up
+answered_made : (protocols : List Participant) (past : CoordPast) (event : CoordEvent) → IsMade protocols past event (answered protocols past event)
+unfolding answered of_again
+answered_made protocols past (Ev.Go tid steps) = go_made protocols past tid steps
+answered_made protocols past (Ev.Take site message) = take_made protocols past site message
+answered_made protocols past (Ev.Again tid) = again_made protocols past tid (standing past tid)
+answered_made protocols past (Ev.Late tid) = late_made protocols past tid
+answered_made protocols past (Ev.Fate tx) = fate_made protocols past tx
+answered_made protocols past (Ev.Halt cut) = quiet_plain protocols past _ _ tt tt
+answered_made protocols past (Ev.Trip calls cut) = quiet_plain protocols past _ _ tt tt
+answered_made protocols past Ev.Back = back_made protocols past
+
+each-cut : {A : Type 0} (P : A → Type 0) (k : ℕ) (xs : List A) (y : A) → Each P xs → P y → Each P (take k xs ++ y ∷ [])
+each-cut P zero xs y h p = (p, tt)
+each-cut P (suc k) [] y h p = (p, tt)
+each-cut P (suc k) (x ∷ xs) y h p = (h.0, each-cut P k xs y h.1 p)
+
+accepted-cut : (others : List Ticketed) (k : ℕ) (calls : List (Call CoordRecord)) (cut : ℕ) → IsAccepted others calls → IsAccepted others (take k calls ++ Stops cut ∷ [])
+accepted-cut others zero calls cut h = tt
+accepted-cut others (suc k) [] cut h = tt
+accepted-cut others (suc k) (Append (Rec.Commit tid tickets) ∷ calls) cut h = (h.0, each-cut CommitsNobody k calls (Stops cut) h.1 tt)
+accepted-cut others (suc k) (Append (Rec.Initiation tid members) ∷ calls) cut h = accepted-cut others k calls cut h
+accepted-cut others (suc k) (Append (Rec.End tid) ∷ calls) cut h = accepted-cut others k calls cut h
+accepted-cut others (suc k) (Sync ∷ calls) cut h = accepted-cut others k calls cut h
+accepted-cut others (suc k) (CutBack ∷ calls) cut h = accepted-cut others k calls cut h
+accepted-cut others (suc k) (Stops c ∷ calls) cut h = accepted-cut others k calls cut h
+
+-- a line that a trip ends
+tripped_made : (protocols : List Participant) (past : CoordPast) (event : CoordEvent) (t : Option Trip) (x : CoordHappening) → IsMade protocols past event x → IsMade protocols past event (tripped coord_frame (disk past) t x)
+unfolding tripped stopped
+tripped_made protocols past event None x m = m
+tripped_made protocols past event (Some t) x m =
+    made_when protocols past event _ _ _
+    (λ c. record {
+      heard = m.heard;
+      accepted = accepted-cut (commits (records past)) t.calls x.calls t.cut m.accepted;
+      writes = each-cut (Writes protocols past event) t.calls x.calls (Stops t.cut) m.writes tt;
+      sends = tt;
+      counted = uncounted_counts past event _ refl;
+      decided = uncounted_decides event _ refl;
+      begun = tt;
+    })
+    (λ c. m)
+
+unless_down : (protocols : List Participant) (past : CoordPast) (event : CoordEvent) → IsMade protocols past event (when (is_down past) (quiet event Say.Down) (unless_tripped past (answered protocols past event)))
+unless_down protocols past event =
+    made_when protocols past event _ _ _ (λ d. quiet_uncounted protocols past event _ refl tt)
+    (λ d. tripped_made protocols past event (trip past) _ (answered_made protocols past event))
+
+-- each line of the coordinator is made so
+pub coord_made : (protocols : List Participant) (past : CoordPast) (event : CoordEvent) → IsMade protocols past event (coord_line protocols past event)
+unfolding coord_line stopped
+coord_made protocols past (Ev.Trip calls cut) = quiet_plain protocols past _ _ tt tt
+coord_made protocols past (Ev.Halt cut) =
+    made_when protocols past _ _ _ _ (λ d. quiet_plain protocols past _ _ tt tt)
+    (λ d. record { heard = refl; accepted = tt; writes = (tt, tt); sends = tt; counted = tt; decided = tt; begun = tt })
+coord_made protocols past Ev.Back =
+    made_when protocols past _ _ _ _ (λ d. tripped_made protocols past Ev.Back (trip past) _ (back_made protocols past))
+    (λ d. quiet_plain protocols past _ _ tt tt)
+coord_made protocols past (Ev.Go tid steps) = unless_down protocols past (Ev.Go tid steps)
+coord_made protocols past (Ev.Take site message) = unless_down protocols past (Ev.Take site message)
+coord_made protocols past (Ev.Again tid) = unless_down protocols past (Ev.Again tid)
+coord_made protocols past (Ev.Late tid) = unless_down protocols past (Ev.Late tid)
+coord_made protocols past (Ev.Fate tx) = unless_down protocols past (Ev.Fate tx)

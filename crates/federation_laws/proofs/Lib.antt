@@ -1,0 +1,4 @@
+pub mod CoordLines
+pub mod CoordMade
+pub mod TicketCycles
+pub mod Told

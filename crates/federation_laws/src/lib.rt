@@ -1,0 +1,7 @@
+//! One order for all sites, in the middle of any run: theorems on the definitions of `fed_rules`, for every scenario and every list of
+//! commands. Each is the contract of a function with an empty body.
+#![tactic(auto)]
+
+mod ticket_laws;
+
+pub use ticket_laws::committed_tickets_are_cycle_free;
