@@ -1,1 +1,5 @@
+pub mod Accesses
 pub mod Edges
+pub mod OneOrder
+pub mod Parts
+pub mod SiteOrders

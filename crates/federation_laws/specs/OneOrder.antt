@@ -1,0 +1,28 @@
+-- One order for all sites, and what running programs in that order gives.
+use Rattle.std.specs.Prelude.{◌≡◌, List, []}
+use Rattle.mdb_base.specs.declared.names.Tid.{Tid}
+use Rattle.mdb_base.specs.Names.{tid_before}
+use Rattle.order_laws.specs.Chains.{Acyclic}
+use Rattle.order_laws.specs.Merge.{IsLeastOrder}
+use Rattle.order_laws.specs.Orders.{Union}
+use Rattle.fed_rules.specs.declared.scenario.Scenario.{Scenario}
+use Rattle.fed_rules.specs.Orders.{orders, IsMerge, IsSerial}
+use Rattle.fed_rules.specs.Reports.{printed_order}
+use Rattle.fed_rules.specs.Story.{Story}
+use Rattle.federation_laws.specs.Parts.{CommitsAgree, MembersFollowPrograms}
+use Rattle.federation_laws.specs.SiteOrders.{SitesAreSerial}
+
+-- the orders of all sites have no cycle together; the printed order is a merge of them, the only one with the least attempt at each place;
+-- and running the programs one at a time, in this order or any other merge, gives every read of every member and what is due at each site
+pub record HasOneOrder (scenario : Scenario) (story : Story) : Type 0 where
+  pub cycle_free : Acyclic (Union (orders scenario story))
+  pub merge : IsMerge scenario story (printed_order scenario story)
+  pub least : IsLeastOrder tid_before (orders scenario story) [] (printed_order scenario story)
+  pub only : (order : List Tid) → IsLeastOrder tid_before (orders scenario story) [] order → order ≡ printed_order scenario story
+  pub serial : (order : List Tid) → IsMerge scenario story order → IsSerial scenario story order
+
+-- what the order of all sites is made of
+pub record Parts (scenario : Scenario) (story : Story) : Type 0 where
+  pub sites : SitesAreSerial scenario story
+  pub commits : CommitsAgree scenario story
+  pub programs : MembersFollowPrograms scenario story
