@@ -1,4 +1,10 @@
 pub mod CoordLines
 pub mod CoordMade
+pub mod Declared
+pub mod Merges
+pub mod OneOrders
+pub mod SerialOrders
+pub mod SerialRuns
+pub mod SerialStories
 pub mod TicketCycles
 pub mod Told

@@ -5,10 +5,11 @@ use Rattle.mdb_base.specs.Names.{tid_before}
 use Rattle.order_laws.specs.Chains.{Acyclic}
 use Rattle.order_laws.specs.Merge.{IsLeastOrder}
 use Rattle.order_laws.specs.Orders.{Union}
+use Rattle.fed_rules.specs.declared.commands.Command.{Command}
 use Rattle.fed_rules.specs.declared.scenario.Scenario.{Scenario}
 use Rattle.fed_rules.specs.Orders.{orders, IsMerge, IsSerial}
 use Rattle.fed_rules.specs.Reports.{printed_order}
-use Rattle.fed_rules.specs.Story.{Story}
+use Rattle.fed_rules.specs.Story.{Story, story_of}
 use Rattle.federation_laws.specs.Parts.{CommitsAgree, MembersFollowPrograms}
 use Rattle.federation_laws.specs.SiteOrders.{SitesAreSerial}
 
@@ -26,3 +27,8 @@ pub record Parts (scenario : Scenario) (story : Story) : Type 0 where
   pub sites : SitesAreSerial scenario story
   pub commits : CommitsAgree scenario story
   pub programs : MembersFollowPrograms scenario story
+
+-- in the story of any commands that has these parts there is one order for all sites
+abbrev pub PartsMakeOneOrder : Type 0
+PartsMakeOneOrder =
+    (scenario : Scenario) (commands : List Command) → Parts scenario (story_of scenario commands) → HasOneOrder scenario (story_of scenario commands)

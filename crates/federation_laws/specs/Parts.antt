@@ -1,7 +1,6 @@
 -- What the commit protocol and the programs give for the order of all sites.
 use Rattle.std.specs.Prelude.{ℕ, ◌≡◌, false, Some, None, List, []}
 use Rattle.mdb_base.specs.declared.names.SiteId.{SiteId}
-use Rattle.mdb_base.specs.declared.names.SiteTicket.{SiteTicket}
 use Rattle.mdb_base.specs.declared.names.Tid.{Tid}
 use Rattle.mdb_base.specs.Names.{same_tid}
 use Rattle.order_laws.specs.Chains.{In}

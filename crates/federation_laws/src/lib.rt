@@ -2,6 +2,8 @@
 //! commands. Each is the contract of a function with an empty body.
 #![tactic(auto)]
 
+mod serial_laws;
 mod ticket_laws;
 
+pub use serial_laws::federation_is_serializable_from_parts;
 pub use ticket_laws::committed_tickets_are_cycle_free;
