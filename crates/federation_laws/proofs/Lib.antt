@@ -1,10 +1,17 @@
+pub mod Asked
+pub mod CoordEffects
+pub mod CoordHolds
 pub mod CoordLines
 pub mod CoordMade
+pub mod CoordOps
+pub mod CountedReplies
 pub mod Declared
+pub mod Dues
 pub mod Merges
 pub mod OneOrders
 pub mod SerialOrders
 pub mod SerialRuns
 pub mod SerialStories
+pub mod Standings
 pub mod TicketCycles
 pub mod Told

@@ -1,0 +1,97 @@
+-- When an attempt is undecided, and what a new Commit record comes from.
+use Rattle.std.proofs.Common.{◌≡◌, ◌⊎◌, ℕ, Bool, true, false, cond, not, ◌&&◌, ◌||◌, nat_le, Option, Some, None, List, [], ◌∷◌, inl, inr, refl, sym, ap, subst, ◌∙◌}
+use Rattle.mdb_base.specs.declared.names.SiteTicket.{SiteTicket}
+use Rattle.mdb_base.specs.declared.names.Tid.{Tid}
+use Rattle.mdb_base.specs.Names.{same_tid}
+use Rattle.mdb_base.specs.Words.{Each, Among}
+use Rattle.order_laws.proofs.Names.{same_tid_alike}
+use Rattle.fed_rules.specs.declared.answers.Answer.{Answer}
+use Rattle.fed_rules.specs.declared.answers.Answer.TheVariants as Say
+use Rattle.fed_rules.specs.declared.events.CoordEvent.TheVariants as Ev
+use Rattle.fed_rules.specs.declared.records.CoordRecord.{CoordRecord}
+use Rattle.fed_rules.specs.declared.records.CoordRecord.TheVariants as Rec
+use Rattle.fed_rules.specs.CoordPast.{CoordHappening, CoordPast, records, Standing, Undecided, Decided, Gone, standing, kept_standing, moved, is_about, is_undecided, begins, decides}
+use Rattle.fed_rules.specs.CoordRecords.{coord_frame, has_commit, is_kept, outcome}
+use Rattle.fed_rules.specs.Disk.{Disk, Call, Append, Sync, CutBack, Stops, bytes_of, whole, after_calls}
+use Rattle.fed_rules.specs.Happenings.{stops, comes_up}
+use Rattle.federation_laws.proofs.CoordMade.{Begins}
+
+kept-decided : (rs : List CoordRecord) (g : Tid) → is_undecided (kept_standing rs g) ≡ true → ⊥
+kept-decided rs g e = by_test (is_kept rs g) e
+  where
+    by_test : (t : Bool) → is_undecided (cond t (Decided (outcome rs g)) Gone) ≡ true → ⊥
+    by_test true e = cc
+    by_test false e = cc
+
+-- an answer leaves an attempt undecided where it begins it, or where it was so and isn't decided
+moved-undecided : (answer : Answer) (old : Standing) → is_undecided (moved answer old) ≡ true → ((tid : Tid) × (answer ≡ Say.Begun tid)) ⊎ ((is_undecided old ≡ true) × (decides answer ≡ false))
+moved-undecided (Say.Begun tid) old e = inl (tid, refl)
+moved-undecided (Say.Decides decision cause forgets) old e = by_test forgets e
+  where
+    by_test : (t : Bool) → is_undecided (cond t Gone (Decided decision)) ≡ true → ((tid : Tid) × (Say.Decides decision cause forgets ≡ Say.Begun tid)) ⊎ ((is_undecided old ≡ true) × (decides (Say.Decides decision cause forgets) ≡ false))
+    by_test true e = cc
+    by_test false e = cc
+moved-undecided Say.Forgets old e = cc
+moved-undecided answer old e = inr (e, refl)
+
+-- who is undecided after a line began at it, or was undecided and isn't decided by it
+pub undecided-from : (past : CoordPast) (g : Tid) (x : CoordHappening) → Begins x.event x.answer → is_undecided (standing (x ∷ past) g) ≡ true
+    → (begins g x.answer ≡ true) ⊎ ((is_undecided (standing past g) ≡ true) × (is_about g x.event ≡ true → decides x.answer ≡ false))
+undecided-from past g x b e = by_tests (stops x.answer || comes_up x.answer) (is_about g x.event) refl e
+  where
+    begun : (tid : Tid) → x.answer ≡ Say.Begun tid → is_about g x.event ≡ true → begins g x.answer ≡ true
+    begun tid is about =
+        let go = subst (Begins x.event) is b in
+        let own : same_tid tid g ≡ true = subst (λ ev. is_about g ev ≡ true) go.1 about in
+        ap (begins g) is ∙ own
+
+    by_tests : (s a : Bool) → is_about g x.event ≡ a → is_undecided (cond s (kept_standing (records (x ∷ past)) g) (cond a (moved x.answer (standing past g)) (standing past g))) ≡ true
+        → (begins g x.answer ≡ true) ⊎ ((is_undecided (standing past g) ≡ true) × (is_about g x.event ≡ true → decides x.answer ≡ false))
+    by_tests true a q e = absurd (kept-decided (records (x ∷ past)) g e)
+    by_tests false true q e = elim (moved-undecided x.answer (standing past g) e) [
+      | inl h ↦ inl (begun h.0 h.1 q)
+      | inr h ↦ inr (h.0, λ about. h.1)
+    ]
+    by_tests false false q e = inr (e, λ about. cc)
+
+-- the call appends a Commit of the attempt
+abbrev pub AppendsCommit : Tid → Call CoordRecord → Type 0
+AppendsCommit g (Append (Rec.Commit tid tickets)) = tid ≡ g
+AppendsCommit g call = ⊥
+
+commit-whole : (g : Tid) (b : ℕ) (rs : List CoordRecord) → has_commit (whole coord_frame b rs) g ≡ true → has_commit rs g ≡ true
+commit-whole g b [] e = e
+commit-whole g b (r ∷ rs) e = by_test (nat_le (bytes_of coord_frame (r ∷ rs)) b) e (commit-whole g b rs)
+  where
+    behind : (r : CoordRecord) → has_commit rs g ≡ true → has_commit (r ∷ rs) g ≡ true
+    behind (Rec.Commit tid tickets) h = by_own (same_tid tid g) h
+      where
+        by_own : (t : Bool) → has_commit rs g ≡ true → cond t true (has_commit rs g) ≡ true
+        by_own true h = refl
+        by_own false h = h
+    behind (Rec.Initiation tid members) h = h
+    behind (Rec.End tid) h = h
+
+    by_test : (t : Bool) → has_commit (cond t (r ∷ rs) (whole coord_frame b rs)) g ≡ true → (has_commit (whole coord_frame b rs) g ≡ true → has_commit rs g ≡ true) → has_commit (r ∷ rs) g ≡ true
+    by_test true e h = e
+    by_test false e h = behind r (h e)
+
+commit-more : (g tid : Tid) (tickets : List SiteTicket) (rs : List CoordRecord) → has_commit (Rec.Commit tid tickets ∷ rs) g ≡ true → (tid ≡ g) ⊎ (has_commit rs g ≡ true)
+commit-more g tid tickets rs e = by_own (same_tid tid g) refl e
+  where
+    by_own : (t : Bool) → same_tid tid g ≡ t → cond t true (has_commit rs g) ≡ true → (tid ≡ g) ⊎ (has_commit rs g ≡ true)
+    by_own true q e = inl (same_tid_alike tid g q)
+    by_own false q e = inr e
+
+-- a Commit that is kept after some calls was kept before, or one of them appended it
+pub commit-from : (calls : List (Call CoordRecord)) (d : Disk CoordRecord) (g : Tid) → has_commit (after_calls coord_frame d calls).records g ≡ true → (has_commit d.records g ≡ true) ⊎ Among (AppendsCommit g) calls
+commit-from [] d g e = inl e
+commit-from (Append (Rec.Commit tid tickets) ∷ calls) d g e = elim (commit-from calls _ g e) [
+  | inl h ↦ elim (commit-more g tid tickets d.records h) [ inl own ↦ inr (inl own) | inr old ↦ inl old ]
+  | inr i ↦ inr (inr i)
+]
+commit-from (Append (Rec.Initiation tid members) ∷ calls) d g e = elim (commit-from calls _ g e) [ inl h ↦ inl h | inr i ↦ inr (inr i) ]
+commit-from (Append (Rec.End tid) ∷ calls) d g e = elim (commit-from calls _ g e) [ inl h ↦ inl h | inr i ↦ inr (inr i) ]
+commit-from (Sync ∷ calls) d g e = elim (commit-from calls _ g e) [ inl h ↦ inl h | inr i ↦ inr (inr i) ]
+commit-from (CutBack ∷ calls) d g e = elim (commit-from calls _ g e) [ inl h ↦ inl h | inr i ↦ inr (inr i) ]
+commit-from (Stops cut ∷ calls) d g e = elim (commit-from calls _ g e) [ inl h ↦ inl (commit-whole g _ d.records h) | inr i ↦ inr (inr i) ]
