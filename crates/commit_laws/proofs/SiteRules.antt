@@ -47,11 +47,11 @@ step-pick home g past event None x y p q = p refl
 step-pick home g past event (Some a) x y p q = q a refl
 
 -- what holds of an attempt holds of the one that the test finds the same
-of-same : (P : Tid → Type 0) (t g : Tid) → P t → same_tid t g ≡ true → P g
+pub of-same : (P : Tid → Type 0) (t g : Tid) → P t → same_tid t g ≡ true → P g
 of-same P t g p e = subst P (same_tid-equal t g e) p
 
 -- an answer that says neither that the site stops or starts, nor that it settles
-abbrev IsCalm : Answer → Type 0
+abbrev pub IsCalm : Answer → Type 0
 IsCalm (Say.Stopped kept) = ⊥
 IsCalm (Say.UpSite e n) = ⊥
 IsCalm (Say.UpCoord n) = ⊥
@@ -72,7 +72,7 @@ calm-settled home g past event (Say.Settles tid decision) c = absurd c
 calm-settled home g past event a c = tt
 
 -- the event is no decision
-abbrev IsNoDecision : SiteEvent → Type 0
+abbrev pub IsNoDecision : SiteEvent → Type 0
 IsNoDecision (Ev.Give (To.Decide tid decision)) = ⊥
 IsNoDecision event = Unit {0}
 
@@ -81,12 +81,12 @@ undecided-event g (Ev.Give (To.Decide tid decision)) n = absurd n
 undecided-event g event n = refl
 
 -- what the engine lines of a line do to this attempt: they leave its run alone, or are about it
-abbrev Touches : Home → Tid → SitePast → SiteEvent → List EngineLine → Type 0
+abbrev pub Touches : Home → Tid → SitePast → SiteEvent → List EngineLine → Type 0
 Touches home g past event lines =
     ((run_at (epoch_start home past) (lines ++ engine_lines past) g ≡ run_at (epoch_start home past) (engine_lines past) g) × (some_of (ends g) lines ≡ false))
     ⊎ Leaves (epoch_start home past) (engine_lines past) g (is_over home past g) lines
 
-drop-unless : (a c d : Bool) → a ≡ false → ((a || c) || d) ≡ true → (c || d) ≡ true
+pub drop-unless : (a c d : Bool) → a ≡ false → ((a || c) || d) ≡ true → (c || d) ≡ true
 drop-unless true c d e h = cc
 drop-unless false c d e h = h
 
@@ -100,11 +100,11 @@ touches-shut home g past event lines s (inl (same, unended)) h =
 touches-shut home g past event lines s (inr l) h =
     leaves-shut (epoch_start home past) (engine_lines past) g (is_closed past g) (is_some (doubt_of (records home past) g)) lines l h
 
-no-lines : (home : Home) (g : Tid) (past : SitePast) (event : SiteEvent) → Touches home g past event []
+pub no-lines : (home : Home) (g : Tid) (past : SitePast) (event : SiteEvent) → Touches home g past event []
 no-lines home g past event = inl (refl, refl)
 
 -- a line of the live run of an attempt
-one-line : (home : Home) (g : Tid) (past : SitePast) (event : SiteEvent) (run : Run) (l : EngineLine) → Shut home g past → live home past (tid_of l) ≡ Some run → ((gives_up l ≡ false) → ends g l ≡ false) → Touches home g past event (l ∷ [])
+pub one-line : (home : Home) (g : Tid) (past : SitePast) (event : SiteEvent) (run : Run) (l : EngineLine) → Shut home g past → live home past (tid_of l) ≡ Some run → ((gives_up l ≡ false) → ends g l ≡ false) → Touches home g past event (l ∷ [])
 one-line home g past event run l s alive stays = by_test (same_tid (tid_of l) g) (gives_up l) refl refl where
   over_no : (o : Bool) → is_over home past g ≡ o → same_tid (tid_of l) g ≡ true → is_over home past g ≡ false
   over_no false e q = e
@@ -116,7 +116,7 @@ one-line home g past event run l s alive stays = by_test (same_tid (tid_of l) g)
   by_test true false q e = inr (inr (ap (λ b. b || false) (stays e), over_no (is_over home past g) refl q))
 
 -- a line that appends nothing and doesn't settle
-calm : (home : Home) (g : Tid) (past : SitePast) (event : SiteEvent) (answer : Answer) (sends : List FromSite) (lines : List EngineLine) → is_down past ≡ false → IsCalm answer → IsNoDecision event → Each (Says home g past (record { event = event; answer = answer; sends = sends; calls = []; lines = lines })) sends → (NotBegun g event → Shut home g past → Touches home g past event lines) → Step home g past event (record { event = event; answer = answer; sends = sends; calls = []; lines = lines })
+pub calm : (home : Home) (g : Tid) (past : SitePast) (event : SiteEvent) (answer : Answer) (sends : List FromSite) (lines : List EngineLine) → is_down past ≡ false → IsCalm answer → IsNoDecision event → Each (Says home g past (record { event = event; answer = answer; sends = sends; calls = []; lines = lines })) sends → (NotBegun g event → Shut home g past → Touches home g past event lines) → Step home g past event (record { event = event; answer = answer; sends = sends; calls = []; lines = lines })
 calm home g past event answer sends lines up c n says touches = record {
   is = refl;
   quiet = tt;
@@ -129,11 +129,11 @@ calm home g past event answer sends lines up c n says touches = record {
   rises = (λ e. let f = calm-up answer c in cc);
 }
 
-quietly : (home : Home) (g : Tid) (past : SitePast) (event : SiteEvent) (answer : Answer) → is_down past ≡ false → IsCalm answer → IsNoDecision event → Step home g past event (quiet event answer)
+pub quietly : (home : Home) (g : Tid) (past : SitePast) (event : SiteEvent) (answer : Answer) → is_down past ≡ false → IsCalm answer → IsNoDecision event → Step home g past event (quiet event answer)
 quietly home g past event answer up c n = calm home g past event answer [] [] up c n tt (λ nb s. no-lines home g past event)
 
 -- `begin`
-by-begin : (home : Home) (g : Tid) (past : SitePast) (tid : Tid) → is_down past ≡ false → Step home g past (Ev.Begin tid) (of_begin home past tid)
+pub by-begin : (home : Home) (g : Tid) (past : SitePast) (tid : Tid) → is_down past ≡ false → Step home g past (Ev.Begin tid) (of_begin home past tid)
 unfolding of_begin
 by-begin home g past tid up =
     step-pick home g past (Ev.Begin tid) _ _ _
@@ -157,13 +157,13 @@ act-calm tid (Reply_is.Ticket n) act = tt
 act-calm tid Reply_is.Unknown act = tt
 
 -- an access, or the taking of a ticket, that isn't refused ends nothing
-acts-stay : (g tid : Tid) (act : PlainAct) (reply : Reply) → gives_up (Acts tid act reply) ≡ false → ends g (Acts tid act reply) ≡ false
+pub acts-stay : (g tid : Tid) (act : PlainAct) (reply : Reply) → gives_up (Acts tid act reply) ≡ false → ends g (Acts tid act reply) ≡ false
 acts-stay g tid act reply e = ap (λ b. b && same_tid tid g) e
 
-takes-stay : (g tid : Tid) (reply : Reply) → gives_up (Takes tid reply) ≡ false → ends g (Takes tid reply) ≡ false
+pub takes-stay : (g tid : Tid) (reply : Reply) → gives_up (Takes tid reply) ≡ false → ends g (Takes tid reply) ≡ false
 takes-stay g tid reply e = ap (λ b. b && same_tid tid g) e
 
-by-act : (home : Home) (g : Tid) (past : SitePast) (tid : Tid) (act : PlainAct) → is_down past ≡ false → Step home g past (Ev.Act tid act) (of_act home past tid act)
+pub by-act : (home : Home) (g : Tid) (past : SitePast) (tid : Tid) (act : PlainAct) → is_down past ≡ false → Step home g past (Ev.Act tid act) (of_act home past tid act)
 unfolding of_act
 by-act home g past tid act up =
     step-pick home g past (Ev.Act tid act) _ _ _ (λ e. quietly home g past (Ev.Act tid act) Say.Idle up tt tt)
@@ -199,7 +199,7 @@ by-seals_local home g past tid run up = record {
       let both = other-lines (epoch_start home past) (engine_lines past) g (Commits tid) (Seals tid (number_of home past run)) q q in
       ap live_one both.0 ∙ s.over (drop-unless (some_of (ends g) (Commits tid ∷ Seals tid (number_of home past run) ∷ [])) (is_closed past g) (is_some (doubt_of (records home past) g)) both.1 h)
 
-by-commit : (home : Home) (g : Tid) (past : SitePast) (tid : Tid) → is_down past ≡ false → Step home g past (Ev.Commit tid) (of_commit home past tid)
+pub by-commit : (home : Home) (g : Tid) (past : SitePast) (tid : Tid) → is_down past ≡ false → Step home g past (Ev.Commit tid) (of_commit home past tid)
 unfolding of_commit
 by-commit home g past tid up =
     step-pick home g past (Ev.Commit tid) _ _ _ (λ e. quietly home g past (Ev.Commit tid) Say.Idle up tt tt)
@@ -207,7 +207,7 @@ by-commit home g past tid up =
     (λ why f. calm home g past (Ev.Commit tid) (refusal_answer why) [] (Refuses tid why ∷ []) up (refusal-calm why) tt tt
     (λ nb s. one-line home g past (Ev.Commit tid) run (Refuses tid why) s e (λ u. cc))))
 
-by-abort : (home : Home) (g : Tid) (past : SitePast) (tid : Tid) → is_down past ≡ false → Step home g past (Ev.Abort tid) (of_abort home past tid)
+pub by-abort : (home : Home) (g : Tid) (past : SitePast) (tid : Tid) → is_down past ≡ false → Step home g past (Ev.Abort tid) (of_abort home past tid)
 unfolding of_abort
 by-abort home g past tid up =
     step-pick home g past (Ev.Abort tid) _ _ _ (λ e. quietly home g past (Ev.Abort tid) Say.Idle up tt tt)
@@ -218,7 +218,7 @@ cond-calm : (b : Bool) → IsCalm (cond b Say.Unbegun Say.Ended)
 cond-calm true = tt
 cond-calm false = tt
 
-by-fate : (home : Home) (g : Tid) (past : SitePast) (tx : Tx) → is_down past ≡ false → Step home g past (Ev.Fate tx) (of_fate home past tx)
+pub by-fate : (home : Home) (g : Tid) (past : SitePast) (tx : Tx) → is_down past ≡ false → Step home g past (Ev.Fate tx) (of_fate home past tx)
 unfolding of_fate
 by-fate home g past tx up =
     step-pick home g past (Ev.Fate tx) _ _ _
@@ -227,7 +227,7 @@ by-fate home g past tx up =
     (λ a f. quietly home g past (Ev.Fate tx) (Say.Running a) up tt tt))
     (λ a e. quietly home g past (Ev.Fate tx) (Say.Committed a) up tt tt)
 
-by-drop : (home : Home) (g : Tid) (past : SitePast) (tid : Tid) → is_down past ≡ false → Step home g past (Ev.Drop tid) (of_drop home past tid)
+pub by-drop : (home : Home) (g : Tid) (past : SitePast) (tid : Tid) → is_down past ≡ false → Step home g past (Ev.Drop tid) (of_drop home past tid)
 unfolding of_drop
 by-drop home g past tid up =
     step-when home g past (Ev.Drop tid) _ _ _ (λ b. quietly home g past (Ev.Drop tid) Say.Idle up tt tt)
@@ -235,7 +235,7 @@ by-drop home g past tid up =
     (λ run e. calm home g past (Ev.Drop tid) (Say.Dropped tid) [] (Aborts tid ∷ []) up tt tt tt
     (λ nb s. one-line home g past (Ev.Drop tid) run (Aborts tid) s e (λ u. cc))))
 
-by-ask : (home : Home) (g : Tid) (past : SitePast) (tid : Tid) → is_down past ≡ false → Step home g past (Ev.Ask tid) (of_ask home past tid)
+pub by-ask : (home : Home) (g : Tid) (past : SitePast) (tid : Tid) → is_down past ≡ false → Step home g past (Ev.Ask tid) (of_ask home past tid)
 unfolding of_ask
 by-ask home g past tid up =
     step-pick home g past (Ev.Ask tid) _ _ _ (λ e. quietly home g past (Ev.Ask tid) Say.Idle up tt tt)
