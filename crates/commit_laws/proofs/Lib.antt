@@ -6,3 +6,5 @@ pub mod SiteRules
 pub mod SiteWork
 pub mod SiteEnds
 pub mod SiteLines
+pub mod CoordFacts
+pub mod CoordRules
