@@ -142,9 +142,13 @@ quietly protocols g past event answer c a k = record {
 pub silently : (protocols : List Participant) (g : Tid) (past : CoordPast) (event : CoordEvent) (answer : Answer) → IsCalm answer → IsNoAck event → Counted g past event → Goes protocols g past event (quiet event answer)
 silently protocols g past event answer c n k = quietly protocols g past event answer c (λ site. no-ack g site (quiet event answer) n) (λ e. k)
 
--- what is ignored doesn't count
+-- what is ignored, and what comes while the coordinator is down, doesn't count
+pub uncounted : (protocols : List Participant) (g : Tid) (past : CoordPast) (event : CoordEvent) (answer : Answer) → IsCalm answer → counts answer ≡ false → Goes protocols g past event (quiet event answer)
+uncounted protocols g past event answer c no_count =
+    quietly protocols g past event answer c (λ site. and_right _ (counts answer) no_count) (λ e. cc)
+
 pub ignored : (protocols : List Participant) (g : Tid) (past : CoordPast) (event : CoordEvent) → Goes protocols g past event (quiet event Say.Ignored)
-ignored protocols g past event = quietly protocols g past event Say.Ignored tt (λ site. and_right _ false refl) (λ e. cc)
+ignored protocols g past event = uncounted protocols g past event Say.Ignored tt refl
 
 pub each-found : {A B : Type 0} (P : B → Type 0) (look : A → Option B) → ((x : A) (b : B) → look x ≡ Some b → P b) → (xs : List A) → Each P (found look xs)
 each-found P look k [] = tt

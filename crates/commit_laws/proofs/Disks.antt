@@ -174,6 +174,10 @@ left-by-line size Loose d cs q f = record {
   keeps = inl (appended cs [], ([], refl), (mid-calls size Loose d.records [] d cs (quiet-plain Loose false cs q) (start-mid size Loose d f)).records);
 }
 
+-- such a line keeps all that it appends
+pub line-records : {R : Type 0} (size : R → ℕ) (Loose : R → Type 0) (d : Disk R) (cs : List (Call R)) → IsQuiet Loose false cs → IsFirm size Loose d → (after_calls size d cs).records ≡ appended cs [] ++ d.records
+line-records size Loose d cs q f = (mid-calls size Loose d.records [] d cs (quiet-plain Loose false cs q) (start-mid size Loose d f)).records
+
 -- a line that stops after the first of its calls
 pub left-by-stop : {R : Type 0} (size : R → ℕ) (Loose : R → Type 0) (d : Disk R) (cs : List (Call R)) (k cut : ℕ) → IsPlain cs → IsFirm size Loose d → Left size Loose (appended cs []) d.records (after_calls size d (take k cs ++ Stops cut ∷ []))
 left-by-stop {R = R} size Loose d cs k cut p f = subst (λ x. Left size Loose (appended cs []) d.records x) (sym (after-append size d (take k cs) (Stops cut ∷ []))) ended where

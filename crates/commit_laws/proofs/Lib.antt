@@ -8,3 +8,6 @@ pub mod SiteEnds
 pub mod SiteLines
 pub mod CoordFacts
 pub mod CoordRules
+pub mod CoordEnds
+pub mod CoordCommits
+pub mod CoordLines
