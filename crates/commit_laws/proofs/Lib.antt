@@ -11,3 +11,4 @@ pub mod CoordRules
 pub mod CoordEnds
 pub mod CoordCommits
 pub mod CoordLines
+pub mod Links
