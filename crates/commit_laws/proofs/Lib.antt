@@ -1,0 +1,14 @@
+pub mod Disks
+pub mod Durable
+pub mod SiteFacts
+pub mod SiteShut
+pub mod SiteRules
+pub mod SiteWork
+pub mod SiteEnds
+pub mod SiteLines
+pub mod CoordFacts
+pub mod CoordRules
+pub mod CoordEnds
+pub mod CoordCommits
+pub mod CoordLines
+pub mod Links

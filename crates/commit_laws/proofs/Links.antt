@@ -1,0 +1,223 @@
+-- What happens in a story is the next line of a site or of the coordinator; what is given or taken there was sent, and what begins is new.
+use Rattle.std.proofs.Common.{◌≡◌, ℕ, zero, suc, ◌⊎◌, inl, inr, Bool, true, false, cond, Option, Some, None, List, [], ◌∷◌, refl, sym, ◌∙◌, ap, subst}
+use Rattle.std.proofs.lemmas.Bool.{eqb-true, eq-eqb}
+use Rattle.mdb_base.specs.declared.acts.Step.{Step}
+use Rattle.mdb_base.specs.declared.names.SiteId.{SiteId}
+use Rattle.mdb_base.specs.declared.names.Tid.{Tid}
+use Rattle.mdb_base.specs.declared.names.Tx.{Tx}
+use Rattle.mdb_base.specs.Names.{same_site}
+use Rattle.mdb_base.specs.Words.{when, pick, item_at, map_some}
+use Rattle.order_laws.specs.Chains.{In}
+use Rattle.fed_rules.specs.declared.answers.Answer.{Answer}
+use Rattle.fed_rules.specs.declared.commands.Command.{Command}
+use Rattle.fed_rules.specs.declared.commands.Command.TheVariants as Cmd
+use Rattle.fed_rules.specs.declared.events.CoordEvent.{CoordEvent}
+use Rattle.fed_rules.specs.declared.events.CoordEvent.TheVariants as Coord_event
+use Rattle.fed_rules.specs.declared.events.SiteEvent.{SiteEvent}
+use Rattle.fed_rules.specs.declared.events.SiteEvent.TheVariants as Site_event
+use Rattle.fed_rules.specs.declared.scenario.ItemLine.{ItemLine}
+use Rattle.fed_rules.specs.declared.scenario.Scenario.{Scenario}
+use Rattle.fed_rules.specs.declared.scenario.SiteLine.{SiteLine}
+use Rattle.fed_rules.specs.declared.scenario.TxLine.{TxLine}
+use Rattle.fed_rules.specs.Coord.{coord_line}
+use Rattle.fed_rules.specs.CoordPast as Coordinator
+use Rattle.fed_rules.specs.Runs.{Run}
+use Rattle.fed_rules.specs.Scenarios.{home_in, home_of, home_at, home_of_line, items_of, local_site, local_home, transaction, global_line, global_program, protocols}
+use Rattle.fed_rules.specs.Site.{site_line}
+use Rattle.fed_rules.specs.SiteRecords.{Home}
+use Rattle.fed_rules.specs.Story.{Story, Happened, AtSite, AtCoordinator, Nowhere, past_of, coord_past, sent_to, sent_from, attempt, happens, at_site, at_coordinator, begins_local, on_begin, with_live, next_step, on_step, on_commit, on_abort, on_fate, begins_global, on_go, on_attempt, on_site, on_give, on_take, on_actor}
+
+pub some-parts : {A : Type 0} {x y : A} → Some x ≡ Some y → x ≡ y
+some-parts e = cc
+
+pub same-site : (a b : SiteId) → same_site a b ≡ true → a ≡ b
+same-site a b h = let P : ℕ → SiteId = λ n. record { 0 = n } in ap P (eqb-true a.0 b.0 h)
+
+pub same-site-refl : (a : SiteId) → same_site a a ≡ true
+same-site-refl a = eq-eqb a.0 a.0 refl
+
+-- the home that a line declares
+abbrev home_at_line : SiteLine → List ItemLine → SiteId → Home
+home_at_line line items s = record { site = line.site; engine = line.engine; protocol = line.protocol; items = items_of items s }
+
+home-site : (lines : List SiteLine) (items : List ItemLine) (s : SiteId) (h : Home) → home_in lines items s ≡ Some h → h.site ≡ s
+home-site [] items s h e = cc
+home-site (line ∷ lines) items s h e = by_test (same_site line.site s) refl e (home-site lines items s h) where
+  by_test : (t : Bool) → same_site line.site s ≡ t → cond t (Some (home_at_line line items s)) (home_in lines items s) ≡ Some h → (home_in lines items s ≡ Some h → h.site ≡ s) → h.site ≡ s
+  by_test true q e k = (let p : home_at_line line items s ≡ h = some-parts e in sym (ap (λ x. x.site) p) ∙ same-site line.site s q)
+  by_test false q e k = k e
+
+-- a declared site has the number by which it was found
+pub its-site : (scenario : Scenario) (s : SiteId) (h : Home) → home_of scenario s ≡ Some h → h.site ≡ s
+its-site scenario s h e = home-site scenario.sites scenario.items s h e
+
+-- and is found again by its own number
+pub home-again : (scenario : Scenario) (s : SiteId) (h : Home) → home_of scenario s ≡ Some h → home_of scenario h.site ≡ Some h
+home-again scenario s h e = ap (home_of scenario) (its-site scenario s h e) ∙ e
+
+-- the attempt is one of a global transaction
+abbrev pub IsGlobal : Scenario → Tid → Type 0
+IsGlobal scenario t = (steps : List Step) × (global_program scenario t.tx ≡ Some steps)
+
+-- a global transaction has no home
+pub not-both : (scenario : Scenario) (tx : Tx) (h : Home) (steps : List Step) → local_home scenario tx ≡ Some h → global_program scenario tx ≡ Some steps → ⊥
+not-both scenario tx h steps e f = by_line (transaction scenario tx) e f where
+  by_home : (line : TxLine) (o : Option SiteId) → home_at scenario o ≡ Some h → map_some (λ l. l.program) (global_line (Some (record line { home = o }))) ≡ Some steps → ⊥
+  by_home line None e f = cc
+  by_home line (Some s) e f = cc
+
+  by_line : (o : Option TxLine) → home_at scenario (home_of_line o) ≡ Some h → map_some (λ l. l.program) (global_line o) ≡ Some steps → ⊥
+  by_line None e f = cc
+  by_line (Some line) e f = by_home line line.home e f
+
+-- where the event of a site comes from
+abbrev pub SiteCame : Scenario → SiteId → Story → SiteEvent → Type 0
+SiteCame scenario site story (Site_event.Give message) = In message (sent_to site story)
+SiteCame scenario site story (Site_event.Begin t) = (h : Home) × (local_home scenario t.tx ≡ Some h)
+SiteCame scenario site story event = Unit {0}
+
+-- where the event of the coordinator comes from
+abbrev pub CoordCame : Scenario → Story → CoordEvent → Type 0
+CoordCame scenario story (Coord_event.Take site message) = In message (sent_from site story)
+CoordCame scenario story (Coord_event.Go t steps) = (t.attempt ≡ Coordinator.attempts_of (coord_past story) t.tx) × (global_program scenario t.tx ≡ Some steps)
+CoordCame scenario story event = Unit {0}
+
+-- what happens is the next line of this site, or of the coordinator, or is no line of them
+abbrev pub IsNext : Scenario → Home → Story → Happened → Type 0
+IsNext scenario home story (AtSite at x) = same_site at home.site ≡ true → (event : SiteEvent) × (x ≡ site_line home (past_of home.site story) event) × SiteCame scenario home.site story event
+IsNext scenario home story (AtCoordinator x) = (event : CoordEvent) × (x ≡ coord_line (protocols scenario) (coord_past story) event) × CoordCame scenario story event
+IsNext scenario home story (Nowhere answer) = Unit {0}
+
+pub record Linked (scenario : Scenario) (home : Home) (story : Story) (happened : Happened) : Type 0 where
+  pub next : IsNext scenario home story happened
+
+nowhere : (scenario : Scenario) (home : Home) (story : Story) (answer : Answer) → Linked scenario home story (Nowhere answer)
+nowhere scenario home story answer = record { next = tt }
+
+at-coordinator : (scenario : Scenario) (home : Home) (story : Story) (event : CoordEvent) → CoordCame scenario story event → Linked scenario home story (at_coordinator scenario story event)
+at-coordinator scenario home story event came = record { next = (event, refl, came) }
+
+linked-when : (scenario : Scenario) (home : Home) (story : Story) (t : Bool) (a b : Happened) → Linked scenario home story a → Linked scenario home story b → Linked scenario home story (when t a b)
+unfolding when
+linked-when scenario home story true a b p q = p
+linked-when scenario home story false a b p q = q
+
+linked-pick : {A : Type 0} (scenario : Scenario) (home : Home) (story : Story) (o : Option A) (none : Happened) (some : A → Happened) → Linked scenario home story none → ((x : A) → o ≡ Some x → Linked scenario home story (some x)) → Linked scenario home story (pick o none some)
+unfolding pick
+linked-pick scenario home story None none some p q = p
+linked-pick scenario home story (Some x) none some p q = q x refl
+
+-- the next event of a declared site
+at-home : (scenario : Scenario) (home : Home) (story : Story) (other : Home) (event : SiteEvent) → home_of scenario home.site ≡ Some home → home_of scenario other.site ≡ Some other → SiteCame scenario other.site story event → Linked scenario home story (at_site other story event)
+at-home scenario home story other event e f came = record {
+  next = (λ same.
+      let p : other ≡ home = some-parts (sym f ∙ ap (home_of scenario) (same-site other.site home.site same) ∙ e) in
+      (event, ap (λ h. site_line h (past_of h.site story) event) p, subst (λ h. SiteCame scenario h.site story event) p came));
+}
+
+-- the home of a local transaction is a declared site
+local-declared : (scenario : Scenario) (s : Option SiteId) (h : Home) → home_at scenario s ≡ Some h → home_of scenario h.site ≡ Some h
+local-declared scenario None h e = cc
+local-declared scenario (Some s) h e = home-again scenario s h e
+
+by-begin : (scenario : Scenario) (home : Home) (story : Story) (tx : Tx) → home_of scenario home.site ≡ Some home → Linked scenario home story (on_begin scenario story tx)
+unfolding on_begin begins_local
+by-begin scenario home story tx e =
+    linked-pick scenario home story (local_home scenario tx) _ _ (nowhere scenario home story _) (λ other f.
+    linked-when scenario home story _ _ _ (nowhere scenario home story _)
+    (at-home scenario home story other _ e (local-declared scenario (local_site scenario tx) other f) (other, f)))
+
+-- an event of the live attempt
+by-live : (scenario : Scenario) (home : Home) (story : Story) (other : Home) (tx : Tx) (next : Tid → Run → Happened) → ((tid : Tid) (run : Run) → Linked scenario home story (next tid run)) → Linked scenario home story (with_live other story tx next)
+unfolding with_live
+by-live scenario home story other tx next g =
+    linked-when scenario home story _ _ _ (nowhere scenario home story _)
+    (linked-pick scenario home story _ _ _ (nowhere scenario home story _) (λ tid f.
+    linked-pick scenario home story _ _ _ (nowhere scenario home story _) (λ run h. g tid run)))
+
+by-step : (scenario : Scenario) (home : Home) (story : Story) (tx : Tx) → home_of scenario home.site ≡ Some home → Linked scenario home story (on_step scenario story tx)
+unfolding on_step next_step
+by-step scenario home story tx e =
+    linked-pick scenario home story (local_home scenario tx) _ _ (nowhere scenario home story _) (λ other f.
+    by-live scenario home story other tx _ (λ tid run.
+    linked-pick scenario home story _ _ _ (nowhere scenario home story _) (λ step h.
+    at-home scenario home story other _ e (local-declared scenario (local_site scenario tx) other f) tt)))
+
+by-commit : (scenario : Scenario) (home : Home) (story : Story) (tx : Tx) → home_of scenario home.site ≡ Some home → Linked scenario home story (on_commit scenario story tx)
+unfolding on_commit
+by-commit scenario home story tx e =
+    linked-pick scenario home story (local_home scenario tx) _ _ (nowhere scenario home story _) (λ other f.
+    by-live scenario home story other tx _ (λ tid run.
+    linked-when scenario home story _ _ _ (nowhere scenario home story _)
+    (at-home scenario home story other _ e (local-declared scenario (local_site scenario tx) other f) tt)))
+
+by-abort : (scenario : Scenario) (home : Home) (story : Story) (tx : Tx) → home_of scenario home.site ≡ Some home → Linked scenario home story (on_abort scenario story tx)
+unfolding on_abort
+by-abort scenario home story tx e =
+    linked-pick scenario home story (local_home scenario tx) _ _ (nowhere scenario home story _) (λ other f.
+    by-live scenario home story other tx _ (λ tid run.
+    at-home scenario home story other _ e (local-declared scenario (local_site scenario tx) other f) tt))
+
+by-fate : (scenario : Scenario) (home : Home) (story : Story) (tx : Tx) → home_of scenario home.site ≡ Some home → Linked scenario home story (on_fate scenario story tx)
+unfolding on_fate
+by-fate scenario home story tx e =
+    linked-pick scenario home story (local_home scenario tx) _ _
+    (linked-pick scenario home story _ _ _ (nowhere scenario home story _) (λ steps f. at-coordinator scenario home story _ tt))
+    (λ other f. at-home scenario home story other _ e (local-declared scenario (local_site scenario tx) other f) tt)
+
+by-go : (scenario : Scenario) (home : Home) (story : Story) (tx : Tx) → Linked scenario home story (on_go scenario story tx)
+unfolding on_go begins_global
+by-go scenario home story tx =
+    linked-pick scenario home story (global_program scenario tx) _ _ (nowhere scenario home story _) (λ steps f.
+    linked-when scenario home story _ _ _ (nowhere scenario home story _) (at-coordinator scenario home story _ (refl, f)))
+
+by-attempt : (scenario : Scenario) (home : Home) (story : Story) (tid : Tid) (event : CoordEvent) → CoordCame scenario story event → Linked scenario home story (on_attempt scenario story tid event)
+unfolding on_attempt
+by-attempt scenario home story tid event came =
+    linked-when scenario home story _ _ _ (at-coordinator scenario home story event came) (nowhere scenario home story _)
+
+by-on_site : (scenario : Scenario) (home : Home) (story : Story) (s : SiteId) (event : SiteEvent) → home_of scenario home.site ≡ Some home → SiteCame scenario s story event → Linked scenario home story (on_site scenario story s event)
+unfolding on_site
+by-on_site scenario home story s event e came =
+    linked-pick scenario home story (home_of scenario s) _ _ (nowhere scenario home story _) (λ other f.
+    at-home scenario home story other event e (home-again scenario s other f) (subst (λ at. SiteCame scenario at story event) (sym (its-site scenario s other f)) came))
+
+pub item-in : {A : Type 0} (xs : List A) (n : ℕ) (x : A) → item_at xs n ≡ Some x → In x xs
+item-in [] n x e = cc
+item-in (y ∷ ys) zero x e = inl (some-parts e)
+item-in (y ∷ ys) (suc n) x e = inr (item-in ys n x e)
+
+by-give : (scenario : Scenario) (home : Home) (story : Story) (s : SiteId) (place : ℕ) → home_of scenario home.site ≡ Some home → Linked scenario home story (on_give scenario story s place)
+unfolding on_give
+by-give scenario home story s place e =
+    linked-pick scenario home story (item_at (sent_to s story) place) _ _ (nowhere scenario home story _) (λ message f.
+    by-on_site scenario home story s (Site_event.Give message) e (item-in (sent_to s story) place message f))
+
+by-take : (scenario : Scenario) (home : Home) (story : Story) (s : SiteId) (place : ℕ) → Linked scenario home story (on_take scenario story s place)
+unfolding on_take
+by-take scenario home story s place =
+    linked-pick scenario home story (item_at (sent_from s story) place) _ _ (nowhere scenario home story _) (λ message f.
+    at-coordinator scenario home story (Coord_event.Take s message) (item-in (sent_from s story) place message f))
+
+by-actor : (scenario : Scenario) (home : Home) (story : Story) (actor : ℕ) (c : CoordEvent) (s : SiteEvent) → home_of scenario home.site ≡ Some home → CoordCame scenario story c → ((site : SiteId) → SiteCame scenario site story s) → Linked scenario home story (on_actor scenario story actor c s)
+unfolding on_actor
+by-actor scenario home story zero c s e came there = at-coordinator scenario home story c came
+by-actor scenario home story (suc n) c s e came there = by-on_site scenario home story (record { 0 = suc n }) s e (there (record { 0 = suc n }))
+
+pub linked : (scenario : Scenario) (home : Home) (story : Story) (command : Command) → home_of scenario home.site ≡ Some home → Linked scenario home story (happens scenario story command)
+unfolding happens
+linked scenario home story (Cmd.Begin tx) e = by-begin scenario home story tx e
+linked scenario home story (Cmd.Step tx) e = by-step scenario home story tx e
+linked scenario home story (Cmd.Commit tx) e = by-commit scenario home story tx e
+linked scenario home story (Cmd.Abort tx) e = by-abort scenario home story tx e
+linked scenario home story (Cmd.Fate tx) e = by-fate scenario home story tx e
+linked scenario home story (Cmd.Go tx) e = by-go scenario home story tx
+linked scenario home story (Cmd.Again tid) e = by-attempt scenario home story tid _ tt
+linked scenario home story (Cmd.Late tid) e = by-attempt scenario home story tid _ tt
+linked scenario home story (Cmd.Give site place) e = by-give scenario home story site place e
+linked scenario home story (Cmd.Take site place) e = by-take scenario home story site place
+linked scenario home story (Cmd.Ask site tid) e = by-on_site scenario home story site _ e tt
+linked scenario home story (Cmd.Drop site tid) e = by-on_site scenario home story site _ e tt
+linked scenario home story (Cmd.Halt actor cut) e = by-actor scenario home story actor _ _ e tt (λ site. tt)
+linked scenario home story (Cmd.Trip actor calls cut) e = by-actor scenario home story actor _ _ e tt (λ site. tt)
+linked scenario home story (Cmd.Back actor) e = by-actor scenario home story actor _ _ e tt (λ site. tt)
