@@ -12,6 +12,12 @@ pub mod OneOrders
 pub mod SerialOrders
 pub mod SerialRuns
 pub mod SerialStories
+pub mod SiteAbout
+pub mod SiteLines
+pub mod SiteMoves
+pub mod SiteOperations
+pub mod SiteRuns
+pub mod SiteSteps
 pub mod Standings
 pub mod TicketCycles
 pub mod Told
