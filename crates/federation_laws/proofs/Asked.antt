@@ -186,7 +186,7 @@ more-take program replies reply site o n w =
     record { most = subst (λ k. n ≤ k) (sym same) w.most; next = λ q. left-more program replies reply site (w.next (q ∙ same)) }
 
 -- nothing that fits is outstanding where a Prepare was asked for
-no-vote-fits : (past : CoordPast) (g : Tid) (site : SiteId) (due : Due) (n : ℕ) (reply : Reply) → outstanding past g site ≡ Some due → fits (Some due) n reply ≡ true → IsDone (program past g) (counted past g) site → ⊥
+pub no-vote-fits : (past : CoordPast) (g : Tid) (site : SiteId) (due : Due) (n : ℕ) (reply : Reply) → outstanding past g site ≡ Some due → fits (Some due) n reply ≡ true → IsDone (program past g) (counted past g) site → ⊥
 no-vote-fits past g site (Due_is.Work at epoch m act) n reply e f d =
     let due : IsWork (program past g) (counted past g) site at epoch m act = due-is (program past g) (counted past g) (vote_at past g site) site (Due_is.Work at epoch m act) e in
     let clash = sym due.left ∙ d.left in cc

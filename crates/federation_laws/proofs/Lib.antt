@@ -1,4 +1,6 @@
+pub mod Agreement
 pub mod Asked
+pub mod CoordAgreement
 pub mod CoordEffects
 pub mod CoordHolds
 pub mod CoordLines

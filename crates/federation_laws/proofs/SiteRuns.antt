@@ -121,7 +121,7 @@ over-stays home g past event x line up over = of_case (or-cases (is_closed past 
     ]
 
 -- where a run is live after a line, the line neither stopped the site nor started it
-live-plain : (home : Home) (past : SitePast) (x : SiteHappening) (g : Tid) (run : Run) → live home (x ∷ past) g ≡ Some run → (stops x.answer || comes_up x.answer) ≡ false
+pub live-plain : (home : Home) (past : SitePast) (x : SiteHappening) (g : Tid) (run : Run) → live home (x ∷ past) g ≡ Some run → (stops x.answer || comes_up x.answer) ≡ false
 live-plain home past x g run e = by_test (stops x.answer || comes_up x.answer) refl e
   where
     by_test : (t : Bool) → (stops x.answer || comes_up x.answer) ≡ t → live_one (run_at (cond t (start_of home (records home (x ∷ past))) (epoch_start home past)) (cond t [] (x.lines ++ engine_lines past)) g) ≡ Some run → (stops x.answer || comes_up x.answer) ≡ false
