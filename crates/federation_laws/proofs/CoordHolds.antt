@@ -132,7 +132,7 @@ unbegun-before past g x e = parts (begins g x.answer) (is_begun past g) (sym (be
     parts true b e = cc
     parts false b e = (refl, e)
 
-begins-answer : (g : Tid) (answer : Answer) → begins g answer ≡ true → (tid : Tid) × (answer ≡ Say.Begun tid)
+pub begins-answer : (g : Tid) (answer : Answer) → begins g answer ≡ true → (tid : Tid) × (answer ≡ Say.Begun tid)
 begins-answer g (Say.Begun tid) e = (tid, refl)
 begins-answer g answer e = cc
 

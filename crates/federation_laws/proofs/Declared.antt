@@ -31,7 +31,7 @@ pub home_is-items : (scenario : Scenario) (s : SiteId) (h : Home) → home_of sc
 home_is-items scenario s h e = home-items scenario.sites scenario.items s h e
 
 -- an item that is put into a list stands there, and so do those that stood there
-put-in : {A : Type 0} (P : A → Type 0) (before : A → A → Bool) (x : A) (xs : List A) → P x → Among P (inserted before x xs)
+pub put-in : {A : Type 0} (P : A → Type 0) (before : A → A → Bool) (x : A) (xs : List A) → P x → Among P (inserted before x xs)
 put-in P before x [] p = inl p
 put-in P before x (y ∷ ys) p = by_test (before y x) (put-in P before x ys p)
   where
@@ -39,7 +39,7 @@ put-in P before x (y ∷ ys) p = by_test (before y x) (put-in P before x ys p)
     by_test true h = inr h
     by_test false h = inl p
 
-put-kept : {A : Type 0} (P : A → Type 0) (before : A → A → Bool) (x : A) (xs : List A) → Among P xs → Among P (inserted before x xs)
+pub put-kept : {A : Type 0} (P : A → Type 0) (before : A → A → Bool) (x : A) (xs : List A) → Among P xs → Among P (inserted before x xs)
 put-kept P before x [] i = absurd i
 put-kept P before x (y ∷ ys) i = by_test (before y x) i (put-kept P before x ys)
   where

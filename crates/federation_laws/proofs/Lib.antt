@@ -11,6 +11,7 @@ pub mod Declared
 pub mod Dues
 pub mod Merges
 pub mod OneOrders
+pub mod ScenarioFacts
 pub mod SerialOrders
 pub mod SerialRuns
 pub mod SerialStories
@@ -21,5 +22,6 @@ pub mod SiteOperations
 pub mod SiteRuns
 pub mod SiteSteps
 pub mod Standings
+pub mod StoryGlobals
 pub mod TicketCycles
 pub mod Told

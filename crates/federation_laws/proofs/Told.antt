@@ -89,6 +89,14 @@ pub record IsAllDone (scenario : Scenario) (home : Home) (past : SitePast) (tid 
   pub is_live : live home past tid ≡ Some run
   pub all : nat_lt (done run) (length (program_of scenario tx)) ≡ false
 
+-- the live attempt of a local transaction
+pub record IsLiveAttempt (scenario : Scenario) (home : Home) (past : SitePast) (tid : Tid) : Type 0 where
+  pub tx : Tx
+  pub here : local_home scenario tx ≡ Some home
+  pub found_live : live_of_tx home past tx ≡ Some tid
+  pub run : Run
+  pub is_live : live home past tid ≡ Some run
+
 -- the next attempt of a local transaction
 pub record IsNextAttempt (scenario : Scenario) (home : Home) (past : SitePast) (tid : Tid) : Type 0 where
   pub here : local_home scenario tid.tx ≡ Some home
@@ -99,6 +107,7 @@ abbrev pub SiteCause : Scenario → Story → Home → SiteEvent → Type 0
 SiteCause scenario story home (To_site.Begin tid) = IsNextAttempt scenario home (past_of home.site story) tid
 SiteCause scenario story home (To_site.Act tid act) = IsNextStep scenario home (past_of home.site story) tid act
 SiteCause scenario story home (To_site.Commit tid) = IsAllDone scenario home (past_of home.site story) tid
+SiteCause scenario story home (To_site.Abort tid) = IsLiveAttempt scenario home (past_of home.site story) tid
 SiteCause scenario story home (To_site.Give message) = In message (sent_to home.site story)
 SiteCause scenario story home event = Unit {0}
 
@@ -182,7 +191,8 @@ of_abort : (scenario : Scenario) (story : Story) (tx : Tx) → Follows scenario 
 unfolding on_abort
 of_abort scenario story tx =
     follows_pick scenario story (local_home scenario tx) _ _ (nowhere scenario story _) (λ home f.
-    of_live scenario story home tx _ (λ tid run g h. site scenario story home _ (local_home-declared scenario tx home f) tt))
+    of_live scenario story home tx _ (λ tid run g h.
+    site scenario story home _ (local_home-declared scenario tx home f) (record { tx = tx; here = f; found_live = g; run = run; is_live = h })))
 
 of_fate : (scenario : Scenario) (story : Story) (tx : Tx) → Follows scenario story (on_fate scenario story tx)
 unfolding on_fate
