@@ -25,10 +25,10 @@ use Rattle.fed_rules.specs.Coord.{vote_counts, all_voted, is_due_vote}
 use Rattle.fed_rules.specs.CoordPast.{CoordHappening, CoordPast, Counted, disk, records, standing, is_undecided, is_about, begins, begun_by, begun_tids, program, visits, participants, counted, or_vote, vote_at, outstanding, is_wait, is_ticket, decides}
 use Rattle.fed_rules.specs.CoordRecords.{has_commit}
 use Rattle.fed_rules.specs.Disk.{Call, Append, Sync, CutBack, Stops}
-use Rattle.fed_rules.specs.Happenings.{quiet}
+use Rattle.fed_rules.specs.Happenings.{quiet, stops, comes_up}
 use Rattle.federation_laws.specs.Accesses.{SiteAccess, reads_in, act_of, IsStep, Follows}
 use Rattle.federation_laws.proofs.CoordEffects.{program-stays, CountsReply, CountsVote, CountsNothing, Effect, Starts, Replies, Votes, Still, effect}
-use Rattle.federation_laws.proofs.CoordMade.{IsLastVote, Writes, is_refusal, Decides, Begins, IsMade}
+use Rattle.federation_laws.proofs.CoordMade.{CommitsNobody, IsLastVote, Writes, is_refusal, Decides, Begins, IsMade}
 use Rattle.federation_laws.proofs.CoordOps.{Op, op_at, ops, accesses, Matches, Agree, agree-wait, agree-steps, agree-reads}
 use Rattle.federation_laws.proofs.CountedReplies.{is_dead, Waits, Works, Takes, Progress, Waiting, Working, Taking, progress, counts-fits}
 use Rattle.federation_laws.proofs.Dues.{left_at, ticket_of, steps_of, reads_of, of_site, voting, IsWork, IsTake, due-is, FitsWork, FitsTake, Fitting, ToWork, ToTake, fitting}
@@ -57,10 +57,11 @@ pub record Holds (past : CoordPast) (g : Tid) : Type 0 where
   pub follows : is_dead (counted past g) ≡ false → Follows (program past g) (accesses (ops past g))
   pub voted : (s : SiteId) → is_some (vote_at past g s) ≡ true → IsDone (program past g) (counted past g) s
   pub committed : has_commit (records past) g ≡ true → Finished past g
+  pub over : has_commit (records past) g ≡ true → is_undecided (standing past g) ≡ false
 
 -- at first
 pub holds-first : (g : Tid) → Holds [] g
-holds-first g = record { unbegun = λ e. refl; alive = λ e. cc; agree = λ e. tt; follows = λ e. tt; voted = λ s e. cc; committed = λ e. cc }
+holds-first g = record { unbegun = λ e. refl; alive = λ e. cc; agree = λ e. tt; follows = λ e. tt; voted = λ s e. cc; committed = λ e. cc; over = λ e. cc }
 
 -- nothing of an attempt was known before it began
 abbrev pub IsFresh : CoordPast → Tid → CoordHappening → Type 0
@@ -144,7 +145,7 @@ starts-novote g x event site ticket b e v =
     let clash = sym go.1 ∙ v in cc
 
 -- the vote that an appended Commit comes from
-last-vote-of : (protocols : List Participant) (past : CoordPast) (event : CoordEvent) (g : Tid) (calls : List (Call CoordRecord)) → Each (Writes protocols past event) calls → Among (AppendsCommit g) calls
+pub last-vote-of : (protocols : List Participant) (past : CoordPast) (event : CoordEvent) (g : Tid) (calls : List (Call CoordRecord)) → Each (Writes protocols past event) calls → Among (AppendsCommit g) calls
     → (tickets : List SiteTicket) × IsLastVote protocols past event g tickets
 last-vote-of protocols past event g [] w i = absurd i
 last-vote-of protocols past event g (Append (Rec.Commit tid tickets) ∷ calls) w (inl own) = (tickets, subst (λ t. IsLastVote protocols past event t tickets) own w.0)
@@ -278,7 +279,7 @@ going-next past g x h (Still q) d =
 alive-next : (past : CoordPast) (g : Tid) (x : CoordHappening) → Begins x.event x.answer → Decides x.event x.answer → Holds past g → Effect past g x → is_undecided (standing (x ∷ past) g) ≡ true → is_dead (counted (x ∷ past) g) ≡ false
 alive-next past g x b d h effects u = by_case effects (undecided-from past g x b u)
   where
-    by_case : Effect past g x → (begins g x.answer ≡ true) ⊎ ((is_undecided (standing past g) ≡ true) × (is_about g x.event ≡ true → decides x.answer ≡ false)) → is_dead (counted (x ∷ past) g) ≡ false
+    by_case : Effect past g x → (begins g x.answer ≡ true) ⊎ ((is_undecided (standing past g) ≡ true) × (is_about g x.event ≡ true → decides x.answer ≡ false) × ((stops x.answer || comes_up x.answer) ≡ false)) → is_dead (counted (x ∷ past) g) ≡ false
     by_case eff (inl e) = ap is_dead (cond-true (begins g x.answer) [] _ e)
     by_case (Starts e) (inr k) = ap is_dead (cond-true (begins g x.answer) [] _ e)
     by_case (Replies r) (inr k) = ap is_dead r.replies ∙ goes (is_refusal r.reply) refl
@@ -313,6 +314,46 @@ voted-next past g x s h (Votes v) e = done-same past g x s v.begun v.replies (by
     by_test false q k = h.voted s (sym (ap (λ t. is_some (or_vote (cond t (Some v.ticket) None) (vote_at past g s))) q) ∙ k)
 voted-next past g x s h (Still q) e = done-same past g x s q.begun q.replies (h.voted s (ap is_some (sym (q.votes s)) ∙ e))
 
+-- who is committed isn't undecided any more
+over-next : (protocols : List Participant) (past : CoordPast) (g : Tid) (event : CoordEvent) (x : CoordHappening) → IsMade protocols past event x → IsFresh past g x → Holds past g → has_commit (records (x ∷ past)) g ≡ true → is_undecided (standing (x ∷ past) g) ≡ false
+over-next protocols past g event x made fresh h e = by_test (is_undecided (standing (x ∷ past) g)) refl
+  where
+    begins-none : begins g x.answer ≡ true → (has_commit (records past) g ≡ true) ⊎ Among (AppendsCommit g) x.calls → ⊥
+    begins-none b (inl old) = fresh-begun past g x fresh (h.committed old).known b
+    begins-none b (inr new) = let (tickets, v) = last-vote-of protocols past event g x.calls made.writes new in starts-novote g x event v.site v.ticket made.begun b v.is_vote
+
+    nobody-else : (calls : List (Call CoordRecord)) → Each CommitsNobody calls → Among (AppendsCommit g) calls → ⊥
+    nobody-else [] n i = i
+    nobody-else (Append (Rec.Commit tid tickets) ∷ calls) n i = n.0
+    nobody-else (Append (Rec.Initiation tid members) ∷ calls) n (inl own) = own
+    nobody-else (Append (Rec.End tid) ∷ calls) n (inl own) = own
+    nobody-else (Sync ∷ calls) n (inl own) = own
+    nobody-else (CutBack ∷ calls) n (inl own) = own
+    nobody-else (Stops cut ∷ calls) n (inl own) = own
+    nobody-else (call ∷ calls) n (inr i) = nobody-else calls n.1 i
+
+    none : (a b : Bool) → a ≡ false → b ≡ false → (a || b) ≡ false
+    none a b e f = ap (λ t. t || b) e ∙ f
+
+    going : (has_commit (records past) g ≡ true) ⊎ Among (AppendsCommit g) x.calls → (is_undecided (standing past g) ≡ true) × (is_about g x.event ≡ true → decides x.answer ≡ false) × ((stops x.answer || comes_up x.answer) ≡ false) → ⊥
+    going (inl old) k = let clash = sym k.0 ∙ h.over old in cc
+    going (inr new) k =
+        let (tickets, v) = last-vote-of protocols past event g x.calls made.writes new in
+        let about : is_about g x.event ≡ true = ap (is_about g) (made.heard ∙ v.is_vote) ∙ same_tid_self g in
+        let up : stops x.answer ≡ false = first (stops x.answer) (comes_up x.answer) k.2 in
+        nobody-else x.calls (made.commits_by (none (decides x.answer) (stops x.answer) (k.1 about) up)) new
+      where
+        first : (a b : Bool) → (a || b) ≡ false → a ≡ false
+        first true b e = cc
+        first false b e = refl
+
+    by_test : (t : Bool) → is_undecided (standing (x ∷ past) g) ≡ t → is_undecided (standing (x ∷ past) g) ≡ false
+    by_test true u = absurd (elim (undecided-from past g x (subst (λ ev. Begins ev x.answer) (sym made.heard) made.begun) u) [
+      | inl b ↦ begins-none b (commit-from x.calls (disk past) g e)
+      | inr k ↦ going (commit-from x.calls (disk past) g e) k
+    ])
+    by_test false u = u
+
 -- all of it holds after the next line
 pub holds-next : (protocols : List Participant) (past : CoordPast) (g : Tid) (event : CoordEvent) (x : CoordHappening) → IsMade protocols past event x → IsFresh past g x → AreDeclared protocols (program past g) → Holds past g → Holds (x ∷ past) g
 holds-next protocols past g event x made fresh declared h =
@@ -324,4 +365,5 @@ holds-next protocols past g event x made fresh declared h =
       follows = λ d. (going-next past g x h effects d).follows;
       voted = λ s. voted-next past g x s h effects;
       committed = committed-next protocols past g event x made fresh declared h;
+      over = over-next protocols past g event x made fresh h;
     }

@@ -114,8 +114,8 @@ dues_made : (protocols : List Participant) (past : CoordPast) (event : CoordEven
 unfolding sends_dues
 dues_made protocols past event tid dues h d k =
     made_when protocols past event _ _ _
-    (λ t. record { heard = refl; accepted = tt; writes = (tt, (tt, tt)); sends = sends-due (quiet event Say.Only ∷ past) tid dues h; counted = k _; decided = d _ refl; begun = tt })
-    (λ t. record { heard = refl; accepted = tt; writes = tt; sends = sends-due (quiet event Say.Only ∷ past) tid dues h; counted = k _; decided = d _ refl; begun = tt })
+    (λ t. record { heard = refl; accepted = tt; writes = (tt, (tt, tt)); sends = sends-due (quiet event Say.Only ∷ past) tid dues h; counted = k _; decided = d _ refl; begun = tt; commits_by = λ e. (tt, (tt, tt)) })
+    (λ t. record { heard = refl; accepted = tt; writes = tt; sends = sends-due (quiet event Say.Only ∷ past) tid dues h; counted = k _; decided = d _ refl; begun = tt; commits_by = λ e. tt })
 
 end_calls-shape : (P : List (Call CoordRecord) → Type 0) (past : CoordPast) (tid : Tid) → P (Append (Rec.End tid) ∷ []) → P [] → (b : Bool) → P (cond b (end_calls past tid) [])
 end_calls-shape P past tid p q true = by_test (is_some (initiated (records past) tid))
@@ -136,6 +136,7 @@ aborts_made protocols past event tid cause d k =
       counted = k _;
       decided = d _ refl;
       begun = tt;
+      commits_by = λ e. cc;
     }
 
 commits_made : (protocols : List Participant) (past : CoordPast) (event : CoordEvent) (tid : Tid) (tickets : List SiteTicket) → cycle_through edge_between (record { tid = tid; tickets = tickets }) (commits (records past)) ≡ None → IsLastVote protocols past event tid tickets → ((answer : Answer) → decides answer ≡ true → Decides event answer) → ((answer : Answer) → Counts past event answer) → IsMade protocols past event (commits_it protocols past event tid tickets)
@@ -149,6 +150,7 @@ commits_made protocols past event tid tickets none last d k =
       counted = k _;
       decided = d _ refl;
       begun = tt;
+      commits_by = λ e. cc;
     }
 
 go_made : (protocols : List Participant) (past : CoordPast) (tid : Tid) (steps : List Step) → IsMade protocols past (Ev.Go tid steps) (of_go protocols past tid steps)
@@ -156,7 +158,7 @@ unfolding of_go
 go_made protocols past tid steps =
     made_pick protocols past _ _ _ _
     (λ e. made_pick protocols past _ _ _ _
-    (λ f. record { heard = refl; accepted = tt; writes = tt; sends = sends-due (quiet (Ev.Go tid steps) (Say.Begun tid) ∷ past) tid _ (all-due protocols (quiet (Ev.Go tid steps) (Say.Begun tid) ∷ past) tid); counted = tt; decided = tt; begun = (steps, refl) })
+    (λ f. record { heard = refl; accepted = tt; writes = tt; sends = sends-due (quiet (Ev.Go tid steps) (Say.Begun tid) ∷ past) tid _ (all-due protocols (quiet (Ev.Go tid steps) (Say.Begun tid) ∷ past) tid); counted = tt; decided = tt; begun = (steps, refl); commits_by = λ e. tt })
     (λ running f. quiet_plain protocols past _ _ tt tt))
     (λ committed e. quiet_plain protocols past _ _ tt tt)
 
@@ -169,7 +171,7 @@ goes_made protocols past site tid epoch n reply r t =
 did-reply_made : (protocols : List Participant) (past : CoordPast) (site : SiteId) (tid : Tid) (epoch n : ℕ) (reply : Reply) → did_counts past site tid epoch n reply ≡ true
     → IsMade protocols past (Ev.Take site (From.Did tid epoch n reply)) (did_reply protocols past site (From.Did tid epoch n reply) tid reply)
 unfolding did_reply
-did-reply_made protocols past site tid epoch n (Reply_is.Wait by) t = record { heard = refl; accepted = tt; writes = tt; sends = tt; counted = λ h. t; decided = λ h r. cc; begun = tt }
+did-reply_made protocols past site tid epoch n (Reply_is.Wait by) t = record { heard = refl; accepted = tt; writes = tt; sends = tt; counted = λ h. t; decided = λ h r. cc; begun = tt; commits_by = λ e. tt }
 did-reply_made protocols past site tid epoch n (Reply_is.Refused (Because.Die by)) t = aborts_made protocols past _ tid _ (λ answer d h r. d) (λ answer h. t)
 did-reply_made protocols past site tid epoch n (Reply_is.Refused (Because.Late by)) t = aborts_made protocols past _ tid _ (λ answer d h r. d) (λ answer h. t)
 did-reply_made protocols past site tid epoch n (Reply_is.Refused (Because.Invalid by key)) t = goes_made protocols past site tid epoch n _ refl t
@@ -201,7 +203,7 @@ vote_made protocols past site tid (Some ticket) =
     made_when protocols past _ _ _ _
     (λ t. made_when protocols past _ _ _ _
     (λ all. last_made protocols past site tid ticket _ t (record { site = site; ticket = ticket; is_vote = refl; is_counted = t; all = all; theirs = refl }))
-    (λ f. record { heard = refl; accepted = tt; writes = tt; sends = tt; counted = λ h. t; decided = tt; begun = tt }))
+    (λ f. record { heard = refl; accepted = tt; writes = tt; sends = tt; counted = λ h. t; decided = tt; begun = tt; commits_by = λ e. tt }))
     (λ t. quiet_uncounted protocols past _ _ refl tt)
 
 ack_made : (protocols : List Participant) (past : CoordPast) (site : SiteId) (tid : Tid) (s : Standing) → IsMade protocols past (Ev.Take site (From.Ack tid)) (acked_while past site tid s)
@@ -217,6 +219,7 @@ ack_made protocols past site tid (Decided decision) =
       counted = tt;
       decided = tt;
       begun = tt;
+      commits_by = λ e. end_calls-shape (λ calls. Each CommitsNobody calls) past tid (tt, tt) tt true;
     })
     (λ u. quiet_plain protocols past _ _ tt tt))
     (λ t. quiet_plain protocols past _ _ tt tt)
@@ -226,8 +229,8 @@ ack_made protocols past site tid Gone = quiet_plain protocols past _ _ tt tt
 inquiry_made : (protocols : List Participant) (past : CoordPast) (site : SiteId) (tid : Tid) (s : Standing) → IsMade protocols past (Ev.Take site (From.Inquiry tid)) (asked_while protocols site tid s)
 unfolding asked_while
 inquiry_made protocols past site tid Undecided = quiet_plain protocols past _ _ tt tt
-inquiry_made protocols past site tid (Decided decision) = record { heard = refl; accepted = tt; writes = tt; sends = (tt, tt); counted = tt; decided = tt; begun = tt }
-inquiry_made protocols past site tid Gone = record { heard = refl; accepted = tt; writes = tt; sends = (tt, tt); counted = tt; decided = tt; begun = tt }
+inquiry_made protocols past site tid (Decided decision) = record { heard = refl; accepted = tt; writes = tt; sends = (tt, tt); counted = tt; decided = tt; begun = tt; commits_by = λ e. tt }
+inquiry_made protocols past site tid Gone = record { heard = refl; accepted = tt; writes = tt; sends = (tt, tt); counted = tt; decided = tt; begun = tt; commits_by = λ e. tt }
 
 take_made : (protocols : List Participant) (past : CoordPast) (site : SiteId) (message : FromSite) → IsMade protocols past (Ev.Take site message) (of_take protocols past site message)
 unfolding of_take of_ack of_inquiry
@@ -239,7 +242,7 @@ take_made protocols past site (From.Inquiry tid) = inquiry_made protocols past s
 again_made : (protocols : List Participant) (past : CoordPast) (tid : Tid) (s : Standing) → IsMade protocols past (Ev.Again tid) (again_while protocols past tid s)
 unfolding again_while
 again_made protocols past tid Undecided = dues_made protocols past _ tid _ (all-due protocols past tid) (λ answer d. tt) (λ answer. tt)
-again_made protocols past tid (Decided decision) = record { heard = refl; accepted = tt; writes = tt; sends = decides-each (again_while protocols past tid (Decided decision) ∷ past) tid decision (missing past tid decision); counted = tt; decided = tt; begun = tt }
+again_made protocols past tid (Decided decision) = record { heard = refl; accepted = tt; writes = tt; sends = decides-each (again_while protocols past tid (Decided decision) ∷ past) tid decision (missing past tid decision); counted = tt; decided = tt; begun = tt; commits_by = λ e. tt }
 again_made protocols past tid Gone = quiet_plain protocols past _ _ tt tt
 
 late_made : (protocols : List Participant) (past : CoordPast) (tid : Tid) → IsMade protocols past (Ev.Late tid) (of_late protocols past tid)
@@ -268,6 +271,10 @@ ends-write : (protocols : List Participant) (past : CoordPast) (event : CoordEve
 ends-write protocols past event [] = tt
 ends-write protocols past event (tid ∷ tids) = (tt, ends-write protocols past event tids)
 
+ends-nobody : (tids : List Tid) → Each CommitsNobody (map (λ tid. Append (Rec.End tid)) tids)
+ends-nobody [] = tt
+ends-nobody (tid ∷ tids) = (tt, ends-nobody tids)
+
 back_made : (protocols : List Participant) (past : CoordPast) → IsMade protocols past Ev.Back (of_back past)
 unfolding of_back
 back_made protocols past =
@@ -280,8 +287,13 @@ back_made protocols past =
       counted = tt;
       decided = tt;
       begun = tt;
+      commits_by = λ e. cut_nobody (is_torn coord_frame (disk past)) ended;
     }
   where
+    cut_nobody : (t : Bool) (ended : List Tid) → Each CommitsNobody (cond t (CutBack ∷ []) [] ++ map (λ tid. Append (Rec.End tid)) ended)
+    cut_nobody true ended = (tt, ends-nobody ended)
+    cut_nobody false ended = ends-nobody ended
+
     cut_accepted : (t : Bool) (ended : List Tid) → IsAccepted (commits (records past)) (cond t (CutBack ∷ []) [] ++ map (λ tid. Append (Rec.End tid)) ended)
     cut_accepted true ended = ends-accepted (commits (records past)) ended
     cut_accepted false ended = ends-accepted (commits (records past)) ended
@@ -331,6 +343,7 @@ tripped_made protocols past event (Some t) x m =
       counted = uncounted_counts past event _ refl;
       decided = uncounted_decides event _ refl;
       begun = tt;
+      commits_by = λ e. cc;
     })
     (λ c. m)
 
@@ -345,7 +358,7 @@ unfolding coord_line stopped
 coord_made protocols past (Ev.Trip calls cut) = quiet_plain protocols past _ _ tt tt
 coord_made protocols past (Ev.Halt cut) =
     made_when protocols past _ _ _ _ (λ d. quiet_plain protocols past _ _ tt tt)
-    (λ d. record { heard = refl; accepted = tt; writes = (tt, tt); sends = tt; counted = tt; decided = tt; begun = tt })
+    (λ d. record { heard = refl; accepted = tt; writes = (tt, tt); sends = tt; counted = tt; decided = tt; begun = tt; commits_by = λ e. (tt, tt) })
 coord_made protocols past Ev.Back =
     made_when protocols past _ _ _ _ (λ d. tripped_made protocols past Ev.Back (trip past) _ (back_made protocols past))
     (λ d. quiet_plain protocols past _ _ tt tt)

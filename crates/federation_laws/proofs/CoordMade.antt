@@ -1,5 +1,5 @@
 -- What a line of the coordinator records, sends and counts, whatever comes.
-use Rattle.std.proofs.Common.{◌≡◌, ℕ, Bool, true, false, Option, Some, None, List, [], ◌∷◌, refl}
+use Rattle.std.proofs.Common.{◌||◌, ◌≡◌, ℕ, Bool, true, false, Option, Some, None, List, [], ◌∷◌, refl}
 use Rattle.mdb_base.specs.declared.acts.Step.{Step}
 use Rattle.mdb_base.specs.declared.names.SiteId.{SiteId}
 use Rattle.mdb_base.specs.declared.names.SiteTicket.{SiteTicket}
@@ -25,7 +25,7 @@ use Rattle.fed_rules.specs.Coord.{did_counts, vote_tickets, all_voted, vote_coun
 use Rattle.fed_rules.specs.CoordPast.{CoordHappening, CoordPast, records, participants, counts, outstanding, decides}
 use Rattle.fed_rules.specs.CoordRecords.{commits}
 use Rattle.fed_rules.specs.Disk.{Call, Append}
-use Rattle.fed_rules.specs.Happenings.{quiet}
+use Rattle.fed_rules.specs.Happenings.{quiet, stops}
 
 -- the call doesn't append a Commit
 abbrev pub CommitsNobody : Call CoordRecord → Type 0
@@ -91,6 +91,7 @@ pub record IsMade (protocols : List Participant) (past : CoordPast) (event : Coo
   pub counted : Counts past event x.answer
   pub decided : Decides event x.answer
   pub begun : Begins event x.answer
+  pub commits_by : (decides x.answer || stops x.answer) ≡ false → Each CommitsNobody x.calls
 
 -- of several events nothing is said of what they count
 abbrev pub IsPlain : CoordEvent → Type 0
@@ -155,11 +156,11 @@ uncounted_decides Ev.Back answer e = tt
 -- a quiet line of an event that counts nothing, or that isn't counted
 pub quiet_plain : (protocols : List Participant) (past : CoordPast) (event : CoordEvent) (answer : Answer) → IsPlain event → Begins event answer → IsMade protocols past event (quiet event answer)
 quiet_plain protocols past event answer p b =
-    record { heard = refl; accepted = tt; writes = tt; sends = tt; counted = plain_counts past event answer p; decided = plain_decides event answer p; begun = b }
+    record { heard = refl; accepted = tt; writes = tt; sends = tt; counted = plain_counts past event answer p; decided = plain_decides event answer p; begun = b; commits_by = λ e. tt }
 
 pub quiet_uncounted : (protocols : List Participant) (past : CoordPast) (event : CoordEvent) (answer : Answer) → counts answer ≡ false → Begins event answer → IsMade protocols past event (quiet event answer)
 quiet_uncounted protocols past event answer e b =
-    record { heard = refl; accepted = tt; writes = tt; sends = tt; counted = uncounted_counts past event answer e; decided = uncounted_decides event answer e; begun = b }
+    record { heard = refl; accepted = tt; writes = tt; sends = tt; counted = uncounted_counts past event answer e; decided = uncounted_decides event answer e; begun = b; commits_by = λ e. tt }
 
 pub made_when : (protocols : List Participant) (past : CoordPast) (event : CoordEvent) (t : Bool) (a b : CoordHappening) → (t ≡ true → IsMade protocols past event a) → (t ≡ false → IsMade protocols past event b) → IsMade protocols past event (when t a b)
 unfolding when

@@ -36,8 +36,8 @@ moved-undecided answer old e = inr (e, refl)
 
 -- who is undecided after a line began at it, or was undecided and isn't decided by it
 pub undecided-from : (past : CoordPast) (g : Tid) (x : CoordHappening) → Begins x.event x.answer → is_undecided (standing (x ∷ past) g) ≡ true
-    → (begins g x.answer ≡ true) ⊎ ((is_undecided (standing past g) ≡ true) × (is_about g x.event ≡ true → decides x.answer ≡ false))
-undecided-from past g x b e = by_tests (stops x.answer || comes_up x.answer) (is_about g x.event) refl e
+    → (begins g x.answer ≡ true) ⊎ ((is_undecided (standing past g) ≡ true) × (is_about g x.event ≡ true → decides x.answer ≡ false) × ((stops x.answer || comes_up x.answer) ≡ false))
+undecided-from past g x b e = by_tests (stops x.answer || comes_up x.answer) (is_about g x.event) refl refl e
   where
     begun : (tid : Tid) → x.answer ≡ Say.Begun tid → is_about g x.event ≡ true → begins g x.answer ≡ true
     begun tid is about =
@@ -45,14 +45,14 @@ undecided-from past g x b e = by_tests (stops x.answer || comes_up x.answer) (is
         let own : same_tid tid g ≡ true = subst (λ ev. is_about g ev ≡ true) go.1 about in
         ap (begins g) is ∙ own
 
-    by_tests : (s a : Bool) → is_about g x.event ≡ a → is_undecided (cond s (kept_standing (records (x ∷ past)) g) (cond a (moved x.answer (standing past g)) (standing past g))) ≡ true
-        → (begins g x.answer ≡ true) ⊎ ((is_undecided (standing past g) ≡ true) × (is_about g x.event ≡ true → decides x.answer ≡ false))
-    by_tests true a q e = absurd (kept-decided (records (x ∷ past)) g e)
-    by_tests false true q e = elim (moved-undecided x.answer (standing past g) e) [
+    by_tests : (s a : Bool) → (stops x.answer || comes_up x.answer) ≡ s → is_about g x.event ≡ a → is_undecided (cond s (kept_standing (records (x ∷ past)) g) (cond a (moved x.answer (standing past g)) (standing past g))) ≡ true
+        → (begins g x.answer ≡ true) ⊎ ((is_undecided (standing past g) ≡ true) × (is_about g x.event ≡ true → decides x.answer ≡ false) × ((stops x.answer || comes_up x.answer) ≡ false))
+    by_tests true a r q e = absurd (kept-decided (records (x ∷ past)) g e)
+    by_tests false true r q e = elim (moved-undecided x.answer (standing past g) e) [
       | inl h ↦ inl (begun h.0 h.1 q)
-      | inr h ↦ inr (h.0, λ about. h.1)
+      | inr h ↦ inr (h.0, (λ about. h.1), r)
     ]
-    by_tests false false q e = inr (e, λ about. cc)
+    by_tests false false r q e = inr (e, (λ about. cc), r)
 
 -- the call appends a Commit of the attempt
 abbrev pub AppendsCommit : Tid → Call CoordRecord → Type 0
