@@ -49,6 +49,7 @@ pub record IsAskedTake (program : List Step) (replies : List Counted) (site : Si
 pub record IsAskedVote (program : List Step) (replies : List Counted) (site : SiteId) (epoch n : ℕ) : Type 0 where
   pub known : epoch ≡ epoch_of replies site
   pub count : n ≡ count_of replies site
+  pub visited : visits site program ≡ true
   pub done : IsDone program replies site
 
 -- what a message that was sent to the site says of the attempt
@@ -118,6 +119,7 @@ stays-vote program replies reply site o epoch n v =
     record {
       known = v.known ∙ ap last_epoch (sym o);
       count = v.count ∙ ap (how_many (λ (c : Counted). not (is_wait c.reply))) (sym o);
+      visited = v.visited;
       done = done-more program replies reply site v.done;
     }
 
@@ -278,7 +280,7 @@ new-old past g site (To.Take tid epoch n) e = λ own.
     record { most = omega (arith, count); next = λ q. due.left }
 new-old past g site (To.Prepare tid epoch n) e = λ own.
     let due : IsPrepare (program past g) (counted past g) site site epoch n = due-is (program past g) (counted past g) (vote_at past g site) site (Due_is.Prepare site epoch n) (subst (λ t. outstanding past t site ≡ Some (Due_is.Prepare site epoch n)) own e) in
-    record { known = due.known; count = due.count; done = record { left = due.left; ticket = due.ticket } }
+    record { known = due.known; count = due.count; visited = due.visited; done = record { left = due.left; ticket = due.ticket } }
 new-old past g site (To.Decide tid decision) e = tt
 
 -- and its attempt is begun

@@ -138,7 +138,7 @@ begins-answer g (Say.Begun tid) e = (tid, refl)
 begins-answer g answer e = cc
 
 -- a line that begins an attempt takes no vote
-starts-novote : (g : Tid) (x : CoordHappening) (event : CoordEvent) (site : SiteId) (ticket : ℕ) → Begins event x.answer → begins g x.answer ≡ true → event ≡ Ev.Take site (From.Vote g (Some ticket)) → ⊥
+pub starts-novote : (g : Tid) (x : CoordHappening) (event : CoordEvent) (site : SiteId) (ticket : ℕ) → Begins event x.answer → begins g x.answer ≡ true → event ≡ Ev.Take site (From.Vote g (Some ticket)) → ⊥
 starts-novote g x event site ticket b e v =
     let (tid, is) = begins-answer g x.answer e in
     let go = subst (Begins event) is b in
@@ -214,7 +214,7 @@ finished-next past g x fresh (Replies r) f = absurd (finished-fits past g x f r)
 finished-next past g x fresh (Votes v) f = finished-same past g x v.begun v.replies f
 finished-next past g x fresh (Still q) f = finished-same past g x q.begun q.replies f
 
-fresh-begun : (past : CoordPast) (g : Tid) (x : CoordHappening) → IsFresh past g x → is_begun past g ≡ true → begins g x.answer ≡ true → ⊥
+pub fresh-begun : (past : CoordPast) (g : Tid) (x : CoordHappening) → IsFresh past g x → is_begun past g ≡ true → begins g x.answer ≡ true → ⊥
 fresh-begun past g x fresh known e = let no_one = fresh e in let clash = sym known ∙ no_one in cc
 
 committed-next : (protocols : List Participant) (past : CoordPast) (g : Tid) (event : CoordEvent) (x : CoordHappening) → IsMade protocols past event x → IsFresh past g x → AreDeclared protocols (program past g) → Holds past g → has_commit (records (x ∷ past)) g ≡ true → Finished (x ∷ past) g

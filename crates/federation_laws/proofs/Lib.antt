@@ -1,5 +1,6 @@
 pub mod Agreement
 pub mod Asked
+pub mod CommitOnce
 pub mod CoordAgreement
 pub mod CoordEffects
 pub mod CoordHolds
@@ -9,6 +10,7 @@ pub mod CoordOps
 pub mod CountedReplies
 pub mod Declared
 pub mod Dues
+pub mod Members
 pub mod Merges
 pub mod OneOrders
 pub mod ScenarioFacts

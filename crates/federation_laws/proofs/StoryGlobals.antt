@@ -86,7 +86,7 @@ beginning scenario story g x line made e =
     let cause : CoordCause scenario story (To_coord.Go g go.0) = subst (CoordCause scenario story) at line.cause in
     record { steps = go.0; heard = made.heard ∙ at; next = cause.1; known = global_program-is scenario g.tx go.0 cause.0 }
 
-fresh-line : (scenario : Scenario) (story : Story) (g : Tid) (x : CoordHappening) (line : IsCoordLine scenario story x) → IsMade (protocols scenario) (coord_past story) line.event x → StoryHolds scenario story g → IsFresh (coord_past story) g x
+pub fresh-line : (scenario : Scenario) (story : Story) (g : Tid) (x : CoordHappening) (line : IsCoordLine scenario story x) → IsMade (protocols scenario) (coord_past story) line.event x → StoryHolds scenario story g → IsFresh (coord_past story) g x
 fresh-line scenario story g x line made h e = by_test (is_begun (coord_past story) g) refl
   where
     by_test : (t : Bool) → is_begun (coord_past story) g ≡ t → is_begun (coord_past story) g ≡ false
@@ -98,14 +98,14 @@ or-cases true b e = inl refl
 or-cases false b e = inr (refl, e)
 
 -- the sites of an attempt's program are participants
-declared-program : (scenario : Scenario) → IsScenario scenario → (story : Story) (g : Tid) → StoryHolds scenario story g → AreDeclared (protocols scenario) (program (coord_past story) g)
+pub declared-program : (scenario : Scenario) → IsScenario scenario → (story : Story) (g : Tid) → StoryHolds scenario story g → AreDeclared (protocols scenario) (program (coord_past story) g)
 declared-program scenario good story g h s v = by_test (is_begun (coord_past story) g) refl
   where
     by_test : (t : Bool) → is_begun (coord_past story) g ≡ t → Among (λ p. p.site ≡ s) (protocols scenario)
     by_test true k = (let p = h.programmed k in global-declared scenario good g.tx p.1 s (ap (visits s) (sym p.0) ∙ v))
     by_test false k = (let none = ap (visits s) (h.holds.unbegun k) in let clash = sym v ∙ none in cc)
 
-coord-made : (scenario : Scenario) (story : Story) (x : CoordHappening) (line : IsCoordLine scenario story x) → IsMade (protocols scenario) (coord_past story) line.event x
+pub coord-made : (scenario : Scenario) (story : Story) (x : CoordHappening) (line : IsCoordLine scenario story x) → IsMade (protocols scenario) (coord_past story) line.event x
 coord-made scenario story x line = subst (λ (y : CoordHappening). IsMade (protocols scenario) (coord_past story) line.event y) (sym line.is_next) (coord_made (protocols scenario) (coord_past story) line.event)
 
 -- a line of the coordinator keeps what holds

@@ -1,0 +1,305 @@
+-- No attempt has two Commit records, and each Commit record names the tickets of the votes.
+use Rattle.std.proofs.Common.{◌≡◌, ◌⊎◌, ℕ, Bool, true, false, cond, not, ◌&&◌, ◌||◌, is_some, nat_le, Option, Some, None, List, [], ◌∷◌, ◌++◌, map, inl, inr, refl, sym, ap, subst, ◌∙◌}
+use Rattle.std.proofs.lemmas.Bool.{and_parts}
+use Rattle.mdb_base.specs.declared.names.SiteId.{SiteId}
+use Rattle.mdb_base.specs.declared.names.SiteTicket.{SiteTicket}
+use Rattle.mdb_base.specs.declared.names.Tid.{Tid}
+use Rattle.mdb_base.specs.Names.{same_site, same_tid}
+use Rattle.mdb_base.specs.Words.{Each, Among, some_of, those, found, with_some}
+use Rattle.presumptions.specs.declared.Participant.{Participant}
+use Rattle.order_laws.specs.Chains.{In, Distinct}
+use Rattle.order_laws.specs.Tickets.{Ticketed, OneEach}
+use Rattle.order_laws.proofs.Lists.{among_is, in_those, one_image, each_of_at}
+use Rattle.order_laws.proofs.Names.{same_site_alike, same_tid_alike, same_tid_self}
+use Rattle.fed_rules.specs.declared.answers.Answer.TheVariants as Say
+use Rattle.fed_rules.specs.declared.commands.Command.{Command}
+use Rattle.fed_rules.specs.declared.events.CoordEvent.{CoordEvent}
+use Rattle.fed_rules.specs.declared.events.CoordEvent.TheVariants as Ev
+use Rattle.fed_rules.specs.declared.messages.FromSite.TheVariants as From
+use Rattle.fed_rules.specs.declared.records.CoordRecord.{CoordRecord}
+use Rattle.fed_rules.specs.declared.records.CoordRecord.TheVariants as Rec
+use Rattle.fed_rules.specs.declared.scenario.Scenario.{Scenario}
+use Rattle.fed_rules.specs.Coord.{vote_counts, vote_ticket, vote_tickets, is_due_vote}
+use Rattle.fed_rules.specs.CoordPast.{CoordHappening, CoordPast, disk, records, standing, is_undecided, begins, counts, program, visits, participants, or_vote, vote_in, vote_at, outstanding}
+use Rattle.fed_rules.specs.CoordRecords.{coord_frame, has_commit, commits}
+use Rattle.fed_rules.specs.Disk.{Disk, Call, Append, Sync, CutBack, Stops, bytes_of, whole, after_calls}
+use Rattle.fed_rules.specs.Happenings.{quiet}
+use Rattle.fed_rules.specs.Plans.{IsScenario}
+use Rattle.fed_rules.specs.Scenarios.{protocols}
+use Rattle.fed_rules.specs.Story.{Story, Happened, AtSite, AtCoordinator, Nowhere, coord_past, with_coordinator, sent_from, sends_from, happens, story_of}
+use Rattle.federation_laws.specs.Edges.{committed}
+use Rattle.federation_laws.proofs.CoordEffects.{program-stays, Effect, Starts, Replies, Votes, Still, effect}
+use Rattle.federation_laws.proofs.CoordHolds.{is_begun, Finished, Holds, last-vote-of, starts-novote, fresh-begun}
+use Rattle.federation_laws.proofs.CoordMade.{CommitsNobody, IsAccepted, IsLastVote, Writes, IsMade}
+use Rattle.federation_laws.proofs.Standings.{AppendsCommit}
+use Rattle.federation_laws.proofs.StoryGlobals.{StoryHolds, story-holds, coord-made, fresh-line, declared-program}
+use Rattle.federation_laws.proofs.Told.{IsCoordLine, IsLine, CoordCause, line_is}
+use Rattle.federation_laws.proofs.TicketCycles.{commits-whole}
+
+-- the attempts that have a Commit record
+abbrev pub tids_of : List CoordRecord → List Tid
+tids_of rs = map (λ node. node.tid) (commits rs)
+
+pub committed-tid : (rs : List CoordRecord) (t : Tid) → In t (tids_of rs) → has_commit rs t ≡ true
+committed-tid [] t i = absurd i
+committed-tid (Rec.Commit tid tickets ∷ rs) t (inl e) = ap (λ b. cond b true (has_commit rs t)) (subst (λ u. same_tid tid u ≡ true) e (same_tid_self tid))
+committed-tid (Rec.Commit tid tickets ∷ rs) t (inr i) = by_test (same_tid tid t) (committed-tid rs t i)
+  where
+    by_test : (b : Bool) → has_commit rs t ≡ true → cond b true (has_commit rs t) ≡ true
+    by_test true h = refl
+    by_test false h = h
+committed-tid (Rec.Initiation tid members ∷ rs) t i = committed-tid rs t i
+committed-tid (Rec.End tid ∷ rs) t i = committed-tid rs t i
+
+-- who has a Commit record has a node
+pub commit-node : (rs : List CoordRecord) (t : Tid) → has_commit rs t ≡ true → (node : Ticketed) × In node (commits rs) × (node.tid ≡ t)
+commit-node [] t e = cc
+commit-node (Rec.Commit tid tickets ∷ rs) t e = by_test (same_tid tid t) refl e (commit-node rs t)
+  where
+    by_test : (b : Bool) → same_tid tid t ≡ b → cond b true (has_commit rs t) ≡ true → (has_commit rs t ≡ true → (node : Ticketed) × In node (commits rs) × (node.tid ≡ t))
+        → (node : Ticketed) × In node (record { tid = tid; tickets = tickets } ∷ commits rs) × (node.tid ≡ t)
+    by_test true q e h = (record { tid = tid; tickets = tickets }, inl refl, same_tid_alike tid t q)
+    by_test false q e h = let r = h e in (r.0, inr r.1, r.2)
+commit-node (Rec.Initiation tid members ∷ rs) t e = commit-node rs t e
+commit-node (Rec.End tid ∷ rs) t e = commit-node rs t e
+
+behind-one : (r : CoordRecord) (rs : List CoordRecord) → Distinct (tids_of (r ∷ rs)) → Distinct (tids_of rs)
+behind-one (Rec.Commit tid tickets) rs d = d.1
+behind-one (Rec.Initiation tid members) rs d = d
+behind-one (Rec.End tid) rs d = d
+
+distinct-whole : (b : ℕ) (rs : List CoordRecord) → Distinct (tids_of rs) → Distinct (tids_of (whole coord_frame b rs))
+distinct-whole b [] d = d
+distinct-whole b (r ∷ rs) d = by_test (nat_le (bytes_of coord_frame (r ∷ rs)) b) (distinct-whole b rs (behind-one r rs d))
+  where
+    by_test : (t : Bool) → Distinct (tids_of (whole coord_frame b rs)) → Distinct (tids_of (cond t (r ∷ rs) (whole coord_frame b rs)))
+    by_test true h = d
+    by_test false h = h
+
+in-behind : (r : CoordRecord) (rs : List CoordRecord) (t : Tid) → In t (tids_of rs) → In t (tids_of (r ∷ rs))
+in-behind (Rec.Commit tid tickets) rs t i = inr i
+in-behind (Rec.Initiation tid members) rs t i = i
+in-behind (Rec.End tid) rs t i = i
+
+in-whole : (b : ℕ) (rs : List CoordRecord) (t : Tid) → In t (tids_of (whole coord_frame b rs)) → In t (tids_of rs)
+in-whole b [] t i = i
+in-whole b (r ∷ rs) t i = by_test (nat_le (bytes_of coord_frame (r ∷ rs)) b) i (in-whole b rs t)
+  where
+    by_test : (u : Bool) → In t (tids_of (cond u (r ∷ rs) (whole coord_frame b rs))) → (In t (tids_of (whole coord_frame b rs)) → In t (tids_of rs)) → In t (tids_of (r ∷ rs))
+    by_test true i h = i
+    by_test false i h = in-behind r rs t (h i)
+
+nobody-distinct : (calls : List (Call CoordRecord)) (d : Disk CoordRecord) → Each CommitsNobody calls → Distinct (tids_of d.records) → Distinct (tids_of (after_calls coord_frame d calls).records)
+nobody-distinct [] d n h = h
+nobody-distinct (Append (Rec.Commit tid tickets) ∷ calls) d n h = absurd n.0
+nobody-distinct (Append (Rec.Initiation tid members) ∷ calls) d n h = nobody-distinct calls _ n.1 h
+nobody-distinct (Append (Rec.End tid) ∷ calls) d n h = nobody-distinct calls _ n.1 h
+nobody-distinct (Sync ∷ calls) d n h = nobody-distinct calls _ n.1 h
+nobody-distinct (CutBack ∷ calls) d n h = nobody-distinct calls _ n.1 h
+nobody-distinct (Stops cut ∷ calls) d n h = nobody-distinct calls _ n.1 (distinct-whole _ d.records h)
+
+-- calls of which one appends a Commit of an attempt that has none
+accepted-distinct : (calls : List (Call CoordRecord)) (d : Disk CoordRecord) (others : List Ticketed) (all : List Tid) → IsAccepted others calls → ((g : Tid) → Among (AppendsCommit g) calls → In g all → ⊥) → ((t : Tid) → In t (tids_of d.records) → In t all) → Distinct (tids_of d.records)
+    → Distinct (tids_of (after_calls coord_frame d calls).records)
+accepted-distinct [] d others all a new sub h = h
+accepted-distinct (Append (Rec.Commit tid tickets) ∷ calls) d others all a new sub h =
+    nobody-distinct calls _ a.1 ((λ i. new tid (inl refl) (sub tid i)), h)
+accepted-distinct (Append (Rec.Initiation tid members) ∷ calls) d others all a new sub h = accepted-distinct calls _ others all a (λ g i. new g (inr i)) sub h
+accepted-distinct (Append (Rec.End tid) ∷ calls) d others all a new sub h = accepted-distinct calls _ others all a (λ g i. new g (inr i)) sub h
+accepted-distinct (Sync ∷ calls) d others all a new sub h = accepted-distinct calls _ others all a (λ g i. new g (inr i)) sub h
+accepted-distinct (CutBack ∷ calls) d others all a new sub h = accepted-distinct calls _ others all a (λ g i. new g (inr i)) sub h
+accepted-distinct (Stops cut ∷ calls) d others all a new sub h = accepted-distinct calls _ others all a (λ g i. new g (inr i)) (λ t i. sub t (in-whole _ d.records t i)) (distinct-whole _ d.records h)
+
+-- who is about to be committed has no Commit record
+new-commit : (scenario : Scenario) (story : Story) (x : CoordHappening) (line : IsCoordLine scenario story x) → ((g : Tid) → StoryHolds scenario story g) → (g : Tid) → Among (AppendsCommit g) x.calls → In g (tids_of (records (coord_past story))) → ⊥
+new-commit scenario story x line holds g i old =
+    let made = coord-made scenario story x line in
+    let (tickets, v) = last-vote-of (protocols scenario) (coord_past story) line.event g x.calls made.writes i in
+    let undecided : is_undecided (standing (coord_past story) g) ≡ true = (and_parts _ _ v.is_counted).0 in
+    let over : is_undecided (standing (coord_past story) g) ≡ false = (holds g).holds.over (committed-tid (records (coord_past story)) g old) in
+    let clash = sym undecided ∙ over in cc
+
+once-happened : (scenario : Scenario) (story : Story) (happened : Happened) → ((g : Tid) → StoryHolds scenario story g) → IsLine scenario story happened → Distinct (tids_of (records (coord_past story))) → Distinct (tids_of (records (with_coordinator happened (coord_past story))))
+once-happened scenario story (AtSite s x) holds line d = d
+once-happened scenario story (AtCoordinator x) holds line d =
+    let made = coord-made scenario story x line in
+    accepted-distinct x.calls (disk (coord_past story)) (commits (records (coord_past story))) (tids_of (records (coord_past story))) made.accepted (new-commit scenario story x line holds) (λ t i. i) d
+once-happened scenario story (Nowhere answer) holds line d = d
+
+-- no attempt has two Commit records
+pub commits-once : (scenario : Scenario) → IsScenario scenario → (commands : List Command) → OneEach (committed (story_of scenario commands))
+commits-once scenario good [] = tt
+commits-once scenario good (command ∷ commands) =
+    once-happened scenario (story_of scenario commands) _ (story-holds scenario good commands) (line_is scenario (story_of scenario commands) command) (commits-once scenario good commands)
+
+pub one-commit : (scenario : Scenario) → IsScenario scenario → (commands : List Command) → (a b : Ticketed) → In a (committed (story_of scenario commands)) → In b (committed (story_of scenario commands)) → a.tid ≡ b.tid → a ≡ b
+one-commit scenario good commands a b i j e = one_image (λ (node : Ticketed). node.tid) (committed (story_of scenario commands)) (commits-once scenario good commands) a b i j e
+
+-- a Commit record that is kept after some calls was kept before, or one of them appended it
+AppendsNode : Ticketed → Call CoordRecord → Type 0
+AppendsNode node call = call ≡ Append (Rec.Commit node.tid node.tickets)
+
+node-more : (node : Ticketed) (r : CoordRecord) (rs : List CoordRecord) → In node (commits (r ∷ rs)) → In node (commits rs) ⊎ (r ≡ Rec.Commit node.tid node.tickets)
+node-more node (Rec.Commit tid tickets) rs (inl e) = inr (ap (λ (n : Ticketed). Rec.Commit n.tid n.tickets) e)
+node-more node (Rec.Commit tid tickets) rs (inr i) = inl i
+node-more node (Rec.Initiation tid members) rs i = inl i
+node-more node (Rec.End tid) rs i = inl i
+
+node-from : (calls : List (Call CoordRecord)) (d : Disk CoordRecord) (node : Ticketed) → In node (commits (after_calls coord_frame d calls).records) → In node (commits d.records) ⊎ Among (AppendsNode node) calls
+unfolding AppendsNode
+node-from [] d node i = inl i
+node-from (Append r ∷ calls) d node i = elim (node-from calls _ node i) [
+  | inl k ↦ elim (node-more node r d.records k) [ inl old ↦ inl old | inr new ↦ inr (inl (ap (λ q. Append q) new)) ]
+  | inr k ↦ inr (inr k)
+]
+node-from (Sync ∷ calls) d node i = elim (node-from calls _ node i) [ inl k ↦ inl k | inr k ↦ inr (inr k) ]
+node-from (CutBack ∷ calls) d node i = elim (node-from calls _ node i) [ inl k ↦ inl k | inr k ↦ inr (inr k) ]
+node-from (Stops cut ∷ calls) d node i = elim (node-from calls _ node i) [ inl k ↦ inl (commits-whole _ d.records node k) | inr k ↦ inr (inr k) ]
+
+-- the vote that it comes from
+node-vote : (protocols : List Participant) (past : CoordPast) (event : CoordEvent) (node : Ticketed) (calls : List (Call CoordRecord)) → Each (Writes protocols past event) calls → Among (AppendsNode node) calls → IsLastVote protocols past event node.tid node.tickets
+unfolding AppendsNode
+node-vote protocols past event node [] w i = absurd i
+node-vote protocols past event node (call ∷ calls) w (inl e) = subst (Writes protocols past event) e w.0
+node-vote protocols past event node (call ∷ calls) w (inr i) = node-vote protocols past event node calls w.1 i
+
+-- a Commit record has the ticket of a yes vote of each site of its program
+abbrev pub IsVoted : Story → Ticketed → Type 0
+IsVoted story node =
+    (s : SiteId) → visits s (program (coord_past story) node.tid) ≡ true
+    → (ticket : ℕ) × In (record { site = s; ticket = ticket }) node.tickets × In (From.Vote node.tid (Some ticket)) (sent_from s story)
+
+-- the votes that counted were sent, and so were those of the Commit records
+pub record VotesSent (story : Story) : Type 0 where
+  pub votes : (g : Tid) (s : SiteId) (ticket : ℕ) → vote_at (coord_past story) g s ≡ Some ticket → In (From.Vote g (Some ticket)) (sent_from s story)
+  pub nodes : (node : Ticketed) → In node (commits (records (coord_past story))) → IsVoted story node
+
+some-value : (o : Option ℕ) → is_some o ≡ true → (n : ℕ) × (o ≡ Some n)
+some-value None e = cc
+some-value (Some n) e = (n, refl)
+
+in-found : {A B : Type 0} (look : A → Option B) (x : A) (y : B) (xs : List A) → In x xs → look x ≡ Some y → In y (found look xs)
+in-found look x y [] i e = absurd i
+in-found {A} {B} look x y (z ∷ xs) (inl p) e = first (look z) (ap look p ∙ e)
+  where
+    first : (o : Option B) → o ≡ Some y → In y (with_some o (found look xs))
+    first None q = cc
+    first (Some w) q = inl (let same : w ≡ y = cc in same)
+in-found {A} {B} look x y (z ∷ xs) (inr i) e = later (look z) (in-found look x y xs i e)
+  where
+    later : (o : Option B) → In y (found look xs) → In y (with_some o (found look xs))
+    later None j = j
+    later (Some w) j = inr j
+
+in-more : {A : Type 0} (x : A) (xs ys : List A) → In x xs → In x (xs ++ ys)
+in-more x [] ys i = absurd i
+in-more x (y ∷ xs) ys (inl e) = inl e
+in-more x (y ∷ xs) ys (inr i) = inr (in-more x xs ys i)
+
+-- the vote that a line counts was sent
+vote-sent : (scenario : Scenario) (story : Story) (g : Tid) (s : SiteId) (event : CoordEvent) (ticket : ℕ) → CoordCause scenario story event → VotesSent story → or_vote (vote_in g s event) (vote_at (coord_past story) g s) ≡ Some ticket → In (From.Vote g (Some ticket)) (sent_from s story)
+vote-sent scenario story g s (Ev.Take site (From.Vote tid None)) ticket c v e = none (same_tid tid g && same_site site s) e
+  where
+    none : (t : Bool) → or_vote (cond t None None) (vote_at (coord_past story) g s) ≡ Some ticket → In (From.Vote g (Some ticket)) (sent_from s story)
+    none true e = v.votes g s ticket e
+    none false e = v.votes g s ticket e
+vote-sent scenario story g s (Ev.Take site (From.Vote tid (Some vote))) ticket c v e = by_test (same_tid tid g && same_site site s) refl e
+  where
+    by_test : (t : Bool) → (same_tid tid g && same_site site s) ≡ t → or_vote (cond t (Some vote) None) (vote_at (coord_past story) g s) ≡ Some ticket → In (From.Vote g (Some ticket)) (sent_from s story)
+    by_test true q e =
+        let parts = and_parts (same_tid tid g) (same_site site s) q in
+        let value : vote ≡ ticket = cc in
+        subst (λ z. In (From.Vote g (Some ticket)) (sent_from z story)) (same_site_alike site s parts.1)
+        (subst (λ t. In (From.Vote t (Some ticket)) (sent_from site story)) (same_tid_alike tid g parts.0)
+        (subst (λ k. In (From.Vote tid (Some k)) (sent_from site story)) value c))
+    by_test false q e = v.votes g s ticket e
+vote-sent scenario story g s (Ev.Take site (From.Did tid epoch n reply)) ticket c v e = v.votes g s ticket e
+vote-sent scenario story g s (Ev.Take site (From.Ack tid)) ticket c v e = v.votes g s ticket e
+vote-sent scenario story g s (Ev.Take site (From.Inquiry tid)) ticket c v e = v.votes g s ticket e
+vote-sent scenario story g s (Ev.Go tid steps) ticket c v e = v.votes g s ticket e
+vote-sent scenario story g s (Ev.Again tid) ticket c v e = v.votes g s ticket e
+vote-sent scenario story g s (Ev.Late tid) ticket c v e = v.votes g s ticket e
+vote-sent scenario story g s (Ev.Fate tx) ticket c v e = v.votes g s ticket e
+vote-sent scenario story g s (Ev.Halt cut) ticket c v e = v.votes g s ticket e
+vote-sent scenario story g s (Ev.Trip calls cut) ticket c v e = v.votes g s ticket e
+vote-sent scenario story g s Ev.Back ticket c v e = v.votes g s ticket e
+
+node-tid : (rs : List CoordRecord) (node : Ticketed) → In node (commits rs) → In node.tid (tids_of rs)
+node-tid rs node i = image (commits rs) i
+  where
+    image : (nodes : List Ticketed) → In node nodes → In node.tid (map (λ n. n.tid) nodes)
+    image [] i = absurd i
+    image (n ∷ nodes) (inl e) = inl (ap (λ (m : Ticketed). m.tid) e)
+    image (n ∷ nodes) (inr i) = inr (image nodes i)
+
+votes-coord : (scenario : Scenario) (story : Story) (x : CoordHappening) (line : IsCoordLine scenario story x) → VotesSent story → (g : Tid) (s : SiteId) (ticket : ℕ) → vote_at (x ∷ coord_past story) g s ≡ Some ticket → In (From.Vote g (Some ticket)) (sent_from s story)
+votes-coord scenario story x line v g s ticket e = by_tests (begins g x.answer) (counts x.answer) e
+  where
+    cause : CoordCause scenario story x.event
+    cause = subst (CoordCause scenario story) (sym (coord-made scenario story x line).heard) line.cause
+
+    by_tests : (b c : Bool) → cond b None (cond c (or_vote (vote_in g s x.event) (vote_at (coord_past story) g s)) (vote_at (coord_past story) g s)) ≡ Some ticket → In (From.Vote g (Some ticket)) (sent_from s story)
+    by_tests true c e = cc
+    by_tests false true e = vote-sent scenario story g s x.event ticket cause v e
+    by_tests false false e = v.votes g s ticket e
+
+-- a new Commit record
+new-node : (scenario : Scenario) → IsScenario scenario → (story : Story) (x : CoordHappening) (line : IsCoordLine scenario story x) → ((g : Tid) → StoryHolds scenario story g) → VotesSent story → (node : Ticketed) → IsLastVote (protocols scenario) (coord_past story) line.event node.tid node.tickets
+    → (s : SiteId) → visits s (program (x ∷ coord_past story) node.tid) ≡ true → (ticket : ℕ) × In (record { site = s; ticket = ticket }) node.tickets × In (From.Vote node.tid (Some ticket)) (sent_from s story)
+new-node scenario good story x line holds votes node v s visited =
+    let made = coord-made scenario story x line in
+    let was : visits s (program (coord_past story) node.tid) ≡ true = by_begun (begins node.tid x.answer) refl in
+    let (p, i, at) = among_is (λ (p : Participant). p.site ≡ s) (protocols scenario) (declared-program scenario good story node.tid (holds node.tid) s was) in
+    let member = in_those (λ (p : Participant). visits p.site (program (coord_past story) node.tid)) p (protocols scenario) i (subst (λ z. visits z (program (coord_past story) node.tid) ≡ true) (sym at) was) in
+    let vote = each_of_at (λ (m : Participant). is_some (vote_at (quiet line.event Say.Voted ∷ coord_past story) node.tid m.site)) (participants (protocols scenario) (coord_past story) node.tid) p v.all member in
+    let (ticket, is) = some-value (vote_at (quiet line.event Say.Voted ∷ coord_past story) node.tid p.site) vote in
+    let named = in-found (λ (m : Participant). vote_ticket m.site (vote_at (quiet line.event Say.Voted ∷ coord_past story) node.tid m.site)) p (record { site = p.site; ticket = ticket }) (participants (protocols scenario) (coord_past story) node.tid) member (ap (vote_ticket p.site) is) in
+    let sent = vote-sent scenario story node.tid p.site line.event ticket line.cause votes is in
+    (
+      ticket,
+      subst (λ z. In (record { site = z; ticket = ticket }) node.tickets) at (subst (In (record { site = p.site; ticket = ticket })) (sym v.theirs) named),
+      subst (λ z. In (From.Vote node.tid (Some ticket)) (sent_from z story)) at sent,
+    )
+  where
+    by_begun : (t : Bool) → begins node.tid x.answer ≡ t → visits s (program (coord_past story) node.tid) ≡ true
+    by_begun true b = absurd (starts-novote node.tid x line.event v.site v.ticket (coord-made scenario story x line).begun b v.is_vote)
+    by_begun false b = ap (visits s) (sym (program-stays (coord_past story) node.tid x b)) ∙ visited
+
+old-node : (scenario : Scenario) (story : Story) (x : CoordHappening) (line : IsCoordLine scenario story x) → ((g : Tid) → StoryHolds scenario story g) → VotesSent story → (node : Ticketed) → In node (commits (records (coord_past story))) → (s : SiteId) → visits s (program (x ∷ coord_past story) node.tid) ≡ true
+    → (ticket : ℕ) × In (record { site = s; ticket = ticket }) node.tickets × In (From.Vote node.tid (Some ticket)) (sent_from s story)
+old-node scenario story x line holds votes node i s visited = votes.nodes node i s (by_begun (begins node.tid x.answer) refl)
+  where
+    by_begun : (t : Bool) → begins node.tid x.answer ≡ t → visits s (program (coord_past story) node.tid) ≡ true
+    by_begun true b =
+        absurd (fresh-begun (coord_past story) node.tid x (fresh-line scenario story node.tid x line (coord-made scenario story x line) (holds node.tid))
+        ((holds node.tid).holds.committed (committed-tid (records (coord_past story)) node.tid (node-tid (records (coord_past story)) node i))).known b)
+    by_begun false b = ap (visits s) (sym (program-stays (coord_past story) node.tid x b)) ∙ visited
+
+votes-happened : (scenario : Scenario) → IsScenario scenario → (story : Story) (command : Command) (happened : Happened) → ((g : Tid) → StoryHolds scenario story g) → IsLine scenario story happened → VotesSent story → VotesSent (record { command = command; happened = happened } ∷ story)
+votes-happened scenario good story command (AtSite at x) holds line v =
+    record {
+      votes = λ g s ticket e. in-more _ (sent_from s story) _ (v.votes g s ticket e);
+      nodes = λ node i s visited. let r = v.nodes node i s visited in (r.0, r.1, in-more _ (sent_from s story) _ r.2);
+    }
+votes-happened scenario good story command (AtCoordinator x) holds line v =
+    record {
+      votes = λ g s ticket e. in-more _ (sent_from s story) [] (votes-coord scenario story x line v g s ticket e);
+      nodes = λ node i s visited.
+          let r = either node (node-from x.calls (disk (coord_past story)) node i) s visited in (r.0, r.1, in-more _ (sent_from s story) [] r.2);
+    }
+  where
+    either : (node : Ticketed) → In node (commits (records (coord_past story))) ⊎ Among (AppendsNode node) x.calls → (s : SiteId) → visits s (program (x ∷ coord_past story) node.tid) ≡ true
+        → (ticket : ℕ) × In (record { site = s; ticket = ticket }) node.tickets × In (From.Vote node.tid (Some ticket)) (sent_from s story)
+    either node (inl old) s visited = old-node scenario story x line holds v node old s visited
+    either node (inr new) s visited = new-node scenario good story x line holds v node (node-vote (protocols scenario) (coord_past story) line.event node x.calls (coord-made scenario story x line).writes new) s visited
+votes-happened scenario good story command (Nowhere answer) holds line v =
+    record {
+      votes = λ g s ticket e. in-more _ (sent_from s story) [] (v.votes g s ticket e);
+      nodes = λ node i s visited. let r = v.nodes node i s visited in (r.0, r.1, in-more _ (sent_from s story) [] r.2);
+    }
+
+-- so it is in every story
+pub votes-sent : (scenario : Scenario) → IsScenario scenario → (commands : List Command) → VotesSent (story_of scenario commands)
+votes-sent scenario good [] = record { votes = λ g s ticket e. cc; nodes = λ node i. absurd i }
+votes-sent scenario good (command ∷ commands) =
+    votes-happened scenario good (story_of scenario commands) command _ (story-holds scenario good commands) (line_is scenario (story_of scenario commands) command) (votes-sent scenario good commands)
