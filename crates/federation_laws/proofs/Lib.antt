@@ -10,6 +10,7 @@ pub mod CoordOps
 pub mod CountedReplies
 pub mod Declared
 pub mod Dues
+pub mod Globals
 pub mod Members
 pub mod Merges
 pub mod OneOrders
@@ -19,6 +20,7 @@ pub mod SerialRuns
 pub mod SerialStories
 pub mod SiteAbout
 pub mod SiteLines
+pub mod SiteLocals
 pub mod SiteMoves
 pub mod SiteOperations
 pub mod SiteRuns

@@ -44,6 +44,12 @@ SealsOnly tid (Append (Rec.Prepared of epoch number ticket writes)) = of ≡ tid
 SealsOnly tid (Append (Rec.Local of number writes)) = of ≡ tid
 SealsOnly tid call = Unit {0}
 
+-- the call appends no Local record, unless the event is a local commit
+abbrev pub LocalAt : SiteEvent → Call SiteRecord → Type 0
+LocalAt (Ev.Commit tid) call = Unit {0}
+LocalAt event (Append (Rec.Local tid number writes)) = ⊥
+LocalAt event call = Unit {0}
+
 -- the line neither stops the site nor starts it, and is about this attempt
 pub record IsAbout (home : Home) (past : SitePast) (tid : Tid) (x : SiteHappening) : Type 0 where
   pub plain : (stops x.answer || comes_up x.answer) ≡ false
@@ -51,6 +57,7 @@ pub record IsAbout (home : Home) (past : SitePast) (tid : Tid) (x : SiteHappenin
   pub sends : Each (Speaks tid) x.sends
   pub calls : Each (SealsOnly tid) x.calls
   pub calm : epoch home (x ∷ past) ≡ epoch home past
+  pub locals : Each (LocalAt x.event) x.calls
 
 about_when : (home : Home) (past : SitePast) (tid : Tid) (t : Bool) (a b : SiteHappening) → IsAbout home past tid a → IsAbout home past tid b → IsAbout home past tid (when t a b)
 unfolding when
@@ -83,7 +90,7 @@ refusal-plain (Because.TicketMoved by) = refl
 
 -- a line of engine lines alone
 lines_about : (home : Home) (past : SitePast) (tid : Tid) (event : SiteEvent) (answer : Answer) (lines : List EngineLine) → (stops answer || comes_up answer) ≡ false → Each (λ line. tid_of line ≡ tid) lines → IsAbout home past tid (with_lines event answer lines)
-lines_about home past tid event answer lines p l = record { plain = p; lines = l; sends = tt; calls = tt; calm = refl }
+lines_about home past tid event answer lines p l = record { plain = p; lines = l; sends = tt; calls = tt; calm = refl; locals = tt }
 
 pub begin_about : (home : Home) (past : SitePast) (tid : Tid) → IsAbout home past tid (of_begin home past tid)
 unfolding of_begin
@@ -102,7 +109,7 @@ pub commit_about : (home : Home) (past : SitePast) (tid : Tid) → IsAbout home 
 unfolding of_commit seals_local
 commit_about home past tid =
     about_pick home past tid _ _ _ (lines_about home past tid _ _ [] refl tt) (λ run.
-    about_pick home past tid _ _ _ (record { plain = refl; lines = (refl, (refl, tt)); sends = tt; calls = (refl, (tt, tt)); calm = refl })
+    about_pick home past tid _ _ _ (record { plain = refl; lines = (refl, (refl, tt)); sends = tt; calls = (refl, (tt, tt)); calm = refl; locals = (tt, (tt, tt)) })
     (λ why. lines_about home past tid _ _ _ (refusal-plain why) (refl, tt)))
 
 pub abort_about : (home : Home) (past : SitePast) (tid : Tid) → IsAbout home past tid (of_abort home past tid)
@@ -112,7 +119,7 @@ abort_about home past tid =
 
 did_about : (home : Home) (past : SitePast) (message : ToSite) (tid : Tid) (n : ℕ) (reply : Reply) (lines : List EngineLine) → Each (λ line. tid_of line ≡ tid) lines → IsAbout home past tid (did home past message tid n reply lines)
 unfolding did
-did_about home past message tid n reply lines l = record { plain = refl; lines = l; sends = (refl, tt); calls = tt; calm = refl }
+did_about home past message tid n reply lines l = record { plain = refl; lines = l; sends = (refl, tt); calls = tt; calm = refl; locals = tt }
 
 unknown_about : (home : Home) (past : SitePast) (message : ToSite) (tid : Tid) (n : ℕ) → IsAbout home past tid (unknown home past message tid n)
 unfolding unknown
@@ -143,7 +150,7 @@ take_about home past tid e n =
 
 no_about : (home : Home) (past : SitePast) (tid : Tid) (e n : ℕ) (why : Option Why) (lines : List EngineLine) → Each (λ line. tid_of line ≡ tid) lines → IsAbout home past tid (votes_no tid e n why lines)
 unfolding votes_no
-no_about home past tid e n why lines l = record { plain = refl; lines = l; sends = (refl, tt); calls = tt; calm = refl }
+no_about home past tid e n why lines l = record { plain = refl; lines = l; sends = (refl, tt); calls = tt; calm = refl; locals = tt }
 
 pub prepare_about : (home : Home) (past : SitePast) (tid : Tid) (e n : ℕ) → IsAbout home past tid (of_prepare home past tid e n)
 unfolding of_prepare prepare_live seals_global votes_yes votes_again
@@ -153,10 +160,10 @@ prepare_about home past tid e n =
     (λ run. about_when home past tid _ _ _
     (about_pick home past tid _ _ _ (no_about home past tid e n _ [] tt)
     (λ ticket. about_pick home past tid _ _ _
-    (record { plain = refl; lines = (refl, tt); sends = (refl, tt); calls = (refl, (tt, tt)); calm = refl })
+    (record { plain = refl; lines = (refl, tt); sends = (refl, tt); calls = (refl, (tt, tt)); calm = refl; locals = (tt, (tt, tt)) })
     (λ why. no_about home past tid e n _ _ (refl, tt))))
     (no_about home past tid e n _ [] tt)))
-    (λ held. about_when home past tid _ _ _ (record { plain = refl; lines = tt; sends = (refl, tt); calls = tt; calm = refl }) (no_about home past tid e n _ [] tt))
+    (λ held. about_when home past tid _ _ _ (record { plain = refl; lines = tt; sends = (refl, tt); calls = tt; calm = refl; locals = tt }) (no_about home past tid e n _ [] tt))
 
 ack-speaks : (home : Home) (tid : Tid) (decision : Decision) → Each (Speaks tid) (ack_of home tid decision)
 ack-speaks home tid decision = by_test (acks home.protocol decision)
@@ -179,10 +186,14 @@ unfolding of_decide settles unheld
 decide_about home past tid decision =
     about_pick home past tid _ _ _
     (about_pick home past tid _ _ _
-    (record { plain = refl; lines = tt; sends = ack-speaks home tid decision; calls = tt; calm = refl })
-    (λ run. record { plain = refl; lines = (refl, tt); sends = ack-speaks home tid decision; calls = tt; calm = refl }))
-    (λ held. record { plain = refl; lines = (settling-tid tid decision, tt); sends = ack-speaks home tid decision; calls = forced (forces home.protocol decision); calm = ap epoch_of (sync-records (after_call site_frame (disk home past) (Append (Rec.Ended tid decision))) (forces home.protocol decision)) })
+    (record { plain = refl; lines = tt; sends = ack-speaks home tid decision; calls = tt; calm = refl; locals = tt })
+    (λ run. record { plain = refl; lines = (refl, tt); sends = ack-speaks home tid decision; calls = tt; calm = refl; locals = tt }))
+    (λ held. record { plain = refl; lines = (settling-tid tid decision, tt); sends = ack-speaks home tid decision; calls = forced (forces home.protocol decision); calm = ap epoch_of (sync-records (after_call site_frame (disk home past) (Append (Rec.Ended tid decision))) (forces home.protocol decision)); locals = plain (forces home.protocol decision) })
   where
+    plain : (t : Bool) → Each (LocalAt (Ev.Give (To.Decide tid decision))) (Append (Rec.Ended tid decision) ∷ cond t (Sync ∷ []) [])
+    plain true = (tt, (tt, tt))
+    plain false = (tt, tt)
+
     forced : (t : Bool) → Each (SealsOnly tid) (Append (Rec.Ended tid decision) ∷ cond t (Sync ∷ []) [])
     forced true = (tt, (tt, tt))
     forced false = (tt, tt)
@@ -191,7 +202,7 @@ pub ask_about : (home : Home) (past : SitePast) (tid : Tid) → IsAbout home pas
 unfolding of_ask
 ask_about home past tid =
     about_pick home past tid _ _ _ (lines_about home past tid _ _ [] refl tt)
-    (λ held. record { plain = refl; lines = tt; sends = (tt, tt); calls = tt; calm = refl })
+    (λ held. record { plain = refl; lines = tt; sends = (tt, tt); calls = tt; calm = refl; locals = tt })
 
 pub drop_about : (home : Home) (past : SitePast) (tid : Tid) → IsAbout home past tid (of_drop home past tid)
 unfolding of_drop
