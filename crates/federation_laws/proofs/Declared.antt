@@ -1,5 +1,5 @@
 -- The declared sites of a scenario, and their orders.
-use Rattle.std.proofs.Common.{◌≡◌, Bool, true, false, cond, nat_lt, Option, Some, None, List, [], ◌∷◌, refl, sym, ap, subst, map, inl, inr}
+use Rattle.std.proofs.Common.{◌∙◌, ◌≡◌, Bool, true, false, cond, nat_lt, ◌⊎◌, Option, Some, None, List, [], ◌∷◌, refl, sym, ap, subst, map, inl, inr}
 use Rattle.mdb_base.specs.declared.names.SiteId.{SiteId}
 use Rattle.mdb_base.specs.declared.names.Tid.{Tid}
 use Rattle.mdb_base.specs.Names.{same_site}
@@ -7,7 +7,7 @@ use Rattle.mdb_base.specs.Words.{Among, inserted}
 use Rattle.presumptions.specs.declared.Participant.{Participant}
 use Rattle.order_laws.specs.Chains.{In}
 use Rattle.order_laws.proofs.Lists.{map_among}
-use Rattle.order_laws.proofs.Names.{same_site_alike}
+use Rattle.order_laws.proofs.Names.{same_site_alike, same_site_self}
 use Rattle.fed_rules.specs.declared.scenario.ItemLine.{ItemLine}
 use Rattle.fed_rules.specs.declared.scenario.Scenario.{Scenario}
 use Rattle.fed_rules.specs.declared.scenario.SiteLine.{SiteLine}
@@ -93,3 +93,25 @@ member-declared scenario story s tid i = by_home (home_of scenario s) refl
     by_home : (o : Option Home) → home_of scenario s ≡ o → (home : Home) × (home_of scenario s ≡ Some home)
     by_home None e = absurd (subst (λ ts. In tid ts) (nobody-there scenario story s e) i)
     by_home (Some home) e = (home, e)
+
+among-inserted : {A : Type 0} (P : A → Type 0) (before : A → A → Bool) (x : A) (xs : List A) → Among P (inserted before x xs) → P x ⊎ Among P xs
+among-inserted P before x [] (inl p) = inl p
+among-inserted P before x [] (inr i) = absurd i
+among-inserted P before x (y ∷ ys) i = by_test (before y x) i (among-inserted P before x ys)
+  where
+    by_test : (t : Bool) → Among P (cond t (y ∷ inserted before x ys) (x ∷ y ∷ ys)) → (Among P (inserted before x ys) → P x ⊎ Among P ys) → P x ⊎ Among P (y ∷ ys)
+    by_test true (inl p) h = inr (inl p)
+    by_test true (inr j) h = elim (h j) [ inl p ↦ inl p | inr k ↦ inr (inr k) ]
+    by_test false (inl p) h = inl p
+    by_test false (inr j) h = inr j
+
+-- a participant is declared
+pub undeclared : (lines : List SiteLine) (items : List ItemLine) (s : SiteId) → home_in lines items s ≡ None → Among (λ p. p.site ≡ s) (protocols_in lines) → ⊥
+undeclared [] items s e i = i
+undeclared (line ∷ lines) items s e i = by_test (same_site line.site s) refl e (undeclared lines items s) (among-inserted (λ (p : Participant). p.site ≡ s) (λ a b. nat_lt a.site.0 b.site.0) (record { site = line.site; protocol = line.protocol }) (protocols_in lines) i)
+  where
+    by_test : (t : Bool) → same_site line.site s ≡ t → cond t (Some (record { site = line.site; engine = line.engine; protocol = line.protocol; items = items_of items s })) (home_in lines items s) ≡ None
+        → (home_in lines items s ≡ None → Among (λ p. p.site ≡ s) (protocols_in lines) → ⊥) → (line.site ≡ s) ⊎ Among (λ p. p.site ≡ s) (protocols_in lines) → ⊥
+    by_test true q e h c = cc
+    by_test false q e h (inl own) = (let yes : same_site line.site s ≡ true = subst (λ z. same_site line.site z ≡ true) own (same_site_self line.site) in let clash = sym yes ∙ q in cc)
+    by_test false q e h (inr j) = h e j

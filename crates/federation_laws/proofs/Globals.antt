@@ -30,10 +30,10 @@ use Rattle.federation_laws.proofs.Asked.{IsOld, IsAskedVote}
 use Rattle.federation_laws.proofs.CommitOnce.{commit-node, IsVoted, votes-sent}
 use Rattle.federation_laws.proofs.CoordHolds.{IsDone, Finished, Holds}
 use Rattle.federation_laws.proofs.CoordOps.{Op, ops, ops_at, granted, accesses, agree-steps, agree-reads, at-granted}
-use Rattle.federation_laws.proofs.Declared.{member-declared}
+use Rattle.federation_laws.proofs.Declared.{undeclared, member-declared}
 use Rattle.federation_laws.proofs.Dues.{steps_of}
 use Rattle.federation_laws.proofs.Members.{prepared-member, prepared-sealed}
-use Rattle.federation_laws.proofs.StoryGlobals.{StoryHolds, story-holds, AgreesIn, story-agrees}
+use Rattle.federation_laws.proofs.StoryGlobals.{StoryHolds, story-holds, declared-program, AgreesIn, story-agrees}
 use Rattle.federation_laws.proofs.Told.{home_is-site, home-again}
 
 -- where no site has a step left, all steps are done
@@ -185,8 +185,13 @@ global-program scenario good commands g none commit sealed =
     elsewhere site out = unvisited-none (program (coord_past (story_of scenario commands)) g) _ site ((story-holds scenario good commands g).holds.follows ((story-holds scenario good commands g).holds.committed commit).alive) (by_visit (visits site (program (coord_past (story_of scenario commands)) g)) refl)
       where
         by_home : (o : Option Home) → home_of scenario site ≡ o → visits site (program (coord_past (story_of scenario commands)) g) ≡ true → ⊥
-        by_home None e v = ?
-        by_home (Some home) e v = ?
+        by_home None e v = undeclared scenario.sites scenario.items site e (declared-program scenario good (story_of scenario commands) g (story-holds scenario good commands g) site v)
+        by_home (Some home) e v =
+            let same = home_is-site scenario site home e in
+            let agreed = global-agreed scenario good commands home g (home-again scenario site home e) none commit (subst (λ z. visits z (program (coord_past (story_of scenario commands)) g) ≡ true) (sym same) v) in
+            let member = prepared-member (is_committed (story_of scenario commands)) (records_of scenario (story_of scenario commands) home.site) g agreed.ticket commit agreed.prepared in
+            let inside = in_is_true same_tid tells_tids (order_at scenario (story_of scenario commands) site) g (subst (λ z. In g (order_at scenario (story_of scenario commands) z)) same member) in
+            let clash = sym inside ∙ out in cc
 
         by_visit : (t : Bool) → visits site (program (coord_past (story_of scenario commands)) g) ≡ t → visits site (program (coord_past (story_of scenario commands)) g) ≡ false
         by_visit true v = absurd (by_home (home_of scenario site) refl v)

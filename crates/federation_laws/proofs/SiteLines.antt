@@ -100,7 +100,7 @@ answered_moves home g past (Ev.Halt cut) up f = plain_moves home g past _ _ refl
 answered_moves home g past (Ev.Trip calls cut) up f = plain_moves home g past _ _ refl
 answered_moves home g past Ev.Back up f = back_moves home g past
 
-seals-cut : (g : Tid) (k : ℕ) (calls : List (Call SiteRecord)) (cut : ℕ) → some_of (seals g) (take k calls ++ Stops cut ∷ []) ≡ true → some_of (seals g) calls ≡ true
+pub seals-cut : (g : Tid) (k : ℕ) (calls : List (Call SiteRecord)) (cut : ℕ) → some_of (seals g) (take k calls ++ Stops cut ∷ []) ≡ true → some_of (seals g) calls ≡ true
 seals-cut g zero calls cut e = cc
 seals-cut g (suc k) [] cut e = cc
 seals-cut g (suc k) (call ∷ calls) cut e = by_test (seals g call) e (seals-cut g k calls cut)

@@ -36,7 +36,7 @@ use Rattle.federation_laws.proofs.SiteMoves.{Goes, Ends, Move, Same, Going, Endi
 use Rattle.federation_laws.proofs.SiteOperations.{moves_when, moves_pick, work_moves, take_moves}
 
 -- a record of another attempt doesn't seal this one
-no-seals : (tid g : Tid) (calls : List (Call SiteRecord)) → same_tid tid g ≡ false → Each (SealsOnly tid) calls → some_of (seals g) calls ≡ false
+pub no-seals : (tid g : Tid) (calls : List (Call SiteRecord)) → same_tid tid g ≡ false → Each (SealsOnly tid) calls → some_of (seals g) calls ≡ false
 no-seals tid g [] e h = refl
 no-seals tid g (Append (Rec.Prepared of epoch number ticket writes) ∷ calls) e h = ap (λ t. t || some_of (seals g) calls) (ap (λ t. same_tid t g) h.0 ∙ e) ∙ no-seals tid g calls e h.1
 no-seals tid g (Append (Rec.Local of number writes) ∷ calls) e h = ap (λ t. t || some_of (seals g) calls) (ap (λ t. same_tid t g) h.0 ∙ e) ∙ no-seals tid g calls e h.1
@@ -92,7 +92,7 @@ no_moves : (home : Home) (g : Tid) (past : SitePast) (e n : ℕ) (why : Option W
 unfolding votes_no
 no_moves home g past e n why = record { heard = refl; move = Same refl; says = (tt, tt); sealing = λ s. cc; calm = λ p. refl }
 
-own-line : (g : Tid) (line : EngineLine) (old : Option Run) → tid_of line ≡ g → live_one (cond (same_tid (tid_of line) g) (changed line old) old) ≡ live_one (changed line old)
+pub own-line : (g : Tid) (line : EngineLine) (old : Option Run) → tid_of line ≡ g → live_one (cond (same_tid (tid_of line) g) (changed line old) old) ≡ live_one (changed line old)
 own-line g line old t = ap (λ z. live_one (cond (same_tid z g) (changed line old) old)) t ∙ ap (λ b. live_one (cond b (changed line old) old)) (same_tid_self g)
 
 -- a refused sealing
@@ -181,13 +181,13 @@ unheld_aborts home g past decision =
       calm = λ p. refl;
     }
 
-settled-none : (g : Tid) (decision : Decision) (old : Option Run) → live_one (changed (settling_line g decision) old) ≡ None
+pub settled-none : (g : Tid) (decision : Decision) (old : Option Run) → live_one (changed (settling_line g decision) old) ≡ None
 settled-none g Decided.Commit None = refl
 settled-none g Decided.Commit (Some run) = refl
 settled-none g Decided.Abort None = refl
 settled-none g Decided.Abort (Some run) = refl
 
-settling-tid : (g : Tid) (decision : Decision) → tid_of (settling_line g decision) ≡ g
+pub settling-tid : (g : Tid) (decision : Decision) → tid_of (settling_line g decision) ≡ g
 settling-tid g Decided.Commit = refl
 settling-tid g Decided.Abort = refl
 
