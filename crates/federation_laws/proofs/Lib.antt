@@ -11,7 +11,9 @@ pub mod CountedReplies
 pub mod Declared
 pub mod Dues
 pub mod Globals
+pub mod LocalLines
 pub mod LocalMoves
+pub mod LocalRuns
 pub mod Members
 pub mod Merges
 pub mod OneOrders

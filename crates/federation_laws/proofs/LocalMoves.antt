@@ -83,7 +83,7 @@ pub record Made (home : Home) (past : SitePast) (t : Tid) (event : SiteEvent) (x
   pub heard : x.event ≡ event
   pub move : LocalMove home past t event x
 
-made_when : (home : Home) (past : SitePast) (t : Tid) (event : SiteEvent) (c : Bool) (a b : SiteHappening) → (c ≡ true → Made home past t event a) → (c ≡ false → Made home past t event b) → Made home past t event (when c a b)
+pub made_when : (home : Home) (past : SitePast) (t : Tid) (event : SiteEvent) (c : Bool) (a b : SiteHappening) → (c ≡ true → Made home past t event a) → (c ≡ false → Made home past t event b) → Made home past t event (when c a b)
 unfolding when
 made_when home past t event true a b p q = p refl
 made_when home past t event false a b p q = q refl
@@ -113,7 +113,7 @@ no-read t (Ev.Trip calls cut) answer n = refl
 no-read t Ev.Back answer n = refl
 
 -- a line about another attempt
-other-made : (home : Home) (past : SitePast) (t tid : Tid) (event : SiteEvent) (x : SiteHappening) → x.event ≡ event → NoAccess t event → IsAbout home past tid x → same_tid tid t ≡ false → Made home past t event x
+pub other-made : (home : Home) (past : SitePast) (t tid : Tid) (event : SiteEvent) (x : SiteHappening) → x.event ≡ event → NoAccess t event → IsAbout home past tid x → same_tid tid t ≡ false → Made home past t event x
 other-made home past t tid event x h n a e =
     record {
       heard = h;
@@ -122,11 +122,11 @@ other-made home past t tid event x h n a e =
     }
 
 -- a line that changes nothing
-plain-made : (home : Home) (past : SitePast) (t : Tid) (event : SiteEvent) (answer : Answer) → (stops answer || comes_up answer) ≡ false → read_by t event answer ≡ None → Made home past t event (quiet event answer)
+pub plain-made : (home : Home) (past : SitePast) (t : Tid) (event : SiteEvent) (answer : Answer) → (stops answer || comes_up answer) ≡ false → read_by t event answer ≡ None → Made home past t event (quiet event answer)
 plain-made home past t event answer e r =
     record { heard = refl; move = Rests (record { reads = r; unsealed = refl }) (live-next home past (quiet event answer) t e) }
 
-begin-made : (home : Home) (past : SitePast) (t : Tid) → Made home past t (Ev.Begin t) (of_begin home past t)
+pub begin-made : (home : Home) (past : SitePast) (t : Tid) → Made home past t (Ev.Begin t) (of_begin home past t)
 unfolding of_begin
 begin-made home past t =
     made_pick home past t _ _ _ _
@@ -207,7 +207,7 @@ acts-made home past t (Write key v) Reply_is.Unknown run f alive = absurd f
 idle-read : (t : Tid) (act : PlainAct) → read_by t (Ev.Act t act) Say.Idle ≡ None
 idle-read t act = refl
 
-act-made : (home : Home) (past : SitePast) (t : Tid) (act : PlainAct) → Made home past t (Ev.Act t act) (of_act home past t act)
+pub act-made : (home : Home) (past : SitePast) (t : Tid) (act : PlainAct) → Made home past t (Ev.Act t act) (of_act home past t act)
 unfolding of_act
 act-made home past t act =
     made_pick home past t _ _ _ _ (λ none. plain-made home past t _ _ refl refl)
@@ -227,7 +227,7 @@ refusal-plain (Because.Die by) = refl
 refusal-plain (Because.Late by) = refl
 refusal-plain (Because.TicketMoved by) = refl
 
-commit-made : (home : Home) (past : SitePast) (t : Tid) → Made home past t (Ev.Commit t) (of_commit home past t)
+pub commit-made : (home : Home) (past : SitePast) (t : Tid) → Made home past t (Ev.Commit t) (of_commit home past t)
 unfolding of_commit seals_local
 commit-made home past t =
     made_pick home past t _ _ _ _ (λ none. plain-made home past t _ _ refl refl)
@@ -249,13 +249,13 @@ commit-made home past t =
     committed-none None = refl
     committed-none (Some run) = refl
 
-abort-made : (home : Home) (past : SitePast) (t : Tid) → Made home past t (Ev.Abort t) (of_abort home past t)
+pub abort-made : (home : Home) (past : SitePast) (t : Tid) → Made home past t (Ev.Abort t) (of_abort home past t)
 unfolding of_abort
 abort-made home past t =
     made_pick home past t _ _ _ _ (λ none. plain-made home past t _ _ refl refl)
     (λ run alive. ends-made home past t _ _ (Aborts t) refl refl refl (given-up (Aborts t) (run_of home past t) refl))
 
-decide-made : (home : Home) (past : SitePast) (t : Tid) (decision : Decision) → Made home past t (Ev.Give (To.Decide t decision)) (of_decide home past t decision)
+pub decide-made : (home : Home) (past : SitePast) (t : Tid) (decision : Decision) → Made home past t (Ev.Give (To.Decide t decision)) (of_decide home past t decision)
 unfolding of_decide unheld settles
 decide-made home past t decision =
     made_pick home past t _ _ _ _
@@ -272,20 +272,20 @@ decide-made home past t decision =
     by_test true = refl
     by_test false = refl
 
-ask-made : (home : Home) (past : SitePast) (t tid : Tid) → Made home past t (Ev.Ask tid) (of_ask home past tid)
+pub ask-made : (home : Home) (past : SitePast) (t tid : Tid) → Made home past t (Ev.Ask tid) (of_ask home past tid)
 unfolding of_ask
 ask-made home past t tid =
     made_pick home past t _ _ _ _ (λ none. plain-made home past t _ _ refl refl)
     (λ held d. record { heard = refl; move = Rests (record { reads = refl; unsealed = refl }) refl })
 
-drop-made : (home : Home) (past : SitePast) (t : Tid) → Made home past t (Ev.Drop t) (of_drop home past t)
+pub drop-made : (home : Home) (past : SitePast) (t : Tid) → Made home past t (Ev.Drop t) (of_drop home past t)
 unfolding of_drop
 drop-made home past t =
     made_when home past t _ _ _ _ (λ c. plain-made home past t _ _ refl refl) (λ c.
     made_pick home past t _ _ _ _ (λ none. plain-made home past t _ _ refl refl)
     (λ run alive. ends-made home past t _ _ (Aborts t) refl refl refl (given-up (Aborts t) (run_of home past t) refl)))
 
-fate-made : (home : Home) (past : SitePast) (t : Tid) (tx : Tx) → Made home past t (Ev.Fate tx) (of_fate home past tx)
+pub fate-made : (home : Home) (past : SitePast) (t : Tid) (tx : Tx) → Made home past t (Ev.Fate tx) (of_fate home past tx)
 unfolding of_fate
 fate-made home past t tx =
     made_pick home past t _ _ _ _
@@ -296,7 +296,7 @@ fate-made home past t tx =
     by_test true = refl
     by_test false = refl
 
-back-made : (home : Home) (past : SitePast) (t : Tid) → Made home past t Ev.Back (of_back home past)
+pub back-made : (home : Home) (past : SitePast) (t : Tid) → Made home past t Ev.Back (of_back home past)
 unfolding of_back
 back-made home past t =
     record { heard = refl; move = Gone (record { reads = refl; unsealed = by_test (is_torn site_frame (disk home past)) }) (restored-sealed _ t) }
