@@ -14,6 +14,7 @@ pub mod Globals
 pub mod LocalLines
 pub mod LocalMoves
 pub mod LocalRuns
+pub mod LocalStories
 pub mod Members
 pub mod Merges
 pub mod OneOrders

@@ -167,7 +167,7 @@ agrees-first : (home : Home) (g : Tid) → AgreesIn [] home g
 agrees-first home g =
     record { runs = first-runs home g; asked = record { begun = tt; old = λ d. tt }; said = tt; from = λ e. tt; behind = λ d. ([], refl); sealed = λ e. cc }
 
-append-none : {A : Type 0} (xs : List A) → xs ++ [] ≡ xs
+pub append-none : {A : Type 0} (xs : List A) → xs ++ [] ≡ xs
 append-none [] = refl
 append-none (x ∷ xs) = ap (λ ys. x ∷ ys) (append-none xs)
 
@@ -182,7 +182,7 @@ live_of_tx-is home past tx tid e = of_first (first_where (λ run. same_tx run.ti
         let is : run.tid ≡ tid = some-parts e in
         subst (λ (t : Tid). same_tx t.tx tx ≡ true) is (and_parts (same_tx run.tid.tx tx) (not (is_sealed run)) test).0
 
-same_tx_alike : (a b : Tx) → same_tx a b ≡ true → a ≡ b
+pub same_tx_alike : (a b : Tx) → same_tx a b ≡ true → a ≡ b
 same_tx_alike a b e = let P : ℕ → Tx = λ n. record { 0 = n } in ap P (eqb-true a.0 b.0 e)
 
 -- an attempt of a local transaction is no global one
