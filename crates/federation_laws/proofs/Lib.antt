@@ -16,6 +16,7 @@ pub mod LocalMoves
 pub mod LocalRuns
 pub mod LocalStories
 pub mod Members
+pub mod Memberships
 pub mod Merges
 pub mod OneOrders
 pub mod ScenarioFacts

@@ -82,7 +82,7 @@ not-asked scenario good commands t own at_home (Ev.Trip calls cut) here c = tt
 not-asked scenario good commands t own at_home Ev.Back here c = tt
 
 -- the home of a local transaction is its declared site
-local-site-of : (scenario : Scenario) (tx : Tx) (home : Home) → local_home scenario tx ≡ Some home → local_site scenario tx ≡ Some home.site
+pub local-site-of : (scenario : Scenario) (tx : Tx) (home : Home) → local_home scenario tx ≡ Some home → local_site scenario tx ≡ Some home.site
 local-site-of scenario tx home e = of_site (local_site scenario tx) e
   where
     of_site : (o : Option SiteId) → home_at scenario o ≡ Some home → o ≡ Some home.site
