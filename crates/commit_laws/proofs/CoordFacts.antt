@@ -1,5 +1,5 @@
 -- What a line of the coordinator does about one attempt: what it appends, sends and makes of its standing, as facts on the line.
-use Rattle.std.proofs.Common.{◌≡◌, ℕ, ◌⊎◌, Bool, true, false, cond, ◌||◌, ◌==◌, is_some, Option, Some, None, List, [], ◌∷◌}
+use Rattle.std.proofs.Common.{◌≡◌, ℕ, ◌⊎◌, Bool, true, false, cond, ◌||◌, ◌==◌, is_some, Option, Some, None, List, [], ◌∷◌, ◌++◌}
 use Rattle.mdb_base.specs.declared.acts.Step.{Step}
 use Rattle.mdb_base.specs.declared.names.SiteId.{SiteId}
 use Rattle.mdb_base.specs.declared.names.Tid.{Tid}
@@ -63,7 +63,7 @@ pub data IsEnding (g : Tid) (past : CoordPast) (event : CoordEvent) (before : Li
 -- why a record is appended, behind these other records of the line
 abbrev pub Wrote : List Participant → Tid → CoordPast → CoordEvent → List CoordRecord → CoordRecord → Type 0
 Wrote protocols g past event before (Rec.Initiation tid members) = same_tid tid g ≡ true → IsOpen past g × (members ≡ participants protocols past g)
-Wrote protocols g past event before (Rec.Commit tid tickets) = same_tid tid g ≡ true → IsCommitting protocols g past event
+Wrote protocols g past event before (Rec.Commit tid tickets) = same_tid tid g ≡ true → IsCommitting protocols g past event × (before ≡ [])
 Wrote protocols g past event before (Rec.End tid) = same_tid tid g ≡ true → IsEnding g past event before × (is_some (initiated (records past) g) ≡ true)
 
 -- why the records of a line are appended, the newest first
@@ -99,7 +99,7 @@ pub record IsPreparing (g : Tid) (past : CoordPast) (y : CoordHappening) (site :
 
 -- why a decision is sent
 pub data IsTelling (protocols : List Participant) (g : Tid) (past : CoordPast) (y : CoordHappening) (site : SiteId) (decision : Decision) : Type 0 where
-  Now : (forgets : Bool) → IsOpen past g → standing (y ∷ past) g ≡ cond forgets Gone (Decided decision) → IsDecidedBy g decision (appended y.calls []) → IsTelling protocols g past y site decision
+  Now : (forgets : Bool) → IsOpen past g → standing (y ∷ past) g ≡ cond forgets Gone (Decided decision) → (news : List CoordRecord) → records (y ∷ past) ≡ news ++ records past → IsDecidedBy g decision news → IsTelling protocols g past y site decision
   Known : standing past g ≡ Decided decision → IsTelling protocols g past y site decision
   Presumed : standing past g ≡ Gone → y.event ≡ Ev.Take site (From.Inquiry g) → decision ≡ presumed (protocol_of protocols site) → IsTelling protocols g past y site decision
 

@@ -16,7 +16,7 @@ use Rattle.fed_rules.specs.CoordPast.{CoordHappening, CoordPast, disk, records, 
 use Rattle.fed_rules.specs.CoordRecords.{coord_frame}
 use Rattle.rules_laws.specs.Durable.{IsFirm, IsFrontOf}
 use Rattle.commit_laws.specs.Records.{IsEnd}
-use Rattle.commit_laws.proofs.Disks.{appended, IsCut, Keeps, left-by-line, left-by-stop, quiet-plain, line-records}
+use Rattle.commit_laws.proofs.Disks.{appended, IsCut, Keeps, left-by-line, left-by-stop, quiet-plain, plain-records}
 use Rattle.commit_laws.proofs.CoordFacts.{WroteAll, Stands, Tells, Counted, Goes}
 use Rattle.commit_laws.proofs.CoordRules.{silently, uncounted}
 use Rattle.commit_laws.proofs.CoordCommits.{by-answered, by-back}
@@ -54,7 +54,7 @@ goes protocols g past event y f s =
       is = s.is;
       firm = l.firm;
       kept = keeps-written protocols g past event (appended y.calls []) (records (y ∷ past)) s.wrote l.keeps;
-      stood = Through s.stands (line-records coord_frame IsEnd (disk past) y.calls s.quiet f);
+      stood = Through s.stands (plain-records coord_frame (disk past) y.calls [] (records past) (quiet-plain IsEnd false y.calls s.quiet) refl);
       tells = s.tells;
       counted = s.counted;
     }

@@ -12,3 +12,6 @@ pub mod CoordEnds
 pub mod CoordCommits
 pub mod CoordLines
 pub mod Links
+pub mod Lists
+pub mod SiteLists
+pub mod CoordLists
