@@ -15,3 +15,5 @@ pub mod Links
 pub mod Lists
 pub mod SiteLists
 pub mod CoordLists
+pub mod CoordSound
+pub mod Taken
