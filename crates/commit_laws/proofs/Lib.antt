@@ -17,3 +17,4 @@ pub mod SiteLists
 pub mod CoordLists
 pub mod CoordSound
 pub mod Taken
+pub mod CoordTurn
