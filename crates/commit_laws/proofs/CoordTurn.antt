@@ -168,7 +168,7 @@ turn-marked scenario home g past event x t m = (
   by_stood (Through (Forgets d o b e n ends a) r) h = let no : is_undecided Gone ≡ true = ap is_undecided (sym e) ∙ h in cc
   by_stood (Through (Restarts b e a) r) h = kept-not-open (records (x ∷ past)) g (ap is_undecided (sym e) ∙ h)
 
-uncommitted-of : (scenario : Scenario) (home : Home) (g : Tid) (past : CoordPast) → CoordSound scenario home g past → IsOpen past g → has_commit (records past) g ≡ false
+pub uncommitted-of : (scenario : Scenario) (home : Home) (g : Tid) (past : CoordPast) → CoordSound scenario home g past → IsOpen past g → has_commit (records past) g ≡ false
 uncommitted-of scenario home g past s o = by_test (has_commit (records past) g) refl where
   by_test : (b : Bool) → has_commit (records past) g ≡ b → has_commit (records past) g ≡ false
   by_test false e = e

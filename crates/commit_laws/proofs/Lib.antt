@@ -18,3 +18,4 @@ pub mod CoordLists
 pub mod CoordSound
 pub mod Taken
 pub mod CoordTurn
+pub mod CoordClear
