@@ -19,3 +19,5 @@ pub mod CoordSound
 pub mod Taken
 pub mod CoordTurn
 pub mod CoordClear
+pub mod Agree
+pub mod AgreeSite
