@@ -21,3 +21,6 @@ pub mod CoordTurn
 pub mod CoordClear
 pub mod Agree
 pub mod AgreeSite
+pub mod AgreeCoord
+pub mod Declared
+pub mod Agreed
