@@ -55,6 +55,7 @@ by-commits_it protocols g past site t ticket tickets undecided all = record {
       (Now f undecided (decided-standing t t past y Decided.Commit None f refl (same_tid-refl t)) (appended y.calls []) (plain-records coord_frame (disk past) y.calls [] (records past) (quiet-plain IsEnd false y.calls (inr still)) refl) (committed t (same_tid-refl t))) q)
       (participants protocols past t));
   counted = (λ e. tt);
+  committed = committed g;
 } where
   event : CoordEvent
   event = Ev.Take site (From.Vote t (Some ticket))
@@ -182,6 +183,7 @@ by-ack_counts protocols g past site t decision known =
       stands = stands e (same_tid t g) refl;
       tells = tt;
       counted = (λ c. tt);
+      committed = tt;
     }
 
     more : CoordHappening
@@ -202,6 +204,7 @@ by-ack_counts protocols g past site t decision known =
       stands = Same (calm-standing g past more tt) refl tt (waits e (same_tid t g) refl);
       tells = tt;
       counted = (λ c. tt);
+      committed = tt;
     }
 
 by-acked_while : (protocols : List Participant) (g : Tid) (past : CoordPast) (site : SiteId) (t : Tid) (s : Standing) → standing past t ≡ s → Goes protocols g past (Ev.Take site (From.Ack t)) (acked_while past site t s)
@@ -244,6 +247,7 @@ by-again_while protocols g past t (Decided decision) e = record {
       (each_all (λ member. same_tid t g ≡ true → IsTelling protocols g past y member.site decision)
       (λ member q. of-same (λ u. IsTelling protocols u past y member.site decision) t g (Known e) q) (missing past t decision));
   counted = (λ c. tt);
+  committed = tt;
 } where
   y : CoordHappening
   y = record { event = Ev.Again t; answer = Say.Only; sends = decide_to t decision (missing past t decision); calls = []; lines = [] }
@@ -307,6 +311,7 @@ by-back protocols g past = record {
   stands = Restarts refl refl (λ at. refl);
   tells = tt;
   counted = (λ c. tt);
+  committed = tt;
 } where
   ts : List Tid
   ts = oldest_first (those (ends_at_once (records past)) (initiated_tids (records past)))

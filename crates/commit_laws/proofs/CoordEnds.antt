@@ -82,6 +82,7 @@ by-aborts protocols g past event t cause undecided about n noack k = record {
       (Now f undecided (decided-standing t t past y Decided.Abort (Some cause) f refl (about t ∙ same_tid-refl t)) (appended y.calls []) (plain-records coord_frame (disk past) y.calls [] (records past) (quiet-plain IsEnd false y.calls still) refl) (uncommitted t)) q)
       (participants protocols past t));
   counted = (λ e. k);
+  committed = tt;
 } where
   y : CoordHappening
   y = aborts protocols past event t cause

@@ -9,6 +9,7 @@ use Rattle.presumptions.specs.declared.Decision.{Decision}
 use Rattle.presumptions.specs.declared.Decision.TheVariants as Decided
 use Rattle.presumptions.specs.declared.Participant.{Participant}
 use Rattle.presumptions.specs.Table.{presumed}
+use Rattle.fed_rules.specs.declared.answers.Answer.{Answer}
 use Rattle.fed_rules.specs.declared.answers.Answer.TheVariants as Say
 use Rattle.fed_rules.specs.declared.events.CoordEvent.{CoordEvent}
 use Rattle.fed_rules.specs.declared.events.CoordEvent.TheVariants as Ev
@@ -20,7 +21,7 @@ use Rattle.fed_rules.specs.declared.records.CoordRecord.{CoordRecord}
 use Rattle.fed_rules.specs.declared.records.CoordRecord.TheVariants as Rec
 use Rattle.fed_rules.specs.Happenings.{quiet}
 use Rattle.fed_rules.specs.Coord.{missing, did_counts, all_voted, protocol_of}
-use Rattle.fed_rules.specs.CoordPast.{CoordHappening, CoordPast, records, Standing, Undecided, Decided, Gone, standing, kept_standing, is_undecided, begins, counts, participants, program, visits, epoch_at, has_ticket_at, has_acked}
+use Rattle.fed_rules.specs.CoordPast.{CoordHappening, CoordPast, records, Standing, Undecided, Decided, Gone, standing, kept_standing, is_undecided, is_about, begins, counts, participants, program, visits, epoch_at, has_ticket_at, has_acked}
 use Rattle.fed_rules.specs.CoordRecords.{initiated, outcome, required, is_nobody}
 use Rattle.commit_laws.specs.Records.{IsEnd, IsCommit}
 use Rattle.commit_laws.proofs.Disks.{appended, IsQuiet}
@@ -112,6 +113,11 @@ Says protocols g past y site message = Unit {0}
 abbrev pub Tells : List Participant → Tid → CoordPast → CoordHappening → Sent → Type 0
 Tells protocols g past y sent = Says protocols g past y sent.site sent.message
 
+-- a line that decides commit of the attempt appends its Commit
+abbrev pub Committed : Tid → CoordEvent → Answer → List CoordRecord → Type 0
+Committed g event (Say.Decides Decided.Commit cause forgets) news = is_about g event ≡ true → Among (IsCommit g) news
+Committed g event answer news = Unit {0}
+
 -- why a reply counts
 abbrev pub Counted : Tid → CoordPast → CoordEvent → Type 0
 Counted g past (Ev.Take site (From.Did tid e n reply)) = same_tid tid g ≡ true → did_counts past site g e n reply ≡ true
@@ -125,3 +131,4 @@ pub record Goes (protocols : List Participant) (g : Tid) (past : CoordPast) (eve
   pub stands : Stands g past y (appended y.calls [])
   pub tells : Each (Tells protocols g past y) y.sends
   pub counted : counts y.answer ≡ true → Counted g past event
+  pub committed : Committed g event y.answer (appended y.calls [])

@@ -2,7 +2,8 @@
 use Rattle.std.proofs.Common.{◌≡◌, ℕ, ◌⊎◌, inl, inr, Bool, true, false, nat_le, Option, Some, None, List, [], ◌∷◌, ◌++◌, take, length, refl, sym, ap, subst, ◌∙◌}
 use Rattle.mdb_base.specs.declared.names.SiteId.{SiteId}
 use Rattle.mdb_base.specs.declared.names.Tid.{Tid}
-use Rattle.mdb_base.specs.Words.{Each, when}
+use Rattle.mdb_base.specs.Words.{Each, Among, when}
+use Rattle.presumptions.specs.declared.Decision.TheVariants as Decided
 use Rattle.presumptions.specs.declared.Participant.{Participant}
 use Rattle.fed_rules.specs.declared.answers.Answer.{Answer}
 use Rattle.fed_rules.specs.declared.answers.Answer.TheVariants as Say
@@ -15,9 +16,10 @@ use Rattle.fed_rules.specs.Coord.{coord_line, answered, of_back}
 use Rattle.fed_rules.specs.CoordPast.{CoordHappening, CoordPast, disk, records, trip, standing, kept_standing, begins, counts, has_acked}
 use Rattle.fed_rules.specs.CoordRecords.{coord_frame}
 use Rattle.rules_laws.specs.Durable.{IsFirm, IsFrontOf}
-use Rattle.commit_laws.specs.Records.{IsEnd}
+use Rattle.commit_laws.specs.Records.{IsEnd, IsCommit}
+use Rattle.commit_laws.proofs.Lists.{among-left}
 use Rattle.commit_laws.proofs.Disks.{appended, IsCut, Keeps, left-by-line, left-by-stop, quiet-plain, plain-records}
-use Rattle.commit_laws.proofs.CoordFacts.{WroteAll, Stands, Tells, Counted, Goes}
+use Rattle.commit_laws.proofs.CoordFacts.{WroteAll, Stands, Tells, Counted, Committed, Goes}
 use Rattle.commit_laws.proofs.CoordRules.{silently, uncounted}
 use Rattle.commit_laws.proofs.CoordCommits.{by-answered, by-back}
 
@@ -37,6 +39,7 @@ pub record Line (protocols : List Participant) (g : Tid) (past : CoordPast) (eve
   pub stood : Stood g past x
   pub tells : Each (Tells protocols g past x) x.sends
   pub counted : counts x.answer ≡ true → Counted g past event
+  pub committed : Committed g event x.answer (records (x ∷ past))
 
 -- the oldest of records with reasons have their reasons
 front-written : (protocols : List Participant) (g : Tid) (past : CoordPast) (event : CoordEvent) (newer kept : List CoordRecord) → WroteAll protocols g past event (newer ++ kept) → WroteAll protocols g past event kept
@@ -46,6 +49,11 @@ front-written protocols g past event (r ∷ newer) kept w = front-written protoc
 keeps-written : (protocols : List Participant) (g : Tid) (past : CoordPast) (event : CoordEvent) (news now : List CoordRecord) → WroteAll protocols g past event news → Keeps IsEnd news (records past) now → Kept protocols g past event now
 keeps-written protocols g past event news now w (inl (kept, (newer, e), is)) = inl (kept, front-written protocols g past event newer kept (subst (WroteAll protocols g past event) e w), is)
 keeps-written protocols g past event news now w (inr c) = inr c
+
+committed-kept : (g : Tid) (event : CoordEvent) (a : Answer) (news old now : List CoordRecord) → now ≡ news ++ old → Committed g event a news → Committed g event a now
+committed-kept g event (Say.Decides Decided.Commit cause forgets) news old now e c = λ about. subst (Among (IsCommit g)) (sym e) (among-left (IsCommit g) news old (c about))
+committed-kept g event (Say.Decides Decided.Abort cause forgets) news old now e c = tt
+committed-kept g event a news old now e c = tt
 
 goes : (protocols : List Participant) (g : Tid) (past : CoordPast) (event : CoordEvent) (y : CoordHappening) → IsFirm coord_frame IsEnd (disk past) → Goes protocols g past event y → Line protocols g past event y
 goes protocols g past event y f s =
@@ -57,6 +65,7 @@ goes protocols g past event y f s =
       stood = Through s.stands (plain-records coord_frame (disk past) y.calls [] (records past) (quiet-plain IsEnd false y.calls s.quiet) refl);
       tells = s.tells;
       counted = s.counted;
+      committed = committed-kept g event y.answer (appended y.calls []) (records past) (records (y ∷ past)) (plain-records coord_frame (disk past) y.calls [] (records past) (quiet-plain IsEnd false y.calls s.quiet) refl) s.committed;
     }
 
 stops-here : (protocols : List Participant) (g : Tid) (past : CoordPast) (event : CoordEvent) (y : CoordHappening) (k cut : ℕ) → IsFirm coord_frame IsEnd (disk past) → Goes protocols g past event y → Line protocols g past event (stopped coord_frame (disk past) y.event (take k y.calls ++ Stops cut ∷ []))
@@ -70,6 +79,7 @@ stops-here protocols g past event y k cut f s =
       stood = Stopped refl refl (λ site. refl);
       tells = tt;
       counted = (λ e. cc);
+      committed = tt;
     }
 
 line-when : (protocols : List Participant) (g : Tid) (past : CoordPast) (event : CoordEvent) (b : Bool) (x y : CoordHappening) → (b ≡ true → Line protocols g past event x) → (b ≡ false → Line protocols g past event y) → Line protocols g past event (when b x y)

@@ -88,6 +88,7 @@ by-settles home g past tid d held up doubt = record {
   says = ack-says home g past y tid d (λ a q. of-same (λ u. IsAcking home u past y) tid g (acking a) q);
   shut = (λ nb s. shut-on home g past y refl refl up (by_test (same_tid tid g) refl s));
   settled = settling;
+  seals = (λ i. cc);
   rises = (λ i. cc);
 } where
   y : SiteHappening
@@ -126,6 +127,7 @@ by-unheld home g past tid d lines up free here other = record {
   says = ack-says home g past (unheld home tid d lines) tid d (λ a q. of-same (λ u. IsAcking home u past (unheld home tid d lines)) tid g (record { decision = d; taken = refl; acks = a; after = inr (refl, free) }) q);
   shut = (λ nb s. shut-on home g past (unheld home tid d lines) refl refl up (by_test (same_tid tid g) refl s));
   settled = tt;
+  seals = (λ i. cc);
   rises = (λ i. cc);
 } where
   by_test : (q : Bool) → same_tid tid g ≡ q → Shut home g past → ((same_tid tid g || some_of (ends g) lines || is_closed past g) || is_some (doubt_of (records home past) g)) ≡ true → live_one (run_at (epoch_start home past) (lines ++ engine_lines past) g) ≡ None
@@ -155,6 +157,7 @@ by-back home g past = record {
   says = tt;
   shut = (λ nb s. record { down = (λ e. restored-sealed _ g); over = (λ e. restored-sealed _ g) });
   settled = tt;
+  seals = (λ i. cc);
   rises = (λ i. rises (is_torn site_frame (disk home past)));
 } where
   start : SiteRecord

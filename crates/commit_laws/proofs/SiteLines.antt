@@ -1,8 +1,9 @@
 -- Every line of a site, also one that a stop ends: what it leaves on the disk and what it does about one attempt.
 use Rattle.std.proofs.Common.{◌≡◌, ℕ, ◌<◌, ◌⊎◌, inl, inr, Bool, true, false, nat_le, Option, Some, None, List, [], ◌∷◌, ◌++◌, take, length, refl, sym, ap, subst, ◌∙◌, arith}
+use Rattle.std.proofs.lemmas.Bool.{and_right}
 use Rattle.mdb_base.specs.declared.acts.PlainAct.{PlainAct}
 use Rattle.mdb_base.specs.declared.names.Tid.{Tid}
-use Rattle.mdb_base.specs.Words.{Each, when}
+use Rattle.mdb_base.specs.Words.{Each, Among, when}
 use Rattle.fed_rules.specs.declared.answers.Answer.{Answer}
 use Rattle.fed_rules.specs.declared.answers.Answer.TheVariants as Say
 use Rattle.fed_rules.specs.declared.events.SiteEvent.{SiteEvent}
@@ -14,9 +15,10 @@ use Rattle.fed_rules.specs.Site.{site_line, answered, of_back}
 use Rattle.fed_rules.specs.SitePast.{SiteHappening, SitePast, disk, records, epoch, trip}
 use Rattle.fed_rules.specs.SiteRecords.{Home, site_frame}
 use Rattle.rules_laws.specs.Durable.{IsFirm, IsFrontOf}
-use Rattle.commit_laws.specs.Records.{IsLooseEnded}
+use Rattle.commit_laws.specs.Records.{IsPrepared, IsLooseEnded}
+use Rattle.commit_laws.specs.Seals.{is_prepare_of, seals}
 use Rattle.commit_laws.proofs.Disks.{appended, IsCut, Keeps, Left, left-by-line, left-by-stop, quiet-plain}
-use Rattle.commit_laws.proofs.SiteFacts.{Wrote, WroteOne, Says, Settled, NotBegun, Shut, Step}
+use Rattle.commit_laws.proofs.SiteFacts.{IsSealing, Wrote, WroteOne, Says, Settled, NotBegun, Shut, Step}
 use Rattle.commit_laws.proofs.SiteShut.{restored-sealed}
 use Rattle.commit_laws.proofs.SiteEnds.{by-answered, by-back}
 
@@ -31,6 +33,7 @@ pub record Line (home : Home) (g : Tid) (past : SitePast) (event : SiteEvent) (x
   pub says : Each (Says home g past x) x.sends
   pub shut : NotBegun g event → Shut home g past → Shut home g (x ∷ past)
   pub settled : Settled home g past event x.answer
+  pub seals : seals g x ≡ true → (e : ℕ) × IsSealing home g past event e × Among (IsPrepared g e) (records home (x ∷ past))
   pub rises : comes_up x.answer ≡ true → epoch home past < epoch home (x ∷ past)
 
 keeps-one : (home : Home) (g : Tid) (past : SitePast) (event : SiteEvent) (news now : List SiteRecord) → WroteOne home g past event news → Keeps (IsLooseEnded home.protocol) news (records home past) now → Kept home g past event now
@@ -57,6 +60,7 @@ goes home g past event y f s =
       says = s.says;
       shut = s.shut;
       settled = s.settled;
+      seals = s.seals;
       rises = s.rises;
     }
 
@@ -71,6 +75,7 @@ stops-here home g past event y k cut f s =
       says = tt;
       shut = (λ nb o. record { down = (λ e. restored-sealed _ g); over = (λ e. restored-sealed _ g) });
       settled = tt;
+      seals = (λ e. let no : true ≡ false = sym e ∙ and_right (is_prepare_of g y.event) false refl in cc);
       rises = (λ e. cc);
     }
 
@@ -96,6 +101,7 @@ idle home g past event answer f settled up shut = record {
   says = tt;
   shut = (λ nb s. shut s);
   settled = settled;
+  seals = (λ e. let no : true ≡ false = sym e ∙ and_right (is_prepare_of g event) false refl in cc);
   rises = (λ e. cc);
 }
 
