@@ -35,7 +35,7 @@ use Rattle.commit_laws.proofs.Agree.{IsGot, IsOver, Prepares, Decides, Agree}
 use Rattle.commit_laws.proofs.CoordClear.{coord-turn}
 use Rattle.commit_laws.proofs.CoordFacts.{IsOpen, IsInitiation, IsDecidedBy, IsPreparing, IsTelling, Now, Known, Presumed, Says, Tells, Counted}
 use Rattle.commit_laws.proofs.CoordLists.{decided-outcome}
-use Rattle.commit_laws.proofs.CoordSound.{IsBegun, IsClear, kept-stays, end-initiation, decided-not-open}
+use Rattle.commit_laws.proofs.CoordSound.{Declared, IsBegun, IsClear, kept-stays, end-initiation, decided-not-open}
 use Rattle.commit_laws.proofs.CoordTurn.{Turn, fresh, same-program, same-outcome, stays-closed, uncommitted-of}
 use Rattle.commit_laws.proofs.Links.{same-site}
 use Rattle.commit_laws.proofs.Lists.{among-split, among-left}
@@ -46,6 +46,7 @@ pub record CoordNext (scenario : Scenario) (home : Home) (g : Tid) (past : Coord
   pub agree : Agree scenario home g past here sent back
   pub turn : Turn scenario home g past event x
   pub comes : (m : FromSite) → event ≡ Coord_event.Take home.site m → In m back
+  pub declared : Declared scenario home
   pub protocol : protocol_of (protocols scenario) home.site ≡ home.protocol
 
 -- the messages of these that go to the site
@@ -96,10 +97,10 @@ presumed-right By.Commit Decided.Commit e = refl
 presumed-right By.Commit Decided.Abort e = cc
 
 -- the presumption of an attempt that isn't known is its outcome, or the attempt is over at the inquirer
-pub presumes-right : (scenario : Scenario) (home : Home) (g : Tid) (past : CoordPast) (here : SitePast) (sent : List ToSite) (back : List FromSite) → Agree scenario home g past here sent back → standing past g ≡ Gone → (e : ℕ) → Prepares home g past e → (presumed home.protocol ≡ outcome (Coordinator.records past) g) ⊎ IsOver home g here
-presumes-right scenario home g past here sent back a gone e p = by_ack (acks home.protocol (outcome (Coordinator.records past) g)) refl where
+pub presumes-right : (scenario : Scenario) (home : Home) (g : Tid) (past : CoordPast) (here : SitePast) (sent : List ToSite) (back : List FromSite) → Agree scenario home g past here sent back → Declared scenario home → standing past g ≡ Gone → (e : ℕ) → Prepares home g past e → (presumed home.protocol ≡ outcome (Coordinator.records past) g) ⊎ IsOver home g here
+presumes-right scenario home g past here sent back a declared gone e p = by_ack (acks home.protocol (outcome (Coordinator.records past) g)) refl where
   by_ack : (b : Bool) → acks home.protocol (outcome (Coordinator.records past) g) ≡ b → (presumed home.protocol ≡ outcome (Coordinator.records past) g) ⊎ IsOver home g here
-  by_ack true k = inr (a.acked (a.taken (From.Ack g) (a.sound.gone gone p.initiated k p.visits)))
+  by_ack true k = inr (a.acked (a.taken (From.Ack g) (a.sound.gone gone p.initiated declared k p.visits)))
   by_ack false k = inl (presumed-right home.protocol (outcome (Coordinator.records past) g) k)
 
 pub coord-next : (scenario : Scenario) (home : Home) (g : Tid) (past : CoordPast) (here : SitePast) (sent : List ToSite) (back : List FromSite) (event : CoordEvent) (x : CoordHappening) → CoordNext scenario home g past here sent back event x → Agree scenario home g (x ∷ past) here (sent ++ to_site home.site x.sends) back
@@ -208,5 +209,5 @@ coord-next scenario home g past here sent back event x n = record {
         old (record {
           begun = p.begun;
           closed = closed_gone is;
-          right = elim (presumes-right scenario home g past here sent back a is asked.0 p) [ inl r ↦ inl (same ∙ r) | inr over ↦ inr over ];
+          right = elim (presumes-right scenario home g past here sent back a n.declared is asked.0 p) [ inl r ↦ inl (same ∙ r) | inr over ↦ inr over ];
         })

@@ -55,9 +55,9 @@ coord-first scenario home g = record {
   marked = (λ m. absurd m);
   initiated = (λ ms m. absurd m);
   decided = (λ d e. cc);
-  voted = (λ m v. absurd m);
-  ended = (λ m a v. absurd m);
-  gone = (λ e m a v. absurd m);
+  voted = (λ h m v. absurd m);
+  ended = (λ m h a v. absurd m);
+  gone = (λ e m h a v. absurd m);
   waits = (λ d e. cc);
 }
 
@@ -116,9 +116,9 @@ at-coordinator scenario home g story event declared came a = record {
     sound = a.sound;
     line = coord-lines (protocols scenario) g (coord_past story) event a.sound.firm;
     begun = (λ steps e. let c = subst (CoordCame scenario story) e came in (c.0, (steps, c.1)));
-    declared = (is-declared scenario home.site home declared).0;
   };
   comes = (λ m e. subst (CoordCame scenario story) e came);
+  declared = (is-declared scenario home.site home declared).0;
   protocol = (is-declared scenario home.site home declared).1;
 }
 
@@ -139,7 +139,7 @@ next scenario home g story (AtSite at x) declared l a =
     by_test : (b : Bool) → same_site at home.site ≡ b → Agree scenario home g (coord_past story) (cond b (x ∷ past_of home.site story) (past_of home.site story)) (sent_to home.site story) (sent_from home.site story ++ cond b x.sends [])
     by_test false q = subst (λ m. Agree scenario home g (coord_past story) (past_of home.site story) (sent_to home.site story) m) (sym (append-nil (sent_from home.site story))) a
     by_test true q =
-        let (event, is, came) = l.next q in
+        let (event, is, came) = l.next declared q in
         subst (λ y. Agree scenario home g (coord_past story) (y ∷ past_of home.site story) (sent_to home.site story) (sent_from home.site story ++ y.sends)) (sym is)
         (site-turn scenario home g (coord_past story) (past_of home.site story) (sent_to home.site story) (sent_from home.site story) event (site_line home (past_of home.site story) event) (at-site scenario home g story event came a))
 
@@ -147,5 +147,5 @@ pub agreed : (scenario : Scenario) (home : Home) (g : Tid) (commands : List Comm
 agreed scenario home g [] declared = first scenario home g
 agreed scenario home g (command ∷ commands) declared =
     next scenario home g (story_of scenario commands) (happens scenario (story_of scenario commands) command) declared
-    (linked scenario home (story_of scenario commands) command declared)
+    (linked scenario home (story_of scenario commands) command)
     (agreed scenario home g commands declared)

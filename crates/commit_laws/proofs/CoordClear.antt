@@ -118,9 +118,9 @@ initiation-begun scenario home g past s m =
     let found = among-initiated g (records past) m in (s.initiated found.0 (initiation-of g (records past) found.0 found.1)).0
 
 -- what was clear stays so
-clear-stays : (scenario : Scenario) (home : Home) (g : Tid) (past : CoordPast) (event : CoordEvent) (x : CoordHappening) → Turn scenario home g past event x → IsBegun past g → (IsOpen past g → ⊥) → IsClear home g past → IsClear home g (x ∷ past)
-clear-stays scenario home g past event x t begun closed clear a v =
-    inr (clear (ap (acks home.protocol) (sym (same-outcome scenario home g past event x t closed)) ∙ a)
+clear-stays : (scenario : Scenario) (home : Home) (g : Tid) (past : CoordPast) (event : CoordEvent) (x : CoordHappening) → Turn scenario home g past event x → IsBegun past g → (IsOpen past g → ⊥) → IsClear scenario home g past → IsClear scenario home g (x ∷ past)
+clear-stays scenario home g past event x t begun closed clear declared a v =
+    inr (clear declared (ap (acks home.protocol) (sym (same-outcome scenario home g past event x t closed)) ∙ a)
     (ap (visits home.site) (sym (same-program scenario home g past event x t begun)) ∙ v))
 
 acked-later : (g : Tid) (past : CoordPast) (event : CoordEvent) (x : CoordHappening) (site : SiteId) → x.event ≡ event → IsAcked (quiet event Say.Acked ∷ past) g site → IsAcked (x ∷ past) g site
@@ -128,25 +128,25 @@ acked-later g past event x site e (inl y) = inl (e ∙ y)
 acked-later g past event x site e (inr m) = inr m
 
 -- an attempt that has an End record has its required acknowledgements
-pub turn-ended : (scenario : Scenario) (home : Home) (g : Tid) (past : CoordPast) (event : CoordEvent) (x : CoordHappening) → Turn scenario home g past event x → Among (IsEndOf g) (records (x ∷ past)) → IsClear home g (x ∷ past)
+pub turn-ended : (scenario : Scenario) (home : Home) (g : Tid) (past : CoordPast) (event : CoordEvent) (x : CoordHappening) → Turn scenario home g past event x → Among (IsEndOf g) (records (x ∷ past)) → IsClear scenario home g (x ∷ past)
 turn-ended scenario home g past event x t m = elim (kept-from (protocols scenario) g past event (records (x ∷ past)) (IsEndOf g) t.line.kept m) [
   | inl i ↦ let r = t.sound.marked (end-mark g (records past) i) in clear-stays scenario home g past event x t r.0 r.1 (t.sound.ended i)
   | inr (kept, w, e, i) ↦ by_end kept e (ends-for scenario home g past event kept t.sound w i)
 ] where
-  by_end : (kept : List CoordRecord) → records (x ∷ past) ≡ kept ++ records past → EndsFor g past event kept → IsClear home g (x ∷ past)
-  by_end kept e r a v =
+  by_end : (kept : List CoordRecord) → records (x ∷ past) ≡ kept ++ records past → EndsFor g past event kept → IsClear scenario home g (x ∷ past)
+  by_end kept e r declared a v =
       let m = some-initiation g (records past) r.initiated in
       let begun = initiation-begun scenario home g past t.sound m in
       let visited = ap (visits home.site) (sym (same-program scenario home g past event x t begun)) ∙ v in
       let acking = ap (acks home.protocol) (sym (ap (λ rs. outcome rs g) e ∙ r.outcome)) ∙ a in
-      let needed = required-here scenario home g past r.decision (old-names scenario home g past t.sound) t.declared m acking visited in
+      let needed = required-here scenario home g past r.decision (old-names scenario home g past t.sound) declared m acking visited in
       elim r.required [
         | inl nobody ↦ absurd (nobody-none (λ k. (k.site ≡ home.site) × (k.protocol ≡ home.protocol)) (required (records past) g r.decision) nobody needed)
         | inr (known, nobody) ↦ acked-later g past event x home.site t.line.is (none-missing g (quiet event Say.Acked ∷ past) r.decision home nobody needed)
       ]
 
 -- and so has one that is forgotten
-pub turn-gone : (scenario : Scenario) (home : Home) (g : Tid) (past : CoordPast) (event : CoordEvent) (x : CoordHappening) → Turn scenario home g past event x → standing (x ∷ past) g ≡ Gone → Among (IsInitiation g) (records (x ∷ past)) → IsClear home g (x ∷ past)
+pub turn-gone : (scenario : Scenario) (home : Home) (g : Tid) (past : CoordPast) (event : CoordEvent) (x : CoordHappening) → Turn scenario home g past event x → standing (x ∷ past) g ≡ Gone → Among (IsInitiation g) (records (x ∷ past)) → IsClear scenario home g (x ∷ past)
 turn-gone scenario home g past event x t is m = by_stood t.line.stood where
   -- an Initiation of an attempt that wasn't open was kept before
   old : (IsOpen past g → ⊥) → Among (IsInitiation g) (records past)
@@ -157,17 +157,17 @@ turn-gone scenario home g past event x t is m = by_stood t.line.stood where
         | inr (kept, w, e, i) ↦ absurd (closed (written-initiation (protocols scenario) g past event found.0 kept w i).0)
       ]
 
-  by_kept : (b c : Bool) → has_end (records (x ∷ past)) g ≡ b → is_nobody (required (records (x ∷ past)) g (outcome (records (x ∷ past)) g)) ≡ c → kept_standing (records (x ∷ past)) g ≡ Gone → IsClear home g (x ∷ past)
+  by_kept : (b c : Bool) → has_end (records (x ∷ past)) g ≡ b → is_nobody (required (records (x ∷ past)) g (outcome (records (x ∷ past)) g)) ≡ c → kept_standing (records (x ∷ past)) g ≡ Gone → IsClear scenario home g (x ∷ past)
   by_kept true c e n h = turn-ended scenario home g past event x t (end-among g (records (x ∷ past)) e)
-  by_kept false true e n h = λ a v.
+  by_kept false true e n h = λ declared a v.
       absurd (nobody-none (λ k. (k.site ≡ home.site) × (k.protocol ≡ home.protocol)) (required (records (x ∷ past)) g (outcome (records (x ∷ past)) g)) n
-      (required-here scenario home g (x ∷ past) (outcome (records (x ∷ past)) g) (λ ms i. (turn-initiated scenario home g past event x t ms i).1) t.declared m a v))
+      (required-here scenario home g (x ∷ past) (outcome (records (x ∷ past)) g) (λ ms i. (turn-initiated scenario home g past event x t ms i).1) declared m a v))
   by_kept false false e n h =
       let kept : is_kept (records (x ∷ past)) g ≡ true = ap₂ (λ u w. not u && not w) e n in
       let no : Decided (outcome (records (x ∷ past)) g) ≡ Gone = sym (ap (λ k. cond k (Decided (outcome (records (x ∷ past)) g)) Gone) kept) ∙ h in cc
 
-  by_stood : Stood g past x → IsClear home g (x ∷ past)
-  by_stood (Stopped b e a) = by_kept (has_end (records (x ∷ past)) g) (is_nobody (required (records (x ∷ past)) g (outcome (records (x ∷ past)) g))) refl refl (sym e ∙ is)
+  by_stood : Stood g past x → IsClear scenario home g (x ∷ past)
+  by_stood (Stopped b e a stop) = by_kept (has_end (records (x ∷ past)) g) (is_nobody (required (records (x ∷ past)) g (outcome (records (x ∷ past)) g))) refl refl (sym e ∙ is)
   by_stood (Through (Same e b u a) r) =
       let gone : standing past g ≡ Gone = sym e ∙ is in
       let closed : IsOpen past g → ⊥ = λ o. (let no : is_undecided Gone ≡ true = ap is_undecided (sym gone) ∙ o in cc) in
@@ -175,26 +175,26 @@ turn-gone scenario home g past event x t is m = by_stood t.line.stood where
       clear-stays scenario home g past event x t (initiation-begun scenario home g past t.sound i) closed (t.sound.gone gone i)
   by_stood (Through (Starts b e n steps v) r) = let no : Undecided ≡ Gone = sym e ∙ is in cc
   by_stood (Through (Decides made f o b e n by a i) r) = by_forgets f refl where
-    by_forgets : (c : Bool) → f ≡ c → IsClear home g (x ∷ past)
+    by_forgets : (c : Bool) → f ≡ c → IsClear scenario home g (x ∷ past)
     by_forgets false q = let no : Decided made ≡ Gone = sym (ap (λ c. cond c Gone (Decided made)) q) ∙ (sym e ∙ is) in cc
-    by_forgets true q = λ acking v.
+    by_forgets true q = λ declared acking v.
         let found = among-initiated g (records (x ∷ past)) m in
         let before : initiated (records past) g ≡ Some found.0 = sym (initiated-behind g (appended x.calls []) (records past) i) ∙ (ap (λ rs. initiated rs g) (sym r) ∙ found.1) in
         let kept = initiation-is g found.0 (records past) (initiation-of g (records past) found.0 before) in
         let made_is = ap (λ rs. outcome rs g) r ∙ decided-outcome g made (appended x.calls []) (records past) (uncommitted-of scenario home g past t.sound o) by in
         let visited = ap (visits home.site) (sym (same-program scenario home g past event x t (t.sound.undecided o))) ∙ v in
         absurd (nobody-none (λ k. (k.site ≡ home.site) × (k.protocol ≡ home.protocol)) (required (records past) g made) (n ∙ q)
-        (required-here scenario home g past made (old-names scenario home g past t.sound) t.declared kept (ap (acks home.protocol) (sym made_is) ∙ acking) visited))
-  by_stood (Through (Forgets made k b e n ends a) r) = λ acking v.
+        (required-here scenario home g past made (old-names scenario home g past t.sound) declared kept (ap (acks home.protocol) (sym made_is) ∙ acking) visited))
+  by_stood (Through (Forgets made k b e n ends a) r) = λ declared acking v.
       let closed : IsOpen past g → ⊥ = λ o. (let no : is_undecided (Decided made) ≡ true = ap is_undecided (sym k) ∙ o in cc) in
       let i = old closed in
       let begun = initiation-begun scenario home g past t.sound i in
       let known = (t.sound.decided made k).1 in
-      let needed = required-here scenario home g past made (old-names scenario home g past t.sound) t.declared i
+      let needed = required-here scenario home g past made (old-names scenario home g past t.sound) declared i
           (ap (acks home.protocol) (known ∙ sym (same-outcome scenario home g past event x t closed)) ∙ acking)
           (ap (visits home.site) (sym (same-program scenario home g past event x t begun)) ∙ v) in
       acked-later g past x.event x home.site refl (none-missing g (quiet x.event Say.Acked ∷ past) made home n needed)
-  by_stood (Through (Restarts b e a) r) = by_kept (has_end (records (x ∷ past)) g) (is_nobody (required (records (x ∷ past)) g (outcome (records (x ∷ past)) g))) refl refl (sym e ∙ is)
+  by_stood (Through (Restarts b e a stop) r) = by_kept (has_end (records (x ∷ past)) g) (is_nobody (required (records (x ∷ past)) g (outcome (records (x ∷ past)) g))) refl refl (sym e ∙ is)
 
 -- what was initiated of an attempt that isn't open stays
 initiated-stays : (scenario : Scenario) (home : Home) (g : Tid) (past : CoordPast) (event : CoordEvent) (x : CoordHappening) → Turn scenario home g past event x → (IsOpen past g → ⊥) → initiated (records (x ∷ past)) g ≡ initiated (records past) g
@@ -225,7 +225,7 @@ turn-waits scenario home g past event x t d is = by_stood t.line.stood where
       ∙ not-true (is_nobody (required (records (x ∷ past)) g (outcome (records (x ∷ past)) g))) (and_parts (not (has_end (records (x ∷ past)) g)) (not (is_nobody (required (records (x ∷ past)) g (outcome (records (x ∷ past)) g)))) k).1
 
   by_stood : Stood g past x → is_nobody (missing (x ∷ past) g d) ≡ false
-  by_stood (Stopped b e a) = by_kept (is_kept (records (x ∷ past)) g) refl (sym e ∙ is) a
+  by_stood (Stopped b e a stop) = by_kept (is_kept (records (x ∷ past)) g) refl (sym e ∙ is) a
   by_stood (Through (Same e b u (inr k)) r) = k d (sym e ∙ is)
   by_stood (Through (Same e b u (inl k)) r) =
       let known : standing past g ≡ Decided d = sym e ∙ is in
@@ -245,7 +245,7 @@ turn-waits scenario home g past event x t d is = by_stood t.line.stood where
         ∙ ap (λ made. is_nobody (required (records past) g made)) (sym same)
         ∙ (n ∙ q)
   by_stood (Through (Forgets made k b e n ends a) r) = let no : Gone ≡ Decided d = sym e ∙ is in cc
-  by_stood (Through (Restarts b e a) r) = by_kept (is_kept (records (x ∷ past)) g) refl (sym e ∙ is) a
+  by_stood (Through (Restarts b e a stop) r) = by_kept (is_kept (records (x ∷ past)) g) refl (sym e ∙ is) a
 
 -- all of it
 pub coord-turn : (scenario : Scenario) (home : Home) (g : Tid) (past : CoordPast) (event : CoordEvent) (x : CoordHappening) → Turn scenario home g past event x → CoordSound scenario home g (x ∷ past)

@@ -19,7 +19,7 @@ use Rattle.fed_rules.specs.declared.messages.ToSite.{ToSite}
 use Rattle.fed_rules.specs.declared.messages.ToSite.TheVariants as To
 use Rattle.fed_rules.specs.declared.records.CoordRecord.{CoordRecord}
 use Rattle.fed_rules.specs.declared.records.CoordRecord.TheVariants as Rec
-use Rattle.fed_rules.specs.Happenings.{quiet}
+use Rattle.fed_rules.specs.Happenings.{quiet, stops, comes_up}
 use Rattle.fed_rules.specs.Coord.{missing, did_counts, all_voted, protocol_of}
 use Rattle.fed_rules.specs.CoordPast.{CoordHappening, CoordPast, records, Standing, Undecided, Decided, Gone, standing, kept_standing, is_undecided, is_about, begins, counts, participants, program, visits, epoch_at, has_ticket_at, has_acked}
 use Rattle.fed_rules.specs.CoordRecords.{initiated, outcome, required, is_nobody}
@@ -88,7 +88,7 @@ pub data Stands (g : Tid) (past : CoordPast) (y : CoordHappening) (news : List C
       → Each (λ r. IsInitiation g r → ⊥) news → Stands g past y news
   Forgets : (decision : Decision) → standing past g ≡ Decided decision → begins g y.answer ≡ false → standing (y ∷ past) g ≡ Gone
       → is_nobody (missing (quiet y.event Say.Acked ∷ past) g decision) ≡ true → Each IsEnd news → ((site : SiteId) → has_acked (y ∷ past) g site ≡ has_acked (quiet y.event Say.Acked ∷ past) g site) → Stands g past y news
-  Restarts : begins g y.answer ≡ false → standing (y ∷ past) g ≡ kept_standing (records (y ∷ past)) g → ((site : SiteId) → has_acked (y ∷ past) g site ≡ false) → Stands g past y news
+  Restarts : begins g y.answer ≡ false → standing (y ∷ past) g ≡ kept_standing (records (y ∷ past)) g → ((site : SiteId) → has_acked (y ∷ past) g site ≡ false) → (stops y.answer || comes_up y.answer) ≡ true → Stands g past y news
 
 -- a Prepare is sent of an undecided attempt, with the epoch of its counted replies, and its Initiation stands on the disk
 pub record IsPreparing (g : Tid) (past : CoordPast) (y : CoordHappening) (site : SiteId) (e : ℕ) : Type 0 where

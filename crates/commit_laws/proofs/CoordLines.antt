@@ -1,5 +1,5 @@
 -- Every line of the coordinator, also one that a stop ends: what it leaves on the disk and what it does about one attempt.
-use Rattle.std.proofs.Common.{◌≡◌, ℕ, ◌⊎◌, inl, inr, Bool, true, false, nat_le, Option, Some, None, List, [], ◌∷◌, ◌++◌, take, length, refl, sym, ap, subst, ◌∙◌}
+use Rattle.std.proofs.Common.{◌≡◌, ℕ, ◌⊎◌, inl, inr, Bool, true, false, ◌||◌, nat_le, Option, Some, None, List, [], ◌∷◌, ◌++◌, take, length, refl, sym, ap, subst, ◌∙◌}
 use Rattle.mdb_base.specs.declared.names.SiteId.{SiteId}
 use Rattle.mdb_base.specs.declared.names.Tid.{Tid}
 use Rattle.mdb_base.specs.Words.{Each, Among, when}
@@ -11,7 +11,7 @@ use Rattle.fed_rules.specs.declared.events.CoordEvent.{CoordEvent}
 use Rattle.fed_rules.specs.declared.events.CoordEvent.TheVariants as Ev
 use Rattle.fed_rules.specs.declared.records.CoordRecord.{CoordRecord}
 use Rattle.fed_rules.specs.Disk.{Stops, after_calls}
-use Rattle.fed_rules.specs.Happenings.{Trip, is_down, quiet, stopped, tripped}
+use Rattle.fed_rules.specs.Happenings.{Trip, is_down, stops, comes_up, quiet, stopped, tripped}
 use Rattle.fed_rules.specs.Coord.{coord_line, answered, of_back}
 use Rattle.fed_rules.specs.CoordPast.{CoordHappening, CoordPast, disk, records, trip, standing, kept_standing, begins, counts, has_acked}
 use Rattle.fed_rules.specs.CoordRecords.{coord_frame}
@@ -29,7 +29,7 @@ Kept protocols g past event now = ((kept : List CoordRecord) × WroteAll protoco
 
 -- a line that a stop ends, or one that goes through
 pub data Stood (g : Tid) (past : CoordPast) (x : CoordHappening) : Type 0 where
-  Stopped : begins g x.answer ≡ false → standing (x ∷ past) g ≡ kept_standing (records (x ∷ past)) g → ((site : SiteId) → has_acked (x ∷ past) g site ≡ false) → Stood g past x
+  Stopped : begins g x.answer ≡ false → standing (x ∷ past) g ≡ kept_standing (records (x ∷ past)) g → ((site : SiteId) → has_acked (x ∷ past) g site ≡ false) → (stops x.answer || comes_up x.answer) ≡ true → Stood g past x
   Through : Stands g past x (appended x.calls []) → records (x ∷ past) ≡ appended x.calls [] ++ records past → Stood g past x
 
 pub record Line (protocols : List Participant) (g : Tid) (past : CoordPast) (event : CoordEvent) (x : CoordHappening) : Type 0 where
@@ -76,7 +76,7 @@ stops-here protocols g past event y k cut f s =
       is = s.is;
       firm = l.firm;
       kept = keeps-written protocols g past event (appended y.calls []) (after_calls coord_frame (disk past) (take k y.calls ++ Stops cut ∷ [])).records s.wrote l.keeps;
-      stood = Stopped refl refl (λ site. refl);
+      stood = Stopped refl refl (λ site. refl) refl;
       tells = tt;
       counted = (λ e. cc);
       committed = tt;

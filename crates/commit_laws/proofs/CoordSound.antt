@@ -51,9 +51,13 @@ IsMark g (Rec.Commit tid tickets) = tid ≡ g
 IsMark g (Rec.End tid) = tid ≡ g
 IsMark g kept = ⊥
 
+-- the site is declared, with its protocol
+abbrev pub Declared : Scenario → Home → Type 0
+Declared scenario home = Among (λ m. (m.site ≡ home.site) × (m.protocol ≡ home.protocol)) (protocols scenario)
+
 -- where the site is a participant that acknowledges the outcome, its acknowledgement was taken
-abbrev pub IsClear : Home → Tid → CoordPast → Type 0
-IsClear home g past = acks home.protocol (outcome (records past) g) ≡ true → visits home.site (program past g) ≡ true → IsAcked past g home.site
+abbrev pub IsClear : Scenario → Home → Tid → CoordPast → Type 0
+IsClear scenario home g past = Declared scenario home → acks home.protocol (outcome (records past) g) ≡ true → visits home.site (program past g) ≡ true → IsAcked past g home.site
 
 pub record CoordSound (scenario : Scenario) (home : Home) (g : Tid) (past : CoordPast) : Type 0 where
   pub firm : IsFirm coord_frame IsEnd (disk past)
@@ -63,9 +67,9 @@ pub record CoordSound (scenario : Scenario) (home : Home) (g : Tid) (past : Coor
   pub marked : Among (IsMark g) (records past) → IsBegun past g × (IsOpen past g → ⊥)
   pub initiated : (ms : List Participant) → Among (IsInitiationOf g ms) (records past) → IsBegun past g × (ms ≡ participants (protocols scenario) past g)
   pub decided : (d : Decision) → standing past g ≡ Decided d → IsBegun past g × (d ≡ outcome (records past) g)
-  pub voted : Among (IsCommit g) (records past) → visits home.site (program past g) ≡ true → Among (λ x. IsYes g home.site x.event) past
-  pub ended : Among (IsEndOf g) (records past) → IsClear home g past
-  pub gone : standing past g ≡ Gone → Among (IsInitiation g) (records past) → IsClear home g past
+  pub voted : Declared scenario home → Among (IsCommit g) (records past) → visits home.site (program past g) ≡ true → Among (λ x. IsYes g home.site x.event) past
+  pub ended : Among (IsEndOf g) (records past) → IsClear scenario home g past
+  pub gone : standing past g ≡ Gone → Among (IsInitiation g) (records past) → IsClear scenario home g past
   pub waits : (d : Decision) → standing past g ≡ Decided d → is_nobody (missing past g d) ≡ false
 
 -- what holds of a kept record holds of an old one, or of one that the line appended
@@ -137,21 +141,21 @@ decided-not-open false d h = cc
 
 -- an attempt that is open behind a line begins in it, or was open before
 pub still-open : (g : Tid) (past : CoordPast) (x : CoordHappening) → Stood g past x → IsOpen (x ∷ past) g → (begins g x.answer ≡ true) ⊎ IsOpen past g
-still-open g past x (Stopped b e a) h = absurd (kept-not-open (records (x ∷ past)) g (ap is_undecided (sym e) ∙ h))
+still-open g past x (Stopped b e a s) h = absurd (kept-not-open (records (x ∷ past)) g (ap is_undecided (sym e) ∙ h))
 still-open g past x (Through (Same e b u a) r) h = inr (ap is_undecided (sym e) ∙ h)
 still-open g past x (Through (Starts b e n steps v) r) h = inl b
 still-open g past x (Through (Decides d f o b e n by a i) r) h = absurd (decided-not-open f d (ap is_undecided (sym e) ∙ h))
 still-open g past x (Through (Forgets d o b e n ends a) r) h = let t : is_undecided Gone ≡ true = ap is_undecided (sym e) ∙ h in cc
-still-open g past x (Through (Restarts b e a) r) h = absurd (kept-not-open (records (x ∷ past)) g (ap is_undecided (sym e) ∙ h))
+still-open g past x (Through (Restarts b e a s) r) h = absurd (kept-not-open (records (x ∷ past)) g (ap is_undecided (sym e) ∙ h))
 
 -- a line that begins the attempt is its `go`
 pub begins-go : (g : Tid) (past : CoordPast) (x : CoordHappening) → Stood g past x → begins g x.answer ≡ true → (steps : List Step) × (x.event ≡ Ev.Go g steps)
-begins-go g past x (Stopped b e a) h = cc
+begins-go g past x (Stopped b e a s) h = cc
 begins-go g past x (Through (Same e b u a) r) h = cc
 begins-go g past x (Through (Starts b e n steps v) r) h = (steps, v)
 begins-go g past x (Through (Decides d f o b e n by a i) r) h = cc
 begins-go g past x (Through (Forgets d o b e n ends a) r) h = cc
-begins-go g past x (Through (Restarts b e a) r) h = cc
+begins-go g past x (Through (Restarts b e a s) r) h = cc
 
 -- a line about an attempt that was begun before
 pub program-stays : (g : Tid) (past : CoordPast) (x : CoordHappening) → begins g x.answer ≡ false → program (x ∷ past) g ≡ program past g

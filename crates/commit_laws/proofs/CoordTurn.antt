@@ -35,7 +35,7 @@ use Rattle.commit_laws.proofs.CoordFacts.{IsOpen, IsInitiation, IsUnmarked, IsUn
 use Rattle.commit_laws.proofs.CoordLines.{Kept, Stood, Stopped, Through, Line}
 use Rattle.commit_laws.proofs.CoordLists.{IsInitiationOf, IsEndOf, same-of, commit-among, among-commit, end-among, initiation-of, among-initiated, initiation-is, some-initiation, initiated-behind, outcome-behind, outcome-is, ends-uncommitted, ends-uninitiated, decided-outcome, those-among, nobody-none, is-required}
 use Rattle.fed_rules.specs.Happenings.{quiet}
-use Rattle.commit_laws.proofs.CoordSound.{IsBegun, IsYes, IsAcked, IsMark, IsClear, CoordSound, kept-from, kept-stays, end-commit, end-initiation, end-initiation-of, commit-mark, end-mark, written-commit, written-initiation, kept-not-open, decided-not-open, still-open, begins-go, program-stays}
+use Rattle.commit_laws.proofs.CoordSound.{Declared, IsBegun, IsYes, IsAcked, IsMark, IsClear, CoordSound, kept-from, kept-stays, end-commit, end-initiation, end-initiation-of, commit-mark, end-mark, written-commit, written-initiation, kept-not-open, decided-not-open, still-open, begins-go, program-stays}
 use Rattle.commit_laws.proofs.Taken.{acked-taken, vote-taken, each-of-at}
 
 -- the next line of a coordinator of which the invariant holds
@@ -43,7 +43,6 @@ pub record Turn (scenario : Scenario) (home : Home) (g : Tid) (past : CoordPast)
   pub sound : CoordSound scenario home g past
   pub line : Line (protocols scenario) g past event x
   pub begun : (steps : List Step) → event ≡ Ev.Go g steps → (g.attempt ≡ attempts_of past g.tx) × IsGlobal scenario g
-  pub declared : Among (λ m. (m.site ≡ home.site) × (m.protocol ≡ home.protocol)) (protocols scenario)
 
 -- a line that begins the attempt is of a new one
 pub begins-new : (scenario : Scenario) (home : Home) (g : Tid) (past : CoordPast) (event : CoordEvent) (x : CoordHappening) → Turn scenario home g past event x → begins g x.answer ≡ true → (g.attempt ≡ attempts_of past g.tx) × IsGlobal scenario g
@@ -155,7 +154,7 @@ turn-marked scenario home g past event x t m = (
   (λ h. by_stood t.line.stood h),
 ) where
   by_stood : Stood g past x → IsOpen (x ∷ past) g → ⊥
-  by_stood (Stopped b e a) h = kept-not-open (records (x ∷ past)) g (ap is_undecided (sym e) ∙ h)
+  by_stood (Stopped b e a stop) h = kept-not-open (records (x ∷ past)) g (ap is_undecided (sym e) ∙ h)
   by_stood (Through (Same e b u a) r) h = elim (among-split (IsMark g) (appended x.calls []) (records past) (subst (Among (IsMark g)) r m)) [
     | inl i ↦ each-not (IsUnmarked g) (IsMark g) (unmarked g) (appended x.calls []) u i
     | inr i ↦ (t.sound.marked i).1 (ap is_undecided (sym e) ∙ h)
@@ -166,7 +165,7 @@ turn-marked scenario home g past event x t m = (
       let no : true ≡ false = sym b ∙ f in cc
   by_stood (Through (Decides d f o b e n by a i) r) h = decided-not-open f d (ap is_undecided (sym e) ∙ h)
   by_stood (Through (Forgets d o b e n ends a) r) h = let no : is_undecided Gone ≡ true = ap is_undecided (sym e) ∙ h in cc
-  by_stood (Through (Restarts b e a) r) h = kept-not-open (records (x ∷ past)) g (ap is_undecided (sym e) ∙ h)
+  by_stood (Through (Restarts b e a stop) r) h = kept-not-open (records (x ∷ past)) g (ap is_undecided (sym e) ∙ h)
 
 pub uncommitted-of : (scenario : Scenario) (home : Home) (g : Tid) (past : CoordPast) → CoordSound scenario home g past → IsOpen past g → has_commit (records past) g ≡ false
 uncommitted-of scenario home g past s o = by_test (has_commit (records past) g) refl where
@@ -188,7 +187,7 @@ turn-decided scenario home g past event x t d is = by_stood t.line.stood where
         let somebody = not-true (is_nobody (required (records (x ∷ past)) g (outcome (records (x ∷ past)) g))) (and_parts (not (has_end (records (x ∷ past)) g)) (not (is_nobody (required (records (x ∷ past)) g (outcome (records (x ∷ past)) g)))) k).1 in cc
 
   by_stood : Stood g past x → IsBegun (x ∷ past) g × (d ≡ outcome (records (x ∷ past)) g)
-  by_stood (Stopped b e a) = by_kept (is_kept (records (x ∷ past)) g) refl (sym e ∙ is)
+  by_stood (Stopped b e a stop) = by_kept (is_kept (records (x ∷ past)) g) refl (sym e ∙ is)
   by_stood (Through (Same e b u a) r) =
       let old = t.sound.decided d (sym e ∙ is) in
       (inr old.0, old.1 ∙ sym (same-outcome scenario home g past event x t (λ o. let no : is_undecided (Decided d) ≡ true = ap is_undecided (sym (sym e ∙ is)) ∙ o in cc)))
@@ -202,7 +201,7 @@ turn-decided scenario home g past event x t d is = by_stood t.line.stood where
     of_cond true h = cc
     of_cond false h = cc
   by_stood (Through (Forgets made o b e n ends a) r) = let no : Gone ≡ Decided d = sym e ∙ is in cc
-  by_stood (Through (Restarts b e a) r) = by_kept (is_kept (records (x ∷ past)) g) refl (sym e ∙ is)
+  by_stood (Through (Restarts b e a stop) r) = by_kept (is_kept (records (x ∷ past)) g) refl (sym e ∙ is)
 
 -- the site is a participant
 pub is-participant : (scenario : Scenario) (home : Home) (past : CoordPast) (g : Tid) → Among (λ m. (m.site ≡ home.site) × (m.protocol ≡ home.protocol)) (protocols scenario) → visits home.site (program past g) ≡ true → Among (λ m. (m.site ≡ home.site) × (m.protocol ≡ home.protocol)) (participants (protocols scenario) past g)
@@ -211,11 +210,11 @@ is-participant scenario home past g declared v =
     (λ m is. ap (λ s. visits s (program past g)) is.0 ∙ v) (protocols scenario) declared
 
 -- a commit was voted for by the site
-pub turn-voted : (scenario : Scenario) (home : Home) (g : Tid) (past : CoordPast) (event : CoordEvent) (x : CoordHappening) → Turn scenario home g past event x → Among (IsCommit g) (records (x ∷ past)) → visits home.site (program (x ∷ past) g) ≡ true → Among (λ y. IsYes g home.site y.event) (x ∷ past)
-turn-voted scenario home g past event x t m v = elim (kept-from (protocols scenario) g past event (records (x ∷ past)) (IsCommit g) t.line.kept m) [
+pub turn-voted : (scenario : Scenario) (home : Home) (g : Tid) (past : CoordPast) (event : CoordEvent) (x : CoordHappening) → Turn scenario home g past event x → Declared scenario home → Among (IsCommit g) (records (x ∷ past)) → visits home.site (program (x ∷ past) g) ≡ true → Among (λ y. IsYes g home.site y.event) (x ∷ past)
+turn-voted scenario home g past event x t declared m v = elim (kept-from (protocols scenario) g past event (records (x ∷ past)) (IsCommit g) t.line.kept m) [
   | inl i ↦
     let begun = (t.sound.marked (commit-mark g (records past) i)).0 in
-    inr (t.sound.voted i (ap (visits home.site) (sym (same-program scenario home g past event x t begun)) ∙ v))
+    inr (t.sound.voted declared i (ap (visits home.site) (sym (same-program scenario home g past event x t begun)) ∙ v))
   | inr (kept, w, e, i) ↦ by_commit (written-commit (protocols scenario) g past event kept w i)
 ] where
   by_commit : IsCommitting (protocols scenario) g past event → Among (λ y. IsYes g home.site y.event) (x ∷ past)
@@ -223,7 +222,7 @@ turn-voted scenario home g past event x t m v = elim (kept-from (protocols scena
       let visited = ap (visits home.site) (sym (same-program scenario home g past event x t (t.sound.undecided c.undecided))) ∙ v in
       let now : CoordPast = quiet event Say.Voted ∷ past in
       let voted = each-of-at (λ s. is_some (vote_at now g s)) home.site (λ k. (k.site ≡ home.site) × (k.protocol ≡ home.protocol)) (λ k is. is.0)
-          (participants (protocols scenario) past g) c.all (is-participant scenario home past g t.declared visited) in
+          (participants (protocols scenario) past g) c.all (is-participant scenario home past g declared visited) in
       elim (vote-taken now g home.site voted) [
         | inl y ↦ inl (y.0, t.line.is ∙ y.1)
         | inr i ↦ inr i

@@ -84,7 +84,7 @@ CoordCame scenario story event = Unit {0}
 
 -- what happens is the next line of this site, or of the coordinator, or is no line of them
 abbrev pub IsNext : Scenario → Home → Story → Happened → Type 0
-IsNext scenario home story (AtSite at x) = same_site at home.site ≡ true → (event : SiteEvent) × (x ≡ site_line home (past_of home.site story) event) × SiteCame scenario home.site story event
+IsNext scenario home story (AtSite at x) = home_of scenario home.site ≡ Some home → same_site at home.site ≡ true → (event : SiteEvent) × (x ≡ site_line home (past_of home.site story) event) × SiteCame scenario home.site story event
 IsNext scenario home story (AtCoordinator x) = (event : CoordEvent) × (x ≡ coord_line (protocols scenario) (coord_past story) event) × CoordCame scenario story event
 IsNext scenario home story (Nowhere answer) = Unit {0}
 
@@ -108,9 +108,9 @@ linked-pick scenario home story None none some p q = p
 linked-pick scenario home story (Some x) none some p q = q x refl
 
 -- the next event of a declared site
-at-home : (scenario : Scenario) (home : Home) (story : Story) (other : Home) (event : SiteEvent) → home_of scenario home.site ≡ Some home → home_of scenario other.site ≡ Some other → SiteCame scenario other.site story event → Linked scenario home story (at_site other story event)
-at-home scenario home story other event e f came = record {
-  next = (λ same.
+at-home : (scenario : Scenario) (home : Home) (story : Story) (other : Home) (event : SiteEvent) → home_of scenario other.site ≡ Some other → SiteCame scenario other.site story event → Linked scenario home story (at_site other story event)
+at-home scenario home story other event f came = record {
+  next = (λ e same.
       let p : other ≡ home = some-parts (sym f ∙ ap (home_of scenario) (same-site other.site home.site same) ∙ e) in
       (event, ap (λ h. site_line h (past_of h.site story) event) p, subst (λ h. SiteCame scenario h.site story event) p came));
 }
@@ -120,12 +120,12 @@ local-declared : (scenario : Scenario) (s : Option SiteId) (h : Home) → home_a
 local-declared scenario None h e = cc
 local-declared scenario (Some s) h e = home-again scenario s h e
 
-by-begin : (scenario : Scenario) (home : Home) (story : Story) (tx : Tx) → home_of scenario home.site ≡ Some home → Linked scenario home story (on_begin scenario story tx)
+by-begin : (scenario : Scenario) (home : Home) (story : Story) (tx : Tx) → Linked scenario home story (on_begin scenario story tx)
 unfolding on_begin begins_local
-by-begin scenario home story tx e =
+by-begin scenario home story tx =
     linked-pick scenario home story (local_home scenario tx) _ _ (nowhere scenario home story _) (λ other f.
     linked-when scenario home story _ _ _ (nowhere scenario home story _)
-    (at-home scenario home story other _ e (local-declared scenario (local_site scenario tx) other f) (other, f)))
+    (at-home scenario home story other _ (local-declared scenario (local_site scenario tx) other f) (other, f)))
 
 -- an event of the live attempt
 by-live : (scenario : Scenario) (home : Home) (story : Story) (other : Home) (tx : Tx) (next : Tid → Run → Happened) → ((tid : Tid) (run : Run) → Linked scenario home story (next tid run)) → Linked scenario home story (with_live other story tx next)
@@ -135,35 +135,35 @@ by-live scenario home story other tx next g =
     (linked-pick scenario home story _ _ _ (nowhere scenario home story _) (λ tid f.
     linked-pick scenario home story _ _ _ (nowhere scenario home story _) (λ run h. g tid run)))
 
-by-step : (scenario : Scenario) (home : Home) (story : Story) (tx : Tx) → home_of scenario home.site ≡ Some home → Linked scenario home story (on_step scenario story tx)
+by-step : (scenario : Scenario) (home : Home) (story : Story) (tx : Tx) → Linked scenario home story (on_step scenario story tx)
 unfolding on_step next_step
-by-step scenario home story tx e =
+by-step scenario home story tx =
     linked-pick scenario home story (local_home scenario tx) _ _ (nowhere scenario home story _) (λ other f.
     by-live scenario home story other tx _ (λ tid run.
     linked-pick scenario home story _ _ _ (nowhere scenario home story _) (λ step h.
-    at-home scenario home story other _ e (local-declared scenario (local_site scenario tx) other f) tt)))
+    at-home scenario home story other _ (local-declared scenario (local_site scenario tx) other f) tt)))
 
-by-commit : (scenario : Scenario) (home : Home) (story : Story) (tx : Tx) → home_of scenario home.site ≡ Some home → Linked scenario home story (on_commit scenario story tx)
+by-commit : (scenario : Scenario) (home : Home) (story : Story) (tx : Tx) → Linked scenario home story (on_commit scenario story tx)
 unfolding on_commit
-by-commit scenario home story tx e =
+by-commit scenario home story tx =
     linked-pick scenario home story (local_home scenario tx) _ _ (nowhere scenario home story _) (λ other f.
     by-live scenario home story other tx _ (λ tid run.
     linked-when scenario home story _ _ _ (nowhere scenario home story _)
-    (at-home scenario home story other _ e (local-declared scenario (local_site scenario tx) other f) tt)))
+    (at-home scenario home story other _ (local-declared scenario (local_site scenario tx) other f) tt)))
 
-by-abort : (scenario : Scenario) (home : Home) (story : Story) (tx : Tx) → home_of scenario home.site ≡ Some home → Linked scenario home story (on_abort scenario story tx)
+by-abort : (scenario : Scenario) (home : Home) (story : Story) (tx : Tx) → Linked scenario home story (on_abort scenario story tx)
 unfolding on_abort
-by-abort scenario home story tx e =
+by-abort scenario home story tx =
     linked-pick scenario home story (local_home scenario tx) _ _ (nowhere scenario home story _) (λ other f.
     by-live scenario home story other tx _ (λ tid run.
-    at-home scenario home story other _ e (local-declared scenario (local_site scenario tx) other f) tt))
+    at-home scenario home story other _ (local-declared scenario (local_site scenario tx) other f) tt))
 
-by-fate : (scenario : Scenario) (home : Home) (story : Story) (tx : Tx) → home_of scenario home.site ≡ Some home → Linked scenario home story (on_fate scenario story tx)
+by-fate : (scenario : Scenario) (home : Home) (story : Story) (tx : Tx) → Linked scenario home story (on_fate scenario story tx)
 unfolding on_fate
-by-fate scenario home story tx e =
+by-fate scenario home story tx =
     linked-pick scenario home story (local_home scenario tx) _ _
     (linked-pick scenario home story _ _ _ (nowhere scenario home story _) (λ steps f. at-coordinator scenario home story _ tt))
-    (λ other f. at-home scenario home story other _ e (local-declared scenario (local_site scenario tx) other f) tt)
+    (λ other f. at-home scenario home story other _ (local-declared scenario (local_site scenario tx) other f) tt)
 
 by-go : (scenario : Scenario) (home : Home) (story : Story) (tx : Tx) → Linked scenario home story (on_go scenario story tx)
 unfolding on_go begins_global
@@ -176,22 +176,22 @@ unfolding on_attempt
 by-attempt scenario home story tid event came =
     linked-when scenario home story _ _ _ (at-coordinator scenario home story event came) (nowhere scenario home story _)
 
-by-on_site : (scenario : Scenario) (home : Home) (story : Story) (s : SiteId) (event : SiteEvent) → home_of scenario home.site ≡ Some home → SiteCame scenario s story event → Linked scenario home story (on_site scenario story s event)
+by-on_site : (scenario : Scenario) (home : Home) (story : Story) (s : SiteId) (event : SiteEvent) → SiteCame scenario s story event → Linked scenario home story (on_site scenario story s event)
 unfolding on_site
-by-on_site scenario home story s event e came =
+by-on_site scenario home story s event came =
     linked-pick scenario home story (home_of scenario s) _ _ (nowhere scenario home story _) (λ other f.
-    at-home scenario home story other event e (home-again scenario s other f) (subst (λ at. SiteCame scenario at story event) (sym (its-site scenario s other f)) came))
+    at-home scenario home story other event (home-again scenario s other f) (subst (λ at. SiteCame scenario at story event) (sym (its-site scenario s other f)) came))
 
 pub item-in : {A : Type 0} (xs : List A) (n : ℕ) (x : A) → item_at xs n ≡ Some x → In x xs
 item-in [] n x e = cc
 item-in (y ∷ ys) zero x e = inl (some-parts e)
 item-in (y ∷ ys) (suc n) x e = inr (item-in ys n x e)
 
-by-give : (scenario : Scenario) (home : Home) (story : Story) (s : SiteId) (place : ℕ) → home_of scenario home.site ≡ Some home → Linked scenario home story (on_give scenario story s place)
+by-give : (scenario : Scenario) (home : Home) (story : Story) (s : SiteId) (place : ℕ) → Linked scenario home story (on_give scenario story s place)
 unfolding on_give
-by-give scenario home story s place e =
+by-give scenario home story s place =
     linked-pick scenario home story (item_at (sent_to s story) place) _ _ (nowhere scenario home story _) (λ message f.
-    by-on_site scenario home story s (Site_event.Give message) e (item-in (sent_to s story) place message f))
+    by-on_site scenario home story s (Site_event.Give message) (item-in (sent_to s story) place message f))
 
 by-take : (scenario : Scenario) (home : Home) (story : Story) (s : SiteId) (place : ℕ) → Linked scenario home story (on_take scenario story s place)
 unfolding on_take
@@ -199,25 +199,25 @@ by-take scenario home story s place =
     linked-pick scenario home story (item_at (sent_from s story) place) _ _ (nowhere scenario home story _) (λ message f.
     at-coordinator scenario home story (Coord_event.Take s message) (item-in (sent_from s story) place message f))
 
-by-actor : (scenario : Scenario) (home : Home) (story : Story) (actor : ℕ) (c : CoordEvent) (s : SiteEvent) → home_of scenario home.site ≡ Some home → CoordCame scenario story c → ((site : SiteId) → SiteCame scenario site story s) → Linked scenario home story (on_actor scenario story actor c s)
+by-actor : (scenario : Scenario) (home : Home) (story : Story) (actor : ℕ) (c : CoordEvent) (s : SiteEvent) → CoordCame scenario story c → ((site : SiteId) → SiteCame scenario site story s) → Linked scenario home story (on_actor scenario story actor c s)
 unfolding on_actor
-by-actor scenario home story zero c s e came there = at-coordinator scenario home story c came
-by-actor scenario home story (suc n) c s e came there = by-on_site scenario home story (record { 0 = suc n }) s e (there (record { 0 = suc n }))
+by-actor scenario home story zero c s came there = at-coordinator scenario home story c came
+by-actor scenario home story (suc n) c s came there = by-on_site scenario home story (record { 0 = suc n }) s (there (record { 0 = suc n }))
 
-pub linked : (scenario : Scenario) (home : Home) (story : Story) (command : Command) → home_of scenario home.site ≡ Some home → Linked scenario home story (happens scenario story command)
+pub linked : (scenario : Scenario) (home : Home) (story : Story) (command : Command) → Linked scenario home story (happens scenario story command)
 unfolding happens
-linked scenario home story (Cmd.Begin tx) e = by-begin scenario home story tx e
-linked scenario home story (Cmd.Step tx) e = by-step scenario home story tx e
-linked scenario home story (Cmd.Commit tx) e = by-commit scenario home story tx e
-linked scenario home story (Cmd.Abort tx) e = by-abort scenario home story tx e
-linked scenario home story (Cmd.Fate tx) e = by-fate scenario home story tx e
-linked scenario home story (Cmd.Go tx) e = by-go scenario home story tx
-linked scenario home story (Cmd.Again tid) e = by-attempt scenario home story tid _ tt
-linked scenario home story (Cmd.Late tid) e = by-attempt scenario home story tid _ tt
-linked scenario home story (Cmd.Give site place) e = by-give scenario home story site place e
-linked scenario home story (Cmd.Take site place) e = by-take scenario home story site place
-linked scenario home story (Cmd.Ask site tid) e = by-on_site scenario home story site _ e tt
-linked scenario home story (Cmd.Drop site tid) e = by-on_site scenario home story site _ e tt
-linked scenario home story (Cmd.Halt actor cut) e = by-actor scenario home story actor _ _ e tt (λ site. tt)
-linked scenario home story (Cmd.Trip actor calls cut) e = by-actor scenario home story actor _ _ e tt (λ site. tt)
-linked scenario home story (Cmd.Back actor) e = by-actor scenario home story actor _ _ e tt (λ site. tt)
+linked scenario home story (Cmd.Begin tx) = by-begin scenario home story tx
+linked scenario home story (Cmd.Step tx) = by-step scenario home story tx
+linked scenario home story (Cmd.Commit tx) = by-commit scenario home story tx
+linked scenario home story (Cmd.Abort tx) = by-abort scenario home story tx
+linked scenario home story (Cmd.Fate tx) = by-fate scenario home story tx
+linked scenario home story (Cmd.Go tx) = by-go scenario home story tx
+linked scenario home story (Cmd.Again tid) = by-attempt scenario home story tid _ tt
+linked scenario home story (Cmd.Late tid) = by-attempt scenario home story tid _ tt
+linked scenario home story (Cmd.Give site place) = by-give scenario home story site place
+linked scenario home story (Cmd.Take site place) = by-take scenario home story site place
+linked scenario home story (Cmd.Ask site tid) = by-on_site scenario home story site _ tt
+linked scenario home story (Cmd.Drop site tid) = by-on_site scenario home story site _ tt
+linked scenario home story (Cmd.Halt actor cut) = by-actor scenario home story actor _ _ tt (λ site. tt)
+linked scenario home story (Cmd.Trip actor calls cut) = by-actor scenario home story actor _ _ tt (λ site. tt)
+linked scenario home story (Cmd.Back actor) = by-actor scenario home story actor _ _ tt (λ site. tt)
