@@ -22,6 +22,7 @@ use Rattle.fed_rules.specs.SitePast.{SitePast, disk, records, epoch, is_closed}
 use Rattle.fed_rules.specs.SiteRecords.{Home, site_frame}
 use Rattle.rules_laws.specs.Durable.{IsFirm}
 use Rattle.commit_laws.specs.Records.{IsPrepared, IsEnded, IsLooseEnded}
+use Rattle.commit_laws.specs.Seals.{seals}
 use Rattle.commit_laws.proofs.CoordFacts.{IsOpen, IsInitiation}
 use Rattle.commit_laws.proofs.CoordSound.{IsBegun, CoordSound}
 use Rattle.commit_laws.proofs.Links.{IsGlobal}
@@ -65,9 +66,10 @@ pub record Agree (scenario : Scenario) (home : Home) (g : Tid) (past : CoordPast
   pub asked : In (From.Inquiry g) back → (e : ℕ) × (n : ℕ) × In (To.Prepare g e n) sent
   pub started : 1 ≤ epoch home here
   pub known : epoch_at past g home.site ≤ epoch home here
-  pub counted : (counted_at past g home.site ≡ []) ⊎ (1 ≤ epoch_at past g home.site)
+  pub counted : (counted_at past g home.site ≡ []) ⊎ ((1 ≤ epoch_at past g home.site) × (visits home.site (program past g) ≡ true))
   pub barred : IsGot g here → (epoch_at past g home.site < epoch home here) ⊎ (is_closed here g ≡ true)
   pub ended : (d : Decision) → Among (IsEnded g d) (records home here) → IsGot g here × (d ≡ outcome (Coordinator.records past) g)
   pub settled : (d : Decision) → Among (λ x. x.answer ≡ Say.Settles g d) here → IsGot g here × (d ≡ outcome (Coordinator.records past) g)
   pub prepared : (e : ℕ) → Among (IsPrepared g e) (records home here) → (n : ℕ) × In (To.Prepare g e n) sent
+  pub sealed : Among (λ x. seals g x ≡ true) here → (e : ℕ) × Among (IsPrepared g e) (records home here)
   pub tidy : IsTidy g (records home here)

@@ -26,7 +26,7 @@ use Rattle.fed_rules.specs.declared.records.CoordRecord.{CoordRecord}
 use Rattle.fed_rules.specs.declared.scenario.Scenario.{Scenario}
 use Rattle.fed_rules.specs.Coord.{did_counts, fits, protocol_of}
 use Rattle.fed_rules.specs.CoordPast as Coordinator
-use Rattle.fed_rules.specs.CoordPast.{CoordHappening, CoordPast, Standing, Decided, Gone, standing, is_undecided, begins, program, visits, counts, counted_at, last_epoch, epoch_at, outstanding}
+use Rattle.fed_rules.specs.CoordPast.{CoordHappening, CoordPast, Standing, Decided, Gone, standing, is_undecided, begins, program, visits, counts, counted_at, last_epoch, epoch_at, outstanding, outstanding_at}
 use Rattle.fed_rules.specs.CoordRecords.{outcome}
 use Rattle.fed_rules.specs.Scenarios.{protocols}
 use Rattle.fed_rules.specs.SitePast.{SitePast, epoch, is_closed}
@@ -35,7 +35,7 @@ use Rattle.commit_laws.proofs.Agree.{IsGot, IsOver, Prepares, Decides, Agree}
 use Rattle.commit_laws.proofs.CoordClear.{coord-turn}
 use Rattle.commit_laws.proofs.CoordFacts.{IsOpen, IsInitiation, IsDecidedBy, IsPreparing, IsTelling, Now, Known, Presumed, Says, Tells, Counted}
 use Rattle.commit_laws.proofs.CoordLists.{decided-outcome}
-use Rattle.commit_laws.proofs.CoordSound.{Declared, IsBegun, IsClear, kept-stays, end-initiation, decided-not-open}
+use Rattle.commit_laws.proofs.CoordSound.{Declared, IsBegun, IsClear, kept-stays, end-initiation, decided-not-open, program-stays}
 use Rattle.commit_laws.proofs.CoordTurn.{Turn, fresh, same-program, same-outcome, stays-closed, uncommitted-of}
 use Rattle.commit_laws.proofs.Links.{same-site}
 use Rattle.commit_laws.proofs.Lists.{among-split, among-left}
@@ -61,28 +61,36 @@ told-to protocols g past x site (s ∷ sends) m h i = by_test (same_site s.site 
   by_test true q (inr j) k = k j
   by_test false q j k = k j
 
+-- what is outstanding at a site is of a participant
+fits-visits : (past : CoordPast) (g : Tid) (site : SiteId) (n : ℕ) (reply : Reply) → fits (outstanding past g site) n reply ≡ true → visits site (program past g) ≡ true
+fits-visits past g site n reply f = by_test (visits site (program past g)) refl f where
+  by_test : (b : Bool) → visits site (program past g) ≡ b → fits (cond b (outstanding_at past g site) None) n reply ≡ true → visits site (program past g) ≡ true
+  by_test true e h = e
+  by_test false e h = cc
+
 -- a reply of the site that counts is of an open attempt, and names the known epoch where there is one
-reply-counts : (scenario : Scenario) (home : Home) (g : Tid) (past : CoordPast) (event : CoordEvent) (x : CoordHappening) (e n : ℕ) (reply : Reply) → Turn scenario home g past event x → x.event ≡ Coord_event.Take home.site (From.Did g e n reply) → counts x.answer ≡ true → IsOpen past g × (((epoch_at past g home.site == 0) || (e == epoch_at past g home.site)) ≡ true)
+reply-counts : (scenario : Scenario) (home : Home) (g : Tid) (past : CoordPast) (event : CoordEvent) (x : CoordHappening) (e n : ℕ) (reply : Reply) → Turn scenario home g past event x → x.event ≡ Coord_event.Take home.site (From.Did g e n reply) → counts x.answer ≡ true → IsOpen past g × (((epoch_at past g home.site == 0) || (e == epoch_at past g home.site)) ≡ true) × (visits home.site (program past g) ≡ true)
 reply-counts scenario home g past event x e n reply t is c =
     let counted = subst (Counted g past) (sym t.line.is ∙ is) (t.line.counted c) (same_tid-refl g) in
     let parts = and_parts (is_undecided (standing past g) && fits (outstanding past g home.site) n reply) ((epoch_at past g home.site == 0) || (e == epoch_at past g home.site)) counted in
-    ((and_parts (is_undecided (standing past g)) (fits (outstanding past g home.site) n reply) parts.0).0, parts.1)
+    let both = and_parts (is_undecided (standing past g)) (fits (outstanding past g home.site) n reply) parts.0 in
+    (both.0, parts.1, fits-visits past g home.site n reply both.1)
 
 -- the epoch of an attempt that isn't open stays
 epoch-stays : (scenario : Scenario) (home : Home) (g : Tid) (past : CoordPast) (event : CoordEvent) (x : CoordHappening) → Turn scenario home g past event x → IsBegun past g → (IsOpen past g → ⊥) → epoch_at (x ∷ past) g home.site ≡ epoch_at past g home.site
 epoch-stays scenario home g past event x t begun closed = by_count (counting past g home.site x) where
   by_count : Counting past g home.site x → epoch_at (x ∷ past) g home.site ≡ epoch_at past g home.site
-  by_count (Unchanged e) = ap last_epoch e
+  by_count (Unchanged b e) = ap last_epoch e
   by_count (Cleared b e) = let f = fresh scenario home g past event x t begun in let no : true ≡ false = sym b ∙ f in cc
-  by_count (Adds e n reply is c f) = absurd (closed (reply-counts scenario home g past event x e n reply t is c).0)
+  by_count (Adds b e n reply is c f) = absurd (closed (reply-counts scenario home g past event x e n reply t is c).0)
 
 -- and so does one that is known
 epoch-known : (scenario : Scenario) (home : Home) (g : Tid) (past : CoordPast) (event : CoordEvent) (x : CoordHappening) → Turn scenario home g past event x → IsBegun past g → 1 ≤ epoch_at past g home.site → epoch_at (x ∷ past) g home.site ≡ epoch_at past g home.site
 epoch-known scenario home g past event x t begun one = by_count (counting past g home.site x) where
   by_count : Counting past g home.site x → epoch_at (x ∷ past) g home.site ≡ epoch_at past g home.site
-  by_count (Unchanged e) = ap last_epoch e
+  by_count (Unchanged b e) = ap last_epoch e
   by_count (Cleared b e) = let f = fresh scenario home g past event x t begun in let no : true ≡ false = sym b ∙ f in cc
-  by_count (Adds e n reply is c f) = elim (or_cases (epoch_at past g home.site == 0) (e == epoch_at past g home.site) (reply-counts scenario home g past event x e n reply t is c).1) [
+  by_count (Adds b e n reply is c f) = elim (or_cases (epoch_at past g home.site == 0) (e == epoch_at past g home.site) (reply-counts scenario home g past event x e n reply t is c).1) [
     | inl none ↦ let zero_is : epoch_at past g home.site ≡ 0 = eqb-true (epoch_at past g home.site) 0 none in let no : ⊥ = omega (arith, zero_is, one) in absurd no
     | inr same ↦ f ∙ eqb-true e (epoch_at past g home.site) same
   ]
@@ -123,6 +131,7 @@ coord-next scenario home g past here sent back event x n = record {
   ended = (λ d m. let r = a.ended d m in (r.0, r.1 ∙ still r.0));
   settled = (λ d m. let r = a.settled d m in (r.0, r.1 ∙ still r.0));
   prepared = (λ e m. let r = a.prepared e m in (r.0, among-left (λ y. y ≡ To.Prepare g e r.0) sent (to_site home.site x.sends) r.1));
+  sealed = a.sealed;
   tidy = a.tidy;
 } where
   a : Agree scenario home g past here sent back
@@ -143,14 +152,20 @@ coord-next scenario home g past here sent back event x n = record {
   still got = sym (same-outcome scenario home g past event x t (got_decides got).closed)
 
   known : Counting past g home.site x → epoch_at (x ∷ past) g home.site ≤ epoch home here
-  known (Unchanged e) = let same : epoch_at (x ∷ past) g home.site ≡ epoch_at past g home.site = ap last_epoch e in let low = a.known in omega (arith, same, low)
+  known (Unchanged b e) = let same : epoch_at (x ∷ past) g home.site ≡ epoch_at past g home.site = ap last_epoch e in let low = a.known in omega (arith, same, low)
   known (Cleared b e) = let none : epoch_at (x ∷ past) g home.site ≡ 0 = ap last_epoch e in omega (arith, none)
-  known (Adds e k reply is c f) = let low = (a.replied e k reply (n.comes (From.Did g e k reply) (sym t.line.is ∙ is))).1 in omega (arith, f, low)
+  known (Adds b e k reply is c f) = let low = (a.replied e k reply (n.comes (From.Did g e k reply) (sym t.line.is ∙ is))).1 in omega (arith, f, low)
 
-  counted : Counting past g home.site x → (counted_at (x ∷ past) g home.site ≡ []) ⊎ (1 ≤ epoch_at (x ∷ past) g home.site)
-  counted (Unchanged e) = elim a.counted [ inl none ↦ inl (e ∙ none) | inr one ↦ inr (let same : epoch_at (x ∷ past) g home.site ≡ epoch_at past g home.site = ap last_epoch e in omega (arith, same, one)) ]
+  counted : Counting past g home.site x → (counted_at (x ∷ past) g home.site ≡ []) ⊎ ((1 ≤ epoch_at (x ∷ past) g home.site) × (visits home.site (program (x ∷ past) g) ≡ true))
+  counted (Unchanged b e) = elim a.counted [
+    | inl none ↦ inl (e ∙ none)
+    | inr (one, v) ↦ inr ((let same : epoch_at (x ∷ past) g home.site ≡ epoch_at past g home.site = ap last_epoch e in omega (arith, same, one)), ap (visits home.site) (program-stays g past x b) ∙ v)
+  ]
   counted (Cleared b e) = inl e
-  counted (Adds e k reply is c f) = inr (let low = (a.replied e k reply (n.comes (From.Did g e k reply) (sym t.line.is ∙ is))).0 in omega (arith, f, low))
+  counted (Adds b e k reply is c f) = inr (
+    (let low = (a.replied e k reply (n.comes (From.Did g e k reply) (sym t.line.is ∙ is))).0 in omega (arith, f, low)),
+    ap (visits home.site) (program-stays g past x b) ∙ (reply-counts scenario home g past event x e k reply t is c).2,
+  )
 
   preparing : (e k : ℕ) → In (To.Prepare g e k) (sent ++ to_site home.site x.sends) → Prepares home g (x ∷ past) e
   preparing e k i = elim (among-split (λ y. y ≡ To.Prepare g e k) sent (to_site home.site x.sends) i) [
@@ -174,7 +189,7 @@ coord-next scenario home g past here sent back event x n = record {
       epoch = p.epoch;
       counted = elim (counted (counting past g home.site x)) [
         | inl none ↦ absurd (ticket-counted (x ∷ past) g home.site p.ticketed none)
-        | inr one ↦ (let same = p.epoch in omega (arith, same, one))
+        | inr (one, v) ↦ (let same = p.epoch in omega (arith, same, one))
       ];
     }
 

@@ -28,6 +28,7 @@ use Rattle.fed_rules.specs.Site.{is_over}
 use Rattle.fed_rules.specs.SitePast.{SiteHappening, SitePast, disk, records, epoch, live, is_closed, decides_on, ends}
 use Rattle.fed_rules.specs.SiteRecords.{Home, Held, doubt_of, epoch_of}
 use Rattle.commit_laws.specs.Records.{IsPrepared, IsEnded, IsLooseEnded}
+use Rattle.commit_laws.specs.Seals.{seals}
 use Rattle.commit_laws.proofs.Agree.{IsGot, IsOver, Prepares, Decides, Agree}
 use Rattle.commit_laws.proofs.Lists.{among-split, among-left, cut-old, cut-stays}
 use Rattle.commit_laws.proofs.Links.{IsGlobal}
@@ -205,6 +206,7 @@ site-turn scenario home g past here sent back event x t = record {
     | inl i ↦ a.prepared e i
     | inr s ↦ (s.n, t.comes (To.Prepare g e s.n) s.taken)
   ]);
+  sealed = sealed;
   tidy = tidy t.line.kept;
 } where
   a : Agree scenario home g past here sent back
@@ -253,6 +255,10 @@ site-turn scenario home g past here sent back event x t = record {
       let s = subst (Settled home g here event) e t.line.settled (same_tid-refl g) in
       ((d, inl (t.line.is ∙ s.taken)), settles-right scenario home g past here sent back event d a t.comes s)
   settled d (inr i) = let r = a.settled d i in ((r.0.0, inr r.0.1), r.1)
+
+  sealed : Among (λ y. seals g y ≡ true) (x ∷ here) → (e : ℕ) × Among (IsPrepared g e) (records home (x ∷ here))
+  sealed (inl e) = let s = t.line.seals e in (s.0, s.2)
+  sealed (inr i) = let r = a.sealed i in (r.0, site-stays home g here event (records home (x ∷ here)) (IsPrepared g r.0) (loose-prepared home.protocol g r.0) t.line.kept r.1)
 
   free : (e : ℕ) → IsSealing home g here event e → Free g (records home here)
   free e s = record {

@@ -32,6 +32,7 @@ use Rattle.commit_laws.specs.Records.{IsEnd, IsLooseEnded}
 use Rattle.commit_laws.proofs.Agree.{Agree}
 use Rattle.commit_laws.proofs.AgreeCoord.{CoordNext, coord-next}
 use Rattle.commit_laws.proofs.AgreeSite.{SiteTurn, site-turn}
+use Rattle.commit_laws.proofs.CoordClear.{coord-turn}
 use Rattle.commit_laws.proofs.CoordLines.{coord-lines}
 use Rattle.commit_laws.proofs.CoordSound.{CoordSound}
 use Rattle.commit_laws.proofs.CoordTurn.{Turn}
@@ -46,7 +47,7 @@ empty-firm : {R : Type 0} (size : R → ℕ) (Loose : R → Type 0) → IsFirm s
 empty-firm size Loose = record { sound = record { frames = omega arith; synced = omega arith }; loose = tt }
 
 -- before the first command
-coord-first : (scenario : Scenario) (home : Home) (g : Tid) → CoordSound scenario home g []
+pub coord-first : (scenario : Scenario) (home : Home) (g : Tid) → CoordSound scenario home g []
 coord-first scenario home g = record {
   firm = empty-firm coord_frame IsEnd;
   numbered = (λ b. absurd b);
@@ -81,6 +82,7 @@ first scenario home g = record {
   ended = (λ d m. elim m [ inl e ↦ absurd e | inr i ↦ elim i [ inl e ↦ absurd e | inr j ↦ absurd j ] ]);
   settled = (λ d m. absurd m);
   prepared = (λ e m. elim m [ inl f ↦ absurd f | inr i ↦ elim i [ inl f ↦ absurd f | inr j ↦ absurd j ] ]);
+  sealed = (λ m. absurd m);
   tidy = ((λ e p. absurd p), ((λ e p. absurd p), tt));
 }
 
@@ -101,7 +103,7 @@ not-begun scenario site story g (Ev.Halt cut) came global = tt
 not-begun scenario site story g (Ev.Trip calls cut) came global = tt
 not-begun scenario site story g Ev.Back came global = tt
 
-at-site : (scenario : Scenario) (home : Home) (g : Tid) (story : Story) (event : SiteEvent) → SiteCame scenario home.site story event → Agree scenario home g (coord_past story) (past_of home.site story) (sent_to home.site story) (sent_from home.site story) → SiteTurn scenario home g (coord_past story) (past_of home.site story) (sent_to home.site story) (sent_from home.site story) event (site_line home (past_of home.site story) event)
+pub at-site : (scenario : Scenario) (home : Home) (g : Tid) (story : Story) (event : SiteEvent) → SiteCame scenario home.site story event → Agree scenario home g (coord_past story) (past_of home.site story) (sent_to home.site story) (sent_from home.site story) → SiteTurn scenario home g (coord_past story) (past_of home.site story) (sent_to home.site story) (sent_from home.site story) event (site_line home (past_of home.site story) event)
 at-site scenario home g story event came a = record {
   agree = a;
   line = site-lines home g (past_of home.site story) event a.firm;
@@ -109,14 +111,18 @@ at-site scenario home g story event came a = record {
   global = not-begun scenario home.site story g event came;
 }
 
+-- the next line of the coordinator
+pub turn : (scenario : Scenario) (home : Home) (g : Tid) (story : Story) (event : CoordEvent) → CoordCame scenario story event → CoordSound scenario home g (coord_past story) → Turn scenario home g (coord_past story) event (coord_line (protocols scenario) (coord_past story) event)
+turn scenario home g story event came s = record {
+  sound = s;
+  line = coord-lines (protocols scenario) g (coord_past story) event s.firm;
+  begun = (λ steps e. let c = subst (CoordCame scenario story) e came in (c.0, (steps, c.1)));
+}
+
 at-coordinator : (scenario : Scenario) (home : Home) (g : Tid) (story : Story) (event : CoordEvent) → home_of scenario home.site ≡ Some home → CoordCame scenario story event → Agree scenario home g (coord_past story) (past_of home.site story) (sent_to home.site story) (sent_from home.site story) → CoordNext scenario home g (coord_past story) (past_of home.site story) (sent_to home.site story) (sent_from home.site story) event (coord_line (protocols scenario) (coord_past story) event)
 at-coordinator scenario home g story event declared came a = record {
   agree = a;
-  turn = record {
-    sound = a.sound;
-    line = coord-lines (protocols scenario) g (coord_past story) event a.sound.firm;
-    begun = (λ steps e. let c = subst (CoordCame scenario story) e came in (c.0, (steps, c.1)));
-  };
+  turn = turn scenario home g story event came a.sound;
   comes = (λ m e. subst (CoordCame scenario story) e came);
   declared = (is-declared scenario home.site home declared).0;
   protocol = (is-declared scenario home.site home declared).1;
@@ -149,3 +155,17 @@ agreed scenario home g (command ∷ commands) declared =
     next scenario home g (story_of scenario commands) (happens scenario (story_of scenario commands) command) declared
     (linked scenario home (story_of scenario commands) command)
     (agreed scenario home g commands declared)
+
+-- the coordinator's part holds for any site, also for one that isn't declared
+pub coord-sound : (scenario : Scenario) (home : Home) (g : Tid) (commands : List Command) → CoordSound scenario home g (coord_past (story_of scenario commands))
+coord-sound scenario home g [] = coord-first scenario home g
+coord-sound scenario home g (command ∷ commands) =
+    more (happens scenario (story_of scenario commands) command) (linked scenario home (story_of scenario commands) command) (coord-sound scenario home g commands)
+  where
+    more : (happened : Happened) → Linked scenario home (story_of scenario commands) happened → CoordSound scenario home g (coord_past (story_of scenario commands)) → CoordSound scenario home g (with_coordinator happened (coord_past (story_of scenario commands)))
+    more (Nowhere answer) l s = s
+    more (AtSite at x) l s = s
+    more (AtCoordinator x) l s =
+        let (event, is, came) = l.next in
+        subst (λ y. CoordSound scenario home g (y ∷ coord_past (story_of scenario commands))) (sym is)
+        (coord-turn scenario home g (coord_past (story_of scenario commands)) event (coord_line (protocols scenario) (coord_past (story_of scenario commands)) event) (turn scenario home g (story_of scenario commands) event came s))

@@ -80,9 +80,9 @@ each-of-at test site P k (x ∷ ms) e (inr m) = each-of-at test site P k ms (and
 
 -- what a line does to the counted replies of a site
 pub data Counting (past : CoordPast) (g : Tid) (site : SiteId) (x : CoordHappening) : Type 0 where
-  Unchanged : counted_at (x ∷ past) g site ≡ counted_at past g site → Counting past g site x
+  Unchanged : begins g x.answer ≡ false → counted_at (x ∷ past) g site ≡ counted_at past g site → Counting past g site x
   Cleared : begins g x.answer ≡ true → counted_at (x ∷ past) g site ≡ [] → Counting past g site x
-  Adds : (e n : ℕ) (reply : Reply) → x.event ≡ Ev.Take site (From.Did g e n reply) → counts x.answer ≡ true → epoch_at (x ∷ past) g site ≡ e → Counting past g site x
+  Adds : begins g x.answer ≡ false → (e n : ℕ) (reply : Reply) → x.event ≡ Ev.Take site (From.Did g e n reply) → counts x.answer ≡ true → epoch_at (x ∷ past) g site ≡ e → Counting past g site x
 
 same-reply : (g : Tid) (site : SiteId) (event : CoordEvent) (c : Past.Counted) → did_in g event ≡ Some c → same_site c.site site ≡ true → (n : ℕ) × (reply : Reply) × (event ≡ Ev.Take site (From.Did g c.epoch n reply))
 same-reply g site (Ev.Take from (From.Did tid e n reply)) c h s = by_test (same_tid tid g) refl h where
@@ -114,13 +114,13 @@ counting past g site x = by_test (begins g x.answer) (counts x.answer) (did_in g
       ∙ ap₂ (λ u w. those (λ c. same_site c.site site) (cond b [] (cond u (with_some w (counted past g)) (counted past g)))) f h
 
   by_site : (c : Past.Counted) (s : Bool) → same_site c.site site ≡ s → begins g x.answer ≡ false → counts x.answer ≡ true → did_in g x.event ≡ Some c → counted_at (x ∷ past) g site ≡ cond s (c ∷ counted_at past g site) (counted_at past g site) → Counting past g site x
-  by_site c true s e f h all = let r = same-reply g site x.event c h s in Adds c.epoch r.0 r.1 r.2 f (ap last_epoch all)
-  by_site c false s e f h all = Unchanged all
+  by_site c true s e f h all = let r = same-reply g site x.event c h s in Adds e c.epoch r.0 r.1 r.2 f (ap last_epoch all)
+  by_site c false s e f h all = Unchanged e all
 
   by_test : (b k : Bool) (o : Option Past.Counted) → begins g x.answer ≡ b → counts x.answer ≡ k → did_in g x.event ≡ o → Counting past g site x
   by_test true k o e f h = Cleared e (whole true k o e f h)
-  by_test false false o e f h = Unchanged (whole false false o e f h)
-  by_test false true None e f h = Unchanged (whole false true None e f h)
+  by_test false false o e f h = Unchanged e (whole false false o e f h)
+  by_test false true None e f h = Unchanged e (whole false true None e f h)
   by_test false true (Some c) e f h = by_site c (same_site c.site site) refl e f h (whole false true (Some c) e f h)
 
 -- where a ticket counted, a reply did
