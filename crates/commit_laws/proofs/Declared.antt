@@ -13,7 +13,7 @@ use Rattle.fed_rules.specs.Scenarios.{home_in, home_of, items_of, protocols_in, 
 use Rattle.fed_rules.specs.SiteRecords.{Home}
 use Rattle.commit_laws.proofs.Links.{some-parts, same-site, same-site-refl}
 
-abbrev by_site : Participant → Participant → Bool
+abbrev pub by_site : Participant → Participant → Bool
 by_site a b = nat_lt a.site.0 b.site.0
 
 abbrev Is : SiteId → Protocol → Participant → Type 0

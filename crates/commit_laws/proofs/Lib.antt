@@ -24,3 +24,6 @@ pub mod AgreeSite
 pub mod AgreeCoord
 pub mod Declared
 pub mod Agreed
+pub mod OutcomeLaws
+pub mod PreparedLaws
+pub mod SealProofs
