@@ -197,7 +197,7 @@ turn-gone scenario home g past event x t is m = by_stood t.line.stood where
   by_stood (Through (Restarts b e a stop) r) = by_kept (has_end (records (x ∷ past)) g) (is_nobody (required (records (x ∷ past)) g (outcome (records (x ∷ past)) g))) refl refl (sym e ∙ is)
 
 -- what was initiated of an attempt that isn't open stays
-initiated-stays : (scenario : Scenario) (home : Home) (g : Tid) (past : CoordPast) (event : CoordEvent) (x : CoordHappening) → Turn scenario home g past event x → (IsOpen past g → ⊥) → initiated (records (x ∷ past)) g ≡ initiated (records past) g
+pub initiated-stays : (scenario : Scenario) (home : Home) (g : Tid) (past : CoordPast) (event : CoordEvent) (x : CoordHappening) → Turn scenario home g past event x → (IsOpen past g → ⊥) → initiated (records (x ∷ past)) g ≡ initiated (records past) g
 initiated-stays scenario home g past event x t closed = by_kept t.line.kept where
   uninitiated : (kept : List CoordRecord) → WroteAll (protocols scenario) g past event kept → Each (λ r. IsInitiation g r → ⊥) kept
   uninitiated [] w = tt
@@ -210,7 +210,7 @@ initiated-stays scenario home g past event x t closed = by_kept t.line.kept wher
   by_kept (inr (newer, each, e)) = sym (ap (λ rs. initiated rs g) e ∙ initiated-behind g newer (records (x ∷ past)) (ends-uninitiated g newer each))
 
 -- after a stop, a start or a decision all that is required is missing
-all-missing : (g : Tid) (past : CoordPast) (d : Decision) → ((site : SiteId) → has_acked past g site ≡ false) → missing past g d ≡ required (records past) g d
+pub all-missing : (g : Tid) (past : CoordPast) (d : Decision) → ((site : SiteId) → has_acked past g site ≡ false) → missing past g d ≡ required (records past) g d
 all-missing g past d a = those_all (λ m. not (has_acked past g m.site)) (required (records past) g d) (each_all (λ m. not (has_acked past g m.site) ≡ true) (λ m. ap not (a m.site)) (required (records past) g d))
 
 -- the coordinator knows a decided attempt only while a required acknowledgement is missing

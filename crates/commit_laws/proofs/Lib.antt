@@ -27,3 +27,4 @@ pub mod Agreed
 pub mod OutcomeLaws
 pub mod PreparedLaws
 pub mod SealProofs
+pub mod ForgettingProofs

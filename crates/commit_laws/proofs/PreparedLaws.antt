@@ -1,5 +1,6 @@
 -- A commit decision finds each participant prepared.
 use Rattle.std.proofs.Common.{◌≡◌, ℕ, ◌⊎◌, inl, inr, Bool, true, false, cond, Option, Some, None, List, [], ◌∷◌, refl, sym, ap, subst, ◌∙◌}
+use Rattle.mdb_base.specs.declared.names.Engine.TheVariants.{Locking}
 use Rattle.mdb_base.specs.declared.names.SiteId.{SiteId}
 use Rattle.mdb_base.specs.declared.names.Tid.{Tid}
 use Rattle.mdb_base.specs.Names.{same_site}
@@ -8,6 +9,7 @@ use Rattle.order_laws.specs.Chains.{In}
 use Rattle.order_laws.proofs.Lists.{among_is}
 use Rattle.presumptions.specs.declared.Decision.TheVariants as Decided
 use Rattle.presumptions.specs.declared.Participant.{Participant}
+use Rattle.presumptions.specs.declared.Protocol.TheVariants.{Nothing}
 use Rattle.fed_rules.specs.declared.answers.Answer.{Answer}
 use Rattle.fed_rules.specs.declared.answers.Answer.TheVariants as Say
 use Rattle.fed_rules.specs.declared.commands.Command.{Command}
@@ -63,7 +65,7 @@ committed-prepared scenario commands tid home declared m v =
     a.voted yes.0 (a.taken (From.Vote tid (Some yes.0)) yes.1)
 
 -- one of those passes the test and is one of them
-in-those : {A : Type 0} (test : A → Bool) (x : A) (xs : List A) → In x (those test xs) → (test x ≡ true) × In x xs
+pub in-those : {A : Type 0} (test : A → Bool) (x : A) (xs : List A) → In x (those test xs) → (test x ≡ true) × In x xs
 in-those test x [] i = absurd i
 in-those test x (y ∷ ys) i = by_test (test y) refl i (in-those test x ys) where
   by_test : (b : Bool) → test y ≡ b → In x (cond b (y ∷ those test ys) (those test ys)) → (In x (those test ys) → (test x ≡ true) × In x ys) → (test x ≡ true) × In x (y ∷ ys)
@@ -136,3 +138,11 @@ decided-commit scenario home (command ∷ commands) tid m =
         let (event, is, came) = l.next in
         subst (λ y. Among (IsCommit tid) (Coordinator.records (y ∷ past))) (sym is)
         (here event (turn scenario home tid (story_of scenario commands) event came (coord-sound scenario home tid commands)) (subst (λ y. Among (DecidesCommit tid) (y ∷ past)) is m) k)
+
+-- a home of no site
+pub nowhere : Home
+nowhere = record { site = record { 0 = 0 }; engine = Locking; protocol = Nothing; items = [] }
+
+pub commit-decisions-find-all-prepared : CommitDecisionsFindAllPrepared
+commit-decisions-find-all-prepared scenario commands tid m =
+    commit-records-find-all-prepared scenario commands tid (decided-commit scenario nowhere commands tid m)

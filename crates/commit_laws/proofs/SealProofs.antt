@@ -53,7 +53,7 @@ no-seal scenario commands home x tid event t got = by_test (seals tid x) refl wh
       absurd (bars scenario home tid (coord_past (story_of scenario commands)) (past_of home.site (story_of scenario commands)) (sent_to home.site (story_of scenario commands)) (sent_from home.site (story_of scenario commands)) event s.0 t.agree t.comes s.1 got)
 
 -- what is over isn't in doubt
-over-free : (scenario : Scenario) (commands : List Command) (home : Home) (tid : Tid) → home_of scenario home.site ≡ Some home → IsOver home tid (past_of home.site (story_of scenario commands)) → doubt_of (records home (past_of home.site (story_of scenario commands))) tid ≡ None
+pub over-free : (scenario : Scenario) (commands : List Command) (home : Home) (tid : Tid) → home_of scenario home.site ≡ Some home → IsOver home tid (past_of home.site (story_of scenario commands)) → doubt_of (records home (past_of home.site (story_of scenario commands))) tid ≡ None
 over-free scenario commands home tid declared over = by_doubt (doubt_of (records home (past_of home.site (story_of scenario commands))) tid) refl where
   by_doubt : (o : Option Held) → doubt_of (records home (past_of home.site (story_of scenario commands))) tid ≡ o → doubt_of (records home (past_of home.site (story_of scenario commands))) tid ≡ None
   by_doubt None e = e

@@ -43,12 +43,14 @@ ForgottenWhenNoneIsMissing =
     is_known (standing (x ∷ coord_past (story_of scenario commands)) tid) ≡ false →
     is_nobody (missing (x ∷ coord_past (story_of scenario commands)) tid (outcome (Coordinator.records (x ∷ coord_past (story_of scenario commands))) tid)) ≡ true
 
--- of an attempt that the coordinator doesn't know, every required participant has sent its acknowledgement
+-- of an attempt that the coordinator doesn't know, each site whose acknowledgement of the outcome is required has sent it
 abbrev pub ForgottenAreAcknowledged : Type 0
 ForgottenAreAcknowledged =
-    (scenario : Scenario) (commands : List Command) (tid : Tid) → standing (coord_past (story_of scenario commands)) tid ≡ Gone →
-    (member : Participant) → In member (required (coordinator_keeps scenario commands) tid (outcome (coordinator_keeps scenario commands) tid)) →
-    In (From.Ack tid) (sent_from member.site (story_of scenario commands))
+    (scenario : Scenario) (commands : List Command) (site : SiteId) (home : Home) → home_of scenario site ≡ Some home →
+    (tid : Tid) → standing (coord_past (story_of scenario commands)) tid ≡ Gone →
+    In (record { site = site; protocol = home.protocol })
+    (required (coordinator_keeps scenario commands) tid (outcome (coordinator_keeps scenario commands) tid)) →
+    In (From.Ack tid) (sent_from site (story_of scenario commands))
 
 -- the presumption of a site in doubt of an attempt that the coordinator doesn't know is the attempt's outcome
 abbrev pub PresumptionsAreRight : Type 0
