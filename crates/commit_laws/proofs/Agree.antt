@@ -18,6 +18,7 @@ use Rattle.fed_rules.specs.declared.scenario.Scenario.{Scenario}
 use Rattle.fed_rules.specs.CoordPast as Coordinator
 use Rattle.fed_rules.specs.CoordPast.{CoordPast, program, visits, counted_at, epoch_at}
 use Rattle.fed_rules.specs.CoordRecords.{outcome}
+use Rattle.fed_rules.specs.Happenings.{is_down}
 use Rattle.fed_rules.specs.SitePast.{SitePast, disk, records, epoch, is_closed}
 use Rattle.fed_rules.specs.SiteRecords.{Home, site_frame}
 use Rattle.rules_laws.specs.Durable.{IsFirm}
@@ -52,6 +53,13 @@ pub record Decides (home : Home) (g : Tid) (past : CoordPast) (here : SitePast) 
   pub closed : IsOpen past g → ⊥
   pub right : (d ≡ outcome (Coordinator.records past) g) ⊎ IsOver home g here
 
+-- what was sealed is prepared, or a stop took the record away: the site is down, or in a later epoch
+pub record HasSealed (home : Home) (g : Tid) (past : CoordPast) (here : SitePast) (sent : List ToSite) : Type 0 where
+  pub e : ℕ
+  pub n : ℕ
+  pub taken : In (To.Prepare g e n) sent
+  pub left : (((k : ℕ) × Among (IsPrepared g k) (records home here)) ⊎ (is_down here ≡ true)) ⊎ (epoch_at past g home.site < epoch home here)
+
 pub record Agree (scenario : Scenario) (home : Home) (g : Tid) (past : CoordPast) (here : SitePast) (sent : List ToSite) (back : List FromSite) : Type 0 where
   pub sound : CoordSound scenario home g past
   pub firm : IsFirm site_frame (IsLooseEnded home.protocol) (disk home here)
@@ -71,5 +79,5 @@ pub record Agree (scenario : Scenario) (home : Home) (g : Tid) (past : CoordPast
   pub ended : (d : Decision) → Among (IsEnded g d) (records home here) → IsGot g here × (d ≡ outcome (Coordinator.records past) g)
   pub settled : (d : Decision) → Among (λ x. x.answer ≡ Say.Settles g d) here → IsGot g here × (d ≡ outcome (Coordinator.records past) g)
   pub prepared : (e : ℕ) → Among (IsPrepared g e) (records home here) → (n : ℕ) × In (To.Prepare g e n) sent
-  pub sealed : Among (λ x. seals g x ≡ true) here → (e : ℕ) × Among (IsPrepared g e) (records home here)
+  pub sealed : Among (λ x. seals g x ≡ true) here → HasSealed home g past here sent
   pub tidy : IsTidy g (records home here)

@@ -31,7 +31,8 @@ use Rattle.fed_rules.specs.CoordRecords.{outcome}
 use Rattle.fed_rules.specs.Scenarios.{protocols}
 use Rattle.fed_rules.specs.SitePast.{SitePast, epoch, is_closed}
 use Rattle.fed_rules.specs.SiteRecords.{Home}
-use Rattle.commit_laws.proofs.Agree.{IsGot, IsOver, Prepares, Decides, Agree}
+use Rattle.commit_laws.specs.Seals.{seals}
+use Rattle.commit_laws.proofs.Agree.{IsGot, IsOver, Prepares, Decides, HasSealed, Agree}
 use Rattle.commit_laws.proofs.CoordClear.{coord-turn}
 use Rattle.commit_laws.proofs.CoordFacts.{IsOpen, IsInitiation, IsDecidedBy, IsPreparing, IsTelling, Now, Known, Presumed, Says, Tells, Counted}
 use Rattle.commit_laws.proofs.CoordLists.{decided-outcome}
@@ -131,7 +132,7 @@ coord-next scenario home g past here sent back event x n = record {
   ended = (λ d m. let r = a.ended d m in (r.0, r.1 ∙ still r.0));
   settled = (λ d m. let r = a.settled d m in (r.0, r.1 ∙ still r.0));
   prepared = (λ e m. let r = a.prepared e m in (r.0, among-left (λ y. y ≡ To.Prepare g e r.0) sent (to_site home.site x.sends) r.1));
-  sealed = a.sealed;
+  sealed = sealed;
   tidy = a.tidy;
 } where
   a : Agree scenario home g past here sent back
@@ -139,6 +140,18 @@ coord-next scenario home g past here sent back event x n = record {
 
   t : Turn scenario home g past event x
   t = n.turn
+
+  sealed : Among (λ y. seals g y ≡ true) here → HasSealed home g (x ∷ past) here (sent ++ to_site home.site x.sends)
+  sealed i =
+      let r = a.sealed i in
+      let p = a.preparing r.e r.n r.taken in
+      let same = epoch-known scenario home g past event x t p.begun (let e = p.epoch in let one = p.counted in omega (arith, e, one)) in
+      record {
+        e = r.e;
+        n = r.n;
+        taken = among-left (λ y. y ≡ To.Prepare g r.e r.n) sent (to_site home.site x.sends) r.taken;
+        left = elim r.left [ inl o ↦ inl o | inr less ↦ inr (omega (arith, same, less)) ];
+      }
 
   taken : (m : FromSite) → Among (λ y. y.event ≡ Coord_event.Take home.site m) (x ∷ past) → In m back
   taken m (inl e) = n.comes m (sym t.line.is ∙ e)

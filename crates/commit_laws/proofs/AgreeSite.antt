@@ -23,13 +23,13 @@ use Rattle.fed_rules.specs.declared.scenario.Scenario.{Scenario}
 use Rattle.fed_rules.specs.CoordPast as Coordinator
 use Rattle.fed_rules.specs.CoordPast.{CoordPast, epoch_at}
 use Rattle.fed_rules.specs.CoordRecords.{outcome}
-use Rattle.fed_rules.specs.Happenings.{comes_up}
+use Rattle.fed_rules.specs.Happenings.{stops, comes_up, is_down}
 use Rattle.fed_rules.specs.Site.{is_over}
 use Rattle.fed_rules.specs.SitePast.{SiteHappening, SitePast, disk, records, epoch, live, is_closed, decides_on, ends}
 use Rattle.fed_rules.specs.SiteRecords.{Home, Held, doubt_of, epoch_of}
 use Rattle.commit_laws.specs.Records.{IsPrepared, IsEnded, IsLooseEnded}
 use Rattle.commit_laws.specs.Seals.{seals}
-use Rattle.commit_laws.proofs.Agree.{IsGot, IsOver, Prepares, Decides, Agree}
+use Rattle.commit_laws.proofs.Agree.{IsGot, IsOver, Prepares, Decides, HasSealed, Agree}
 use Rattle.commit_laws.proofs.Lists.{among-split, among-left, cut-old, cut-stays}
 use Rattle.commit_laws.proofs.Links.{IsGlobal}
 use Rattle.commit_laws.proofs.SiteFacts.{IsSealing, IsSettling, IsAcking, Wrote, Says, Settled, NotBegun}
@@ -256,9 +256,30 @@ site-turn scenario home g past here sent back event x t = record {
       ((d, inl (t.line.is ∙ s.taken)), settles-right scenario home g past here sent back event d a t.comes s)
   settled d (inr i) = let r = a.settled d i in ((r.0.0, inr r.0.1), r.1)
 
-  sealed : Among (λ y. seals g y ≡ true) (x ∷ here) → (e : ℕ) × Among (IsPrepared g e) (records home (x ∷ here))
-  sealed (inl e) = let s = t.line.seals e in (s.0, s.2)
-  sealed (inr i) = let r = a.sealed i in (r.0, site-stays home g here event (records home (x ∷ here)) (IsPrepared g r.0) (loose-prepared home.protocol g r.0) t.line.kept r.1)
+  still_down : is_down here ≡ true → (b : Bool) → comes_up x.answer ≡ b → (is_down (x ∷ here) ≡ true) ⊎ (epoch_at past g home.site < epoch home (x ∷ here))
+  still_down d true u = let less = t.line.rises u in let low = a.known in inr (omega (arith, less, low))
+  still_down d false u = inl (by_stop (stops x.answer)) where
+    by_stop : (s : Bool) → cond s true (cond (comes_up x.answer) false (is_down here)) ≡ true
+    by_stop true = refl
+    by_stop false = ap (λ c. cond c false (is_down here)) u ∙ d
+
+  sealed : Among (λ y. seals g y ≡ true) (x ∷ here) → HasSealed home g past (x ∷ here) sent
+  sealed (inl e) =
+      let s = t.line.seals e in
+      record {
+        e = s.0;
+        n = s.1.n;
+        taken = t.comes (To.Prepare g s.0 s.1.n) s.1.taken;
+        left = elim s.2 [ inl p ↦ inl (inl (s.0, p)) | inr d ↦ inl (inr d) ];
+      }
+  sealed (inr i) =
+      let r = a.sealed i in
+      record { e = r.e; n = r.n; taken = r.taken; left = later r.left }
+    where
+      later : (((k : ℕ) × Among (IsPrepared g k) (records home here)) ⊎ (is_down here ≡ true)) ⊎ (epoch_at past g home.site < epoch home here) → (((k : ℕ) × Among (IsPrepared g k) (records home (x ∷ here))) ⊎ (is_down (x ∷ here) ≡ true)) ⊎ (epoch_at past g home.site < epoch home (x ∷ here))
+      later (inl (inl (k, p))) = inl (inl (k, site-stays home g here event (records home (x ∷ here)) (IsPrepared g k) (loose-prepared home.protocol g k) t.line.kept p))
+      later (inl (inr d)) = elim (still_down d (comes_up x.answer) refl) [ inl e ↦ inl (inr e) | inr less ↦ inr less ]
+      later (inr less) = inr (omega (arith, less, grows))
 
   free : (e : ℕ) → IsSealing home g here event e → Free g (records home here)
   free e s = record {

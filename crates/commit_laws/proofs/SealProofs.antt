@@ -6,6 +6,7 @@ use Rattle.mdb_base.specs.declared.names.Tid.{Tid}
 use Rattle.mdb_base.specs.Words.{Each, Among}
 use Rattle.order_laws.specs.Chains.{In}
 use Rattle.order_laws.proofs.Lists.{each_from, is_among}
+use Rattle.presumptions.specs.declared.Decision.{Decision}
 use Rattle.presumptions.specs.declared.Decision.TheVariants as Decided
 use Rattle.fed_rules.specs.declared.commands.Command.{Command}
 use Rattle.fed_rules.specs.declared.events.SiteEvent.{SiteEvent}
@@ -21,8 +22,8 @@ use Rattle.fed_rules.specs.Site.{site_line}
 use Rattle.fed_rules.specs.SitePast.{SiteHappening, SitePast, records, epoch, live, is_closed}
 use Rattle.fed_rules.specs.SiteRecords.{Home, Held, doubt_of}
 use Rattle.fed_rules.specs.Story.{Happened, AtSite, coord_past, past_of, sent_to, sent_from, happens, story_of}
-use Rattle.commit_laws.specs.Seals.{seals, NamesEpoch}
-use Rattle.commit_laws.specs.SealLaws.{IsNextAt, AttemptsAreSealedOnce, AcknowledgedAreNotInDoubt, AcknowledgedAreNotSealed, CommitsMeetNoLiveRun}
+use Rattle.commit_laws.specs.Seals.{seals, IsPrepareOf}
+use Rattle.commit_laws.specs.SealLaws.{IsNextAt, AttemptsAreSealedOnce, DecidedAreNotSealed, AcknowledgedAreNotInDoubt, AcknowledgedAreNotSealed, CommitsMeetNoLiveRun}
 use Rattle.commit_laws.proofs.Agree.{IsGot, IsOver, Agree}
 use Rattle.commit_laws.proofs.AgreeSite.{SiteTurn, bars}
 use Rattle.commit_laws.proofs.Agreed.{agreed, at-site}
@@ -62,11 +63,11 @@ over-free scenario commands home tid declared over = by_doubt (doubt_of (records
       let (d, m, f) = over.ended held.epoch p in
       tidy-doubt tid (records home (past_of home.site (story_of scenario commands))) held.epoch d (agreed scenario home tid commands declared).tidy p m
 
-sealed-once : (scenario : Scenario) (commands : List Command) (home : Home) → home_of scenario home.site ≡ Some home → (x : SiteHappening) → IsNextAt scenario commands home.site x → (tid : Tid) → seals tid x ≡ true → NamesEpoch (epoch home (past_of home.site (story_of scenario commands))) x.event × Each (λ y. seals tid y ≡ false) (past_of home.site (story_of scenario commands))
+sealed-once : (scenario : Scenario) (commands : List Command) (home : Home) → home_of scenario home.site ≡ Some home → (x : SiteHappening) → IsNextAt scenario commands home.site x → (tid : Tid) → seals tid x ≡ true → IsPrepareOf tid (epoch home (past_of home.site (story_of scenario commands))) x.event × Each (λ y. seals tid y ≡ false) (past_of home.site (story_of scenario commands))
 sealed-once scenario commands home declared x next tid e =
     let (event, t) = next-line scenario commands home declared x next tid in
     let s = t.line.seals e in
-    (subst (NamesEpoch (epoch home (past_of home.site (story_of scenario commands)))) (sym (t.line.is ∙ s.1.taken)) s.1.epoch,
+    (subst (IsPrepareOf tid (epoch home (past_of home.site (story_of scenario commands)))) (sym (t.line.is ∙ s.1.taken)) (refl, s.1.epoch),
     each_from (λ y. seals tid y ≡ false) (past_of home.site (story_of scenario commands)) (λ y i. by_test event t y i (seals tid y) refl))
   where
     by_test : (event : SiteEvent) → Next scenario commands home tid event x → (y : SiteHappening) → In y (past_of home.site (story_of scenario commands)) → (b : Bool) → seals tid y ≡ b → seals tid y ≡ false
@@ -74,14 +75,35 @@ sealed-once scenario commands home declared x next tid e =
     by_test event t y i true q =
         let sealed = t.agree.sealed (is_among (λ z. seals tid z ≡ true) y (past_of home.site (story_of scenario commands)) i q) in
         let s = (t.line.seals e).1 in
-        let ended = settled-ended tid (records home (past_of home.site (story_of scenario commands))) sealed.0 sealed.1 s.doubt in
-        let no = no-seal scenario commands home x tid event t (t.agree.ended ended.0 ended.1).0 in
-        let contra : true ≡ false = sym e ∙ no in cc
+        elim sealed.left [
+          | inl o ↦ elim o [
+            | inl (k, p) ↦
+              let ended = settled-ended tid (records home (past_of home.site (story_of scenario commands))) k p s.doubt in
+              let no = no-seal scenario commands home x tid event t (t.agree.ended ended.0 ended.1).0 in
+              let contra : true ≡ false = sym e ∙ no in cc
+            | inr down ↦ let up = s.up in let contra : true ≡ false = sym down ∙ up in cc
+          ]
+          | inr less ↦
+            let p = t.agree.preparing (t.line.seals e).0 s.n (t.comes (To.Prepare tid (t.line.seals e).0 s.n) s.taken) in
+            let named = p.epoch in
+            let here = s.epoch in
+            let no : ⊥ = omega (arith, less, named, here) in absurd no
+        ]
 
 pub attempts-are-sealed-once : AttemptsAreSealedOnce
 attempts-are-sealed-once scenario commands site home declared =
-    subst (λ s. (x : SiteHappening) → IsNextAt scenario commands s x → (tid : Tid) → seals tid x ≡ true → NamesEpoch (epoch home (past_of s (story_of scenario commands))) x.event × Each (λ y. seals tid y ≡ false) (past_of s (story_of scenario commands)))
+    subst (λ s. (x : SiteHappening) → IsNextAt scenario commands s x → (tid : Tid) → seals tid x ≡ true → IsPrepareOf tid (epoch home (past_of s (story_of scenario commands))) x.event × Each (λ y. seals tid y ≡ false) (past_of s (story_of scenario commands)))
     (its-site scenario site home declared) (sealed-once scenario commands home (home-again scenario site home declared))
+
+decided-next : (scenario : Scenario) (commands : List Command) (home : Home) → home_of scenario home.site ≡ Some home → (tid : Tid) (decision : Decision) → Among (λ y. y.event ≡ Ev.Give (To.Decide tid decision)) (past_of home.site (story_of scenario commands)) → (x : SiteHappening) → IsNextAt scenario commands home.site x → seals tid x ≡ false
+decided-next scenario commands home declared tid decision got x next =
+    let (event, t) = next-line scenario commands home declared x next tid in
+    no-seal scenario commands home x tid event t (decision, got)
+
+pub decided-are-not-sealed : DecidedAreNotSealed
+decided-are-not-sealed scenario commands site home declared =
+    subst (λ s. (tid : Tid) (decision : Decision) → Among (λ y. y.event ≡ Ev.Give (To.Decide tid decision)) (past_of s (story_of scenario commands)) → (x : SiteHappening) → IsNextAt scenario commands s x → seals tid x ≡ false)
+    (its-site scenario site home declared) (decided-next scenario commands home (home-again scenario site home declared))
 
 pub acknowledged-are-not-in-doubt : AcknowledgedAreNotInDoubt
 acknowledged-are-not-in-doubt scenario commands site home declared =

@@ -24,8 +24,9 @@ use Rattle.commit_laws.specs.Records.{IsPrepared, IsEnded, IsLooseEnded}
 use Rattle.commit_laws.specs.Seals.{seals}
 use Rattle.commit_laws.proofs.Disks.{appended, IsQuiet, IsCut}
 
--- the line seals the attempt: it isn't in doubt, its run is live, and the Prepare names the site's epoch
+-- the line seals the attempt: the site is up and not in doubt of it, its run is live, and the Prepare names the site's epoch
 pub record IsSealing (home : Home) (g : Tid) (past : SitePast) (event : SiteEvent) (e : ℕ) : Type 0 where
+  pub up : is_down past ≡ false
   pub n : ℕ
   pub taken : event ≡ Ev.Give (To.Prepare g e n)
   pub epoch : e ≡ epoch home past

@@ -33,7 +33,6 @@ use Rattle.fed_rules.specs.Site.{with_lines, next_number, of_begin, act_answer, 
 use Rattle.fed_rules.specs.SitePast.{SiteHappening, SitePast, records, epoch, epoch_start, engine_lines, live, live_one, ends, decides_on, is_closed, attempts_of, is_local, live_of_tx}
 use Rattle.fed_rules.specs.SiteRecords.{Home, Held, doubt_of, doubts, local_of}
 use Rattle.commit_laws.specs.Records.{IsPrepared, IsEnded}
-use Rattle.commit_laws.specs.Seals.{is_prepare_of, is_sealing, seals}
 use Rattle.commit_laws.proofs.SiteFacts.{IsSealing, IsSettling, IsAcking, Says, Settled, NotBegun, Shut, Step}
 use Rattle.commit_laws.proofs.SiteShut.{Leaves, leaves-shut, other-line, other-lines, this-line, given-up, sealed-now, shut-on, restored-sealed}
 
@@ -117,8 +116,8 @@ one-line home g past event run l s alive stays = by_test (same_tid (tid_of l) g)
   by_test true false q e = inr (inr (ap (λ b. b || false) (stays e), over_no (is_over home past g) refl q))
 
 -- a line that appends nothing and doesn't settle
-pub calm : (home : Home) (g : Tid) (past : SitePast) (event : SiteEvent) (answer : Answer) (sends : List FromSite) (lines : List EngineLine) → is_down past ≡ false → IsCalm answer → IsNoDecision event → Each (Says home g past (record { event = event; answer = answer; sends = sends; calls = []; lines = lines })) sends → (NotBegun g event → Shut home g past → Touches home g past event lines) → some_of (is_sealing g) lines ≡ false → Step home g past event (record { event = event; answer = answer; sends = sends; calls = []; lines = lines })
-calm home g past event answer sends lines up c n says touches unsealed = record {
+pub calm : (home : Home) (g : Tid) (past : SitePast) (event : SiteEvent) (answer : Answer) (sends : List FromSite) (lines : List EngineLine) → is_down past ≡ false → IsCalm answer → IsNoDecision event → Each (Says home g past (record { event = event; answer = answer; sends = sends; calls = []; lines = lines })) sends → (NotBegun g event → Shut home g past → Touches home g past event lines) → Step home g past event (record { event = event; answer = answer; sends = sends; calls = []; lines = lines })
+calm home g past event answer sends lines up c n says touches = record {
   is = refl;
   quiet = tt;
   wrote = tt;
@@ -127,12 +126,12 @@ calm home g past event answer sends lines up c n says touches unsealed = record 
       shut-on home g past _ (calm-stops answer c) (calm-up answer c) up
       (λ h. touches-shut home g past event lines s (touches nb s) (drop-first (decides_on g event) (some_of (ends g) lines) (is_closed past g) (is_some (doubt_of (records home past) g)) (undecided-event g event n) h)));
   settled = calm-settled home g past event answer c;
-  seals = (λ e. let no : true ≡ false = sym e ∙ and_right (is_prepare_of g event) (some_of (is_sealing g) lines) unsealed in cc);
+  seals = (λ e. cc);
   rises = (λ e. let f = calm-up answer c in cc);
 }
 
 pub quietly : (home : Home) (g : Tid) (past : SitePast) (event : SiteEvent) (answer : Answer) → is_down past ≡ false → IsCalm answer → IsNoDecision event → Step home g past event (quiet event answer)
-quietly home g past event answer up c n = calm home g past event answer [] [] up c n tt (λ nb s. no-lines home g past event) refl
+quietly home g past event answer up c n = calm home g past event answer [] [] up c n tt (λ nb s. no-lines home g past event)
 
 -- `begin`
 pub by-begin : (home : Home) (g : Tid) (past : SitePast) (tid : Tid) → is_down past ≡ false → Step home g past (Ev.Begin tid) (of_begin home past tid)
@@ -141,7 +140,7 @@ by-begin home g past tid up =
     step-pick home g past (Ev.Begin tid) _ _ _
     (λ e. step-pick home g past (Ev.Begin tid) _ _ _
     (λ f. calm home g past (Ev.Begin tid) (Say.Begun tid) [] (Begins tid (next_number home past) ∷ []) up tt tt tt
-    (λ nb s. inl (other-line (epoch_start home past) (engine_lines past) g (Begins tid (next_number home past)) nb)) refl)
+    (λ nb s. inl (other-line (epoch_start home past) (engine_lines past) g (Begins tid (next_number home past)) nb)))
     (λ a f. quietly home g past (Ev.Begin tid) (Say.Running a) up tt tt))
     (λ a e. quietly home g past (Ev.Begin tid) (Say.Committed a) up tt tt)
 
@@ -172,7 +171,7 @@ by-act home g past tid act up =
     (λ run e.
     calm home g past (Ev.Act tid act) (act_answer tid (reply_to home past run act) act) [] (Acts tid act (reply_to home past run act) ∷ []) up
     (act-calm tid (reply_to home past run act) act) tt tt
-    (λ nb s. one-line home g past (Ev.Act tid act) run (Acts tid act (reply_to home past run act)) s e (acts-stay g tid act (reply_to home past run act))) refl)
+    (λ nb s. one-line home g past (Ev.Act tid act) run (Acts tid act (reply_to home past run act)) s e (acts-stay g tid act (reply_to home past run act))))
 
 refusal-calm : (why : Why) → IsCalm (refusal_answer why)
 refusal-calm (Because.Die by) = tt
@@ -208,14 +207,14 @@ by-commit home g past tid up =
     step-pick home g past (Ev.Commit tid) _ _ _ (λ e. quietly home g past (Ev.Commit tid) Say.Idle up tt tt)
     (λ run e. step-pick home g past (Ev.Commit tid) _ _ _ (λ f. by-seals_local home g past tid run up)
     (λ why f. calm home g past (Ev.Commit tid) (refusal_answer why) [] (Refuses tid why ∷ []) up (refusal-calm why) tt tt
-    (λ nb s. one-line home g past (Ev.Commit tid) run (Refuses tid why) s e (λ u. cc)) refl))
+    (λ nb s. one-line home g past (Ev.Commit tid) run (Refuses tid why) s e (λ u. cc))))
 
 pub by-abort : (home : Home) (g : Tid) (past : SitePast) (tid : Tid) → is_down past ≡ false → Step home g past (Ev.Abort tid) (of_abort home past tid)
 unfolding of_abort
 by-abort home g past tid up =
     step-pick home g past (Ev.Abort tid) _ _ _ (λ e. quietly home g past (Ev.Abort tid) Say.Idle up tt tt)
     (λ run e. calm home g past (Ev.Abort tid) (Say.Aborted tid) [] (Aborts tid ∷ []) up tt tt tt
-    (λ nb s. one-line home g past (Ev.Abort tid) run (Aborts tid) s e (λ u. cc)) refl)
+    (λ nb s. one-line home g past (Ev.Abort tid) run (Aborts tid) s e (λ u. cc)))
 
 cond-calm : (b : Bool) → IsCalm (cond b Say.Unbegun Say.Ended)
 cond-calm true = tt
@@ -236,7 +235,7 @@ by-drop home g past tid up =
     step-when home g past (Ev.Drop tid) _ _ _ (λ b. quietly home g past (Ev.Drop tid) Say.Idle up tt tt)
     (λ b. step-pick home g past (Ev.Drop tid) _ _ _ (λ e. quietly home g past (Ev.Drop tid) Say.Idle up tt tt)
     (λ run e. calm home g past (Ev.Drop tid) (Say.Dropped tid) [] (Aborts tid ∷ []) up tt tt tt
-    (λ nb s. one-line home g past (Ev.Drop tid) run (Aborts tid) s e (λ u. cc)) refl))
+    (λ nb s. one-line home g past (Ev.Drop tid) run (Aborts tid) s e (λ u. cc))))
 
 pub by-ask : (home : Home) (g : Tid) (past : SitePast) (tid : Tid) → is_down past ≡ false → Step home g past (Ev.Ask tid) (of_ask home past tid)
 unfolding of_ask
@@ -244,4 +243,4 @@ by-ask home g past tid up =
     step-pick home g past (Ev.Ask tid) _ _ _ (λ e. quietly home g past (Ev.Ask tid) Say.Idle up tt tt)
     (λ held e. calm home g past (Ev.Ask tid) (Say.Asks tid) (From.Inquiry tid ∷ []) [] up tt tt
     ((λ q. of-same (λ u. (h : Held) × (doubt_of (records home past) u ≡ Some h)) tid g (held, e) q), tt)
-    (λ nb s. no-lines home g past (Ev.Ask tid)) refl)
+    (λ nb s. no-lines home g past (Ev.Ask tid)))

@@ -34,44 +34,44 @@ use Rattle.fed_rules.specs.Site.{with_lines, next_number, of_begin, act_answer, 
 use Rattle.fed_rules.specs.SitePast.{SiteHappening, SitePast, records, epoch, epoch_start, engine_lines, live, live_one, ends, decides_on, is_closed, attempts_of, is_local, live_of_tx}
 use Rattle.fed_rules.specs.SiteRecords.{Home, Held, doubt_of, doubts, local_of}
 use Rattle.commit_laws.specs.Records.{IsPrepared, IsEnded}
-use Rattle.commit_laws.specs.Seals.{is_sealing}
+use Rattle.commit_laws.specs.Seals.{seals}
 use Rattle.commit_laws.proofs.SiteFacts.{IsSealing, IsSettling, IsAcking, Says, Settled, NotBegun, Shut, Step}
 use Rattle.commit_laws.proofs.SiteShut.{Leaves, leaves-shut, other-line, other-lines, this-line, given-up, sealed-now, shut-on, restored-sealed}
 use Rattle.commit_laws.proofs.SiteRules.{step-when, step-pick, of-same, IsCalm, IsNoDecision, Touches, drop-unless, no-lines, one-line, calm, quietly, acts-stay, takes-stay}
 
 -- an operation's answer
-by-did : (home : Home) (g : Tid) (past : SitePast) (message : ToSite) (tid : Tid) (n : ℕ) (reply : Reply) (lines : List EngineLine) → is_down past ≡ false → IsNoDecision (Ev.Give message) → (Shut home g past → Touches home g past (Ev.Give message) lines) → some_of (is_sealing g) lines ≡ false → Step home g past (Ev.Give message) (did home past message tid n reply lines)
+by-did : (home : Home) (g : Tid) (past : SitePast) (message : ToSite) (tid : Tid) (n : ℕ) (reply : Reply) (lines : List EngineLine) → is_down past ≡ false → IsNoDecision (Ev.Give message) → (Shut home g past → Touches home g past (Ev.Give message) lines) → Step home g past (Ev.Give message) (did home past message tid n reply lines)
 unfolding did
-by-did home g past message tid n reply lines up nd touches unsealed =
-    calm home g past (Ev.Give message) (Say.Did tid reply) (From.Did tid (epoch home past) n reply ∷ []) lines up tt nd (refl, tt) (λ nb s. touches s) unsealed
+by-did home g past message tid n reply lines up nd touches =
+    calm home g past (Ev.Give message) (Say.Did tid reply) (From.Did tid (epoch home past) n reply ∷ []) lines up tt nd (refl, tt) (λ nb s. touches s)
 
 by-unknown : (home : Home) (g : Tid) (past : SitePast) (message : ToSite) (tid : Tid) (n : ℕ) → is_down past ≡ false → IsNoDecision (Ev.Give message) → Step home g past (Ev.Give message) (unknown home past message tid n)
 unfolding unknown
-by-unknown home g past message tid n up nd = by-did home g past message tid n Reply_is.Unknown [] up nd (λ s. no-lines home g past (Ev.Give message)) refl
+by-unknown home g past message tid n up nd = by-did home g past message tid n Reply_is.Unknown [] up nd (λ s. no-lines home g past (Ev.Give message))
 
 by-repeated : (home : Home) (g : Tid) (past : SitePast) (message : ToSite) (tid : Tid) (n : ℕ) (run : Run) → is_down past ≡ false → IsNoDecision (Ev.Give message) → Step home g past (Ev.Give message) (repeated home past message tid n run)
 unfolding repeated
 by-repeated home g past message tid n run up nd =
     step-when home g past (Ev.Give message) _ _ _
-    (λ b. by-did home g past message tid n (kept_reply run) [] up nd (λ s. no-lines home g past (Ev.Give message)) refl)
+    (λ b. by-did home g past message tid n (kept_reply run) [] up nd (λ s. no-lines home g past (Ev.Give message)))
     (λ b. by-unknown home g past message tid n up nd)
 
 by-next_work : (home : Home) (g : Tid) (past : SitePast) (message : ToSite) (tid : Tid) (n : ℕ) (act : PlainAct) (run : Run) → is_down past ≡ false → IsNoDecision (Ev.Give message) → live home past tid ≡ Some run → Step home g past (Ev.Give message) (next_work home past message tid n act run)
 unfolding next_work
 by-next_work home g past message tid n act run up nd alive =
     by-did home g past message tid n (reply_to home past run act) (Acts tid act (reply_to home past run act) ∷ []) up nd
-    (λ s. one-line home g past (Ev.Give message) run (Acts tid act (reply_to home past run act)) s alive (acts-stay g tid act (reply_to home past run act))) refl
+    (λ s. one-line home g past (Ev.Give message) run (Acts tid act (reply_to home past run act)) s alive (acts-stay g tid act (reply_to home past run act)))
 
 by-next_take : (home : Home) (g : Tid) (past : SitePast) (message : ToSite) (tid : Tid) (n : ℕ) (run : Run) → is_down past ≡ false → IsNoDecision (Ev.Give message) → live home past tid ≡ Some run → Step home g past (Ev.Give message) (next_take home past message tid n run)
 unfolding next_take
 by-next_take home g past message tid n run up nd alive =
     by-did home g past message tid n (ticket_reply_to home past run) (Takes tid (ticket_reply_to home past run) ∷ []) up nd
-    (λ s. one-line home g past (Ev.Give message) run (Takes tid (ticket_reply_to home past run)) s alive (takes-stay g tid (ticket_reply_to home past run))) refl
+    (λ s. one-line home g past (Ev.Give message) run (Takes tid (ticket_reply_to home past run)) s alive (takes-stay g tid (ticket_reply_to home past run)))
 
 -- the first act of an attempt that is neither closed nor in doubt
 by-first_work : (home : Home) (g : Tid) (past : SitePast) (message : ToSite) (tid : Tid) (n : ℕ) (act : PlainAct) → is_down past ≡ false → IsNoDecision (Ev.Give message) → is_over home past tid ≡ false → Step home g past (Ev.Give message) (first_work home past message tid n act)
 unfolding first_work
-by-first_work home g past message tid n act up nd free = by-did home g past message tid n reply (Acts tid act reply ∷ Begins tid number ∷ []) up nd (λ s. by_test (same_tid tid g) (gives_up (Acts tid act reply)) refl refl) refl where
+by-first_work home g past message tid n act up nd free = by-did home g past message tid n reply (Acts tid act reply ∷ Begins tid number ∷ []) up nd (λ s. by_test (same_tid tid g) (gives_up (Acts tid act reply)) refl refl) where
   number : ℕ
   number = next_number home past
 
@@ -134,20 +134,24 @@ held-prepared (Rec.Setup site engine protocol items ∷ rs) t h is = inr (held-p
 held-prepared (Rec.Start e ∷ rs) t h is = inr (held-prepared rs t h is)
 held-prepared (Rec.Local tid number writes ∷ rs) t h is = inr (held-prepared rs t h is)
 
-by-votes_no : (home : Home) (g : Tid) (past : SitePast) (tid : Tid) (e n : ℕ) (why : Option Why) (lines : List EngineLine) → is_down past ≡ false → (Shut home g past → Touches home g past (Ev.Give (To.Prepare tid e n)) lines) → some_of (is_sealing g) lines ≡ false → Step home g past (Ev.Give (To.Prepare tid e n)) (votes_no tid e n why lines)
+by-votes_no : (home : Home) (g : Tid) (past : SitePast) (tid : Tid) (e n : ℕ) (why : Option Why) (lines : List EngineLine) → is_down past ≡ false → (Shut home g past → Touches home g past (Ev.Give (To.Prepare tid e n)) lines) → Step home g past (Ev.Give (To.Prepare tid e n)) (votes_no tid e n why lines)
 unfolding votes_no
-by-votes_no home g past tid e n why lines up touches unsealed =
-    calm home g past (Ev.Give (To.Prepare tid e n)) (Say.VotesNo tid why) (From.Vote tid None ∷ []) lines up tt tt (tt, tt) (λ nb s. touches s) unsealed
+by-votes_no home g past tid e n why lines up touches =
+    calm home g past (Ev.Give (To.Prepare tid e n)) (Say.VotesNo tid why) (From.Vote tid None ∷ []) lines up tt tt (tt, tt) (λ nb s. touches s)
 
 by-no_again : (home : Home) (g : Tid) (past : SitePast) (tid : Tid) (e n : ℕ) → is_down past ≡ false → Step home g past (Ev.Give (To.Prepare tid e n)) (votes_no tid e n None [])
-by-no_again home g past tid e n up = by-votes_no home g past tid e n None [] up (λ s. no-lines home g past (Ev.Give (To.Prepare tid e n))) refl
+by-no_again home g past tid e n up = by-votes_no home g past tid e n None [] up (λ s. no-lines home g past (Ev.Give (To.Prepare tid e n)))
 
 by-votes_again : (home : Home) (g : Tid) (past : SitePast) (tid : Tid) (e n : ℕ) (held : Held) → is_down past ≡ false → doubt_of (records home past) tid ≡ Some held → Step home g past (Ev.Give (To.Prepare tid e n)) (votes_again tid e n held)
 unfolding votes_again
 by-votes_again home g past tid e n held up doubt =
     calm home g past (Ev.Give (To.Prepare tid e n)) (Say.VotesYes tid held.ticket) (From.Vote tid (Some held.ticket) ∷ []) [] up tt tt
     ((λ q. of-same (λ u. (k : ℕ) × Among (IsPrepared u k) (records home past)) tid g (held.epoch, held-prepared (records home past) tid held doubt) q), tt)
-    (λ nb s. no-lines home g past (Ev.Give (To.Prepare tid e n))) refl
+    (λ nb s. no-lines home g past (Ev.Give (To.Prepare tid e n)))
+
+or-nothing : (b : Bool) → (b || (false || false)) ≡ true → b ≡ true
+or-nothing true e = refl
+or-nothing false e = e
 
 -- a run that is sealed: the Prepared record is forced
 by-votes_yes : (home : Home) (g : Tid) (past : SitePast) (tid : Tid) (e n : ℕ) (run : Run) (ticket : ℕ) → is_down past ≡ false → doubt_of (records home past) tid ≡ None → live home past tid ≡ Some run → e ≡ epoch home past → Step home g past (Ev.Give (To.Prepare tid e n)) (votes_yes home past tid e n run ticket)
@@ -160,12 +164,12 @@ by-votes_yes home g past tid e n run ticket up free alive here = record {
   shut = (λ nb s. shut-on home g past _ refl refl up (by_test (same_tid tid g) refl s));
   settled = tt;
   seals = (λ i.
-      let q = (and_parts (same_tid tid g) (some_of (is_sealing g) (Seals tid (number_of home past run) ∷ [])) i).0 in
+      let q = or-nothing (same_tid tid g) i in
       (epoch home past, sealing q, inl (same_tid-equal tid g q, refl)));
   rises = (λ i. cc);
 } where
   sealing : same_tid tid g ≡ true → IsSealing home g past (Ev.Give (To.Prepare tid e n)) (epoch home past)
-  sealing q = of-same (λ u. IsSealing home u past (Ev.Give (To.Prepare tid e n)) (epoch home past)) tid g (record { n = n; taken = ap (λ k. Ev.Give (To.Prepare tid k n)) here; epoch = refl; doubt = free; run = run; live = alive }) q
+  sealing q = of-same (λ u. IsSealing home u past (Ev.Give (To.Prepare tid e n)) (epoch home past)) tid g (record { up = up; n = n; taken = ap (λ k. Ev.Give (To.Prepare tid k n)) here; epoch = refl; doubt = free; run = run; live = alive }) q
 
   line : EngineLine
   line = Seals tid (number_of home past run)
@@ -184,7 +188,7 @@ unfolding seals_global
 by-seals_global home g past tid e n run ticket up free alive here =
     step-pick home g past (Ev.Give (To.Prepare tid e n)) _ _ _ (λ f. by-votes_yes home g past tid e n run ticket up free alive here)
     (λ why f. by-votes_no home g past tid e n (Some why) (Refuses tid why ∷ []) up
-    (λ s. one-line home g past (Ev.Give (To.Prepare tid e n)) run (Refuses tid why) s alive (λ u. cc)) refl)
+    (λ s. one-line home g past (Ev.Give (To.Prepare tid e n)) run (Refuses tid why) s alive (λ u. cc)))
 
 by-prepare_live : (home : Home) (g : Tid) (past : SitePast) (tid : Tid) (e n : ℕ) (run : Run) → is_down past ≡ false → doubt_of (records home past) tid ≡ None → live home past tid ≡ Some run → Step home g past (Ev.Give (To.Prepare tid e n)) (prepare_live home past tid e n run)
 unfolding prepare_live

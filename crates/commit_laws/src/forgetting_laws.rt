@@ -1,5 +1,5 @@
-//! When the coordinator forgets. "The coordinator forgets the outcome of a transaction once it has received the acknowledgements that the
-//! participants' protocols require, and answers later inquiries by the presumption of the inquirer" (after Al-Houmaily and Chrysanthis 1999).
+//! When the coordinator forgets: once it has the acknowledgements that the participants' protocols require, and it answers later inquiries
+//! by the presumption of the inquirer's protocol (Al-Houmaily, Chrysanthis 1999).
 ghost use Rattle.commit_laws.specs.Forgetting.{ForgottenAreAcknowledged, ForgottenWhenNoneIsMissing, InquiriesAreAnsweredTheOutcome, KnownWhileMissing, PresumptionsAreRight};
 
 /// A decided attempt is known exactly while a required acknowledgement is missing. While it is known, its decision is the outcome, and some

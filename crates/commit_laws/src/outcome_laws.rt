@@ -1,5 +1,5 @@
-//! What the sites settle. "All participants that reach a decision reach the same one", the first property of atomic commitment, kept by
-//! two-phase commit under every presumption (Mohan, Lindsay, Obermarck 1986; Al-Houmaily and Chrysanthis 1999).
+//! What the sites settle: all participants that reach a decision reach the same one, the first property of atomic commitment, and they do
+//! under each presumption and among participants of different ones (Mohan, Lindsay, Obermarck 1986; Al-Houmaily, Chrysanthis 1999).
 ghost use Rattle.commit_laws.specs.Outcomes.{SettlesSayTheOutcome, SettlesCommitWhereKept, SitesAgree};
 
 /// Every line in which a site settles a global attempt says the attempt's outcome over the whole story. The outcome is commit exactly

@@ -1,5 +1,5 @@
-//! What a commit finds. "The commit decision is reached only if all participants have voted yes", and a yes vote is sent only after its
-//! prepare record is forced (Mohan, Lindsay, Obermarck 1986).
+//! What a commit finds: the decision is commit only if all participants voted yes, and a yes vote is sent only after its prepare record
+//! is forced (Mohan, Lindsay, Obermarck 1986).
 ghost use Rattle.commit_laws.specs.Prepared.{CommitDecisionsFindAllPrepared, CommitRecordsFindAllPrepared};
 
 /// From the line on in which the coordinator decides that an attempt commits, a Prepared record of the attempt stands on the disk of each

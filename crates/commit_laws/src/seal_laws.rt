@@ -1,10 +1,12 @@
-//! How often a subtransaction is sealed. "A participant that has sent its acknowledgement never needs to ask about the transaction again"
-//! (Mohan, Lindsay, Obermarck 1986); epochs and closed attempts keep old messages from sealing it anew (this project's profile).
-ghost use Rattle.commit_laws.specs.SealLaws.{AcknowledgedAreNotInDoubt, AcknowledgedAreNotSealed, AttemptsAreSealedOnce, CommitsMeetNoLiveRun};
+//! How often a subtransaction is sealed: a participant that has sent its acknowledgement never needs to ask about the transaction again
+//! (Mohan, Lindsay, Obermarck 1986), and epochs and closed attempts keep old messages from sealing it anew (this project's profile).
+ghost use Rattle.commit_laws.specs.SealLaws.{AcknowledgedAreNotInDoubt, AcknowledgedAreNotSealed, AttemptsAreSealedOnce, CommitsMeetNoLiveRun, DecidedAreNotSealed};
 
-/// At most one line of a site seals an attempt, and the Prepare that it takes names the site's epoch.
+/// At most one line of a site seals an attempt, lines that a stop ends included, and the Prepare that it takes names the site's epoch.
+/// Behind a line that takes a decision on the attempt no line seals it, so a run that an old message begins later is never sealed.
 pub fn attempts_are_sealed_once()
-    ensures { AttemptsAreSealedOnce }
+    ensures once { AttemptsAreSealedOnce }
+    ensures not_behind_a_decision { DecidedAreNotSealed }
 {}
 
 /// Once a site has sent an acknowledgement of an attempt, it isn't in doubt of it, and none of its later lines seals it.
