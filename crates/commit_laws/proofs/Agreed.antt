@@ -38,7 +38,7 @@ use Rattle.commit_laws.proofs.CoordSound.{CoordSound}
 use Rattle.commit_laws.proofs.CoordTurn.{Turn}
 use Rattle.commit_laws.proofs.Declared.{is-declared}
 use Rattle.commit_laws.proofs.Disks.{firm-quiet}
-use Rattle.commit_laws.proofs.Links.{IsGlobal, SiteCame, CoordCame, Linked, linked, not-both}
+use Rattle.commit_laws.proofs.Links.{IsGlobal, SiteCame, CoordCame, Linked, linked, linked-here, not-both}
 use Rattle.commit_laws.proofs.Lists.{append-nil}
 use Rattle.commit_laws.proofs.SiteFacts.{NotBegun}
 use Rattle.commit_laws.proofs.SiteLines.{site-lines}
@@ -129,7 +129,7 @@ at-coordinator scenario home g story event declared came a = record {
 }
 
 -- whatever happens next
-next : (scenario : Scenario) (home : Home) (g : Tid) (story : Story) (happened : Happened) → home_of scenario home.site ≡ Some home → Linked scenario home story happened → Agree scenario home g (coord_past story) (past_of home.site story) (sent_to home.site story) (sent_from home.site story) → Agree scenario home g (with_coordinator happened (coord_past story)) (with_site home.site happened (past_of home.site story)) (sent_to home.site story ++ sends_to home.site happened) (sent_from home.site story ++ sends_from home.site happened)
+next : (scenario : Scenario) (home : Home) (g : Tid) (story : Story) (happened : Happened) → home_of scenario home.site ≡ Some home → Linked scenario story happened → Agree scenario home g (coord_past story) (past_of home.site story) (sent_to home.site story) (sent_from home.site story) → Agree scenario home g (with_coordinator happened (coord_past story)) (with_site home.site happened (past_of home.site story)) (sent_to home.site story ++ sends_to home.site happened) (sent_from home.site story ++ sends_from home.site happened)
 next scenario home g story (Nowhere answer) declared l a =
     subst (λ m. Agree scenario home g (coord_past story) (past_of home.site story) m (sent_from home.site story ++ [])) (sym (append-nil (sent_to home.site story)))
     (subst (λ m. Agree scenario home g (coord_past story) (past_of home.site story) (sent_to home.site story) m) (sym (append-nil (sent_from home.site story))) a)
@@ -145,7 +145,7 @@ next scenario home g story (AtSite at x) declared l a =
     by_test : (b : Bool) → same_site at home.site ≡ b → Agree scenario home g (coord_past story) (cond b (x ∷ past_of home.site story) (past_of home.site story)) (sent_to home.site story) (sent_from home.site story ++ cond b x.sends [])
     by_test false q = subst (λ m. Agree scenario home g (coord_past story) (past_of home.site story) (sent_to home.site story) m) (sym (append-nil (sent_from home.site story))) a
     by_test true q =
-        let (event, is, came) = l.next declared q in
+        let (event, is, came) = linked-here scenario home story x at declared q l.next in
         subst (λ y. Agree scenario home g (coord_past story) (y ∷ past_of home.site story) (sent_to home.site story) (sent_from home.site story ++ y.sends)) (sym is)
         (site-turn scenario home g (coord_past story) (past_of home.site story) (sent_to home.site story) (sent_from home.site story) event (site_line home (past_of home.site story) event) (at-site scenario home g story event came a))
 
@@ -153,16 +153,16 @@ pub agreed : (scenario : Scenario) (home : Home) (g : Tid) (commands : List Comm
 agreed scenario home g [] declared = first scenario home g
 agreed scenario home g (command ∷ commands) declared =
     next scenario home g (story_of scenario commands) (happens scenario (story_of scenario commands) command) declared
-    (linked scenario home (story_of scenario commands) command)
+    (linked scenario (story_of scenario commands) command)
     (agreed scenario home g commands declared)
 
 -- the coordinator's part holds for any site, also for one that isn't declared
 pub coord-sound : (scenario : Scenario) (home : Home) (g : Tid) (commands : List Command) → CoordSound scenario home g (coord_past (story_of scenario commands))
 coord-sound scenario home g [] = coord-first scenario home g
 coord-sound scenario home g (command ∷ commands) =
-    more (happens scenario (story_of scenario commands) command) (linked scenario home (story_of scenario commands) command) (coord-sound scenario home g commands)
+    more (happens scenario (story_of scenario commands) command) (linked scenario (story_of scenario commands) command) (coord-sound scenario home g commands)
   where
-    more : (happened : Happened) → Linked scenario home (story_of scenario commands) happened → CoordSound scenario home g (coord_past (story_of scenario commands)) → CoordSound scenario home g (with_coordinator happened (coord_past (story_of scenario commands)))
+    more : (happened : Happened) → Linked scenario (story_of scenario commands) happened → CoordSound scenario home g (coord_past (story_of scenario commands)) → CoordSound scenario home g (with_coordinator happened (coord_past (story_of scenario commands)))
     more (Nowhere answer) l s = s
     more (AtSite at x) l s = s
     more (AtCoordinator x) l s =

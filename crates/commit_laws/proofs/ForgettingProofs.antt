@@ -48,7 +48,7 @@ known-while-missing scenario commands tid decision is =
 -- the next line of the coordinator, with its part of the invariant before it
 next-turn : (scenario : Scenario) (commands : List Command) (x : CoordHappening) → IsNextOfCoordinator scenario commands x → (tid : Tid) → (event : CoordEvent) × Turn scenario nowhere tid (coord_past (story_of scenario commands)) event x
 next-turn scenario commands x (command, e) tid =
-    let l : IsNext scenario nowhere (story_of scenario commands) (AtCoordinator x) = subst (IsNext scenario nowhere (story_of scenario commands)) e (linked scenario nowhere (story_of scenario commands) command).next in
+    let l : IsNext scenario (story_of scenario commands) (AtCoordinator x) = subst (IsNext scenario (story_of scenario commands)) e (linked scenario (story_of scenario commands) command).next in
     let (event, is, came) = l in
     (event, subst (λ y. Turn scenario nowhere tid (coord_past (story_of scenario commands)) event y) (sym is) (turn scenario nowhere tid (story_of scenario commands) event came (coord-sound scenario nowhere tid commands)))
 

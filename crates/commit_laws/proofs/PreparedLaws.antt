@@ -122,7 +122,7 @@ commit-answer g event a now c k about = absurd k
 pub decided-commit : (scenario : Scenario) (home : Home) (commands : List Command) (tid : Tid) → Among (DecidesCommit tid) (coord_past (story_of scenario commands)) → Among (IsCommit tid) (coordinator_keeps scenario commands)
 decided-commit scenario home [] tid m = absurd m
 decided-commit scenario home (command ∷ commands) tid m =
-    more (happens scenario (story_of scenario commands) command) (linked scenario home (story_of scenario commands) command) m (decided-commit scenario home commands tid)
+    more (happens scenario (story_of scenario commands) command) (linked scenario (story_of scenario commands) command) m (decided-commit scenario home commands tid)
   where
     past : CoordPast
     past = coord_past (story_of scenario commands)
@@ -131,7 +131,7 @@ decided-commit scenario home (command ∷ commands) tid m =
     here event t (inl d) k = commit-answer tid event (coord_line (protocols scenario) past event).answer (Coordinator.records (coord_line (protocols scenario) past event ∷ past)) t.line.committed d.1 (ap (is_about tid) (sym t.line.is) ∙ d.0)
     here event t (inr i) k = kept-stays (protocols scenario) tid past event (Coordinator.records (coord_line (protocols scenario) past event ∷ past)) (IsCommit tid) (end-commit tid) t.line.kept (k i)
 
-    more : (happened : Happened) → Linked scenario home (story_of scenario commands) happened → Among (DecidesCommit tid) (with_coordinator happened past) → (Among (DecidesCommit tid) past → Among (IsCommit tid) (Coordinator.records past)) → Among (IsCommit tid) (Coordinator.records (with_coordinator happened past))
+    more : (happened : Happened) → Linked scenario (story_of scenario commands) happened → Among (DecidesCommit tid) (with_coordinator happened past) → (Among (DecidesCommit tid) past → Among (IsCommit tid) (Coordinator.records past)) → Among (IsCommit tid) (Coordinator.records (with_coordinator happened past))
     more (Nowhere answer) l m k = k m
     more (AtSite at x) l m k = k m
     more (AtCoordinator x) l m k =

@@ -27,7 +27,7 @@ use Rattle.commit_laws.specs.SealLaws.{IsNextAt, AttemptsAreSealedOnce, DecidedA
 use Rattle.commit_laws.proofs.Agree.{IsGot, IsOver, Agree}
 use Rattle.commit_laws.proofs.AgreeSite.{SiteTurn, bars}
 use Rattle.commit_laws.proofs.Agreed.{agreed, at-site}
-use Rattle.commit_laws.proofs.Links.{IsNext, linked, home-again, its-site, same-site-refl}
+use Rattle.commit_laws.proofs.Links.{IsNext, linked, linked-here, home-again, its-site, same-site-refl}
 use Rattle.commit_laws.proofs.OutcomeLaws.{outcome-commits}
 use Rattle.commit_laws.proofs.PreparedLaws.{committed-prepared}
 use Rattle.commit_laws.proofs.SiteFacts.{IsSealing}
@@ -40,8 +40,8 @@ Next scenario commands home tid event x = SiteTurn scenario home tid (coord_past
 
 next-line : (scenario : Scenario) (commands : List Command) (home : Home) → home_of scenario home.site ≡ Some home → (x : SiteHappening) → IsNextAt scenario commands home.site x → (tid : Tid) → (event : SiteEvent) × Next scenario commands home tid event x
 next-line scenario commands home declared x (command, e) tid =
-    let l : IsNext scenario home (story_of scenario commands) (AtSite home.site x) = subst (IsNext scenario home (story_of scenario commands)) e (linked scenario home (story_of scenario commands) command).next in
-    let (event, is, came) = l declared (same-site-refl home.site) in
+    let l : IsNext scenario (story_of scenario commands) (AtSite home.site x) = subst (IsNext scenario (story_of scenario commands)) e (linked scenario (story_of scenario commands) command).next in
+    let (event, is, came) = linked-here scenario home (story_of scenario commands) x home.site declared (same-site-refl home.site) l in
     (event, subst (λ y. Next scenario commands home tid event y) (sym is) (at-site scenario home tid (story_of scenario commands) event came (agreed scenario home tid commands declared)))
 
 -- a line that seals is barred by what was given
