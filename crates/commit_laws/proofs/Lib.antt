@@ -28,3 +28,5 @@ pub mod OutcomeLaws
 pub mod PreparedLaws
 pub mod SealProofs
 pub mod ForgettingProofs
+pub mod Refuted
+pub mod RightRules

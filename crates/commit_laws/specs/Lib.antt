@@ -4,3 +4,4 @@ pub mod Prepared
 pub mod Records
 pub mod SealLaws
 pub mod Seals
+pub mod WrongRules

@@ -8,6 +8,7 @@ mod forgetting_laws;
 mod outcome_laws;
 mod prepared_laws;
 mod seal_laws;
+mod wrong_rules;
 
 pub use forgetting_laws::{
     attempts_are_forgotten_when_acknowledged, inquiries_in_doubt_are_answered_the_outcome,
@@ -16,4 +17,7 @@ pub use outcome_laws::{sites_settle_alike, sites_settle_the_outcome};
 pub use prepared_laws::commits_find_all_prepared;
 pub use seal_laws::{
     acknowledged_attempts_are_over, attempts_are_sealed_once, commits_meet_no_live_run,
+};
+pub use wrong_rules::{
+    right_rules_in_this_form, wrong_acknowledgement, wrong_coordinators, wrong_epochs,
 };

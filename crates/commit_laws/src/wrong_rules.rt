@@ -1,0 +1,33 @@
+//! Rules that look right and aren't: by each of them some commands make a story in which a law of commitment breaks.
+ghost use Rattle.std.specs.Prelude.{◌≡◌, List};
+ghost use Rattle.commit_laws.specs.WrongRules.{BreaksTheEpoch, BreaksTheOutcome, abort_always_presumed, aborts_acknowledged_early, commits_forgotten_at_once};
+ghost use Rattle.commit_laws.specs.WrongRules.{epochs_ignored, prepares_sent_early, right_rules, story_by, torn_records_kept};
+ghost use Rattle.fed_rules.specs.Story.{story_of};
+ghost use Rattle.fed_rules.specs.declared.commands.Command.{Command};
+ghost use Rattle.fed_rules.specs.declared.scenario.Scenario.{Scenario};
+
+/// By the rules themselves, in the form of the wrong ones, the story of any commands is their story.
+pub fn right_rules_in_this_form()
+    ensures { (scenario : Scenario) (commands : List Command) → story_by right_rules scenario commands ≡ story_of scenario commands }
+{}
+
+/// Sites settle an attempt otherwise than by its outcome where a site of presumed commit acknowledges an abort before its Ended record is
+/// synced.
+pub fn wrong_acknowledgement()
+    ensures { BreaksTheOutcome aborts_acknowledged_early }
+{}
+
+/// They do where the coordinator forgets a commit without the acknowledgements of presumed nothing and presumed abort, where it answers every
+/// inquiry about an unknown attempt by abort, where it sends a Prepare while the Initiation is only appended, and where a restart keeps a
+/// torn record.
+pub fn wrong_coordinators()
+    ensures forgotten_commits { BreaksTheOutcome commits_forgotten_at_once }
+    ensures abort_presumed { BreaksTheOutcome abort_always_presumed }
+    ensures unsynced_initiations { BreaksTheOutcome prepares_sent_early }
+    ensures torn_records { BreaksTheOutcome torn_records_kept }
+{}
+
+/// A site that compares no epochs seals an attempt in another epoch than its Prepare names.
+pub fn wrong_epochs()
+    ensures { BreaksTheEpoch epochs_ignored }
+{}
