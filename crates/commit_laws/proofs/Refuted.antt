@@ -48,7 +48,7 @@ early_outcome : outcome_by aborts_acknowledged_early By.Commit early_commands â‰
 unfolding opened
 early_outcome = refl
 
-pub aborts_acknowledged_early_refuted : BreaksTheOutcome aborts_acknowledged_early
+pub aborts_acknowledged_early_refuted : BreaksTheOutcome aborts_acknowledged_early By.Commit
 unfolding opened
 aborts_acknowledged_early_refuted = record {
   scenario = one_site By.Commit;
@@ -56,6 +56,7 @@ aborts_acknowledged_early_refuted = record {
   site = at 1;
   home = home By.Commit;
   declared = refl;
+  follows = refl;
   tid = attempt;
   decision = Decided.Commit;
   settles = inl refl;
@@ -70,7 +71,7 @@ forgotten_outcome : outcome_by commits_forgotten_at_once By.Abort forgotten_comm
 unfolding opened
 forgotten_outcome = refl
 
-pub commits_forgotten_at_once_refuted : BreaksTheOutcome commits_forgotten_at_once
+pub commits_forgotten_at_once_refuted : BreaksTheOutcome commits_forgotten_at_once By.Abort
 unfolding opened
 commits_forgotten_at_once_refuted = record {
   scenario = one_site By.Abort;
@@ -78,6 +79,7 @@ commits_forgotten_at_once_refuted = record {
   site = at 1;
   home = home By.Abort;
   declared = refl;
+  follows = refl;
   tid = attempt;
   decision = Decided.Abort;
   settles = inl refl;
@@ -89,7 +91,7 @@ forgotten_by_nothing : outcome_by commits_forgotten_at_once By.Nothing forgotten
 unfolding opened
 forgotten_by_nothing = refl
 
-pub commits_forgotten_by_nothing_refuted : BreaksTheOutcome commits_forgotten_at_once
+pub commits_forgotten_by_nothing_refuted : BreaksTheOutcome commits_forgotten_at_once By.Nothing
 unfolding opened
 commits_forgotten_by_nothing_refuted = record {
   scenario = one_site By.Nothing;
@@ -97,6 +99,7 @@ commits_forgotten_by_nothing_refuted = record {
   site = at 1;
   home = home By.Nothing;
   declared = refl;
+  follows = refl;
   tid = attempt;
   decision = Decided.Abort;
   settles = inl refl;
@@ -108,7 +111,7 @@ presumed_outcome : outcome_by abort_always_presumed By.Commit forgotten_commands
 unfolding opened
 presumed_outcome = refl
 
-pub abort_always_presumed_refuted : BreaksTheOutcome abort_always_presumed
+pub abort_always_presumed_refuted : BreaksTheOutcome abort_always_presumed By.Commit
 unfolding opened
 abort_always_presumed_refuted = record {
   scenario = one_site By.Commit;
@@ -116,6 +119,7 @@ abort_always_presumed_refuted = record {
   site = at 1;
   home = home By.Commit;
   declared = refl;
+  follows = refl;
   tid = attempt;
   decision = Decided.Abort;
   settles = inl refl;
@@ -130,7 +134,7 @@ unsynced_outcome : outcome_by prepares_sent_early By.Commit unsynced_commands â‰
 unfolding opened
 unsynced_outcome = refl
 
-pub prepares_sent_early_refuted : BreaksTheOutcome prepares_sent_early
+pub prepares_sent_early_refuted : BreaksTheOutcome prepares_sent_early By.Commit
 unfolding opened
 prepares_sent_early_refuted = record {
   scenario = one_site By.Commit;
@@ -138,6 +142,7 @@ prepares_sent_early_refuted = record {
   site = at 1;
   home = home By.Commit;
   declared = refl;
+  follows = refl;
   tid = attempt;
   decision = Decided.Commit;
   settles = inl refl;
@@ -152,7 +157,7 @@ torn_outcome : outcome_by torn_records_kept By.Nothing torn_commands â‰¡ Decided
 unfolding opened
 torn_outcome = refl
 
-pub torn_records_kept_refuted : BreaksTheOutcome torn_records_kept
+pub torn_records_kept_refuted : BreaksTheOutcome torn_records_kept By.Nothing
 unfolding opened
 torn_records_kept_refuted = record {
   scenario = one_site By.Nothing;
@@ -160,6 +165,7 @@ torn_records_kept_refuted = record {
   site = at 1;
   home = home By.Nothing;
   declared = refl;
+  follows = refl;
   tid = attempt;
   decision = Decided.Commit;
   settles = inl refl;

@@ -6,6 +6,7 @@ use Rattle.mdb_base.specs.Words.{or_else}
 use Rattle.presumptions.specs.declared.Decision.{Decision}
 use Rattle.presumptions.specs.declared.Decision.TheVariants as Decided
 use Rattle.presumptions.specs.declared.Participant.{Participant}
+use Rattle.presumptions.specs.declared.Protocol.{Protocol}
 use Rattle.fed_rules.specs.declared.answers.Answer.{Answer}
 use Rattle.fed_rules.specs.declared.answers.Answer.TheVariants as Say
 use Rattle.fed_rules.specs.declared.commands.Command.{Command}
@@ -136,13 +137,14 @@ abbrev pub torn_records_kept : Rules
 torn_records_kept =
     record right_rules { coordinator = λ protocols past event. (let x = coord_line protocols past event in torn_taken x x.answer (torn_record past)) }
 
--- by these rules a site settles an attempt otherwise than by its outcome
-pub record BreaksTheOutcome (rules : Rules) : Type 0 where
+-- by these rules a site of this protocol settles an attempt otherwise than by its outcome
+pub record BreaksTheOutcome (rules : Rules) (protocol : Protocol) : Type 0 where
   pub scenario : Scenario
   pub commands : List Command  -- the last one first
   pub site : SiteId
   pub home : Home
   pub declared : home_of scenario site ≡ Some home
+  pub follows : home.protocol ≡ protocol
   pub tid : Tid
   pub decision : Decision
   pub settles : Settles (past_of site (story_by rules scenario commands)) tid decision

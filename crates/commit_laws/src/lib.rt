@@ -20,4 +20,5 @@ pub use seal_laws::{
 };
 pub use wrong_rules::{
     right_rules_in_this_form, wrong_acknowledgement, wrong_coordinators, wrong_epochs,
+    wrong_forgetting,
 };

@@ -1,8 +1,5 @@
-use Rattle.commit_laws.proofs.Refuted.{commits_forgotten_at_once_refuted, abort_always_presumed_refuted, prepares_sent_early_refuted, torn_records_kept_refuted}
+use Rattle.commit_laws.proofs.Refuted.{abort_always_presumed_refuted, prepares_sent_early_refuted, torn_records_kept_refuted}
 use Rattle.commit_laws.proofs.wrong_rules.wrong_coordinators.Goals as goal
-
-pub returns-clause-forgotten_commits : goal.returns-clause-forgotten_commits
-returns-clause-forgotten_commits c = commits_forgotten_at_once_refuted
 
 pub returns-clause-abort_presumed : goal.returns-clause-abort_presumed
 returns-clause-abort_presumed c = abort_always_presumed_refuted
