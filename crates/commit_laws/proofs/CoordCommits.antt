@@ -34,7 +34,7 @@ use Rattle.fed_rules.specs.Coord.{all_outstanding, news, end_calls, forgets_at_o
 use Rattle.fed_rules.specs.CoordPast.{CoordHappening, CoordPast, disk, records, Standing, Undecided, Decided, Gone, standing, moved, is_about, is_undecided, decides, acks_in, has_acked, participants, outstanding, epoch_at, oldest_first}
 use Rattle.fed_rules.specs.CoordRecords.{coord_frame, initiated, initiated_tids, outcome, required, is_nobody, ends_at_once, commits, has_end}
 use Rattle.commit_laws.specs.Records.{IsEnd, IsCommit}
-use Rattle.commit_laws.proofs.Disks.{appended, IsQuiet}
+use Rattle.commit_laws.proofs.Disks.{appended, IsQuiet, quiet-plain, plain-records}
 use Rattle.commit_laws.proofs.CoordFacts.{IsOpen, IsInitiation, IsUnmarked, IsUncommitted, IsCommitting, IsEnding, AtCommit, AtAbort, AtAck, AtBack, WroteAll, IsDecidedBy, Stands, Same, Decides, Forgets, Restarts, IsTelling, Now, Known, Tells, Counted, Goes}
 use Rattle.commit_laws.proofs.CoordRules.{goes-when, goes-pick, of-same, standing-on, acked-on, calm-standing, calm-acked, quietly, silently, ignored, IsNoAck, each-map, IsOwed, all-owed, news-owed, by-go, by-dues, by-inquiry, by-fate}
 use Rattle.commit_laws.proofs.CoordEnds.{end-part, acked-off, decided-standing, other-standing, by-aborts}
@@ -44,17 +44,18 @@ by-commits_it : (protocols : List Participant) (g : Tid) (past : CoordPast) (sit
 unfolding commits_it
 by-commits_it protocols g past site t ticket tickets undecided all = record {
   is = refl;
-  quiet = inr (end-part (λ cs. IsQuiet IsEnd false cs) t f i (λ e j. inl (tt, tt)) tt);
+  quiet = inr still;
   wrote = end-part (λ cs. WroteAll protocols g past event (appended cs (Rec.Commit t tickets ∷ []))) t f i
-      (λ e j. ((λ q. of-same (λ u. IsEnding u past event (Rec.Commit t tickets ∷ []) × (is_some (initiated (records past) u) ≡ true)) t g (AtCommit undecided (inl refl) e, j) q), ((λ q. committing q), tt)))
-      ((λ q. committing q), tt);
+      (λ e j. ((λ q. of-same (λ u. IsEnding u past event (Rec.Commit t tickets ∷ []) × (is_some (initiated (records past) u) ≡ true)) t g (AtCommit undecided (inl refl) e, j) q), ((λ q. (committing q, refl)), tt)))
+      ((λ q. (committing q, refl)), tt);
   stands = stands (same_tid t g) refl;
   tells = each-map (Tells protocols g past y) (λ member. record { site = member.site; message = _ }) (participants protocols past t)
       (each_all (λ member. same_tid t g ≡ true → IsTelling protocols g past y member.site Decided.Commit)
       (λ member q. of-same (λ u. IsTelling protocols u past y member.site Decided.Commit) t g
-      (Now f undecided (decided-standing t t past y Decided.Commit None f refl (same_tid-refl t)) (committed t (same_tid-refl t))) q)
+      (Now f undecided (decided-standing t t past y Decided.Commit None f refl (same_tid-refl t)) (appended y.calls []) (plain-records coord_frame (disk past) y.calls [] (records past) (quiet-plain IsEnd false y.calls (inr still)) refl) (committed t (same_tid-refl t))) q)
       (participants protocols past t));
   counted = (λ e. tt);
+  committed = committed g;
 } where
   event : CoordEvent
   event = Ev.Take site (From.Vote t (Some ticket))
@@ -67,6 +68,9 @@ by-commits_it protocols g past site t ticket tickets undecided all = record {
 
   i : Bool
   i = is_some (initiated (records past) t)
+
+  still : IsQuiet IsEnd false (cond (forgets_at_once past t Decided.Commit) (end_calls past t) [])
+  still = end-part (λ cs. IsQuiet IsEnd false cs) t f i (λ e j. inl (tt, tt)) tt
 
   committing : same_tid t g ≡ true → IsCommitting protocols g past (Ev.Take site (From.Vote t (Some ticket)))
   committing q = of-same (λ u. IsCommitting protocols u past (Ev.Take site (From.Vote t (Some ticket)))) t g (record { undecided = undecided; site = site; ticket = ticket; taken = refl; all = all }) q
@@ -179,6 +183,7 @@ by-ack_counts protocols g past site t decision known =
       stands = stands e (same_tid t g) refl;
       tells = tt;
       counted = (λ c. tt);
+      committed = tt;
     }
 
     more : CoordHappening
@@ -199,6 +204,7 @@ by-ack_counts protocols g past site t decision known =
       stands = Same (calm-standing g past more tt) refl tt (waits e (same_tid t g) refl);
       tells = tt;
       counted = (λ c. tt);
+      committed = tt;
     }
 
 by-acked_while : (protocols : List Participant) (g : Tid) (past : CoordPast) (site : SiteId) (t : Tid) (s : Standing) → standing past t ≡ s → Goes protocols g past (Ev.Take site (From.Ack t)) (acked_while past site t s)
@@ -241,6 +247,7 @@ by-again_while protocols g past t (Decided decision) e = record {
       (each_all (λ member. same_tid t g ≡ true → IsTelling protocols g past y member.site decision)
       (λ member q. of-same (λ u. IsTelling protocols u past y member.site decision) t g (Known e) q) (missing past t decision));
   counted = (λ c. tt);
+  committed = tt;
 } where
   y : CoordHappening
   y = record { event = Ev.Again t; answer = Say.Only; sends = decide_to t decision (missing past t decision); calls = []; lines = [] }
@@ -301,9 +308,10 @@ by-back protocols g past = record {
   is = refl;
   quiet = quiet_calls (is_torn coord_frame (disk past));
   wrote = wrote_ends (is_torn coord_frame (disk past));
-  stands = Restarts refl refl (λ at. refl);
+  stands = Restarts refl refl (λ at. refl) refl;
   tells = tt;
   counted = (λ c. tt);
+  committed = tt;
 } where
   ts : List Tid
   ts = oldest_first (those (ends_at_once (records past)) (initiated_tids (records past)))

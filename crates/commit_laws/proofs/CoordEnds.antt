@@ -35,7 +35,7 @@ use Rattle.fed_rules.specs.Coord.{all_outstanding, news, end_calls, forgets_at_o
 use Rattle.fed_rules.specs.CoordPast.{CoordHappening, CoordPast, disk, records, Standing, Undecided, Decided, Gone, standing, moved, is_about, is_undecided, decides, acks_in, has_acked, participants, outstanding, epoch_at, oldest_first}
 use Rattle.fed_rules.specs.CoordRecords.{coord_frame, initiated, initiated_tids, outcome, required, is_nobody, ends_at_once, commits, has_end}
 use Rattle.commit_laws.specs.Records.{IsEnd, IsCommit}
-use Rattle.commit_laws.proofs.Disks.{appended, IsQuiet}
+use Rattle.commit_laws.proofs.Disks.{appended, IsQuiet, quiet-plain, plain-records}
 use Rattle.commit_laws.proofs.CoordFacts.{IsOpen, IsInitiation, IsUnmarked, IsUncommitted, IsCommitting, IsEnding, AtCommit, AtAbort, AtAck, AtBack, WroteAll, IsDecidedBy, Stands, Same, Decides, Forgets, Restarts, IsTelling, Now, Known, Tells, Counted, Goes}
 use Rattle.commit_laws.proofs.CoordRules.{goes-when, goes-pick, of-same, standing-on, acked-on, calm-standing, calm-acked, quietly, silently, ignored, IsNoAck, each-map, IsOwed, all-owed, news-owed, by-go, by-dues, by-inquiry, by-fate}
 
@@ -73,15 +73,16 @@ pub by-aborts : (protocols : List Participant) (g : Tid) (past : CoordPast) (eve
 unfolding aborts
 by-aborts protocols g past event t cause undecided about n noack k = record {
   is = refl;
-  quiet = end-part (λ cs. IsQuiet IsEnd false cs) t f i (λ e j. inl (tt, tt)) tt;
+  quiet = still;
   wrote = end-part (λ cs. WroteAll protocols g past event (appended cs [])) t f i (λ e j. ((λ q. of-same (λ u. IsEnding u past event [] × (is_some (initiated (records past) u) ≡ true)) t g (AtAbort undecided refl e, j) q), tt)) tt;
   stands = stands (same_tid t g) refl;
   tells = each-map (Tells protocols g past y) (λ member. record { site = member.site; message = _ }) (participants protocols past t)
       (each_all (λ member. same_tid t g ≡ true → IsTelling protocols g past y member.site Decided.Abort)
       (λ member q. of-same (λ u. IsTelling protocols u past y member.site Decided.Abort) t g
-      (Now f undecided (decided-standing t t past y Decided.Abort (Some cause) f refl (about t ∙ same_tid-refl t)) (uncommitted t)) q)
+      (Now f undecided (decided-standing t t past y Decided.Abort (Some cause) f refl (about t ∙ same_tid-refl t)) (appended y.calls []) (plain-records coord_frame (disk past) y.calls [] (records past) (quiet-plain IsEnd false y.calls still) refl) (uncommitted t)) q)
       (participants protocols past t));
   counted = (λ e. k);
+  committed = tt;
 } where
   y : CoordHappening
   y = aborts protocols past event t cause
@@ -91,6 +92,9 @@ by-aborts protocols g past event t cause undecided about n noack k = record {
 
   i : Bool
   i = is_some (initiated (records past) t)
+
+  still : IsQuiet IsEnd false (cond (forgets_at_once past t Decided.Abort) (end_calls past t) [])
+  still = end-part (λ cs. IsQuiet IsEnd false cs) t f i (λ e j. inl (tt, tt)) tt
 
   uncommitted : (u : Tid) → Each (IsUncommitted u) (appended (cond (forgets_at_once past t Decided.Abort) (end_calls past t) []) [])
   uncommitted u = end-part (λ cs. Each (IsUncommitted u) (appended cs [])) t f i (λ e j. (tt, tt)) tt

@@ -1,5 +1,5 @@
 -- What a line of the coordinator does about one attempt: what it appends, sends and makes of its standing, as facts on the line.
-use Rattle.std.proofs.Common.{◌≡◌, ℕ, ◌⊎◌, Bool, true, false, cond, ◌||◌, ◌==◌, is_some, Option, Some, None, List, [], ◌∷◌}
+use Rattle.std.proofs.Common.{◌≡◌, ℕ, ◌⊎◌, Bool, true, false, cond, ◌||◌, ◌==◌, is_some, Option, Some, None, List, [], ◌∷◌, ◌++◌}
 use Rattle.mdb_base.specs.declared.acts.Step.{Step}
 use Rattle.mdb_base.specs.declared.names.SiteId.{SiteId}
 use Rattle.mdb_base.specs.declared.names.Tid.{Tid}
@@ -9,6 +9,7 @@ use Rattle.presumptions.specs.declared.Decision.{Decision}
 use Rattle.presumptions.specs.declared.Decision.TheVariants as Decided
 use Rattle.presumptions.specs.declared.Participant.{Participant}
 use Rattle.presumptions.specs.Table.{presumed}
+use Rattle.fed_rules.specs.declared.answers.Answer.{Answer}
 use Rattle.fed_rules.specs.declared.answers.Answer.TheVariants as Say
 use Rattle.fed_rules.specs.declared.events.CoordEvent.{CoordEvent}
 use Rattle.fed_rules.specs.declared.events.CoordEvent.TheVariants as Ev
@@ -18,9 +19,9 @@ use Rattle.fed_rules.specs.declared.messages.ToSite.{ToSite}
 use Rattle.fed_rules.specs.declared.messages.ToSite.TheVariants as To
 use Rattle.fed_rules.specs.declared.records.CoordRecord.{CoordRecord}
 use Rattle.fed_rules.specs.declared.records.CoordRecord.TheVariants as Rec
-use Rattle.fed_rules.specs.Happenings.{quiet}
+use Rattle.fed_rules.specs.Happenings.{quiet, stops, comes_up}
 use Rattle.fed_rules.specs.Coord.{missing, did_counts, all_voted, protocol_of}
-use Rattle.fed_rules.specs.CoordPast.{CoordHappening, CoordPast, records, Standing, Undecided, Decided, Gone, standing, kept_standing, is_undecided, begins, counts, participants, program, visits, epoch_at, has_ticket_at, has_acked}
+use Rattle.fed_rules.specs.CoordPast.{CoordHappening, CoordPast, records, Standing, Undecided, Decided, Gone, standing, kept_standing, is_undecided, is_about, begins, counts, participants, program, visits, epoch_at, has_ticket_at, has_acked}
 use Rattle.fed_rules.specs.CoordRecords.{initiated, outcome, required, is_nobody}
 use Rattle.commit_laws.specs.Records.{IsEnd, IsCommit}
 use Rattle.commit_laws.proofs.Disks.{appended, IsQuiet}
@@ -63,7 +64,7 @@ pub data IsEnding (g : Tid) (past : CoordPast) (event : CoordEvent) (before : Li
 -- why a record is appended, behind these other records of the line
 abbrev pub Wrote : List Participant → Tid → CoordPast → CoordEvent → List CoordRecord → CoordRecord → Type 0
 Wrote protocols g past event before (Rec.Initiation tid members) = same_tid tid g ≡ true → IsOpen past g × (members ≡ participants protocols past g)
-Wrote protocols g past event before (Rec.Commit tid tickets) = same_tid tid g ≡ true → IsCommitting protocols g past event
+Wrote protocols g past event before (Rec.Commit tid tickets) = same_tid tid g ≡ true → IsCommitting protocols g past event × (before ≡ [])
 Wrote protocols g past event before (Rec.End tid) = same_tid tid g ≡ true → IsEnding g past event before × (is_some (initiated (records past) g) ≡ true)
 
 -- why the records of a line are appended, the newest first
@@ -87,7 +88,7 @@ pub data Stands (g : Tid) (past : CoordPast) (y : CoordHappening) (news : List C
       → Each (λ r. IsInitiation g r → ⊥) news → Stands g past y news
   Forgets : (decision : Decision) → standing past g ≡ Decided decision → begins g y.answer ≡ false → standing (y ∷ past) g ≡ Gone
       → is_nobody (missing (quiet y.event Say.Acked ∷ past) g decision) ≡ true → Each IsEnd news → ((site : SiteId) → has_acked (y ∷ past) g site ≡ has_acked (quiet y.event Say.Acked ∷ past) g site) → Stands g past y news
-  Restarts : begins g y.answer ≡ false → standing (y ∷ past) g ≡ kept_standing (records (y ∷ past)) g → ((site : SiteId) → has_acked (y ∷ past) g site ≡ false) → Stands g past y news
+  Restarts : begins g y.answer ≡ false → standing (y ∷ past) g ≡ kept_standing (records (y ∷ past)) g → ((site : SiteId) → has_acked (y ∷ past) g site ≡ false) → (stops y.answer || comes_up y.answer) ≡ true → Stands g past y news
 
 -- a Prepare is sent of an undecided attempt, with the epoch of its counted replies, and its Initiation stands on the disk
 pub record IsPreparing (g : Tid) (past : CoordPast) (y : CoordHappening) (site : SiteId) (e : ℕ) : Type 0 where
@@ -99,7 +100,7 @@ pub record IsPreparing (g : Tid) (past : CoordPast) (y : CoordHappening) (site :
 
 -- why a decision is sent
 pub data IsTelling (protocols : List Participant) (g : Tid) (past : CoordPast) (y : CoordHappening) (site : SiteId) (decision : Decision) : Type 0 where
-  Now : (forgets : Bool) → IsOpen past g → standing (y ∷ past) g ≡ cond forgets Gone (Decided decision) → IsDecidedBy g decision (appended y.calls []) → IsTelling protocols g past y site decision
+  Now : (forgets : Bool) → IsOpen past g → standing (y ∷ past) g ≡ cond forgets Gone (Decided decision) → (news : List CoordRecord) → records (y ∷ past) ≡ news ++ records past → IsDecidedBy g decision news → IsTelling protocols g past y site decision
   Known : standing past g ≡ Decided decision → IsTelling protocols g past y site decision
   Presumed : standing past g ≡ Gone → y.event ≡ Ev.Take site (From.Inquiry g) → decision ≡ presumed (protocol_of protocols site) → IsTelling protocols g past y site decision
 
@@ -111,6 +112,11 @@ Says protocols g past y site message = Unit {0}
 
 abbrev pub Tells : List Participant → Tid → CoordPast → CoordHappening → Sent → Type 0
 Tells protocols g past y sent = Says protocols g past y sent.site sent.message
+
+-- a line that decides commit of the attempt appends its Commit
+abbrev pub Committed : Tid → CoordEvent → Answer → List CoordRecord → Type 0
+Committed g event (Say.Decides Decided.Commit cause forgets) news = is_about g event ≡ true → Among (IsCommit g) news
+Committed g event answer news = Unit {0}
 
 -- why a reply counts
 abbrev pub Counted : Tid → CoordPast → CoordEvent → Type 0
@@ -125,3 +131,4 @@ pub record Goes (protocols : List Participant) (g : Tid) (past : CoordPast) (eve
   pub stands : Stands g past y (appended y.calls [])
   pub tells : Each (Tells protocols g past y) y.sends
   pub counted : counts y.answer ≡ true → Counted g past event
+  pub committed : Committed g event y.answer (appended y.calls [])

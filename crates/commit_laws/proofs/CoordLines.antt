@@ -1,8 +1,9 @@
 -- Every line of the coordinator, also one that a stop ends: what it leaves on the disk and what it does about one attempt.
-use Rattle.std.proofs.Common.{◌≡◌, ℕ, ◌⊎◌, inl, inr, Bool, true, false, nat_le, Option, Some, None, List, [], ◌∷◌, ◌++◌, take, length, refl, sym, ap, subst, ◌∙◌}
+use Rattle.std.proofs.Common.{◌≡◌, ℕ, ◌⊎◌, inl, inr, Bool, true, false, ◌||◌, nat_le, Option, Some, None, List, [], ◌∷◌, ◌++◌, take, length, refl, sym, ap, subst, ◌∙◌}
 use Rattle.mdb_base.specs.declared.names.SiteId.{SiteId}
 use Rattle.mdb_base.specs.declared.names.Tid.{Tid}
-use Rattle.mdb_base.specs.Words.{Each, when}
+use Rattle.mdb_base.specs.Words.{Each, Among, when}
+use Rattle.presumptions.specs.declared.Decision.TheVariants as Decided
 use Rattle.presumptions.specs.declared.Participant.{Participant}
 use Rattle.fed_rules.specs.declared.answers.Answer.{Answer}
 use Rattle.fed_rules.specs.declared.answers.Answer.TheVariants as Say
@@ -10,14 +11,15 @@ use Rattle.fed_rules.specs.declared.events.CoordEvent.{CoordEvent}
 use Rattle.fed_rules.specs.declared.events.CoordEvent.TheVariants as Ev
 use Rattle.fed_rules.specs.declared.records.CoordRecord.{CoordRecord}
 use Rattle.fed_rules.specs.Disk.{Stops, after_calls}
-use Rattle.fed_rules.specs.Happenings.{Trip, is_down, quiet, stopped, tripped}
+use Rattle.fed_rules.specs.Happenings.{Trip, is_down, stops, comes_up, quiet, stopped, tripped}
 use Rattle.fed_rules.specs.Coord.{coord_line, answered, of_back}
 use Rattle.fed_rules.specs.CoordPast.{CoordHappening, CoordPast, disk, records, trip, standing, kept_standing, begins, counts, has_acked}
 use Rattle.fed_rules.specs.CoordRecords.{coord_frame}
 use Rattle.rules_laws.specs.Durable.{IsFirm, IsFrontOf}
-use Rattle.commit_laws.specs.Records.{IsEnd}
-use Rattle.commit_laws.proofs.Disks.{appended, IsCut, Keeps, left-by-line, left-by-stop, quiet-plain, line-records}
-use Rattle.commit_laws.proofs.CoordFacts.{WroteAll, Stands, Tells, Counted, Goes}
+use Rattle.commit_laws.specs.Records.{IsEnd, IsCommit}
+use Rattle.commit_laws.proofs.Lists.{among-left}
+use Rattle.commit_laws.proofs.Disks.{appended, IsCut, Keeps, left-by-line, left-by-stop, quiet-plain, plain-records}
+use Rattle.commit_laws.proofs.CoordFacts.{WroteAll, Stands, Tells, Counted, Committed, Goes}
 use Rattle.commit_laws.proofs.CoordRules.{silently, uncounted}
 use Rattle.commit_laws.proofs.CoordCommits.{by-answered, by-back}
 
@@ -27,7 +29,7 @@ Kept protocols g past event now = ((kept : List CoordRecord) × WroteAll protoco
 
 -- a line that a stop ends, or one that goes through
 pub data Stood (g : Tid) (past : CoordPast) (x : CoordHappening) : Type 0 where
-  Stopped : begins g x.answer ≡ false → standing (x ∷ past) g ≡ kept_standing (records (x ∷ past)) g → ((site : SiteId) → has_acked (x ∷ past) g site ≡ false) → Stood g past x
+  Stopped : begins g x.answer ≡ false → standing (x ∷ past) g ≡ kept_standing (records (x ∷ past)) g → ((site : SiteId) → has_acked (x ∷ past) g site ≡ false) → (stops x.answer || comes_up x.answer) ≡ true → Stood g past x
   Through : Stands g past x (appended x.calls []) → records (x ∷ past) ≡ appended x.calls [] ++ records past → Stood g past x
 
 pub record Line (protocols : List Participant) (g : Tid) (past : CoordPast) (event : CoordEvent) (x : CoordHappening) : Type 0 where
@@ -37,6 +39,7 @@ pub record Line (protocols : List Participant) (g : Tid) (past : CoordPast) (eve
   pub stood : Stood g past x
   pub tells : Each (Tells protocols g past x) x.sends
   pub counted : counts x.answer ≡ true → Counted g past event
+  pub committed : Committed g event x.answer (records (x ∷ past))
 
 -- the oldest of records with reasons have their reasons
 front-written : (protocols : List Participant) (g : Tid) (past : CoordPast) (event : CoordEvent) (newer kept : List CoordRecord) → WroteAll protocols g past event (newer ++ kept) → WroteAll protocols g past event kept
@@ -47,6 +50,11 @@ keeps-written : (protocols : List Participant) (g : Tid) (past : CoordPast) (eve
 keeps-written protocols g past event news now w (inl (kept, (newer, e), is)) = inl (kept, front-written protocols g past event newer kept (subst (WroteAll protocols g past event) e w), is)
 keeps-written protocols g past event news now w (inr c) = inr c
 
+committed-kept : (g : Tid) (event : CoordEvent) (a : Answer) (news old now : List CoordRecord) → now ≡ news ++ old → Committed g event a news → Committed g event a now
+committed-kept g event (Say.Decides Decided.Commit cause forgets) news old now e c = λ about. subst (Among (IsCommit g)) (sym e) (among-left (IsCommit g) news old (c about))
+committed-kept g event (Say.Decides Decided.Abort cause forgets) news old now e c = tt
+committed-kept g event a news old now e c = tt
+
 goes : (protocols : List Participant) (g : Tid) (past : CoordPast) (event : CoordEvent) (y : CoordHappening) → IsFirm coord_frame IsEnd (disk past) → Goes protocols g past event y → Line protocols g past event y
 goes protocols g past event y f s =
     let l = left-by-line coord_frame IsEnd (disk past) y.calls s.quiet f in
@@ -54,9 +62,10 @@ goes protocols g past event y f s =
       is = s.is;
       firm = l.firm;
       kept = keeps-written protocols g past event (appended y.calls []) (records (y ∷ past)) s.wrote l.keeps;
-      stood = Through s.stands (line-records coord_frame IsEnd (disk past) y.calls s.quiet f);
+      stood = Through s.stands (plain-records coord_frame (disk past) y.calls [] (records past) (quiet-plain IsEnd false y.calls s.quiet) refl);
       tells = s.tells;
       counted = s.counted;
+      committed = committed-kept g event y.answer (appended y.calls []) (records past) (records (y ∷ past)) (plain-records coord_frame (disk past) y.calls [] (records past) (quiet-plain IsEnd false y.calls s.quiet) refl) s.committed;
     }
 
 stops-here : (protocols : List Participant) (g : Tid) (past : CoordPast) (event : CoordEvent) (y : CoordHappening) (k cut : ℕ) → IsFirm coord_frame IsEnd (disk past) → Goes protocols g past event y → Line protocols g past event (stopped coord_frame (disk past) y.event (take k y.calls ++ Stops cut ∷ []))
@@ -67,9 +76,10 @@ stops-here protocols g past event y k cut f s =
       is = s.is;
       firm = l.firm;
       kept = keeps-written protocols g past event (appended y.calls []) (after_calls coord_frame (disk past) (take k y.calls ++ Stops cut ∷ [])).records s.wrote l.keeps;
-      stood = Stopped refl refl (λ site. refl);
+      stood = Stopped refl refl (λ site. refl) refl;
       tells = tt;
       counted = (λ e. cc);
+      committed = tt;
     }
 
 line-when : (protocols : List Participant) (g : Tid) (past : CoordPast) (event : CoordEvent) (b : Bool) (x y : CoordHappening) → (b ≡ true → Line protocols g past event x) → (b ≡ false → Line protocols g past event y) → Line protocols g past event (when b x y)

@@ -30,7 +30,7 @@ use Rattle.fed_rules.specs.Happenings.{quiet, stops, comes_up}
 use Rattle.fed_rules.specs.Coord.{send_due, is_prepare, sends_dues, all_outstanding, news, news_at, of_go, of_fate, asked_while, of_inquiry, tells, protocol_of, missing}
 use Rattle.fed_rules.specs.CoordPast.{CoordHappening, CoordPast, records, Standing, Undecided, Decided, Gone, standing, kept_standing, reads, moved, is_about, is_undecided, begins, counts, decides, acks_in, has_acked, participants, program, visits, counted, epoch_at, count_at, has_ticket_at, steps_done, is_wait, is_ticket, has_step_left, vote_at, outstanding, outstanding_at, work_at, take_at, prepare_at, next_step, attempts_of, undecided_of}
 use Rattle.fed_rules.specs.CoordRecords.{initiated, committed_of, is_nobody}
-use Rattle.commit_laws.proofs.CoordFacts.{IsOpen, IsInitiation, IsUnmarked, Wrote, WroteAll, Stands, Same, Starts, IsPreparing, IsTelling, Known, Presumed, Says, Tells, Counted, Goes}
+use Rattle.commit_laws.proofs.CoordFacts.{IsOpen, IsInitiation, IsUnmarked, Wrote, WroteAll, Stands, Same, Starts, IsPreparing, IsTelling, Known, Presumed, Says, Tells, Counted, Committed, Goes}
 
 pub goes-when : (protocols : List Participant) (g : Tid) (past : CoordPast) (event : CoordEvent) (b : Bool) (x y : CoordHappening) → (b ≡ true → Goes protocols g past event x) → (b ≡ false → Goes protocols g past event y) → Goes protocols g past event (when b x y)
 unfolding when
@@ -75,6 +75,10 @@ calm-answer g (Say.Begun tid) c = absurd c
 calm-answer g (Say.Decides decision cause forgets) c = absurd c
 calm-answer g Say.Forgets c = absurd c
 calm-answer g a c = record { stops = refl; up = refl; begins = refl; decides = refl; moved = (λ old. refl) }
+
+calm-committed : (g : Tid) (event : CoordEvent) (a : Answer) (news : List CoordRecord) → IsCalm a → Committed g event a news
+calm-committed g event (Say.Decides decision cause forgets) news c = absurd c
+calm-committed g event a news c = tt
 
 -- the standing behind a line that neither stops nor starts the coordinator
 pub standing-on : (g : Tid) (past : CoordPast) (x : CoordHappening) → stops x.answer ≡ false → comes_up x.answer ≡ false → standing (x ∷ past) g ≡ cond (is_about g x.event) (moved x.answer (standing past g)) (standing past g)
@@ -136,6 +140,7 @@ quietly protocols g past event answer c a k = record {
   stands = Same (calm-standing g past (quiet event answer) c) (calm-answer g answer c).begins tt (inl (λ site. calm-acked g past (quiet event answer) site c (a site)));
   tells = tt;
   counted = k;
+  committed = calm-committed g event answer [] c;
 }
 
 -- a quiet line of an event that is no acknowledgement and no reply
@@ -272,6 +277,7 @@ by-go protocols g past t steps =
           (each_map IsNoPrepare (λ due. Tells protocols g past y (send_due t due)) says (all_outstanding protocols now t)
           (each-found IsNoPrepare (λ member. outstanding now t member.site) (λ member due e. at-once past t steps member.site due e) (participants protocols now t)));
       counted = (λ e. tt);
+      committed = tt;
     }
 
 -- an Initiation that is kept stands among the records
@@ -326,6 +332,7 @@ by-dues protocols g past event t dues undecided n k each =
       stands = Same (calm-standing g past initiates tt) refl (tt, tt) (inl (λ site. calm-acked g past initiates site tt (no-ack g site initiates n)));
       tells = each-map (Tells protocols g past initiates) (send_due t) dues (each_map (IsOwed (quiet event Say.Only ∷ past) t) (λ due. Tells protocols g past initiates (send_due t due)) says_initiates dues each);
       counted = (λ e. k);
+      committed = tt;
     }
 
     by_only : (some_of is_prepare dues && is_none (initiated (records past) t)) ≡ false → Goes protocols g past event only
@@ -337,6 +344,7 @@ by-dues protocols g past event t dues undecided n k each =
       tells = each-map (Tells protocols g past only) (send_due t) dues
           (each_from (λ due. Tells protocols g past only (send_due t due)) dues (λ due i. says_only b due i (each_at (IsOwed (quiet event Say.Only ∷ past) t) due dues each i)));
       counted = (λ e. k);
+      committed = tt;
     }
 
 -- an inquiry
@@ -350,6 +358,7 @@ by-asked protocols g past site t (Decided decision) e = record {
   stands = Same (calm-standing g past y tt) refl tt (inl (λ at. calm-acked g past y at tt refl));
   tells = ((λ q. of-same (λ u. IsTelling protocols u past y site decision) t g (Known e) q), tt);
   counted = (λ i. tt);
+  committed = tt;
 } where
   y : CoordHappening
   y = tells site t (Say.Answers decision) decision
@@ -360,6 +369,7 @@ by-asked protocols g past site t Gone e = record {
   stands = Same (calm-standing g past y tt) refl tt (inl (λ at. calm-acked g past y at tt refl));
   tells = ((λ q. of-same (λ u. IsTelling protocols u past y site (presumed (protocol_of protocols site))) t g (Presumed e refl refl) q), tt);
   counted = (λ i. tt);
+  committed = tt;
 } where
   y : CoordHappening
   y = tells site t (Say.Presumes (presumed (protocol_of protocols site))) (presumed (protocol_of protocols site))

@@ -85,6 +85,14 @@ firm-calls size Loose true d (Stops cut ∷ cs) q s f = absurd q
 pub firm-quiet : {R : Type 0} (size : R → ℕ) (Loose : R → Type 0) (d : Disk R) (cs : List (Call R)) → IsQuiet Loose false cs → IsFirm size Loose d → IsFirm size Loose (after_calls size d cs)
 firm-quiet size Loose d cs q f = firm-calls size Loose false d cs q f.sound (λ e. f)
 
+-- calls that are no stops keep all that they append
+pub plain-records : {R : Type 0} (size : R → ℕ) (d : Disk R) (cs : List (Call R)) (news old : List R) → IsPlain cs → d.records ≡ news ++ old → (after_calls size d cs).records ≡ appended cs news ++ old
+plain-records size d [] news old p e = e
+plain-records size d (Append r ∷ cs) news old p e = plain-records size (after_call size d (Append r)) cs (r ∷ news) old p (ap (λ rs. r ∷ rs) e)
+plain-records size d (Sync ∷ cs) news old p e = plain-records size (after_call size d Sync) cs news old p e
+plain-records size d (CutBack ∷ cs) news old p e = plain-records size (after_call size d CutBack) cs news old p e
+plain-records size d (Stops cut ∷ cs) news old p e = absurd p
+
 -- in the middle of a line: its records so far stand before the old ones
 record Mid {R : Type 0} (size : R → ℕ) (Loose : R → Type 0) (old news : List R) (d : Disk R) : Type 0 where
   records : d.records ≡ news ++ old
@@ -173,10 +181,6 @@ left-by-line size Loose d cs q f = record {
   firm = firm-quiet size Loose d cs q f;
   keeps = inl (appended cs [], ([], refl), (mid-calls size Loose d.records [] d cs (quiet-plain Loose false cs q) (start-mid size Loose d f)).records);
 }
-
--- such a line keeps all that it appends
-pub line-records : {R : Type 0} (size : R → ℕ) (Loose : R → Type 0) (d : Disk R) (cs : List (Call R)) → IsQuiet Loose false cs → IsFirm size Loose d → (after_calls size d cs).records ≡ appended cs [] ++ d.records
-line-records size Loose d cs q f = (mid-calls size Loose d.records [] d cs (quiet-plain Loose false cs q) (start-mid size Loose d f)).records
 
 -- a line that stops after the first of its calls
 pub left-by-stop : {R : Type 0} (size : R → ℕ) (Loose : R → Type 0) (d : Disk R) (cs : List (Call R)) (k cut : ℕ) → IsPlain cs → IsFirm size Loose d → Left size Loose (appended cs []) d.records (after_calls size d (take k cs ++ Stops cut ∷ []))

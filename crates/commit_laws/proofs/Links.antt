@@ -1,5 +1,5 @@
 -- What happens in a story is the next line of a site or of the coordinator; what is given or taken there was sent, and what begins is new.
-use Rattle.std.proofs.Common.{◌≡◌, ℕ, zero, suc, ◌⊎◌, inl, inr, Bool, true, false, cond, Option, Some, None, List, [], ◌∷◌, refl, sym, ◌∙◌, ap, subst}
+use Rattle.std.proofs.Common.{◌≡◌, ℕ, zero, suc, ◌⊎◌, inl, inr, Bool, true, false, cond, Option, Some, None, List, [], ◌∷◌, refl, sym, ◌∙◌, ap, ap₂, subst}
 use Rattle.std.proofs.lemmas.Bool.{eqb-true, eq-eqb}
 use Rattle.mdb_base.specs.declared.acts.Step.{Step}
 use Rattle.mdb_base.specs.declared.names.SiteId.{SiteId}
@@ -24,6 +24,7 @@ use Rattle.fed_rules.specs.CoordPast as Coordinator
 use Rattle.fed_rules.specs.Runs.{Run}
 use Rattle.fed_rules.specs.Scenarios.{home_in, home_of, home_at, home_of_line, items_of, local_site, local_home, transaction, global_line, global_program, protocols}
 use Rattle.fed_rules.specs.Site.{site_line}
+use Rattle.fed_rules.specs.SitePast.{SiteHappening}
 use Rattle.fed_rules.specs.SiteRecords.{Home}
 use Rattle.fed_rules.specs.Story.{Story, Happened, AtSite, AtCoordinator, Nowhere, past_of, coord_past, sent_to, sent_from, attempt, happens, at_site, at_coordinator, begins_local, on_begin, with_live, next_step, on_step, on_commit, on_abort, on_fate, begins_global, on_go, on_attempt, on_site, on_give, on_take, on_actor}
 
@@ -82,142 +83,145 @@ CoordCame scenario story (Coord_event.Take site message) = In message (sent_from
 CoordCame scenario story (Coord_event.Go t steps) = (t.attempt ≡ Coordinator.attempts_of (coord_past story) t.tx) × (global_program scenario t.tx ≡ Some steps)
 CoordCame scenario story event = Unit {0}
 
--- what happens is the next line of this site, or of the coordinator, or is no line of them
-abbrev pub IsNext : Scenario → Home → Story → Happened → Type 0
-IsNext scenario home story (AtSite at x) = same_site at home.site ≡ true → (event : SiteEvent) × (x ≡ site_line home (past_of home.site story) event) × SiteCame scenario home.site story event
-IsNext scenario home story (AtCoordinator x) = (event : CoordEvent) × (x ≡ coord_line (protocols scenario) (coord_past story) event) × CoordCame scenario story event
-IsNext scenario home story (Nowhere answer) = Unit {0}
+-- what happens is the next line of a declared site, or of the coordinator, or is no line of them
+abbrev pub IsNext : Scenario → Story → Happened → Type 0
+IsNext scenario story (AtSite at x) = (home : Home) × (home_of scenario at ≡ Some home) × (event : SiteEvent) × (x ≡ site_line home (past_of at story) event) × SiteCame scenario at story event
+IsNext scenario story (AtCoordinator x) = (event : CoordEvent) × (x ≡ coord_line (protocols scenario) (coord_past story) event) × CoordCame scenario story event
+IsNext scenario story (Nowhere answer) = Unit {0}
 
-pub record Linked (scenario : Scenario) (home : Home) (story : Story) (happened : Happened) : Type 0 where
-  pub next : IsNext scenario home story happened
+pub record Linked (scenario : Scenario) (story : Story) (happened : Happened) : Type 0 where
+  pub next : IsNext scenario story happened
 
-nowhere : (scenario : Scenario) (home : Home) (story : Story) (answer : Answer) → Linked scenario home story (Nowhere answer)
-nowhere scenario home story answer = record { next = tt }
+nowhere : (scenario : Scenario) (story : Story) (answer : Answer) → Linked scenario story (Nowhere answer)
+nowhere scenario story answer = record { next = tt }
 
-at-coordinator : (scenario : Scenario) (home : Home) (story : Story) (event : CoordEvent) → CoordCame scenario story event → Linked scenario home story (at_coordinator scenario story event)
-at-coordinator scenario home story event came = record { next = (event, refl, came) }
+at-coordinator : (scenario : Scenario) (story : Story) (event : CoordEvent) → CoordCame scenario story event → Linked scenario story (at_coordinator scenario story event)
+at-coordinator scenario story event came = record { next = (event, refl, came) }
 
-linked-when : (scenario : Scenario) (home : Home) (story : Story) (t : Bool) (a b : Happened) → Linked scenario home story a → Linked scenario home story b → Linked scenario home story (when t a b)
+linked-when : (scenario : Scenario) (story : Story) (t : Bool) (a b : Happened) → Linked scenario story a → Linked scenario story b → Linked scenario story (when t a b)
 unfolding when
-linked-when scenario home story true a b p q = p
-linked-when scenario home story false a b p q = q
+linked-when scenario story true a b p q = p
+linked-when scenario story false a b p q = q
 
-linked-pick : {A : Type 0} (scenario : Scenario) (home : Home) (story : Story) (o : Option A) (none : Happened) (some : A → Happened) → Linked scenario home story none → ((x : A) → o ≡ Some x → Linked scenario home story (some x)) → Linked scenario home story (pick o none some)
+linked-pick : {A : Type 0} (scenario : Scenario) (story : Story) (o : Option A) (none : Happened) (some : A → Happened) → Linked scenario story none → ((x : A) → o ≡ Some x → Linked scenario story (some x)) → Linked scenario story (pick o none some)
 unfolding pick
-linked-pick scenario home story None none some p q = p
-linked-pick scenario home story (Some x) none some p q = q x refl
+linked-pick scenario story None none some p q = p
+linked-pick scenario story (Some x) none some p q = q x refl
 
 -- the next event of a declared site
-at-home : (scenario : Scenario) (home : Home) (story : Story) (other : Home) (event : SiteEvent) → home_of scenario home.site ≡ Some home → home_of scenario other.site ≡ Some other → SiteCame scenario other.site story event → Linked scenario home story (at_site other story event)
-at-home scenario home story other event e f came = record {
-  next = (λ same.
-      let p : other ≡ home = some-parts (sym f ∙ ap (home_of scenario) (same-site other.site home.site same) ∙ e) in
-      (event, ap (λ h. site_line h (past_of h.site story) event) p, subst (λ h. SiteCame scenario h.site story event) p came));
-}
+at-home : (scenario : Scenario) (story : Story) (other : Home) (event : SiteEvent) → home_of scenario other.site ≡ Some other → SiteCame scenario other.site story event → Linked scenario story (at_site other story event)
+at-home scenario story other event f came = record { next = (other, f, event, refl, came) }
 
 -- the home of a local transaction is a declared site
 local-declared : (scenario : Scenario) (s : Option SiteId) (h : Home) → home_at scenario s ≡ Some h → home_of scenario h.site ≡ Some h
 local-declared scenario None h e = cc
 local-declared scenario (Some s) h e = home-again scenario s h e
 
-by-begin : (scenario : Scenario) (home : Home) (story : Story) (tx : Tx) → home_of scenario home.site ≡ Some home → Linked scenario home story (on_begin scenario story tx)
+by-begin : (scenario : Scenario) (story : Story) (tx : Tx) → Linked scenario story (on_begin scenario story tx)
 unfolding on_begin begins_local
-by-begin scenario home story tx e =
-    linked-pick scenario home story (local_home scenario tx) _ _ (nowhere scenario home story _) (λ other f.
-    linked-when scenario home story _ _ _ (nowhere scenario home story _)
-    (at-home scenario home story other _ e (local-declared scenario (local_site scenario tx) other f) (other, f)))
+by-begin scenario story tx =
+    linked-pick scenario story (local_home scenario tx) _ _ (nowhere scenario story _) (λ other f.
+    linked-when scenario story _ _ _ (nowhere scenario story _)
+    (at-home scenario story other _ (local-declared scenario (local_site scenario tx) other f) (other, f)))
 
 -- an event of the live attempt
-by-live : (scenario : Scenario) (home : Home) (story : Story) (other : Home) (tx : Tx) (next : Tid → Run → Happened) → ((tid : Tid) (run : Run) → Linked scenario home story (next tid run)) → Linked scenario home story (with_live other story tx next)
+by-live : (scenario : Scenario) (story : Story) (other : Home) (tx : Tx) (next : Tid → Run → Happened) → ((tid : Tid) (run : Run) → Linked scenario story (next tid run)) → Linked scenario story (with_live other story tx next)
 unfolding with_live
-by-live scenario home story other tx next g =
-    linked-when scenario home story _ _ _ (nowhere scenario home story _)
-    (linked-pick scenario home story _ _ _ (nowhere scenario home story _) (λ tid f.
-    linked-pick scenario home story _ _ _ (nowhere scenario home story _) (λ run h. g tid run)))
+by-live scenario story other tx next g =
+    linked-when scenario story _ _ _ (nowhere scenario story _)
+    (linked-pick scenario story _ _ _ (nowhere scenario story _) (λ tid f.
+    linked-pick scenario story _ _ _ (nowhere scenario story _) (λ run h. g tid run)))
 
-by-step : (scenario : Scenario) (home : Home) (story : Story) (tx : Tx) → home_of scenario home.site ≡ Some home → Linked scenario home story (on_step scenario story tx)
+by-step : (scenario : Scenario) (story : Story) (tx : Tx) → Linked scenario story (on_step scenario story tx)
 unfolding on_step next_step
-by-step scenario home story tx e =
-    linked-pick scenario home story (local_home scenario tx) _ _ (nowhere scenario home story _) (λ other f.
-    by-live scenario home story other tx _ (λ tid run.
-    linked-pick scenario home story _ _ _ (nowhere scenario home story _) (λ step h.
-    at-home scenario home story other _ e (local-declared scenario (local_site scenario tx) other f) tt)))
+by-step scenario story tx =
+    linked-pick scenario story (local_home scenario tx) _ _ (nowhere scenario story _) (λ other f.
+    by-live scenario story other tx _ (λ tid run.
+    linked-pick scenario story _ _ _ (nowhere scenario story _) (λ step h.
+    at-home scenario story other _ (local-declared scenario (local_site scenario tx) other f) tt)))
 
-by-commit : (scenario : Scenario) (home : Home) (story : Story) (tx : Tx) → home_of scenario home.site ≡ Some home → Linked scenario home story (on_commit scenario story tx)
+by-commit : (scenario : Scenario) (story : Story) (tx : Tx) → Linked scenario story (on_commit scenario story tx)
 unfolding on_commit
-by-commit scenario home story tx e =
-    linked-pick scenario home story (local_home scenario tx) _ _ (nowhere scenario home story _) (λ other f.
-    by-live scenario home story other tx _ (λ tid run.
-    linked-when scenario home story _ _ _ (nowhere scenario home story _)
-    (at-home scenario home story other _ e (local-declared scenario (local_site scenario tx) other f) tt)))
+by-commit scenario story tx =
+    linked-pick scenario story (local_home scenario tx) _ _ (nowhere scenario story _) (λ other f.
+    by-live scenario story other tx _ (λ tid run.
+    linked-when scenario story _ _ _ (nowhere scenario story _)
+    (at-home scenario story other _ (local-declared scenario (local_site scenario tx) other f) tt)))
 
-by-abort : (scenario : Scenario) (home : Home) (story : Story) (tx : Tx) → home_of scenario home.site ≡ Some home → Linked scenario home story (on_abort scenario story tx)
+by-abort : (scenario : Scenario) (story : Story) (tx : Tx) → Linked scenario story (on_abort scenario story tx)
 unfolding on_abort
-by-abort scenario home story tx e =
-    linked-pick scenario home story (local_home scenario tx) _ _ (nowhere scenario home story _) (λ other f.
-    by-live scenario home story other tx _ (λ tid run.
-    at-home scenario home story other _ e (local-declared scenario (local_site scenario tx) other f) tt))
+by-abort scenario story tx =
+    linked-pick scenario story (local_home scenario tx) _ _ (nowhere scenario story _) (λ other f.
+    by-live scenario story other tx _ (λ tid run.
+    at-home scenario story other _ (local-declared scenario (local_site scenario tx) other f) tt))
 
-by-fate : (scenario : Scenario) (home : Home) (story : Story) (tx : Tx) → home_of scenario home.site ≡ Some home → Linked scenario home story (on_fate scenario story tx)
+by-fate : (scenario : Scenario) (story : Story) (tx : Tx) → Linked scenario story (on_fate scenario story tx)
 unfolding on_fate
-by-fate scenario home story tx e =
-    linked-pick scenario home story (local_home scenario tx) _ _
-    (linked-pick scenario home story _ _ _ (nowhere scenario home story _) (λ steps f. at-coordinator scenario home story _ tt))
-    (λ other f. at-home scenario home story other _ e (local-declared scenario (local_site scenario tx) other f) tt)
+by-fate scenario story tx =
+    linked-pick scenario story (local_home scenario tx) _ _
+    (linked-pick scenario story _ _ _ (nowhere scenario story _) (λ steps f. at-coordinator scenario story _ tt))
+    (λ other f. at-home scenario story other _ (local-declared scenario (local_site scenario tx) other f) tt)
 
-by-go : (scenario : Scenario) (home : Home) (story : Story) (tx : Tx) → Linked scenario home story (on_go scenario story tx)
+by-go : (scenario : Scenario) (story : Story) (tx : Tx) → Linked scenario story (on_go scenario story tx)
 unfolding on_go begins_global
-by-go scenario home story tx =
-    linked-pick scenario home story (global_program scenario tx) _ _ (nowhere scenario home story _) (λ steps f.
-    linked-when scenario home story _ _ _ (nowhere scenario home story _) (at-coordinator scenario home story _ (refl, f)))
+by-go scenario story tx =
+    linked-pick scenario story (global_program scenario tx) _ _ (nowhere scenario story _) (λ steps f.
+    linked-when scenario story _ _ _ (nowhere scenario story _) (at-coordinator scenario story _ (refl, f)))
 
-by-attempt : (scenario : Scenario) (home : Home) (story : Story) (tid : Tid) (event : CoordEvent) → CoordCame scenario story event → Linked scenario home story (on_attempt scenario story tid event)
+by-attempt : (scenario : Scenario) (story : Story) (tid : Tid) (event : CoordEvent) → CoordCame scenario story event → Linked scenario story (on_attempt scenario story tid event)
 unfolding on_attempt
-by-attempt scenario home story tid event came =
-    linked-when scenario home story _ _ _ (at-coordinator scenario home story event came) (nowhere scenario home story _)
+by-attempt scenario story tid event came =
+    linked-when scenario story _ _ _ (at-coordinator scenario story event came) (nowhere scenario story _)
 
-by-on_site : (scenario : Scenario) (home : Home) (story : Story) (s : SiteId) (event : SiteEvent) → home_of scenario home.site ≡ Some home → SiteCame scenario s story event → Linked scenario home story (on_site scenario story s event)
+by-on_site : (scenario : Scenario) (story : Story) (s : SiteId) (event : SiteEvent) → SiteCame scenario s story event → Linked scenario story (on_site scenario story s event)
 unfolding on_site
-by-on_site scenario home story s event e came =
-    linked-pick scenario home story (home_of scenario s) _ _ (nowhere scenario home story _) (λ other f.
-    at-home scenario home story other event e (home-again scenario s other f) (subst (λ at. SiteCame scenario at story event) (sym (its-site scenario s other f)) came))
+by-on_site scenario story s event came =
+    linked-pick scenario story (home_of scenario s) _ _ (nowhere scenario story _) (λ other f.
+    at-home scenario story other event (home-again scenario s other f) (subst (λ at. SiteCame scenario at story event) (sym (its-site scenario s other f)) came))
 
 pub item-in : {A : Type 0} (xs : List A) (n : ℕ) (x : A) → item_at xs n ≡ Some x → In x xs
 item-in [] n x e = cc
 item-in (y ∷ ys) zero x e = inl (some-parts e)
 item-in (y ∷ ys) (suc n) x e = inr (item-in ys n x e)
 
-by-give : (scenario : Scenario) (home : Home) (story : Story) (s : SiteId) (place : ℕ) → home_of scenario home.site ≡ Some home → Linked scenario home story (on_give scenario story s place)
+by-give : (scenario : Scenario) (story : Story) (s : SiteId) (place : ℕ) → Linked scenario story (on_give scenario story s place)
 unfolding on_give
-by-give scenario home story s place e =
-    linked-pick scenario home story (item_at (sent_to s story) place) _ _ (nowhere scenario home story _) (λ message f.
-    by-on_site scenario home story s (Site_event.Give message) e (item-in (sent_to s story) place message f))
+by-give scenario story s place =
+    linked-pick scenario story (item_at (sent_to s story) place) _ _ (nowhere scenario story _) (λ message f.
+    by-on_site scenario story s (Site_event.Give message) (item-in (sent_to s story) place message f))
 
-by-take : (scenario : Scenario) (home : Home) (story : Story) (s : SiteId) (place : ℕ) → Linked scenario home story (on_take scenario story s place)
+by-take : (scenario : Scenario) (story : Story) (s : SiteId) (place : ℕ) → Linked scenario story (on_take scenario story s place)
 unfolding on_take
-by-take scenario home story s place =
-    linked-pick scenario home story (item_at (sent_from s story) place) _ _ (nowhere scenario home story _) (λ message f.
-    at-coordinator scenario home story (Coord_event.Take s message) (item-in (sent_from s story) place message f))
+by-take scenario story s place =
+    linked-pick scenario story (item_at (sent_from s story) place) _ _ (nowhere scenario story _) (λ message f.
+    at-coordinator scenario story (Coord_event.Take s message) (item-in (sent_from s story) place message f))
 
-by-actor : (scenario : Scenario) (home : Home) (story : Story) (actor : ℕ) (c : CoordEvent) (s : SiteEvent) → home_of scenario home.site ≡ Some home → CoordCame scenario story c → ((site : SiteId) → SiteCame scenario site story s) → Linked scenario home story (on_actor scenario story actor c s)
+by-actor : (scenario : Scenario) (story : Story) (actor : ℕ) (c : CoordEvent) (s : SiteEvent) → CoordCame scenario story c → ((site : SiteId) → SiteCame scenario site story s) → Linked scenario story (on_actor scenario story actor c s)
 unfolding on_actor
-by-actor scenario home story zero c s e came there = at-coordinator scenario home story c came
-by-actor scenario home story (suc n) c s e came there = by-on_site scenario home story (record { 0 = suc n }) s e (there (record { 0 = suc n }))
+by-actor scenario story zero c s came there = at-coordinator scenario story c came
+by-actor scenario story (suc n) c s came there = by-on_site scenario story (record { 0 = suc n }) s (there (record { 0 = suc n }))
 
-pub linked : (scenario : Scenario) (home : Home) (story : Story) (command : Command) → home_of scenario home.site ≡ Some home → Linked scenario home story (happens scenario story command)
+pub linked : (scenario : Scenario) (story : Story) (command : Command) → Linked scenario story (happens scenario story command)
 unfolding happens
-linked scenario home story (Cmd.Begin tx) e = by-begin scenario home story tx e
-linked scenario home story (Cmd.Step tx) e = by-step scenario home story tx e
-linked scenario home story (Cmd.Commit tx) e = by-commit scenario home story tx e
-linked scenario home story (Cmd.Abort tx) e = by-abort scenario home story tx e
-linked scenario home story (Cmd.Fate tx) e = by-fate scenario home story tx e
-linked scenario home story (Cmd.Go tx) e = by-go scenario home story tx
-linked scenario home story (Cmd.Again tid) e = by-attempt scenario home story tid _ tt
-linked scenario home story (Cmd.Late tid) e = by-attempt scenario home story tid _ tt
-linked scenario home story (Cmd.Give site place) e = by-give scenario home story site place e
-linked scenario home story (Cmd.Take site place) e = by-take scenario home story site place
-linked scenario home story (Cmd.Ask site tid) e = by-on_site scenario home story site _ e tt
-linked scenario home story (Cmd.Drop site tid) e = by-on_site scenario home story site _ e tt
-linked scenario home story (Cmd.Halt actor cut) e = by-actor scenario home story actor _ _ e tt (λ site. tt)
-linked scenario home story (Cmd.Trip actor calls cut) e = by-actor scenario home story actor _ _ e tt (λ site. tt)
-linked scenario home story (Cmd.Back actor) e = by-actor scenario home story actor _ _ e tt (λ site. tt)
+linked scenario story (Cmd.Begin tx) = by-begin scenario story tx
+linked scenario story (Cmd.Step tx) = by-step scenario story tx
+linked scenario story (Cmd.Commit tx) = by-commit scenario story tx
+linked scenario story (Cmd.Abort tx) = by-abort scenario story tx
+linked scenario story (Cmd.Fate tx) = by-fate scenario story tx
+linked scenario story (Cmd.Go tx) = by-go scenario story tx
+linked scenario story (Cmd.Again tid) = by-attempt scenario story tid _ tt
+linked scenario story (Cmd.Late tid) = by-attempt scenario story tid _ tt
+linked scenario story (Cmd.Give site place) = by-give scenario story site place
+linked scenario story (Cmd.Take site place) = by-take scenario story site place
+linked scenario story (Cmd.Ask site tid) = by-on_site scenario story site _ tt
+linked scenario story (Cmd.Drop site tid) = by-on_site scenario story site _ tt
+linked scenario story (Cmd.Halt actor cut) = by-actor scenario story actor _ _ tt (λ site. tt)
+linked scenario story (Cmd.Trip actor calls cut) = by-actor scenario story actor _ _ tt (λ site. tt)
+linked scenario story (Cmd.Back actor) = by-actor scenario story actor _ _ tt (λ site. tt)
+
+-- a line of this site
+pub linked-here : (scenario : Scenario) (home : Home) (story : Story) (x : SiteHappening) (at : SiteId) → home_of scenario home.site ≡ Some home → same_site at home.site ≡ true → IsNext scenario story (AtSite at x) → (event : SiteEvent) × (x ≡ site_line home (past_of home.site story) event) × SiteCame scenario home.site story event
+linked-here scenario home story x at declared q (other, found, event, is, came) =
+    let site : at ≡ home.site = same-site at home.site q in
+    let same : other ≡ home = some-parts (sym found ∙ ap (home_of scenario) site ∙ declared) in
+    (event, is ∙ ap₂ (λ h s. site_line h (past_of s story) event) same site, subst (λ s. SiteCame scenario s story event) site came)

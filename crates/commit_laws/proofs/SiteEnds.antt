@@ -34,6 +34,7 @@ use Rattle.fed_rules.specs.Site.{with_lines, next_number, of_begin, act_answer, 
 use Rattle.fed_rules.specs.SitePast.{SiteHappening, SitePast, records, epoch, epoch_start, engine_lines, live, live_one, ends, decides_on, is_closed, attempts_of, is_local, live_of_tx}
 use Rattle.fed_rules.specs.SiteRecords.{Home, Held, site_frame, epoch_of, doubt_of, doubts, local_of}
 use Rattle.commit_laws.specs.Records.{IsPrepared, IsEnded, IsLooseEnded}
+use Rattle.commit_laws.specs.Seals.{appends_prepared}
 use Rattle.commit_laws.proofs.SiteFacts.{WroteOne, IsSealing, IsSettling, IsAcking, Says, Settled, NotBegun, Shut, Step}
 use Rattle.commit_laws.proofs.SiteShut.{Leaves, leaves-shut, other-line, other-lines, this-line, given-up, sealed-now, shut-on, restored-sealed}
 use Rattle.commit_laws.proofs.Disks.{appended, IsQuiet}
@@ -67,6 +68,10 @@ ended-appended : (b : Bool) (tid : Tid) (d : Decision) → appended (Append (Rec
 ended-appended true tid d = refl
 ended-appended false tid d = refl
 
+ended-seals : (g tid : Tid) (d : Decision) (b : Bool) → some_of (appends_prepared g) (Append (Rec.Ended tid d) ∷ cond b (Sync ∷ []) []) ≡ true → ⊥
+ended-seals g tid d true e = cc
+ended-seals g tid d false e = cc
+
 -- an acknowledgement is sent where the protocol has one
 ack-says : (home : Home) (g : Tid) (past : SitePast) (y : SiteHappening) (tid : Tid) (d : Decision) → (acks home.protocol d ≡ true → same_tid tid g ≡ true → IsAcking home g past y) → Each (Says home g past y) (cond (acks home.protocol d) (From.Ack tid ∷ []) [])
 ack-says home g past y tid d k = by_test (acks home.protocol d) refl where
@@ -88,6 +93,7 @@ by-settles home g past tid d held up doubt = record {
   says = ack-says home g past y tid d (λ a q. of-same (λ u. IsAcking home u past y) tid g (acking a) q);
   shut = (λ nb s. shut-on home g past y refl refl up (by_test (same_tid tid g) refl s));
   settled = settling;
+  seals = (λ i. absurd (ended-seals g tid d (forces home.protocol d) i));
   rises = (λ i. cc);
 } where
   y : SiteHappening
@@ -126,6 +132,7 @@ by-unheld home g past tid d lines up free here other = record {
   says = ack-says home g past (unheld home tid d lines) tid d (λ a q. of-same (λ u. IsAcking home u past (unheld home tid d lines)) tid g (record { decision = d; taken = refl; acks = a; after = inr (refl, free) }) q);
   shut = (λ nb s. shut-on home g past (unheld home tid d lines) refl refl up (by_test (same_tid tid g) refl s));
   settled = tt;
+  seals = (λ i. cc);
   rises = (λ i. cc);
 } where
   by_test : (q : Bool) → same_tid tid g ≡ q → Shut home g past → ((same_tid tid g || some_of (ends g) lines || is_closed past g) || is_some (doubt_of (records home past) g)) ≡ true → live_one (run_at (epoch_start home past) (lines ++ engine_lines past) g) ≡ None
@@ -155,10 +162,15 @@ by-back home g past = record {
   says = tt;
   shut = (λ nb s. record { down = (λ e. restored-sealed _ g); over = (λ e. restored-sealed _ g) });
   settled = tt;
+  seals = (λ i. absurd (start-seals (is_torn site_frame (disk home past)) i));
   rises = (λ i. rises (is_torn site_frame (disk home past)));
 } where
   start : SiteRecord
   start = Rec.Start (epoch home past + 1)
+
+  start-seals : (b : Bool) → some_of (appends_prepared g) (cond b (CutBack ∷ []) [] ++ Append (Rec.Start (epoch home past + 1)) ∷ Sync ∷ []) ≡ true → ⊥
+  start-seals true e = cc
+  start-seals false e = cc
 
   quiet_calls : (b : Bool) → IsQuiet (IsLooseEnded home.protocol) false (cond b (CutBack ∷ []) [] ++ Append start ∷ Sync ∷ [])
   quiet_calls true = inr tt

@@ -21,10 +21,12 @@ use Rattle.fed_rules.specs.Site.{is_over}
 use Rattle.fed_rules.specs.SitePast.{SiteHappening, SitePast, disk, records, epoch, live}
 use Rattle.fed_rules.specs.SiteRecords.{Home, Held, doubt_of, site_frame}
 use Rattle.commit_laws.specs.Records.{IsPrepared, IsEnded, IsLooseEnded}
+use Rattle.commit_laws.specs.Seals.{seals}
 use Rattle.commit_laws.proofs.Disks.{appended, IsQuiet, IsCut}
 
--- the line seals the attempt: it isn't in doubt, its run is live, and the Prepare names the site's epoch
+-- the line seals the attempt: the site is up and not in doubt of it, its run is live, and the Prepare names the site's epoch
 pub record IsSealing (home : Home) (g : Tid) (past : SitePast) (event : SiteEvent) (e : ℕ) : Type 0 where
+  pub up : is_down past ≡ false
   pub n : ℕ
   pub taken : event ≡ Ev.Give (To.Prepare g e n)
   pub epoch : e ≡ epoch home past
@@ -89,4 +91,5 @@ pub record Step (home : Home) (g : Tid) (past : SitePast) (event : SiteEvent) (y
   pub says : Each (Says home g past y) y.sends
   pub shut : NotBegun g event → Shut home g past → Shut home g (y ∷ past)
   pub settled : Settled home g past event y.answer
+  pub seals : seals g y ≡ true → (e : ℕ) × IsSealing home g past event e × Among (IsPrepared g e) (records home (y ∷ past))
   pub rises : comes_up y.answer ≡ true → epoch home past < epoch home (y ∷ past)

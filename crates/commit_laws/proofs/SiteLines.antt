@@ -1,22 +1,24 @@
 -- Every line of a site, also one that a stop ends: what it leaves on the disk and what it does about one attempt.
-use Rattle.std.proofs.Common.{◌≡◌, ℕ, ◌<◌, ◌⊎◌, inl, inr, Bool, true, false, nat_le, Option, Some, None, List, [], ◌∷◌, ◌++◌, take, length, refl, sym, ap, subst, ◌∙◌, arith}
+use Rattle.std.proofs.Common.{◌≡◌, ℕ, zero, suc, ◌||◌, ◌<◌, ◌⊎◌, inl, inr, Bool, true, false, nat_le, Option, Some, None, List, [], ◌∷◌, ◌++◌, take, length, refl, sym, ap, subst, ◌∙◌, arith}
+use Rattle.std.proofs.lemmas.Bool.{and_right}
 use Rattle.mdb_base.specs.declared.acts.PlainAct.{PlainAct}
 use Rattle.mdb_base.specs.declared.names.Tid.{Tid}
-use Rattle.mdb_base.specs.Words.{Each, when}
+use Rattle.mdb_base.specs.Words.{Each, Among, some_of, when}
 use Rattle.fed_rules.specs.declared.answers.Answer.{Answer}
 use Rattle.fed_rules.specs.declared.answers.Answer.TheVariants as Say
 use Rattle.fed_rules.specs.declared.events.SiteEvent.{SiteEvent}
 use Rattle.fed_rules.specs.declared.events.SiteEvent.TheVariants as Ev
 use Rattle.fed_rules.specs.declared.records.SiteRecord.{SiteRecord}
-use Rattle.fed_rules.specs.Disk.{Stops}
+use Rattle.fed_rules.specs.Disk.{Call, Stops}
 use Rattle.fed_rules.specs.Happenings.{Trip, comes_up, is_down, quiet, stopped, tripped}
 use Rattle.fed_rules.specs.Site.{site_line, answered, of_back}
 use Rattle.fed_rules.specs.SitePast.{SiteHappening, SitePast, disk, records, epoch, trip}
 use Rattle.fed_rules.specs.SiteRecords.{Home, site_frame}
 use Rattle.rules_laws.specs.Durable.{IsFirm, IsFrontOf}
-use Rattle.commit_laws.specs.Records.{IsLooseEnded}
+use Rattle.commit_laws.specs.Records.{IsPrepared, IsLooseEnded}
+use Rattle.commit_laws.specs.Seals.{appends_prepared, seals}
 use Rattle.commit_laws.proofs.Disks.{appended, IsCut, Keeps, Left, left-by-line, left-by-stop, quiet-plain}
-use Rattle.commit_laws.proofs.SiteFacts.{Wrote, WroteOne, Says, Settled, NotBegun, Shut, Step}
+use Rattle.commit_laws.proofs.SiteFacts.{IsSealing, Wrote, WroteOne, Says, Settled, NotBegun, Shut, Step}
 use Rattle.commit_laws.proofs.SiteShut.{restored-sealed}
 use Rattle.commit_laws.proofs.SiteEnds.{by-answered, by-back}
 
@@ -31,6 +33,7 @@ pub record Line (home : Home) (g : Tid) (past : SitePast) (event : SiteEvent) (x
   pub says : Each (Says home g past x) x.sends
   pub shut : NotBegun g event → Shut home g past → Shut home g (x ∷ past)
   pub settled : Settled home g past event x.answer
+  pub seals : seals g x ≡ true → (e : ℕ) × IsSealing home g past event e × (Among (IsPrepared g e) (records home (x ∷ past)) ⊎ (is_down (x ∷ past) ≡ true))
   pub rises : comes_up x.answer ≡ true → epoch home past < epoch home (x ∷ past)
 
 keeps-one : (home : Home) (g : Tid) (past : SitePast) (event : SiteEvent) (news now : List SiteRecord) → WroteOne home g past event news → Keeps (IsLooseEnded home.protocol) news (records home past) now → Kept home g past event now
@@ -57,8 +60,18 @@ goes home g past event y f s =
       says = s.says;
       shut = s.shut;
       settled = s.settled;
+      seals = (λ i. let r = s.seals i in (r.0, r.1, inl r.2));
       rises = s.rises;
     }
+
+-- a line that a stop ends appends nothing more
+front-seals : (g : Tid) (k cut : ℕ) (calls : List (Call SiteRecord)) → some_of (appends_prepared g) (take k calls ++ Stops cut ∷ []) ≡ true → some_of (appends_prepared g) calls ≡ true
+front-seals g zero cut calls e = cc
+front-seals g (suc k) cut [] e = cc
+front-seals g (suc k) cut (call ∷ calls) e = by_test (appends_prepared g call) e (front-seals g k cut calls) where
+  by_test : (b : Bool) → (b || some_of (appends_prepared g) (take k calls ++ Stops cut ∷ [])) ≡ true → (some_of (appends_prepared g) (take k calls ++ Stops cut ∷ []) ≡ true → some_of (appends_prepared g) calls ≡ true) → (b || some_of (appends_prepared g) calls) ≡ true
+  by_test true e h = refl
+  by_test false e h = h e
 
 stops-here : (home : Home) (g : Tid) (past : SitePast) (event : SiteEvent) (y : SiteHappening) (k cut : ℕ) → IsFirm site_frame (IsLooseEnded home.protocol) (disk home past) → Step home g past event y → Line home g past event (stopped site_frame (disk home past) y.event (take k y.calls ++ Stops cut ∷ []))
 unfolding stopped
@@ -71,6 +84,7 @@ stops-here home g past event y k cut f s =
       says = tt;
       shut = (λ nb o. record { down = (λ e. restored-sealed _ g); over = (λ e. restored-sealed _ g) });
       settled = tt;
+      seals = (λ i. let r = s.seals (front-seals g k cut y.calls i) in (r.0, r.1, inr refl));
       rises = (λ e. cc);
     }
 
@@ -96,6 +110,7 @@ idle home g past event answer f settled up shut = record {
   says = tt;
   shut = (λ nb s. shut s);
   settled = settled;
+  seals = (λ e. cc);
   rises = (λ e. cc);
 }
 

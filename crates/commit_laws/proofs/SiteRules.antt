@@ -1,6 +1,6 @@
 -- Each rule of a site makes a line of which the facts on one attempt hold.
 use Rattle.std.proofs.Common.{◌≡◌, ℕ, ◌+◌, ◌<◌, ◌⊎◌, inl, inr, Bool, true, false, cond, not, ◌&&◌, ◌||◌, ◌==◌, is_some, Option, Some, None, List, [], ◌∷◌, ◌++◌, refl, sym, ap, subst, ◌∙◌, arith}
-use Rattle.std.proofs.lemmas.Bool.{and_parts, eqb-true}
+use Rattle.std.proofs.lemmas.Bool.{and_parts, and_right, eqb-true}
 use Rattle.mdb_base.specs.declared.acts.PlainAct.{PlainAct}
 use Rattle.mdb_base.specs.declared.acts.PlainAct.TheVariants.{Read, Write}
 use Rattle.mdb_base.specs.declared.names.Tid.{Tid}
@@ -126,6 +126,7 @@ calm home g past event answer sends lines up c n says touches = record {
       shut-on home g past _ (calm-stops answer c) (calm-up answer c) up
       (λ h. touches-shut home g past event lines s (touches nb s) (drop-first (decides_on g event) (some_of (ends g) lines) (is_closed past g) (is_some (doubt_of (records home past) g)) (undecided-event g event n) h)));
   settled = calm-settled home g past event answer c;
+  seals = (λ e. cc);
   rises = (λ e. let f = calm-up answer c in cc);
 }
 
@@ -188,6 +189,7 @@ by-seals_local home g past tid run up = record {
   says = tt;
   shut = (λ nb s. shut-on home g past _ refl refl up (by_test (same_tid tid g) refl s));
   settled = tt;
+  seals = (λ e. cc);
   rises = (λ e. cc);
 } where
   lines : List EngineLine

@@ -34,6 +34,7 @@ use Rattle.fed_rules.specs.Site.{with_lines, next_number, of_begin, act_answer, 
 use Rattle.fed_rules.specs.SitePast.{SiteHappening, SitePast, records, epoch, epoch_start, engine_lines, live, live_one, ends, decides_on, is_closed, attempts_of, is_local, live_of_tx}
 use Rattle.fed_rules.specs.SiteRecords.{Home, Held, doubt_of, doubts, local_of}
 use Rattle.commit_laws.specs.Records.{IsPrepared, IsEnded}
+use Rattle.commit_laws.specs.Seals.{seals}
 use Rattle.commit_laws.proofs.SiteFacts.{IsSealing, IsSettling, IsAcking, Says, Settled, NotBegun, Shut, Step}
 use Rattle.commit_laws.proofs.SiteShut.{Leaves, leaves-shut, other-line, other-lines, this-line, given-up, sealed-now, shut-on, restored-sealed}
 use Rattle.commit_laws.proofs.SiteRules.{step-when, step-pick, of-same, IsCalm, IsNoDecision, Touches, drop-unless, no-lines, one-line, calm, quietly, acts-stay, takes-stay}
@@ -148,18 +149,28 @@ by-votes_again home g past tid e n held up doubt =
     ((λ q. of-same (λ u. (k : ℕ) × Among (IsPrepared u k) (records home past)) tid g (held.epoch, held-prepared (records home past) tid held doubt) q), tt)
     (λ nb s. no-lines home g past (Ev.Give (To.Prepare tid e n)))
 
+or-nothing : (b : Bool) → (b || (false || false)) ≡ true → b ≡ true
+or-nothing true e = refl
+or-nothing false e = e
+
 -- a run that is sealed: the Prepared record is forced
 by-votes_yes : (home : Home) (g : Tid) (past : SitePast) (tid : Tid) (e n : ℕ) (run : Run) (ticket : ℕ) → is_down past ≡ false → doubt_of (records home past) tid ≡ None → live home past tid ≡ Some run → e ≡ epoch home past → Step home g past (Ev.Give (To.Prepare tid e n)) (votes_yes home past tid e n run ticket)
 unfolding votes_yes
 by-votes_yes home g past tid e n run ticket up free alive here = record {
   is = refl;
   quiet = inr tt;
-  wrote = (λ q. of-same (λ u. IsSealing home u past (Ev.Give (To.Prepare tid e n)) (epoch home past)) tid g (record { n = n; taken = ap (λ k. Ev.Give (To.Prepare tid k n)) here; epoch = refl; doubt = free; run = run; live = alive }) q);
+  wrote = sealing;
   says = ((λ q. (epoch home past, inl (same_tid-equal tid g q, refl))), tt);
   shut = (λ nb s. shut-on home g past _ refl refl up (by_test (same_tid tid g) refl s));
   settled = tt;
+  seals = (λ i.
+      let q = or-nothing (same_tid tid g) i in
+      (epoch home past, sealing q, inl (same_tid-equal tid g q, refl)));
   rises = (λ i. cc);
 } where
+  sealing : same_tid tid g ≡ true → IsSealing home g past (Ev.Give (To.Prepare tid e n)) (epoch home past)
+  sealing q = of-same (λ u. IsSealing home u past (Ev.Give (To.Prepare tid e n)) (epoch home past)) tid g (record { up = up; n = n; taken = ap (λ k. Ev.Give (To.Prepare tid k n)) here; epoch = refl; doubt = free; run = run; live = alive }) q
+
   line : EngineLine
   line = Seals tid (number_of home past run)
 

@@ -1,0 +1,8 @@
+use Rattle.commit_laws.proofs.SealProofs.{attempts-are-sealed-once, decided-are-not-sealed}
+use Rattle.commit_laws.proofs.seal_laws.attempts_are_sealed_once.Goals as goal
+
+pub returns-clause-once : goal.returns-clause-once
+returns-clause-once c = attempts-are-sealed-once
+
+pub returns-clause-not_behind_a_decision : goal.returns-clause-not_behind_a_decision
+returns-clause-not_behind_a_decision c = decided-are-not-sealed
