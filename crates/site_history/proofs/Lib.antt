@@ -1,0 +1,5 @@
+mod Agreement
+mod LocalLines
+mod MessageLines
+mod RightLines
+mod Starts

@@ -1,0 +1,7 @@
+//! A site by itself in any story, over all its stops and restarts: theorems on the definitions alone, each the contract of a function
+//! with an empty body.
+#![tactic(auto)]
+
+mod right_lines;
+
+pub use right_lines::engine_lines_are_right;
