@@ -26,7 +26,7 @@ use Rattle.engine_laws.proofs.Runs.{attempts_have, tid_is}
 use Rattle.site_history.specs.Lines.{Agrees}
 use Rattle.site_history.proofs.Agreement.{IsKept, IsGoodLine, IsLiveHere, acted_open, good_pick, good_when, live_here, one, one_live, still}
 
-same_tx-refl : (a : Tx) → same_tx a a ≡ true
+pub same_tx-refl : (a : Tx) → same_tx a a ≡ true
 same_tx-refl a = eq-eqb a.0 a.0 refl
 
 -- where no item is the first that passes, each fails

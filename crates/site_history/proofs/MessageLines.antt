@@ -93,7 +93,7 @@ good_work_live home past message tid e n act run k here =
     (λ r. good_repeated home past message tid n run k))
 
 -- an attempt that is not over isn't in doubt
-not_over : (home : Home) (past : SitePast) (tid : Tid) → is_over home past tid ≡ false → doubt_of (records home past) tid ≡ None
+pub not_over : (home : Home) (past : SitePast) (tid : Tid) → is_over home past tid ≡ false → doubt_of (records home past) tid ≡ None
 not_over home past tid e = by_doubt (is_closed past tid) (doubt_of (records home past) tid) e
   where
     by_doubt : (b : Bool) (o : Option Held) → (b || is_some o) ≡ false → o ≡ None

@@ -51,7 +51,7 @@ unfolding when
 kept_when home past true x y p q = p
 kept_when home past false x y p q = q
 
-back_appends : (b : Bool) (n : SiteRecord) → HasRisingWrites n → EachAppend HasRisingWrites (cond b (CutBack ∷ []) [] ++ Append n ∷ Sync ∷ [])
+pub back_appends : (b : Bool) (n : SiteRecord) → HasRisingWrites n → EachAppend HasRisingWrites (cond b (CutBack ∷ []) [] ++ Append n ∷ Sync ∷ [])
 back_appends true n h = (h, tt)
 back_appends false n h = (h, tt)
 
@@ -99,7 +99,7 @@ kept_line home past (Ev.Give message) k fresh = kept_up home past (Ev.Give messa
 kept_line home past (Ev.Ask tid) k fresh = kept_up home past (Ev.Ask tid) k fresh refl
 kept_line home past (Ev.Drop tid) k fresh = kept_up home past (Ev.Drop tid) k fresh refl
 
-kept_first : (home : Home) → IsKept home []
+pub kept_first : (home : Home) → IsKept home []
 kept_first home = record {
   kind = refl;
   right = tt;

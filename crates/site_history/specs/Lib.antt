@@ -1,2 +1,5 @@
+pub mod Accesses
 pub mod Events
 pub mod Lines
+pub mod Records
+pub mod SiteOrders

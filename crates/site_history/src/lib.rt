@@ -3,5 +3,7 @@
 #![tactic(auto)]
 
 mod right_lines;
+mod serial_pasts;
 
 pub use right_lines::engine_lines_are_right;
+pub use serial_pasts::{restarts_keep_sealed_runs, sites_are_serial};
