@@ -1,5 +1,5 @@
 -- What is known of a site's past whose events are sorted: all that its records have been is backed by epochs.
-use Rattle.std.proofs.Common.{◌≡◌, ℕ, ◌⊎◌, Bool, true, false, cond, ◌||◌, Option, Some, None, List, [], ◌∷◌, refl, sym, ap, ◌∙◌, inl, inr}
+use Rattle.std.proofs.Common.{◌≡◌, ◌⊎◌, Bool, true, false, cond, ◌||◌, Option, Some, None, List, [], ◌∷◌, refl, sym, ap, ◌∙◌, inl, inr}
 use Rattle.std.specs.Prelude.{is_some}
 use Rattle.mdb_base.specs.declared.names.Tid.{Tid}
 use Rattle.mdb_base.specs.declared.names.Tx.{Tx}
@@ -102,15 +102,6 @@ prepares_unbound local (Start epoch ∷ rs) tid sorted others (inl b) = elim b [
 prepares_unbound local (Start epoch ∷ rs) tid sorted others (inr b) = inr (prepares_unbound local rs tid sorted.1 others b)
 prepares_unbound local (Ended ended decision ∷ rs) tid sorted others (inl b) = elim b [ ]
 prepares_unbound local (Ended ended decision ∷ rs) tid sorted others (inr b) = inr (prepares_unbound local rs tid sorted.1 others b)
-
--- a run that holds a ticket isn't a local one
-pub ticket_others : (local : Tx → Bool) (rs : List SiteRecord) (tid : Tid) (run : Run) (ticket : ℕ)
-    → (local tid.tx ≡ true → IsUnbound rs tid run) → run.ticket ≡ Some ticket → local tid.tx ≡ false
-ticket_others local rs tid run ticket h took = by_test (local tid.tx) refl
-  where
-    by_test : (b : Bool) → local tid.tx ≡ b → b ≡ false
-    by_test true is = let clash = sym (h is).ticketless ∙ took in cc
-    by_test false is = refl
 
 -- the accesses that a line's record stands for
 pub live_of_here : (home : Home) (past : SitePast) (tid : Tid) (run : Run) → IsLive (epoch_start home past) (engine_lines past) tid run

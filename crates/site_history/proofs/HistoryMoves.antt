@@ -29,7 +29,7 @@ use Rattle.site_history.specs.Records.{BindOnce, IsBound, Prepares}
 use Rattle.site_history.proofs.Backed.{acts_after, appended}
 use Rattle.site_history.proofs.BackedSteps.{backed_abort, backed_commit, backed_local, backed_prepared}
 use Rattle.site_history.proofs.Backing.{IsBacked, backed_acts, backed_calm, beside_doubt, run_beside_line}
-use Rattle.site_history.proofs.Histories.{IsHistory, IsSortedRecord, IsUnbound, LocalsUnbound, acts_of_line, acts_of_others, local_unbound, prepares_unbound, ticket_others}
+use Rattle.site_history.proofs.Histories.{IsHistory, IsSortedRecord, IsUnbound, LocalsUnbound, acts_of_line, acts_of_others, local_unbound, prepares_unbound}
 use Rattle.site_history.proofs.Moves.{IsCalm, Moves, OnlySyncs, rests, begins_local, begins_work, goes_on, commits_local, prepares_run, settles_held}
 
 -- no Prepared record of the attempt is kept
@@ -139,11 +139,10 @@ move_step home past local calls lines h fine (commits_local {tid = tid} run mine
           fine.right fine.agrees here.live here.doubt unbound.ticketless
           (acts_of_line home past newest [] tid run here.live (same_tid-refl tid));
     })
-move_step home past local calls lines h fine (prepares_run {tid = tid} {ticket = ticket} run here took) =
+move_step home past local calls lines h fine (prepares_run {tid = tid} {ticket = ticket} run others here took) =
     appends tt (λ new.
     let n = number_of home past run in
     let newest = Prepared tid (epoch home past) n ticket (puts_of run.acts) in
-    let others = ticket_others local (records home past) tid run ticket (λ is. h.locals tid run here.live.0 is) took in
     let unbound : IsBound tid (records home past) → ⊥ =
     λ b. new tid (same_tid-refl tid) (prepares_unbound local (records home past) tid h.sorted others b) in
     let acts = acts_after home past (Append newest ∷ []) in
@@ -260,12 +259,12 @@ move_locals home past local calls lines h (commits_local {tid = tid} run mine he
         by_test false apart e =
             let u = h.locals t r e is in
             record { ticketless = u.ticketless; unbound = λ b. u.unbound (apart_bound t apart b) }
-move_locals home past local calls lines h (prepares_run {tid = tid} {ticket = ticket} run here took) =
+move_locals home past local calls lines h (prepares_run {tid = tid} {ticket = ticket} run others here took) =
     locals_line local (records home past)
     (Prepared tid (epoch home past) (number_of home past run) ticket (puts_of run.acts) ∷ records home past)
     (epoch_start home past) (engine_lines past) (Seals tid (number_of home past run)) h.locals apart_bound
     (λ now e is.
-    let clash = sym is ∙ ticket_others local (records home past) tid run ticket (λ m. h.locals tid run here.live.0 m) took in cc)
+    let clash = sym is ∙ others in cc)
   where
     apart_bound : (t : Tid) → same_tid tid t ≡ false → (tid ≡ t) ⊎ IsBound t (records home past) → IsBound t (records home past)
     apart_bound t apart (inl e) = let same : same_tid tid t ≡ true = subst (λ u. same_tid tid u ≡ true) e (same_tid-refl tid) in cc

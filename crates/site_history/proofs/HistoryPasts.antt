@@ -46,7 +46,7 @@ move_records home past local calls lines (begins_local mine free none) = refl
 move_records home past local calls lines (begins_work others none) = refl
 move_records home past local calls lines (goes_on run here calm) = refl
 move_records home past local calls lines (commits_local run mine here) = refl
-move_records home past local calls lines (prepares_run run here took) = refl
+move_records home past local calls lines (prepares_run run others here took) = refl
 move_records home past local calls lines (settles_held {tid = tid} {decision = decision} {rest = rest} held doubt synced) =
     synced_records (after_call site_frame (disk home past) (Append (Ended tid decision))) rest synced
     ∙ sym (appended_none rest (Ended tid decision ∷ records home past) (none_of_syncs rest synced))

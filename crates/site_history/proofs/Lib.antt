@@ -4,6 +4,7 @@ mod Backed
 mod BackedSteps
 mod Backing
 mod EpochLines
+mod GlobalSends
 mod Histories
 mod HistoryLines
 mod HistoryMoves
@@ -18,4 +19,7 @@ mod Restarts
 mod RightLines
 mod SameLists
 mod SerialPasts
+mod SitesOfStories
+mod SortedPasts
+mod SortedStories
 mod Starts

@@ -51,7 +51,7 @@ pub data Moves (home : Home) (past : SitePast) (local : Tx → Bool) : List (Cal
   commits_local : {tid : Tid} (run : Run) → local tid.tx ≡ true → IsLiveHere home past tid run
       → Moves home past local (Append (Rec.Local tid (number_of home past run) (puts_of run.acts)) ∷ Sync ∷ [])
       (Commits tid ∷ Seals tid (number_of home past run) ∷ [])
-  prepares_run : {tid : Tid} {ticket : ℕ} (run : Run) → IsLiveHere home past tid run → run.ticket ≡ Some ticket
+  prepares_run : {tid : Tid} {ticket : ℕ} (run : Run) → local tid.tx ≡ false → IsLiveHere home past tid run → run.ticket ≡ Some ticket
       → Moves home past local (Append (Rec.Prepared tid (epoch home past) (number_of home past run) ticket (puts_of run.acts)) ∷ Sync ∷ [])
       (Seals tid (number_of home past run) ∷ [])
   settles_held : {tid : Tid} {decision : Decision} {rest : List (Call SiteRecord)} (held : Held)
@@ -193,28 +193,28 @@ move_take home past local tid e n k others =
     (λ run at. move_take_live home past local message tid e n run (live_here home past tid run k at) others))
 
 move_seals : (home : Home) (past : SitePast) (local : Tx → Bool) (tid : Tid) (e n : ℕ) (run : Run) (ticket : ℕ)
-    → IsLiveHere home past tid run → run.ticket ≡ Some ticket → IsMove home past local (seals_global home past tid e n run ticket)
+    → local tid.tx ≡ false → IsLiveHere home past tid run → run.ticket ≡ Some ticket → IsMove home past local (seals_global home past tid e n run ticket)
 unfolding seals_global votes_yes votes_no
-move_seals home past local tid e n run ticket here took =
-    move_pick home past local (stop_of home past run) _ _ (λ free. record { moves = prepares_run run here took })
+move_seals home past local tid e n run ticket others here took =
+    move_pick home past local (stop_of home past run) _ _ (λ free. record { moves = prepares_run run others here took })
     (λ why stop. record { moves = goes_on run here tt })
 
-move_prepare_live : (home : Home) (past : SitePast) (local : Tx → Bool) (tid : Tid) (e n : ℕ) (run : Run) → IsLiveHere home past tid run
+move_prepare_live : (home : Home) (past : SitePast) (local : Tx → Bool) (tid : Tid) (e n : ℕ) (run : Run) → local tid.tx ≡ false → IsLiveHere home past tid run
     → IsMove home past local (prepare_live home past tid e n run)
 unfolding prepare_live votes_no
-move_prepare_live home past local tid e n run here =
+move_prepare_live home past local tid e n run others here =
     move_when home past local ((e == epoch home past) && (n == done run)) _ _
     (λ q. move_pick home past local run.ticket _ _ (λ none. record { moves = rests })
-    (λ ticket took. move_seals home past local tid e n run ticket here took))
+    (λ ticket took. move_seals home past local tid e n run ticket others here took))
     (λ q. record { moves = rests })
 
-move_prepare : (home : Home) (past : SitePast) (local : Tx → Bool) (tid : Tid) (e n : ℕ) → IsKept home past
+move_prepare : (home : Home) (past : SitePast) (local : Tx → Bool) (tid : Tid) (e n : ℕ) → IsKept home past → local tid.tx ≡ false
     → IsMove home past local (of_prepare home past tid e n)
 unfolding of_prepare votes_again votes_no
-move_prepare home past local tid e n k =
+move_prepare home past local tid e n k others =
     move_pick home past local (doubt_of (records home past) tid) _ _
     (λ none. move_pick home past local (live home past tid) _ _ (λ q. record { moves = rests })
-    (λ run at. move_prepare_live home past local tid e n run (live_here home past tid run k at)))
+    (λ run at. move_prepare_live home past local tid e n run others (live_here home past tid run k at)))
     (λ held at. move_when home past local (held.epoch == e) _ _ (λ q. record { moves = rests }) (λ q. record { moves = rests }))
 
 move_settles : (home : Home) (past : SitePast) (local : Tx → Bool) (tid : Tid) (decision : Decision) (held : Held)
@@ -240,7 +240,7 @@ move_give : (home : Home) (past : SitePast) (local : Tx → Bool) (message : ToS
 unfolding of_give
 move_give home past local (To.Work tid e n act) k sorted = move_work home past local tid e n act k sorted
 move_give home past local (To.Take tid e n) k sorted = move_take home past local tid e n k sorted
-move_give home past local (To.Prepare tid e n) k sorted = move_prepare home past local tid e n k
+move_give home past local (To.Prepare tid e n) k sorted = move_prepare home past local tid e n k sorted
 move_give home past local (To.Decide tid decision) k sorted = move_decide home past local tid decision k
 
 -- what a site that is up answers, but for its start

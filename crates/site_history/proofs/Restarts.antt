@@ -65,7 +65,7 @@ rows_are home acts records start lines earlier b once key =
     ∙ (history epoch earlier b.epochs [] tt).left key
 
 -- a fact of each one that is found, by the item that gives it
-each_found_from : {A B : Type 0} (P : B → Type 0) (look : A → Option B) (xs : List A)
+pub each_found_from : {A B : Type 0} (P : B → Type 0) (look : A → Option B) (xs : List A)
     → ((x : A) (y : B) → In x xs → look x ≡ Some y → P y) → Each P (found look xs)
 each_found_from P look [] f = tt
 each_found_from P look (x ∷ xs) f = by_look (look x) refl (each_found_from P look xs (λ z y i e. f z y (inr i) e))
@@ -74,7 +74,7 @@ each_found_from P look (x ∷ xs) f = by_look (look x) refl (each_found_from P l
     by_look None is rest = rest
     by_look (Some y) is rest = (f x y (inl refl) is, rest)
 
-each_image : {A B : Type 0} (P : B → Type 0) (f : A → B) (xs : List A) → Each (λ x. P (f x)) xs → Each P (map f xs)
+pub each_image : {A B : Type 0} (P : B → Type 0) (f : A → B) (xs : List A) → Each (λ x. P (f x)) xs → Each P (map f xs)
 each_image P f [] h = tt
 each_image P f (x ∷ xs) h = (h.0, each_image P f xs h.1)
 

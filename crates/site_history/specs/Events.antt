@@ -6,7 +6,7 @@ use Rattle.mdb_base.specs.Names.{same_tid}
 use Rattle.mdb_base.specs.Words.{Among, Each, some_of}
 use Rattle.fed_rules.specs.declared.events.SiteEvent.{SiteEvent}
 use Rattle.fed_rules.specs.declared.events.SiteEvent.TheVariants.{Begin, Commit, Give}
-use Rattle.fed_rules.specs.declared.messages.ToSite.TheVariants.{Work, Take}
+use Rattle.fed_rules.specs.declared.messages.ToSite.TheVariants.{Work, Take, Prepare}
 use Rattle.fed_rules.specs.declared.records.SiteRecord.{SiteRecord}
 use Rattle.fed_rules.specs.declared.records.SiteRecord.TheVariants.{Prepared}
 use Rattle.fed_rules.specs.Disk.{Call, Append}
@@ -25,12 +25,13 @@ abbrev pub AreFresh : Home → List SiteEvent → Type 0
 AreFresh home [] = Unit {0}
 AreFresh home (event ∷ events) = IsFresh home (site_past home events) event × AreFresh home events
 
--- what begins and commits as a local attempt is of a local transaction by the test, and what an operation is for is not
+-- what begins and commits as a local attempt is of a local transaction by the test, and what an operation or a Prepare is for is not
 abbrev pub IsSorted : (Tx → Bool) → SiteEvent → Type 0
 IsSorted local (Begin tid) = local tid.tx ≡ true
 IsSorted local (Commit tid) = local tid.tx ≡ true
 IsSorted local (Give (Work tid epoch n act)) = local tid.tx ≡ false
 IsSorted local (Give (Take tid epoch n)) = local tid.tx ≡ false
+IsSorted local (Give (Prepare tid epoch n)) = local tid.tx ≡ false
 IsSorted local event = Unit {0}
 
 abbrev pub AreSorted : (Tx → Bool) → List SiteEvent → Type 0

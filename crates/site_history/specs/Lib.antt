@@ -3,3 +3,4 @@ pub mod Events
 pub mod Lines
 pub mod Records
 pub mod SiteOrders
+pub mod Stories
