@@ -58,14 +58,14 @@ none_of_syncs (Append newest ∷ calls) s = elim s [ ]
 none_of_syncs (CutBack ∷ calls) s = elim s [ ]
 none_of_syncs (Stops cut ∷ calls) s = elim s [ ]
 
-last_of_syncs : (calls : List (Call SiteRecord)) → OnlySyncs calls → StopsLast calls
+pub last_of_syncs : (calls : List (Call SiteRecord)) → OnlySyncs calls → StopsLast calls
 last_of_syncs [] s = tt
 last_of_syncs (Sync ∷ calls) s = last_of_syncs calls s
 last_of_syncs (Append newest ∷ calls) s = elim s [ ]
 last_of_syncs (CutBack ∷ calls) s = elim s [ ]
 last_of_syncs (Stops cut ∷ calls) s = elim s [ ]
 
-torn_none : (n : ℕ) (calls : List (Call SiteRecord)) (cut : ℕ) → OnlySyncs calls → AppendsNone (take n calls ++ Stops cut ∷ [])
+pub torn_none : (n : ℕ) (calls : List (Call SiteRecord)) (cut : ℕ) → OnlySyncs calls → AppendsNone (take n calls ++ Stops cut ∷ [])
 torn_none zero calls cut s = tt
 torn_none (suc n) [] cut s = tt
 torn_none (suc n) (Sync ∷ calls) cut s = torn_none n calls cut s
@@ -73,7 +73,7 @@ torn_none (suc n) (Append newest ∷ calls) cut s = elim s [ ]
 torn_none (suc n) (CutBack ∷ calls) cut s = elim s [ ]
 torn_none (suc n) (Stops c ∷ calls) cut s = elim s [ ]
 
-torn_last : (n : ℕ) (calls : List (Call SiteRecord)) (cut : ℕ) → OnlySyncs calls → StopsLast (take n calls ++ Stops cut ∷ [])
+pub torn_last : (n : ℕ) (calls : List (Call SiteRecord)) (cut : ℕ) → OnlySyncs calls → StopsLast (take n calls ++ Stops cut ∷ [])
 torn_last zero calls cut s = tt
 torn_last (suc n) [] cut s = tt
 torn_last (suc n) (Sync ∷ calls) cut s = torn_last n calls cut s

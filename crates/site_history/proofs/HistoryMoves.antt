@@ -11,6 +11,7 @@ use Rattle.mdb_base.specs.Words.{Among}
 use Rattle.mdb_base.proofs.NameLaws.{same_tid-equal, same_tid-refl}
 use Rattle.presumptions.specs.declared.Decision.{Decision}
 use Rattle.presumptions.specs.declared.Decision.TheVariants as Decided
+use Rattle.fed_rules.specs.declared.events.SiteEvent.{SiteEvent}
 use Rattle.fed_rules.specs.declared.records.SiteRecord.{SiteRecord}
 use Rattle.fed_rules.specs.declared.records.SiteRecord.TheVariants.{Prepared, Ended, Local}
 use Rattle.fed_rules.specs.Disk.{Append, Call, CutBack, Stops, Sync}
@@ -93,23 +94,23 @@ pub record IsFine (home : Home) (past : SitePast) (calls : List (Call SiteRecord
   pub right : IsRight (epoch_start home past) lines
   pub agrees : (tid : Tid) → Agrees (doubt_of (appended calls (records home past)) tid) (run_at (epoch_start home past) lines tid)
 
-synced_append : (rest : List (Call SiteRecord)) (rs : List SiteRecord) → OnlySyncs rest → appended rest rs ≡ rs
+pub synced_append : (rest : List (Call SiteRecord)) (rs : List SiteRecord) → OnlySyncs rest → appended rest rs ≡ rs
 synced_append [] rs s = refl
 synced_append (Sync ∷ rest) rs s = synced_append rest rs s
 synced_append (Append newest ∷ rest) rs s = elim s [ ]
 synced_append (CutBack ∷ rest) rs s = elim s [ ]
 synced_append (Stops cut ∷ rest) rs s = elim s [ ]
 
-pub move_step : (home : Home) (past : SitePast) (local : Tx → Bool) (calls : List (Call SiteRecord)) (lines : List EngineLine)
-    (h : IsHistory home local past) → IsFine home past calls (lines ++ engine_lines past) → Moves home past local calls lines
+pub move_step : (home : Home) (past : SitePast) (local : Tx → Bool) (event : SiteEvent) (calls : List (Call SiteRecord)) (lines : List EngineLine)
+    (h : IsHistory home local past) → IsFine home past calls (lines ++ engine_lines past) → Moves home past local event calls lines
     → Step home past local (lines ++ engine_lines past) h.earlier calls
-move_step home past local calls lines h fine rests = keeps h.now
-move_step home past local calls lines h fine (begins_local {tid = tid} mine free none) =
+move_step home past local event calls lines h fine rests = keeps h.now
+move_step home past local event calls lines h fine (begins_local {tid = tid} mine free none) =
     keeps (backed_calm home (acts_at home past) (records home past) (epoch_start home past) (engine_lines past)
     (Begins tid (next_number home past) ∷ engine_lines past) h.earlier h.now fine.right fine.agrees refl refl
     (λ t held e. run_beside_line (epoch_start home past) (engine_lines past) (Begins tid (next_number home past)) t
     (beside_doubt (records home past) tid t held (free_doubt home past local tid h none) e)))
-move_step home past local calls lines h fine (begins_work {tid = tid} {act = act} {reply = reply} others none) =
+move_step home past local event calls lines h fine (begins_work {tid = tid} {act = act} {reply = reply} others none fresh) =
     let begins = Begins tid (next_number home past) ∷ engine_lines past in
     keeps (backed_calm home (acts_at home past) (records home past) (epoch_start home past) (engine_lines past)
     (Acts tid act reply ∷ begins) h.earlier h.now fine.right fine.agrees refl refl
@@ -117,14 +118,14 @@ move_step home past local calls lines h fine (begins_work {tid = tid} {act = act
     let apart = beside_doubt (records home past) tid t held (free_doubt home past local tid h none) e in
     run_beside_line (epoch_start home past) begins (Acts tid act reply) t apart
     ∙ run_beside_line (epoch_start home past) (engine_lines past) (Begins tid (next_number home past)) t apart))
-move_step home past local calls lines h fine (goes_on {line = line} run here calm) =
+move_step home past local event calls lines h fine (goes_on {line = line} run here calm) =
     keeps (backed_calm home (acts_at home past) (records home past) (epoch_start home past) (engine_lines past)
     (line ∷ engine_lines past) h.earlier h.now fine.right fine.agrees
     (calm_committed local (epoch_start home past) (engine_lines past) line calm)
     (calm_published local (epoch_start home past) (engine_lines past) line calm)
     (λ t held e. run_beside_line (epoch_start home past) (engine_lines past) line t
     (beside_doubt (records home past) (tid_of line) t held here.doubt e)))
-move_step home past local calls lines h fine (commits_local {tid = tid} run mine here) =
+move_step home past local event calls lines h fine (commits_local {tid = tid} run mine here) =
     appends tt (λ new.
     let n = number_of home past run in
     let newest = Local tid n (puts_of run.acts) in
@@ -139,7 +140,7 @@ move_step home past local calls lines h fine (commits_local {tid = tid} run mine
           fine.right fine.agrees here.live here.doubt unbound.ticketless
           (acts_of_line home past newest [] tid run here.live (same_tid-refl tid));
     })
-move_step home past local calls lines h fine (prepares_run {tid = tid} {ticket = ticket} run others here took) =
+move_step home past local event calls lines h fine (prepares_run {tid = tid} {ticket = ticket} asks run asked others here took) =
     appends tt (λ new.
     let n = number_of home past run in
     let newest = Prepared tid (epoch home past) n ticket (puts_of run.acts) in
@@ -155,7 +156,7 @@ move_step home past local calls lines h fine (prepares_run {tid = tid} {ticket =
           fine.right fine.agrees here.live took
           (acts_of_line home past newest [] tid run here.live (same_tid-refl tid));
     })
-move_step home past local calls lines h fine (settles_held {tid = tid} {decision = Decided.Commit} {rest = rest} held doubt synced) =
+move_step home past local event calls lines h fine (settles_held {tid = tid} {decision = Decided.Commit} {rest = rest} held doubt synced) =
     appends synced (λ new. record {
       once = h.once;
       sorted = tt;
@@ -165,7 +166,7 @@ move_step home past local calls lines h fine (settles_held {tid = tid} {decision
           (synced_append rest (Ended tid Decided.Commit ∷ records home past) synced) (fine.agrees t))
           doubt;
     })
-move_step home past local calls lines h fine (settles_held {tid = tid} {decision = Decided.Abort} {rest = rest} held doubt synced) =
+move_step home past local event calls lines h fine (settles_held {tid = tid} {decision = Decided.Abort} {rest = rest} held doubt synced) =
     appends synced (λ new. record {
       once = h.once;
       sorted = tt;
@@ -211,23 +212,23 @@ locals_line local rs now start lines line others older mine tid run e is = elim 
   | inr (same, own) ↦ subst (λ t. IsUnbound now t run) same (mine run own (ap (λ t. local t.tx) same ∙ is))
 ]
 
-pub move_locals : (home : Home) (past : SitePast) (local : Tx → Bool) (calls : List (Call SiteRecord)) (lines : List EngineLine)
-    → IsHistory home local past → Moves home past local calls lines
+pub move_locals : (home : Home) (past : SitePast) (local : Tx → Bool) (event : SiteEvent) (calls : List (Call SiteRecord)) (lines : List EngineLine)
+    → IsHistory home local past → Moves home past local event calls lines
     → LocalsUnbound local (appended calls (records home past)) (epoch_start home past) (lines ++ engine_lines past)
-move_locals home past local calls lines h rests = h.locals
-move_locals home past local calls lines h (begins_local {tid = tid} mine free none) =
+move_locals home past local event calls lines h rests = h.locals
+move_locals home past local event calls lines h (begins_local {tid = tid} mine free none) =
     locals_line local (records home past) (records home past) (epoch_start home past) (engine_lines past) (Begins tid (next_number home past))
     h.locals (λ t apart b. b)
     (λ run e is.
     let same : begun tid (next_number home past) ≡ run = cc in
     record { ticketless = ap (λ r. r.ticket) (sym same); unbound = local_unbound local (records home past) tid h.sorted is free })
-move_locals home past local calls lines h (begins_work {tid = tid} {act = act} {reply = reply} others none) =
+move_locals home past local event calls lines h (begins_work {tid = tid} {act = act} {reply = reply} others none fresh) =
     let begins = Begins tid (next_number home past) ∷ engine_lines past in
     locals_line local (records home past) (records home past) (epoch_start home past) begins (Acts tid act reply)
     (locals_line local (records home past) (records home past) (epoch_start home past) (engine_lines past) (Begins tid (next_number home past))
     h.locals (λ t apart b. b) (λ run e is. let clash = sym is ∙ others in cc))
     (λ t apart b. b) (λ run e is. let clash = sym is ∙ others in cc)
-move_locals home past local calls lines h (goes_on {line = line} run here calm) =
+move_locals home past local event calls lines h (goes_on {line = line} run here calm) =
     locals_line local (records home past) (records home past) (epoch_start home past) (engine_lines past) line h.locals (λ t apart b. b)
     (λ now e is.
     let u = h.locals (tid_of line) run here.live.0 is in
@@ -235,7 +236,7 @@ move_locals home past local calls lines h (goes_on {line = line} run here calm) 
       ticketless = calm_ticket local line run now calm is (sym (ap (changed line) here.live.0) ∙ e) ∙ u.ticketless;
       unbound = u.unbound;
     })
-move_locals home past local calls lines h (commits_local {tid = tid} run mine here) = locals
+move_locals home past local event calls lines h (commits_local {tid = tid} run mine here) = locals
   where
     newest : SiteRecord
     newest = Local tid (number_of home past run) (puts_of run.acts)
@@ -259,7 +260,7 @@ move_locals home past local calls lines h (commits_local {tid = tid} run mine he
         by_test false apart e =
             let u = h.locals t r e is in
             record { ticketless = u.ticketless; unbound = λ b. u.unbound (apart_bound t apart b) }
-move_locals home past local calls lines h (prepares_run {tid = tid} {ticket = ticket} run others here took) =
+move_locals home past local event calls lines h (prepares_run {tid = tid} {ticket = ticket} asks run asked others here took) =
     locals_line local (records home past)
     (Prepared tid (epoch home past) (number_of home past run) ticket (puts_of run.acts) ∷ records home past)
     (epoch_start home past) (engine_lines past) (Seals tid (number_of home past run)) h.locals apart_bound
@@ -269,7 +270,7 @@ move_locals home past local calls lines h (prepares_run {tid = tid} {ticket = ti
     apart_bound : (t : Tid) → same_tid tid t ≡ false → (tid ≡ t) ⊎ IsBound t (records home past) → IsBound t (records home past)
     apart_bound t apart (inl e) = let same : same_tid tid t ≡ true = subst (λ u. same_tid tid u ≡ true) e (same_tid-refl tid) in cc
     apart_bound t apart (inr b) = b
-move_locals home past local calls lines h (settles_held {tid = tid} {decision = decision} {rest = rest} held doubt synced) =
+move_locals home past local event calls lines h (settles_held {tid = tid} {decision = decision} {rest = rest} held doubt synced) =
     subst (λ rs. LocalsUnbound local rs (epoch_start home past) (settling_line tid decision ∷ engine_lines past))
     (sym (synced_append rest (Ended tid decision ∷ records home past) synced)) (by_decision decision)
   where

@@ -39,36 +39,36 @@ next_when home local past true x y p q = p
 next_when home local past false x y p q = q
 
 -- the records after a line's calls
-move_records : (home : Home) (past : SitePast) (local : Tx → Bool) (calls : List (Call SiteRecord)) (lines : List EngineLine)
-    → Moves home past local calls lines → (after_calls site_frame (disk home past) calls).records ≡ appended calls (records home past)
-move_records home past local calls lines rests = refl
-move_records home past local calls lines (begins_local mine free none) = refl
-move_records home past local calls lines (begins_work others none) = refl
-move_records home past local calls lines (goes_on run here calm) = refl
-move_records home past local calls lines (commits_local run mine here) = refl
-move_records home past local calls lines (prepares_run run others here took) = refl
-move_records home past local calls lines (settles_held {tid = tid} {decision = decision} {rest = rest} held doubt synced) =
+pub move_records : (home : Home) (past : SitePast) (local : Tx → Bool) (event : SiteEvent) (calls : List (Call SiteRecord)) (lines : List EngineLine)
+    → Moves home past local event calls lines → (after_calls site_frame (disk home past) calls).records ≡ appended calls (records home past)
+move_records home past local event calls lines rests = refl
+move_records home past local event calls lines (begins_local mine free none) = refl
+move_records home past local event calls lines (begins_work others none fresh) = refl
+move_records home past local event calls lines (goes_on run here calm) = refl
+move_records home past local event calls lines (commits_local run mine here) = refl
+move_records home past local event calls lines (prepares_run asks run asked others here took) = refl
+move_records home past local event calls lines (settles_held {tid = tid} {decision = decision} {rest = rest} held doubt synced) =
     synced_records (after_call site_frame (disk home past) (Append (Ended tid decision))) rest synced
     ∙ sym (appended_none rest (Ended tid decision ∷ records home past) (none_of_syncs rest synced))
 
 -- what the answered line of a site that is up does
-answered_step : (home : Home) (local : Tx → Bool) (past : SitePast) (x : SiteHappening) (h : IsHistory home local past)
-    → IsGoodLine home past x → IsMove home past local x → Step home past local (x.lines ++ engine_lines past) h.earlier x.calls
-answered_step home local past x h g m =
-    move_step home past local x.calls x.lines h
+answered_step : (home : Home) (local : Tx → Bool) (past : SitePast) (event : SiteEvent) (x : SiteHappening) (h : IsHistory home local past)
+    → IsGoodLine home past x → IsMove home past local event x → Step home past local (x.lines ++ engine_lines past) h.earlier x.calls
+answered_step home local past event x h g m =
+    move_step home past local event x.calls x.lines h
     (record {
       right = g.right;
       agrees = λ tid. subst (λ rs. Agrees (doubt_of rs tid) (run_at (epoch_start home past) (x.lines ++ engine_lines past) tid))
-          (move_records home past local x.calls x.lines m.moves) (g.agrees tid);
+          (move_records home past local event x.calls x.lines m.moves) (g.agrees tid);
     })
     m.moves
 
-next_whole : (home : Home) (local : Tx → Bool) (past : SitePast) (x : SiteHappening) → IsHistory home local past → IsGoodLine home past x
-    → IsMove home past local x → IsNextLine home local past x
-next_whole home local past x h g m = record {
+next_whole : (home : Home) (local : Tx → Bool) (past : SitePast) (event : SiteEvent) (x : SiteHappening) → IsHistory home local past → IsGoodLine home past x
+    → IsMove home past local event x → IsNextLine home local past x
+next_whole home local past event x h g m = record {
   next = λ new. history_plain home local past x h g
-      (whole_step home past local (x.lines ++ engine_lines past) x.calls h new (answered_step home local past x h g m))
-      (move_locals home past local x.calls x.lines h m.moves);
+      (whole_step home past local (x.lines ++ engine_lines past) x.calls h new (answered_step home local past event x h g m))
+      (move_locals home past local event x.calls x.lines h m.moves);
 }
 
 -- a line that a stop ends
@@ -99,7 +99,7 @@ next_tripped home local past (Some t) x h whole a torn =
 next_quiet : (home : Home) (local : Tx → Bool) (past : SitePast) (event : SiteEvent) → IsHistory home local past
     → IsNextLine home local past (record { event = event; answer = Say.Down; sends = []; calls = []; lines = [] })
 next_quiet home local past event h =
-    next_whole home local past (record { event = event; answer = Say.Down; sends = []; calls = []; lines = [] }) h
+    next_whole home local past event (record { event = event; answer = Say.Down; sends = []; calls = []; lines = [] }) h
     (still home past event Say.Down [] h.kept refl) (record { moves = rests })
 
 next_up : (home : Home) (local : Tx → Bool) (past : SitePast) (event : SiteEvent) → IsHistory home local past → IsSorted local event
@@ -112,8 +112,8 @@ next_up home local past event h sorted fresh b =
     let m = move_answered home past local event h.kept sorted fresh b in
     next_when home local past (is_down past) (record { event = event; answer = Say.Down; sends = []; calls = []; lines = [] })
     (unless_tripped home past (answered home past event)) (next_quiet home local past event h)
-    (next_tripped home local past (trip past) x h (next_whole home local past x h g m) g.appends
-    (λ n cut new. torn_step home past local (x.lines ++ engine_lines past) x.calls n cut h new (answered_step home local past x h g m)))
+    (next_tripped home local past (trip past) x h (next_whole home local past event x h g m) g.appends
+    (λ n cut new. torn_step home past local (x.lines ++ engine_lines past) x.calls n cut h new (answered_step home local past event x h g m)))
 
 -- a start of the site appends its Start record, behind a cut where the disk is torn
 start_step : (home : Home) (local : Tx → Bool) (past : SitePast) (n : ℕ) (h : IsHistory home local past)
@@ -168,14 +168,14 @@ next_line : (home : Home) (local : Tx → Bool) (past : SitePast) (event : SiteE
     → IsNextLine home local past (site_line home past event)
 unfolding site_line
 next_line home local past (Ev.Trip calls cut) h sorted =
-    next_whole home local past (record { event = Ev.Trip calls cut; answer = Say.Set; sends = []; calls = []; lines = [] }) h
+    next_whole home local past (Ev.Trip calls cut) (record { event = Ev.Trip calls cut; answer = Say.Set; sends = []; calls = []; lines = [] }) h
     (still home past (Ev.Trip calls cut) Say.Set [] h.kept refl) (record { moves = rests })
 next_line home local past (Ev.Halt cut) h sorted =
     next_when home local past (is_down past) _ _ (next_quiet home local past (Ev.Halt cut) h)
     (next_stopped home local past (Ev.Halt cut) (Stops cut ∷ []) h (λ new. none_backed home past local cut h) tt)
 next_line home local past Ev.Back h sorted =
     next_when home local past (is_down past) _ _ (next_back home local past h)
-    (next_whole home local past (record { event = Ev.Back; answer = Say.Awake; sends = []; calls = []; lines = [] }) h
+    (next_whole home local past Ev.Back (record { event = Ev.Back; answer = Say.Awake; sends = []; calls = []; lines = [] }) h
     (still home past Ev.Back Say.Awake [] h.kept refl) (record { moves = rests }))
 next_line home local past (Ev.Begin tid) h sorted =
     next_up home local past (Ev.Begin tid) h sorted (no_local_doubt local (records home past) tid h.sorted sorted) refl

@@ -19,6 +19,10 @@ mod Restarts
 mod RightLines
 mod SameLists
 mod SerialPasts
+mod Shut
+mod ShutLines
+mod ShutPasts
+mod ShutWalk
 mod SitesOfStories
 mod SortedPasts
 mod SortedStories

@@ -32,15 +32,15 @@ sorted_syncs local (Append newest ∷ rest) s = elim s [ ]
 sorted_syncs local (CutBack ∷ rest) s = elim s [ ]
 sorted_syncs local (Stops cut ∷ rest) s = elim s [ ]
 
-sorted_moves : (home : Home) (past : SitePast) (local : Tx → Bool) (calls : List (Call SiteRecord)) (lines : List EngineLine)
-    → Moves home past local calls lines → EachAppend (IsSortedRecord local) calls
-sorted_moves home past local calls lines rests = tt
-sorted_moves home past local calls lines (begins_local mine free none) = tt
-sorted_moves home past local calls lines (begins_work others none) = tt
-sorted_moves home past local calls lines (goes_on run here calm) = tt
-sorted_moves home past local calls lines (commits_local run mine here) = (mine, tt)
-sorted_moves home past local calls lines (prepares_run run others here took) = (others, tt)
-sorted_moves home past local calls lines (settles_held {rest = rest} held doubt synced) = (tt, sorted_syncs local rest synced)
+sorted_moves : (home : Home) (past : SitePast) (local : Tx → Bool) (event : SiteEvent) (calls : List (Call SiteRecord)) (lines : List EngineLine)
+    → Moves home past local event calls lines → EachAppend (IsSortedRecord local) calls
+sorted_moves home past local event calls lines rests = tt
+sorted_moves home past local event calls lines (begins_local mine free none) = tt
+sorted_moves home past local event calls lines (begins_work others none fresh) = tt
+sorted_moves home past local event calls lines (goes_on run here calm) = tt
+sorted_moves home past local event calls lines (commits_local run mine here) = (mine, tt)
+sorted_moves home past local event calls lines (prepares_run asks run asked others here took) = (others, tt)
+sorted_moves home past local event calls lines (settles_held {rest = rest} held doubt synced) = (tt, sorted_syncs local rest synced)
 
 sorted_when : (local : Tx → Bool) (b : Bool) (x y : SiteHappening) → AppendsSorted local x → AppendsSorted local y → AppendsSorted local (when b x y)
 unfolding when
@@ -79,7 +79,7 @@ sorted_up home past local event k sorted fresh b =
     sorted_when local (is_down past) (record { event = event; answer = Say.Down; sends = []; calls = []; lines = [] })
     (unless_tripped home past (answered home past event)) (record { appends = tt })
     (sorted_tripped home past local (trip past) x
-    (record { appends = sorted_moves home past local x.calls x.lines (move_answered home past local event k sorted fresh b).moves }))
+    (record { appends = sorted_moves home past local event x.calls x.lines (move_answered home past local event k sorted fresh b).moves }))
 
 sorted_line : (home : Home) (past : SitePast) (local : Tx → Bool) (event : SiteEvent) → IsKept home past → IsSorted local event
     → IsFresh home past event → AppendsSorted local (site_line home past event)
@@ -114,12 +114,12 @@ fresh_sorted home past local (Ev.Halt cut) rs sorted = tt
 fresh_sorted home past local (Ev.Trip calls cut) rs sorted = tt
 fresh_sorted home past local Ev.Back rs sorted = tt
 
-record IsSortedPast (home : Home) (local : Tx → Bool) (events : List SiteEvent) : Type 0 where
-  fresh : AreFresh home events
-  kept : IsKept home (site_past home events)
-  records : Each (IsSortedRecord local) (records home (site_past home events))
+pub record IsSortedPast (home : Home) (local : Tx → Bool) (events : List SiteEvent) : Type 0 where
+  pub fresh : AreFresh home events
+  pub kept : IsKept home (site_past home events)
+  pub records : Each (IsSortedRecord local) (records home (site_past home events))
 
-sorted_past : (home : Home) (local : Tx → Bool) (events : List SiteEvent) → AreSorted local events → IsSortedPast home local events
+pub sorted_past : (home : Home) (local : Tx → Bool) (events : List SiteEvent) → AreSorted local events → IsSortedPast home local events
 sorted_past home local [] sorted = record { fresh = tt; kept = kept_first home; records = (tt, (tt, tt)) }
 sorted_past home local (event ∷ events) (now, before) =
     let s = sorted_past home local events before in

@@ -1,9 +1,10 @@
 -- The events that come to a site, and what is asked of them.
-use Rattle.std.specs.Prelude.{◌≡◌, Bool, true, false, None, List, [], ◌∷◌}
+use Rattle.std.specs.Prelude.{ℕ, ◌≡◌, Bool, true, false, None, List, [], ◌∷◌}
 use Rattle.mdb_base.specs.declared.names.Tid.{Tid}
 use Rattle.mdb_base.specs.declared.names.Tx.{Tx}
 use Rattle.mdb_base.specs.Names.{same_tid}
 use Rattle.mdb_base.specs.Words.{Among, Each, some_of}
+use Rattle.order_laws.specs.Chains.{In}
 use Rattle.fed_rules.specs.declared.events.SiteEvent.{SiteEvent}
 use Rattle.fed_rules.specs.declared.events.SiteEvent.TheVariants.{Begin, Commit, Give}
 use Rattle.fed_rules.specs.declared.messages.ToSite.TheVariants.{Work, Take, Prepare}
@@ -47,3 +48,14 @@ abbrev pub PreparesOnce : Home → SitePast → Type 0
 PreparesOnce home [] = Unit {0}
 PreparesOnce home (x ∷ past) =
     ((tid : Tid) → some_of (prepares tid) x.calls ≡ true → Among (Prepares tid) (records home past) → ⊥) × PreparesOnce home past
+
+-- all Prepares of one attempt among the events name one epoch
+abbrev pub AskInOneEpoch : List SiteEvent → Type 0
+AskInOneEpoch events =
+    (tid : Tid) (d e m n : ℕ) → In (Give (Prepare tid d m)) events → In (Give (Prepare tid e n)) events → d ≡ e
+
+-- so that no attempt is prepared twice
+abbrev pub PreparedOncePerEpoch : Type 0
+PreparedOncePerEpoch =
+    (home : Home) (local : Tx → Bool) (events : List SiteEvent) → AreSorted local events → AskInOneEpoch events
+    → PreparesOnce home (site_past home events)
