@@ -1,0 +1,21 @@
+//! The same for each declared site of a scenario, in the story of any commands.
+ghost use Rattle.site_history.specs.SiteOrders.{HasEpochs, IsSerialPast};
+ghost use Rattle.site_history.specs.Stories.{EventsAreSorted, OfSitesPreparedOnce, StoriesHaveRightLines};
+
+/// In the story of any commands the past of a declared site is made by sorted events: what begins and commits as a local attempt is of a
+/// local transaction, and the messages that the site takes were sent by the coordinator, which begins attempts of global ones only.
+pub fn events_are_sorted()
+    ensures { EventsAreSorted }
+{}
+
+/// At each declared site of every story each engine line may come there, its answer is the rule's, and the sealed runs are those in doubt.
+pub fn stories_have_right_lines()
+    ensures { StoriesHaveRightLines }
+{}
+
+/// Each declared site of every story is serial over all its stops and restarts, which keep its sealed runs, where no attempt is prepared
+/// twice.
+pub fn stories_have_serial_sites()
+    ensures epochs { OfSitesPreparedOnce HasEpochs }
+    ensures serial { OfSitesPreparedOnce IsSerialPast }
+{}
