@@ -28,6 +28,7 @@ pub mod SiteLines
 pub mod SiteLocals
 pub mod SiteMoves
 pub mod SiteOperations
+pub mod SiteParts
 pub mod SiteRuns
 pub mod SiteSteps
 pub mod Standings

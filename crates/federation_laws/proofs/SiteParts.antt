@@ -1,0 +1,133 @@
+-- Each site by itself is serial, in the story of any commands: from the history of a site and what the coordinator asks of it.
+use Rattle.std.proofs.Common.{◌≡◌, ◌⊎◌, ◌<◌, ℕ, Bool, true, false, cond, Option, Some, None, List, [], ◌∷◌, inl, inr, refl, sym, ap, subst, ◌∙◌, arith}
+use Rattle.mdb_base.specs.declared.names.Key.{Key}
+use Rattle.mdb_base.specs.declared.names.SiteId.{SiteId}
+use Rattle.mdb_base.specs.declared.names.Tid.{Tid}
+use Rattle.mdb_base.specs.Rows.{look_up}
+use Rattle.mdb_base.specs.Words.{Each, Among}
+use Rattle.presumptions.specs.declared.Decision.{Decision}
+use Rattle.presumptions.specs.declared.Decision.TheVariants as Decided
+use Rattle.order_laws.specs.Chains.{In, Distinct}
+use Rattle.order_laws.specs.Orders.{Before}
+use Rattle.order_laws.proofs.Lists.{each_from}
+use Rattle.fed_rules.specs.declared.commands.Command.{Command}
+use Rattle.fed_rules.specs.declared.events.SiteEvent.{SiteEvent}
+use Rattle.fed_rules.specs.declared.events.SiteEvent.TheVariants as Ev
+use Rattle.fed_rules.specs.declared.messages.ToSite.TheVariants as To
+use Rattle.fed_rules.specs.declared.records.SiteRecord.{SiteRecord}
+use Rattle.fed_rules.specs.declared.records.SiteRecord.TheVariants as Rec
+use Rattle.fed_rules.specs.declared.scenario.Scenario.{Scenario}
+use Rattle.fed_rules.specs.CoordPast as Coordinator
+use Rattle.fed_rules.specs.CoordRecords.{has_commit, outcome}
+use Rattle.fed_rules.specs.Disk.{empty_disk}
+use Rattle.fed_rules.specs.Orders.{is_committed, records_at, records_of, order_at, due_at, due_of}
+use Rattle.fed_rules.specs.Scenarios.{home_of}
+use Rattle.fed_rules.specs.Site.{site_line, site_past}
+use Rattle.fed_rules.specs.SitePast.{SitePast, SiteHappening, disk, records, set_up_calls}
+use Rattle.fed_rules.specs.SiteRecords.{Home, site_frame, order_of, due_rows}
+use Rattle.fed_rules.specs.Story.{Story, coord_past, past_of, sent_to, story_of}
+use Rattle.rules_laws.specs.Durable.{IsFirm}
+use Rattle.commit_laws.specs.Records.{IsEnded, IsLooseEnded}
+use Rattle.commit_laws.proofs.Agree.{Agree}
+use Rattle.commit_laws.proofs.Agreed.{agreed}
+use Rattle.commit_laws.proofs.Disks.{firm-quiet}
+use Rattle.commit_laws.proofs.SiteLines.{site-lines}
+use Rattle.site_history.specs.Events.{AreSorted, AskInOneEpoch, PreparesOnce, PreparedOncePerEpoch}
+use Rattle.site_history.specs.Records as History
+use Rattle.site_history.specs.SiteOrders.{IsSerialOrder, IsSerialPast}
+use Rattle.site_history.specs.Stories.{IsMadeSorted, EventsAreSorted, OfSitesPreparedOnce}
+use Rattle.federation_laws.specs.SiteOrders.{IsPrepared, IsSiteSerial, SitesAreSerial}
+use Rattle.federation_laws.proofs.Told.{home_is-site, home-again}
+
+-- each event of a past is that of one of its lines
+record Heard (home : Home) (events : List SiteEvent) : Type 0 where
+  firm : IsFirm site_frame (IsLooseEnded home.protocol) (disk home (site_past home events))
+  lines : (event : SiteEvent) → In event events → Among (λ x. x.event ≡ event) (site_past home events)
+
+heard : (home : Home) (any : Tid) (events : List SiteEvent) → Heard home events
+heard home any [] =
+    record {
+      firm = firm-quiet site_frame (IsLooseEnded home.protocol) empty_disk (set_up_calls home) (inr tt) (record { sound = record { frames = omega arith; synced = omega arith }; loose = tt });
+      lines = λ event i. absurd i;
+    }
+heard home any (event ∷ events) =
+    let before = heard home any events in
+    let line = site-lines home any (site_past home events) event before.firm in
+    record { firm = line.firm; lines = λ e i. elim i [ inl own ↦ inl (line.is ∙ own) | inr j ↦ inr (before.lines e j) ] }
+
+-- all Prepares of an attempt that come name one epoch: the one in which the coordinator knows the site
+one-epoch : (scenario : Scenario) (commands : List Command) (home : Home) (events : List SiteEvent) → home_of scenario home.site ≡ Some home → past_of home.site (story_of scenario commands) ≡ site_past home events → AskInOneEpoch events
+one-epoch scenario commands home events declared made tid d e m n i j =
+    let a = agreed scenario home tid commands declared in
+    let known = λ (k : ℕ) (c : ℕ) (at : In (Ev.Give (To.Prepare tid k c)) events).
+        let line = subst (λ past. Among (λ x. x.event ≡ Ev.Give (To.Prepare tid k c)) past) (sym made) ((heard home tid events).lines (Ev.Give (To.Prepare tid k c)) at) in
+        (a.preparing k c (a.given (To.Prepare tid k c) line)).epoch in
+    known d m i ∙ sym (known e n j)
+
+prepares-once : EventsAreSorted → PreparedOncePerEpoch → (scenario : Scenario) (commands : List Command) (home : Home) → home_of scenario home.site ≡ Some home → PreparesOnce home (past_of home.site (story_of scenario commands))
+prepares-once sorted once scenario commands home declared =
+    let made = sorted scenario commands home.site home declared in
+    subst (PreparesOnce home) (sym made.made) (once home _ made.events made.sorted (one-epoch scenario commands home made.events declared made.made))
+
+-- each Ended record tells the outcome
+tells-outcomes : (scenario : Scenario) (commands : List Command) (home : Home) → home_of scenario home.site ≡ Some home → History.TellOutcomes (is_committed (story_of scenario commands)) (records home (past_of home.site (story_of scenario commands)))
+tells-outcomes scenario commands home declared = each_from (History.TellsOutcome (is_committed (story_of scenario commands))) (records home (past_of home.site (story_of scenario commands))) tells
+  where
+    ended-in : (tid : Tid) (decision : Decision) (rs : List SiteRecord) → In (Rec.Ended tid decision) rs → Among (IsEnded tid decision) rs
+    ended-in tid decision [] i = absurd i
+    ended-in tid decision (r ∷ rs) (inl e) = inl (subst (IsEnded tid decision) (sym e) (refl, refl))
+    ended-in tid decision (r ∷ rs) (inr i) = inr (ended-in tid decision rs i)
+
+    is-outcome : (tid : Tid) (decision : Decision) → In (Rec.Ended tid decision) (records home (past_of home.site (story_of scenario commands))) → decision ≡ outcome (Coordinator.records (coord_past (story_of scenario commands))) tid
+    is-outcome tid decision i = ((agreed scenario home tid commands declared).ended decision (ended-in tid decision (records home (past_of home.site (story_of scenario commands))) i)).1
+
+    committed : (b : Bool) → Decided.Commit ≡ cond b Decided.Commit Decided.Abort → b ≡ true
+    committed true e = refl
+    committed false e = cc
+
+    aborted : (b : Bool) → Decided.Abort ≡ cond b Decided.Commit Decided.Abort → b ≡ false
+    aborted true e = cc
+    aborted false e = refl
+
+    tells : (r : SiteRecord) → In r (records home (past_of home.site (story_of scenario commands))) → History.TellsOutcome (is_committed (story_of scenario commands)) r
+    tells (Rec.Ended tid Decided.Commit) i = committed (is_committed (story_of scenario commands) tid) (is-outcome tid Decided.Commit i)
+    tells (Rec.Ended tid Decided.Abort) i = aborted (is_committed (story_of scenario commands) tid) (is-outcome tid Decided.Abort i)
+    tells (Rec.Setup site engine protocol items) i = tt
+    tells (Rec.Start epoch) i = tt
+    tells (Rec.Prepared tid epoch number ticket writes) i = tt
+    tells (Rec.Local tid number writes) i = tt
+
+-- the records and the due rows of a declared site
+records-are : (scenario : Scenario) (story : Story) (home : Home) → home_of scenario home.site ≡ Some home → records_of scenario story home.site ≡ records home (past_of home.site story)
+records-are scenario story home declared = ap (λ o. records_at o story) declared
+
+due-are : (scenario : Scenario) (story : Story) (home : Home) → home_of scenario home.site ≡ Some home → due_of scenario story home.site ≡ due_rows (is_committed story) home (records home (past_of home.site story))
+due-are scenario story home declared = ap (λ o. due_at o story) declared
+
+prepared-there : (rs : List SiteRecord) (tid : Tid) (ticket : ℕ) → IsPrepared rs tid ticket → History.IsPrepared rs tid ticket
+prepared-there rs tid ticket p = record { epoch = p.epoch; number = p.number; writes = p.writes; kept = p.kept }
+
+serial-here : (scenario : Scenario) (story : Story) (home : Home) → home_of scenario home.site ≡ Some home → IsSerialOrder home (past_of home.site story) (order_of (is_committed story) (records home (past_of home.site story))) (due_rows (is_committed story) home (records home (past_of home.site story))) → IsSiteSerial scenario story home
+serial-here scenario story home declared s =
+    let kept = records-are scenario story home declared in
+    let order : order_at scenario story home.site ≡ order_of (is_committed story) (records home (past_of home.site story)) = ap (order_of (is_committed story)) kept in
+    let due = due-are scenario story home declared in
+    let t : IsSerialOrder home (past_of home.site story) (order_at scenario story home.site) (due_of scenario story home.site) =
+        subst (λ ts. IsSerialOrder home (past_of home.site story) ts (due_of scenario story home.site)) (sym order)
+        (subst (λ rows. IsSerialOrder home (past_of home.site story) (order_of (is_committed story) (records home (past_of home.site story))) rows) (sym due) s) in
+    record {
+      distinct = t.distinct;
+      rising = λ a b j k before p q.
+          t.rising a b j k before
+          (prepared-there (records home (past_of home.site story)) a j (subst (λ rs. IsPrepared rs a j) kept p))
+          (prepared-there (records home (past_of home.site story)) b k (subst (λ rs. IsPrepared rs b k) kept q));
+      alone = t.alone;
+      left = t.left;
+    }
+
+-- so each declared site is serial
+pub sites-serial : OfSitesPreparedOnce IsSerialPast → EventsAreSorted → PreparedOncePerEpoch → (scenario : Scenario) (commands : List Command) → SitesAreSerial scenario (story_of scenario commands)
+sites-serial serial sorted once scenario commands site home declared =
+    let again = home-again scenario site home declared in
+    let past = serial scenario commands home.site home again (prepares-once sorted once scenario commands home again) in
+    serial-here scenario (story_of scenario commands) home again (past.due (is_committed (story_of scenario commands)) (tells-outcomes scenario commands home again))
