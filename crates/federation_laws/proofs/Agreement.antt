@@ -1,20 +1,11 @@
 -- A site and the coordinator agree on the finished operations of an attempt, through losses, repeats and restarts.
-use Rattle.std.proofs.Common.{◌≡◌, ◌⊎◌, ℕ, zero, suc, ◌+◌, ◌≤◌, ◌<◌, ◌==◌, Bool, true, false, cond, not, ◌&&◌, ◌||◌, Option, Some, None, List, [], ◌∷◌, ◌++◌, length, map, inl, inr, refl, sym, ap, subst, ◌∙◌, eqb-true, arith}
-use Rattle.mdb_base.specs.declared.acts.PlainAct.{PlainAct}
-use Rattle.mdb_base.specs.declared.acts.Step.{Step}
-use Rattle.mdb_base.specs.declared.names.SiteId.{SiteId}
+use Rattle.std.proofs.Common.{◌≡◌, ◌⊎◌, ℕ, suc, ◌+◌, ◌<◌, Bool, true, false, cond, ◌||◌, Option, Some, None, List, [], ◌∷◌, ◌++◌, length, map, inl, inr, refl, sym, ap, subst, ◌∙◌, arith}
 use Rattle.mdb_base.specs.declared.names.Tid.{Tid}
-use Rattle.mdb_base.specs.declared.replies.Reply.{Reply}
-use Rattle.mdb_base.specs.declared.replies.Reply.TheVariants as Reply_is
-use Rattle.mdb_base.specs.Names.{same_site, same_tid}
-use Rattle.mdb_base.specs.Programs.{plain_act}
-use Rattle.mdb_base.specs.Words.{Each, some_of, found, item_at}
+use Rattle.mdb_base.specs.Words.{Each, some_of}
 use Rattle.mdb_base.proofs.ListLaws.{append_each, each_map}
 use Rattle.presumptions.specs.declared.Protocol.{Protocol}
 use Rattle.order_laws.specs.Chains.{In}
 use Rattle.order_laws.proofs.Lists.{each_at}
-use Rattle.order_laws.proofs.Names.{same_site_alike, same_site_self}
-use Rattle.fed_rules.specs.declared.events.CoordEvent.TheVariants as To_coord
 use Rattle.fed_rules.specs.declared.events.SiteEvent.{SiteEvent}
 use Rattle.fed_rules.specs.declared.events.SiteEvent.TheVariants as To_site
 use Rattle.fed_rules.specs.declared.messages.FromSite.{FromSite}
@@ -23,20 +14,19 @@ use Rattle.fed_rules.specs.declared.messages.ToSite.{ToSite}
 use Rattle.fed_rules.specs.declared.messages.ToSite.TheVariants as To
 use Rattle.fed_rules.specs.declared.records.SiteRecord.{SiteRecord}
 use Rattle.fed_rules.specs.declared.records.SiteRecord.TheVariants as Rec
-use Rattle.fed_rules.specs.CoordPast.{CoordHappening, CoordPast, Counted, counted, program}
-use Rattle.fed_rules.specs.Runs.{Access, Got, Wrote, Run, has_ticket}
+use Rattle.fed_rules.specs.CoordPast.{CoordPast, counted, program}
+use Rattle.fed_rules.specs.Runs.{Access, Run, has_ticket}
 use Rattle.fed_rules.specs.SitePast.{SiteHappening, SitePast, records, epoch, live}
 use Rattle.fed_rules.specs.SiteRecords.{Home}
 use Rattle.commit_laws.specs.Records.{IsLooseEnded}
-use Rattle.commit_laws.proofs.SiteFacts.{Wrote as Reason}
 use Rattle.commit_laws.proofs.SiteLines.{Kept, Line}
 use Rattle.federation_laws.specs.Accesses.{seals, acts_of, act_of, acts_at}
 use Rattle.federation_laws.specs.SiteOrders.{IsPrepared}
-use Rattle.federation_laws.proofs.Asked.{IsNextAct, IsAskedWork, IsAskedTake, IsAskedVote, IsOld, Asked}
-use Rattle.federation_laws.proofs.CoordHolds.{Holds, IsDone}
-use Rattle.federation_laws.proofs.CoordOps.{Op, op_at, ops, ops_at, granted, Matches, agree-count}
+use Rattle.federation_laws.proofs.Asked.{IsAskedVote, IsOld, Asked}
+use Rattle.federation_laws.proofs.CoordHolds.{Holds}
+use Rattle.federation_laws.proofs.CoordOps.{ops, ops_at, granted, Matches, agree-count}
 use Rattle.federation_laws.proofs.CountedReplies.{is_dead}
-use Rattle.federation_laws.proofs.Dues.{epoch_of, count_of}
+use Rattle.federation_laws.proofs.Dues.{epoch_of}
 use Rattle.federation_laws.proofs.SiteMoves.{run_ops, ops_of, done-ops, IsNth, IsFrom, finishes, Says, IsSealing, Moves}
 use Rattle.federation_laws.proofs.SiteRuns.{site_ops, RunsHold, Growth, Stays, Grows, growth, runs-next, live-plain}
 
@@ -181,7 +171,7 @@ seals-now home past g event x coordinator sent answered holds a given s sealing 
         let behind = a.behind alive in
         let done : site_ops home past g (epoch_of (counted coordinator g) home.site) ≡ run_ops sealing.run = ap (site_ops home past g) known ∙ a.runs.now sealing.run sealing.is_live in
         let count : length (run_ops sealing.run) ≡ length (ops_at home.site (ops coordinator g)) =
-            sym (done-ops sealing.run) ∙ (sym sealing.all ∙ (old.count ∙ agree-count (counted coordinator g) (ops coordinator g) home.site (holds.agree alive))) in
+        sym (done-ops sealing.run) ∙ (sym sealing.all ∙ (old.count ∙ agree-count (counted coordinator g) (ops coordinator g) home.site (holds.agree alive))) in
         let ops_are : run_ops sealing.run ≡ ops_at home.site (ops coordinator g) = all-behind behind.0 (ops_at home.site (ops coordinator g)) (run_ops sealing.run) (sym done ∙ behind.1) count in
         ap (λ t. cond t (acts_of (live home past g)) (acts_at home past g)) s
         ∙ (ap acts_of sealing.is_live ∙ (sym (granted-run sealing.run) ∙ ap granted ops_are))

@@ -1,17 +1,16 @@
 -- What the coordinator asked of a site for an attempt: it asked for the operations that counted, and for what is outstanding now.
-use Rattle.std.proofs.Common.{◌≡◌, ◌⊎◌, ℕ, zero, suc, ◌≤◌, ◌<◌, ◌+◌, Bool, true, false, cond, not, ◌&&◌, ◌||◌, Option, Some, None, List, [], ◌∷◌, ◌++◌, drop, map, inl, inr, refl, sym, ap, subst, ◌∙◌, arith}
+use Rattle.std.proofs.Common.{◌≡◌, ℕ, suc, ◌≤◌, Bool, true, false, cond, not, ◌&&◌, Some, None, List, [], ◌∷◌, ◌++◌, drop, map, refl, sym, ap, subst, ◌∙◌, arith}
 use Rattle.mdb_base.specs.declared.acts.PlainAct.{PlainAct}
 use Rattle.mdb_base.specs.declared.acts.Step.{Step}
 use Rattle.mdb_base.specs.declared.names.SiteId.{SiteId}
 use Rattle.mdb_base.specs.declared.names.Tid.{Tid}
 use Rattle.mdb_base.specs.declared.replies.Reply.{Reply}
 use Rattle.mdb_base.specs.declared.replies.Reply.TheVariants as Reply_is
-use Rattle.mdb_base.specs.Names.{same_site, same_tid}
+use Rattle.mdb_base.specs.Names.{same_site}
 use Rattle.mdb_base.specs.Programs.{plain_act}
-use Rattle.mdb_base.specs.Words.{Each, some_of, those, how_many, item_at}
+use Rattle.mdb_base.specs.Words.{Each, those, how_many, item_at}
 use Rattle.mdb_base.proofs.ListLaws.{append_each}
-use Rattle.order_laws.specs.Chains.{In}
-use Rattle.order_laws.proofs.Names.{same_tid_alike, same_site_alike, same_site_self}
+use Rattle.order_laws.proofs.Names.{same_site_alike, same_site_self}
 use Rattle.fed_rules.specs.declared.messages.Due.{Due}
 use Rattle.fed_rules.specs.declared.messages.Due.TheVariants as Due_is
 use Rattle.fed_rules.specs.declared.messages.Sent.{Sent}
@@ -25,7 +24,7 @@ use Rattle.federation_laws.proofs.CoordOps.{Matches, matches-ends, count-wait, c
 use Rattle.federation_laws.specs.Accesses.{act_of}
 use Rattle.fed_rules.specs.Coord.{fits}
 use Rattle.federation_laws.proofs.Told.{some-parts}
-use Rattle.federation_laws.proofs.CountedReplies.{is_dead, Waits, Works, Takes, Progress, Waiting, Working, Taking, progress}
+use Rattle.federation_laws.proofs.CountedReplies.{is_dead, Progress, Waiting, Working, Taking, progress}
 use Rattle.federation_laws.proofs.Dues.{of_site, count_of, epoch_of, ticket_of, steps_of, reads_of, left_at, IsWork, IsTake, IsPrepare, due-is}
 
 -- the step that is next at this site, with its act

@@ -1,15 +1,15 @@
 -- No attempt has two Commit records, and each Commit record names the tickets of the votes.
-use Rattle.std.proofs.Common.{◌≡◌, ◌⊎◌, ℕ, Bool, true, false, cond, not, ◌&&◌, ◌||◌, is_some, nat_le, Option, Some, None, List, [], ◌∷◌, ◌++◌, map, inl, inr, refl, sym, ap, subst, ◌∙◌}
+use Rattle.std.proofs.Common.{◌≡◌, ◌⊎◌, ℕ, Bool, true, false, cond, ◌&&◌, is_some, nat_le, Option, Some, None, List, [], ◌∷◌, ◌++◌, map, inl, inr, refl, sym, ap, subst, ◌∙◌}
 use Rattle.std.proofs.lemmas.Bool.{and_parts}
 use Rattle.mdb_base.specs.declared.names.SiteId.{SiteId}
-use Rattle.mdb_base.specs.declared.names.SiteTicket.{SiteTicket}
 use Rattle.mdb_base.specs.declared.names.Tid.{Tid}
 use Rattle.mdb_base.specs.Names.{same_site, same_tid}
-use Rattle.mdb_base.specs.Words.{Each, Among, some_of, those, found, with_some}
+use Rattle.mdb_base.specs.Words.{Each, Among, found, with_some}
 use Rattle.presumptions.specs.declared.Participant.{Participant}
 use Rattle.order_laws.specs.Chains.{In, Distinct}
 use Rattle.order_laws.specs.Tickets.{Ticketed, OneEach}
 use Rattle.order_laws.proofs.Lists.{among_is, in_those, one_image, each_of_at}
+use Rattle.order_laws.proofs.Tickets.{acyclic_no_cycle}
 use Rattle.order_laws.proofs.Names.{same_site_alike, same_tid_alike, same_tid_self}
 use Rattle.fed_rules.specs.declared.answers.Answer.TheVariants as Say
 use Rattle.fed_rules.specs.declared.commands.Command.{Command}
@@ -19,22 +19,22 @@ use Rattle.fed_rules.specs.declared.messages.FromSite.TheVariants as From
 use Rattle.fed_rules.specs.declared.records.CoordRecord.{CoordRecord}
 use Rattle.fed_rules.specs.declared.records.CoordRecord.TheVariants as Rec
 use Rattle.fed_rules.specs.declared.scenario.Scenario.{Scenario}
-use Rattle.fed_rules.specs.Coord.{vote_counts, vote_ticket, vote_tickets, is_due_vote}
-use Rattle.fed_rules.specs.CoordPast.{CoordHappening, CoordPast, disk, records, standing, is_undecided, begins, counts, program, visits, participants, or_vote, vote_in, vote_at, outstanding}
+use Rattle.fed_rules.specs.Coord.{vote_ticket}
+use Rattle.fed_rules.specs.CoordPast.{CoordHappening, CoordPast, disk, records, standing, is_undecided, begins, counts, program, visits, participants, or_vote, vote_in, vote_at}
 use Rattle.fed_rules.specs.CoordRecords.{coord_frame, has_commit, commits}
 use Rattle.fed_rules.specs.Disk.{Disk, Call, Append, Sync, CutBack, Stops, bytes_of, whole, after_calls}
 use Rattle.fed_rules.specs.Happenings.{quiet}
 use Rattle.fed_rules.specs.Plans.{IsScenario}
 use Rattle.fed_rules.specs.Scenarios.{protocols}
-use Rattle.fed_rules.specs.Story.{Story, Happened, AtSite, AtCoordinator, Nowhere, coord_past, with_coordinator, sent_from, sends_from, happens, story_of}
-use Rattle.federation_laws.specs.Edges.{committed}
-use Rattle.federation_laws.proofs.CoordEffects.{program-stays, Effect, Starts, Replies, Votes, Still, effect}
-use Rattle.federation_laws.proofs.CoordHolds.{is_begun, Finished, Holds, last-vote-of, starts-novote, fresh-begun}
-use Rattle.federation_laws.proofs.CoordMade.{CommitsNobody, IsAccepted, IsLastVote, Writes, IsMade}
+use Rattle.fed_rules.specs.Story.{Story, Happened, AtSite, AtCoordinator, Nowhere, coord_past, with_coordinator, sent_from, story_of}
+use Rattle.federation_laws.specs.Edges.{committed, TicketGraphsAreCycleFree}
+use Rattle.federation_laws.proofs.CoordEffects.{program-stays}
+use Rattle.federation_laws.proofs.CoordHolds.{last-vote-of, starts-novote, fresh-begun}
+use Rattle.federation_laws.proofs.CoordMade.{CommitsNobody, IsAccepted, IsLastVote, Writes}
 use Rattle.federation_laws.proofs.Standings.{AppendsCommit}
 use Rattle.federation_laws.proofs.StoryGlobals.{StoryHolds, story-holds, coord-made, fresh-line, declared-program}
 use Rattle.federation_laws.proofs.Told.{IsCoordLine, IsLine, CoordCause, line_is}
-use Rattle.federation_laws.proofs.TicketCycles.{commits-whole}
+use Rattle.federation_laws.proofs.TicketCycles.{commits-whole, free-story}
 
 -- the attempts that have a Commit record
 abbrev pub tids_of : List CoordRecord → List Tid
@@ -254,8 +254,7 @@ new-node scenario good story x line holds votes node v s visited =
     let vote = each_of_at (λ (m : Participant). is_some (vote_at (quiet line.event Say.Voted ∷ coord_past story) node.tid m.site)) (participants (protocols scenario) (coord_past story) node.tid) p v.all member in
     let (ticket, is) = some-value (vote_at (quiet line.event Say.Voted ∷ coord_past story) node.tid p.site) vote in
     let named = in-found (λ (m : Participant). vote_ticket m.site (vote_at (quiet line.event Say.Voted ∷ coord_past story) node.tid m.site)) p (record { site = p.site; ticket = ticket }) (participants (protocols scenario) (coord_past story) node.tid) member (ap (vote_ticket p.site) is) in
-    let sent = vote-sent scenario story node.tid p.site line.event ticket line.cause votes is in
-    (
+    let sent = vote-sent scenario story node.tid p.site line.event ticket line.cause votes is in (
       ticket,
       subst (λ z. In (record { site = z; ticket = ticket }) node.tickets) at (subst (In (record { site = p.site; ticket = ticket })) (sym v.theirs) named),
       subst (λ z. In (From.Vote node.tid (Some ticket)) (sent_from z story)) at sent,
@@ -303,3 +302,9 @@ pub votes-sent : (scenario : Scenario) → IsScenario scenario → (commands : L
 votes-sent scenario good [] = record { votes = λ g s ticket e. cc; nodes = λ node i. absurd i }
 votes-sent scenario good (command ∷ commands) =
     votes-happened scenario good (story_of scenario commands) command _ (story-holds scenario good commands) (line_is scenario (story_of scenario commands) command) (votes-sent scenario good commands)
+
+-- the ticket graph of the committed attempts has no cycle
+pub graphs_cycle_free : TicketGraphsAreCycleFree
+graphs_cycle_free scenario good commands =
+    let once = commits-once scenario good commands in
+    (once, acyclic_no_cycle (committed (story_of scenario commands)) once (free-story scenario commands))

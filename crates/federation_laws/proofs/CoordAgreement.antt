@@ -1,39 +1,35 @@
 -- A site and the coordinator agree on an attempt after a line of the coordinator.
-use Rattle.std.proofs.Common.{◌≡◌, ◌⊎◌, ℕ, zero, suc, ◌+◌, ◌≤◌, ◌<◌, ◌==◌, Bool, true, false, cond, not, ◌&&◌, ◌||◌, Option, Some, None, List, [], ◌∷◌, ◌++◌, length, map, inl, inr, refl, sym, ap, subst, ◌∙◌, eqb-true, arith}
-use Rattle.mdb_base.specs.declared.acts.PlainAct.{PlainAct}
-use Rattle.mdb_base.specs.declared.acts.PlainAct.TheVariants.{Read, Write}
+use Rattle.std.proofs.Common.{◌≡◌, ℕ, ◌+◌, ◌<◌, ◌==◌, Bool, true, false, cond, ◌||◌, Option, Some, None, List, [], ◌∷◌, ◌++◌, length, inl, inr, refl, sym, ap, subst, ◌∙◌, eqb-true, arith}
 use Rattle.mdb_base.specs.declared.acts.Step.{Step}
-use Rattle.mdb_base.specs.declared.names.Key.{Key}
 use Rattle.mdb_base.specs.declared.names.SiteId.{SiteId}
 use Rattle.mdb_base.specs.declared.names.Tid.{Tid}
 use Rattle.mdb_base.specs.declared.replies.Reply.{Reply}
 use Rattle.mdb_base.specs.declared.replies.Reply.TheVariants as Reply_is
-use Rattle.mdb_base.specs.Names.{same_site, same_tid}
+use Rattle.mdb_base.specs.Names.{same_site}
 use Rattle.mdb_base.specs.Programs.{plain_act}
-use Rattle.mdb_base.specs.Words.{Each, item_at}
+use Rattle.mdb_base.specs.Words.{Each}
 use Rattle.mdb_base.proofs.Words.{cond-true}
 use Rattle.order_laws.specs.Chains.{In}
 use Rattle.order_laws.proofs.Lists.{each_at}
 use Rattle.order_laws.proofs.Names.{same_site_alike}
 use Rattle.fed_rules.specs.declared.events.CoordEvent.TheVariants as Ev
-use Rattle.fed_rules.specs.declared.messages.Due.TheVariants as Due_is
 use Rattle.fed_rules.specs.declared.messages.FromSite.{FromSite}
 use Rattle.fed_rules.specs.declared.messages.FromSite.TheVariants as From
 use Rattle.fed_rules.specs.declared.messages.ToSite.{ToSite}
 use Rattle.fed_rules.specs.declared.messages.ToSite.TheVariants as To
-use Rattle.fed_rules.specs.CoordPast.{CoordHappening, CoordPast, Counted, begins, program, counted, vote_at, last_epoch, outstanding}
+use Rattle.fed_rules.specs.CoordPast.{CoordHappening, CoordPast, Counted, begins, program, counted, last_epoch}
 use Rattle.fed_rules.specs.Runs.{Access, Got, Wrote}
 use Rattle.fed_rules.specs.SitePast.{SitePast}
 use Rattle.fed_rules.specs.SiteRecords.{Home}
-use Rattle.federation_laws.specs.Accesses.{act_of, acts_at}
-use Rattle.federation_laws.proofs.Agreement.{WasAsked, WereAsked, IsSaid, has_sealed, IsBehind, IsSealed, Agrees}
-use Rattle.federation_laws.proofs.Asked.{IsNextAct, IsAskedWork, IsAskedTake, IsAskedVote, IsOld, IsOf, Asked, asked-next, sent_here, no-vote-fits}
-use Rattle.federation_laws.proofs.CoordEffects.{CountsReply, CountsVote, CountsNothing, Effect, Starts, Replies, Votes, Still}
+use Rattle.federation_laws.specs.Accesses.{act_of}
+use Rattle.federation_laws.proofs.Agreement.{WasAsked, WereAsked, IsSaid, IsBehind, Agrees}
+use Rattle.federation_laws.proofs.Asked.{IsAskedWork, IsAskedVote, IsOld, IsOf, Asked, asked-next, sent_here}
+use Rattle.federation_laws.proofs.CoordEffects.{CountsReply, Effect, Starts, Replies, Votes, Still}
 use Rattle.federation_laws.proofs.CoordHolds.{is_begun, IsDone, Holds, IsFresh, dead-more}
-use Rattle.federation_laws.proofs.CoordMade.{IsAsked, is_refusal}
+use Rattle.federation_laws.proofs.CoordMade.{IsAsked}
 use Rattle.federation_laws.proofs.CoordOps.{Op, op_at, ops, ops_at, granted, Matches, agree-count}
-use Rattle.federation_laws.proofs.CountedReplies.{is_dead, Waits, Works, Takes, Progress, Waiting, Working, Taking, progress, counts-epoch, counts-fits}
-use Rattle.federation_laws.proofs.Dues.{of_site, epoch_of, left_at, ticket_of, count_of, reads_of, steps_of, IsWork, IsTake, due-is, FitsWork, FitsTake, Fitting, ToWork, ToTake, fitting}
+use Rattle.federation_laws.proofs.CountedReplies.{is_dead, Works, Progress, Waiting, Working, Taking, progress, counts-epoch}
+use Rattle.federation_laws.proofs.Dues.{of_site, epoch_of, left_at, ticket_of, count_of, reads_of}
 use Rattle.federation_laws.proofs.SiteMoves.{IsNth, finishes}
 use Rattle.federation_laws.proofs.SiteRuns.{site_ops, RunsHold}
 use Rattle.federation_laws.proofs.Told.{some-parts}

@@ -1,16 +1,13 @@
 -- What a line of the coordinator changes of what it knows of one attempt: it begins it, counts a reply or a yes vote, or changes nothing.
-use Rattle.std.proofs.Common.{◌≡◌, ℕ, Bool, true, false, cond, not, ◌&&◌, Option, Some, None, List, [], ◌∷◌, refl, sym, ap, subst, ◌∙◌}
-use Rattle.mdb_base.specs.declared.acts.Step.{Step}
+use Rattle.std.proofs.Common.{◌≡◌, ℕ, Bool, true, false, cond, ◌&&◌, Option, Some, None, [], ◌∷◌, refl, ap, subst, ◌∙◌}
 use Rattle.mdb_base.specs.declared.names.SiteId.{SiteId}
 use Rattle.mdb_base.specs.declared.names.Tid.{Tid}
 use Rattle.mdb_base.specs.declared.replies.Reply.{Reply}
 use Rattle.mdb_base.specs.Names.{same_site, same_tid}
 use Rattle.mdb_base.specs.Words.{with_some, map_some}
-use Rattle.order_laws.proofs.Names.{same_tid_alike, same_tid_self}
-use Rattle.fed_rules.specs.declared.answers.Answer.{Answer}
+use Rattle.order_laws.proofs.Names.{same_tid_alike}
 use Rattle.fed_rules.specs.declared.events.CoordEvent.{CoordEvent}
 use Rattle.fed_rules.specs.declared.events.CoordEvent.TheVariants as Ev
-use Rattle.fed_rules.specs.declared.messages.FromSite.{FromSite}
 use Rattle.fed_rules.specs.declared.messages.FromSite.TheVariants as From
 use Rattle.fed_rules.specs.Coord.{did_counts, vote_counts}
 use Rattle.fed_rules.specs.CoordPast.{CoordHappening, CoordPast, Counted, begins, program_in, or_steps, program, counts, did_in, counted, vote_in, or_vote, vote_at, outstanding}

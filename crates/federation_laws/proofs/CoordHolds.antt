@@ -1,5 +1,5 @@
 -- What holds at the coordinator of one attempt, line by line: what it counted follows the program, and a Commit comes after all of it.
-use Rattle.std.proofs.Common.{◌≡◌, ◌⊎◌, ℕ, zero, suc, Bool, true, false, cond, not, ◌&&◌, ◌||◌, is_some, Option, Some, None, List, [], ◌∷◌, drop, length, inl, inr, refl, sym, ap, subst, ◌∙◌}
+use Rattle.std.proofs.Common.{◌≡◌, ◌⊎◌, ℕ, zero, suc, Bool, true, false, cond, not, ◌&&◌, ◌||◌, is_some, Some, None, List, [], ◌∷◌, drop, inl, inr, refl, sym, ap, subst, ◌∙◌}
 use Rattle.std.proofs.lemmas.Bool.{and_parts}
 use Rattle.mdb_base.specs.declared.acts.Step.{Step}
 use Rattle.mdb_base.specs.declared.names.SiteId.{SiteId}
@@ -7,7 +7,7 @@ use Rattle.mdb_base.specs.declared.names.SiteTicket.{SiteTicket}
 use Rattle.mdb_base.specs.declared.names.Tid.{Tid}
 use Rattle.mdb_base.specs.Names.{same_site, same_tid}
 use Rattle.mdb_base.specs.Programs.{plain_act}
-use Rattle.mdb_base.specs.Words.{Each, Among, some_of, each_of, those, item_at, with_some, found}
+use Rattle.mdb_base.specs.Words.{Each, Among, some_of, item_at, with_some}
 use Rattle.presumptions.specs.declared.Participant.{Participant}
 use Rattle.order_laws.proofs.Lists.{each_of_at, among_is, in_those}
 use Rattle.mdb_base.proofs.NameLaws.{same_tid-sym}
@@ -21,17 +21,17 @@ use Rattle.fed_rules.specs.declared.messages.Due.TheVariants as Due_is
 use Rattle.fed_rules.specs.declared.messages.FromSite.TheVariants as From
 use Rattle.fed_rules.specs.declared.records.CoordRecord.{CoordRecord}
 use Rattle.fed_rules.specs.declared.records.CoordRecord.TheVariants as Rec
-use Rattle.fed_rules.specs.Coord.{vote_counts, all_voted, is_due_vote}
+use Rattle.fed_rules.specs.Coord.{is_due_vote}
 use Rattle.fed_rules.specs.CoordPast.{CoordHappening, CoordPast, Counted, disk, records, standing, is_undecided, is_about, begins, begun_by, begun_tids, program, visits, participants, counted, or_vote, vote_at, outstanding, is_wait, is_ticket, decides}
 use Rattle.fed_rules.specs.CoordRecords.{has_commit}
 use Rattle.fed_rules.specs.Disk.{Call, Append, Sync, CutBack, Stops}
 use Rattle.fed_rules.specs.Happenings.{quiet, stops, comes_up}
-use Rattle.federation_laws.specs.Accesses.{SiteAccess, reads_in, act_of, IsStep, Follows}
-use Rattle.federation_laws.proofs.CoordEffects.{program-stays, CountsReply, CountsVote, CountsNothing, Effect, Starts, Replies, Votes, Still, effect}
+use Rattle.federation_laws.specs.Accesses.{act_of, Follows}
+use Rattle.federation_laws.proofs.CoordEffects.{program-stays, CountsReply, Effect, Starts, Replies, Votes, Still, effect}
 use Rattle.federation_laws.proofs.CoordMade.{CommitsNobody, IsLastVote, Writes, is_refusal, Decides, Begins, IsMade}
-use Rattle.federation_laws.proofs.CoordOps.{Op, op_at, ops, accesses, Matches, Agree, agree-wait, agree-steps, agree-reads}
-use Rattle.federation_laws.proofs.CountedReplies.{is_dead, Waits, Works, Takes, Progress, Waiting, Working, Taking, progress, counts-fits}
-use Rattle.federation_laws.proofs.Dues.{left_at, ticket_of, steps_of, reads_of, of_site, voting, IsWork, IsTake, due-is, FitsWork, FitsTake, Fitting, ToWork, ToTake, fitting}
+use Rattle.federation_laws.proofs.CoordOps.{Op, op_at, ops, accesses, Agree, agree-wait, agree-steps, agree-reads}
+use Rattle.federation_laws.proofs.CountedReplies.{is_dead, Works, Progress, Waiting, Working, Taking, progress, counts-fits}
+use Rattle.federation_laws.proofs.Dues.{left_at, ticket_of, steps_of, of_site, voting, IsWork, IsTake, due-is, Fitting, ToWork, ToTake, fitting}
 use Rattle.federation_laws.proofs.Standings.{undecided-from, AppendsCommit, commit-from}
 
 -- whether the attempt was begun

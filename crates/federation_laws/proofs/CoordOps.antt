@@ -1,12 +1,12 @@
 -- The operations of an attempt that the coordinator counted, as granted accesses and takings of the ticket, the last one first.
-use Rattle.std.proofs.Common.{◌≡◌, ◌⊎◌, ℕ, zero, suc, Bool, true, false, cond, not, ◌&&◌, ◌||◌, is_some, is_none, Option, Some, None, List, [], ◌∷◌, ◌++◌, length, inl, inr, refl, sym, ap, subst, ◌∙◌}
+use Rattle.std.proofs.Common.{◌≡◌, ◌⊎◌, suc, Bool, true, false, cond, not, ◌&&◌, Option, Some, None, List, [], ◌∷◌, length, inl, inr, refl, sym, ap, ◌∙◌}
 use Rattle.mdb_base.specs.declared.acts.PlainAct.TheVariants.{Read, Write}
 use Rattle.mdb_base.specs.declared.names.SiteId.{SiteId}
 use Rattle.mdb_base.specs.declared.names.Tid.{Tid}
 use Rattle.mdb_base.specs.declared.replies.Reply.{Reply}
 use Rattle.mdb_base.specs.declared.replies.Reply.TheVariants as Reply_is
 use Rattle.mdb_base.specs.Names.{same_site, same_tid}
-use Rattle.mdb_base.specs.Words.{some_of, how_many, those, found, with_some, map_some}
+use Rattle.mdb_base.specs.Words.{how_many, found, with_some, map_some}
 use Rattle.fed_rules.specs.declared.events.CoordEvent.{CoordEvent}
 use Rattle.fed_rules.specs.declared.events.CoordEvent.TheVariants as Ev
 use Rattle.fed_rules.specs.declared.messages.Due.{Due}
@@ -16,8 +16,7 @@ use Rattle.fed_rules.specs.CoordPast.{CoordPast, Counted, begins, counts, outsta
 use Rattle.fed_rules.specs.Runs.{Access, Got, Wrote}
 use Rattle.fed_rules.specs.Story.{value_of}
 use Rattle.federation_laws.specs.Accesses.{SiteAccess, at, reads_in}
-use Rattle.federation_laws.proofs.CoordMade.{is_refusal}
-use Rattle.federation_laws.proofs.Dues.{of_site, count_of, ticket_of, steps_of, reads_of}
+use Rattle.federation_laws.proofs.Dues.{of_site, count_of, steps_of, reads_of}
 
 -- an operation at a site: a granted access, or the taking of the ticket
 pub record Op : Type 0 where

@@ -1,5 +1,5 @@
 -- A reply that counts and doesn't refuse is a wait, or it finishes what is outstanding at its site.
-use Rattle.std.proofs.Common.{◌≡◌, ◌⊎◌, ℕ, suc, ◌==◌, Bool, true, false, cond, not, ◌&&◌, ◌||◌, Option, Some, None, List, [], ◌∷◌, inl, inr, refl, sym, ap, subst, ◌∙◌}
+use Rattle.std.proofs.Common.{◌≡◌, ◌⊎◌, ℕ, ◌==◌, Bool, true, false, ◌||◌, Option, Some, None, List, ◌∷◌, inl, inr, refl, ap, subst, ◌∙◌}
 use Rattle.std.proofs.lemmas.Bool.{and_parts}
 use Rattle.mdb_base.specs.declared.acts.PlainAct.{PlainAct}
 use Rattle.mdb_base.specs.declared.acts.PlainAct.TheVariants.{Read, Write}
@@ -17,8 +17,8 @@ use Rattle.fed_rules.specs.Runs.{Access, Got, Wrote}
 use Rattle.federation_laws.specs.Accesses.{act_of}
 use Rattle.federation_laws.proofs.CoordEffects.{CountsReply}
 use Rattle.federation_laws.proofs.CoordMade.{is_refusal}
-use Rattle.federation_laws.proofs.CoordOps.{Op, finished, op_at, ops, Matches}
-use Rattle.federation_laws.proofs.Dues.{IsWork, IsTake, due-is, FitsWork, FitsTake, Fitting, ToWork, ToTake, fitting}
+use Rattle.federation_laws.proofs.CoordOps.{finished, op_at, ops, Matches}
+use Rattle.federation_laws.proofs.Dues.{IsWork, IsTake, due-is, Fitting, ToWork, ToTake, fitting}
 
 -- whether a refusal counted
 abbrev pub is_dead : List Counted → Bool

@@ -1,13 +1,10 @@
 -- What is outstanding at a site, from the program, the replies that counted and the site's vote.
-use Rattle.std.proofs.Common.{◌≡◌, ℕ, zero, suc, ◌≤◌, ◌==◌, Bool, true, false, cond, not, ◌&&◌, ◌||◌, is_some, is_none, Option, Some, None, List, [], ◌∷◌, drop, length, refl, sym, ap, subst, ◌∙◌, eqb-true}
+use Rattle.std.proofs.Common.{◌≡◌, ℕ, Bool, true, false, cond, not, ◌&&◌, is_none, Option, Some, None, List, drop, refl, sym, ap, subst, eqb-true}
 use Rattle.std.proofs.lemmas.Bool.{and_parts}
 use Rattle.mdb_base.specs.declared.acts.PlainAct.{PlainAct}
-use Rattle.mdb_base.specs.declared.acts.PlainAct.TheVariants.{Read, Write}
 use Rattle.mdb_base.specs.declared.acts.Step.{Step}
 use Rattle.mdb_base.specs.declared.names.SiteId.{SiteId}
 use Rattle.mdb_base.specs.declared.replies.Reply.{Reply}
-use Rattle.mdb_base.specs.declared.replies.Reply.TheVariants as Reply_is
-use Rattle.mdb_base.specs.declared.replies.Why.TheVariants as Because
 use Rattle.mdb_base.specs.Names.{same_site}
 use Rattle.mdb_base.specs.Programs.{plain_act}
 use Rattle.mdb_base.specs.Words.{some_of, how_many, those, found, item_at}
@@ -16,7 +13,6 @@ use Rattle.fed_rules.specs.declared.messages.Due.{Due}
 use Rattle.fed_rules.specs.declared.messages.Due.TheVariants as Due_is
 use Rattle.fed_rules.specs.Coord.{fits, fits_act, fits_take, is_due_vote}
 use Rattle.fed_rules.specs.CoordPast.{Counted, visits, is_wait, is_ticket, last_epoch, value_in, oldest_first}
-use Rattle.federation_laws.proofs.CoordMade.{is_refusal}
 use Rattle.federation_laws.proofs.Told.{some-parts}
 
 -- those of one site, how many of them are no waits, their epoch, and whether a ticket is among them

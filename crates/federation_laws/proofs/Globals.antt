@@ -1,10 +1,10 @@
 -- A global member of a site's order: it did there what its program says, and its Commit record has the ticket of its Prepared record.
-use Rattle.std.proofs.Common.{◌≡◌, ◌⊎◌, ℕ, zero, suc, ◌+◌, ◌≤◌, ◌<◌, Bool, true, false, cond, ◌||◌, is_some, Option, Some, None, List, [], ◌∷◌, ◌++◌, drop, length, inl, inr, refl, sym, ap, subst, ◌∙◌, arith}
+use Rattle.std.proofs.Common.{◌≡◌, ℕ, zero, suc, ◌≤◌, ◌<◌, Bool, true, false, cond, ◌||◌, Option, Some, None, List, [], ◌∷◌, drop, length, refl, sym, ap, subst, ◌∙◌, arith}
 use Rattle.mdb_base.specs.declared.acts.Step.{Step}
 use Rattle.mdb_base.specs.declared.names.SiteId.{SiteId}
 use Rattle.mdb_base.specs.declared.names.Tid.{Tid}
 use Rattle.mdb_base.specs.Names.{same_site, same_tid}
-use Rattle.mdb_base.specs.Words.{Each, Among, some_of, item_at}
+use Rattle.mdb_base.specs.Words.{item_at}
 use Rattle.order_laws.specs.Chains.{In}
 use Rattle.order_laws.specs.Orders.{is_in}
 use Rattle.order_laws.proofs.Lists.{each_at, in_is_true}
@@ -15,25 +15,24 @@ use Rattle.fed_rules.specs.declared.messages.ToSite.TheVariants as To
 use Rattle.fed_rules.specs.declared.scenario.Scenario.{Scenario}
 use Rattle.fed_rules.specs.CoordPast as Coordinator
 use Rattle.fed_rules.specs.CoordPast.{CoordPast, program, visits, counted}
-use Rattle.fed_rules.specs.Orders.{is_committed, records_at, records_of, order_at, reads_of, reads_at}
+use Rattle.fed_rules.specs.Orders.{is_committed, records_at, records_of, order_at, reads_at}
 use Rattle.fed_rules.specs.Plans.{IsScenario}
-use Rattle.fed_rules.specs.Scenarios.{home_of, home_at, local_site, local_home, program_of}
+use Rattle.fed_rules.specs.Scenarios.{home_of, home_at, local_site, program_of}
 use Rattle.fed_rules.specs.SitePast.{records}
 use Rattle.fed_rules.specs.SiteRecords.{Home}
 use Rattle.fed_rules.specs.Story.{Story, coord_past, past_of, sent_from, sent_to, story_of}
-use Rattle.federation_laws.specs.Accesses.{SiteAccess, at, reads_in, IsStep, Follows, Ran, acts_at}
-use Rattle.federation_laws.specs.Edges.{committed}
+use Rattle.federation_laws.specs.Accesses.{SiteAccess, at, Follows, Ran, acts_at}
 use Rattle.federation_laws.specs.Parts.{IsAgreed, IsByProgram}
 use Rattle.federation_laws.specs.SiteOrders.{IsPrepared}
 use Rattle.federation_laws.proofs.Agreement.{IsSaid, has_sealed}
 use Rattle.federation_laws.proofs.Asked.{IsOld, IsAskedVote}
-use Rattle.federation_laws.proofs.CommitOnce.{commit-node, IsVoted, votes-sent}
-use Rattle.federation_laws.proofs.CoordHolds.{IsDone, Finished, Holds}
-use Rattle.federation_laws.proofs.CoordOps.{Op, ops, ops_at, granted, accesses, agree-steps, agree-reads, at-granted}
-use Rattle.federation_laws.proofs.Declared.{undeclared, member-declared}
+use Rattle.federation_laws.proofs.CommitOnce.{commit-node, votes-sent}
+use Rattle.federation_laws.proofs.CoordHolds.{Finished}
+use Rattle.federation_laws.proofs.CoordOps.{ops, accesses, agree-steps, agree-reads, at-granted}
+use Rattle.federation_laws.proofs.Declared.{undeclared}
 use Rattle.federation_laws.proofs.Dues.{steps_of}
 use Rattle.federation_laws.proofs.Members.{prepared-member, prepared-sealed}
-use Rattle.federation_laws.proofs.StoryGlobals.{StoryHolds, story-holds, declared-program, AgreesIn, story-agrees}
+use Rattle.federation_laws.proofs.StoryGlobals.{StoryHolds, story-holds, declared-program, story-agrees}
 use Rattle.federation_laws.proofs.Told.{home_is-site, home-again}
 
 -- where no site has a step left, all steps are done
@@ -141,7 +140,7 @@ prepared-visits scenario good commands home g ticket declared none commit p =
     let h = story-holds scenario good commands g in
     let s = a.sealed (prepared-sealed home (past_of home.site story) g ticket p) in
     let old : IsAskedVote (program (coord_past story) g) (counted (coord_past story) g) home.site s.e s.n =
-        each_at (IsOld g (program (coord_past story) g) (counted (coord_past story) g) home.site) (To.Prepare g s.e s.n) (sent_to home.site story) (a.asked.old (h.holds.committed commit).alive) s.asked refl in
+    each_at (IsOld g (program (coord_past story) g) (counted (coord_past story) g) home.site) (To.Prepare g s.e s.n) (sent_to home.site story) (a.asked.old (h.holds.committed commit).alive) s.asked refl in
     old.visited
 
 -- a committed global attempt follows its program
@@ -178,7 +177,7 @@ global-program scenario good commands g none commit sealed =
         let a = story-agrees scenario good commands home g (home-again scenario site home declared) none in
         let s = a.sealed (subst (λ z. has_sealed (past_of z (story_of scenario commands)) g ≡ true) (sym same) (sealed site home declared i)) in
         let equal : at home.site (accesses (ops (coord_past (story_of scenario commands)) g)) ≡ acts_at home (past_of home.site (story_of scenario commands)) g =
-            at-granted home.site (ops (coord_past (story_of scenario commands)) g) ∙ sym (s.same ((story-holds scenario good commands g).holds.committed commit).alive) in
+        at-granted home.site (ops (coord_past (story_of scenario commands)) g) ∙ sym (s.same ((story-holds scenario good commands g).holds.committed commit).alive) in
         subst (λ z. at z (accesses (ops (coord_past (story_of scenario commands)) g)) ≡ acts_at home (past_of z (story_of scenario commands)) g) same equal
 
     elsewhere : (site : SiteId) → is_in same_tid (order_at scenario (story_of scenario commands) site) g ≡ false → at site (accesses (ops (coord_past (story_of scenario commands)) g)) ≡ []

@@ -1,5 +1,5 @@
 -- Each line of a site, also one that a stop ends: what it makes of a local attempt, to which no operation is sent.
-use Rattle.std.proofs.Common.{◌≡◌, ◌⊎◌, ℕ, zero, suc, Bool, true, false, cond, nat_le, Option, Some, None, List, [], ◌∷◌, ◌++◌, length, take, inl, inr, refl, sym, ap, subst, ◌∙◌}
+use Rattle.std.proofs.Common.{◌≡◌, ℕ, Bool, true, false, Option, Some, None, List, [], ◌∷◌, ◌++◌, take, refl, sym, subst, ◌∙◌}
 use Rattle.mdb_base.specs.declared.names.Tid.{Tid}
 use Rattle.mdb_base.specs.Names.{same_tid}
 use Rattle.mdb_base.specs.Words.{some_of, when}
@@ -13,14 +13,14 @@ use Rattle.fed_rules.specs.declared.records.SiteRecord.{SiteRecord}
 use Rattle.fed_rules.specs.Disk.{Call, Stops}
 use Rattle.fed_rules.specs.Happenings.{Trip, quiet, is_down, stopped, tripped}
 use Rattle.fed_rules.specs.Orders.{read_by}
-use Rattle.fed_rules.specs.Site.{of_give, of_back, answered, site_line}
-use Rattle.fed_rules.specs.SitePast.{SiteHappening, SitePast, disk, trip, live}
+use Rattle.fed_rules.specs.Site.{of_give, answered, site_line}
+use Rattle.fed_rules.specs.SitePast.{SiteHappening, SitePast, disk, trip}
 use Rattle.fed_rules.specs.SiteRecords.{Home, site_frame}
 use Rattle.commit_laws.proofs.SiteEnds.{by-answered}
 use Rattle.commit_laws.proofs.SiteShut.{restored-sealed}
 use Rattle.federation_laws.specs.Accesses.{seals}
 use Rattle.federation_laws.proofs.Asked.{IsOf}
-use Rattle.federation_laws.proofs.LocalMoves.{Idle, Opens, Grants, Closes, LocalMove, Rests, Gone, Opening, Granting, Closing, Made, made_when, other-made, plain-made, begin-made, act-made, commit-made, abort-made, decide-made, ask-made, drop-made, fate-made, back-made}
+use Rattle.federation_laws.proofs.LocalMoves.{LocalMove, Rests, Gone, Opening, Granting, Closing, Made, made_when, other-made, plain-made, begin-made, act-made, commit-made, abort-made, decide-made, ask-made, drop-made, fate-made, back-made}
 use Rattle.federation_laws.proofs.SiteAbout.{begin_about, act_about, commit_about, abort_about, work_about, take_about, prepare_about, decide_about, drop_about}
 use Rattle.federation_laws.proofs.SiteLines.{seals-cut}
 

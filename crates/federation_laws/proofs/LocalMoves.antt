@@ -1,5 +1,5 @@
 -- What a line of a site makes of the run of a local attempt.
-use Rattle.std.proofs.Common.{◌≡◌, ◌⊎◌, ℕ, zero, suc, ◌+◌, eq-eqb, Bool, true, false, cond, not, ◌&&◌, ◌||◌, nat_le, Option, Some, None, List, [], ◌∷◌, ◌++◌, length, take, inl, inr, refl, sym, ap, subst, ◌∙◌}
+use Rattle.std.proofs.Common.{◌≡◌, ℕ, ◌+◌, eq-eqb, Bool, true, false, cond, ◌||◌, Option, Some, None, [], ◌∷◌, ◌++◌, refl, sym, ap, subst, ◌∙◌}
 use Rattle.mdb_base.specs.declared.acts.PlainAct.{PlainAct}
 use Rattle.mdb_base.specs.declared.acts.PlainAct.TheVariants.{Read, Write}
 use Rattle.mdb_base.specs.declared.names.Tid.{Tid}
@@ -9,32 +9,27 @@ use Rattle.mdb_base.specs.declared.replies.Reply.TheVariants as Reply_is
 use Rattle.mdb_base.specs.declared.replies.Why.{Why}
 use Rattle.mdb_base.specs.declared.replies.Why.TheVariants as Because
 use Rattle.mdb_base.specs.Names.{same_tid, same_tx}
-use Rattle.mdb_base.specs.Words.{Each, some_of, when, pick}
+use Rattle.mdb_base.specs.Words.{some_of, when, pick}
 use Rattle.presumptions.specs.declared.Decision.{Decision}
 use Rattle.presumptions.specs.Table.{forces}
-use Rattle.order_laws.proofs.Names.{same_tid_alike, same_tid_self}
+use Rattle.order_laws.proofs.Names.{same_tid_self}
 use Rattle.fed_rules.specs.declared.answers.Answer.{Answer}
 use Rattle.fed_rules.specs.declared.answers.Answer.TheVariants as Say
 use Rattle.fed_rules.specs.declared.events.SiteEvent.{SiteEvent}
 use Rattle.fed_rules.specs.declared.events.SiteEvent.TheVariants as Ev
-use Rattle.fed_rules.specs.declared.messages.ToSite.{ToSite}
 use Rattle.fed_rules.specs.declared.messages.ToSite.TheVariants as To
-use Rattle.fed_rules.specs.declared.records.SiteRecord.{SiteRecord}
 use Rattle.fed_rules.specs.declared.records.SiteRecord.TheVariants as Rec
-use Rattle.fed_rules.specs.Disk.{Call, Append, Sync, CutBack, Stops, is_torn}
-use Rattle.fed_rules.specs.Happenings.{Trip, quiet, stops, comes_up, is_down, stopped, tripped}
+use Rattle.fed_rules.specs.Disk.{Append, Sync, CutBack, is_torn}
+use Rattle.fed_rules.specs.Happenings.{quiet, stops, comes_up}
 use Rattle.fed_rules.specs.Orders.{read_by}
 use Rattle.fed_rules.specs.Runs.{EngineLine, Begins, Acts, Refuses, Commits, Aborts, Seals, Access, Got, Wrote, Run, begun, acted, changed, run_at, tid_of}
-use Rattle.fed_rules.specs.Site.{with_lines, of_begin, act_answer, of_act, reply_to, refusal_answer, seals_local, of_commit, of_abort, of_fate, number_of, settling_line, settles, unheld, of_decide, of_give, of_ask, of_drop, of_back, answered, site_line}
-use Rattle.fed_rules.specs.SitePast.{SiteHappening, SitePast, disk, epoch, trip, epoch_start, engine_lines, run_of, live, live_one, begins_tx}
+use Rattle.fed_rules.specs.Site.{with_lines, of_begin, act_answer, of_act, reply_to, refusal_answer, seals_local, of_commit, of_abort, of_fate, number_of, settling_line, settles, unheld, of_decide, of_ask, of_drop, of_back}
+use Rattle.fed_rules.specs.SitePast.{SiteHappening, SitePast, disk, epoch, epoch_start, engine_lines, run_of, live, live_one, begins_tx}
 use Rattle.fed_rules.specs.SiteRecords.{Home, site_frame}
 use Rattle.fed_rules.specs.Story.{value_of}
-use Rattle.commit_laws.proofs.SiteEnds.{by-answered}
 use Rattle.commit_laws.proofs.SiteShut.{restored-sealed, given-up}
 use Rattle.federation_laws.specs.Accesses.{seals, act_of}
-use Rattle.federation_laws.proofs.Asked.{IsOf}
-use Rattle.federation_laws.proofs.SiteAbout.{IsAbout, act-plain, begin_about, act_about, commit_about, abort_about, work_about, take_about, prepare_about, decide_about, ask_about, drop_about}
-use Rattle.federation_laws.proofs.SiteLines.{seals-cut}
+use Rattle.federation_laws.proofs.SiteAbout.{IsAbout, act-plain}
 use Rattle.federation_laws.proofs.SiteMoves.{Fits, access-fits, others-run, live-next, live-run, unsealed-live}
 use Rattle.federation_laws.proofs.SiteSteps.{no-seals, own-line, settled-none, settling-tid}
 

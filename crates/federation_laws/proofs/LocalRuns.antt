@@ -1,14 +1,13 @@
 -- A local attempt follows its program: at each line of its live run, and from its commit on.
-use Rattle.std.proofs.Common.{◌≡◌, ◌⊎◌, ℕ, zero, suc, ◌+◌, ◌≤◌, ◌<◌, Bool, true, false, cond, not, ◌&&◌, ◌||◌, nat_lt, is_some, Option, Some, None, List, [], ◌∷◌, ◌++◌, length, map, inl, inr, refl, sym, ap, subst, ◌∙◌, arith, ltb-false}
+use Rattle.std.proofs.Common.{◌≡◌, ℕ, suc, ◌+◌, ◌≤◌, Bool, true, false, cond, ◌||◌, nat_lt, Option, Some, None, List, [], ◌∷◌, ◌++◌, length, map, refl, sym, ap, subst, ◌∙◌, arith, ltb-false}
 use Rattle.mdb_base.specs.declared.acts.PlainAct.{PlainAct}
 use Rattle.mdb_base.specs.declared.acts.Step.{Step}
 use Rattle.mdb_base.specs.declared.names.SiteId.{SiteId}
 use Rattle.mdb_base.specs.declared.names.Tid.{Tid}
 use Rattle.mdb_base.specs.declared.names.Tx.{Tx}
-use Rattle.mdb_base.specs.Names.{same_site, same_tid, same_tx}
+use Rattle.mdb_base.specs.Names.{same_site}
 use Rattle.mdb_base.specs.Programs.{plain_act}
-use Rattle.mdb_base.specs.Words.{some_of, how_many, with_some, found, item_at}
-use Rattle.order_laws.specs.Chains.{In}
+use Rattle.mdb_base.specs.Words.{some_of, with_some, found, item_at}
 use Rattle.order_laws.proofs.Names.{same_site_self}
 use Rattle.fed_rules.specs.declared.events.SiteEvent.{SiteEvent}
 use Rattle.fed_rules.specs.declared.events.SiteEvent.TheVariants as Ev
@@ -19,12 +18,12 @@ use Rattle.fed_rules.specs.Site.{done}
 use Rattle.fed_rules.specs.SitePast.{SiteHappening, SitePast, live, begins_tx, attempts_of}
 use Rattle.fed_rules.specs.SiteRecords.{Home}
 use Rattle.fed_rules.specs.Story.{value_of, run_reads}
-use Rattle.federation_laws.specs.Accesses.{SiteAccess, at, reads_in, act_of, IsStep, Follows, Ran, acts_of, acts_at, seals}
+use Rattle.federation_laws.specs.Accesses.{SiteAccess, at, reads_in, IsStep, Follows, Ran, acts_of, acts_at, seals}
 use Rattle.federation_laws.proofs.Agreement.{has_sealed}
 use Rattle.federation_laws.proofs.Globals.{follows-below}
 use Rattle.federation_laws.proofs.LocalMoves.{Idle, Opens, Grants, Closes, LocalMove, Rests, Gone, Opening, Granting, Closing}
 use Rattle.federation_laws.proofs.SiteMoves.{length-map}
-use Rattle.federation_laws.proofs.Told.{some-parts, item-in}
+use Rattle.federation_laws.proofs.Told.{some-parts}
 
 -- the accesses of a site
 abbrev pub tagged : SiteId → List Access → List SiteAccess

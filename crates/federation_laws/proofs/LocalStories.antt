@@ -1,50 +1,38 @@
 -- In every story a local attempt follows its program at its home, and only there is it a member.
-use Rattle.std.proofs.Common.{◌≡◌, ◌⊎◌, ℕ, zero, suc, Bool, true, false, cond, not, ◌&&◌, ◌||◌, nat_lt, length, Option, Some, None, List, [], ◌∷◌, ◌++◌, map, inl, inr, refl, sym, ap, subst, ◌∙◌, eqb-true, arith}
-use Rattle.mdb_base.specs.declared.acts.Step.{Step}
+use Rattle.std.proofs.Common.{◌≡◌, ◌⊎◌, Bool, true, false, cond, nat_lt, length, Option, Some, None, List, [], ◌∷◌, ◌++◌, inl, inr, refl, sym, ap, subst, ◌∙◌}
 use Rattle.mdb_base.specs.declared.names.SiteId.{SiteId}
 use Rattle.mdb_base.specs.declared.names.Tid.{Tid}
 use Rattle.mdb_base.specs.declared.names.Tx.{Tx}
-use Rattle.mdb_base.specs.Names.{same_site, same_tid, same_tx}
-use Rattle.mdb_base.specs.Words.{Each, Among, item_at}
+use Rattle.mdb_base.specs.Names.{same_site}
+use Rattle.mdb_base.specs.Words.{Among, item_at}
 use Rattle.mdb_base.specs.Programs.{plain_act}
 use Rattle.fed_rules.specs.Disk.{Append}
 use Rattle.fed_rules.specs.Runs.{Run}
 use Rattle.order_laws.specs.Chains.{In}
-use Rattle.order_laws.specs.Orders.{is_in}
-use Rattle.order_laws.proofs.Lists.{each_at, in_is_true}
-use Rattle.order_laws.proofs.Names.{same_site_alike, tells_tids}
+use Rattle.order_laws.proofs.Lists.{each_at}
+use Rattle.order_laws.proofs.Names.{same_site_alike}
 use Rattle.fed_rules.specs.declared.commands.Command.{Command}
 use Rattle.fed_rules.specs.declared.events.SiteEvent.{SiteEvent}
 use Rattle.fed_rules.specs.declared.events.SiteEvent.TheVariants as Ev
-use Rattle.fed_rules.specs.declared.messages.ToSite.{ToSite}
 use Rattle.fed_rules.specs.declared.records.SiteRecord.TheVariants as Rec
 use Rattle.fed_rules.specs.declared.scenario.Scenario.{Scenario}
-use Rattle.fed_rules.specs.CoordPast.{CoordHappening}
-use Rattle.fed_rules.specs.Orders.{is_committed, records_at, records_of, order_at, reads_of, reads_at}
 use Rattle.fed_rules.specs.Plans.{IsScenario}
 use Rattle.fed_rules.specs.Scenarios.{home_of, home_at, local_site, local_home, program_of}
 use Rattle.fed_rules.specs.Site.{site_line, done}
-use Rattle.fed_rules.specs.SitePast.{SiteHappening, SitePast, disk, records, live}
+use Rattle.fed_rules.specs.SitePast.{SiteHappening, disk, records}
 use Rattle.fed_rules.specs.SiteRecords.{Home}
 use Rattle.fed_rules.specs.Story.{Story, Happened, AtSite, AtCoordinator, Nowhere, past_of, with_site, coord_past, sent_to, sends_to, story_of, run_reads}
-use Rattle.federation_laws.specs.Accesses.{SiteAccess, at, acts_at}
-use Rattle.federation_laws.specs.Parts.{IsAgreed, CommitsAgree, IsByProgram, MembersFollowPrograms}
-use Rattle.federation_laws.specs.SiteOrders.{IsPrepared}
-use Rattle.federation_laws.proofs.Agreement.{has_sealed}
 use Rattle.federation_laws.proofs.Asked.{IsOf, Asked, asked-next}
-use Rattle.federation_laws.proofs.CommitOnce.{one-commit}
 use Rattle.federation_laws.proofs.CoordEffects.{effect}
 use Rattle.federation_laws.proofs.CoordHolds.{is_begun}
-use Rattle.federation_laws.proofs.Declared.{member-declared}
-use Rattle.federation_laws.proofs.Globals.{global-agreed, prepared-visits, global-program}
 use Rattle.federation_laws.proofs.LocalLines.{NotAsked, local-made}
 use Rattle.federation_laws.proofs.LocalMoves.{Made}
-use Rattle.federation_laws.proofs.LocalRuns.{tagged, tagged-here, tagged-elsewhere, LocalHolds, local-first, Cause, local-next}
-use Rattle.federation_laws.proofs.Members.{IsLocal, IsCommitted, IsMember, AsLocal, AsGlobal, member-of, record-from, prepared-sealed, local-sealed}
+use Rattle.federation_laws.proofs.LocalRuns.{LocalHolds, local-first, Cause, local-next}
+use Rattle.federation_laws.proofs.Members.{IsLocal, record-from}
 use Rattle.federation_laws.proofs.ScenarioFacts.{local-at-home}
 use Rattle.federation_laws.proofs.SiteLocals.{local-by-commit}
 use Rattle.federation_laws.proofs.StoryGlobals.{StoryHolds, story-holds, coord-made, fresh-line, live_of_tx-is, same_tx_alike, append-none}
-use Rattle.federation_laws.proofs.Told.{some-parts, home_is-site, home-again, local_home-declared, SiteCause, IsSiteLine, IsCoordLine, IsLine, line_is, item-in}
+use Rattle.federation_laws.proofs.Told.{some-parts, home_is-site, local_home-declared, SiteCause, IsSiteLine, IsLine, line_is, item-in}
 
 -- what was sent to a site was asked of begun attempts
 asked-happened : (scenario : Scenario) (story : Story) (command : Command) (happened : Happened) (site : SiteId) (g : Tid) → IsLine scenario story happened → StoryHolds scenario story g → StoryHolds scenario (record { command = command; happened = happened } ∷ story) g → Asked (coord_past story) g site (sent_to site story)
@@ -98,8 +86,7 @@ local-cause scenario good story home t event here c =
           let k = subst (SiteCause scenario story home) e c in
           let tx : t.tx ≡ k.tx = same_tx_alike t.tx k.tx (live_of_tx-is home (past_of home.site story) k.tx t k.found_live) in
           let same : k.run ≡ run = some-parts (sym k.is_live ∙ alive) in
-          let place = subst (λ z. item_at (program_of scenario z) (done k.run) ≡ Some k.step) (sym tx) k.is_next in
-          (
+          let place = subst (λ z. item_at (program_of scenario z) (done k.run) ≡ Some k.step) (sym tx) k.is_next in (
             k.step,
             subst (λ (r : Run). item_at (program_of scenario t.tx) (done r) ≡ Some k.step) same place,
             subst (λ (r : Run). act ≡ plain_act (run_reads r) k.step.act) same k.is_act,

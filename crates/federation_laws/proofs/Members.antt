@@ -1,16 +1,15 @@
 -- Who is a member of a site's order: it has a Local record there, or a Prepared one, and its outcome is commit.
-use Rattle.std.proofs.Common.{◌≡◌, ◌⊎◌, ℕ, Bool, true, false, cond, ◌||◌, nat_le, nat_lt, Option, Some, None, List, [], ◌∷◌, ◌++◌, map, reverse, inl, inr, refl, sym, ap, subst, ◌∙◌}
+use Rattle.std.proofs.Common.{◌≡◌, ◌⊎◌, ℕ, Bool, true, false, cond, ◌||◌, nat_le, nat_lt, List, [], ◌∷◌, ◌++◌, map, reverse, inl, inr, refl, sym, ap, subst, ◌∙◌}
 use Rattle.std.proofs.lemmas.List.{reverse-append}
 use Rattle.mdb_base.specs.declared.names.Tid.{Tid}
 use Rattle.mdb_base.specs.declared.rows.Put.{Put}
-use Rattle.mdb_base.specs.Names.{same_tid}
-use Rattle.mdb_base.specs.Words.{Each, Among, some_of, inserted}
+use Rattle.mdb_base.specs.Words.{Among, some_of, inserted}
 use Rattle.order_laws.specs.Chains.{In}
 use Rattle.order_laws.proofs.Names.{same_tid_self}
 use Rattle.fed_rules.specs.declared.records.SiteRecord.{SiteRecord}
 use Rattle.fed_rules.specs.declared.records.SiteRecord.TheVariants as Rec
 use Rattle.fed_rules.specs.Disk.{Disk, Call, Append, Sync, CutBack, Stops, bytes_of, whole, after_calls}
-use Rattle.fed_rules.specs.SitePast.{SiteHappening, SitePast, disk, records}
+use Rattle.fed_rules.specs.SitePast.{SitePast, disk, records}
 use Rattle.fed_rules.specs.SiteRecords.{Home, Install, site_frame, by_number, due_installs, order_of}
 use Rattle.federation_laws.specs.Accesses.{seals}
 use Rattle.federation_laws.specs.SiteOrders.{IsPrepared}

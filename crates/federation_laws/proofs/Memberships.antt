@@ -1,5 +1,5 @@
 -- Each member of each site's order follows its program, and the commits agree, in every story.
-use Rattle.std.proofs.Common.{◌≡◌, ◌⊎◌, ℕ, Bool, true, false, cond, Option, Some, None, List, [], ◌∷◌, inl, inr, refl, sym, ap, subst, ◌∙◌}
+use Rattle.std.proofs.Common.{◌≡◌, ℕ, Bool, true, false, Some, None, List, [], refl, sym, ap, subst, ◌∙◌}
 use Rattle.mdb_base.specs.declared.names.SiteId.{SiteId}
 use Rattle.mdb_base.specs.declared.names.Tid.{Tid}
 use Rattle.mdb_base.specs.Names.{same_site, same_tid}
@@ -11,10 +11,10 @@ use Rattle.fed_rules.specs.declared.commands.Command.{Command}
 use Rattle.fed_rules.specs.declared.scenario.Scenario.{Scenario}
 use Rattle.fed_rules.specs.Orders.{is_committed, records_at, records_of, order_at, reads_at}
 use Rattle.fed_rules.specs.Plans.{IsScenario}
-use Rattle.fed_rules.specs.Scenarios.{home_of, home_at, local_site, local_home, program_of}
+use Rattle.fed_rules.specs.Scenarios.{home_of, home_at, local_site, local_home}
 use Rattle.fed_rules.specs.SitePast.{records}
 use Rattle.fed_rules.specs.SiteRecords.{Home}
-use Rattle.fed_rules.specs.Story.{Story, coord_past, past_of, story_of}
+use Rattle.fed_rules.specs.Story.{past_of, story_of}
 use Rattle.federation_laws.specs.Accesses.{at, acts_at}
 use Rattle.federation_laws.specs.Parts.{IsAgreed, CommitsAgree, IsByProgram, MembersFollowPrograms}
 use Rattle.federation_laws.specs.SiteOrders.{IsPrepared}
@@ -24,7 +24,7 @@ use Rattle.federation_laws.proofs.Declared.{member-declared}
 use Rattle.federation_laws.proofs.Globals.{global-agreed, prepared-visits, global-program}
 use Rattle.federation_laws.proofs.LocalRuns.{tagged, tagged-here, tagged-elsewhere}
 use Rattle.federation_laws.proofs.LocalStories.{local-site-of, local-story, local-record}
-use Rattle.federation_laws.proofs.Members.{IsLocal, IsCommitted, IsMember, AsLocal, AsGlobal, member-of, prepared-sealed, local-sealed}
+use Rattle.federation_laws.proofs.Members.{IsLocal, IsMember, AsLocal, AsGlobal, member-of, prepared-sealed, local-sealed}
 use Rattle.federation_laws.proofs.StoryGlobals.{story-holds}
 use Rattle.federation_laws.proofs.Told.{some-parts, home_is-site, home-again}
 

@@ -1,12 +1,11 @@
 -- What a scenario says of a global transaction: its program, that it has no home, and that its sites are declared.
-use Rattle.std.proofs.Common.{◌≡◌, ℕ, Bool, true, false, cond, ◌&&◌, ◌||◌, not, nat_lt, Option, Some, None, List, [], ◌∷◌, inl, inr, refl, sym, ap, subst, ◌∙◌}
+use Rattle.std.proofs.Common.{◌≡◌, Bool, true, false, ◌||◌, nat_lt, Option, Some, None, List, [], ◌∷◌, refl, sym, ap, subst, ◌∙◌}
 use Rattle.std.proofs.lemmas.Bool.{and_parts}
 use Rattle.mdb_base.specs.declared.acts.Step.{Step}
 use Rattle.mdb_base.specs.declared.names.SiteId.{SiteId}
-use Rattle.mdb_base.specs.declared.names.Tid.{Tid}
 use Rattle.mdb_base.specs.declared.names.Tx.{Tx}
 use Rattle.mdb_base.specs.Names.{same_site, same_tx}
-use Rattle.mdb_base.specs.Words.{Among, some_of, each_of, map_some, inserted, first_where}
+use Rattle.mdb_base.specs.Words.{Among, each_of, map_some}
 use Rattle.presumptions.specs.declared.Participant.{Participant}
 use Rattle.order_laws.specs.Chains.{In}
 use Rattle.order_laws.proofs.Lists.{each_of_at, first_where_some, some_of_is}
@@ -15,7 +14,7 @@ use Rattle.fed_rules.specs.declared.scenario.Scenario.{Scenario}
 use Rattle.fed_rules.specs.declared.scenario.SiteLine.{SiteLine}
 use Rattle.fed_rules.specs.declared.scenario.TxLine.{TxLine}
 use Rattle.fed_rules.specs.CoordPast.{visits}
-use Rattle.fed_rules.specs.Plans.{Plan, IsScenario, declares, is_declared, is_in_place, is_transaction, is_between}
+use Rattle.fed_rules.specs.Plans.{IsScenario, is_declared, is_in_place, is_transaction, is_between}
 use Rattle.fed_rules.specs.Scenarios.{protocols_in, protocols, transaction, program_of_line, program_of, home_of_line, local_site, global_line, global_program}
 use Rattle.federation_laws.proofs.Declared.{put-in, put-kept}
 use Rattle.federation_laws.proofs.Told.{some-parts}

@@ -1,10 +1,9 @@
 -- Each line of a site, also one that a stop ends: what it makes of one attempt that isn't local there.
-use Rattle.std.proofs.Common.{◌≡◌, ◌⊎◌, ℕ, zero, suc, ◌+◌, Bool, true, false, cond, not, ◌&&◌, ◌||◌, nat_le, Option, Some, None, List, [], ◌∷◌, ◌++◌, length, take, inl, inr, refl, sym, ap, subst, ◌∙◌}
-use Rattle.mdb_base.specs.declared.acts.PlainAct.{PlainAct}
+use Rattle.std.proofs.Common.{◌≡◌, ℕ, zero, suc, ◌+◌, Bool, true, false, cond, ◌||◌, Option, Some, None, List, [], ◌∷◌, ◌++◌, take, inl, inr, refl, sym, subst}
 use Rattle.mdb_base.specs.declared.names.Tid.{Tid}
 use Rattle.mdb_base.specs.declared.names.Tx.{Tx}
 use Rattle.mdb_base.specs.Names.{same_tid}
-use Rattle.mdb_base.specs.Words.{Each, some_of, when}
+use Rattle.mdb_base.specs.Words.{some_of, when}
 use Rattle.order_laws.proofs.Names.{same_tid_alike}
 use Rattle.fed_rules.specs.declared.answers.Answer.TheVariants as Say
 use Rattle.fed_rules.specs.declared.events.SiteEvent.{SiteEvent}
@@ -22,7 +21,7 @@ use Rattle.commit_laws.proofs.SiteEnds.{by-answered}
 use Rattle.commit_laws.proofs.SiteShut.{restored-sealed}
 use Rattle.federation_laws.specs.Accesses.{seals}
 use Rattle.federation_laws.proofs.SiteAbout.{begin_about, act_about, commit_about, abort_about, work_about, take_about, prepare_about, decide_about, drop_about}
-use Rattle.federation_laws.proofs.SiteMoves.{Ends, Ending, IsSealing, Moves}
+use Rattle.federation_laws.proofs.SiteMoves.{Ending, IsSealing, Moves}
 use Rattle.federation_laws.proofs.SiteOperations.{moves_when, moves_pick, work_moves, take_moves}
 use Rattle.federation_laws.proofs.SiteSteps.{other_moves, prepare_moves, decide_moves, plain_moves, ask_moves, drop_moves}
 

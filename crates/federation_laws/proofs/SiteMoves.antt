@@ -1,5 +1,5 @@
 -- What a line of a site makes of the live run of one attempt, and what it answers of it.
-use Rattle.std.proofs.Common.{◌≡◌, ◌⊎◌, ℕ, zero, suc, ◌+◌, ◌==◌, Bool, true, false, cond, not, ◌&&◌, ◌||◌, is_some, Option, Some, None, List, [], ◌∷◌, ◌++◌, length, map, inl, inr, refl, sym, ap, subst, ◌∙◌, eqb-true, arith}
+use Rattle.std.proofs.Common.{◌≡◌, ◌⊎◌, ℕ, suc, ◌+◌, Bool, true, false, cond, ◌||◌, is_some, Option, Some, None, List, [], ◌∷◌, ◌++◌, length, map, refl, sym, ap, ◌∙◌, arith}
 use Rattle.mdb_base.specs.declared.acts.PlainAct.{PlainAct}
 use Rattle.mdb_base.specs.declared.acts.PlainAct.TheVariants.{Read, Write}
 use Rattle.mdb_base.specs.declared.names.Tid.{Tid}
@@ -7,7 +7,6 @@ use Rattle.mdb_base.specs.declared.names.Engine.{Engine}
 use Rattle.mdb_base.specs.declared.names.Engine.TheVariants.{Locking, Timestamp, Validation}
 use Rattle.mdb_base.specs.declared.replies.Reply.{Reply}
 use Rattle.mdb_base.specs.declared.replies.Reply.TheVariants as Reply_is
-use Rattle.mdb_base.specs.declared.replies.Why.{Why}
 use Rattle.mdb_base.specs.declared.replies.Why.TheVariants as Because
 use Rattle.mdb_base.specs.Names.{same_tid}
 use Rattle.mdb_base.specs.Words.{Each, some_of, least, greatest}
@@ -16,13 +15,11 @@ use Rattle.fed_rules.specs.declared.events.SiteEvent.TheVariants as Ev
 use Rattle.fed_rules.specs.declared.messages.FromSite.{FromSite}
 use Rattle.fed_rules.specs.declared.messages.FromSite.TheVariants as From
 use Rattle.fed_rules.specs.declared.messages.ToSite.TheVariants as To
-use Rattle.fed_rules.specs.declared.records.SiteRecord.{SiteRecord}
-use Rattle.fed_rules.specs.Disk.{Call}
 use Rattle.fed_rules.specs.Happenings.{stops, comes_up, is_down}
 use Rattle.fed_rules.specs.Replies.{access_stop, access_reply, ticket_stop, ticket_reply, wait_die, late_or_wait, is_younger, holders, ticket_holders, younger_in_the_way, older_writers, younger_takers, older_takers, age_of, or_reply, granted}
-use Rattle.fed_rules.specs.Runs.{Start, EngineLine, Access, Got, Wrote, Run, has_ticket, tid_of, changed, run_at, published}
+use Rattle.fed_rules.specs.Runs.{Start, EngineLine, Access, Run, has_ticket, tid_of, changed, run_at, published}
 use Rattle.fed_rules.specs.Site.{done, is_over}
-use Rattle.fed_rules.specs.SitePast.{SiteHappening, SitePast, records, epoch, epoch_start, engine_lines, run_of, live, live_one}
+use Rattle.fed_rules.specs.SitePast.{SiteHappening, SitePast, records, epoch, epoch_start, engine_lines, live, live_one}
 use Rattle.fed_rules.specs.SiteRecords.{Home, start_of}
 use Rattle.federation_laws.specs.Accesses.{seals, act_of}
 use Rattle.federation_laws.specs.SiteOrders.{IsPrepared}

@@ -1,5 +1,5 @@
 -- Operations at a site: what an act and the taking of the ticket make of the attempt's run.
-use Rattle.std.proofs.Common.{◌≡◌, ◌⊎◌, ℕ, zero, suc, ◌+◌, ◌==◌, Bool, true, false, cond, not, ◌&&◌, ◌||◌, nat_lt, is_some, Option, Some, None, List, [], ◌∷◌, ◌++◌, length, map, inl, inr, refl, sym, ap, subst, ◌∙◌, eqb-true, arith}
+use Rattle.std.proofs.Common.{◌≡◌, ℕ, ◌+◌, ◌==◌, Bool, true, false, cond, not, ◌&&◌, ◌||◌, nat_lt, is_some, Option, Some, None, List, [], ◌∷◌, length, map, inl, inr, refl, sym, ap, subst, ◌∙◌, eqb-true, arith}
 use Rattle.std.proofs.lemmas.Bool.{or_left, or_right}
 use Rattle.mdb_base.specs.declared.acts.PlainAct.{PlainAct}
 use Rattle.mdb_base.specs.declared.acts.PlainAct.TheVariants.{Read, Write}
@@ -7,7 +7,7 @@ use Rattle.mdb_base.specs.declared.names.Tid.{Tid}
 use Rattle.mdb_base.specs.declared.replies.Reply.{Reply}
 use Rattle.mdb_base.specs.declared.replies.Reply.TheVariants as Reply_is
 use Rattle.mdb_base.specs.Names.{same_tid}
-use Rattle.mdb_base.specs.Words.{Each, some_of, when, pick}
+use Rattle.mdb_base.specs.Words.{some_of, when, pick}
 use Rattle.order_laws.proofs.Names.{same_tid_self}
 use Rattle.fed_rules.specs.declared.events.SiteEvent.{SiteEvent}
 use Rattle.fed_rules.specs.declared.events.SiteEvent.TheVariants as Ev
@@ -15,13 +15,12 @@ use Rattle.fed_rules.specs.declared.messages.ToSite.{ToSite}
 use Rattle.fed_rules.specs.declared.messages.ToSite.TheVariants as To
 use Rattle.fed_rules.specs.Happenings.{is_down}
 use Rattle.fed_rules.specs.Replies.{access_reply}
-use Rattle.fed_rules.specs.Runs.{Start, EngineLine, Begins, Acts, Takes, Access, Got, Wrote, Run, has_ticket, begun, acted, took, changed, run_at, tid_of}
+use Rattle.fed_rules.specs.Runs.{EngineLine, Begins, Acts, Takes, Access, Got, Wrote, Run, has_ticket, begun, acted, took, changed, tid_of}
 use Rattle.fed_rules.specs.Site.{done, is_over, is_of_epoch, kept_reply_of, kept_reply, reply_to, ticket_reply_to, next_number, did, unknown, repeated, first_work, next_work, next_take, work_live, of_work, take_live, of_take}
 use Rattle.fed_rules.specs.SitePast.{SiteHappening, SitePast, records, epoch_start, engine_lines, run_of, live, live_one, ends, decides_on, is_closed}
 use Rattle.fed_rules.specs.SiteRecords.{Home, doubt_of}
-use Rattle.federation_laws.specs.Accesses.{act_of}
 use Rattle.federation_laws.proofs.CoordOps.{Matches}
-use Rattle.federation_laws.proofs.SiteMoves.{run_ops, ops_of, length-map, done-ops, IsNth, IsFrom, Grown, Goes, Ends, Move, Same, Going, Ending, finishes, Moves, Fits, access-fits, FitsTicket, ticket-fits, live-run, unsealed-live}
+use Rattle.federation_laws.proofs.SiteMoves.{run_ops, ops_of, length-map, done-ops, IsNth, IsFrom, Move, Same, Going, Ending, finishes, Moves, Fits, access-fits, FitsTicket, ticket-fits, live-run, unsealed-live}
 
 pub moves_when : (home : Home) (g : Tid) (past : SitePast) (event : SiteEvent) (t : Bool) (a b : SiteHappening) → (t ≡ true → Moves home g past event a) → (t ≡ false → Moves home g past event b) → Moves home g past event (when t a b)
 unfolding when

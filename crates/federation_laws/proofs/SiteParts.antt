@@ -1,14 +1,10 @@
 -- Each site by itself is serial, in the story of any commands: from the history of a site and what the coordinator asks of it.
-use Rattle.std.proofs.Common.{◌≡◌, ◌⊎◌, ◌<◌, ℕ, Bool, true, false, cond, Option, Some, None, List, [], ◌∷◌, inl, inr, refl, sym, ap, subst, ◌∙◌, arith}
-use Rattle.mdb_base.specs.declared.names.Key.{Key}
-use Rattle.mdb_base.specs.declared.names.SiteId.{SiteId}
+use Rattle.std.proofs.Common.{◌≡◌, ℕ, Bool, true, false, cond, Some, List, [], ◌∷◌, inl, inr, refl, sym, ap, subst, ◌∙◌, arith}
 use Rattle.mdb_base.specs.declared.names.Tid.{Tid}
-use Rattle.mdb_base.specs.Rows.{look_up}
-use Rattle.mdb_base.specs.Words.{Each, Among}
+use Rattle.mdb_base.specs.Words.{Among}
 use Rattle.presumptions.specs.declared.Decision.{Decision}
 use Rattle.presumptions.specs.declared.Decision.TheVariants as Decided
-use Rattle.order_laws.specs.Chains.{In, Distinct}
-use Rattle.order_laws.specs.Orders.{Before}
+use Rattle.order_laws.specs.Chains.{In}
 use Rattle.order_laws.proofs.Lists.{each_from}
 use Rattle.fed_rules.specs.declared.commands.Command.{Command}
 use Rattle.fed_rules.specs.declared.events.SiteEvent.{SiteEvent}
@@ -18,26 +14,25 @@ use Rattle.fed_rules.specs.declared.records.SiteRecord.{SiteRecord}
 use Rattle.fed_rules.specs.declared.records.SiteRecord.TheVariants as Rec
 use Rattle.fed_rules.specs.declared.scenario.Scenario.{Scenario}
 use Rattle.fed_rules.specs.CoordPast as Coordinator
-use Rattle.fed_rules.specs.CoordRecords.{has_commit, outcome}
+use Rattle.fed_rules.specs.CoordRecords.{outcome}
 use Rattle.fed_rules.specs.Disk.{empty_disk}
 use Rattle.fed_rules.specs.Orders.{is_committed, records_at, records_of, order_at, due_at, due_of}
 use Rattle.fed_rules.specs.Scenarios.{home_of}
-use Rattle.fed_rules.specs.Site.{site_line, site_past}
-use Rattle.fed_rules.specs.SitePast.{SitePast, SiteHappening, disk, records, set_up_calls}
+use Rattle.fed_rules.specs.Site.{site_past}
+use Rattle.fed_rules.specs.SitePast.{disk, records, set_up_calls}
 use Rattle.fed_rules.specs.SiteRecords.{Home, site_frame, order_of, due_rows}
-use Rattle.fed_rules.specs.Story.{Story, coord_past, past_of, sent_to, story_of}
+use Rattle.fed_rules.specs.Story.{Story, coord_past, past_of, story_of}
 use Rattle.rules_laws.specs.Durable.{IsFirm}
 use Rattle.commit_laws.specs.Records.{IsEnded, IsLooseEnded}
-use Rattle.commit_laws.proofs.Agree.{Agree}
 use Rattle.commit_laws.proofs.Agreed.{agreed}
 use Rattle.commit_laws.proofs.Disks.{firm-quiet}
 use Rattle.commit_laws.proofs.SiteLines.{site-lines}
-use Rattle.site_history.specs.Events.{AreSorted, AskInOneEpoch, PreparesOnce, PreparedOncePerEpoch}
+use Rattle.site_history.specs.Events.{AskInOneEpoch, PreparesOnce, PreparedOncePerEpoch}
 use Rattle.site_history.specs.Records as History
 use Rattle.site_history.specs.SiteOrders.{IsSerialOrder, IsSerialPast}
-use Rattle.site_history.specs.Stories.{IsMadeSorted, EventsAreSorted, OfSitesPreparedOnce}
+use Rattle.site_history.specs.Stories.{EventsAreSorted, OfSitesPreparedOnce}
 use Rattle.federation_laws.specs.SiteOrders.{IsPrepared, IsSiteSerial, SitesAreSerial}
-use Rattle.federation_laws.proofs.Told.{home_is-site, home-again}
+use Rattle.federation_laws.proofs.Told.{home-again}
 
 -- each event of a past is that of one of its lines
 record Heard (home : Home) (events : List SiteEvent) : Type 0 where
@@ -60,8 +55,8 @@ one-epoch : (scenario : Scenario) (commands : List Command) (home : Home) (event
 one-epoch scenario commands home events declared made tid d e m n i j =
     let a = agreed scenario home tid commands declared in
     let known = λ (k : ℕ) (c : ℕ) (at : In (Ev.Give (To.Prepare tid k c)) events).
-        let line = subst (λ past. Among (λ x. x.event ≡ Ev.Give (To.Prepare tid k c)) past) (sym made) ((heard home tid events).lines (Ev.Give (To.Prepare tid k c)) at) in
-        (a.preparing k c (a.given (To.Prepare tid k c) line)).epoch in
+    let line = subst (λ past. Among (λ x. x.event ≡ Ev.Give (To.Prepare tid k c)) past) (sym made) ((heard home tid events).lines (Ev.Give (To.Prepare tid k c)) at) in
+    (a.preparing k c (a.given (To.Prepare tid k c) line)).epoch in
     known d m i ∙ sym (known e n j)
 
 prepares-once : EventsAreSorted → PreparedOncePerEpoch → (scenario : Scenario) (commands : List Command) (home : Home) → home_of scenario home.site ≡ Some home → PreparesOnce home (past_of home.site (story_of scenario commands))
@@ -113,8 +108,8 @@ serial-here scenario story home declared s =
     let order : order_at scenario story home.site ≡ order_of (is_committed story) (records home (past_of home.site story)) = ap (order_of (is_committed story)) kept in
     let due = due-are scenario story home declared in
     let t : IsSerialOrder home (past_of home.site story) (order_at scenario story home.site) (due_of scenario story home.site) =
-        subst (λ ts. IsSerialOrder home (past_of home.site story) ts (due_of scenario story home.site)) (sym order)
-        (subst (λ rows. IsSerialOrder home (past_of home.site story) (order_of (is_committed story) (records home (past_of home.site story))) rows) (sym due) s) in
+    subst (λ ts. IsSerialOrder home (past_of home.site story) ts (due_of scenario story home.site)) (sym order)
+    (subst (λ rows. IsSerialOrder home (past_of home.site story) (order_of (is_committed story) (records home (past_of home.site story))) rows) (sym due) s) in
     record {
       distinct = t.distinct;
       rising = λ a b j k before p q.

@@ -1,28 +1,25 @@
 -- The operations that a site finished for an attempt, epoch by epoch: in each epoch it has one run at most, which only grows.
-use Rattle.std.proofs.Common.{◌≡◌, ◌⊎◌, ℕ, zero, suc, ◌+◌, ◌≤◌, ◌<◌, ◌==◌, Bool, true, false, cond, not, ◌&&◌, ◌||◌, is_some, Option, Some, None, List, [], ◌∷◌, ◌++◌, length, inl, inr, refl, sym, ap, subst, ◌∙◌, eqb-true, eq-eqb, arith}
+use Rattle.std.proofs.Common.{◌≡◌, ◌⊎◌, ℕ, ◌≤◌, ◌<◌, ◌==◌, Bool, true, false, cond, ◌||◌, is_some, Option, Some, None, List, [], ◌∷◌, ◌++◌, length, inl, inr, refl, sym, ap, subst, ◌∙◌, eqb-true, eq-eqb, arith}
 use Rattle.std.proofs.lemmas.Bool.{or_left, or_right}
 use Rattle.mdb_base.specs.declared.names.Tid.{Tid}
 use Rattle.mdb_base.specs.Names.{same_tid}
 use Rattle.mdb_base.specs.Words.{Each, some_of}
-use Rattle.order_laws.proofs.Names.{same_tid_alike, same_tid_self}
+use Rattle.order_laws.proofs.Names.{same_tid_self}
 use Rattle.presumptions.specs.declared.Protocol.{Protocol}
 use Rattle.fed_rules.specs.declared.events.SiteEvent.{SiteEvent}
-use Rattle.fed_rules.specs.declared.events.SiteEvent.TheVariants as Ev
-use Rattle.fed_rules.specs.declared.messages.ToSite.TheVariants as To
 use Rattle.fed_rules.specs.declared.records.SiteRecord.{SiteRecord}
 use Rattle.fed_rules.specs.declared.records.SiteRecord.TheVariants as Rec
 use Rattle.fed_rules.specs.Happenings.{stops, comes_up, is_down}
 use Rattle.fed_rules.specs.Runs.{Access, Run, run_at}
 use Rattle.fed_rules.specs.Site.{is_over}
 use Rattle.fed_rules.specs.SitePast.{SiteHappening, SitePast, disk, records, epoch, epoch_start, engine_lines, live, live_one, decides_on, ends, is_closed}
-use Rattle.fed_rules.specs.SiteRecords.{Home, Held, site_frame, epoch_of, doubt_of, start_of}
+use Rattle.fed_rules.specs.SiteRecords.{Home, site_frame, epoch_of, doubt_of, start_of}
 use Rattle.rules_laws.specs.Durable.{IsFirm}
 use Rattle.commit_laws.specs.Records.{IsLooseEnded}
-use Rattle.commit_laws.proofs.Disks.{IsCut}
-use Rattle.commit_laws.proofs.SiteFacts.{Wrote, IsSettling}
+use Rattle.commit_laws.proofs.SiteFacts.{Wrote}
 use Rattle.commit_laws.proofs.SiteLines.{Kept, Line}
 use Rattle.commit_laws.proofs.SiteShut.{restored-sealed}
-use Rattle.federation_laws.proofs.SiteMoves.{run_ops, ops_of, IsFrom, Grown, Goes, Ends, Move, Same, Going, Ending, Moves}
+use Rattle.federation_laws.proofs.SiteMoves.{run_ops, ops_of, IsFrom, Grown, Goes, Move, Same, Going, Ending, Moves}
 
 abbrev pub ops_or : Option Run → List (Option Access) → List (Option Access)
 ops_or None old = old

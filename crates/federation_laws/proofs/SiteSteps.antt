@@ -1,39 +1,34 @@
 -- Each line of a site, also one that a stop ends: what it makes of one attempt that isn't local there.
-use Rattle.std.proofs.Common.{◌≡◌, ◌⊎◌, ℕ, zero, suc, ◌+◌, ◌==◌, Bool, true, false, cond, not, ◌&&◌, ◌||◌, nat_le, is_some, Option, Some, None, List, [], ◌∷◌, ◌++◌, length, take, map, inl, inr, refl, sym, ap, subst, ◌∙◌, eqb-true}
+use Rattle.std.proofs.Common.{◌≡◌, ℕ, ◌==◌, Bool, true, false, cond, ◌&&◌, ◌||◌, is_some, Option, Some, None, List, [], ◌∷◌, inl, inr, refl, sym, ap, subst, ◌∙◌, eqb-true}
 use Rattle.std.proofs.lemmas.Bool.{or_left, or_right}
-use Rattle.mdb_base.specs.declared.acts.PlainAct.{PlainAct}
 use Rattle.mdb_base.specs.declared.names.Tid.{Tid}
 use Rattle.mdb_base.specs.declared.replies.Why.{Why}
-use Rattle.mdb_base.specs.declared.rows.Put.{Put}
 use Rattle.mdb_base.specs.Names.{same_tid}
-use Rattle.mdb_base.specs.Words.{Each, some_of, when, pick}
+use Rattle.mdb_base.specs.Words.{Each, some_of}
 use Rattle.presumptions.specs.declared.Decision.{Decision}
 use Rattle.presumptions.specs.declared.Decision.TheVariants as Decided
 use Rattle.presumptions.specs.Table.{forces, acks}
-use Rattle.order_laws.specs.Chains.{In}
 use Rattle.order_laws.proofs.Names.{same_tid_self, same_tid_alike}
 use Rattle.fed_rules.specs.declared.answers.Answer.{Answer}
-use Rattle.fed_rules.specs.declared.answers.Answer.TheVariants as Say
 use Rattle.fed_rules.specs.declared.events.SiteEvent.{SiteEvent}
 use Rattle.fed_rules.specs.declared.events.SiteEvent.TheVariants as Ev
 use Rattle.fed_rules.specs.declared.messages.FromSite.{FromSite}
 use Rattle.fed_rules.specs.declared.messages.FromSite.TheVariants as From
-use Rattle.fed_rules.specs.declared.messages.ToSite.{ToSite}
 use Rattle.fed_rules.specs.declared.messages.ToSite.TheVariants as To
 use Rattle.fed_rules.specs.declared.records.SiteRecord.{SiteRecord}
 use Rattle.fed_rules.specs.declared.records.SiteRecord.TheVariants as Rec
-use Rattle.fed_rules.specs.Disk.{Call, Append, Sync, CutBack, Stops, is_torn, after_call}
-use Rattle.fed_rules.specs.Happenings.{Trip, quiet, stops, comes_up, is_down, stopped, tripped}
-use Rattle.fed_rules.specs.Runs.{EngineLine, Seals, Refuses, Commits, Aborts, Run, tid_of, changed, run_at, puts_of}
-use Rattle.fed_rules.specs.Site.{of_begin, of_act, of_commit, of_abort, of_fate, votes_again, votes_no, votes_yes, seals_global, prepare_live, of_prepare, done, ack_of, settling_line, settles, unheld, of_decide, of_give, of_ask, of_drop, of_back, number_of, answered, unless_tripped, site_line, is_over}
-use Rattle.fed_rules.specs.SitePast.{SiteHappening, SitePast, disk, records, epoch, trip, epoch_start, engine_lines, run_of, live, live_one, ends, decides_on, is_closed, is_local}
-use Rattle.fed_rules.specs.SiteRecords.{Home, Held, site_frame, epoch_of, doubt_of, start_of}
-use Rattle.commit_laws.proofs.SiteShut.{restored-sealed, given-up}
+use Rattle.fed_rules.specs.Disk.{Call, Append, Sync, CutBack, Stops, after_call}
+use Rattle.fed_rules.specs.Happenings.{quiet, stops, comes_up}
+use Rattle.fed_rules.specs.Runs.{EngineLine, Seals, Refuses, Aborts, Run, tid_of, changed, puts_of}
+use Rattle.fed_rules.specs.Site.{votes_again, votes_no, votes_yes, seals_global, prepare_live, of_prepare, done, ack_of, settling_line, settles, unheld, of_decide, of_ask, of_drop, number_of}
+use Rattle.fed_rules.specs.SitePast.{SiteHappening, SitePast, disk, records, epoch, epoch_start, engine_lines, run_of, live, live_one, ends, is_closed}
+use Rattle.fed_rules.specs.SiteRecords.{Home, Held, site_frame, epoch_of, doubt_of}
+use Rattle.commit_laws.proofs.SiteShut.{given-up}
 use Rattle.federation_laws.specs.Accesses.{seals}
 use Rattle.federation_laws.specs.SiteOrders.{IsPrepared}
-use Rattle.federation_laws.proofs.SiteAbout.{Speaks, SealsOnly, IsAbout, begin_about, act_about, commit_about, abort_about, work_about, take_about, prepare_about, decide_about, ask_about, drop_about, fate_about, sync-records}
-use Rattle.federation_laws.proofs.SiteMoves.{Goes, Ends, Move, Same, Going, Ending, Says, IsSealing, Moves, others-run, live-next, live-run}
-use Rattle.federation_laws.proofs.SiteOperations.{moves_when, moves_pick, work_moves, take_moves}
+use Rattle.federation_laws.proofs.SiteAbout.{Speaks, SealsOnly, IsAbout, sync-records}
+use Rattle.federation_laws.proofs.SiteMoves.{Same, Ending, Says, IsSealing, Moves, others-run, live-next, live-run}
+use Rattle.federation_laws.proofs.SiteOperations.{moves_when, moves_pick}
 
 -- a record of another attempt doesn't seal this one
 pub no-seals : (tid g : Tid) (calls : List (Call SiteRecord)) → same_tid tid g ≡ false → Each (SealsOnly tid) calls → some_of (seals g) calls ≡ false

@@ -1,16 +1,15 @@
 -- When an attempt is undecided, and what a new Commit record comes from.
-use Rattle.std.proofs.Common.{◌≡◌, ◌⊎◌, ℕ, Bool, true, false, cond, not, ◌&&◌, ◌||◌, nat_le, Option, Some, None, List, [], ◌∷◌, inl, inr, refl, sym, ap, subst, ◌∙◌}
+use Rattle.std.proofs.Common.{◌≡◌, ◌⊎◌, ℕ, Bool, true, false, cond, ◌||◌, nat_le, List, [], ◌∷◌, inl, inr, refl, ap, subst, ◌∙◌}
 use Rattle.mdb_base.specs.declared.names.SiteTicket.{SiteTicket}
 use Rattle.mdb_base.specs.declared.names.Tid.{Tid}
 use Rattle.mdb_base.specs.Names.{same_tid}
-use Rattle.mdb_base.specs.Words.{Each, Among}
+use Rattle.mdb_base.specs.Words.{Among}
 use Rattle.order_laws.proofs.Names.{same_tid_alike}
 use Rattle.fed_rules.specs.declared.answers.Answer.{Answer}
 use Rattle.fed_rules.specs.declared.answers.Answer.TheVariants as Say
-use Rattle.fed_rules.specs.declared.events.CoordEvent.TheVariants as Ev
 use Rattle.fed_rules.specs.declared.records.CoordRecord.{CoordRecord}
 use Rattle.fed_rules.specs.declared.records.CoordRecord.TheVariants as Rec
-use Rattle.fed_rules.specs.CoordPast.{CoordHappening, CoordPast, records, Standing, Undecided, Decided, Gone, standing, kept_standing, moved, is_about, is_undecided, begins, decides}
+use Rattle.fed_rules.specs.CoordPast.{CoordHappening, CoordPast, records, Standing, Decided, Gone, standing, kept_standing, moved, is_about, is_undecided, begins, decides}
 use Rattle.fed_rules.specs.CoordRecords.{coord_frame, has_commit, is_kept, outcome}
 use Rattle.fed_rules.specs.Disk.{Disk, Call, Append, Sync, CutBack, Stops, bytes_of, whole, after_calls}
 use Rattle.fed_rules.specs.Happenings.{stops, comes_up}

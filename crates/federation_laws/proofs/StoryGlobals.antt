@@ -1,5 +1,5 @@
 -- In every story the coordinator holds each attempt to its program, and agrees with each site on a global one.
-use Rattle.std.proofs.Common.{◌≡◌, ◌⊎◌, ℕ, zero, suc, ◌+◌, ◌≤◌, ◌<◌, ◌==◌, Bool, true, false, cond, not, ◌&&◌, ◌||◌, Option, Some, None, List, [], ◌∷◌, ◌++◌, map, inl, inr, refl, sym, ap, subst, ◌∙◌, eqb-true, arith}
+use Rattle.std.proofs.Common.{◌≡◌, ◌⊎◌, ℕ, suc, ◌≤◌, ◌<◌, ◌==◌, Bool, true, false, cond, not, ◌&&◌, ◌||◌, Option, Some, None, List, [], ◌∷◌, ◌++◌, inl, inr, refl, sym, ap, subst, ◌∙◌, eqb-true, arith}
 use Rattle.std.proofs.lemmas.Bool.{and_parts}
 use Rattle.mdb_base.specs.declared.acts.Step.{Step}
 use Rattle.mdb_base.specs.declared.names.SiteId.{SiteId}
@@ -7,32 +7,28 @@ use Rattle.mdb_base.specs.declared.names.Tid.{Tid}
 use Rattle.mdb_base.specs.declared.names.Tx.{Tx}
 use Rattle.mdb_base.specs.declared.replies.Reply.{Reply}
 use Rattle.mdb_base.specs.Names.{same_site, same_tid, same_tx}
-use Rattle.mdb_base.specs.Words.{Each, Among, some_of, how_many, with_some, map_some, first_where}
-use Rattle.presumptions.specs.declared.Participant.{Participant}
+use Rattle.mdb_base.specs.Words.{Among, how_many, with_some, map_some, first_where}
 use Rattle.order_laws.specs.Chains.{In}
 use Rattle.order_laws.proofs.Lists.{first_where_some}
 use Rattle.order_laws.proofs.Names.{same_site_alike, same_tid_alike, same_tid_self}
 use Rattle.fed_rules.specs.declared.answers.Answer.{Answer}
 use Rattle.fed_rules.specs.declared.answers.Answer.TheVariants as Say
 use Rattle.fed_rules.specs.declared.commands.Command.{Command}
-use Rattle.fed_rules.specs.declared.events.CoordEvent.{CoordEvent}
 use Rattle.fed_rules.specs.declared.events.CoordEvent.TheVariants as To_coord
 use Rattle.fed_rules.specs.declared.events.SiteEvent.{SiteEvent}
 use Rattle.fed_rules.specs.declared.events.SiteEvent.TheVariants as To_site
-use Rattle.fed_rules.specs.declared.messages.FromSite.{FromSite}
 use Rattle.fed_rules.specs.declared.messages.FromSite.TheVariants as From
 use Rattle.fed_rules.specs.declared.messages.ToSite.{ToSite}
 use Rattle.fed_rules.specs.declared.scenario.Scenario.{Scenario}
-use Rattle.fed_rules.specs.CoordPast.{CoordHappening, CoordPast, begins, begun_by, begun_tids, attempts_of, program_in, or_steps, program, visits}
+use Rattle.fed_rules.specs.CoordPast.{CoordHappening, begins, begun_by, begun_tids, attempts_of, program_in, or_steps, program, visits}
 use Rattle.fed_rules.specs.Disk.{empty_disk}
 use Rattle.fed_rules.specs.Plans.{IsScenario}
 use Rattle.fed_rules.specs.Runs.{Run, unended, is_sealed}
 use Rattle.fed_rules.specs.Scenarios.{home_of, local_site, local_home, home_at, program_of, protocols}
 use Rattle.fed_rules.specs.Site.{site_line}
-use Rattle.fed_rules.specs.SitePast.{SiteHappening, SitePast, disk, set_up_calls, epoch_start, engine_lines, live_of_tx}
+use Rattle.fed_rules.specs.SitePast.{SiteHappening, SitePast, set_up_calls, epoch_start, engine_lines, live_of_tx}
 use Rattle.fed_rules.specs.SiteRecords.{Home, site_frame}
-use Rattle.fed_rules.specs.Story.{Story, Happened, AtSite, AtCoordinator, Nowhere, past_of, with_site, coord_past, with_coordinator, sent_to, sends_to, sent_from, sends_from, happens, story_of}
-use Rattle.rules_laws.specs.Durable.{IsFirm}
+use Rattle.fed_rules.specs.Story.{Story, Happened, AtSite, AtCoordinator, Nowhere, past_of, with_site, coord_past, sent_to, sends_to, sent_from, sends_from, story_of}
 use Rattle.commit_laws.specs.Records.{IsLooseEnded}
 use Rattle.commit_laws.proofs.Disks.{firm-quiet}
 use Rattle.commit_laws.proofs.SiteLines.{Line, site-lines}
@@ -46,7 +42,7 @@ use Rattle.federation_laws.proofs.ScenarioFacts.{global_program-is, global-decla
 use Rattle.federation_laws.proofs.SiteLines.{IsForeign, site_moves}
 use Rattle.federation_laws.proofs.SiteMoves.{Moves}
 use Rattle.federation_laws.proofs.SiteRuns.{RunsHold}
-use Rattle.federation_laws.proofs.Told.{some-parts, home-again, CoordCause, IsNextStep, IsAllDone, IsNextAttempt, SiteCause, IsCoordLine, IsSiteLine, IsLine, line_is}
+use Rattle.federation_laws.proofs.Told.{some-parts, CoordCause, SiteCause, IsCoordLine, IsSiteLine, IsLine, line_is}
 
 -- what holds of an attempt at the coordinator of a story
 pub record StoryHolds (scenario : Scenario) (story : Story) (g : Tid) : Type 0 where
@@ -133,8 +129,8 @@ coord-holds scenario good story g x line h = (
     programmed (inl e) =
         let b = beginning scenario story g x line made e in
         let steps_are : program (x ∷ coord_past story) g ≡ b.steps =
-            ap (λ t. cond t (or_steps (program_in g x.event) []) (program (coord_past story) g)) e
-            ∙ (ap (λ ev. or_steps (program_in g ev) []) b.heard ∙ ap (λ t. or_steps (cond t (Some b.steps) None) []) (same_tid_self g)) in
+        ap (λ t. cond t (or_steps (program_in g x.event) []) (program (coord_past story) g)) e
+        ∙ (ap (λ ev. or_steps (program_in g ev) []) b.heard ∙ ap (λ t. or_steps (cond t (Some b.steps) None) []) (same_tid_self g)) in
         (steps_are ∙ sym b.known.0, b.known.1)
     programmed (inr e) = let p = h.programmed e.1 in (program-stays (coord_past story) g x e.0 ∙ p.0, p.1)
 

@@ -23,7 +23,7 @@ use Rattle.federation_laws.proofs.CoordMade.{CommitsNobody, IsAccepted}
 use Rattle.federation_laws.proofs.CoordLines.{coord_made}
 
 -- the edges that the search follows
-abbrev IsFree : List Ticketed → Type 0
+abbrev pub IsFree : List Ticketed → Type 0
 IsFree nodes = Acyclic (Within (Linked edge_between) nodes)
 
 -- among fewer attempts there is no more of a cycle
@@ -89,7 +89,7 @@ nothing-free : IsFree []
 nothing-free a [] c = absurd c.from
 nothing-free a (x ∷ xs) c = absurd c.0.from
 
-free-story : (scenario : Scenario) (commands : List Command) → IsFree (committed (story_of scenario commands))
+pub free-story : (scenario : Scenario) (commands : List Command) → IsFree (committed (story_of scenario commands))
 free-story scenario [] = nothing-free
 free-story scenario (command ∷ commands) =
     free-happened scenario (story_of scenario commands) _ (line_is scenario (story_of scenario commands) command) (free-story scenario commands)

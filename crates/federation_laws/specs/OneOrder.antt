@@ -8,6 +8,7 @@ use Rattle.order_laws.specs.Orders.{Union}
 use Rattle.fed_rules.specs.declared.commands.Command.{Command}
 use Rattle.fed_rules.specs.declared.scenario.Scenario.{Scenario}
 use Rattle.fed_rules.specs.Orders.{orders, IsMerge, IsSerial}
+use Rattle.fed_rules.specs.Plans.{IsScenario}
 use Rattle.fed_rules.specs.Reports.{printed_order}
 use Rattle.fed_rules.specs.Story.{Story, story_of}
 use Rattle.federation_laws.specs.Parts.{CommitsAgree, MembersFollowPrograms}
@@ -31,4 +32,9 @@ pub record Parts (scenario : Scenario) (story : Story) : Type 0 where
 -- in the story of any commands that has these parts there is one order for all sites
 abbrev pub PartsMakeOneOrder : Type 0
 PartsMakeOneOrder =
-    (scenario : Scenario) (commands : List Command) → Parts scenario (story_of scenario commands) → HasOneOrder scenario (story_of scenario commands)
+    (scenario : Scenario) (commands : List Command) → Parts scenario (story_of scenario commands)
+    → HasOneOrder scenario (story_of scenario commands)
+
+-- the fact holds of the story of any commands of every scenario
+abbrev pub OfStories : (Scenario → Story → Type 0) → Type 0
+OfStories P = (scenario : Scenario) → IsScenario scenario → (commands : List Command) → P scenario (story_of scenario commands)

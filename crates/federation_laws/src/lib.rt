@@ -1,9 +1,13 @@
 //! One order for all sites, in the middle of any run: theorems on the definitions of `fed_rules`, for every scenario and every list of
-//! commands. Each is the contract of a function with an empty body.
+//! commands. Each is the contract of a function that does nothing. `docs/RULES.md` tells the argument.
 #![tactic(auto)]
 
+mod program_laws;
 mod serial_laws;
 mod ticket_laws;
 
-pub use serial_laws::federation_is_serializable_from_parts;
+pub use program_laws::{commits_agree, members_follow_their_programs};
+pub use serial_laws::{
+    federation_is_serializable, parts_make_one_order, sites_are_serial_in_every_story,
+};
 pub use ticket_laws::committed_tickets_are_cycle_free;

@@ -1,0 +1,30 @@
+use Rattle.federation_laws.proofs.Memberships.{commits-agree, members-follow}
+use Rattle.federation_laws.proofs.OneOrders.{one-order}
+use Rattle.federation_laws.proofs.serial_laws.federation_is_serializable.Goals as goal
+
+pub returns-clause-one_order : goal.returns-clause-one_order
+returns-clause-one_order c = λ scenario good commands.
+    one-order scenario commands
+    (record {
+      sites = c.sites_are_serial_in_every_story.ensures scenario good commands;
+      commits = commits-agree scenario good commands;
+      programs = members-follow scenario good commands;
+    })
+
+pub returns-clause-outcome : goal.returns-clause-outcome
+returns-clause-outcome c = c.sites_settle_the_outcome.ensures.outcome
+
+pub returns-clause-alike : goal.returns-clause-alike
+returns-clause-alike c = c.sites_settle_alike.ensures
+
+pub returns-clause-known : goal.returns-clause-known
+returns-clause-known c = c.attempts_are_forgotten_when_acknowledged.ensures.known
+
+pub returns-clause-forgotten : goal.returns-clause-forgotten
+returns-clause-forgotten c = c.attempts_are_forgotten_when_acknowledged.ensures.forgotten
+
+pub returns-clause-acknowledged : goal.returns-clause-acknowledged
+returns-clause-acknowledged c = c.attempts_are_forgotten_when_acknowledged.ensures.acknowledged
+
+pub returns-clause-inquiries : goal.returns-clause-inquiries
+returns-clause-inquiries c = c.inquiries_in_doubt_are_answered_the_outcome.ensures.answer
