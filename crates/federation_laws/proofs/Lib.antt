@@ -19,6 +19,7 @@ pub mod Members
 pub mod Memberships
 pub mod Merges
 pub mod OneOrders
+pub mod Refuted
 pub mod ScenarioFacts
 pub mod SerialOrders
 pub mod SerialRuns

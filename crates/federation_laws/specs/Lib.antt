@@ -3,3 +3,4 @@ pub mod Edges
 pub mod OneOrder
 pub mod Parts
 pub mod SiteOrders
+pub mod WrongRules

@@ -5,9 +5,11 @@
 mod program_laws;
 mod serial_laws;
 mod ticket_laws;
+mod wrong_rules;
 
 pub use program_laws::{commits_agree, members_follow_their_programs};
 pub use serial_laws::{
     federation_is_serializable, parts_make_one_order, sites_are_serial_in_every_story,
 };
 pub use ticket_laws::committed_tickets_are_cycle_free;
+pub use wrong_rules::{wrong_commits, wrong_order};
