@@ -1,5 +1,5 @@
 -- A site and the coordinator agree on the finished operations of an attempt, through losses, repeats and restarts.
-use Rattle.std.proofs.Common.{◌≡◌, ◌⊎◌, ℕ, suc, ◌+◌, ◌<◌, Bool, true, false, cond, ◌||◌, Option, Some, None, List, [], ◌∷◌, ◌++◌, length, map, inl, inr, refl, sym, ap, subst, ◌∙◌, arith}
+use Rattle.std.proofs.Common.{◌≡◌, ℕ, suc, ◌+◌, ◌<◌, Bool, true, false, cond, ◌||◌, Option, Some, None, List, [], ◌∷◌, ◌++◌, length, map, inl, inr, refl, sym, ap, subst, ◌∙◌, arith}
 use Rattle.mdb_base.specs.declared.names.Tid.{Tid}
 use Rattle.mdb_base.specs.Words.{Each, some_of}
 use Rattle.mdb_base.proofs.ListLaws.{append_each, each_map}
@@ -29,6 +29,8 @@ use Rattle.federation_laws.proofs.CountedReplies.{is_dead}
 use Rattle.federation_laws.proofs.Dues.{epoch_of}
 use Rattle.federation_laws.proofs.SiteMoves.{run_ops, ops_of, done-ops, IsNth, IsFrom, finishes, Says, IsSealing, Moves}
 use Rattle.federation_laws.proofs.SiteRuns.{site_ops, RunsHold, Growth, Stays, Grows, growth, runs-next, live-plain}
+use Rattle.std.proofs.lemmas.List.{length-append}
+use Rattle.federation_laws.proofs.Lists.{or-cases}
 
 -- the operation was asked for, so many operations of the site being done
 abbrev pub WasAsked : Tid → List ToSite → Option Access → ℕ → Type 0
@@ -144,10 +146,6 @@ granted-run run = by_test (has_ticket run)
     by_test true = granted-map run.acts
     by_test false = granted-map run.acts
 
-length-append : {A : Type 0} (xs ys : List A) → length (xs ++ ys) ≡ length xs + length ys
-length-append [] ys = omega arith
-length-append (x ∷ xs) ys = let e = length-append xs ys in omega (arith, e)
-
 -- where as many were finished as counted, they are the same
 all-behind : {A : Type 0} (newer first all : List A) → all ≡ newer ++ first → length all ≡ length first → all ≡ first
 all-behind [] first all e n = e
@@ -175,10 +173,6 @@ seals-now home past g event x coordinator sent answered holds a given s sealing 
         let ops_are : run_ops sealing.run ≡ ops_at home.site (ops coordinator g) = all-behind behind.0 (ops_at home.site (ops coordinator g)) (run_ops sealing.run) (sym done ∙ behind.1) count in
         ap (λ t. cond t (acts_of (live home past g)) (acts_at home past g)) s
         ∙ (ap acts_of sealing.is_live ∙ (sym (granted-run sealing.run) ∙ ap granted ops_are))
-
-or-cases : (a b : Bool) → (a || b) ≡ true → (a ≡ true) ⊎ ((a ≡ false) × (b ≡ true))
-or-cases true b e = inl refl
-or-cases false b e = inr (refl, e)
 
 sealed-before : (home : Home) (past : SitePast) (g : Tid) (x : SiteHappening) (coordinator : CoordPast) (sent : List ToSite) → some_of (seals g) x.calls ≡ false → IsSealed home past coordinator sent g → IsSealed home (x ∷ past) coordinator sent g
 sealed-before home past g x coordinator sent f s =

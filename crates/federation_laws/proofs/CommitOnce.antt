@@ -1,5 +1,5 @@
 -- No attempt has two Commit records, and each Commit record names the tickets of the votes.
-use Rattle.std.proofs.Common.{◌≡◌, ◌⊎◌, ℕ, Bool, true, false, cond, ◌&&◌, is_some, nat_le, Option, Some, None, List, [], ◌∷◌, ◌++◌, map, inl, inr, refl, sym, ap, subst, ◌∙◌}
+use Rattle.std.proofs.Common.{◌≡◌, ◌⊎◌, ℕ, Bool, true, false, cond, ◌&&◌, is_some, nat_le, Option, Some, None, List, [], ◌∷◌, map, inl, inr, refl, sym, ap, subst, ◌∙◌}
 use Rattle.std.proofs.lemmas.Bool.{and_parts}
 use Rattle.mdb_base.specs.declared.names.SiteId.{SiteId}
 use Rattle.mdb_base.specs.declared.names.Tid.{Tid}
@@ -35,6 +35,7 @@ use Rattle.federation_laws.proofs.Standings.{AppendsCommit}
 use Rattle.federation_laws.proofs.StoryGlobals.{StoryHolds, story-holds, coord-made, fresh-line, declared-program}
 use Rattle.federation_laws.proofs.Told.{IsCoordLine, IsLine, CoordCause, line_is}
 use Rattle.federation_laws.proofs.TicketCycles.{commits-whole, free-story}
+use Rattle.federation_laws.proofs.Lists.{in-more}
 
 -- the attempts that have a Commit record
 abbrev pub tids_of : List CoordRecord → List Tid
@@ -190,11 +191,6 @@ in-found {A} {B} look x y (z ∷ xs) (inr i) e = later (look z) (in-found look x
     later : (o : Option B) → In y (found look xs) → In y (with_some o (found look xs))
     later None j = j
     later (Some w) j = inr j
-
-in-more : {A : Type 0} (x : A) (xs ys : List A) → In x xs → In x (xs ++ ys)
-in-more x [] ys i = absurd i
-in-more x (y ∷ xs) ys (inl e) = inl e
-in-more x (y ∷ xs) ys (inr i) = inr (in-more x xs ys i)
 
 -- the vote that a line counts was sent
 vote-sent : (scenario : Scenario) (story : Story) (g : Tid) (s : SiteId) (event : CoordEvent) (ticket : ℕ) → CoordCause scenario story event → VotesSent story → or_vote (vote_in g s event) (vote_at (coord_past story) g s) ≡ Some ticket → In (From.Vote g (Some ticket)) (sent_from s story)

@@ -1,5 +1,5 @@
 -- A site and the coordinator agree on an attempt after a line of the coordinator.
-use Rattle.std.proofs.Common.{◌≡◌, ℕ, ◌+◌, ◌<◌, ◌==◌, Bool, true, false, cond, ◌||◌, Option, Some, None, List, [], ◌∷◌, ◌++◌, length, inl, inr, refl, sym, ap, subst, ◌∙◌, eqb-true, arith}
+use Rattle.std.proofs.Common.{◌≡◌, ℕ, ◌<◌, ◌==◌, Bool, true, false, cond, ◌||◌, Option, Some, None, List, [], ◌∷◌, ◌++◌, length, inl, inr, refl, sym, ap, subst, ◌∙◌, eqb-true, arith}
 use Rattle.mdb_base.specs.declared.acts.Step.{Step}
 use Rattle.mdb_base.specs.declared.names.SiteId.{SiteId}
 use Rattle.mdb_base.specs.declared.names.Tid.{Tid}
@@ -33,12 +33,8 @@ use Rattle.federation_laws.proofs.Dues.{of_site, epoch_of, left_at, ticket_of, c
 use Rattle.federation_laws.proofs.SiteMoves.{IsNth, finishes}
 use Rattle.federation_laws.proofs.SiteRuns.{site_ops, RunsHold}
 use Rattle.federation_laws.proofs.Told.{some-parts}
-
--- what was sent stays sent
-in-more : {A : Type 0} (x : A) (xs ys : List A) → In x xs → In x (xs ++ ys)
-in-more x [] ys i = absurd i
-in-more x (y ∷ xs) ys (inl e) = inl e
-in-more x (y ∷ xs) ys (inr i) = inr (in-more x xs ys i)
+use Rattle.std.proofs.lemmas.List.{append-nil, length-append}
+use Rattle.federation_laws.proofs.Lists.{in-more}
 
 was-more : (g : Tid) (sent more : List ToSite) (op : Option Access) (n : ℕ) → WasAsked g sent op n → WasAsked g (sent ++ more) op n
 was-more g sent more (Some access) n h = (h.0, in-more _ sent more h.1)
@@ -59,10 +55,6 @@ nth-below [] n x i = absurd i
 nth-below (y ∷ all) n x (inl e) = let k = e.0 in omega (arith, k)
 nth-below (y ∷ all) n x (inr i) = let k = nth-below all n x i in omega (arith, k)
 
-length-append : {A : Type 0} (xs ys : List A) → length (xs ++ ys) ≡ length xs + length ys
-length-append [] ys = omega arith
-length-append (x ∷ xs) ys = let e = length-append xs ys in omega (arith, e)
-
 empty-of : {A : Type 0} (xs : List A) → length xs ≡ 0 → xs ≡ []
 empty-of [] e = refl
 empty-of (x ∷ xs) e = absurd (omega (arith, e))
@@ -76,10 +68,6 @@ nth-behind (y ∷ newer) first x (inl e) =
     let none : newer ≡ [] = empty-of newer (omega (arith, k, l)) in
     ([], ap (λ ys. y ∷ ys ++ first) none ∙ ap (λ z. z ∷ first) e.1)
 nth-behind (y ∷ newer) first x (inr i) = let r = nth-behind newer first x i in (y ∷ r.0, ap (λ ys. y ∷ ys) r.1)
-
-append-none : {A : Type 0} (xs : List A) → xs ++ [] ≡ xs
-append-none [] = refl
-append-none (x ∷ xs) = ap (λ ys. x ∷ ys) (append-none xs)
 
 append-empty : {A : Type 0} (xs ys : List A) → [] ≡ xs ++ ys → ys ≡ []
 append-empty [] ys e = sym e
@@ -148,7 +136,7 @@ behind-then home past coordinator g x r own runs b = by_tests (epoch_of (counted
     by_tests true q e =
         let zero_epoch : epoch_of (counted coordinator g) home.site ≡ 0 = sym here ∙ eqb-true (epoch_of (counted coordinator g) r.site) 0 q in
         let nothing : ops_at home.site (ops coordinator g) ≡ [] = append-empty b.0 (ops_at home.site (ops coordinator g)) (sym runs.zeroth ∙ (ap (site_ops home past g) (sym zero_epoch) ∙ b.1)) in
-        (site_ops home past g r.epoch, sym (append-none (site_ops home past g r.epoch)) ∙ ap (λ first. site_ops home past g r.epoch ++ first) (sym nothing))
+        (site_ops home past g r.epoch, sym (append-nil (site_ops home past g r.epoch)) ∙ ap (λ first. site_ops home past g r.epoch ++ first) (sym nothing))
     by_tests false q e =
         subst (λ k. IsBehind (site_ops home past g k) (ops_at home.site (ops coordinator g))) (sym (eqb-true r.epoch (epoch_of (counted coordinator g) r.site) e ∙ here)) b
 

@@ -35,6 +35,7 @@ use Rattle.fed_rules.specs.Happenings.{Trip, quiet, is_down, stopped, tripped}
 use Rattle.fed_rules.specs.Site_of.{due_site}
 use Rattle.federation_laws.proofs.Told.{some-parts}
 use Rattle.federation_laws.proofs.CoordMade.{CommitsNobody, IsAccepted, IsLastVote, Writes, IsAsked, Counts, is_refusal, Decides, Begins, IsMade, uncounted_counts, uncounted_decides, quiet_plain, quiet_uncounted, made_when, made_pick}
+use Rattle.federation_laws.proofs.Lists.{each-cut}
 
 due-same : (d due : Due) → Some d ≡ Some due → due_site due ≡ due_site d
 due-same d due e = let p : d ≡ due = some-parts e in sym (ap due_site p)
@@ -313,11 +314,6 @@ answered_made protocols past (Ev.Fate tx) = fate_made protocols past tx
 answered_made protocols past (Ev.Halt cut) = quiet_plain protocols past _ _ tt tt
 answered_made protocols past (Ev.Trip calls cut) = quiet_plain protocols past _ _ tt tt
 answered_made protocols past Ev.Back = back_made protocols past
-
-each-cut : {A : Type 0} (P : A → Type 0) (k : ℕ) (xs : List A) (y : A) → Each P xs → P y → Each P (take k xs ++ y ∷ [])
-each-cut P zero xs y h p = (p, tt)
-each-cut P (suc k) [] y h p = (p, tt)
-each-cut P (suc k) (x ∷ xs) y h p = (h.0, each-cut P k xs y h.1 p)
 
 accepted-cut : (others : List Ticketed) (k : ℕ) (calls : List (Call CoordRecord)) (cut : ℕ) → IsAccepted others calls → IsAccepted others (take k calls ++ Stops cut ∷ [])
 accepted-cut others zero calls cut h = tt

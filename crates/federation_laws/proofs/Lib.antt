@@ -11,6 +11,7 @@ pub mod CountedReplies
 pub mod Declared
 pub mod Dues
 pub mod Globals
+pub mod Lists
 pub mod LocalLines
 pub mod LocalMoves
 pub mod LocalRuns

@@ -23,7 +23,7 @@ use Rattle.fed_rules.specs.Disk.{Append, Sync, CutBack, is_torn}
 use Rattle.fed_rules.specs.Happenings.{quiet, stops, comes_up}
 use Rattle.fed_rules.specs.Orders.{read_by}
 use Rattle.fed_rules.specs.Runs.{EngineLine, Begins, Acts, Refuses, Commits, Aborts, Seals, Access, Got, Wrote, Run, begun, acted, changed, run_at, tid_of}
-use Rattle.fed_rules.specs.Site.{with_lines, of_begin, act_answer, of_act, reply_to, refusal_answer, seals_local, of_commit, of_abort, of_fate, number_of, settling_line, settles, unheld, of_decide, of_ask, of_drop, of_back}
+use Rattle.fed_rules.specs.Site.{with_lines, of_begin, act_answer, of_act, reply_to, seals_local, of_commit, of_abort, of_fate, number_of, settling_line, settles, unheld, of_decide, of_ask, of_drop, of_back}
 use Rattle.fed_rules.specs.SitePast.{SiteHappening, SitePast, disk, epoch, epoch_start, engine_lines, run_of, live, live_one, begins_tx}
 use Rattle.fed_rules.specs.SiteRecords.{Home, site_frame}
 use Rattle.fed_rules.specs.Story.{value_of}
@@ -31,7 +31,8 @@ use Rattle.commit_laws.proofs.SiteShut.{restored-sealed, given-up}
 use Rattle.federation_laws.specs.Accesses.{seals, act_of}
 use Rattle.federation_laws.proofs.SiteAbout.{IsAbout, act-plain}
 use Rattle.federation_laws.proofs.SiteMoves.{Fits, access-fits, others-run, live-next, live-run, unsealed-live}
-use Rattle.federation_laws.proofs.SiteSteps.{no-seals, own-line, settled-none, settling-tid}
+use Rattle.federation_laws.proofs.SiteSteps.{no-seals, own-line, settled-none}
+use Rattle.federation_laws.proofs.SiteAbout.{refusal-plain, settling-tid}
 
 -- the line reads nothing for the attempt, and doesn't seal it
 pub record Idle (t : Tid) (x : SiteHappening) : Type 0 where
@@ -215,12 +216,6 @@ ends-made home past t event answer line p r own e =
       heard = refl;
       move = Gone (record { reads = r; unsealed = refl }) (live-next home past (with_lines event answer (line ∷ [])) t p ∙ (own-line t line (run_of home past t) own ∙ e));
     }
-
-refusal-plain : (why : Why) → (stops (refusal_answer why) || comes_up (refusal_answer why)) ≡ false
-refusal-plain (Because.Invalid by key) = refl
-refusal-plain (Because.Die by) = refl
-refusal-plain (Because.Late by) = refl
-refusal-plain (Because.TicketMoved by) = refl
 
 pub commit-made : (home : Home) (past : SitePast) (t : Tid) → Made home past t (Ev.Commit t) (of_commit home past t)
 unfolding of_commit seals_local

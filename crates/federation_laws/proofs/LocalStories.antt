@@ -31,17 +31,18 @@ use Rattle.federation_laws.proofs.LocalRuns.{LocalHolds, local-first, Cause, loc
 use Rattle.federation_laws.proofs.Members.{IsLocal, record-from}
 use Rattle.federation_laws.proofs.ScenarioFacts.{local-at-home}
 use Rattle.federation_laws.proofs.SiteLocals.{local-by-commit}
-use Rattle.federation_laws.proofs.StoryGlobals.{StoryHolds, story-holds, coord-made, fresh-line, live_of_tx-is, same_tx_alike, append-none}
+use Rattle.federation_laws.proofs.StoryGlobals.{StoryHolds, story-holds, coord-made, fresh-line, live_of_tx-is, same_tx_alike}
 use Rattle.federation_laws.proofs.Told.{some-parts, home_is-site, local_home-declared, SiteCause, IsSiteLine, IsLine, line_is, item-in}
+use Rattle.std.proofs.lemmas.List.{append-nil}
 
 -- what was sent to a site was asked of begun attempts
 asked-happened : (scenario : Scenario) (story : Story) (command : Command) (happened : Happened) (site : SiteId) (g : Tid) → IsLine scenario story happened → StoryHolds scenario story g → StoryHolds scenario (record { command = command; happened = happened } ∷ story) g → Asked (coord_past story) g site (sent_to site story)
     → Asked (coord_past (record { command = command; happened = happened } ∷ story)) g site (sent_to site story ++ sends_to site happened)
-asked-happened scenario story command (AtSite s x) site g line h now a = subst (Asked (coord_past story) g site) (sym (append-none (sent_to site story))) a
+asked-happened scenario story command (AtSite s x) site g line h now a = subst (Asked (coord_past story) g site) (sym (append-nil (sent_to site story))) a
 asked-happened scenario story command (AtCoordinator x) site g line h now a =
     let made = coord-made scenario story x line in
     asked-next (coord_past story) g x site (sent_to site story) (fresh-line scenario story g x line made h) now.holds made.sends (effect (coord_past story) g x line.event made.heard made.counted) a
-asked-happened scenario story command (Nowhere answer) site g line h now a = subst (Asked (coord_past story) g site) (sym (append-none (sent_to site story))) a
+asked-happened scenario story command (Nowhere answer) site g line h now a = subst (Asked (coord_past story) g site) (sym (append-nil (sent_to site story))) a
 
 story-asked : (scenario : Scenario) → IsScenario scenario → (commands : List Command) (site : SiteId) (g : Tid) → Asked (coord_past (story_of scenario commands)) g site (sent_to site (story_of scenario commands))
 story-asked scenario good [] site g = record { begun = tt; old = λ d. tt }

@@ -80,7 +80,7 @@ act-plain tid Reply_is.Done (Write key value) = refl
 act-plain tid (Reply_is.Ticket n) act = refl
 act-plain tid Reply_is.Unknown act = refl
 
-refusal-plain : (why : Why) → (stops (refusal_answer why) || comes_up (refusal_answer why)) ≡ false
+pub refusal-plain : (why : Why) → (stops (refusal_answer why) || comes_up (refusal_answer why)) ≡ false
 refusal-plain (Because.Invalid by key) = refl
 refusal-plain (Because.Die by) = refl
 refusal-plain (Because.Late by) = refl
@@ -170,7 +170,7 @@ ack-speaks home tid decision = by_test (acks home.protocol decision)
     by_test true = (tt, tt)
     by_test false = tt
 
-settling-tid : (tid : Tid) (decision : Decision) → tid_of (settling_line tid decision) ≡ tid
+pub settling-tid : (tid : Tid) (decision : Decision) → tid_of (settling_line tid decision) ≡ tid
 settling-tid tid Decided.Commit = refl
 settling-tid tid Decided.Abort = refl
 

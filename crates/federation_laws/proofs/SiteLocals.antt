@@ -1,5 +1,5 @@
 -- A Local record is appended by a local commit alone.
-use Rattle.std.proofs.Common.{◌≡◌, ℕ, zero, suc, ◌+◌, Bool, true, false, cond, Option, Some, None, List, [], ◌∷◌, ◌++◌, take, inl, inr, refl, sym, ap, subst}
+use Rattle.std.proofs.Common.{◌≡◌, ℕ, ◌+◌, Bool, true, false, cond, Option, Some, None, List, [], ◌∷◌, ◌++◌, inl, inr, refl, sym, ap, subst}
 use Rattle.mdb_base.specs.declared.names.Tid.{Tid}
 use Rattle.mdb_base.specs.declared.rows.Put.{Put}
 use Rattle.mdb_base.specs.Words.{Each, Among, when}
@@ -17,6 +17,7 @@ use Rattle.fed_rules.specs.SitePast.{SiteHappening, SitePast, disk, epoch, trip}
 use Rattle.fed_rules.specs.SiteRecords.{Home, site_frame}
 use Rattle.commit_laws.proofs.SiteEnds.{by-answered}
 use Rattle.federation_laws.proofs.SiteAbout.{SealsOnly, LocalAt, IsAbout, begin_about, act_about, commit_about, abort_about, work_about, take_about, prepare_about, decide_about, ask_about, drop_about, fate_about}
+use Rattle.federation_laws.proofs.Lists.{each-cut}
 
 -- a Local record that the call appends is of the attempt that commits
 abbrev pub IsOwnLocal : SiteEvent → Call SiteRecord → Type 0
@@ -110,11 +111,6 @@ keeps-when : (event : SiteEvent) (t : Bool) (a b : SiteHappening) → (t ≡ tru
 unfolding when
 keeps-when event true a b p q = p refl
 keeps-when event false a b p q = q refl
-
-each-cut : {A : Type 0} (P : A → Type 0) (k : ℕ) (xs : List A) (y : A) → Each P xs → P y → Each P (take k xs ++ y ∷ [])
-each-cut P zero xs y h p = (p, tt)
-each-cut P (suc k) [] y h p = (p, tt)
-each-cut P (suc k) (x ∷ xs) y h p = (h.0, each-cut P k xs y h.1 p)
 
 tripped-own : (home : Home) (past : SitePast) (event : SiteEvent) (t : Option Trip) (x : SiteHappening) → Keeps event x → Keeps event (tripped site_frame (disk home past) t x)
 unfolding tripped stopped

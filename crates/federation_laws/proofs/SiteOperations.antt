@@ -21,6 +21,7 @@ use Rattle.fed_rules.specs.SitePast.{SiteHappening, SitePast, records, epoch_sta
 use Rattle.fed_rules.specs.SiteRecords.{Home, doubt_of}
 use Rattle.federation_laws.proofs.CoordOps.{Matches}
 use Rattle.federation_laws.proofs.SiteMoves.{run_ops, ops_of, length-map, done-ops, IsNth, IsFrom, Move, Same, Going, Ending, finishes, Moves, Fits, access-fits, FitsTicket, ticket-fits, live-run, unsealed-live}
+use Rattle.std.proofs.lemmas.Bool.{and_parts}
 
 pub moves_when : (home : Home) (g : Tid) (past : SitePast) (event : SiteEvent) (t : Bool) (a b : SiteHappening) → (t ≡ true → Moves home g past event a) → (t ≡ false → Moves home g past event b) → Moves home g past event (when t a b)
 unfolding when
@@ -208,10 +209,6 @@ or-none : (a b : Bool) → (a || b) ≡ false → (a ≡ false) × (b ≡ false)
 or-none true b e = cc
 or-none false b e = (refl, e)
 
-and-true : (a b : Bool) → (a && b) ≡ true → (a ≡ true) × (b ≡ true)
-and-true true b e = (refl, e)
-and-true false b e = cc
-
 -- an act of the attempt
 pub work_moves : (home : Home) (g : Tid) (past : SitePast) (e n : ℕ) (act : PlainAct) → is_down past ≡ false → Moves home g past (Ev.Give (To.Work g e n act)) (of_work home past g e n act)
 unfolding of_work work_live
@@ -219,7 +216,7 @@ work_moves home g past e n act up =
     let message = To.Work g e n act in
     moves_when home g past _ _ _ _ (λ t. unknown_moves home g past message n) (λ over.
     moves_pick home g past _ _ _ _
-    (λ none. moves_when home g past _ _ _ _ (λ t. first_moves home g past e n act none over up (eqb-true n 0 (and-true (e == 0) (n == 0) t).1)) (λ t. unknown_moves home g past message n))
+    (λ none. moves_when home g past _ _ _ _ (λ t. first_moves home g past e n act none over up (eqb-true n 0 (and_parts (e == 0) (n == 0) t).1)) (λ t. unknown_moves home g past message n))
     (λ run alive. moves_when home g past _ _ _ _ (λ t. unknown_moves home g past message n) (λ may.
     moves_when home g past _ _ _ _
     (λ t. next_moves home g past e n act run alive (or-none (not (is_of_epoch home past e n)) (has_ticket run) (or-none (not (is_of_epoch home past e n) || has_ticket run) (nat_lt 31 n) may).0).1 (eqb-true n (done run) t))

@@ -20,6 +20,7 @@ use Rattle.commit_laws.proofs.SiteFacts.{Wrote}
 use Rattle.commit_laws.proofs.SiteLines.{Kept, Line}
 use Rattle.commit_laws.proofs.SiteShut.{restored-sealed}
 use Rattle.federation_laws.proofs.SiteMoves.{run_ops, ops_of, IsFrom, Grown, Goes, Move, Same, Going, Ending, Moves}
+use Rattle.order_laws.proofs.Lists.{or_cases}
 
 abbrev pub ops_or : Option Run → List (Option Access) → List (Option Access)
 ops_or None old = old
@@ -92,10 +93,6 @@ kept-doubt : (home : Home) (g : Tid) (past : SitePast) (event : SiteEvent) (now 
 kept-doubt home g past event now (inl (r, w, e)) d = subst (λ rs. (is_some (doubt_of rs g) ≡ true) ⊎ (decides_on g event ≡ true)) (sym e) (wrote-doubt home g past event r w d)
 kept-doubt home g past event now (inr (newer, loose, e)) d = inl (ended-doubt home.protocol newer now g loose (sym (ap (λ rs. is_some (doubt_of rs g)) e) ∙ d))
 
-or-cases : (a b : Bool) → (a || b) ≡ true → (a ≡ true) ⊎ (b ≡ true)
-or-cases true b e = inl refl
-or-cases false b e = inr e
-
 closed-next : (past : SitePast) (g : Tid) (x : SiteHappening) → comes_up x.answer ≡ false → (decides_on g x.event ≡ true) ⊎ (is_closed past g ≡ true) → is_closed (x ∷ past) g ≡ true
 closed-next past g x up h = ap (λ t. cond t false ((decides_on g x.event || some_of (ends g) x.lines) || is_closed past g)) up ∙ of_case h
   where
@@ -105,7 +102,7 @@ closed-next past g x up h = ap (λ t. cond t false ((decides_on g x.event || som
 
 -- an attempt that takes no operation takes none in this epoch
 over-stays : (home : Home) (g : Tid) (past : SitePast) (event : SiteEvent) (x : SiteHappening) → Line home g past event x → comes_up x.answer ≡ false → is_over home past g ≡ true → is_over home (x ∷ past) g ≡ true
-over-stays home g past event x line up over = of_case (or-cases (is_closed past g) (is_some (doubt_of (records home past) g)) over)
+over-stays home g past event x line up over = of_case (or_cases (is_closed past g) (is_some (doubt_of (records home past) g)) over)
   where
     closed : (decides_on g x.event ≡ true) ⊎ (is_closed past g ≡ true) → is_over home (x ∷ past) g ≡ true
     closed h = or_left (is_closed (x ∷ past) g) (is_some (doubt_of (records home (x ∷ past)) g)) (closed-next past g x up h)

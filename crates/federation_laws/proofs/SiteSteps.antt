@@ -1,5 +1,5 @@
 -- Each line of a site, also one that a stop ends: what it makes of one attempt that isn't local there.
-use Rattle.std.proofs.Common.{◌≡◌, ℕ, ◌==◌, Bool, true, false, cond, ◌&&◌, ◌||◌, is_some, Option, Some, None, List, [], ◌∷◌, inl, inr, refl, sym, ap, subst, ◌∙◌, eqb-true}
+use Rattle.std.proofs.Common.{◌≡◌, ℕ, ◌==◌, Bool, true, false, cond, ◌||◌, is_some, Option, Some, None, List, [], ◌∷◌, inl, inr, refl, sym, ap, subst, ◌∙◌, eqb-true}
 use Rattle.std.proofs.lemmas.Bool.{or_left, or_right}
 use Rattle.mdb_base.specs.declared.names.Tid.{Tid}
 use Rattle.mdb_base.specs.declared.replies.Why.{Why}
@@ -29,6 +29,8 @@ use Rattle.federation_laws.specs.SiteOrders.{IsPrepared}
 use Rattle.federation_laws.proofs.SiteAbout.{Speaks, SealsOnly, IsAbout, sync-records}
 use Rattle.federation_laws.proofs.SiteMoves.{Same, Ending, Says, IsSealing, Moves, others-run, live-next, live-run}
 use Rattle.federation_laws.proofs.SiteOperations.{moves_when, moves_pick}
+use Rattle.std.proofs.lemmas.Bool.{and_parts}
+use Rattle.federation_laws.proofs.SiteAbout.{settling-tid}
 
 -- a record of another attempt doesn't seal this one
 pub no-seals : (tid g : Tid) (calls : List (Call SiteRecord)) → same_tid tid g ≡ false → Each (SealsOnly tid) calls → some_of (seals g) calls ≡ false
@@ -128,10 +130,6 @@ unfolding votes_again
 again_moves home g past e n held d =
     record { heard = refl; move = Same refl; says = ((λ own. doubt-prepared (records home past) g held d), tt); sealing = λ s. cc; calm = λ p. refl }
 
-and-true : (a b : Bool) → (a && b) ≡ true → (a ≡ true) × (b ≡ true)
-and-true true b e = (refl, e)
-and-true false b e = cc
-
 -- a Prepare of the attempt
 pub prepare_moves : (home : Home) (g : Tid) (past : SitePast) (e n : ℕ) → Moves home g past (Ev.Give (To.Prepare g e n)) (of_prepare home past g e n)
 unfolding of_prepare prepare_live seals_global
@@ -141,7 +139,7 @@ prepare_moves home g past e n =
     (λ run alive. moves_when home g past _ _ _ _
     (λ t. moves_pick home g past _ _ _ _ (λ no_ticket. no_moves home g past e n None)
     (λ ticket is. moves_pick home g past _ _ _ _
-    (λ free. yes_moves home g past e n run ticket alive (eqb-true e (epoch home past) (and-true (e == epoch home past) (n == done run) t).0) (eqb-true n (done run) (and-true (e == epoch home past) (n == done run) t).1))
+    (λ free. yes_moves home g past e n run ticket alive (eqb-true e (epoch home past) (and_parts (e == epoch home past) (n == done run) t).0) (eqb-true n (done run) (and_parts (e == epoch home past) (n == done run) t).1))
     (λ why stop. refuses_moves home g past e n why)))
     (λ t. no_moves home g past e n None)))
     (λ held d. moves_when home g past _ _ _ _ (λ t. again_moves home g past e n held d) (λ t. no_moves home g past e n None))
@@ -181,10 +179,6 @@ settled-none g Decided.Commit None = refl
 settled-none g Decided.Commit (Some run) = refl
 settled-none g Decided.Abort None = refl
 settled-none g Decided.Abort (Some run) = refl
-
-pub settling-tid : (g : Tid) (decision : Decision) → tid_of (settling_line g decision) ≡ g
-settling-tid g Decided.Commit = refl
-settling-tid g Decided.Abort = refl
 
 settles_moves : (home : Home) (g : Tid) (past : SitePast) (decision : Decision) → Moves home g past (Ev.Give (To.Decide g decision)) (settles home g decision)
 unfolding settles

@@ -1,5 +1,5 @@
 -- In every story the coordinator holds each attempt to its program, and agrees with each site on a global one.
-use Rattle.std.proofs.Common.{◌≡◌, ◌⊎◌, ℕ, suc, ◌≤◌, ◌<◌, ◌==◌, Bool, true, false, cond, not, ◌&&◌, ◌||◌, Option, Some, None, List, [], ◌∷◌, ◌++◌, inl, inr, refl, sym, ap, subst, ◌∙◌, eqb-true, arith}
+use Rattle.std.proofs.Common.{◌≡◌, ◌⊎◌, ℕ, suc, ◌≤◌, ◌<◌, ◌==◌, Bool, true, false, cond, not, ◌&&◌, Option, Some, None, List, [], ◌∷◌, ◌++◌, inl, inr, refl, sym, ap, subst, ◌∙◌, eqb-true, arith}
 use Rattle.std.proofs.lemmas.Bool.{and_parts}
 use Rattle.mdb_base.specs.declared.acts.Step.{Step}
 use Rattle.mdb_base.specs.declared.names.SiteId.{SiteId}
@@ -43,6 +43,8 @@ use Rattle.federation_laws.proofs.SiteLines.{IsForeign, site_moves}
 use Rattle.federation_laws.proofs.SiteMoves.{Moves}
 use Rattle.federation_laws.proofs.SiteRuns.{RunsHold}
 use Rattle.federation_laws.proofs.Told.{some-parts, CoordCause, SiteCause, IsCoordLine, IsSiteLine, IsLine, line_is}
+use Rattle.std.proofs.lemmas.List.{append-nil}
+use Rattle.federation_laws.proofs.Lists.{or-cases}
 
 -- what holds of an attempt at the coordinator of a story
 pub record StoryHolds (scenario : Scenario) (story : Story) (g : Tid) : Type 0 where
@@ -88,10 +90,6 @@ fresh-line scenario story g x line made h e = by_test (is_begun (coord_past stor
     by_test : (t : Bool) → is_begun (coord_past story) g ≡ t → is_begun (coord_past story) g ≡ false
     by_test true k = (let next = (beginning scenario story g x line made e).next in let below = h.numbered k in absurd (omega (arith, next, below)))
     by_test false k = k
-
-or-cases : (a b : Bool) → (a || b) ≡ true → (a ≡ true) ⊎ ((a ≡ false) × (b ≡ true))
-or-cases true b e = inl refl
-or-cases false b e = inr (refl, e)
 
 -- the sites of an attempt's program are participants
 pub declared-program : (scenario : Scenario) → IsScenario scenario → (story : Story) (g : Tid) → StoryHolds scenario story g → AreDeclared (protocols scenario) (program (coord_past story) g)
@@ -163,10 +161,6 @@ agrees-first : (home : Home) (g : Tid) → AgreesIn [] home g
 agrees-first home g =
     record { runs = first-runs home g; asked = record { begun = tt; old = λ d. tt }; said = tt; from = λ e. tt; behind = λ d. ([], refl); sealed = λ e. cc }
 
-pub append-none : {A : Type 0} (xs : List A) → xs ++ [] ≡ xs
-append-none [] = refl
-append-none (x ∷ xs) = ap (λ ys. x ∷ ys) (append-none xs)
-
 -- the live attempt of a transaction is one of it
 pub live_of_tx-is : (home : Home) (past : SitePast) (tx : Tx) (tid : Tid) → live_of_tx home past tx ≡ Some tid → same_tx tid.tx tx ≡ true
 live_of_tx-is home past tx tid e = of_first (first_where (λ run. same_tx run.tid.tx tx && not (is_sealed run)) (unended (epoch_start home past) (engine_lines past))) refl e
@@ -224,23 +218,23 @@ agrees-site-line scenario story home g s x declared none h line a true q =
     (subst (λ (z : Home). x ≡ site_line z (past_of z.site story) line.event) same line.is_next)
     (subst (λ z. SiteCause scenario story z line.event) same line.cause) a
 agrees-site-line scenario story home g s x declared none h line a false q =
-    subst (λ ms. Agrees home (past_of home.site story) (coord_past story) (sent_to home.site story) ms g) (sym (append-none (sent_from home.site story))) a
+    subst (λ ms. Agrees home (past_of home.site story) (coord_past story) (sent_to home.site story) ms g) (sym (append-nil (sent_from home.site story))) a
 
 -- after any line
 agrees-happened : (scenario : Scenario) → IsScenario scenario → (story : Story) (command : Command) (happened : Happened) (home : Home) (g : Tid) → home_of scenario home.site ≡ Some home → local_site scenario g.tx ≡ None → IsLine scenario story happened → StoryHolds scenario story g → StoryHolds scenario (record { command = command; happened = happened } ∷ story) g → AgreesIn story home g → AgreesIn (record { command = command; happened = happened } ∷ story) home g
 agrees-happened scenario good story command (AtSite s x) home g declared none line h now a =
     let r = agrees-site-line scenario story home g s x declared none h line a (same_site s home.site) refl in
-    subst (λ ms. Agrees home (with_site home.site (AtSite s x) (past_of home.site story)) (coord_past story) ms (sent_from home.site story ++ sends_from home.site (AtSite s x)) g) (sym (append-none (sent_to home.site story))) r
+    subst (λ ms. Agrees home (with_site home.site (AtSite s x) (past_of home.site story)) (coord_past story) ms (sent_from home.site story ++ sends_from home.site (AtSite s x)) g) (sym (append-nil (sent_to home.site story))) r
 agrees-happened scenario good story command (AtCoordinator x) home g declared none line h now a =
     let made = coord-made scenario story x line in
     let r = agrees-coord home (past_of home.site story) (coord_past story) g x (sent_to home.site story) (sent_from home.site story) h.holds now.holds (fresh-line scenario story g x line made h) made.sends (heard made.heard) (effect (coord_past story) g x line.event made.heard made.counted) a in
-    subst (λ ms. Agrees home (past_of home.site story) (x ∷ coord_past story) (sent_to home.site story ++ sends_to home.site (AtCoordinator x)) ms g) (sym (append-none (sent_from home.site story))) r
+    subst (λ ms. Agrees home (past_of home.site story) (x ∷ coord_past story) (sent_to home.site story ++ sends_to home.site (AtCoordinator x)) ms g) (sym (append-nil (sent_from home.site story))) r
   where
     heard : x.event ≡ line.event → (epoch n : ℕ) (reply : Reply) → x.event ≡ To_coord.Take home.site (From.Did g epoch n reply) → In (From.Did g epoch n reply) (sent_from home.site story)
     heard is epoch n reply e = subst (CoordCause scenario story) (sym is ∙ e) line.cause
 agrees-happened scenario good story command (Nowhere answer) home g declared none line h now a =
-    subst (λ ms. Agrees home (past_of home.site story) (coord_past story) ms (sent_from home.site story ++ []) g) (sym (append-none (sent_to home.site story)))
-    (subst (λ ms. Agrees home (past_of home.site story) (coord_past story) (sent_to home.site story) ms g) (sym (append-none (sent_from home.site story))) a)
+    subst (λ ms. Agrees home (past_of home.site story) (coord_past story) ms (sent_from home.site story ++ []) g) (sym (append-nil (sent_to home.site story)))
+    (subst (λ ms. Agrees home (past_of home.site story) (coord_past story) (sent_to home.site story) ms g) (sym (append-nil (sent_from home.site story))) a)
 
 -- in every story each declared site agrees with the coordinator on each global attempt
 pub story-agrees : (scenario : Scenario) → IsScenario scenario → (commands : List Command) (home : Home) (g : Tid) → home_of scenario home.site ≡ Some home → local_site scenario g.tx ≡ None → AgreesIn (story_of scenario commands) home g
