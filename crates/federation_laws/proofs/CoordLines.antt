@@ -34,7 +34,7 @@ use Rattle.fed_rules.specs.Disk.{Call, Append, Sync, CutBack, Stops, is_torn}
 use Rattle.fed_rules.specs.Happenings.{Trip, quiet, is_down, stopped, tripped}
 use Rattle.fed_rules.specs.Site_of.{due_site}
 use Rattle.federation_laws.proofs.Told.{some-parts}
-use Rattle.federation_laws.proofs.CoordMade.{CommitsNobody, IsAccepted, IsLastVote, Writes, IsAsked, Counts, is_refusal, Decides, Begins, IsMade, uncounted_counts, uncounted_decides, quiet_plain, quiet_uncounted, made_when, made_pick}
+use Rattle.federation_laws.proofs.CoordMade.{CommitsNobody, IsAccepted, IsLastVote, Writes, IsAsked, Counts, is_refusal, Decides, Begins, IsFirst, IsMade, uncounted_counts, uncounted_decides, quiet_plain, quiet_uncounted, made_when, made_pick}
 use Rattle.federation_laws.proofs.Lists.{each-cut}
 
 due-same : (d due : Due) → Some d ≡ Some due → due_site due ≡ due_site d
@@ -115,8 +115,8 @@ dues_made : (protocols : List Participant) (past : CoordPast) (event : CoordEven
 unfolding sends_dues
 dues_made protocols past event tid dues h d k =
     made_when protocols past event _ _ _
-    (λ t. record { heard = refl; accepted = tt; writes = (tt, (tt, tt)); sends = sends-due (quiet event Say.Only ∷ past) tid dues h; counted = k _; decided = d _ refl; begun = tt; commits_by = λ e. (tt, (tt, tt)) })
-    (λ t. record { heard = refl; accepted = tt; writes = tt; sends = sends-due (quiet event Say.Only ∷ past) tid dues h; counted = k _; decided = d _ refl; begun = tt; commits_by = λ e. tt })
+    (λ t. record { heard = refl; accepted = tt; writes = (tt, (tt, tt)); sends = sends-due (quiet event Say.Only ∷ past) tid dues h; counted = k _; decided = d _ refl; begun = tt; first = tt; commits_by = λ e. (tt, (tt, tt)) })
+    (λ t. record { heard = refl; accepted = tt; writes = tt; sends = sends-due (quiet event Say.Only ∷ past) tid dues h; counted = k _; decided = d _ refl; begun = tt; first = tt; commits_by = λ e. tt })
 
 end_calls-shape : (P : List (Call CoordRecord) → Type 0) (past : CoordPast) (tid : Tid) → P (Append (Rec.End tid) ∷ []) → P [] → (b : Bool) → P (cond b (end_calls past tid) [])
 end_calls-shape P past tid p q true = by_test (is_some (initiated (records past) tid))
@@ -137,6 +137,7 @@ aborts_made protocols past event tid cause d k =
       counted = k _;
       decided = d _ refl;
       begun = tt;
+      first = tt;
       commits_by = λ e. cc;
     }
 
@@ -151,6 +152,7 @@ commits_made protocols past event tid tickets none last d k =
       counted = k _;
       decided = d _ refl;
       begun = tt;
+      first = tt;
       commits_by = λ e. cc;
     }
 
@@ -159,9 +161,9 @@ unfolding of_go
 go_made protocols past tid steps =
     made_pick protocols past _ _ _ _
     (λ e. made_pick protocols past _ _ _ _
-    (λ f. record { heard = refl; accepted = tt; writes = tt; sends = sends-due (quiet (Ev.Go tid steps) (Say.Begun tid) ∷ past) tid _ (all-due protocols (quiet (Ev.Go tid steps) (Say.Begun tid) ∷ past) tid); counted = tt; decided = tt; begun = (steps, refl); commits_by = λ e. tt })
-    (λ running f. quiet_plain protocols past _ _ tt tt))
-    (λ committed e. quiet_plain protocols past _ _ tt tt)
+    (λ f. record { heard = refl; accepted = tt; writes = tt; sends = sends-due (quiet (Ev.Go tid steps) (Say.Begun tid) ∷ past) tid _ (all-due protocols (quiet (Ev.Go tid steps) (Say.Begun tid) ∷ past) tid); counted = tt; decided = tt; begun = (steps, refl); first = (e, f); commits_by = λ e. tt })
+    (λ running f. quiet_plain protocols past _ _ tt tt tt))
+    (λ committed e. quiet_plain protocols past _ _ tt tt tt)
 
 -- a reply that counts and goes on
 goes_made : (protocols : List Participant) (past : CoordPast) (site : SiteId) (tid : Tid) (epoch n : ℕ) (reply : Reply) → is_refusal reply ≡ false → did_counts past site tid epoch n reply ≡ true
@@ -172,7 +174,7 @@ goes_made protocols past site tid epoch n reply r t =
 did-reply_made : (protocols : List Participant) (past : CoordPast) (site : SiteId) (tid : Tid) (epoch n : ℕ) (reply : Reply) → did_counts past site tid epoch n reply ≡ true
     → IsMade protocols past (Ev.Take site (From.Did tid epoch n reply)) (did_reply protocols past site (From.Did tid epoch n reply) tid reply)
 unfolding did_reply
-did-reply_made protocols past site tid epoch n (Reply_is.Wait by) t = record { heard = refl; accepted = tt; writes = tt; sends = tt; counted = λ h. t; decided = λ h r. cc; begun = tt; commits_by = λ e. tt }
+did-reply_made protocols past site tid epoch n (Reply_is.Wait by) t = record { heard = refl; accepted = tt; writes = tt; sends = tt; counted = λ h. t; decided = λ h r. cc; begun = tt; first = tt; commits_by = λ e. tt }
 did-reply_made protocols past site tid epoch n (Reply_is.Refused (Because.Die by)) t = aborts_made protocols past _ tid _ (λ answer d h r. d) (λ answer h. t)
 did-reply_made protocols past site tid epoch n (Reply_is.Refused (Because.Late by)) t = aborts_made protocols past _ tid _ (λ answer d h r. d) (λ answer h. t)
 did-reply_made protocols past site tid epoch n (Reply_is.Refused (Because.Invalid by key)) t = goes_made protocols past site tid epoch n _ refl t
@@ -186,7 +188,7 @@ did_made : (protocols : List Participant) (past : CoordPast) (site : SiteId) (ti
 unfolding of_did
 did_made protocols past site tid epoch n reply =
     made_when protocols past _ _ _ _ (λ t. did-reply_made protocols past site tid epoch n reply t)
-    (λ t. quiet_uncounted protocols past _ _ refl tt)
+    (λ t. quiet_uncounted protocols past _ _ refl tt tt)
 
 last_made : (protocols : List Participant) (past : CoordPast) (site : SiteId) (tid : Tid) (ticket : ℕ) (tickets : List SiteTicket) → vote_counts past site tid ≡ true → IsLastVote protocols past (Ev.Take site (From.Vote tid (Some ticket))) tid tickets
     → IsMade protocols past (Ev.Take site (From.Vote tid (Some ticket))) (last_vote protocols past (Ev.Take site (From.Vote tid (Some ticket))) tid tickets)
@@ -199,13 +201,13 @@ vote_made : (protocols : List Participant) (past : CoordPast) (site : SiteId) (t
 unfolding of_vote vote_counted yes_vote
 vote_made protocols past site tid None =
     made_when protocols past _ _ _ _ (λ t. aborts_made protocols past _ tid _ (λ answer d. tt) (λ answer. tt))
-    (λ t. quiet_uncounted protocols past _ _ refl tt)
+    (λ t. quiet_uncounted protocols past _ _ refl tt tt)
 vote_made protocols past site tid (Some ticket) =
     made_when protocols past _ _ _ _
     (λ t. made_when protocols past _ _ _ _
     (λ all. last_made protocols past site tid ticket _ t (record { site = site; ticket = ticket; is_vote = refl; is_counted = t; all = all; theirs = refl }))
-    (λ f. record { heard = refl; accepted = tt; writes = tt; sends = tt; counted = λ h. t; decided = tt; begun = tt; commits_by = λ e. tt }))
-    (λ t. quiet_uncounted protocols past _ _ refl tt)
+    (λ f. record { heard = refl; accepted = tt; writes = tt; sends = tt; counted = λ h. t; decided = tt; begun = tt; first = tt; commits_by = λ e. tt }))
+    (λ t. quiet_uncounted protocols past _ _ refl tt tt)
 
 ack_made : (protocols : List Participant) (past : CoordPast) (site : SiteId) (tid : Tid) (s : Standing) → IsMade protocols past (Ev.Take site (From.Ack tid)) (acked_while past site tid s)
 unfolding acked_while ack_counts
@@ -220,18 +222,19 @@ ack_made protocols past site tid (Decided decision) =
       counted = tt;
       decided = tt;
       begun = tt;
+      first = tt;
       commits_by = λ e. end_calls-shape (λ calls. Each CommitsNobody calls) past tid (tt, tt) tt true;
     })
-    (λ u. quiet_plain protocols past _ _ tt tt))
-    (λ t. quiet_plain protocols past _ _ tt tt)
-ack_made protocols past site tid Undecided = quiet_plain protocols past _ _ tt tt
-ack_made protocols past site tid Gone = quiet_plain protocols past _ _ tt tt
+    (λ u. quiet_plain protocols past _ _ tt tt tt))
+    (λ t. quiet_plain protocols past _ _ tt tt tt)
+ack_made protocols past site tid Undecided = quiet_plain protocols past _ _ tt tt tt
+ack_made protocols past site tid Gone = quiet_plain protocols past _ _ tt tt tt
 
 inquiry_made : (protocols : List Participant) (past : CoordPast) (site : SiteId) (tid : Tid) (s : Standing) → IsMade protocols past (Ev.Take site (From.Inquiry tid)) (asked_while protocols site tid s)
 unfolding asked_while
-inquiry_made protocols past site tid Undecided = quiet_plain protocols past _ _ tt tt
-inquiry_made protocols past site tid (Decided decision) = record { heard = refl; accepted = tt; writes = tt; sends = (tt, tt); counted = tt; decided = tt; begun = tt; commits_by = λ e. tt }
-inquiry_made protocols past site tid Gone = record { heard = refl; accepted = tt; writes = tt; sends = (tt, tt); counted = tt; decided = tt; begun = tt; commits_by = λ e. tt }
+inquiry_made protocols past site tid Undecided = quiet_plain protocols past _ _ tt tt tt
+inquiry_made protocols past site tid (Decided decision) = record { heard = refl; accepted = tt; writes = tt; sends = (tt, tt); counted = tt; decided = tt; begun = tt; first = tt; commits_by = λ e. tt }
+inquiry_made protocols past site tid Gone = record { heard = refl; accepted = tt; writes = tt; sends = (tt, tt); counted = tt; decided = tt; begun = tt; first = tt; commits_by = λ e. tt }
 
 take_made : (protocols : List Participant) (past : CoordPast) (site : SiteId) (message : FromSite) → IsMade protocols past (Ev.Take site message) (of_take protocols past site message)
 unfolding of_take of_ack of_inquiry
@@ -243,26 +246,30 @@ take_made protocols past site (From.Inquiry tid) = inquiry_made protocols past s
 again_made : (protocols : List Participant) (past : CoordPast) (tid : Tid) (s : Standing) → IsMade protocols past (Ev.Again tid) (again_while protocols past tid s)
 unfolding again_while
 again_made protocols past tid Undecided = dues_made protocols past _ tid _ (all-due protocols past tid) (λ answer d. tt) (λ answer. tt)
-again_made protocols past tid (Decided decision) = record { heard = refl; accepted = tt; writes = tt; sends = decides-each (again_while protocols past tid (Decided decision) ∷ past) tid decision (missing past tid decision); counted = tt; decided = tt; begun = tt; commits_by = λ e. tt }
-again_made protocols past tid Gone = quiet_plain protocols past _ _ tt tt
+again_made protocols past tid (Decided decision) = record { heard = refl; accepted = tt; writes = tt; sends = decides-each (again_while protocols past tid (Decided decision) ∷ past) tid decision (missing past tid decision); counted = tt; decided = tt; begun = tt; first = tt; commits_by = λ e. tt }
+again_made protocols past tid Gone = quiet_plain protocols past _ _ tt tt tt
 
 late_made : (protocols : List Participant) (past : CoordPast) (tid : Tid) → IsMade protocols past (Ev.Late tid) (of_late protocols past tid)
 unfolding of_late
 late_made protocols past tid =
     made_when protocols past _ _ _ _ (λ t. aborts_made protocols past _ tid _ (λ answer d. tt) (λ answer. tt))
-    (λ t. quiet_plain protocols past _ _ tt tt)
+    (λ t. quiet_plain protocols past _ _ tt tt tt)
 
 fate_made : (protocols : List Participant) (past : CoordPast) (tx : Tx) → IsMade protocols past (Ev.Fate tx) (of_fate past tx)
 unfolding of_fate
 fate_made protocols past tx =
     made_pick protocols past _ _ _ _
-    (λ e. made_pick protocols past _ _ _ _ (λ f. quiet_plain protocols past _ _ tt (by_test _))
-    (λ running f. quiet_plain protocols past _ _ tt tt))
-    (λ committed e. quiet_plain protocols past _ _ tt tt)
+    (λ e. made_pick protocols past _ _ _ _ (λ f. quiet_plain protocols past _ _ tt (by_test _) (by_first _))
+    (λ running f. quiet_plain protocols past _ _ tt tt tt))
+    (λ committed e. quiet_plain protocols past _ _ tt tt tt)
   where
     by_test : (t : Bool) → Begins (Ev.Fate tx) (cond t Say.Unbegun Say.Ended)
     by_test true = tt
     by_test false = tt
+
+    by_first : (t : Bool) → IsFirst past (cond t Say.Unbegun Say.Ended)
+    by_first true = tt
+    by_first false = tt
 
 ends-accepted : (others : List Ticketed) (tids : List Tid) → IsAccepted others (map (λ tid. Append (Rec.End tid)) tids)
 ends-accepted others [] = tt
@@ -288,6 +295,7 @@ back_made protocols past =
       counted = tt;
       decided = tt;
       begun = tt;
+      first = tt;
       commits_by = λ e. cut_nobody (is_torn coord_frame (disk past)) ended;
     }
   where
@@ -311,8 +319,8 @@ answered_made protocols past (Ev.Take site message) = take_made protocols past s
 answered_made protocols past (Ev.Again tid) = again_made protocols past tid (standing past tid)
 answered_made protocols past (Ev.Late tid) = late_made protocols past tid
 answered_made protocols past (Ev.Fate tx) = fate_made protocols past tx
-answered_made protocols past (Ev.Halt cut) = quiet_plain protocols past _ _ tt tt
-answered_made protocols past (Ev.Trip calls cut) = quiet_plain protocols past _ _ tt tt
+answered_made protocols past (Ev.Halt cut) = quiet_plain protocols past _ _ tt tt tt
+answered_made protocols past (Ev.Trip calls cut) = quiet_plain protocols past _ _ tt tt tt
 answered_made protocols past Ev.Back = back_made protocols past
 
 accepted-cut : (others : List Ticketed) (k : ℕ) (calls : List (Call CoordRecord)) (cut : ℕ) → IsAccepted others calls → IsAccepted others (take k calls ++ Stops cut ∷ [])
@@ -339,25 +347,26 @@ tripped_made protocols past event (Some t) x m =
       counted = uncounted_counts past event _ refl;
       decided = uncounted_decides event _ refl;
       begun = tt;
+      first = tt;
       commits_by = λ e. cc;
     })
     (λ c. m)
 
 unless_down : (protocols : List Participant) (past : CoordPast) (event : CoordEvent) → IsMade protocols past event (when (is_down past) (quiet event Say.Down) (unless_tripped past (answered protocols past event)))
 unless_down protocols past event =
-    made_when protocols past event _ _ _ (λ d. quiet_uncounted protocols past event _ refl tt)
+    made_when protocols past event _ _ _ (λ d. quiet_uncounted protocols past event _ refl tt tt)
     (λ d. tripped_made protocols past event (trip past) _ (answered_made protocols past event))
 
 -- each line of the coordinator is made so
 pub coord_made : (protocols : List Participant) (past : CoordPast) (event : CoordEvent) → IsMade protocols past event (coord_line protocols past event)
 unfolding coord_line stopped
-coord_made protocols past (Ev.Trip calls cut) = quiet_plain protocols past _ _ tt tt
+coord_made protocols past (Ev.Trip calls cut) = quiet_plain protocols past _ _ tt tt tt
 coord_made protocols past (Ev.Halt cut) =
-    made_when protocols past _ _ _ _ (λ d. quiet_plain protocols past _ _ tt tt)
-    (λ d. record { heard = refl; accepted = tt; writes = (tt, tt); sends = tt; counted = tt; decided = tt; begun = tt; commits_by = λ e. (tt, tt) })
+    made_when protocols past _ _ _ _ (λ d. quiet_plain protocols past _ _ tt tt tt)
+    (λ d. record { heard = refl; accepted = tt; writes = (tt, tt); sends = tt; counted = tt; decided = tt; begun = tt; first = tt; commits_by = λ e. (tt, tt) })
 coord_made protocols past Ev.Back =
     made_when protocols past _ _ _ _ (λ d. tripped_made protocols past Ev.Back (trip past) _ (back_made protocols past))
-    (λ d. quiet_plain protocols past _ _ tt tt)
+    (λ d. quiet_plain protocols past _ _ tt tt tt)
 coord_made protocols past (Ev.Go tid steps) = unless_down protocols past (Ev.Go tid steps)
 coord_made protocols past (Ev.Take site message) = unless_down protocols past (Ev.Take site message)
 coord_made protocols past (Ev.Again tid) = unless_down protocols past (Ev.Again tid)

@@ -22,8 +22,8 @@ use Rattle.fed_rules.specs.declared.messages.ToSite.TheVariants as To
 use Rattle.fed_rules.specs.declared.records.CoordRecord.{CoordRecord}
 use Rattle.fed_rules.specs.declared.records.CoordRecord.TheVariants as Rec
 use Rattle.fed_rules.specs.Coord.{did_counts, vote_tickets, all_voted, vote_counts}
-use Rattle.fed_rules.specs.CoordPast.{CoordHappening, CoordPast, records, participants, counts, outstanding, decides}
-use Rattle.fed_rules.specs.CoordRecords.{commits}
+use Rattle.fed_rules.specs.CoordPast.{CoordHappening, CoordPast, records, participants, counts, outstanding, decides, undecided_of}
+use Rattle.fed_rules.specs.CoordRecords.{commits, committed_of}
 use Rattle.fed_rules.specs.Disk.{Call, Append}
 use Rattle.fed_rules.specs.Happenings.{quiet, stops}
 
@@ -82,6 +82,11 @@ abbrev pub Begins : CoordEvent → Answer → Type 0
 Begins event (Say.Begun tid) = (steps : List Step) × (event ≡ Ev.Go tid steps)
 Begins event answer = Unit {0}
 
+-- an attempt begins where none of its transaction is committed or undecided
+abbrev pub IsFirst : CoordPast → Answer → Type 0
+IsFirst past (Say.Begun tid) = (committed_of (records past) tid.tx ≡ None) × (undecided_of past tid.tx ≡ None)
+IsFirst past answer = Unit {0}
+
 -- what a line of the coordinator does
 pub record IsMade (protocols : List Participant) (past : CoordPast) (event : CoordEvent) (x : CoordHappening) : Type 0 where
   pub heard : x.event ≡ event
@@ -91,6 +96,7 @@ pub record IsMade (protocols : List Participant) (past : CoordPast) (event : Coo
   pub counted : Counts past event x.answer
   pub decided : Decides event x.answer
   pub begun : Begins event x.answer
+  pub first : IsFirst past x.answer
   pub commits_by : (decides x.answer || stops x.answer) ≡ false → Each CommitsNobody x.calls
 
 -- of several events nothing is said of what they count
@@ -154,13 +160,13 @@ uncounted_decides (Ev.Trip calls cut) answer e = tt
 uncounted_decides Ev.Back answer e = tt
 
 -- a quiet line of an event that counts nothing, or that isn't counted
-pub quiet_plain : (protocols : List Participant) (past : CoordPast) (event : CoordEvent) (answer : Answer) → IsPlain event → Begins event answer → IsMade protocols past event (quiet event answer)
-quiet_plain protocols past event answer p b =
-    record { heard = refl; accepted = tt; writes = tt; sends = tt; counted = plain_counts past event answer p; decided = plain_decides event answer p; begun = b; commits_by = λ e. tt }
+pub quiet_plain : (protocols : List Participant) (past : CoordPast) (event : CoordEvent) (answer : Answer) → IsPlain event → Begins event answer → IsFirst past answer → IsMade protocols past event (quiet event answer)
+quiet_plain protocols past event answer p b f =
+    record { heard = refl; accepted = tt; writes = tt; sends = tt; counted = plain_counts past event answer p; decided = plain_decides event answer p; begun = b; first = f; commits_by = λ e. tt }
 
-pub quiet_uncounted : (protocols : List Participant) (past : CoordPast) (event : CoordEvent) (answer : Answer) → counts answer ≡ false → Begins event answer → IsMade protocols past event (quiet event answer)
-quiet_uncounted protocols past event answer e b =
-    record { heard = refl; accepted = tt; writes = tt; sends = tt; counted = uncounted_counts past event answer e; decided = uncounted_decides event answer e; begun = b; commits_by = λ e. tt }
+pub quiet_uncounted : (protocols : List Participant) (past : CoordPast) (event : CoordEvent) (answer : Answer) → counts answer ≡ false → Begins event answer → IsFirst past answer → IsMade protocols past event (quiet event answer)
+quiet_uncounted protocols past event answer e b f =
+    record { heard = refl; accepted = tt; writes = tt; sends = tt; counted = uncounted_counts past event answer e; decided = uncounted_decides event answer e; begun = b; first = f; commits_by = λ e. tt }
 
 pub made_when : (protocols : List Participant) (past : CoordPast) (event : CoordEvent) (t : Bool) (a b : CoordHappening) → (t ≡ true → IsMade protocols past event a) → (t ≡ false → IsMade protocols past event b) → IsMade protocols past event (when t a b)
 unfolding when

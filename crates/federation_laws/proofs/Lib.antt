@@ -19,6 +19,7 @@ pub mod LocalStories
 pub mod Members
 pub mod Memberships
 pub mod Merges
+pub mod OnceGlobal
 pub mod OneOrders
 pub mod Refuted
 pub mod ScenarioFacts

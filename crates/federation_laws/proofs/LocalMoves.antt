@@ -24,8 +24,8 @@ use Rattle.fed_rules.specs.Happenings.{quiet, stops, comes_up}
 use Rattle.fed_rules.specs.Orders.{read_by}
 use Rattle.fed_rules.specs.Runs.{EngineLine, Begins, Acts, Refuses, Commits, Aborts, Seals, Access, Got, Wrote, Run, begun, acted, changed, run_at, tid_of}
 use Rattle.fed_rules.specs.Site.{with_lines, of_begin, act_answer, of_act, reply_to, seals_local, of_commit, of_abort, of_fate, number_of, settling_line, settles, unheld, of_decide, of_ask, of_drop, of_back}
-use Rattle.fed_rules.specs.SitePast.{SiteHappening, SitePast, disk, epoch, epoch_start, engine_lines, run_of, live, live_one, begins_tx}
-use Rattle.fed_rules.specs.SiteRecords.{Home, site_frame}
+use Rattle.fed_rules.specs.SitePast.{SiteHappening, SitePast, disk, epoch, epoch_start, engine_lines, run_of, live, live_one, begins_tx, records, live_of_tx}
+use Rattle.fed_rules.specs.SiteRecords.{Home, site_frame, local_of}
 use Rattle.fed_rules.specs.Story.{value_of}
 use Rattle.commit_laws.proofs.SiteShut.{restored-sealed, given-up}
 use Rattle.federation_laws.specs.Accesses.{seals, act_of}
@@ -44,6 +44,8 @@ pub record Opens (home : Home) (past : SitePast) (t : Tid) (event : SiteEvent) (
   pub idle : Idle t x
   pub taken : event ≡ Ev.Begin t
   pub begins : begins_tx t.tx x.answer ≡ true
+  pub uncommitted : local_of (records home past) t.tx ≡ None
+  pub alone : live_of_tx home past t.tx ≡ None
   pub number : ℕ
   pub now : live home (x ∷ past) t ≡ Some (begun t number)
 
@@ -133,6 +135,8 @@ begin-made home past t =
         idle = record { reads = refl; unsealed = refl };
         taken = refl;
         begins = same_tx-self t.tx;
+        uncommitted = none;
+        alone = free;
         number = _;
         now = own-line t (Begins t _) (run_of home past t) refl;
       });
