@@ -20,6 +20,7 @@ pub mod Members
 pub mod Memberships
 pub mod Merges
 pub mod OnceGlobal
+pub mod OnceLocal
 pub mod OneOrders
 pub mod Refuted
 pub mod ScenarioFacts

@@ -56,7 +56,7 @@ local-unbegun scenario good commands t home here begun =
     let clash = sym (ap (home_at scenario) none) ∙ here in cc
 
 -- so no operation is sent to it
-not-asked : (scenario : Scenario) → IsScenario scenario → (commands : List Command) (t : Tid) (own at_home : Home) (event : SiteEvent) → local_home scenario t.tx ≡ Some own → SiteCause scenario (story_of scenario commands) at_home event → NotAsked t event
+pub not-asked : (scenario : Scenario) → IsScenario scenario → (commands : List Command) (t : Tid) (own at_home : Home) (event : SiteEvent) → local_home scenario t.tx ≡ Some own → SiteCause scenario (story_of scenario commands) at_home event → NotAsked t event
 not-asked scenario good commands t own at_home (Ev.Give message) here c =
     λ about. local-unbegun scenario good commands t own here (each_at (λ m. IsOf t m → is_begun (coord_past (story_of scenario commands)) t ≡ true) message (sent_to at_home.site (story_of scenario commands)) (story-asked scenario good commands at_home.site t).begun c about)
 not-asked scenario good commands t own at_home (Ev.Begin tid) here c = tt

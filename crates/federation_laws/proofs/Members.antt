@@ -172,10 +172,10 @@ record-from (CutBack ∷ calls) d r i = elim (record-from calls _ r i) [ inl k �
 record-from (Stops cut ∷ calls) d r i = elim (record-from calls _ r i) [ inl k ↦ inl (in-whole _ d.records r k) | inr k ↦ inr (inr k) ]
 
 -- the record is by which an attempt is sealed
-abbrev SealsBy : Tid → SiteRecord → Type 0
+abbrev pub SealsBy : Tid → SiteRecord → Type 0
 SealsBy g r = seals g (Append r) ≡ true
 
-sealing-call : (g : Tid) (r : SiteRecord) (calls : List (Call SiteRecord)) → SealsBy g r → Among (λ call. call ≡ Append r) calls → some_of (seals g) calls ≡ true
+pub sealing-call : (g : Tid) (r : SiteRecord) (calls : List (Call SiteRecord)) → SealsBy g r → Among (λ call. call ≡ Append r) calls → some_of (seals g) calls ≡ true
 sealing-call g r [] s i = absurd i
 sealing-call g r (call ∷ calls) s (inl e) = ap (λ t. t || some_of (seals g) calls) (ap (seals g) e ∙ s)
 sealing-call g r (call ∷ calls) s (inr i) = by_test (seals g call) (sealing-call g r calls s i)

@@ -46,7 +46,7 @@ active-from members past event x made g (inr c) = elim (commit-from x.calls (dis
   | inr new ↦ let v = last-vote-of members past event g x.calls made.writes new in inl (inl (and_parts _ _ v.1.is_counted).0)
 ]
 
-same_tx-true : (a b : Tx) → a ≡ b → same_tx a b ≡ true
+pub same_tx-true : (a b : Tx) → a ≡ b → same_tx a b ≡ true
 same_tx-true a b e = eq-eqb a.0 b.0 (ap (λ (t : Tx). t.0) e)
 
 -- where no attempt of a transaction committed, none of its attempts has a Commit
