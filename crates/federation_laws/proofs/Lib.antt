@@ -21,6 +21,7 @@ pub mod Memberships
 pub mod Merges
 pub mod OnceGlobal
 pub mod OnceLocal
+pub mod OnceEach
 pub mod OneOrders
 pub mod Refuted
 pub mod ScenarioFacts

@@ -1,13 +1,14 @@
 -- One order for all sites, and what running programs in that order gives.
 use Rattle.std.specs.Prelude.{◌≡◌, List, []}
+use Rattle.mdb_base.specs.declared.names.SiteId.{SiteId}
 use Rattle.mdb_base.specs.declared.names.Tid.{Tid}
 use Rattle.mdb_base.specs.Names.{tid_before}
-use Rattle.order_laws.specs.Chains.{Acyclic}
+use Rattle.order_laws.specs.Chains.{Acyclic, In}
 use Rattle.order_laws.specs.Merge.{IsLeastOrder}
 use Rattle.order_laws.specs.Orders.{Union}
 use Rattle.fed_rules.specs.declared.commands.Command.{Command}
 use Rattle.fed_rules.specs.declared.scenario.Scenario.{Scenario}
-use Rattle.fed_rules.specs.Orders.{orders, IsMerge, IsSerial}
+use Rattle.fed_rules.specs.Orders.{order_at, orders, IsMerge, IsSerial}
 use Rattle.fed_rules.specs.Plans.{IsScenario}
 use Rattle.fed_rules.specs.Reports.{printed_order}
 use Rattle.fed_rules.specs.Story.{Story, story_of}
@@ -34,6 +35,12 @@ abbrev pub PartsMakeOneOrder : Type 0
 PartsMakeOneOrder =
     (scenario : Scenario) (commands : List Command) → Parts scenario (story_of scenario commands)
     → HasOneOrder scenario (story_of scenario commands)
+
+-- of each transaction at most one attempt stands in the orders, whatever the sites
+abbrev pub OneAttemptEach : Scenario → Story → Type 0
+OneAttemptEach scenario story =
+    (site other : SiteId) (a b : Tid) → In a (order_at scenario story site) → In b (order_at scenario story other)
+    → a.tx ≡ b.tx → a ≡ b
 
 -- the fact holds of the story of any commands of every scenario
 abbrev pub OfStories : (Scenario → Story → Type 0) → Type 0

@@ -1,14 +1,16 @@
 //! One order for all sites.
 ghost use Rattle.commit_laws.specs.Forgetting.{ForgottenAreAcknowledged, ForgottenWhenNoneIsMissing, InquiriesAreAnsweredTheOutcome, KnownWhileMissing};
 ghost use Rattle.commit_laws.specs.Outcomes.{SettlesSayTheOutcome, SitesAgree};
-ghost use Rattle.federation_laws.specs.OneOrder.{HasOneOrder, OfStories, PartsMakeOneOrder};
+ghost use Rattle.federation_laws.specs.OneOrder.{HasOneOrder, OfStories, OneAttemptEach, PartsMakeOneOrder};
 ghost use Rattle.federation_laws.specs.SiteOrders.{SitesAreSerial};
 
 use commit_laws::{
     attempts_are_forgotten_when_acknowledged, inquiries_in_doubt_are_answered_the_outcome,
     sites_settle_alike, sites_settle_the_outcome,
 };
-use site_history::{events_are_sorted, sites_prepare_once, stories_have_serial_sites};
+use site_history::{
+    events_are_sorted, sites_prepare_once, stories_have_right_lines, stories_have_serial_sites,
+};
 
 /// Each site by itself: the members of its order, by their serial numbers and one after another, read alone what they were answered,
 /// their tickets rise, and they leave what the site is due.
@@ -29,10 +31,11 @@ pub fn parts_make_one_order()
 /// The federation is serializable, after any commands, in the middle of a run too. The orders of all sites have no cycle together, so
 /// the printed order is a merge of them, the only one with the least attempt at each place; and running the programs one at a time in this
 /// order, or in any other merge, gives every read of every member, through registers that flow between sites, and what is due at each
-/// site. No global attempt ends differently at two sites: each settles its outcome. It is forgotten exactly when its required
+/// site. Of each transaction one attempt at most stands in the orders. No global attempt ends differently at two sites: each settles its outcome. It is forgotten exactly when its required
 /// acknowledgements are in, and an inquiry about it afterwards, from a site in doubt, is answered its outcome.
 pub fn federation_is_serializable()
     ensures one_order { OfStories HasOneOrder }
+    ensures once { OfStories OneAttemptEach }
     ensures outcome { SettlesSayTheOutcome }
     ensures alike { SitesAgree }
     ensures known { KnownWhileMissing }
@@ -41,6 +44,7 @@ pub fn federation_is_serializable()
     ensures inquiries { InquiriesAreAnsweredTheOutcome }
 {
     sites_are_serial_in_every_story();
+    stories_have_right_lines();
     sites_settle_the_outcome();
     sites_settle_alike();
     attempts_are_forgotten_when_acknowledged();

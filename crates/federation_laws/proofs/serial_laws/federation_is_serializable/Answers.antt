@@ -1,4 +1,5 @@
 use Rattle.federation_laws.proofs.Memberships.{commits-agree, members-follow}
+use Rattle.federation_laws.proofs.OnceEach.{one-attempt}
 use Rattle.federation_laws.proofs.OneOrders.{one-order}
 use Rattle.federation_laws.proofs.serial_laws.federation_is_serializable.Goals as goal
 
@@ -10,6 +11,9 @@ returns-clause-one_order c = λ scenario good commands.
       commits = commits-agree scenario good commands;
       programs = members-follow scenario good commands;
     })
+
+pub returns-clause-once : goal.returns-clause-once
+returns-clause-once c = one-attempt c.stories_have_right_lines.ensures
 
 pub returns-clause-outcome : goal.returns-clause-outcome
 returns-clause-outcome c = c.sites_settle_the_outcome.ensures.outcome
