@@ -1,21 +1,17 @@
 -- Of each transaction at most one attempt stands in the orders of the sites.
-use Rattle.std.proofs.Common.{◌≡◌, inl, inr, Option, Some, None, List, sym, ap, subst, ◌∙◌}
-use Rattle.mdb_base.specs.declared.names.SiteId.{SiteId}
+use Rattle.std.proofs.Common.{◌≡◌, inr, List, sym, ap, subst, ◌∙◌}
 use Rattle.mdb_base.specs.declared.names.Tid.{Tid}
-use Rattle.mdb_base.specs.declared.names.Tx.{Tx}
-use Rattle.order_laws.specs.Chains.{In}
 use Rattle.fed_rules.specs.declared.commands.Command.{Command}
 use Rattle.fed_rules.specs.declared.scenario.Scenario.{Scenario}
-use Rattle.fed_rules.specs.Orders.{order_at}
 use Rattle.fed_rules.specs.Plans.{IsScenario}
-use Rattle.fed_rules.specs.Scenarios.{home_at, home_of, local_site, local_home}
+use Rattle.fed_rules.specs.Scenarios.{home_at, local_site, local_home}
 use Rattle.fed_rules.specs.SiteRecords.{Home}
 use Rattle.fed_rules.specs.Story.{past_of, story_of}
 use Rattle.site_history.specs.Stories.{StoriesHaveRightLines}
 use Rattle.federation_laws.specs.OneOrder.{OneAttemptEach}
 use Rattle.federation_laws.proofs.Declared.{member-declared}
 use Rattle.federation_laws.proofs.Members.{IsLocal}
-use Rattle.federation_laws.proofs.Memberships.{Kind, AtHome, Roaming, LocalMember, GlobalMember, kind-of}
+use Rattle.federation_laws.proofs.Memberships.{Kind, AtHome, Roaming, kind-of}
 use Rattle.federation_laws.proofs.OnceGlobal.{global-once}
 use Rattle.federation_laws.proofs.OnceLocal.{local-once}
 use Rattle.federation_laws.proofs.Told.{some-parts, local_home-declared}

@@ -1,9 +1,8 @@
 -- Of each global transaction one attempt at most is undecided or committed.
-use Rattle.std.proofs.Common.{◌≡◌, ◌⊎◌, ℕ, Bool, true, false, cond, not, ◌&&◌, ◌||◌, ◌==◌, Option, Some, None, List, [], ◌∷◌, inl, inr, refl, sym, ap, subst, ◌∙◌, eqb-true, eq-eqb}
+use Rattle.std.proofs.Common.{◌≡◌, ◌⊎◌, Bool, true, false, cond, ◌&&◌, Some, None, List, [], ◌∷◌, inl, inr, refl, sym, ap, subst, ◌∙◌, eq-eqb}
 use Rattle.mdb_base.specs.declared.names.Tid.{Tid}
 use Rattle.mdb_base.specs.declared.names.Tx.{Tx}
 use Rattle.mdb_base.specs.Names.{same_tid, same_tx}
-use Rattle.mdb_base.specs.Words.{Among, first_where, some_of}
 use Rattle.presumptions.specs.declared.Participant.{Participant}
 use Rattle.order_laws.specs.Chains.{In}
 use Rattle.order_laws.proofs.Lists.{first_where_none, is_in_true}
@@ -14,16 +13,15 @@ use Rattle.fed_rules.specs.declared.commands.Command.{Command}
 use Rattle.fed_rules.specs.declared.records.CoordRecord.{CoordRecord}
 use Rattle.fed_rules.specs.declared.records.CoordRecord.TheVariants as Rec
 use Rattle.fed_rules.specs.declared.scenario.Scenario.{Scenario}
-use Rattle.fed_rules.specs.CoordPast.{CoordHappening, CoordPast, disk, records, standing, is_undecided, begins, begun_tids, undecided_of}
+use Rattle.fed_rules.specs.CoordPast.{CoordHappening, CoordPast, disk, records, standing, is_undecided, begins, begun_tids}
 use Rattle.fed_rules.specs.CoordRecords.{has_commit, committed_of}
-use Rattle.fed_rules.specs.Plans.{IsScenario}
 use Rattle.fed_rules.specs.Scenarios.{protocols}
 use Rattle.fed_rules.specs.Story.{Story, Happened, AtSite, AtCoordinator, Nowhere, coord_past, with_coordinator, story_of}
 use Rattle.federation_laws.proofs.CoordHolds.{is_begun, begun-next, begun-stays, begins-answer, last-vote-of}
 use Rattle.federation_laws.proofs.CoordMade.{IsFirst, IsMade, Begins}
-use Rattle.federation_laws.proofs.Standings.{undecided-from, AppendsCommit, commit-from}
+use Rattle.federation_laws.proofs.Standings.{undecided-from, commit-from}
 use Rattle.federation_laws.proofs.StoryGlobals.{coord-made}
-use Rattle.federation_laws.proofs.Told.{IsCoordLine, IsLine, line_is}
+use Rattle.federation_laws.proofs.Told.{IsLine, line_is}
 use Rattle.std.proofs.lemmas.Bool.{and_parts, or_left}
 
 -- the attempt is undecided, or a Commit of it is kept

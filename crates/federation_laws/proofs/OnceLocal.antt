@@ -1,11 +1,11 @@
 -- Of each local transaction one attempt at most is live or committed.
-use Rattle.std.proofs.Common.{◌≡◌, ◌⊎◌, ℕ, Bool, true, false, cond, not, ◌&&◌, is_some, Option, Some, None, List, [], ◌∷◌, inl, inr, refl, sym, ap, subst, ◌∙◌, eq-eqb}
+use Rattle.std.proofs.Common.{◌≡◌, ◌⊎◌, ℕ, Bool, true, false, cond, not, ◌&&◌, is_some, Option, Some, None, List, [], ◌∷◌, inl, inr, refl, sym, ap, subst, ◌∙◌}
 use Rattle.mdb_base.specs.declared.names.SiteId.{SiteId}
 use Rattle.mdb_base.specs.declared.names.Tid.{Tid}
 use Rattle.mdb_base.specs.declared.names.Tx.{Tx}
 use Rattle.mdb_base.specs.declared.rows.Put.{Put}
-use Rattle.mdb_base.specs.Names.{same_site, same_tid, same_tx}
-use Rattle.mdb_base.specs.Words.{Each, Among, first_where, map_some, some_of}
+use Rattle.mdb_base.specs.Names.{same_site, same_tx}
+use Rattle.mdb_base.specs.Words.{first_where, map_some, some_of}
 use Rattle.order_laws.specs.Chains.{In}
 use Rattle.order_laws.proofs.Lists.{each_from, first_where_none}
 use Rattle.order_laws.proofs.Names.{same_site_alike, same_tid_self}
@@ -15,7 +15,6 @@ use Rattle.fed_rules.specs.declared.events.SiteEvent.TheVariants as Ev
 use Rattle.fed_rules.specs.declared.records.SiteRecord.{SiteRecord}
 use Rattle.fed_rules.specs.declared.records.SiteRecord.TheVariants as Rec
 use Rattle.fed_rules.specs.declared.scenario.Scenario.{Scenario}
-use Rattle.fed_rules.specs.Disk.{Call, Append}
 use Rattle.fed_rules.specs.EngineLines.{IsRight}
 use Rattle.fed_rules.specs.Plans.{IsScenario}
 use Rattle.fed_rules.specs.Runs.{Run, unended, is_sealed}
@@ -23,7 +22,7 @@ use Rattle.fed_rules.specs.Scenarios.{home_of, local_home}
 use Rattle.fed_rules.specs.Site.{site_line}
 use Rattle.fed_rules.specs.SitePast.{SiteHappening, SitePast, disk, records, epoch_start, engine_lines, run_of, live, live_of_tx}
 use Rattle.fed_rules.specs.SiteRecords.{Home, local_of}
-use Rattle.fed_rules.specs.Story.{Story, Happened, AtSite, AtCoordinator, Nowhere, past_of, with_site, story_of}
+use Rattle.fed_rules.specs.Story.{Happened, AtSite, AtCoordinator, Nowhere, past_of, with_site, story_of}
 use Rattle.engine_laws.proofs.Runs.{tid_is, each_unended}
 use Rattle.site_history.specs.Stories.{StoriesHaveRightLines}
 use Rattle.federation_laws.specs.Accesses.{seals}
@@ -33,7 +32,7 @@ use Rattle.federation_laws.proofs.LocalStories.{not-asked}
 use Rattle.federation_laws.proofs.Members.{IsLocal, record-from, sealing-call}
 use Rattle.federation_laws.proofs.OnceGlobal.{same_tx-true}
 use Rattle.federation_laws.proofs.SiteMoves.{live-run}
-use Rattle.federation_laws.proofs.Told.{some-parts, local_home-declared, SiteCause, IsSiteLine, IsLine, line_is}
+use Rattle.federation_laws.proofs.Told.{some-parts, SiteCause, IsSiteLine, IsLine, line_is}
 
 -- a run of the attempt is live, or a Local record of it is kept
 abbrev pub IsActive : Home → SitePast → Tid → Type 0
