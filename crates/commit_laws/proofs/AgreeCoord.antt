@@ -1,10 +1,10 @@
 -- A line of the coordinator keeps the invariant.
-use Rattle.std.proofs.Common.{◌≡◌, ℕ, ◌+◌, ◌<◌, ◌≤◌, ◌⊎◌, inl, inr, Bool, true, false, cond, ◌&&◌, ◌||◌, ◌==◌, Option, Some, None, List, [], ◌∷◌, ◌++◌, map, refl, sym, ap, subst, ◌∙◌, arith}
+use Rattle.std.proofs.Common.{◌≡◌, ℕ, ◌<◌, ◌≤◌, ◌⊎◌, inl, inr, Bool, true, false, cond, ◌&&◌, ◌||◌, ◌==◌, None, List, [], ◌∷◌, ◌++◌, map, refl, sym, ap, subst, ◌∙◌, arith}
 use Rattle.std.proofs.lemmas.Bool.{and_parts, eqb-true}
 use Rattle.mdb_base.specs.declared.names.SiteId.{SiteId}
 use Rattle.mdb_base.specs.declared.names.Tid.{Tid}
 use Rattle.mdb_base.specs.declared.replies.Reply.{Reply}
-use Rattle.mdb_base.specs.Names.{same_tid, same_site}
+use Rattle.mdb_base.specs.Names.{same_site}
 use Rattle.mdb_base.specs.Words.{Each, Among, those}
 use Rattle.mdb_base.proofs.NameLaws.{same_tid-refl}
 use Rattle.order_laws.specs.Chains.{In}
@@ -22,9 +22,8 @@ use Rattle.fed_rules.specs.declared.messages.FromSite.TheVariants as From
 use Rattle.fed_rules.specs.declared.messages.Sent.{Sent}
 use Rattle.fed_rules.specs.declared.messages.ToSite.{ToSite}
 use Rattle.fed_rules.specs.declared.messages.ToSite.TheVariants as To
-use Rattle.fed_rules.specs.declared.records.CoordRecord.{CoordRecord}
 use Rattle.fed_rules.specs.declared.scenario.Scenario.{Scenario}
-use Rattle.fed_rules.specs.Coord.{did_counts, fits, protocol_of}
+use Rattle.fed_rules.specs.Coord.{fits, protocol_of}
 use Rattle.fed_rules.specs.CoordPast as Coordinator
 use Rattle.fed_rules.specs.CoordPast.{CoordHappening, CoordPast, Standing, Decided, Gone, standing, is_undecided, begins, program, visits, counts, counted_at, last_epoch, epoch_at, outstanding, outstanding_at}
 use Rattle.fed_rules.specs.CoordRecords.{outcome}
@@ -34,9 +33,9 @@ use Rattle.fed_rules.specs.SiteRecords.{Home}
 use Rattle.commit_laws.specs.Seals.{seals}
 use Rattle.commit_laws.proofs.Agree.{IsGot, IsOver, Prepares, Decides, HasSealed, Agree}
 use Rattle.commit_laws.proofs.CoordClear.{coord-turn}
-use Rattle.commit_laws.proofs.CoordFacts.{IsOpen, IsInitiation, IsDecidedBy, IsPreparing, IsTelling, Now, Known, Presumed, Says, Tells, Counted}
+use Rattle.commit_laws.proofs.CoordFacts.{IsOpen, IsInitiation, IsPreparing, IsTelling, Now, Known, Presumed, Says, Tells, Counted}
 use Rattle.commit_laws.proofs.CoordLists.{decided-outcome}
-use Rattle.commit_laws.proofs.CoordSound.{Declared, IsBegun, IsClear, kept-stays, end-initiation, decided-not-open, program-stays}
+use Rattle.commit_laws.proofs.CoordSound.{Declared, IsBegun, kept-stays, end-initiation, decided-not-open, program-stays}
 use Rattle.commit_laws.proofs.CoordTurn.{Turn, fresh, same-program, same-outcome, stays-closed, uncommitted-of}
 use Rattle.commit_laws.proofs.Links.{same-site}
 use Rattle.commit_laws.proofs.Lists.{among-split, among-left}

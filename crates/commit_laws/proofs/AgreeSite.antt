@@ -1,11 +1,11 @@
 -- A line of the site keeps the invariant.
-use Rattle.std.proofs.Common.{◌≡◌, ℕ, ◌+◌, ◌<◌, ◌≤◌, ◌⊎◌, inl, inr, Bool, true, false, cond, ◌||◌, is_some, Option, Some, None, List, [], ◌∷◌, ◌++◌, refl, sym, ap, subst, ◌∙◌, arith}
-use Rattle.std.proofs.lemmas.Bool.{or_left, or_right}
+use Rattle.std.proofs.Common.{◌≡◌, ℕ, ◌<◌, ◌≤◌, ◌⊎◌, inl, inr, Bool, true, false, cond, ◌||◌, is_some, Some, None, List, ◌∷◌, ◌++◌, refl, sym, ap, subst, ◌∙◌, arith}
+use Rattle.std.proofs.lemmas.Bool.{or_left}
 use Rattle.mdb_base.specs.declared.names.Tid.{Tid}
 use Rattle.mdb_base.specs.declared.replies.Reply.{Reply}
 use Rattle.mdb_base.specs.Names.{same_tid}
 use Rattle.mdb_base.specs.Words.{Each, Among, some_of}
-use Rattle.mdb_base.proofs.NameLaws.{same_tid-equal, same_tid-refl}
+use Rattle.mdb_base.proofs.NameLaws.{same_tid-refl}
 use Rattle.order_laws.specs.Chains.{In}
 use Rattle.order_laws.proofs.Lists.{each_at}
 use Rattle.presumptions.specs.declared.Decision.{Decision}
@@ -24,12 +24,11 @@ use Rattle.fed_rules.specs.CoordPast as Coordinator
 use Rattle.fed_rules.specs.CoordPast.{CoordPast, epoch_at}
 use Rattle.fed_rules.specs.CoordRecords.{outcome}
 use Rattle.fed_rules.specs.Happenings.{stops, comes_up, is_down}
-use Rattle.fed_rules.specs.Site.{is_over}
-use Rattle.fed_rules.specs.SitePast.{SiteHappening, SitePast, disk, records, epoch, live, is_closed, decides_on, ends}
-use Rattle.fed_rules.specs.SiteRecords.{Home, Held, doubt_of, epoch_of}
+use Rattle.fed_rules.specs.SitePast.{SiteHappening, SitePast, records, epoch, is_closed, decides_on, ends}
+use Rattle.fed_rules.specs.SiteRecords.{Home, doubt_of, epoch_of}
 use Rattle.commit_laws.specs.Records.{IsPrepared, IsEnded, IsLooseEnded}
 use Rattle.commit_laws.specs.Seals.{seals}
-use Rattle.commit_laws.proofs.Agree.{IsGot, IsOver, Prepares, Decides, HasSealed, Agree}
+use Rattle.commit_laws.proofs.Agree.{IsGot, IsOver, HasSealed, Agree}
 use Rattle.commit_laws.proofs.Lists.{among-split, among-left, cut-old, cut-stays}
 use Rattle.commit_laws.proofs.Links.{IsGlobal}
 use Rattle.commit_laws.proofs.SiteFacts.{IsSealing, IsSettling, IsAcking, Wrote, Says, Settled, NotBegun}
@@ -95,8 +94,8 @@ bars scenario home g past here sent back event e a comes s got =
     elim (a.barred got) [
       | inl less ↦ let e1 = prepares.epoch in let e2 = s.epoch in omega (arith, less, e1, e2)
       | inr closed ↦
-        let dead = (a.shut (a.sound.global prepares.begun)).over (or_left (is_closed here g) (is_some (doubt_of (records home here) g)) closed) in
-        let alive = s.live in cc
+          let dead = (a.shut (a.sound.global prepares.begun)).over (or_left (is_closed here g) (is_some (doubt_of (records home here) g)) closed) in
+          let alive = s.live in cc
     ]
 
 -- the site's part of what was settled
@@ -104,11 +103,11 @@ settles-right : (scenario : Scenario) (home : Home) (g : Tid) (past : CoordPast)
 settles-right scenario home g past here sent back event d a comes s = elim (a.telling d (comes (To.Decide g d) s.taken)).right [
   | inl e ↦ e
   | inr over ↦
-    let p = held-prepared (records home here) g s.held s.doubt in
-    let (c, m, f) = over.ended s.held.epoch p in
-    let none = tidy-doubt g (records home here) s.held.epoch c a.tidy p m in
-    let some = s.doubt in
-    let no : Some s.held ≡ None = sym some ∙ none in cc
+      let p = held-prepared (records home here) g s.held s.doubt in
+      let (c, m, f) = over.ended s.held.epoch p in
+      let none = tidy-doubt g (records home here) s.held.epoch c a.tidy p m in
+      let some = s.doubt in
+      let no : Some s.held ≡ None = sym some ∙ none in cc
 ]
 
 -- the attempt is closed behind a line, or its epoch is over
@@ -136,8 +135,8 @@ over-stays scenario home g past here sent back event x t over = record {
   got = (over.got.0, inr over.got.1);
   ended = (λ e m. elim (new-prepared home g here event (records home (x ∷ here)) e t.line.kept m) [
     | inl i ↦
-      let (d, n, f) = over.ended e i in
-      (d, site-stays home g here event (records home (x ∷ here)) (IsEnded g d) (loose-forced home.protocol g d f) t.line.kept n, f)
+        let (d, n, f) = over.ended e i in
+        (d, site-stays home g here event (records home (x ∷ here)) (IsEnded g d) (loose-forced home.protocol g d f) t.line.kept n, f)
     | inr s ↦ absurd (bars scenario home g past here sent back event e t.agree t.comes s over.got)
   ]);
 }
@@ -167,10 +166,10 @@ acks-over scenario home g past here sent back event x t k = record {
     by_force true f = (c, subst (Among (IsEnded g c)) (sym same) found.1, f)
     by_force false f = elim (t.agree.telling k.decision came).right [
       | inl right ↦
-        let is = (t.agree.ended c found.1).1 in
-        let equal : c ≡ k.decision = is ∙ sym right in
-        let yes : forces home.protocol k.decision ≡ true = k.acks in
-        let no : true ≡ false = sym yes ∙ (ap (forces home.protocol) (sym equal) ∙ f) in cc
+          let is = (t.agree.ended c found.1).1 in
+          let equal : c ≡ k.decision = is ∙ sym right in
+          let yes : forces home.protocol k.decision ≡ true = k.acks in
+          let no : true ≡ false = sym yes ∙ (ap (forces home.protocol) (sym equal) ∙ f) in cc
       | inr over ↦ let (d, n, g2) = over.ended e p in (d, subst (Among (IsEnded g d)) (sym same) n, g2)
     ]
 
@@ -223,9 +222,9 @@ site-turn scenario home g past here sent back event x t = record {
   replied e n reply i = elim (among-split (λ y. y ≡ From.Did g e n reply) back x.sends i) [
     | inl j ↦ let r = a.replied e n reply j in (r.0, (let low = r.1 in omega (arith, low, grows)))
     | inr j ↦
-      let same : e ≡ epoch home here = said home g here x (From.Did g e n reply) t.line.says j in
-      let low = a.started in
-      ((omega (arith, same, low)), (omega (arith, same, grows)))
+        let same : e ≡ epoch home here = said home g here x (From.Did g e n reply) t.line.says j in
+        let low = a.started in
+        ((omega (arith, same, low)), (omega (arith, same, grows)))
   ]
 
   voted : (ticket : ℕ) → In (From.Vote g (Some ticket)) (back ++ x.sends) → (e : ℕ) × Among (IsPrepared g e) (records home (x ∷ here))
@@ -238,9 +237,9 @@ site-turn scenario home g past here sent back event x t = record {
   asked i = elim (among-split (λ y. y ≡ From.Inquiry g) back x.sends i) [
     | inl j ↦ a.asked j
     | inr j ↦
-      let (held, doubt) = said home g here x (From.Inquiry g) t.line.says j (same_tid-refl g) in
-      let p = a.prepared held.epoch (held-prepared (records home here) g held doubt) in
-      (held.epoch, p.0, p.1)
+        let (held, doubt) = said home g here x (From.Inquiry g) t.line.says j (same_tid-refl g) in
+        let p = a.prepared held.epoch (held-prepared (records home here) g held doubt) in
+        (held.epoch, p.0, p.1)
   ]
 
   barred : IsGot g (x ∷ here) → (epoch_at past g home.site < epoch home (x ∷ here)) ⊎ (is_closed (x ∷ here) g ≡ true)

@@ -1,44 +1,35 @@
 -- A line of the coordinator keeps its part of the invariant: what is ended or forgotten has its required acknowledgements.
-use Rattle.std.proofs.Common.{◌≡◌, ℕ, suc, ◌<◌, ◌≤◌, ◌⊎◌, inl, inr, Bool, true, false, cond, not, ◌&&◌, is_some, arith, Option, Some, None, List, [], ◌∷◌, ◌++◌, refl, sym, ap, ap₂, subst, ◌∙◌}
-use Rattle.std.proofs.lemmas.Bool.{and_parts, eq-eqb, not-true}
-use Rattle.mdb_base.specs.declared.acts.Step.{Step}
+use Rattle.std.proofs.Common.{◌≡◌, ◌⊎◌, inl, inr, Bool, true, false, cond, not, ◌&&◌, is_some, Some, List, [], ◌∷◌, ◌++◌, refl, sym, ap, ap₂, subst, ◌∙◌}
+use Rattle.std.proofs.lemmas.Bool.{and_parts, not-true}
 use Rattle.mdb_base.specs.declared.names.SiteId.{SiteId}
 use Rattle.mdb_base.specs.declared.names.Tid.{Tid}
-use Rattle.mdb_base.specs.declared.names.Tx.{Tx}
-use Rattle.mdb_base.specs.Names.{same_tid, same_site, same_tx}
+use Rattle.mdb_base.specs.Names.{same_tid}
 use Rattle.mdb_base.specs.Words.{Each, Among, those}
-use Rattle.mdb_base.proofs.NameLaws.{same_tid-equal, same_tid-refl, tests_agree}
 use Rattle.presumptions.specs.declared.Decision.{Decision}
 use Rattle.presumptions.specs.declared.Decision.TheVariants as Decided
 use Rattle.presumptions.specs.declared.Participant.{Participant}
-use Rattle.presumptions.specs.declared.Protocol.{Protocol}
 use Rattle.presumptions.specs.Table.{acks}
-use Rattle.fed_rules.specs.declared.answers.Answer.{Answer}
 use Rattle.fed_rules.specs.declared.answers.Answer.TheVariants as Say
 use Rattle.fed_rules.specs.declared.events.CoordEvent.{CoordEvent}
-use Rattle.fed_rules.specs.declared.events.CoordEvent.TheVariants as Ev
-use Rattle.fed_rules.specs.declared.messages.FromSite.TheVariants as From
 use Rattle.fed_rules.specs.declared.records.CoordRecord.{CoordRecord}
 use Rattle.fed_rules.specs.declared.records.CoordRecord.TheVariants as Rec
 use Rattle.fed_rules.specs.declared.scenario.Scenario.{Scenario}
 use Rattle.fed_rules.specs.Coord.{missing}
-use Rattle.fed_rules.specs.CoordPast.{CoordHappening, CoordPast, disk, records, Standing, Undecided, Decided, Gone, standing, kept_standing, is_undecided, begins, participants, participants_of, program, visits, attempts_of, has_acked}
-use Rattle.fed_rules.specs.CoordRecords.{coord_frame, initiated, has_commit, has_end, outcome, required_of, required, is_nobody, is_kept}
+use Rattle.fed_rules.specs.CoordPast.{CoordHappening, CoordPast, records, Undecided, Decided, Gone, standing, kept_standing, is_undecided, participants, program, visits, has_acked}
+use Rattle.fed_rules.specs.CoordRecords.{initiated, has_commit, has_end, outcome, required_of, required, is_nobody, is_kept}
 use Rattle.fed_rules.specs.Scenarios.{protocols}
 use Rattle.fed_rules.specs.SiteRecords.{Home}
-use Rattle.rules_laws.specs.Durable.{IsFirm}
-use Rattle.commit_laws.specs.Records.{IsEnd, IsCommit}
-use Rattle.commit_laws.proofs.Disks.{appended, IsCut}
-use Rattle.commit_laws.proofs.Links.{IsGlobal}
-use Rattle.commit_laws.proofs.Lists.{among-split, among-left, among-right, each-not, cut-old, cut-stays, those-agree}
-use Rattle.commit_laws.proofs.CoordFacts.{IsOpen, IsInitiation, IsUnmarked, IsUncommitted, IsDecidedBy, IsCommitting, IsEnding, AtCommit, AtAbort, AtAck, AtBack, Wrote, WroteAll, Stands, Same, Starts, Decides, Forgets, Restarts}
-use Rattle.commit_laws.proofs.CoordLines.{Kept, Stood, Stopped, Through, Line}
-use Rattle.commit_laws.proofs.CoordLists.{IsInitiationOf, IsEndOf, same-of, commit-among, among-commit, end-among, initiation-of, among-initiated, initiation-is, some-initiation, initiated-behind, outcome-behind, outcome-is, ends-uncommitted, ends-uninitiated, decided-outcome, those-among, nobody-none, is-required}
+use Rattle.commit_laws.specs.Records.{IsCommit}
+use Rattle.commit_laws.proofs.Disks.{appended}
+use Rattle.commit_laws.proofs.Lists.{among-left, those-agree}
+use Rattle.commit_laws.proofs.CoordFacts.{IsOpen, IsInitiation, IsEnding, AtCommit, AtAbort, AtAck, AtBack, WroteAll, Same, Starts, Decides, Forgets, Restarts}
+use Rattle.commit_laws.proofs.CoordLines.{Kept, Stood, Stopped, Through}
+use Rattle.commit_laws.proofs.CoordLists.{IsInitiationOf, IsEndOf, same-of, among-commit, end-among, initiation-of, among-initiated, initiation-is, some-initiation, initiated-behind, outcome-behind, outcome-is, ends-uncommitted, ends-uninitiated, decided-outcome, those-among, nobody-none, is-required}
 use Rattle.fed_rules.specs.Happenings.{quiet}
-use Rattle.commit_laws.proofs.CoordSound.{IsBegun, IsYes, IsAcked, IsMark, IsClear, CoordSound, kept-from, kept-stays, end-commit, end-initiation, end-initiation-of, commit-mark, end-mark, written-commit, written-initiation, kept-not-open, decided-not-open, still-open, begins-go, program-stays}
-use Rattle.commit_laws.proofs.Taken.{acked-taken, vote-taken, each-of-at}
+use Rattle.commit_laws.proofs.CoordSound.{IsBegun, IsAcked, IsClear, CoordSound, kept-from, end-mark, written-initiation}
+use Rattle.commit_laws.proofs.Taken.{acked-taken}
 use Rattle.mdb_base.proofs.ListLaws.{those_all, each_all}
-use Rattle.commit_laws.proofs.CoordTurn.{Turn, fresh, same-program, same-outcome, turn-numbered, turn-global, turn-undecided, turn-initiated, turn-marked, turn-decided, turn-voted, is-participant, uncommitted-of}
+use Rattle.commit_laws.proofs.CoordTurn.{Turn, same-program, same-outcome, turn-numbered, turn-global, turn-undecided, turn-initiated, turn-marked, turn-decided, turn-voted, is-participant, uncommitted-of}
 
 -- what is required of the site, where the attempt's Initiation names the participants
 pub required-here : (scenario : Scenario) (home : Home) (g : Tid) (past : CoordPast) (d : Decision) → ((ms : List Participant) → Among (IsInitiationOf g ms) (records past) → ms ≡ participants (protocols scenario) past g) → Among (λ m. (m.site ≡ home.site) × (m.protocol ≡ home.protocol)) (protocols scenario) → Among (IsInitiation g) (records past) → acks home.protocol d ≡ true → visits home.site (program past g) ≡ true → Among (λ m. (m.site ≡ home.site) × (m.protocol ≡ home.protocol)) (required (records past) g d)
@@ -191,8 +182,8 @@ turn-gone scenario home g past event x t is m = by_stood t.line.stood where
       let begun = initiation-begun scenario home g past t.sound i in
       let known = (t.sound.decided made k).1 in
       let needed = required-here scenario home g past made (old-names scenario home g past t.sound) declared i
-          (ap (acks home.protocol) (known ∙ sym (same-outcome scenario home g past event x t closed)) ∙ acking)
-          (ap (visits home.site) (sym (same-program scenario home g past event x t begun)) ∙ v) in
+      (ap (acks home.protocol) (known ∙ sym (same-outcome scenario home g past event x t closed)) ∙ acking)
+      (ap (visits home.site) (sym (same-program scenario home g past event x t begun)) ∙ v) in
       acked-later g past x.event x home.site refl (none-missing g (quiet x.event Say.Acked ∷ past) made home n needed)
   by_stood (Through (Restarts b e a stop) r) = by_kept (has_end (records (x ∷ past)) g) (is_nobody (required (records (x ∷ past)) g (outcome (records (x ∷ past)) g))) refl refl (sym e ∙ is)
 

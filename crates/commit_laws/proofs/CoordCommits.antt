@@ -1,7 +1,6 @@
 -- Commits, votes and acknowledgements at the coordinator, and then each event: the facts on one attempt hold of every line that no stop ends.
-use Rattle.std.proofs.Common.{◌≡◌, ℕ, ◌+◌, ◌⊎◌, inl, inr, Bool, true, false, cond, not, ◌&&◌, ◌||◌, ◌==◌, is_some, is_none, Option, Some, None, List, [], ◌∷◌, ◌++◌, map, refl, sym, ap, subst, ◌∙◌}
-use Rattle.std.proofs.lemmas.Bool.{and_parts, and_right, or_left}
-use Rattle.mdb_base.specs.declared.acts.Step.{Step}
+use Rattle.std.proofs.Common.{◌≡◌, ℕ, ◌⊎◌, inl, inr, Bool, true, false, cond, not, ◌&&◌, ◌||◌, ◌==◌, is_some, Option, Some, None, List, [], ◌∷◌, ◌++◌, map, refl, ap, subst}
+use Rattle.std.proofs.lemmas.Bool.{and_parts, and_right}
 use Rattle.mdb_base.specs.declared.names.SiteId.{SiteId}
 use Rattle.mdb_base.specs.declared.names.SiteTicket.{SiteTicket}
 use Rattle.mdb_base.specs.declared.names.Tid.{Tid}
@@ -18,7 +17,6 @@ use Rattle.presumptions.specs.declared.Decision.{Decision}
 use Rattle.presumptions.specs.declared.Decision.TheVariants as Decided
 use Rattle.presumptions.specs.declared.Participant.{Participant}
 use Rattle.fed_rules.specs.declared.answers.Answer.TheVariants as Say
-use Rattle.fed_rules.specs.declared.answers.Cause.{Cause}
 use Rattle.fed_rules.specs.declared.answers.Cause.TheVariants as For
 use Rattle.fed_rules.specs.declared.events.CoordEvent.{CoordEvent}
 use Rattle.fed_rules.specs.declared.events.CoordEvent.TheVariants as Ev
@@ -28,15 +26,15 @@ use Rattle.fed_rules.specs.declared.messages.FromSite.{FromSite}
 use Rattle.fed_rules.specs.declared.messages.FromSite.TheVariants as From
 use Rattle.fed_rules.specs.declared.records.CoordRecord.{CoordRecord}
 use Rattle.fed_rules.specs.declared.records.CoordRecord.TheVariants as Rec
-use Rattle.fed_rules.specs.Disk.{Call, Append, Sync, CutBack, is_torn}
-use Rattle.fed_rules.specs.Happenings.{quiet, stops, comes_up}
+use Rattle.fed_rules.specs.Disk.{Call, Append, CutBack, is_torn}
+use Rattle.fed_rules.specs.Happenings.{quiet}
 use Rattle.fed_rules.specs.Coord.{all_outstanding, news, end_calls, forgets_at_once, decide_to, aborts, commits_it, did_counts, did_reply, of_did, all_voted, vote_tickets, last_vote, yes_vote, is_due_vote, vote_counts, vote_counted, of_vote, missing, is_member, ack_counts, acked_while, of_ack, of_take, again_while, of_again, of_late, late_ends, of_back, answered, fits}
-use Rattle.fed_rules.specs.CoordPast.{CoordHappening, CoordPast, disk, records, Standing, Undecided, Decided, Gone, standing, moved, is_about, is_undecided, decides, acks_in, has_acked, participants, outstanding, epoch_at, oldest_first}
+use Rattle.fed_rules.specs.CoordPast.{CoordHappening, CoordPast, disk, records, Standing, Undecided, Decided, Gone, standing, is_undecided, has_acked, participants, outstanding, epoch_at, oldest_first}
 use Rattle.fed_rules.specs.CoordRecords.{coord_frame, initiated, initiated_tids, outcome, required, is_nobody, ends_at_once, commits, has_end}
 use Rattle.commit_laws.specs.Records.{IsEnd, IsCommit}
 use Rattle.commit_laws.proofs.Disks.{appended, IsQuiet, quiet-plain, plain-records}
-use Rattle.commit_laws.proofs.CoordFacts.{IsOpen, IsInitiation, IsUnmarked, IsUncommitted, IsCommitting, IsEnding, AtCommit, AtAbort, AtAck, AtBack, WroteAll, IsDecidedBy, Stands, Same, Decides, Forgets, Restarts, IsTelling, Now, Known, Tells, Counted, Goes}
-use Rattle.commit_laws.proofs.CoordRules.{goes-when, goes-pick, of-same, standing-on, acked-on, calm-standing, calm-acked, quietly, silently, ignored, IsNoAck, each-map, IsOwed, all-owed, news-owed, by-go, by-dues, by-inquiry, by-fate}
+use Rattle.commit_laws.proofs.CoordFacts.{IsOpen, IsInitiation, IsUnmarked, IsCommitting, IsEnding, AtCommit, AtAck, AtBack, WroteAll, Stands, Same, Decides, Forgets, Restarts, IsTelling, Now, Known, Tells, Counted, Goes}
+use Rattle.commit_laws.proofs.CoordRules.{goes-when, goes-pick, of-same, acked-on, calm-standing, calm-acked, silently, ignored, each-map, IsOwed, all-owed, news-owed, by-go, by-dues, by-inquiry, by-fate}
 use Rattle.commit_laws.proofs.CoordEnds.{end-part, acked-off, decided-standing, other-standing, by-aborts}
 
 -- a commit at the last yes vote

@@ -1,43 +1,29 @@
 -- Decisions, votes, acknowledgements and restarts of the coordinator, and then each event: the facts on one attempt hold of every line that
 -- no stop ends.
-use Rattle.std.proofs.Common.{◌≡◌, ℕ, ◌+◌, ◌⊎◌, inl, inr, Bool, true, false, cond, not, ◌&&◌, ◌||◌, ◌==◌, is_some, is_none, Option, Some, None, List, [], ◌∷◌, ◌++◌, map, refl, sym, ap, subst, ◌∙◌}
-use Rattle.std.proofs.lemmas.Bool.{and_parts, and_right, or_left}
-use Rattle.mdb_base.specs.declared.acts.Step.{Step}
+use Rattle.std.proofs.Common.{◌≡◌, inl, Bool, true, false, cond, ◌&&◌, ◌||◌, is_some, Option, Some, List, [], ◌∷◌, refl, ap, ◌∙◌}
 use Rattle.mdb_base.specs.declared.names.SiteId.{SiteId}
-use Rattle.mdb_base.specs.declared.names.SiteTicket.{SiteTicket}
 use Rattle.mdb_base.specs.declared.names.Tid.{Tid}
-use Rattle.mdb_base.specs.declared.replies.Reply.{Reply}
-use Rattle.mdb_base.specs.declared.replies.Reply.TheVariants as Reply_is
-use Rattle.mdb_base.specs.declared.replies.Why.TheVariants as Because
-use Rattle.mdb_base.specs.Names.{same_tid, same_site}
-use Rattle.mdb_base.specs.Words.{Each, Among, those}
-use Rattle.mdb_base.proofs.ListLaws.{each_map, each_all, append_each, those_pass, each_filtered}
-use Rattle.mdb_base.proofs.NameLaws.{same_tid-equal, same_tid-refl}
-use Rattle.order_laws.specs.Search.{cycle_through}
-use Rattle.order_laws.specs.Tickets.{edge_between}
+use Rattle.mdb_base.specs.Names.{same_tid}
+use Rattle.mdb_base.specs.Words.{Each}
+use Rattle.mdb_base.proofs.ListLaws.{each_all}
+use Rattle.mdb_base.proofs.NameLaws.{same_tid-refl}
 use Rattle.presumptions.specs.declared.Decision.{Decision}
 use Rattle.presumptions.specs.declared.Decision.TheVariants as Decided
 use Rattle.presumptions.specs.declared.Participant.{Participant}
 use Rattle.fed_rules.specs.declared.answers.Answer.TheVariants as Say
 use Rattle.fed_rules.specs.declared.answers.Cause.{Cause}
-use Rattle.fed_rules.specs.declared.answers.Cause.TheVariants as For
 use Rattle.fed_rules.specs.declared.events.CoordEvent.{CoordEvent}
-use Rattle.fed_rules.specs.declared.events.CoordEvent.TheVariants as Ev
-use Rattle.fed_rules.specs.declared.messages.Due.{Due}
-use Rattle.fed_rules.specs.declared.messages.Due.TheVariants as Due_is
-use Rattle.fed_rules.specs.declared.messages.FromSite.{FromSite}
-use Rattle.fed_rules.specs.declared.messages.FromSite.TheVariants as From
 use Rattle.fed_rules.specs.declared.records.CoordRecord.{CoordRecord}
 use Rattle.fed_rules.specs.declared.records.CoordRecord.TheVariants as Rec
-use Rattle.fed_rules.specs.Disk.{Call, Append, Sync, CutBack, is_torn}
-use Rattle.fed_rules.specs.Happenings.{quiet, stops, comes_up}
-use Rattle.fed_rules.specs.Coord.{all_outstanding, news, end_calls, forgets_at_once, decide_to, aborts, commits_it, did_counts, did_reply, of_did, all_voted, vote_tickets, last_vote, yes_vote, is_due_vote, vote_counts, vote_counted, of_vote, missing, is_member, ack_counts, acked_while, of_ack, of_take, again_while, of_again, of_late, late_ends, of_back, answered, fits}
-use Rattle.fed_rules.specs.CoordPast.{CoordHappening, CoordPast, disk, records, Standing, Undecided, Decided, Gone, standing, moved, is_about, is_undecided, decides, acks_in, has_acked, participants, outstanding, epoch_at, oldest_first}
-use Rattle.fed_rules.specs.CoordRecords.{coord_frame, initiated, initiated_tids, outcome, required, is_nobody, ends_at_once, commits, has_end}
-use Rattle.commit_laws.specs.Records.{IsEnd, IsCommit}
+use Rattle.fed_rules.specs.Disk.{Call, Append}
+use Rattle.fed_rules.specs.Happenings.{stops, comes_up}
+use Rattle.fed_rules.specs.Coord.{end_calls, forgets_at_once, aborts}
+use Rattle.fed_rules.specs.CoordPast.{CoordHappening, CoordPast, disk, records, Decided, Gone, standing, moved, is_about, decides, acks_in, has_acked, participants}
+use Rattle.fed_rules.specs.CoordRecords.{coord_frame, initiated, required, is_nobody}
+use Rattle.commit_laws.specs.Records.{IsEnd}
 use Rattle.commit_laws.proofs.Disks.{appended, IsQuiet, quiet-plain, plain-records}
-use Rattle.commit_laws.proofs.CoordFacts.{IsOpen, IsInitiation, IsUnmarked, IsUncommitted, IsCommitting, IsEnding, AtCommit, AtAbort, AtAck, AtBack, WroteAll, IsDecidedBy, Stands, Same, Decides, Forgets, Restarts, IsTelling, Now, Known, Tells, Counted, Goes}
-use Rattle.commit_laws.proofs.CoordRules.{goes-when, goes-pick, of-same, standing-on, acked-on, calm-standing, calm-acked, quietly, silently, ignored, IsNoAck, each-map, IsOwed, all-owed, news-owed, by-go, by-dues, by-inquiry, by-fate}
+use Rattle.commit_laws.proofs.CoordFacts.{IsOpen, IsInitiation, IsUnmarked, IsUncommitted, IsEnding, AtAbort, WroteAll, Stands, Same, Decides, IsTelling, Now, Tells, Counted, Goes}
+use Rattle.commit_laws.proofs.CoordRules.{of-same, standing-on, acked-on, IsNoAck, each-map}
 
 -- the calls of a decision that may forget at once
 pub end-part : (P : List (Call CoordRecord) → Type 0) (t : Tid) (f i : Bool) → (f ≡ true → i ≡ true → P (Append (Rec.End t) ∷ [])) → P [] → P (cond f (cond i (Append (Rec.End t) ∷ []) []) [])

@@ -1,5 +1,5 @@
 -- Every line of the coordinator, also one that a stop ends: what it leaves on the disk and what it does about one attempt.
-use Rattle.std.proofs.Common.{◌≡◌, ℕ, ◌⊎◌, inl, inr, Bool, true, false, ◌||◌, nat_le, Option, Some, None, List, [], ◌∷◌, ◌++◌, take, length, refl, sym, ap, subst, ◌∙◌}
+use Rattle.std.proofs.Common.{◌≡◌, ℕ, ◌⊎◌, inl, inr, Bool, true, false, ◌||◌, nat_le, Option, Some, None, List, [], ◌∷◌, ◌++◌, take, length, refl, sym, subst}
 use Rattle.mdb_base.specs.declared.names.SiteId.{SiteId}
 use Rattle.mdb_base.specs.declared.names.Tid.{Tid}
 use Rattle.mdb_base.specs.Words.{Each, Among, when}
@@ -15,7 +15,7 @@ use Rattle.fed_rules.specs.Happenings.{Trip, is_down, stops, comes_up, quiet, st
 use Rattle.fed_rules.specs.Coord.{coord_line, answered, of_back}
 use Rattle.fed_rules.specs.CoordPast.{CoordHappening, CoordPast, disk, records, trip, standing, kept_standing, begins, counts, has_acked}
 use Rattle.fed_rules.specs.CoordRecords.{coord_frame}
-use Rattle.rules_laws.specs.Durable.{IsFirm, IsFrontOf}
+use Rattle.rules_laws.specs.Durable.{IsFirm}
 use Rattle.commit_laws.specs.Records.{IsEnd, IsCommit}
 use Rattle.commit_laws.proofs.Lists.{among-left}
 use Rattle.commit_laws.proofs.Disks.{appended, IsCut, Keeps, left-by-line, left-by-stop, quiet-plain, plain-records}

@@ -1,18 +1,12 @@
 -- What holds of one attempt in the coordinator's past, with respect to one site: the coordinator's part of the invariant.
-use Rattle.std.proofs.Common.{◌≡◌, ℕ, ◌<◌, ◌⊎◌, inl, inr, Bool, true, false, cond, Option, Some, None, List, [], ◌∷◌, ◌++◌, refl, sym, ap, subst, ◌∙◌}
-use Rattle.std.proofs.lemmas.Bool.{and_parts}
+use Rattle.std.proofs.Common.{◌≡◌, ℕ, ◌<◌, ◌⊎◌, inl, inr, Bool, true, false, cond, Some, List, [], ◌∷◌, ◌++◌, sym, ap, subst, ◌∙◌}
 use Rattle.mdb_base.specs.declared.acts.Step.{Step}
 use Rattle.mdb_base.specs.declared.names.SiteId.{SiteId}
 use Rattle.mdb_base.specs.declared.names.Tid.{Tid}
-use Rattle.mdb_base.specs.Names.{same_tid, same_site}
-use Rattle.mdb_base.specs.Words.{Each, Among}
-use Rattle.mdb_base.proofs.NameLaws.{same_tid-equal, same_tid-refl, tests_agree}
+use Rattle.mdb_base.specs.Words.{Among}
 use Rattle.presumptions.specs.declared.Decision.{Decision}
 use Rattle.presumptions.specs.declared.Participant.{Participant}
-use Rattle.presumptions.specs.declared.Protocol.{Protocol}
 use Rattle.presumptions.specs.Table.{acks}
-use Rattle.fed_rules.specs.declared.answers.Answer.{Answer}
-use Rattle.fed_rules.specs.declared.answers.Answer.TheVariants as Say
 use Rattle.fed_rules.specs.declared.events.CoordEvent.{CoordEvent}
 use Rattle.fed_rules.specs.declared.events.CoordEvent.TheVariants as Ev
 use Rattle.fed_rules.specs.declared.messages.FromSite.TheVariants as From
@@ -20,18 +14,17 @@ use Rattle.fed_rules.specs.declared.records.CoordRecord.{CoordRecord}
 use Rattle.fed_rules.specs.declared.records.CoordRecord.TheVariants as Rec
 use Rattle.fed_rules.specs.declared.scenario.Scenario.{Scenario}
 use Rattle.fed_rules.specs.Coord.{missing}
-use Rattle.fed_rules.specs.CoordPast.{CoordHappening, CoordPast, disk, records, Standing, Undecided, Decided, Gone, standing, kept_standing, is_undecided, begins, participants, program, program_in, or_steps, visits, attempts_of}
-use Rattle.fed_rules.specs.CoordRecords.{coord_frame, has_commit, outcome, is_nobody, is_kept}
+use Rattle.fed_rules.specs.CoordPast.{CoordHappening, CoordPast, disk, records, Decided, Gone, standing, kept_standing, is_undecided, begins, participants, program, program_in, or_steps, visits, attempts_of}
+use Rattle.fed_rules.specs.CoordRecords.{coord_frame, outcome, is_nobody, is_kept}
 use Rattle.fed_rules.specs.Scenarios.{protocols}
 use Rattle.fed_rules.specs.SiteRecords.{Home}
 use Rattle.rules_laws.specs.Durable.{IsFirm}
 use Rattle.commit_laws.specs.Records.{IsEnd, IsCommit}
-use Rattle.commit_laws.proofs.Disks.{appended, IsCut}
 use Rattle.commit_laws.proofs.Links.{IsGlobal}
-use Rattle.commit_laws.proofs.Lists.{among-split, among-right, each-not, cut-old, cut-stays}
-use Rattle.commit_laws.proofs.CoordFacts.{IsOpen, IsInitiation, IsCommitting, IsEnding, AtCommit, AtAbort, AtAck, AtBack, Wrote, WroteAll, Stands, Same, Starts, Decides, Forgets, Restarts}
-use Rattle.commit_laws.proofs.CoordLines.{Kept, Stood, Stopped, Through, Line}
-use Rattle.commit_laws.proofs.CoordLists.{IsInitiationOf, IsEndOf, same-of, commit-among, among-commit}
+use Rattle.commit_laws.proofs.Lists.{among-split, among-right, cut-old, cut-stays}
+use Rattle.commit_laws.proofs.CoordFacts.{IsOpen, IsInitiation, IsCommitting, WroteAll, Same, Starts, Decides, Forgets, Restarts}
+use Rattle.commit_laws.proofs.CoordLines.{Kept, Stood, Stopped, Through}
+use Rattle.commit_laws.proofs.CoordLists.{IsInitiationOf, IsEndOf, same-of}
 
 -- the attempt was begun
 abbrev pub IsBegun : CoordPast → Tid → Type 0

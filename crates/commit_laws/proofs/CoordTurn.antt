@@ -1,42 +1,36 @@
 -- A line of the coordinator keeps its part of the invariant: what was begun, decided, committed and initiated.
-use Rattle.std.proofs.Common.{◌≡◌, ℕ, suc, ◌<◌, ◌≤◌, ◌⊎◌, inl, inr, Bool, true, false, cond, not, ◌&&◌, is_some, arith, Option, Some, None, List, [], ◌∷◌, ◌++◌, refl, sym, ap, subst, ◌∙◌}
+use Rattle.std.proofs.Common.{◌≡◌, suc, ◌<◌, ◌≤◌, inl, inr, Bool, true, false, cond, not, is_some, arith, Option, Some, None, List, [], ◌∷◌, ◌++◌, refl, sym, ap, subst, ◌∙◌}
 use Rattle.std.proofs.lemmas.Bool.{and_parts, eq-eqb, not-true}
 use Rattle.mdb_base.specs.declared.acts.Step.{Step}
-use Rattle.mdb_base.specs.declared.names.SiteId.{SiteId}
 use Rattle.mdb_base.specs.declared.names.Tid.{Tid}
 use Rattle.mdb_base.specs.declared.names.Tx.{Tx}
-use Rattle.mdb_base.specs.Names.{same_tid, same_site, same_tx}
-use Rattle.mdb_base.specs.Words.{Each, Among, how_many, with_some}
-use Rattle.mdb_base.proofs.NameLaws.{same_tid-equal, same_tid-refl, tests_agree}
+use Rattle.mdb_base.specs.Names.{same_tx}
+use Rattle.mdb_base.specs.Words.{Among, how_many, with_some}
+use Rattle.mdb_base.proofs.NameLaws.{same_tid-equal, tests_agree}
 use Rattle.presumptions.specs.declared.Decision.{Decision}
 use Rattle.presumptions.specs.declared.Decision.TheVariants as Decided
 use Rattle.presumptions.specs.declared.Participant.{Participant}
-use Rattle.presumptions.specs.declared.Protocol.{Protocol}
-use Rattle.presumptions.specs.Table.{acks}
 use Rattle.fed_rules.specs.declared.answers.Answer.{Answer}
 use Rattle.fed_rules.specs.declared.answers.Answer.TheVariants as Say
 use Rattle.fed_rules.specs.declared.events.CoordEvent.{CoordEvent}
 use Rattle.fed_rules.specs.declared.events.CoordEvent.TheVariants as Ev
-use Rattle.fed_rules.specs.declared.messages.FromSite.TheVariants as From
 use Rattle.fed_rules.specs.declared.records.CoordRecord.{CoordRecord}
 use Rattle.fed_rules.specs.declared.records.CoordRecord.TheVariants as Rec
 use Rattle.fed_rules.specs.declared.scenario.Scenario.{Scenario}
-use Rattle.fed_rules.specs.Coord.{missing}
-use Rattle.fed_rules.specs.CoordPast.{CoordHappening, CoordPast, disk, records, Standing, Undecided, Decided, Gone, standing, kept_standing, is_undecided, begins, participants, participants_of, program, visits, attempts_of, begun_by, begun_tids, vote_at}
-use Rattle.fed_rules.specs.CoordRecords.{coord_frame, initiated, has_commit, has_end, outcome, required_of, required, is_nobody, is_kept}
+use Rattle.fed_rules.specs.CoordPast.{CoordHappening, CoordPast, records, Undecided, Decided, Gone, standing, is_undecided, begins, participants, participants_of, program, visits, attempts_of, begun_by, begun_tids, vote_at}
+use Rattle.fed_rules.specs.CoordRecords.{initiated, has_commit, has_end, outcome, required_of, required, is_nobody, is_kept}
 use Rattle.fed_rules.specs.Scenarios.{protocols}
 use Rattle.fed_rules.specs.SiteRecords.{Home}
-use Rattle.rules_laws.specs.Durable.{IsFirm}
-use Rattle.commit_laws.specs.Records.{IsEnd, IsCommit}
-use Rattle.commit_laws.proofs.Disks.{appended, IsCut}
+use Rattle.commit_laws.specs.Records.{IsCommit}
+use Rattle.commit_laws.proofs.Disks.{appended}
 use Rattle.commit_laws.proofs.Links.{IsGlobal}
-use Rattle.commit_laws.proofs.Lists.{among-split, among-right, each-not, cut-old, cut-stays}
-use Rattle.commit_laws.proofs.CoordFacts.{IsOpen, IsInitiation, IsUnmarked, IsUncommitted, IsDecidedBy, IsCommitting, IsEnding, AtCommit, AtAbort, AtAck, AtBack, Wrote, WroteAll, Stands, Same, Starts, Decides, Forgets, Restarts}
-use Rattle.commit_laws.proofs.CoordLines.{Kept, Stood, Stopped, Through, Line}
-use Rattle.commit_laws.proofs.CoordLists.{IsInitiationOf, IsEndOf, same-of, commit-among, among-commit, end-among, initiation-of, among-initiated, initiation-is, some-initiation, initiated-behind, outcome-behind, outcome-is, ends-uncommitted, ends-uninitiated, decided-outcome, those-among, nobody-none, is-required}
+use Rattle.commit_laws.proofs.Lists.{among-split, each-not}
+use Rattle.commit_laws.proofs.CoordFacts.{IsOpen, IsUnmarked, IsCommitting, IsEnding, AtCommit, AtAbort, AtAck, AtBack, WroteAll, Same, Starts, Decides, Forgets, Restarts}
+use Rattle.commit_laws.proofs.CoordLines.{Stood, Stopped, Through, Line}
+use Rattle.commit_laws.proofs.CoordLists.{IsInitiationOf, same-of, commit-among, among-commit, initiation-of, among-initiated, some-initiation, decided-outcome, those-among}
 use Rattle.fed_rules.specs.Happenings.{quiet}
-use Rattle.commit_laws.proofs.CoordSound.{Declared, IsBegun, IsYes, IsAcked, IsMark, IsClear, CoordSound, kept-from, kept-stays, end-commit, end-initiation, end-initiation-of, commit-mark, end-mark, written-commit, written-initiation, kept-not-open, decided-not-open, still-open, begins-go, program-stays}
-use Rattle.commit_laws.proofs.Taken.{acked-taken, vote-taken, each-of-at}
+use Rattle.commit_laws.proofs.CoordSound.{Declared, IsBegun, IsYes, IsMark, CoordSound, kept-from, kept-stays, end-commit, commit-mark, written-commit, written-initiation, kept-not-open, decided-not-open, still-open, begins-go, program-stays}
+use Rattle.commit_laws.proofs.Taken.{vote-taken, each-of-at}
 
 -- the next line of a coordinator of which the invariant holds
 pub record Turn (scenario : Scenario) (home : Home) (g : Tid) (past : CoordPast) (event : CoordEvent) (x : CoordHappening) : Type 0 where
@@ -97,8 +91,8 @@ pub turn-numbered : (scenario : Scenario) (home : Home) (g : Tid) (past : CoordP
 turn-numbered scenario home g past event x t (inl b) =
     let new = (begins-new scenario home g past event x t b).0 in
     let one : attempts_of (x ∷ past) g.tx ≡ suc (attempts_of past g.tx) =
-        ap (λ a. how_many (λ u. same_tx u.tx g.tx) (with_some (begun_by a) (begun_tids past))) (begun-answer g x.answer b)
-        ∙ ap (λ c. cond c (suc (attempts_of past g.tx)) (attempts_of past g.tx)) (eq-eqb g.tx.0 g.tx.0 refl) in
+    ap (λ a. how_many (λ u. same_tx u.tx g.tx) (with_some (begun_by a) (begun_tids past))) (begun-answer g x.answer b)
+    ∙ ap (λ c. cond c (suc (attempts_of past g.tx)) (attempts_of past g.tx)) (eq-eqb g.tx.0 g.tx.0 refl) in
     omega (arith, new, one)
 turn-numbered scenario home g past event x t (inr begun) =
     let less = t.sound.numbered begun in
@@ -195,7 +189,7 @@ turn-decided scenario home g past event x t d is = by_stood t.line.stood where
   by_stood (Through (Decides made f o b e n by a i) r) = (
     inr (t.sound.undecided o),
     (let same : made ≡ d = of_cond f (sym e ∙ is) in
-    sym same ∙ sym (ap (λ rs. outcome rs g) r ∙ decided-outcome g made (appended x.calls []) (records past) (uncommitted-of scenario home g past t.sound o) by)),
+        sym same ∙ sym (ap (λ rs. outcome rs g) r ∙ decided-outcome g made (appended x.calls []) (records past) (uncommitted-of scenario home g past t.sound o) by)),
   ) where
     of_cond : (b : Bool) → cond b Gone (Decided made) ≡ Decided d → made ≡ d
     of_cond true h = cc
@@ -213,8 +207,8 @@ is-participant scenario home past g declared v =
 pub turn-voted : (scenario : Scenario) (home : Home) (g : Tid) (past : CoordPast) (event : CoordEvent) (x : CoordHappening) → Turn scenario home g past event x → Declared scenario home → Among (IsCommit g) (records (x ∷ past)) → visits home.site (program (x ∷ past) g) ≡ true → Among (λ y. IsYes g home.site y.event) (x ∷ past)
 turn-voted scenario home g past event x t declared m v = elim (kept-from (protocols scenario) g past event (records (x ∷ past)) (IsCommit g) t.line.kept m) [
   | inl i ↦
-    let begun = (t.sound.marked (commit-mark g (records past) i)).0 in
-    inr (t.sound.voted declared i (ap (visits home.site) (sym (same-program scenario home g past event x t begun)) ∙ v))
+      let begun = (t.sound.marked (commit-mark g (records past) i)).0 in
+      inr (t.sound.voted declared i (ap (visits home.site) (sym (same-program scenario home g past event x t begun)) ∙ v))
   | inr (kept, w, e, i) ↦ by_commit (written-commit (protocols scenario) g past event kept w i)
 ] where
   by_commit : IsCommitting (protocols scenario) g past event → Among (λ y. IsYes g home.site y.event) (x ∷ past)
@@ -222,7 +216,7 @@ turn-voted scenario home g past event x t declared m v = elim (kept-from (protoc
       let visited = ap (visits home.site) (sym (same-program scenario home g past event x t (t.sound.undecided c.undecided))) ∙ v in
       let now : CoordPast = quiet event Say.Voted ∷ past in
       let voted = each-of-at (λ s. is_some (vote_at now g s)) home.site (λ k. (k.site ≡ home.site) × (k.protocol ≡ home.protocol)) (λ k is. is.0)
-          (participants (protocols scenario) past g) c.all (is-participant scenario home past g declared visited) in
+      (participants (protocols scenario) past g) c.all (is-participant scenario home past g declared visited) in
       elim (vote-taken now g home.site voted) [
         | inl y ↦ inl (y.0, t.line.is ∙ y.1)
         | inr i ↦ inr i

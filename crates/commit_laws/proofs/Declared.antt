@@ -1,5 +1,5 @@
 -- A declared site is one of the participants that the coordinator knows, with its own protocol.
-use Rattle.std.proofs.Common.{◌≡◌, ◌⊎◌, inl, inr, Bool, true, false, cond, nat_lt, ltb-true, arith, Some, None, List, [], ◌∷◌, refl, sym, ap, subst, ◌∙◌}
+use Rattle.std.proofs.Common.{◌≡◌, inl, inr, Bool, true, false, cond, nat_lt, ltb-true, arith, Some, List, [], ◌∷◌, refl, sym, ap, ◌∙◌}
 use Rattle.mdb_base.specs.declared.names.SiteId.{SiteId}
 use Rattle.mdb_base.specs.Names.{same_site}
 use Rattle.mdb_base.specs.Words.{Among, inserted}
@@ -11,7 +11,7 @@ use Rattle.fed_rules.specs.declared.scenario.SiteLine.{SiteLine}
 use Rattle.fed_rules.specs.Coord.{protocol_of}
 use Rattle.fed_rules.specs.Scenarios.{home_in, home_of, items_of, protocols_in, protocols}
 use Rattle.fed_rules.specs.SiteRecords.{Home}
-use Rattle.commit_laws.proofs.Links.{some-parts, same-site, same-site-refl}
+use Rattle.commit_laws.proofs.Links.{some-parts, same-site}
 
 abbrev pub by_site : Participant → Participant → Bool
 by_site a b = nat_lt a.site.0 b.site.0
@@ -72,9 +72,10 @@ declared-in (line ∷ lines) items site home e = by_test (same_site line.site si
 
   by_test : (b : Bool) → same_site line.site site ≡ b → cond b (Some here) (home_in lines items site) ≡ Some home → (home_in lines items site ≡ Some home → Among (Is site home.protocol) (protocols_in lines) × (protocol_of (protocols_in lines) site ≡ home.protocol)) → Among (Is site home.protocol) (inserted by_site member (protocols_in lines)) × (protocol_of (inserted by_site member (protocols_in lines)) site ≡ home.protocol)
   by_test true q e k =
-      let same : here ≡ home = some-parts e in
-      (inserted-here (Is site home.protocol) member (protocols_in lines) (same-site line.site site q, ap (λ h. h.protocol) same),
-      found-first site member (protocols_in lines) q ∙ ap (λ h. h.protocol) same)
+      let same : here ≡ home = some-parts e in (
+        inserted-here (Is site home.protocol) member (protocols_in lines) (same-site line.site site q, ap (λ h. h.protocol) same),
+        found-first site member (protocols_in lines) q ∙ ap (λ h. h.protocol) same,
+      )
   by_test false q e k =
       let r = k e in
       (inserted-there (Is site home.protocol) member (protocols_in lines) r.0, found-other site member (protocols_in lines) q ∙ r.1)

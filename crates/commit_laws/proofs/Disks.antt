@@ -1,7 +1,6 @@
 -- What a line's disk calls leave. A line that a stop ends keeps the oldest of the records that it appends, or it loses loose ones before them.
 use Rattle.std.proofs.Common.{◌≡◌, ℕ, zero, suc, ◌+◌, ◌≤◌, ◌⊎◌, inl, inr, min, Bool, true, false, cond, nat_le, List, [], ◌∷◌, ◌++◌, take, refl, sym, ap, subst, ◌∙◌, arith}
-use Rattle.std.proofs.lemmas.Bool.{leb-true}
-use Rattle.mdb_base.specs.Words.{Each, Among}
+use Rattle.mdb_base.specs.Words.{Each}
 use Rattle.fed_rules.specs.Disk.{Disk, Call, Append, Sync, CutBack, Stops, bytes_of, whole, after_call, after_calls}
 use Rattle.rules_laws.specs.Durable.{IsSound, LooseFirst, IsFirm, IsFrontOf}
 use Rattle.commit_laws.proofs.Durable.{whole-all, sound-call, all-synced, firm-append, firm-sync, firm-cut, firm-stop}

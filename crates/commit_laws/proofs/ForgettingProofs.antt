@@ -1,29 +1,26 @@
 -- The coordinator forgets an attempt exactly when its required acknowledgements are in, and answers inquiries about it rightly.
-use Rattle.std.proofs.Common.{◌≡◌, ◌⊎◌, inl, inr, Bool, true, false, cond, not, ◌||◌, Option, Some, None, List, [], ◌∷◌, ◌++◌, refl, sym, ap, subst, ◌∙◌}
-use Rattle.mdb_base.specs.declared.names.SiteId.{SiteId}
+use Rattle.std.proofs.Common.{◌≡◌, inl, inr, Bool, true, false, cond, not, ◌&&◌, ◌||◌, Option, Some, None, List, [], ◌∷◌, refl, sym, ap, subst, ◌∙◌}
 use Rattle.mdb_base.specs.declared.names.Tid.{Tid}
-use Rattle.mdb_base.specs.Words.{Among, those}
+use Rattle.mdb_base.specs.Words.{those}
 use Rattle.order_laws.specs.Chains.{In}
-use Rattle.presumptions.specs.declared.Decision.{Decision}
 use Rattle.presumptions.specs.declared.Participant.{Participant}
 use Rattle.presumptions.specs.Table.{acks, presumed}
 use Rattle.fed_rules.specs.declared.answers.Answer.TheVariants as Say
 use Rattle.fed_rules.specs.declared.commands.Command.{Command}
 use Rattle.fed_rules.specs.declared.events.CoordEvent.{CoordEvent}
-use Rattle.fed_rules.specs.declared.events.CoordEvent.TheVariants as Ev
 use Rattle.fed_rules.specs.declared.messages.FromSite.TheVariants as From
 use Rattle.fed_rules.specs.declared.records.CoordRecord.{CoordRecord}
 use Rattle.fed_rules.specs.declared.scenario.Scenario.{Scenario}
 use Rattle.fed_rules.specs.Coord.{missing, of_inquiry, asked_while, tells, protocol_of}
 use Rattle.fed_rules.specs.CoordPast as Coordinator
-use Rattle.fed_rules.specs.CoordPast.{CoordHappening, CoordPast, Standing, Undecided, Decided, Gone, standing, is_known, is_undecided, program, visits, has_acked, participants}
+use Rattle.fed_rules.specs.CoordPast.{CoordHappening, CoordPast, Standing, Undecided, Decided, Gone, standing, is_known, is_undecided, program, visits, is_about, decides, acks_in, has_acked, participants}
 use Rattle.fed_rules.specs.CoordRecords.{initiated, outcome, required_of, required, is_nobody}
 use Rattle.fed_rules.specs.Happenings.{stops, comes_up, quiet}
 use Rattle.fed_rules.specs.Scenarios.{home_of, protocols}
 use Rattle.fed_rules.specs.SitePast.{records}
 use Rattle.fed_rules.specs.SiteRecords.{Home, Held, doubt_of}
-use Rattle.fed_rules.specs.Story.{AtCoordinator, coord_past, past_of, sent_to, sent_from, happens, story_of}
-use Rattle.commit_laws.specs.Forgetting.{IsNextOfCoordinator, KnownWhileMissing, ForgottenWhenNoneIsMissing, ForgottenAreAcknowledged, PresumptionsAreRight, InquiriesAreAnsweredTheOutcome}
+use Rattle.fed_rules.specs.Story.{AtCoordinator, coord_past, past_of, sent_to, sent_from, story_of}
+use Rattle.commit_laws.specs.Forgetting.{IsNextOfCoordinator, KnownWhileMissing, ForgottenWhenNoneIsMissing, RestartsCountAnew, ForgottenAreAcknowledged, PresumptionsAreRight, InquiriesAreAnsweredTheOutcome}
 use Rattle.commit_laws.specs.Outcomes.{coordinator_keeps}
 use Rattle.commit_laws.proofs.Agree.{Agree}
 use Rattle.commit_laws.proofs.AgreeCoord.{presumes-right}
@@ -81,6 +78,16 @@ forgotten-when-none-is-missing scenario commands x next on tid before behind =
     let (event, t) = next-turn scenario commands x next tid in
     forgotten scenario (coord_past (story_of scenario commands)) event x tid t on before behind
 
+pub restarts-count-anew : RestartsCountAnew
+restarts-count-anew scenario commands x next off tid decision =
+    all-missing tid (x ∷ coord_past (story_of scenario commands)) decision
+    (λ site. none (stops x.answer) (comes_up x.answer) (is_about tid x.event && decides x.answer) (acks_in tid site x || has_acked (coord_past (story_of scenario commands)) tid site) off)
+  where
+    none : (s c d h : Bool) → (s || c) ≡ true → cond (s || c || d) false h ≡ false
+    none true c d h e = refl
+    none false true d h e = refl
+    none false false d h e = cc
+
 -- a site in doubt has the right presumption
 presumes : (scenario : Scenario) (commands : List Command) (home : Home) → home_of scenario home.site ≡ Some home → (tid : Tid) → standing (coord_past (story_of scenario commands)) tid ≡ Gone → (held : Held) → doubt_of (records home (past_of home.site (story_of scenario commands))) tid ≡ Some held → presumed home.protocol ≡ outcome (coordinator_keeps scenario commands) tid
 presumes scenario commands home declared tid gone held doubt =
@@ -100,7 +107,7 @@ pub inquiries-are-answered-the-outcome : InquiriesAreAnsweredTheOutcome
 unfolding of_inquiry asked_while
 inquiries-are-answered-the-outcome scenario commands site home declared tid gone held doubt =
     let known : presumed (protocol_of (protocols scenario) site) ≡ outcome (coordinator_keeps scenario commands) tid =
-        ap presumed (is-declared scenario site home declared).1 ∙ presumptions-are-right scenario commands site home declared tid gone held doubt in
+    ap presumed (is-declared scenario site home declared).1 ∙ presumptions-are-right scenario commands site home declared tid gone held doubt in
     ap (asked_while (protocols scenario) site tid) gone ∙ ap (λ d. tells site tid (Say.Presumes d) d) known
 
 -- a required participant of an attempt that isn't known has acknowledged

@@ -1,5 +1,5 @@
 -- Facts among the items of joined lists, and of a list whose newest loose records are gone.
-use Rattle.std.proofs.Common.{◌≡◌, ◌⊎◌, inl, inr, Bool, true, false, cond, not, List, [], ◌∷◌, ◌++◌, refl, sym, ap, subst}
+use Rattle.std.proofs.Common.{◌≡◌, ◌⊎◌, inl, inr, Bool, true, false, cond, List, [], ◌∷◌, ◌++◌, refl, sym, ap, subst}
 use Rattle.mdb_base.specs.Words.{Each, Among, those}
 use Rattle.commit_laws.proofs.Disks.{IsCut}
 

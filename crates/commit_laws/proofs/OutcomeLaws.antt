@@ -1,16 +1,10 @@
 -- All sites that settle an attempt settle it alike.
-use Rattle.std.proofs.Common.{◌≡◌, ◌↔◌, Bool, true, false, cond, Some, List, refl, sym, ap, subst, ◌∙◌}
-use Rattle.mdb_base.specs.declared.names.SiteId.{SiteId}
+use Rattle.std.proofs.Common.{◌≡◌, Bool, true, false, cond, List, refl, sym, subst, ◌∙◌}
 use Rattle.mdb_base.specs.declared.names.Tid.{Tid}
 use Rattle.mdb_base.specs.Words.{Among}
-use Rattle.presumptions.specs.declared.Decision.{Decision}
 use Rattle.presumptions.specs.declared.Decision.TheVariants as Decided
-use Rattle.fed_rules.specs.declared.commands.Command.{Command}
 use Rattle.fed_rules.specs.declared.records.CoordRecord.{CoordRecord}
-use Rattle.fed_rules.specs.declared.scenario.Scenario.{Scenario}
 use Rattle.fed_rules.specs.CoordRecords.{has_commit, outcome}
-use Rattle.fed_rules.specs.Scenarios.{home_of}
-use Rattle.fed_rules.specs.SiteRecords.{Home}
 use Rattle.fed_rules.specs.Story.{past_of, story_of}
 use Rattle.commit_laws.specs.Outcomes.{coordinator_keeps, Settles, SettlesSayTheOutcome, SettlesCommitWhereKept, SitesAgree}
 use Rattle.commit_laws.specs.Records.{IsCommit}

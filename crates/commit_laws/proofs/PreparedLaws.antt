@@ -1,5 +1,5 @@
 -- A commit decision finds each participant prepared.
-use Rattle.std.proofs.Common.{◌≡◌, ℕ, ◌⊎◌, inl, inr, Bool, true, false, cond, Option, Some, None, List, [], ◌∷◌, refl, sym, ap, subst, ◌∙◌}
+use Rattle.std.proofs.Common.{◌≡◌, ℕ, ◌⊎◌, inl, inr, Bool, true, false, cond, Some, List, [], ◌∷◌, refl, sym, ap, subst, ◌∙◌}
 use Rattle.mdb_base.specs.declared.names.Engine.TheVariants.{Locking}
 use Rattle.mdb_base.specs.declared.names.SiteId.{SiteId}
 use Rattle.mdb_base.specs.declared.names.Tid.{Tid}
@@ -31,9 +31,8 @@ use Rattle.fed_rules.specs.SiteRecords.{Home, site_frame}
 use Rattle.fed_rules.specs.Story.{Happened, AtSite, AtCoordinator, Nowhere, coord_past, past_of, with_coordinator, happens, story_of}
 use Rattle.rules_laws.specs.Durable.{IsSafe, IsFirm}
 use Rattle.commit_laws.specs.Outcomes.{coordinator_keeps}
-use Rattle.commit_laws.specs.Prepared.{IsPreparedForEver, IsPreparedAt, AllPrepared, IsCommitAnswer, DecidesCommit, CommitDecisionsFindAllPrepared, CommitRecordsFindAllPrepared}
+use Rattle.commit_laws.specs.Prepared.{IsPreparedForEver, IsCommitAnswer, DecidesCommit, CommitDecisionsFindAllPrepared, CommitRecordsFindAllPrepared}
 use Rattle.commit_laws.specs.Records.{IsCommit, IsPrepared, IsLooseEnded}
-use Rattle.commit_laws.proofs.Agree.{Agree}
 use Rattle.commit_laws.proofs.Agreed.{agreed, turn, coord-sound}
 use Rattle.commit_laws.proofs.CoordFacts.{Committed}
 use Rattle.commit_laws.proofs.CoordSound.{IsYes, kept-stays, end-commit}

@@ -1,12 +1,12 @@
 -- By the rules themselves, in the form of the wrong ones, the story is the story.
-use Rattle.std.proofs.Common.{◌≡◌, Option, Some, None, List, [], ◌∷◌, refl, sym, ap, subst, ◌∙◌}
+use Rattle.std.proofs.Common.{◌≡◌, List, [], ◌∷◌, refl, sym, ap, subst, ◌∙◌}
 use Rattle.mdb_base.specs.declared.names.Tid.{Tid}
 use Rattle.fed_rules.specs.declared.commands.Command.{Command}
 use Rattle.fed_rules.specs.declared.scenario.Scenario.{Scenario}
 use Rattle.fed_rules.specs.Coord.{coord_line}
-use Rattle.fed_rules.specs.Scenarios.{home_of, protocols}
+use Rattle.fed_rules.specs.Scenarios.{protocols}
 use Rattle.fed_rules.specs.Site.{site_line}
-use Rattle.fed_rules.specs.Story.{Happened, AtSite, AtCoordinator, Nowhere, past_of, coord_past, happens, story_of, tell}
+use Rattle.fed_rules.specs.Story.{Happened, AtSite, AtCoordinator, Nowhere, past_of, coord_past, happens, story_of}
 use Rattle.commit_laws.specs.WrongRules.{at_home, made_by, story_by, right_rules}
 use Rattle.commit_laws.proofs.Agreed.{agreed, coord-sound}
 use Rattle.commit_laws.proofs.CoordLines.{coord-lines}
@@ -23,7 +23,7 @@ made scenario commands (AtSite site x) (home, found, event, is, came) =
     let again = home-again scenario site home found in
     let firm = (agreed scenario home some_attempt commands again).firm in
     let same : x.event ≡ event = ap (λ y. y.event) is ∙ subst (λ s. (site_line home (past_of s (story_of scenario commands)) event).event ≡ event) (its-site scenario site home found)
-        (site-lines home some_attempt (past_of home.site (story_of scenario commands)) event firm).is in
+    (site-lines home some_attempt (past_of home.site (story_of scenario commands)) event firm).is in
     ap (at_home right_rules (story_of scenario commands) site x.event) found
     ∙ ap (AtSite site) (ap (site_line home (past_of site (story_of scenario commands))) same ∙ sym is)
 made scenario commands (AtCoordinator x) (event, is, came) =

@@ -1,7 +1,6 @@
 -- An attempt is sealed at most once at a site; an acknowledged one is over; a commit never meets a live run of the known epoch.
-use Rattle.std.proofs.Common.{◌≡◌, ℕ, ◌<◌, ◌≤◌, ◌⊎◌, inl, inr, Bool, true, false, ◌||◌, is_some, Option, Some, None, List, [], ◌∷◌, refl, sym, ap, subst, ◌∙◌, arith}
+use Rattle.std.proofs.Common.{◌≡◌, ◌<◌, inl, inr, Bool, true, false, ◌||◌, is_some, Option, Some, None, List, refl, sym, ap, subst, ◌∙◌, arith}
 use Rattle.std.proofs.lemmas.Bool.{or_left, or_right}
-use Rattle.mdb_base.specs.declared.names.SiteId.{SiteId}
 use Rattle.mdb_base.specs.declared.names.Tid.{Tid}
 use Rattle.mdb_base.specs.Words.{Each, Among}
 use Rattle.order_laws.specs.Chains.{In}
@@ -18,10 +17,9 @@ use Rattle.fed_rules.specs.CoordPast as Coordinator
 use Rattle.fed_rules.specs.CoordPast.{last_epoch, epoch_at}
 use Rattle.fed_rules.specs.Runs.{Run}
 use Rattle.fed_rules.specs.Scenarios.{home_of}
-use Rattle.fed_rules.specs.Site.{site_line}
 use Rattle.fed_rules.specs.SitePast.{SiteHappening, SitePast, records, epoch, live, is_closed}
 use Rattle.fed_rules.specs.SiteRecords.{Home, Held, doubt_of}
-use Rattle.fed_rules.specs.Story.{Happened, AtSite, coord_past, past_of, sent_to, sent_from, happens, story_of}
+use Rattle.fed_rules.specs.Story.{AtSite, coord_past, past_of, sent_to, sent_from, story_of}
 use Rattle.commit_laws.specs.Seals.{seals, IsPrepareOf}
 use Rattle.commit_laws.specs.SealLaws.{IsNextAt, AttemptsAreSealedOnce, DecidedAreNotSealed, AcknowledgedAreNotInDoubt, AcknowledgedAreNotSealed, CommitsMeetNoLiveRun}
 use Rattle.commit_laws.proofs.Agree.{IsGot, IsOver, Agree}
@@ -30,7 +28,6 @@ use Rattle.commit_laws.proofs.Agreed.{agreed, at-site}
 use Rattle.commit_laws.proofs.Links.{IsNext, linked, linked-here, home-again, its-site, same-site-refl}
 use Rattle.commit_laws.proofs.OutcomeLaws.{outcome-commits}
 use Rattle.commit_laws.proofs.PreparedLaws.{committed-prepared}
-use Rattle.commit_laws.proofs.SiteFacts.{IsSealing}
 use Rattle.commit_laws.proofs.SiteLists.{tidy-doubt, settled-ended}
 use Rattle.commit_laws.proofs.SiteWork.{held-prepared}
 
@@ -66,9 +63,10 @@ over-free scenario commands home tid declared over = by_doubt (doubt_of (records
 sealed-once : (scenario : Scenario) (commands : List Command) (home : Home) → home_of scenario home.site ≡ Some home → (x : SiteHappening) → IsNextAt scenario commands home.site x → (tid : Tid) → seals tid x ≡ true → IsPrepareOf tid (epoch home (past_of home.site (story_of scenario commands))) x.event × Each (λ y. seals tid y ≡ false) (past_of home.site (story_of scenario commands))
 sealed-once scenario commands home declared x next tid e =
     let (event, t) = next-line scenario commands home declared x next tid in
-    let s = t.line.seals e in
-    (subst (IsPrepareOf tid (epoch home (past_of home.site (story_of scenario commands)))) (sym (t.line.is ∙ s.1.taken)) (refl, s.1.epoch),
-    each_from (λ y. seals tid y ≡ false) (past_of home.site (story_of scenario commands)) (λ y i. by_test event t y i (seals tid y) refl))
+    let s = t.line.seals e in (
+      subst (IsPrepareOf tid (epoch home (past_of home.site (story_of scenario commands)))) (sym (t.line.is ∙ s.1.taken)) (refl, s.1.epoch),
+      each_from (λ y. seals tid y ≡ false) (past_of home.site (story_of scenario commands)) (λ y i. by_test event t y i (seals tid y) refl),
+    )
   where
     by_test : (event : SiteEvent) → Next scenario commands home tid event x → (y : SiteHappening) → In y (past_of home.site (story_of scenario commands)) → (b : Bool) → seals tid y ≡ b → seals tid y ≡ false
     by_test event t y i false q = q
@@ -78,16 +76,16 @@ sealed-once scenario commands home declared x next tid e =
         elim sealed.left [
           | inl o ↦ elim o [
             | inl (k, p) ↦
-              let ended = settled-ended tid (records home (past_of home.site (story_of scenario commands))) k p s.doubt in
-              let no = no-seal scenario commands home x tid event t (t.agree.ended ended.0 ended.1).0 in
-              let contra : true ≡ false = sym e ∙ no in cc
+                let ended = settled-ended tid (records home (past_of home.site (story_of scenario commands))) k p s.doubt in
+                let no = no-seal scenario commands home x tid event t (t.agree.ended ended.0 ended.1).0 in
+                let contra : true ≡ false = sym e ∙ no in cc
             | inr down ↦ let up = s.up in let contra : true ≡ false = sym down ∙ up in cc
           ]
           | inr less ↦
-            let p = t.agree.preparing (t.line.seals e).0 s.n (t.comes (To.Prepare tid (t.line.seals e).0 s.n) s.taken) in
-            let named = p.epoch in
-            let here = s.epoch in
-            let no : ⊥ = omega (arith, less, named, here) in absurd no
+              let p = t.agree.preparing (t.line.seals e).0 s.n (t.comes (To.Prepare tid (t.line.seals e).0 s.n) s.taken) in
+              let named = p.epoch in
+              let here = s.epoch in
+              let no : ⊥ = omega (arith, less, named, here) in absurd no
         ]
 
 pub attempts-are-sealed-once : AttemptsAreSealedOnce
@@ -153,10 +151,10 @@ no-live scenario commands home declared x next tid is run alive = by_line (next-
     | inl right ↦ elim a.counted [
       | inl none ↦ let zero_is : epoch_at (coord_past (story_of scenario commands)) tid home.site ≡ 0 = ap last_epoch none in let one = a.started in omega (arith, zero_is, one)
       | inr (one, visited) ↦
-        let kept = outcome-commits (Coordinator.records (coord_past (story_of scenario commands))) tid (sym right) in
-        let p = committed-prepared scenario commands tid home declared kept visited in
-        let ended = settled-ended tid (records home here) p.0 p.1 (free event t) in
-        by_got event t (a.ended ended.0 ended.1).0
+          let kept = outcome-commits (Coordinator.records (coord_past (story_of scenario commands))) tid (sym right) in
+          let p = committed-prepared scenario commands tid home declared kept visited in
+          let ended = settled-ended tid (records home here) p.0 p.1 (free event t) in
+          by_got event t (a.ended ended.0 ended.1).0
     ]
     | inr over ↦ by_got event t over.got
   ]

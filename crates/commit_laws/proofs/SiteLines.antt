@@ -1,7 +1,5 @@
 -- Every line of a site, also one that a stop ends: what it leaves on the disk and what it does about one attempt.
-use Rattle.std.proofs.Common.{◌≡◌, ℕ, zero, suc, ◌||◌, ◌<◌, ◌⊎◌, inl, inr, Bool, true, false, nat_le, Option, Some, None, List, [], ◌∷◌, ◌++◌, take, length, refl, sym, ap, subst, ◌∙◌, arith}
-use Rattle.std.proofs.lemmas.Bool.{and_right}
-use Rattle.mdb_base.specs.declared.acts.PlainAct.{PlainAct}
+use Rattle.std.proofs.Common.{◌≡◌, ℕ, zero, suc, ◌||◌, ◌<◌, ◌⊎◌, inl, inr, Bool, true, false, nat_le, Option, Some, None, List, [], ◌∷◌, ◌++◌, take, length, refl, sym, ap, ◌∙◌}
 use Rattle.mdb_base.specs.declared.names.Tid.{Tid}
 use Rattle.mdb_base.specs.Words.{Each, Among, some_of, when}
 use Rattle.fed_rules.specs.declared.answers.Answer.{Answer}
@@ -14,10 +12,10 @@ use Rattle.fed_rules.specs.Happenings.{Trip, comes_up, is_down, quiet, stopped, 
 use Rattle.fed_rules.specs.Site.{site_line, answered, of_back}
 use Rattle.fed_rules.specs.SitePast.{SiteHappening, SitePast, disk, records, epoch, trip}
 use Rattle.fed_rules.specs.SiteRecords.{Home, site_frame}
-use Rattle.rules_laws.specs.Durable.{IsFirm, IsFrontOf}
+use Rattle.rules_laws.specs.Durable.{IsFirm}
 use Rattle.commit_laws.specs.Records.{IsPrepared, IsLooseEnded}
 use Rattle.commit_laws.specs.Seals.{appends_prepared, seals}
-use Rattle.commit_laws.proofs.Disks.{appended, IsCut, Keeps, Left, left-by-line, left-by-stop, quiet-plain}
+use Rattle.commit_laws.proofs.Disks.{appended, IsCut, Keeps, left-by-line, left-by-stop, quiet-plain}
 use Rattle.commit_laws.proofs.SiteFacts.{IsSealing, Wrote, WroteOne, Says, Settled, NotBegun, Shut, Step}
 use Rattle.commit_laws.proofs.SiteShut.{restored-sealed}
 use Rattle.commit_laws.proofs.SiteEnds.{by-answered, by-back}

@@ -1,6 +1,5 @@
 -- Each rule of a site makes a line of which the facts on one attempt hold.
-use Rattle.std.proofs.Common.{◌≡◌, ℕ, ◌+◌, ◌<◌, ◌⊎◌, inl, inr, Bool, true, false, cond, not, ◌&&◌, ◌||◌, ◌==◌, is_some, Option, Some, None, List, [], ◌∷◌, ◌++◌, refl, sym, ap, subst, ◌∙◌, arith}
-use Rattle.std.proofs.lemmas.Bool.{and_parts, and_right, eqb-true}
+use Rattle.std.proofs.Common.{◌≡◌, ◌⊎◌, inl, inr, Bool, true, false, cond, ◌&&◌, ◌||◌, ◌==◌, is_some, Option, Some, None, List, [], ◌∷◌, ◌++◌, refl, ap, subst, ◌∙◌}
 use Rattle.mdb_base.specs.declared.acts.PlainAct.{PlainAct}
 use Rattle.mdb_base.specs.declared.acts.PlainAct.TheVariants.{Read, Write}
 use Rattle.mdb_base.specs.declared.names.Tid.{Tid}
@@ -11,30 +10,21 @@ use Rattle.mdb_base.specs.declared.replies.Why.{Why}
 use Rattle.mdb_base.specs.declared.replies.Why.TheVariants as Because
 use Rattle.mdb_base.specs.Names.{same_tid}
 use Rattle.mdb_base.specs.Words.{Each, when, pick, some_of}
-use Rattle.mdb_base.proofs.NameLaws.{same_tid-equal, same_tid-refl}
-use Rattle.presumptions.specs.declared.Decision.{Decision}
-use Rattle.presumptions.specs.declared.Decision.TheVariants as Decided
-use Rattle.presumptions.specs.declared.Protocol.{Protocol}
-use Rattle.presumptions.specs.Table.{forces, acks}
+use Rattle.mdb_base.proofs.NameLaws.{same_tid-equal}
 use Rattle.fed_rules.specs.declared.answers.Answer.{Answer}
 use Rattle.fed_rules.specs.declared.answers.Answer.TheVariants as Say
 use Rattle.fed_rules.specs.declared.events.SiteEvent.{SiteEvent}
 use Rattle.fed_rules.specs.declared.events.SiteEvent.TheVariants as Ev
 use Rattle.fed_rules.specs.declared.messages.FromSite.{FromSite}
 use Rattle.fed_rules.specs.declared.messages.FromSite.TheVariants as From
-use Rattle.fed_rules.specs.declared.messages.ToSite.{ToSite}
 use Rattle.fed_rules.specs.declared.messages.ToSite.TheVariants as To
-use Rattle.fed_rules.specs.declared.records.SiteRecord.TheVariants as Rec
-use Rattle.fed_rules.specs.Disk.{Append, Sync, CutBack}
 use Rattle.fed_rules.specs.Happenings.{quiet, stops, comes_up, is_down}
-use Rattle.fed_rules.specs.Replies.{access_reply}
-use Rattle.fed_rules.specs.Runs.{EngineLine, Begins, Acts, Takes, Seals, Refuses, Commits, Aborts, Run, begun, changed, run_at, gives_up, tid_of, puts_of, has_ticket}
-use Rattle.fed_rules.specs.Site.{with_lines, next_number, of_begin, act_answer, reply_to, of_act, refusal_answer, seals_local, of_commit, stop_of, number_of, of_abort, of_fate, did, unknown, first_work, next_work, next_take, ticket_reply_to, repeated, is_of_epoch, is_over, work_live, of_work, take_live, of_take, votes_again, votes_no, votes_yes, seals_global, prepare_live, of_prepare, done, kept_reply, ack_of, ended_calls, settling_line, settles, unheld, of_decide, of_give, of_ask, of_drop, of_back, answered}
-use Rattle.fed_rules.specs.SitePast.{SiteHappening, SitePast, records, epoch, epoch_start, engine_lines, live, live_one, ends, decides_on, is_closed, attempts_of, is_local, live_of_tx}
-use Rattle.fed_rules.specs.SiteRecords.{Home, Held, doubt_of, doubts, local_of}
-use Rattle.commit_laws.specs.Records.{IsPrepared, IsEnded}
-use Rattle.commit_laws.proofs.SiteFacts.{IsSealing, IsSettling, IsAcking, Says, Settled, NotBegun, Shut, Step}
-use Rattle.commit_laws.proofs.SiteShut.{Leaves, leaves-shut, other-line, other-lines, this-line, given-up, sealed-now, shut-on, restored-sealed}
+use Rattle.fed_rules.specs.Runs.{EngineLine, Begins, Acts, Takes, Seals, Refuses, Commits, Aborts, Run, run_at, gives_up, tid_of}
+use Rattle.fed_rules.specs.Site.{next_number, of_begin, act_answer, reply_to, of_act, refusal_answer, seals_local, of_commit, number_of, of_abort, of_fate, is_over, of_ask, of_drop}
+use Rattle.fed_rules.specs.SitePast.{SiteHappening, SitePast, records, epoch_start, engine_lines, live, live_one, ends, decides_on, is_closed, attempts_of}
+use Rattle.fed_rules.specs.SiteRecords.{Home, Held, doubt_of}
+use Rattle.commit_laws.proofs.SiteFacts.{Says, Settled, NotBegun, Shut, Step}
+use Rattle.commit_laws.proofs.SiteShut.{Leaves, leaves-shut, other-line, other-lines, this-line, given-up, shut-on}
 
 pub step-when : (home : Home) (g : Tid) (past : SitePast) (event : SiteEvent) (b : Bool) (x y : SiteHappening) → (b ≡ true → Step home g past event x) → (b ≡ false → Step home g past event y) → Step home g past event (when b x y)
 unfolding when
@@ -178,7 +168,6 @@ refusal-calm (Because.Die by) = tt
 refusal-calm (Because.Late by) = tt
 refusal-calm (Because.Invalid by key) = tt
 refusal-calm (Because.TicketMoved by) = tt
-
 
 by-seals_local : (home : Home) (g : Tid) (past : SitePast) (tid : Tid) (run : Run) → is_down past ≡ false → Step home g past (Ev.Commit tid) (seals_local home past tid run)
 unfolding seals_local

@@ -1,16 +1,14 @@
 -- The engine lines of a site's line leave no live run of an attempt that is closed or in doubt.
-use Rattle.std.proofs.Common.{◌≡◌, ◌⊎◌, inl, inr, Bool, true, false, cond, ◌||◌, ◌&&◌, is_some, Option, Some, None, List, [], ◌∷◌, ◌++◌, refl, sym, ap, subst, ◌∙◌}
+use Rattle.std.proofs.Common.{◌≡◌, ◌⊎◌, inl, inr, Bool, true, false, cond, ◌||◌, is_some, Option, Some, None, List, [], ◌∷◌, ◌++◌, refl, ap, ◌∙◌}
 use Rattle.std.proofs.lemmas.Bool.{and_right}
-use Rattle.mdb_base.specs.declared.acts.PlainAct.{PlainAct}
 use Rattle.mdb_base.specs.declared.names.Tid.{Tid}
-use Rattle.mdb_base.specs.declared.replies.Reply.{Reply}
 use Rattle.mdb_base.specs.declared.replies.Reply.TheVariants as Reply_is
 use Rattle.mdb_base.specs.Names.{same_tid}
 use Rattle.mdb_base.specs.Words.{some_of}
 use Rattle.fed_rules.specs.declared.runs.Kept.{Kept}
 use Rattle.fed_rules.specs.Happenings.{stops, comes_up, is_down}
 use Rattle.fed_rules.specs.Runs.{EngineLine, Begins, Acts, Takes, Seals, Refuses, Commits, Aborts, Run, Start, restored, restored_at, changed, run_at, gives_up, tid_of}
-use Rattle.fed_rules.specs.SitePast.{SiteHappening, SitePast, records, epoch_start, engine_lines, live, live_one, unless_sealed, ends, decides_on, is_closed}
+use Rattle.fed_rules.specs.SitePast.{SiteHappening, SitePast, records, epoch_start, engine_lines, live_one, ends, decides_on, is_closed}
 use Rattle.fed_rules.specs.SiteRecords.{Home, doubt_of}
 use Rattle.commit_laws.proofs.SiteFacts.{Shut}
 

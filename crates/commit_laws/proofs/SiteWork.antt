@@ -1,43 +1,31 @@
 -- Operations, Prepares and decisions at a site: the facts on one attempt hold of their lines.
-use Rattle.std.proofs.Common.{◌≡◌, ℕ, ◌+◌, ◌<◌, ◌⊎◌, inl, inr, Bool, true, false, cond, not, ◌&&◌, ◌||◌, ◌==◌, is_some, Option, Some, None, List, [], ◌∷◌, ◌++◌, refl, sym, ap, subst, ◌∙◌, arith}
+use Rattle.std.proofs.Common.{◌≡◌, ℕ, inl, inr, Bool, true, false, cond, ◌||◌, ◌==◌, is_some, Option, Some, None, List, [], ◌∷◌, refl, ap, subst, ◌∙◌}
 use Rattle.std.proofs.lemmas.Bool.{and_parts, eqb-true}
 use Rattle.mdb_base.specs.declared.acts.PlainAct.{PlainAct}
-use Rattle.mdb_base.specs.declared.acts.PlainAct.TheVariants.{Read, Write}
 use Rattle.mdb_base.specs.declared.names.Tid.{Tid}
-use Rattle.mdb_base.specs.declared.names.Tx.{Tx}
 use Rattle.mdb_base.specs.declared.replies.Reply.{Reply}
 use Rattle.mdb_base.specs.declared.replies.Reply.TheVariants as Reply_is
 use Rattle.mdb_base.specs.declared.replies.Why.{Why}
-use Rattle.mdb_base.specs.declared.replies.Why.TheVariants as Because
 use Rattle.mdb_base.specs.Names.{same_tid}
-use Rattle.mdb_base.specs.Words.{Each, Among, when, pick, some_of}
-use Rattle.mdb_base.proofs.NameLaws.{same_tid-equal, same_tid-refl}
-use Rattle.presumptions.specs.declared.Decision.{Decision}
-use Rattle.presumptions.specs.declared.Decision.TheVariants as Decided
-use Rattle.presumptions.specs.declared.Protocol.{Protocol}
-use Rattle.presumptions.specs.Table.{forces, acks}
-use Rattle.fed_rules.specs.declared.answers.Answer.{Answer}
+use Rattle.mdb_base.specs.Words.{Among}
+use Rattle.mdb_base.proofs.NameLaws.{same_tid-equal}
 use Rattle.fed_rules.specs.declared.answers.Answer.TheVariants as Say
-use Rattle.fed_rules.specs.declared.events.SiteEvent.{SiteEvent}
 use Rattle.fed_rules.specs.declared.events.SiteEvent.TheVariants as Ev
-use Rattle.fed_rules.specs.declared.messages.FromSite.{FromSite}
 use Rattle.fed_rules.specs.declared.messages.FromSite.TheVariants as From
 use Rattle.fed_rules.specs.declared.messages.ToSite.{ToSite}
 use Rattle.fed_rules.specs.declared.messages.ToSite.TheVariants as To
 use Rattle.fed_rules.specs.declared.records.SiteRecord.{SiteRecord}
 use Rattle.fed_rules.specs.declared.records.SiteRecord.TheVariants as Rec
-use Rattle.fed_rules.specs.Disk.{Append, Sync, CutBack}
-use Rattle.fed_rules.specs.Happenings.{quiet, stops, comes_up, is_down}
+use Rattle.fed_rules.specs.Happenings.{is_down}
 use Rattle.fed_rules.specs.Replies.{access_reply}
-use Rattle.fed_rules.specs.Runs.{EngineLine, Begins, Acts, Takes, Seals, Refuses, Commits, Aborts, Run, begun, changed, run_at, gives_up, tid_of, puts_of, has_ticket}
-use Rattle.fed_rules.specs.Site.{with_lines, next_number, of_begin, act_answer, reply_to, of_act, refusal_answer, seals_local, of_commit, stop_of, number_of, of_abort, of_fate, did, unknown, first_work, next_work, next_take, ticket_reply_to, repeated, is_of_epoch, is_over, work_live, of_work, take_live, of_take, votes_again, votes_no, votes_yes, seals_global, prepare_live, of_prepare, done, kept_reply, ack_of, ended_calls, settling_line, settles, unheld, of_decide, of_give, of_ask, of_drop, of_back, answered}
-use Rattle.fed_rules.specs.SitePast.{SiteHappening, SitePast, records, epoch, epoch_start, engine_lines, live, live_one, ends, decides_on, is_closed, attempts_of, is_local, live_of_tx}
-use Rattle.fed_rules.specs.SiteRecords.{Home, Held, doubt_of, doubts, local_of}
-use Rattle.commit_laws.specs.Records.{IsPrepared, IsEnded}
-use Rattle.commit_laws.specs.Seals.{seals}
-use Rattle.commit_laws.proofs.SiteFacts.{IsSealing, IsSettling, IsAcking, Says, Settled, NotBegun, Shut, Step}
-use Rattle.commit_laws.proofs.SiteShut.{Leaves, leaves-shut, other-line, other-lines, this-line, given-up, sealed-now, shut-on, restored-sealed}
-use Rattle.commit_laws.proofs.SiteRules.{step-when, step-pick, of-same, IsCalm, IsNoDecision, Touches, drop-unless, no-lines, one-line, calm, quietly, acts-stay, takes-stay}
+use Rattle.fed_rules.specs.Runs.{EngineLine, Begins, Acts, Takes, Seals, Refuses, Run, begun, run_at, gives_up, puts_of}
+use Rattle.fed_rules.specs.Site.{next_number, reply_to, number_of, did, unknown, first_work, next_work, next_take, ticket_reply_to, repeated, is_over, work_live, of_work, take_live, of_take, votes_again, votes_no, votes_yes, seals_global, prepare_live, of_prepare, done, kept_reply}
+use Rattle.fed_rules.specs.SitePast.{SitePast, records, epoch, epoch_start, engine_lines, live, live_one, is_closed}
+use Rattle.fed_rules.specs.SiteRecords.{Home, Held, doubt_of}
+use Rattle.commit_laws.specs.Records.{IsPrepared}
+use Rattle.commit_laws.proofs.SiteFacts.{IsSealing, Shut, Step}
+use Rattle.commit_laws.proofs.SiteShut.{other-line, other-lines, this-line, given-up, sealed-now, shut-on}
+use Rattle.commit_laws.proofs.SiteRules.{step-when, step-pick, of-same, IsNoDecision, Touches, no-lines, one-line, calm, acts-stay, takes-stay}
 
 -- an operation's answer
 by-did : (home : Home) (g : Tid) (past : SitePast) (message : ToSite) (tid : Tid) (n : ℕ) (reply : Reply) (lines : List EngineLine) → is_down past ≡ false → IsNoDecision (Ev.Give message) → (Shut home g past → Touches home g past (Ev.Give message) lines) → Step home g past (Ev.Give message) (did home past message tid n reply lines)

@@ -1,12 +1,12 @@
 -- What counts was taken: votes and acknowledgements of a site, and the replies by which its epoch is known.
-use Rattle.std.proofs.Common.{◌≡◌, ℕ, ◌≤◌, ◌⊎◌, inl, inr, Bool, true, false, cond, not, ◌&&◌, ◌||◌, ◌==◌, is_some, Option, Some, None, List, [], ◌∷◌, refl, sym, ap, ap₂, subst, ◌∙◌}
+use Rattle.std.proofs.Common.{◌≡◌, ℕ, inl, inr, Bool, true, false, cond, ◌&&◌, ◌||◌, is_some, Option, Some, None, List, [], ◌∷◌, refl, sym, ap, ap₂, ◌∙◌}
 use Rattle.std.proofs.lemmas.Bool.{and_parts}
 use Rattle.mdb_base.specs.declared.names.SiteId.{SiteId}
 use Rattle.mdb_base.specs.declared.names.Tid.{Tid}
 use Rattle.mdb_base.specs.declared.replies.Reply.{Reply}
 use Rattle.mdb_base.specs.Names.{same_tid, same_site}
-use Rattle.mdb_base.specs.Words.{Each, Among, each_of, some_of, those, with_some}
-use Rattle.mdb_base.proofs.NameLaws.{same_tid-equal, same_tid-refl}
+use Rattle.mdb_base.specs.Words.{Among, each_of, some_of, those, with_some}
+use Rattle.mdb_base.proofs.NameLaws.{same_tid-equal}
 use Rattle.presumptions.specs.declared.Participant.{Participant}
 use Rattle.fed_rules.specs.declared.events.CoordEvent.{CoordEvent}
 use Rattle.fed_rules.specs.declared.events.CoordEvent.TheVariants as Ev
@@ -14,7 +14,7 @@ use Rattle.fed_rules.specs.declared.messages.FromSite.TheVariants as From
 use Rattle.fed_rules.specs.CoordPast as Past
 use Rattle.fed_rules.specs.CoordPast.{CoordHappening, CoordPast, is_ticket, is_about, decides, begins, counts, acks_in, has_acked, vote_in, or_vote, vote_at, did_in, counted, counted_at, last_epoch, epoch_at, has_ticket_at}
 use Rattle.fed_rules.specs.Happenings.{stops, comes_up}
-use Rattle.commit_laws.proofs.Links.{same-site, same-site-refl}
+use Rattle.commit_laws.proofs.Links.{same-site}
 use Rattle.commit_laws.proofs.CoordSound.{IsYes, IsAcked}
 
 -- an acknowledgement that counts at a line is taken there

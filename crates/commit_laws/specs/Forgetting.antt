@@ -1,12 +1,10 @@
 -- The coordinator forgets an attempt exactly when its required acknowledgements are in, and answers inquiries about it rightly.
-use Rattle.std.specs.Prelude.{◌≡◌, true, false, Bool, ◌||◌, Some, None, List, ◌∷◌}
+use Rattle.std.specs.Prelude.{◌≡◌, true, false, ◌||◌, Some, List, ◌∷◌}
 use Rattle.mdb_base.specs.declared.names.SiteId.{SiteId}
 use Rattle.mdb_base.specs.declared.names.Tid.{Tid}
-use Rattle.mdb_base.specs.Words.{Among}
 use Rattle.order_laws.specs.Chains.{In}
 use Rattle.presumptions.specs.declared.Decision.{Decision}
-use Rattle.presumptions.specs.declared.Participant.{Participant}
-use Rattle.presumptions.specs.Table.{acks, presumed}
+use Rattle.presumptions.specs.Table.{presumed}
 use Rattle.fed_rules.specs.declared.answers.Answer.TheVariants as Say
 use Rattle.fed_rules.specs.declared.commands.Command.{Command}
 use Rattle.fed_rules.specs.declared.messages.FromSite.TheVariants as From
@@ -42,6 +40,14 @@ ForgottenWhenNoneIsMissing =
     is_known (standing (coord_past (story_of scenario commands)) tid) ≡ true →
     is_known (standing (x ∷ coord_past (story_of scenario commands)) tid) ≡ false →
     is_nobody (missing (x ∷ coord_past (story_of scenario commands)) tid (outcome (Coordinator.records (x ∷ coord_past (story_of scenario commands))) tid)) ≡ true
+
+-- behind a stop or a start of the coordinator every required acknowledgement is missing: it is counted anew
+abbrev pub RestartsCountAnew : Type 0
+RestartsCountAnew =
+    (scenario : Scenario) (commands : List Command) (x : CoordHappening) → IsNextOfCoordinator scenario commands x →
+    (stops x.answer || comes_up x.answer) ≡ true → (tid : Tid) (decision : Decision) →
+    missing (x ∷ coord_past (story_of scenario commands)) tid decision
+    ≡ required (Coordinator.records (x ∷ coord_past (story_of scenario commands))) tid decision
 
 -- of an attempt that the coordinator doesn't know, each site whose acknowledgement of the outcome is required has sent it
 abbrev pub ForgottenAreAcknowledged : Type 0
