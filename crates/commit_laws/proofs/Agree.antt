@@ -36,7 +36,8 @@ IsGot g past = (d : Decision) × Among (λ x. x.event ≡ Ev.Give (To.Decide g d
 -- the attempt is over at the site: a decision was given, and what was prepared has an Ended record that no stop takes away
 pub record IsOver (home : Home) (g : Tid) (past : SitePast) : Type 0 where
   pub got : IsGot g past
-  pub ended : (e : ℕ) → Among (IsPrepared g e) (records home past) → (d : Decision) × Among (IsEnded g d) (records home past) × (forces home.protocol d ≡ true)
+  pub ended : (e : ℕ) → Among (IsPrepared g e) (records home past)
+      → (d : Decision) × Among (IsEnded g d) (records home past) × (forces home.protocol d ≡ true)
 
 -- what was sent of a Prepare
 pub record Prepares (home : Home) (g : Tid) (past : CoordPast) (e : ℕ) : Type 0 where
@@ -57,9 +58,11 @@ pub record HasSealed (home : Home) (g : Tid) (past : CoordPast) (here : SitePast
   pub e : ℕ
   pub n : ℕ
   pub taken : In (To.Prepare g e n) sent
-  pub left : (((k : ℕ) × Among (IsPrepared g k) (records home here)) ⊎ (is_down here ≡ true)) ⊎ (epoch_at past g home.site < epoch home here)
+  pub left : (((k : ℕ) × Among (IsPrepared g k) (records home here)) ⊎ (is_down here ≡ true)) ⊎
+      (epoch_at past g home.site < epoch home here)
 
-pub record Agree (scenario : Scenario) (home : Home) (g : Tid) (past : CoordPast) (here : SitePast) (sent : List ToSite) (back : List FromSite) : Type 0 where
+pub record Agree (scenario : Scenario) (home : Home) (g : Tid) (past : CoordPast) (here : SitePast) (sent : List ToSite)
+    (back : List FromSite) : Type 0 where
   pub sound : CoordSound scenario home g past
   pub firm : IsFirm site_frame (IsLooseEnded home.protocol) (disk home here)
   pub shut : IsGlobal scenario g → Shut home g here
@@ -76,7 +79,8 @@ pub record Agree (scenario : Scenario) (home : Home) (g : Tid) (past : CoordPast
   pub counted : (counted_at past g home.site ≡ []) ⊎ ((1 ≤ epoch_at past g home.site) × (visits home.site (program past g) ≡ true))
   pub barred : IsGot g here → (epoch_at past g home.site < epoch home here) ⊎ (is_closed here g ≡ true)
   pub ended : (d : Decision) → Among (IsEnded g d) (records home here) → IsGot g here × (d ≡ outcome (Coordinator.records past) g)
-  pub settled : (d : Decision) → Among (λ x. x.answer ≡ Say.Settles g d) here → IsGot g here × (d ≡ outcome (Coordinator.records past) g)
+  pub settled : (d : Decision) → Among (λ x. x.answer ≡ Say.Settles g d) here
+      → IsGot g here × (d ≡ outcome (Coordinator.records past) g)
   pub prepared : (e : ℕ) → Among (IsPrepared g e) (records home here) → (n : ℕ) × In (To.Prepare g e n) sent
   pub sealed : Among (λ x. seals g x ≡ true) here → HasSealed home g past here sent
   pub tidy : IsTidy g (records home here)

@@ -29,9 +29,12 @@ commits-outcome kept tid m = outcome-is kept tid true (among-commit tid kept m)
 
 pub settles-commit-where-kept : SettlesCommitWhereKept
 settles-commit-where-kept scenario commands site home declared tid decision m =
-    let is = settles-say-the-outcome scenario commands site home declared tid decision m in
-    ((λ e. outcome-commits (coordinator_keeps scenario commands) tid (sym is ∙ e)), (λ k. is ∙ commits-outcome (coordinator_keeps scenario commands) tid k))
+    let is = settles-say-the-outcome scenario commands site home declared tid decision m in (
+      (λ e. outcome-commits (coordinator_keeps scenario commands) tid (sym is ∙ e)),
+      (λ k. is ∙ commits-outcome (coordinator_keeps scenario commands) tid k),
+    )
 
 pub sites-agree : SitesAgree
 sites-agree scenario commands one other here there at_one at_other tid a b m n =
-    settles-say-the-outcome scenario commands one here at_one tid a m ∙ sym (settles-say-the-outcome scenario commands other there at_other tid b n)
+    settles-say-the-outcome scenario commands one here at_one tid a m ∙ sym
+    (settles-say-the-outcome scenario commands other there at_other tid b n)

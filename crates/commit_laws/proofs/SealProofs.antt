@@ -33,42 +33,63 @@ use Rattle.commit_laws.proofs.SiteWork.{held-prepared}
 
 -- the next line of the site, with the invariant before it
 abbrev pub Next : Scenario → List Command → Home → Tid → SiteEvent → SiteHappening → Type 0
-Next scenario commands home tid event x = SiteTurn scenario home tid (coord_past (story_of scenario commands)) (past_of home.site (story_of scenario commands)) (sent_to home.site (story_of scenario commands)) (sent_from home.site (story_of scenario commands)) event x
+Next scenario commands home tid event x = SiteTurn scenario home tid (coord_past (story_of scenario commands))
+    (past_of home.site (story_of scenario commands)) (sent_to home.site (story_of scenario commands))
+    (sent_from home.site (story_of scenario commands)) event x
 
-next-line : (scenario : Scenario) (commands : List Command) (home : Home) → home_of scenario home.site ≡ Some home → (x : SiteHappening) → IsNextAt scenario commands home.site x → (tid : Tid) → (event : SiteEvent) × Next scenario commands home tid event x
+next-line : (scenario : Scenario) (commands : List Command) (home : Home) → home_of scenario home.site ≡ Some home
+    → (x : SiteHappening) → IsNextAt scenario commands home.site x → (tid : Tid)
+    → (event : SiteEvent) × Next scenario commands home tid event x
 next-line scenario commands home declared x (command, e) tid =
-    let l : IsNext scenario (story_of scenario commands) (AtSite home.site x) = subst (IsNext scenario (story_of scenario commands)) e (linked scenario (story_of scenario commands) command).next in
-    let (event, is, came) = linked-here scenario home (story_of scenario commands) x home.site declared (same-site-refl home.site) l in
-    (event, subst (λ y. Next scenario commands home tid event y) (sym is) (at-site scenario home tid (story_of scenario commands) event came (agreed scenario home tid commands declared)))
+    let l : IsNext scenario (story_of scenario commands) (AtSite home.site x) = subst (IsNext scenario (story_of scenario commands)) e
+    (linked scenario (story_of scenario commands) command).next in
+    let (event, is, came) = linked-here scenario home (story_of scenario commands) x home.site declared (same-site-refl home.site) l in (
+      event,
+      subst (λ y. Next scenario commands home tid event y) (sym is)
+          (at-site scenario home tid (story_of scenario commands) event came (agreed scenario home tid commands declared)),
+    )
 
 -- a line that seals is barred by what was given
-no-seal : (scenario : Scenario) (commands : List Command) (home : Home) (x : SiteHappening) (tid : Tid) (event : SiteEvent) → Next scenario commands home tid event x → IsGot tid (past_of home.site (story_of scenario commands)) → seals tid x ≡ false
+no-seal : (scenario : Scenario) (commands : List Command) (home : Home) (x : SiteHappening) (tid : Tid) (event : SiteEvent)
+    → Next scenario commands home tid event x → IsGot tid (past_of home.site (story_of scenario commands)) → seals tid x ≡ false
 no-seal scenario commands home x tid event t got = by_test (seals tid x) refl where
   by_test : (b : Bool) → seals tid x ≡ b → seals tid x ≡ false
   by_test false e = e
   by_test true e =
       let s = t.line.seals e in
-      absurd (bars scenario home tid (coord_past (story_of scenario commands)) (past_of home.site (story_of scenario commands)) (sent_to home.site (story_of scenario commands)) (sent_from home.site (story_of scenario commands)) event s.0 t.agree t.comes s.1 got)
+      absurd (bars scenario home tid (coord_past (story_of scenario commands)) (past_of home.site (story_of scenario commands))
+      (sent_to home.site (story_of scenario commands))
+      (sent_from home.site (story_of scenario commands)) event s.0 t.agree t.comes s.1 got)
 
 -- what is over isn't in doubt
-pub over-free : (scenario : Scenario) (commands : List Command) (home : Home) (tid : Tid) → home_of scenario home.site ≡ Some home → IsOver home tid (past_of home.site (story_of scenario commands)) → doubt_of (records home (past_of home.site (story_of scenario commands))) tid ≡ None
-over-free scenario commands home tid declared over = by_doubt (doubt_of (records home (past_of home.site (story_of scenario commands))) tid) refl where
-  by_doubt : (o : Option Held) → doubt_of (records home (past_of home.site (story_of scenario commands))) tid ≡ o → doubt_of (records home (past_of home.site (story_of scenario commands))) tid ≡ None
-  by_doubt None e = e
-  by_doubt (Some held) e =
-      let p = held-prepared (records home (past_of home.site (story_of scenario commands))) tid held e in
-      let (d, m, f) = over.ended held.epoch p in
-      tidy-doubt tid (records home (past_of home.site (story_of scenario commands))) held.epoch d (agreed scenario home tid commands declared).tidy p m
+pub over-free : (scenario : Scenario) (commands : List Command) (home : Home) (tid : Tid) → home_of scenario home.site ≡ Some home
+    → IsOver home tid (past_of home.site (story_of scenario commands))
+    → doubt_of (records home (past_of home.site (story_of scenario commands))) tid ≡ None
+over-free scenario commands home tid declared over = by_doubt
+    (doubt_of (records home (past_of home.site (story_of scenario commands))) tid) refl where
+      by_doubt : (o : Option Held) → doubt_of (records home (past_of home.site (story_of scenario commands))) tid ≡ o
+          → doubt_of (records home (past_of home.site (story_of scenario commands))) tid ≡ None
+      by_doubt None e = e
+      by_doubt (Some held) e =
+          let p = held-prepared (records home (past_of home.site (story_of scenario commands))) tid held e in
+          let (d, m, f) = over.ended held.epoch p in
+          tidy-doubt tid (records home (past_of home.site (story_of scenario commands))) held.epoch d
+          (agreed scenario home tid commands declared).tidy p m
 
-sealed-once : (scenario : Scenario) (commands : List Command) (home : Home) → home_of scenario home.site ≡ Some home → (x : SiteHappening) → IsNextAt scenario commands home.site x → (tid : Tid) → seals tid x ≡ true → IsPrepareOf tid (epoch home (past_of home.site (story_of scenario commands))) x.event × Each (λ y. seals tid y ≡ false) (past_of home.site (story_of scenario commands))
+sealed-once : (scenario : Scenario) (commands : List Command) (home : Home) → home_of scenario home.site ≡ Some home
+    → (x : SiteHappening) → IsNextAt scenario commands home.site x → (tid : Tid) → seals tid x ≡ true
+    → IsPrepareOf tid (epoch home (past_of home.site (story_of scenario commands))) x.event × Each (λ y. seals tid y ≡ false) (past_of home.site (story_of scenario commands))
 sealed-once scenario commands home declared x next tid e =
     let (event, t) = next-line scenario commands home declared x next tid in
     let s = t.line.seals e in (
-      subst (IsPrepareOf tid (epoch home (past_of home.site (story_of scenario commands)))) (sym (t.line.is ∙ s.1.taken)) (refl, s.1.epoch),
-      each_from (λ y. seals tid y ≡ false) (past_of home.site (story_of scenario commands)) (λ y i. by_test event t y i (seals tid y) refl),
+      subst (IsPrepareOf tid (epoch home (past_of home.site (story_of scenario commands)))) (sym (t.line.is ∙ s.1.taken))
+          (refl, s.1.epoch),
+      each_from (λ y. seals tid y ≡ false) (past_of home.site (story_of scenario commands))
+          (λ y i. by_test event t y i (seals tid y) refl),
     )
   where
-    by_test : (event : SiteEvent) → Next scenario commands home tid event x → (y : SiteHappening) → In y (past_of home.site (story_of scenario commands)) → (b : Bool) → seals tid y ≡ b → seals tid y ≡ false
+    by_test : (event : SiteEvent) → Next scenario commands home tid event x → (y : SiteHappening)
+        → In y (past_of home.site (story_of scenario commands)) → (b : Bool) → seals tid y ≡ b → seals tid y ≡ false
     by_test event t y i false q = q
     by_test event t y i true q =
         let sealed = t.agree.sealed (is_among (λ z. seals tid z ≡ true) y (past_of home.site (story_of scenario commands)) i q) in
@@ -90,51 +111,68 @@ sealed-once scenario commands home declared x next tid e =
 
 pub attempts-are-sealed-once : AttemptsAreSealedOnce
 attempts-are-sealed-once scenario commands site home declared =
-    subst (λ s. (x : SiteHappening) → IsNextAt scenario commands s x → (tid : Tid) → seals tid x ≡ true → IsPrepareOf tid (epoch home (past_of s (story_of scenario commands))) x.event × Each (λ y. seals tid y ≡ false) (past_of s (story_of scenario commands)))
+    subst (λ s. (x : SiteHappening) → IsNextAt scenario commands s x → (tid : Tid) → seals tid x ≡ true → IsPrepareOf tid
+    (epoch home (past_of s (story_of scenario commands))) x.event × Each (λ y. seals tid y ≡ false)
+    (past_of s (story_of scenario commands)))
     (its-site scenario site home declared) (sealed-once scenario commands home (home-again scenario site home declared))
 
-decided-next : (scenario : Scenario) (commands : List Command) (home : Home) → home_of scenario home.site ≡ Some home → (tid : Tid) (decision : Decision) → Among (λ y. y.event ≡ Ev.Give (To.Decide tid decision)) (past_of home.site (story_of scenario commands)) → (x : SiteHappening) → IsNextAt scenario commands home.site x → seals tid x ≡ false
+decided-next : (scenario : Scenario) (commands : List Command) (home : Home) → home_of scenario home.site ≡ Some home
+    → (tid : Tid) (decision : Decision)
+    → Among (λ y. y.event ≡ Ev.Give (To.Decide tid decision)) (past_of home.site (story_of scenario commands)) → (x : SiteHappening)
+    → IsNextAt scenario commands home.site x → seals tid x ≡ false
 decided-next scenario commands home declared tid decision got x next =
     let (event, t) = next-line scenario commands home declared x next tid in
     no-seal scenario commands home x tid event t (decision, got)
 
 pub decided-are-not-sealed : DecidedAreNotSealed
 decided-are-not-sealed scenario commands site home declared =
-    subst (λ s. (tid : Tid) (decision : Decision) → Among (λ y. y.event ≡ Ev.Give (To.Decide tid decision)) (past_of s (story_of scenario commands)) → (x : SiteHappening) → IsNextAt scenario commands s x → seals tid x ≡ false)
+    subst (λ s. (tid : Tid) (decision : Decision) → Among (λ y. y.event ≡ Ev.Give (To.Decide tid decision))
+    (past_of s (story_of scenario commands)) → (x : SiteHappening) → IsNextAt scenario commands s x → seals tid x ≡ false)
     (its-site scenario site home declared) (decided-next scenario commands home (home-again scenario site home declared))
 
 pub acknowledged-are-not-in-doubt : AcknowledgedAreNotInDoubt
 acknowledged-are-not-in-doubt scenario commands site home declared =
-    subst (λ s. (tid : Tid) → In (From.Ack tid) (sent_from s (story_of scenario commands)) → doubt_of (records home (past_of s (story_of scenario commands))) tid ≡ None)
+    subst (λ s. (tid : Tid) → In (From.Ack tid) (sent_from s (story_of scenario commands)) → doubt_of
+    (records home (past_of s (story_of scenario commands))) tid ≡ None)
     (its-site scenario site home declared)
-    (λ tid i. over-free scenario commands home tid (home-again scenario site home declared) ((agreed scenario home tid commands (home-again scenario site home declared)).acked i))
+    (λ tid i. over-free scenario commands home tid (home-again scenario site home declared)
+    ((agreed scenario home tid commands (home-again scenario site home declared)).acked i))
 
-acknowledged-next : (scenario : Scenario) (commands : List Command) (home : Home) → home_of scenario home.site ≡ Some home → (tid : Tid) → In (From.Ack tid) (sent_from home.site (story_of scenario commands)) → (x : SiteHappening) → IsNextAt scenario commands home.site x → seals tid x ≡ false
+acknowledged-next : (scenario : Scenario) (commands : List Command) (home : Home) → home_of scenario home.site ≡ Some home
+    → (tid : Tid) → In (From.Ack tid) (sent_from home.site (story_of scenario commands)) → (x : SiteHappening)
+    → IsNextAt scenario commands home.site x → seals tid x ≡ false
 acknowledged-next scenario commands home declared tid i x next =
     let (event, t) = next-line scenario commands home declared x next tid in
     no-seal scenario commands home x tid event t (t.agree.acked i).got
 
 pub acknowledged-are-not-sealed : AcknowledgedAreNotSealed
 acknowledged-are-not-sealed scenario commands site home declared =
-    subst (λ s. (tid : Tid) → In (From.Ack tid) (sent_from s (story_of scenario commands)) → (x : SiteHappening) → IsNextAt scenario commands s x → seals tid x ≡ false)
+    subst (λ s. (tid : Tid) → In (From.Ack tid) (sent_from s (story_of scenario commands)) → (x : SiteHappening)
+    → IsNextAt scenario commands s x → seals tid x ≡ false)
     (its-site scenario site home declared) (acknowledged-next scenario commands home (home-again scenario site home declared))
 
-no-live : (scenario : Scenario) (commands : List Command) (home : Home) → home_of scenario home.site ≡ Some home → (x : SiteHappening) → IsNextAt scenario commands home.site x → (tid : Tid) → x.event ≡ Ev.Give (To.Decide tid Decided.Commit) → (run : Run) → live home (past_of home.site (story_of scenario commands)) tid ≡ Some run → epoch_at (coord_past (story_of scenario commands)) tid home.site < epoch home (past_of home.site (story_of scenario commands))
+no-live : (scenario : Scenario) (commands : List Command) (home : Home) → home_of scenario home.site ≡ Some home → (x : SiteHappening)
+    → IsNextAt scenario commands home.site x → (tid : Tid) → x.event ≡ Ev.Give (To.Decide tid Decided.Commit) → (run : Run)
+    → live home (past_of home.site (story_of scenario commands)) tid ≡ Some run
+    → epoch_at (coord_past (story_of scenario commands)) tid home.site < epoch home (past_of home.site (story_of scenario commands))
 no-live scenario commands home declared x next tid is run alive = by_line (next-line scenario commands home declared x next tid) where
   here : SitePast
   here = past_of home.site (story_of scenario commands)
 
-  a : Agree scenario home tid (coord_past (story_of scenario commands)) (past_of home.site (story_of scenario commands)) (sent_to home.site (story_of scenario commands)) (sent_from home.site (story_of scenario commands))
+  a : Agree scenario home tid (coord_past (story_of scenario commands)) (past_of home.site (story_of scenario commands))
+      (sent_to home.site (story_of scenario commands)) (sent_from home.site (story_of scenario commands))
   a = agreed scenario home tid commands declared
 
   -- a run that is live isn't closed or in doubt
-  open_run : (event : SiteEvent) → Next scenario commands home tid event x → (is_closed here tid || is_some (doubt_of (records home here) tid)) ≡ true → ⊥
+  open_run : (event : SiteEvent) → Next scenario commands home tid event x
+      → (is_closed here tid || is_some (doubt_of (records home here) tid)) ≡ true → ⊥
   open_run event t over =
       let told = a.telling Decided.Commit (t.comes (To.Decide tid Decided.Commit) (sym t.line.is ∙ is)) in
       let dead = (a.shut (a.sound.global told.begun)).over over in
       let no : Some run ≡ None = sym alive ∙ dead in cc
 
-  by_got : (event : SiteEvent) → Next scenario commands home tid event x → IsGot tid here → epoch_at (coord_past (story_of scenario commands)) tid home.site < epoch home here
+  by_got : (event : SiteEvent) → Next scenario commands home tid event x → IsGot tid here
+      → epoch_at (coord_past (story_of scenario commands)) tid home.site < epoch home here
   by_got event t got = elim (a.barred got) [
     | inl less ↦ less
     | inr closed ↦ absurd (open_run event t (or_left (is_closed here tid) (is_some (doubt_of (records home here) tid)) closed))
@@ -144,12 +182,16 @@ no-live scenario commands home declared x next tid is run alive = by_line (next-
   free event t = by_doubt (doubt_of (records home here) tid) refl where
     by_doubt : (o : Option Held) → doubt_of (records home here) tid ≡ o → doubt_of (records home here) tid ≡ None
     by_doubt None e = e
-    by_doubt (Some held) e = absurd (open_run event t (or_right (is_closed here tid) (is_some (doubt_of (records home here) tid)) (ap is_some e)))
+    by_doubt (Some held) e = absurd
+        (open_run event t (or_right (is_closed here tid) (is_some (doubt_of (records home here) tid)) (ap is_some e)))
 
-  by_line : (event : SiteEvent) × Next scenario commands home tid event x → epoch_at (coord_past (story_of scenario commands)) tid home.site < epoch home here
+  by_line : (event : SiteEvent) × Next scenario commands home tid event x
+      → epoch_at (coord_past (story_of scenario commands)) tid home.site < epoch home here
   by_line (event, t) = elim (a.telling Decided.Commit (t.comes (To.Decide tid Decided.Commit) (sym t.line.is ∙ is))).right [
     | inl right ↦ elim a.counted [
-      | inl none ↦ let zero_is : epoch_at (coord_past (story_of scenario commands)) tid home.site ≡ 0 = ap last_epoch none in let one = a.started in omega (arith, zero_is, one)
+      | inl none ↦ let zero_is : epoch_at
+          (coord_past (story_of scenario commands)) tid home.site ≡ 0 = ap last_epoch none in let one = a.started in omega
+          (arith, zero_is, one)
       | inr (one, visited) ↦
           let kept = outcome-commits (Coordinator.records (coord_past (story_of scenario commands))) tid (sym right) in
           let p = committed-prepared scenario commands tid home declared kept visited in
@@ -161,5 +203,7 @@ no-live scenario commands home declared x next tid is run alive = by_line (next-
 
 pub commits-meet-no-live-run : CommitsMeetNoLiveRun
 commits-meet-no-live-run scenario commands site home declared =
-    subst (λ s. (x : SiteHappening) → IsNextAt scenario commands s x → (tid : Tid) → x.event ≡ Ev.Give (To.Decide tid Decided.Commit) → (run : Run) → live home (past_of s (story_of scenario commands)) tid ≡ Some run → epoch_at (coord_past (story_of scenario commands)) tid s < epoch home (past_of s (story_of scenario commands)))
+    subst (λ s. (x : SiteHappening) → IsNextAt scenario commands s x → (tid : Tid) → x.event ≡ Ev.Give (To.Decide tid Decided.Commit) →
+    (run : Run) → live home (past_of s (story_of scenario commands)) tid ≡ Some run → epoch_at
+    (coord_past (story_of scenario commands)) tid s < epoch home (past_of s (story_of scenario commands)))
     (its-site scenario site home declared) (no-live scenario commands home (home-again scenario site home declared))

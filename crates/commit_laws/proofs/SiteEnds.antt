@@ -39,29 +39,36 @@ settling-ends tid Decided.Commit old = refl
 settling-ends tid Decided.Abort old = refl
 
 -- a line that settles appends the Ended record
-settles-records : (home : Home) (past : SitePast) (tid : Tid) (d : Decision) → records home (settles home tid d ∷ past) ≡ Rec.Ended tid d ∷ records home past
+settles-records : (home : Home) (past : SitePast) (tid : Tid) (d : Decision)
+    → records home (settles home tid d ∷ past) ≡ Rec.Ended tid d ∷ records home past
 unfolding settles
 settles-records home past tid d = by_test (forces home.protocol d) where
-  by_test : (b : Bool) → (after_calls site_frame (disk home past) (Append (Rec.Ended tid d) ∷ cond b (Sync ∷ []) [])).records ≡ Rec.Ended tid d ∷ records home past
+  by_test : (b : Bool)
+      → (after_calls site_frame (disk home past) (Append (Rec.Ended tid d) ∷ cond b (Sync ∷ []) [])).records ≡ Rec.Ended tid d ∷ records home past
   by_test true = refl
   by_test false = refl
 
-ended-quiet : (p : Protocol) (tid : Tid) (d : Decision) → IsQuiet (IsLooseEnded p) false (Append (Rec.Ended tid d) ∷ cond (forces p d) (Sync ∷ []) [])
+ended-quiet : (p : Protocol) (tid : Tid) (d : Decision)
+    → IsQuiet (IsLooseEnded p) false (Append (Rec.Ended tid d) ∷ cond (forces p d) (Sync ∷ []) [])
 ended-quiet p tid d = by_test (forces p d) refl where
   by_test : (b : Bool) → forces p d ≡ b → IsQuiet (IsLooseEnded p) false (Append (Rec.Ended tid d) ∷ cond b (Sync ∷ []) [])
   by_test true e = inr tt
   by_test false e = inl (e, tt)
 
-ended-appended : (b : Bool) (tid : Tid) (d : Decision) → appended (Append (Rec.Ended tid d) ∷ cond b (Sync ∷ []) []) [] ≡ Rec.Ended tid d ∷ []
+ended-appended : (b : Bool) (tid : Tid) (d : Decision)
+    → appended (Append (Rec.Ended tid d) ∷ cond b (Sync ∷ []) []) [] ≡ Rec.Ended tid d ∷ []
 ended-appended true tid d = refl
 ended-appended false tid d = refl
 
-ended-seals : (g tid : Tid) (d : Decision) (b : Bool) → some_of (appends_prepared g) (Append (Rec.Ended tid d) ∷ cond b (Sync ∷ []) []) ≡ true → ⊥
+ended-seals : (g tid : Tid) (d : Decision) (b : Bool)
+    → some_of (appends_prepared g) (Append (Rec.Ended tid d) ∷ cond b (Sync ∷ []) []) ≡ true → ⊥
 ended-seals g tid d true e = cc
 ended-seals g tid d false e = cc
 
 -- an acknowledgement is sent where the protocol has one
-ack-says : (home : Home) (g : Tid) (past : SitePast) (y : SiteHappening) (tid : Tid) (d : Decision) → (acks home.protocol d ≡ true → same_tid tid g ≡ true → IsAcking home g past y) → Each (Says home g past y) (cond (acks home.protocol d) (From.Ack tid ∷ []) [])
+ack-says : (home : Home) (g : Tid) (past : SitePast) (y : SiteHappening) (tid : Tid) (d : Decision)
+    → (acks home.protocol d ≡ true → same_tid tid g ≡ true → IsAcking home g past y)
+    → Each (Says home g past y) (cond (acks home.protocol d) (From.Ack tid ∷ []) [])
 ack-says home g past y tid d k = by_test (acks home.protocol d) refl where
   by_test : (b : Bool) → acks home.protocol d ≡ b → Each (Says home g past y) (cond b (From.Ack tid ∷ []) [])
   by_test true e = (k e, tt)
@@ -72,7 +79,8 @@ drop-both true b c d e f h = cc
 drop-both false true c d e f h = cc
 drop-both false false c d e f h = h
 
-by-settles : (home : Home) (g : Tid) (past : SitePast) (tid : Tid) (d : Decision) (held : Held) → is_down past ≡ false → doubt_of (records home past) tid ≡ Some held → Step home g past (Ev.Give (To.Decide tid d)) (settles home tid d)
+by-settles : (home : Home) (g : Tid) (past : SitePast) (tid : Tid) (d : Decision) (held : Held) → is_down past ≡ false
+    → doubt_of (records home past) tid ≡ Some held → Step home g past (Ev.Give (To.Decide tid d)) (settles home tid d)
 unfolding settles
 by-settles home g past tid d held up doubt = record {
   is = refl;
@@ -91,7 +99,8 @@ by-settles home g past tid d held up doubt = record {
   line = settling_line tid d
 
   settling : same_tid tid g ≡ true → IsSettling home g past (Ev.Give (To.Decide tid d)) d
-  settling q = of-same (λ u. IsSettling home u past (Ev.Give (To.Decide tid d)) d) tid g (record { taken = refl; held = held; doubt = doubt }) q
+  settling q = of-same (λ u. IsSettling home u past (Ev.Give (To.Decide tid d)) d) tid g
+      (record { taken = refl; held = held; doubt = doubt }) q
 
   acking : acks home.protocol d ≡ true → IsAcking home tid past (settles home tid d)
   acking a = record {
@@ -101,35 +110,51 @@ by-settles home g past tid d held up doubt = record {
     after = inl (subst (Among (IsEnded tid d)) (sym (settles-records home past tid d)) (inl (refl, refl)));
   }
 
-  by_test : (q : Bool) → same_tid tid g ≡ q → Shut home g past → ((same_tid tid g || some_of (ends g) (settling_line tid d ∷ []) || is_closed past g) || is_some (doubt_of (records home (settles home tid d ∷ past)) g)) ≡ true → live_one (run_at (epoch_start home past) (settling_line tid d ∷ engine_lines past) g) ≡ None
-  by_test true q s h = ap live_one (this-line (epoch_start home past) (engine_lines past) g (settling_line tid d) (ap (λ t. same_tid t g) (settling-tid tid d) ∙ q) ∙ settling-ends tid d (run_at (epoch_start home past) (engine_lines past) g))
+  by_test : (q : Bool) → same_tid tid g ≡ q → Shut home g past
+      → ((same_tid tid g || some_of (ends g) (settling_line tid d ∷ []) || is_closed past g) || is_some (doubt_of (records home (settles home tid d ∷ past)) g)) ≡ true
+      → live_one (run_at (epoch_start home past) (settling_line tid d ∷ engine_lines past) g) ≡ None
+  by_test true q s h = ap live_one (this-line (epoch_start home past) (engine_lines past) g (settling_line tid d)
+      (ap (λ t. same_tid t g) (settling-tid tid d) ∙ q) ∙ settling-ends tid d (run_at (epoch_start home past) (engine_lines past) g))
   by_test false q s h =
-      let other = other-line (epoch_start home past) (engine_lines past) g (settling_line tid d) (ap (λ t. same_tid t g) (settling-tid tid d) ∙ q) in
-      let same : doubt_of (records home (settles home tid d ∷ past)) g ≡ doubt_of (records home past) g = ap (λ rs. doubt_of rs g) (settles-records home past tid d) ∙ ap (λ b. cond b None (doubt_of (records home past) g)) q in
+      let other = other-line (epoch_start home past) (engine_lines past) g (settling_line tid d)
+      (ap (λ t. same_tid t g) (settling-tid tid d) ∙ q) in
+      let same : doubt_of (records home (settles home tid d ∷ past)) g ≡ doubt_of (records home past) g = ap (λ rs. doubt_of rs g)
+      (settles-records home past tid d) ∙ ap (λ b. cond b None (doubt_of (records home past) g)) q in
       ap live_one other.0
-      ∙ s.over (drop-both (same_tid tid g) (some_of (ends g) (settling_line tid d ∷ [])) (is_closed past g) (is_some (doubt_of (records home past) g)) q other.1
+      ∙ s.over (drop-both (same_tid tid g) (some_of (ends g) (settling_line tid d ∷ [])) (is_closed past g)
+      (is_some (doubt_of (records home past) g)) q other.1
       (subst (λ o. ((same_tid tid g || some_of (ends g) (settling_line tid d ∷ []) || is_closed past g) || is_some o) ≡ true) same h))
 
 -- a decision on an attempt that isn't in doubt
-by-unheld : (home : Home) (g : Tid) (past : SitePast) (tid : Tid) (d : Decision) (lines : List EngineLine) → is_down past ≡ false → doubt_of (records home past) tid ≡ None → (same_tid tid g ≡ true → live_one (run_at (epoch_start home past) (lines ++ engine_lines past) g) ≡ None) → (same_tid tid g ≡ false → (run_at (epoch_start home past) (lines ++ engine_lines past) g ≡ run_at (epoch_start home past) (engine_lines past) g) × (some_of (ends g) lines ≡ false)) → Step home g past (Ev.Give (To.Decide tid d)) (unheld home tid d lines)
+by-unheld : (home : Home) (g : Tid) (past : SitePast) (tid : Tid) (d : Decision) (lines : List EngineLine) → is_down past ≡ false
+    → doubt_of (records home past) tid ≡ None
+    → (same_tid tid g ≡ true → live_one (run_at (epoch_start home past) (lines ++ engine_lines past) g) ≡ None)
+    → (same_tid tid g ≡ false → (run_at (epoch_start home past) (lines ++ engine_lines past) g ≡ run_at (epoch_start home past) (engine_lines past) g) × (some_of (ends g) lines ≡ false))
+    → Step home g past (Ev.Give (To.Decide tid d)) (unheld home tid d lines)
 unfolding unheld
 by-unheld home g past tid d lines up free here other = record {
   is = refl;
   quiet = tt;
   wrote = tt;
-  says = ack-says home g past (unheld home tid d lines) tid d (λ a q. of-same (λ u. IsAcking home u past (unheld home tid d lines)) tid g (record { decision = d; taken = refl; acks = a; after = inr (refl, free) }) q);
+  says = ack-says home g past (unheld home tid d lines) tid d (λ a q. of-same
+      (λ u. IsAcking home u past (unheld home tid d lines)) tid g
+      (record { decision = d; taken = refl; acks = a; after = inr (refl, free) }) q);
   shut = (λ nb s. shut-on home g past (unheld home tid d lines) refl refl up (by_test (same_tid tid g) refl s));
   settled = tt;
   seals = (λ i. cc);
   rises = (λ i. cc);
 } where
-  by_test : (q : Bool) → same_tid tid g ≡ q → Shut home g past → ((same_tid tid g || some_of (ends g) lines || is_closed past g) || is_some (doubt_of (records home past) g)) ≡ true → live_one (run_at (epoch_start home past) (lines ++ engine_lines past) g) ≡ None
+  by_test : (q : Bool) → same_tid tid g ≡ q → Shut home g past
+      → ((same_tid tid g || some_of (ends g) lines || is_closed past g) || is_some (doubt_of (records home past) g)) ≡ true
+      → live_one (run_at (epoch_start home past) (lines ++ engine_lines past) g) ≡ None
   by_test true q s h = here q
   by_test false q s h =
       let both = other q in
-      ap live_one both.0 ∙ s.over (drop-both (same_tid tid g) (some_of (ends g) lines) (is_closed past g) (is_some (doubt_of (records home past) g)) q both.1 h)
+      ap live_one both.0 ∙ s.over
+      (drop-both (same_tid tid g) (some_of (ends g) lines) (is_closed past g) (is_some (doubt_of (records home past) g)) q both.1 h)
 
-by-decide : (home : Home) (g : Tid) (past : SitePast) (tid : Tid) (d : Decision) → is_down past ≡ false → Step home g past (Ev.Give (To.Decide tid d)) (of_decide home past tid d)
+by-decide : (home : Home) (g : Tid) (past : SitePast) (tid : Tid) (d : Decision) → is_down past ≡ false
+    → Step home g past (Ev.Give (To.Decide tid d)) (of_decide home past tid d)
 unfolding of_decide
 by-decide home g past tid d up =
     step-pick home g past (Ev.Give (To.Decide tid d)) _ _ _
@@ -156,7 +181,8 @@ by-back home g past = record {
   start : SiteRecord
   start = Rec.Start (epoch home past + 1)
 
-  start-seals : (b : Bool) → some_of (appends_prepared g) (cond b (CutBack ∷ []) [] ++ Append (Rec.Start (epoch home past + 1)) ∷ Sync ∷ []) ≡ true → ⊥
+  start-seals : (b : Bool)
+      → some_of (appends_prepared g) (cond b (CutBack ∷ []) [] ++ Append (Rec.Start (epoch home past + 1)) ∷ Sync ∷ []) ≡ true → ⊥
   start-seals true e = cc
   start-seals false e = cc
 
@@ -164,7 +190,8 @@ by-back home g past = record {
   quiet_calls true = inr tt
   quiet_calls false = inr tt
 
-  wrote_start : (b : Bool) → WroteOne home g past Ev.Back (appended (cond b (CutBack ∷ []) [] ++ Append (Rec.Start (epoch home past + 1)) ∷ Sync ∷ []) [])
+  wrote_start : (b : Bool)
+      → WroteOne home g past Ev.Back (appended (cond b (CutBack ∷ []) [] ++ Append (Rec.Start (epoch home past + 1)) ∷ Sync ∷ []) [])
   wrote_start true = refl
   wrote_start false = refl
 
@@ -172,7 +199,8 @@ by-back home g past = record {
   rises true = omega arith
   rises false = omega arith
 
-by-give : (home : Home) (g : Tid) (past : SitePast) (message : ToSite) → is_down past ≡ false → Step home g past (Ev.Give message) (of_give home past message)
+by-give : (home : Home) (g : Tid) (past : SitePast) (message : ToSite) → is_down past ≡ false
+    → Step home g past (Ev.Give message) (of_give home past message)
 unfolding of_give
 by-give home g past (To.Work tid e n act) up = by-work home g past tid e n act up
 by-give home g past (To.Take tid e n) up = by-take home g past tid e n up
@@ -180,7 +208,8 @@ by-give home g past (To.Prepare tid e n) up = by-prepare home g past tid e n up
 by-give home g past (To.Decide tid d) up = by-decide home g past tid d up
 
 -- what a site that is up answers
-pub by-answered : (home : Home) (g : Tid) (past : SitePast) (event : SiteEvent) → is_down past ≡ false → Step home g past event (answered home past event)
+pub by-answered : (home : Home) (g : Tid) (past : SitePast) (event : SiteEvent) → is_down past ≡ false
+    → Step home g past event (answered home past event)
 unfolding answered
 by-answered home g past (Ev.Begin tid) up = by-begin home g past tid up
 by-answered home g past (Ev.Act tid act) up = by-act home g past tid act up

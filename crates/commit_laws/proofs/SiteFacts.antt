@@ -57,7 +57,8 @@ pub record IsAcking (home : Home) (g : Tid) (past : SitePast) (y : SiteHappening
   pub decision : Decision
   pub taken : y.event ≡ Ev.Give (To.Decide g decision)
   pub acks : acks home.protocol decision ≡ true
-  pub after : Among (IsEnded g decision) (records home (y ∷ past)) ⊎ ((records home (y ∷ past) ≡ records home past) × (doubt_of (records home past) g ≡ None))
+  pub after : Among (IsEnded g decision) (records home (y ∷ past)) ⊎
+      ((records home (y ∷ past) ≡ records home past) × (doubt_of (records home past) g ≡ None))
 
 -- why a message is sent
 abbrev pub Says : Home → Tid → SitePast → SiteHappening → FromSite → Type 0

@@ -29,7 +29,8 @@ same-of : (t g : Tid) → t ≡ g → same_tid t g ≡ true
 same-of t g e = subst (λ u. same_tid t u ≡ true) e (same_tid-refl t)
 
 -- an attempt with a Prepared and an Ended record isn't in doubt
-pub tidy-doubt : (g : Tid) (rs : List SiteRecord) (e : ℕ) (d : Decision) → IsTidy g rs → Among (IsPrepared g e) rs → Among (IsEnded g d) rs → doubt_of rs g ≡ None
+pub tidy-doubt : (g : Tid) (rs : List SiteRecord) (e : ℕ) (d : Decision) → IsTidy g rs → Among (IsPrepared g e) rs
+    → Among (IsEnded g d) rs → doubt_of rs g ≡ None
 tidy-doubt g [] e d t p n = absurd p
 tidy-doubt g (Rec.Setup site engine protocol items ∷ rs) e d t (inl p) n = absurd p
 tidy-doubt g (Rec.Setup site engine protocol items ∷ rs) e d t (inr p) (inl n) = absurd n
@@ -41,23 +42,27 @@ tidy-doubt g (Rec.Local tid number writes ∷ rs) e d t (inl p) n = absurd p
 tidy-doubt g (Rec.Local tid number writes ∷ rs) e d t (inr p) (inl n) = absurd n
 tidy-doubt g (Rec.Local tid number writes ∷ rs) e d t (inr p) (inr n) = tidy-doubt g rs e d t.1 p n
 tidy-doubt g (Rec.Prepared tid k number ticket writes ∷ rs) e d t p (inl n) = absurd n
-tidy-doubt g (Rec.Prepared tid k number ticket writes ∷ rs) e d t p (inr n) = by_test (same_tid tid g) refl p (λ i. tidy-doubt g rs e d t.1 i n) where
-  held : Held
-  held = record { tid = tid; epoch = k; number = number; ticket = ticket; writes = writes }
+tidy-doubt g (Rec.Prepared tid k number ticket writes ∷ rs) e d t p (inr n) = by_test (same_tid tid g) refl p
+    (λ i. tidy-doubt g rs e d t.1 i n) where
+      held : Held
+      held = record { tid = tid; epoch = k; number = number; ticket = ticket; writes = writes }
 
-  by_test : (q : Bool) → same_tid tid g ≡ q → Among (IsPrepared g e) (Rec.Prepared tid k number ticket writes ∷ rs) → (Among (IsPrepared g e) rs → doubt_of rs g ≡ None) → cond q (Some held) (doubt_of rs g) ≡ None
-  by_test true q p rest = absurd ((t.0 k (same_tid-equal tid g q, refl)).ended d n)
-  by_test false q (inl p) rest = let same = same-of tid g p.0 in cc
-  by_test false q (inr p) rest = rest p
+      by_test : (q : Bool) → same_tid tid g ≡ q → Among (IsPrepared g e) (Rec.Prepared tid k number ticket writes ∷ rs)
+          → (Among (IsPrepared g e) rs → doubt_of rs g ≡ None) → cond q (Some held) (doubt_of rs g) ≡ None
+      by_test true q p rest = absurd ((t.0 k (same_tid-equal tid g q, refl)).ended d n)
+      by_test false q (inl p) rest = let same = same-of tid g p.0 in cc
+      by_test false q (inr p) rest = rest p
 tidy-doubt g (Rec.Ended tid made ∷ rs) e d t (inl p) n = absurd p
 tidy-doubt g (Rec.Ended tid made ∷ rs) e d t (inr p) n = by_test (same_tid tid g) refl n (tidy-doubt g rs e d t.1 p) where
-  by_test : (q : Bool) → same_tid tid g ≡ q → Among (IsEnded g d) (Rec.Ended tid made ∷ rs) → (Among (IsEnded g d) rs → doubt_of rs g ≡ None) → cond q None (doubt_of rs g) ≡ None
+  by_test : (q : Bool) → same_tid tid g ≡ q → Among (IsEnded g d) (Rec.Ended tid made ∷ rs)
+      → (Among (IsEnded g d) rs → doubt_of rs g ≡ None) → cond q None (doubt_of rs g) ≡ None
   by_test true q n k = refl
   by_test false q (inl n) k = let same = same-of tid g n.0 in cc
   by_test false q (inr n) k = k n
 
 -- an attempt with a Prepared record that isn't in doubt has an Ended record
-pub settled-ended : (g : Tid) (rs : List SiteRecord) (e : ℕ) → Among (IsPrepared g e) rs → doubt_of rs g ≡ None → (d : Decision) × Among (IsEnded g d) rs
+pub settled-ended : (g : Tid) (rs : List SiteRecord) (e : ℕ) → Among (IsPrepared g e) rs → doubt_of rs g ≡ None
+    → (d : Decision) × Among (IsEnded g d) rs
 settled-ended g [] e p n = absurd p
 settled-ended g (Rec.Setup site engine protocol items ∷ rs) e (inl p) n = absurd p
 settled-ended g (Rec.Setup site engine protocol items ∷ rs) e (inr p) n = let r = settled-ended g rs e p n in (r.0, inr r.1)
@@ -69,13 +74,18 @@ settled-ended g (Rec.Prepared tid k number ticket writes ∷ rs) e p n = by_test
   held : Held
   held = record { tid = tid; epoch = k; number = number; ticket = ticket; writes = writes }
 
-  by_test : (q : Bool) → same_tid tid g ≡ q → Among (IsPrepared g e) (Rec.Prepared tid k number ticket writes ∷ rs) → cond q (Some held) (doubt_of rs g) ≡ None → (Among (IsPrepared g e) rs → doubt_of rs g ≡ None → (d : Decision) × Among (IsEnded g d) rs) → (d : Decision) × Among (IsEnded g d) (Rec.Prepared tid k number ticket writes ∷ rs)
+  by_test : (q : Bool) → same_tid tid g ≡ q → Among (IsPrepared g e) (Rec.Prepared tid k number ticket writes ∷ rs)
+      → cond q (Some held) (doubt_of rs g) ≡ None
+      → (Among (IsPrepared g e) rs → doubt_of rs g ≡ None → (d : Decision) × Among (IsEnded g d) rs)
+      → (d : Decision) × Among (IsEnded g d) (Rec.Prepared tid k number ticket writes ∷ rs)
   by_test true q p n k = cc
   by_test false q (inl p) n k = let same = same-of tid g p.0 in cc
   by_test false q (inr p) n k = let r = k p n in (r.0, inr r.1)
 settled-ended g (Rec.Ended tid made ∷ rs) e (inl p) n = absurd p
 settled-ended g (Rec.Ended tid made ∷ rs) e (inr p) n = by_test (same_tid tid g) refl n (settled-ended g rs e p) where
-  by_test : (q : Bool) → same_tid tid g ≡ q → cond q None (doubt_of rs g) ≡ None → (doubt_of rs g ≡ None → (d : Decision) × Among (IsEnded g d) rs) → (d : Decision) × Among (IsEnded g d) (Rec.Ended tid made ∷ rs)
+  by_test : (q : Bool) → same_tid tid g ≡ q → cond q None (doubt_of rs g) ≡ None
+      → (doubt_of rs g ≡ None → (d : Decision) × Among (IsEnded g d) rs)
+      → (d : Decision) × Among (IsEnded g d) (Rec.Ended tid made ∷ rs)
   by_test true q n k = (made, inl (same_tid-equal tid g q, refl))
   by_test false q n k = let r = k n in (r.0, inr r.1)
 
