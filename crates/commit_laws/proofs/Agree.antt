@@ -20,6 +20,7 @@ use Rattle.fed_rules.specs.CoordRecords.{outcome}
 use Rattle.fed_rules.specs.Happenings.{is_down}
 use Rattle.fed_rules.specs.SitePast.{SitePast, disk, records, epoch, is_closed}
 use Rattle.fed_rules.specs.SiteRecords.{Home, site_frame}
+use Rattle.fed_rules.specs.Story.{Story, coord_past, past_of, sent_to, sent_from}
 use Rattle.rules_laws.specs.Durable.{IsFirm}
 use Rattle.commit_laws.specs.Records.{IsPrepared, IsEnded, IsLooseEnded}
 use Rattle.commit_laws.specs.Seals.{seals}
@@ -84,3 +85,8 @@ pub record Agree (scenario : Scenario) (home : Home) (g : Tid) (past : CoordPast
   pub prepared : (e : ℕ) → Among (IsPrepared g e) (records home here) → (n : ℕ) × In (To.Prepare g e n) sent
   pub sealed : Among (λ x. seals g x ≡ true) here → HasSealed home g past here sent
   pub tidy : IsTidy g (records home here)
+
+-- the invariant in a story
+abbrev pub Agrees : Scenario → Home → Tid → Story → Type 0
+Agrees scenario home g story =
+    Agree scenario home g (coord_past story) (past_of home.site story) (sent_to home.site story) (sent_from home.site story)

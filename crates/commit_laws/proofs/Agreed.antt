@@ -19,7 +19,7 @@ use Rattle.fed_rules.specs.SiteRecords.{Home, site_frame}
 use Rattle.fed_rules.specs.Story.{Story, Happened, AtSite, AtCoordinator, Nowhere, past_of, coord_past, with_site, with_coordinator, sent_to, sent_from, sends_to, sends_from, happens, story_of}
 use Rattle.rules_laws.specs.Durable.{IsFirm}
 use Rattle.commit_laws.specs.Records.{IsEnd, IsLooseEnded}
-use Rattle.commit_laws.proofs.Agree.{Agree}
+use Rattle.commit_laws.proofs.Agree.{Agree, Agrees}
 use Rattle.commit_laws.proofs.AgreeCoord.{CoordNext, coord-next}
 use Rattle.commit_laws.proofs.AgreeSite.{SiteTurn, site-turn}
 use Rattle.commit_laws.proofs.CoordClear.{coord-turn}
@@ -98,7 +98,7 @@ not-begun scenario site story g Ev.Back came global = tt
 
 pub at-site : (scenario : Scenario) (home : Home) (g : Tid) (story : Story) (event : SiteEvent)
     → SiteCame scenario home.site story event
-    → Agree scenario home g (coord_past story) (past_of home.site story) (sent_to home.site story) (sent_from home.site story)
+    → Agrees scenario home g story
     → SiteTurn scenario home g (coord_past story) (past_of home.site story) (sent_to home.site story) (sent_from home.site story) event (site_line home (past_of home.site story) event)
 at-site scenario home g story event came a = record {
   agree = a;
@@ -119,7 +119,7 @@ turn scenario home g story event came s = record {
 
 at-coordinator : (scenario : Scenario) (home : Home) (g : Tid) (story : Story) (event : CoordEvent)
     → home_of scenario home.site ≡ Some home → CoordCame scenario story event
-    → Agree scenario home g (coord_past story) (past_of home.site story) (sent_to home.site story) (sent_from home.site story)
+    → Agrees scenario home g story
     → CoordNext scenario home g (coord_past story) (past_of home.site story) (sent_to home.site story) (sent_from home.site story) event (coord_line (protocols scenario) (coord_past story) event)
 at-coordinator scenario home g story event declared came a = record {
   agree = a;
@@ -132,7 +132,7 @@ at-coordinator scenario home g story event declared came a = record {
 -- whatever happens next
 next : (scenario : Scenario) (home : Home) (g : Tid) (story : Story) (happened : Happened) → home_of scenario home.site ≡ Some home
     → Linked scenario story happened
-    → Agree scenario home g (coord_past story) (past_of home.site story) (sent_to home.site story) (sent_from home.site story)
+    → Agrees scenario home g story
     → Agree scenario home g (with_coordinator happened (coord_past story)) (with_site home.site happened (past_of home.site story)) (sent_to home.site story ++ sends_to home.site happened) (sent_from home.site story ++ sends_from home.site happened)
 next scenario home g story (Nowhere answer) declared l a =
     subst (λ m. Agree scenario home g (coord_past story) (past_of home.site story) m (sent_from home.site story ++ []))
@@ -168,7 +168,7 @@ next scenario home g story (AtSite at x) declared l a =
         (at-site scenario home g story event came a))
 
 pub agreed : (scenario : Scenario) (home : Home) (g : Tid) (commands : List Command) → home_of scenario home.site ≡ Some home
-    → Agree scenario home g (coord_past (story_of scenario commands)) (past_of home.site (story_of scenario commands)) (sent_to home.site (story_of scenario commands)) (sent_from home.site (story_of scenario commands))
+    → Agrees scenario home g (story_of scenario commands)
 agreed scenario home g [] declared = first scenario home g
 agreed scenario home g (command ∷ commands) declared =
     next scenario home g (story_of scenario commands) (happens scenario (story_of scenario commands) command) declared

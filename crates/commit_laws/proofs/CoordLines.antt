@@ -21,7 +21,7 @@ use Rattle.commit_laws.proofs.Lists.{among-left}
 use Rattle.commit_laws.proofs.Disks.{appended, IsCut, Keeps, left-by-line, left-by-stop, quiet-plain, plain-records}
 use Rattle.commit_laws.proofs.CoordFacts.{WroteAll, Stands, Tells, Counted, Committed, Goes}
 use Rattle.commit_laws.proofs.CoordRules.{silently, uncounted}
-use Rattle.commit_laws.proofs.CoordCommits.{by-answered, by-back}
+use Rattle.commit_laws.proofs.CoordRestarts.{by-answered, by-back}
 
 -- records with their reasons stand before the old ones, or some End records at the end are gone
 abbrev pub Kept : List Participant → Tid → CoordPast → CoordEvent → List CoordRecord → Type 0

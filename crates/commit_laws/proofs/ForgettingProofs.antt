@@ -22,7 +22,7 @@ use Rattle.fed_rules.specs.SiteRecords.{Home, Held, doubt_of}
 use Rattle.fed_rules.specs.Story.{AtCoordinator, coord_past, past_of, sent_to, sent_from, story_of}
 use Rattle.commit_laws.specs.Forgetting.{IsNextOfCoordinator, KnownWhileMissing, ForgottenWhenNoneIsMissing, RestartsCountAnew, ForgottenAreAcknowledged, PresumptionsAreRight, InquiriesAreAnsweredTheOutcome}
 use Rattle.commit_laws.specs.Outcomes.{coordinator_keeps}
-use Rattle.commit_laws.proofs.Agree.{Agree}
+use Rattle.commit_laws.proofs.Agree.{Agree, Agrees}
 use Rattle.commit_laws.proofs.AgreeCoord.{presumes-right}
 use Rattle.commit_laws.proofs.Agreed.{agreed, turn, coord-sound}
 use Rattle.commit_laws.proofs.CoordClear.{all-missing, initiated-stays}
@@ -142,8 +142,7 @@ acknowledged scenario commands home declared tid gone i = by_initiation (initiat
   kept : List CoordRecord
   kept = coordinator_keeps scenario commands
 
-  a : Agree scenario home tid (coord_past (story_of scenario commands)) (past_of home.site (story_of scenario commands))
-      (sent_to home.site (story_of scenario commands)) (sent_from home.site (story_of scenario commands))
+  a : Agrees scenario home tid (story_of scenario commands)
   a = agreed scenario home tid commands declared
 
   member : Participant

@@ -22,7 +22,7 @@ use Rattle.fed_rules.specs.SiteRecords.{Home, Held, doubt_of}
 use Rattle.fed_rules.specs.Story.{AtSite, coord_past, past_of, sent_to, sent_from, story_of}
 use Rattle.commit_laws.specs.Seals.{seals, IsPrepareOf}
 use Rattle.commit_laws.specs.SealLaws.{IsNextAt, AttemptsAreSealedOnce, DecidedAreNotSealed, AcknowledgedAreNotInDoubt, AcknowledgedAreNotSealed, CommitsMeetNoLiveRun}
-use Rattle.commit_laws.proofs.Agree.{IsGot, IsOver, Agree}
+use Rattle.commit_laws.proofs.Agree.{IsGot, IsOver, Agree, Agrees}
 use Rattle.commit_laws.proofs.AgreeSite.{SiteTurn, bars}
 use Rattle.commit_laws.proofs.Agreed.{agreed, at-site}
 use Rattle.commit_laws.proofs.Links.{IsNext, linked, linked-here, home-again, its-site, same-site-refl}
@@ -159,8 +159,7 @@ no-live scenario commands home declared x next tid is run alive = by_line (next-
   here : SitePast
   here = past_of home.site (story_of scenario commands)
 
-  a : Agree scenario home tid (coord_past (story_of scenario commands)) (past_of home.site (story_of scenario commands))
-      (sent_to home.site (story_of scenario commands)) (sent_from home.site (story_of scenario commands))
+  a : Agrees scenario home tid (story_of scenario commands)
   a = agreed scenario home tid commands declared
 
   -- a run that is live isn't closed or in doubt
