@@ -37,9 +37,9 @@ use Rattle.commit_laws.proofs.CoordFacts.{IsOpen, IsInitiation, IsPreparing, IsT
 use Rattle.commit_laws.proofs.CoordLists.{decided-outcome}
 use Rattle.commit_laws.proofs.CoordSound.{Declared, IsBegun, kept-stays, end-initiation, decided-not-open, program-stays}
 use Rattle.commit_laws.proofs.CoordTurn.{Turn, fresh, same-program, same-outcome, stays-closed, uncommitted-of}
-use Rattle.commit_laws.proofs.Links.{same-site}
 use Rattle.commit_laws.proofs.Lists.{among-split, among-left}
 use Rattle.commit_laws.proofs.Taken.{Counting, Unchanged, Cleared, Adds, counting, ticket-counted}
+use Rattle.commit_laws.proofs.Names.{same-site}
 
 -- the next line of the coordinator, where the invariant holds
 pub record CoordNext (scenario : Scenario) (home : Home) (g : Tid) (past : CoordPast) (here : SitePast) (sent : List ToSite)

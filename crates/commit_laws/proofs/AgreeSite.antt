@@ -35,6 +35,7 @@ use Rattle.commit_laws.proofs.SiteFacts.{IsSealing, IsSettling, IsAcking, Wrote,
 use Rattle.commit_laws.proofs.SiteLines.{Kept, Line}
 use Rattle.commit_laws.proofs.SiteLists.{Free, IsTidy, tidy-behind, tidy-doubt, settled-ended, epoch-cut, loose-prepared, loose-forced}
 use Rattle.commit_laws.proofs.SiteWork.{held-prepared}
+use Rattle.commit_laws.proofs.Names.{same-of}
 
 -- the next line of a site, where the invariant holds
 pub record SiteTurn (scenario : Scenario) (home : Home) (g : Tid) (past : CoordPast) (here : SitePast) (sent : List ToSite)
@@ -43,9 +44,6 @@ pub record SiteTurn (scenario : Scenario) (home : Home) (g : Tid) (past : CoordP
   pub line : Line home g here event x
   pub comes : (m : ToSite) → event ≡ Ev.Give m → In m sent
   pub global : IsGlobal scenario g → NotBegun g event
-
-same-of : (t g : Tid) → t ≡ g → same_tid t g ≡ true
-same-of t g e = subst (λ u. same_tid t u ≡ true) e (same_tid-refl t)
 
 -- a Prepared record behind the line was there, or the line seals
 new-prepared : (home : Home) (g : Tid) (here : SitePast) (event : SiteEvent) (now : List SiteRecord) (e : ℕ)

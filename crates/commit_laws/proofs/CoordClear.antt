@@ -24,12 +24,13 @@ use Rattle.commit_laws.proofs.Disks.{appended}
 use Rattle.commit_laws.proofs.Lists.{among-left, those-agree}
 use Rattle.commit_laws.proofs.CoordFacts.{IsOpen, IsInitiation, IsEnding, AtCommit, AtAbort, AtAck, AtBack, WroteAll, Same, Starts, Decides, Forgets, Restarts}
 use Rattle.commit_laws.proofs.CoordLines.{Kept, Stood, Stopped, Through}
-use Rattle.commit_laws.proofs.CoordLists.{IsInitiationOf, IsEndOf, same-of, among-commit, end-among, initiation-of, among-initiated, initiation-is, some-initiation, initiated-behind, outcome-behind, outcome-is, ends-uncommitted, ends-uninitiated, decided-outcome, those-among, nobody-none, is-required}
+use Rattle.commit_laws.proofs.CoordLists.{IsInitiationOf, IsEndOf, among-commit, end-among, initiation-of, among-initiated, initiation-is, some-initiation, initiated-behind, outcome-behind, outcome-is, ends-uncommitted, ends-uninitiated, decided-outcome, those-among, nobody-none, is-required}
 use Rattle.fed_rules.specs.Happenings.{quiet}
 use Rattle.commit_laws.proofs.CoordSound.{IsBegun, IsAcked, IsClear, CoordSound, kept-from, end-mark, written-initiation}
 use Rattle.commit_laws.proofs.Taken.{acked-taken}
 use Rattle.mdb_base.proofs.ListLaws.{those_all, each_all}
 use Rattle.commit_laws.proofs.CoordTurn.{Turn, same-program, same-outcome, turn-numbered, turn-global, turn-undecided, turn-initiated, turn-marked, turn-decided, turn-voted, is-participant, uncommitted-of}
+use Rattle.commit_laws.proofs.Names.{same-of}
 
 -- what is required of the site, where the attempt's Initiation names the participants
 pub required-here : (scenario : Scenario) (home : Home) (g : Tid) (past : CoordPast) (d : Decision)

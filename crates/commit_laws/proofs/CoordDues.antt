@@ -29,7 +29,8 @@ use Rattle.fed_rules.specs.Coord.{send_due, is_prepare, sends_dues, all_outstand
 use Rattle.fed_rules.specs.CoordPast.{CoordHappening, CoordPast, records, Standing, Undecided, Decided, Gone, standing, kept_standing, reads, moved, is_about, begins, counts, decides, acks_in, has_acked, participants, program, visits, counted, epoch_at, count_at, has_ticket_at, is_wait, is_ticket, has_step_left, vote_at, outstanding, outstanding_at, work_at, take_at, prepare_at, next_step, attempts_of, undecided_of}
 use Rattle.fed_rules.specs.CoordRecords.{initiated, committed_of}
 use Rattle.commit_laws.proofs.CoordFacts.{IsOpen, IsInitiation, Stands, Same, Starts, IsPreparing, IsTelling, Known, Presumed, Tells, Counted, Committed, Goes}
-use Rattle.commit_laws.proofs.CoordRules.{goes-when, goes-pick, of-same, cond-same, IsCalm, calm-answer, standing-on, acked-on, IsNoAck, calm-standing, calm-acked, quietly, silently, uncounted, ignored, no-ack}
+use Rattle.commit_laws.proofs.CoordRules.{goes-when, goes-pick, cond-same, IsCalm, calm-answer, standing-on, acked-on, IsNoAck, calm-standing, calm-acked, quietly, silently, uncounted, ignored, no-ack}
+use Rattle.commit_laws.proofs.Names.{of-same, some-parts}
 
 pub each-found : {A B : Type 0} (P : B → Type 0) (look : A → Option B) → ((x : A) (b : B) → look x ≡ Some b → P b) → (xs : List A)
     → Each P (found look xs)
@@ -42,9 +43,6 @@ each-found P look k (x ∷ xs) = by_look (look x) refl (each-found P look k xs) 
 pub each-map : {A B : Type 0} (P : B → Type 0) (f : A → B) (xs : List A) → Each (λ x. P (f x)) xs → Each P (map f xs)
 each-map P f [] h = tt
 each-map P f (x ∷ xs) h = (h.0, each-map P f xs h.1)
-
-pub some-parts : {A : Type 0} {x y : A} → Some x ≡ Some y → x ≡ y
-some-parts e = cc
 
 -- what an outstanding Prepare says
 abbrev pub IsOwed : CoordPast → Tid → Due → Type 0

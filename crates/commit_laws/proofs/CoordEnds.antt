@@ -23,8 +23,9 @@ use Rattle.fed_rules.specs.CoordRecords.{coord_frame, initiated, required, is_no
 use Rattle.commit_laws.specs.Records.{IsEnd}
 use Rattle.commit_laws.proofs.Disks.{appended, IsQuiet, quiet-plain, plain-records}
 use Rattle.commit_laws.proofs.CoordFacts.{IsOpen, IsInitiation, IsUnmarked, IsUncommitted, IsEnding, AtAbort, WroteAll, Stands, Same, Decides, IsTelling, Now, Tells, Counted, Goes}
-use Rattle.commit_laws.proofs.CoordRules.{of-same, standing-on, acked-on, IsNoAck}
+use Rattle.commit_laws.proofs.CoordRules.{standing-on, acked-on, IsNoAck}
 use Rattle.commit_laws.proofs.CoordDues.{each-map}
+use Rattle.commit_laws.proofs.Names.{of-same}
 
 -- the calls of a decision that may forget at once
 pub end-part : (P : List (Call CoordRecord) → Type 0) (t : Tid) (f i : Bool) → (f ≡ true → i ≡ true → P (Append (Rec.End t) ∷ []))

@@ -15,6 +15,7 @@ use Rattle.fed_rules.specs.declared.records.CoordRecord.TheVariants as Rec
 use Rattle.fed_rules.specs.CoordRecords.{initiated, has_commit, has_end, outcome, required_of, required, is_nobody}
 use Rattle.commit_laws.specs.Records.{IsEnd, IsCommit}
 use Rattle.commit_laws.proofs.CoordFacts.{IsInitiation, IsUncommitted, IsDecidedBy}
+use Rattle.commit_laws.proofs.Names.{same-of}
 
 -- an Initiation record of the attempt with these participants
 abbrev pub IsInitiationOf : Tid → List Participant → CoordRecord → Type 0
@@ -25,9 +26,6 @@ IsInitiationOf g ms kept = ⊥
 abbrev pub IsEndOf : Tid → CoordRecord → Type 0
 IsEndOf g (Rec.End tid) = tid ≡ g
 IsEndOf g kept = ⊥
-
-pub same-of : (t g : Tid) → t ≡ g → same_tid t g ≡ true
-same-of t g e = subst (λ u. same_tid t u ≡ true) e (same_tid-refl t)
 
 pub commit-among : (g : Tid) (rs : List CoordRecord) → has_commit rs g ≡ true → Among (IsCommit g) rs
 commit-among g [] e = cc

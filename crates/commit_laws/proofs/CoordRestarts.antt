@@ -34,10 +34,11 @@ use Rattle.fed_rules.specs.CoordRecords.{coord_frame, initiated, initiated_tids,
 use Rattle.commit_laws.specs.Records.{IsEnd, IsCommit}
 use Rattle.commit_laws.proofs.Disks.{appended, IsQuiet, quiet-plain, plain-records}
 use Rattle.commit_laws.proofs.CoordFacts.{IsOpen, IsInitiation, IsUnmarked, IsCommitting, IsEnding, AtCommit, AtAck, AtBack, WroteAll, Stands, Same, Decides, Forgets, Restarts, IsTelling, Now, Known, Tells, Counted, Goes}
-use Rattle.commit_laws.proofs.CoordRules.{goes-when, goes-pick, of-same, acked-on, calm-standing, calm-acked, silently, ignored}
+use Rattle.commit_laws.proofs.CoordRules.{goes-when, goes-pick, acked-on, calm-standing, calm-acked, silently, ignored}
 use Rattle.commit_laws.proofs.CoordDues.{each-map, IsOwed, all-owed, news-owed, by-go, by-dues, by-inquiry, by-fate}
 use Rattle.commit_laws.proofs.CoordEnds.{end-part, acked-off, decided-standing, other-standing, by-aborts}
 use Rattle.commit_laws.proofs.CoordCommits.{by-vote, by-did}
+use Rattle.commit_laws.proofs.Names.{of-same}
 
 -- an acknowledgement that counts
 by-ack_counts : (protocols : List Participant) (g : Tid) (past : CoordPast) (site : SiteId) (t : Tid) (decision : Decision)

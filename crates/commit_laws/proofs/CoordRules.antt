@@ -44,10 +44,6 @@ unfolding pick
 goes-pick protocols g past event None x y p q = p refl
 goes-pick protocols g past event (Some a) x y p q = q a refl
 
--- what holds of an attempt holds of the one that the test finds the same
-pub of-same : (P : Tid → Type 0) (t g : Tid) → P t → same_tid t g ≡ true → P g
-of-same P t g p e = subst P (same_tid-equal t g e) p
-
 pub cond-same : {A : Type 0} (b : Bool) (x : A) → cond b x x ≡ x
 cond-same true x = refl
 cond-same false x = refl

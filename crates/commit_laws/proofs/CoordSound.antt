@@ -24,7 +24,8 @@ use Rattle.commit_laws.proofs.Links.{IsGlobal}
 use Rattle.commit_laws.proofs.Lists.{among-split, among-right, cut-old, cut-stays}
 use Rattle.commit_laws.proofs.CoordFacts.{IsOpen, IsInitiation, IsCommitting, WroteAll, Same, Starts, Decides, Forgets, Restarts}
 use Rattle.commit_laws.proofs.CoordLines.{Kept, Stood, Stopped, Through}
-use Rattle.commit_laws.proofs.CoordLists.{IsInitiationOf, IsEndOf, same-of}
+use Rattle.commit_laws.proofs.CoordLists.{IsInitiationOf, IsEndOf}
+use Rattle.commit_laws.proofs.Names.{same-of}
 
 -- the attempt was begun
 abbrev pub IsBegun : CoordPast → Tid → Type 0

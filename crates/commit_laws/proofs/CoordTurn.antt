@@ -27,10 +27,11 @@ use Rattle.commit_laws.proofs.Links.{IsGlobal}
 use Rattle.commit_laws.proofs.Lists.{among-split, each-not}
 use Rattle.commit_laws.proofs.CoordFacts.{IsOpen, IsUnmarked, IsCommitting, IsEnding, AtCommit, AtAbort, AtAck, AtBack, WroteAll, Same, Starts, Decides, Forgets, Restarts}
 use Rattle.commit_laws.proofs.CoordLines.{Stood, Stopped, Through, Line}
-use Rattle.commit_laws.proofs.CoordLists.{IsInitiationOf, same-of, commit-among, among-commit, initiation-of, among-initiated, some-initiation, decided-outcome, those-among}
+use Rattle.commit_laws.proofs.CoordLists.{IsInitiationOf, commit-among, among-commit, initiation-of, among-initiated, some-initiation, decided-outcome, those-among}
 use Rattle.fed_rules.specs.Happenings.{quiet}
 use Rattle.commit_laws.proofs.CoordSound.{Declared, IsBegun, IsYes, IsMark, CoordSound, kept-from, kept-stays, end-commit, commit-mark, written-commit, written-initiation, kept-not-open, decided-not-open, still-open, begins-go, program-stays}
 use Rattle.commit_laws.proofs.Taken.{vote-taken, each-of-at}
+use Rattle.commit_laws.proofs.Names.{same-of}
 
 -- the next line of a coordinator of which the invariant holds
 pub record Turn (scenario : Scenario) (home : Home) (g : Tid) (past : CoordPast) (event : CoordEvent)

@@ -11,7 +11,7 @@ use Rattle.fed_rules.specs.declared.scenario.SiteLine.{SiteLine}
 use Rattle.fed_rules.specs.Coord.{protocol_of}
 use Rattle.fed_rules.specs.Scenarios.{home_in, home_of, items_of, protocols_in, protocols}
 use Rattle.fed_rules.specs.SiteRecords.{Home}
-use Rattle.commit_laws.proofs.Links.{some-parts, same-site}
+use Rattle.commit_laws.proofs.Names.{same-site, some-parts}
 
 abbrev pub by_site : Participant → Participant → Bool
 by_site a b = nat_lt a.site.0 b.site.0

@@ -19,6 +19,7 @@ pub mod Durable
 pub mod ForgettingProofs
 pub mod Links
 pub mod Lists
+pub mod Names
 pub mod OutcomeLaws
 pub mod PreparedLaws
 pub mod Refuted

@@ -27,15 +27,7 @@ use Rattle.fed_rules.specs.Site.{site_line}
 use Rattle.fed_rules.specs.SitePast.{SiteHappening}
 use Rattle.fed_rules.specs.SiteRecords.{Home}
 use Rattle.fed_rules.specs.Story.{Story, Happened, AtSite, AtCoordinator, Nowhere, past_of, coord_past, sent_to, sent_from, happens, at_site, at_coordinator, begins_local, on_begin, with_live, next_step, on_step, on_commit, on_abort, on_fate, begins_global, on_go, on_attempt, on_site, on_give, on_take, on_actor}
-
-pub some-parts : {A : Type 0} {x y : A} → Some x ≡ Some y → x ≡ y
-some-parts e = cc
-
-pub same-site : (a b : SiteId) → same_site a b ≡ true → a ≡ b
-same-site a b h = let P : ℕ → SiteId = λ n. record { 0 = n } in ap P (eqb-true a.0 b.0 h)
-
-pub same-site-refl : (a : SiteId) → same_site a a ≡ true
-same-site-refl a = eq-eqb a.0 a.0 refl
+use Rattle.commit_laws.proofs.Names.{same-site, some-parts}
 
 -- the home that a line declares
 abbrev home_at_line : SiteLine → List ItemLine → SiteId → Home

@@ -39,8 +39,9 @@ use Rattle.commit_laws.proofs.CoordSound.{IsYes, kept-stays, end-commit}
 use Rattle.commit_laws.proofs.CoordTurn.{Turn}
 use Rattle.commit_laws.proofs.Declared.{is-declared, by_site}
 use Rattle.commit_laws.proofs.Durable.{safe-or-loose}
-use Rattle.commit_laws.proofs.Links.{Linked, linked, home-again, its-site, same-site-refl}
+use Rattle.commit_laws.proofs.Links.{Linked, linked, home-again, its-site}
 use Rattle.commit_laws.proofs.SiteLists.{loose-prepared}
+use Rattle.commit_laws.proofs.Names.{same-site-refl}
 
 yes-ticket : (g : Tid) (site : SiteId) (past : CoordPast) → Among (λ x. IsYes g site x.event) past
     → (ticket : ℕ) × Among (λ x. x.event ≡ Coord_event.Take site (From.Vote g (Some ticket))) past

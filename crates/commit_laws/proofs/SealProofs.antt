@@ -25,11 +25,12 @@ use Rattle.commit_laws.specs.SealLaws.{IsNextAt, AttemptsAreSealedOnce, DecidedA
 use Rattle.commit_laws.proofs.Agree.{IsGot, IsOver, Agree, Agrees}
 use Rattle.commit_laws.proofs.AgreeSite.{SiteTurn, bars}
 use Rattle.commit_laws.proofs.Agreed.{agreed, at-site}
-use Rattle.commit_laws.proofs.Links.{IsNext, linked, linked-here, home-again, its-site, same-site-refl}
+use Rattle.commit_laws.proofs.Links.{IsNext, linked, linked-here, home-again, its-site}
 use Rattle.commit_laws.proofs.OutcomeLaws.{outcome-commits}
 use Rattle.commit_laws.proofs.PreparedLaws.{committed-prepared}
 use Rattle.commit_laws.proofs.SiteLists.{tidy-doubt, settled-ended}
 use Rattle.commit_laws.proofs.SiteWork.{held-prepared}
+use Rattle.commit_laws.proofs.Names.{same-site-refl}
 
 -- the next line of the site, with the invariant before it
 abbrev pub Next : Scenario → List Command → Home → Tid → SiteEvent → SiteHappening → Type 0

@@ -27,8 +27,9 @@ use Rattle.commit_laws.proofs.SiteFacts.{WroteOne, IsSettling, IsAcking, Says, S
 use Rattle.commit_laws.proofs.SiteShut.{other-line, this-line, shut-on, restored-sealed}
 use Rattle.commit_laws.proofs.Disks.{appended, IsQuiet}
 use Rattle.fed_rules.specs.SitePast.{disk}
-use Rattle.commit_laws.proofs.SiteRules.{step-pick, of-same, quietly, by-begin, by-act, by-commit, by-abort, by-fate, by-drop, by-ask}
+use Rattle.commit_laws.proofs.SiteRules.{step-pick, quietly, by-begin, by-act, by-commit, by-abort, by-fate, by-drop, by-ask}
 use Rattle.commit_laws.proofs.SiteWork.{by-work, by-take, by-prepare}
+use Rattle.commit_laws.proofs.Names.{of-same}
 
 settling-tid : (tid : Tid) (d : Decision) → tid_of (settling_line tid d) ≡ tid
 settling-tid tid Decided.Commit = refl

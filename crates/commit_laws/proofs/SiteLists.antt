@@ -11,6 +11,7 @@ use Rattle.fed_rules.specs.declared.records.SiteRecord.{SiteRecord}
 use Rattle.fed_rules.specs.declared.records.SiteRecord.TheVariants as Rec
 use Rattle.fed_rules.specs.SiteRecords.{Held, doubt_of, epoch_of}
 use Rattle.commit_laws.specs.Records.{IsPrepared, IsEnded, IsLooseEnded}
+use Rattle.commit_laws.proofs.Names.{same-of}
 
 -- neither a Prepared nor an Ended record of the attempt
 pub record Free (g : Tid) (rs : List SiteRecord) : Type 0 where
@@ -24,9 +25,6 @@ IsTidy g (r ∷ rs) = ((e : ℕ) → IsPrepared g e r → Free g rs) × IsTidy g
 pub tidy-behind : (g : Tid) (newer now : List SiteRecord) → IsTidy g (newer ++ now) → IsTidy g now
 tidy-behind g [] now t = t
 tidy-behind g (r ∷ newer) now t = tidy-behind g newer now t.1
-
-same-of : (t g : Tid) → t ≡ g → same_tid t g ≡ true
-same-of t g e = subst (λ u. same_tid t u ≡ true) e (same_tid-refl t)
 
 -- an attempt with a Prepared and an Ended record isn't in doubt
 pub tidy-doubt : (g : Tid) (rs : List SiteRecord) (e : ℕ) (d : Decision) → IsTidy g rs → Among (IsPrepared g e) rs

@@ -25,6 +25,7 @@ use Rattle.fed_rules.specs.SitePast.{SiteHappening, SitePast, records, epoch_sta
 use Rattle.fed_rules.specs.SiteRecords.{Home, Held, doubt_of}
 use Rattle.commit_laws.proofs.SiteFacts.{Says, Settled, NotBegun, Shut, Step}
 use Rattle.commit_laws.proofs.SiteShut.{Leaves, leaves-shut, other-line, other-lines, this-line, given-up, shut-on}
+use Rattle.commit_laws.proofs.Names.{of-same}
 
 pub step-when : (home : Home) (g : Tid) (past : SitePast) (event : SiteEvent) (b : Bool) (x y : SiteHappening)
     → (b ≡ true → Step home g past event x) → (b ≡ false → Step home g past event y) → Step home g past event (when b x y)
@@ -38,10 +39,6 @@ pub step-pick : {A : Type 0} (home : Home) (g : Tid) (past : SitePast) (event : 
 unfolding pick
 step-pick home g past event None x y p q = p refl
 step-pick home g past event (Some a) x y p q = q a refl
-
--- what holds of an attempt holds of the one that the test finds the same
-pub of-same : (P : Tid → Type 0) (t g : Tid) → P t → same_tid t g ≡ true → P g
-of-same P t g p e = subst P (same_tid-equal t g e) p
 
 -- an answer that says neither that the site stops or starts, nor that it settles
 abbrev pub IsCalm : Answer → Type 0

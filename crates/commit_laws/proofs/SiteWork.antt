@@ -25,7 +25,8 @@ use Rattle.fed_rules.specs.SiteRecords.{Home, Held, doubt_of}
 use Rattle.commit_laws.specs.Records.{IsPrepared}
 use Rattle.commit_laws.proofs.SiteFacts.{IsSealing, Shut, Step}
 use Rattle.commit_laws.proofs.SiteShut.{other-line, other-lines, this-line, given-up, sealed-now, shut-on}
-use Rattle.commit_laws.proofs.SiteRules.{step-when, step-pick, of-same, IsNoDecision, Touches, no-lines, one-line, calm, acts-stay, takes-stay}
+use Rattle.commit_laws.proofs.SiteRules.{step-when, step-pick, IsNoDecision, Touches, no-lines, one-line, calm, acts-stay, takes-stay}
+use Rattle.commit_laws.proofs.Names.{of-same, some-parts}
 
 -- an operation's answer
 by-did : (home : Home) (g : Tid) (past : SitePast) (message : ToSite) (tid : Tid) (n : ℕ) (reply : Reply) (lines : List EngineLine)
@@ -126,9 +127,6 @@ by-take home g past tid e n up =
     step-when home g past (Ev.Give (To.Take tid e n)) _ _ _ (λ b. by-unknown home g past (To.Take tid e n) tid n up tt)
     (λ free. step-pick home g past (Ev.Give (To.Take tid e n)) _ _ _ (λ none. by-unknown home g past (To.Take tid e n) tid n up tt)
     (λ run alive. by-take_live home g past (To.Take tid e n) tid e n run up tt alive))
-
-some-parts : {A : Type 0} {x y : A} → Some x ≡ Some y → x ≡ y
-some-parts e = cc
 
 -- a Prepared record that is in doubt stands among the records
 pub held-prepared : (rs : List SiteRecord) (t : Tid) (h : Held) → doubt_of rs t ≡ Some h → Among (IsPrepared t h.epoch) rs

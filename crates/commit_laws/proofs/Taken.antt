@@ -14,8 +14,8 @@ use Rattle.fed_rules.specs.declared.messages.FromSite.TheVariants as From
 use Rattle.fed_rules.specs.CoordPast as Past
 use Rattle.fed_rules.specs.CoordPast.{CoordHappening, CoordPast, is_ticket, is_about, decides, begins, counts, acks_in, has_acked, vote_in, or_vote, vote_at, did_in, counted, counted_at, last_epoch, epoch_at, has_ticket_at}
 use Rattle.fed_rules.specs.Happenings.{stops, comes_up}
-use Rattle.commit_laws.proofs.Links.{same-site}
 use Rattle.commit_laws.proofs.CoordSound.{IsYes, IsAcked}
+use Rattle.commit_laws.proofs.Names.{same-site}
 
 -- an acknowledgement that counts at a line is taken there
 acks-event : (g : Tid) (site : SiteId) (x : CoordHappening) → acks_in g site x ≡ true → x.event ≡ Ev.Take site (From.Ack g)
