@@ -1,8 +1,8 @@
 -- An attempt is sealed at most once at a site; an acknowledged one is over; a commit never meets a live run of the known epoch.
-use Rattle.std.proofs.Common.{◌≡◌, ◌<◌, inl, inr, Bool, true, false, ◌||◌, is_some, Option, Some, None, List, refl, sym, ap, subst, ◌∙◌, arith}
+use Rattle.std.proofs.Common.{◌≡◌, ◌<◌, inl, inr, Bool, true, false, ◌||◌, is_some, Option, Some, None, List, refl, sym, ap, subst, ◌∙◌, arith, ℕ, ◌≤◌}
 use Rattle.std.proofs.lemmas.Bool.{or_left, or_right}
 use Rattle.mdb_base.specs.declared.names.Tid.{Tid}
-use Rattle.mdb_base.specs.Words.{Each, Among}
+use Rattle.mdb_base.specs.Words.{Each, Among, how_many}
 use Rattle.order_laws.specs.Chains.{In}
 use Rattle.order_laws.proofs.Lists.{each_from, is_among}
 use Rattle.presumptions.specs.declared.Decision.{Decision}
@@ -20,15 +20,16 @@ use Rattle.fed_rules.specs.Scenarios.{home_of}
 use Rattle.fed_rules.specs.SitePast.{SiteHappening, SitePast, records, epoch, live, is_closed}
 use Rattle.fed_rules.specs.SiteRecords.{Home, Held, doubt_of}
 use Rattle.fed_rules.specs.Story.{AtSite, coord_past, past_of, sent_to, sent_from, story_of}
-use Rattle.commit_laws.specs.Seals.{seals, IsPrepareOf}
-use Rattle.commit_laws.specs.SealLaws.{IsNextAt, AttemptsAreSealedOnce, DecidedAreNotSealed, AcknowledgedAreNotInDoubt, AcknowledgedAreNotSealed, CommitsMeetNoLiveRun}
+use Rattle.commit_laws.specs.Records.{IsPrepared}
+use Rattle.commit_laws.specs.Seals.{is_prepared, seals, IsPrepareOf}
+use Rattle.commit_laws.specs.SealLaws.{IsNextAt, AttemptsAreSealedOnce, OnePreparedIsKept, PreparedInTheKnownEpoch, DecidedAreNotSealed, AcknowledgedAreNotInDoubt, AcknowledgedAreNotSealed, CommitsMeetNoLiveRun}
 use Rattle.commit_laws.proofs.Agree.{IsGot, IsOver, Agree, Agrees}
 use Rattle.commit_laws.proofs.AgreeSite.{SiteTurn, bars}
 use Rattle.commit_laws.proofs.Agreed.{agreed, at-site}
 use Rattle.commit_laws.proofs.Links.{IsNext, linked, linked-here, home-again, its-site}
 use Rattle.commit_laws.proofs.OutcomeLaws.{outcome-commits}
 use Rattle.commit_laws.proofs.PreparedLaws.{committed-prepared}
-use Rattle.commit_laws.proofs.SiteLists.{tidy-doubt, settled-ended}
+use Rattle.commit_laws.proofs.SiteLists.{tidy-doubt, settled-ended, tidy-once}
 use Rattle.commit_laws.proofs.SiteWork.{held-prepared}
 use Rattle.commit_laws.proofs.Names.{same-site-refl}
 
@@ -207,3 +208,17 @@ commits-meet-no-live-run scenario commands site home declared =
     (run : Run) → live home (past_of s (story_of scenario commands)) tid ≡ Some run → epoch_at
     (coord_past (story_of scenario commands)) tid s < epoch home (past_of s (story_of scenario commands)))
     (its-site scenario site home declared) (no-live scenario commands home (home-again scenario site home declared))
+
+pub one-prepared-is-kept : OnePreparedIsKept
+one-prepared-is-kept scenario commands site home declared =
+    subst (λ s. (tid : Tid) → how_many (is_prepared tid) (records home (past_of s (story_of scenario commands))) ≤ 1)
+    (its-site scenario site home declared)
+    (λ tid. tidy-once tid (records home (past_of home.site (story_of scenario commands))) (agreed scenario home tid commands (home-again scenario site home declared)).tidy)
+
+pub prepared-in-the-known-epoch : PreparedInTheKnownEpoch
+prepared-in-the-known-epoch scenario commands site home declared =
+    subst (λ s. (tid : Tid) (e : ℕ) → Among (IsPrepared tid e) (records home (past_of s (story_of scenario commands))) → e ≡ epoch_at (coord_past (story_of scenario commands)) tid s)
+    (its-site scenario site home declared)
+    (λ tid e m.
+    let a = agreed scenario home tid commands (home-again scenario site home declared) in
+    let p = a.prepared e m in (a.preparing e p.0 p.1).epoch)

@@ -1,8 +1,8 @@
 -- A site's records about one attempt: no Prepared record stands behind another one or an Ended record of it.
-use Rattle.std.proofs.Common.{◌≡◌, ℕ, inl, inr, Bool, true, false, cond, Some, None, List, [], ◌∷◌, ◌++◌, refl, ap, subst}
+use Rattle.std.proofs.Common.{◌≡◌, ℕ, inl, inr, Bool, true, false, cond, Some, None, List, [], ◌∷◌, ◌++◌, refl, ap, subst, suc, ◌≤◌, arith}
 use Rattle.mdb_base.specs.declared.names.Tid.{Tid}
 use Rattle.mdb_base.specs.Names.{same_tid}
-use Rattle.mdb_base.specs.Words.{Each, Among}
+use Rattle.mdb_base.specs.Words.{Each, Among, how_many}
 use Rattle.mdb_base.proofs.NameLaws.{same_tid-equal, same_tid-refl}
 use Rattle.presumptions.specs.declared.Decision.{Decision}
 use Rattle.presumptions.specs.declared.Protocol.{Protocol}
@@ -10,6 +10,7 @@ use Rattle.presumptions.specs.Table.{forces}
 use Rattle.fed_rules.specs.declared.records.SiteRecord.{SiteRecord}
 use Rattle.fed_rules.specs.declared.records.SiteRecord.TheVariants as Rec
 use Rattle.fed_rules.specs.SiteRecords.{Held, doubt_of, epoch_of}
+use Rattle.commit_laws.specs.Seals.{is_prepared}
 use Rattle.commit_laws.specs.Records.{IsPrepared, IsEnded, IsLooseEnded}
 use Rattle.commit_laws.proofs.Names.{same-of}
 
@@ -109,3 +110,29 @@ loose-forced p g d f (Rec.Setup site engine protocol items) l h = h
 loose-forced p g d f (Rec.Start k) l h = h
 loose-forced p g d f (Rec.Prepared tid k number ticket writes) l h = h
 loose-forced p g d f (Rec.Local tid number writes) l h = h
+
+-- without a Prepared record of the attempt none is counted
+none-counted : (g : Tid) (rs : List SiteRecord) → ((e : ℕ) → Among (IsPrepared g e) rs → ⊥) → how_many (is_prepared g) rs ≡ 0
+none-counted g [] f = refl
+none-counted g (Rec.Prepared tid k number ticket writes ∷ rs) f = by_test (same_tid tid g) refl (none-counted g rs (λ e m. f e (inr m))) where
+  by_test : (b : Bool) → same_tid tid g ≡ b → how_many (is_prepared g) rs ≡ 0
+      → cond b (suc (how_many (is_prepared g) rs)) (how_many (is_prepared g) rs) ≡ 0
+  by_test true q h = absurd (f k (inl (same_tid-equal tid g q, refl)))
+  by_test false q h = h
+none-counted g (Rec.Ended tid made ∷ rs) f = none-counted g rs (λ e m. f e (inr m))
+none-counted g (Rec.Setup site engine protocol items ∷ rs) f = none-counted g rs (λ e m. f e (inr m))
+none-counted g (Rec.Start k ∷ rs) f = none-counted g rs (λ e m. f e (inr m))
+none-counted g (Rec.Local tid number writes ∷ rs) f = none-counted g rs (λ e m. f e (inr m))
+
+-- tidy records have one Prepared record of the attempt at most
+pub tidy-once : (g : Tid) (rs : List SiteRecord) → IsTidy g rs → how_many (is_prepared g) rs ≤ 1
+tidy-once g [] t = omega arith
+tidy-once g (Rec.Prepared tid k number ticket writes ∷ rs) t = by_test (same_tid tid g) refl (tidy-once g rs t.1) where
+  by_test : (b : Bool) → same_tid tid g ≡ b → how_many (is_prepared g) rs ≤ 1
+      → cond b (suc (how_many (is_prepared g) rs)) (how_many (is_prepared g) rs) ≤ 1
+  by_test true q h = let none = none-counted g rs (t.0 k (same_tid-equal tid g q, refl)).prepared in omega (arith, none)
+  by_test false q h = h
+tidy-once g (Rec.Ended tid made ∷ rs) t = tidy-once g rs t.1
+tidy-once g (Rec.Setup site engine protocol items ∷ rs) t = tidy-once g rs t.1
+tidy-once g (Rec.Start k ∷ rs) t = tidy-once g rs t.1
+tidy-once g (Rec.Local tid number writes ∷ rs) t = tidy-once g rs t.1
