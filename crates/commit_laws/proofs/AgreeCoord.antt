@@ -60,7 +60,8 @@ told-to protocols g past x site [] m h i = absurd i
 told-to protocols g past x site (s ∷ sends) m h i = by_test (same_site s.site site) refl i
     (told-to protocols g past x site sends m h.1) where
       by_test : (b : Bool) → same_site s.site site ≡ b
-          → In m (map (λ k. k.message) (cond b (s ∷ those (λ k. same_site k.site site) sends) (those (λ k. same_site k.site site) sends)))
+          → In m (map (λ k. k.message)
+          (cond b (s ∷ those (λ k. same_site k.site site) sends) (those (λ k. same_site k.site site) sends)))
           → (In m (to_site site sends) → Says protocols g past x site m) → Says protocols g past x site m
       by_test true q (inl e) k = subst (Says protocols g past x site) e
           (subst (λ at. Says protocols g past x at s.message) (same-site s.site site q) h.0)
@@ -80,7 +81,8 @@ fits-visits past g site n reply f = by_test (visits site (program past g)) refl 
 reply-counts : (scenario : Scenario) (home : Home) (g : Tid) (past : CoordPast) (event : CoordEvent) (x : CoordHappening) (e n : ℕ)
     (reply : Reply) → Turn scenario home g past event x → x.event ≡ Coord_event.Take home.site (From.Did g e n reply)
     → counts x.answer ≡ true
-    → IsOpen past g × (((epoch_at past g home.site == 0) || (e == epoch_at past g home.site)) ≡ true) × (visits home.site (program past g) ≡ true)
+    → IsOpen past g × (((epoch_at past g home.site == 0) || (e == epoch_at past g home.site)) ≡ true) ×
+    (visits home.site (program past g) ≡ true)
 reply-counts scenario home g past event x e n reply t is c =
     let counted = subst (Counted g past) (sym t.line.is ∙ is) (t.line.counted c) (same_tid-refl g) in
     let parts = and_parts (is_undecided (standing past g) && fits (outstanding past g home.site) n reply)
@@ -196,7 +198,8 @@ coord-next scenario home g past here sent back event x n = record {
       (arith, f, low)
 
   counted : Counting past g home.site x
-      → (counted_at (x ∷ past) g home.site ≡ []) ⊎ ((1 ≤ epoch_at (x ∷ past) g home.site) × (visits home.site (program (x ∷ past) g) ≡ true))
+      → (counted_at (x ∷ past) g home.site ≡ []) ⊎
+      ((1 ≤ epoch_at (x ∷ past) g home.site) × (visits home.site (program (x ∷ past) g) ≡ true))
   counted (Unchanged b e) = elim a.counted [
     | inl none ↦ inl (e ∙ none)
     | inr (one, v) ↦ inr (

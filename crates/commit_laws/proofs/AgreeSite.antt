@@ -3,7 +3,6 @@ use Rattle.std.proofs.Common.{◌≡◌, ℕ, ◌<◌, ◌≤◌, ◌⊎◌, inl
 use Rattle.std.proofs.lemmas.Bool.{or_left}
 use Rattle.mdb_base.specs.declared.names.Tid.{Tid}
 use Rattle.mdb_base.specs.declared.replies.Reply.{Reply}
-use Rattle.mdb_base.specs.Names.{same_tid}
 use Rattle.mdb_base.specs.Words.{Each, Among, some_of}
 use Rattle.mdb_base.proofs.NameLaws.{same_tid-refl}
 use Rattle.order_laws.specs.Chains.{In}
@@ -318,7 +317,8 @@ site-turn scenario home g past here sent back event x t = record {
     where
       later : (((k : ℕ) × Among (IsPrepared g k) (records home here)) ⊎ (is_down here ≡ true)) ⊎
           (epoch_at past g home.site < epoch home here)
-          → (((k : ℕ) × Among (IsPrepared g k) (records home (x ∷ here))) ⊎ (is_down (x ∷ here) ≡ true)) ⊎ (epoch_at past g home.site < epoch home (x ∷ here))
+          → (((k : ℕ) × Among (IsPrepared g k) (records home (x ∷ here))) ⊎ (is_down (x ∷ here) ≡ true)) ⊎
+          (epoch_at past g home.site < epoch home (x ∷ here))
       later (inl (inl (k, p))) = inl (inl
           (k, site-stays home g here event (records home (x ∷ here)) (IsPrepared g k) (loose-prepared home.protocol g k) t.line.kept p))
       later (inl (inr d)) = elim (still_down d (comes_up x.answer) refl) [ inl e ↦ inl (inr e) | inr less ↦ inr less ]

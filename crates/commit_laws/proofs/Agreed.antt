@@ -99,7 +99,8 @@ not-begun scenario site story g Ev.Back came global = tt
 pub at-site : (scenario : Scenario) (home : Home) (g : Tid) (story : Story) (event : SiteEvent)
     → SiteCame scenario home.site story event
     → Agrees scenario home g story
-    → SiteTurn scenario home g (coord_past story) (past_of home.site story) (sent_to home.site story) (sent_from home.site story) event (site_line home (past_of home.site story) event)
+    → SiteTurn scenario home g (coord_past story) (past_of home.site story) (sent_to home.site story) (sent_from home.site story) event
+    (site_line home (past_of home.site story) event)
 at-site scenario home g story event came a = record {
   agree = a;
   line = site-lines home g (past_of home.site story) event a.firm;
@@ -120,7 +121,8 @@ turn scenario home g story event came s = record {
 at-coordinator : (scenario : Scenario) (home : Home) (g : Tid) (story : Story) (event : CoordEvent)
     → home_of scenario home.site ≡ Some home → CoordCame scenario story event
     → Agrees scenario home g story
-    → CoordNext scenario home g (coord_past story) (past_of home.site story) (sent_to home.site story) (sent_from home.site story) event (coord_line (protocols scenario) (coord_past story) event)
+    → CoordNext scenario home g (coord_past story) (past_of home.site story) (sent_to home.site story)
+    (sent_from home.site story) event (coord_line (protocols scenario) (coord_past story) event)
 at-coordinator scenario home g story event declared came a = record {
   agree = a;
   turn = turn scenario home g story event came a.sound;
@@ -133,7 +135,8 @@ at-coordinator scenario home g story event declared came a = record {
 next : (scenario : Scenario) (home : Home) (g : Tid) (story : Story) (happened : Happened) → home_of scenario home.site ≡ Some home
     → Linked scenario story happened
     → Agrees scenario home g story
-    → Agree scenario home g (with_coordinator happened (coord_past story)) (with_site home.site happened (past_of home.site story)) (sent_to home.site story ++ sends_to home.site happened) (sent_from home.site story ++ sends_from home.site happened)
+    → Agree scenario home g (with_coordinator happened (coord_past story)) (with_site home.site happened (past_of home.site story))
+    (sent_to home.site story ++ sends_to home.site happened) (sent_from home.site story ++ sends_from home.site happened)
 next scenario home g story (Nowhere answer) declared l a =
     subst (λ m. Agree scenario home g (coord_past story) (past_of home.site story) m (sent_from home.site story ++ []))
     (sym (append-nil (sent_to home.site story)))
@@ -156,7 +159,8 @@ next scenario home g story (AtSite at x) declared l a =
     (by_test (same_site at home.site) refl)
   where
     by_test : (b : Bool) → same_site at home.site ≡ b
-        → Agree scenario home g (coord_past story) (cond b (x ∷ past_of home.site story) (past_of home.site story)) (sent_to home.site story) (sent_from home.site story ++ cond b x.sends [])
+        → Agree scenario home g (coord_past story) (cond b (x ∷ past_of home.site story) (past_of home.site story))
+        (sent_to home.site story) (sent_from home.site story ++ cond b x.sends [])
     by_test false q = subst (λ m. Agree scenario home g (coord_past story) (past_of home.site story) (sent_to home.site story) m)
         (sym (append-nil (sent_from home.site story))) a
     by_test true q =

@@ -141,7 +141,8 @@ pub turn-ended : (scenario : Scenario) (home : Home) (g : Tid) (past : CoordPast
     → Turn scenario home g past event x → Among (IsEndOf g) (records (x ∷ past)) → IsClear scenario home g (x ∷ past)
 turn-ended scenario home g past event x t m = elim
     (kept-from (protocols scenario) g past event (records (x ∷ past)) (IsEndOf g) t.line.kept m) [
-      | inl i ↦ let r = t.sound.marked (end-mark g (records past) i) in clear-stays scenario home g past event x t r.0 r.1 (t.sound.ended i)
+      | inl i ↦ let r = t.sound.marked (end-mark g (records past) i) in clear-stays scenario home g past event x t r.0 r.1
+          (t.sound.ended i)
       | inr (kept, w, e, i) ↦ by_end kept e (ends-for scenario home g past event kept t.sound w i)
     ] where
       by_end : (kept : List CoordRecord) → records (x ∷ past) ≡ kept ++ records past → EndsFor g past event kept
@@ -151,10 +152,12 @@ turn-ended scenario home g past event x t m = elim
           let begun = initiation-begun scenario home g past t.sound m in
           let visited = ap (visits home.site) (sym (same-program scenario home g past event x t begun)) ∙ v in
           let acking = ap (acks home.protocol) (sym (ap (λ rs. outcome rs g) e ∙ r.outcome)) ∙ a in
-          let needed = required-here scenario home g past r.decision (old-names scenario home g past t.sound) declared m acking visited in
+          let needed = required-here scenario home g past r.decision
+          (old-names scenario home g past t.sound) declared m acking visited in
           elim r.required [
             | inl nobody ↦ absurd
-                (nobody-none (λ k. (k.site ≡ home.site) × (k.protocol ≡ home.protocol)) (required (records past) g r.decision) nobody needed)
+                (nobody-none (λ k. (k.site ≡ home.site) × (k.protocol ≡ home.protocol))
+                (required (records past) g r.decision) nobody needed)
             | inr (known, nobody) ↦ acked-later g past event x home.site t.line.is
                 (none-missing g (quiet event Say.Acked ∷ past) r.decision home nobody needed)
           ]

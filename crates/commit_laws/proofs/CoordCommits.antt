@@ -1,41 +1,35 @@
 -- Commits, votes and replies at the coordinator: the facts on one attempt hold of their lines.
-use Rattle.std.proofs.Common.{◌≡◌, ℕ, ◌⊎◌, inl, inr, Bool, true, false, cond, not, ◌&&◌, ◌||◌, ◌==◌, is_some, Option, Some, None, List, [], ◌∷◌, ◌++◌, map, refl, ap, subst}
-use Rattle.std.proofs.lemmas.Bool.{and_parts, and_right}
+use Rattle.std.proofs.Common.{◌≡◌, ℕ, inl, inr, Bool, true, false, cond, ◌&&◌, ◌||◌, ◌==◌, is_some, Option, Some, None, List, [], ◌∷◌, refl, ap}
+use Rattle.std.proofs.lemmas.Bool.{and_parts}
 use Rattle.mdb_base.specs.declared.names.SiteId.{SiteId}
 use Rattle.mdb_base.specs.declared.names.SiteTicket.{SiteTicket}
 use Rattle.mdb_base.specs.declared.names.Tid.{Tid}
 use Rattle.mdb_base.specs.declared.replies.Reply.{Reply}
 use Rattle.mdb_base.specs.declared.replies.Reply.TheVariants as Reply_is
 use Rattle.mdb_base.specs.declared.replies.Why.TheVariants as Because
-use Rattle.mdb_base.specs.Names.{same_tid, same_site}
-use Rattle.mdb_base.specs.Words.{Each, Among, those}
-use Rattle.mdb_base.proofs.ListLaws.{each_map, each_all, append_each, those_pass, each_filtered}
+use Rattle.mdb_base.specs.Names.{same_tid}
+use Rattle.mdb_base.specs.Words.{Each, Among}
+use Rattle.mdb_base.proofs.ListLaws.{each_all}
 use Rattle.mdb_base.proofs.NameLaws.{same_tid-equal, same_tid-refl}
 use Rattle.order_laws.specs.Search.{cycle_through}
 use Rattle.order_laws.specs.Tickets.{edge_between}
-use Rattle.presumptions.specs.declared.Decision.{Decision}
 use Rattle.presumptions.specs.declared.Decision.TheVariants as Decided
 use Rattle.presumptions.specs.declared.Participant.{Participant}
 use Rattle.fed_rules.specs.declared.answers.Answer.TheVariants as Say
 use Rattle.fed_rules.specs.declared.answers.Cause.TheVariants as For
 use Rattle.fed_rules.specs.declared.events.CoordEvent.{CoordEvent}
 use Rattle.fed_rules.specs.declared.events.CoordEvent.TheVariants as Ev
-use Rattle.fed_rules.specs.declared.messages.Due.{Due}
-use Rattle.fed_rules.specs.declared.messages.Due.TheVariants as Due_is
-use Rattle.fed_rules.specs.declared.messages.FromSite.{FromSite}
 use Rattle.fed_rules.specs.declared.messages.FromSite.TheVariants as From
-use Rattle.fed_rules.specs.declared.records.CoordRecord.{CoordRecord}
 use Rattle.fed_rules.specs.declared.records.CoordRecord.TheVariants as Rec
-use Rattle.fed_rules.specs.Disk.{Call, Append, CutBack, is_torn}
 use Rattle.fed_rules.specs.Happenings.{quiet}
-use Rattle.fed_rules.specs.Coord.{all_outstanding, news, end_calls, forgets_at_once, decide_to, aborts, commits_it, did_counts, did_reply, of_did, all_voted, vote_tickets, last_vote, yes_vote, is_due_vote, vote_counts, vote_counted, of_vote, missing, is_member, ack_counts, acked_while, of_ack, of_take, again_while, of_again, of_late, late_ends, of_back, answered, fits}
-use Rattle.fed_rules.specs.CoordPast.{CoordHappening, CoordPast, disk, records, Standing, Undecided, Decided, Gone, standing, is_undecided, has_acked, participants, outstanding, epoch_at, oldest_first}
-use Rattle.fed_rules.specs.CoordRecords.{coord_frame, initiated, initiated_tids, outcome, required, is_nobody, ends_at_once, commits, has_end}
+use Rattle.fed_rules.specs.Coord.{news, end_calls, forgets_at_once, aborts, commits_it, did_counts, did_reply, of_did, all_voted, vote_tickets, last_vote, yes_vote, is_due_vote, vote_counts, vote_counted, of_vote, fits}
+use Rattle.fed_rules.specs.CoordPast.{CoordHappening, CoordPast, disk, records, standing, is_undecided, participants, outstanding, epoch_at}
+use Rattle.fed_rules.specs.CoordRecords.{coord_frame, initiated, required, is_nobody, commits}
 use Rattle.commit_laws.specs.Records.{IsEnd, IsCommit}
 use Rattle.commit_laws.proofs.Disks.{appended, IsQuiet, quiet-plain, plain-records}
-use Rattle.commit_laws.proofs.CoordFacts.{IsOpen, IsInitiation, IsUnmarked, IsCommitting, IsEnding, AtCommit, AtAck, AtBack, WroteAll, Stands, Same, Decides, Forgets, Restarts, IsTelling, Now, Known, Tells, Counted, Goes}
-use Rattle.commit_laws.proofs.CoordRules.{goes-when, goes-pick, acked-on, calm-standing, calm-acked, silently, ignored}
-use Rattle.commit_laws.proofs.CoordDues.{each-map, IsOwed, all-owed, news-owed, by-go, by-dues, by-inquiry, by-fate}
+use Rattle.commit_laws.proofs.CoordFacts.{IsOpen, IsInitiation, IsUnmarked, IsCommitting, IsEnding, AtCommit, WroteAll, Stands, Same, Decides, IsTelling, Now, Tells, Counted, Goes}
+use Rattle.commit_laws.proofs.CoordRules.{goes-when, goes-pick, acked-on, silently, ignored}
+use Rattle.commit_laws.proofs.CoordDues.{each-map, news-owed, by-dues}
 use Rattle.commit_laws.proofs.CoordEnds.{end-part, acked-off, decided-standing, other-standing, by-aborts}
 use Rattle.commit_laws.proofs.Names.{of-same}
 
@@ -43,7 +37,8 @@ use Rattle.commit_laws.proofs.Names.{of-same}
 by-commits_it : (protocols : List Participant) (g : Tid) (past : CoordPast) (site : SiteId) (t : Tid) (ticket : ℕ)
     (tickets : List SiteTicket) → IsOpen past t
     → all_voted (quiet (Ev.Take site (From.Vote t (Some ticket))) Say.Voted ∷ past) t (participants protocols past t) ≡ true
-    → Goes protocols g past (Ev.Take site (From.Vote t (Some ticket))) (commits_it protocols past (Ev.Take site (From.Vote t (Some ticket))) t tickets)
+    → Goes protocols g past (Ev.Take site (From.Vote t (Some ticket)))
+    (commits_it protocols past (Ev.Take site (From.Vote t (Some ticket))) t tickets)
 unfolding commits_it
 by-commits_it protocols g past site t ticket tickets undecided all = record {
   is = refl;
@@ -92,7 +87,8 @@ by-commits_it protocols g past site t ticket tickets undecided all = record {
       (λ e j. inr (inl (same_tid-equal t u q))) (inl (same_tid-equal t u q))
 
   stands : (q : Bool) → same_tid t g ≡ q
-      → Stands g past (commits_it protocols past (Ev.Take site (From.Vote t (Some ticket))) t tickets) (appended (cond (forgets_at_once past t Decided.Commit) (end_calls past t) []) (Rec.Commit t tickets ∷ []))
+      → Stands g past (commits_it protocols past (Ev.Take site (From.Vote t (Some ticket))) t tickets)
+      (appended (cond (forgets_at_once past t Decided.Commit) (end_calls past t) []) (Rec.Commit t tickets ∷ []))
   stands true q =
       Decides Decided.Commit f (of-same (λ u. IsOpen past u) t g undecided q) refl
       (decided-standing g t past y Decided.Commit None f refl q)
@@ -109,7 +105,8 @@ by-commits_it protocols g past site t ticket tickets undecided all = record {
 by-last_vote : (protocols : List Participant) (g : Tid) (past : CoordPast) (site : SiteId) (t : Tid) (ticket : ℕ)
     (tickets : List SiteTicket) → IsOpen past t
     → all_voted (quiet (Ev.Take site (From.Vote t (Some ticket))) Say.Voted ∷ past) t (participants protocols past t) ≡ true
-    → Goes protocols g past (Ev.Take site (From.Vote t (Some ticket))) (last_vote protocols past (Ev.Take site (From.Vote t (Some ticket))) t tickets)
+    → Goes protocols g past (Ev.Take site (From.Vote t (Some ticket)))
+    (last_vote protocols past (Ev.Take site (From.Vote t (Some ticket))) t tickets)
 unfolding last_vote aborts
 by-last_vote protocols g past site t ticket tickets undecided all =
     goes-pick protocols g past (Ev.Take site (From.Vote t (Some ticket)))
@@ -119,7 +116,8 @@ by-last_vote protocols g past site t ticket tickets undecided all =
     (λ at. refl) tt)
 
 by-yes_vote : (protocols : List Participant) (g : Tid) (past : CoordPast) (site : SiteId) (t : Tid) (ticket : ℕ) → IsOpen past t
-    → Goes protocols g past (Ev.Take site (From.Vote t (Some ticket))) (yes_vote protocols past (Ev.Take site (From.Vote t (Some ticket))) t)
+    → Goes protocols g past (Ev.Take site (From.Vote t (Some ticket)))
+    (yes_vote protocols past (Ev.Take site (From.Vote t (Some ticket))) t)
 unfolding yes_vote
 by-yes_vote protocols g past site t ticket undecided =
     goes-when protocols g past (Ev.Take site (From.Vote t (Some ticket))) (all_voted now t members) _ _

@@ -7,14 +7,13 @@ use Rattle.mdb_base.specs.declared.names.Tid.{Tid}
 use Rattle.mdb_base.specs.declared.names.Tx.{Tx}
 use Rattle.mdb_base.specs.Names.{same_tid, same_site}
 use Rattle.mdb_base.specs.Programs.{plain_act}
-use Rattle.mdb_base.specs.Words.{Each, Among, when, pick, some_of, how_many, found, with_some}
+use Rattle.mdb_base.specs.Words.{Each, Among, some_of, how_many, found, with_some}
 use Rattle.mdb_base.proofs.NameLaws.{same_tid-equal, same_tid-refl}
 use Rattle.order_laws.specs.Chains.{In}
 use Rattle.mdb_base.proofs.ListLaws.{each_map}
 use Rattle.order_laws.proofs.Lists.{each_from, each_at}
 use Rattle.presumptions.specs.declared.Participant.{Participant}
 use Rattle.presumptions.specs.Table.{presumed}
-use Rattle.fed_rules.specs.declared.answers.Answer.{Answer}
 use Rattle.fed_rules.specs.declared.answers.Answer.TheVariants as Say
 use Rattle.fed_rules.specs.declared.events.CoordEvent.{CoordEvent}
 use Rattle.fed_rules.specs.declared.events.CoordEvent.TheVariants as Ev
@@ -24,12 +23,12 @@ use Rattle.fed_rules.specs.declared.messages.FromSite.TheVariants as From
 use Rattle.fed_rules.specs.declared.records.CoordRecord.{CoordRecord}
 use Rattle.fed_rules.specs.declared.records.CoordRecord.TheVariants as Rec
 use Rattle.fed_rules.specs.Disk.{Append, Sync}
-use Rattle.fed_rules.specs.Happenings.{quiet, stops, comes_up}
+use Rattle.fed_rules.specs.Happenings.{quiet}
 use Rattle.fed_rules.specs.Coord.{send_due, is_prepare, sends_dues, all_outstanding, news, news_at, of_go, of_fate, asked_while, of_inquiry, tells, protocol_of}
-use Rattle.fed_rules.specs.CoordPast.{CoordHappening, CoordPast, records, Standing, Undecided, Decided, Gone, standing, kept_standing, reads, moved, is_about, begins, counts, decides, acks_in, has_acked, participants, program, visits, counted, epoch_at, count_at, has_ticket_at, is_wait, is_ticket, has_step_left, vote_at, outstanding, outstanding_at, work_at, take_at, prepare_at, next_step, attempts_of, undecided_of}
+use Rattle.fed_rules.specs.CoordPast.{CoordHappening, CoordPast, records, Standing, Undecided, Decided, Gone, standing, reads, participants, program, visits, counted, epoch_at, count_at, has_ticket_at, is_wait, is_ticket, has_step_left, vote_at, outstanding, outstanding_at, work_at, take_at, prepare_at, next_step, attempts_of, undecided_of}
 use Rattle.fed_rules.specs.CoordRecords.{initiated, committed_of}
-use Rattle.commit_laws.proofs.CoordFacts.{IsOpen, IsInitiation, Stands, Same, Starts, IsPreparing, IsTelling, Known, Presumed, Tells, Counted, Committed, Goes}
-use Rattle.commit_laws.proofs.CoordRules.{goes-when, goes-pick, cond-same, IsCalm, calm-answer, standing-on, acked-on, IsNoAck, calm-standing, calm-acked, quietly, silently, uncounted, ignored, no-ack}
+use Rattle.commit_laws.proofs.CoordFacts.{IsOpen, IsInitiation, Stands, Same, Starts, IsPreparing, IsTelling, Known, Presumed, Tells, Counted, Goes}
+use Rattle.commit_laws.proofs.CoordRules.{goes-when, goes-pick, IsCalm, acked-on, IsNoAck, calm-standing, calm-acked, silently, no-ack}
 use Rattle.commit_laws.proofs.Names.{of-same, some-parts}
 
 pub each-found : {A B : Type 0} (P : B → Type 0) (look : A → Option B) → ((x : A) (b : B) → look x ≡ Some b → P b) → (xs : List A)
@@ -56,7 +55,8 @@ owed past t site due is = by_visit (visits site (program past t)) refl is where
   by_step None e = cc
   by_step (Some step) e = by_test (same_site step.site site) e where
     by_test : (b : Bool)
-        → cond b (Some (Due_is.Work site (epoch_at past t site) (count_at past t site) (plain_act (reads past t) step.act))) None ≡ Some due
+        → cond b (Some (Due_is.Work site (epoch_at past t site) (count_at past t site)
+        (plain_act (reads past t) step.act))) None ≡ Some due
         → IsOwed past t due
     by_test true e = subst (IsOwed past t) (some-parts e) tt
     by_test false e = cc
@@ -72,7 +72,8 @@ owed past t site due is = by_visit (visits site (program past t)) refl is where
   by_ticket false h v e = subst (IsOwed past t) (some-parts e) tt
 
   by_left : (b : Bool) → visits site (program past t) ≡ true
-      → cond b (work_at past t site (next_step past t)) (cond (has_ticket_at past t site) (prepare_at past t site) (take_at past t site)) ≡ Some due
+      → cond b (work_at past t site (next_step past t))
+      (cond (has_ticket_at past t site) (prepare_at past t site) (take_at past t site)) ≡ Some due
       → IsOwed past t due
   by_left true v e = by_step (next_step past t) e
   by_left false v e = by_ticket (has_ticket_at past t site) refl v e
@@ -120,13 +121,15 @@ at-once past t steps site due is = by_visit (visits site (program now t)) refl i
   by_step None e = cc
   by_step (Some step) e = by_test (same_site step.site site) e where
     by_test : (b : Bool)
-        → cond b (Some (Due_is.Work site (epoch_at now t site) (count_at now t site) (plain_act (reads now t) step.act))) None ≡ Some due
+        → cond b (Some (Due_is.Work site (epoch_at now t site) (count_at now t site)
+        (plain_act (reads now t) step.act))) None ≡ Some due
         → IsNoPrepare due
     by_test true e = subst IsNoPrepare (some-parts e) tt
     by_test false e = cc
 
   by_left : (b : Bool) → b ≡ true
-      → cond b (work_at now t site (next_step now t)) (cond (has_ticket_at now t site) (prepare_at now t site) (take_at now t site)) ≡ Some due
+      → cond b (work_at now t site (next_step now t))
+      (cond (has_ticket_at now t site) (prepare_at now t site) (take_at now t site)) ≡ Some due
       → IsNoPrepare due
   by_left true l e = by_step (next_step now t) e
   by_left false l e = cc

@@ -104,7 +104,8 @@ by-aborts protocols g past event t cause undecided about n noack k = record {
   uncommitted u = end-part (λ cs. Each (IsUncommitted u) (appended cs [])) t f i (λ e j. (tt, tt)) tt
 
   stands : (q : Bool) → same_tid t g ≡ q
-      → Stands g past (aborts protocols past event t cause) (appended (cond (forgets_at_once past t Decided.Abort) (end_calls past t) []) [])
+      → Stands g past (aborts protocols past event t cause)
+      (appended (cond (forgets_at_once past t Decided.Abort) (end_calls past t) []) [])
   stands true q =
       Decides Decided.Abort f (of-same (λ u. IsOpen past u) t g undecided q) refl
       (decided-standing g t past y Decided.Abort (Some cause) f refl (about g ∙ q))

@@ -118,7 +118,8 @@ is-down protocols g past event f = goes protocols g past event (quiet event Say.
     (uncounted protocols g past event Say.Down tt refl)
 
 when-up : (protocols : List Participant) (g : Tid) (past : CoordPast) (event : CoordEvent) → IsFirm coord_frame IsEnd (disk past)
-    → Line protocols g past event (when (is_down past) (quiet event Say.Down) (tripped coord_frame (disk past) (trip past) (answered protocols past event)))
+    → Line protocols g past event
+    (when (is_down past) (quiet event Say.Down) (tripped coord_frame (disk past) (trip past) (answered protocols past event)))
 when-up protocols g past event f =
     line-when protocols g past event (is_down past) _ _ (λ down. is-down protocols g past event f)
     (λ up. unless-tripped protocols g past event (answered protocols past event) (trip past) f (by-answered protocols g past event))

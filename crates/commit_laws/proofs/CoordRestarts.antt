@@ -1,20 +1,13 @@
 -- Acknowledgements and restarts of the coordinator, and then each event: the facts on one attempt hold of every line that no stop ends.
-use Rattle.std.proofs.Common.{◌≡◌, ℕ, ◌⊎◌, inl, inr, Bool, true, false, cond, not, ◌&&◌, ◌||◌, ◌==◌, is_some, Option, Some, None, List, [], ◌∷◌, ◌++◌, map, refl, ap, subst}
+use Rattle.std.proofs.Common.{◌≡◌, ◌⊎◌, inl, inr, Bool, true, false, cond, not, ◌&&◌, is_some, Option, Some, List, [], ◌∷◌, ◌++◌, map, refl, ap, subst}
 use Rattle.std.proofs.lemmas.Bool.{and_parts, and_right}
 use Rattle.mdb_base.specs.declared.names.SiteId.{SiteId}
-use Rattle.mdb_base.specs.declared.names.SiteTicket.{SiteTicket}
 use Rattle.mdb_base.specs.declared.names.Tid.{Tid}
-use Rattle.mdb_base.specs.declared.replies.Reply.{Reply}
-use Rattle.mdb_base.specs.declared.replies.Reply.TheVariants as Reply_is
-use Rattle.mdb_base.specs.declared.replies.Why.TheVariants as Because
 use Rattle.mdb_base.specs.Names.{same_tid, same_site}
-use Rattle.mdb_base.specs.Words.{Each, Among, those}
+use Rattle.mdb_base.specs.Words.{Each, those}
 use Rattle.mdb_base.proofs.ListLaws.{each_map, each_all, append_each, those_pass, each_filtered}
-use Rattle.mdb_base.proofs.NameLaws.{same_tid-equal, same_tid-refl}
-use Rattle.order_laws.specs.Search.{cycle_through}
-use Rattle.order_laws.specs.Tickets.{edge_between}
+use Rattle.mdb_base.proofs.NameLaws.{same_tid-refl}
 use Rattle.presumptions.specs.declared.Decision.{Decision}
-use Rattle.presumptions.specs.declared.Decision.TheVariants as Decided
 use Rattle.presumptions.specs.declared.Participant.{Participant}
 use Rattle.fed_rules.specs.declared.answers.Answer.TheVariants as Say
 use Rattle.fed_rules.specs.declared.answers.Cause.TheVariants as For
@@ -28,15 +21,15 @@ use Rattle.fed_rules.specs.declared.records.CoordRecord.{CoordRecord}
 use Rattle.fed_rules.specs.declared.records.CoordRecord.TheVariants as Rec
 use Rattle.fed_rules.specs.Disk.{Call, Append, CutBack, is_torn}
 use Rattle.fed_rules.specs.Happenings.{quiet}
-use Rattle.fed_rules.specs.Coord.{all_outstanding, news, end_calls, forgets_at_once, decide_to, aborts, commits_it, did_counts, did_reply, of_did, all_voted, vote_tickets, last_vote, yes_vote, is_due_vote, vote_counts, vote_counted, of_vote, missing, is_member, ack_counts, acked_while, of_ack, of_take, again_while, of_again, of_late, late_ends, of_back, answered, fits}
-use Rattle.fed_rules.specs.CoordPast.{CoordHappening, CoordPast, disk, records, Standing, Undecided, Decided, Gone, standing, is_undecided, has_acked, participants, outstanding, epoch_at, oldest_first}
-use Rattle.fed_rules.specs.CoordRecords.{coord_frame, initiated, initiated_tids, outcome, required, is_nobody, ends_at_once, commits, has_end}
-use Rattle.commit_laws.specs.Records.{IsEnd, IsCommit}
-use Rattle.commit_laws.proofs.Disks.{appended, IsQuiet, quiet-plain, plain-records}
-use Rattle.commit_laws.proofs.CoordFacts.{IsOpen, IsInitiation, IsUnmarked, IsCommitting, IsEnding, AtCommit, AtAck, AtBack, WroteAll, Stands, Same, Decides, Forgets, Restarts, IsTelling, Now, Known, Tells, Counted, Goes}
-use Rattle.commit_laws.proofs.CoordRules.{goes-when, goes-pick, acked-on, calm-standing, calm-acked, silently, ignored}
-use Rattle.commit_laws.proofs.CoordDues.{each-map, IsOwed, all-owed, news-owed, by-go, by-dues, by-inquiry, by-fate}
-use Rattle.commit_laws.proofs.CoordEnds.{end-part, acked-off, decided-standing, other-standing, by-aborts}
+use Rattle.fed_rules.specs.Coord.{all_outstanding, end_calls, decide_to, aborts, missing, is_member, ack_counts, acked_while, of_ack, of_take, again_while, of_again, of_late, late_ends, of_back, answered}
+use Rattle.fed_rules.specs.CoordPast.{CoordHappening, CoordPast, disk, records, Standing, Undecided, Decided, Gone, standing, is_undecided, has_acked, oldest_first}
+use Rattle.fed_rules.specs.CoordRecords.{coord_frame, initiated, initiated_tids, outcome, required, is_nobody, ends_at_once, has_end}
+use Rattle.commit_laws.specs.Records.{IsEnd}
+use Rattle.commit_laws.proofs.Disks.{appended, IsQuiet}
+use Rattle.commit_laws.proofs.CoordFacts.{IsUnmarked, IsEnding, AtAck, AtBack, WroteAll, Stands, Same, Forgets, Restarts, IsTelling, Known, Tells, Goes}
+use Rattle.commit_laws.proofs.CoordRules.{goes-when, acked-on, calm-standing, calm-acked, silently, ignored}
+use Rattle.commit_laws.proofs.CoordDues.{each-map, IsOwed, all-owed, by-go, by-dues, by-inquiry, by-fate}
+use Rattle.commit_laws.proofs.CoordEnds.{end-part, by-aborts}
 use Rattle.commit_laws.proofs.CoordCommits.{by-vote, by-did}
 use Rattle.commit_laws.proofs.Names.{of-same}
 
@@ -99,7 +92,8 @@ by-ack_counts protocols g past site t decision known =
     more = quiet (Ev.Take site (From.Ack t)) Say.Acked
 
     waits : is_nobody (missing (quiet (Ev.Take site (From.Ack t)) Say.Acked ∷ past) t decision) ≡ false → (q : Bool) → same_tid t g ≡ q
-        → ((at : SiteId) → has_acked (more ∷ past) g at ≡ has_acked past g at) ⊎ ((made : Decision) → standing past g ≡ Decided made → is_nobody (missing (more ∷ past) g made) ≡ false)
+        → ((at : SiteId) → has_acked (more ∷ past) g at ≡ has_acked past g at) ⊎
+        ((made : Decision) → standing past g ≡ Decided made → is_nobody (missing (more ∷ past) g made) ≡ false)
     waits e true q = inr (λ made is.
         let here = of-same (λ u. standing past u ≡ Decided decision) t g known q in
         let same : decision ≡ made = cc in

@@ -1,34 +1,20 @@
 -- How the facts on one attempt go through the branches of a rule of the coordinator, and that they hold of its quiet lines.
-use Rattle.std.proofs.Common.{◌≡◌, inl, inr, Bool, true, false, cond, not, ◌&&◌, ◌||◌, ◌==◌, is_none, Option, Some, None, List, [], ◌∷◌, map, drop, refl, sym, ap, subst, ◌∙◌}
+use Rattle.std.proofs.Common.{◌≡◌, inl, Bool, true, false, cond, ◌&&◌, ◌||◌, Option, Some, None, List, [], ◌∷◌, refl, ap, ◌∙◌}
 use Rattle.std.proofs.lemmas.Bool.{and_right}
-use Rattle.mdb_base.specs.declared.acts.Step.{Step}
 use Rattle.mdb_base.specs.declared.names.SiteId.{SiteId}
 use Rattle.mdb_base.specs.declared.names.Tid.{Tid}
-use Rattle.mdb_base.specs.declared.names.Tx.{Tx}
-use Rattle.mdb_base.specs.Names.{same_tid, same_site}
-use Rattle.mdb_base.specs.Programs.{plain_act}
-use Rattle.mdb_base.specs.Words.{Each, Among, when, pick, some_of, how_many, found, with_some}
-use Rattle.mdb_base.proofs.NameLaws.{same_tid-equal, same_tid-refl}
-use Rattle.order_laws.specs.Chains.{In}
-use Rattle.mdb_base.proofs.ListLaws.{each_map}
-use Rattle.order_laws.proofs.Lists.{each_from, each_at}
+use Rattle.mdb_base.specs.Words.{when, pick}
 use Rattle.presumptions.specs.declared.Participant.{Participant}
-use Rattle.presumptions.specs.Table.{presumed}
 use Rattle.fed_rules.specs.declared.answers.Answer.{Answer}
 use Rattle.fed_rules.specs.declared.answers.Answer.TheVariants as Say
 use Rattle.fed_rules.specs.declared.events.CoordEvent.{CoordEvent}
 use Rattle.fed_rules.specs.declared.events.CoordEvent.TheVariants as Ev
-use Rattle.fed_rules.specs.declared.messages.Due.{Due}
-use Rattle.fed_rules.specs.declared.messages.Due.TheVariants as Due_is
 use Rattle.fed_rules.specs.declared.messages.FromSite.TheVariants as From
 use Rattle.fed_rules.specs.declared.records.CoordRecord.{CoordRecord}
-use Rattle.fed_rules.specs.declared.records.CoordRecord.TheVariants as Rec
-use Rattle.fed_rules.specs.Disk.{Append, Sync}
 use Rattle.fed_rules.specs.Happenings.{quiet, stops, comes_up}
-use Rattle.fed_rules.specs.Coord.{send_due, is_prepare, sends_dues, all_outstanding, news, news_at, of_go, of_fate, asked_while, of_inquiry, tells, protocol_of}
-use Rattle.fed_rules.specs.CoordPast.{CoordHappening, CoordPast, records, Standing, Undecided, Decided, Gone, standing, kept_standing, reads, moved, is_about, begins, counts, decides, acks_in, has_acked, participants, program, visits, counted, epoch_at, count_at, has_ticket_at, is_wait, is_ticket, has_step_left, vote_at, outstanding, outstanding_at, work_at, take_at, prepare_at, next_step, attempts_of, undecided_of}
-use Rattle.fed_rules.specs.CoordRecords.{initiated, committed_of}
-use Rattle.commit_laws.proofs.CoordFacts.{IsOpen, IsInitiation, Stands, Same, Starts, IsPreparing, IsTelling, Known, Presumed, Tells, Counted, Committed, Goes}
+use Rattle.fed_rules.specs.Coord.{news}
+use Rattle.fed_rules.specs.CoordPast.{CoordHappening, CoordPast, records, Standing, standing, kept_standing, moved, is_about, begins, counts, decides, acks_in, has_acked}
+use Rattle.commit_laws.proofs.CoordFacts.{Same, Counted, Committed, Goes}
 
 pub goes-when : (protocols : List Participant) (g : Tid) (past : CoordPast) (event : CoordEvent) (b : Bool) (x y : CoordHappening)
     → (b ≡ true → Goes protocols g past event x) → (b ≡ false → Goes protocols g past event y)

@@ -72,7 +72,8 @@ pub record CoordSound (scenario : Scenario) (home : Home) (g : Tid) (past : Coor
 -- what holds of a kept record holds of an old one, or of one that the line appended
 pub kept-from : (protocols : List Participant) (g : Tid) (past : CoordPast) (event : CoordEvent) (now : List CoordRecord)
     (P : CoordRecord → Type 0) → Kept protocols g past event now → Among P now
-    → Among P (records past) ⊎ ((kept : List CoordRecord) × WroteAll protocols g past event kept × (now ≡ kept ++ records past) × Among P kept)
+    → Among P (records past) ⊎
+    ((kept : List CoordRecord) × WroteAll protocols g past event kept × (now ≡ kept ++ records past) × Among P kept)
 kept-from protocols g past event now P (inl (kept, w, e)) m = elim (among-split P kept (records past) (subst (Among P) e m)) [
   | inl i ↦ inr (kept, w, e, i)
   | inr i ↦ inl i

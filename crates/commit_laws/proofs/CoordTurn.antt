@@ -129,11 +129,16 @@ pub turn-initiated : (scenario : Scenario) (home : Home) (g : Tid) (past : Coord
 turn-initiated scenario home g past event x t ms m = elim
     (kept-from (protocols scenario) g past event (records (x ∷ past)) (IsInitiationOf g ms) t.line.kept m) [
       | inl i ↦ let r = t.sound.initiated ms i in named r.0 r.1
-      | inr (kept, w, e, i) ↦ let r = written-initiation (protocols scenario) g past event ms kept w i in named (t.sound.undecided r.0) r.1
+      | inr (kept, w, e, i) ↦ let r = written-initiation (protocols scenario) g past event ms kept w i in named
+          (t.sound.undecided r.0) r.1
     ] where
       named : IsBegun past g → ms ≡ participants (protocols scenario) past g
           → IsBegun (x ∷ past) g × (ms ≡ participants (protocols scenario) (x ∷ past) g)
-      named begun e = (inr begun, e ∙ ap (participants_of (protocols scenario)) (sym (same-program scenario home g past event x t begun)))
+      named begun e = (
+        inr begun,
+        e ∙ ap (participants_of (protocols scenario))
+            (sym (same-program scenario home g past event x t begun)),
+      )
 
 -- a record that a line appends is of an attempt that was begun
 written-begun : (scenario : Scenario) (home : Home) (g : Tid) (past : CoordPast) (event : CoordEvent) (kept : List CoordRecord)

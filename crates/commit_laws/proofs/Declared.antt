@@ -76,8 +76,10 @@ declared-in (line ∷ lines) items site home e = by_test (same_site line.site si
   member = record { site = line.site; protocol = line.protocol }
 
   by_test : (b : Bool) → same_site line.site site ≡ b → cond b (Some here) (home_in lines items site) ≡ Some home
-      → (home_in lines items site ≡ Some home → Among (Is site home.protocol) (protocols_in lines) × (protocol_of (protocols_in lines) site ≡ home.protocol))
-      → Among (Is site home.protocol) (inserted by_site member (protocols_in lines)) × (protocol_of (inserted by_site member (protocols_in lines)) site ≡ home.protocol)
+      → (home_in lines items site ≡ Some home → Among (Is site home.protocol) (protocols_in lines) ×
+      (protocol_of (protocols_in lines) site ≡ home.protocol))
+      → Among (Is site home.protocol) (inserted by_site member (protocols_in lines)) ×
+      (protocol_of (inserted by_site member (protocols_in lines)) site ≡ home.protocol)
   by_test true q e k =
       let same : here ≡ home = some-parts e in (
         inserted-here (Is site home.protocol) member (protocols_in lines) (same-site line.site site q, ap (λ h. h.protocol) same),
@@ -88,5 +90,6 @@ declared-in (line ∷ lines) items site home e = by_test (same_site line.site si
       (inserted-there (Is site home.protocol) member (protocols_in lines) r.0, found-other site member (protocols_in lines) q ∙ r.1)
 
 pub is-declared : (scenario : Scenario) (site : SiteId) (home : Home) → home_of scenario site ≡ Some home
-    → Among (λ m. (m.site ≡ site) × (m.protocol ≡ home.protocol)) (protocols scenario) × (protocol_of (protocols scenario) site ≡ home.protocol)
+    → Among (λ m. (m.site ≡ site) × (m.protocol ≡ home.protocol)) (protocols scenario) ×
+    (protocol_of (protocols scenario) site ≡ home.protocol)
 is-declared scenario site home e = declared-in scenario.sites scenario.items site home e

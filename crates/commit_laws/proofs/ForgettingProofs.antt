@@ -22,7 +22,7 @@ use Rattle.fed_rules.specs.SiteRecords.{Home, Held, doubt_of}
 use Rattle.fed_rules.specs.Story.{AtCoordinator, coord_past, past_of, sent_to, sent_from, story_of}
 use Rattle.commit_laws.specs.Forgetting.{IsNextOfCoordinator, KnownWhileMissing, ForgottenWhenNoneIsMissing, RestartsCountAnew, ForgottenAreAcknowledged, PresumptionsAreRight, InquiriesAreAnsweredTheOutcome}
 use Rattle.commit_laws.specs.Outcomes.{coordinator_keeps}
-use Rattle.commit_laws.proofs.Agree.{Agree, Agrees}
+use Rattle.commit_laws.proofs.Agree.{Agrees}
 use Rattle.commit_laws.proofs.AgreeCoord.{presumes-right}
 use Rattle.commit_laws.proofs.Agreed.{agreed, turn, coord-sound}
 use Rattle.commit_laws.proofs.CoordClear.{all-missing, initiated-stays}
@@ -136,7 +136,8 @@ inquiries-are-answered-the-outcome scenario commands site home declared tid gone
 -- a required participant of an attempt that isn't known has acknowledged
 acknowledged : (scenario : Scenario) (commands : List Command) (home : Home) → home_of scenario home.site ≡ Some home → (tid : Tid)
     → standing (coord_past (story_of scenario commands)) tid ≡ Gone
-    → In (record { site = home.site; protocol = home.protocol }) (required (coordinator_keeps scenario commands) tid (outcome (coordinator_keeps scenario commands) tid))
+    → In (record { site = home.site; protocol = home.protocol })
+    (required (coordinator_keeps scenario commands) tid (outcome (coordinator_keeps scenario commands) tid))
     → In (From.Ack tid) (sent_from home.site (story_of scenario commands))
 acknowledged scenario commands home declared tid gone i = by_initiation (initiated kept tid) refl i where
   kept : List CoordRecord

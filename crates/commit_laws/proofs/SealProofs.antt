@@ -1,6 +1,7 @@
 -- An attempt is sealed at most once at a site; an acknowledged one is over; a commit never meets a live run of the known epoch.
 use Rattle.std.proofs.Common.{◌≡◌, ◌<◌, inl, inr, Bool, true, false, ◌||◌, is_some, Option, Some, None, List, refl, sym, ap, subst, ◌∙◌, arith, ℕ, ◌≤◌}
 use Rattle.std.proofs.lemmas.Bool.{or_left, or_right}
+use Rattle.mdb_base.specs.declared.acts.Step.{Step}
 use Rattle.mdb_base.specs.declared.names.Tid.{Tid}
 use Rattle.mdb_base.specs.Words.{Each, Among, how_many}
 use Rattle.order_laws.specs.Chains.{In}
@@ -16,14 +17,15 @@ use Rattle.fed_rules.specs.declared.scenario.Scenario.{Scenario}
 use Rattle.fed_rules.specs.CoordPast as Coordinator
 use Rattle.fed_rules.specs.CoordPast.{last_epoch, epoch_at}
 use Rattle.fed_rules.specs.Runs.{Run}
-use Rattle.fed_rules.specs.Scenarios.{home_of}
+use Rattle.fed_rules.specs.Scenarios.{home_of, global_program}
+use Rattle.fed_rules.specs.Site.{is_over}
 use Rattle.fed_rules.specs.SitePast.{SiteHappening, SitePast, records, epoch, live, is_closed}
 use Rattle.fed_rules.specs.SiteRecords.{Home, Held, doubt_of}
 use Rattle.fed_rules.specs.Story.{AtSite, coord_past, past_of, sent_to, sent_from, story_of}
 use Rattle.commit_laws.specs.Records.{IsPrepared}
 use Rattle.commit_laws.specs.Seals.{is_prepared, seals, IsPrepareOf}
-use Rattle.commit_laws.specs.SealLaws.{IsNextAt, AttemptsAreSealedOnce, OnePreparedIsKept, PreparedInTheKnownEpoch, DecidedAreNotSealed, AcknowledgedAreNotInDoubt, AcknowledgedAreNotSealed, CommitsMeetNoLiveRun}
-use Rattle.commit_laws.proofs.Agree.{IsGot, IsOver, Agree, Agrees}
+use Rattle.commit_laws.specs.SealLaws.{IsNextAt, AttemptsAreSealedOnce, OnePreparedIsKept, PreparedInTheKnownEpoch, DecidedAreNotSealed, AcknowledgedAreNotInDoubt, AcknowledgedAreNotSealed, CommitsMeetNoLiveRun, ClosedHaveNoLiveRun}
+use Rattle.commit_laws.proofs.Agree.{IsGot, IsOver, Agrees}
 use Rattle.commit_laws.proofs.AgreeSite.{SiteTurn, bars}
 use Rattle.commit_laws.proofs.Agreed.{agreed, at-site}
 use Rattle.commit_laws.proofs.Links.{IsNext, linked, linked-here, home-again, its-site}
@@ -45,7 +47,8 @@ next-line : (scenario : Scenario) (commands : List Command) (home : Home) → ho
 next-line scenario commands home declared x (command, e) tid =
     let l : IsNext scenario (story_of scenario commands) (AtSite home.site x) = subst (IsNext scenario (story_of scenario commands)) e
     (linked scenario (story_of scenario commands) command).next in
-    let (event, is, came) = linked-here scenario home (story_of scenario commands) x home.site declared (same-site-refl home.site) l in (
+    let (event, is, came) = linked-here scenario home (story_of scenario commands) x home.site declared
+    (same-site-refl home.site) l in (
       event,
       subst (λ y. Next scenario commands home tid event y) (sym is)
           (at-site scenario home tid (story_of scenario commands) event came (agreed scenario home tid commands declared)),
@@ -80,7 +83,8 @@ over-free scenario commands home tid declared over = by_doubt
 
 sealed-once : (scenario : Scenario) (commands : List Command) (home : Home) → home_of scenario home.site ≡ Some home
     → (x : SiteHappening) → IsNextAt scenario commands home.site x → (tid : Tid) → seals tid x ≡ true
-    → IsPrepareOf tid (epoch home (past_of home.site (story_of scenario commands))) x.event × Each (λ y. seals tid y ≡ false) (past_of home.site (story_of scenario commands))
+    → IsPrepareOf tid (epoch home (past_of home.site (story_of scenario commands))) x.event × Each (λ y. seals tid y ≡ false)
+    (past_of home.site (story_of scenario commands))
 sealed-once scenario commands home declared x next tid e =
     let (event, t) = next-line scenario commands home declared x next tid in
     let s = t.line.seals e in (
@@ -213,12 +217,23 @@ pub one-prepared-is-kept : OnePreparedIsKept
 one-prepared-is-kept scenario commands site home declared =
     subst (λ s. (tid : Tid) → how_many (is_prepared tid) (records home (past_of s (story_of scenario commands))) ≤ 1)
     (its-site scenario site home declared)
-    (λ tid. tidy-once tid (records home (past_of home.site (story_of scenario commands))) (agreed scenario home tid commands (home-again scenario site home declared)).tidy)
+    (λ tid. tidy-once tid (records home (past_of home.site (story_of scenario commands)))
+    (agreed scenario home tid commands (home-again scenario site home declared)).tidy)
 
 pub prepared-in-the-known-epoch : PreparedInTheKnownEpoch
 prepared-in-the-known-epoch scenario commands site home declared =
-    subst (λ s. (tid : Tid) (e : ℕ) → Among (IsPrepared tid e) (records home (past_of s (story_of scenario commands))) → e ≡ epoch_at (coord_past (story_of scenario commands)) tid s)
+    subst (λ s. (tid : Tid) (e : ℕ) → Among (IsPrepared tid e) (records home (past_of s (story_of scenario commands))) → e ≡ epoch_at
+    (coord_past (story_of scenario commands)) tid s)
     (its-site scenario site home declared)
     (λ tid e m.
     let a = agreed scenario home tid commands (home-again scenario site home declared) in
     let p = a.prepared e m in (a.preparing e p.0 p.1).epoch)
+
+pub closed-have-no-live-run : ClosedHaveNoLiveRun
+closed-have-no-live-run scenario commands site home declared =
+    subst (λ s. (tid : Tid) (program : List Step) → global_program scenario tid.tx ≡ Some program
+    → is_over home (past_of s (story_of scenario commands)) tid ≡ true → live home
+    (past_of s (story_of scenario commands)) tid ≡ None)
+    (its-site scenario site home declared)
+    (λ tid program global over.
+    ((agreed scenario home tid commands (home-again scenario site home declared)).shut (program, global)).over over)

@@ -45,7 +45,8 @@ settles-records : (home : Home) (past : SitePast) (tid : Tid) (d : Decision)
 unfolding settles
 settles-records home past tid d = by_test (forces home.protocol d) where
   by_test : (b : Bool)
-      → (after_calls site_frame (disk home past) (Append (Rec.Ended tid d) ∷ cond b (Sync ∷ []) [])).records ≡ Rec.Ended tid d ∷ records home past
+      → (after_calls site_frame (disk home past)
+      (Append (Rec.Ended tid d) ∷ cond b (Sync ∷ []) [])).records ≡ Rec.Ended tid d ∷ records home past
   by_test true = refl
   by_test false = refl
 
@@ -112,7 +113,8 @@ by-settles home g past tid d held up doubt = record {
   }
 
   by_test : (q : Bool) → same_tid tid g ≡ q → Shut home g past
-      → ((same_tid tid g || some_of (ends g) (settling_line tid d ∷ []) || is_closed past g) || is_some (doubt_of (records home (settles home tid d ∷ past)) g)) ≡ true
+      → ((same_tid tid g || some_of (ends g) (settling_line tid d ∷ []) || is_closed past g) || is_some
+      (doubt_of (records home (settles home tid d ∷ past)) g)) ≡ true
       → live_one (run_at (epoch_start home past) (settling_line tid d ∷ engine_lines past) g) ≡ None
   by_test true q s h = ap live_one (this-line (epoch_start home past) (engine_lines past) g (settling_line tid d)
       (ap (λ t. same_tid t g) (settling-tid tid d) ∙ q) ∙ settling-ends tid d (run_at (epoch_start home past) (engine_lines past) g))
@@ -130,7 +132,9 @@ by-settles home g past tid d held up doubt = record {
 by-unheld : (home : Home) (g : Tid) (past : SitePast) (tid : Tid) (d : Decision) (lines : List EngineLine) → is_down past ≡ false
     → doubt_of (records home past) tid ≡ None
     → (same_tid tid g ≡ true → live_one (run_at (epoch_start home past) (lines ++ engine_lines past) g) ≡ None)
-    → (same_tid tid g ≡ false → (run_at (epoch_start home past) (lines ++ engine_lines past) g ≡ run_at (epoch_start home past) (engine_lines past) g) × (some_of (ends g) lines ≡ false))
+    → (same_tid tid g ≡ false →
+    (run_at (epoch_start home past) (lines ++ engine_lines past) g ≡ run_at (epoch_start home past) (engine_lines past) g) ×
+    (some_of (ends g) lines ≡ false))
     → Step home g past (Ev.Give (To.Decide tid d)) (unheld home tid d lines)
 unfolding unheld
 by-unheld home g past tid d lines up free here other = record {

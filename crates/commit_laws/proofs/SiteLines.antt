@@ -135,7 +135,8 @@ is-down home g past event f down =
 
 when-up : (home : Home) (g : Tid) (past : SitePast) (event : SiteEvent)
     → IsFirm site_frame (IsLooseEnded home.protocol) (disk home past)
-    → Line home g past event (when (is_down past) (quiet event Say.Down) (tripped site_frame (disk home past) (trip past) (answered home past event)))
+    → Line home g past event
+    (when (is_down past) (quiet event Say.Down) (tripped site_frame (disk home past) (trip past) (answered home past event)))
 when-up home g past event f =
     line-when home g past event (is_down past) _ _ (is-down home g past event f)
     (λ up. unless-tripped home g past event (answered home past event) (trip past) f (by-answered home g past event up))

@@ -1,9 +1,9 @@
 -- A site's records about one attempt: no Prepared record stands behind another one or an Ended record of it.
-use Rattle.std.proofs.Common.{◌≡◌, ℕ, inl, inr, Bool, true, false, cond, Some, None, List, [], ◌∷◌, ◌++◌, refl, ap, subst, suc, ◌≤◌, arith}
+use Rattle.std.proofs.Common.{◌≡◌, ℕ, inl, inr, Bool, true, false, cond, Some, None, List, [], ◌∷◌, ◌++◌, refl, ap, suc, ◌≤◌, arith}
 use Rattle.mdb_base.specs.declared.names.Tid.{Tid}
 use Rattle.mdb_base.specs.Names.{same_tid}
 use Rattle.mdb_base.specs.Words.{Each, Among, how_many}
-use Rattle.mdb_base.proofs.NameLaws.{same_tid-equal, same_tid-refl}
+use Rattle.mdb_base.proofs.NameLaws.{same_tid-equal}
 use Rattle.presumptions.specs.declared.Decision.{Decision}
 use Rattle.presumptions.specs.declared.Protocol.{Protocol}
 use Rattle.presumptions.specs.Table.{forces}
@@ -114,11 +114,12 @@ loose-forced p g d f (Rec.Local tid number writes) l h = h
 -- without a Prepared record of the attempt none is counted
 none-counted : (g : Tid) (rs : List SiteRecord) → ((e : ℕ) → Among (IsPrepared g e) rs → ⊥) → how_many (is_prepared g) rs ≡ 0
 none-counted g [] f = refl
-none-counted g (Rec.Prepared tid k number ticket writes ∷ rs) f = by_test (same_tid tid g) refl (none-counted g rs (λ e m. f e (inr m))) where
-  by_test : (b : Bool) → same_tid tid g ≡ b → how_many (is_prepared g) rs ≡ 0
-      → cond b (suc (how_many (is_prepared g) rs)) (how_many (is_prepared g) rs) ≡ 0
-  by_test true q h = absurd (f k (inl (same_tid-equal tid g q, refl)))
-  by_test false q h = h
+none-counted g (Rec.Prepared tid k number ticket writes ∷ rs) f = by_test (same_tid tid g) refl
+    (none-counted g rs (λ e m. f e (inr m))) where
+      by_test : (b : Bool) → same_tid tid g ≡ b → how_many (is_prepared g) rs ≡ 0
+          → cond b (suc (how_many (is_prepared g) rs)) (how_many (is_prepared g) rs) ≡ 0
+      by_test true q h = absurd (f k (inl (same_tid-equal tid g q, refl)))
+      by_test false q h = h
 none-counted g (Rec.Ended tid made ∷ rs) f = none-counted g rs (λ e m. f e (inr m))
 none-counted g (Rec.Setup site engine protocol items ∷ rs) f = none-counted g rs (λ e m. f e (inr m))
 none-counted g (Rec.Start k ∷ rs) f = none-counted g rs (λ e m. f e (inr m))

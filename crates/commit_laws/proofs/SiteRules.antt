@@ -1,5 +1,5 @@
 -- Each rule of a site makes a line of which the facts on one attempt hold.
-use Rattle.std.proofs.Common.{◌≡◌, ◌⊎◌, inl, inr, Bool, true, false, cond, ◌&&◌, ◌||◌, ◌==◌, is_some, Option, Some, None, List, [], ◌∷◌, ◌++◌, refl, ap, subst, ◌∙◌}
+use Rattle.std.proofs.Common.{◌≡◌, ◌⊎◌, inl, inr, Bool, true, false, cond, ◌&&◌, ◌||◌, ◌==◌, is_some, Option, Some, None, List, [], ◌∷◌, ◌++◌, refl, ap, ◌∙◌}
 use Rattle.mdb_base.specs.declared.acts.PlainAct.{PlainAct}
 use Rattle.mdb_base.specs.declared.acts.PlainAct.TheVariants.{Read, Write}
 use Rattle.mdb_base.specs.declared.names.Tid.{Tid}
@@ -10,7 +10,6 @@ use Rattle.mdb_base.specs.declared.replies.Why.{Why}
 use Rattle.mdb_base.specs.declared.replies.Why.TheVariants as Because
 use Rattle.mdb_base.specs.Names.{same_tid}
 use Rattle.mdb_base.specs.Words.{Each, when, pick, some_of}
-use Rattle.mdb_base.proofs.NameLaws.{same_tid-equal}
 use Rattle.fed_rules.specs.declared.answers.Answer.{Answer}
 use Rattle.fed_rules.specs.declared.answers.Answer.TheVariants as Say
 use Rattle.fed_rules.specs.declared.events.SiteEvent.{SiteEvent}
@@ -204,7 +203,8 @@ by-seals_local home g past tid run up = record {
   lines = Commits tid ∷ Seals tid (number_of home past run) ∷ []
 
   by_test : (q : Bool) → same_tid tid g ≡ q → Shut home g past
-      → ((false || some_of (ends g) (Commits tid ∷ Seals tid (number_of home past run) ∷ []) || is_closed past g) || is_some (doubt_of (records home past) g)) ≡ true
+      → ((false || some_of (ends g) (Commits tid ∷ Seals tid (number_of home past run) ∷ []) || is_closed past g) || is_some
+      (doubt_of (records home past) g)) ≡ true
       → live_one (run_at (epoch_start home past) (Commits tid ∷ Seals tid (number_of home past run) ∷ engine_lines past) g) ≡ None
   by_test true q s h = ap live_one
       (this-line (epoch_start home past) (Seals tid (number_of home past run) ∷ engine_lines past) g (Commits tid) q)

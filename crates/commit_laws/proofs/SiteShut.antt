@@ -114,7 +114,8 @@ over-part g false false closed d start old lines e f k h = k h
 -- a line of a site that is up, and that neither stops nor starts it
 pub shut-on : (home : Home) (g : Tid) (past : SitePast) (x : SiteHappening) → stops x.answer ≡ false → comes_up x.answer ≡ false
     → is_down past ≡ false
-    → (((decides_on g x.event || some_of (ends g) x.lines || is_closed past g) || is_some (doubt_of (records home (x ∷ past)) g)) ≡ true → live_one (run_at (epoch_start home past) (x.lines ++ engine_lines past) g) ≡ None)
+    → (((decides_on g x.event || some_of (ends g) x.lines || is_closed past g) || is_some (doubt_of (records home (x ∷ past)) g)) ≡ true
+    → live_one (run_at (epoch_start home past) (x.lines ++ engine_lines past) g) ≡ None)
     → Shut home g (x ∷ past)
 shut-on home g past x s c up k = record {
   down = (λ h. absurd (down-no (stops x.answer) (comes_up x.answer) (is_down past) s c up h));

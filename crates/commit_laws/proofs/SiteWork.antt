@@ -215,7 +215,8 @@ by-votes_yes home g past tid e n run ticket up free alive here = record {
   held = record { tid = tid; epoch = epoch home past; number = number_of home past run; ticket = ticket; writes = puts_of run.acts }
 
   by_test : (q : Bool) → same_tid tid g ≡ q → Shut home g past
-      → ((false || (false || false) || is_closed past g) || is_some (cond (same_tid tid g) (Some held) (doubt_of (records home past) g))) ≡ true
+      → ((false || (false || false) || is_closed past g) || is_some
+      (cond (same_tid tid g) (Some held) (doubt_of (records home past) g))) ≡ true
       → live_one (run_at (epoch_start home past) (line ∷ engine_lines past) g) ≡ None
   by_test true q s h = ap live_one (this-line (epoch_start home past) (engine_lines past) g line q) ∙ sealed-now tid
       (number_of home past run) (run_at (epoch_start home past) (engine_lines past) g)

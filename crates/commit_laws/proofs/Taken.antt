@@ -76,7 +76,8 @@ vote-taken (x ∷ past) g site e = by_test (begins g x.answer) (counts x.answer)
     (vote-taken past g site) where
       by_test : (b c : Bool) (v : Option ℕ) → vote_in g site x.event ≡ v
           → is_some (cond b None (cond c (or_vote v (vote_at past g site)) (vote_at past g site))) ≡ true
-          → (is_some (vote_at past g site) ≡ true → Among (λ y. IsYes g site y.event) past) → Among (λ y. IsYes g site y.event) (x ∷ past)
+          → (is_some (vote_at past g site) ≡ true → Among (λ y. IsYes g site y.event) past) → Among (λ y. IsYes g site y.event)
+          (x ∷ past)
       by_test true c v f h k = cc
       by_test false true None f h k = inr (k h)
       by_test false true (Some ticket) f h k = inl (vote-event g site x.event ticket f)
@@ -128,7 +129,8 @@ counting past g site x = by_test (begins g x.answer) (counts x.answer) (did_in g
   at cs = those (λ c. same_site c.site site) cs
 
   whole : (b k : Bool) (o : Option Past.Counted) → begins g x.answer ≡ b → counts x.answer ≡ k → did_in g x.event ≡ o
-      → counted_at (x ∷ past) g site ≡ those (λ c. same_site c.site site) (cond b [] (cond k (with_some o (counted past g)) (counted past g)))
+      → counted_at (x ∷ past) g site ≡ those (λ c. same_site c.site site)
+      (cond b [] (cond k (with_some o (counted past g)) (counted past g)))
   whole b k o e f h =
       ap (λ v. those (λ c. same_site c.site site)
       (cond v [] (cond (counts x.answer) (with_some (did_in g x.event) (counted past g)) (counted past g)))) e

@@ -1,5 +1,6 @@
 -- An attempt is sealed at most once at a site; an acknowledged one is over; a commit never meets a live run of the known epoch.
 use Rattle.std.specs.Prelude.{◌≡◌, ℕ, ◌<◌, ◌≤◌, true, false, Some, None, List}
+use Rattle.mdb_base.specs.declared.acts.Step.{Step}
 use Rattle.mdb_base.specs.declared.names.SiteId.{SiteId}
 use Rattle.mdb_base.specs.declared.names.Tid.{Tid}
 use Rattle.mdb_base.specs.Words.{Each, Among, how_many}
@@ -13,7 +14,8 @@ use Rattle.fed_rules.specs.declared.messages.ToSite.TheVariants as To
 use Rattle.fed_rules.specs.declared.scenario.Scenario.{Scenario}
 use Rattle.fed_rules.specs.CoordPast.{epoch_at}
 use Rattle.fed_rules.specs.Runs.{Run}
-use Rattle.fed_rules.specs.Scenarios.{home_of}
+use Rattle.fed_rules.specs.Scenarios.{home_of, global_program}
+use Rattle.fed_rules.specs.Site.{is_over}
 use Rattle.fed_rules.specs.SitePast.{SiteHappening, records, epoch, live}
 use Rattle.fed_rules.specs.SiteRecords.{Home, doubt_of}
 use Rattle.fed_rules.specs.Story.{AtSite, coord_past, past_of, sent_from, happens, story_of}
@@ -74,3 +76,11 @@ CommitsMeetNoLiveRun =
     (x : SiteHappening) → IsNextAt scenario commands site x → (tid : Tid) → x.event ≡ Ev.Give (To.Decide tid Decided.Commit) →
     (run : Run) → live home (past_of site (story_of scenario commands)) tid ≡ Some run →
     epoch_at (coord_past (story_of scenario commands)) tid site < epoch home (past_of site (story_of scenario commands))
+
+-- a global attempt that is closed at a site, or that the site is in doubt of, has no live run there
+abbrev pub ClosedHaveNoLiveRun : Type 0
+ClosedHaveNoLiveRun =
+    (scenario : Scenario) (commands : List Command) (site : SiteId) (home : Home) → home_of scenario site ≡ Some home →
+    (tid : Tid) (program : List Step) → global_program scenario tid.tx ≡ Some program →
+    is_over home (past_of site (story_of scenario commands)) tid ≡ true →
+    live home (past_of site (story_of scenario commands)) tid ≡ None
