@@ -1,21 +1,25 @@
 -- The coordinator forgets an attempt exactly when its required acknowledgements are in, and answers inquiries about it rightly.
-use Rattle.std.proofs.Common.{◌≡◌, inl, inr, Bool, true, false, cond, not, ◌&&◌, ◌||◌, Option, Some, None, List, [], ◌∷◌, refl, sym, ap, subst, ◌∙◌}
+use Rattle.std.proofs.Common.{◌≡◌, inl, inr, Bool, true, false, cond, not, ◌&&◌, ◌||◌, Option, Some, None, List, [], ◌∷◌, refl, sym, ap, subst, ◌∙◌, nat_le, length, take, ◌++◌}
+use Rattle.mdb_base.specs.declared.names.SiteId.{SiteId}
 use Rattle.mdb_base.specs.declared.names.Tid.{Tid}
-use Rattle.mdb_base.specs.Words.{those}
+use Rattle.mdb_base.specs.Words.{those, when}
+use Rattle.mdb_base.proofs.Words.{when-false}
 use Rattle.order_laws.specs.Chains.{In}
 use Rattle.presumptions.specs.declared.Participant.{Participant}
 use Rattle.presumptions.specs.Table.{acks, presumed}
 use Rattle.fed_rules.specs.declared.answers.Answer.TheVariants as Say
 use Rattle.fed_rules.specs.declared.commands.Command.{Command}
 use Rattle.fed_rules.specs.declared.events.CoordEvent.{CoordEvent}
+use Rattle.fed_rules.specs.declared.events.CoordEvent.TheVariants as Ev
 use Rattle.fed_rules.specs.declared.messages.FromSite.TheVariants as From
 use Rattle.fed_rules.specs.declared.records.CoordRecord.{CoordRecord}
 use Rattle.fed_rules.specs.declared.scenario.Scenario.{Scenario}
-use Rattle.fed_rules.specs.Coord.{missing, of_inquiry, asked_while, tells, protocol_of}
+use Rattle.fed_rules.specs.Coord.{missing, of_inquiry, of_take, answered, coord_line, asked_while, tells, protocol_of}
 use Rattle.fed_rules.specs.CoordPast as Coordinator
-use Rattle.fed_rules.specs.CoordPast.{CoordHappening, CoordPast, Standing, Undecided, Decided, Gone, standing, is_known, is_undecided, program, visits, is_about, decides, acks_in, has_acked, participants}
-use Rattle.fed_rules.specs.CoordRecords.{initiated, outcome, required_of, required, is_nobody}
-use Rattle.fed_rules.specs.Happenings.{stops, comes_up, quiet}
+use Rattle.fed_rules.specs.CoordPast.{trip, CoordHappening, CoordPast, Standing, Undecided, Decided, Gone, standing, is_known, is_undecided, program, visits, is_about, decides, acks_in, has_acked, participants}
+use Rattle.fed_rules.specs.CoordRecords.{coord_frame, initiated, outcome, required_of, required, is_nobody}
+use Rattle.fed_rules.specs.Happenings.{Trip, stops, comes_up, is_down, quiet, stopped, tripped}
+use Rattle.fed_rules.specs.Disk.{Disk, Stops}
 use Rattle.fed_rules.specs.Scenarios.{home_of, protocols}
 use Rattle.fed_rules.specs.SitePast.{records}
 use Rattle.fed_rules.specs.SiteRecords.{Home, Held, doubt_of}
@@ -125,13 +129,57 @@ presumptions-are-right scenario commands site home declared =
     (coordinator_keeps scenario commands) tid)
     (its-site scenario site home declared) (presumes scenario commands home (home-again scenario site home declared))
 
-pub inquiries-are-answered-the-outcome : InquiriesAreAnsweredTheOutcome
+-- a line that no stop ends is the rule's
+no-stop : (d : Disk CoordRecord) (t : Option Trip) (y : CoordHappening) → stops (tripped coord_frame d t y).answer ≡ false
+    → tripped coord_frame d t y ≡ y
+unfolding tripped stopped when
+no-stop d None y s = refl
+no-stop d (Some t) y s = by_test (nat_le t.calls (length y.calls)) s where
+  by_test : (b : Bool)
+      → stops (when b (stopped coord_frame d y.event (take t.calls y.calls ++ Stops t.cut ∷ [])) y).answer ≡ false
+      → when b (stopped coord_frame d y.event (take t.calls y.calls ++ Stops t.cut ∷ [])) y ≡ y
+  by_test true s = cc
+  by_test false s = refl
+
+-- the line of an inquiry at a coordinator that is up
+inquiry-line : (scenario : Scenario) (past : CoordPast) (site : SiteId) (tid : Tid) → is_down past ≡ false
+    → stops (coord_line (protocols scenario) past (Ev.Take site (From.Inquiry tid))).answer ≡ false
+    → coord_line (protocols scenario) past (Ev.Take site (From.Inquiry tid)) ≡ of_inquiry (protocols scenario) past site tid
+unfolding coord_line answered of_take
+inquiry-line scenario past site tid up s =
+    let is : coord_line (protocols scenario) past (Ev.Take site (From.Inquiry tid)) ≡ tripped coord_frame (Coordinator.disk past)
+    (trip past) (of_inquiry (protocols scenario) past site tid) =
+    when-false (is_down past) (quiet (Ev.Take site (From.Inquiry tid)) Say.Down)
+    (tripped coord_frame (Coordinator.disk past) (trip past) (of_inquiry (protocols scenario) past site tid)) up in
+    is ∙ no-stop (Coordinator.disk past) (trip past) (of_inquiry (protocols scenario) past site tid)
+    (ap (λ y. stops y.answer) (sym is) ∙ s)
+
+-- the rule's answer to a site in doubt
+answers-the-outcome : (scenario : Scenario) (commands : List Command) (site : SiteId) (home : Home) → home_of scenario site ≡ Some home
+    → (tid : Tid) → standing (coord_past (story_of scenario commands)) tid ≡ Gone → (held : Held)
+    → doubt_of (records home (past_of site (story_of scenario commands))) tid ≡ Some held
+    → of_inquiry (protocols scenario) (coord_past (story_of scenario commands)) site tid
+    ≡ tells site tid (Say.Presumes (outcome (coordinator_keeps scenario commands) tid))
+    (outcome (coordinator_keeps scenario commands) tid)
 unfolding of_inquiry asked_while
-inquiries-are-answered-the-outcome scenario commands site home declared tid gone held doubt =
+answers-the-outcome scenario commands site home declared tid gone held doubt =
     let known : presumed (protocol_of (protocols scenario) site) ≡ outcome (coordinator_keeps scenario commands) tid =
     ap presumed (is-declared scenario site home declared).1
     ∙ presumptions-are-right scenario commands site home declared tid gone held doubt in
     ap (asked_while (protocols scenario) site tid) gone ∙ ap (λ d. tells site tid (Say.Presumes d) d) known
+
+pub inquiries-are-answered-the-outcome : InquiriesAreAnsweredTheOutcome
+inquiries-are-answered-the-outcome scenario commands site home declared tid gone held doubt x (command, e) inquiry up on =
+    let l : IsNext scenario (story_of scenario commands) (AtCoordinator x) =
+    subst (IsNext scenario (story_of scenario commands)) e (linked scenario (story_of scenario commands) command).next in
+    let (event, is, came) = l in
+    let t = turn scenario nowhere tid (story_of scenario commands) event came (coord-sound scenario nowhere tid commands) in
+    let named : event ≡ Ev.Take site (From.Inquiry tid) = sym t.line.is ∙ (ap (λ y. y.event) (sym is) ∙ inquiry) in
+    let line : x ≡ coord_line (protocols scenario) (coord_past (story_of scenario commands)) (Ev.Take site (From.Inquiry tid)) =
+    is ∙ ap (coord_line (protocols scenario) (coord_past (story_of scenario commands))) named in
+    line
+    ∙ inquiry-line scenario (coord_past (story_of scenario commands)) site tid up (ap (λ y. stops y.answer) (sym line) ∙ on)
+    ∙ answers-the-outcome scenario commands site home declared tid gone held doubt
 
 -- a required participant of an attempt that isn't known has acknowledged
 acknowledged : (scenario : Scenario) (commands : List Command) (home : Home) → home_of scenario home.site ≡ Some home → (tid : Tid)

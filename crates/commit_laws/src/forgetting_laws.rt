@@ -14,7 +14,7 @@ pub fn attempts_are_forgotten_when_acknowledged()
 {}
 
 /// Where the coordinator doesn't know an attempt and a site is in doubt of it, the presumption of the site's protocol is the attempt's
-/// outcome, and so an inquiry of that site is answered the outcome.
+/// outcome. So a line that takes an inquiry of that site answers and sends the outcome, unless the coordinator is down or is stopped there.
 pub fn inquiries_in_doubt_are_answered_the_outcome()
     ensures presumption { PresumptionsAreRight }
     ensures answer { InquiriesAreAnsweredTheOutcome }
