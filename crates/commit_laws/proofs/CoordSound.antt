@@ -97,11 +97,6 @@ end-initiation g (Rec.End t) e c = c
 end-initiation g (Rec.Commit t ks) e c = c
 end-initiation g (Rec.Initiation t ms) e c = e
 
-pub end-initiation-of : (g : Tid) (ms : List Participant) (r : CoordRecord) → IsEnd r → IsInitiationOf g ms r → ⊥
-end-initiation-of g ms (Rec.End t) e c = c
-end-initiation-of g ms (Rec.Commit t ks) e c = c
-end-initiation-of g ms (Rec.Initiation t ns) e c = e
-
 pub commit-mark : (g : Tid) (rs : List CoordRecord) → Among (IsCommit g) rs → Among (IsMark g) rs
 commit-mark g [] m = m
 commit-mark g (Rec.Commit t ks ∷ rs) (inl c) = inl c

@@ -40,7 +40,10 @@ ForgottenWhenNoneIsMissing =
     (stops x.answer || comes_up x.answer) ≡ false → (tid : Tid) →
     is_known (standing (coord_past (story_of scenario commands)) tid) ≡ true →
     is_known (standing (x ∷ coord_past (story_of scenario commands)) tid) ≡ false →
-    is_nobody (missing (x ∷ coord_past (story_of scenario commands)) tid (outcome (Coordinator.records (x ∷ coord_past (story_of scenario commands))) tid)) ≡ true
+    is_nobody
+    (missing (x ∷ coord_past (story_of scenario commands)) tid
+    (outcome (Coordinator.records (x ∷ coord_past (story_of scenario commands))) tid))
+    ≡ true
 
 -- behind a stop or a start of the coordinator every required acknowledgement is missing: it is counted anew
 abbrev pub RestartsCountAnew : Type 0
