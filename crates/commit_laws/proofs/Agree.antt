@@ -1,6 +1,5 @@
 -- What holds of one attempt at one site and at the coordinator, with what was sent between them: the whole invariant.
-use Rattle.std.proofs.Common.{◌≡◌, ℕ, ◌<◌, ◌≤◌, ◌⊎◌, Bool, true, false, Option, Some, None, List, []}
-use Rattle.mdb_base.specs.declared.names.SiteId.{SiteId}
+use Rattle.std.proofs.Common.{◌≡◌, ℕ, ◌<◌, ◌≤◌, ◌⊎◌, true, Some, List, []}
 use Rattle.mdb_base.specs.declared.names.Tid.{Tid}
 use Rattle.mdb_base.specs.declared.replies.Reply.{Reply}
 use Rattle.mdb_base.specs.Words.{Among}
@@ -21,6 +20,7 @@ use Rattle.fed_rules.specs.CoordRecords.{outcome}
 use Rattle.fed_rules.specs.Happenings.{is_down}
 use Rattle.fed_rules.specs.SitePast.{SitePast, disk, records, epoch, is_closed}
 use Rattle.fed_rules.specs.SiteRecords.{Home, site_frame}
+use Rattle.fed_rules.specs.Story.{Story, coord_past, past_of, sent_to, sent_from}
 use Rattle.rules_laws.specs.Durable.{IsFirm}
 use Rattle.commit_laws.specs.Records.{IsPrepared, IsEnded, IsLooseEnded}
 use Rattle.commit_laws.specs.Seals.{seals}
@@ -37,7 +37,8 @@ IsGot g past = (d : Decision) × Among (λ x. x.event ≡ Ev.Give (To.Decide g d
 -- the attempt is over at the site: a decision was given, and what was prepared has an Ended record that no stop takes away
 pub record IsOver (home : Home) (g : Tid) (past : SitePast) : Type 0 where
   pub got : IsGot g past
-  pub ended : (e : ℕ) → Among (IsPrepared g e) (records home past) → (d : Decision) × Among (IsEnded g d) (records home past) × (forces home.protocol d ≡ true)
+  pub ended : (e : ℕ) → Among (IsPrepared g e) (records home past)
+      → (d : Decision) × Among (IsEnded g d) (records home past) × (forces home.protocol d ≡ true)
 
 -- what was sent of a Prepare
 pub record Prepares (home : Home) (g : Tid) (past : CoordPast) (e : ℕ) : Type 0 where
@@ -58,9 +59,11 @@ pub record HasSealed (home : Home) (g : Tid) (past : CoordPast) (here : SitePast
   pub e : ℕ
   pub n : ℕ
   pub taken : In (To.Prepare g e n) sent
-  pub left : (((k : ℕ) × Among (IsPrepared g k) (records home here)) ⊎ (is_down here ≡ true)) ⊎ (epoch_at past g home.site < epoch home here)
+  pub left : (((k : ℕ) × Among (IsPrepared g k) (records home here)) ⊎ (is_down here ≡ true)) ⊎
+      (epoch_at past g home.site < epoch home here)
 
-pub record Agree (scenario : Scenario) (home : Home) (g : Tid) (past : CoordPast) (here : SitePast) (sent : List ToSite) (back : List FromSite) : Type 0 where
+pub record Agree (scenario : Scenario) (home : Home) (g : Tid) (past : CoordPast) (here : SitePast) (sent : List ToSite)
+    (back : List FromSite) : Type 0 where
   pub sound : CoordSound scenario home g past
   pub firm : IsFirm site_frame (IsLooseEnded home.protocol) (disk home here)
   pub shut : IsGlobal scenario g → Shut home g here
@@ -77,7 +80,13 @@ pub record Agree (scenario : Scenario) (home : Home) (g : Tid) (past : CoordPast
   pub counted : (counted_at past g home.site ≡ []) ⊎ ((1 ≤ epoch_at past g home.site) × (visits home.site (program past g) ≡ true))
   pub barred : IsGot g here → (epoch_at past g home.site < epoch home here) ⊎ (is_closed here g ≡ true)
   pub ended : (d : Decision) → Among (IsEnded g d) (records home here) → IsGot g here × (d ≡ outcome (Coordinator.records past) g)
-  pub settled : (d : Decision) → Among (λ x. x.answer ≡ Say.Settles g d) here → IsGot g here × (d ≡ outcome (Coordinator.records past) g)
+  pub settled : (d : Decision) → Among (λ x. x.answer ≡ Say.Settles g d) here
+      → IsGot g here × (d ≡ outcome (Coordinator.records past) g)
   pub prepared : (e : ℕ) → Among (IsPrepared g e) (records home here) → (n : ℕ) × In (To.Prepare g e n) sent
   pub sealed : Among (λ x. seals g x ≡ true) here → HasSealed home g past here sent
   pub tidy : IsTidy g (records home here)
+
+-- the invariant in a story
+abbrev pub Agrees : Scenario → Home → Tid → Story → Type 0
+Agrees scenario home g story =
+    Agree scenario home g (coord_past story) (past_of home.site story) (sent_to home.site story) (sent_from home.site story)

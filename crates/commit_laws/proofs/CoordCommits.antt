@@ -1,58 +1,63 @@
--- Commits, votes and acknowledgements at the coordinator, and then each event: the facts on one attempt hold of every line that no stop ends.
-use Rattle.std.proofs.Common.{◌≡◌, ℕ, ◌+◌, ◌⊎◌, inl, inr, Bool, true, false, cond, not, ◌&&◌, ◌||◌, ◌==◌, is_some, is_none, Option, Some, None, List, [], ◌∷◌, ◌++◌, map, refl, sym, ap, subst, ◌∙◌}
-use Rattle.std.proofs.lemmas.Bool.{and_parts, and_right, or_left}
-use Rattle.mdb_base.specs.declared.acts.Step.{Step}
+-- Commits, votes and replies at the coordinator: the facts on one attempt hold of their lines.
+use Rattle.std.proofs.Common.{◌≡◌, ℕ, inl, inr, Bool, true, false, cond, ◌&&◌, ◌||◌, ◌==◌, is_some, Option, Some, None, List, [], ◌∷◌, refl, ap}
+use Rattle.std.proofs.lemmas.Bool.{and_parts}
 use Rattle.mdb_base.specs.declared.names.SiteId.{SiteId}
 use Rattle.mdb_base.specs.declared.names.SiteTicket.{SiteTicket}
 use Rattle.mdb_base.specs.declared.names.Tid.{Tid}
 use Rattle.mdb_base.specs.declared.replies.Reply.{Reply}
 use Rattle.mdb_base.specs.declared.replies.Reply.TheVariants as Reply_is
 use Rattle.mdb_base.specs.declared.replies.Why.TheVariants as Because
-use Rattle.mdb_base.specs.Names.{same_tid, same_site}
-use Rattle.mdb_base.specs.Words.{Each, Among, those}
-use Rattle.mdb_base.proofs.ListLaws.{each_map, each_all, append_each, those_pass, each_filtered}
+use Rattle.mdb_base.specs.Names.{same_tid}
+use Rattle.mdb_base.specs.Words.{Each, Among}
+use Rattle.mdb_base.proofs.ListLaws.{each_all}
 use Rattle.mdb_base.proofs.NameLaws.{same_tid-equal, same_tid-refl}
 use Rattle.order_laws.specs.Search.{cycle_through}
 use Rattle.order_laws.specs.Tickets.{edge_between}
-use Rattle.presumptions.specs.declared.Decision.{Decision}
 use Rattle.presumptions.specs.declared.Decision.TheVariants as Decided
 use Rattle.presumptions.specs.declared.Participant.{Participant}
 use Rattle.fed_rules.specs.declared.answers.Answer.TheVariants as Say
-use Rattle.fed_rules.specs.declared.answers.Cause.{Cause}
 use Rattle.fed_rules.specs.declared.answers.Cause.TheVariants as For
 use Rattle.fed_rules.specs.declared.events.CoordEvent.{CoordEvent}
 use Rattle.fed_rules.specs.declared.events.CoordEvent.TheVariants as Ev
-use Rattle.fed_rules.specs.declared.messages.Due.{Due}
-use Rattle.fed_rules.specs.declared.messages.Due.TheVariants as Due_is
-use Rattle.fed_rules.specs.declared.messages.FromSite.{FromSite}
 use Rattle.fed_rules.specs.declared.messages.FromSite.TheVariants as From
-use Rattle.fed_rules.specs.declared.records.CoordRecord.{CoordRecord}
 use Rattle.fed_rules.specs.declared.records.CoordRecord.TheVariants as Rec
-use Rattle.fed_rules.specs.Disk.{Call, Append, Sync, CutBack, is_torn}
-use Rattle.fed_rules.specs.Happenings.{quiet, stops, comes_up}
-use Rattle.fed_rules.specs.Coord.{all_outstanding, news, end_calls, forgets_at_once, decide_to, aborts, commits_it, did_counts, did_reply, of_did, all_voted, vote_tickets, last_vote, yes_vote, is_due_vote, vote_counts, vote_counted, of_vote, missing, is_member, ack_counts, acked_while, of_ack, of_take, again_while, of_again, of_late, late_ends, of_back, answered, fits}
-use Rattle.fed_rules.specs.CoordPast.{CoordHappening, CoordPast, disk, records, Standing, Undecided, Decided, Gone, standing, moved, is_about, is_undecided, decides, acks_in, has_acked, participants, outstanding, epoch_at, oldest_first}
-use Rattle.fed_rules.specs.CoordRecords.{coord_frame, initiated, initiated_tids, outcome, required, is_nobody, ends_at_once, commits, has_end}
+use Rattle.fed_rules.specs.Happenings.{quiet}
+use Rattle.fed_rules.specs.Coord.{news, end_calls, forgets_at_once, aborts, commits_it, did_counts, did_reply, of_did, all_voted, vote_tickets, last_vote, yes_vote, is_due_vote, vote_counts, vote_counted, of_vote, fits}
+use Rattle.fed_rules.specs.CoordPast.{CoordHappening, CoordPast, disk, records, standing, is_undecided, participants, outstanding, epoch_at}
+use Rattle.fed_rules.specs.CoordRecords.{coord_frame, initiated, required, is_nobody, commits}
 use Rattle.commit_laws.specs.Records.{IsEnd, IsCommit}
 use Rattle.commit_laws.proofs.Disks.{appended, IsQuiet, quiet-plain, plain-records}
-use Rattle.commit_laws.proofs.CoordFacts.{IsOpen, IsInitiation, IsUnmarked, IsUncommitted, IsCommitting, IsEnding, AtCommit, AtAbort, AtAck, AtBack, WroteAll, IsDecidedBy, Stands, Same, Decides, Forgets, Restarts, IsTelling, Now, Known, Tells, Counted, Goes}
-use Rattle.commit_laws.proofs.CoordRules.{goes-when, goes-pick, of-same, standing-on, acked-on, calm-standing, calm-acked, quietly, silently, ignored, IsNoAck, each-map, IsOwed, all-owed, news-owed, by-go, by-dues, by-inquiry, by-fate}
+use Rattle.commit_laws.proofs.CoordFacts.{IsOpen, IsInitiation, IsUnmarked, IsCommitting, IsEnding, AtCommit, WroteAll, Stands, Same, Decides, IsTelling, Now, Tells, Counted, Goes}
+use Rattle.commit_laws.proofs.CoordRules.{goes-when, goes-pick, acked-on, silently, ignored}
+use Rattle.commit_laws.proofs.CoordDues.{each-map, news-owed, by-dues}
 use Rattle.commit_laws.proofs.CoordEnds.{end-part, acked-off, decided-standing, other-standing, by-aborts}
+use Rattle.commit_laws.proofs.Names.{of-same}
 
 -- a commit at the last yes vote
-by-commits_it : (protocols : List Participant) (g : Tid) (past : CoordPast) (site : SiteId) (t : Tid) (ticket : ℕ) (tickets : List SiteTicket) → IsOpen past t → all_voted (quiet (Ev.Take site (From.Vote t (Some ticket))) Say.Voted ∷ past) t (participants protocols past t) ≡ true → Goes protocols g past (Ev.Take site (From.Vote t (Some ticket))) (commits_it protocols past (Ev.Take site (From.Vote t (Some ticket))) t tickets)
+by-commits_it : (protocols : List Participant) (g : Tid) (past : CoordPast) (site : SiteId) (t : Tid) (ticket : ℕ)
+    (tickets : List SiteTicket) → IsOpen past t
+    → all_voted (quiet (Ev.Take site (From.Vote t (Some ticket))) Say.Voted ∷ past) t (participants protocols past t) ≡ true
+    → Goes protocols g past (Ev.Take site (From.Vote t (Some ticket)))
+    (commits_it protocols past (Ev.Take site (From.Vote t (Some ticket))) t tickets)
 unfolding commits_it
 by-commits_it protocols g past site t ticket tickets undecided all = record {
   is = refl;
   quiet = inr still;
   wrote = end-part (λ cs. WroteAll protocols g past event (appended cs (Rec.Commit t tickets ∷ []))) t f i
-      (λ e j. ((λ q. of-same (λ u. IsEnding u past event (Rec.Commit t tickets ∷ []) × (is_some (initiated (records past) u) ≡ true)) t g (AtCommit undecided (inl refl) e, j) q), ((λ q. (committing q, refl)), tt)))
+      (λ e j. (
+        (λ q. of-same
+            (λ u. IsEnding u past event (Rec.Commit t tickets ∷ []) × (is_some (initiated (records past) u) ≡ true)) t g
+            (AtCommit undecided (inl refl) e, j) q),
+        ((λ q. (committing q, refl)), tt),
+      ))
       ((λ q. (committing q, refl)), tt);
   stands = stands (same_tid t g) refl;
   tells = each-map (Tells protocols g past y) (λ member. record { site = member.site; message = _ }) (participants protocols past t)
       (each_all (λ member. same_tid t g ≡ true → IsTelling protocols g past y member.site Decided.Commit)
       (λ member q. of-same (λ u. IsTelling protocols u past y member.site Decided.Commit) t g
-      (Now f undecided (decided-standing t t past y Decided.Commit None f refl (same_tid-refl t)) (appended y.calls []) (plain-records coord_frame (disk past) y.calls [] (records past) (quiet-plain IsEnd false y.calls (inr still)) refl) (committed t (same_tid-refl t))) q)
+      (Now f undecided (decided-standing t t past y Decided.Commit None f refl (same_tid-refl t)) (appended y.calls [])
+      (plain-records coord_frame (disk past) y.calls [] (records past) (quiet-plain IsEnd false y.calls (inr still)) refl)
+      (committed t (same_tid-refl t))) q)
       (participants protocols past t));
   counted = (λ e. tt);
   committed = committed g;
@@ -73,32 +78,46 @@ by-commits_it protocols g past site t ticket tickets undecided all = record {
   still = end-part (λ cs. IsQuiet IsEnd false cs) t f i (λ e j. inl (tt, tt)) tt
 
   committing : same_tid t g ≡ true → IsCommitting protocols g past (Ev.Take site (From.Vote t (Some ticket)))
-  committing q = of-same (λ u. IsCommitting protocols u past (Ev.Take site (From.Vote t (Some ticket)))) t g (record { undecided = undecided; site = site; ticket = ticket; taken = refl; all = all }) q
+  committing q = of-same (λ u. IsCommitting protocols u past (Ev.Take site (From.Vote t (Some ticket)))) t g
+      (record { undecided = undecided; site = site; ticket = ticket; taken = refl; all = all }) q
 
-  committed : (u : Tid) → same_tid t u ≡ true → Among (IsCommit u) (appended (cond (forgets_at_once past t Decided.Commit) (end_calls past t) []) (Rec.Commit t tickets ∷ []))
-  committed u q = end-part (λ cs. Among (IsCommit u) (appended cs (Rec.Commit t tickets ∷ []))) t f i (λ e j. inr (inl (same_tid-equal t u q))) (inl (same_tid-equal t u q))
+  committed : (u : Tid) → same_tid t u ≡ true
+      → Among (IsCommit u) (appended (cond (forgets_at_once past t Decided.Commit) (end_calls past t) []) (Rec.Commit t tickets ∷ []))
+  committed u q = end-part (λ cs. Among (IsCommit u) (appended cs (Rec.Commit t tickets ∷ []))) t f i
+      (λ e j. inr (inl (same_tid-equal t u q))) (inl (same_tid-equal t u q))
 
-  stands : (q : Bool) → same_tid t g ≡ q → Stands g past (commits_it protocols past (Ev.Take site (From.Vote t (Some ticket))) t tickets) (appended (cond (forgets_at_once past t Decided.Commit) (end_calls past t) []) (Rec.Commit t tickets ∷ []))
+  stands : (q : Bool) → same_tid t g ≡ q
+      → Stands g past (commits_it protocols past (Ev.Take site (From.Vote t (Some ticket))) t tickets)
+      (appended (cond (forgets_at_once past t Decided.Commit) (end_calls past t) []) (Rec.Commit t tickets ∷ []))
   stands true q =
       Decides Decided.Commit f (of-same (λ u. IsOpen past u) t g undecided q) refl
       (decided-standing g t past y Decided.Commit None f refl q)
       (of-same (λ u. is_nobody (required (records past) u Decided.Commit) ≡ f) t g refl q)
       (committed g q)
       (λ at. acked-off g past y at q refl)
-      (end-part (λ cs. Each (λ r. IsInitiation g r → ⊥) (appended cs (Rec.Commit t tickets ∷ []))) t f i (λ e j. ((λ h. h), ((λ h. h), tt))) ((λ h. h), tt))
+      (end-part (λ cs. Each (λ r. IsInitiation g r → ⊥) (appended cs (Rec.Commit t tickets ∷ []))) t f i
+      (λ e j. ((λ h. h), ((λ h. h), tt))) ((λ h. h), tt))
   stands false q =
       Same (other-standing g t past y Decided.Commit None f refl q) refl
       (end-part (λ cs. Each (IsUnmarked g) (appended cs (Rec.Commit t tickets ∷ []))) t f i (λ e j. (q, (q, tt))) (q, tt))
       (inl (λ at. acked-on g past y at refl refl (ap (λ b. b && true) q) refl))
 
-by-last_vote : (protocols : List Participant) (g : Tid) (past : CoordPast) (site : SiteId) (t : Tid) (ticket : ℕ) (tickets : List SiteTicket) → IsOpen past t → all_voted (quiet (Ev.Take site (From.Vote t (Some ticket))) Say.Voted ∷ past) t (participants protocols past t) ≡ true → Goes protocols g past (Ev.Take site (From.Vote t (Some ticket))) (last_vote protocols past (Ev.Take site (From.Vote t (Some ticket))) t tickets)
+by-last_vote : (protocols : List Participant) (g : Tid) (past : CoordPast) (site : SiteId) (t : Tid) (ticket : ℕ)
+    (tickets : List SiteTicket) → IsOpen past t
+    → all_voted (quiet (Ev.Take site (From.Vote t (Some ticket))) Say.Voted ∷ past) t (participants protocols past t) ≡ true
+    → Goes protocols g past (Ev.Take site (From.Vote t (Some ticket)))
+    (last_vote protocols past (Ev.Take site (From.Vote t (Some ticket))) t tickets)
 unfolding last_vote aborts
 by-last_vote protocols g past site t ticket tickets undecided all =
-    goes-pick protocols g past (Ev.Take site (From.Vote t (Some ticket))) (cycle_through edge_between (record { tid = t; tickets = tickets }) (commits (records past))) _ _
+    goes-pick protocols g past (Ev.Take site (From.Vote t (Some ticket)))
+    (cycle_through edge_between (record { tid = t; tickets = tickets }) (commits (records past))) _ _
     (λ e. by-commits_it protocols g past site t ticket tickets undecided all)
-    (λ edges e. by-aborts protocols g past (Ev.Take site (From.Vote t (Some ticket))) t (For.Cycle edges) undecided (λ u. refl) tt (λ at. refl) tt)
+    (λ edges e. by-aborts protocols g past (Ev.Take site (From.Vote t (Some ticket))) t (For.Cycle edges) undecided (λ u. refl) tt
+    (λ at. refl) tt)
 
-by-yes_vote : (protocols : List Participant) (g : Tid) (past : CoordPast) (site : SiteId) (t : Tid) (ticket : ℕ) → IsOpen past t → Goes protocols g past (Ev.Take site (From.Vote t (Some ticket))) (yes_vote protocols past (Ev.Take site (From.Vote t (Some ticket))) t)
+by-yes_vote : (protocols : List Participant) (g : Tid) (past : CoordPast) (site : SiteId) (t : Tid) (ticket : ℕ) → IsOpen past t
+    → Goes protocols g past (Ev.Take site (From.Vote t (Some ticket)))
+    (yes_vote protocols past (Ev.Take site (From.Vote t (Some ticket))) t)
 unfolding yes_vote
 by-yes_vote protocols g past site t ticket undecided =
     goes-when protocols g past (Ev.Take site (From.Vote t (Some ticket))) (all_voted now t members) _ _
@@ -111,227 +130,48 @@ by-yes_vote protocols g past site t ticket undecided =
     members : List Participant
     members = participants protocols past t
 
-by-vote_counted : (protocols : List Participant) (g : Tid) (past : CoordPast) (site : SiteId) (t : Tid) (vote : Option ℕ) → IsOpen past t → Goes protocols g past (Ev.Take site (From.Vote t vote)) (vote_counted protocols past site t vote)
+by-vote_counted : (protocols : List Participant) (g : Tid) (past : CoordPast) (site : SiteId) (t : Tid) (vote : Option ℕ)
+    → IsOpen past t → Goes protocols g past (Ev.Take site (From.Vote t vote)) (vote_counted protocols past site t vote)
 unfolding vote_counted aborts
-by-vote_counted protocols g past site t None undecided = by-aborts protocols g past (Ev.Take site (From.Vote t None)) t (For.No site) undecided (λ u. refl) tt (λ at. refl) tt
+by-vote_counted protocols g past site t None undecided = by-aborts protocols g past (Ev.Take site (From.Vote t None)) t
+    (For.No site) undecided (λ u. refl) tt (λ at. refl) tt
 by-vote_counted protocols g past site t (Some ticket) undecided = by-yes_vote protocols g past site t ticket undecided
 
-by-vote : (protocols : List Participant) (g : Tid) (past : CoordPast) (site : SiteId) (t : Tid) (vote : Option ℕ) → Goes protocols g past (Ev.Take site (From.Vote t vote)) (of_vote protocols past site t vote)
+pub by-vote : (protocols : List Participant) (g : Tid) (past : CoordPast) (site : SiteId) (t : Tid) (vote : Option ℕ)
+    → Goes protocols g past (Ev.Take site (From.Vote t vote)) (of_vote protocols past site t vote)
 unfolding of_vote
 by-vote protocols g past site t vote =
     goes-when protocols g past (Ev.Take site (From.Vote t vote)) (vote_counts past site t) _ _
-    (λ e. by-vote_counted protocols g past site t vote (and_parts (is_undecided (standing past t)) (is_due_vote (outstanding past t site)) e).0)
+    (λ e. by-vote_counted protocols g past site t vote
+    (and_parts (is_undecided (standing past t)) (is_due_vote (outstanding past t site)) e).0)
     (λ e. ignored protocols g past (Ev.Take site (From.Vote t vote)))
 
 -- a reply that counts
-by-did_reply : (protocols : List Participant) (g : Tid) (past : CoordPast) (site : SiteId) (t : Tid) (e n : ℕ) (full reply : Reply) → IsOpen past t → Counted g past (Ev.Take site (From.Did t e n full)) → Goes protocols g past (Ev.Take site (From.Did t e n full)) (did_reply protocols past site (From.Did t e n full) t reply)
+by-did_reply : (protocols : List Participant) (g : Tid) (past : CoordPast) (site : SiteId) (t : Tid) (e n : ℕ) (full reply : Reply)
+    → IsOpen past t → Counted g past (Ev.Take site (From.Did t e n full))
+    → Goes protocols g past (Ev.Take site (From.Did t e n full)) (did_reply protocols past site (From.Did t e n full) t reply)
 unfolding did_reply aborts
-by-did_reply protocols g past site t e n full (Reply_is.Wait by) undecided k = silently protocols g past (Ev.Take site (From.Did t e n full)) Say.TookWaits tt tt k
-by-did_reply protocols g past site t e n full (Reply_is.Refused (Because.Die by)) undecided k = by-aborts protocols g past (Ev.Take site (From.Did t e n full)) t (For.Dies site by) undecided (λ u. refl) tt (λ at. refl) k
-by-did_reply protocols g past site t e n full (Reply_is.Refused (Because.Late by)) undecided k = by-aborts protocols g past (Ev.Take site (From.Did t e n full)) t (For.TooLate site by) undecided (λ u. refl) tt (λ at. refl) k
-by-did_reply protocols g past site t e n full Reply_is.Unknown undecided k = by-aborts protocols g past (Ev.Take site (From.Did t e n full)) t (For.Unknown site) undecided (λ u. refl) tt (λ at. refl) k
+by-did_reply protocols g past site t e n full (Reply_is.Wait by) undecided k = silently protocols g past
+    (Ev.Take site (From.Did t e n full)) Say.TookWaits tt tt k
+by-did_reply protocols g past site t e n full (Reply_is.Refused (Because.Die by)) undecided k = by-aborts protocols g past
+    (Ev.Take site (From.Did t e n full)) t (For.Dies site by) undecided (λ u. refl) tt (λ at. refl) k
+by-did_reply protocols g past site t e n full (Reply_is.Refused (Because.Late by)) undecided k = by-aborts protocols g past
+    (Ev.Take site (From.Did t e n full)) t (For.TooLate site by) undecided (λ u. refl) tt (λ at. refl) k
+by-did_reply protocols g past site t e n full Reply_is.Unknown undecided k = by-aborts protocols g past
+    (Ev.Take site (From.Did t e n full)) t (For.Unknown site) undecided (λ u. refl) tt (λ at. refl) k
 by-did_reply protocols g past site t e n full reply undecided k =
-    by-dues protocols g past (Ev.Take site (From.Did t e n full)) t (news protocols past (quiet (Ev.Take site (From.Did t e n full)) Say.Only ∷ past) t site) undecided tt k
+    by-dues protocols g past (Ev.Take site (From.Did t e n full)) t
+    (news protocols past (quiet (Ev.Take site (From.Did t e n full)) Say.Only ∷ past) t site) undecided tt k
     (news-owed protocols past (quiet (Ev.Take site (From.Did t e n full)) Say.Only ∷ past) t site)
 
-by-did : (protocols : List Participant) (g : Tid) (past : CoordPast) (site : SiteId) (t : Tid) (e n : ℕ) (reply : Reply) → Goes protocols g past (Ev.Take site (From.Did t e n reply)) (of_did protocols past site t e n reply)
+pub by-did : (protocols : List Participant) (g : Tid) (past : CoordPast) (site : SiteId) (t : Tid) (e n : ℕ) (reply : Reply)
+    → Goes protocols g past (Ev.Take site (From.Did t e n reply)) (of_did protocols past site t e n reply)
 unfolding of_did
 by-did protocols g past site t e n reply =
     goes-when protocols g past (Ev.Take site (From.Did t e n reply)) (did_counts past site t e n reply) _ _
     (λ c. by-did_reply protocols g past site t e n reply reply
-    (and_parts (is_undecided (standing past t)) (fits (outstanding past t site) n reply) (and_parts (is_undecided (standing past t) && fits (outstanding past t site) n reply) ((epoch_at past t site == 0) || (e == epoch_at past t site)) c).0).0
+    (and_parts (is_undecided (standing past t)) (fits (outstanding past t site) n reply) (and_parts
+    (is_undecided (standing past t) && fits (outstanding past t site) n reply)
+    ((epoch_at past t site == 0) || (e == epoch_at past t site)) c).0).0
     (λ q. of-same (λ u. did_counts past site u e n reply ≡ true) t g c q))
     (λ c. ignored protocols g past (Ev.Take site (From.Did t e n reply)))
-
--- an acknowledgement that counts
-by-ack_counts : (protocols : List Participant) (g : Tid) (past : CoordPast) (site : SiteId) (t : Tid) (decision : Decision) → standing past t ≡ Decided decision → Goes protocols g past (Ev.Take site (From.Ack t)) (ack_counts past site t decision)
-unfolding ack_counts
-by-ack_counts protocols g past site t decision known =
-    goes-when protocols g past event (is_nobody (missing (quiet event Say.Acked ∷ past) t decision)) _ _ (λ e. by_last e) (λ e. by_more e)
-  where
-    event : CoordEvent
-    event = Ev.Take site (From.Ack t)
-
-    i : Bool
-    i = is_some (initiated (records past) t)
-
-    y : CoordHappening
-    y = record { event = Ev.Take site (From.Ack t); answer = Say.Forgets; sends = []; calls = end_calls past t; lines = [] }
-
-    calls-part : (P : List (Call CoordRecord) → Type 0) → (i ≡ true → P (Append (Rec.End t) ∷ [])) → P [] → P (end_calls past t)
-    calls-part P p q = end-part P t true i (λ e j. p j) q
-
-    acked-here : (u : Tid) (at : SiteId) → has_acked (y ∷ past) u at ≡ has_acked (quiet (Ev.Take site (From.Ack t)) Say.Acked ∷ past) u at
-    acked-here u at = refl
-
-    stands : is_nobody (missing (quiet (Ev.Take site (From.Ack t)) Say.Acked ∷ past) t decision) ≡ true → (q : Bool) → same_tid t g ≡ q → Stands g past y (appended (end_calls past t) [])
-    stands e true q =
-        Forgets decision (of-same (λ u. standing past u ≡ Decided decision) t g known q) refl (ap (λ b. cond b Gone (standing past g)) q)
-        (of-same (λ u. is_nobody (missing (quiet (Ev.Take site (From.Ack t)) Say.Acked ∷ past) u decision) ≡ true) t g e q)
-        (calls-part (λ cs. Each IsEnd (appended cs [])) (λ j. (tt, tt)) tt) (acked-here g)
-    stands e false q =
-        Same (ap (λ b. cond b Gone (standing past g)) q) refl
-        (calls-part (λ cs. Each (IsUnmarked g) (appended cs [])) (λ j. (q, tt)) tt)
-        (inl (λ at. acked-on g past y at refl refl (and_right (same_tid t g) false refl) (ap (λ b. (b && same_site site at) && true) q)))
-
-    by_last : is_nobody (missing (quiet (Ev.Take site (From.Ack t)) Say.Acked ∷ past) t decision) ≡ true → Goes protocols g past (Ev.Take site (From.Ack t)) y
-    by_last e = record {
-      is = refl;
-      quiet = calls-part (λ cs. IsQuiet IsEnd false cs) (λ j. inl (tt, tt)) tt;
-      wrote = calls-part (λ cs. WroteAll protocols g past (Ev.Take site (From.Ack t)) (appended cs []))
-          (λ j. ((λ q. of-same (λ u. IsEnding u past (Ev.Take site (From.Ack t)) [] × (is_some (initiated (records past) u) ≡ true)) t g (AtAck decision known refl e, j) q), tt)) tt;
-      stands = stands e (same_tid t g) refl;
-      tells = tt;
-      counted = (λ c. tt);
-      committed = tt;
-    }
-
-    more : CoordHappening
-    more = quiet (Ev.Take site (From.Ack t)) Say.Acked
-
-    waits : is_nobody (missing (quiet (Ev.Take site (From.Ack t)) Say.Acked ∷ past) t decision) ≡ false → (q : Bool) → same_tid t g ≡ q → ((at : SiteId) → has_acked (more ∷ past) g at ≡ has_acked past g at) ⊎ ((made : Decision) → standing past g ≡ Decided made → is_nobody (missing (more ∷ past) g made) ≡ false)
-    waits e true q = inr (λ made is.
-        let here = of-same (λ u. standing past u ≡ Decided decision) t g known q in
-        let same : decision ≡ made = cc in
-        subst (λ d. is_nobody (missing (more ∷ past) g d) ≡ false) same (of-same (λ u. is_nobody (missing (more ∷ past) u decision) ≡ false) t g e q))
-    waits e false q = inl (λ at. acked-on g past more at refl refl (and_right (same_tid t g) false refl) (ap (λ b. (b && same_site site at) && true) q))
-
-    by_more : is_nobody (missing (quiet (Ev.Take site (From.Ack t)) Say.Acked ∷ past) t decision) ≡ false → Goes protocols g past (Ev.Take site (From.Ack t)) more
-    by_more e = record {
-      is = refl;
-      quiet = tt;
-      wrote = tt;
-      stands = Same (calm-standing g past more tt) refl tt (waits e (same_tid t g) refl);
-      tells = tt;
-      counted = (λ c. tt);
-      committed = tt;
-    }
-
-by-acked_while : (protocols : List Participant) (g : Tid) (past : CoordPast) (site : SiteId) (t : Tid) (s : Standing) → standing past t ≡ s → Goes protocols g past (Ev.Take site (From.Ack t)) (acked_while past site t s)
-unfolding acked_while
-by-acked_while protocols g past site t (Decided decision) e =
-    goes-when protocols g past (Ev.Take site (From.Ack t)) (is_member site (missing past t decision)) _ _
-    (λ m. by-ack_counts protocols g past site t decision e)
-    (λ m. ignored protocols g past (Ev.Take site (From.Ack t)))
-by-acked_while protocols g past site t Undecided e = ignored protocols g past (Ev.Take site (From.Ack t))
-by-acked_while protocols g past site t Gone e = ignored protocols g past (Ev.Take site (From.Ack t))
-
-by-ack : (protocols : List Participant) (g : Tid) (past : CoordPast) (site : SiteId) (t : Tid) → Goes protocols g past (Ev.Take site (From.Ack t)) (of_ack past site t)
-unfolding of_ack
-by-ack protocols g past site t = by-acked_while protocols g past site t (standing past t) refl
-
-by-take : (protocols : List Participant) (g : Tid) (past : CoordPast) (site : SiteId) (message : FromSite) → Goes protocols g past (Ev.Take site message) (of_take protocols past site message)
-unfolding of_take
-by-take protocols g past site (From.Did t e n reply) = by-did protocols g past site t e n reply
-by-take protocols g past site (From.Vote t vote) = by-vote protocols g past site t vote
-by-take protocols g past site (From.Ack t) = by-ack protocols g past site t
-by-take protocols g past site (From.Inquiry t) = by-inquiry protocols g past site t
-
--- `again`
-still-owed : (past : CoordPast) (t : Tid) (due : Due) → IsOwed past t due → IsOwed (quiet (Ev.Again t) Say.Only ∷ past) t due
-still-owed past t (Due_is.Work site e n act) o = tt
-still-owed past t (Due_is.Take site e n) o = tt
-still-owed past t (Due_is.Prepare site e n) o = o
-
-by-again_while : (protocols : List Participant) (g : Tid) (past : CoordPast) (t : Tid) (s : Standing) → standing past t ≡ s → Goes protocols g past (Ev.Again t) (again_while protocols past t s)
-unfolding again_while
-by-again_while protocols g past t Undecided e =
-    by-dues protocols g past (Ev.Again t) t (all_outstanding protocols past t) (ap is_undecided e) tt tt
-    (each_map (IsOwed past t) (IsOwed (quiet (Ev.Again t) Say.Only ∷ past) t) (still-owed past t) (all_outstanding protocols past t) (all-owed protocols past t))
-by-again_while protocols g past t (Decided decision) e = record {
-  is = refl;
-  quiet = tt;
-  wrote = tt;
-  stands = Same (calm-standing g past y tt) refl tt (inl (λ at. calm-acked g past y at tt refl));
-  tells = each-map (Tells protocols g past y) (λ member. record { site = member.site; message = _ }) (missing past t decision)
-      (each_all (λ member. same_tid t g ≡ true → IsTelling protocols g past y member.site decision)
-      (λ member q. of-same (λ u. IsTelling protocols u past y member.site decision) t g (Known e) q) (missing past t decision));
-  counted = (λ c. tt);
-  committed = tt;
-} where
-  y : CoordHappening
-  y = record { event = Ev.Again t; answer = Say.Only; sends = decide_to t decision (missing past t decision); calls = []; lines = [] }
-by-again_while protocols g past t Gone e = silently protocols g past (Ev.Again t) Say.Idle tt tt tt
-
-by-again : (protocols : List Participant) (g : Tid) (past : CoordPast) (t : Tid) → Goes protocols g past (Ev.Again t) (of_again protocols past t)
-unfolding of_again
-by-again protocols g past t = by-again_while protocols g past t (standing past t) refl
-
-by-late : (protocols : List Participant) (g : Tid) (past : CoordPast) (t : Tid) → Goes protocols g past (Ev.Late t) (of_late protocols past t)
-unfolding of_late aborts
-by-late protocols g past t =
-    goes-when protocols g past (Ev.Late t) (is_undecided (standing past t)) _ _
-    (λ e. by-aborts protocols g past (Ev.Late t) t For.Late e (λ u. refl) tt (λ at. refl) tt)
-    (λ e. silently protocols g past (Ev.Late t) Say.Idle tt tt tt)
-
--- the End records of a restart
-each-oldest : {A : Type 0} (P : A → Type 0) (xs : List A) → Each P xs → Each P (oldest_first xs)
-each-oldest P [] h = tt
-each-oldest P (x ∷ xs) h = append_each P (oldest_first xs) (x ∷ []) (each-oldest P xs h.1) (h.0, tt)
-
--- what is ended at a restart has an Initiation, and nothing is required of it
-abbrev IsLateEnd : CoordPast → Tid → Type 0
-IsLateEnd past t = (is_nobody (required (records past) t (outcome (records past) t)) ≡ true) × (is_some (initiated (records past) t) ≡ true)
-
-ends-quiet : (ts : List Tid) → IsQuiet IsEnd false (map (λ t. Append (Rec.End t)) ts)
-ends-quiet [] = tt
-ends-quiet (t ∷ ts) = inl (tt, ends-quiet ts)
-
-ends-written : (protocols : List Participant) (g : Tid) (past : CoordPast) (ts : List Tid) (rs : List CoordRecord) → Each (IsLateEnd past) ts → Each IsEnd rs → WroteAll protocols g past Ev.Back rs → WroteAll protocols g past Ev.Back (appended (map (λ t. Append (Rec.End t)) ts) rs)
-ends-written protocols g past [] rs h e w = w
-ends-written protocols g past (t ∷ ts) rs h e w =
-    ends-written protocols g past ts (Rec.End t ∷ rs) h.1 (tt, e)
-    ((λ q. of-same (λ u. IsEnding u past Ev.Back rs × (is_some (initiated (records past) u) ≡ true)) t g (AtBack e h.0.0, h.0.1) q), w)
-
-tids-initiated : (rs : List CoordRecord) → Each (λ t. is_some (initiated rs t) ≡ true) (initiated_tids rs)
-tids-initiated [] = tt
-tids-initiated (Rec.Initiation t members ∷ rs) = (
-  ap (λ b. is_some (cond b (Some members) (initiated rs t))) (same_tid-refl t),
-  each_map (λ u. is_some (initiated rs u) ≡ true) (λ u. is_some (initiated (Rec.Initiation t members ∷ rs) u) ≡ true)
-      (λ u e. behind (same_tid t u) (initiated rs u) e) (initiated_tids rs) (tids-initiated rs),
-) where
-  behind : (b : Bool) (o : Option (List Participant)) → is_some o ≡ true → is_some (cond b (Some members) o) ≡ true
-  behind true o e = refl
-  behind false o e = e
-tids-initiated (Rec.Commit t tickets ∷ rs) = tids-initiated rs
-tids-initiated (Rec.End t ∷ rs) = tids-initiated rs
-
-late-ends : (past : CoordPast) → Each (IsLateEnd past) (oldest_first (those (ends_at_once (records past)) (initiated_tids (records past))))
-late-ends past = each-oldest (IsLateEnd past) _ (both _ (each_filtered (λ t. is_some (initiated (records past) t) ≡ true) (ends_at_once (records past)) (initiated_tids (records past)) (tids-initiated (records past))) (those_pass (ends_at_once (records past)) (initiated_tids (records past)))) where
-  both : (ts : List Tid) → Each (λ t. is_some (initiated (records past) t) ≡ true) ts → Each (λ t. ends_at_once (records past) t ≡ true) ts → Each (IsLateEnd past) ts
-  both [] i e = tt
-  both (t ∷ ts) i e = (((and_parts (not (has_end (records past) t)) (is_nobody (required (records past) t (outcome (records past) t))) e.0).1, i.0), both ts i.1 e.1)
-
-pub by-back : (protocols : List Participant) (g : Tid) (past : CoordPast) → Goes protocols g past Ev.Back (of_back past)
-unfolding of_back
-by-back protocols g past = record {
-  is = refl;
-  quiet = quiet_calls (is_torn coord_frame (disk past));
-  wrote = wrote_ends (is_torn coord_frame (disk past));
-  stands = Restarts refl refl (λ at. refl) refl;
-  tells = tt;
-  counted = (λ c. tt);
-  committed = tt;
-} where
-  ts : List Tid
-  ts = oldest_first (those (ends_at_once (records past)) (initiated_tids (records past)))
-
-  quiet_calls : (b : Bool) → IsQuiet IsEnd false (cond b (CutBack ∷ []) [] ++ late_ends (records past))
-  quiet_calls true = ends-quiet ts
-  quiet_calls false = ends-quiet ts
-
-  wrote_ends : (b : Bool) → WroteAll protocols g past Ev.Back (appended (cond b (CutBack ∷ []) [] ++ late_ends (records past)) [])
-  wrote_ends true = ends-written protocols g past ts [] (late-ends past) tt tt
-  wrote_ends false = ends-written protocols g past ts [] (late-ends past) tt tt
-
--- what a coordinator that is up answers
-pub by-answered : (protocols : List Participant) (g : Tid) (past : CoordPast) (event : CoordEvent) → Goes protocols g past event (answered protocols past event)
-unfolding answered
-by-answered protocols g past (Ev.Go t steps) = by-go protocols g past t steps
-by-answered protocols g past (Ev.Take site message) = by-take protocols g past site message
-by-answered protocols g past (Ev.Again t) = by-again protocols g past t
-by-answered protocols g past (Ev.Late t) = by-late protocols g past t
-by-answered protocols g past (Ev.Fate tx) = by-fate protocols g past tx
-by-answered protocols g past (Ev.Halt cut) = silently protocols g past (Ev.Halt cut) Say.Down tt tt tt
-by-answered protocols g past (Ev.Trip calls cut) = silently protocols g past (Ev.Trip calls cut) Say.Set tt tt tt
-by-answered protocols g past Ev.Back = by-back protocols g past

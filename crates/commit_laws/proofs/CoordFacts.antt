@@ -1,5 +1,5 @@
 -- What a line of the coordinator does about one attempt: what it appends, sends and makes of its standing, as facts on the line.
-use Rattle.std.proofs.Common.{◌≡◌, ℕ, ◌⊎◌, Bool, true, false, cond, ◌||◌, ◌==◌, is_some, Option, Some, None, List, [], ◌∷◌, ◌++◌}
+use Rattle.std.proofs.Common.{◌≡◌, ℕ, ◌⊎◌, Bool, true, false, cond, ◌||◌, is_some, Some, List, [], ◌∷◌, ◌++◌}
 use Rattle.mdb_base.specs.declared.acts.Step.{Step}
 use Rattle.mdb_base.specs.declared.names.SiteId.{SiteId}
 use Rattle.mdb_base.specs.declared.names.Tid.{Tid}
@@ -21,7 +21,7 @@ use Rattle.fed_rules.specs.declared.records.CoordRecord.{CoordRecord}
 use Rattle.fed_rules.specs.declared.records.CoordRecord.TheVariants as Rec
 use Rattle.fed_rules.specs.Happenings.{quiet, stops, comes_up}
 use Rattle.fed_rules.specs.Coord.{missing, did_counts, all_voted, protocol_of}
-use Rattle.fed_rules.specs.CoordPast.{CoordHappening, CoordPast, records, Standing, Undecided, Decided, Gone, standing, kept_standing, is_undecided, is_about, begins, counts, participants, program, visits, epoch_at, has_ticket_at, has_acked}
+use Rattle.fed_rules.specs.CoordPast.{CoordHappening, CoordPast, records, Undecided, Decided, Gone, standing, kept_standing, is_undecided, is_about, begins, counts, participants, program, visits, epoch_at, has_ticket_at, has_acked}
 use Rattle.fed_rules.specs.CoordRecords.{initiated, outcome, required, is_nobody}
 use Rattle.commit_laws.specs.Records.{IsEnd, IsCommit}
 use Rattle.commit_laws.proofs.Disks.{appended, IsQuiet}
@@ -56,16 +56,21 @@ pub record IsCommitting (protocols : List Participant) (g : Tid) (past : CoordPa
 
 -- why an End record of the attempt is appended, behind these other records of the line
 pub data IsEnding (g : Tid) (past : CoordPast) (event : CoordEvent) (before : List CoordRecord) : Type 0 where
-  AtCommit : IsOpen past g → Among (IsCommit g) before → is_nobody (required (records past) g Decided.Commit) ≡ true → IsEnding g past event before
+  AtCommit : IsOpen past g → Among (IsCommit g) before → is_nobody (required (records past) g Decided.Commit) ≡ true
+      → IsEnding g past event before
   AtAbort : IsOpen past g → before ≡ [] → is_nobody (required (records past) g Decided.Abort) ≡ true → IsEnding g past event before
-  AtAck : (decision : Decision) → standing past g ≡ Decided decision → before ≡ [] → is_nobody (missing (quiet event Say.Acked ∷ past) g decision) ≡ true → IsEnding g past event before
+  AtAck : (decision : Decision) → standing past g ≡ Decided decision → before ≡ []
+      → is_nobody (missing (quiet event Say.Acked ∷ past) g decision) ≡ true → IsEnding g past event before
   AtBack : Each IsEnd before → is_nobody (required (records past) g (outcome (records past) g)) ≡ true → IsEnding g past event before
 
 -- why a record is appended, behind these other records of the line
 abbrev pub Wrote : List Participant → Tid → CoordPast → CoordEvent → List CoordRecord → CoordRecord → Type 0
-Wrote protocols g past event before (Rec.Initiation tid members) = same_tid tid g ≡ true → IsOpen past g × (members ≡ participants protocols past g)
-Wrote protocols g past event before (Rec.Commit tid tickets) = same_tid tid g ≡ true → IsCommitting protocols g past event × (before ≡ [])
-Wrote protocols g past event before (Rec.End tid) = same_tid tid g ≡ true → IsEnding g past event before × (is_some (initiated (records past) g) ≡ true)
+Wrote protocols g past event before (Rec.Initiation tid members) = same_tid tid g ≡ true → IsOpen past g ×
+    (members ≡ participants protocols past g)
+Wrote protocols g past event before (Rec.Commit tid tickets) = same_tid tid g ≡ true → IsCommitting protocols g past event ×
+    (before ≡ [])
+Wrote protocols g past event before (Rec.End tid) = same_tid tid g ≡ true → IsEnding g past event before ×
+    (is_some (initiated (records past) g) ≡ true)
 
 -- why the records of a line are appended, the newest first
 abbrev pub WroteAll : List Participant → Tid → CoordPast → CoordEvent → List CoordRecord → Type 0
@@ -80,15 +85,21 @@ IsDecidedBy g Decided.Abort news = Each (IsUncommitted g) news
 -- what a line that no stop ends makes of the attempt's standing, with these new records
 pub data Stands (g : Tid) (past : CoordPast) (y : CoordHappening) (news : List CoordRecord) : Type 0 where
   Same : standing (y ∷ past) g ≡ standing past g → begins g y.answer ≡ false → Each (IsUnmarked g) news
-      → ((site : SiteId) → has_acked (y ∷ past) g site ≡ has_acked past g site) ⊎ ((decision : Decision) → standing past g ≡ Decided decision → is_nobody (missing (y ∷ past) g decision) ≡ false)
+      → ((site : SiteId) → has_acked (y ∷ past) g site ≡ has_acked past g site) ⊎
+      ((decision : Decision) → standing past g ≡ Decided decision → is_nobody (missing (y ∷ past) g decision) ≡ false)
       → Stands g past y news
-  Starts : begins g y.answer ≡ true → standing (y ∷ past) g ≡ Undecided → news ≡ [] → (steps : List Step) → y.event ≡ Ev.Go g steps → Stands g past y news
-  Decides : (decision : Decision) (forgets : Bool) → IsOpen past g → begins g y.answer ≡ false → standing (y ∷ past) g ≡ cond forgets Gone (Decided decision)
-      → is_nobody (required (records past) g decision) ≡ forgets → IsDecidedBy g decision news → ((site : SiteId) → has_acked (y ∷ past) g site ≡ false)
+  Starts : begins g y.answer ≡ true → standing (y ∷ past) g ≡ Undecided → news ≡ [] → (steps : List Step) → y.event ≡ Ev.Go g steps
+      → Stands g past y news
+  Decides : (decision : Decision) (forgets : Bool) → IsOpen past g → begins g y.answer ≡ false
+      → standing (y ∷ past) g ≡ cond forgets Gone (Decided decision)
+      → is_nobody (required (records past) g decision) ≡ forgets → IsDecidedBy g decision news →
+      ((site : SiteId) → has_acked (y ∷ past) g site ≡ false)
       → Each (λ r. IsInitiation g r → ⊥) news → Stands g past y news
   Forgets : (decision : Decision) → standing past g ≡ Decided decision → begins g y.answer ≡ false → standing (y ∷ past) g ≡ Gone
-      → is_nobody (missing (quiet y.event Say.Acked ∷ past) g decision) ≡ true → Each IsEnd news → ((site : SiteId) → has_acked (y ∷ past) g site ≡ has_acked (quiet y.event Say.Acked ∷ past) g site) → Stands g past y news
-  Restarts : begins g y.answer ≡ false → standing (y ∷ past) g ≡ kept_standing (records (y ∷ past)) g → ((site : SiteId) → has_acked (y ∷ past) g site ≡ false) → (stops y.answer || comes_up y.answer) ≡ true → Stands g past y news
+      → is_nobody (missing (quiet y.event Say.Acked ∷ past) g decision) ≡ true → Each IsEnd news →
+      ((site : SiteId) → has_acked (y ∷ past) g site ≡ has_acked (quiet y.event Say.Acked ∷ past) g site) → Stands g past y news
+  Restarts : begins g y.answer ≡ false → standing (y ∷ past) g ≡ kept_standing (records (y ∷ past)) g
+      → ((site : SiteId) → has_acked (y ∷ past) g site ≡ false) → (stops y.answer || comes_up y.answer) ≡ true → Stands g past y news
 
 -- a Prepare is sent of an undecided attempt, with the epoch of its counted replies, and its Initiation stands on the disk
 pub record IsPreparing (g : Tid) (past : CoordPast) (y : CoordHappening) (site : SiteId) (e : ℕ) : Type 0 where
@@ -99,10 +110,13 @@ pub record IsPreparing (g : Tid) (past : CoordPast) (y : CoordHappening) (site :
   pub initiated : Among (IsInitiation g) (records (y ∷ past))
 
 -- why a decision is sent
-pub data IsTelling (protocols : List Participant) (g : Tid) (past : CoordPast) (y : CoordHappening) (site : SiteId) (decision : Decision) : Type 0 where
-  Now : (forgets : Bool) → IsOpen past g → standing (y ∷ past) g ≡ cond forgets Gone (Decided decision) → (news : List CoordRecord) → records (y ∷ past) ≡ news ++ records past → IsDecidedBy g decision news → IsTelling protocols g past y site decision
+pub data IsTelling (protocols : List Participant) (g : Tid) (past : CoordPast) (y : CoordHappening) (site : SiteId)
+    (decision : Decision) : Type 0 where
+  Now : (forgets : Bool) → IsOpen past g → standing (y ∷ past) g ≡ cond forgets Gone (Decided decision) → (news : List CoordRecord)
+      → records (y ∷ past) ≡ news ++ records past → IsDecidedBy g decision news → IsTelling protocols g past y site decision
   Known : standing past g ≡ Decided decision → IsTelling protocols g past y site decision
-  Presumed : standing past g ≡ Gone → y.event ≡ Ev.Take site (From.Inquiry g) → decision ≡ presumed (protocol_of protocols site) → IsTelling protocols g past y site decision
+  Presumed : standing past g ≡ Gone → y.event ≡ Ev.Take site (From.Inquiry g) → decision ≡ presumed (protocol_of protocols site)
+      → IsTelling protocols g past y site decision
 
 -- why a message is sent
 abbrev pub Says : List Participant → Tid → CoordPast → CoordHappening → SiteId → ToSite → Type 0

@@ -1,6 +1,5 @@
 -- What happens in a story is the next line of a site or of the coordinator; what is given or taken there was sent, and what begins is new.
-use Rattle.std.proofs.Common.{◌≡◌, ℕ, zero, suc, ◌⊎◌, inl, inr, Bool, true, false, cond, Option, Some, None, List, [], ◌∷◌, refl, sym, ◌∙◌, ap, ap₂, subst}
-use Rattle.std.proofs.lemmas.Bool.{eqb-true, eq-eqb}
+use Rattle.std.proofs.Common.{◌≡◌, ℕ, zero, suc, inl, inr, Bool, true, false, cond, Option, Some, None, List, [], ◌∷◌, refl, sym, ◌∙◌, ap, ap₂, subst}
 use Rattle.mdb_base.specs.declared.acts.Step.{Step}
 use Rattle.mdb_base.specs.declared.names.SiteId.{SiteId}
 use Rattle.mdb_base.specs.declared.names.Tid.{Tid}
@@ -26,16 +25,8 @@ use Rattle.fed_rules.specs.Scenarios.{home_in, home_of, home_at, home_of_line, i
 use Rattle.fed_rules.specs.Site.{site_line}
 use Rattle.fed_rules.specs.SitePast.{SiteHappening}
 use Rattle.fed_rules.specs.SiteRecords.{Home}
-use Rattle.fed_rules.specs.Story.{Story, Happened, AtSite, AtCoordinator, Nowhere, past_of, coord_past, sent_to, sent_from, attempt, happens, at_site, at_coordinator, begins_local, on_begin, with_live, next_step, on_step, on_commit, on_abort, on_fate, begins_global, on_go, on_attempt, on_site, on_give, on_take, on_actor}
-
-pub some-parts : {A : Type 0} {x y : A} → Some x ≡ Some y → x ≡ y
-some-parts e = cc
-
-pub same-site : (a b : SiteId) → same_site a b ≡ true → a ≡ b
-same-site a b h = let P : ℕ → SiteId = λ n. record { 0 = n } in ap P (eqb-true a.0 b.0 h)
-
-pub same-site-refl : (a : SiteId) → same_site a a ≡ true
-same-site-refl a = eq-eqb a.0 a.0 refl
+use Rattle.fed_rules.specs.Story.{Story, Happened, AtSite, AtCoordinator, Nowhere, past_of, coord_past, sent_to, sent_from, happens, at_site, at_coordinator, begins_local, on_begin, with_live, next_step, on_step, on_commit, on_abort, on_fate, begins_global, on_go, on_attempt, on_site, on_give, on_take, on_actor}
+use Rattle.commit_laws.proofs.Names.{same-site, some-parts}
 
 -- the home that a line declares
 abbrev home_at_line : SiteLine → List ItemLine → SiteId → Home
@@ -44,7 +35,8 @@ home_at_line line items s = record { site = line.site; engine = line.engine; pro
 home-site : (lines : List SiteLine) (items : List ItemLine) (s : SiteId) (h : Home) → home_in lines items s ≡ Some h → h.site ≡ s
 home-site [] items s h e = cc
 home-site (line ∷ lines) items s h e = by_test (same_site line.site s) refl e (home-site lines items s h) where
-  by_test : (t : Bool) → same_site line.site s ≡ t → cond t (Some (home_at_line line items s)) (home_in lines items s) ≡ Some h → (home_in lines items s ≡ Some h → h.site ≡ s) → h.site ≡ s
+  by_test : (t : Bool) → same_site line.site s ≡ t → cond t (Some (home_at_line line items s)) (home_in lines items s) ≡ Some h
+      → (home_in lines items s ≡ Some h → h.site ≡ s) → h.site ≡ s
   by_test true q e k = (let p : home_at_line line items s ≡ h = some-parts e in sym (ap (λ x. x.site) p) ∙ same-site line.site s q)
   by_test false q e k = k e
 
@@ -61,13 +53,16 @@ abbrev pub IsGlobal : Scenario → Tid → Type 0
 IsGlobal scenario t = (steps : List Step) × (global_program scenario t.tx ≡ Some steps)
 
 -- a global transaction has no home
-pub not-both : (scenario : Scenario) (tx : Tx) (h : Home) (steps : List Step) → local_home scenario tx ≡ Some h → global_program scenario tx ≡ Some steps → ⊥
+pub not-both : (scenario : Scenario) (tx : Tx) (h : Home) (steps : List Step) → local_home scenario tx ≡ Some h
+    → global_program scenario tx ≡ Some steps → ⊥
 not-both scenario tx h steps e f = by_line (transaction scenario tx) e f where
-  by_home : (line : TxLine) (o : Option SiteId) → home_at scenario o ≡ Some h → map_some (λ l. l.program) (global_line (Some (record line { home = o }))) ≡ Some steps → ⊥
+  by_home : (line : TxLine) (o : Option SiteId) → home_at scenario o ≡ Some h
+      → map_some (λ l. l.program) (global_line (Some (record line { home = o }))) ≡ Some steps → ⊥
   by_home line None e f = cc
   by_home line (Some s) e f = cc
 
-  by_line : (o : Option TxLine) → home_at scenario (home_of_line o) ≡ Some h → map_some (λ l. l.program) (global_line o) ≡ Some steps → ⊥
+  by_line : (o : Option TxLine) → home_at scenario (home_of_line o) ≡ Some h → map_some (λ l. l.program) (global_line o) ≡ Some steps
+      → ⊥
   by_line None e f = cc
   by_line (Some line) e f = by_home line line.home e f
 
@@ -80,13 +75,16 @@ SiteCame scenario site story event = Unit {0}
 -- where the event of the coordinator comes from
 abbrev pub CoordCame : Scenario → Story → CoordEvent → Type 0
 CoordCame scenario story (Coord_event.Take site message) = In message (sent_from site story)
-CoordCame scenario story (Coord_event.Go t steps) = (t.attempt ≡ Coordinator.attempts_of (coord_past story) t.tx) × (global_program scenario t.tx ≡ Some steps)
+CoordCame scenario story (Coord_event.Go t steps) = (t.attempt ≡ Coordinator.attempts_of (coord_past story) t.tx) ×
+    (global_program scenario t.tx ≡ Some steps)
 CoordCame scenario story event = Unit {0}
 
 -- what happens is the next line of a declared site, or of the coordinator, or is no line of them
 abbrev pub IsNext : Scenario → Story → Happened → Type 0
-IsNext scenario story (AtSite at x) = (home : Home) × (home_of scenario at ≡ Some home) × (event : SiteEvent) × (x ≡ site_line home (past_of at story) event) × SiteCame scenario at story event
-IsNext scenario story (AtCoordinator x) = (event : CoordEvent) × (x ≡ coord_line (protocols scenario) (coord_past story) event) × CoordCame scenario story event
+IsNext scenario story (AtSite at x) = (home : Home) × (home_of scenario at ≡ Some home) × (event : SiteEvent) ×
+    (x ≡ site_line home (past_of at story) event) × SiteCame scenario at story event
+IsNext scenario story (AtCoordinator x) = (event : CoordEvent) ×
+    (x ≡ coord_line (protocols scenario) (coord_past story) event) × CoordCame scenario story event
 IsNext scenario story (Nowhere answer) = Unit {0}
 
 pub record Linked (scenario : Scenario) (story : Story) (happened : Happened) : Type 0 where
@@ -95,21 +93,25 @@ pub record Linked (scenario : Scenario) (story : Story) (happened : Happened) : 
 nowhere : (scenario : Scenario) (story : Story) (answer : Answer) → Linked scenario story (Nowhere answer)
 nowhere scenario story answer = record { next = tt }
 
-at-coordinator : (scenario : Scenario) (story : Story) (event : CoordEvent) → CoordCame scenario story event → Linked scenario story (at_coordinator scenario story event)
+at-coordinator : (scenario : Scenario) (story : Story) (event : CoordEvent) → CoordCame scenario story event
+    → Linked scenario story (at_coordinator scenario story event)
 at-coordinator scenario story event came = record { next = (event, refl, came) }
 
-linked-when : (scenario : Scenario) (story : Story) (t : Bool) (a b : Happened) → Linked scenario story a → Linked scenario story b → Linked scenario story (when t a b)
+linked-when : (scenario : Scenario) (story : Story) (t : Bool) (a b : Happened) → Linked scenario story a → Linked scenario story b
+    → Linked scenario story (when t a b)
 unfolding when
 linked-when scenario story true a b p q = p
 linked-when scenario story false a b p q = q
 
-linked-pick : {A : Type 0} (scenario : Scenario) (story : Story) (o : Option A) (none : Happened) (some : A → Happened) → Linked scenario story none → ((x : A) → o ≡ Some x → Linked scenario story (some x)) → Linked scenario story (pick o none some)
+linked-pick : {A : Type 0} (scenario : Scenario) (story : Story) (o : Option A) (none : Happened) (some : A → Happened)
+    → Linked scenario story none → ((x : A) → o ≡ Some x → Linked scenario story (some x)) → Linked scenario story (pick o none some)
 unfolding pick
 linked-pick scenario story None none some p q = p
 linked-pick scenario story (Some x) none some p q = q x refl
 
 -- the next event of a declared site
-at-home : (scenario : Scenario) (story : Story) (other : Home) (event : SiteEvent) → home_of scenario other.site ≡ Some other → SiteCame scenario other.site story event → Linked scenario story (at_site other story event)
+at-home : (scenario : Scenario) (story : Story) (other : Home) (event : SiteEvent) → home_of scenario other.site ≡ Some other
+    → SiteCame scenario other.site story event → Linked scenario story (at_site other story event)
 at-home scenario story other event f came = record { next = (other, f, event, refl, came) }
 
 -- the home of a local transaction is a declared site
@@ -125,7 +127,8 @@ by-begin scenario story tx =
     (at-home scenario story other _ (local-declared scenario (local_site scenario tx) other f) (other, f)))
 
 -- an event of the live attempt
-by-live : (scenario : Scenario) (story : Story) (other : Home) (tx : Tx) (next : Tid → Run → Happened) → ((tid : Tid) (run : Run) → Linked scenario story (next tid run)) → Linked scenario story (with_live other story tx next)
+by-live : (scenario : Scenario) (story : Story) (other : Home) (tx : Tx) (next : Tid → Run → Happened)
+    → ((tid : Tid) (run : Run) → Linked scenario story (next tid run)) → Linked scenario story (with_live other story tx next)
 unfolding with_live
 by-live scenario story other tx next g =
     linked-when scenario story _ _ _ (nowhere scenario story _)
@@ -168,16 +171,19 @@ by-go scenario story tx =
     linked-pick scenario story (global_program scenario tx) _ _ (nowhere scenario story _) (λ steps f.
     linked-when scenario story _ _ _ (nowhere scenario story _) (at-coordinator scenario story _ (refl, f)))
 
-by-attempt : (scenario : Scenario) (story : Story) (tid : Tid) (event : CoordEvent) → CoordCame scenario story event → Linked scenario story (on_attempt scenario story tid event)
+by-attempt : (scenario : Scenario) (story : Story) (tid : Tid) (event : CoordEvent) → CoordCame scenario story event
+    → Linked scenario story (on_attempt scenario story tid event)
 unfolding on_attempt
 by-attempt scenario story tid event came =
     linked-when scenario story _ _ _ (at-coordinator scenario story event came) (nowhere scenario story _)
 
-by-on_site : (scenario : Scenario) (story : Story) (s : SiteId) (event : SiteEvent) → SiteCame scenario s story event → Linked scenario story (on_site scenario story s event)
+by-on_site : (scenario : Scenario) (story : Story) (s : SiteId) (event : SiteEvent) → SiteCame scenario s story event
+    → Linked scenario story (on_site scenario story s event)
 unfolding on_site
 by-on_site scenario story s event came =
     linked-pick scenario story (home_of scenario s) _ _ (nowhere scenario story _) (λ other f.
-    at-home scenario story other event (home-again scenario s other f) (subst (λ at. SiteCame scenario at story event) (sym (its-site scenario s other f)) came))
+    at-home scenario story other event (home-again scenario s other f)
+    (subst (λ at. SiteCame scenario at story event) (sym (its-site scenario s other f)) came))
 
 pub item-in : {A : Type 0} (xs : List A) (n : ℕ) (x : A) → item_at xs n ≡ Some x → In x xs
 item-in [] n x e = cc
@@ -196,7 +202,8 @@ by-take scenario story s place =
     linked-pick scenario story (item_at (sent_from s story) place) _ _ (nowhere scenario story _) (λ message f.
     at-coordinator scenario story (Coord_event.Take s message) (item-in (sent_from s story) place message f))
 
-by-actor : (scenario : Scenario) (story : Story) (actor : ℕ) (c : CoordEvent) (s : SiteEvent) → CoordCame scenario story c → ((site : SiteId) → SiteCame scenario site story s) → Linked scenario story (on_actor scenario story actor c s)
+by-actor : (scenario : Scenario) (story : Story) (actor : ℕ) (c : CoordEvent) (s : SiteEvent) → CoordCame scenario story c
+    → ((site : SiteId) → SiteCame scenario site story s) → Linked scenario story (on_actor scenario story actor c s)
 unfolding on_actor
 by-actor scenario story zero c s came there = at-coordinator scenario story c came
 by-actor scenario story (suc n) c s came there = by-on_site scenario story (record { 0 = suc n }) s (there (record { 0 = suc n }))
@@ -220,7 +227,9 @@ linked scenario story (Cmd.Trip actor calls cut) = by-actor scenario story actor
 linked scenario story (Cmd.Back actor) = by-actor scenario story actor _ _ tt (λ site. tt)
 
 -- a line of this site
-pub linked-here : (scenario : Scenario) (home : Home) (story : Story) (x : SiteHappening) (at : SiteId) → home_of scenario home.site ≡ Some home → same_site at home.site ≡ true → IsNext scenario story (AtSite at x) → (event : SiteEvent) × (x ≡ site_line home (past_of home.site story) event) × SiteCame scenario home.site story event
+pub linked-here : (scenario : Scenario) (home : Home) (story : Story) (x : SiteHappening) (at : SiteId)
+    → home_of scenario home.site ≡ Some home → same_site at home.site ≡ true → IsNext scenario story (AtSite at x)
+    → (event : SiteEvent) × (x ≡ site_line home (past_of home.site story) event) × SiteCame scenario home.site story event
 linked-here scenario home story x at declared q (other, found, event, is, came) =
     let site : at ≡ home.site = same-site at home.site q in
     let same : other ≡ home = some-parts (sym found ∙ ap (home_of scenario) site ∙ declared) in

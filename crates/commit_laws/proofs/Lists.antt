@@ -1,5 +1,5 @@
 -- Facts among the items of joined lists, and of a list whose newest loose records are gone.
-use Rattle.std.proofs.Common.{◌≡◌, ◌⊎◌, inl, inr, Bool, true, false, cond, not, List, [], ◌∷◌, ◌++◌, refl, sym, ap, subst}
+use Rattle.std.proofs.Common.{◌≡◌, ◌⊎◌, inl, inr, Bool, true, false, cond, List, [], ◌∷◌, ◌++◌, refl, sym, ap, subst}
 use Rattle.mdb_base.specs.Words.{Each, Among, those}
 use Rattle.commit_laws.proofs.Disks.{IsCut}
 
@@ -27,7 +27,8 @@ pub cut-old : {A : Type 0} (Loose P : A → Type 0) (old now : List A) → IsCut
 cut-old Loose P old now (newer, each, e) m = subst (Among P) (sym e) (among-right P newer now m)
 
 -- what isn't loose is left
-pub cut-stays : {A : Type 0} (Loose P : A → Type 0) → ((x : A) → Loose x → P x → ⊥) → (old now : List A) → IsCut Loose old now → Among P old → Among P now
+pub cut-stays : {A : Type 0} (Loose P : A → Type 0) → ((x : A) → Loose x → P x → ⊥) → (old now : List A) → IsCut Loose old now
+    → Among P old → Among P now
 cut-stays Loose P no-both old now (newer, each, e) m =
     elim (among-split P newer now (subst (Among P) e m)) [ inl i ↦ absurd (each-not Loose P no-both newer each i) | inr i ↦ i ]
 

@@ -1,16 +1,10 @@
 -- All sites that settle an attempt settle it alike.
-use Rattle.std.proofs.Common.{◌≡◌, ◌↔◌, Bool, true, false, cond, Some, List, refl, sym, ap, subst, ◌∙◌}
-use Rattle.mdb_base.specs.declared.names.SiteId.{SiteId}
+use Rattle.std.proofs.Common.{◌≡◌, Bool, true, false, cond, List, refl, sym, subst, ◌∙◌}
 use Rattle.mdb_base.specs.declared.names.Tid.{Tid}
 use Rattle.mdb_base.specs.Words.{Among}
-use Rattle.presumptions.specs.declared.Decision.{Decision}
 use Rattle.presumptions.specs.declared.Decision.TheVariants as Decided
-use Rattle.fed_rules.specs.declared.commands.Command.{Command}
 use Rattle.fed_rules.specs.declared.records.CoordRecord.{CoordRecord}
-use Rattle.fed_rules.specs.declared.scenario.Scenario.{Scenario}
 use Rattle.fed_rules.specs.CoordRecords.{has_commit, outcome}
-use Rattle.fed_rules.specs.Scenarios.{home_of}
-use Rattle.fed_rules.specs.SiteRecords.{Home}
 use Rattle.fed_rules.specs.Story.{past_of, story_of}
 use Rattle.commit_laws.specs.Outcomes.{coordinator_keeps, Settles, SettlesSayTheOutcome, SettlesCommitWhereKept, SitesAgree}
 use Rattle.commit_laws.specs.Records.{IsCommit}
@@ -35,9 +29,12 @@ commits-outcome kept tid m = outcome-is kept tid true (among-commit tid kept m)
 
 pub settles-commit-where-kept : SettlesCommitWhereKept
 settles-commit-where-kept scenario commands site home declared tid decision m =
-    let is = settles-say-the-outcome scenario commands site home declared tid decision m in
-    ((λ e. outcome-commits (coordinator_keeps scenario commands) tid (sym is ∙ e)), (λ k. is ∙ commits-outcome (coordinator_keeps scenario commands) tid k))
+    let is = settles-say-the-outcome scenario commands site home declared tid decision m in (
+      (λ e. outcome-commits (coordinator_keeps scenario commands) tid (sym is ∙ e)),
+      (λ k. is ∙ commits-outcome (coordinator_keeps scenario commands) tid k),
+    )
 
 pub sites-agree : SitesAgree
 sites-agree scenario commands one other here there at_one at_other tid a b m n =
-    settles-say-the-outcome scenario commands one here at_one tid a m ∙ sym (settles-say-the-outcome scenario commands other there at_other tid b n)
+    settles-say-the-outcome scenario commands one here at_one tid a m ∙ sym
+    (settles-say-the-outcome scenario commands other there at_other tid b n)

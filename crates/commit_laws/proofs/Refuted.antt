@@ -1,7 +1,6 @@
 -- For each wrong rule a list of commands by which a law of commitment breaks.
-use Rattle.std.proofs.Common.{◌≡◌, ℕ, Bool, true, false, Some, None, List, [], ◌∷◌, reverse, refl, sym, ◌∙◌, inl, inr}
+use Rattle.std.proofs.Common.{◌≡◌, ℕ, Bool, true, false, List, [], ◌∷◌, reverse, refl, sym, ◌∙◌, inl}
 use Rattle.mdb_base.specs.declared.names.Engine.TheVariants.{Locking}
-use Rattle.mdb_base.specs.declared.names.SiteId.{SiteId}
 use Rattle.mdb_base.specs.declared.names.Tid.{Tid}
 use Rattle.presumptions.specs.declared.Decision.{Decision}
 use Rattle.presumptions.specs.declared.Decision.TheVariants as Decided
@@ -224,9 +223,11 @@ prepare-names e (Drop tid) h = absurd h
 prepare-names e (Halt cut) h = absurd h
 prepare-names e (Trip calls cut) h = absurd h
 
-elsewhere : (past : SitePast) → seals_last past ≡ true → named_last past ≡ 1 → epoch_before past ≡ 2 → SealsElsewhere (home By.Nothing) attempt past
+elsewhere : (past : SitePast) → seals_last past ≡ true → named_last past ≡ 1 → epoch_before past ≡ 2
+    → SealsElsewhere (home By.Nothing) attempt past
 elsewhere [] s n e = cc
-elsewhere (x ∷ older) s n e = (s, (λ named. let no : 1 ≡ 2 = sym n ∙ prepare-names (epoch (home By.Nothing) older) x.event named ∙ e in cc))
+elsewhere (x ∷ older) s n e =
+    (s, (λ named. let no : 1 ≡ 2 = sym n ∙ prepare-names (epoch (home By.Nothing) older) x.event named ∙ e in cc))
 
 pub epochs_ignored_refuted : BreaksTheEpoch epochs_ignored
 epochs_ignored_refuted = record {

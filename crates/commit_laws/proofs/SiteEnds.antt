@@ -1,46 +1,35 @@
 -- Decisions and restarts at a site, and then each event: the facts on one attempt hold of every line that no stop ends.
-use Rattle.std.proofs.Common.{◌≡◌, ℕ, ◌+◌, ◌<◌, ◌⊎◌, inl, inr, Bool, true, false, cond, not, ◌&&◌, ◌||◌, ◌==◌, is_some, Option, Some, None, List, [], ◌∷◌, ◌++◌, refl, sym, ap, subst, ◌∙◌, arith}
-use Rattle.std.proofs.lemmas.Bool.{and_parts, eqb-true}
-use Rattle.mdb_base.specs.declared.acts.PlainAct.{PlainAct}
-use Rattle.mdb_base.specs.declared.acts.PlainAct.TheVariants.{Read, Write}
+use Rattle.std.proofs.Common.{◌≡◌, ◌+◌, ◌<◌, inl, inr, Bool, true, false, cond, ◌||◌, is_some, Option, Some, None, List, [], ◌∷◌, ◌++◌, refl, sym, ap, subst, ◌∙◌, arith}
 use Rattle.mdb_base.specs.declared.names.Tid.{Tid}
-use Rattle.mdb_base.specs.declared.names.Tx.{Tx}
-use Rattle.mdb_base.specs.declared.replies.Reply.{Reply}
-use Rattle.mdb_base.specs.declared.replies.Reply.TheVariants as Reply_is
-use Rattle.mdb_base.specs.declared.replies.Why.{Why}
-use Rattle.mdb_base.specs.declared.replies.Why.TheVariants as Because
 use Rattle.mdb_base.specs.Names.{same_tid}
-use Rattle.mdb_base.specs.Words.{Each, Among, when, pick, some_of}
-use Rattle.mdb_base.proofs.NameLaws.{same_tid-equal, same_tid-refl}
+use Rattle.mdb_base.specs.Words.{Each, Among, some_of}
 use Rattle.presumptions.specs.declared.Decision.{Decision}
 use Rattle.presumptions.specs.declared.Decision.TheVariants as Decided
 use Rattle.presumptions.specs.declared.Protocol.{Protocol}
 use Rattle.presumptions.specs.Table.{forces, acks}
-use Rattle.fed_rules.specs.declared.answers.Answer.{Answer}
 use Rattle.fed_rules.specs.declared.answers.Answer.TheVariants as Say
 use Rattle.fed_rules.specs.declared.events.SiteEvent.{SiteEvent}
 use Rattle.fed_rules.specs.declared.events.SiteEvent.TheVariants as Ev
-use Rattle.fed_rules.specs.declared.messages.FromSite.{FromSite}
 use Rattle.fed_rules.specs.declared.messages.FromSite.TheVariants as From
 use Rattle.fed_rules.specs.declared.messages.ToSite.{ToSite}
 use Rattle.fed_rules.specs.declared.messages.ToSite.TheVariants as To
 use Rattle.fed_rules.specs.declared.records.SiteRecord.{SiteRecord}
 use Rattle.fed_rules.specs.declared.records.SiteRecord.TheVariants as Rec
 use Rattle.fed_rules.specs.Disk.{Append, Sync, CutBack, after_calls, is_torn}
-use Rattle.fed_rules.specs.Happenings.{quiet, stops, comes_up, is_down}
-use Rattle.fed_rules.specs.Replies.{access_reply}
-use Rattle.fed_rules.specs.Runs.{EngineLine, Begins, Acts, Takes, Seals, Refuses, Commits, Aborts, Run, begun, changed, run_at, gives_up, tid_of, puts_of, has_ticket}
-use Rattle.fed_rules.specs.Site.{with_lines, next_number, of_begin, act_answer, reply_to, of_act, refusal_answer, seals_local, of_commit, stop_of, number_of, of_abort, of_fate, did, unknown, first_work, next_work, next_take, ticket_reply_to, repeated, is_of_epoch, is_over, work_live, of_work, take_live, of_take, votes_again, votes_no, votes_yes, seals_global, prepare_live, of_prepare, done, kept_reply, ack_of, ended_calls, settling_line, settles, unheld, of_decide, of_give, of_ask, of_drop, of_back, answered}
-use Rattle.fed_rules.specs.SitePast.{SiteHappening, SitePast, records, epoch, epoch_start, engine_lines, live, live_one, ends, decides_on, is_closed, attempts_of, is_local, live_of_tx}
-use Rattle.fed_rules.specs.SiteRecords.{Home, Held, site_frame, epoch_of, doubt_of, doubts, local_of}
-use Rattle.commit_laws.specs.Records.{IsPrepared, IsEnded, IsLooseEnded}
+use Rattle.fed_rules.specs.Happenings.{is_down}
+use Rattle.fed_rules.specs.Runs.{EngineLine, Aborts, Run, changed, run_at, tid_of}
+use Rattle.fed_rules.specs.Site.{settling_line, settles, unheld, of_decide, of_give, of_back, answered}
+use Rattle.fed_rules.specs.SitePast.{SiteHappening, SitePast, records, epoch, epoch_start, engine_lines, live, live_one, ends, is_closed}
+use Rattle.fed_rules.specs.SiteRecords.{Home, Held, site_frame, epoch_of, doubt_of}
+use Rattle.commit_laws.specs.Records.{IsEnded, IsLooseEnded}
 use Rattle.commit_laws.specs.Seals.{appends_prepared}
-use Rattle.commit_laws.proofs.SiteFacts.{WroteOne, IsSealing, IsSettling, IsAcking, Says, Settled, NotBegun, Shut, Step}
-use Rattle.commit_laws.proofs.SiteShut.{Leaves, leaves-shut, other-line, other-lines, this-line, given-up, sealed-now, shut-on, restored-sealed}
+use Rattle.commit_laws.proofs.SiteFacts.{WroteOne, IsSettling, IsAcking, Says, Shut, Step}
+use Rattle.commit_laws.proofs.SiteShut.{other-line, this-line, shut-on, restored-sealed}
 use Rattle.commit_laws.proofs.Disks.{appended, IsQuiet}
 use Rattle.fed_rules.specs.SitePast.{disk}
-use Rattle.commit_laws.proofs.SiteRules.{step-when, step-pick, of-same, IsCalm, IsNoDecision, Touches, drop-unless, no-lines, one-line, calm, quietly, acts-stay, takes-stay, by-begin, by-act, by-commit, by-abort, by-fate, by-drop, by-ask}
+use Rattle.commit_laws.proofs.SiteRules.{step-pick, quietly, by-begin, by-act, by-commit, by-abort, by-fate, by-drop, by-ask}
 use Rattle.commit_laws.proofs.SiteWork.{by-work, by-take, by-prepare}
+use Rattle.commit_laws.proofs.Names.{of-same}
 
 settling-tid : (tid : Tid) (d : Decision) → tid_of (settling_line tid d) ≡ tid
 settling-tid tid Decided.Commit = refl
@@ -51,29 +40,37 @@ settling-ends tid Decided.Commit old = refl
 settling-ends tid Decided.Abort old = refl
 
 -- a line that settles appends the Ended record
-settles-records : (home : Home) (past : SitePast) (tid : Tid) (d : Decision) → records home (settles home tid d ∷ past) ≡ Rec.Ended tid d ∷ records home past
+settles-records : (home : Home) (past : SitePast) (tid : Tid) (d : Decision)
+    → records home (settles home tid d ∷ past) ≡ Rec.Ended tid d ∷ records home past
 unfolding settles
 settles-records home past tid d = by_test (forces home.protocol d) where
-  by_test : (b : Bool) → (after_calls site_frame (disk home past) (Append (Rec.Ended tid d) ∷ cond b (Sync ∷ []) [])).records ≡ Rec.Ended tid d ∷ records home past
+  by_test : (b : Bool)
+      → (after_calls site_frame (disk home past)
+      (Append (Rec.Ended tid d) ∷ cond b (Sync ∷ []) [])).records ≡ Rec.Ended tid d ∷ records home past
   by_test true = refl
   by_test false = refl
 
-ended-quiet : (p : Protocol) (tid : Tid) (d : Decision) → IsQuiet (IsLooseEnded p) false (Append (Rec.Ended tid d) ∷ cond (forces p d) (Sync ∷ []) [])
+ended-quiet : (p : Protocol) (tid : Tid) (d : Decision)
+    → IsQuiet (IsLooseEnded p) false (Append (Rec.Ended tid d) ∷ cond (forces p d) (Sync ∷ []) [])
 ended-quiet p tid d = by_test (forces p d) refl where
   by_test : (b : Bool) → forces p d ≡ b → IsQuiet (IsLooseEnded p) false (Append (Rec.Ended tid d) ∷ cond b (Sync ∷ []) [])
   by_test true e = inr tt
   by_test false e = inl (e, tt)
 
-ended-appended : (b : Bool) (tid : Tid) (d : Decision) → appended (Append (Rec.Ended tid d) ∷ cond b (Sync ∷ []) []) [] ≡ Rec.Ended tid d ∷ []
+ended-appended : (b : Bool) (tid : Tid) (d : Decision)
+    → appended (Append (Rec.Ended tid d) ∷ cond b (Sync ∷ []) []) [] ≡ Rec.Ended tid d ∷ []
 ended-appended true tid d = refl
 ended-appended false tid d = refl
 
-ended-seals : (g tid : Tid) (d : Decision) (b : Bool) → some_of (appends_prepared g) (Append (Rec.Ended tid d) ∷ cond b (Sync ∷ []) []) ≡ true → ⊥
+ended-seals : (g tid : Tid) (d : Decision) (b : Bool)
+    → some_of (appends_prepared g) (Append (Rec.Ended tid d) ∷ cond b (Sync ∷ []) []) ≡ true → ⊥
 ended-seals g tid d true e = cc
 ended-seals g tid d false e = cc
 
 -- an acknowledgement is sent where the protocol has one
-ack-says : (home : Home) (g : Tid) (past : SitePast) (y : SiteHappening) (tid : Tid) (d : Decision) → (acks home.protocol d ≡ true → same_tid tid g ≡ true → IsAcking home g past y) → Each (Says home g past y) (cond (acks home.protocol d) (From.Ack tid ∷ []) [])
+ack-says : (home : Home) (g : Tid) (past : SitePast) (y : SiteHappening) (tid : Tid) (d : Decision)
+    → (acks home.protocol d ≡ true → same_tid tid g ≡ true → IsAcking home g past y)
+    → Each (Says home g past y) (cond (acks home.protocol d) (From.Ack tid ∷ []) [])
 ack-says home g past y tid d k = by_test (acks home.protocol d) refl where
   by_test : (b : Bool) → acks home.protocol d ≡ b → Each (Says home g past y) (cond b (From.Ack tid ∷ []) [])
   by_test true e = (k e, tt)
@@ -84,7 +81,8 @@ drop-both true b c d e f h = cc
 drop-both false true c d e f h = cc
 drop-both false false c d e f h = h
 
-by-settles : (home : Home) (g : Tid) (past : SitePast) (tid : Tid) (d : Decision) (held : Held) → is_down past ≡ false → doubt_of (records home past) tid ≡ Some held → Step home g past (Ev.Give (To.Decide tid d)) (settles home tid d)
+by-settles : (home : Home) (g : Tid) (past : SitePast) (tid : Tid) (d : Decision) (held : Held) → is_down past ≡ false
+    → doubt_of (records home past) tid ≡ Some held → Step home g past (Ev.Give (To.Decide tid d)) (settles home tid d)
 unfolding settles
 by-settles home g past tid d held up doubt = record {
   is = refl;
@@ -103,7 +101,8 @@ by-settles home g past tid d held up doubt = record {
   line = settling_line tid d
 
   settling : same_tid tid g ≡ true → IsSettling home g past (Ev.Give (To.Decide tid d)) d
-  settling q = of-same (λ u. IsSettling home u past (Ev.Give (To.Decide tid d)) d) tid g (record { taken = refl; held = held; doubt = doubt }) q
+  settling q = of-same (λ u. IsSettling home u past (Ev.Give (To.Decide tid d)) d) tid g
+      (record { taken = refl; held = held; doubt = doubt }) q
 
   acking : acks home.protocol d ≡ true → IsAcking home tid past (settles home tid d)
   acking a = record {
@@ -113,35 +112,54 @@ by-settles home g past tid d held up doubt = record {
     after = inl (subst (Among (IsEnded tid d)) (sym (settles-records home past tid d)) (inl (refl, refl)));
   }
 
-  by_test : (q : Bool) → same_tid tid g ≡ q → Shut home g past → ((same_tid tid g || some_of (ends g) (settling_line tid d ∷ []) || is_closed past g) || is_some (doubt_of (records home (settles home tid d ∷ past)) g)) ≡ true → live_one (run_at (epoch_start home past) (settling_line tid d ∷ engine_lines past) g) ≡ None
-  by_test true q s h = ap live_one (this-line (epoch_start home past) (engine_lines past) g (settling_line tid d) (ap (λ t. same_tid t g) (settling-tid tid d) ∙ q) ∙ settling-ends tid d (run_at (epoch_start home past) (engine_lines past) g))
+  by_test : (q : Bool) → same_tid tid g ≡ q → Shut home g past
+      → ((same_tid tid g || some_of (ends g) (settling_line tid d ∷ []) || is_closed past g) || is_some
+      (doubt_of (records home (settles home tid d ∷ past)) g)) ≡ true
+      → live_one (run_at (epoch_start home past) (settling_line tid d ∷ engine_lines past) g) ≡ None
+  by_test true q s h = ap live_one (this-line (epoch_start home past) (engine_lines past) g (settling_line tid d)
+      (ap (λ t. same_tid t g) (settling-tid tid d) ∙ q) ∙ settling-ends tid d (run_at (epoch_start home past) (engine_lines past) g))
   by_test false q s h =
-      let other = other-line (epoch_start home past) (engine_lines past) g (settling_line tid d) (ap (λ t. same_tid t g) (settling-tid tid d) ∙ q) in
-      let same : doubt_of (records home (settles home tid d ∷ past)) g ≡ doubt_of (records home past) g = ap (λ rs. doubt_of rs g) (settles-records home past tid d) ∙ ap (λ b. cond b None (doubt_of (records home past) g)) q in
+      let other = other-line (epoch_start home past) (engine_lines past) g (settling_line tid d)
+      (ap (λ t. same_tid t g) (settling-tid tid d) ∙ q) in
+      let same : doubt_of (records home (settles home tid d ∷ past)) g ≡ doubt_of (records home past) g = ap (λ rs. doubt_of rs g)
+      (settles-records home past tid d) ∙ ap (λ b. cond b None (doubt_of (records home past) g)) q in
       ap live_one other.0
-      ∙ s.over (drop-both (same_tid tid g) (some_of (ends g) (settling_line tid d ∷ [])) (is_closed past g) (is_some (doubt_of (records home past) g)) q other.1
+      ∙ s.over (drop-both (same_tid tid g) (some_of (ends g) (settling_line tid d ∷ [])) (is_closed past g)
+      (is_some (doubt_of (records home past) g)) q other.1
       (subst (λ o. ((same_tid tid g || some_of (ends g) (settling_line tid d ∷ []) || is_closed past g) || is_some o) ≡ true) same h))
 
 -- a decision on an attempt that isn't in doubt
-by-unheld : (home : Home) (g : Tid) (past : SitePast) (tid : Tid) (d : Decision) (lines : List EngineLine) → is_down past ≡ false → doubt_of (records home past) tid ≡ None → (same_tid tid g ≡ true → live_one (run_at (epoch_start home past) (lines ++ engine_lines past) g) ≡ None) → (same_tid tid g ≡ false → (run_at (epoch_start home past) (lines ++ engine_lines past) g ≡ run_at (epoch_start home past) (engine_lines past) g) × (some_of (ends g) lines ≡ false)) → Step home g past (Ev.Give (To.Decide tid d)) (unheld home tid d lines)
+by-unheld : (home : Home) (g : Tid) (past : SitePast) (tid : Tid) (d : Decision) (lines : List EngineLine) → is_down past ≡ false
+    → doubt_of (records home past) tid ≡ None
+    → (same_tid tid g ≡ true → live_one (run_at (epoch_start home past) (lines ++ engine_lines past) g) ≡ None)
+    → (same_tid tid g ≡ false →
+    (run_at (epoch_start home past) (lines ++ engine_lines past) g ≡ run_at (epoch_start home past) (engine_lines past) g) ×
+    (some_of (ends g) lines ≡ false))
+    → Step home g past (Ev.Give (To.Decide tid d)) (unheld home tid d lines)
 unfolding unheld
 by-unheld home g past tid d lines up free here other = record {
   is = refl;
   quiet = tt;
   wrote = tt;
-  says = ack-says home g past (unheld home tid d lines) tid d (λ a q. of-same (λ u. IsAcking home u past (unheld home tid d lines)) tid g (record { decision = d; taken = refl; acks = a; after = inr (refl, free) }) q);
+  says = ack-says home g past (unheld home tid d lines) tid d (λ a q. of-same
+      (λ u. IsAcking home u past (unheld home tid d lines)) tid g
+      (record { decision = d; taken = refl; acks = a; after = inr (refl, free) }) q);
   shut = (λ nb s. shut-on home g past (unheld home tid d lines) refl refl up (by_test (same_tid tid g) refl s));
   settled = tt;
   seals = (λ i. cc);
   rises = (λ i. cc);
 } where
-  by_test : (q : Bool) → same_tid tid g ≡ q → Shut home g past → ((same_tid tid g || some_of (ends g) lines || is_closed past g) || is_some (doubt_of (records home past) g)) ≡ true → live_one (run_at (epoch_start home past) (lines ++ engine_lines past) g) ≡ None
+  by_test : (q : Bool) → same_tid tid g ≡ q → Shut home g past
+      → ((same_tid tid g || some_of (ends g) lines || is_closed past g) || is_some (doubt_of (records home past) g)) ≡ true
+      → live_one (run_at (epoch_start home past) (lines ++ engine_lines past) g) ≡ None
   by_test true q s h = here q
   by_test false q s h =
       let both = other q in
-      ap live_one both.0 ∙ s.over (drop-both (same_tid tid g) (some_of (ends g) lines) (is_closed past g) (is_some (doubt_of (records home past) g)) q both.1 h)
+      ap live_one both.0 ∙ s.over
+      (drop-both (same_tid tid g) (some_of (ends g) lines) (is_closed past g) (is_some (doubt_of (records home past) g)) q both.1 h)
 
-by-decide : (home : Home) (g : Tid) (past : SitePast) (tid : Tid) (d : Decision) → is_down past ≡ false → Step home g past (Ev.Give (To.Decide tid d)) (of_decide home past tid d)
+by-decide : (home : Home) (g : Tid) (past : SitePast) (tid : Tid) (d : Decision) → is_down past ≡ false
+    → Step home g past (Ev.Give (To.Decide tid d)) (of_decide home past tid d)
 unfolding of_decide
 by-decide home g past tid d up =
     step-pick home g past (Ev.Give (To.Decide tid d)) _ _ _
@@ -168,7 +186,8 @@ by-back home g past = record {
   start : SiteRecord
   start = Rec.Start (epoch home past + 1)
 
-  start-seals : (b : Bool) → some_of (appends_prepared g) (cond b (CutBack ∷ []) [] ++ Append (Rec.Start (epoch home past + 1)) ∷ Sync ∷ []) ≡ true → ⊥
+  start-seals : (b : Bool)
+      → some_of (appends_prepared g) (cond b (CutBack ∷ []) [] ++ Append (Rec.Start (epoch home past + 1)) ∷ Sync ∷ []) ≡ true → ⊥
   start-seals true e = cc
   start-seals false e = cc
 
@@ -176,7 +195,8 @@ by-back home g past = record {
   quiet_calls true = inr tt
   quiet_calls false = inr tt
 
-  wrote_start : (b : Bool) → WroteOne home g past Ev.Back (appended (cond b (CutBack ∷ []) [] ++ Append (Rec.Start (epoch home past + 1)) ∷ Sync ∷ []) [])
+  wrote_start : (b : Bool)
+      → WroteOne home g past Ev.Back (appended (cond b (CutBack ∷ []) [] ++ Append (Rec.Start (epoch home past + 1)) ∷ Sync ∷ []) [])
   wrote_start true = refl
   wrote_start false = refl
 
@@ -184,7 +204,8 @@ by-back home g past = record {
   rises true = omega arith
   rises false = omega arith
 
-by-give : (home : Home) (g : Tid) (past : SitePast) (message : ToSite) → is_down past ≡ false → Step home g past (Ev.Give message) (of_give home past message)
+by-give : (home : Home) (g : Tid) (past : SitePast) (message : ToSite) → is_down past ≡ false
+    → Step home g past (Ev.Give message) (of_give home past message)
 unfolding of_give
 by-give home g past (To.Work tid e n act) up = by-work home g past tid e n act up
 by-give home g past (To.Take tid e n) up = by-take home g past tid e n up
@@ -192,7 +213,8 @@ by-give home g past (To.Prepare tid e n) up = by-prepare home g past tid e n up
 by-give home g past (To.Decide tid d) up = by-decide home g past tid d up
 
 -- what a site that is up answers
-pub by-answered : (home : Home) (g : Tid) (past : SitePast) (event : SiteEvent) → is_down past ≡ false → Step home g past event (answered home past event)
+pub by-answered : (home : Home) (g : Tid) (past : SitePast) (event : SiteEvent) → is_down past ≡ false
+    → Step home g past event (answered home past event)
 unfolding answered
 by-answered home g past (Ev.Begin tid) up = by-begin home g past tid up
 by-answered home g past (Ev.Act tid act) up = by-act home g past tid act up

@@ -1,5 +1,5 @@
 -- What a line of a site does about one attempt: what it appends, sends and answers, as facts on the line.
-use Rattle.std.proofs.Common.{◌≡◌, ℕ, ◌+◌, ◌<◌, ◌⊎◌, Bool, true, false, ◌||◌, is_some, Option, Some, None, List, [], ◌∷◌}
+use Rattle.std.proofs.Common.{◌≡◌, ℕ, ◌+◌, ◌<◌, ◌⊎◌, true, false, Some, None, List, [], ◌∷◌}
 use Rattle.mdb_base.specs.declared.names.Tid.{Tid}
 use Rattle.mdb_base.specs.Names.{same_tid}
 use Rattle.mdb_base.specs.Words.{Each, Among}
@@ -14,15 +14,14 @@ use Rattle.fed_rules.specs.declared.messages.FromSite.TheVariants as From
 use Rattle.fed_rules.specs.declared.messages.ToSite.TheVariants as To
 use Rattle.fed_rules.specs.declared.records.SiteRecord.{SiteRecord}
 use Rattle.fed_rules.specs.declared.records.SiteRecord.TheVariants as Rec
-use Rattle.fed_rules.specs.Disk.{Call}
 use Rattle.fed_rules.specs.Happenings.{comes_up, is_down}
 use Rattle.fed_rules.specs.Runs.{Run}
 use Rattle.fed_rules.specs.Site.{is_over}
-use Rattle.fed_rules.specs.SitePast.{SiteHappening, SitePast, disk, records, epoch, live}
-use Rattle.fed_rules.specs.SiteRecords.{Home, Held, doubt_of, site_frame}
+use Rattle.fed_rules.specs.SitePast.{SiteHappening, SitePast, records, epoch, live}
+use Rattle.fed_rules.specs.SiteRecords.{Home, Held, doubt_of}
 use Rattle.commit_laws.specs.Records.{IsPrepared, IsEnded, IsLooseEnded}
 use Rattle.commit_laws.specs.Seals.{seals}
-use Rattle.commit_laws.proofs.Disks.{appended, IsQuiet, IsCut}
+use Rattle.commit_laws.proofs.Disks.{appended, IsQuiet}
 
 -- the line seals the attempt: the site is up and not in doubt of it, its run is live, and the Prepare names the site's epoch
 pub record IsSealing (home : Home) (g : Tid) (past : SitePast) (event : SiteEvent) (e : ℕ) : Type 0 where
@@ -58,7 +57,8 @@ pub record IsAcking (home : Home) (g : Tid) (past : SitePast) (y : SiteHappening
   pub decision : Decision
   pub taken : y.event ≡ Ev.Give (To.Decide g decision)
   pub acks : acks home.protocol decision ≡ true
-  pub after : Among (IsEnded g decision) (records home (y ∷ past)) ⊎ ((records home (y ∷ past) ≡ records home past) × (doubt_of (records home past) g ≡ None))
+  pub after : Among (IsEnded g decision) (records home (y ∷ past)) ⊎
+      ((records home (y ∷ past) ≡ records home past) × (doubt_of (records home past) g ≡ None))
 
 -- why a message is sent
 abbrev pub Says : Home → Tid → SitePast → SiteHappening → FromSite → Type 0

@@ -1,6 +1,5 @@
 -- Each rule of a site makes a line of which the facts on one attempt hold.
-use Rattle.std.proofs.Common.{◌≡◌, ℕ, ◌+◌, ◌<◌, ◌⊎◌, inl, inr, Bool, true, false, cond, not, ◌&&◌, ◌||◌, ◌==◌, is_some, Option, Some, None, List, [], ◌∷◌, ◌++◌, refl, sym, ap, subst, ◌∙◌, arith}
-use Rattle.std.proofs.lemmas.Bool.{and_parts, and_right, eqb-true}
+use Rattle.std.proofs.Common.{◌≡◌, ◌⊎◌, inl, inr, Bool, true, false, cond, ◌&&◌, ◌||◌, ◌==◌, is_some, Option, Some, None, List, [], ◌∷◌, ◌++◌, refl, ap, ◌∙◌}
 use Rattle.mdb_base.specs.declared.acts.PlainAct.{PlainAct}
 use Rattle.mdb_base.specs.declared.acts.PlainAct.TheVariants.{Read, Write}
 use Rattle.mdb_base.specs.declared.names.Tid.{Tid}
@@ -11,44 +10,34 @@ use Rattle.mdb_base.specs.declared.replies.Why.{Why}
 use Rattle.mdb_base.specs.declared.replies.Why.TheVariants as Because
 use Rattle.mdb_base.specs.Names.{same_tid}
 use Rattle.mdb_base.specs.Words.{Each, when, pick, some_of}
-use Rattle.mdb_base.proofs.NameLaws.{same_tid-equal, same_tid-refl}
-use Rattle.presumptions.specs.declared.Decision.{Decision}
-use Rattle.presumptions.specs.declared.Decision.TheVariants as Decided
-use Rattle.presumptions.specs.declared.Protocol.{Protocol}
-use Rattle.presumptions.specs.Table.{forces, acks}
 use Rattle.fed_rules.specs.declared.answers.Answer.{Answer}
 use Rattle.fed_rules.specs.declared.answers.Answer.TheVariants as Say
 use Rattle.fed_rules.specs.declared.events.SiteEvent.{SiteEvent}
 use Rattle.fed_rules.specs.declared.events.SiteEvent.TheVariants as Ev
 use Rattle.fed_rules.specs.declared.messages.FromSite.{FromSite}
 use Rattle.fed_rules.specs.declared.messages.FromSite.TheVariants as From
-use Rattle.fed_rules.specs.declared.messages.ToSite.{ToSite}
 use Rattle.fed_rules.specs.declared.messages.ToSite.TheVariants as To
-use Rattle.fed_rules.specs.declared.records.SiteRecord.TheVariants as Rec
-use Rattle.fed_rules.specs.Disk.{Append, Sync, CutBack}
 use Rattle.fed_rules.specs.Happenings.{quiet, stops, comes_up, is_down}
-use Rattle.fed_rules.specs.Replies.{access_reply}
-use Rattle.fed_rules.specs.Runs.{EngineLine, Begins, Acts, Takes, Seals, Refuses, Commits, Aborts, Run, begun, changed, run_at, gives_up, tid_of, puts_of, has_ticket}
-use Rattle.fed_rules.specs.Site.{with_lines, next_number, of_begin, act_answer, reply_to, of_act, refusal_answer, seals_local, of_commit, stop_of, number_of, of_abort, of_fate, did, unknown, first_work, next_work, next_take, ticket_reply_to, repeated, is_of_epoch, is_over, work_live, of_work, take_live, of_take, votes_again, votes_no, votes_yes, seals_global, prepare_live, of_prepare, done, kept_reply, ack_of, ended_calls, settling_line, settles, unheld, of_decide, of_give, of_ask, of_drop, of_back, answered}
-use Rattle.fed_rules.specs.SitePast.{SiteHappening, SitePast, records, epoch, epoch_start, engine_lines, live, live_one, ends, decides_on, is_closed, attempts_of, is_local, live_of_tx}
-use Rattle.fed_rules.specs.SiteRecords.{Home, Held, doubt_of, doubts, local_of}
-use Rattle.commit_laws.specs.Records.{IsPrepared, IsEnded}
-use Rattle.commit_laws.proofs.SiteFacts.{IsSealing, IsSettling, IsAcking, Says, Settled, NotBegun, Shut, Step}
-use Rattle.commit_laws.proofs.SiteShut.{Leaves, leaves-shut, other-line, other-lines, this-line, given-up, sealed-now, shut-on, restored-sealed}
+use Rattle.fed_rules.specs.Runs.{EngineLine, Begins, Acts, Takes, Seals, Refuses, Commits, Aborts, Run, run_at, gives_up, tid_of}
+use Rattle.fed_rules.specs.Site.{next_number, of_begin, act_answer, reply_to, of_act, refusal_answer, seals_local, of_commit, number_of, of_abort, of_fate, is_over, of_ask, of_drop}
+use Rattle.fed_rules.specs.SitePast.{SiteHappening, SitePast, records, epoch_start, engine_lines, live, live_one, ends, decides_on, is_closed, attempts_of}
+use Rattle.fed_rules.specs.SiteRecords.{Home, Held, doubt_of}
+use Rattle.commit_laws.proofs.SiteFacts.{Says, Settled, NotBegun, Shut, Step}
+use Rattle.commit_laws.proofs.SiteShut.{Leaves, leaves-shut, other-line, other-lines, this-line, given-up, shut-on}
+use Rattle.commit_laws.proofs.Names.{of-same}
 
-pub step-when : (home : Home) (g : Tid) (past : SitePast) (event : SiteEvent) (b : Bool) (x y : SiteHappening) → (b ≡ true → Step home g past event x) → (b ≡ false → Step home g past event y) → Step home g past event (when b x y)
+pub step-when : (home : Home) (g : Tid) (past : SitePast) (event : SiteEvent) (b : Bool) (x y : SiteHappening)
+    → (b ≡ true → Step home g past event x) → (b ≡ false → Step home g past event y) → Step home g past event (when b x y)
 unfolding when
 step-when home g past event true x y p q = p refl
 step-when home g past event false x y p q = q refl
 
-pub step-pick : {A : Type 0} (home : Home) (g : Tid) (past : SitePast) (event : SiteEvent) (o : Option A) (x : SiteHappening) (y : A → SiteHappening) → (o ≡ None → Step home g past event x) → ((a : A) → o ≡ Some a → Step home g past event (y a)) → Step home g past event (pick o x y)
+pub step-pick : {A : Type 0} (home : Home) (g : Tid) (past : SitePast) (event : SiteEvent) (o : Option A) (x : SiteHappening)
+    (y : A → SiteHappening) → (o ≡ None → Step home g past event x) → ((a : A) → o ≡ Some a → Step home g past event (y a))
+    → Step home g past event (pick o x y)
 unfolding pick
 step-pick home g past event None x y p q = p refl
 step-pick home g past event (Some a) x y p q = q a refl
-
--- what holds of an attempt holds of the one that the test finds the same
-pub of-same : (P : Tid → Type 0) (t g : Tid) → P t → same_tid t g ≡ true → P g
-of-same P t g p e = subst P (same_tid-equal t g e) p
 
 -- an answer that says neither that the site stops or starts, nor that it settles
 abbrev pub IsCalm : Answer → Type 0
@@ -83,7 +72,8 @@ undecided-event g event n = refl
 -- what the engine lines of a line do to this attempt: they leave its run alone, or are about it
 abbrev pub Touches : Home → Tid → SitePast → SiteEvent → List EngineLine → Type 0
 Touches home g past event lines =
-    ((run_at (epoch_start home past) (lines ++ engine_lines past) g ≡ run_at (epoch_start home past) (engine_lines past) g) × (some_of (ends g) lines ≡ false))
+    ((run_at (epoch_start home past) (lines ++ engine_lines past) g ≡ run_at (epoch_start home past) (engine_lines past) g) ×
+    (some_of (ends g) lines ≡ false))
     ⊎ Leaves (epoch_start home past) (engine_lines past) g (is_over home past g) lines
 
 pub drop-unless : (a c d : Bool) → a ≡ false → ((a || c) || d) ≡ true → (c || d) ≡ true
@@ -94,9 +84,13 @@ drop-first : (a b c d : Bool) → a ≡ false → ((a || b || c) || d) ≡ true 
 drop-first true b c d e h = cc
 drop-first false b c d e h = h
 
-touches-shut : (home : Home) (g : Tid) (past : SitePast) (event : SiteEvent) (lines : List EngineLine) → Shut home g past → Touches home g past event lines → ((some_of (ends g) lines || is_closed past g) || is_some (doubt_of (records home past) g)) ≡ true → live_one (run_at (epoch_start home past) (lines ++ engine_lines past) g) ≡ None
+touches-shut : (home : Home) (g : Tid) (past : SitePast) (event : SiteEvent) (lines : List EngineLine) → Shut home g past
+    → Touches home g past event lines
+    → ((some_of (ends g) lines || is_closed past g) || is_some (doubt_of (records home past) g)) ≡ true
+    → live_one (run_at (epoch_start home past) (lines ++ engine_lines past) g) ≡ None
 touches-shut home g past event lines s (inl (same, unended)) h =
-    ap live_one same ∙ s.over (drop-unless (some_of (ends g) lines) (is_closed past g) (is_some (doubt_of (records home past) g)) unended h)
+    ap live_one same ∙ s.over
+    (drop-unless (some_of (ends g) lines) (is_closed past g) (is_some (doubt_of (records home past) g)) unended h)
 touches-shut home g past event lines s (inr l) h =
     leaves-shut (epoch_start home past) (engine_lines past) g (is_closed past g) (is_some (doubt_of (records home past) g)) lines l h
 
@@ -104,7 +98,8 @@ pub no-lines : (home : Home) (g : Tid) (past : SitePast) (event : SiteEvent) →
 no-lines home g past event = inl (refl, refl)
 
 -- a line of the live run of an attempt
-pub one-line : (home : Home) (g : Tid) (past : SitePast) (event : SiteEvent) (run : Run) (l : EngineLine) → Shut home g past → live home past (tid_of l) ≡ Some run → ((gives_up l ≡ false) → ends g l ≡ false) → Touches home g past event (l ∷ [])
+pub one-line : (home : Home) (g : Tid) (past : SitePast) (event : SiteEvent) (run : Run) (l : EngineLine) → Shut home g past
+    → live home past (tid_of l) ≡ Some run → ((gives_up l ≡ false) → ends g l ≡ false) → Touches home g past event (l ∷ [])
 one-line home g past event run l s alive stays = by_test (same_tid (tid_of l) g) (gives_up l) refl refl where
   over_no : (o : Bool) → is_over home past g ≡ o → same_tid (tid_of l) g ≡ true → is_over home past g ≡ false
   over_no false e q = e
@@ -112,11 +107,16 @@ one-line home g past event run l s alive stays = by_test (same_tid (tid_of l) g)
 
   by_test : (q u : Bool) → same_tid (tid_of l) g ≡ q → gives_up l ≡ u → Touches home g past event (l ∷ [])
   by_test false u q e = inl (other-line (epoch_start home past) (engine_lines past) g l q)
-  by_test true true q e = inr (inl (ap live_one (this-line (epoch_start home past) (engine_lines past) g l q) ∙ given-up l (run_at (epoch_start home past) (engine_lines past) g) e))
+  by_test true true q e = inr (inl (ap live_one (this-line (epoch_start home past) (engine_lines past) g l q) ∙ given-up l
+      (run_at (epoch_start home past) (engine_lines past) g) e))
   by_test true false q e = inr (inr (ap (λ b. b || false) (stays e), over_no (is_over home past g) refl q))
 
 -- a line that appends nothing and doesn't settle
-pub calm : (home : Home) (g : Tid) (past : SitePast) (event : SiteEvent) (answer : Answer) (sends : List FromSite) (lines : List EngineLine) → is_down past ≡ false → IsCalm answer → IsNoDecision event → Each (Says home g past (record { event = event; answer = answer; sends = sends; calls = []; lines = lines })) sends → (NotBegun g event → Shut home g past → Touches home g past event lines) → Step home g past event (record { event = event; answer = answer; sends = sends; calls = []; lines = lines })
+pub calm : (home : Home) (g : Tid) (past : SitePast) (event : SiteEvent) (answer : Answer) (sends : List FromSite)
+    (lines : List EngineLine) → is_down past ≡ false → IsCalm answer → IsNoDecision event
+    → Each (Says home g past (record { event = event; answer = answer; sends = sends; calls = []; lines = lines })) sends
+    → (NotBegun g event → Shut home g past → Touches home g past event lines)
+    → Step home g past event (record { event = event; answer = answer; sends = sends; calls = []; lines = lines })
 calm home g past event answer sends lines up c n says touches = record {
   is = refl;
   quiet = tt;
@@ -124,17 +124,20 @@ calm home g past event answer sends lines up c n says touches = record {
   says = says;
   shut = (λ nb s.
       shut-on home g past _ (calm-stops answer c) (calm-up answer c) up
-      (λ h. touches-shut home g past event lines s (touches nb s) (drop-first (decides_on g event) (some_of (ends g) lines) (is_closed past g) (is_some (doubt_of (records home past) g)) (undecided-event g event n) h)));
+      (λ h. touches-shut home g past event lines s (touches nb s) (drop-first (decides_on g event) (some_of (ends g) lines)
+      (is_closed past g) (is_some (doubt_of (records home past) g)) (undecided-event g event n) h)));
   settled = calm-settled home g past event answer c;
   seals = (λ e. cc);
   rises = (λ e. let f = calm-up answer c in cc);
 }
 
-pub quietly : (home : Home) (g : Tid) (past : SitePast) (event : SiteEvent) (answer : Answer) → is_down past ≡ false → IsCalm answer → IsNoDecision event → Step home g past event (quiet event answer)
+pub quietly : (home : Home) (g : Tid) (past : SitePast) (event : SiteEvent) (answer : Answer) → is_down past ≡ false → IsCalm answer
+    → IsNoDecision event → Step home g past event (quiet event answer)
 quietly home g past event answer up c n = calm home g past event answer [] [] up c n tt (λ nb s. no-lines home g past event)
 
 -- `begin`
-pub by-begin : (home : Home) (g : Tid) (past : SitePast) (tid : Tid) → is_down past ≡ false → Step home g past (Ev.Begin tid) (of_begin home past tid)
+pub by-begin : (home : Home) (g : Tid) (past : SitePast) (tid : Tid) → is_down past ≡ false
+    → Step home g past (Ev.Begin tid) (of_begin home past tid)
 unfolding of_begin
 by-begin home g past tid up =
     step-pick home g past (Ev.Begin tid) _ _ _
@@ -158,20 +161,24 @@ act-calm tid (Reply_is.Ticket n) act = tt
 act-calm tid Reply_is.Unknown act = tt
 
 -- an access, or the taking of a ticket, that isn't refused ends nothing
-pub acts-stay : (g tid : Tid) (act : PlainAct) (reply : Reply) → gives_up (Acts tid act reply) ≡ false → ends g (Acts tid act reply) ≡ false
+pub acts-stay : (g tid : Tid) (act : PlainAct) (reply : Reply) → gives_up (Acts tid act reply) ≡ false
+    → ends g (Acts tid act reply) ≡ false
 acts-stay g tid act reply e = ap (λ b. b && same_tid tid g) e
 
 pub takes-stay : (g tid : Tid) (reply : Reply) → gives_up (Takes tid reply) ≡ false → ends g (Takes tid reply) ≡ false
 takes-stay g tid reply e = ap (λ b. b && same_tid tid g) e
 
-pub by-act : (home : Home) (g : Tid) (past : SitePast) (tid : Tid) (act : PlainAct) → is_down past ≡ false → Step home g past (Ev.Act tid act) (of_act home past tid act)
+pub by-act : (home : Home) (g : Tid) (past : SitePast) (tid : Tid) (act : PlainAct) → is_down past ≡ false
+    → Step home g past (Ev.Act tid act) (of_act home past tid act)
 unfolding of_act
 by-act home g past tid act up =
     step-pick home g past (Ev.Act tid act) _ _ _ (λ e. quietly home g past (Ev.Act tid act) Say.Idle up tt tt)
     (λ run e.
-    calm home g past (Ev.Act tid act) (act_answer tid (reply_to home past run act) act) [] (Acts tid act (reply_to home past run act) ∷ []) up
+    calm home g past (Ev.Act tid act) (act_answer tid (reply_to home past run act) act) []
+    (Acts tid act (reply_to home past run act) ∷ []) up
     (act-calm tid (reply_to home past run act) act) tt tt
-    (λ nb s. one-line home g past (Ev.Act tid act) run (Acts tid act (reply_to home past run act)) s e (acts-stay g tid act (reply_to home past run act))))
+    (λ nb s. one-line home g past (Ev.Act tid act) run (Acts tid act (reply_to home past run act)) s e
+    (acts-stay g tid act (reply_to home past run act))))
 
 refusal-calm : (why : Why) → IsCalm (refusal_answer why)
 refusal-calm (Because.Die by) = tt
@@ -179,8 +186,8 @@ refusal-calm (Because.Late by) = tt
 refusal-calm (Because.Invalid by key) = tt
 refusal-calm (Because.TicketMoved by) = tt
 
-
-by-seals_local : (home : Home) (g : Tid) (past : SitePast) (tid : Tid) (run : Run) → is_down past ≡ false → Step home g past (Ev.Commit tid) (seals_local home past tid run)
+by-seals_local : (home : Home) (g : Tid) (past : SitePast) (tid : Tid) (run : Run) → is_down past ≡ false
+    → Step home g past (Ev.Commit tid) (seals_local home past tid run)
 unfolding seals_local
 by-seals_local home g past tid run up = record {
   is = refl;
@@ -195,13 +202,19 @@ by-seals_local home g past tid run up = record {
   lines : List EngineLine
   lines = Commits tid ∷ Seals tid (number_of home past run) ∷ []
 
-  by_test : (q : Bool) → same_tid tid g ≡ q → Shut home g past → ((false || some_of (ends g) (Commits tid ∷ Seals tid (number_of home past run) ∷ []) || is_closed past g) || is_some (doubt_of (records home past) g)) ≡ true → live_one (run_at (epoch_start home past) (Commits tid ∷ Seals tid (number_of home past run) ∷ engine_lines past) g) ≡ None
-  by_test true q s h = ap live_one (this-line (epoch_start home past) (Seals tid (number_of home past run) ∷ engine_lines past) g (Commits tid) q)
+  by_test : (q : Bool) → same_tid tid g ≡ q → Shut home g past
+      → ((false || some_of (ends g) (Commits tid ∷ Seals tid (number_of home past run) ∷ []) || is_closed past g) || is_some
+      (doubt_of (records home past) g)) ≡ true
+      → live_one (run_at (epoch_start home past) (Commits tid ∷ Seals tid (number_of home past run) ∷ engine_lines past) g) ≡ None
+  by_test true q s h = ap live_one
+      (this-line (epoch_start home past) (Seals tid (number_of home past run) ∷ engine_lines past) g (Commits tid) q)
   by_test false q s h =
       let both = other-lines (epoch_start home past) (engine_lines past) g (Commits tid) (Seals tid (number_of home past run)) q q in
-      ap live_one both.0 ∙ s.over (drop-unless (some_of (ends g) (Commits tid ∷ Seals tid (number_of home past run) ∷ [])) (is_closed past g) (is_some (doubt_of (records home past) g)) both.1 h)
+      ap live_one both.0 ∙ s.over (drop-unless (some_of (ends g) (Commits tid ∷ Seals tid (number_of home past run) ∷ []))
+      (is_closed past g) (is_some (doubt_of (records home past) g)) both.1 h)
 
-pub by-commit : (home : Home) (g : Tid) (past : SitePast) (tid : Tid) → is_down past ≡ false → Step home g past (Ev.Commit tid) (of_commit home past tid)
+pub by-commit : (home : Home) (g : Tid) (past : SitePast) (tid : Tid) → is_down past ≡ false
+    → Step home g past (Ev.Commit tid) (of_commit home past tid)
 unfolding of_commit
 by-commit home g past tid up =
     step-pick home g past (Ev.Commit tid) _ _ _ (λ e. quietly home g past (Ev.Commit tid) Say.Idle up tt tt)
@@ -209,7 +222,8 @@ by-commit home g past tid up =
     (λ why f. calm home g past (Ev.Commit tid) (refusal_answer why) [] (Refuses tid why ∷ []) up (refusal-calm why) tt tt
     (λ nb s. one-line home g past (Ev.Commit tid) run (Refuses tid why) s e (λ u. cc))))
 
-pub by-abort : (home : Home) (g : Tid) (past : SitePast) (tid : Tid) → is_down past ≡ false → Step home g past (Ev.Abort tid) (of_abort home past tid)
+pub by-abort : (home : Home) (g : Tid) (past : SitePast) (tid : Tid) → is_down past ≡ false
+    → Step home g past (Ev.Abort tid) (of_abort home past tid)
 unfolding of_abort
 by-abort home g past tid up =
     step-pick home g past (Ev.Abort tid) _ _ _ (λ e. quietly home g past (Ev.Abort tid) Say.Idle up tt tt)
@@ -220,16 +234,19 @@ cond-calm : (b : Bool) → IsCalm (cond b Say.Unbegun Say.Ended)
 cond-calm true = tt
 cond-calm false = tt
 
-pub by-fate : (home : Home) (g : Tid) (past : SitePast) (tx : Tx) → is_down past ≡ false → Step home g past (Ev.Fate tx) (of_fate home past tx)
+pub by-fate : (home : Home) (g : Tid) (past : SitePast) (tx : Tx) → is_down past ≡ false
+    → Step home g past (Ev.Fate tx) (of_fate home past tx)
 unfolding of_fate
 by-fate home g past tx up =
     step-pick home g past (Ev.Fate tx) _ _ _
     (λ e. step-pick home g past (Ev.Fate tx) _ _ _
-    (λ f. quietly home g past (Ev.Fate tx) (cond (attempts_of past tx == 0) Say.Unbegun Say.Ended) up (cond-calm (attempts_of past tx == 0)) tt)
+    (λ f. quietly home g past (Ev.Fate tx) (cond (attempts_of past tx == 0) Say.Unbegun Say.Ended) up
+    (cond-calm (attempts_of past tx == 0)) tt)
     (λ a f. quietly home g past (Ev.Fate tx) (Say.Running a) up tt tt))
     (λ a e. quietly home g past (Ev.Fate tx) (Say.Committed a) up tt tt)
 
-pub by-drop : (home : Home) (g : Tid) (past : SitePast) (tid : Tid) → is_down past ≡ false → Step home g past (Ev.Drop tid) (of_drop home past tid)
+pub by-drop : (home : Home) (g : Tid) (past : SitePast) (tid : Tid) → is_down past ≡ false
+    → Step home g past (Ev.Drop tid) (of_drop home past tid)
 unfolding of_drop
 by-drop home g past tid up =
     step-when home g past (Ev.Drop tid) _ _ _ (λ b. quietly home g past (Ev.Drop tid) Say.Idle up tt tt)
@@ -237,7 +254,8 @@ by-drop home g past tid up =
     (λ run e. calm home g past (Ev.Drop tid) (Say.Dropped tid) [] (Aborts tid ∷ []) up tt tt tt
     (λ nb s. one-line home g past (Ev.Drop tid) run (Aborts tid) s e (λ u. cc))))
 
-pub by-ask : (home : Home) (g : Tid) (past : SitePast) (tid : Tid) → is_down past ≡ false → Step home g past (Ev.Ask tid) (of_ask home past tid)
+pub by-ask : (home : Home) (g : Tid) (past : SitePast) (tid : Tid) → is_down past ≡ false
+    → Step home g past (Ev.Ask tid) (of_ask home past tid)
 unfolding of_ask
 by-ask home g past tid up =
     step-pick home g past (Ev.Ask tid) _ _ _ (λ e. quietly home g past (Ev.Ask tid) Say.Idle up tt tt)

@@ -1,5 +1,5 @@
 -- A line that seals a subtransaction: its disk calls append a Prepared record of the attempt. A line that a stop ends may be one too.
-use Rattle.std.specs.Prelude.{ℕ, ◌≡◌, Bool, false, List}
+use Rattle.std.specs.Prelude.{ℕ, ◌≡◌, Bool, false}
 use Rattle.mdb_base.specs.declared.names.Tid.{Tid}
 use Rattle.mdb_base.specs.Names.{same_tid}
 use Rattle.mdb_base.specs.Words.{some_of}

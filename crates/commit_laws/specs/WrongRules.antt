@@ -135,7 +135,9 @@ torn_taken x answer torn = x
 
 abbrev pub torn_records_kept : Rules
 torn_records_kept =
-    record right_rules { coordinator = λ protocols past event. (let x = coord_line protocols past event in torn_taken x x.answer (torn_record past)) }
+    record right_rules {
+      coordinator = λ protocols past event. (let x = coord_line protocols past event in torn_taken x x.answer (torn_record past));
+    }
 
 -- by these rules a site of this protocol settles an attempt otherwise than by its outcome
 pub record BreaksTheOutcome (rules : Rules) (protocol : Protocol) : Type 0 where

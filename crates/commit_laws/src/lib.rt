@@ -16,7 +16,8 @@ pub use forgetting_laws::{
 pub use outcome_laws::{sites_settle_alike, sites_settle_the_outcome};
 pub use prepared_laws::commits_find_all_prepared;
 pub use seal_laws::{
-    acknowledged_attempts_are_over, attempts_are_sealed_once, commits_meet_no_live_run,
+    acknowledged_attempts_are_over, attempts_are_sealed_once, closed_attempts_have_no_live_run,
+    commits_meet_no_live_run,
 };
 pub use wrong_rules::{
     right_rules_in_this_form, wrong_acknowledgement, wrong_coordinators, wrong_epochs,
