@@ -1,9 +1,10 @@
 //! The same for each declared site of a scenario, in the story of any commands.
 ghost use Rattle.site_history.specs.SiteOrders.{HasEpochs, IsSerialPast};
-ghost use Rattle.site_history.specs.Stories.{EventsAreSorted, OfSitesPreparedOnce, StoriesHaveRightLines};
+ghost use Rattle.site_history.specs.Stories.{EventsAreSorted, OfSites, StoriesHaveRightLines, StoriesPrepareOnce};
 
 /// In the story of any commands the past of a declared site is made by sorted events: what begins and commits as a local attempt is of a
-/// local transaction, and the messages that the site takes were sent by the coordinator, which begins attempts of global ones only.
+/// local transaction, and the messages that the site takes were sent by the coordinator, which begins attempts of global ones only. All
+/// Prepares of an attempt that it sends to the site name one epoch.
 pub fn events_are_sorted()
     ensures { EventsAreSorted }
 {}
@@ -13,9 +14,13 @@ pub fn stories_have_right_lines()
     ensures { StoriesHaveRightLines }
 {}
 
-/// Each declared site of every story is serial over all its stops and restarts, which keep its sealed runs, where no attempt is prepared
-/// twice.
+/// At each declared site of every story no attempt is prepared twice.
+pub fn stories_prepare_once()
+    ensures { StoriesPrepareOnce }
+{}
+
+/// Each declared site of every story is serial over all its stops and restarts, which keep its sealed runs.
 pub fn stories_have_serial_sites()
-    ensures epochs { OfSitesPreparedOnce HasEpochs }
-    ensures serial { OfSitesPreparedOnce IsSerialPast }
+    ensures epochs { OfSites HasEpochs }
+    ensures serial { OfSites IsSerialPast }
 {}
