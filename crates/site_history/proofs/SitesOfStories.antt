@@ -5,7 +5,7 @@ use Rattle.fed_rules.specs.SiteRecords.{Home}
 use Rattle.site_history.specs.Events.{PreparesOnce}
 use Rattle.site_history.specs.Lines.{HasRightLines}
 use Rattle.site_history.specs.SiteOrders.{HasEpochs, IsSerialPast, OfSortedPasts}
-use Rattle.site_history.specs.Stories.{OfSites, StoriesHaveRightLines, StoriesPrepareOnce, is_local}
+use Rattle.site_history.specs.Stories.{OfSites, OfSitesPreparedOnce, StoriesHaveRightLines, StoriesPrepareOnce, is_local}
 use Rattle.site_history.proofs.RightLines.{lines_right}
 use Rattle.site_history.proofs.SerialPasts.{pasts_epochs, pasts_serial}
 use Rattle.site_history.proofs.SortedPasts.{are_fresh}
@@ -22,14 +22,22 @@ stories_once scenario commands site home declared =
     let m = events_sorted scenario commands site home declared in
     subst (PreparesOnce home) (sym m.made) (prepares_once home (is_local scenario) m.events m.sorted m.one_epoch)
 
-of_stories : (P : Home → SitePast → Type 0) → OfSortedPasts P → OfSites P
-of_stories P always scenario commands site home declared =
+of_stories : (P : Home → SitePast → Type 0) → OfSortedPasts P → OfSitesPreparedOnce P
+of_stories P always scenario commands site home declared once =
     let m = events_sorted scenario commands site home declared in
-    subst (P home) (sym m.made)
-    (always home (is_local scenario) m.events m.sorted (prepares_once home (is_local scenario) m.events m.sorted m.one_epoch))
+    subst (P home) (sym m.made) (always home (is_local scenario) m.events m.sorted (subst (PreparesOnce home) m.made once))
 
-pub stories_epochs : OfSites HasEpochs
+pub stories_epochs : OfSitesPreparedOnce HasEpochs
 stories_epochs = of_stories HasEpochs pasts_epochs
 
-pub stories_serial : OfSites IsSerialPast
+pub stories_serial : OfSitesPreparedOnce IsSerialPast
 stories_serial = of_stories IsSerialPast pasts_serial
+
+-- with no premise
+pub sites_epochs : OfSites HasEpochs
+sites_epochs scenario commands site home declared =
+    stories_epochs scenario commands site home declared (stories_once scenario commands site home declared)
+
+pub sites_serial : OfSites IsSerialPast
+sites_serial scenario commands site home declared =
+    stories_serial scenario commands site home declared (stories_once scenario commands site home declared)

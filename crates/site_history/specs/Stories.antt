@@ -55,6 +55,10 @@ StoriesPrepareOnce = OfDeclaredSites (λ scenario home past. PreparesOnce home p
 abbrev pub StoriesHaveRightLines : Type 0
 StoriesHaveRightLines = OfDeclaredSites (λ scenario home past. HasRightLines home past)
 
+-- the fact holds of each declared site of every story where no attempt is prepared twice
+abbrev pub OfSitesPreparedOnce : (Home → SitePast → Type 0) → Type 0
+OfSitesPreparedOnce P = OfDeclaredSites (λ scenario home past. PreparesOnce home past → P home past)
+
 -- the fact holds of each declared site of every story
 abbrev pub OfSites : (Home → SitePast → Type 0) → Type 0
 OfSites P = OfDeclaredSites (λ scenario home past. P home past)
