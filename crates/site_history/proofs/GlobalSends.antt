@@ -276,7 +276,8 @@ sends_fate : (local : Tx → Bool) (past : CoordPast) (tx : Tx) → SendsSorted 
 unfolding of_fate
 sends_fate local past tx =
     sends_pick local (committed_of (records past) tx) _ _
-    (sends_pick local (undecided_of past tx) _ _ (record { sends = tt; begins = tt }) (λ running. record { sends = tt; begins = tt })) (λ committed. record { sends = tt; begins = tt })
+    (sends_pick local (undecided_of past tx) _ _ (record { sends = tt; begins = tt }) (λ running. record { sends = tt; begins = tt }))
+    (λ committed. record { sends = tt; begins = tt })
 
 sends_back : (local : Tx → Bool) (past : CoordPast) → SendsSorted local (of_back past)
 unfolding of_back

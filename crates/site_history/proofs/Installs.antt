@@ -155,7 +155,8 @@ due_distinct commits (Local p number writes ∷ records) once =
 due_distinct commits (Prepared p epoch number ticket writes ∷ records) once = by_test (commits p) (due_distinct commits records once.1)
   where
     by_test : (b : Bool) → Distinct (tids_of (due_installs commits records))
-        → Distinct (tids_of (cond b (by_number (record { tid = p; number = number; writes = writes }) (due_installs commits records)) (due_installs commits records)))
+        → Distinct (tids_of (cond b (by_number (record { tid = p; number = number; writes = writes }) (due_installs commits records))
+        (due_installs commits records)))
     by_test true rest =
         distinct_inserted (record { tid = p; number = number; writes = writes }) (due_installs commits records) rest
         (λ i. let one = in_map (λ z. z.tid) p (due_installs commits records) i in

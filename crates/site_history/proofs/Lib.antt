@@ -3,6 +3,8 @@ mod AsSealed
 mod Backed
 mod BackedSteps
 mod Backing
+mod CoordAsked
+mod CoordSteps
 mod EpochLines
 mod GlobalSends
 mod Histories
@@ -11,6 +13,7 @@ mod HistoryMoves
 mod HistoryPasts
 mod Installs
 mod LocalLines
+mod MadeSorted
 mod MessageLines
 mod Moves
 mod OrdersRun

@@ -170,7 +170,8 @@ good_yes home past tid e n run ticket k here took free = record {
     ),
     k.right,
   );
-  agrees = agrees_line start lines (Seals tid number) (doubt_of (records home past)) now (λ t apart. ap (λ b. cond b (Some held) (doubt_of (records home past) t)) apart) k.agrees
+  agrees = agrees_line start lines (Seals tid number) (doubt_of (records home past)) now
+      (λ t apart. ap (λ b. cond b (Some held) (doubt_of (records home past) t)) apart) k.agrees
       (subst (λ o. Agrees o (changed (Seals tid number) (run_at start lines tid))) (sym now_held)
       (subst (λ o. Agrees (Some held) (changed (Seals tid number) o)) (sym here.live.0) (refl, took, refl)));
   appends = (rising_puts run.acts, tt);

@@ -52,7 +52,8 @@ pub data Moves (home : Home) (past : SitePast) (local : Tx → Bool) (event : Si
   commits_local : {tid : Tid} (run : Run) → local tid.tx ≡ true → IsLiveHere home past tid run
       → Moves home past local event (Append (Rec.Local tid (number_of home past run) (puts_of run.acts)) ∷ Sync ∷ [])
       (Commits tid ∷ Seals tid (number_of home past run) ∷ [])
-  prepares_run : {tid : Tid} {ticket : ℕ} (n : ℕ) (run : Run) → event ≡ Ev.Give (To.Prepare tid (epoch home past) n) → local tid.tx ≡ false → IsLiveHere home past tid run → run.ticket ≡ Some ticket
+  prepares_run : {tid : Tid} {ticket : ℕ} (n : ℕ) (run : Run) → event ≡ Ev.Give (To.Prepare tid (epoch home past) n) → local tid.tx ≡ false
+      → IsLiveHere home past tid run → run.ticket ≡ Some ticket
       → Moves home past local event (Append (Rec.Prepared tid (epoch home past) (number_of home past run) ticket (puts_of run.acts)) ∷ Sync ∷ [])
       (Seals tid (number_of home past run) ∷ [])
   settles_held : {tid : Tid} {decision : Decision} {rest : List (Call SiteRecord)} (held : Held)
@@ -62,7 +63,8 @@ pub data Moves (home : Home) (past : SitePast) (local : Tx → Bool) (event : Si
 pub record IsMove (home : Home) (past : SitePast) (local : Tx → Bool) (event : SiteEvent) (x : SiteHappening) : Type 0 where
   pub moves : Moves home past local event x.calls x.lines
 
-move_when : (home : Home) (past : SitePast) (local : Tx → Bool) (event : SiteEvent) (b : Bool) (x y : SiteHappening) → (b ≡ true → IsMove home past local event x)
+move_when : (home : Home) (past : SitePast) (local : Tx → Bool) (event : SiteEvent) (b : Bool) (x y : SiteHappening)
+    → (b ≡ true → IsMove home past local event x)
     → (b ≡ false → IsMove home past local event y) → IsMove home past local event (when b x y)
 unfolding when
 move_when home past local event true x y p q = p refl
@@ -120,7 +122,8 @@ unfolding of_ask
 move_ask home past local event tid =
     move_pick home past local event (doubt_of (records home past) tid) _ _ (λ e. record { moves = rests }) (λ held e. record { moves = rests })
 
-move_drop : (home : Home) (past : SitePast) (local : Tx → Bool) (event : SiteEvent) (tid : Tid) → IsKept home past → IsMove home past local event (of_drop home past tid)
+move_drop : (home : Home) (past : SitePast) (local : Tx → Bool) (event : SiteEvent) (tid : Tid) → IsKept home past
+    → IsMove home past local event (of_drop home past tid)
 unfolding of_drop
 move_drop home past local event tid k =
     move_when home past local event (is_local past tid) _ _ (λ e. record { moves = rests })
@@ -153,7 +156,8 @@ move_work_live home past local event message tid e n act run here =
     (λ r. move_repeated home past local event message tid n run))
 
 move_first_work : (home : Home) (past : SitePast) (local : Tx → Bool) (event : SiteEvent) (message : ToSite) (tid : Tid) (n : ℕ) (act : PlainAct)
-    → local tid.tx ≡ false → run_of home past tid ≡ None → is_over home past tid ≡ false → IsMove home past local event (first_work home past message tid n act)
+    → local tid.tx ≡ false → run_of home past tid ≡ None → is_over home past tid ≡ false
+    → IsMove home past local event (first_work home past message tid n act)
 unfolding first_work did
 move_first_work home past local event message tid n act others free fresh = record { moves = begins_work others free fresh }
 
@@ -194,13 +198,16 @@ move_take home past local event tid e n k others =
     (λ run at. move_take_live home past local event message tid e n run (live_here home past tid run k at) others))
 
 move_seals : (home : Home) (past : SitePast) (local : Tx → Bool) (tid : Tid) (e n : ℕ) (run : Run) (ticket : ℕ)
-    → e ≡ epoch home past → local tid.tx ≡ false → IsLiveHere home past tid run → run.ticket ≡ Some ticket → IsMove home past local (Ev.Give (To.Prepare tid e n)) (seals_global home past tid e n run ticket)
+    → e ≡ epoch home past → local tid.tx ≡ false → IsLiveHere home past tid run → run.ticket ≡ Some ticket
+    → IsMove home past local (Ev.Give (To.Prepare tid e n)) (seals_global home past tid e n run ticket)
 unfolding seals_global votes_yes votes_no
 move_seals home past local tid e n run ticket now others here took =
-    move_pick home past local (Ev.Give (To.Prepare tid e n)) (stop_of home past run) _ _ (λ free. record { moves = prepares_run n run (ap (λ c. Ev.Give (To.Prepare tid c n)) now) others here took })
+    move_pick home past local (Ev.Give (To.Prepare tid e n)) (stop_of home past run) _ _
+    (λ free. record { moves = prepares_run n run (ap (λ c. Ev.Give (To.Prepare tid c n)) now) others here took })
     (λ why stop. record { moves = goes_on run here tt })
 
-move_prepare_live : (home : Home) (past : SitePast) (local : Tx → Bool) (tid : Tid) (e n : ℕ) (run : Run) → local tid.tx ≡ false → IsLiveHere home past tid run
+move_prepare_live : (home : Home) (past : SitePast) (local : Tx → Bool) (tid : Tid) (e n : ℕ) (run : Run) → local tid.tx ≡ false
+    → IsLiveHere home past tid run
     → IsMove home past local (Ev.Give (To.Prepare tid e n)) (prepare_live home past tid e n run)
 unfolding prepare_live votes_no
 move_prepare_live home past local tid e n run others here =

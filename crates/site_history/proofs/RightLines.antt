@@ -42,7 +42,8 @@ good_answered home past (Ev.Trip calls cut) k fresh b = still home past (Ev.Trip
 good_answered home past Ev.Back k fresh b = cc
 
 -- one more line with no engine line, of a site that is up or down
-quiet_kept : (home : Home) (past : SitePast) (event : SiteEvent) → IsKept home past → IsKept home (record { event = event; answer = Say.Down; sends = []; calls = []; lines = [] } ∷ past)
+quiet_kept : (home : Home) (past : SitePast) (event : SiteEvent) → IsKept home past
+    → IsKept home (record { event = event; answer = Say.Down; sends = []; calls = []; lines = [] } ∷ past)
 quiet_kept home past event k = kept_good home past _ k (still home past event Say.Down [] k refl)
 
 kept_when : (home : Home) (past : SitePast) (b : Bool) (x y : SiteHappening) → IsKept home (x ∷ past) → IsKept home (y ∷ past)

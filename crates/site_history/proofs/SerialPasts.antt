@@ -17,7 +17,7 @@ use Rattle.fed_rules.specs.Runs.{Access, EngineLine, Run, number, run_at, table_
 use Rattle.fed_rules.specs.SerialRuns.{IsSerial, TicketsFall}
 use Rattle.fed_rules.specs.Site.{site_past}
 use Rattle.fed_rules.specs.SitePast.{SitePast, epoch_start, engine_lines, records}
-use Rattle.fed_rules.specs.SiteRecords.{Home, Held, Install, doubt_of, due_installs, installs, prepared_tids, rows_after}
+use Rattle.fed_rules.specs.SiteRecords.{Home, Held, Install, doubt_of, due_installs, installs, prepared_tids, rows_after, start_of}
 use Rattle.engine_laws.specs.Epochs.{Epoch, all_committed}
 use Rattle.engine_laws.specs.Laws.{AreSealed}
 use Rattle.engine_laws.proofs.Epochs.{history}
@@ -26,6 +26,9 @@ use Rattle.site_history.specs.Lines.{Agrees}
 use Rattle.site_history.specs.Records.{BindOnce, IsPrepared, TellOutcomes}
 use Rattle.site_history.specs.SiteOrders.{HasEpochs, IsSerialOrder, IsSerialPast, OfSortedPasts, SiteSerial, table_after}
 use Rattle.site_history.proofs.AsSealed.{HasImage, IsRunOf, WasCommitted, all_in, as_sealed, in_all, in_those, those_in}
+use Rattle.rules_laws.specs.Durable.{IsFrontOf}
+use Rattle.fed_rules.specs.EngineLines.{IsStart}
+use Rattle.site_history.proofs.Backed.{AllBacked, backed_front, each_front, first_backing, once_front}
 use Rattle.site_history.proofs.Backing.{IsBacked, IsKeptAs, binds_kept}
 use Rattle.site_history.proofs.EpochLines.{epoch_of_lines}
 use Rattle.site_history.proofs.Histories.{IsHistory}
@@ -33,9 +36,9 @@ use Rattle.site_history.proofs.HistoryPasts.{history_past}
 use Rattle.site_history.proofs.OrdersRun.{HasTicketOf, distinct_reverse, order_rising, order_serial, order_table}
 use Rattle.site_history.proofs.Installs.{IsDoubtful, due_distinct, due_installed, installed_due, installs_distinct, prepared_due, tids_of}
 use Rattle.site_history.proofs.Records.{doubt_in, due_install, once_record, prepared_once, record_of}
-use Rattle.site_history.proofs.Restarts.{good_newest, installs_are}
+use Rattle.site_history.proofs.Restarts.{backed_restart, good_newest, installs_are}
 use Rattle.site_history.proofs.SameLists.{due_fall, install_of, rows_of_runs, same_list}
-use Rattle.site_history.proofs.Starts.{doubt_among, doubt_tid}
+use Rattle.site_history.proofs.Starts.{HasRisingWrites, doubt_among, doubt_tid}
 
 -- a committed run, or one in doubt, with its record and the accesses that it had
 record IsMember (acts : Tid → List Access) (rs : List SiteRecord) (run : Run) : Type 0 where
@@ -252,6 +255,17 @@ pasts_serial home local events sorted once =
       due = λ commits told. due_order home local (site_past home events) commits h told;
     }
 
+-- whatever a stop may leave of the records makes a good start
+kept_start : (home : Home) (local : Tx → Bool) (past : SitePast) → IsHistory home local past → (kept : List SiteRecord)
+    → IsFrontOf (records home past) kept → IsStart (start_of home kept)
+kept_start home local past h kept (newer, e) =
+    let acts = acts_at home past in
+    let first = first_backing home acts kept (backed_front home acts newer kept (subst (AllBacked home acts) e h.backed)) in
+    let once = once_front newer kept (subst BindOnce e h.once) in
+    let rising = each_front HasRisingWrites newer kept (subst (Each HasRisingWrites) e h.kept.rising) in
+    let next = backed_restart home acts kept first.start first.lines first.earlier first.backed once rising in
+    good_newest (epoch_of_lines (start_of home kept) []) (epoch_of_lines first.start first.lines ∷ first.earlier) next.epochs
+
 pub pasts_epochs : OfSortedPasts HasEpochs
 pasts_epochs home local events sorted once =
     let past = site_past home events in
@@ -261,4 +275,5 @@ pasts_epochs home local events sorted once =
       epochs = h.now.epochs;
       first = h.now.first;
       start = good_newest (epoch_of_lines (epoch_start home past) (engine_lines past)) h.earlier h.now.epochs;
+      restart = kept_start home local past h;
     }

@@ -105,7 +105,10 @@ shut_stays home past local event calls lines tid (begins_work {tid = mine} {act 
           (beside home past (Begins mine (next_number home past)) [] tid apart s.dead);
     }
 shut_stays home past local event calls lines tid (goes_on {line = line} run here calm) others s =
-    record { over = keeps_over home past (line ∷ []) tid (doubt_of (records home past) tid) (λ d. d) s.over; dead = beside home past line [] tid (not_dead home past (tid_of line) tid run here s.dead) s.dead }
+    record {
+      over = keeps_over home past (line ∷ []) tid (doubt_of (records home past) tid) (λ d. d) s.over;
+      dead = beside home past line [] tid (not_dead home past (tid_of line) tid run here s.dead) s.dead;
+    }
 shut_stays home past local event calls lines tid (commits_local {tid = mine} run is here) others s =
     let apart = not_local local mine tid is others in
     let n = number_of home past run in

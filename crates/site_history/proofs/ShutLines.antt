@@ -81,7 +81,8 @@ move_torn home past local event calls lines (suc n) cut (begins_local mine free 
 move_torn home past local event calls lines (suc n) cut (begins_work others none fresh) h = record { rises = h; last = tt }
 move_torn home past local event calls lines (suc n) cut (goes_on run here calm) h = record { rises = h; last = tt }
 move_torn home past local event calls lines (suc n) cut (commits_local {tid = tid} run mine here) h = record {
-  rises = subst EpochsRise (sym (appended_none (take n (Sync ∷ []) ++ Stops cut ∷ []) (Local tid (number_of home past run) (puts_of run.acts) ∷ records home past)
+  rises = subst EpochsRise (sym (appended_none (take n (Sync ∷ []) ++ Stops cut ∷ [])
+      (Local tid (number_of home past run) (puts_of run.acts) ∷ records home past)
       (torn_none n (Sync ∷ []) cut tt))) h;
   last = torn_last n (Sync ∷ []) cut tt;
 }

@@ -1,5 +1,5 @@
 -- In every story the events of a declared site are sorted: its messages come from the coordinator, which begins only global transactions.
-use Rattle.std.proofs.Common.{◌≡◌, ℕ, zero, suc, Bool, true, false, cond, not, ◌&&◌, Option, Some, None, List, [], ◌∷◌, map, refl, sym, ◌∙◌, ap, subst, eqb-true}
+use Rattle.std.proofs.Common.{◌≡◌, ℕ, zero, suc, Bool, true, false, cond, not, ◌&&◌, Option, Some, None, List, [], ◌∷◌, map, refl, sym, ◌∙◌, ap, subst, eqb-true, inl, inr}
 use Rattle.std.specs.Prelude.{is_some}
 use Rattle.mdb_base.specs.declared.names.SiteId.{SiteId}
 use Rattle.mdb_base.specs.declared.names.Tid.{Tid}
@@ -7,6 +7,11 @@ use Rattle.mdb_base.specs.declared.names.Tx.{Tx}
 use Rattle.mdb_base.specs.Names.{same_site, same_tx}
 use Rattle.mdb_base.specs.Words.{Each, first_where, item_at, map_some, pick, those, when}
 use Rattle.mdb_base.proofs.ListLaws.{append_each}
+use Rattle.order_laws.specs.Chains.{In}
+use Rattle.fed_rules.specs.CoordPast.{CoordHappening, CoordPast}
+use Rattle.fed_rules.specs.declared.messages.ToSite.{ToSite}
+use Rattle.fed_rules.specs.declared.messages.ToSite.TheVariants as To
+use Rattle.std.specs.Prelude.{◌++◌}
 use Rattle.fed_rules.specs.declared.answers.Answer.{Answer}
 use Rattle.fed_rules.specs.declared.commands.Command.{Command}
 use Rattle.fed_rules.specs.declared.commands.Command.TheVariants as Cmd
@@ -23,15 +28,17 @@ use Rattle.fed_rules.specs.Scenarios.{global_line, global_program, home_at, home
 use Rattle.fed_rules.specs.Site.{site_line}
 use Rattle.fed_rules.specs.SitePast.{SitePast, epoch_start, engine_lines, live_of_tx}
 use Rattle.fed_rules.specs.SiteRecords.{Home}
-use Rattle.fed_rules.specs.Story.{Story, Happened, AtSite, AtCoordinator, Nowhere, at_coordinator, at_site, begins_global, begins_local, coord_past, happens, next_step, on_abort, on_actor, on_attempt, on_begin, on_commit, on_fate, on_give, on_go, on_site, on_step, on_take, past_of, sends_to, sent_to, story_of, with_coordinator, with_live, with_site}
+use Rattle.fed_rules.specs.Story.{Story, Happened, AtSite, AtCoordinator, Nowhere, at_coordinator, at_site, begins_global, begins_local, coord_past, happens, next_step, on_abort, on_actor, on_attempt, on_begin, on_commit, on_fate, on_give, on_go, on_site, on_step, on_take, past_of, sends_to, sent_to, story_of, with_coordinator, with_live}
 use Rattle.site_history.specs.Events.{IsSorted}
-use Rattle.site_history.specs.Stories.{EventsAreSorted, IsMadeSorted, is_local}
+use Rattle.site_history.specs.Stories.{IsGiven, is_local}
+use Rattle.site_history.proofs.CoordAsked.{AreBegun, IsAskedVote, IsNextGo, begun_next, vote_stays}
+use Rattle.site_history.proofs.CoordSteps.{IsAsked, IsAskedSend, IsCoordStep, step_line}
 use Rattle.site_history.proofs.GlobalSends.{BeginsGlobal, IsSortedSend, SendsSorted, sends_line}
 
-some-parts : {A : Type 0} {x y : A} → Some x ≡ Some y → x ≡ y
+pub some-parts : {A : Type 0} {x y : A} → Some x ≡ Some y → x ≡ y
 some-parts e = cc
 
-same-site : (a b : SiteId) → same_site a b ≡ true → a ≡ b
+pub same-site : (a b : SiteId) → same_site a b ≡ true → a ≡ b
 same-site a b h = let P : ℕ → SiteId = λ n. record { 0 = n } in ap P (eqb-true a.0 b.0 h)
 
 -- the home that a line declares
@@ -49,37 +56,53 @@ home_site (line ∷ lines) items s h e = by_test (same_site line.site s) refl e 
     by_test false q e k = k e
 
 -- a declared site is found again by its own number
-home_again : (scenario : Scenario) (s : SiteId) (h : Home) → home_of scenario s ≡ Some h → home_of scenario h.site ≡ Some h
+pub home_again : (scenario : Scenario) (s : SiteId) (h : Home) → home_of scenario s ≡ Some h → home_of scenario h.site ≡ Some h
 home_again scenario s h e = ap (home_of scenario) (home_site scenario.sites scenario.items s h e) ∙ e
 
+-- the coordinator's line at an event, which begins only a next attempt
+pub record IsAskedLine (story : Story) (x : CoordHappening) : Type 0 where
+  pub event : CoordEvent
+  pub step : IsCoordStep (coord_past story) event x
+  pub next : IsNextGo (coord_past story) event
+
 -- the line of a site at a sorted event, or one of the coordinator that sends only what makes sorted events
-abbrev IsSortedLine : Scenario → Story → Happened → Type 0
+abbrev pub IsSortedLine : Scenario → Story → Happened → Type 0
 IsSortedLine scenario story (AtSite at x) =
     (home : Home) × (event : SiteEvent) × (home_of scenario at ≡ Some home) × (x ≡ site_line home (past_of at story) event)
-    × IsSorted (is_local scenario) event
-IsSortedLine scenario story (AtCoordinator x) = SendsSorted (is_local scenario) x
+    × IsSorted (is_local scenario) event × IsGiven (sent_to at story) event
+IsSortedLine scenario story (AtCoordinator x) = SendsSorted (is_local scenario) x × IsAskedLine story x
 IsSortedLine scenario story (Nowhere answer) = Unit {0}
 
-record IsGood (scenario : Scenario) (story : Story) (happened : Happened) : Type 0 where
-  sorted : IsSortedLine scenario story happened
+pub record IsGood (scenario : Scenario) (story : Story) (happened : Happened) : Type 0 where
+  pub sorted : IsSortedLine scenario story happened
+
+-- a Prepare that was sent to the site was asked for
+abbrev pub IsVoteAsked : CoordPast → SiteId → ToSite → Type 0
+IsVoteAsked past site (To.Prepare tid e n) = IsAskedVote past tid site e
+IsVoteAsked past site message = Unit {0}
 
 -- what is known of a story so far
-record IsSortedStory (scenario : Scenario) (story : Story) : Type 0 where
-  begins : Each (λ x. BeginsGlobal (is_local scenario) x.event) (coord_past story)
-  sent : (site : SiteId) → Each (λ message. IsSorted (is_local scenario) (Site_event.Give message)) (sent_to site story)
+pub record IsSortedStory (scenario : Scenario) (story : Story) : Type 0 where
+  pub begins : Each (λ x. BeginsGlobal (is_local scenario) x.event) (coord_past story)
+  pub sent : (site : SiteId) → Each (λ message. IsSorted (is_local scenario) (Site_event.Give message)) (sent_to site story)
+  pub begun : AreBegun (coord_past story)
+  pub votes : (site : SiteId) → Each (IsVoteAsked (coord_past story) site) (sent_to site story)
 
 good_nowhere : (scenario : Scenario) (story : Story) (answer : Answer) → IsGood scenario story (Nowhere answer)
 good_nowhere scenario story answer = record { sorted = tt }
 
 good_coordinator : (scenario : Scenario) (story : Story) (event : CoordEvent) → IsSortedStory scenario story
-    → BeginsGlobal (is_local scenario) event → IsGood scenario story (at_coordinator scenario story event)
-good_coordinator scenario story event s mine = record {
-  sorted = sends_line (is_local scenario) (protocols scenario) (coord_past story) event s.begins mine;
+    → BeginsGlobal (is_local scenario) event → IsNextGo (coord_past story) event → IsGood scenario story (at_coordinator scenario story event)
+good_coordinator scenario story event s mine next = record {
+  sorted = (
+    sends_line (is_local scenario) (protocols scenario) (coord_past story) event s.begins mine,
+    record { event = event; step = step_line (protocols scenario) (coord_past story) event; next = next },
+  );
 }
 
 good_site : (scenario : Scenario) (story : Story) (home : Home) (event : SiteEvent) → home_of scenario home.site ≡ Some home
-    → IsSorted (is_local scenario) event → IsGood scenario story (at_site home story event)
-good_site scenario story home event declared sorted = record { sorted = (home, event, declared, refl, sorted) }
+    → IsSorted (is_local scenario) event → IsGiven (sent_to home.site story) event → IsGood scenario story (at_site home story event)
+good_site scenario story home event declared sorted given = record { sorted = (home, event, declared, refl, sorted, given) }
 
 good_when : (scenario : Scenario) (story : Story) (t : Bool) (a b : Happened) → IsGood scenario story a → IsGood scenario story b
     → IsGood scenario story (when t a b)
@@ -124,7 +147,7 @@ unfolding on_begin begins_local
 good_begin scenario story tx =
     good_pick scenario story (local_home scenario tx) _ _ (good_nowhere scenario story _)
     (λ home f. good_when scenario story _ _ _ (good_nowhere scenario story _)
-    (good_site scenario story home _ (local_declared scenario (local_site scenario tx) home f) (local_is scenario tx home f)))
+    (good_site scenario story home _ (local_declared scenario (local_site scenario tx) home f) (local_is scenario tx home f) tt))
 
 same-tx : (a b : Tx) → same_tx a b ≡ true → a ≡ b
 same-tx a b h = let P : ℕ → Tx = λ n. record { 0 = n } in ap P (eqb-true a.0 b.0 h)
@@ -168,7 +191,7 @@ good_step scenario story tx =
     good_pick scenario story (local_home scenario tx) _ _ (good_nowhere scenario story _)
     (λ home f. good_live scenario story home tx _
     (λ tid run of_tx. good_pick scenario story _ _ _ (good_nowhere scenario story _)
-    (λ step h. good_site scenario story home _ (local_declared scenario (local_site scenario tx) home f) tt)))
+    (λ step h. good_site scenario story home _ (local_declared scenario (local_site scenario tx) home f) tt tt)))
 
 good_commit : (scenario : Scenario) (story : Story) (tx : Tx) → IsGood scenario story (on_commit scenario story tx)
 unfolding on_commit
@@ -177,41 +200,42 @@ good_commit scenario story tx =
     (λ home f. good_live scenario story home tx _
     (λ tid run of_tx. good_when scenario story _ _ _ (good_nowhere scenario story _)
     (good_site scenario story home _ (local_declared scenario (local_site scenario tx) home f)
-    (ap (is_local scenario) of_tx ∙ local_is scenario tx home f))))
+    (ap (is_local scenario) of_tx ∙ local_is scenario tx home f) tt)))
 
 good_abort : (scenario : Scenario) (story : Story) (tx : Tx) → IsGood scenario story (on_abort scenario story tx)
 unfolding on_abort
 good_abort scenario story tx =
     good_pick scenario story (local_home scenario tx) _ _ (good_nowhere scenario story _)
     (λ home f. good_live scenario story home tx _
-    (λ tid run of_tx. good_site scenario story home _ (local_declared scenario (local_site scenario tx) home f) tt))
+    (λ tid run of_tx. good_site scenario story home _ (local_declared scenario (local_site scenario tx) home f) tt tt))
 
 good_fate : (scenario : Scenario) (story : Story) (tx : Tx) → IsSortedStory scenario story → IsGood scenario story (on_fate scenario story tx)
 unfolding on_fate
 good_fate scenario story tx s =
     good_pick scenario story (local_home scenario tx) _ _
-    (good_pick scenario story _ _ _ (good_nowhere scenario story _) (λ steps f. good_coordinator scenario story _ s tt))
-    (λ home f. good_site scenario story home _ (local_declared scenario (local_site scenario tx) home f) tt)
+    (good_pick scenario story _ _ _ (good_nowhere scenario story _) (λ steps f. good_coordinator scenario story _ s tt tt))
+    (λ home f. good_site scenario story home _ (local_declared scenario (local_site scenario tx) home f) tt tt)
 
 good_go : (scenario : Scenario) (story : Story) (tx : Tx) → IsSortedStory scenario story → IsGood scenario story (on_go scenario story tx)
 unfolding on_go begins_global
 good_go scenario story tx s =
     good_pick scenario story (global_program scenario tx) _ _ (good_nowhere scenario story _)
     (λ steps f. good_when scenario story _ _ _ (good_nowhere scenario story _)
-    (good_coordinator scenario story _ s (global_is scenario tx steps f)))
+    (good_coordinator scenario story _ s (global_is scenario tx steps f) refl))
 
 good_attempt : (scenario : Scenario) (story : Story) (tid : Tid) (event : CoordEvent) → IsSortedStory scenario story
-    → BeginsGlobal (is_local scenario) event → IsGood scenario story (on_attempt scenario story tid event)
+    → BeginsGlobal (is_local scenario) event → IsNextGo (coord_past story) event → IsGood scenario story (on_attempt scenario story tid event)
 unfolding on_attempt
-good_attempt scenario story tid event s mine =
-    good_when scenario story _ _ _ (good_coordinator scenario story event s mine) (good_nowhere scenario story _)
+good_attempt scenario story tid event s mine next =
+    good_when scenario story _ _ _ (good_coordinator scenario story event s mine next) (good_nowhere scenario story _)
 
 good_on_site : (scenario : Scenario) (story : Story) (site : SiteId) (event : SiteEvent) → IsSorted (is_local scenario) event
-    → IsGood scenario story (on_site scenario story site event)
+    → IsGiven (sent_to site story) event → IsGood scenario story (on_site scenario story site event)
 unfolding on_site
-good_on_site scenario story site event sorted =
+good_on_site scenario story site event sorted given =
     good_pick scenario story (home_of scenario site) _ _ (good_nowhere scenario story _)
-    (λ home f. good_site scenario story home event (home_again scenario site home f) sorted)
+    (λ home f. good_site scenario story home event (home_again scenario site home f) sorted
+    (subst (λ s. IsGiven (sent_to s story) event) (sym (home_site scenario.sites scenario.items site home f)) given))
 
 -- an item at a place of the list
 each_at : {A : Type 0} (P : A → Type 0) (xs : List A) (n : ℕ) (x : A) → Each P xs → item_at xs n ≡ Some x → P x
@@ -219,27 +243,35 @@ each_at P [] n x h e = cc
 each_at P (y ∷ xs) zero x h e = let same : y ≡ x = cc in subst P same h.0
 each_at P (y ∷ xs) (suc n) x h e = each_at P xs n x h.1 e
 
+in_at : {A : Type 0} (xs : List A) (n : ℕ) (x : A) → item_at xs n ≡ Some x → In x xs
+in_at [] n x e = cc
+in_at (y ∷ xs) zero x e = inl (cc)
+in_at (y ∷ xs) (suc n) x e = inr (in_at xs n x e)
+
 good_give : (scenario : Scenario) (story : Story) (site : SiteId) (place : ℕ) → IsSortedStory scenario story
     → IsGood scenario story (on_give scenario story site place)
 unfolding on_give
 good_give scenario story site place s =
     good_pick scenario story (item_at (sent_to site story) place) _ _ (good_nowhere scenario story _)
     (λ message f. good_on_site scenario story site (Site_event.Give message)
-    (each_at (λ m. IsSorted (is_local scenario) (Site_event.Give m)) (sent_to site story) place message (s.sent site) f))
+    (each_at (λ m. IsSorted (is_local scenario) (Site_event.Give m)) (sent_to site story) place message (s.sent site) f)
+    (in_at (sent_to site story) place message f))
 
 good_take : (scenario : Scenario) (story : Story) (site : SiteId) (place : ℕ) → IsSortedStory scenario story
     → IsGood scenario story (on_take scenario story site place)
 unfolding on_take
 good_take scenario story site place s =
-    good_pick scenario story _ _ _ (good_nowhere scenario story _) (λ message f. good_coordinator scenario story _ s tt)
+    good_pick scenario story _ _ _ (good_nowhere scenario story _) (λ message f. good_coordinator scenario story _ s tt tt)
 
 good_actor : (scenario : Scenario) (story : Story) (actor : ℕ) (c : CoordEvent) (e : SiteEvent) → IsSortedStory scenario story
-    → BeginsGlobal (is_local scenario) c → IsSorted (is_local scenario) e → IsGood scenario story (on_actor scenario story actor c e)
+    → BeginsGlobal (is_local scenario) c → IsNextGo (coord_past story) c → IsSorted (is_local scenario) e
+    → ((sent : List ToSite) → IsGiven sent e) → IsGood scenario story (on_actor scenario story actor c e)
 unfolding on_actor
-good_actor scenario story zero c e s mine sorted = good_coordinator scenario story c s mine
-good_actor scenario story (suc n) c e s mine sorted = good_on_site scenario story (record { 0 = suc n }) e sorted
+good_actor scenario story zero c e s mine next sorted given = good_coordinator scenario story c s mine next
+good_actor scenario story (suc n) c e s mine next sorted given =
+    good_on_site scenario story (record { 0 = suc n }) e sorted (given (sent_to (record { 0 = suc n }) story))
 
-good_happens : (scenario : Scenario) (story : Story) (command : Command) → IsSortedStory scenario story
+pub good_happens : (scenario : Scenario) (story : Story) (command : Command) → IsSortedStory scenario story
     → IsGood scenario story (happens scenario story command)
 unfolding happens
 good_happens scenario story (Cmd.Begin tx) s = good_begin scenario story tx
@@ -248,15 +280,15 @@ good_happens scenario story (Cmd.Commit tx) s = good_commit scenario story tx
 good_happens scenario story (Cmd.Abort tx) s = good_abort scenario story tx
 good_happens scenario story (Cmd.Fate tx) s = good_fate scenario story tx s
 good_happens scenario story (Cmd.Go tx) s = good_go scenario story tx s
-good_happens scenario story (Cmd.Again tid) s = good_attempt scenario story tid _ s tt
-good_happens scenario story (Cmd.Late tid) s = good_attempt scenario story tid _ s tt
+good_happens scenario story (Cmd.Again tid) s = good_attempt scenario story tid _ s tt tt
+good_happens scenario story (Cmd.Late tid) s = good_attempt scenario story tid _ s tt tt
 good_happens scenario story (Cmd.Give site place) s = good_give scenario story site place s
 good_happens scenario story (Cmd.Take site place) s = good_take scenario story site place s
-good_happens scenario story (Cmd.Ask site tid) s = good_on_site scenario story site _ tt
-good_happens scenario story (Cmd.Drop site tid) s = good_on_site scenario story site _ tt
-good_happens scenario story (Cmd.Halt actor cut) s = good_actor scenario story actor _ _ s tt tt
-good_happens scenario story (Cmd.Trip actor calls cut) s = good_actor scenario story actor _ _ s tt tt
-good_happens scenario story (Cmd.Back actor) s = good_actor scenario story actor _ _ s tt tt
+good_happens scenario story (Cmd.Ask site tid) s = good_on_site scenario story site _ tt tt
+good_happens scenario story (Cmd.Drop site tid) s = good_on_site scenario story site _ tt tt
+good_happens scenario story (Cmd.Halt actor cut) s = good_actor scenario story actor _ _ s tt tt tt (λ sent. tt)
+good_happens scenario story (Cmd.Trip actor calls cut) s = good_actor scenario story actor _ _ s tt tt tt (λ sent. tt)
+good_happens scenario story (Cmd.Back actor) s = good_actor scenario story actor _ _ s tt tt tt (λ sent. tt)
 
 -- what is sent to a site makes sorted events
 sorted_messages : (local : Tx → Bool) (site : SiteId) (sends : List Sent) → Each (IsSortedSend local) sends
@@ -274,57 +306,76 @@ sorted_messages local site (sent ∷ sends) h = by_test (same_site sent.site sit
 next_sends : (scenario : Scenario) (story : Story) (happened : Happened) (site : SiteId) → IsGood scenario story happened
     → Each (λ message. IsSorted (is_local scenario) (Site_event.Give message)) (sends_to site happened)
 next_sends scenario story (AtSite at x) site g = tt
-next_sends scenario story (AtCoordinator x) site g = sorted_messages (is_local scenario) site x.sends g.sorted.sends
+next_sends scenario story (AtCoordinator x) site g = sorted_messages (is_local scenario) site x.sends g.sorted.0.sends
 next_sends scenario story (Nowhere answer) site g = tt
 
 next_begins : (scenario : Scenario) (story : Story) (happened : Happened) → IsGood scenario story happened → IsSortedStory scenario story
     → Each (λ x. BeginsGlobal (is_local scenario) x.event) (with_coordinator happened (coord_past story))
 next_begins scenario story (AtSite at x) g s = s.begins
-next_begins scenario story (AtCoordinator x) g s = (g.sorted.begins, s.begins)
+next_begins scenario story (AtCoordinator x) g s = (g.sorted.0.begins, s.begins)
 next_begins scenario story (Nowhere answer) g s = s.begins
 
-sorted_story : (scenario : Scenario) (commands : List Command) → IsSortedStory scenario (story_of scenario commands)
-sorted_story scenario [] = record { begins = tt; sent = λ site. tt }
+-- what was asked stays asked over a line
+votes_stay : (past : CoordPast) (event : CoordEvent) (x : CoordHappening) (site : SiteId) (sent : List ToSite) → IsCoordStep past event x
+    → IsNextGo past event → Each (IsVoteAsked past site) sent → Each (IsVoteAsked (x ∷ past) site) sent
+votes_stay past event x site [] step next h = tt
+votes_stay past event x site (message ∷ sent) step next h = (by_message message h.0, votes_stay past event x site sent step next h.1)
+  where
+    by_message : (m : ToSite) → IsVoteAsked past site m → IsVoteAsked (x ∷ past) site m
+    by_message (To.Prepare tid e n) a = vote_stays past event x tid site e step next a
+    by_message (To.Work tid e n act) a = tt
+    by_message (To.Take tid e n) a = tt
+    by_message (To.Decide tid decision) a = tt
+
+-- and what a line asks of the site is asked
+new_votes : (past : CoordPast) (site : SiteId) (sends : List Sent) → AreBegun past → Each (IsAskedSend past) sends
+    → Each (IsVoteAsked past site) (map (λ sent. sent.message) (those (λ sent. same_site sent.site site) sends))
+new_votes past site [] begun h = tt
+new_votes past site (sent ∷ sends) begun h = by_test (same_site sent.site site) refl (new_votes past site sends begun h.1)
+  where
+    by_message : (m : ToSite) → IsAsked past site m → IsVoteAsked past site m
+    by_message (To.Prepare tid e n) a = record { done = a; begun = begun tid site a.visited }
+    by_message (To.Work tid e n act) a = tt
+    by_message (To.Take tid e n) a = tt
+    by_message (To.Decide tid decision) a = tt
+
+    by_test : (b : Bool) → same_site sent.site site ≡ b
+        → Each (IsVoteAsked past site) (map (λ s. s.message) (those (λ s. same_site s.site site) sends))
+        → Each (IsVoteAsked past site)
+        (map (λ s. s.message) (cond b (sent ∷ those (λ s. same_site s.site site) sends) (those (λ s. same_site s.site site) sends)))
+    by_test true is rest = (by_message sent.message (subst (λ s. IsAsked past s sent.message) (same-site sent.site site is) h.0), rest)
+    by_test false is rest = rest
+
+next_votes : (scenario : Scenario) (story : Story) (happened : Happened) (site : SiteId) → IsGood scenario story happened
+    → IsSortedStory scenario story → AreBegun (with_coordinator happened (coord_past story))
+    → Each (IsVoteAsked (with_coordinator happened (coord_past story)) site) (sent_to site story ++ sends_to site happened)
+next_votes scenario story (AtSite at x) site g s begun =
+    append_each (IsVoteAsked (coord_past story) site) (sent_to site story) [] (s.votes site) tt
+next_votes scenario story (AtCoordinator x) site g s begun =
+    append_each (IsVoteAsked (x ∷ coord_past story) site) (sent_to site story) (sends_to site (AtCoordinator x))
+    (votes_stay (coord_past story) g.sorted.1.event x site (sent_to site story) g.sorted.1.step g.sorted.1.next (s.votes site))
+    (new_votes (x ∷ coord_past story) site x.sends begun g.sorted.1.step.asked)
+next_votes scenario story (Nowhere answer) site g s begun =
+    append_each (IsVoteAsked (coord_past story) site) (sent_to site story) [] (s.votes site) tt
+
+next_begun : (scenario : Scenario) (story : Story) (happened : Happened) → IsGood scenario story happened → IsSortedStory scenario story
+    → AreBegun (with_coordinator happened (coord_past story))
+next_begun scenario story (AtSite at x) g s = s.begun
+next_begun scenario story (AtCoordinator x) g s =
+    begun_next (coord_past story) g.sorted.1.event x g.sorted.1.step g.sorted.1.next s.begun
+next_begun scenario story (Nowhere answer) g s = s.begun
+
+pub sorted_story : (scenario : Scenario) (commands : List Command) → IsSortedStory scenario (story_of scenario commands)
+sorted_story scenario [] = record { begins = tt; sent = λ site. tt; begun = λ tid site e. cc; votes = λ site. tt }
 sorted_story scenario (command ∷ commands) =
     let s = sorted_story scenario commands in
     let story = story_of scenario commands in
     let g = good_happens scenario story command s in
+    let begun = next_begun scenario story (happens scenario story command) g s in
     record {
       begins = next_begins scenario story (happens scenario story command) g s;
       sent = λ site. append_each (λ message. IsSorted (is_local scenario) (Site_event.Give message)) (sent_to site story)
           (sends_to site (happens scenario story command)) (s.sent site) (next_sends scenario story (happens scenario story command) site g);
+      begun = begun;
+      votes = λ site. next_votes scenario story (happens scenario story command) site g s begun;
     }
-
--- the past of a site with what happens next
-past_more : (scenario : Scenario) (home : Home) (story : Story) (happened : Happened) → home_of scenario home.site ≡ Some home
-    → IsGood scenario story happened → IsMadeSorted scenario home (past_of home.site story)
-    → IsMadeSorted scenario home (with_site home.site happened (past_of home.site story))
-past_more scenario home story (AtSite at x) declared g m = by_test (same_site at home.site) refl
-  where
-    by_test : (t : Bool) → same_site at home.site ≡ t
-        → IsMadeSorted scenario home (cond t (x ∷ past_of home.site story) (past_of home.site story))
-    by_test false q = m
-    by_test true q =
-        let (other, event, found, is, sorted) = g.sorted in
-        let same : at ≡ home.site = same-site at home.site q in
-        let one : other ≡ home = some-parts (sym found ∙ ap (home_of scenario) same ∙ declared) in
-        let line : x ≡ site_line home (past_of home.site story) event =
-        is ∙ ap (λ h. site_line h (past_of at story) event) one ∙ ap (λ s. site_line home (past_of s story) event) same in
-        record {
-          events = event ∷ m.events;
-          sorted = (sorted, m.sorted);
-          made = ap (λ y. y ∷ past_of home.site story) line ∙ ap (λ past. site_line home past event ∷ past) m.made;
-        }
-past_more scenario home story (AtCoordinator x) declared g m = m
-past_more scenario home story (Nowhere answer) declared g m = m
-
-made_sorted : (scenario : Scenario) (home : Home) (commands : List Command) → home_of scenario home.site ≡ Some home
-    → IsMadeSorted scenario home (past_of home.site (story_of scenario commands))
-made_sorted scenario home [] declared = record { events = []; sorted = tt; made = refl }
-made_sorted scenario home (command ∷ commands) declared =
-    past_more scenario home (story_of scenario commands) (happens scenario (story_of scenario commands) command) declared
-    (good_happens scenario (story_of scenario commands) command (sorted_story scenario commands)) (made_sorted scenario home commands declared)
-
--- in every story the events of a declared site are sorted
-pub events_sorted : EventsAreSorted
-events_sorted scenario commands site home declared = made_sorted scenario home commands (home_again scenario site home declared)

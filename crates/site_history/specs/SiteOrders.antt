@@ -14,8 +14,9 @@ use Rattle.fed_rules.specs.Runs.{Access, after}
 use Rattle.fed_rules.specs.SerialRuns.{ReadsAlone}
 use Rattle.fed_rules.specs.Site.{site_past}
 use Rattle.fed_rules.specs.SitePast.{SitePast, epoch_start, engine_lines, records}
-use Rattle.fed_rules.specs.SiteRecords.{Home, due_rows, installs, order_of, site_rows}
+use Rattle.fed_rules.specs.SiteRecords.{Home, due_rows, installs, order_of, site_rows, start_of}
 use Rattle.engine_laws.specs.Epochs.{Epoch, AreEpochs, first_rows}
+use Rattle.rules_laws.specs.Durable.{IsFrontOf}
 use Rattle.site_history.specs.Accesses.{acts_at}
 use Rattle.site_history.specs.Events.{AreSorted, PreparesOnce}
 use Rattle.site_history.specs.Records.{BindOnce, IsPrepared, TellOutcomes}
@@ -42,12 +43,13 @@ pub record IsSerialOrder (home : Home) (past : SitePast) (order : List Tid) (row
 abbrev pub settled_order : List SiteRecord → List Tid
 settled_order records = reverse (map (λ install. install.tid) (installs records))
 
--- the epochs of a site: each starts from what the stop before it left
+-- the epochs of a site: each starts from what the stop before it left, and whatever a stop may leave of the records makes a good start
 pub record HasEpochs (home : Home) (past : SitePast) : Type 0 where
   pub earlier : List Epoch
   pub epochs : AreEpochs (record { start = epoch_start home past; lines = engine_lines past }) earlier
   pub first : first_rows (record { start = epoch_start home past; lines = engine_lines past }) earlier ≡ home.items
   pub start : IsStart (epoch_start home past)
+  pub restart : (kept : List SiteRecord) → IsFrontOf (records home past) kept → IsStart (start_of home kept)
 
 -- no attempt is bound twice; the committed attempts are in a serial order, which gives the rows of the site; and so are they with all prepared
 -- ones whose outcome is commit, which give what the site is due
