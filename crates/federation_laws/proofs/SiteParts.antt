@@ -1,5 +1,5 @@
--- Each site by itself is serial, in the story of any commands: from the history of a site and what the coordinator asks of it.
-use Rattle.std.proofs.Common.{◌≡◌, ℕ, Bool, true, false, cond, Some, List, [], ◌∷◌, inl, inr, refl, sym, ap, subst, ◌∙◌, arith}
+-- Each site by itself is serial, in the story of any commands, in the words of this crate.
+use Rattle.std.proofs.Common.{◌≡◌, ℕ, Bool, true, false, cond, Some, List, [], ◌∷◌, inl, inr, refl, sym, ap, subst}
 use Rattle.mdb_base.specs.declared.names.Tid.{Tid}
 use Rattle.mdb_base.specs.Words.{Among}
 use Rattle.presumptions.specs.declared.Decision.{Decision}
@@ -7,62 +7,23 @@ use Rattle.presumptions.specs.declared.Decision.TheVariants as Decided
 use Rattle.order_laws.specs.Chains.{In}
 use Rattle.order_laws.proofs.Lists.{each_from}
 use Rattle.fed_rules.specs.declared.commands.Command.{Command}
-use Rattle.fed_rules.specs.declared.events.SiteEvent.{SiteEvent}
-use Rattle.fed_rules.specs.declared.events.SiteEvent.TheVariants as Ev
-use Rattle.fed_rules.specs.declared.messages.ToSite.TheVariants as To
 use Rattle.fed_rules.specs.declared.records.SiteRecord.{SiteRecord}
 use Rattle.fed_rules.specs.declared.records.SiteRecord.TheVariants as Rec
 use Rattle.fed_rules.specs.declared.scenario.Scenario.{Scenario}
 use Rattle.fed_rules.specs.CoordPast as Coordinator
 use Rattle.fed_rules.specs.CoordRecords.{outcome}
-use Rattle.fed_rules.specs.Disk.{empty_disk}
 use Rattle.fed_rules.specs.Orders.{is_committed, records_at, records_of, order_at, due_at, due_of}
 use Rattle.fed_rules.specs.Scenarios.{home_of}
-use Rattle.fed_rules.specs.Site.{site_past}
-use Rattle.fed_rules.specs.SitePast.{disk, records, set_up_calls}
-use Rattle.fed_rules.specs.SiteRecords.{Home, site_frame, order_of, due_rows}
+use Rattle.fed_rules.specs.SitePast.{records}
+use Rattle.fed_rules.specs.SiteRecords.{Home, order_of, due_rows}
 use Rattle.fed_rules.specs.Story.{Story, coord_past, past_of, story_of}
-use Rattle.rules_laws.specs.Durable.{IsFirm}
-use Rattle.commit_laws.specs.Records.{IsEnded, IsLooseEnded}
+use Rattle.commit_laws.specs.Records.{IsEnded}
 use Rattle.commit_laws.proofs.Agreed.{agreed}
-use Rattle.commit_laws.proofs.Disks.{firm-quiet}
-use Rattle.commit_laws.proofs.SiteLines.{site-lines}
-use Rattle.site_history.specs.Events.{AskInOneEpoch, PreparesOnce, PreparedOncePerEpoch}
 use Rattle.site_history.specs.Records as History
 use Rattle.site_history.specs.SiteOrders.{IsSerialOrder, IsSerialPast}
-use Rattle.site_history.specs.Stories.{EventsAreSorted, OfSitesPreparedOnce}
+use Rattle.site_history.specs.Stories.{OfSites}
 use Rattle.federation_laws.specs.SiteOrders.{IsPrepared, IsSiteSerial, SitesAreSerial}
 use Rattle.federation_laws.proofs.Told.{home-again}
-
--- each event of a past is that of one of its lines
-record Heard (home : Home) (events : List SiteEvent) : Type 0 where
-  firm : IsFirm site_frame (IsLooseEnded home.protocol) (disk home (site_past home events))
-  lines : (event : SiteEvent) → In event events → Among (λ x. x.event ≡ event) (site_past home events)
-
-heard : (home : Home) (any : Tid) (events : List SiteEvent) → Heard home events
-heard home any [] =
-    record {
-      firm = firm-quiet site_frame (IsLooseEnded home.protocol) empty_disk (set_up_calls home) (inr tt) (record { sound = record { frames = omega arith; synced = omega arith }; loose = tt });
-      lines = λ event i. absurd i;
-    }
-heard home any (event ∷ events) =
-    let before = heard home any events in
-    let line = site-lines home any (site_past home events) event before.firm in
-    record { firm = line.firm; lines = λ e i. elim i [ inl own ↦ inl (line.is ∙ own) | inr j ↦ inr (before.lines e j) ] }
-
--- all Prepares of an attempt that come name one epoch: the one in which the coordinator knows the site
-one-epoch : (scenario : Scenario) (commands : List Command) (home : Home) (events : List SiteEvent) → home_of scenario home.site ≡ Some home → past_of home.site (story_of scenario commands) ≡ site_past home events → AskInOneEpoch events
-one-epoch scenario commands home events declared made tid d e m n i j =
-    let a = agreed scenario home tid commands declared in
-    let known = λ (k : ℕ) (c : ℕ) (at : In (Ev.Give (To.Prepare tid k c)) events).
-    let line = subst (λ past. Among (λ x. x.event ≡ Ev.Give (To.Prepare tid k c)) past) (sym made) ((heard home tid events).lines (Ev.Give (To.Prepare tid k c)) at) in
-    (a.preparing k c (a.given (To.Prepare tid k c) line)).epoch in
-    known d m i ∙ sym (known e n j)
-
-prepares-once : EventsAreSorted → PreparedOncePerEpoch → (scenario : Scenario) (commands : List Command) (home : Home) → home_of scenario home.site ≡ Some home → PreparesOnce home (past_of home.site (story_of scenario commands))
-prepares-once sorted once scenario commands home declared =
-    let made = sorted scenario commands home.site home declared in
-    subst (PreparesOnce home) (sym made.made) (once home _ made.events made.sorted (one-epoch scenario commands home made.events declared made.made))
 
 -- each Ended record tells the outcome
 tells-outcomes : (scenario : Scenario) (commands : List Command) (home : Home) → home_of scenario home.site ≡ Some home → History.TellOutcomes (is_committed (story_of scenario commands)) (records home (past_of home.site (story_of scenario commands)))
@@ -121,8 +82,8 @@ serial-here scenario story home declared s =
     }
 
 -- so each declared site is serial
-pub sites-serial : OfSitesPreparedOnce IsSerialPast → EventsAreSorted → PreparedOncePerEpoch → (scenario : Scenario) (commands : List Command) → SitesAreSerial scenario (story_of scenario commands)
-sites-serial serial sorted once scenario commands site home declared =
+pub sites-serial : OfSites IsSerialPast → (scenario : Scenario) (commands : List Command) → SitesAreSerial scenario (story_of scenario commands)
+sites-serial serial scenario commands site home declared =
     let again = home-again scenario site home declared in
-    let past = serial scenario commands home.site home again (prepares-once sorted once scenario commands home again) in
+    let past = serial scenario commands home.site home again in
     serial-here scenario (story_of scenario commands) home again (past.due (is_committed (story_of scenario commands)) (tells-outcomes scenario commands home again))

@@ -8,18 +8,14 @@ use commit_laws::{
     attempts_are_forgotten_when_acknowledged, inquiries_in_doubt_are_answered_the_outcome,
     sites_settle_alike, sites_settle_the_outcome,
 };
-use site_history::{
-    events_are_sorted, sites_prepare_once, stories_have_right_lines, stories_have_serial_sites,
-};
+use site_history::{each_site_of_a_story_is_serial, stories_have_right_lines};
 
 /// Each site by itself: the members of its order, by their serial numbers and one after another, read alone what they were answered,
 /// their tickets rise, and they leave what the site is due.
 pub fn sites_are_serial_in_every_story()
     ensures { OfStories SitesAreSerial }
 {
-    stories_have_serial_sites();
-    events_are_sorted();
-    sites_prepare_once();
+    each_site_of_a_story_is_serial();
 }
 
 /// Where each site is serial by itself, the commits agree and the members follow their programs, the orders of all sites have no cycle
@@ -31,8 +27,9 @@ pub fn parts_make_one_order()
 /// The federation is serializable, after any commands, in the middle of a run too. The orders of all sites have no cycle together, so
 /// the printed order is a merge of them, the only one with the least attempt at each place; and running the programs one at a time in this
 /// order, or in any other merge, gives every read of every member, through registers that flow between sites, and what is due at each
-/// site. Of each transaction one attempt at most stands in the orders. No global attempt ends differently at two sites: each settles its outcome. It is forgotten exactly when its required
-/// acknowledgements are in, and an inquiry about it afterwards, from a site in doubt, is answered its outcome.
+/// site. Of each transaction one attempt at most stands in the orders. No global attempt ends differently at two sites: each settles its
+/// outcome. It is forgotten exactly when its required acknowledgements are in, and an inquiry about it afterwards, from a site in doubt,
+/// is answered its outcome.
 pub fn federation_is_serializable()
     ensures one_order { OfStories HasOneOrder }
     ensures once { OfStories OneAttemptEach }
