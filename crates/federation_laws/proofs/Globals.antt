@@ -143,6 +143,19 @@ prepared-visits scenario good commands home g ticket declared none commit p =
     each_at (IsOld g (program (coord_past story) g) (counted (coord_past story) g) home.site) (To.Prepare g s.e s.n) (sent_to home.site story) (a.asked.old (h.holds.committed commit).alive) s.asked refl in
     old.visited
 
+-- a committed attempt stands in the order of each site that its program visits
+pub visited-member : (scenario : Scenario) → IsScenario scenario → (commands : List Command) (site : SiteId) (g : Tid) → local_site scenario g.tx ≡ None → is_committed (story_of scenario commands) g ≡ true
+    → visits site (program (coord_past (story_of scenario commands)) g) ≡ true → In g (order_at scenario (story_of scenario commands) site)
+visited-member scenario good commands site g none commit v = by_home (home_of scenario site) refl
+  where
+    by_home : (o : Option Home) → home_of scenario site ≡ o → In g (order_at scenario (story_of scenario commands) site)
+    by_home None e = absurd (undeclared scenario.sites scenario.items site e (declared-program scenario good (story_of scenario commands) g (story-holds scenario good commands g) site v))
+    by_home (Some home) e =
+        let same = home_is-site scenario site home e in
+        let agreed = global-agreed scenario good commands home g (home-again scenario site home e) none commit (subst (λ z. visits z (program (coord_past (story_of scenario commands)) g) ≡ true) (sym same) v) in
+        let member = prepared-member (is_committed (story_of scenario commands)) (records_of scenario (story_of scenario commands) home.site) g agreed.ticket commit agreed.prepared in
+        subst (λ z. In g (order_at scenario (story_of scenario commands) z)) same member
+
 -- a committed global attempt follows its program
 pub global-program : (scenario : Scenario) → IsScenario scenario → (commands : List Command) (g : Tid) → local_site scenario g.tx ≡ None → is_committed (story_of scenario commands) g ≡ true
     → ((site : SiteId) (home : Home) → home_of scenario site ≡ Some home → In g (order_at scenario (story_of scenario commands) site) → has_sealed (past_of site (story_of scenario commands)) g ≡ true)
@@ -183,15 +196,8 @@ global-program scenario good commands g none commit sealed =
     elsewhere : (site : SiteId) → is_in same_tid (order_at scenario (story_of scenario commands) site) g ≡ false → at site (accesses (ops (coord_past (story_of scenario commands)) g)) ≡ []
     elsewhere site out = unvisited-none (program (coord_past (story_of scenario commands)) g) _ site ((story-holds scenario good commands g).holds.follows ((story-holds scenario good commands g).holds.committed commit).alive) (by_visit (visits site (program (coord_past (story_of scenario commands)) g)) refl)
       where
-        by_home : (o : Option Home) → home_of scenario site ≡ o → visits site (program (coord_past (story_of scenario commands)) g) ≡ true → ⊥
-        by_home None e v = undeclared scenario.sites scenario.items site e (declared-program scenario good (story_of scenario commands) g (story-holds scenario good commands g) site v)
-        by_home (Some home) e v =
-            let same = home_is-site scenario site home e in
-            let agreed = global-agreed scenario good commands home g (home-again scenario site home e) none commit (subst (λ z. visits z (program (coord_past (story_of scenario commands)) g) ≡ true) (sym same) v) in
-            let member = prepared-member (is_committed (story_of scenario commands)) (records_of scenario (story_of scenario commands) home.site) g agreed.ticket commit agreed.prepared in
-            let inside = in_is_true same_tid tells_tids (order_at scenario (story_of scenario commands) site) g (subst (λ z. In g (order_at scenario (story_of scenario commands) z)) same member) in
-            let clash = sym inside ∙ out in cc
-
         by_visit : (t : Bool) → visits site (program (coord_past (story_of scenario commands)) g) ≡ t → visits site (program (coord_past (story_of scenario commands)) g) ≡ false
-        by_visit true v = absurd (by_home (home_of scenario site) refl v)
+        by_visit true v =
+            let inside = in_is_true same_tid tells_tids (order_at scenario (story_of scenario commands) site) g (visited-member scenario good commands site g none commit v) in
+            absurd (let clash = sym inside ∙ out in cc)
         by_visit false v = v

@@ -24,6 +24,7 @@ pub mod OnceLocal
 pub mod OnceEach
 pub mod OneOrders
 pub mod Refuted
+pub mod Ordered
 pub mod ScenarioFacts
 pub mod SerialOrders
 pub mod SerialRuns

@@ -146,7 +146,28 @@ due-tid commits (Rec.Start s ∷ rs) tid epoch number ticket writes c (inr i) = 
 due-tid commits (Rec.Ended t decision ∷ rs) tid epoch number ticket writes c (inl e) = cc
 due-tid commits (Rec.Ended t decision ∷ rs) tid epoch number ticket writes c (inr i) = due-tid commits rs tid epoch number ticket writes c i
 
--- who is prepared and commits is a member
+due-local : (commits : Tid → Bool) (rs : List SiteRecord) (tid : Tid) (number : ℕ) (writes : List Put) → In (Rec.Local tid number writes) rs → In tid (map (λ install. install.tid) (due_installs commits rs))
+due-local commits [] tid number writes i = absurd i
+due-local commits (Rec.Local t n w ∷ rs) tid number writes (inl e) = tid-inserted above (record { tid = t; number = n; writes = w }) (due_installs commits rs) tid (inl (let own : t ≡ tid = cc in own))
+due-local commits (Rec.Local t n w ∷ rs) tid number writes (inr i) = tid-inserted above (record { tid = t; number = n; writes = w }) (due_installs commits rs) tid (inr (due-local commits rs tid number writes i))
+due-local commits (Rec.Prepared t p n k w ∷ rs) tid number writes (inl e) = cc
+due-local commits (Rec.Prepared t p n k w ∷ rs) tid number writes (inr i) = later (commits t) (due-local commits rs tid number writes i)
+  where
+    later : (b : Bool) → In tid (map (λ install. install.tid) (due_installs commits rs)) → In tid (map (λ install. install.tid) (cond b (by_number (record { tid = t; number = n; writes = w }) (due_installs commits rs)) (due_installs commits rs)))
+    later true j = tid-inserted above (record { tid = t; number = n; writes = w }) (due_installs commits rs) tid (inr j)
+    later false j = j
+due-local commits (Rec.Setup site engine protocol items ∷ rs) tid number writes (inl e) = cc
+due-local commits (Rec.Setup site engine protocol items ∷ rs) tid number writes (inr i) = due-local commits rs tid number writes i
+due-local commits (Rec.Start s ∷ rs) tid number writes (inl e) = cc
+due-local commits (Rec.Start s ∷ rs) tid number writes (inr i) = due-local commits rs tid number writes i
+due-local commits (Rec.Ended t decision ∷ rs) tid number writes (inl e) = cc
+due-local commits (Rec.Ended t decision ∷ rs) tid number writes (inr i) = due-local commits rs tid number writes i
+
+-- who has a Local record is a member
+pub local-member : (commits : Tid → Bool) (rs : List SiteRecord) (tid : Tid) (number : ℕ) (writes : List Put) → In (Rec.Local tid number writes) rs → In tid (order_of commits rs)
+local-member commits rs tid number writes i = reverse-in tid (map (λ install. install.tid) (due_installs commits rs)) (due-local commits rs tid number writes i)
+
+-- and who is prepared and commits
 pub prepared-member : (commits : Tid → Bool) (rs : List SiteRecord) (tid : Tid) (ticket : ℕ) → commits tid ≡ true → IsPrepared rs tid ticket → In tid (order_of commits rs)
 prepared-member commits rs tid ticket c p =
     reverse-in tid (map (λ install. install.tid) (due_installs commits rs)) (due-tid commits rs tid p.epoch p.number ticket p.writes c p.kept)

@@ -1,16 +1,20 @@
 -- One order for all sites, and what running programs in that order gives.
-use Rattle.std.specs.Prelude.{◌≡◌, List, []}
+use Rattle.std.specs.Prelude.{◌≡◌, ℕ, true, List, []}
+use Rattle.mdb_base.specs.declared.acts.Step.{Step}
 use Rattle.mdb_base.specs.declared.names.SiteId.{SiteId}
 use Rattle.mdb_base.specs.declared.names.Tid.{Tid}
+use Rattle.mdb_base.specs.declared.rows.Put.{Put}
 use Rattle.mdb_base.specs.Names.{tid_before}
 use Rattle.order_laws.specs.Chains.{Acyclic, In}
 use Rattle.order_laws.specs.Merge.{IsLeastOrder}
 use Rattle.order_laws.specs.Orders.{Union}
 use Rattle.fed_rules.specs.declared.commands.Command.{Command}
+use Rattle.fed_rules.specs.declared.records.SiteRecord.TheVariants.{Local}
 use Rattle.fed_rules.specs.declared.scenario.Scenario.{Scenario}
-use Rattle.fed_rules.specs.Orders.{order_at, orders, IsMerge, IsSerial}
+use Rattle.fed_rules.specs.Orders.{is_committed, records_of, order_at, orders, IsMerge, IsSerial}
 use Rattle.fed_rules.specs.Plans.{IsScenario}
 use Rattle.fed_rules.specs.Reports.{printed_order}
+use Rattle.fed_rules.specs.Scenarios.{program_of}
 use Rattle.fed_rules.specs.Story.{Story, story_of}
 use Rattle.federation_laws.specs.Parts.{CommitsAgree, MembersFollowPrograms}
 use Rattle.federation_laws.specs.SiteOrders.{SitesAreSerial}
@@ -41,6 +45,14 @@ abbrev pub OneAttemptEach : Scenario → Story → Type 0
 OneAttemptEach scenario story =
     (site other : SiteId) (a b : Tid) → In a (order_at scenario story site) → In b (order_at scenario story other)
     → a.tx ≡ b.tx → a ≡ b
+
+-- whatever is committed stands in the orders: a local attempt that has a kept Local record in that of the site, and a global one whose
+-- outcome is commit in that of each site at which its program has a step
+pub record AllAreOrdered (scenario : Scenario) (story : Story) : Type 0 where
+  pub locals : (site : SiteId) (tid : Tid) (number : ℕ) (writes : List Put) → In (Local tid number writes) (records_of scenario story site)
+      → In tid (order_at scenario story site)
+  pub globals : (tid : Tid) → is_committed story tid ≡ true → (step : Step) → In step (program_of scenario tid.tx)
+      → In tid (order_at scenario story step.site)
 
 -- the fact holds of the story of any commands of every scenario
 abbrev pub OfStories : (Scenario → Story → Type 0) → Type 0

@@ -1,7 +1,7 @@
 //! One order for all sites.
 ghost use Rattle.commit_laws.specs.Forgetting.{ForgottenAreAcknowledged, ForgottenWhenNoneIsMissing, InquiriesAreAnsweredTheOutcome, KnownWhileMissing};
 ghost use Rattle.commit_laws.specs.Outcomes.{SettlesSayTheOutcome, SitesAgree};
-ghost use Rattle.federation_laws.specs.OneOrder.{HasOneOrder, OfStories, OneAttemptEach, PartsMakeOneOrder};
+ghost use Rattle.federation_laws.specs.OneOrder.{AllAreOrdered, HasOneOrder, OfStories, OneAttemptEach, PartsMakeOneOrder};
 ghost use Rattle.federation_laws.specs.SiteOrders.{SitesAreSerial};
 
 use commit_laws::{
@@ -27,11 +27,12 @@ pub fn parts_make_one_order()
 /// The federation is serializable, after any commands, in the middle of a run too. The orders of all sites have no cycle together, so
 /// the printed order is a merge of them, the only one with the least attempt at each place; and running the programs one at a time in this
 /// order, or in any other merge, gives every read of every member, through registers that flow between sites, and what is due at each
-/// site. Of each transaction one attempt at most stands in the orders. No global attempt ends differently at two sites: each settles its
-/// outcome. It is forgotten exactly when its required acknowledgements are in, and an inquiry about it afterwards, from a site in doubt,
-/// is answered its outcome.
+/// site. Every committed attempt stands in the orders, a global one in that of each site of its program, and of each transaction one
+/// attempt at most. No global attempt ends differently at two sites: each settles its outcome. It is forgotten exactly when its required
+/// acknowledgements are in, and an inquiry about it afterwards, from a site in doubt, is answered its outcome.
 pub fn federation_is_serializable()
     ensures one_order { OfStories HasOneOrder }
+    ensures all { OfStories AllAreOrdered }
     ensures once { OfStories OneAttemptEach }
     ensures outcome { SettlesSayTheOutcome }
     ensures alike { SitesAgree }

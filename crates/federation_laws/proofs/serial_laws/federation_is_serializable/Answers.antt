@@ -1,6 +1,7 @@
 use Rattle.federation_laws.proofs.Memberships.{commits-agree, members-follow}
 use Rattle.federation_laws.proofs.OnceEach.{one-attempt}
 use Rattle.federation_laws.proofs.OneOrders.{one-order}
+use Rattle.federation_laws.proofs.Ordered.{all-ordered}
 use Rattle.federation_laws.proofs.serial_laws.federation_is_serializable.Goals as goal
 
 pub returns-clause-one_order : goal.returns-clause-one_order
@@ -11,6 +12,9 @@ returns-clause-one_order c = λ scenario good commands.
       commits = commits-agree scenario good commands;
       programs = members-follow scenario good commands;
     })
+
+pub returns-clause-all : goal.returns-clause-all
+returns-clause-all c = all-ordered
 
 pub returns-clause-once : goal.returns-clause-once
 returns-clause-once c = one-attempt c.stories_have_right_lines.ensures
