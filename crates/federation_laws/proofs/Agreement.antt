@@ -20,8 +20,9 @@ use Rattle.fed_rules.specs.SitePast.{SiteHappening, SitePast, records, epoch, li
 use Rattle.fed_rules.specs.SiteRecords.{Home}
 use Rattle.commit_laws.specs.Records.{IsLooseEnded}
 use Rattle.commit_laws.proofs.SiteLines.{Kept, Line}
-use Rattle.federation_laws.specs.Accesses.{seals, acts_of, act_of, acts_at}
-use Rattle.federation_laws.specs.SiteOrders.{IsPrepared}
+use Rattle.site_history.specs.Accesses.{seals, acts_of, acts_at}
+use Rattle.federation_laws.specs.Accesses.{act_of}
+use Rattle.site_history.specs.Records.{IsPrepared}
 use Rattle.federation_laws.proofs.Asked.{IsAskedVote, IsOld, Asked}
 use Rattle.federation_laws.proofs.CoordHolds.{Holds}
 use Rattle.federation_laws.proofs.CoordOps.{ops, ops_at, granted, Matches, agree-count}

@@ -21,9 +21,10 @@ use Rattle.fed_rules.specs.Scenarios.{home_of, home_at, local_site, program_of}
 use Rattle.fed_rules.specs.SitePast.{records}
 use Rattle.fed_rules.specs.SiteRecords.{Home}
 use Rattle.fed_rules.specs.Story.{Story, coord_past, past_of, sent_from, sent_to, story_of}
-use Rattle.federation_laws.specs.Accesses.{SiteAccess, at, Follows, Ran, acts_at}
+use Rattle.site_history.specs.Accesses.{acts_at}
+use Rattle.federation_laws.specs.Accesses.{SiteAccess, at, Follows, Ran}
 use Rattle.federation_laws.specs.Parts.{IsAgreed, IsByProgram}
-use Rattle.federation_laws.specs.SiteOrders.{IsPrepared}
+use Rattle.site_history.specs.Records.{IsPrepared}
 use Rattle.federation_laws.proofs.Agreement.{IsSaid, has_sealed}
 use Rattle.federation_laws.proofs.Asked.{IsOld, IsAskedVote}
 use Rattle.federation_laws.proofs.CommitOnce.{commit-node, votes-sent}

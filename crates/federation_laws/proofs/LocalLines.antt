@@ -18,7 +18,7 @@ use Rattle.fed_rules.specs.SitePast.{SiteHappening, SitePast, disk, trip}
 use Rattle.fed_rules.specs.SiteRecords.{Home, site_frame}
 use Rattle.commit_laws.proofs.SiteEnds.{by-answered}
 use Rattle.commit_laws.proofs.SiteShut.{restored-sealed}
-use Rattle.federation_laws.specs.Accesses.{seals}
+use Rattle.site_history.specs.Accesses.{seals}
 use Rattle.federation_laws.proofs.Asked.{IsOf}
 use Rattle.federation_laws.proofs.LocalMoves.{LocalMove, Rests, Gone, Opening, Granting, Closing, Made, made_when, other-made, plain-made, begin-made, act-made, commit-made, abort-made, decide-made, ask-made, drop-made, fate-made, back-made}
 use Rattle.federation_laws.proofs.SiteAbout.{begin_about, act_about, commit_about, abort_about, work_about, take_about, prepare_about, decide_about, drop_about}

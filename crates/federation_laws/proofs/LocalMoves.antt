@@ -28,7 +28,8 @@ use Rattle.fed_rules.specs.SitePast.{SiteHappening, SitePast, disk, epoch, epoch
 use Rattle.fed_rules.specs.SiteRecords.{Home, site_frame, local_of}
 use Rattle.fed_rules.specs.Story.{value_of}
 use Rattle.commit_laws.proofs.SiteShut.{restored-sealed, given-up}
-use Rattle.federation_laws.specs.Accesses.{seals, act_of}
+use Rattle.site_history.specs.Accesses.{seals}
+use Rattle.federation_laws.specs.Accesses.{act_of}
 use Rattle.federation_laws.proofs.SiteAbout.{IsAbout, act-plain}
 use Rattle.federation_laws.proofs.SiteMoves.{Fits, access-fits, others-run, live-next, live-run, unsealed-live}
 use Rattle.federation_laws.proofs.SiteSteps.{no-seals, own-line, settled-none}

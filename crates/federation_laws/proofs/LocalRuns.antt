@@ -18,7 +18,8 @@ use Rattle.fed_rules.specs.Site.{done}
 use Rattle.fed_rules.specs.SitePast.{SiteHappening, SitePast, live, begins_tx, attempts_of}
 use Rattle.fed_rules.specs.SiteRecords.{Home}
 use Rattle.fed_rules.specs.Story.{value_of, run_reads}
-use Rattle.federation_laws.specs.Accesses.{SiteAccess, at, reads_in, IsStep, Follows, Ran, acts_of, acts_at, seals}
+use Rattle.site_history.specs.Accesses.{acts_of, acts_at, seals}
+use Rattle.federation_laws.specs.Accesses.{SiteAccess, at, reads_in, IsStep, Follows, Ran}
 use Rattle.federation_laws.proofs.Agreement.{has_sealed}
 use Rattle.federation_laws.proofs.Globals.{follows-below}
 use Rattle.federation_laws.proofs.LocalMoves.{Idle, Opens, Grants, Closes, LocalMove, Rests, Gone, Opening, Granting, Closing}

@@ -11,8 +11,8 @@ use Rattle.fed_rules.specs.declared.records.SiteRecord.TheVariants as Rec
 use Rattle.fed_rules.specs.Disk.{Disk, Call, Append, Sync, CutBack, Stops, bytes_of, whole, after_calls}
 use Rattle.fed_rules.specs.SitePast.{SitePast, disk, records}
 use Rattle.fed_rules.specs.SiteRecords.{Home, Install, site_frame, by_number, due_installs, order_of}
-use Rattle.federation_laws.specs.Accesses.{seals}
-use Rattle.federation_laws.specs.SiteOrders.{IsPrepared}
+use Rattle.site_history.specs.Accesses.{seals}
+use Rattle.site_history.specs.Records.{IsPrepared}
 use Rattle.federation_laws.proofs.Agreement.{has_sealed}
 
 -- a Local record of the attempt is kept

@@ -15,9 +15,10 @@ use Rattle.fed_rules.specs.Scenarios.{home_of, home_at, local_site, local_home}
 use Rattle.fed_rules.specs.SitePast.{records}
 use Rattle.fed_rules.specs.SiteRecords.{Home}
 use Rattle.fed_rules.specs.Story.{past_of, story_of}
-use Rattle.federation_laws.specs.Accesses.{at, acts_at}
+use Rattle.site_history.specs.Accesses.{acts_at}
+use Rattle.federation_laws.specs.Accesses.{at}
 use Rattle.federation_laws.specs.Parts.{IsAgreed, CommitsAgree, IsByProgram, MembersFollowPrograms}
-use Rattle.federation_laws.specs.SiteOrders.{IsPrepared}
+use Rattle.site_history.specs.Records.{IsPrepared}
 use Rattle.federation_laws.proofs.Agreement.{has_sealed}
 use Rattle.federation_laws.proofs.CommitOnce.{one-commit}
 use Rattle.federation_laws.proofs.Declared.{member-declared}

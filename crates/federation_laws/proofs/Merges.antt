@@ -25,7 +25,8 @@ use Rattle.fed_rules.specs.SiteRecords.{Home}
 use Rattle.fed_rules.specs.Story.{Story}
 use Rattle.federation_laws.specs.Edges.{committed, HasEdge}
 use Rattle.federation_laws.specs.Parts.{CommitsAgree}
-use Rattle.federation_laws.specs.SiteOrders.{IsPrepared, SitesAreSerial}
+use Rattle.site_history.specs.Records.{IsPrepared}
+use Rattle.federation_laws.specs.SiteOrders.{SitesAreSerial}
 use Rattle.federation_laws.proofs.Declared.{order-of, nobody-there, member-declared}
 use Rattle.federation_laws.proofs.Told.{home_is-site}
 

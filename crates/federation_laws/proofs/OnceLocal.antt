@@ -25,7 +25,7 @@ use Rattle.fed_rules.specs.SiteRecords.{Home, local_of}
 use Rattle.fed_rules.specs.Story.{Happened, AtSite, AtCoordinator, Nowhere, past_of, with_site, story_of}
 use Rattle.engine_laws.proofs.Runs.{tid_is, each_unended}
 use Rattle.site_history.specs.Stories.{StoriesHaveRightLines}
-use Rattle.federation_laws.specs.Accesses.{seals}
+use Rattle.site_history.specs.Accesses.{seals}
 use Rattle.federation_laws.proofs.LocalLines.{local-made}
 use Rattle.federation_laws.proofs.LocalMoves.{Opens, LocalMove, Rests, Gone, Opening, Granting, Closing, Made}
 use Rattle.federation_laws.proofs.LocalStories.{not-asked}

@@ -11,7 +11,7 @@ use Rattle.fed_rules.specs.Serial as Machine
 use Rattle.fed_rules.specs.Serial.{Tables, alone, serial_reads, serial_tables}
 use Rattle.fed_rules.specs.SerialRuns.{ReadsAlone}
 use Rattle.federation_laws.specs.Accesses.{SiteAccess, at, reads_in, Ran}
-use Rattle.federation_laws.specs.SiteOrders.{SiteSerial, table_after}
+use Rattle.site_history.specs.SiteOrders.{SiteSerial, table_after}
 use Rattle.federation_laws.proofs.SerialRuns.{left_by, program-alone, left-at, gives-reads}
 
 -- what one member did: its program's accesses with the values that it read, at each site where it is a member what it did there, and

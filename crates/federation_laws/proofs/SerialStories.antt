@@ -17,9 +17,9 @@ use Rattle.fed_rules.specs.Runs.{Access}
 use Rattle.fed_rules.specs.Scenarios.{home_of, program_of}
 use Rattle.fed_rules.specs.SiteRecords.{Home}
 use Rattle.fed_rules.specs.Story.{Story, past_of}
-use Rattle.federation_laws.specs.Accesses.{acts_at}
+use Rattle.site_history.specs.Accesses.{acts_at}
 use Rattle.federation_laws.specs.OneOrder.{Parts}
-use Rattle.federation_laws.specs.SiteOrders.{SiteSerial, table_after}
+use Rattle.site_history.specs.SiteOrders.{SiteSerial, table_after}
 use Rattle.federation_laws.proofs.Declared.{home_is-items, order-in, order-of, nobody-there, member-declared}
 use Rattle.federation_laws.proofs.SerialOrders.{Did, serial-gives}
 use Rattle.federation_laws.proofs.Told.{home_is-site}

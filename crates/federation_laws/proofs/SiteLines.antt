@@ -19,7 +19,7 @@ use Rattle.fed_rules.specs.SitePast.{SiteHappening, SitePast, disk, epoch, trip}
 use Rattle.fed_rules.specs.SiteRecords.{Home, site_frame}
 use Rattle.commit_laws.proofs.SiteEnds.{by-answered}
 use Rattle.commit_laws.proofs.SiteShut.{restored-sealed}
-use Rattle.federation_laws.specs.Accesses.{seals}
+use Rattle.site_history.specs.Accesses.{seals}
 use Rattle.federation_laws.proofs.SiteAbout.{begin_about, act_about, commit_about, abort_about, work_about, take_about, prepare_about, decide_about, drop_about}
 use Rattle.federation_laws.proofs.SiteMoves.{Ending, IsSealing, Moves}
 use Rattle.federation_laws.proofs.SiteOperations.{moves_when, moves_pick, work_moves, take_moves}

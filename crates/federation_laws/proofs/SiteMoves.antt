@@ -21,8 +21,9 @@ use Rattle.fed_rules.specs.Runs.{Start, EngineLine, Access, Run, has_ticket, tid
 use Rattle.fed_rules.specs.Site.{done, is_over}
 use Rattle.fed_rules.specs.SitePast.{SiteHappening, SitePast, records, epoch, epoch_start, engine_lines, live, live_one}
 use Rattle.fed_rules.specs.SiteRecords.{Home, start_of}
-use Rattle.federation_laws.specs.Accesses.{seals, act_of}
-use Rattle.federation_laws.specs.SiteOrders.{IsPrepared}
+use Rattle.site_history.specs.Accesses.{seals}
+use Rattle.federation_laws.specs.Accesses.{act_of}
+use Rattle.site_history.specs.Records.{IsPrepared}
 use Rattle.federation_laws.proofs.CoordOps.{Matches}
 
 -- the finished operations of a run, the last one first; nothing is done behind the taking of the ticket

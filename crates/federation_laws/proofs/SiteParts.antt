@@ -1,5 +1,5 @@
 -- Each site by itself is serial, in the story of any commands, in the words of this crate.
-use Rattle.std.proofs.Common.{◌≡◌, ℕ, Bool, true, false, cond, Some, List, [], ◌∷◌, inl, inr, refl, sym, ap, subst}
+use Rattle.std.proofs.Common.{◌≡◌, Bool, true, false, cond, Some, List, [], ◌∷◌, inl, inr, refl, sym, ap, subst}
 use Rattle.mdb_base.specs.declared.names.Tid.{Tid}
 use Rattle.mdb_base.specs.Words.{Among}
 use Rattle.presumptions.specs.declared.Decision.{Decision}
@@ -22,7 +22,8 @@ use Rattle.commit_laws.proofs.Agreed.{agreed}
 use Rattle.site_history.specs.Records as History
 use Rattle.site_history.specs.SiteOrders.{IsSerialOrder, IsSerialPast}
 use Rattle.site_history.specs.Stories.{OfSites}
-use Rattle.federation_laws.specs.SiteOrders.{IsPrepared, IsSiteSerial, SitesAreSerial}
+use Rattle.site_history.specs.Records.{IsPrepared}
+use Rattle.federation_laws.specs.SiteOrders.{IsSiteSerial, SitesAreSerial}
 use Rattle.federation_laws.proofs.Told.{home-again}
 
 -- each Ended record tells the outcome
@@ -60,9 +61,6 @@ records-are scenario story home declared = ap (λ o. records_at o story) declare
 due-are : (scenario : Scenario) (story : Story) (home : Home) → home_of scenario home.site ≡ Some home → due_of scenario story home.site ≡ due_rows (is_committed story) home (records home (past_of home.site story))
 due-are scenario story home declared = ap (λ o. due_at o story) declared
 
-prepared-there : (rs : List SiteRecord) (tid : Tid) (ticket : ℕ) → IsPrepared rs tid ticket → History.IsPrepared rs tid ticket
-prepared-there rs tid ticket p = record { epoch = p.epoch; number = p.number; writes = p.writes; kept = p.kept }
-
 serial-here : (scenario : Scenario) (story : Story) (home : Home) → home_of scenario home.site ≡ Some home → IsSerialOrder home (past_of home.site story) (order_of (is_committed story) (records home (past_of home.site story))) (due_rows (is_committed story) home (records home (past_of home.site story))) → IsSiteSerial scenario story home
 serial-here scenario story home declared s =
     let kept = records-are scenario story home declared in
@@ -75,8 +73,8 @@ serial-here scenario story home declared s =
       distinct = t.distinct;
       rising = λ a b j k before p q.
           t.rising a b j k before
-          (prepared-there (records home (past_of home.site story)) a j (subst (λ rs. IsPrepared rs a j) kept p))
-          (prepared-there (records home (past_of home.site story)) b k (subst (λ rs. IsPrepared rs b k) kept q));
+          (subst (λ rs. IsPrepared rs a j) kept p)
+          (subst (λ rs. IsPrepared rs b k) kept q);
       alone = t.alone;
       left = t.left;
     }

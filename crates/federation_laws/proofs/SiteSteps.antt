@@ -24,8 +24,8 @@ use Rattle.fed_rules.specs.Site.{votes_again, votes_no, votes_yes, seals_global,
 use Rattle.fed_rules.specs.SitePast.{SiteHappening, SitePast, disk, records, epoch, epoch_start, engine_lines, run_of, live, live_one, ends, is_closed}
 use Rattle.fed_rules.specs.SiteRecords.{Home, Held, site_frame, epoch_of, doubt_of}
 use Rattle.commit_laws.proofs.SiteShut.{given-up}
-use Rattle.federation_laws.specs.Accesses.{seals}
-use Rattle.federation_laws.specs.SiteOrders.{IsPrepared}
+use Rattle.site_history.specs.Accesses.{seals}
+use Rattle.site_history.specs.Records.{IsPrepared}
 use Rattle.federation_laws.proofs.SiteAbout.{Speaks, SealsOnly, IsAbout, sync-records}
 use Rattle.federation_laws.proofs.SiteMoves.{Same, Ending, Says, IsSealing, Moves, others-run, live-next, live-run}
 use Rattle.federation_laws.proofs.SiteOperations.{moves_when, moves_pick}

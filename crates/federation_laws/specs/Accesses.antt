@@ -1,37 +1,15 @@
--- The accesses of an attempt: at a site those of its run when its record was appended, and over all sites those of its program.
--- Accesses stand newest first.
-use Rattle.std.specs.Prelude.{ℕ, ◌≡◌, Bool, false, cond, Option, Some, None, List, [], ◌∷◌, length}
+-- The accesses of an attempt over all sites, newest first, and those of its program.
+use Rattle.std.specs.Prelude.{ℕ, ◌≡◌, cond, Some, List, [], ◌∷◌, length}
 use Rattle.mdb_base.specs.declared.acts.PlainAct.{PlainAct}
 use Rattle.mdb_base.specs.declared.acts.PlainAct.TheVariants.{Read, Write}
 use Rattle.mdb_base.specs.declared.acts.Step.{Step}
 use Rattle.mdb_base.specs.declared.names.SiteId.{SiteId}
-use Rattle.mdb_base.specs.declared.names.Tid.{Tid}
-use Rattle.mdb_base.specs.Names.{same_site, same_tid}
+use Rattle.mdb_base.specs.Names.{same_site}
 use Rattle.mdb_base.specs.Programs.{plain_act}
-use Rattle.mdb_base.specs.Words.{some_of, found, item_at}
-use Rattle.fed_rules.specs.declared.records.SiteRecord.{SiteRecord}
-use Rattle.fed_rules.specs.declared.records.SiteRecord.TheVariants.{Prepared, Local}
+use Rattle.mdb_base.specs.Words.{found, item_at}
 use Rattle.fed_rules.specs.CoordPast.{oldest_first}
-use Rattle.fed_rules.specs.Disk.{Call, Append}
-use Rattle.fed_rules.specs.Runs.{Access, Got, Wrote, Run}
-use Rattle.fed_rules.specs.SitePast.{SitePast, live}
-use Rattle.fed_rules.specs.SiteRecords.{Home}
+use Rattle.fed_rules.specs.Runs.{Access, Got, Wrote}
 use Rattle.fed_rules.specs.Story.{value_of}
-
--- whether the call appends a record by which the attempt commits, or is prepared to
-abbrev pub seals : Tid → Call SiteRecord → Bool
-seals tid (Append (Prepared prepared epoch number ticket writes)) = same_tid prepared tid
-seals tid (Append (Local done number writes)) = same_tid done tid
-seals tid call = false
-
-abbrev pub acts_of : Option Run → List Access
-acts_of None = []
-acts_of (Some run) = run.acts
-
--- the granted accesses of an attempt at a site: those of its live run at the line that appended its record, the last such line
-abbrev pub acts_at : Home → SitePast → Tid → List Access
-acts_at home [] tid = []
-acts_at home (x ∷ past) tid = cond (some_of (seals tid) x.calls) (acts_of (live home past tid)) (acts_at home past tid)
 
 -- an access at a site
 pub record SiteAccess : Type 0 where

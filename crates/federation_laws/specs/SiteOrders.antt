@@ -1,39 +1,19 @@
 -- What the order of each site means for that site alone.
-use Rattle.std.specs.Prelude.{ℕ, ◌≡◌, ◌<◌, Some, List, [], ◌∷◌}
+use Rattle.std.specs.Prelude.{ℕ, ◌≡◌, ◌<◌, Some}
 use Rattle.mdb_base.specs.declared.names.Key.{Key}
 use Rattle.mdb_base.specs.declared.names.SiteId.{SiteId}
 use Rattle.mdb_base.specs.declared.names.Tid.{Tid}
-use Rattle.mdb_base.specs.declared.rows.Put.{Put}
-use Rattle.mdb_base.specs.Rows.{Table, look_up}
-use Rattle.order_laws.specs.Chains.{In, Distinct}
+use Rattle.mdb_base.specs.Rows.{look_up}
+use Rattle.order_laws.specs.Chains.{Distinct}
 use Rattle.order_laws.specs.Orders.{Before}
-use Rattle.fed_rules.specs.declared.records.SiteRecord.{SiteRecord}
-use Rattle.fed_rules.specs.declared.records.SiteRecord.TheVariants.{Prepared}
 use Rattle.fed_rules.specs.declared.scenario.Scenario.{Scenario}
 use Rattle.fed_rules.specs.Orders.{order_at, records_of, due_of}
-use Rattle.fed_rules.specs.Runs.{Access, after}
 use Rattle.fed_rules.specs.Scenarios.{home_of}
-use Rattle.fed_rules.specs.SerialRuns.{ReadsAlone}
 use Rattle.fed_rules.specs.SiteRecords.{Home}
 use Rattle.fed_rules.specs.Story.{Story, past_of}
-use Rattle.federation_laws.specs.Accesses.{acts_at}
-
--- one after another, from this table on, each of these attempts reads alone what it was answered
-abbrev pub SiteSerial : (Tid → List Access) → Table → List Tid → Type 0
-SiteSerial acts table [] = Unit {0}
-SiteSerial acts table (tid ∷ tids) = ReadsAlone (acts tid) table × SiteSerial acts (after (acts tid) table) tids
-
--- the table that they leave
-abbrev pub table_after : (Tid → List Access) → Table → List Tid → Table
-table_after acts table [] = table
-table_after acts table (tid ∷ tids) = table_after acts (after (acts tid) table) tids
-
--- a Prepared record of the attempt is kept, with this ticket
-pub record IsPrepared (records : List SiteRecord) (tid : Tid) (ticket : ℕ) : Type 0 where
-  pub epoch : ℕ
-  pub number : ℕ
-  pub writes : List Put
-  pub kept : In (Prepared tid epoch number ticket writes) records
+use Rattle.site_history.specs.Accesses.{acts_at}
+use Rattle.site_history.specs.Records.{IsPrepared}
+use Rattle.site_history.specs.SiteOrders.{SiteSerial, table_after}
 
 -- the members of a site's order are named once; the tickets of prepared ones rise; one after another, from the first rows on, the members
 -- read alone what they were answered; and they leave what the site is due
