@@ -1,6 +1,6 @@
 -- The orders of all sites have no cycle together: between two global members of a site's order leads a ticket edge, and ticket edges have
 -- no cycle. So there is one order for all sites.
-use Rattle.std.proofs.Common.{◌≡◌, Bool, true, false, cond, Option, Some, None, List, [], ◌∷◌, refl, sym, ◌∙◌, subst, inl, inr}
+use Rattle.std.proofs.Common.{◌≡◌, Bool, true, false, cond, Option, Some, None, List, [], ◌∷◌, refl, sym, ap, ◌∙◌, subst, inl, inr}
 use Rattle.mdb_base.specs.declared.names.SiteId.{SiteId}
 use Rattle.mdb_base.specs.declared.names.Tid.{Tid}
 use Rattle.mdb_base.specs.Names.{same_tid, tid_before}
@@ -18,17 +18,18 @@ use Rattle.order_laws.proofs.Orders.{before_in}
 use Rattle.order_laws.proofs.Placed.{least_merge_placed, least_order_left}
 use Rattle.order_laws.proofs.Sites.{sites_acyclic}
 use Rattle.fed_rules.specs.declared.scenario.Scenario.{Scenario}
-use Rattle.fed_rules.specs.Orders.{records_of, order_at, orders, IsMerge}
+use Rattle.fed_rules.specs.Orders.{records_at, records_of, order_at, orders, IsMerge}
 use Rattle.fed_rules.specs.Reports.{printed_order}
 use Rattle.fed_rules.specs.Scenarios.{home_of, local_site}
+use Rattle.fed_rules.specs.SitePast.{records}
 use Rattle.fed_rules.specs.SiteRecords.{Home}
-use Rattle.fed_rules.specs.Story.{Story}
+use Rattle.fed_rules.specs.Story.{Story, past_of}
 use Rattle.federation_laws.specs.Edges.{committed, HasEdge}
 use Rattle.federation_laws.specs.Parts.{CommitsAgree}
 use Rattle.site_history.specs.Records.{IsPrepared}
 use Rattle.federation_laws.specs.SiteOrders.{SitesAreSerial}
 use Rattle.federation_laws.proofs.Declared.{order-of, nobody-there, member-declared}
-use Rattle.federation_laws.proofs.Told.{home_is-site}
+use Rattle.federation_laws.proofs.Told.{home-again, home_is-site}
 
 -- an edge between the Commit records of two attempts
 pub record Edge (story : Story) (a b : Tid) : Type 0 where
@@ -80,10 +81,12 @@ agrees scenario story sites commits s a b before ga gb =
     let second = commits.global s b members.1 gb in
     let (home, declared) = member-declared scenario story s a members.0 in
     let same : home.site ≡ s = home_is-site scenario s home declared in
+    let kept : records_of scenario story s ≡ records home (past_of home.site story) =
+    ap (records_of scenario story) (sym same) ∙ ap (λ o. records_at o story) (home-again scenario s home declared) in
     let less = (sites s home declared).rising a b first.ticket second.ticket
     (subst (λ z. Before (order_at scenario story z) a b) (sym same) before)
-    (subst (λ z. IsPrepared (records_of scenario story z) a first.ticket) (sym same) first.prepared)
-    (subst (λ z. IsPrepared (records_of scenario story z) b second.ticket) (sym same) second.prepared) in
+    (subst (λ rs. IsPrepared rs a first.ticket) kept first.prepared)
+    (subst (λ rs. IsPrepared rs b second.ticket) kept second.prepared) in
     record {
       from = first.commit;
       to = second.commit;

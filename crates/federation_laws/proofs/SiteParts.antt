@@ -1,4 +1,4 @@
--- Each site by itself is serial, in the story of any commands, in the words of this crate.
+-- Each site by itself is serial, in the story of any commands: the Ended records tell the outcomes.
 use Rattle.std.proofs.Common.{◌≡◌, Bool, true, false, cond, Some, List, [], ◌∷◌, inl, inr, refl, sym, ap, subst}
 use Rattle.mdb_base.specs.declared.names.Tid.{Tid}
 use Rattle.mdb_base.specs.Words.{Among}
@@ -12,23 +12,22 @@ use Rattle.fed_rules.specs.declared.records.SiteRecord.TheVariants as Rec
 use Rattle.fed_rules.specs.declared.scenario.Scenario.{Scenario}
 use Rattle.fed_rules.specs.CoordPast as Coordinator
 use Rattle.fed_rules.specs.CoordRecords.{outcome}
-use Rattle.fed_rules.specs.Orders.{is_committed, records_at, records_of, order_at, due_at, due_of}
+use Rattle.fed_rules.specs.Orders.{is_committed, records_at, records_of, due_at, due_of}
 use Rattle.fed_rules.specs.Scenarios.{home_of}
 use Rattle.fed_rules.specs.SitePast.{records}
 use Rattle.fed_rules.specs.SiteRecords.{Home, order_of, due_rows}
 use Rattle.fed_rules.specs.Story.{Story, coord_past, past_of, story_of}
 use Rattle.commit_laws.specs.Records.{IsEnded}
 use Rattle.commit_laws.proofs.Agreed.{agreed}
-use Rattle.site_history.specs.Records as History
+use Rattle.site_history.specs.Records.{TellOutcomes, TellsOutcome}
 use Rattle.site_history.specs.SiteOrders.{IsSerialOrder, IsSerialPast}
 use Rattle.site_history.specs.Stories.{OfSites}
-use Rattle.site_history.specs.Records.{IsPrepared}
-use Rattle.federation_laws.specs.SiteOrders.{IsSiteSerial, SitesAreSerial}
+use Rattle.federation_laws.specs.SiteOrders.{SitesAreSerial}
 use Rattle.federation_laws.proofs.Told.{home-again}
 
 -- each Ended record tells the outcome
-tells-outcomes : (scenario : Scenario) (commands : List Command) (home : Home) → home_of scenario home.site ≡ Some home → History.TellOutcomes (is_committed (story_of scenario commands)) (records home (past_of home.site (story_of scenario commands)))
-tells-outcomes scenario commands home declared = each_from (History.TellsOutcome (is_committed (story_of scenario commands))) (records home (past_of home.site (story_of scenario commands))) tells
+tells-outcomes : (scenario : Scenario) (commands : List Command) (home : Home) → home_of scenario home.site ≡ Some home → TellOutcomes (is_committed (story_of scenario commands)) (records home (past_of home.site (story_of scenario commands)))
+tells-outcomes scenario commands home declared = each_from (TellsOutcome (is_committed (story_of scenario commands))) (records home (past_of home.site (story_of scenario commands))) tells
   where
     ended-in : (tid : Tid) (decision : Decision) (rs : List SiteRecord) → In (Rec.Ended tid decision) rs → Among (IsEnded tid decision) rs
     ended-in tid decision [] i = absurd i
@@ -46,7 +45,7 @@ tells-outcomes scenario commands home declared = each_from (History.TellsOutcome
     aborted true e = cc
     aborted false e = refl
 
-    tells : (r : SiteRecord) → In r (records home (past_of home.site (story_of scenario commands))) → History.TellsOutcome (is_committed (story_of scenario commands)) r
+    tells : (r : SiteRecord) → In r (records home (past_of home.site (story_of scenario commands))) → TellsOutcome (is_committed (story_of scenario commands)) r
     tells (Rec.Ended tid Decided.Commit) i = committed (is_committed (story_of scenario commands) tid) (is-outcome tid Decided.Commit i)
     tells (Rec.Ended tid Decided.Abort) i = aborted (is_committed (story_of scenario commands) tid) (is-outcome tid Decided.Abort i)
     tells (Rec.Setup site engine protocol items) i = tt
@@ -61,27 +60,12 @@ records-are scenario story home declared = ap (λ o. records_at o story) declare
 due-are : (scenario : Scenario) (story : Story) (home : Home) → home_of scenario home.site ≡ Some home → due_of scenario story home.site ≡ due_rows (is_committed story) home (records home (past_of home.site story))
 due-are scenario story home declared = ap (λ o. due_at o story) declared
 
-serial-here : (scenario : Scenario) (story : Story) (home : Home) → home_of scenario home.site ≡ Some home → IsSerialOrder home (past_of home.site story) (order_of (is_committed story) (records home (past_of home.site story))) (due_rows (is_committed story) home (records home (past_of home.site story))) → IsSiteSerial scenario story home
-serial-here scenario story home declared s =
-    let kept = records-are scenario story home declared in
-    let order : order_at scenario story home.site ≡ order_of (is_committed story) (records home (past_of home.site story)) = ap (order_of (is_committed story)) kept in
-    let due = due-are scenario story home declared in
-    let t : IsSerialOrder home (past_of home.site story) (order_at scenario story home.site) (due_of scenario story home.site) =
-    subst (λ ts. IsSerialOrder home (past_of home.site story) ts (due_of scenario story home.site)) (sym order)
-    (subst (λ rows. IsSerialOrder home (past_of home.site story) (order_of (is_committed story) (records home (past_of home.site story))) rows) (sym due) s) in
-    record {
-      distinct = t.distinct;
-      rising = λ a b j k before p q.
-          t.rising a b j k before
-          (subst (λ rs. IsPrepared rs a j) kept p)
-          (subst (λ rs. IsPrepared rs b k) kept q);
-      alone = t.alone;
-      left = t.left;
-    }
-
 -- so each declared site is serial
 pub sites-serial : OfSites IsSerialPast → (scenario : Scenario) (commands : List Command) → SitesAreSerial scenario (story_of scenario commands)
 sites-serial serial scenario commands site home declared =
     let again = home-again scenario site home declared in
+    let story = story_of scenario commands in
     let past = serial scenario commands home.site home again in
-    serial-here scenario (story_of scenario commands) home again (past.due (is_committed (story_of scenario commands)) (tells-outcomes scenario commands home again))
+    subst (λ ts. IsSerialOrder home (past_of home.site story) ts (due_of scenario story home.site)) (sym (ap (order_of (is_committed story)) (records-are scenario story home again)))
+    (subst (λ rows. IsSerialOrder home (past_of home.site story) (order_of (is_committed story) (records home (past_of home.site story))) rows) (sym (due-are scenario story home again))
+    (past.due (is_committed story) (tells-outcomes scenario commands home again)))

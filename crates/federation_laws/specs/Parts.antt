@@ -12,9 +12,9 @@ use Rattle.fed_rules.specs.Scenarios.{home_of, local_site, program_of}
 use Rattle.fed_rules.specs.SiteRecords.{Home}
 use Rattle.fed_rules.specs.Story.{Story, past_of}
 use Rattle.site_history.specs.Accesses.{acts_at}
+use Rattle.site_history.specs.Records.{IsPrepared}
 use Rattle.federation_laws.specs.Accesses.{SiteAccess, at, reads_in, Ran}
 use Rattle.federation_laws.specs.Edges.{committed}
-use Rattle.site_history.specs.Records.{IsPrepared}
 
 -- the attempt is prepared at the site with a ticket, and its Commit record has that ticket
 pub record IsAgreed (scenario : Scenario) (story : Story) (site : SiteId) (tid : Tid) : Type 0 where
