@@ -1,0 +1,13 @@
+pub mod About
+pub mod Attempts
+pub mod Commands
+pub mod Counted
+pub mod Installed
+pub mod Lines
+pub mod LiveRuns
+pub mod LiveTx
+pub mod LocalInstalls
+pub mod OneOrder
+pub mod Own
+pub mod RisingLists
+pub mod SiteLines
