@@ -3,6 +3,7 @@ pub mod Attempts
 pub mod Commands
 pub mod Counted
 pub mod Installed
+pub mod Led
 pub mod Lines
 pub mod LiveRuns
 pub mod LiveTx
