@@ -10,5 +10,6 @@ pub mod LiveTx
 pub mod LocalInstalls
 pub mod OneOrder
 pub mod Own
+pub mod OwnRuns
 pub mod RisingLists
 pub mod SiteLines

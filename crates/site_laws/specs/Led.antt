@@ -3,6 +3,7 @@ use Rattle.std.specs.Prelude.{ℕ, ◌≡◌, nat_le, nat_lt, false, Some, None,
 use Rattle.mdb_base.specs.declared.acts.PlainAct.{PlainAct}
 use Rattle.mdb_base.specs.declared.acts.Step.{Step}
 use Rattle.mdb_base.specs.declared.names.Tid.{Tid}
+use Rattle.mdb_base.specs.Names.{same_tid}
 use Rattle.mdb_base.specs.Programs.{plain_act}
 use Rattle.mdb_base.specs.Words.{item_at}
 use Rattle.fed_rules.specs.declared.commands.Command.{Command}
@@ -10,6 +11,7 @@ use Rattle.fed_rules.specs.declared.commands.Command.TheVariants as Cmd
 use Rattle.fed_rules.specs.declared.events.SiteEvent.{SiteEvent}
 use Rattle.fed_rules.specs.declared.events.SiteEvent.TheVariants as Ev
 use Rattle.fed_rules.specs.declared.messages.ToSite.{ToSite}
+use Rattle.fed_rules.specs.declared.messages.ToSite.TheVariants as To
 use Rattle.fed_rules.specs.declared.scenario.Scenario.{Scenario}
 use Rattle.fed_rules.specs.Runs.{Run}
 use Rattle.fed_rules.specs.Scenarios.{local_home, program_of}
@@ -65,6 +67,18 @@ pub record IsLedLine (P : SiteEvent → Type 0) (scenario : Scenario) (home : Ho
 abbrev pub IsLed : (SiteEvent → Type 0) → Scenario → Home → SitePast → Type 0
 IsLed P scenario home [] = Unit {0}
 IsLed P scenario home (x ∷ past) = IsLedLine P scenario home past x × IsLed P scenario home past
+
+-- the attempt that a message to a site is about
+abbrev pub tid_in : ToSite → Tid
+tid_in (To.Work tid epoch n act) = tid
+tid_in (To.Take tid epoch n) = tid
+tid_in (To.Prepare tid epoch n) = tid
+tid_in (To.Decide tid decision) = tid
+
+-- the event is no message about this attempt
+abbrev pub IsNoMessageTo : Tid → SiteEvent → Type 0
+IsNoMessageTo tid (Ev.Give message) = same_tid (tid_in message) tid ≡ false
+IsNoMessageTo tid event = Unit {0}
 
 -- the fact holds of every event that the command may make
 abbrev pub Allows : (SiteEvent → Type 0) → Story → Command → Type 0
