@@ -12,4 +12,5 @@ pub mod OneOrder
 pub mod Own
 pub mod OwnRuns
 pub mod RisingLists
+pub mod RunAlone
 pub mod SiteLines
