@@ -9,8 +9,10 @@ pub mod LiveRuns
 pub mod LiveTx
 pub mod LocalInstalls
 pub mod OneOrder
+pub mod Orderly
 pub mod Own
 pub mod OwnRuns
 pub mod RisingLists
 pub mod RunAlone
 pub mod SiteLines
+pub mod Unmoved
