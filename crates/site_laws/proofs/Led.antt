@@ -220,3 +220,8 @@ pasts_led P scenario home [] d a = tt
 pasts_led P scenario home (command ∷ commands) d a =
     led_more P scenario home (story_of scenario commands) (happens scenario (story_of scenario commands) command)
     (good_happens P scenario home (story_of scenario commands) command d a.0) (pasts_led P scenario home commands d a.1)
+
+-- of which another fact holds as well that follows from the first
+pub led_map : (P Q : SiteEvent → Type 0) → ((event : SiteEvent) → P event → Q event) → (scenario : Scenario) (home : Home) (past : SitePast) → IsLed P scenario home past → IsLed Q scenario home past
+led_map P Q f scenario home [] led = tt
+led_map P Q f scenario home (x ∷ past) (line, led) = (record { event = line.event; holds = f line.event line.holds; asked = line.asked; line = line.line }, led_map P Q f scenario home past led)

@@ -10,6 +10,7 @@ pub mod LiveTx
 pub mod LocalInstalls
 pub mod OneOrder
 pub mod Orderly
+pub mod OrderlyLines
 pub mod Own
 pub mod OwnRuns
 pub mod RisingLists

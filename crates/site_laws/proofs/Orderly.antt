@@ -47,7 +47,7 @@ pub record IsOrderly (scenario : Scenario) (home : Home) (past : SitePast) : Typ
   pub members : Each (IsMember scenario past) (committed (epoch_start home past) (engine_lines past))
 
 -- a transaction that a line isn't about stands as before
-standing_unmoved : (home : Home) (past : SitePast) (x : SiteHappening) (tx : Tx) → IsUnmoved home past x tx → Standing home past tx → Standing home (x ∷ past) tx
+pub standing_unmoved : (home : Home) (past : SitePast) (x : SiteHappening) (tx : Tx) → IsUnmoved home past x tx → Standing home past tx → Standing home (x ∷ past) tx
 standing_unmoved home past x tx u (Rests i) = Rests (idle_unmoved home past x tx u i)
 standing_unmoved home past x tx u (Runs n done reads r) = Runs n done reads (running_unmoved home past x tx n done reads u r)
 standing_unmoved home past x tx u (Ended n reads c) = Ended n reads (committed_unmoved home past x tx n reads u c)

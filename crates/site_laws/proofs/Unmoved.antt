@@ -12,6 +12,7 @@ use Rattle.fed_rules.specs.Story.{attempt}
 use Rattle.site_laws.specs.Locals.{IsIdle, IsRunning, IsCommitted}
 use Rattle.site_laws.proofs.About.{IsAbout, run_of-next, about_run, unread_reads, about_reads, unbegun_attempts, about_attempts, about_commit}
 use Rattle.site_laws.proofs.Attempts.{other_transaction}
+
 -- the line leaves the attempts of the transaction as they were
 pub record IsUnmoved (home : Home) (past : SitePast) (x : SiteHappening) (tx : Tx) : Type 0 where
   pub runs : (n : ℕ) → run_of home (x ∷ past) (attempt tx n) ≡ run_of home past (attempt tx n)

@@ -99,3 +99,11 @@ Allows P story command = Unit {0}
 abbrev pub AllAllow : (SiteEvent → Type 0) → Scenario → List Command → Type 0
 AllAllow P scenario [] = Unit {0}
 AllAllow P scenario (command ∷ commands) = Allows P (story_of scenario commands) command × AllAllow P scenario commands
+
+-- the event is one of a local transaction
+abbrev pub IsLocalEvent : SiteEvent → Type 0
+IsLocalEvent (Ev.Begin tid) = Unit {0}
+IsLocalEvent (Ev.Act tid act) = Unit {0}
+IsLocalEvent (Ev.Commit tid) = Unit {0}
+IsLocalEvent (Ev.Abort tid) = Unit {0}
+IsLocalEvent event = ⊥
