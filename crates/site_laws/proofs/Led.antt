@@ -25,7 +25,7 @@ use Rattle.site_laws.specs.Led.{IsAsked, IsLedLine, IsLed, Allows, AllAllow}
 use Rattle.site_laws.proofs.Attempts.{same_tx-equal}
 use Rattle.site_laws.proofs.LiveRuns.{first_where-passes, is_live_of}
 
-same_site-equal : (a b : SiteId) → same_site a b ≡ true → a ≡ b
+pub same_site-equal : (a b : SiteId) → same_site a b ≡ true → a ≡ b
 same_site-equal a b e = ap {A = ℕ} (λ n. record { 0 = n }) (eqb-true a.0 b.0 e)
 
 -- the home of a site has its number

@@ -9,11 +9,15 @@ pub mod LiveRuns
 pub mod LiveTx
 pub mod LocalInstalls
 pub mod OneOrder
+pub mod OneSite
 pub mod Orderly
 pub mod OrderlyLines
 pub mod Own
 pub mod OwnRuns
+pub mod Reversed
 pub mod RisingLists
 pub mod RunAlone
+pub mod SerialSessions
 pub mod SiteLines
+pub mod Uncoordinated
 pub mod Unmoved

@@ -58,7 +58,7 @@ pub record IsDeclared (scenario : Scenario) (tx : Tx) : Type 0 where
   pub listed : In line scenario.transactions
   pub of : line.tx ≡ tx
 
-found_in : {A : Type 0} (test : A → Bool) (xs : List A) (x : A) → first_where test xs ≡ Some x → In x xs
+pub found_in : {A : Type 0} (test : A → Bool) (xs : List A) (x : A) → first_where test xs ≡ Some x → In x xs
 found_in test [] x e = cc
 found_in test (y ∷ ys) x e = by_test (test y) e (found_in test ys x)
   where
@@ -78,7 +78,7 @@ declared_of scenario tx home e = by_line (transaction scenario tx) refl e
     }
 
 -- a committed run is the committed attempt of its transaction
-map_in : {A B : Type 0} (f : A → B) (xs : List A) (x : A) → In x xs → In (f x) (map f xs)
+pub map_in : {A B : Type 0} (f : A → B) (xs : List A) (x : A) → In x xs → In (f x) (map f xs)
 map_in f [] x i = absurd i
 map_in f (y ∷ ys) x (inl e) = inl (ap f e)
 map_in f (y ∷ ys) x (inr i) = inr (map_in f ys x i)
