@@ -1,5 +1,6 @@
 pub mod About
 pub mod Attempts
+pub mod ClosedLocally
 pub mod Commands
 pub mod Counted
 pub mod Installed

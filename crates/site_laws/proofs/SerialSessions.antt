@@ -8,7 +8,7 @@ use Rattle.mdb_base.specs.declared.names.Tx.{Tx}
 use Rattle.mdb_base.specs.declared.rows.Put.{Put}
 use Rattle.mdb_base.specs.Names.{same_tid, same_tx, tid_before}
 use Rattle.mdb_base.specs.Rows.{Table, look_up}
-use Rattle.mdb_base.specs.Words.{Each, Among, some_of, each_of, those}
+use Rattle.mdb_base.specs.Words.{Each, Among, some_of, each_of, those, first_where}
 use Rattle.mdb_base.proofs.ListLaws.{among_some, those_all}
 use Rattle.mdb_base.proofs.NameLaws.{same_tid-refl}
 use Rattle.order_laws.specs.Chains.{In, Distinct}
@@ -22,6 +22,7 @@ use Rattle.fed_rules.specs.declared.records.SiteRecord.{SiteRecord}
 use Rattle.fed_rules.specs.declared.records.SiteRecord.TheVariants as Rec
 use Rattle.fed_rules.specs.declared.scenario.Scenario.{Scenario}
 use Rattle.fed_rules.specs.declared.scenario.SiteLine.{SiteLine}
+use Rattle.fed_rules.specs.declared.scenario.TxLine.{TxLine}
 use Rattle.fed_rules.specs.CoordPast as Coordinator
 use Rattle.fed_rules.specs.CoordPast.{oldest_first}
 use Rattle.fed_rules.specs.CoordRecords.{has_commit}
@@ -43,7 +44,7 @@ use Rattle.engine_contract.specs.Calls.{fresh_start}
 use Rattle.site_laws.specs.Follows.{values_read}
 use Rattle.site_laws.specs.Led.{IsLocalEvent}
 use Rattle.site_laws.specs.Locals.{install_of, installed_tids}
-use Rattle.site_laws.specs.Sessions.{home_from, IsAlone, IsLocal, CommittedAt, HasCommitted, IsSerialSession}
+use Rattle.site_laws.specs.Sessions.{home_from, IsAlone, IsLocal, CommittedAt, HasCommitted, IsSerialSession, LocalSessionsAreSerial}
 use Rattle.site_laws.proofs.Led.{pasts_led}
 use Rattle.site_laws.proofs.LocalInstalls.{due_installed, installed_rows}
 use Rattle.site_laws.proofs.OneOrder.{least_merge-one}
@@ -269,3 +270,31 @@ serial_one scenario line commands whole alone local =
       once = subst (λ o. Distinct o) (sym printed) (members_once scenario line story k);
       single = λ a b i j e. member_single scenario line story a b k (subst (λ o. In a o) printed i) (subst (λ o. In b o) printed j) e;
     }
+
+-- without a site and transactions nothing commits
+serial_none : (scenario : Scenario) (commands : List Command) → scenario.sites ≡ [] → scenario.transactions ≡ [] → Each IsLocal commands → IsSerialSession scenario (story_of scenario commands)
+serial_none scenario commands e f local =
+    let story = story_of scenario commands in
+    let none : orders scenario story ≡ [] = ap (λ ss. map (order_at scenario story) ss) (no_site scenario e) in
+    let printed : printed_order scenario story ≡ [] = ap (λ os. least_merge same_tid tid_before os) none in
+    let homeless : (site : SiteId) → home_of scenario site ≡ None = λ site. ap (λ ls. home_in ls scenario.items site) e in
+    let nowhere : (tx : Tx) → local_home scenario tx ≡ None = λ tx. ap (λ (ls : List TxLine). home_at scenario (home_of_line (first_where (λ line. same_tx line.tx tx) ls))) f in
+    record {
+      merge = subst (λ o. IsMerge scenario story o) (sym printed) (subst (λ os. merge.IsMerge same_tid os []) (sym none) (record { kept = tt; named = refl }));
+      serial = subst (λ o. IsSerial scenario story o) (sym printed) (record { reads = refl; tables = λ site home h key. (let no = homeless site in cc) });
+      settled = λ site. ap (λ o. due_at o story) (homeless site) ∙ sym (ap (λ o. table_at o story) (homeless site));
+      members = λ tid. (
+        (λ i. absurd (subst (λ o. In tid o) printed i)),
+        (λ c. absurd (committed_nowhere story tid (uncoordinated scenario commands local) (subst (λ o. CommittedAt o story tid) (nowhere tid.tx) c))),
+      );
+      once = subst (λ o. Distinct o) (sym printed) tt;
+      single = λ a b i j e. absurd (subst (λ o. In a o) printed i);
+    }
+  where
+    committed_nowhere : (story : Story) (tid : Tid) → coord_past story ≡ [] → is_committed story tid ≡ true → ⊥
+    committed_nowhere story tid quiet h = (let none : is_committed story tid ≡ false = ap (λ past. has_commit (Coordinator.records past) tid) quiet in cc)
+
+-- with one site at most every session is serial
+pub serial_sessions : LocalSessionsAreSerial
+serial_sessions scenario commands whole (inl none) local = serial_none scenario commands none.0 none.1 local
+serial_sessions scenario commands whole (inr one) local = serial_one scenario one.0 commands whole one.1 local

@@ -67,5 +67,4 @@ LocalSessionsAreSerial =
 -- the commands that close a session of local transactions are local ones
 abbrev pub LocalSessionsCloseLocally : Type 0
 LocalSessionsCloseLocally =
-    (scenario : Scenario) (commands : List Command) → IsScenario scenario → IsOneSite scenario → Each IsLocal commands
-    → Each IsLocal (closed scenario commands)
+    (scenario : Scenario) (commands : List Command) → IsOneSite scenario → Each IsLocal commands → Each IsLocal (closed scenario commands)
