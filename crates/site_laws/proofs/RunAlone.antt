@@ -33,7 +33,8 @@ take-push [] n x e = cc
 take-push (y ∷ ys) zero x e = let same : y ≡ x = cc in ap (λ z. z ∷ []) same
 take-push (y ∷ ys) (suc n) x e = ap (λ zs. y ∷ zs) (take-push ys n x e)
 
-each_item : {A : Type 0} (P : A → Type 0) (xs : List A) (n : ℕ) (x : A) → Each P xs → item_at xs n ≡ Some x → P x
+-- what holds of each item holds of the one at a place
+pub each_item : {A : Type 0} (P : A → Type 0) (xs : List A) (n : ℕ) (x : A) → Each P xs → item_at xs n ≡ Some x → P x
 each_item P [] n x h e = cc
 each_item P (y ∷ ys) zero x h e = let same : y ≡ x = cc in subst P same h.0
 each_item P (y ∷ ys) (suc n) x h e = each_item P ys n x h.1 e
