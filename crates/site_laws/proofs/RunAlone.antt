@@ -1,5 +1,5 @@
 -- Programs run alone at one site do what runs did that followed them: they read the same values and leave the same table.
-use Rattle.std.proofs.Common.{◌≡◌, ℕ, zero, suc, ◌≤◌, true, cond, Some, List, [], ◌∷◌, ◌++◌, length, take, map, refl, sym, ◌∙◌, ap, ap₂, subst, eq-eqb}
+use Rattle.std.proofs.Common.{◌≡◌, ℕ, zero, suc, ◌≤◌, cond, Some, List, [], ◌∷◌, ◌++◌, length, take, map, refl, sym, ◌∙◌, ap, ap₂, subst, eq-eqb}
 use Rattle.std.proofs.lemmas.Bool.{cond-true}
 use Rattle.std.proofs.lemmas.List.{take_all}
 use Rattle.mdb_base.specs.declared.acts.PlainAct.{PlainAct}
@@ -15,9 +15,9 @@ use Rattle.fed_rules.specs.declared.scenario.Scenario.{Scenario}
 use Rattle.fed_rules.specs.CoordPast.{oldest_first}
 use Rattle.fed_rules.specs.Runs.{Access, Got, Wrote, Run, after, table_of}
 use Rattle.fed_rules.specs.Scenarios.{program_of}
-use Rattle.fed_rules.specs.Serial.{Tables, update_at, Ran, reads_after, tables_after, run_steps, alone, serial_reads, serial_tables}
+use Rattle.fed_rules.specs.Serial.{Tables, Ran, reads_after, tables_after, run_steps, alone, serial_reads, serial_tables}
 use Rattle.fed_rules.specs.SerialRuns.{ReadsAlone, IsSerial}
-use Rattle.site_laws.specs.Follows.{values_read, IsNextOf, Follows}
+use Rattle.site_laws.specs.Follows.{values_read, Follows}
 
 -- what one more step makes of a program that ran
 abbrev one_more : Step → Ran → Ran

@@ -20,11 +20,11 @@ use Rattle.fed_rules.specs.Disk.{Call, Append, Sync, CutBack, Stops, Disk, bytes
 use Rattle.fed_rules.specs.Happenings.{Trip, stops, comes_up, is_down, stopped, tripped}
 use Rattle.fed_rules.specs.Runs.{Run, restored, restored_at}
 use Rattle.fed_rules.specs.Scenarios.{program_of}
-use Rattle.fed_rules.specs.Site.{of_begin, of_act, seals_local, of_commit, of_abort, of_fate, did, unknown, first_work, next_work, next_take, repeated, work_live, of_work, take_live, of_take, votes_again, votes_no, votes_yes, seals_global, prepare_live, of_prepare, ended_calls, settles, unheld, of_decide, of_give, of_ask, of_drop, of_back, answered, unless_tripped, site_line}
+use Rattle.fed_rules.specs.Site.{of_begin, of_act, seals_local, of_commit, of_abort, of_fate, did, unknown, first_work, next_work, next_take, repeated, work_live, of_work, take_live, of_take, votes_again, votes_no, votes_yes, seals_global, prepare_live, of_prepare, settles, unheld, of_decide, of_give, of_ask, of_drop, of_back, answered, unless_tripped, site_line}
 use Rattle.fed_rules.specs.SitePast.{SiteHappening, SitePast, disk, records, trip, epoch_start, run_of}
-use Rattle.fed_rules.specs.SiteRecords.{Home, Held, site_frame, doubt_of, doubts, prepared_tids, kept_held, start_of}
+use Rattle.fed_rules.specs.SiteRecords.{Home, Held, site_frame, doubt_of, prepared_tids, kept_held, start_of}
 use Rattle.site_laws.specs.Follows.{IsOwnRun}
-use Rattle.site_laws.specs.Led.{IsLedLine, IsLed, tid_in, IsNoMessageTo}
+use Rattle.site_laws.specs.Led.{IsLed, tid_in, IsNoMessageTo}
 use Rattle.site_laws.proofs.OwnRuns.{follows_led}
 
 -- the record doesn't prepare the attempt
