@@ -1,6 +1,6 @@
 -- Strict timestamp order on a book's runs: who stands in the way of a run, and what it is answered.
 -- The rule is of Bernstein, Hadzilacos and Goodman (1987).
-use Rattle.std.specs.Prelude.{ℕ, Bool, not, ◌&&◌, nat_lt, Option, Some, None, List}
+use Rattle.std.specs.Prelude.{ℕ, ◌≡◌, Bool, not, ◌&&◌, nat_lt, Option, Some, None, List}
 use Rattle.mdb_base.specs.declared.names.Key.{Key}
 use Rattle.mdb_base.specs.declared.acts.PlainAct.{PlainAct}
 use Rattle.mdb_base.specs.declared.replies.Reply.{Reply}
@@ -33,6 +33,11 @@ is_younger_taker age run = nat_lt age run.age && has_ticket run
 -- an older live run that has taken the ticket
 abbrev pub is_older_taker : ℕ → Run → Bool
 is_older_taker age run = nat_lt run.age age && has_ticket run && not (is_sealed run)
+
+-- where the answers are those of a test, it is the youngest run that the test holds of
+abbrev pub IsYoungest : (Held → Bool → Type 0) → List Held → Option Rival → Type 0
+IsYoungest answers helds found =
+    (test : Run → Bool) → ((held : Held) (answer : Bool) → answers held answer → answer ≡ test held.run) → found ≡ greatest_rival age_of test helds
 
 -- the younger of two, the first of two alike
 abbrev pub younger_of : Option Rival → Option Rival → Option Rival

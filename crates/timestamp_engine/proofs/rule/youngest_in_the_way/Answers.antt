@@ -1,15 +1,9 @@
-use Rattle.std.proofs.Common.{arith}
-use Rattle.fed_rules.specs.Replies.{age_of}
-use Rattle.run_lists.proofs.RivalLemmas.{greatest_rival-takes, greatest_rival-keeps}
+use Rattle.std.proofs.Common.{◌∙◌, ap}
+use Rattle.run_lists.specs.Held.{Held}
 use Rattle.timestamp_engine.specs.Rule.{is_younger_in_the_way}
 use Rattle.timestamp_engine.proofs.rule.youngest_in_the_way.Goals as goal
-use Rattle.timestamp_engine.proofs.rule.youngest_in_the_way.Goals.{then-is_younger_in_the_way, else-is_younger_in_the_way}
 
-pub loop-run-preserved : goal.loop-run-preserved
-loop-run-preserved c =
-    elim c.if-is_younger_in_the_way.branch [
-      | then-is_younger_in_the_way w ↦ greatest_rival-takes age_of (is_younger_in_the_way c.args.age c.args.act) c.args.runs.now c.loop-run.run-index c.run-item.result _ _ _ _ _ (omega arith) c.run-item.is
-          c.is_younger_in_the_way.ensures w.if-is_younger_in_the_way.true c.loop-run.invariant w.by_age.ensures w.higher.ensures w.youngest-is
-      | else-is_younger_in_the_way w ↦ greatest_rival-keeps age_of (is_younger_in_the_way c.args.age c.args.act) c.args.runs.now c.loop-run.run-index c.run-item.result _ _ _ (omega arith) c.run-item.is
-          c.is_younger_in_the_way.ensures w.if-is_younger_in_the_way.false c.loop-run.invariant w.youngest-is
-    ]
+pub returns : goal.returns
+returns c =
+    let test = is_younger_in_the_way c.args.age c.args.act in
+    c.youngest.ensures test (λ held answer says. says.says.met ∙ ap (λ (h : Held). test h.run) says.shows)

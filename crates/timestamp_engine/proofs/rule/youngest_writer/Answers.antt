@@ -1,15 +1,9 @@
-use Rattle.std.proofs.Common.{arith}
-use Rattle.fed_rules.specs.Replies.{age_of}
-use Rattle.run_lists.proofs.RivalLemmas.{greatest_rival-takes, greatest_rival-keeps}
+use Rattle.std.proofs.Common.{◌∙◌, ap}
+use Rattle.run_lists.specs.Held.{Held}
 use Rattle.timestamp_engine.specs.Rule.{is_older_writer}
 use Rattle.timestamp_engine.proofs.rule.youngest_writer.Goals as goal
-use Rattle.timestamp_engine.proofs.rule.youngest_writer.Goals.{then-is_older_writer, else-is_older_writer}
 
-pub loop-run-preserved : goal.loop-run-preserved
-loop-run-preserved c =
-    elim c.if-is_older_writer.branch [
-      | then-is_older_writer w ↦ greatest_rival-takes age_of (is_older_writer c.args.age c.args.key) c.args.runs.now c.loop-run.run-index c.run-item.result _ _ _ _ _ (omega arith) c.run-item.is
-          c.is_older_writer.ensures w.if-is_older_writer.true c.loop-run.invariant w.by_age.ensures w.higher.ensures w.writer-is
-      | else-is_older_writer w ↦ greatest_rival-keeps age_of (is_older_writer c.args.age c.args.key) c.args.runs.now c.loop-run.run-index c.run-item.result _ _ _ (omega arith) c.run-item.is
-          c.is_older_writer.ensures w.if-is_older_writer.false c.loop-run.invariant w.writer-is
-    ]
+pub returns : goal.returns
+returns c =
+    let test = is_older_writer c.args.age c.args.key in
+    c.youngest.ensures test (λ held answer says. says.says.met ∙ ap (λ (h : Held). test h.run) says.shows)
