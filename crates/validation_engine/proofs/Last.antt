@@ -126,19 +126,23 @@ last-both xs ys (Some x) (Some y) same one e f =
 pub last-same : (xs ys : List Run) → SameMembers xs ys → NamesOne ys → last_by_number xs ≡ last_by_number ys
 last-same xs ys same one = last-both xs ys _ _ same one refl refl
 
--- where the key was read, the writers among the ended runs make it bad
-pub past-read : (read : Bool) (key : Key) (runs : List Run) → read ≡ true → those (λ run. read && has_written key run) runs ≡ those (has_written key) runs
-past-read read key runs e = ap (λ (b : Bool). those (λ run. b && has_written key run) runs) e
+-- where the key was read, the last one that makes it bad is the later one of the two that the scans find
+pub spoilers-read : (book : Book) (me : Run) (key : Key) (ended sealed last : Option Rival) → has_read key me ≡ true →
+    ended ≡ last_by_number (those (has_written key) (ended_since me.age book.committed)) → sealed ≡ greatest_rival number (is_sealed_writer me.tid key) book.unended →
+    last ≡ later ended sealed → last ≡ last_by_number (spoilers_in book me key)
+spoilers-read book me key ended sealed last read past prepared made =
+    let wrote = those (has_written key) (ended_since me.age book.committed) in
+    let others = those (is_sealed_writer me.tid key) (runs_of book.unended) in
+    let whole : spoilers_in book me key ≡ wrote ++ others = ap (λ (b : Bool). those (λ run. b && has_written key run) (ended_since me.age book.committed) ++ others) read in
+    made ∙ (ap (λ (o : Option Rival). later o sealed) past ∙ (ap (λ (o : Option Rival). later (last_by_number wrote) o) prepared
+    ∙ sym (ap (λ (runs : List Run). last_by_number runs) whole ∙ last-append wrote others)))
 
--- and else none of them does
-pub past-unread : (read : Bool) (key : Key) (runs : List Run) → read ≡ false → those (λ run. read && has_written key run) runs ≡ []
-past-unread read key runs e = ap (λ (b : Bool). those (λ run. b && has_written key run) runs) e ∙ those_nothing (λ run. false) runs (each_all _ (λ run. refl) runs)
-
--- the last spoiler is the later one of the two that the scans find
-pub last_spoiler-made : (book : Book) (me : Run) (key : Key) (ended sealed last : Option Rival) →
-    ended ≡ last_by_number (those (λ run. has_read key me && has_written key run) (ended_since me.age book.committed)) →
-    sealed ≡ greatest_rival number (is_sealed_writer me.tid key) book.unended → last ≡ later ended sealed → last ≡ last_by_number (spoilers_in book me key)
-last_spoiler-made book me key ended sealed last past prepared made =
-    let committed = those (λ run. has_read key me && has_written key run) (ended_since me.age book.committed) in
-    made ∙ (ap (λ (o : Option Rival). later o sealed) past ∙ (ap (λ (o : Option Rival). later (last_by_number committed) o) prepared
-    ∙ sym (last-append committed (those (is_sealed_writer me.tid key) (runs_of book.unended)))))
+-- and else only sealed ones do
+pub spoilers-unread : (book : Book) (me : Run) (key : Key) (last : Option Rival) → has_read key me ≡ false →
+    last ≡ greatest_rival number (is_sealed_writer me.tid key) book.unended → last ≡ last_by_number (spoilers_in book me key)
+spoilers-unread book me key last unread prepared =
+    let past = ended_since me.age book.committed in
+    let others = those (is_sealed_writer me.tid key) (runs_of book.unended) in
+    let none : those (λ run. has_read key me && has_written key run) past ≡ [] =
+    ap (λ (b : Bool). those (λ run. b && has_written key run) past) unread ∙ those_nothing (λ run. false) past (each_all _ (λ run. refl) past) in
+    prepared ∙ sym (ap (λ (runs : List Run). last_by_number (runs ++ others)) none)

@@ -66,12 +66,11 @@ fn later(first: Option<Rival>, next: Option<Rival>) -> Option<Rival>
 fn last_spoiler(book: &RunBook, run: &HeldRun, key: Key) -> Option<Rival>
     ensures { result ≡ last_by_number (spoilers_in book.now run.now.run key) }
 {
-    let ended = if run.has_read(key) {
-        last_ended_writer(book.committed(), run.age(), key)
-    } else {
-        None
-    };
-    later(ended, last_sealed_writer(book.unended(), run.tid(), key))
+    let sealed = last_sealed_writer(book.unended(), run.tid(), key);
+    if !run.has_read(key) {
+        return sealed;
+    }
+    later(last_ended_writer(book.committed(), run.age(), key), sealed)
 }
 
 /// The lower key of two.
