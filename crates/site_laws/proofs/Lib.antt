@@ -16,6 +16,7 @@ pub mod Orderly
 pub mod OrderlyLines
 pub mod Own
 pub mod OwnRuns
+pub mod PlainLines
 pub mod Reversed
 pub mod RisingLists
 pub mod RunAlone

@@ -152,7 +152,8 @@ fine_back : (home : Home) (past : SitePast) (tid : Tid) → IsFine tid (of_back 
 unfolding of_back
 fine_back home past tid = record { calls = fine_cut tid _ (is_torn site_frame (disk home past)) }
 
-take_each : {A : Type 0} (P : A → Type 0) (n : ℕ) (xs : List A) → Each P xs → Each P (take n xs)
+-- what holds of each item holds of each of a front
+pub take_each : {A : Type 0} (P : A → Type 0) (n : ℕ) (xs : List A) → Each P xs → Each P (take n xs)
 take_each P zero xs h = tt
 take_each P (suc n) [] h = tt
 take_each P (suc n) (x ∷ xs) h = (h.0, take_each P n xs h.1)
