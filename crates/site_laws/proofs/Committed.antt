@@ -1,11 +1,11 @@
 -- The commit of a local attempt that no message is about: it had done its whole program, and read what it was answered.
-use Rattle.std.proofs.Common.{◌≡◌, ℕ, zero, suc, ◌≤◌, ◌<◌, ◌⊎◌, Bool, true, false, cond, ◌||◌, Option, Some, None, List, [], ◌∷◌, ◌++◌, length, take, inl, inr, refl, sym, ◌∙◌, ap, subst, arith}
+use Rattle.std.proofs.Common.{◌≡◌, ℕ, ◌≤◌, ◌⊎◌, Bool, true, false, cond, ◌||◌, Option, Some, None, List, [], ◌∷◌, ◌++◌, length, take, inl, inr, refl, sym, ◌∙◌, ap, subst, arith}
 use Rattle.std.proofs.lemmas.Bool.{cond-true, ltb-false}
 use Rattle.mdb_base.specs.declared.acts.Step.{Step}
 use Rattle.mdb_base.specs.declared.names.Tid.{Tid}
 use Rattle.mdb_base.specs.declared.names.Tx.{Tx}
 use Rattle.mdb_base.specs.Names.{same_tid}
-use Rattle.mdb_base.specs.Words.{Each, some_of, when, pick, item_at}
+use Rattle.mdb_base.specs.Words.{Each, some_of, when, pick}
 use Rattle.mdb_base.proofs.ListLaws.{append_each}
 use Rattle.mdb_base.proofs.NameLaws.{same_tid-refl, same_tid-equal}
 use Rattle.fed_rules.specs.declared.events.SiteEvent.{SiteEvent}
@@ -28,9 +28,10 @@ use Rattle.site_laws.proofs.About.{unread_reads}
 use Rattle.site_laws.proofs.Commands.{done_is}
 use Rattle.site_laws.proofs.Led.{home_again, pasts_led}
 use Rattle.site_laws.proofs.Lines.{refusal_answer-is}
+use Rattle.site_laws.proofs.ListMembers.{item_at-below, take_each}
 use Rattle.site_laws.proofs.Lives.{Life, Unbegun, Alive, Over, life_aside, run_kept, read_other, unsealed_calls, same_attempts, life_plain, life_begin_other, life_begin_own, life_act_own}
 use Rattle.site_laws.proofs.OwnRuns.{live_has}
-use Rattle.site_laws.proofs.Undoubted.{follows_always, never_restored, take_each}
+use Rattle.site_laws.proofs.Undoubted.{follows_always, never_restored}
 use Rattle.site_laws.proofs.Unmentioned.{none_told}
 
 -- a commit: it appends a record of its own attempt alone, and then the run has ended, or the site has stopped
@@ -78,12 +79,7 @@ commits_line home past z =
 -- a program has at least as many steps as accesses follow it
 follows_bound : (program : List Step) (acts : List Access) → Follows program acts → length acts ≤ length program
 follows_bound program [] f = omega arith
-follows_bound program (access ∷ acts) (next, f) = below program (length acts) next.step next.at
-  where
-    below : (steps : List Step) (n : ℕ) (step : Step) → item_at steps n ≡ Some step → n < length steps
-    below [] n step e = cc
-    below (x ∷ xs) zero step e = omega arith
-    below (x ∷ xs) (suc n) step e = (let h = below xs n step e in omega arith)
+follows_bound program (access ∷ acts) (next, f) = item_at-below program (length acts) next.step next.at
 
 -- what is at most and at least a number is that number
 both_ways : (m n : ℕ) → m ≤ n → n ≤ m → m ≡ n

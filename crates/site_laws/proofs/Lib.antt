@@ -7,6 +7,7 @@ pub mod Counted
 pub mod Installed
 pub mod Led
 pub mod Lines
+pub mod ListMembers
 pub mod LiveRuns
 pub mod LiveTx
 pub mod Lives

@@ -33,11 +33,12 @@ use Rattle.site_laws.specs.Led.{IsBegin, IsStep, IsLed, IsNoMessageTo}
 use Rattle.site_laws.specs.Sealed.{seals, was_sealed, acts_of, acts_at, DidProgram}
 use Rattle.site_laws.proofs.About.{unread_reads, unbegun_attempts}
 use Rattle.site_laws.proofs.Attempts.{same_tx-refl, same_tx-equal}
+use Rattle.site_laws.proofs.ListMembers.{take_each}
 use Rattle.site_laws.proofs.Own.{act_line}
 use Rattle.site_laws.proofs.OwnRuns.{Keeps, Makes, keeps_line_of, live_has}
 use Rattle.site_laws.proofs.PlainLines.{IsUnlocal, IsPlain, IsPlainEvent, plain_line}
 use Rattle.site_laws.proofs.SiteLines.{act_live}
-use Rattle.site_laws.proofs.Undoubted.{IsFineCall, IsFine, fine_line, never_restored, take_each}
+use Rattle.site_laws.proofs.Undoubted.{IsFineCall, IsFine, fine_line, never_restored}
 
 -- the attempt wasn't begun yet
 pub record IsUnbegun (home : Home) (past : SitePast) (tid : Tid) : Type 0 where

@@ -22,7 +22,7 @@ use Rattle.fed_rules.specs.Site.{of_act, of_abort, of_fate, reply_to, did, unkno
 use Rattle.fed_rules.specs.SitePast.{SiteHappening, SitePast, disk, trip, begins_tx}
 use Rattle.fed_rules.specs.SiteRecords.{Home, site_frame}
 use Rattle.site_laws.proofs.Lines.{act_begins-none}
-use Rattle.site_laws.proofs.Undoubted.{take_each}
+use Rattle.site_laws.proofs.ListMembers.{take_each}
 
 -- the call appends no record of a local commit
 abbrev pub IsUnlocal : Call SiteRecord → Type 0

@@ -1,5 +1,5 @@
 -- An attempt that no message is about is never prepared, so no start of its site restores it.
-use Rattle.std.proofs.Common.{◌≡◌, ℕ, zero, suc, Bool, true, false, cond, nat_le, ◌||◌, Option, Some, None, List, [], ◌∷◌, ◌++◌, take, map, refl, sym, ◌∙◌, ap, subst}
+use Rattle.std.proofs.Common.{◌≡◌, ℕ, Bool, true, false, cond, nat_le, ◌||◌, Option, Some, None, List, [], ◌∷◌, ◌++◌, take, map, refl, sym, ◌∙◌, ap, subst}
 use Rattle.mdb_base.specs.declared.acts.PlainAct.{PlainAct}
 use Rattle.mdb_base.specs.declared.names.Tid.{Tid}
 use Rattle.mdb_base.specs.declared.names.Tx.{Tx}
@@ -25,6 +25,7 @@ use Rattle.fed_rules.specs.SitePast.{SiteHappening, SitePast, disk, records, tri
 use Rattle.fed_rules.specs.SiteRecords.{Home, Held, site_frame, doubt_of, prepared_tids, kept_held, start_of}
 use Rattle.site_laws.specs.Follows.{IsOwnRun}
 use Rattle.site_laws.specs.Led.{IsLed, tid_in, IsNoMessageTo}
+use Rattle.site_laws.proofs.ListMembers.{take_each}
 use Rattle.site_laws.proofs.OwnRuns.{follows_led}
 
 -- the record doesn't prepare the attempt
@@ -151,12 +152,6 @@ fine_cut tid epoch false = (tt, (tt, tt))
 fine_back : (home : Home) (past : SitePast) (tid : Tid) → IsFine tid (of_back home past)
 unfolding of_back
 fine_back home past tid = record { calls = fine_cut tid _ (is_torn site_frame (disk home past)) }
-
--- what holds of each item holds of each of a front
-pub take_each : {A : Type 0} (P : A → Type 0) (n : ℕ) (xs : List A) → Each P xs → Each P (take n xs)
-take_each P zero xs h = tt
-take_each P (suc n) [] h = tt
-take_each P (suc n) (x ∷ xs) h = (h.0, take_each P n xs h.1)
 
 fine_stopped : (tid : Tid) (d : Disk SiteRecord) (event : SiteEvent) (calls : List (Call SiteRecord)) → Each (IsFineCall tid) calls → IsFine tid (stopped site_frame d event calls)
 unfolding stopped
