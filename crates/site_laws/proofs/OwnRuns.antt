@@ -29,7 +29,7 @@ use Rattle.fed_rules.specs.SitePast.{SiteHappening, SitePast, disk, records, tri
 use Rattle.fed_rules.specs.SiteRecords.{Home, site_frame, start_of}
 use Rattle.fed_rules.specs.Story.{run_reads}
 use Rattle.site_laws.specs.Follows.{IsOwnRun}
-use Rattle.site_laws.specs.Led.{IsStep, IsAsked, IsLed, tid_in, IsNoMessageTo}
+use Rattle.site_laws.specs.Led.{IsAsked, IsLed, tid_in, IsNoMessageTo}
 use Rattle.site_laws.proofs.About.{run_at-others}
 use Rattle.site_laws.proofs.Commands.{done_is}
 

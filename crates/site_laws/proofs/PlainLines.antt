@@ -1,5 +1,5 @@
 -- Lines that begin no local attempt and append no record of a local commit.
-use Rattle.std.proofs.Common.{◌≡◌, ℕ, zero, suc, Bool, true, false, cond, Option, Some, None, List, [], ◌∷◌, ◌++◌, take, refl, ap, subst}
+use Rattle.std.proofs.Common.{◌≡◌, ℕ, Bool, true, false, cond, Option, Some, None, List, [], ◌∷◌, ◌++◌, take, refl, subst}
 use Rattle.mdb_base.specs.declared.acts.PlainAct.{PlainAct}
 use Rattle.mdb_base.specs.declared.names.Tid.{Tid}
 use Rattle.mdb_base.specs.declared.names.Tx.{Tx}
@@ -18,11 +18,11 @@ use Rattle.fed_rules.specs.declared.records.SiteRecord.TheVariants as Rec
 use Rattle.fed_rules.specs.Disk.{Call, Append, Sync, CutBack, Stops, Disk, is_torn}
 use Rattle.fed_rules.specs.Happenings.{Trip, is_down, stopped, tripped}
 use Rattle.fed_rules.specs.Runs.{EngineLine, Run}
-use Rattle.fed_rules.specs.Site.{of_act, of_abort, of_fate, reply_to, did, unknown, first_work, next_work, next_take, repeated, work_live, of_work, take_live, of_take, votes_again, votes_no, votes_yes, seals_global, prepare_live, of_prepare, ended_calls, settles, unheld, of_decide, of_give, of_ask, of_drop, of_back, answered, unless_tripped, site_line}
+use Rattle.fed_rules.specs.Site.{of_act, of_abort, of_fate, reply_to, did, unknown, first_work, next_work, next_take, repeated, work_live, of_work, take_live, of_take, votes_again, votes_no, votes_yes, seals_global, prepare_live, of_prepare, settles, unheld, of_decide, of_give, of_ask, of_drop, of_back, answered, unless_tripped, site_line}
 use Rattle.fed_rules.specs.SitePast.{SiteHappening, SitePast, disk, trip, begins_tx}
 use Rattle.fed_rules.specs.SiteRecords.{Home, site_frame}
 use Rattle.site_laws.proofs.Lines.{act_begins-none}
-use Rattle.site_laws.proofs.Undoubted.{take_each}
+use Rattle.site_laws.proofs.ListMembers.{take_each}
 
 -- the call appends no record of a local commit
 abbrev pub IsUnlocal : Call SiteRecord → Type 0
