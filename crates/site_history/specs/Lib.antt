@@ -1,0 +1,6 @@
+pub mod Accesses
+pub mod Events
+pub mod Lines
+pub mod Records
+pub mod SiteOrders
+pub mod Stories
