@@ -1,11 +1,22 @@
 //! The top of the federation: words and bytes in, lines and a report out, and a status.
 #![tactic(auto)]
 
+mod bad_lines;
+mod federate;
+mod first_rows;
+mod input;
 mod mem_streams;
+mod output;
 mod reading;
+mod scope;
 mod streams;
+mod words;
 mod writing;
 
+pub use federate::federate;
 pub use journal_disk::Failed;
 pub use mem_streams::{MemSink, MemSource};
 pub use streams::{Sink, Source};
+
+#[cfg(test)]
+mod tests;

@@ -1,0 +1,1 @@
+//! Whole sessions, refused inputs, and streams that fail.
