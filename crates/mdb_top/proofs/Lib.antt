@@ -1,1 +1,5 @@
+mod FitStories
+mod Fits
+mod PlainCommands
 mod Progress
+mod Untripped

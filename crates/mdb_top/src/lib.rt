@@ -2,7 +2,7 @@
 #![tactic(auto)]
 
 mod bad_lines;
-mod federate;
+
 mod first_rows;
 mod input;
 mod mem_streams;
@@ -10,10 +10,11 @@ mod output;
 mod reading;
 mod scope;
 mod streams;
+mod top_call;
 mod words;
 mod writing;
 
-pub use federate::federate;
+pub use top_call::federate;
 pub use journal_disk::Failed;
 pub use mem_streams::{MemSink, MemSource};
 pub use streams::{Sink, Source};
