@@ -62,7 +62,8 @@ about_calm home past tid x a calm = record {
   unprepared = about_prepared home past tid x a ∙ calm.unprepared;
 }
 
-run_at-others : (start : Start) (older : List EngineLine) (tid other : Tid) (lines : List EngineLine) → Each (λ line. tid_of line ≡ tid) lines → same_tid tid other ≡ false → run_at start (lines ++ older) other ≡ run_at start older other
+-- lines about one attempt leave the run of every other one
+pub run_at-others : (start : Start) (older : List EngineLine) (tid other : Tid) (lines : List EngineLine) → Each (λ line. tid_of line ≡ tid) lines → same_tid tid other ≡ false → run_at start (lines ++ older) other ≡ run_at start older other
 run_at-others start older tid other [] h e = refl
 run_at-others start older tid other (line ∷ lines) h e =
     run_at-other start (lines ++ older) line other (ap (λ t. same_tid t other) h.0 ∙ e) ∙ run_at-others start older tid other lines h.1 e

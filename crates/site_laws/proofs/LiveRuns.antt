@@ -10,6 +10,15 @@ use Rattle.fed_rules.specs.Runs.{Run, is_sealed}
 abbrev pub is_live_of : Tx → Run → Bool
 is_live_of tx run = same_tx run.tid.tx tx && not (is_sealed run)
 
+-- what is found passes
+pub first_where-passes : {A : Type 0} (test : A → Bool) (xs : List A) (x : A) → first_where test xs ≡ Some x → test x ≡ true
+first_where-passes test [] x e = cc
+first_where-passes test (y ∷ ys) x e = by_test (test y) refl e (first_where-passes test ys x)
+  where
+    by_test : (b : Bool) → test y ≡ b → cond b (Some y) (first_where test ys) ≡ Some x → (first_where test ys ≡ Some x → test x ≡ true) → test x ≡ true
+    by_test true t e k = (let same : y ≡ x = cc in subst (λ z. test z ≡ true) same t)
+    by_test false t e k = k e
+
 -- nothing is found where the test fails of each value that the look-up finds
 pub first-none : {A B : Type 0} (look : A → Option B) (test : B → Bool) (xs : List A) → ((x : A) (y : B) → In x xs → look x ≡ Some y → test y ≡ false) → first_where test (found look xs) ≡ None
 first-none look test [] h = refl

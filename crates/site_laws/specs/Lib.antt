@@ -1,1 +1,4 @@
+pub mod Follows
+pub mod Led
 pub mod Locals
+pub mod Sessions
