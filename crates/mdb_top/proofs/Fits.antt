@@ -1,10 +1,7 @@
--- In a story of plain commands in which the coordinator hears nothing, each line is one that its command can have.
-use Rattle.std.proofs.Common.{◌≡◌, ℕ, Bool, true, false, cond, not, ◌&&◌, ◌==◌, nat_eq, IsTrue, Option, Some, None, List, [], ◌∷◌, ◌++◌, length, refl, sym, ◌∙◌, ap, ap₂, subst, eq-eqb}
-use Rattle.std.specs.Prelude.{nat_le}
-use Rattle.std.proofs.lemmas.Bool.{eqb-true}
+-- What a site answers to a command of a local transaction is one of the answers that the command can have.
+use Rattle.std.proofs.Common.{◌≡◌, true, false, not, ◌&&◌, None, [], length, refl, sym, ◌∙◌, ap, ap₂, subst}
 use Rattle.mdb_base.specs.declared.acts.PlainAct.{PlainAct}
 use Rattle.mdb_base.specs.declared.acts.PlainAct.TheVariants.{Read, Write}
-use Rattle.mdb_base.specs.declared.acts.Step.{Step}
 use Rattle.mdb_base.specs.declared.names.SiteId.{SiteId}
 use Rattle.mdb_base.specs.declared.names.Tid.{Tid}
 use Rattle.mdb_base.specs.declared.names.Tx.{Tx}
@@ -12,30 +9,16 @@ use Rattle.mdb_base.specs.declared.replies.Reply.{Reply}
 use Rattle.mdb_base.specs.declared.replies.Reply.TheVariants as Reply_is
 use Rattle.mdb_base.specs.declared.replies.Why.{Why}
 use Rattle.mdb_base.specs.declared.replies.Why.TheVariants as Because
-use Rattle.mdb_base.specs.Names.{same_site}
-use Rattle.mdb_base.specs.Words.{Each, when, pick, item_at}
 use Rattle.fed_rules.specs.declared.answers.Answer.{Answer}
-use Rattle.fed_rules.specs.declared.answers.Answer.TheVariants as Say
 use Rattle.fed_rules.specs.declared.commands.Command.{Command}
 use Rattle.fed_rules.specs.declared.commands.Command.TheVariants as Cmd
-use Rattle.fed_rules.specs.declared.commands.Line.{Line}
-use Rattle.fed_rules.specs.declared.events.CoordEvent.{CoordEvent}
-use Rattle.fed_rules.specs.declared.events.SiteEvent.{SiteEvent}
 use Rattle.fed_rules.specs.declared.events.SiteEvent.TheVariants as Ev
-use Rattle.fed_rules.specs.declared.scenario.ItemLine.{ItemLine}
-use Rattle.fed_rules.specs.declared.scenario.Scenario.{Scenario}
-use Rattle.fed_rules.specs.declared.scenario.SiteLine.{SiteLine}
-use Rattle.fed_rules.specs.CoordPast.{CoordPast}
-use Rattle.fed_rules.specs.Happenings.{quiet}
-use Rattle.fed_rules.specs.Runs.{Run}
-use Rattle.fed_rules.specs.Scenarios.{items_of, home_in, home_of, local_home, global_program, program_of}
-use Rattle.fed_rules.specs.Site.{site_line, act_answer, refusal_answer, reply_to, seals_local, of_begin, of_act, of_commit, of_abort, of_fate, of_ask, of_drop}
-use Rattle.fed_rules.specs.SitePast.{SiteHappening, SitePast, trip, trip_of, attempts_of}
+use Rattle.fed_rules.specs.Site.{site_line, act_answer, refusal_answer, reply_to, seals_local, of_begin, of_act, of_commit, of_abort}
+use Rattle.fed_rules.specs.SitePast.{SiteHappening, SitePast, trip, trip_of}
 use Rattle.fed_rules.specs.SiteRecords.{Home}
-use Rattle.fed_rules.specs.Story.{Happened, AtSite, AtCoordinator, Nowhere, Story, Told, past_of, coord_past, with_coordinator, sent_to, sends_to, at_site, at_coordinator, attempt, unless_begun, begins_local, on_begin, with_live, next_step, on_step, on_commit, on_abort, on_fate, begins_global, on_go, on_attempt, on_site, on_give, on_take, happens, tell, story_of, place_from, sent_from, places_of, line_of, lines_of}
-use Rattle.trace_lines.specs.Fits.{is_begin_answer, is_step_answer, is_commit_answer, is_ask_answer, answer_fits, is_only, places_fit, line_fits}
-use Rattle.mdb_top.proofs.PlainCommands.{IsDeclared, IsPlain, ArePlain}
-use Rattle.mdb_top.proofs.Untripped.{by_when, by_pick, line_begin, line_act, line_commit, line_abort, line_fate, line_ask, line_drop, stays_untripped}
+use Rattle.fed_rules.specs.Story.{Happened, AtSite, AtCoordinator, Nowhere, Story, place_from, sent_from, places_of}
+use Rattle.trace_lines.specs.Fits.{is_step_answer, is_commit_answer, answer_fits, is_only, places_fit, line_fits}
+use Rattle.mdb_top.proofs.Untripped.{by_when, by_pick, line_begin, line_act, line_commit, line_abort}
 
 -- a site's answer is one that the command can have, it sends nothing, and no trip is armed
 pub record IsQuietly (command : Command) (x : SiteHappening) : Type 0 where
@@ -54,10 +37,10 @@ pub record IsNowhere (command : Command) (answer : Answer) : Type 0 where
   pub answer_is : answer_fits command answer ≡ true
   pub other : is_only answer ≡ false
 
--- what a command made happen, unless the coordinator heard of it
+-- what a command of a local transaction made happen, of which the coordinator never hears
 abbrev pub IsFit : Story → Command → Happened → Type 0
 IsFit story command (AtSite at x) = IsAtSite story command at x
-IsFit story command (AtCoordinator x) = Unit {0}
+IsFit story command (AtCoordinator x) = ⊥
 IsFit story command (Nowhere answer) = IsNowhere command answer
 
 -- a begin
@@ -135,37 +118,6 @@ abort_line home past tid tx e =
     subst (IsQuietly (Cmd.Abort tx)) (sym (line_abort home past tid e))
     (by_when (IsQuietly (Cmd.Abort tx)) _ _ _ (record { answer = refl; other = refl; sends = refl; event = refl }) (abort_quietly home past tid tx))
 
--- a question how a transaction ended
-unbegun_quietly : (tx : Tx) (b : Bool) → IsQuietly (Cmd.Fate tx) (quiet (Ev.Fate tx) (cond b Say.Unbegun Say.Ended))
-unbegun_quietly tx true = record { answer = refl; other = refl; sends = refl; event = refl }
-unbegun_quietly tx false = record { answer = refl; other = refl; sends = refl; event = refl }
-
-fate_quietly : (home : Home) (past : SitePast) (tx : Tx) → IsQuietly (Cmd.Fate tx) (of_fate home past tx)
-unfolding of_fate
-fate_quietly home past tx =
-    by_pick (IsQuietly (Cmd.Fate tx)) _ _ _
-    (by_pick (IsQuietly (Cmd.Fate tx)) _ _ _ (unbegun_quietly tx (attempts_of past tx == 0))
-    (λ running. record { answer = refl; other = refl; sends = refl; event = refl }))
-    (λ committed. record { answer = refl; other = refl; sends = refl; event = refl })
-
-pub fate_line : (home : Home) (past : SitePast) (tx : Tx) → trip past ≡ None → IsQuietly (Cmd.Fate tx) (site_line home past (Ev.Fate tx))
-fate_line home past tx e =
-    subst (IsQuietly (Cmd.Fate tx)) (sym (line_fate home past tx e))
-    (by_when (IsQuietly (Cmd.Fate tx)) _ _ _ (record { answer = refl; other = refl; sends = refl; event = refl }) (fate_quietly home past tx))
-
--- a drop
-drop_quietly : (home : Home) (past : SitePast) (tid : Tid) (site : SiteId) → IsQuietly (Cmd.Drop site tid) (of_drop home past tid)
-unfolding of_drop
-drop_quietly home past tid site =
-    by_when (IsQuietly (Cmd.Drop site tid)) _ _ _ (record { answer = refl; other = refl; sends = refl; event = refl })
-    (by_pick (IsQuietly (Cmd.Drop site tid)) _ _ _ (record { answer = refl; other = refl; sends = refl; event = refl })
-    (λ run. record { answer = refl; other = refl; sends = refl; event = refl }))
-
-pub drop_line : (home : Home) (past : SitePast) (tid : Tid) (site : SiteId) → trip past ≡ None → IsQuietly (Cmd.Drop site tid) (site_line home past (Ev.Drop tid))
-drop_line home past tid site e =
-    subst (IsQuietly (Cmd.Drop site tid)) (sym (line_drop home past tid e))
-    (by_when (IsQuietly (Cmd.Drop site tid)) _ _ _ (record { answer = refl; other = refl; sends = refl; event = refl }) (drop_quietly home past tid site))
-
 -- a line that sends nothing fits wherever it stands
 pub quiet_fits : (story : Story) (command : Command) (at : SiteId) (x : SiteHappening) → IsQuietly command x → IsAtSite story command at x
 quiet_fits story command at x q = record {
@@ -173,29 +125,3 @@ quiet_fits story command at x q = record {
     ap₂ (λ b places. b && places_fit command x.answer places) q.answer none ∙ ap not q.other);
   event = q.event;
 }
-
--- an inquiry is sent by the site that is asked
-ask_fits : (home : Home) (story : Story) (site : SiteId) (tid : Tid) → home.site.0 ≡ site.0 → IsAtSite story (Cmd.Ask site tid) home.site (of_ask home (past_of home.site story) tid)
-unfolding of_ask
-ask_fits home story site tid named =
-    by_pick (IsAtSite story (Cmd.Ask site tid) home.site) _ _ _ (record { fits = refl; event = refl })
-    (λ held. record { fits = eq-eqb home.site.0 site.0 named; event = refl })
-
-pub ask_line : (home : Home) (story : Story) (site : SiteId) (tid : Tid) → home.site.0 ≡ site.0 → trip (past_of home.site story) ≡ None
-    → IsAtSite story (Cmd.Ask site tid) home.site (site_line home (past_of home.site story) (Ev.Ask tid))
-ask_line home story site tid named e =
-    subst (IsAtSite story (Cmd.Ask site tid) home.site) (sym (line_ask home (past_of home.site story) tid e))
-    (by_when (IsAtSite story (Cmd.Ask site tid) home.site) _ _ _ (record { fits = refl; event = refl }) (ask_fits home story site tid named))
-
--- what a home is called
-pub home_named : (lines : List SiteLine) (items : List ItemLine) (site : SiteId) (home : Home) → home_in lines items site ≡ Some home → home.site.0 ≡ site.0
-home_named [] items site home e = absurd cc
-home_named (line ∷ lines) items site home e = by_test (same_site line.site site) refl e (home_named lines items site home)
-  where
-    by_test : (b : Bool) → same_site line.site site ≡ b
-        → cond b (Some (record { site = line.site; engine = line.engine; protocol = line.protocol; items = items_of items site })) (home_in lines items site) ≡ Some home
-        → (home_in lines items site ≡ Some home → home.site.0 ≡ site.0) → home.site.0 ≡ site.0
-    by_test true is e rest =
-        let same : record { site = line.site; engine = line.engine; protocol = line.protocol; items = items_of items site } ≡ home = cc in
-        sym (ap (λ (h : Home). h.site.0) same) ∙ eqb-true line.site.0 site.0 is
-    by_test false is e rest = rest e

@@ -1,5 +1,4 @@
 mod FitStories
 mod Fits
-mod PlainCommands
 mod Progress
 mod Untripped

@@ -1,16 +1,12 @@
--- In a story of plain commands no trip is ever armed, and a site answers as its rules say, or that it is down.
-use Rattle.std.proofs.Common.{◌≡◌, ℕ, Bool, true, false, cond, Option, Some, None, List, [], ◌∷◌, length, refl, sym, ◌∙◌, ap, subst}
+-- Without an armed trip a site answers each event of a local transaction as its rules say, or that it is down.
+use Rattle.std.proofs.Common.{◌≡◌, Bool, true, false, cond, Option, Some, None, ◌∷◌, length, refl, ◌∙◌, ap}
 use Rattle.mdb_base.specs.declared.acts.PlainAct.{PlainAct}
-use Rattle.mdb_base.specs.declared.names.SiteId.{SiteId}
 use Rattle.mdb_base.specs.declared.names.Tid.{Tid}
-use Rattle.mdb_base.specs.declared.names.Tx.{Tx}
-use Rattle.mdb_base.specs.Names.{same_site}
 use Rattle.mdb_base.specs.Words.{when, pick}
 use Rattle.fed_rules.specs.declared.answers.Answer.TheVariants as Say
-use Rattle.fed_rules.specs.declared.events.SiteEvent.{SiteEvent}
 use Rattle.fed_rules.specs.declared.events.SiteEvent.TheVariants as Ev
 use Rattle.fed_rules.specs.Happenings.{Trip, quiet, is_down, stops, used, set, tripped}
-use Rattle.fed_rules.specs.Site.{answered, unless_tripped, site_line, of_begin, of_act, of_commit, of_abort, of_fate, of_ask, of_drop}
+use Rattle.fed_rules.specs.Site.{answered, unless_tripped, site_line, of_begin, of_act, of_commit, of_abort}
 use Rattle.fed_rules.specs.SitePast.{SiteHappening, SitePast, disk, trip, trip_of}
 use Rattle.fed_rules.specs.SiteRecords.{Home, site_frame}
 
@@ -25,28 +21,12 @@ unfolding pick
 by_pick P None x f p q = p
 by_pick P (Some v) x f p q = q v
 
--- what holds of one branch holds of a choice that takes it
-pub by_none : {A B : Type 0} (P : B → Type 0) (o : Option A) (x : B) (f : A → B) → o ≡ None → P x → P (pick o x f)
-unfolding pick
-by_none P None x f e p = p
-by_none P (Some v) x f e p = absurd cc
-
-pub by_some : {A B : Type 0} (P : B → Type 0) (o : Option A) (x : B) (f : A → B) (v : A) → o ≡ Some v → P (f v) → P (pick o x f)
-unfolding pick
-by_some P None x f v e p = absurd cc
-by_some P (Some w) x f v e p = let same : w ≡ v = cc in subst (λ u. P (f u)) (sym same) p
-
-pub by_false : {A : Type 0} (P : A → Type 0) (b : Bool) (x y : A) → b ≡ false → P y → P (when b x y)
-unfolding when
-by_false P true x y e p = absurd cc
-by_false P false x y e p = p
-
 -- without an armed trip a line is what the rules say
 untripped_line : (home : Home) (past : SitePast) (x : SiteHappening) → trip past ≡ None → unless_tripped home past x ≡ x
 unfolding tripped
 untripped_line home past x e = ap (λ t. tripped site_frame (disk home past) t x) e
 
--- at each event that stops and starts nobody
+-- at each event of a local transaction
 pub line_begin : (home : Home) (past : SitePast) (tid : Tid) → trip past ≡ None → site_line home past (Ev.Begin tid) ≡ when (is_down past) (quiet (Ev.Begin tid) Say.Down) (of_begin home past tid)
 unfolding site_line answered
 line_begin home past tid e = ap (when (is_down past) (quiet (Ev.Begin tid) Say.Down)) (untripped_line home past (of_begin home past tid) e)
@@ -62,18 +42,6 @@ line_commit home past tid e = ap (when (is_down past) (quiet (Ev.Commit tid) Say
 pub line_abort : (home : Home) (past : SitePast) (tid : Tid) → trip past ≡ None → site_line home past (Ev.Abort tid) ≡ when (is_down past) (quiet (Ev.Abort tid) Say.Down) (of_abort home past tid)
 unfolding site_line answered
 line_abort home past tid e = ap (when (is_down past) (quiet (Ev.Abort tid) Say.Down)) (untripped_line home past (of_abort home past tid) e)
-
-pub line_fate : (home : Home) (past : SitePast) (tx : Tx) → trip past ≡ None → site_line home past (Ev.Fate tx) ≡ when (is_down past) (quiet (Ev.Fate tx) Say.Down) (of_fate home past tx)
-unfolding site_line answered
-line_fate home past tx e = ap (when (is_down past) (quiet (Ev.Fate tx) Say.Down)) (untripped_line home past (of_fate home past tx) e)
-
-pub line_ask : (home : Home) (past : SitePast) (tid : Tid) → trip past ≡ None → site_line home past (Ev.Ask tid) ≡ when (is_down past) (quiet (Ev.Ask tid) Say.Down) (of_ask home past tid)
-unfolding site_line answered
-line_ask home past tid e = ap (when (is_down past) (quiet (Ev.Ask tid) Say.Down)) (untripped_line home past (of_ask home past tid) e)
-
-pub line_drop : (home : Home) (past : SitePast) (tid : Tid) → trip past ≡ None → site_line home past (Ev.Drop tid) ≡ when (is_down past) (quiet (Ev.Drop tid) Say.Down) (of_drop home past tid)
-unfolding site_line answered
-line_drop home past tid e = ap (when (is_down past) (quiet (Ev.Drop tid) Say.Down)) (untripped_line home past (of_drop home past tid) e)
 
 -- a line that arms no trip leaves none armed
 pub stays_untripped : (x : SiteHappening) (past : SitePast) → trip_of x.event ≡ None → trip past ≡ None → trip (x ∷ past) ≡ None
