@@ -1,5 +1,4 @@
 mod ClosedWorlds
-mod Closings
 mod Inserted
 mod LiveLists
 mod LiveSteps
@@ -8,6 +7,7 @@ mod Moved
 mod Owned
 mod PlaceLaws
 mod ReportLaws
+pub mod SerialWorlds
 mod Sites
 mod TellsAbort
 mod TellsBegin

@@ -13,6 +13,7 @@ use Rattle.fed_rules.specs.SitePast.{SitePast, epoch_start, engine_lines, run_of
 use Rattle.fed_rules.specs.Story.{attempt}
 use Rattle.engine_laws.proofs.Runs.{tid_is, attempts_have}
 use Rattle.site_laws.specs.Locals.{begun_here, IsRunning}
+use Rattle.site_laws.proofs.OpenRuns.{is_open, open_tids, IsOpen, open_in, in_open}
 use Rattle.site_laws.proofs.RisingLists.{rising_one}
 use Rattle.fed_world.specs.declared.local_site.LocalSite.{LocalSite}
 use Rattle.fed_world.specs.declared.local_tx.Phase.{Phase}
@@ -21,51 +22,6 @@ use Rattle.fed_world.specs.Live.{with_live, live_ones}
 use Rattle.fed_world.specs.Locals.{State, IsPhase}
 use Rattle.fed_world.specs.Stands.{home_from, IsAlone, SiteAt}
 use Rattle.fed_world.proofs.Sites.{in_at}
-
--- whether a run is open
-abbrev is_open : Run → Bool
-is_open run = not (is_sealed run)
-
-abbrev open_tids : (Tid → Option Run) → List Tid → List Tid
-open_tids look tids = map (λ run. run.tid) (those is_open (found look tids))
-
--- an attempt with an open run
-record IsOpen (look : Tid → Option Run) (tids : List Tid) (tid : Tid) : Type 0 where
-  run : Run
-  listed : In tid tids
-  own : look tid ≡ Some run
-  unsealed : is_sealed run ≡ false
-
-open_in : (look : Tid → Option Run) → ((t : Tid) (r : Run) → look t ≡ Some r → r.tid ≡ t) → (tids : List Tid) (z : Tid) → In z (open_tids look tids) → IsOpen look tids z
-open_in look owns [] z i = absurd i
-open_in look owns (t ∷ ts) z i = by_look (look t) refl i (open_in look owns ts z)
-  where
-    further : IsOpen look ts z → IsOpen look (t ∷ ts) z
-    further o = record { run = o.run; listed = inr o.listed; own = o.own; unsealed = o.unsealed }
-
-    by_seal : (r : Run) (b : Bool) → look t ≡ Some r → is_sealed r ≡ b → In z (map (λ run. run.tid) (cond (not b) (r ∷ those is_open (found look ts)) (those is_open (found look ts)))) → (In z (open_tids look ts) → IsOpen look ts z) → IsOpen look (t ∷ ts) z
-    by_seal r true e f i k = further (k i)
-    by_seal r false e f (inl s) k = (let here : t ≡ z = sym (owns t r e) ∙ s in record { run = r; listed = inl here; own = subst (λ u. look u ≡ Some r) here e; unsealed = f })
-    by_seal r false e f (inr j) k = further (k j)
-
-    by_look : (o : Option Run) → look t ≡ o → In z (map (λ run. run.tid) (those is_open (with_some o (found look ts)))) → (In z (open_tids look ts) → IsOpen look ts z) → IsOpen look (t ∷ ts) z
-    by_look None e i k = further (k i)
-    by_look (Some r) e i k = by_seal r (is_sealed r) e refl i k
-
-in_open : (look : Tid → Option Run) (tids : List Tid) (z : Tid) (run : Run) → In z tids → look z ≡ Some run → run.tid ≡ z → is_sealed run ≡ false → In z (open_tids look tids)
-in_open look [] z run i e own f = absurd i
-in_open look (t ∷ ts) z run i e own f = by_look (look t) refl i (λ j. in_open look ts z run j e own f)
-  where
-    by_seal : (r : Run) (b : Bool) → is_sealed r ≡ b → (t ≡ z → r ≡ run) → In z (t ∷ ts) → (In z ts → In z (open_tids look ts)) → In z (map (λ run. run.tid) (cond (not b) (r ∷ those is_open (found look ts)) (those is_open (found look ts))))
-    by_seal r true g same (inl s) k = (let h : is_sealed run ≡ true = subst (λ u. is_sealed u ≡ true) (same s) g in cc)
-    by_seal r true g same (inr j) k = k j
-    by_seal r false g same (inl s) k = inl (ap (λ (u : Run). u.tid) (same s) ∙ own)
-    by_seal r false g same (inr j) k = inr (k j)
-
-    by_look : (o : Option Run) → look t ≡ o → In z (t ∷ ts) → (In z ts → In z (open_tids look ts)) → In z (map (λ run. run.tid) (those is_open (with_some o (found look ts))))
-    by_look None g (inl s) k = (let h : look z ≡ None = subst (λ u. look u ≡ None) s g in cc)
-    by_look None g (inr j) k = k j
-    by_look (Some r) g i k = by_seal r (is_sealed r) refl (λ s. (let h : look z ≡ Some r = subst (λ u. look u ≡ Some r) s g in cc)) i k
 
 open_distinct : (look : Tid → Option Run) → ((t : Tid) (r : Run) → look t ≡ Some r → r.tid ≡ t) → (tids : List Tid) → Distinct tids → Distinct (open_tids look tids)
 open_distinct look owns [] d = tt
@@ -186,12 +142,3 @@ live_is stands scenario line site past count alone s right =
         let own : run_of (home_from scenario line) past z ≡ Some r.run = subst (λ t. run_of (home_from scenario line) past t ≡ Some r.run) k.is r.own in
         in_open (run_of (home_from scenario line) past) (begun_here (home_from scenario line) past) z r.run (attempts_have (epoch_start (home_from scenario line) past) (engine_lines past) right z r.run own) own (owns z r.run own)
         (ap (λ (o : Option ℕ). is_some o) r.unsealed))
-
--- each live attempt was begun
-pub live_begun : {A : Type 0} (stands : A → Start → List EngineLine → Type 0) (scenario : Scenario) (line : SiteLine) (site : LocalSite A) (past : SitePast) (count : ℕ) → SiteAt stands scenario line site past count
-    → IsRight (epoch_start (home_from scenario line) past) (engine_lines past) → (z : Tid) → In z (live_ones scenario.transactions site.locals.items) → In z (begun_here (home_from scenario line) past)
-live_begun stands scenario line site past count s right z i =
-    let k = live_kept scenario.transactions site.locals.items z i in
-    let agrees = s.locals k.place k.line k.state k.at k.got in
-    let phase = subst (λ p. IsPhase p (home_from scenario line) past k.line.tx k.state) k.phase agrees.phase in
-    attempts_have (epoch_start (home_from scenario line) past) (engine_lines past) right z phase.1.run (subst (λ t. run_of (home_from scenario line) past t ≡ Some phase.1.run) k.is phase.1.own)

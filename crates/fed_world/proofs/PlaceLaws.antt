@@ -22,12 +22,3 @@ first_where-more test (x ∷ xs) (suc place) d e lt t = by_test (test x) e (λ h
     by_test : (b : Bool) → cond b (Some x) (first_where test (take place xs)) ≡ None → (first_where test (take place xs) ≡ None → first_where test (take (suc place) xs) ≡ None) → cond b (Some x) (first_where test (take (suc place) xs)) ≡ None
     by_test true e k = cc
     by_test false e k = k e
-
--- what is found passes
-pub first_where-passes : {A : Type 0} (test : A → Bool) (xs : List A) (x : A) → first_where test xs ≡ Some x → test x ≡ true
-first_where-passes test [] x e = cc
-first_where-passes test (y ∷ ys) x e = by_test (test y) refl e (first_where-passes test ys x)
-  where
-    by_test : (b : Bool) → test y ≡ b → cond b (Some y) (first_where test ys) ≡ Some x → (first_where test ys ≡ Some x → test x ≡ true) → test x ≡ true
-    by_test true t e k = (let same : y ≡ x = cc in subst (λ z. test z ≡ true) same t)
-    by_test false t e k = k e

@@ -24,40 +24,12 @@ use Rattle.fed_rules.specs.Story.{Story, past_of, coord_past}
 use Rattle.site_laws.specs.Locals.{installed_tids}
 use Rattle.site_laws.proofs.LocalInstalls.{due_installed, installed_rows}
 use Rattle.site_laws.proofs.OneOrder.{least_merge-one}
+use Rattle.site_laws.proofs.OneSite.{one_site, one_home}
+use Rattle.site_laws.proofs.Reversed.{map_reverse, in_reverse, distinct_reverse, map_same}
 use Rattle.fed_world.specs.declared.local_site.LocalSite.{LocalSite}
 use Rattle.fed_world.specs.Reports.{member_tid, reads_of_member}
 use Rattle.fed_world.specs.Stands.{home_from, start_at, numbered, SiteStands}
-use Rattle.fed_world.proofs.Closings.{one_site, one_home}
 use Rattle.fed_world.proofs.MemberReads.{member_read}
-
-reverse_more : {A : Type 0} (x : A) (xs : List A) → reverse (x ∷ xs) ≡ reverse xs ++ x ∷ []
-reverse_more x xs = reverse-append (x ∷ []) xs
-
-map_push : {A B : Type 0} (f : A → B) (xs : List A) (y : A) → map f (xs ++ y ∷ []) ≡ map f xs ++ f y ∷ []
-map_push f [] y = refl
-map_push f (x ∷ xs) y = ap (λ zs. f x ∷ zs) (map_push f xs y)
-
-map_reverse : {A B : Type 0} (f : A → B) (xs : List A) → map f (reverse xs) ≡ reverse (map f xs)
-map_reverse f [] = refl
-map_reverse f (x ∷ xs) = ap (λ zs. map f zs) (reverse_more x xs) ∙ (map_push f (reverse xs) x ∙ (ap (λ zs. zs ++ f x ∷ []) (map_reverse f xs) ∙ sym (reverse_more (f x) (map f xs))))
-
-in_push : {A : Type 0} (xs : List A) (y z : A) → In z (xs ++ y ∷ []) → In z (y ∷ xs)
-in_push [] y z i = i
-in_push (x ∷ xs) y z (inl e) = inr (inl e)
-in_push (x ∷ xs) y z (inr i) = elim (in_push xs y z i) [ inl e ↦ inl e | inr j ↦ inr (inr j) ]
-
-distinct_push : {A : Type 0} (xs : List A) (y : A) → Distinct xs → (In y xs → ⊥) → Distinct (xs ++ y ∷ [])
-distinct_push [] y d new = ((λ i. i), tt)
-distinct_push (x ∷ xs) y d new =
-    ((λ i. elim (in_push xs y x i) [ inl e ↦ new (inl (sym e)) | inr j ↦ d.0 j ]), distinct_push xs y d.1 (λ i. new (inr i)))
-
-in_reverse : {A : Type 0} (xs : List A) (z : A) → In z (reverse xs) → In z xs
-in_reverse [] z i = i
-in_reverse (x ∷ xs) z i = elim (in_push (reverse xs) x z (subst (λ zs. In z zs) (reverse_more x xs) i)) [ inl e ↦ inl e | inr j ↦ inr (in_reverse xs z j) ]
-
-distinct_reverse : {A : Type 0} (xs : List A) → Distinct xs → Distinct (reverse xs)
-distinct_reverse [] d = tt
-distinct_reverse (x ∷ xs) d = subst (λ zs. Distinct zs) (sym (reverse_more x xs)) (distinct_push (reverse xs) x (distinct_reverse xs d.1) (λ i. d.0 (in_reverse xs x i)))
 
 tids_numbered : (xs : List Install) → map member_tid (map numbered xs) ≡ map (λ (i : Install). i.tid) xs
 tids_numbered [] = refl
@@ -95,10 +67,6 @@ site_table stands scenario site story s =
 pub site_tables : {A : Type 0} (stands : A → Start → List EngineLine → Type 0) (scenario : Scenario) (site : LocalSite A) (story : Story) → (s : SiteStands stands scenario site story)
     → tables scenario story ≡ record { site = s.line.site; rows = table_of scenario story s.line.site } ∷ []
 site_tables stands scenario site story s = ap (λ ss. map (λ (i : _). let r : SiteRows = record { site = i; rows = table_of scenario story i } in r) ss) (one_site scenario s.line s.alone.sites)
-
-map_same : {A B : Type 0} (f g : A → B) (xs : List A) → ((x : A) → In x xs → f x ≡ g x) → map f xs ≡ map g xs
-map_same f g [] h = refl
-map_same f g (x ∷ xs) h = ap₂ (λ y ys. y ∷ ys) (h x (inl refl)) (map_same f g xs (λ y i. h y (inr i)))
 
 -- the report, from its parts
 pub report_is : {A : Type 0} (stands : A → Start → List EngineLine → Type 0) (scenario : Scenario) (site : LocalSite A) (story : Story) (report : Report) → (s : SiteStands stands scenario site story) → coord_past story ≡ []

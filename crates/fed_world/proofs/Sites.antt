@@ -23,12 +23,13 @@ use Rattle.site_laws.specs.Locals.{IsCounted, IsInstalled}
 use Rattle.site_laws.proofs.Installed.{installed_same}
 use Rattle.site_laws.proofs.Counted.{begun_next, counted_same}
 use Rattle.site_laws.proofs.Attempts.{same_tx-equal, same_tx-refl}
+use Rattle.site_laws.proofs.LiveRuns.{first_where-passes}
+use Rattle.site_laws.proofs.Unmoved.{other_unmoved, silent_unmoved}
 use Rattle.fed_world.specs.declared.local_site.LocalSite.{LocalSite}
 use Rattle.fed_world.specs.Locals.{State, Agrees}
 use Rattle.fed_world.specs.Places.{IsPlace}
 use Rattle.fed_world.specs.Stands.{home_from, start_at, numbered, IsAlone, AllAgree, SiteAt, SiteStands, IsTold}
-use Rattle.fed_world.proofs.PlaceLaws.{first_where-passes}
-use Rattle.fed_world.proofs.Unmoved.{other_unmoved, silent_unmoved, agrees_unmoved}
+use Rattle.fed_world.proofs.Unmoved.{agrees_unmoved}
 
 pub each_at : {A : Type 0} (P : A → Type 0) (xs : List A) (i : ℕ) (x : A) → Each P xs → slice_get xs i ≡ Some x → P x
 each_at P [] i x h e = cc

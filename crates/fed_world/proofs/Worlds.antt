@@ -31,14 +31,15 @@ story_short scenario commands h = subst (λ n. n + 1 < 2 ^ 64) (sym (story-lengt
 
 -- the world with the line of a command
 pub applied : {A : Type 0} (stands : A → Start → List EngineLine → Type 0) (old new : World A) (scenario : Scenario) (commands : List Command) (command : Command) (answer : Answer) (sends : List Place)
-    → Stands stands old scenario commands → new.scenario ≡ old.scenario → new.lines.items ≡ old.lines.items ++ record { command = command; answer = answer; sends = sends } ∷ [] → sends ≡ []
+    → Stands stands old scenario commands → IsLocal command → new.scenario ≡ old.scenario → new.lines.items ≡ old.lines.items ++ record { command = command; answer = answer; sends = sends } ∷ [] → sends ≡ []
     → answer ≡ answer_of (happens scenario (story_of scenario commands) command) → places_of (story_of scenario commands) (happens scenario (story_of scenario commands) command) ≡ []
     → coord_past (story_of scenario (command ∷ commands)) ≡ coord_past (story_of scenario commands) → PartStands stands scenario new.site (story_of scenario (command ∷ commands))
     → Stands stands new scenario (command ∷ commands)
-applied stands old new scenario commands command answer sends s same lines none told places coord site =
+applied stands old new scenario commands command answer sends s local same lines none told places coord site =
     let pushed : List Line → (a : Answer) → (ps : List Place) → List Line = λ before a ps. before ++ record { command = command; answer = a; sends = ps } ∷ [] in
     record {
       scenario_is = same ∙ s.scenario_is;
+      local = (local, s.local);
       lines = lines ∙ (ap (λ before. pushed before answer sends) s.lines
           ∙ ap₂ (λ a ps. pushed (oldest_first (lines_of (story_of scenario commands))) a ps) told (none ∙ sym places));
       site = site;
@@ -47,10 +48,10 @@ applied stands old new scenario commands command answer sends s same lines none 
 
 -- the line that the site told
 pub applied_told : {A : Type 0} (stands : A → Start → List EngineLine → Type 0) (old new : World A) (site : LocalSite A) (scenario : Scenario) (commands : List Command) (command : Command) (answer printed : Answer) (sends : List Place)
-    → Stands stands old scenario commands → new.scenario ≡ old.scenario → new.lines.items ≡ old.lines.items ++ record { command = command; answer = printed; sends = sends } ∷ [] → sends ≡ [] → printed ≡ answer
+    → Stands stands old scenario commands → IsLocal command → new.scenario ≡ old.scenario → new.lines.items ≡ old.lines.items ++ record { command = command; answer = printed; sends = sends } ∷ [] → sends ≡ [] → printed ≡ answer
     → new.site ≡ Some site → IsTold stands scenario (story_of scenario commands) command answer site → Stands stands new scenario (command ∷ commands)
-applied_told stands old new site scenario commands command answer printed sends s same lines none shown is told =
-    applied stands old new scenario commands command printed sends s same lines none (shown ∙ told.told) told.sends told.uncoordinated
+applied_told stands old new site scenario commands command answer printed sends s local same lines none shown is told =
+    applied stands old new scenario commands command printed sends s local same lines none (shown ∙ told.told) told.sends told.uncoordinated
     (subst (λ part. PartStands stands scenario part (story_of scenario (command ∷ commands))) (sym is) told.next)
 
 -- without transactions nothing hears of a local command
@@ -78,7 +79,7 @@ pub applied_none : {A : Type 0} (stands : A → Start → List EngineLine → Ty
 applied_none stands old new scenario commands command printed sends s same lines none shown local was is =
     let part = subst (λ part. PartStands stands scenario part (story_of scenario commands)) was s.site in
     let h = none_hears scenario (story_of scenario commands) command local part.1 in
-    applied stands old new scenario commands command printed sends s same lines none (shown ∙ sym (ap answer_of h)) (ap (places_of (story_of scenario commands)) h)
+    applied stands old new scenario commands command printed sends s local same lines none (shown ∙ sym (ap answer_of h)) (ap (places_of (story_of scenario commands)) h)
     (ap (λ x. with_coordinator x (coord_past (story_of scenario commands))) h)
     (subst (λ part. PartStands stands scenario part (story_of scenario (command ∷ commands))) (sym is) part)
 
@@ -112,6 +113,7 @@ fresh_stands stands scenario site line can places states commits = record {
 pub roomy : {A : Type 0} (stands : A → Start → List EngineLine → Type 0) (old new : World A) (scenario : Scenario) (commands : List Command) → Stands stands old scenario commands → new.scenario ≡ old.scenario → new.lines.items ≡ old.lines.items → new.site ≡ old.site → Stands stands new scenario commands
 roomy stands old new scenario commands s same lines site = record {
   scenario_is = same ∙ s.scenario_is;
+  local = s.local;
   lines = lines ∙ s.lines;
   site = subst (λ part. PartStands stands scenario part (story_of scenario commands)) (sym site) s.site;
   uncoordinated = s.uncoordinated;

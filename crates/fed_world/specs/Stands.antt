@@ -19,21 +19,11 @@ use Rattle.fed_rules.specs.SiteRecords.{Home, Install, installs}
 use Rattle.fed_rules.specs.Story.{Story, story_of, tell, happens, answer_of, places_of, lines_of, past_of, coord_past}
 use Rattle.engine_contract.specs.Calls.{fresh_start}
 use Rattle.site_laws.specs.Locals.{IsCalm, IsCounted, IsInstalled}
+pub use Rattle.site_laws.specs.Sessions.{home_from, IsAlone, IsLocal}
 use Rattle.fed_world.specs.declared.local_site.LocalSite.{LocalSite}
 use Rattle.fed_world.specs.declared.commits.Numbered.{Numbered}
 use Rattle.fed_world.specs.declared.world.World.{World}
 use Rattle.fed_world.specs.Locals.{State, Agrees}
-
--- the site as its line and the items set it up
-abbrev pub home_from : Scenario → SiteLine → Home
-home_from scenario line =
-    record { site = line.site; engine = line.engine; protocol = line.protocol; items = items_of scenario.items line.site }
-
--- the scenario has this site alone, and its transactions are local there and differ in their numbers
-pub record IsAlone (scenario : Scenario) (line : SiteLine) : Type 0 where
-  pub sites : scenario.sites ≡ line ∷ []
-  pub homes : Each (λ tx_line. tx_line.home ≡ Some line.site) scenario.transactions
-  pub numbers : Distinct (map (λ tx_line. tx_line.tx) scenario.transactions)
 
 -- the engine stands for a new site of this line
 pub record CanStartAt {A : Type 0} (stands : A → Start → List EngineLine → Type 0) (scenario : Scenario) (line : SiteLine) (engine : A) : Type 0 where
@@ -80,9 +70,10 @@ abbrev pub PartStands : {A : Type 0} → (A → Start → List EngineLine → Ty
 PartStands stands scenario None story = (scenario.sites ≡ []) × (scenario.transactions ≡ [])
 PartStands stands scenario (Some site) story = SiteStands stands scenario site story
 
--- the world stands for this scenario and these commands
+-- the world stands for this scenario and these commands, which are local ones
 pub record Stands {A : Type 0} (stands : A → Start → List EngineLine → Type 0) (world : World A) (scenario : Scenario) (commands : List Command) : Type 0 where
   pub scenario_is : world.scenario ≡ scenario
+  pub local : Each IsLocal commands
   pub lines : world.lines.items ≡ oldest_first (lines_of (story_of scenario commands))
   pub site : PartStands stands scenario world.site (story_of scenario commands)
   pub uncoordinated : coord_past (story_of scenario commands) ≡ []
@@ -97,14 +88,6 @@ pub record SomeStory {A : Type 0} (stands : A → Start → List EngineLine → 
 -- the fact holds of every scenario and commands that the world stands for
 abbrev pub EachStory : {A : Type 0} → (A → Start → List EngineLine → Type 0) → World A → (Scenario → List Command → Type 0) → Type 0
 EachStory stands world P = (scenario : Scenario) (commands : List Command) → Stands stands world scenario commands → P scenario commands
-
--- the command is one of a local transaction
-abbrev pub IsLocal : Command → Type 0
-IsLocal (Cmd.Begin tx) = Unit {0}
-IsLocal (Cmd.Step tx) = Unit {0}
-IsLocal (Cmd.Commit tx) = Unit {0}
-IsLocal (Cmd.Abort tx) = Unit {0}
-IsLocal command = ⊥
 
 -- the numbers of one more command fit
 abbrev pub FewCommands : Scenario → List Command → Type 0

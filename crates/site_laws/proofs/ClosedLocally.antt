@@ -22,6 +22,7 @@ use Rattle.engine_laws.proofs.Runs.{tid_is}
 use Rattle.site_laws.specs.Sessions.{home_from, IsAlone, IsLocal, LocalSessionsCloseLocally}
 use Rattle.site_laws.proofs.Counted.{counted_local}
 use Rattle.site_laws.proofs.OneSite.{one_site, no_site, one_home}
+use Rattle.site_laws.proofs.OpenRuns.{open_in}
 use Rattle.site_laws.proofs.Orderly.{IsOrderly, each_in}
 use Rattle.site_laws.proofs.RisingLists.{in_rising}
 use Rattle.site_laws.proofs.SerialSessions.{orderly}
@@ -62,32 +63,6 @@ closed_none scenario commands e quiet =
     ∙ (ap (λ cs. ask_all scenario (end_known scenario cs)) cleared
     ∙ (ap (λ cs. ask_all scenario cs) ended ∙ asked))))
 
--- what a look-up finds and a test passes
-record IsFound (look : Tid → Option Run) (xs : List Tid) (tid : Tid) : Type 0 where
-  at : Tid
-  listed : In at xs
-  run : Run
-  is : look at ≡ Some run
-  of : run.tid ≡ tid
-
-found_from : (look : Tid → Option Run) (test : Run → Bool) (xs : List Tid) (tid : Tid) → In tid (map (λ (run : Run). run.tid) (those test (found look xs))) → IsFound look xs tid
-found_from look test [] tid i = absurd i
-found_from look test (x ∷ xs) tid i = by_look (look x) refl i (λ j. more (found_from look test xs tid j))
-  where
-    more : IsFound look xs tid → IsFound look (x ∷ xs) tid
-    more f = record { at = f.at; listed = inr f.listed; run = f.run; is = f.is; of = f.of }
-
-    by_test : (run : Run) (b : Bool) → look x ≡ Some run → In tid (map (λ (r : Run). r.tid) (cond b (run ∷ those test (found look xs)) (those test (found look xs))))
-        → (In tid (map (λ (r : Run). r.tid) (those test (found look xs))) → IsFound look (x ∷ xs) tid) → IsFound look (x ∷ xs) tid
-    by_test run true e (inl of) k = record { at = x; listed = inl refl; run = run; is = e; of = of }
-    by_test run true e (inr j) k = k j
-    by_test run false e j k = k j
-
-    by_look : (o : Option Run) → look x ≡ o → In tid (map (λ (r : Run). r.tid) (those test (with_some o (found look xs))))
-        → (In tid (map (λ (r : Run). r.tid) (those test (found look xs))) → IsFound look (x ∷ xs) tid) → IsFound look (x ∷ xs) tid
-    by_look None e j k = k j
-    by_look (Some run) e j k = by_test run (test run) e j k
-
 -- each live attempt is a local one
 live_local : (scenario : Scenario) (line : SiteLine) (story : Story) → IsAlone scenario line → IsOrderly scenario (home_from scenario line) (past_of line.site story)
     → Each (λ tid. is_local (past_of line.site story) tid ≡ true) (live scenario story line.site)
@@ -98,15 +73,9 @@ live_local scenario line story alone o =
     let lines = engine_lines past in
     subst (λ h. Each (λ tid. is_local past tid ≡ true) (live_at h story)) (sym (one_home scenario line alone.sites))
     (each_in (λ tid. is_local past tid ≡ true) (live_at (Some home) story)
-    (λ tid i. local tid (found_from (run_at start lines) (λ run. not (is_sealed run)) (attempts start lines) tid
-    (in_rising (map (λ (run : Run). run.tid) (those (λ run. not (is_sealed run)) (unended start lines))) tid i))))
-  where
-    local : (tid : Tid) → IsFound (run_at (epoch_start (home_from scenario line) (past_of line.site story)) (engine_lines (past_of line.site story))) (attempts (epoch_start (home_from scenario line) (past_of line.site story)) (engine_lines (past_of line.site story))) tid
-        → is_local (past_of line.site story) tid ≡ true
-    local tid f =
-        (let own : f.run.tid ≡ f.at = tid_is (epoch_start (home_from scenario line) (past_of line.site story)) (engine_lines (past_of line.site story)) o.right f.at f.run f.is in
-        let same : f.at ≡ tid = sym own ∙ f.of in
-        subst (λ t. is_local (past_of line.site story) t ≡ true) same (counted_local (past_of line.site story) f.at f.at.attempt (o.counted.numbered f.at f.listed)))
+    (λ tid i. counted_local past tid tid.attempt (o.counted.numbered tid
+    (open_in (run_at start lines) (tid_is start lines o.right) (attempts start lines) tid
+    (in_rising (map (λ (run : Run). run.tid) (those (λ run. not (is_sealed run)) (unended start lines))) tid i)).listed)))
 
 -- the commands with an abort of each of these
 abbrev pub aborts : List Tid → List Command → List Command

@@ -11,6 +11,7 @@ pub mod LiveTx
 pub mod LocalInstalls
 pub mod OneOrder
 pub mod OneSite
+pub mod OpenRuns
 pub mod Orderly
 pub mod OrderlyLines
 pub mod Own

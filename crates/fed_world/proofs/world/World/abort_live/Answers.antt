@@ -21,6 +21,7 @@ returns-clause-aborted g c scenario commands s =
           none w.answer-is tt w.in-None.is (ap (λ (x : World _). x.site) w.self-is ∙ w.in-None.is)
       | in-Some w ↦
           applied_told g.E.LocalEngine.stands c.args.self.now new w.abort-answer.new.self scenario commands (Cmd.Abort c.args.tx) w.abort-answer.result c.match-self.answer c.of.result s
+          tt
           (ap (λ (x : World _). x.scenario) w.self-is)
           (c.push_reserved.ensures.items ∙ ap (λ (before : List Line). before ++ line ∷ []) (ap (λ (x : World _). x.lines.items) w.self-is))
           none w.answer-is (ap (λ (x : World _). x.site) w.self-is)

@@ -27,6 +27,7 @@ returns-clause-applied g c scenario commands s =
           none w.answer-is c.requires.holds.0 w.in-None.is (ap (λ (x : World _). x.site) w.self-is ∙ w.in-None.is)
       | in-Some+in_ok-answer-in-Some w ↦
           applied_told g.E.LocalEngine.stands c.args.self.now new w.tell.new.self scenario commands c.args.command w.in_ok-answer-in-Some.answer c.match-self.answer c.of.result s
+          c.requires.holds.0
           (ap (λ (x : World _). x.scenario) w.self-is)
           (c.push_reserved.ensures.items ∙ ap (λ (before : List Line). before ++ line ∷ []) (ap (λ (x : World _). x.lines.items) w.self-is ∙ c.in_ok-reserve.ensures.items))
           none w.answer-is (ap (λ (x : World _). x.site) w.self-is)

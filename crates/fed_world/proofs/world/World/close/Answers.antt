@@ -1,10 +1,11 @@
 use Rattle.std.proofs.Common.{List, take, sym, ap, ap₂, ◌∙◌, subst, arith}
+use Rattle.std.proofs.lemmas.List.{take_all}
 use Rattle.mdb_base.specs.declared.names.Tid.{Tid}
 use Rattle.fed_rules.specs.declared.scenario.Scenario.{Scenario}
 use Rattle.fed_rules.specs.Closing.{rising}
 use Rattle.fed_world.specs.Live.{live_ones, with_aborts}
 use Rattle.fed_world.specs.Stands.{Stands}
-use Rattle.fed_world.proofs.ClosedWorlds.{aborts_more, take_all, closed_without, closed_with}
+use Rattle.fed_world.proofs.ClosedWorlds.{aborts_more, closed_without, closed_with}
 use Rattle.fed_world.proofs.world.World.close.Goals as goal
 use Rattle.fed_world.proofs.world.World.close.Goals.{in-None, in-Some+in_ok-live-in-Some}
 
@@ -18,7 +19,7 @@ loop-tid-preserved g c = record {
 pub returns-clause-closed : goal.returns-clause-closed
 returns-clause-closed g c sc cs s =
     let items = c.deref-tid-items.result.now in
-    let then = subst (λ ts. Stands g.E.LocalEngine.stands c.loop-tid.self sc (with_aborts ts cs)) (take_all items c.loop-tid.tid-index c.loop-tid-test.false) (c.loop-tid.invariant.stands sc cs s) in
+    let then = subst (λ ts. Stands g.E.LocalEngine.stands c.loop-tid.self sc (with_aborts ts cs)) (take_all c.loop-tid.tid-index items c.loop-tid-test.false) (c.loop-tid.invariant.stands sc cs s) in
     elim c.match-self.branch [
       | in-None w ↦
           closed_without g.E.LocalEngine.stands c.args.self.now c.loop-tid.self sc cs s w.in-None.is
