@@ -1,11 +1,10 @@
 -- What an input is: too long, no session, a session that doesn't run here yet, or one that does. And the words that ask for a replay.
-use Rattle.std.specs.Prelude.{ℕ, ◌<◌, nat_lt, Bool, true, false, cond, ◌&&◌, codes, string_bytes, Option, Some, None, List, [], ◌∷◌, length, Result, Ok, Err}
+use Rattle.std.specs.Prelude.{ℕ, nat_lt, Bool, true, false, cond, ◌&&◌, codes, string_bytes, is_some, List, [], ◌∷◌, length, Result, Ok, Err}
+use Rattle.std.specs.List.{list_all}
 use Rattle.std.specs.Str.{bytes_eq}
 use Rattle.std.specs.declared.string.String.{String}
 use Rattle.mdb_base.specs.declared.names.Engine.{Engine}
 use Rattle.mdb_base.specs.declared.names.Engine.TheVariants.{Locking, Timestamp, Validation}
-use Rattle.mdb_base.specs.declared.names.SiteId.{SiteId}
-use Rattle.mdb_base.specs.Words.{each_of}
 use Rattle.fed_rules.specs.declared.commands.Command.{Command}
 use Rattle.fed_rules.specs.declared.commands.Command.TheVariants as Cmd
 use Rattle.fed_rules.specs.declared.scenario.SiteLine.{SiteLine}
@@ -33,13 +32,9 @@ is_one_site [] = true
 is_one_site (site ∷ []) = is_locking site.engine
 is_one_site (site ∷ more ∷ sites) = false
 
--- whether the transaction has a home
-abbrev pub has_home : Option SiteId → Bool
-has_home None = false
-has_home (Some site) = true
-
+-- whether the transaction is local
 abbrev pub is_local : TxLine → Bool
-is_local transaction = has_home transaction.home
+is_local transaction = is_some transaction.home
 
 -- whether the command runs here: so far those of local transactions do
 abbrev pub is_local_command : Command → Bool
@@ -52,7 +47,7 @@ is_local_command command = false
 -- whether the session runs here: one locking site at most, and local transactions alone
 abbrev pub runs_here : Session → Bool
 runs_here session =
-    is_one_site session.scenario.sites && each_of is_local session.scenario.transactions && each_of is_local_command session.commands
+    is_one_site session.scenario.sites && list_all is_local session.scenario.transactions && list_all is_local_command session.commands
 
 -- what an input is
 pub data Verdict : Type 0 where

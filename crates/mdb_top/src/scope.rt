@@ -1,11 +1,17 @@
 //! What runs so far: one locking site at most, local transactions, and the commands that speak of them.
 ghost use Rattle.std.specs.Prelude.{◌≡◌};
-ghost use Rattle.mdb_base.specs.Words.{each_of};
+ghost use Rattle.std.specs.List.{list_all};
 ghost use Rattle.mdb_top.specs.Verdicts as verdicts;
 
 use fed_rules::{Command, SiteLine, TxLine};
 use mdb_base::Engine;
 use scenario_text::Session;
+
+fn is_locking(engine: Engine) -> bool
+    ensures { result ≡ verdicts.is_locking engine }
+{
+    matches!(engine, Engine::Locking)
+}
 
 /// Whether there is no site, or a single one that locks.
 fn is_one_site(sites: &[SiteLine]) -> bool
@@ -13,34 +19,30 @@ fn is_one_site(sites: &[SiteLine]) -> bool
 {
     match sites {
         [] => true,
-        [site] => matches!(site.engine, Engine::Locking),
+        [site] => is_locking(site.engine),
         _ => false,
     }
 }
 
-/// Whether each transaction is local.
 fn are_local(transactions: &[TxLine]) -> bool
-    ensures { result ≡ each_of verdicts.is_local transactions.now }
+    ensures { result ≡ list_all verdicts.is_local transactions.now }
 {
-    for line in transactions {
-        if line.home.is_none() {
-            return false;
-        }
-    }
-    true
+    transactions.iter().all(|line| line.home.is_some())
 }
 
-/// Whether each command is one of a local transaction.
-fn are_local_commands(commands: &[Command]) -> bool
-    ensures { result ≡ each_of verdicts.is_local_command commands.now }
+fn is_local_command(command: Command) -> bool
+    ensures { result ≡ verdicts.is_local_command command }
 {
-    for command in commands {
-        match command {
-            Command::Begin(_) | Command::Step(_) | Command::Commit(_) | Command::Abort(_) => {}
-            _ => return false,
-        }
-    }
-    true
+    matches!(
+        command,
+        Command::Begin(_) | Command::Step(_) | Command::Commit(_) | Command::Abort(_)
+    )
+}
+
+fn are_local_commands(commands: &[Command]) -> bool
+    ensures { result ≡ list_all verdicts.is_local_command commands.now }
+{
+    commands.iter().all(|command| is_local_command(*command))
 }
 
 /// Whether a session runs here.
