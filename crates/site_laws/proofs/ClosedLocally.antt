@@ -1,10 +1,9 @@
 -- The commands that close a session of local transactions: an abort of each live attempt.
-use Rattle.std.proofs.Common.{◌≡◌, ℕ, Bool, true, false, cond, not, is_some, Option, Some, None, List, [], ◌∷◌, map, inl, inr, refl, sym, ◌∙◌, ap, ap₂, subst}
+use Rattle.std.proofs.Common.{◌≡◌, Bool, true, false, cond, not, is_some, Some, List, [], ◌∷◌, map, inl, inr, refl, sym, ◌∙◌, ap, ap₂, subst}
 use Rattle.mdb_base.specs.declared.names.SiteId.{SiteId}
 use Rattle.mdb_base.specs.declared.names.Tid.{Tid}
-use Rattle.mdb_base.specs.Words.{Each, those, found, with_some}
+use Rattle.mdb_base.specs.Words.{Each, those, found}
 use Rattle.mdb_base.proofs.ListLaws.{each_map, those_all, those_nothing}
-use Rattle.order_laws.specs.Chains.{In}
 use Rattle.fed_rules.specs.declared.commands.Command.{Command}
 use Rattle.fed_rules.specs.declared.commands.Command.TheVariants as Cmd
 use Rattle.fed_rules.specs.declared.scenario.Scenario.{Scenario}
@@ -15,7 +14,7 @@ use Rattle.fed_rules.specs.CoordPast.{CoordPast}
 use Rattle.fed_rules.specs.Happenings.{is_down}
 use Rattle.fed_rules.specs.Runs.{Run, is_sealed, run_at, attempts, unended}
 use Rattle.fed_rules.specs.Scenarios.{home_of, sites}
-use Rattle.fed_rules.specs.SitePast.{SitePast, epoch_start, engine_lines, run_of, is_local, trip, records}
+use Rattle.fed_rules.specs.SitePast.{SitePast, epoch_start, engine_lines, is_local, trip, records}
 use Rattle.fed_rules.specs.SiteRecords.{doubt_of}
 use Rattle.fed_rules.specs.Story.{Story, story_of, past_of, coord_past}
 use Rattle.engine_laws.proofs.Runs.{tid_is}

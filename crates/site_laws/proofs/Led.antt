@@ -18,7 +18,7 @@ use Rattle.fed_rules.specs.declared.scenario.SiteLine.{SiteLine}
 use Rattle.fed_rules.specs.Runs.{Run, is_sealed, unended}
 use Rattle.fed_rules.specs.Scenarios.{home_in, home_of, home_at, items_of, local_site, local_home, program_of}
 use Rattle.fed_rules.specs.Site.{site_line, done}
-use Rattle.fed_rules.specs.SitePast.{SiteHappening, SitePast, epoch_start, engine_lines, live, live_of_tx, attempts_of}
+use Rattle.fed_rules.specs.SitePast.{SitePast, epoch_start, engine_lines, live, live_of_tx, attempts_of}
 use Rattle.fed_rules.specs.SiteRecords.{Home}
 use Rattle.fed_rules.specs.Story.{Story, Happened, AtSite, AtCoordinator, Nowhere, past_of, story_of, with_site, happens, at_site, at_coordinator, attempt, begins_local, on_begin, with_live, next_step, on_step, on_commit, on_abort, on_fate, begins_global, on_go, on_attempt, on_site, on_give, on_take, on_actor}
 use Rattle.site_laws.specs.Led.{IsAsked, IsLedLine, IsLed, Allows, AllAllow}

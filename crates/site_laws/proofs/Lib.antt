@@ -22,4 +22,6 @@ pub mod RunAlone
 pub mod SerialSessions
 pub mod SiteLines
 pub mod Uncoordinated
+pub mod Undoubted
+pub mod Unmentioned
 pub mod Unmoved

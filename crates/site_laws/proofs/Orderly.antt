@@ -1,5 +1,5 @@
 -- What a session of local transactions keeps of its site, over one more line.
-use Rattle.std.proofs.Common.{◌≡◌, ℕ, suc, ◌+◌, ◌≤◌, ◌<◌, Bool, true, false, cond, ◌==◌, Option, Some, None, List, [], ◌∷◌, ◌++◌, length, map, inl, inr, refl, sym, ◌∙◌, ap, ap₂, subst, eqb-true, eq-eqb, arith}
+use Rattle.std.proofs.Common.{◌≡◌, ℕ, ◌≤◌, ◌<◌, Bool, true, false, cond, ◌==◌, Option, Some, None, List, [], ◌∷◌, ◌++◌, length, map, inl, inr, refl, sym, ◌∙◌, ap, subst, eqb-true, eq-eqb, arith}
 use Rattle.mdb_base.specs.declared.names.Tid.{Tid}
 use Rattle.mdb_base.specs.declared.names.Tx.{Tx}
 use Rattle.mdb_base.specs.Names.{same_tid, same_tx}
@@ -10,14 +10,14 @@ use Rattle.fed_rules.specs.declared.scenario.Scenario.{Scenario}
 use Rattle.fed_rules.specs.declared.scenario.TxLine.{TxLine}
 use Rattle.fed_rules.specs.EngineLines.{IsRight}
 use Rattle.fed_rules.specs.Orders.{local_reads, read_by}
-use Rattle.fed_rules.specs.Runs.{Run, committed, attempts}
+use Rattle.fed_rules.specs.Runs.{Run, committed}
 use Rattle.fed_rules.specs.Scenarios.{transaction, local_home, home_at, home_of_line, program_of}
-use Rattle.fed_rules.specs.SitePast.{SiteHappening, SitePast, records, epoch_start, engine_lines, run_of, live, attempts_of, begins_tx}
+use Rattle.fed_rules.specs.SitePast.{SiteHappening, SitePast, records, epoch_start, engine_lines, run_of, live, attempts_of}
 use Rattle.fed_rules.specs.SiteRecords.{Home, Install, installs, local_of}
 use Rattle.fed_rules.specs.Story.{attempt}
 use Rattle.engine_laws.proofs.Runs.{attempts_have}
 use Rattle.site_laws.specs.Follows.{values_read, Follows}
-use Rattle.site_laws.specs.Locals.{IsCalm, IsIdle, IsRunning, IsCommitted, IsCounted, IsInstalled, install_of, installed_tids}
+use Rattle.site_laws.specs.Locals.{IsCalm, IsIdle, IsRunning, IsCommitted, IsCounted, IsInstalled, install_of}
 use Rattle.site_laws.proofs.About.{IsAbout, engine_lines-next, epoch_start-next, about_calm, about_reads, unread_reads, about_attempts}
 use Rattle.site_laws.proofs.Attempts.{same_tx-equal, other_transaction}
 use Rattle.site_laws.proofs.LiveRuns.{first_where-passes}

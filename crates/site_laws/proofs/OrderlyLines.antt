@@ -1,5 +1,5 @@
 -- Each line of a session of local transactions keeps its site orderly.
-use Rattle.std.proofs.Common.{◌≡◌, ℕ, suc, true, false, ◌+◌, ◌≤◌, nat_lt, Option, Some, None, List, [], ◌∷◌, ◌++◌, length, refl, sym, ◌∙◌, ap, ap₂, subst, arith}
+use Rattle.std.proofs.Common.{◌≡◌, ℕ, suc, true, false, ◌+◌, ◌≤◌, nat_lt, Option, Some, None, List, [], ◌∷◌, ◌++◌, length, refl, sym, ◌∙◌, ap, subst, arith}
 use Rattle.std.proofs.lemmas.Bool.{cond-true, ltb-false}
 use Rattle.mdb_base.specs.declared.acts.PlainAct.{PlainAct}
 use Rattle.mdb_base.specs.declared.acts.PlainAct.TheVariants.{Read, Write}
@@ -22,23 +22,23 @@ use Rattle.fed_rules.specs.Replies.{seal_stop, seal_number}
 use Rattle.fed_rules.specs.Runs.{Start, EngineLine, Begins, Acts, Seals, Refuses, Commits, Aborts, Run, tid_of, changed, attempts, committed, number, puts_of, run_at, restored_at}
 use Rattle.fed_rules.specs.Runs as Engine_runs
 use Rattle.fed_rules.specs.Scenarios.{program_of}
-use Rattle.fed_rules.specs.Site.{with_lines, next_number, act_answer, reply_to, stop_of, number_of, refusal_answer, seals_local, done, site_line}
-use Rattle.fed_rules.specs.SitePast.{SiteHappening, SitePast, disk, records, epoch_start, engine_lines, run_of, live, attempts_of, begins_tx}
+use Rattle.fed_rules.specs.Site.{with_lines, next_number, reply_to, stop_of, number_of, refusal_answer, seals_local, done, site_line}
+use Rattle.fed_rules.specs.SitePast.{SiteHappening, SitePast, disk, records, epoch_start, engine_lines, run_of, attempts_of, begins_tx}
 use Rattle.fed_rules.specs.SiteRecords.{Home, site_frame}
 use Rattle.fed_rules.specs.Story.{attempt}
 use Rattle.engine_contract.proofs.Follows.{run_at-own, sealed_then}
 use Rattle.engine_laws.proofs.Runs.{tid_is}
 use Rattle.site_laws.specs.Follows.{values_read, IsOwnRun}
-use Rattle.site_laws.specs.Led.{IsBegin, IsStep, IsCommit, IsAbort, IsAsked, IsLedLine, IsLed, IsNoMessageTo, IsLocalEvent}
+use Rattle.site_laws.specs.Led.{IsBegin, IsStep, IsCommit, IsAbort, IsAsked, IsLed, IsNoMessageTo, IsLocalEvent}
 use Rattle.site_laws.specs.Locals.{IsIdle, IsRunning, IsCommitted, begun_here}
 use Rattle.site_laws.proofs.About.{IsAbout, unread_reads, unbegun_attempts}
 use Rattle.site_laws.proofs.Attempts.{same_tx-refl}
 use Rattle.site_laws.proofs.Commands.{done_is}
 use Rattle.site_laws.proofs.Counted.{begun_next, counted_same, counted_more}
-use Rattle.site_laws.proofs.Installed.{committed_next, installed_same, installed_more}
+use Rattle.site_laws.proofs.Installed.{installed_same, installed_more}
 use Rattle.site_laws.proofs.Lines.{act_begins-none, refusal_answer-is, quiet_committed, quiet_running, begins_about, acts_about, sealed_about, refused_about, aborts_about}
 use Rattle.site_laws.proofs.LiveTx.{quiet_none, running_some}
-use Rattle.site_laws.proofs.Orderly.{Standing, Rests, Runs, Ended, IsMember, IsOrderly, standing_unmoved, IsDeclared, declared_of, member_stays, members_unread, members_other, orderly_next, IsLiveRun, live_stands, run_counted, unread_after}
+use Rattle.site_laws.proofs.Orderly.{Standing, Rests, Runs, Ended, IsMember, IsOrderly, standing_unmoved, declared_of, members_unread, members_other, orderly_next, IsLiveRun, live_stands, run_counted, unread_after}
 use Rattle.site_laws.proofs.Own.{begun_runs, rests, act_line, read_runs, write_runs, stays_runs, sealed_commits}
 use Rattle.site_laws.proofs.Led.{led_map}
 use Rattle.site_laws.proofs.OwnRuns.{live_has, follows_led}

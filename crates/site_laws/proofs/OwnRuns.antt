@@ -1,5 +1,5 @@
 -- A local attempt follows its program, in every story: what each event of its site leaves of its run.
-use Rattle.std.proofs.Common.{◌≡◌, ℕ, Bool, true, false, cond, ◌||◌, ◌&&◌, ◌==◌, Option, Some, None, List, [], ◌∷◌, ◌++◌, refl, sym, ◌∙◌, ap, subst}
+use Rattle.std.proofs.Common.{◌≡◌, ℕ, Bool, true, false, cond, ◌||◌, Option, Some, None, List, [], ◌∷◌, ◌++◌, refl, sym, ◌∙◌, ap, subst}
 use Rattle.mdb_base.specs.declared.acts.PlainAct.{PlainAct}
 use Rattle.mdb_base.specs.declared.acts.PlainAct.TheVariants.{Read, Write}
 use Rattle.mdb_base.specs.declared.acts.Step.{Step}
@@ -22,14 +22,14 @@ use Rattle.fed_rules.specs.declared.records.SiteRecord.{SiteRecord}
 use Rattle.fed_rules.specs.declared.scenario.Scenario.{Scenario}
 use Rattle.fed_rules.specs.Disk.{Disk, Stops}
 use Rattle.fed_rules.specs.Happenings.{Trip, stops, comes_up, is_down, stopped, tripped}
-use Rattle.fed_rules.specs.Runs.{Start, EngineLine, Begins, Acts, Refuses, Commits, Aborts, Seals, Got, Wrote, Run, tid_of, begun, acted, changed, run_at, is_sealed, restored_at}
+use Rattle.fed_rules.specs.Runs.{Start, EngineLine, Acts, Refuses, Aborts, Got, Wrote, Run, tid_of, begun, acted, changed, run_at, is_sealed, restored_at}
 use Rattle.fed_rules.specs.Scenarios.{program_of}
-use Rattle.fed_rules.specs.Site.{with_lines, next_number, of_begin, act_answer, reply_to, of_act, seals_local, of_commit, of_abort, of_fate, done, did, unknown, first_work, next_work, next_take, repeated, is_over, work_live, of_work, take_live, of_take, votes_again, votes_no, votes_yes, seals_global, prepare_live, of_prepare, settling_line, settles, unheld, of_decide, of_give, of_ask, of_drop, of_back, answered, unless_tripped, site_line}
-use Rattle.fed_rules.specs.SitePast.{SiteHappening, SitePast, disk, records, trip, epoch_start, engine_lines, run_of, unless_sealed, live_one, live}
-use Rattle.fed_rules.specs.SiteRecords.{Home, Held, site_frame, start_of}
+use Rattle.fed_rules.specs.Site.{next_number, of_begin, reply_to, of_act, seals_local, of_commit, of_abort, of_fate, done, did, unknown, first_work, next_work, next_take, repeated, work_live, of_work, take_live, of_take, votes_again, votes_no, votes_yes, seals_global, prepare_live, of_prepare, settling_line, settles, unheld, of_decide, of_give, of_ask, of_drop, of_back, answered, unless_tripped, site_line}
+use Rattle.fed_rules.specs.SitePast.{SiteHappening, SitePast, disk, records, trip, epoch_start, engine_lines, run_of, live_one, live}
+use Rattle.fed_rules.specs.SiteRecords.{Home, site_frame, start_of}
 use Rattle.fed_rules.specs.Story.{run_reads}
-use Rattle.site_laws.specs.Follows.{Follows, IsOwnRun}
-use Rattle.site_laws.specs.Led.{IsStep, IsAsked, IsLedLine, IsLed, tid_in, IsNoMessageTo}
+use Rattle.site_laws.specs.Follows.{IsOwnRun}
+use Rattle.site_laws.specs.Led.{IsStep, IsAsked, IsLed, tid_in, IsNoMessageTo}
 use Rattle.site_laws.proofs.About.{run_at-others}
 use Rattle.site_laws.proofs.Commands.{done_is}
 

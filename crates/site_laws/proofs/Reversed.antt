@@ -1,5 +1,5 @@
 -- Lists turned round, and what is put into a list.
-use Rattle.std.proofs.Common.{◌≡◌, Bool, true, false, cond, ◌⊎◌, List, [], ◌∷◌, ◌++◌, map, reverse, inl, inr, refl, sym, ◌∙◌, ap, ap₂, subst}
+use Rattle.std.proofs.Common.{◌≡◌, Bool, true, false, cond, List, [], ◌∷◌, ◌++◌, map, reverse, inl, inr, refl, sym, ◌∙◌, ap, ap₂, subst}
 use Rattle.std.proofs.lemmas.List.{reverse-append}
 use Rattle.mdb_base.specs.Words.{inserted}
 use Rattle.order_laws.specs.Chains.{In, Distinct}

@@ -1,5 +1,5 @@
 -- Programs run alone at one site do what runs did that followed them: they read the same values and leave the same table.
-use Rattle.std.proofs.Common.{◌≡◌, ℕ, zero, suc, ◌≤◌, true, cond, Some, List, [], ◌∷◌, ◌++◌, length, take, map, refl, sym, ◌∙◌, ap, ap₂, subst, eq-eqb}
+use Rattle.std.proofs.Common.{◌≡◌, ℕ, zero, suc, ◌≤◌, cond, Some, List, [], ◌∷◌, ◌++◌, length, take, map, refl, sym, ◌∙◌, ap, ap₂, subst, eq-eqb}
 use Rattle.std.proofs.lemmas.Bool.{cond-true}
 use Rattle.std.proofs.lemmas.List.{take_all}
 use Rattle.mdb_base.specs.declared.acts.PlainAct.{PlainAct}
@@ -15,9 +15,9 @@ use Rattle.fed_rules.specs.declared.scenario.Scenario.{Scenario}
 use Rattle.fed_rules.specs.CoordPast.{oldest_first}
 use Rattle.fed_rules.specs.Runs.{Access, Got, Wrote, Run, after, table_of}
 use Rattle.fed_rules.specs.Scenarios.{program_of}
-use Rattle.fed_rules.specs.Serial.{Tables, update_at, Ran, reads_after, tables_after, run_steps, alone, serial_reads, serial_tables}
+use Rattle.fed_rules.specs.Serial.{Tables, Ran, reads_after, tables_after, run_steps, alone, serial_reads, serial_tables}
 use Rattle.fed_rules.specs.SerialRuns.{ReadsAlone, IsSerial}
-use Rattle.site_laws.specs.Follows.{values_read, IsNextOf, Follows}
+use Rattle.site_laws.specs.Follows.{values_read, Follows}
 
 -- what one more step makes of a program that ran
 abbrev one_more : Step → Ran → Ran
@@ -33,7 +33,8 @@ take-push [] n x e = cc
 take-push (y ∷ ys) zero x e = let same : y ≡ x = cc in ap (λ z. z ∷ []) same
 take-push (y ∷ ys) (suc n) x e = ap (λ zs. y ∷ zs) (take-push ys n x e)
 
-each_item : {A : Type 0} (P : A → Type 0) (xs : List A) (n : ℕ) (x : A) → Each P xs → item_at xs n ≡ Some x → P x
+-- what holds of each item holds of the one at a place
+pub each_item : {A : Type 0} (P : A → Type 0) (xs : List A) (n : ℕ) (x : A) → Each P xs → item_at xs n ≡ Some x → P x
 each_item P [] n x h e = cc
 each_item P (y ∷ ys) zero x h e = let same : y ≡ x = cc in subst P same h.0
 each_item P (y ∷ ys) (suc n) x h e = each_item P ys n x h.1 e

@@ -1,14 +1,12 @@
 -- Every session of local transactions is serial.
-use Rattle.std.proofs.Common.{◌≡◌, ℕ, nat_lt, Bool, true, false, cond, not, ◌&&◌, ◌||◌, Option, Some, None, List, [], ◌∷◌, map, reverse, inl, inr, refl, sym, ◌∙◌, ap, ap₂, subst}
-use Rattle.mdb_base.specs.declared.acts.Step.{Step}
+use Rattle.std.proofs.Common.{◌≡◌, nat_lt, Bool, true, false, cond, ◌&&◌, ◌||◌, Option, Some, None, List, [], ◌∷◌, map, reverse, inl, inr, refl, sym, ◌∙◌, ap, ap₂, subst}
 use Rattle.mdb_base.specs.declared.names.Key.{Key}
 use Rattle.mdb_base.specs.declared.names.SiteId.{SiteId}
 use Rattle.mdb_base.specs.declared.names.Tid.{Tid}
 use Rattle.mdb_base.specs.declared.names.Tx.{Tx}
-use Rattle.mdb_base.specs.declared.rows.Put.{Put}
 use Rattle.mdb_base.specs.Names.{same_tid, same_tx, tid_before}
-use Rattle.mdb_base.specs.Rows.{Table, look_up}
-use Rattle.mdb_base.specs.Words.{Each, Among, some_of, each_of, those, first_where}
+use Rattle.mdb_base.specs.Rows.{look_up}
+use Rattle.mdb_base.specs.Words.{Each, Among, some_of, each_of, first_where}
 use Rattle.mdb_base.proofs.ListLaws.{among_some, those_all}
 use Rattle.mdb_base.proofs.NameLaws.{same_tid-refl}
 use Rattle.order_laws.specs.Chains.{In, Distinct}
@@ -27,20 +25,18 @@ use Rattle.fed_rules.specs.CoordPast as Coordinator
 use Rattle.fed_rules.specs.CoordPast.{oldest_first}
 use Rattle.fed_rules.specs.CoordRecords.{has_commit}
 use Rattle.fed_rules.specs.EngineLines.{IsStart}
-use Rattle.fed_rules.specs.Orders.{is_committed, records_at, order_at, orders, IsMerge, reads_at, reads_of, local_reads, table_at, table_of, due_at, due_of, first_tables, programs_of, IsSerial}
+use Rattle.fed_rules.specs.Orders.{is_committed, records_at, order_at, orders, IsMerge, reads_at, reads_of, table_at, table_of, due_at, due_of, first_tables, programs_of, IsSerial}
 use Rattle.fed_rules.specs.Plans.{IsScenario}
 use Rattle.fed_rules.specs.Reports.{printed_order}
 use Rattle.fed_rules.specs.Runs.{Start, Run, committed, rows_of}
-use Rattle.fed_rules.specs.Runs as Engine_runs
-use Rattle.fed_rules.specs.Scenarios.{home_in, home_of, home_at, home_of_line, local_site, local_home, program_of, items_of, sites, transaction}
+use Rattle.fed_rules.specs.Scenarios.{home_in, home_of, home_at, home_of_line, local_site, local_home, program_of}
 use Rattle.fed_rules.specs.Serial.{serial_reads, serial_tables}
-use Rattle.fed_rules.specs.SitePast.{SitePast, records, epoch_start, engine_lines}
-use Rattle.fed_rules.specs.SiteRecords.{Home, Held, Install, by_number, install_held, installs, due_installs, doubt_of, order_of, site_rows, due_rows, rows_after, local_of, prepared_tids}
+use Rattle.fed_rules.specs.SitePast.{records, epoch_start, engine_lines}
+use Rattle.fed_rules.specs.SiteRecords.{Home, Held, Install, by_number, install_held, installs, doubt_of, order_of, site_rows, due_rows, rows_after, local_of}
 use Rattle.fed_rules.specs.Story.{Story, story_of, past_of, coord_past}
 use Rattle.engine_laws.specs.Laws.{IsSerialSite}
 use Rattle.engine_laws.proofs.EachRule.{always_serial}
 use Rattle.engine_laws.proofs.Rows.{rows_of_table}
-use Rattle.engine_contract.specs.Calls.{fresh_start}
 use Rattle.site_laws.specs.Follows.{values_read}
 use Rattle.site_laws.specs.Led.{IsLocalEvent}
 use Rattle.site_laws.specs.Locals.{install_of, installed_tids}

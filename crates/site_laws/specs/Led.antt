@@ -1,5 +1,5 @@
 -- Which events of local transactions come to a site: those that their commands ask for, by their programs.
-use Rattle.std.specs.Prelude.{ℕ, ◌≡◌, nat_le, nat_lt, false, Some, None, List, [], ◌∷◌, length}
+use Rattle.std.specs.Prelude.{◌≡◌, nat_le, nat_lt, false, Some, List, [], ◌∷◌, length}
 use Rattle.mdb_base.specs.declared.acts.PlainAct.{PlainAct}
 use Rattle.mdb_base.specs.declared.acts.Step.{Step}
 use Rattle.mdb_base.specs.declared.names.Tid.{Tid}

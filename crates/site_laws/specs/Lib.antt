@@ -1,4 +1,5 @@
 pub mod Follows
 pub mod Led
+pub mod LedLaws
 pub mod Locals
 pub mod Sessions
