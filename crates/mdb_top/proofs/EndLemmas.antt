@@ -1,5 +1,5 @@
 -- Each way in which the top call ends.
-use Rattle.std.proofs.Common.{◌≡◌, ℕ, ◌<◌, Bool, IsTrue, List, [], ◌∷◌, ◌++◌, ◌⊎◌, inl, inr, refl, sym, arith}
+use Rattle.std.proofs.Common.{◌≡◌, ℕ, Bool, IsTrue, List, ◌++◌, inl, inr, refl, sym, arith}
 use Rattle.mdb_base.specs.Counts.{HasRisen}
 use Rattle.scenario_text.specs.declared.bad.BadLine.{BadLine}
 use Rattle.scenario_text.specs.declared.session.Session.{Session}

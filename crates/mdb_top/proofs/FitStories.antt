@@ -109,9 +109,10 @@ fit_line story command (Nowhere answer) fit = ap₂ (λ b c. b && not c) fit.ans
 pub fit_lines : (scenario : Scenario) (commands : List Command) → Each IsLocal commands → Each (λ line. IsTrue (line_fits line)) (lines_of (story_of scenario commands))
 fit_lines scenario [] local = tt
 fit_lines scenario (command ∷ commands) local =
-    let story = story_of scenario commands in
-    (fit_line story command (happens scenario story command) (fits scenario story command local.0 (untripped scenario commands local.1)).is,
-    fit_lines scenario commands local.1)
+    let story = story_of scenario commands in (
+      fit_line story command (happens scenario story command) (fits scenario story command local.0 (untripped scenario commands local.1)).is,
+      fit_lines scenario commands local.1,
+    )
 
 -- the commands of the lines of a story
 told_commands : (scenario : Scenario) (commands : List Command) → map (λ line. line.command) (lines_of (story_of scenario commands)) ≡ commands
@@ -132,6 +133,7 @@ right_lines scenario (command ∷ commands) local =
     let next : IsNext scenario story (line_of story (tell scenario story command)) = record {
       answer = right_answer scenario story command (happens scenario story command) (fits scenario story command local.0 (untripped scenario commands local.1)).is;
       sends = refl;
-    } in
-    (right_lines scenario commands local.1,
-    subst (λ cs. IsNext scenario (story_of scenario cs) (line_of story (tell scenario story command))) (sym (told_commands scenario commands)) next)
+    } in (
+      right_lines scenario commands local.1,
+      subst (λ cs. IsNext scenario (story_of scenario cs) (line_of story (tell scenario story command))) (sym (told_commands scenario commands)) next,
+    )

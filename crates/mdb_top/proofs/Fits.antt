@@ -122,6 +122,6 @@ abort_line home past tid tx e =
 pub quiet_fits : (story : Story) (command : Command) (at : SiteId) (x : SiteHappening) → IsQuietly command x → IsAtSite story command at x
 quiet_fits story command at x q = record {
   fits = (let none : places_of story (AtSite at x) ≡ [] = ap (place_from at (length (sent_from at story))) q.sends in
-    ap₂ (λ b places. b && places_fit command x.answer places) q.answer none ∙ ap not q.other);
+      ap₂ (λ b places. b && places_fit command x.answer places) q.answer none ∙ ap not q.other);
   event = q.event;
 }

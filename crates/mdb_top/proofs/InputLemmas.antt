@@ -1,5 +1,5 @@
 -- What the front of an input that is read says of the whole.
-use Rattle.std.proofs.Common.{◌≡◌, ℕ, ◌+◌, ◌<◌, ◌≤◌, ◌⊎◌, inl, inr, Bool, true, false, cond, nat_lt, IsTrue, List, [], ◌∷◌, length, take, refl, sym, ◌∙◌, ap, subst, Result, Ok, Err, arith}
+use Rattle.std.proofs.Common.{◌≡◌, ℕ, ◌+◌, ◌<◌, ◌≤◌, ◌⊎◌, inl, inr, Bool, true, false, cond, nat_lt, IsTrue, List, length, take, refl, sym, ◌∙◌, ap, subst, Result, Ok, Err, arith}
 use Rattle.std.proofs.lemmas.List.{take_all, length-take-le}
 use Rattle.std.proofs.lemmas.Bool.{cases_lt, lt-ltb, le-ltb, cond-true, cond-false}
 use Rattle.scenario_text.specs.declared.bad.BadLine.{BadLine}
@@ -8,7 +8,7 @@ use Rattle.scenario_text.specs.Texts.{session_of}
 use Rattle.mdb_top.specs.declared.input.Unplayed.{Unplayed}
 use Rattle.mdb_top.specs.Inputs.{SomeInput, Tells}
 use Rattle.mdb_top.specs.Streams.{longest}
-use Rattle.mdb_top.specs.Verdicts.{runs_here, Verdict, TooLong, BadInput, NotHere, Runs, verdict_on, verdict}
+use Rattle.mdb_top.specs.Verdicts.{runs_here, TooLong, NotHere, Runs, verdict_on, verdict}
 
 -- a front that is not the whole is longer than the limit, as the whole is
 front_or_longer : (m : ℕ) (bytes : List ℕ) → (take (m + 1) bytes ≡ bytes) ⊎ ((m < length bytes) × (m < length (take (m + 1) bytes)))

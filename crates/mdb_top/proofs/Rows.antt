@@ -1,7 +1,7 @@
 -- The first rows of a site, put in order.
-use Rattle.std.proofs.Common.{◌≡◌, Bool, true, false, cond, not, ◌&&◌, ◌||◌, nat_eq, nat_lt, Option, Some, None, List, [], ◌∷◌, map, refl, sym, ◌∙◌, ap, ap₂, subst, eq-eqb}
+use Rattle.std.proofs.Common.{◌≡◌, ℕ, suc, ◌+◌, ◌<◌, Bool, true, false, cond, not, ◌&&◌, ◌||◌, nat_eq, nat_lt, Option, Some, List, [], ◌∷◌, ◌++◌, length, drop, get_or, map, refl, sym, ◌∙◌, ap, subst, eq-eqb, append_assoc, drop-cons, arith}
 use Rattle.std.specs.List.{AllByRecursion, IsDistinct}
-use Rattle.std.proofs.lemmas.Bool.{and_parts}
+use Rattle.std.proofs.lemmas.Bool.{and_parts, cond-true, cond-false, ne_eqb}
 use Rattle.std.proofs.lemmas.Map.Keys.{IsDistinct-cons}
 use Rattle.mdb_base.specs.declared.names.Key.{Key}
 use Rattle.mdb_base.specs.declared.names.SiteId.{SiteId}
@@ -40,8 +40,8 @@ value_in-with_row row (other ∷ rows) key = by_same (same_key other.key row.key
     by_less true apart rest =
         ap (cond (same_key other.key key) (Some other.value)) rest
         ∙ swaps (same_key other.key key) (same_key row.key key) (Some other.value) (Some row.value)
-          (λ a b. let k = same_key-equal other.key key a ∙ sym (same_key-equal row.key key b) in
-            let same : same_key other.key row.key ≡ true = eq-eqb other.key.0 row.key.0 (ap (λ k. k.0) k) in cc)
+        (λ a b. let k = same_key-equal other.key key a ∙ sym (same_key-equal row.key key b) in
+        let same : same_key other.key row.key ≡ true = eq-eqb other.key.0 row.key.0 (ap (λ k. k.0) k) in cc)
     by_less false apart rest = refl
 
     by_same : (b : Bool) → same_key other.key row.key ≡ b
@@ -62,7 +62,7 @@ value_in-items (item ∷ items) site key = by_site (same_site item.site site) (v
     by_site true rest = ap (cond (same_key item.put.key key) (Some item.put.value)) rest ∙ sym (value_in-with_row item.put (items_of items site) key)
     by_site false rest = rest
 
-rising_items : (items : List ItemLine) (site : SiteId) → IsRising (λ row. row.key.0) (items_of items site)
+pub rising_items : (items : List ItemLine) (site : SiteId) → IsRising (λ row. row.key.0) (items_of items site)
 rising_items [] site = tt
 rising_items (item ∷ items) site = by_site (same_site item.site site) (rising_items items site)
   where
@@ -113,3 +113,27 @@ own_keys (item ∷ items) site e =
         → HaveOwnKeys (cond b (item.put ∷ rows_at items site) (rows_at items site))
     by_site true here differ rest = IsDistinct-cons nat_eq item.put.key.0 _ (own_key item items site here differ) rest
     by_site false here differ rest = rest
+
+-- the rows of the items from a place on
+rows_left : (items : List ItemLine) (site : SiteId) (place : ℕ) (d : ItemLine) → place < length items
+    → rows_at (drop place items) site ≡ cond (same_site (get_or items place d).site site) ((get_or items place d).put ∷ rows_at (drop (place + 1) items) site) (rows_at (drop (place + 1) items) site)
+rows_left items site place d within =
+    let next : suc place ≡ place + 1 = omega arith in
+    ap (λ xs. rows_at xs site) (subst (λ n. drop place items ≡ get_or items place d ∷ drop n items) next (drop-cons items place d within))
+
+-- an item of the site is put behind the rows so far, and any other one is left out
+pub row_kept : (items : List ItemLine) (site : SiteId) (place : ℕ) (d : ItemLine) (old new all : List Put) → place < length items → (get_or items place d).site.0 ≡ site.0
+    → old ++ rows_at (drop place items) site ≡ all → new ≡ old ++ (get_or items place d).put ∷ [] → new ++ rows_at (drop (place + 1) items) site ≡ all
+row_kept items site place d old new all within here before e =
+    let rest : List Put = rows_at (drop (place + 1) items) site in
+    let item : ItemLine = get_or items place d in
+    ap (λ xs. xs ++ rest) e ∙ append_assoc old (item.put ∷ []) rest
+    ∙ sym (ap (λ xs. old ++ xs) (rows_left items site place d within ∙ cond-true _ _ _ (eq-eqb item.site.0 site.0 here))) ∙ before
+
+pub row_left_out : (items : List ItemLine) (site : SiteId) (place : ℕ) (d : ItemLine) (old new all : List Put) → place < length items → ((get_or items place d).site.0 ≡ site.0 → ⊥)
+    → old ++ rows_at (drop place items) site ≡ all → new ≡ old → new ++ rows_at (drop (place + 1) items) site ≡ all
+row_left_out items site place d old new all within elsewhere before e =
+    let rest : List Put = rows_at (drop (place + 1) items) site in
+    let item : ItemLine = get_or items place d in
+    ap (λ xs. xs ++ rest) e
+    ∙ sym (ap (λ xs. old ++ xs) (rows_left items site place d within ∙ cond-false _ _ _ (ne_eqb item.site.0 site.0 elsewhere))) ∙ before

@@ -1,7 +1,8 @@
 -- Sessions that a world carries out: the commands stand newest first, and their lines oldest first.
-use Rattle.std.proofs.Common.{◌≡◌, ℕ, zero, suc, ◌+◌, ◌<◌, ◌^◌, true, IsTrue, Some, List, [], ◌∷◌, ◌++◌, length, reverse, take, slice_get, sym, ◌∙◌, ap}
+use Rattle.std.proofs.Common.{◌≡◌, ℕ, zero, suc, ◌+◌, ◌<◌, ◌^◌, true, IsTrue, Some, List, [], ◌∷◌, length, reverse, take, get_or, slice_get, Result, Ok, Err, OnOk, sym, ◌∙◌, ap, subst}
 use Rattle.std.specs.List.{list_all}
 use Rattle.std.proofs.lemmas.Bool.{and_parts}
+use Rattle.std.proofs.lemmas.List.{take_more, reverse-append}
 use Rattle.mdb_base.specs.Words.{Each}
 use Rattle.mdb_base.proofs.ListLaws.{append_each}
 use Rattle.fed_rules.specs.declared.commands.Command.{Command}
@@ -12,7 +13,7 @@ use Rattle.fed_rules.specs.Plans.{IsScenario}
 use Rattle.fed_rules.specs.Runs.{Start, EngineLine}
 use Rattle.fed_rules.specs.Story.{story_of, lines_of}
 use Rattle.fed_world.specs.declared.world.World.{World}
-use Rattle.fed_world.specs.Stands.{Stands, SomeStory, AnyCommands, CanApply}
+use Rattle.fed_world.specs.Stands.{Stands, SomeStory, CanApply}
 use Rattle.fed_world.proofs.SerialWorlds.{stood_serial}
 use Rattle.scenario_text.specs.declared.session.Session.{Session}
 use Rattle.site_laws.specs.Sessions.{IsLocal}
@@ -76,3 +77,16 @@ session_is_right stands world session whole stood = record {
   lines = right_lines session.scenario (commands_of session) stood.local;
   serial = stood_serial stands world session.scenario (commands_of session) whole stood;
 }
+
+-- what was carried out so far, with one command more
+pub world_more : {A : Type 0} (stands : A → Start → List EngineLine → Type 0) (world : World A) (scenario : Scenario) (all : List Command) (place : ℕ) (command : Command) → place < length all
+    → Stands stands world scenario (get_or all place command ∷ reverse (take place all)) → Stands stands world scenario (reverse (take (place + 1) all))
+world_more stands world scenario all place command within stood =
+    let e : reverse (take (place + 1) all) ≡ get_or all place command ∷ reverse (take place all) =
+    ap reverse (take_more all place command within) ∙ reverse-append (take place all) (get_or all place command ∷ []) in
+    subst (λ (cs : List Command). Stands stands world scenario cs) (sym e) stood
+
+-- a fact that holds, holds on success
+pub holds_on_ok : {T E P : Type 0} (result : Result T E) → P → OnOk result P
+holds_on_ok (Ok x) p = p
+holds_on_ok (Err e) p = tt

@@ -1,5 +1,5 @@
 -- The rows that the items of a site are, before they are put in order.
-use Rattle.std.specs.Prelude.{Bool, cond, IsTrue, List, [], ◌∷◌}
+use Rattle.std.specs.Prelude.{cond, IsTrue, List, [], ◌∷◌}
 use Rattle.mdb_base.specs.declared.names.SiteId.{SiteId}
 use Rattle.mdb_base.specs.declared.rows.Put.{Put}
 use Rattle.mdb_base.specs.Names.{same_site}

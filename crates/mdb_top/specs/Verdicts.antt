@@ -1,8 +1,7 @@
 -- What an input is: too long, no session, a session that doesn't run here yet, or one that does. And the words that ask for a replay.
-use Rattle.std.specs.Prelude.{ℕ, nat_lt, Bool, true, false, cond, ◌&&◌, codes, string_bytes, is_some, List, [], ◌∷◌, length, Result, Ok, Err}
+use Rattle.std.specs.Prelude.{ℕ, nat_lt, Bool, true, false, cond, ◌&&◌, codes, is_some, List, [], ◌∷◌, length, Result, Ok, Err}
 use Rattle.std.specs.List.{list_all}
 use Rattle.std.specs.Str.{bytes_eq}
-use Rattle.std.specs.declared.string.String.{String}
 use Rattle.mdb_base.specs.declared.names.Engine.{Engine}
 use Rattle.mdb_base.specs.declared.names.Engine.TheVariants.{Locking, Timestamp, Validation}
 use Rattle.fed_rules.specs.declared.commands.Command.{Command}
@@ -15,9 +14,9 @@ use Rattle.scenario_text.specs.Texts.{session_of}
 use Rattle.mdb_top.specs.Streams.{longest}
 
 -- whether the words are a command of the program: so far `replay` alone is
-abbrev pub is_replay : List String → Bool
+abbrev pub is_replay : List (List ℕ) → Bool
 is_replay [] = false
-is_replay (word ∷ []) = bytes_eq (string_bytes word) (codes "replay")
+is_replay (word ∷ []) = bytes_eq word (codes "replay")
 is_replay (word ∷ other ∷ words) = false
 
 -- whether the site runs here: so far only locking sites do
@@ -53,7 +52,7 @@ runs_here session =
 pub data Verdict : Type 0 where
   TooLong : Verdict
   BadInput : BadLine → Verdict
-  NotHere : Verdict                         -- a session that doesn't run here yet
+  NotHere : Verdict  -- a session that doesn't run here yet
   Runs : Session → Verdict
 
 abbrev pub verdict_on : Result Session BadLine → Verdict

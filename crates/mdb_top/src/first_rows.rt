@@ -1,11 +1,10 @@
 //! The first rows of a site.
 ghost use Rattle.std.specs.Prelude.{◌≡◌, IfOk};
-ghost use Rattle.mdb_base.specs.Rows.{HaveOwnKeys};
 ghost use Rattle.fed_rules.specs.Scenarios.{items_of};
 ghost use Rattle.mdb_top.specs.FirstRows.{rows_at, DifferInRow};
 
 use fed_rules::ItemLine;
-use mdb_base::{Memory, Put, Puts, SiteId, sort_rows};
+use mdb_base::{Memory, Put, SiteId, sort_rows};
 use std::alloc::Global;
 
 /// The rows of the items of a site, in the order of their lines.
@@ -22,10 +21,14 @@ fn rows_at_site(alloc: Global, items: &[ItemLine], site: SiteId) -> Result<Vec<P
 }
 
 /// The first rows of a site, by rising key.
-pub(crate) fn first_rows(alloc: Global, items: &[ItemLine], site: SiteId) -> Result<Puts, Memory>
+pub(crate) fn first_rows(
+    alloc: Global,
+    items: &[ItemLine],
+    site: SiteId,
+) -> Result<Vec<Put>, Memory>
     requires { DifferInRow items.now }
-    ensures { IfOk result (λ rows. rows ≡ items_of items.now site) }
+    ensures { IfOk result (λ rows. rows.items ≡ items_of items.now site) }
 {
     let rows = rows_at_site(alloc, items, site)?;
-    Ok(sort_rows(rows))
+    Ok(sort_rows(rows).into_items())
 }

@@ -26,7 +26,8 @@ pub(crate) enum Unplayed {
 
 /// The session that a text spells, where it runs here.
 fn session_in(alloc: Global, text: &[u8]) -> Result<Session, Unplayed>
-    ensures { Tells result (verdict text.now) }
+    ensures told { Tells result (verdict text.now) }
+    ensures whole { ¬ IsErrOf result Unplayed.Failed }
 {
     if text.len() > LONGEST {
         return Err(Unplayed::TooLong);

@@ -2,7 +2,6 @@
 #![tactic(auto)]
 
 mod bad_lines;
-
 mod first_rows;
 mod input;
 mod mem_streams;
@@ -14,10 +13,10 @@ mod top_call;
 mod words;
 mod writing;
 
-pub use top_call::federate;
 pub use journal_disk::Failed;
 pub use mem_streams::{MemSink, MemSource};
 pub use streams::{Sink, Source};
+pub use top_call::federate;
 
 #[cfg(test)]
 mod tests;

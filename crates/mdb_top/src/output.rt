@@ -17,7 +17,7 @@ use engine_contract::LocalEngine;
 use fed_rules::{Command, Line, Scenario};
 use fed_world::World;
 use locking_engine::LockingEngine;
-use mdb_base::{Memory, put_text};
+use mdb_base::{Memory, Puts, put_text};
 use report_text::print_report;
 use scenario_text::Session;
 use std::alloc::Global;
@@ -34,7 +34,7 @@ fn first_engine(alloc: Global, scenario: &Scenario) -> Result<Option<LockingEngi
     }
     let line = scenario.sites.at(0);
     let rows = first_rows(alloc, scenario.items.as_slice(), line.site)?;
-    let engine = LockingEngine::new(alloc, &rows)?;
+    let engine = LockingEngine::new(alloc, &Puts::of(rows))?;
     Ok(Some(engine))
 }
 

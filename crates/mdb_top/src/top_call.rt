@@ -1,5 +1,5 @@
 //! The top call.
-ghost use Rattle.std.specs.Prelude.{◌≡◌, ◌≤◌, ◌↔◌, false, IsTrue};
+ghost use Rattle.std.specs.Prelude.{◌≡◌, ◌≢◌, ◌↔◌, false, IsTrue, map, string_bytes};
 ghost use Rattle.mdb_base.specs.Counts.{HasRisen};
 ghost use Rattle.mdb_top.specs.Endings.{Ends, Gets, IsCutOff, IsLedTo, IsReplayed, SomeSession};
 ghost use Rattle.mdb_top.specs.Inputs.{SomeInput};
@@ -30,7 +30,8 @@ fn told<K: Sink>(sink: &mut K, status: u8, text: &[u8]) -> u8
 
 /// Names the first bad line.
 fn refused<K: Sink>(alloc: Global, sink: &mut K, bad: BadLine) -> u8
-    ensures { Ends (BadInput bad) result K.tells (K.faults sink.old) (K.faults sink.new) (K.written sink.old) (K.written sink.new) }
+    ensures read { result ≢ 3 }
+    ensures ends { Ends (BadInput bad) result K.tells (K.faults sink.old) (K.faults sink.new) (K.written sink.old) (K.written sink.new) }
 {
     match bad_line_text(alloc, bad) {
         Ok(text) => told(sink, 2, &text),
@@ -41,7 +42,8 @@ fn refused<K: Sink>(alloc: Global, sink: &mut K, bad: BadLine) -> u8
 /// Puts the output of a session that runs here, made whole before.
 fn played<K: Sink>(alloc: Global, sink: &mut K, session: Session) -> u8
     requires { IsTrue (verdicts.runs_here session) }
-    ensures { Ends (Runs session) result K.tells (K.faults sink.old) (K.faults sink.new) (K.written sink.old) (K.written sink.new) }
+    ensures read { result ≢ 3 }
+    ensures ends { Ends (Runs session) result K.tells (K.faults sink.old) (K.faults sink.new) (K.written sink.old) (K.written sink.new) }
 {
     let output = match output_of(alloc, session) {
         Ok(output) => output,
@@ -80,8 +82,8 @@ pub fn federate<S: Source, K: Sink>(
     sink: &mut K,
 ) -> u8
     // Which status comes when. Want of memory alone is free.
-    ensures usage { (result ≡ 1) ↔ (verdicts.is_replay words.now ≡ false) }
-    ensures status { IsTrue (verdicts.is_replay words.now) →
+    ensures usage { (result ≡ 1) ↔ (verdicts.is_replay (map string_bytes words.now) ≡ false) }
+    ensures status { IsTrue (verdicts.is_replay (map string_bytes words.now)) →
         SomeInput S.tells (S.left source.old) (λ input. IsLedTo result (verdict input)) }
     ensures read_failed { result ≡ 3 → HasRisen (S.faults source.old) (S.faults source.new) }
     ensures write_failed { result ≡ 4 → HasRisen (K.faults sink.old) (K.faults sink.new) }

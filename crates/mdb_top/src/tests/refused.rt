@@ -8,17 +8,47 @@ use std::alloc::Global;
 fn the_first_bad_line_is_named(rt: HostRuntime) {
     expect(&rt, "sites 1\n", 2, "bad line 1 word\n");
     expect(&rt, "site 9 locking abort\n", 2, "bad line 1 range\n");
-    expect(&rt, "site 1 locking abort\nsite 1 locking abort\n", 2, "bad line 2 repeated\n");
-    expect(&rt, "site 1 locking abort\nlocal 1 1 add:5:0:1\n", 2, "bad line 2 register\n");
-    expect(&rt, "site 1 locking abort\nlocal 1 1 get:1 get:1 get:1 get:1 get:1 get:1 get:1 get:1 get:1 get:1 get:1 get:1 get:1 get:1 get:1 get:1 get:1 get:1 get:1 get:1 get:1 get:1 get:1 get:1 get:1 get:1 get:1 get:1 get:1 get:1 get:1 get:1 get:1\n", 2, "bad line 2 many\n");
+    expect(
+        &rt,
+        "site 1 locking abort\nsite 1 locking abort\n",
+        2,
+        "bad line 2 repeated\n",
+    );
+    expect(
+        &rt,
+        "site 1 locking abort\nlocal 1 1 add:5:0:1\n",
+        2,
+        "bad line 2 register\n",
+    );
+    expect(
+        &rt,
+        "site 1 locking abort\nlocal 1 1 get:1 get:1 get:1 get:1 get:1 get:1 get:1 get:1 get:1 get:1 get:1 get:1 get:1 get:1 get:1 get:1 get:1 get:1 get:1 get:1 get:1 get:1 get:1 get:1 get:1 get:1 get:1 get:1 get:1 get:1 get:1 get:1 get:1\n",
+        2,
+        "bad line 2 many\n",
+    );
 }
 
 #[test]
 fn what_does_not_run_yet_is_refused(rt: HostRuntime) {
-    expect(&rt, "site 1 locking abort\nsite 2 locking abort\n", 2, "bad input\n");
+    expect(
+        &rt,
+        "site 1 locking abort\nsite 2 locking abort\n",
+        2,
+        "bad input\n",
+    );
     expect(&rt, "site 1 timestamp abort\n", 2, "bad input\n");
-    expect(&rt, "site 1 locking abort\nglobal 1 1/get:1\n", 2, "bad input\n");
-    expect(&rt, "site 1 locking abort\ncommands\nhalt 1 0\n", 2, "bad input\n");
+    expect(
+        &rt,
+        "site 1 locking abort\nglobal 1 1/get:1\n",
+        2,
+        "bad input\n",
+    );
+    expect(
+        &rt,
+        "site 1 locking abort\ncommands\nhalt 1 0\n",
+        2,
+        "bad input\n",
+    );
 }
 
 /// So many letters.
@@ -63,7 +93,10 @@ fn other_words_are_told_the_usage(rt: HostRuntime) {
     match called(rt.alloc(), &words) {
         Ok((status, put)) => {
             assert_eq!(rt; status, 1);
-            assert_eq!(rt; put.as_slice(), b"usage: mdbfed replay | run | make NUMBER SITES TRANSACTIONS\n".as_slice());
+            assert_eq!(rt;
+                put.as_slice(),
+                b"usage: mdbfed replay | run | make NUMBER SITES TRANSACTIONS\n".as_slice()
+            );
         }
         Err(_) => panic!(rt; "there is memory"),
     }

@@ -48,5 +48,10 @@ fn closing_aborts_what_is_live(rt: HostRuntime) {
 
 #[test]
 fn an_undeclared_transaction_is_none(rt: HostRuntime) {
-    expect(&rt, "commands\nbegin 7\n", 0, "begin 7 => none\norder\nforgotten\nend\n");
+    expect(
+        &rt,
+        "commands\nbegin 7\n",
+        0,
+        "begin 7 => none\norder\nforgotten\nend\n",
+    );
 }
