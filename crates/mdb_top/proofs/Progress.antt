@@ -1,5 +1,5 @@
 -- One more put, and one more piece read.
-use Rattle.std.proofs.Common.{◌≡◌, ℕ, zero, suc, ◌+◌, ◌-◌, ◌*◌, ◌<◌, ◌≤◌, ◌⊎◌, inl, inr, min, Bool, true, false, cond, ◌==◌, IsTrue, List, [], ◌∷◌, ◌++◌, length, take, drop, refl, sym, ◌∙◌, ap, subst, arith}
+use Rattle.std.proofs.Common.{◌≡◌, ℕ, zero, suc, ◌+◌, ◌-◌, ◌*◌, ◌<◌, ◌≤◌, ◌⊎◌, inl, inr, Bool, true, false, cond, ◌==◌, IsTrue, List, [], ◌++◌, length, take, drop, sym, ◌∙◌, ap, arith}
 use Rattle.std.proofs.lemmas.Bool.{eqb-true}
 use Rattle.std.proofs.lemmas.List.{append_assoc, append-nil, length-append, length-drop, length-take-le, take-append-drop, take_all}
 use Rattle.std.proofs.Math.Seq.{take-add, take-append_seam}
@@ -23,7 +23,7 @@ put-more tells before now new f g h bytes place n p le w gh =
     record {
       within = (let a = p.within in let b = length-drop place bytes in let c = ap length rest in let d = le.within in omega arith);
       written = (λ t. w t ∙ ap (λ xs. now ++ take n xs) rest ∙ ap (λ xs. xs ++ take n (drop place bytes)) (p.written t)
-        ∙ append_assoc before (take place bytes) (take n (drop place bytes)) ∙ ap (λ xs. before ++ xs) (sym (take-add place n bytes)));
+          ∙ append_assoc before (take place bytes) (take n (drop place bytes)) ∙ ap (λ xs. before ++ xs) (sym (take-add place n bytes)));
       faults = (let a = p.faults in omega arith);
     }
 
@@ -38,19 +38,19 @@ fewer-left bytes place n l t =
 pub reads-on : (tells : Bool) (count room : ℕ) (before now old new into : List ℕ) → 0 < room → count ≤ room → length into ≡ room → (IsTrue tells → Gives count before now room into) → new ≡ old ++ take count into → ReadsOn tells count room before now old new
 reads-on tells count room before now old new into some le size gives e = record {
   longer = (let a : length new ≡ length (old ++ take count into) = ap length e in let b = length-append old (take count into) in
-    let c : count ≤ length into = omega arith in let d = length-take-le count into c in omega arith);
+      let c : count ≤ length into = omega arith in let d = length-take-le count into c in omega arith);
   within = le;
   taken = (λ t.
-    let g = gives t in
-    sym (ap (λ xs. xs ++ now) e ∙ append_assoc old (take count into) now
+      let g = gives t in
+      sym (ap (λ xs. xs ++ now) e ∙ append_assoc old (take count into) now
       ∙ ap (λ xs. old ++ (xs ++ now)) g.bytes ∙ ap (λ xs. old ++ (take count before ++ xs)) g.rest
       ∙ ap (λ xs. old ++ xs) (take-append-drop count before)));
   end = (λ t z.
-    let g = gives t in
-    elim (g.end z) [
-      | inl r ↦ absurd (omega arith)
-      | inr b ↦ g.rest ∙ ap (λ xs. drop count xs) b ∙ ap (λ n. drop n []) z
-    ]);
+      let g = gives t in
+      elim (g.end z) [
+        | inl r ↦ absurd (omega arith)
+        | inr b ↦ g.rest ∙ ap (λ xs. drop count xs) b ∙ ap (λ n. drop n []) z
+      ]);
 }
 
 -- one piece more

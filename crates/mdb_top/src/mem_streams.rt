@@ -81,7 +81,12 @@ impl MemSink {
     ghost use Rattle.mdb_top.specs.MemStreams.{sink_written, sink_faults};
 
     /// An empty sink with room for so many bytes.
-    pub fn new(alloc: Global, room: usize, most: usize, failing: Vec<u32>) -> Result<MemSink, Memory>
+    pub fn new(
+        alloc: Global,
+        room: usize,
+        most: usize,
+        failing: Vec<u32>,
+    ) -> Result<MemSink, Memory>
         requires { 0 < most }
         ensures written { IfOk result (λ sink. sink_written sink ≡ []) }
         ensures faults { IfOk result (λ sink. sink_faults sink ≡ 0) }

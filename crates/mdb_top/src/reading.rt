@@ -21,7 +21,11 @@ pub enum ReadErr {
 }
 
 /// Reads one piece behind the text, and answers how many bytes came: none at the end alone.
-fn read_on<S: Source>(source: &mut S, piece: &mut [u8], text: &mut Vec<u8>) -> Result<usize, ReadErr>
+fn read_on<S: Source>(
+    source: &mut S,
+    piece: &mut [u8],
+    text: &mut Vec<u8>,
+) -> Result<usize, ReadErr>
     requires { 0 < length piece.old }
     ensures ok { IfOk result (λ count. ReadsOn S.tells count (length piece.old) (S.left source.old) (S.left source.new) text.old.items text.new.items) }
     ensures failed { IsErrOf result ReadErr.Failed → HasRisen (S.faults source.old) (S.faults source.new) }
@@ -38,7 +42,12 @@ fn read_on<S: Source>(source: &mut S, piece: &mut [u8], text: &mut Vec<u8>) -> R
 }
 
 /// The first `most` bytes that the source gives, asked for at most `size` at a time.
-fn read_up_to<S: Source>(alloc: Global, source: &mut S, most: usize, size: usize) -> Result<Vec<u8>, ReadErr>
+fn read_up_to<S: Source>(
+    alloc: Global,
+    source: &mut S,
+    most: usize,
+    size: usize,
+) -> Result<Vec<u8>, ReadErr>
     requires { 0 < size }
     ensures text { IfOk result (λ text. IsTrue S.tells → text.items ≡ take most (S.left source.old)) }
     ensures limit { IfOk result (λ text. length text.items ≤ most) }
@@ -92,7 +101,10 @@ mod tests {
     fn a_failed_read_is_told(rt: HostRuntime) -> Result<(), Fail> {
         let bytes = b"site 1 locking nothing\n".to_vec(rt.alloc())?;
         let mut source = MemSource::new(bytes, 5, vec![in rt.alloc(); 2]?);
-        assert_eq!(rt; read_all(rt.alloc(), &mut source).err(), Some(ReadErr::Failed));
+        assert_eq!(rt;
+            read_all(rt.alloc(), &mut source).err(),
+            Some(ReadErr::Failed)
+        );
         Ok(())
     }
 }

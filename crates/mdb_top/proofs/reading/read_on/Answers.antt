@@ -1,4 +1,3 @@
-use Rattle.std.proofs.Common.{refl}
 use Rattle.mdb_top.proofs.Progress.{reads-on}
 use Rattle.mdb_top.proofs.reading.read_on.Goals as goal
 
