@@ -1,0 +1,166 @@
+-- What holds of one attempt in the coordinator's past, with respect to one site: the coordinator's part of the invariant.
+use Rattle.std.proofs.Common.{◌≡◌, ℕ, ◌<◌, ◌⊎◌, inl, inr, Bool, true, false, cond, Some, List, [], ◌∷◌, ◌++◌, sym, ap, subst, ◌∙◌}
+use Rattle.mdb_base.specs.declared.acts.Step.{Step}
+use Rattle.mdb_base.specs.declared.names.SiteId.{SiteId}
+use Rattle.mdb_base.specs.declared.names.Tid.{Tid}
+use Rattle.mdb_base.specs.Words.{Among}
+use Rattle.presumptions.specs.declared.Decision.{Decision}
+use Rattle.presumptions.specs.declared.Participant.{Participant}
+use Rattle.presumptions.specs.Table.{acks}
+use Rattle.fed_rules.specs.declared.events.CoordEvent.{CoordEvent}
+use Rattle.fed_rules.specs.declared.events.CoordEvent.TheVariants as Ev
+use Rattle.fed_rules.specs.declared.messages.FromSite.TheVariants as From
+use Rattle.fed_rules.specs.declared.records.CoordRecord.{CoordRecord}
+use Rattle.fed_rules.specs.declared.records.CoordRecord.TheVariants as Rec
+use Rattle.fed_rules.specs.declared.scenario.Scenario.{Scenario}
+use Rattle.fed_rules.specs.Coord.{missing}
+use Rattle.fed_rules.specs.CoordPast.{CoordHappening, CoordPast, disk, records, Decided, Gone, standing, kept_standing, is_undecided, begins, participants, program, program_in, or_steps, visits, attempts_of}
+use Rattle.fed_rules.specs.CoordRecords.{coord_frame, outcome, is_nobody, is_kept}
+use Rattle.fed_rules.specs.Scenarios.{protocols}
+use Rattle.fed_rules.specs.SiteRecords.{Home}
+use Rattle.rules_laws.specs.Durable.{IsFirm}
+use Rattle.commit_laws.specs.Records.{IsEnd, IsCommit}
+use Rattle.commit_laws.proofs.Links.{IsGlobal}
+use Rattle.commit_laws.proofs.Lists.{among-split, among-right, cut-old, cut-stays}
+use Rattle.commit_laws.proofs.CoordFacts.{IsOpen, IsInitiation, IsCommitting, WroteAll, Same, Starts, Decides, Forgets, Restarts}
+use Rattle.commit_laws.proofs.CoordLines.{Kept, Stood, Stopped, Through}
+use Rattle.commit_laws.proofs.CoordLists.{IsInitiationOf, IsEndOf}
+use Rattle.commit_laws.proofs.Names.{same-of}
+
+-- the attempt was begun
+abbrev pub IsBegun : CoordPast → Tid → Type 0
+IsBegun past g = Among (λ x. begins g x.answer ≡ true) past
+
+-- a yes vote of this site
+abbrev pub IsYes : Tid → SiteId → CoordEvent → Type 0
+IsYes g site event = (ticket : ℕ) × (event ≡ Ev.Take site (From.Vote g (Some ticket)))
+
+-- an acknowledgement of this site was taken
+abbrev pub IsAcked : CoordPast → Tid → SiteId → Type 0
+IsAcked past g site = Among (λ x. x.event ≡ Ev.Take site (From.Ack g)) past
+
+-- a Commit or an End record of the attempt
+abbrev pub IsMark : Tid → CoordRecord → Type 0
+IsMark g (Rec.Commit tid tickets) = tid ≡ g
+IsMark g (Rec.End tid) = tid ≡ g
+IsMark g kept = ⊥
+
+-- the site is declared, with its protocol
+abbrev pub Declared : Scenario → Home → Type 0
+Declared scenario home = Among (λ m. (m.site ≡ home.site) × (m.protocol ≡ home.protocol)) (protocols scenario)
+
+-- where the site is a participant that acknowledges the outcome, its acknowledgement was taken
+abbrev pub IsClear : Scenario → Home → Tid → CoordPast → Type 0
+IsClear scenario home g past = Declared scenario home → acks home.protocol (outcome (records past) g) ≡ true → visits home.site
+    (program past g) ≡ true → IsAcked past g home.site
+
+pub record CoordSound (scenario : Scenario) (home : Home) (g : Tid) (past : CoordPast) : Type 0 where
+  pub firm : IsFirm coord_frame IsEnd (disk past)
+  pub numbered : IsBegun past g → g.attempt < attempts_of past g.tx
+  pub global : IsBegun past g → IsGlobal scenario g
+  pub undecided : IsOpen past g → IsBegun past g
+  pub marked : Among (IsMark g) (records past) → IsBegun past g × (IsOpen past g → ⊥)
+  pub initiated : (ms : List Participant) → Among (IsInitiationOf g ms) (records past)
+      → IsBegun past g × (ms ≡ participants (protocols scenario) past g)
+  pub decided : (d : Decision) → standing past g ≡ Decided d → IsBegun past g × (d ≡ outcome (records past) g)
+  pub voted : Declared scenario home → Among (IsCommit g) (records past) → visits home.site (program past g) ≡ true
+      → Among (λ x. IsYes g home.site x.event) past
+  pub ended : Among (IsEndOf g) (records past) → IsClear scenario home g past
+  pub gone : standing past g ≡ Gone → Among (IsInitiation g) (records past) → IsClear scenario home g past
+  pub waits : (d : Decision) → standing past g ≡ Decided d → is_nobody (missing past g d) ≡ false
+
+-- what holds of a kept record holds of an old one, or of one that the line appended
+pub kept-from : (protocols : List Participant) (g : Tid) (past : CoordPast) (event : CoordEvent) (now : List CoordRecord)
+    (P : CoordRecord → Type 0) → Kept protocols g past event now → Among P now
+    → Among P (records past) ⊎
+    ((kept : List CoordRecord) × WroteAll protocols g past event kept × (now ≡ kept ++ records past) × Among P kept)
+kept-from protocols g past event now P (inl (kept, w, e)) m = elim (among-split P kept (records past) (subst (Among P) e m)) [
+  | inl i ↦ inr (kept, w, e, i)
+  | inr i ↦ inl i
+]
+kept-from protocols g past event now P (inr c) m = inl (cut-old IsEnd P (records past) now c m)
+
+-- a record that isn't an End is kept
+pub kept-stays : (protocols : List Participant) (g : Tid) (past : CoordPast) (event : CoordEvent) (now : List CoordRecord)
+    (P : CoordRecord → Type 0) → ((r : CoordRecord) → IsEnd r → P r → ⊥) → Kept protocols g past event now → Among P (records past)
+    → Among P now
+kept-stays protocols g past event now P no-end (inl (kept, w, e)) m = subst (Among P) (sym e) (among-right P kept (records past) m)
+kept-stays protocols g past event now P no-end (inr c) m = cut-stays IsEnd P no-end (records past) now c m
+
+pub end-commit : (g : Tid) (r : CoordRecord) → IsEnd r → IsCommit g r → ⊥
+end-commit g (Rec.End t) e c = c
+end-commit g (Rec.Commit t ks) e c = e
+end-commit g (Rec.Initiation t ms) e c = c
+
+pub end-initiation : (g : Tid) (r : CoordRecord) → IsEnd r → IsInitiation g r → ⊥
+end-initiation g (Rec.End t) e c = c
+end-initiation g (Rec.Commit t ks) e c = c
+end-initiation g (Rec.Initiation t ms) e c = e
+
+pub commit-mark : (g : Tid) (rs : List CoordRecord) → Among (IsCommit g) rs → Among (IsMark g) rs
+commit-mark g [] m = m
+commit-mark g (Rec.Commit t ks ∷ rs) (inl c) = inl c
+commit-mark g (Rec.End t ∷ rs) (inl c) = absurd c
+commit-mark g (Rec.Initiation t ms ∷ rs) (inl c) = absurd c
+commit-mark g (r ∷ rs) (inr m) = inr (commit-mark g rs m)
+
+pub end-mark : (g : Tid) (rs : List CoordRecord) → Among (IsEndOf g) rs → Among (IsMark g) rs
+end-mark g [] m = m
+end-mark g (Rec.Commit t ks ∷ rs) (inl c) = absurd c
+end-mark g (Rec.End t ∷ rs) (inl c) = inl c
+end-mark g (Rec.Initiation t ms ∷ rs) (inl c) = absurd c
+end-mark g (r ∷ rs) (inr m) = inr (end-mark g rs m)
+
+-- a Commit that a line appends was open, and so was an Initiation
+pub written-commit : (protocols : List Participant) (g : Tid) (past : CoordPast) (event : CoordEvent) (kept : List CoordRecord)
+    → WroteAll protocols g past event kept → Among (IsCommit g) kept → IsCommitting protocols g past event
+written-commit protocols g past event [] w m = absurd m
+written-commit protocols g past event (Rec.Commit t ks ∷ kept) w (inl c) = (w.0 (same-of t g c)).0
+written-commit protocols g past event (Rec.End t ∷ kept) w (inl c) = absurd c
+written-commit protocols g past event (Rec.Initiation t ms ∷ kept) w (inl c) = absurd c
+written-commit protocols g past event (r ∷ kept) w (inr m) = written-commit protocols g past event kept w.1 m
+
+pub written-initiation : (protocols : List Participant) (g : Tid) (past : CoordPast) (event : CoordEvent) (ms : List Participant)
+    (kept : List CoordRecord) → WroteAll protocols g past event kept → Among (IsInitiationOf g ms) kept
+    → IsOpen past g × (ms ≡ participants protocols past g)
+written-initiation protocols g past event ms [] w m = absurd m
+written-initiation protocols g past event ms (Rec.Initiation t ns ∷ kept) w (inl c) = let r = w.0
+    (same-of t g c.0) in (r.0, sym c.1 ∙ r.1)
+written-initiation protocols g past event ms (Rec.End t ∷ kept) w (inl c) = absurd c
+written-initiation protocols g past event ms (Rec.Commit t ks ∷ kept) w (inl c) = absurd c
+written-initiation protocols g past event ms (r ∷ kept) w (inr m) = written-initiation protocols g past event ms kept w.1 m
+
+pub kept-not-open : (rs : List CoordRecord) (g : Tid) → is_undecided (kept_standing rs g) ≡ true → ⊥
+kept-not-open rs g h = by_test (is_kept rs g) h where
+  by_test : (b : Bool) → is_undecided (cond b (Decided (outcome rs g)) Gone) ≡ true → ⊥
+  by_test true h = cc
+  by_test false h = cc
+
+pub decided-not-open : (f : Bool) (d : Decision) → is_undecided (cond f Gone (Decided d)) ≡ true → ⊥
+decided-not-open true d h = cc
+decided-not-open false d h = cc
+
+-- an attempt that is open behind a line begins in it, or was open before
+pub still-open : (g : Tid) (past : CoordPast) (x : CoordHappening) → Stood g past x → IsOpen (x ∷ past) g
+    → (begins g x.answer ≡ true) ⊎ IsOpen past g
+still-open g past x (Stopped b e a s) h = absurd (kept-not-open (records (x ∷ past)) g (ap is_undecided (sym e) ∙ h))
+still-open g past x (Through (Same e b u a) r) h = inr (ap is_undecided (sym e) ∙ h)
+still-open g past x (Through (Starts b e n steps v) r) h = inl b
+still-open g past x (Through (Decides d f o b e n by a i) r) h = absurd (decided-not-open f d (ap is_undecided (sym e) ∙ h))
+still-open g past x (Through (Forgets d o b e n ends a) r) h = let t : is_undecided Gone ≡ true = ap is_undecided (sym e) ∙ h in cc
+still-open g past x (Through (Restarts b e a s) r) h = absurd (kept-not-open (records (x ∷ past)) g (ap is_undecided (sym e) ∙ h))
+
+-- a line that begins the attempt is its `go`
+pub begins-go : (g : Tid) (past : CoordPast) (x : CoordHappening) → Stood g past x → begins g x.answer ≡ true
+    → (steps : List Step) × (x.event ≡ Ev.Go g steps)
+begins-go g past x (Stopped b e a s) h = cc
+begins-go g past x (Through (Same e b u a) r) h = cc
+begins-go g past x (Through (Starts b e n steps v) r) h = (steps, v)
+begins-go g past x (Through (Decides d f o b e n by a i) r) h = cc
+begins-go g past x (Through (Forgets d o b e n ends a) r) h = cc
+begins-go g past x (Through (Restarts b e a s) r) h = cc
+
+-- a line about an attempt that was begun before
+pub program-stays : (g : Tid) (past : CoordPast) (x : CoordHappening) → begins g x.answer ≡ false
+    → program (x ∷ past) g ≡ program past g
+program-stays g past x e = ap (λ b. cond b (or_steps (program_in g x.event) []) (program past g)) e
