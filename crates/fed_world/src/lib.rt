@@ -1,0 +1,13 @@
+//! The world of a session: it carries out commands one after another, keeps their lines, and reports at the end.
+//! Here it has at most one site, and local transactions alone.
+#![tactic(auto)]
+
+mod commits;
+mod live;
+mod local_site;
+mod local_tx;
+mod places;
+mod site_report;
+mod world;
+
+pub use world::World;

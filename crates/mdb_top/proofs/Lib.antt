@@ -1,0 +1,9 @@
+mod EndLemmas
+mod FitStories
+mod Fits
+mod InputLemmas
+mod LocalScenarios
+mod Progress
+mod Rows
+mod SessionLemmas
+mod Untripped

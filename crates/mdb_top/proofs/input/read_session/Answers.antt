@@ -1,0 +1,17 @@
+use Rattle.std.proofs.Common.{refl, ◌∙◌}
+use Rattle.mdb_top.proofs.InputLemmas.{read_input}
+use Rattle.mdb_top.proofs.input.read_session.Goals as goal
+
+pub returns-in-Ok-clause-told : goal.returns-in-Ok-clause-told
+returns-in-Ok-clause-told g c =
+    read_input g.S.Source.tells (g.S.Source.left c.args.source.now) c.deref.result.now c.session_in.result
+    (λ t. c.deref.ensures.value ∙ c.in-Ok.ensures.text t) c.session_in.ensures.told
+
+pub returns-in-Ok-clause-failed : goal.returns-in-Ok-clause-failed
+returns-in-Ok-clause-failed g c = λ h. absurd (c.session_in.ensures.whole h)
+
+pub returns-in-Err-Failed-clause-told : goal.returns-in-Err-Failed-clause-told
+returns-in-Err-Failed-clause-told g c = record { input = g.S.Source.left c.args.source.now; told = (λ t. refl); holds = tt }
+
+pub returns-in-Err-Memory-clause-told : goal.returns-in-Err-Memory-clause-told
+returns-in-Err-Memory-clause-told g c = record { input = g.S.Source.left c.args.source.now; told = (λ t. refl); holds = tt }

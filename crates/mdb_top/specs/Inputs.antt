@@ -1,0 +1,21 @@
+-- The input that a source gives, and what reading it answers.
+use Rattle.std.specs.Prelude.{ℕ, ◌≡◌, Bool, IsTrue, List, Result, Ok, Err}
+use Rattle.scenario_text.specs.declared.session.Session.{Session}
+use Rattle.mdb_top.specs.declared.input.Unplayed.{Unplayed}
+use Rattle.mdb_top.specs.declared.input.Unplayed.TheVariants as Why
+use Rattle.mdb_top.specs.Verdicts.{Verdict, TooLong, BadInput, NotHere, Runs}
+
+-- the fact holds of some input; where the source tells the bytes that were left, the input is those
+pub record SomeInput (tells : Bool) (left : List ℕ) (P : List ℕ → Type 0) : Type 0 where
+  pub input : List ℕ
+  pub told : IsTrue tells → input ≡ left
+  pub holds : P input
+
+-- the session that runs here, or why there is none; a failed read and want of memory say nothing of the input
+abbrev pub Tells : Result Session Unplayed → Verdict → Type 0
+Tells (Ok session) verdict = verdict ≡ Runs session
+Tells (Err Why.TooLong) verdict = verdict ≡ TooLong
+Tells (Err (Why.BadLine bad)) verdict = verdict ≡ BadInput bad
+Tells (Err Why.NotHere) verdict = verdict ≡ NotHere
+Tells (Err Why.Failed) verdict = Unit {0}
+Tells (Err Why.Memory) verdict = Unit {0}

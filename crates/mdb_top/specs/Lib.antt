@@ -1,0 +1,9 @@
+pub mod Endings
+pub mod FirstRows
+pub mod Inputs
+pub mod MemStreams
+pub mod Progress
+pub mod Sessions
+pub mod Streams
+pub mod Texts
+pub mod Verdicts

@@ -1,0 +1,43 @@
+-- What is said where a session isn't replayed. Each text ends with a line feed.
+use Rattle.std.specs.Prelude.{ℕ, List, [], ◌∷◌, ◌++◌, codes, decimal}
+use Rattle.scenario_text.specs.declared.bad.BadLine.{BadLine}
+use Rattle.scenario_text.specs.declared.bad.BadWhy.{BadWhy}
+use Rattle.scenario_text.specs.declared.bad.BadWhy.TheVariants as Bad
+
+-- a text with its line feed
+abbrev pub line : List ℕ → List ℕ
+line text = text ++ 10 ∷ []
+
+abbrev pub usage_text : List ℕ
+usage_text = line (codes "usage: mdbfed replay | run | make NUMBER SITES TRANSACTIONS")
+
+abbrev pub read_failed_text : List ℕ
+read_failed_text = line (codes "read failed")
+
+abbrev pub too_long_text : List ℕ
+too_long_text = line (codes "too long")
+
+abbrev pub no_memory_text : List ℕ
+no_memory_text = line (codes "no memory")
+
+abbrev pub bad_input_text : List ℕ
+bad_input_text = line (codes "bad input")
+
+-- the word of a reason
+abbrev pub why_text : BadWhy → List ℕ
+why_text Bad.Word = codes "word"
+why_text Bad.Count = codes "count"
+why_text Bad.Number = codes "number"
+why_text Bad.Range = codes "range"
+why_text Bad.Spelling = codes "spelling"
+why_text Bad.Site = codes "site"
+why_text Bad.Repeated = codes "repeated"
+why_text Bad.Register = codes "register"
+why_text Bad.Many = codes "many"
+why_text Bad.Long = codes "long"
+why_text Bad.Bytes = codes "bytes"
+why_text Bad.Ending = codes "ending"
+
+-- the first bad line of a text, counted from 1, with its reason
+abbrev pub bad_line_text : BadLine → List ℕ
+bad_line_text bad = line (codes "bad line " ++ decimal bad.line ++ codes " " ++ why_text bad.why)

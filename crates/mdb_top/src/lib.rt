@@ -1,0 +1,22 @@
+//! The top of the federation: words and bytes in, lines and a report out, and a status.
+#![tactic(auto)]
+
+mod bad_lines;
+mod first_rows;
+mod input;
+mod mem_streams;
+mod output;
+mod reading;
+mod scope;
+mod streams;
+mod top_call;
+mod words;
+mod writing;
+
+pub use journal_disk::Failed;
+pub use mem_streams::{MemSink, MemSource};
+pub use streams::{Sink, Source};
+pub use top_call::federate;
+
+#[cfg(test)]
+mod tests;

@@ -1,0 +1,55 @@
+//! What runs so far: one locking site at most, local transactions, and the commands that speak of them.
+ghost use Rattle.std.specs.Prelude.{◌≡◌};
+ghost use Rattle.std.specs.List.{list_all};
+ghost use Rattle.mdb_top.specs.Verdicts as verdicts;
+
+use fed_rules::{Command, SiteLine, TxLine};
+use mdb_base::Engine;
+use scenario_text::Session;
+
+fn is_locking(engine: Engine) -> bool
+    ensures { result ≡ verdicts.is_locking engine }
+{
+    matches!(engine, Engine::Locking)
+}
+
+/// Whether there is no site, or a single one that locks.
+fn is_one_site(sites: &[SiteLine]) -> bool
+    ensures { result ≡ verdicts.is_one_site sites.now }
+{
+    match sites {
+        [] => true,
+        [site] => is_locking(site.engine),
+        _ => false,
+    }
+}
+
+fn are_local(transactions: &[TxLine]) -> bool
+    ensures { result ≡ list_all verdicts.is_local transactions.now }
+{
+    transactions.iter().all(|line| line.home.is_some())
+}
+
+fn is_local_command(command: Command) -> bool
+    ensures { result ≡ verdicts.is_local_command command }
+{
+    matches!(
+        command,
+        Command::Begin(_) | Command::Step(_) | Command::Commit(_) | Command::Abort(_)
+    )
+}
+
+fn are_local_commands(commands: &[Command]) -> bool
+    ensures { result ≡ list_all verdicts.is_local_command commands.now }
+{
+    commands.iter().all(|command| is_local_command(*command))
+}
+
+/// Whether a session runs here.
+pub(crate) fn runs_here(session: &Session) -> bool
+    ensures { result ≡ verdicts.runs_here session.now }
+{
+    is_one_site(session.scenario.sites.as_slice())
+        && are_local(session.scenario.transactions.as_slice())
+        && are_local_commands(session.commands.as_slice())
+}

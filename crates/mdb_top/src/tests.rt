@@ -1,0 +1,29 @@
+//! The top call on whole inputs: what it puts, and its status.
+mod failing;
+mod refused;
+mod sessions;
+
+use crate::{MemSink, MemSource, federate};
+use mdb_base::Memory;
+use std::alloc::Global;
+use std::process::Abort;
+
+/// The status of `replay` on these bytes, given and taken a few at a time, and what was put.
+fn replayed(alloc: Global, input: &[u8]) -> Result<(u8, Vec<u8>), Memory> {
+    let words = vec![in alloc; String::from_str(alloc, "replay")?]?;
+    let mut source = MemSource::new(Vec::from_slice(alloc, input)?, 1_000, Vec::new(alloc));
+    let mut sink = MemSink::new(alloc, 4_096, 7, Vec::new(alloc))?;
+    let status = federate(alloc, &words, &mut source, &mut sink);
+    Ok((status, Vec::from_slice(alloc, sink.written())?))
+}
+
+/// `replay` on this text puts that one and has this status. There is memory.
+fn expect(rt: &(impl Abort + AllocGlobal), input: &str, status: u8, output: &str) {
+    match replayed(rt.alloc(), input.as_bytes()) {
+        Ok((ended, put)) => {
+            assert_eq!(rt; ended, status);
+            assert_eq!(rt; put.as_slice(), output.as_bytes());
+        }
+        Err(_) => panic!(rt; "there is memory"),
+    }
+}

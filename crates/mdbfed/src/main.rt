@@ -1,0 +1,39 @@
+//! The program: `mdbfed replay` reads a session from standard input, and writes its lines and its report to standard output.
+#![tactic(auto)]
+
+mod std_streams;
+
+use crate::std_streams::{StdSink, StdSource};
+use mdb_base::Memory;
+use mdb_top::federate;
+use std::env;
+use std::env::Env;
+use std::io::ErrorKind;
+use std::process::ExitCode;
+
+/// The status where there is no memory for the words.
+const NO_MEMORY: u8 = 6;
+
+/// The words behind the program's name. Where one of them isn't text they are no command, and none are given.
+fn words_of<R: Env + AllocGlobal>(rt: &R) -> Result<Vec<String>, Memory> {
+    let mut words = Vec::new(rt.alloc());
+    match env::args(rt) {
+        Ok(all) => {
+            for word in all.skip(1) {
+                words.push(word)?;
+            }
+            Ok(words)
+        }
+        Err(why) if why.kind() == ErrorKind::OutOfMemory => Err(Memory),
+        Err(_) => Ok(words),
+    }
+}
+
+fn main(rt: HostRuntime) -> ExitCode {
+    let Ok(words) = words_of(&rt) else {
+        return ExitCode::from(NO_MEMORY);
+    };
+    let mut source = StdSource::new(rt.reader());
+    let mut sink = StdSink::new(rt.stdout());
+    ExitCode::from(federate(rt.alloc(), &words, &mut source, &mut sink))
+}

@@ -1,0 +1,4 @@
+pub mod Gone
+pub mod Lines
+pub mod Room
+pub mod Youngest

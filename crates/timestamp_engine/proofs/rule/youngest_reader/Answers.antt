@@ -1,0 +1,9 @@
+use Rattle.std.proofs.Common.{◌∙◌, ap}
+use Rattle.run_lists.specs.Held.{Held}
+use Rattle.timestamp_engine.specs.Rule.{is_younger_reader}
+use Rattle.timestamp_engine.proofs.rule.youngest_reader.Goals as goal
+
+pub returns : goal.returns
+returns c =
+    let test = is_younger_reader c.args.age c.args.act in
+    c.youngest.ensures test (λ held answer says. says.says.met ∙ ap (λ (h : Held). test h.run) says.shows)

@@ -1,0 +1,4 @@
+pub mod Bad
+pub mod Last
+pub mod Lines
+pub mod Spoilers

@@ -1,0 +1,12 @@
+use Rattle.mdb_base.specs.declared.names.Engine.TheVariants.{Validation}
+use Rattle.run_lists.proofs.HeldBy.{live_held}
+use Rattle.validation_engine.proofs.Lines.{keeps_value}
+use Rattle.validation_engine.proofs.engine.ValidationEngineLocalEngine.read.Goals as goal
+
+pub returns-clause-answered : goal.returns-clause-answered
+returns-clause-answered c =
+    let book = c.args.self.now.book in
+    let here = live_held Validation book c.requires.start c.requires.lines c.args.tid c.requires.stood c.requires.holds in
+    let value = rw here.found at c.value_for-value.ensures in
+    λ start lines k. rw (c.in_ok-grant.ensures.granted, c.read.ensures)
+    (keeps_value book start lines k c.args.tid here.held here.found c.args.key c.value_for-value.result here.live value)

@@ -1,0 +1,27 @@
+use Rattle.std.proofs.Common.{◌+◌, ◌∙◌, sym, ap}
+use Rattle.mdb_base.specs.declared.names.Engine.TheVariants.{Validation}
+use Rattle.run_lists.specs.declared.marks.Marks.{Marks}
+use Rattle.run_lists.specs.Held.{Held}
+use Rattle.run_lists.proofs.Ages.{some_inj}
+use Rattle.run_lists.proofs.HeldBy.{sealable_held}
+use Rattle.validation_engine.specs.Rule.{seal_stop_in}
+use Rattle.validation_engine.proofs.Lines.{keeps_sealing, keeps_refusal}
+use Rattle.validation_engine.proofs.engine.ValidationEngineLocalEngine.seal.Goals as goal
+
+pub returns-clause-sealed : goal.returns-clause-sealed
+returns-clause-sealed c =
+    let book = c.args.self.now.book in
+    let here = sealable_held Validation book c.requires.start c.requires.lines c.args.tid c.requires.stood c.requires.holds in
+    let one = some_inj here.held c.run-run.result.now (sym here.found ∙ c.run-run.ensures) in
+    let free = ap (λ (held : Held). seal_stop_in book held.run) one ∙ (sym c.seal_stop.ensures ∙ c.in_default.is) in
+    λ start lines k. rw c.seal.ensures
+    (keeps_sealing book start lines k c.args.tid here.held here.found _ here.live free (ap (λ (marks : Marks). marks.counter + 1) c.marks-number.ensures))
+
+pub returns-in-Some-clause-failed : goal.returns-in-Some-clause-failed
+returns-in-Some-clause-failed c =
+    let book = c.args.self.now.book in
+    let here = sealable_held Validation book c.requires.start c.requires.lines c.args.tid c.requires.stood c.requires.holds in
+    let one = some_inj here.held c.run-run.result.now (sym here.found ∙ c.run-run.ensures) in
+    let refused = ap (λ (held : Held). seal_stop_in book held.run) one ∙ (sym c.seal_stop.ensures ∙ c.in-Some.is) in
+    λ start lines k. rw c.take_out-refused.ensures.book
+    (keeps_refusal book start lines k c.args.tid here.held here.found c.in-Some.why here.live refused)

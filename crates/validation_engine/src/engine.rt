@@ -1,0 +1,126 @@
+//! The validating engine.
+use crate::rule::seal_stop;
+use engine_contract::{Kept, LocalEngine, SealErr, Sealed};
+use mdb_base::{Key, Memory, Puts, Reply, Tid};
+use run_lists::{Granted, Marks, RunBook};
+use std::alloc::Global;
+
+#[cfg(test)]
+mod tests;
+
+/// A local engine that grants every access, and tests a run when it is sealed. It keeps its runs in a book and scans them.
+#[derive(Drop)]
+pub struct ValidationEngine {
+    book: RunBook,
+}
+
+impl ValidationEngine {
+    ghost use Rattle.std.specs.Prelude.{[], IfOk};
+    ghost use Rattle.mdb_base.specs.declared.names.Engine.TheVariants.{Validation};
+    ghost use Rattle.engine_contract.specs.Calls.{fresh_start};
+    ghost use Rattle.validation_engine.specs.Stands.{Stands};
+
+    /// An engine of a new site with these rows.
+    pub fn new(alloc: Global, rows: &Puts) -> Result<Self, Memory>
+        ensures { IfOk result (λ engine. Stands engine (fresh_start Validation rows.now) []) }
+    {
+        let marks = Marks {
+            counter: 0,
+            published: 0,
+            owner: None,
+        };
+        let book = RunBook::start(alloc, rows, &[], marks)?;
+        Ok(ValidationEngine { book })
+    }
+}
+
+impl LocalEngine for ValidationEngine {
+    ghost use Rattle.mdb_base.specs.declared.names.Engine.TheVariants.{Validation};
+    ghost use Rattle.validation_engine.specs.Stands.{Stands};
+
+    ghost kind = { λ _. Validation };
+
+    ghost stands = { Stands };
+
+    ghost of_kind = { λ engine start lines stood. stood.of_kind };
+
+    ghost starts = { λ engine start lines stood. stood.starts };
+
+    ghost right = { λ engine start lines stood. stood.right };
+
+    fn begin(&mut self, alloc: Global, tid: Tid) -> Result<u64, Memory> {
+        self.book.begin(alloc, tid)
+    }
+
+    fn read(&mut self, _alloc: Global, tid: Tid, key: Key) -> Result<Reply, Memory> {
+        let value = self.book.value_for(tid, key);
+        self.book.grant(tid, Granted::read(key, value))?;
+        Ok(Reply::Value(value))
+    }
+
+    fn write(&mut self, _alloc: Global, tid: Tid, key: Key, value: u64) -> Result<Reply, Memory> {
+        self.book.grant(tid, Granted::write(key, value))?;
+        Ok(Reply::Done)
+    }
+
+    fn take(&mut self, _alloc: Global, tid: Tid) -> Result<Reply, Memory> {
+        let ticket = self.book.marks().published + 1;
+        self.book.hold_ticket(tid, ticket);
+        Ok(Reply::Ticket(ticket))
+    }
+
+    fn seal(&mut self, alloc: Global, tid: Tid) -> Result<Sealed, SealErr> {
+        let run = self.book.run(tid);
+        if let Some(why) = seal_stop(&self.book, run) {
+            let _refused = self.book.take_out(tid);
+            return Err(SealErr::Refused(why));
+        }
+        let writes = run.puts(alloc)?;
+        let ticket = run.ticket();
+        let number = self.book.marks().counter + 1;
+        self.book.seal(tid, number);
+        Ok(Sealed {
+            number,
+            ticket,
+            writes,
+        })
+    }
+
+    fn unbegin(&mut self, tid: Tid) {
+        self.book.unbegin(tid);
+    }
+
+    fn unseal(&mut self, tid: Tid) {
+        self.book.unseal(tid);
+    }
+
+    fn commit(&mut self, tid: Tid) {
+        self.book.commit(tid);
+    }
+
+    fn abort(&mut self, tid: Tid) {
+        let _aborted = self.book.take_out(tid);
+    }
+
+    fn restart(
+        &mut self,
+        alloc: Global,
+        rows: &Puts,
+        doubtful: &[Kept],
+        counter: u64,
+        published: u64,
+        owner: Option<Tid>,
+    ) -> Result<(), Memory> {
+        let marks = Marks {
+            counter,
+            published,
+            owner,
+        };
+        self.book = RunBook::start(alloc, rows, doubtful, marks)?;
+        Ok(())
+    }
+
+    fn rows(&self, alloc: Global) -> Result<Puts, Memory> {
+        self.book.rows(alloc)
+    }
+}

@@ -1,0 +1,9 @@
+//! Backward validation (Härder 1984): every access is granted, and a run is tested when it is sealed. That the writes of prepared
+//! runs count in the test is this project's profile, and so is that a ticket (Georgakopoulos, Rusinkiewicz, Sheth 1994) is
+//! published at sealing, where it must still be the next one.
+#![tactic(auto)]
+
+mod engine;
+mod rule;
+
+pub use engine::ValidationEngine;

@@ -1,0 +1,127 @@
+//! What refuses the sealing of a run.
+ghost use Rattle.std.specs.Prelude.{◌≡◌};
+ghost use Rattle.mdb_base.specs.Words.{those};
+ghost use Rattle.fed_rules.specs.Runs.{number};
+ghost use Rattle.fed_rules.specs.Replies.{has_written};
+ghost use Rattle.run_lists.specs.Keeps.{ended_since};
+ghost use Rattle.run_lists.specs.Rivals.{greatest_rival};
+ghost use Rattle.validation_engine.specs.Rule.{is_ended_writer as has_ended_and_written, is_sealed_writer as is_sealed_and_has_written};
+ghost use Rattle.validation_engine.specs.Rule.{later as later_of, last_by_number, lower_key as lower_key_of, spoilers_in};
+ghost use Rattle.validation_engine.specs.Rule.{least_bad_key as least_bad_key_in, invalid_in, moved_in, seal_stop_in};
+
+use mdb_base::{Key, Tid, Why};
+use run_lists::{HeldRun, Marks, Rival, RunBook, same_attempt};
+
+/// Whether it committed since a run of this age began, and wrote the key.
+fn is_ended_writer(run: &HeldRun, age: u64, key: Key) -> bool
+    ensures { result ≡ has_ended_and_written age key run.now }
+{
+    run.marks().counter >= age && run.has_written(key)
+}
+
+/// Whether it is another sealed run, and wrote the key.
+fn is_sealed_writer(run: &HeldRun, tid: Tid, key: Key) -> bool
+    ensures { result ≡ is_sealed_and_has_written tid key run.now.run }
+{
+    !same_attempt(run.tid(), tid) && run.sealed().is_some() && run.has_written(key)
+}
+
+/// Of the runs that committed since a run of this age began, the last one by number that wrote the key.
+fn last_ended_writer(runs: &[HeldRun], age: u64, key: Key) -> Option<Rival>
+    ensures { result ≡ last_by_number (those (has_written key) (ended_since age runs.now)) }
+{
+    let mut last = None;
+    for run in runs {
+        if is_ended_writer(run, age, key) {
+            last = Some(Rival::higher(last, run.by_number()));
+        }
+    }
+    last
+}
+
+/// Of the other sealed runs, the last one by number that wrote the key.
+fn last_sealed_writer(runs: &[HeldRun], tid: Tid, key: Key) -> Option<Rival>
+    ensures { result ≡ greatest_rival number (is_sealed_and_has_written tid key) runs.now }
+{
+    let mut last = None;
+    for run in runs {
+        if is_sealed_writer(run, tid, key) {
+            last = Some(Rival::higher(last, run.by_number()));
+        }
+    }
+    last
+}
+
+/// The later one of two, the first of two alike.
+fn later(first: Option<Rival>, next: Option<Rival>) -> Option<Rival>
+    ensures { result ≡ later_of first next }
+{
+    match next {
+        Some(next) => Some(Rival::higher(first, next)),
+        None => first,
+    }
+}
+
+/// The last one by number of the runs that make a key bad for a run.
+fn last_spoiler(book: &RunBook, run: &HeldRun, key: Key) -> Option<Rival>
+    ensures { result ≡ last_by_number (spoilers_in book.now run.now.run key) }
+{
+    let sealed = last_sealed_writer(book.unended(), run.tid(), key);
+    if !run.has_read(key) {
+        return sealed;
+    }
+    later(last_ended_writer(book.committed(), run.age(), key), sealed)
+}
+
+/// The lower key of two.
+fn lower_key(key: Key, other: Option<Key>) -> Key
+    ensures { result ≡ lower_key_of key other }
+{
+    match other {
+        Some(other) if other.0 < key.0 => other,
+        _ => key,
+    }
+}
+
+/// The least of the keys of a run that are bad.
+fn least_bad_key(book: &RunBook, run: &HeldRun) -> Option<Key>
+    ensures { result ≡ least_bad_key_in book.now run.now.run }
+{
+    let mut least = None;
+    for access in run.accesses() {
+        let key = access.key();
+        if last_spoiler(book, run, key).is_some() {
+            least = Some(lower_key(key, least));
+        }
+    }
+    least
+}
+
+/// Why a run is invalid, if it is: the least bad key, and the last of the runs that make it bad.
+fn invalid(book: &RunBook, run: &HeldRun) -> Option<Why>
+    ensures { result ≡ invalid_in book.now run.now.run }
+{
+    let key = least_bad_key(book, run)?;
+    let last = last_spoiler(book, run, key)?;
+    Some(Why::Invalid { by: last.tid, key })
+}
+
+/// Whose ticket was published since this one was taken, if another one was.
+fn moved(marks: Marks, ticket: Option<u64>) -> Option<Why>
+    ensures { result ≡ moved_in marks ticket }
+{
+    if marks.published.checked_add(1) == Some(ticket?) {
+        return None;
+    }
+    Some(Why::TicketMoved { by: marks.owner? })
+}
+
+/// What refuses the sealing of a run, if anything: it is invalid, or its ticket isn't the next one any more.
+pub(crate) fn seal_stop(book: &RunBook, run: &HeldRun) -> Option<Why>
+    ensures { result ≡ seal_stop_in book.now run.now.run }
+{
+    match invalid(book, run) {
+        Some(why) => Some(why),
+        None => moved(book.marks(), run.ticket()),
+    }
+}
