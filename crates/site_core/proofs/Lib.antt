@@ -1,0 +1,3 @@
+pub mod AttemptsLaws
+pub mod RunsLaws
+pub mod StoreLaws
