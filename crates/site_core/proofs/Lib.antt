@@ -1,3 +1,5 @@
 pub mod AttemptsLaws
+pub mod LineLaws
 pub mod RunsLaws
+pub mod StandsLaws
 pub mod StoreLaws

@@ -15,7 +15,7 @@ use Rattle.fed_rules.specs.Replies.{access_reply}
 use Rattle.fed_rules.specs.EngineLines.{IsFree, IsLive, IsSealed}
 use Rattle.site_core.specs.declared.attempts.Begun.{Begun}
 use Rattle.site_core.specs.declared.attempts.LiveAttempt.{LiveAttempt}
-use Rattle.site_core.specs.Attempts.{after_reply, ended, finished, finished_of, granted, live_attempt, noted, running, started, with_note, without_live}
+use Rattle.site_core.specs.Attempts.{SameBegun, after_reply, ended, finished, finished_of, granted, live_attempt, noted, running, started, with_note, without_live}
 use Rattle.site_core.specs.Runs.{Lists, accesses}
 
 some_run : (a b : Run) → ◌≡◌ {A = Option Run} (Some a) (Some b) → a ≡ b
@@ -128,7 +128,7 @@ no_other list tid n e = from (live_attempt (noted list tid.tx)) e where
     by_test true same = let is = eqb-true live.attempt tid.attempt same in cond-false _ _ _ (ap (λ (m : ℕ). m == a) is ∙ apart)
     by_test false same = let bad : None ≡ Some n = sym (cond-false _ _ _ same) ∙ e in cc
 
-abbrev tid_at : Tx → LiveAttempt → Tid
+abbrev pub tid_at : Tx → LiveAttempt → Tid
 tid_at tx live = record { tx = tx; attempt = live.attempt }
 
 pub none_running : (list : List Begun) (tx : Tx) → running list tx ≡ None → (a : ℕ) → finished list (record { tx = tx; attempt = a }) ≡ None
@@ -208,3 +208,29 @@ some_value (Some x) some = (x, refl)
 pub same_run : (start : Start) (lines : List EngineLine) (tid : Tid) (act : PlainAct) (reply : Reply) (other run : Run) → run_at start lines tid ≡ Some other → run_at start lines tid ≡ Some run
     → reply ≡ access_reply start lines other act → reply ≡ access_reply start lines run act
 same_run start lines tid act reply other run a b ruled = let same : other ≡ run = some_run other run (sym a ∙ b) in ruled ∙ ap (λ (r : Run). access_reply start lines r act) same
+
+noted_live : (list : List Begun) (tid : Tid) (n : ℕ) → finished list tid ≡ Some n → is_some (noted list tid.tx) ≡ true
+noted_live list tid n e = from (noted list tid.tx) e where
+  from : (o : Option Begun) → finished_of tid.attempt (live_attempt o) ≡ Some n → is_some o ≡ true
+  from None e = cc
+  from (Some one) e = refl
+
+-- a note about a transaction that was begun begins no other
+pub note_begins_none : (note : Begun) (list : List Begun) (tid : Tid) (n : ℕ) → finished list tid ≡ Some n → note.tx ≡ tid.tx → SameBegun list (with_note note list)
+note_begins_none note list tid n live is tx = ap is_some (noted-with_note note list tx) ∙ by_test (same_tx note.tx tx) refl where
+  by_test : (t : Bool) → same_tx note.tx tx ≡ t → is_some (cond (same_tx note.tx tx) (Some note) (noted list tx)) ≡ is_some (noted list tx)
+  by_test true e =
+      let same : tid.tx ≡ tx = sym is ∙ same_tx-equal note.tx tx e in
+      ap is_some (cond-true _ _ _ e) ∙ sym (ap (λ (t : Tx). is_some (noted list t)) (sym same) ∙ noted_live list tid n live)
+  by_test false e = ap is_some (cond-false _ _ _ e)
+
+-- nor does the reply to an access
+pub reply_begins_none : (list : List Begun) (tid : Tid) (act : PlainAct) (reply : Reply) (n : ℕ) → finished list tid ≡ Some n → SameBegun list (after_reply reply act tid n list)
+reply_begins_none list tid act (Reply_is.Refused why) n live = note_begins_none (ended tid) list tid n live refl
+reply_begins_none list tid (Read key) (Reply_is.Value value) n live = note_begins_none (granted tid n) list tid n live refl
+reply_begins_none list tid (Write key v) (Reply_is.Value value) n live = λ tx. refl
+reply_begins_none list tid (Read key) Reply_is.Done n live = λ tx. refl
+reply_begins_none list tid (Write key v) Reply_is.Done n live = note_begins_none (granted tid n) list tid n live refl
+reply_begins_none list tid act (Reply_is.Ticket t) n live = λ tx. refl
+reply_begins_none list tid act (Reply_is.Wait by) n live = λ tx. refl
+reply_begins_none list tid act Reply_is.Unknown n live = λ tx. refl

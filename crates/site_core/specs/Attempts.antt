@@ -1,5 +1,5 @@
 -- The local transactions that a site has begun: the live attempt of each, with how many accesses of it are finished.
-use Rattle.std.specs.Prelude.{ℕ, zero, suc, ◌≡◌, ◌+◌, ◌==◌, true, false, cond, Option, Some, None, List, [], ◌∷◌}
+use Rattle.std.specs.Prelude.{ℕ, zero, suc, ◌≡◌, ◌+◌, ◌==◌, true, false, cond, is_some, Option, Some, None, List, [], ◌∷◌}
 use Rattle.mdb_base.specs.declared.acts.PlainAct.{PlainAct}
 use Rattle.mdb_base.specs.declared.acts.PlainAct.TheVariants.{Read, Write}
 use Rattle.mdb_base.specs.declared.names.Tid.{Tid}
@@ -73,3 +73,7 @@ after_reply Reply_is.Done (Write key value) tid done begun = with_note (granted 
 after_reply (Reply_is.Ticket n) act tid done begun = begun
 after_reply (Reply_is.Wait by) act tid done begun = begun
 after_reply Reply_is.Unknown act tid done begun = begun
+
+-- the same transactions were begun
+abbrev pub SameBegun : List Begun → List Begun → Type 0
+SameBegun old new = (tx : Tx) → is_some (noted new tx) ≡ is_some (noted old tx)

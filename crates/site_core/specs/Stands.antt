@@ -4,10 +4,11 @@ use Rattle.mdb_base.specs.declared.names.Engine.{Engine}
 use Rattle.mdb_base.specs.declared.names.Tid.{Tid}
 use Rattle.mdb_base.specs.declared.names.Tx.{Tx}
 use Rattle.mdb_base.specs.Words.{map_some}
+use Rattle.fed_rules.specs.declared.answers.Answer.{Answer}
 use Rattle.fed_rules.specs.Happenings.{is_down}
 use Rattle.fed_rules.specs.Runs as Lines
 use Rattle.fed_rules.specs.Runs.{EngineLine}
-use Rattle.fed_rules.specs.SitePast.{SitePast, epoch_start, engine_lines, attempts_of}
+use Rattle.fed_rules.specs.SitePast.{SiteHappening, SitePast, epoch_start, engine_lines, attempts_of}
 use Rattle.fed_rules.specs.SitePast as Past
 use Rattle.fed_rules.specs.SiteRecords.{Home, prepared_tids, start_of}
 use Rattle.journal_disk.specs.Disk.{Image}
@@ -54,3 +55,8 @@ pub record Holds {E : Type 0} (stands : E → Lines.Start → List EngineLine �
 pub record Stands {E D : Type 0} (stands : E → Lines.Start → List EngineLine → Type 0) (tells : Bool) (image : D → Image) (size spare : D → ℕ) (core : SiteCore E) (disk : D) (home : Home) (past : SitePast) : Type 0 where
   pub holds : Holds stands core home past
   pub stored : Keeps tells image size spare disk core.store (Past.disk home past) (Past.trip past)
+
+-- the answer is that of the line, and the core stands for the line added
+pub record Adds {E : Type 0} (stands : E → Lines.Start → List EngineLine → Type 0) (answer : Answer) (core : SiteCore E) (home : Home) (past : SitePast) (x : SiteHappening) : Type 0 where
+  pub said : answer ≡ x.answer
+  pub holds : Holds stands core home (x ∷ past)

@@ -4,7 +4,7 @@ ghost use Rattle.fed_rules.specs.Replies.{access_reply};
 ghost use Rattle.fed_rules.specs.Runs.{Aborts, Acts, Begins, Run, counter, run_at};
 ghost use Rattle.engine_contract.specs.Past.{AddsLine, EachPast, KeepsPast, SomePast};
 ghost use Rattle.engine_contract.specs.Calls.{CanAct};
-ghost use Rattle.site_core.specs.Attempts.{finished, running, started, with_note};
+ghost use Rattle.site_core.specs.Attempts.{SameBegun, finished, running, started, with_note};
 ghost use Rattle.site_core.specs.Runs.{IsRunning};
 
 use crate::attempts::{Attempts, Begun, LiveAttempt};
@@ -52,6 +52,7 @@ impl<E: LocalEngine> Runs<E> {
         ensures ruled { IfOk result (λ reply. EachPast (IsRunning E.stands) self.old
             (λ start lines. (run : Run) → run_at start lines tid ≡ Some run → reply ≡ access_reply start lines run act)) }
         ensures memory { OnErr result (EachPast (IsRunning E.stands) self.old (IsRunning E.stands self.new)) }
+        ensures begun { SameBegun self.old.attempts.begun self.new.attempts.begun }
     {
         let reply = access(&mut self.engine, alloc, tid, act)?;
         self.attempts.note_reply(tid, act, reply);
@@ -62,7 +63,8 @@ impl<E: LocalEngine> Runs<E> {
     pub fn abort(&mut self, tid: Tid)
         requires live { IsSome (finished self.old.attempts.begun tid) }
         requires stood { SomePast (IsRunning E.stands) self.old (λ start lines. Unit {0}) }
-        ensures { EachPast (IsRunning E.stands) self.old (λ start lines. IsRunning E.stands self.new start (Aborts tid ∷ lines)) }
+        ensures aborted { EachPast (IsRunning E.stands) self.old (λ start lines. IsRunning E.stands self.new start (Aborts tid ∷ lines)) }
+        ensures begun { SameBegun self.old.attempts.begun self.new.attempts.begun }
     {
         self.engine.abort(tid);
         self.attempts.end(tid);

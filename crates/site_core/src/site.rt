@@ -1,11 +1,9 @@
 //! The core of a site and its step.
-ghost use Rattle.std.specs.Prelude.{◌≡◌, ◌∷◌, [], true, false, IsTrue, IfOk, OnErr, IsErrOf};
-ghost use Rattle.fed_rules.specs.Site.{of_begin, of_act, of_abort, of_fate, site_line};
-ghost use Rattle.fed_rules.specs.SitePast.{SitePast};
-ghost use Rattle.fed_rules.specs.SiteRecords.{Home};
-ghost use Rattle.site_core.specs.Stands.{Holds};
+ghost use Rattle.std.specs.Prelude.{◌≡◌, false, is_some, IfOk, IsTrue, OnErr};
+ghost use Rattle.fed_rules.specs.Site.{of_begin, of_act, of_abort, of_fate};
+ghost use Rattle.site_core.specs.Attempts.{noted};
+ghost use Rattle.site_core.specs.Stands.{Adds, Holds};
 ghost use Rattle.site_core.specs.Steps.{EachPast, HasFewAccesses, NumberFits, SomePast};
-ghost use Rattle.site_core.specs.Store.{is_up};
 
 use crate::answers::act_answer;
 use crate::committed::committed_local;
@@ -31,20 +29,20 @@ impl<E: LocalEngine> SiteCore<E> {
         requires up { self.old.store.standing ≡ Standing.Up }
         requires may { SomePast (Holds E.stands self.old) NumberFits }
         ensures answered { IfOk result (λ answer. EachPast (Holds E.stands self.old)
-            (λ home past. answer ≡ (of_begin home past tid).answer)) }
-        ensures adds { IfOk result (λ answer. EachPast (Holds E.stands self.old)
-            (λ home past. Holds E.stands self.new home (of_begin home past tid ∷ past))) }
+            (λ home past. Adds E.stands answer self.new home past (of_begin home past tid))) }
         ensures memory { OnErr result (EachPast (Holds E.stands self.old) (Holds E.stands self.new)) }
         ensures store { self.new.store ≡ self.old.store }
     {
-        if let Some(committed) = committed_local(self.store.journal.records(), tid.tx) {
-            return Ok(Answer::Committed(committed));
+        match committed_local(self.store.journal.records(), tid.tx) {
+            Some(committed) => Ok(Answer::Committed(committed)),
+            None => match self.runs.attempts.running(tid.tx) {
+                Some(running) => Ok(Answer::Running(running)),
+                None => {
+                    self.runs.begin(alloc, tid)?;
+                    Ok(Answer::Begun(tid))
+                }
+            },
         }
-        if let Some(running) = self.runs.attempts.running(tid.tx) {
-            return Ok(Answer::Running(running));
-        }
-        self.runs.begin(alloc, tid)?;
-        Ok(Answer::Begun(tid))
     }
 
     /// The next access of a local attempt.
@@ -52,9 +50,7 @@ impl<E: LocalEngine> SiteCore<E> {
         requires up { self.old.store.standing ≡ Standing.Up }
         requires may { SomePast (Holds E.stands self.old) (HasFewAccesses tid) }
         ensures answered { IfOk result (λ answer. EachPast (Holds E.stands self.old)
-            (λ home past. answer ≡ (of_act home past tid act).answer)) }
-        ensures adds { IfOk result (λ answer. EachPast (Holds E.stands self.old)
-            (λ home past. Holds E.stands self.new home (of_act home past tid act ∷ past))) }
+            (λ home past. Adds E.stands answer self.new home past (of_act home past tid act))) }
         ensures memory { OnErr result (EachPast (Holds E.stands self.old) (Holds E.stands self.new)) }
         ensures store { self.new.store ≡ self.old.store }
     {
@@ -71,9 +67,8 @@ impl<E: LocalEngine> SiteCore<E> {
     fn abort(&mut self, tid: Tid) -> Answer
         requires up { self.old.store.standing ≡ Standing.Up }
         requires may { SomePast (Holds E.stands self.old) (λ home past. Unit {0}) }
-        ensures answered { EachPast (Holds E.stands self.old) (λ home past. result ≡ (of_abort home past tid).answer) }
-        ensures adds { EachPast (Holds E.stands self.old)
-            (λ home past. Holds E.stands self.new home (of_abort home past tid ∷ past)) }
+        ensures answered { EachPast (Holds E.stands self.old)
+            (λ home past. Adds E.stands result self.new home past (of_abort home past tid)) }
         ensures store { self.new.store ≡ self.old.store }
     {
         match self.runs.attempts.finished(tid) {
@@ -88,16 +83,23 @@ impl<E: LocalEngine> SiteCore<E> {
     /// How a local transaction ended.
     fn fate(&self, tx: Tx) -> Answer
         requires up { self.now.store.standing ≡ Standing.Up }
-        ensures answered { EachPast (Holds E.stands self.now) (λ home past. result ≡ (of_fate home past tx).answer) }
-        ensures adds { EachPast (Holds E.stands self.now)
-            (λ home past. Holds E.stands self.now home (of_fate home past tx ∷ past)) }
+        ensures { EachPast (Holds E.stands self.now)
+            (λ home past. Adds E.stands result self.now home past (of_fate home past tx)) }
     {
-        if let Some(committed) = committed_local(self.store.journal.records(), tx) {
-            return Answer::Committed(committed);
+        match committed_local(self.store.journal.records(), tx) {
+            Some(committed) => Answer::Committed(committed),
+            None => match self.runs.attempts.running(tx) {
+                Some(running) => Answer::Running(running),
+                None => self.ended(tx),
+            },
         }
-        if let Some(running) = self.runs.attempts.running(tx) {
-            return Answer::Running(running);
-        }
+    }
+
+    /// Whether a transaction that neither committed nor is running was begun at all.
+    fn ended(&self, tx: Tx) -> Answer
+        ensures begun { IsTrue (is_some (noted self.now.runs.attempts.begun tx)) → result ≡ Answer.Ended }
+        ensures unbegun { is_some (noted self.now.runs.attempts.begun tx) ≡ false → result ≡ Answer.Unbegun }
+    {
         if self.runs.attempts.was_begun(tx) {
             Answer::Ended
         } else {
