@@ -10,13 +10,15 @@ use Rattle.mdb_base.specs.declared.replies.Reply.TheVariants as Reply_is
 use Rattle.mdb_base.specs.Names.{same_tid, same_tx}
 use Rattle.mdb_base.specs.Words.{first_where, holds_of, map_some}
 use Rattle.mdb_base.proofs.NameLaws.{same_tid-equal, same_tid-refl}
-use Rattle.fed_rules.specs.Runs.{Start, EngineLine, Begins, Acts, Seals, Refuses, Commits, Aborts, Run, begun, changed, acted, is_sealed, run_at, tid_of}
-use Rattle.fed_rules.specs.Replies.{access_reply}
+use Rattle.fed_rules.specs.Runs.{Start, EngineLine, Begins, Acts, Seals, Refuses, Commits, Aborts, Run, begun, changed, acted, is_sealed, puts_of, run_at, tid_of}
+use Rattle.mdb_base.specs.declared.replies.Why.{Why}
+use Rattle.fed_rules.specs.declared.runs.Sealed.{Sealed}
+use Rattle.fed_rules.specs.Replies.{access_reply, seal_number, seal_stop}
 use Rattle.fed_rules.specs.EngineLines.{IsFree, IsLive, IsSealed}
 use Rattle.site_core.specs.declared.attempts.Begun.{Begun}
 use Rattle.site_core.specs.declared.attempts.LiveAttempt.{LiveAttempt}
 use Rattle.site_core.specs.Attempts.{SameBegun, after_reply, ended, finished, finished_of, granted, live_attempt, noted, running, started, with_note, without_live}
-use Rattle.site_core.specs.Runs.{Lists, accesses}
+use Rattle.site_core.specs.Runs.{Lists, SealsAs, accesses}
 
 some_run : (a b : Run) → ◌≡◌ {A = Option Run} (Some a) (Some b) → a ≡ b
 some_run a b e = cc
@@ -234,3 +236,61 @@ reply_begins_none list tid (Write key v) Reply_is.Done n live = note_begins_none
 reply_begins_none list tid act (Reply_is.Ticket t) n live = λ tx. refl
 reply_begins_none list tid act (Reply_is.Wait by) n live = λ tx. refl
 reply_begins_none list tid act Reply_is.Unknown n live = λ tx. refl
+
+-- a commit behind the sealing
+pub lists_commits : (list : List Begun) (start : Start) (lines : List EngineLine) (tid : Tid) (n done : ℕ) → Lists list start lines → finished list tid ≡ Some done
+    → Lists (with_note (ended tid) list) start (Commits tid ∷ Seals tid n ∷ lines)
+lists_commits list start lines tid n done l live =
+    record { live = (λ u. at u (same_tid tid u) refl); unsealed = (λ u. sealed_at u (same_tid tid u) refl) } where
+  gone : Lists (with_note (ended tid) list) start (Aborts tid ∷ lines)
+  gone = let (run, (is, count)) = listed_lives list start lines tid done l live in lists_ends list start lines (Aborts tid) done l live (ap (changed (Aborts tid)) is.0)
+
+  same_run_at : (u : Tid) (t : Bool) → same_tid tid u ≡ t → run_at start (Commits tid ∷ Seals tid n ∷ lines) u ≡ run_at start (Aborts tid ∷ lines) u
+  same_run_at u true e =
+      cond-true _ _ _ e ∙ commits_none (run_at start (Seals tid n ∷ lines) u) ∙ sym (cond-true _ _ _ e ∙ aborts_none (run_at start lines u)) where
+    commits_none : (o : Option Run) → changed (Commits tid) o ≡ None
+    commits_none None = refl
+    commits_none (Some run) = refl
+
+    aborts_none : (o : Option Run) → changed (Aborts tid) o ≡ None
+    aborts_none None = refl
+    aborts_none (Some run) = refl
+  same_run_at u false e = cond-false _ _ _ e ∙ cond-false _ _ _ e ∙ sym (cond-false _ _ _ e)
+
+  at : (u : Tid) (t : Bool) → same_tid tid u ≡ t → accesses (run_at start (Commits tid ∷ Seals tid n ∷ lines) u) ≡ finished (with_note (ended tid) list) u
+  at u t e = ap accesses (same_run_at u t e) ∙ gone.live u
+
+  sealed_at : (u : Tid) (t : Bool) → same_tid tid u ≡ t → holds_of is_sealed (run_at start (Commits tid ∷ Seals tid n ∷ lines) u) ≡ false
+  sealed_at u t e = ap (holds_of is_sealed) (same_run_at u t e) ∙ gone.unsealed u
+
+-- after a stop no attempt is live, and the same ones were begun
+noted-without_live : (list : List Begun) (tx : Tx) → noted (map without_live list) tx ≡ map_some without_live (noted list tx)
+noted-without_live [] tx = refl
+noted-without_live (one ∷ list) tx = by_test (same_tx one.tx tx) refl (noted-without_live list tx) where
+  by_test : (t : Bool) → same_tx one.tx tx ≡ t → noted (map without_live list) tx ≡ map_some without_live (noted list tx)
+      → cond (same_tx one.tx tx) (Some (without_live one)) (noted (map without_live list) tx) ≡ map_some without_live (cond (same_tx one.tx tx) (Some one) (noted list tx))
+  by_test true e rest = rw e refl
+  by_test false e rest = rw e rest
+
+pub none_live : (list : List Begun) (tid : Tid) → finished (map without_live list) tid ≡ None
+none_live list tid = ap (λ o. finished_of tid.attempt (live_attempt o)) (noted-without_live list tid.tx) ∙ from (noted list tid.tx) where
+  from : (o : Option Begun) → finished_of tid.attempt (live_attempt (map_some without_live o)) ≡ None
+  from None = refl
+  from (Some one) = refl
+
+pub stop_begins_none : (list : List Begun) → SameBegun list (map without_live list)
+stop_begins_none list tx = ap is_some (noted-without_live list tx) ∙ from (noted list tx) where
+  from : (o : Option Begun) → is_some (map_some without_live o) ≡ is_some o
+  from None = refl
+  from (Some one) = refl
+
+-- a sealing by the rule for the attempt's run
+pub seals_as : (start : Start) (lines : List EngineLine) (tid : Tid) (other run : Run) (sealed : Sealed) → run_at start lines tid ≡ Some other → run_at start lines tid ≡ Some run
+    → seal_stop start.kind start lines other ≡ None → sealed.number ≡ seal_number start.kind start lines other → sealed.writes ≡ puts_of run.acts → SealsAs start lines run sealed
+seals_as start lines tid other run sealed a b passes number writes =
+    let same : other ≡ run = some_run other run (sym a ∙ b) in
+    record { passes = ap (seal_stop start.kind start lines) (sym same) ∙ passes; number = number ∙ ap (seal_number start.kind start lines) same; writes = writes }
+
+pub stops_as : (start : Start) (lines : List EngineLine) (tid : Tid) (other run : Run) (why : Why) → run_at start lines tid ≡ Some other → run_at start lines tid ≡ Some run
+    → seal_stop start.kind start lines other ≡ Some why → seal_stop start.kind start lines run ≡ Some why
+stops_as start lines tid other run why a b stops = let same : other ≡ run = some_run other run (sym a ∙ b) in ap (seal_stop start.kind start lines) (sym same) ∙ stops

@@ -1,14 +1,15 @@
 //! The runs of a site: its engine, and the list of the local attempts that are live in it.
-ghost use Rattle.std.specs.Prelude.{◌≡◌, ◌<◌, ◌+◌, ◌^◌, ◌∷◌, None, Some, IfOk, IfSome, IsSome, OnOk, OnErr};
+ghost use Rattle.std.specs.Prelude.{◌≡◌, ℕ, ◌<◌, ◌+◌, ◌^◌, ◌∷◌, None, Some, IfOk, IfErr, IfSome, IsSome, OnOk, OnErr};
+ghost use Rattle.mdb_base.specs.declared.names.Tid.{Tid};
 ghost use Rattle.fed_rules.specs.Replies.{access_reply};
-ghost use Rattle.fed_rules.specs.Runs.{Aborts, Acts, Begins, Run, counter, run_at};
+ghost use Rattle.fed_rules.specs.Runs.{Aborts, Acts, Begins, Commits, Run, Seals, counter, run_at};
 ghost use Rattle.engine_contract.specs.Past.{AddsLine, EachPast, KeepsPast, SomePast};
 ghost use Rattle.engine_contract.specs.Calls.{CanAct};
 ghost use Rattle.site_core.specs.Attempts.{SameBegun, finished, running, started, with_note};
-ghost use Rattle.site_core.specs.Runs.{IsRunning};
+ghost use Rattle.site_core.specs.Runs.{IsRunning, IsSealing, RefusesTo, SealsBy, SomeSealing};
 
 use crate::attempts::{Attempts, Begun, LiveAttempt};
-use engine_contract::LocalEngine;
+use engine_contract::{LocalEngine, SealErr, Sealed};
 use mdb_base::{Memory, PlainAct, Reply, Tid};
 use std::alloc::Global;
 
@@ -68,6 +69,57 @@ impl<E: LocalEngine> Runs<E> {
     {
         self.engine.abort(tid);
         self.attempts.end(tid);
+    }
+
+    /// Seals a live attempt, so that it can be committed. A refused sealing ends it.
+    pub fn seal(&mut self, alloc: Global, tid: Tid) -> Result<Sealed, SealErr>
+        requires live { IsSome (finished self.old.attempts.begun tid) }
+        requires fits { SomePast (IsRunning E.stands) self.old (λ start lines. counter start lines + 1 < 2 ^ 64) }
+        ensures sealed { IfOk result (λ sealed. EachPast (IsRunning E.stands) self.old
+            (λ start lines. IsSealing E.stands tid sealed.number self.new start lines)) }
+        ensures given { IfOk result (λ sealed. EachPast (IsRunning E.stands) self.old (SealsBy tid sealed)) }
+        ensures refused { IfErr result (λ why. EachPast (IsRunning E.stands) self.old
+            (λ start lines. RefusesTo E.stands tid why self.new start lines)) }
+        ensures begun { SameBegun self.old.attempts.begun self.new.attempts.begun }
+    {
+        match self.engine.seal(alloc, tid) {
+            Ok(sealed) => Ok(sealed),
+            Err(SealErr::Memory) => Err(SealErr::Memory),
+            Err(SealErr::Refused(why)) => {
+                self.attempts.end(tid);
+                Err(SealErr::Refused(why))
+            }
+        }
+    }
+
+    /// Takes the sealing of the attempt back, with its number.
+    pub fn unseal(&mut self, tid: Tid)
+        requires { SomeSealing E.stands tid self.old }
+        ensures live { (n : ℕ) → EachPast (IsSealing E.stands tid n) self.old (IsRunning E.stands self.new) }
+        ensures begun { SameBegun self.old.attempts.begun self.new.attempts.begun }
+    {
+        self.engine.unseal(tid);
+    }
+
+    /// Commits a sealed attempt.
+    pub fn commit(&mut self, tid: Tid)
+        requires live { IsSome (finished self.old.attempts.begun tid) }
+        requires sealed { SomeSealing E.stands tid self.old }
+        ensures committed { (n : ℕ) → EachPast (IsSealing E.stands tid n) self.old
+            (λ start lines. IsRunning E.stands self.new start (Commits tid ∷ Seals tid n ∷ lines)) }
+        ensures begun { SameBegun self.old.attempts.begun self.new.attempts.begun }
+    {
+        self.engine.commit(tid);
+        self.attempts.end(tid);
+    }
+
+    /// A stop ends every attempt.
+    pub fn stop(&mut self)
+        ensures engine { self.new.engine ≡ self.old.engine }
+        ensures none_live { (tid : Tid) → finished self.new.attempts.begun tid ≡ None }
+        ensures begun { SameBegun self.old.attempts.begun self.new.attempts.begun }
+    {
+        self.attempts.end_all();
     }
 }
 
