@@ -10,11 +10,12 @@ use Rattle.mdb_base.specs.Words.{first_where, map_some, pick, when}
 use Rattle.fed_rules.specs.declared.answers.Answer.TheVariants as Say
 use Rattle.fed_rules.specs.declared.events.SiteEvent.TheVariants as Ev
 use Rattle.fed_rules.specs.EngineLines.{IsLive, IsRight}
-use Rattle.fed_rules.specs.Happenings.{quiet}
+use Rattle.fed_rules.specs.Disk.{Stops}
+use Rattle.fed_rules.specs.Happenings.{is_down, quiet, stopped}
 use Rattle.fed_rules.specs.Runs.{Start, EngineLine, Begins, Acts, Aborts, Refuses, Run, is_sealed, run_at, unended}
-use Rattle.fed_rules.specs.Site.{act_answer, next_number, of_abort, of_act, of_begin, of_commit, of_fate, refusal_answer, reply_to, seals_local, stop_of, with_lines}
-use Rattle.fed_rules.specs.SitePast.{SitePast, attempts_of, engine_lines, epoch_start, live, live_of_tx, live_one, records}
-use Rattle.fed_rules.specs.SiteRecords.{Home, local_of}
+use Rattle.fed_rules.specs.Site.{act_answer, next_number, of_abort, of_act, of_begin, of_commit, of_fate, refusal_answer, reply_to, seals_local, site_line, stop_of, unless_tripped, answered, with_lines}
+use Rattle.fed_rules.specs.SitePast.{SiteHappening, SitePast, attempts_of, disk, engine_lines, epoch_start, live, live_of_tx, live_one, records}
+use Rattle.fed_rules.specs.SiteRecords.{Home, local_of, site_frame}
 use Rattle.engine_laws.proofs.Runs.{tid_is}
 use Rattle.run_lists.proofs.Members.{Is}
 use Rattle.run_lists.proofs.Unended.{is-unended, unended-is}
@@ -154,3 +155,87 @@ module _ (list : List Begun) (start : Start) (lines : List EngineLine) (l : List
 pub running_is : (list : List Begun) (home : Home) (past : SitePast) → Lists list (epoch_start home past) (engine_lines past) → IsRight (epoch_start home past) (engine_lines past) → (tx : Tx)
     → live_of_tx home past tx ≡ running list tx
 running_is list home past l right tx = running_from list (epoch_start home past) (engine_lines past) l right tx (live_attempt (noted list tx)) refl
+
+-- the line of a site that is down
+pub begin_down : (home : Home) (past : SitePast) (tid : Tid) → is_down past ≡ true → site_line home past (Ev.Begin tid) ≡ quiet (Ev.Begin tid) Say.Down
+unfolding site_line when
+begin_down home past tid d = rw d refl
+
+pub act_down : (home : Home) (past : SitePast) (tid : Tid) (act : PlainAct) → is_down past ≡ true → site_line home past (Ev.Act tid act) ≡ quiet (Ev.Act tid act) Say.Down
+unfolding site_line when
+act_down home past tid act d = rw d refl
+
+pub commit_down : (home : Home) (past : SitePast) (tid : Tid) → is_down past ≡ true → site_line home past (Ev.Commit tid) ≡ quiet (Ev.Commit tid) Say.Down
+unfolding site_line when
+commit_down home past tid d = rw d refl
+
+pub abort_down : (home : Home) (past : SitePast) (tid : Tid) → is_down past ≡ true → site_line home past (Ev.Abort tid) ≡ quiet (Ev.Abort tid) Say.Down
+unfolding site_line when
+abort_down home past tid d = rw d refl
+
+pub fate_down : (home : Home) (past : SitePast) (tx : Tx) → is_down past ≡ true → site_line home past (Ev.Fate tx) ≡ quiet (Ev.Fate tx) Say.Down
+unfolding site_line when
+fate_down home past tx d = rw d refl
+
+pub halt_down : (home : Home) (past : SitePast) (cut : ℕ) → is_down past ≡ true → site_line home past (Ev.Halt cut) ≡ quiet (Ev.Halt cut) Say.Down
+unfolding site_line when
+halt_down home past cut d = rw d refl
+
+-- and of one that is up
+pub begin_up : (home : Home) (past : SitePast) (tid : Tid) → is_down past ≡ false → site_line home past (Ev.Begin tid) ≡ unless_tripped home past (of_begin home past tid)
+unfolding site_line answered when
+begin_up home past tid u = rw u refl
+
+pub act_up : (home : Home) (past : SitePast) (tid : Tid) (act : PlainAct) → is_down past ≡ false → site_line home past (Ev.Act tid act) ≡ unless_tripped home past (of_act home past tid act)
+unfolding site_line answered when
+act_up home past tid act u = rw u refl
+
+pub commit_up : (home : Home) (past : SitePast) (tid : Tid) → is_down past ≡ false → site_line home past (Ev.Commit tid) ≡ unless_tripped home past (of_commit home past tid)
+unfolding site_line answered when
+commit_up home past tid u = rw u refl
+
+pub abort_up : (home : Home) (past : SitePast) (tid : Tid) → is_down past ≡ false → site_line home past (Ev.Abort tid) ≡ unless_tripped home past (of_abort home past tid)
+unfolding site_line answered when
+abort_up home past tid u = rw u refl
+
+pub fate_up : (home : Home) (past : SitePast) (tx : Tx) → is_down past ≡ false → site_line home past (Ev.Fate tx) ≡ unless_tripped home past (of_fate home past tx)
+unfolding site_line answered when
+fate_up home past tx u = rw u refl
+
+pub halt_up : (home : Home) (past : SitePast) (cut : ℕ) → is_down past ≡ false → site_line home past (Ev.Halt cut) ≡ stopped site_frame (disk home past) (Ev.Halt cut) (Stops cut ∷ [])
+unfolding site_line when
+halt_up home past cut u = rw u refl
+
+-- a trip is set in any case
+pub trip_line : (home : Home) (past : SitePast) (calls cut : ℕ) → site_line home past (Ev.Trip calls cut) ≡ quiet (Ev.Trip calls cut) Say.Set
+unfolding site_line
+trip_line home past calls cut = refl
+
+pub commit_answered : (home : Home) (past : SitePast) (tid : Tid) → answered home past (Ev.Commit tid) ≡ of_commit home past tid
+unfolding answered
+commit_answered home past tid = refl
+
+-- lines that neither call the disk nor send anything
+abbrev IsQuiet : SiteHappening → Type 0
+IsQuiet x = (x.calls ≡ []) × (x.sends ≡ [])
+
+pick_quiet : {A : Type 0} (o : Option A) (none : SiteHappening) (some : A → SiteHappening) → IsQuiet none → ((x : A) → IsQuiet (some x)) → IsQuiet (pick o none some)
+unfolding pick
+pick_quiet None none some n s = n
+pick_quiet (Some x) none some n s = s x
+
+pub begin_quiet : (home : Home) (past : SitePast) (tid : Tid) → IsQuiet (of_begin home past tid)
+unfolding of_begin
+begin_quiet home past tid = pick_quiet (local_of (records home past) tid.tx) _ _ (pick_quiet (live_of_tx home past tid.tx) _ _ (refl, refl) (λ r. (refl, refl))) (λ c. (refl, refl))
+
+pub act_quiet : (home : Home) (past : SitePast) (tid : Tid) (act : PlainAct) → IsQuiet (of_act home past tid act)
+unfolding of_act
+act_quiet home past tid act = pick_quiet (live home past tid) _ _ (refl, refl) (λ run. (refl, refl))
+
+pub abort_quiet : (home : Home) (past : SitePast) (tid : Tid) → IsQuiet (of_abort home past tid)
+unfolding of_abort
+abort_quiet home past tid = pick_quiet (live home past tid) _ _ (refl, refl) (λ run. (refl, refl))
+
+pub fate_quiet : (home : Home) (past : SitePast) (tx : Tx) → IsQuiet (of_fate home past tx)
+unfolding of_fate
+fate_quiet home past tx = pick_quiet (local_of (records home past) tx) _ _ (pick_quiet (live_of_tx home past tx) _ _ (refl, refl) (λ r. (refl, refl))) (λ c. (refl, refl))

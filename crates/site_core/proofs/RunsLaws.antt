@@ -1,5 +1,5 @@
 -- What one engine line leaves of the list of live attempts.
-use Rattle.std.proofs.Common.{◌≡◌, ℕ, zero, suc, ◌+◌, ◌<◌, ◌^◌, Bool, true, false, cond, ◌==◌, Option, Some, None, IsSome, is_some, List, [], ◌∷◌, length, inl, inr, refl, sym, ap, subst, ◌∙◌, arith, map}
+use Rattle.std.proofs.Common.{◌≡◌, ℕ, zero, suc, ◌+◌, ◌<◌, ◌^◌, Bool, true, false, cond, ◌==◌, Option, Some, None, IsSome, is_some, List, [], ◌∷◌, length, inl, inr, refl, sym, ap, subst, ◌∙◌, arith, map, ◌≤◌}
 use Rattle.std.proofs.lemmas.Bool.{cond-true, cond-false, cases_Bool, eqb-true, eq-eqb, ne_eqb, and_parts, and_from}
 use Rattle.mdb_base.specs.declared.acts.PlainAct.{PlainAct}
 use Rattle.mdb_base.specs.declared.acts.PlainAct.TheVariants.{Read, Write}
@@ -87,8 +87,13 @@ pub lists_change : (list : List Begun) (live : Option LiveAttempt) (start : Star
     → Lists list start lines → changed line (run_at start lines (tid_of line)) ≡ now
     → accesses now ≡ finished_of (tid_of line).attempt live → holds_of is_sealed now ≡ false
     → ((a : ℕ) → ((tid_of line).attempt == a) ≡ false → finished_of a live ≡ None) → NoOther list (tid_of line)
+    → ((a n : ℕ) → finished_of a live ≡ Some n → n ≤ 32)
     → Lists (with_note (record { tx = (tid_of line).tx; live = live }) list) start (line ∷ lines)
-lists_change list live start lines line now l is counted unsealed alone none = record { live = (λ tid. at tid (same_tid (tid_of line) tid) refl); unsealed = (λ tid. sealed_at tid (same_tid (tid_of line) tid) refl) } where
+lists_change list live start lines line now l is counted unsealed alone none bound = record { live = (λ tid. at tid (same_tid (tid_of line) tid) refl); unsealed = (λ tid. sealed_at tid (same_tid (tid_of line) tid) refl); few = (λ tid n e. few_at tid n (same_tx (tid_of line).tx tid.tx) refl (sym (finished-with_note (record { tx = (tid_of line).tx; live = live }) list tid) ∙ e)) } where
+  few_at : (tid : Tid) (n : ℕ) (t : Bool) → same_tx (tid_of line).tx tid.tx ≡ t → cond (same_tx (tid_of line).tx tid.tx) (finished_of tid.attempt live) (finished list tid) ≡ Some n → n ≤ 32
+  few_at tid n true e is = bound tid.attempt n (sym (cond-true _ _ _ e) ∙ is)
+  few_at tid n false e is = l.few tid n (sym (cond-false _ _ _ e) ∙ is)
+
   own : (tid : Tid) → same_tid (tid_of line) tid ≡ true → run_at start (line ∷ lines) tid ≡ now
   own tid e = let t = same_tid-equal (tid_of line) tid e in cond-true _ _ _ e ∙ ap (λ (u : Tid). changed line (run_at start lines u)) (sym t) ∙ is
 
@@ -115,7 +120,7 @@ lists_change list live start lines line now l is counted unsealed alone none = r
 -- a line that changes no run
 pub lists_same : (list : List Begun) (start : Start) (lines : List EngineLine) (line : EngineLine) → Lists list start lines
     → changed line (run_at start lines (tid_of line)) ≡ run_at start lines (tid_of line) → Lists list start (line ∷ lines)
-lists_same list start lines line l same = record { live = (λ tid. ap accesses (at tid (same_tid (tid_of line) tid) refl) ∙ l.live tid); unsealed = (λ tid. ap (holds_of is_sealed) (at tid (same_tid (tid_of line) tid) refl) ∙ l.unsealed tid) } where
+lists_same list start lines line l same = record { live = (λ tid. ap accesses (at tid (same_tid (tid_of line) tid) refl) ∙ l.live tid); unsealed = (λ tid. ap (holds_of is_sealed) (at tid (same_tid (tid_of line) tid) refl) ∙ l.unsealed tid); few = l.few } where
   at : (tid : Tid) (t : Bool) → same_tid (tid_of line) tid ≡ t → run_at start (line ∷ lines) tid ≡ run_at start lines tid
   at tid true e = let t = same_tid-equal (tid_of line) tid e in cond-true _ _ _ e ∙ ap (λ (u : Tid). changed line (run_at start lines u)) (sym t) ∙ same ∙ ap (run_at start lines) t
   at tid false e = cond-false _ _ _ e
@@ -164,27 +169,33 @@ same_attempt tid done = cond-true _ _ _ (eq-eqb tid.attempt tid.attempt refl)
 alone_of : (tid : Tid) (done : ℕ) (a : ℕ) → (tid.attempt == a) ≡ false → finished_of a (Some (record { attempt = tid.attempt; done = done })) ≡ None
 alone_of tid done a apart = cond-false _ _ _ apart
 
+done_is : (tid : Tid) (done : ℕ) → done ≤ 32 → (a n : ℕ) → finished_of a (Some (record { attempt = tid.attempt; done = done })) ≡ Some n → n ≤ 32
+done_is tid done small a n e = by_test (tid.attempt == a) refl where
+  by_test : (t : Bool) → (tid.attempt == a) ≡ t → n ≤ 32
+  by_test true is = let same : done ≡ n = some_is done n (sym (cond-true _ _ _ is) ∙ e) in omega arith
+  by_test false is = let bad : None ≡ Some n = sym (cond-false _ _ _ is) ∙ e in cc
+
 -- a begin
 pub lists_begins : (list : List Begun) (start : Start) (lines : List EngineLine) (tid : Tid) (n : ℕ) → Lists list start lines → running list tid.tx ≡ None → Lists (with_note (started tid) list) start (Begins tid n ∷ lines)
 lists_begins list start lines tid n l none =
-    lists_change list (Some (record { attempt = tid.attempt; done = 0 })) start lines (Begins tid n) (Some (begun tid n)) l refl (sym (same_attempt tid 0)) refl (alone_of tid 0) (λ a apart. none_running list tid.tx none a)
+    lists_change list (Some (record { attempt = tid.attempt; done = 0 })) start lines (Begins tid n) (Some (begun tid n)) l refl (sym (same_attempt tid 0)) refl (alone_of tid 0) (λ a apart. none_running list tid.tx none a) (done_is tid 0 (omega arith))
 
 -- a line that ends a live run
 pub lists_ends : (list : List Begun) (start : Start) (lines : List EngineLine) (line : EngineLine) (n : ℕ) → Lists list start lines → finished list (tid_of line) ≡ Some n
     → changed line (run_at start lines (tid_of line)) ≡ None → Lists (with_note (ended (tid_of line)) list) start (line ∷ lines)
-lists_ends list start lines line n l live ends = lists_change list None start lines line None l ends refl refl (λ a apart. refl) (no_other list (tid_of line) n live)
+lists_ends list start lines line n l live ends = lists_change list None start lines line None l ends refl refl (λ a apart. refl) (no_other list (tid_of line) n live) (λ a m e. cc)
 
 -- a granted access
 lists_grants : (list : List Begun) (start : Start) (lines : List EngineLine) (line : EngineLine) (n : ℕ) (run now : Run) → Lists list start lines → finished list (tid_of line) ≡ Some n
-    → changed line (run_at start lines (tid_of line)) ≡ Some now → length now.acts ≡ n + 1 → now.sealed ≡ None → Lists (with_note (granted (tid_of line) n) list) start (line ∷ lines)
-lists_grants list start lines line n run now l live grants count unsealed =
+    → changed line (run_at start lines (tid_of line)) ≡ Some now → length now.acts ≡ n + 1 → now.sealed ≡ None → n < 32 → Lists (with_note (granted (tid_of line) n) list) start (line ∷ lines)
+lists_grants list start lines line n run now l live grants count unsealed small =
     lists_change list (Some (record { attempt = (tid_of line).attempt; done = n + 1 })) start lines line (Some now) l grants
-    (ap (λ m. Some m) count ∙ sym (same_attempt (tid_of line) (n + 1))) (ap is_some unsealed) (alone_of (tid_of line) (n + 1)) (no_other list (tid_of line) n live)
+    (ap (λ m. Some m) count ∙ sym (same_attempt (tid_of line) (n + 1))) (ap is_some unsealed) (alone_of (tid_of line) (n + 1)) (no_other list (tid_of line) n live) (done_is (tid_of line) (n + 1) (omega arith))
 
 -- an answered access
-pub lists_acts : (list : List Begun) (start : Start) (lines : List EngineLine) (tid : Tid) (act : PlainAct) (reply : Reply) (n : ℕ) → Lists list start lines → finished list tid ≡ Some n
+pub lists_acts : (list : List Begun) (start : Start) (lines : List EngineLine) (tid : Tid) (act : PlainAct) (reply : Reply) (n : ℕ) → Lists list start lines → finished list tid ≡ Some n → n < 32
     → Lists (after_reply reply act tid n list) start (Acts tid act reply ∷ lines)
-lists_acts list start lines tid act reply n l live =
+lists_acts list start lines tid act reply n l live small =
     let (run, (is, count)) = listed_lives list start lines tid n l live in
     by_reply run is.0 is.1 count act reply
   where
@@ -193,10 +204,10 @@ lists_acts list start lines tid act reply n l live =
 
     by_reply : (run : Run) → run_at start lines tid ≡ Some run → run.sealed ≡ None → length run.acts ≡ n → (act : PlainAct) (reply : Reply) → Lists (after_reply reply act tid n list) start (Acts tid act reply ∷ lines)
     by_reply run is unsealed count act (Reply_is.Refused why) = lists_ends list start lines (Acts tid act (Reply_is.Refused why)) n l live (at run act (Reply_is.Refused why) is)
-    by_reply run is unsealed count (Read key) (Reply_is.Value value) = lists_grants list start lines (Acts tid (Read key) (Reply_is.Value value)) n run _ l live (at run (Read key) (Reply_is.Value value) is) (omega arith) unsealed
+    by_reply run is unsealed count (Read key) (Reply_is.Value value) = lists_grants list start lines (Acts tid (Read key) (Reply_is.Value value)) n run _ l live (at run (Read key) (Reply_is.Value value) is) (omega arith) unsealed small
     by_reply run is unsealed count (Write key v) (Reply_is.Value value) = lists_same list start lines (Acts tid (Write key v) (Reply_is.Value value)) l (at run (Write key v) (Reply_is.Value value) is ∙ sym is)
     by_reply run is unsealed count (Read key) Reply_is.Done = lists_same list start lines (Acts tid (Read key) Reply_is.Done) l (at run (Read key) Reply_is.Done is ∙ sym is)
-    by_reply run is unsealed count (Write key v) Reply_is.Done = lists_grants list start lines (Acts tid (Write key v) Reply_is.Done) n run _ l live (at run (Write key v) Reply_is.Done is) (omega arith) unsealed
+    by_reply run is unsealed count (Write key v) Reply_is.Done = lists_grants list start lines (Acts tid (Write key v) Reply_is.Done) n run _ l live (at run (Write key v) Reply_is.Done is) (omega arith) unsealed small
     by_reply run is unsealed count act (Reply_is.Ticket t) = lists_same list start lines (Acts tid act (Reply_is.Ticket t)) l (at run act (Reply_is.Ticket t) is ∙ sym is)
     by_reply run is unsealed count act (Reply_is.Wait by) = lists_same list start lines (Acts tid act (Reply_is.Wait by)) l (at run act (Reply_is.Wait by) is ∙ sym is)
     by_reply run is unsealed count act Reply_is.Unknown = lists_same list start lines (Acts tid act Reply_is.Unknown) l (at run act Reply_is.Unknown is ∙ sym is)
@@ -241,7 +252,7 @@ reply_begins_none list tid act Reply_is.Unknown n live = λ tx. refl
 pub lists_commits : (list : List Begun) (start : Start) (lines : List EngineLine) (tid : Tid) (n done : ℕ) → Lists list start lines → finished list tid ≡ Some done
     → Lists (with_note (ended tid) list) start (Commits tid ∷ Seals tid n ∷ lines)
 lists_commits list start lines tid n done l live =
-    record { live = (λ u. at u (same_tid tid u) refl); unsealed = (λ u. sealed_at u (same_tid tid u) refl) } where
+    record { live = (λ u. at u (same_tid tid u) refl); unsealed = (λ u. sealed_at u (same_tid tid u) refl); few = gone.few } where
   gone : Lists (with_note (ended tid) list) start (Aborts tid ∷ lines)
   gone = let (run, (is, count)) = listed_lives list start lines tid done l live in lists_ends list start lines (Aborts tid) done l live (ap (changed (Aborts tid)) is.0)
 

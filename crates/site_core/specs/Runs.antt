@@ -1,5 +1,5 @@
 -- What the runs of a site stand for: the engine's lines, in which exactly the listed attempts have an unended run, and none is sealed.
-use Rattle.std.specs.Prelude.{ℕ, ◌≡◌, false, Option, Some, None, List, ◌∷◌, length}
+use Rattle.std.specs.Prelude.{ℕ, ◌≡◌, ◌≤◌, false, Option, Some, None, List, ◌∷◌, length}
 use Rattle.mdb_base.specs.declared.names.Tid.{Tid}
 use Rattle.mdb_base.specs.Words.{holds_of, map_some}
 use Rattle.fed_rules.specs.Runs.{Start, EngineLine, Seals, Refuses, Run, is_sealed, puts_of, run_at}
@@ -15,10 +15,11 @@ use Rattle.site_core.specs.Attempts.{finished}
 abbrev pub accesses : Option Run → Option ℕ
 accesses run = map_some (λ r. length r.acts) run
 
--- the unended runs are the live attempts that are listed, with as many accesses
+-- the unended runs are the live attempts that are listed, with as many accesses, which are at most 32
 pub record Lists (begun : List Begun) (start : Start) (lines : List EngineLine) : Type 0 where
   pub live : (tid : Tid) → accesses (run_at start lines tid) ≡ finished begun tid
   pub unsealed : (tid : Tid) → holds_of is_sealed (run_at start lines tid) ≡ false
+  pub few : (tid : Tid) (n : ℕ) → finished begun tid ≡ Some n → n ≤ 32
 
 pub record IsRunning {E : Type 0} (stands : E → Start → List EngineLine → Type 0) (runs : Runs E) (start : Start) (lines : List EngineLine) : Type 0 where
   pub stood : stands runs.engine start lines

@@ -1,16 +1,12 @@
 -- What a step of a core asks, and what it does to the pasts that the core stands for.
-use Rattle.std.specs.Prelude.{ℕ, ◌≡◌, ◌+◌, ◌<◌, ◌^◌, Some, List, length, option_to_list, ◌++◌, ◌∷◌, [], take}
+use Rattle.std.specs.Prelude.{ℕ, ◌≡◌, ◌+◌, ◌<◌, ◌^◌, Some, length}
 use Rattle.mdb_base.specs.declared.names.Tid.{Tid}
 use Rattle.field_bytes.specs.Fields.{IsTid}
 use Rattle.fed_rules.specs.declared.events.SiteEvent.{SiteEvent}
 use Rattle.fed_rules.specs.declared.events.SiteEvent.TheVariants as Ev
-use Rattle.fed_rules.specs.declared.events.SiteStep.{SiteStep}
-use Rattle.fed_rules.specs.Disk.{Stops}
-use Rattle.fed_rules.specs.Happenings.{stopped}
 use Rattle.fed_rules.specs.Runs.{Run, counter}
-use Rattle.fed_rules.specs.Site.{answered}
-use Rattle.fed_rules.specs.SitePast.{SiteHappening, SitePast, disk, epoch, epoch_start, engine_lines, live}
-use Rattle.fed_rules.specs.SiteRecords.{Home, site_frame}
+use Rattle.fed_rules.specs.SitePast.{SitePast, epoch, epoch_start, engine_lines, live}
+use Rattle.fed_rules.specs.SiteRecords.{Home}
 
 -- for some past that it stands for the fact holds
 pub record SomePast (K : Home → SitePast → Type 0) (P : Home → SitePast → Type 0) : Type 0 where
@@ -50,12 +46,16 @@ CanStep (Ev.Halt cut) home past = Unit {0}
 CanStep (Ev.Trip calls cut) home past = Unit {0}
 CanStep Ev.Back home past = epoch home past + 1 < 2 ^ 32
 
--- the step says and sends what the line does
-pub record Says (step : SiteStep) (x : SiteHappening) : Type 0 where
-  pub answer : step.answer ≡ x.answer
-  pub sends : option_to_list step.sends ≡ x.sends
-
--- the line that some stop ends within the disk calls of the event
-abbrev pub stopped_line : ℕ → ℕ → Home → SitePast → SiteEvent → SiteHappening
-stopped_line n cut home past event =
-    stopped site_frame (disk home past) event (take n (answered home past event).calls ++ Stops cut ∷ [])
+-- the events that ask whether the site is up, and are served where it is
+abbrev pub IsServed : SiteEvent → Type 0
+IsServed (Ev.Begin tid) = Unit {0}
+IsServed (Ev.Act tid act) = Unit {0}
+IsServed (Ev.Commit tid) = Unit {0}
+IsServed (Ev.Abort tid) = Unit {0}
+IsServed (Ev.Fate tx) = Unit {0}
+IsServed (Ev.Give message) = Unit {0}
+IsServed (Ev.Ask tid) = Unit {0}
+IsServed (Ev.Drop tid) = Unit {0}
+IsServed (Ev.Halt cut) = Unit {0}
+IsServed (Ev.Trip calls cut) = ⊥
+IsServed Ev.Back = ⊥

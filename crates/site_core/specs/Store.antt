@@ -1,5 +1,5 @@
 -- What a site's store stands for: the disk of the rules, and the trip in force.
-use Rattle.std.specs.Prelude.{ℕ, ◌≡◌, ◌+◌, ◌<◌, ◌≤◌, Bool, true, false, cond, Option, Some, None, Result, Ok, Err, List, [], ◌∷◌, ◌++◌, length, take, reverse}
+use Rattle.std.specs.Prelude.{ℕ, ◌≡◌, ◌+◌, ◌==◌, ◌<◌, ◌≤◌, Bool, true, false, cond, Option, Some, None, Result, Ok, Err, List, [], ◌∷◌, ◌++◌, length, take, reverse}
 use Rattle.std.specs.List.{AllByRecursion}
 use Rattle.mdb_base.specs.Words.{map_some}
 use Rattle.fed_rules.specs.declared.records.SiteRecord.{SiteRecord}
@@ -36,6 +36,10 @@ seen Failing image = all_synced image
 -- the trip as the rules speak of it
 abbrev pub trip_of_rules : SetTrip → Trip
 trip_of_rules trip = record { calls = trip.calls; cut = trip.cut }
+
+-- what a trip of so many calls sets; one of none disarms
+abbrev pub trip_to : ℕ → ℕ → Option SetTrip
+trip_to calls cut = cond (calls == 0) None (Some (record { calls = calls; cut = cut }))
 
 -- a trip that is set has calls left
 abbrev pub IsArmed : Option SetTrip → Type 0

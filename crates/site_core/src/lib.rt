@@ -4,6 +4,7 @@
 mod answers;
 mod attempts;
 mod committed;
+mod errors;
 mod runs;
 mod site;
 mod store;

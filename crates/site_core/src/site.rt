@@ -1,16 +1,20 @@
 //! The core of a site and its step.
-ghost use Rattle.std.specs.Prelude.{◌≡◌, false, is_some, IfOk, IsTrue, OnErr};
-ghost use Rattle.fed_rules.specs.Site.{of_begin, of_act, of_abort, of_fate};
-ghost use Rattle.site_core.specs.Attempts.{noted};
-ghost use Rattle.site_core.specs.Stands.{Adds, Holds};
-ghost use Rattle.site_core.specs.Steps.{EachPast, HasFewAccesses, NumberFits, SomePast};
+ghost use Rattle.std.specs.Prelude.{◌≡◌, ◌≤◌, false, is_some, IfOk, IfErr, IsErrOf, IsSome, IsTrue, OnErr};
+ghost use Rattle.mdb_base.specs.Counts.{HasRisen};
+ghost use Rattle.field_bytes.specs.Fields.{IsTid};
+ghost use Rattle.fed_rules.specs.Site.{of_begin, of_act, of_abort, of_commit, of_fate, unless_tripped};
+ghost use Rattle.site_core.specs.Attempts.{finished, noted};
+ghost use Rattle.site_core.specs.Stands.{Adds, Answers, Fails, Holds, Stands, StandsSealing};
+ghost use Rattle.site_core.specs.Steps.{CanCommit, EachPast, HasFewAccesses, NumberFits, SomePast};
 
-use crate::answers::act_answer;
+use crate::answers::{act_answer, refusal_answer};
 use crate::committed::committed_local;
+use crate::errors::StepErr;
 use crate::runs::Runs;
-use crate::store::{Standing, Store};
-use engine_contract::LocalEngine;
+use crate::store::{Break, Standing, Store};
+use engine_contract::{LocalEngine, SealErr, Sealed};
 use fed_rules::{Answer, SiteRecord};
+use journal_disk::Disk;
 use mdb_base::{Memory, PlainAct, Tid, Tx};
 use prepared_state::PreparedBook;
 use std::alloc::Global;
@@ -76,6 +80,86 @@ impl<E: LocalEngine> SiteCore<E> {
             Some(_) => {
                 self.runs.abort(tid);
                 Answer::Aborted(tid)
+            }
+        }
+    }
+
+    /// A local attempt commits: it is sealed, its record is forced, and its writes are installed.
+    fn commit<D: Disk>(
+        &mut self,
+        alloc: Global,
+        disk: &mut D,
+        tid: Tid,
+    ) -> Result<Answer, StepErr>
+        requires told { IsTrue D.tells }
+        requires up { self.old.store.standing ≡ Standing.Up }
+        requires may { SomePast (Stands E.stands D.tells D.image D.size D.spare self.old disk.old) (CanCommit tid) }
+        ensures answered { IfOk result (λ answer. EachPast (Stands E.stands D.tells D.image D.size D.spare self.old disk.old)
+            (λ home past. Answers E.stands D.tells D.image D.size D.spare answer self.new disk.new home past
+                (unless_tripped home past (of_commit home past tid)))) }
+        ensures failed { IfErr result (λ why. EachPast (Stands E.stands D.tells D.image D.size D.spare self.old disk.old)
+            (λ home past. Fails E.stands D.tells D.image D.size D.spare why self.new disk.new home past (of_commit home past tid))) }
+        ensures cause { IsErrOf result StepErr.Disk → HasRisen (D.faults disk.old) (D.faults disk.new) }
+        ensures faults { D.faults disk.old ≤ D.faults disk.new }
+    {
+        match self.runs.attempts.finished(tid) {
+            None => Ok(Answer::Idle),
+            Some(_) => match self.runs.seal(alloc, tid) {
+                Ok(sealed) => self.record_commit(alloc, disk, tid, sealed),
+                Err(SealErr::Refused(why)) => Ok(refusal_answer(why)),
+                Err(SealErr::Memory) => Err(StepErr::Memory),
+            },
+        }
+    }
+
+    /// Forces the record of an attempt that is sealed, and commits it. Where there is no memory for the record, the sealing is taken
+    /// back.
+    fn record_commit<D: Disk>(
+        &mut self,
+        alloc: Global,
+        disk: &mut D,
+        tid: Tid,
+        sealed: Sealed,
+    ) -> Result<Answer, StepErr>
+        requires told { IsTrue D.tells }
+        requires up { self.old.store.standing ≡ Standing.Up }
+        requires live { IsSome (finished self.old.runs.attempts.begun tid) }
+        requires in_range { IsTid tid }
+        requires may { SomePast (StandsSealing E.stands D.tells D.image D.size D.spare tid sealed self.old disk.old) (λ home past. Unit {0}) }
+        ensures answered { IfOk result (λ answer. EachPast (StandsSealing E.stands D.tells D.image D.size D.spare tid sealed self.old disk.old)
+            (λ home past. Answers E.stands D.tells D.image D.size D.spare answer self.new disk.new home past
+                (unless_tripped home past (of_commit home past tid)))) }
+        ensures failed { IfErr result (λ why. EachPast (StandsSealing E.stands D.tells D.image D.size D.spare tid sealed self.old disk.old)
+            (λ home past. Fails E.stands D.tells D.image D.size D.spare why self.new disk.new home past (of_commit home past tid))) }
+        ensures cause { IsErrOf result StepErr.Disk → HasRisen (D.faults disk.old) (D.faults disk.new) }
+        ensures faults { D.faults disk.old ≤ D.faults disk.new }
+    {
+        let Sealed {
+            number,
+            ticket: _,
+            writes,
+        } = sealed;
+        let entry = SiteRecord::Local {
+            tid,
+            number,
+            writes,
+        };
+        let Ok(()) = self.store.reserve(alloc, disk, &entry) else {
+            self.runs.unseal(tid);
+            return Err(StepErr::Memory);
+        };
+        match self.store.force(disk, entry) {
+            Ok(()) => {
+                self.runs.commit(tid);
+                Ok(Answer::Sealed(tid, number))
+            }
+            Err(Break::Stopped(kept)) => {
+                self.runs.stop();
+                Ok(Answer::Stopped(kept))
+            }
+            Err(Break::Failed) => {
+                self.runs.stop();
+                Err(StepErr::Disk)
             }
         }
     }

@@ -1,4 +1,4 @@
-use Rattle.std.proofs.Common.{◌≡◌, ◌∷◌, Option, Some, None, ℕ, List, refl, sym, subst, IfSome}
+use Rattle.std.proofs.Common.{◌≡◌, ◌<◌, ◌∷◌, Option, Some, None, ℕ, List, refl, sym, subst, IfSome}
 use Rattle.fed_rules.specs.Runs.{Acts}
 use Rattle.site_core.specs.declared.attempts.Begun.{Begun}
 use Rattle.site_core.specs.Attempts.{SameBegun, after_reply, finished}
@@ -12,10 +12,12 @@ returns-clause-answered g c = λ start lines k.
     let reply = c.in_ok-reply.reply in
     let P : Option ℕ → Type 0 = λ o. IfSome o (λ m. c.note_reply.new.self.begun ≡ after_reply reply c.args.act c.args.tid m c.args.self.now.attempts.begun) in
     let list : c.note_reply.new.self.begun ≡ after_reply reply c.args.act c.args.tid n c.args.self.now.attempts.begun = subst P live c.note_reply.ensures in
+    let F : Option ℕ → Type 0 = λ o. IfSome o (λ m. m < 32) in
+    let small : n < 32 = subst F live c.requires.few in
     let Q : List Begun → Type 0 = λ b. Lists b start (Acts c.args.tid c.args.act reply ∷ lines) in
     record {
       stood = c.in_ok-reply.ensures.answered start lines k.stood;
-      listed = subst Q (sym list) (lists_acts c.args.self.now.attempts.begun start lines c.args.tid c.args.act reply n k.listed live);
+      listed = subst Q (sym list) (lists_acts c.args.self.now.attempts.begun start lines c.args.tid c.args.act reply n k.listed live small);
     }
 
 pub returns-clause-ruled : goal.returns-clause-ruled
