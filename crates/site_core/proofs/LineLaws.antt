@@ -132,12 +132,12 @@ module _ (list : List Begun) (start : Start) (lines : List EngineLine) (l : List
   one live some y y_in passes =
       let tx_is = same_tx-equal y.tid.tx tx (and_parts (same_tx y.tid.tx tx) (not (is_sealed y)) passes).0 in
       ap₂ (λ t a. record { tx = t; attempt = a }) tx_is (by_test (live.attempt == y.tid.attempt) refl) where
-    by_test : (t : Bool) → (live.attempt == y.tid.attempt) ≡ t → y.tid.attempt ≡ live.attempt
-    by_test true e = sym (eqb-true live.attempt y.tid.attempt e)
-    by_test false e =
-        let nothing : finished list (record { tx = tx; attempt = y.tid.attempt }) ≡ None = ap (finished_of y.tid.attempt) some ∙ cond-false _ _ _ e in
-        let there = counted y y_in passes in
-        cc
+        by_test : (t : Bool) → (live.attempt == y.tid.attempt) ≡ t → y.tid.attempt ≡ live.attempt
+        by_test true e = sym (eqb-true live.attempt y.tid.attempt e)
+        by_test false e =
+            let nothing : finished list (record { tx = tx; attempt = y.tid.attempt }) ≡ None = ap (finished_of y.tid.attempt) some ∙ cond-false _ _ _ e in
+            let there = counted y y_in passes in
+            cc
 
   running_from : (o : Option LiveAttempt) → live_attempt (noted list tx) ≡ o → map_some (λ run. run.tid) (first_where test (unended start lines)) ≡ running list tx
   running_from None e = ap (map_some (λ (run : Run). run.tid)) (first-none test (unended start lines) (no_run e)) ∙ sym (ap (map_some (tid_at tx)) e)
@@ -239,3 +239,7 @@ abort_quiet home past tid = pick_quiet (live home past tid) _ _ (refl, refl) (λ
 pub fate_quiet : (home : Home) (past : SitePast) (tx : Tx) → IsQuiet (of_fate home past tx)
 unfolding of_fate
 fate_quiet home past tx = pick_quiet (local_of (records home past) tx) _ _ (pick_quiet (live_of_tx home past tx) _ _ (refl, refl) (λ r. (refl, refl))) (λ c. (refl, refl))
+
+pub back_up : (home : Home) (past : SitePast) → is_down past ≡ false → site_line home past Ev.Back ≡ quiet Ev.Back Say.Awake
+unfolding site_line when
+back_up home past u = rw u refl

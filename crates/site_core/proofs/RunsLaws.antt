@@ -253,26 +253,26 @@ pub lists_commits : (list : List Begun) (start : Start) (lines : List EngineLine
     → Lists (with_note (ended tid) list) start (Commits tid ∷ Seals tid n ∷ lines)
 lists_commits list start lines tid n done l live =
     record { live = (λ u. at u (same_tid tid u) refl); unsealed = (λ u. sealed_at u (same_tid tid u) refl); few = gone.few } where
-  gone : Lists (with_note (ended tid) list) start (Aborts tid ∷ lines)
-  gone = let (run, (is, count)) = listed_lives list start lines tid done l live in lists_ends list start lines (Aborts tid) done l live (ap (changed (Aborts tid)) is.0)
+      gone : Lists (with_note (ended tid) list) start (Aborts tid ∷ lines)
+      gone = let (run, (is, count)) = listed_lives list start lines tid done l live in lists_ends list start lines (Aborts tid) done l live (ap (changed (Aborts tid)) is.0)
 
-  same_run_at : (u : Tid) (t : Bool) → same_tid tid u ≡ t → run_at start (Commits tid ∷ Seals tid n ∷ lines) u ≡ run_at start (Aborts tid ∷ lines) u
-  same_run_at u true e =
-      cond-true _ _ _ e ∙ commits_none (run_at start (Seals tid n ∷ lines) u) ∙ sym (cond-true _ _ _ e ∙ aborts_none (run_at start lines u)) where
-    commits_none : (o : Option Run) → changed (Commits tid) o ≡ None
-    commits_none None = refl
-    commits_none (Some run) = refl
+      same_run_at : (u : Tid) (t : Bool) → same_tid tid u ≡ t → run_at start (Commits tid ∷ Seals tid n ∷ lines) u ≡ run_at start (Aborts tid ∷ lines) u
+      same_run_at u true e =
+          cond-true _ _ _ e ∙ commits_none (run_at start (Seals tid n ∷ lines) u) ∙ sym (cond-true _ _ _ e ∙ aborts_none (run_at start lines u)) where
+            commits_none : (o : Option Run) → changed (Commits tid) o ≡ None
+            commits_none None = refl
+            commits_none (Some run) = refl
 
-    aborts_none : (o : Option Run) → changed (Aborts tid) o ≡ None
-    aborts_none None = refl
-    aborts_none (Some run) = refl
-  same_run_at u false e = cond-false _ _ _ e ∙ cond-false _ _ _ e ∙ sym (cond-false _ _ _ e)
+            aborts_none : (o : Option Run) → changed (Aborts tid) o ≡ None
+            aborts_none None = refl
+            aborts_none (Some run) = refl
+      same_run_at u false e = cond-false _ _ _ e ∙ cond-false _ _ _ e ∙ sym (cond-false _ _ _ e)
 
-  at : (u : Tid) (t : Bool) → same_tid tid u ≡ t → accesses (run_at start (Commits tid ∷ Seals tid n ∷ lines) u) ≡ finished (with_note (ended tid) list) u
-  at u t e = ap accesses (same_run_at u t e) ∙ gone.live u
+      at : (u : Tid) (t : Bool) → same_tid tid u ≡ t → accesses (run_at start (Commits tid ∷ Seals tid n ∷ lines) u) ≡ finished (with_note (ended tid) list) u
+      at u t e = ap accesses (same_run_at u t e) ∙ gone.live u
 
-  sealed_at : (u : Tid) (t : Bool) → same_tid tid u ≡ t → holds_of is_sealed (run_at start (Commits tid ∷ Seals tid n ∷ lines) u) ≡ false
-  sealed_at u t e = ap (holds_of is_sealed) (same_run_at u t e) ∙ gone.unsealed u
+      sealed_at : (u : Tid) (t : Bool) → same_tid tid u ≡ t → holds_of is_sealed (run_at start (Commits tid ∷ Seals tid n ∷ lines) u) ≡ false
+      sealed_at u t e = ap (holds_of is_sealed) (same_run_at u t e) ∙ gone.unsealed u
 
 -- after a stop no attempt is live, and the same ones were begun
 noted-without_live : (list : List Begun) (tx : Tx) → noted (map without_live list) tx ≡ map_some without_live (noted list tx)

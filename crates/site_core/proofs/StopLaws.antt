@@ -175,9 +175,9 @@ module _ {E D : Type 0} (stands : E → Lines.Start → List EngineLine → Type
   stands_quiet old new disk home past y k store none h =
       let same : after_calls site_frame (Past.disk home past) y.calls ≡ Past.disk home past = ap (after_calls site_frame (Past.disk home past)) none in
       let kept : Keeps tells image size spare disk new.store (Past.disk home past) (Past.trip past) =
-          let P : Store → Type 0 = λ s. Keeps tells image size spare disk s (Past.disk home past) (Past.trip past) in subst P (sym store) k.stored in
+      let P : Store → Type 0 = λ s. Keeps tells image size spare disk s (Past.disk home past) (Past.trip past) in subst P (sym store) k.stored in
       let moved : Keeps tells image size spare disk new.store (Past.disk home past) (Past.trip (y ∷ past)) =
-          record { kept_on = kept.kept_on; stands = kept.stands; records = kept.records; are_records = kept.are_records; trip = h.trip; armed = kept.armed; in_order = kept.in_order } in
+      record { kept_on = kept.kept_on; stands = kept.stands; records = kept.records; are_records = kept.are_records; trip = h.trip; armed = kept.armed; in_order = kept.in_order } in
       let Q : Disk SiteRecord → Type 0 = λ d. Keeps tells image size spare disk new.store d (Past.trip (y ∷ past)) in
       record { holds = h; stored = subst Q (sym same) moved }
 
