@@ -156,32 +156,7 @@ pub running_is : (list : List Begun) (home : Home) (past : SitePast) → Lists l
     → live_of_tx home past tx ≡ running list tx
 running_is list home past l right tx = running_from list (epoch_start home past) (engine_lines past) l right tx (live_attempt (noted list tx)) refl
 
--- the line of a site that is down
-pub begin_down : (home : Home) (past : SitePast) (tid : Tid) → is_down past ≡ true → site_line home past (Ev.Begin tid) ≡ quiet (Ev.Begin tid) Say.Down
-unfolding site_line when
-begin_down home past tid d = rw d refl
-
-pub act_down : (home : Home) (past : SitePast) (tid : Tid) (act : PlainAct) → is_down past ≡ true → site_line home past (Ev.Act tid act) ≡ quiet (Ev.Act tid act) Say.Down
-unfolding site_line when
-act_down home past tid act d = rw d refl
-
-pub commit_down : (home : Home) (past : SitePast) (tid : Tid) → is_down past ≡ true → site_line home past (Ev.Commit tid) ≡ quiet (Ev.Commit tid) Say.Down
-unfolding site_line when
-commit_down home past tid d = rw d refl
-
-pub abort_down : (home : Home) (past : SitePast) (tid : Tid) → is_down past ≡ true → site_line home past (Ev.Abort tid) ≡ quiet (Ev.Abort tid) Say.Down
-unfolding site_line when
-abort_down home past tid d = rw d refl
-
-pub fate_down : (home : Home) (past : SitePast) (tx : Tx) → is_down past ≡ true → site_line home past (Ev.Fate tx) ≡ quiet (Ev.Fate tx) Say.Down
-unfolding site_line when
-fate_down home past tx d = rw d refl
-
-pub halt_down : (home : Home) (past : SitePast) (cut : ℕ) → is_down past ≡ true → site_line home past (Ev.Halt cut) ≡ quiet (Ev.Halt cut) Say.Down
-unfolding site_line when
-halt_down home past cut d = rw d refl
-
--- and of one that is up
+-- the line of a site that is up
 pub begin_up : (home : Home) (past : SitePast) (tid : Tid) → is_down past ≡ false → site_line home past (Ev.Begin tid) ≡ unless_tripped home past (of_begin home past tid)
 unfolding site_line answered when
 begin_up home past tid u = rw u refl

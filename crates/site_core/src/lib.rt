@@ -16,3 +16,6 @@ mod store;
 pub use errors::StepErr;
 pub use fed_rules::{SiteEvent, SiteRecord, SiteStep};
 pub use site::SiteCore;
+
+#[cfg(test)]
+mod tests;
