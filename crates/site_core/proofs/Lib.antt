@@ -1,6 +1,7 @@
 pub mod AccessLaws
 pub mod AttemptsLaws
 pub mod CommitLaws
+pub mod EndsLaws
 pub mod LineLaws
 pub mod Outcomes
 pub mod RunsLaws

@@ -30,7 +30,7 @@ use Rattle.site_core.specs.Store.{IsArmed, Keeps, StopsWith, is_up, trip_of_rule
 use Rattle.site_core.proofs.LineLaws.{halt_up, trip_line}
 use Rattle.site_core.proofs.StandsLaws.{up_runs}
 use Rattle.site_core.proofs.StopLaws.{answers_as, answers_quiet, epoch_kind, stands_stop, stopped_is}
-use Rattle.site_core.proofs.StoreLaws.{used_none}
+use Rattle.site_core.proofs.EndsLaws.{used_none}
 
 -- while a site is up it isn't down
 pub up_is : {E : Type 0} (stands : E → Lines.Start → List EngineLine → Type 0) (core : SiteCore E) (home : Home) (past : SitePast) → Holds stands core home past → core.store.standing ≡ Up → is_down past ≡ false

@@ -35,7 +35,7 @@ use Rattle.site_core.specs.Stands.{Adds, Holds, RunsStand}
 use Rattle.site_core.specs.Store.{is_up, trip_of_rules}
 use Rattle.site_core.proofs.LineLaws.{fate_ended, fate_unbegun}
 use Rattle.site_core.proofs.RunsLaws.{noted-with_note}
-use Rattle.site_core.proofs.StoreLaws.{used_none}
+use Rattle.site_core.proofs.EndsLaws.{used_none}
 
 -- a line without disk calls
 abbrev without_calls : SiteEvent → Answer → List FromSite → List EngineLine → SiteHappening

@@ -30,7 +30,7 @@ use Rattle.site_core.specs.declared.store.Standing.TheVariants.{Up, Down, Failin
 use Rattle.site_core.specs.Attempts.{SameBegun, finished, noted}
 use Rattle.site_core.specs.Runs.{IsRunning}
 use Rattle.site_core.specs.Stands.{Adds, Answers, Fails, Holds, IsOfKind, IsStopped, RunsStand, Stands, cut_line}
-use Rattle.site_core.proofs.StoreLaws.{passes_none}
+use Rattle.site_core.proofs.EndsLaws.{passes_none}
 use Rattle.site_core.specs.Store.{Keeps, Passes, is_up, stopped_disk, trip_of_rules}
 
 -- an epoch starts by the rule of the home
