@@ -1,10 +1,9 @@
 -- What a core shows: its records, its doubts, and which attempts are live.
-use Rattle.std.proofs.Common.{◌≡◌, ℕ, ◌==◌, Bool, true, false, cond, not, is_some, Option, Some, None, List, [], ◌∷◌, map, length, refl, sym, ap, ap₂, ◌∙◌, subst}
+use Rattle.std.proofs.Common.{◌≡◌, Bool, true, false, cond, is_some, Option, Some, None, List, [], ◌∷◌, map, refl, sym, ap, ap₂, ◌∙◌}
 use Rattle.std.proofs.lemmas.Bool.{cond-true, cond-false}
 use Rattle.mdb_base.specs.declared.names.Tid.{Tid}
 use Rattle.mdb_base.specs.Names.{same_tid}
-use Rattle.mdb_base.specs.Words.{found, holds_of, map_some}
-use Rattle.presumptions.specs.declared.Decision.{Decision}
+use Rattle.mdb_base.specs.Words.{found, holds_of}
 use Rattle.fed_rules.specs.declared.records.SiteRecord.{SiteRecord}
 use Rattle.fed_rules.specs.declared.records.SiteRecord.TheVariants as Rec
 use Rattle.fed_rules.specs.Runs as Lines
@@ -15,7 +14,7 @@ use Rattle.site_core.specs.declared.site.SiteCore.{SiteCore}
 use Rattle.site_core.specs.declared.store.Standing.{Standing}
 use Rattle.site_core.specs.declared.store.Standing.TheVariants.{Up, Down, Failing}
 use Rattle.site_core.specs.Attempts.{finished}
-use Rattle.site_core.specs.Runs.{IsRunning, Lists, accesses}
+use Rattle.site_core.specs.Runs.{accesses}
 use Rattle.site_core.specs.Stands.{Holds, IsStopped, RunsStand}
 
 -- with no Prepared record there is no doubt

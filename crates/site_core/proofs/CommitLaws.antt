@@ -1,6 +1,6 @@
 -- A local commit: the record that it forces, and what the core stands for after it.
-use Rattle.std.proofs.Common.{◌≡◌, ℕ, zero, suc, ◌+◌, ◌*◌, ◌-◌, ◌<◌, ◌≤◌, ◌^◌, ◌==◌, Bool, true, false, cond, not, is_some, Option, Some, None, Result, Ok, Err, List, [], ◌∷◌, ◌++◌, length, take, refl, sym, ap, ap₂, ◌∙◌, subst, arith}
-use Rattle.std.proofs.lemmas.Bool.{cond-true, cond-false, cond_both}
+use Rattle.std.proofs.Common.{◌≡◌, ℕ, ◌+◌, ◌<◌, ◌≤◌, ◌^◌, ◌==◌, Bool, false, not, Option, Some, None, Err, List, [], ◌∷◌, ◌++◌, length, take, refl, sym, ap, ap₂, ◌∙◌, subst, arith}
+use Rattle.std.proofs.lemmas.Bool.{cond-false, cond_both}
 use Rattle.mdb_base.specs.declared.names.Tid.{Tid}
 use Rattle.mdb_base.specs.declared.names.Tx.{Tx}
 use Rattle.mdb_base.specs.declared.rows.Put.{Put}
@@ -8,41 +8,38 @@ use Rattle.mdb_base.specs.declared.replies.Why.{Why}
 use Rattle.mdb_base.specs.declared.replies.Why.TheVariants as Because
 use Rattle.mdb_base.specs.Names.{same_key}
 use Rattle.mdb_base.specs.Rows.{with_row}
-use Rattle.mdb_base.specs.Words.{Each}
 use Rattle.fed_rules.specs.declared.answers.Answer.{Answer}
 use Rattle.fed_rules.specs.declared.answers.Answer.TheVariants as Say
 use Rattle.fed_rules.specs.declared.events.SiteEvent.TheVariants as Ev
 use Rattle.fed_rules.specs.declared.records.SiteRecord.{SiteRecord}
 use Rattle.fed_rules.specs.declared.records.SiteRecord.TheVariants as Rec
 use Rattle.fed_rules.specs.declared.runs.Sealed.{Sealed}
-use Rattle.fed_rules.specs.Disk.{Call, Append, Sync, Stops, Disk, after_calls}
-use Rattle.fed_rules.specs.EngineLines.{IsLive}
-use Rattle.fed_rules.specs.Happenings.{Trip, comes_up, is_down, stops, used}
+use Rattle.fed_rules.specs.Disk.{Call, Append, Sync, Stops, after_calls}
+use Rattle.fed_rules.specs.Happenings.{comes_up, stops, used}
 use Rattle.fed_rules.specs.Runs as Lines
 use Rattle.fed_rules.specs.Runs.{Access, Got, Wrote, EngineLine, Commits, Refuses, Seals, Run, puts_of, run_at}
 use Rattle.fed_rules.specs.Replies.{seal_number, seal_stop}
 use Rattle.fed_rules.specs.Site.{number_of, of_commit, refusal_answer, seals_local, stop_of, unless_tripped, with_lines}
 use Rattle.fed_rules.specs.SitePast.{SiteHappening, SitePast, attempts_of, begins_tx, engine_lines, epoch_start, live}
 use Rattle.fed_rules.specs.SitePast as Past
-use Rattle.fed_rules.specs.SiteRecords.{Home, prepared_tids, site_frame}
+use Rattle.fed_rules.specs.SiteRecords.{Home, site_frame}
 use Rattle.journal_disk.specs.Disk.{Image}
 use Rattle.journal_disk.specs.Frames.{IsPayload, frame_size}
 use Rattle.site_journal.specs.Spelling.{spelling}
 use Rattle.site_journal.proofs.FrameSizes.{frame_has_size}
 use Rattle.site_core.specs.declared.errors.StepErr.TheVariants as Err_is
-use Rattle.site_core.specs.declared.runs.Runs.{Runs}
 use Rattle.site_core.specs.declared.site.SiteCore.{SiteCore}
 use Rattle.site_core.specs.declared.store.Break.TheVariants.{Stopped, Failed}
 use Rattle.site_core.specs.declared.store.Standing.{Standing}
-use Rattle.site_core.specs.declared.store.Standing.TheVariants.{Up, Down, Failing}
-use Rattle.site_core.specs.Attempts.{SameBegun, finished, noted}
-use Rattle.site_core.specs.Runs.{IsRunning, IsSealing, SealsAs, SealsBy}
-use Rattle.site_core.specs.Stands.{Answers, Fails, Holds, IsOfKind, RunsStand, Stands, StandsSealing}
-use Rattle.site_core.specs.Store.{Ends, Keeps, Passes, is_up, stopped_disk}
+use Rattle.site_core.specs.declared.store.Standing.TheVariants.{Up}
+use Rattle.site_core.specs.Attempts.{SameBegun, finished}
+use Rattle.site_core.specs.Runs.{IsRunning}
+use Rattle.site_core.specs.Stands.{Answers, Fails, IsOfKind, RunsStand, Stands, StandsSealing}
+use Rattle.site_core.specs.Store.{Ends, Keeps, Passes, is_up}
 use Rattle.site_core.proofs.LineLaws.{commit_refused, commit_seals, live_run}
 use Rattle.site_core.proofs.RunsLaws.{listed_lives}
 use Rattle.site_core.proofs.StandsLaws.{holds_line, up_runs}
-use Rattle.site_core.proofs.StopLaws.{IsPlainCall, answers_as, answers_quiet, epoch_kind, fails_as, passes_is, plain_stop, prepared-calls, stands_line, stands_stop, stop_line, stopped_is, trips_is}
+use Rattle.site_core.proofs.StopLaws.{answers_as, answers_quiet, epoch_kind, fails_as, passes_is, plain_stop, stands_line, stands_stop, stop_line, stopped_is, trips_is}
 
 -- a run writes at most as many rows as it has accesses
 with_row-length : (row : Put) (rows : List Put) → length (with_row row rows) ≤ length rows + 1

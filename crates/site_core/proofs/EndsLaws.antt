@@ -5,7 +5,7 @@ use Rattle.std.proofs.lemmas.List.{length-append, take_all, take-append-le}
 use Rattle.std.proofs.lemmas.Bool.{cases_lt}
 use Rattle.mdb_base.specs.Words.{map_some}
 use Rattle.fed_rules.specs.declared.records.SiteRecord.{SiteRecord}
-use Rattle.fed_rules.specs.Disk.{Call, CutBack, Stops, Disk, whole, after_call, after_calls, is_torn}
+use Rattle.fed_rules.specs.Disk.{Call, CutBack, Stops, Disk, whole, after_call, after_calls}
 use Rattle.fed_rules.specs.Happenings.{Trip, used}
 use Rattle.fed_rules.specs.SiteRecords.{site_frame}
 use Rattle.journal_disk.specs.Disk.{Image, stopped, synced_bytes, CutsOrNot}

@@ -1,6 +1,6 @@
 -- What one engine line leaves of the list of live attempts.
-use Rattle.std.proofs.Common.{◌≡◌, ℕ, zero, suc, ◌+◌, ◌<◌, ◌^◌, Bool, true, false, cond, ◌==◌, Option, Some, None, IsSome, is_some, List, [], ◌∷◌, length, inl, inr, refl, sym, ap, subst, ◌∙◌, arith, map, ◌≤◌}
-use Rattle.std.proofs.lemmas.Bool.{cond-true, cond-false, cases_Bool, eqb-true, eq-eqb, ne_eqb, and_parts, and_from}
+use Rattle.std.proofs.Common.{◌≡◌, ℕ, ◌+◌, ◌<◌, Bool, true, false, cond, ◌==◌, Option, Some, None, IsSome, is_some, List, [], ◌∷◌, length, inl, inr, refl, sym, ap, ◌∙◌, arith, map, ◌≤◌}
+use Rattle.std.proofs.lemmas.Bool.{cond-true, cond-false, cases_Bool, eqb-true, eq-eqb, and_parts, and_from}
 use Rattle.mdb_base.specs.declared.acts.PlainAct.{PlainAct}
 use Rattle.mdb_base.specs.declared.acts.PlainAct.TheVariants.{Read, Write}
 use Rattle.mdb_base.specs.declared.names.Tid.{Tid}
@@ -8,13 +8,13 @@ use Rattle.mdb_base.specs.declared.names.Tx.{Tx}
 use Rattle.mdb_base.specs.declared.replies.Reply.{Reply}
 use Rattle.mdb_base.specs.declared.replies.Reply.TheVariants as Reply_is
 use Rattle.mdb_base.specs.Names.{same_tid, same_tx}
-use Rattle.mdb_base.specs.Words.{first_where, holds_of, map_some}
-use Rattle.mdb_base.proofs.NameLaws.{same_tid-equal, same_tid-refl}
-use Rattle.fed_rules.specs.Runs.{Start, EngineLine, Begins, Acts, Seals, Refuses, Commits, Aborts, Run, begun, changed, acted, is_sealed, puts_of, run_at, tid_of}
+use Rattle.mdb_base.specs.Words.{holds_of, map_some}
+use Rattle.mdb_base.proofs.NameLaws.{same_tid-equal}
+use Rattle.fed_rules.specs.Runs.{Start, EngineLine, Begins, Acts, Seals, Commits, Aborts, Run, begun, changed, acted, is_sealed, puts_of, run_at, tid_of}
 use Rattle.mdb_base.specs.declared.replies.Why.{Why}
 use Rattle.fed_rules.specs.declared.runs.Sealed.{Sealed}
 use Rattle.fed_rules.specs.Replies.{access_reply, seal_number, seal_stop}
-use Rattle.fed_rules.specs.EngineLines.{IsFree, IsLive, IsSealed}
+use Rattle.fed_rules.specs.EngineLines.{IsFree, IsLive}
 use Rattle.site_core.specs.declared.attempts.Begun.{Begun}
 use Rattle.site_core.specs.declared.attempts.LiveAttempt.{LiveAttempt}
 use Rattle.site_core.specs.Attempts.{SameBegun, after_reply, ended, finished, finished_of, granted, live_attempt, noted, running, started, with_note, without_live}

@@ -1,23 +1,22 @@
 -- What a core stands for after a halt, after a trip was set, and after an event while it is down.
-use Rattle.std.proofs.Common.{◌≡◌, ℕ, zero, suc, ◌<◌, ◌==◌, ◌||◌, Bool, true, false, cond, not, is_some, Option, Some, None, List, [], ◌∷◌, length, refl, sym, ap, ◌∙◌, subst, arith}
-use Rattle.std.proofs.lemmas.Bool.{cond-true, cond-false, eqb-true, ne_eqb}
+use Rattle.std.proofs.Common.{◌≡◌, ℕ, zero, suc, ◌<◌, ◌==◌, ◌||◌, Bool, true, false, cond, not, is_some, Option, Some, None, List, [], ◌∷◌, refl, sym, ap, ◌∙◌, subst, arith}
+use Rattle.std.proofs.lemmas.Bool.{cond-false}
 use Rattle.mdb_base.specs.declared.names.Tid.{Tid}
 use Rattle.mdb_base.specs.declared.names.Tx.{Tx}
-use Rattle.mdb_base.specs.Words.{Each, map_some, when}
+use Rattle.mdb_base.specs.Words.{map_some, when}
 use Rattle.fed_rules.specs.declared.answers.Answer.{Answer}
 use Rattle.fed_rules.specs.declared.answers.Answer.TheVariants as Say
 use Rattle.fed_rules.specs.declared.events.SiteEvent.{SiteEvent}
 use Rattle.fed_rules.specs.declared.events.SiteEvent.TheVariants as Ev
-use Rattle.fed_rules.specs.Disk.{Stops, after_call}
-use Rattle.fed_rules.specs.Happenings.{Trip, comes_up, is_down, quiet, set, stopped, stops, used}
+use Rattle.fed_rules.specs.Disk.{Stops}
+use Rattle.fed_rules.specs.Happenings.{Trip, comes_up, is_down, quiet, set, stops}
 use Rattle.fed_rules.specs.Runs as Lines
 use Rattle.fed_rules.specs.Runs.{EngineLine}
 use Rattle.fed_rules.specs.Site.{site_line}
 use Rattle.fed_rules.specs.SitePast.{SiteHappening, SitePast, attempts_of, begins_tx, engine_lines, epoch_start, trip_of}
 use Rattle.fed_rules.specs.SitePast as Past
-use Rattle.fed_rules.specs.SiteRecords.{Home, site_frame}
+use Rattle.fed_rules.specs.SiteRecords.{Home}
 use Rattle.journal_disk.specs.Disk.{Image}
-use Rattle.site_core.specs.declared.errors.StepErr.TheVariants as Err_is
 use Rattle.site_core.specs.declared.site.SiteCore.{SiteCore}
 use Rattle.site_core.specs.declared.store.SetTrip.{SetTrip}
 use Rattle.site_core.specs.declared.store.Store.{Store}
@@ -25,11 +24,11 @@ use Rattle.site_core.specs.declared.store.Standing.{Standing}
 use Rattle.site_core.specs.declared.store.Standing.TheVariants.{Up, Down, Failing}
 use Rattle.site_core.specs.Attempts.{SameBegun, finished, noted}
 use Rattle.site_core.specs.Runs.{IsRunning}
-use Rattle.site_core.specs.Stands.{Adds, Answers, Fails, Holds, IsOfKind, IsStopped, RunsStand, Stands}
+use Rattle.site_core.specs.Stands.{Answers, Holds, IsOfKind, RunsStand, Stands}
 use Rattle.site_core.specs.Store.{IsArmed, Keeps, StopsWith, is_up, trip_of_rules, trip_to}
 use Rattle.site_core.proofs.LineLaws.{halt_up, trip_line}
 use Rattle.site_core.proofs.StandsLaws.{up_runs}
-use Rattle.site_core.proofs.StopLaws.{answers_as, answers_quiet, epoch_kind, stands_stop, stopped_is}
+use Rattle.site_core.proofs.StopLaws.{answers_as, epoch_kind, stands_stop, stopped_is}
 use Rattle.site_core.proofs.EndsLaws.{used_none}
 
 -- while a site is up it isn't down

@@ -1,6 +1,5 @@
 -- What a new site stands for.
-use Rattle.std.proofs.Common.{◌≡◌, ℕ, zero, suc, ◌+◌, ◌*◌, ◌-◌, ◌<◌, ◌≤◌, ◌^◌, Bool, true, false, not, is_some, IsTrue, Option, Some, None, Result, Ok, Err, List, [], ◌∷◌, ◌++◌, length, nat_lt, refl, sym, ap, ◌∙◌, subst, arith, inl, inr}
-use Rattle.std.specs.List.{AllByRecursion}
+use Rattle.std.proofs.Common.{◌≡◌, ℕ, ◌<◌, ◌≤◌, ◌^◌, Bool, false, IsTrue, Option, None, Result, Ok, Err, List, [], length, nat_lt, refl, sym, ap, ◌∙◌, arith, inl, inr}
 use Rattle.std.proofs.lemmas.List.{nil_from_length}
 use Rattle.mdb_base.specs.Counts.{HasRisen}
 use Rattle.mdb_base.specs.declared.names.Engine.{Engine}
@@ -14,8 +13,6 @@ use Rattle.fed_rules.specs.Happenings.{Trip}
 use Rattle.fed_rules.specs.SiteRecords.{site_frame}
 use Rattle.journal_disk.specs.Disk.{Image, IsSound}
 use Rattle.journal_disk.specs.Frames.{IsPayload, frame_size}
-use Rattle.journal_disk.specs.declared.errors.JournalErr.{JournalErr}
-use Rattle.journal_disk.specs.declared.errors.JournalErr.TheVariants as Why
 use Rattle.frame_journal.specs.Journal.{Kept, IsKeptOn}
 use Rattle.frame_journal.specs.Records.{AreRecordsOf, spelled_size}
 use Rattle.frame_journal.proofs.Keeping.{none_is_part}

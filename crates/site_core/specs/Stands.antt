@@ -1,5 +1,5 @@
 -- What the core of a site stands for: a home, and the list of what happened there, the newest first.
-use Rattle.std.specs.Prelude.{ℕ, ◌≡◌, ◌==◌, Bool, true, false, not, is_some, option_to_list, Option, None, List, [], ◌∷◌, ◌++◌, reverse, take}
+use Rattle.std.specs.Prelude.{ℕ, ◌≡◌, ◌==◌, Bool, false, not, is_some, option_to_list, None, List, [], ◌∷◌, ◌++◌, reverse, take}
 use Rattle.mdb_base.specs.declared.names.Engine.{Engine}
 use Rattle.mdb_base.specs.declared.names.Tid.{Tid}
 use Rattle.mdb_base.specs.declared.names.Tx.{Tx}

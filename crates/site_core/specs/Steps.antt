@@ -6,7 +6,7 @@ use Rattle.fed_rules.specs.declared.events.SiteEvent.{SiteEvent}
 use Rattle.fed_rules.specs.declared.events.SiteEvent.TheVariants as Ev
 use Rattle.fed_rules.specs.Happenings.{is_down}
 use Rattle.fed_rules.specs.Runs.{Run, counter}
-use Rattle.fed_rules.specs.SitePast.{SitePast, epoch, epoch_start, engine_lines, live}
+use Rattle.fed_rules.specs.SitePast.{SitePast, epoch_start, engine_lines, live}
 use Rattle.fed_rules.specs.SiteRecords.{Home}
 
 -- for some past that it stands for the fact holds

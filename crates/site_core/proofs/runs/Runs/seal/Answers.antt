@@ -1,4 +1,4 @@
-use Rattle.std.proofs.Common.{◌≡◌, ◌∷◌, List, Some, refl, sym, ap, subst, ◌∙◌}
+use Rattle.std.proofs.Common.{◌∷◌, List, refl, sym, ap, subst}
 use Rattle.fed_rules.specs.Runs.{Refuses, changed}
 use Rattle.engine_contract.proofs.Follows.{NumberFits-below}
 use Rattle.site_core.specs.declared.attempts.Begun.{Begun}

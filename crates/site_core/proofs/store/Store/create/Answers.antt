@@ -1,4 +1,4 @@
-use Rattle.std.proofs.Common.{◌≡◌, [], Ok, Err, List}
+use Rattle.std.proofs.Common.{[]}
 use Rattle.site_core.proofs.SetUpLaws.{create_keeps, nothing_there, nothing_read, never_malformed}
 use Rattle.site_core.proofs.store.Store.create.Goals as goal
 
