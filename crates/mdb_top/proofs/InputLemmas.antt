@@ -1,6 +1,6 @@
 -- What the front of an input that is read says of the whole.
-use Rattle.std.proofs.Common.{◌≡◌, ℕ, ◌+◌, ◌<◌, ◌≤◌, ◌⊎◌, inl, inr, Bool, true, false, cond, nat_lt, IsTrue, List, length, take, refl, sym, ◌∙◌, ap, subst, Result, Ok, Err, arith}
-use Rattle.std.proofs.lemmas.List.{take_all, length-take-le}
+use Rattle.std.proofs.Common.{◌≡◌, ℕ, ◌+◌, ◌<◌, ◌≤◌, ◌⊎◌, inl, inr, Bool, true, false, cond, nat_lt, IsTrue, List, [], ◌∷◌, ◌++◌, length, take, refl, sym, ◌∙◌, ap, subst, Result, Ok, Err, arith}
+use Rattle.std.proofs.lemmas.List.{take_all, length-append, length-take-le}
 use Rattle.std.proofs.lemmas.Bool.{cases_lt, lt-ltb, le-ltb, cond-true, cond-false}
 use Rattle.scenario_text.specs.declared.bad.BadLine.{BadLine}
 use Rattle.scenario_text.specs.declared.session.Session.{Session}
@@ -62,3 +62,14 @@ pub read_input : (tells : Bool) (left bytes : List ℕ) (read : Result Session U
     → SomeInput tells left (λ input. Tells read (verdict input))
 read_input true left bytes read e h = record { input = left; told = (λ t. refl); holds = subst (Tells read) (ap verdict (e refl) ∙ verdict-front left) h }
 read_input false left bytes read e h = record { input = bytes; told = (λ t. absurd cc); holds = h }
+
+nothing_more : (xs ys : List ℕ) → xs ≡ xs ++ ys → ys ≡ []
+nothing_more xs [] e = refl
+nothing_more xs (y ∷ ys) e = let sizes : length xs ≡ length (xs ++ y ∷ ys) = ap length e in absurd (omega (arith, length-append xs (y ∷ ys)))
+
+-- where no more came than the limit, nothing is left
+pub nothing_left : (tells : Bool) (left bytes now : List ℕ) → (IsTrue tells → bytes ≡ take (longest + 1) left) → (IsTrue tells → left ≡ bytes ++ now) → length bytes ≤ longest → IsTrue tells → now ≡ []
+nothing_left tells left bytes now front parts few t = elim (front_or_longer longest left) [
+  | inl same ↦ let all : bytes ≡ left = front t ∙ same in nothing_more left now (parts t ∙ ap (λ xs. xs ++ now) all)
+  | inr more ↦ let sizes : length bytes ≡ length (take (longest + 1) left) = ap length (front t) in let long = more.1 in absurd (omega arith)
+]

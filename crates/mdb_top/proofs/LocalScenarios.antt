@@ -15,7 +15,7 @@ use Rattle.fed_rules.specs.declared.scenario.SiteLine.{SiteLine}
 use Rattle.fed_rules.specs.declared.scenario.TxLine.{TxLine}
 use Rattle.fed_rules.specs.Plans.{IsScenario, all_differ, one_transaction, is_declared, is_in_place, is_transaction}
 use Rattle.site_laws.specs.Sessions.{IsAlone}
-use Rattle.site_laws.proofs.Led.{same_site-equal}
+use Rattle.order_laws.proofs.Names.{same_site_alike}
 use Rattle.mdb_top.specs.Verdicts.{is_locking, is_one_site, is_local}
 
 -- no two lines of one transaction
@@ -46,7 +46,7 @@ only_declared : (line : SiteLine) (site : SiteId) → is_declared (line ∷ []) 
 only_declared line site e = by_test (same_site line.site site) refl e
   where
     by_test : (b : Bool) → same_site line.site site ≡ b → some_of (λ (other : SiteLine). same_site other.site site) (line ∷ []) ≡ true → site ≡ line.site
-    by_test true is e = sym (same_site-equal line.site site is)
+    by_test true is e = sym (same_site_alike line.site site is)
     by_test false is e = let no : false ≡ true = sym (ap (λ b. b || false) is) ∙ e in absurd cc
 
 each_home : (line : SiteLine) (xs : List TxLine) → list_all is_local xs ≡ true → each_of (is_transaction (line ∷ [])) xs ≡ true → Each (λ tx_line. IsProgram tx_line.program) xs

@@ -16,7 +16,7 @@ use Rattle.fed_rules.specs.declared.scenario.ItemLine.{ItemLine}
 use Rattle.fed_rules.specs.Plans.{all_differ, one_row}
 use Rattle.fed_rules.specs.Scenarios.{items_of}
 use Rattle.engine_laws.proofs.Rows.{rising_with_row}
-use Rattle.site_laws.proofs.Led.{same_site-equal}
+use Rattle.order_laws.proofs.Names.{same_site_alike}
 use Rattle.mdb_top.specs.FirstRows.{rows_at, DifferInRow}
 
 -- a row that is put is what is found at its key
@@ -96,7 +96,7 @@ own_key item (other ∷ items) site here e =
         → AllByRecursion (λ y. nat_eq item.put.key.0 y ≡ false) (map (λ (row : Put). row.key.0) (rows_at items site))
         → AllByRecursion (λ y. nat_eq item.put.key.0 y ≡ false) (map (λ (row : Put). row.key.0) (cond b (other.put ∷ rows_at items site) (rows_at items site)))
     by_site true there differ rest =
-        (let both = same_site-equal item.site site here ∙ sym (same_site-equal other.site site there) in
+        (let both = same_site_alike item.site site here ∙ sym (same_site_alike other.site site there) in
         let same : same_site item.site other.site ≡ true = eq-eqb item.site.0 other.site.0 (ap (λ (s : SiteId). s.0) both) in
         (apart (same_site item.site other.site) (same_key item.put.key other.put.key) same differ, rest))
     by_site false there differ rest = rest

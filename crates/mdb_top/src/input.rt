@@ -1,6 +1,7 @@
 //! The session that a source gives.
-ghost use Rattle.std.specs.Prelude.{◌≡◌, ◌≤◌, IsErrOf};
+ghost use Rattle.std.specs.Prelude.{◌≡◌, ◌≤◌, [], IsTrue, IsErrOf, OnOk, length};
 ghost use Rattle.mdb_base.specs.Counts.{HasRisen};
+ghost use Rattle.mdb_top.specs.Streams.{longest};
 ghost use Rattle.mdb_top.specs.Verdicts.{verdict};
 ghost use Rattle.mdb_top.specs.Inputs.{SomeInput, Tells};
 
@@ -28,6 +29,7 @@ pub(crate) enum Unplayed {
 fn session_in(alloc: Global, text: &[u8]) -> Result<Session, Unplayed>
     ensures told { Tells result (verdict text.now) }
     ensures whole { ¬ IsErrOf result Unplayed.Failed }
+    ensures few { OnOk result (length text.now ≤ longest) }
 {
     if text.len() > LONGEST {
         return Err(Unplayed::TooLong);
@@ -46,6 +48,7 @@ fn session_in(alloc: Global, text: &[u8]) -> Result<Session, Unplayed>
 /// The session that the source's bytes spell, where it runs here.
 pub(crate) fn read_session<S: Source>(alloc: Global, source: &mut S) -> Result<Session, Unplayed>
     ensures told { SomeInput S.tells (S.left source.old) (λ input. Tells result (verdict input)) }
+    ensures end { OnOk result (IsTrue S.tells → S.left source.new ≡ []) }
     ensures failed { IsErrOf result Unplayed.Failed → HasRisen (S.faults source.old) (S.faults source.new) }
     ensures faults { S.faults source.old ≤ S.faults source.new }
 {

@@ -1,5 +1,5 @@
 //! Reads a source to its end, or to one byte more than an input may have.
-ghost use Rattle.std.specs.Prelude.{◌≡◌, ◌≤◌, ◌<◌, ◌+◌, IsTrue, IfOk, IsErrOf, length, take};
+ghost use Rattle.std.specs.Prelude.{◌≡◌, ◌≤◌, ◌<◌, ◌+◌, ◌++◌, IsTrue, IfOk, IsErrOf, length, take};
 ghost use Rattle.mdb_base.specs.Counts.{HasRisen};
 ghost use Rattle.mdb_top.specs.Streams.{longest};
 ghost use Rattle.mdb_top.specs.Progress.{ReadsOn};
@@ -50,6 +50,7 @@ fn read_up_to<S: Source>(
 ) -> Result<Vec<u8>, ReadErr>
     requires { 0 < size }
     ensures text { IfOk result (λ text. IsTrue S.tells → text.items ≡ take most (S.left source.old)) }
+    ensures rest { IfOk result (λ text. IsTrue S.tells → S.left source.old ≡ text.items ++ S.left source.new) }
     ensures limit { IfOk result (λ text. length text.items ≤ most) }
     ensures failed { IsErrOf result ReadErr.Failed → HasRisen (S.faults source.old) (S.faults source.new) }
     ensures faults { S.faults source.old ≤ S.faults source.new }
@@ -73,6 +74,7 @@ fn read_up_to<S: Source>(
 /// The bytes that the source gives, to its end or to byte 4,194,305.
 pub fn read_all<S: Source>(alloc: Global, source: &mut S) -> Result<Vec<u8>, ReadErr>
     ensures text { IfOk result (λ text. IsTrue S.tells → text.items ≡ take (longest + 1) (S.left source.old)) }
+    ensures rest { IfOk result (λ text. IsTrue S.tells → S.left source.old ≡ text.items ++ S.left source.new) }
     ensures limit { IfOk result (λ text. length text.items ≤ longest + 1) }
     ensures failed { IsErrOf result ReadErr.Failed → HasRisen (S.faults source.old) (S.faults source.new) }
     ensures faults { S.faults source.old ≤ S.faults source.new }

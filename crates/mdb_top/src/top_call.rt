@@ -1,5 +1,5 @@
 //! The top call.
-ghost use Rattle.std.specs.Prelude.{◌≡◌, ◌≢◌, ◌↔◌, false, IsTrue, map, string_bytes};
+ghost use Rattle.std.specs.Prelude.{◌≡◌, ◌≢◌, ◌↔◌, [], false, IsTrue, map, string_bytes};
 ghost use Rattle.mdb_base.specs.Counts.{HasRisen};
 ghost use Rattle.mdb_top.specs.Endings.{Ends, Gets, IsCutOff, IsLedTo, IsReplayed, SomeSession};
 ghost use Rattle.mdb_top.specs.Inputs.{SomeInput};
@@ -31,6 +31,7 @@ fn told<K: Sink>(sink: &mut K, status: u8, text: &[u8]) -> u8
 /// Names the first bad line.
 fn refused<K: Sink>(alloc: Global, sink: &mut K, bad: BadLine) -> u8
     ensures read { result ≢ 3 }
+    ensures done { result ≢ 0 }
     ensures ends { Ends (BadInput bad) result K.tells (K.faults sink.old) (K.faults sink.new) (K.written sink.old) (K.written sink.new) }
 {
     match bad_line_text(alloc, bad) {
@@ -60,6 +61,7 @@ fn replay<S: Source, K: Sink>(alloc: Global, source: &mut S, sink: &mut K) -> u8
     ensures ends { SomeInput S.tells (S.left source.old) (λ input.
         Ends (verdict input) result K.tells (K.faults sink.old) (K.faults sink.new) (K.written sink.old) (K.written sink.new)) }
     ensures read_failed { result ≡ 3 → HasRisen (S.faults source.old) (S.faults source.new) }
+    ensures end { result ≡ 0 → IsTrue S.tells → S.left source.new ≡ [] }
 {
     match read_session(alloc, source) {
         Ok(session) => played(alloc, sink, session),
@@ -87,6 +89,9 @@ pub fn federate<S: Source, K: Sink>(
         SomeInput S.tells (S.left source.old) (λ input. IsLedTo result (verdict input)) }
     ensures read_failed { result ≡ 3 → HasRisen (S.faults source.old) (S.faults source.new) }
     ensures write_failed { result ≡ 4 → HasRisen (K.faults sink.old) (K.faults sink.new) }
+
+    // A session that is replayed was read to its end.
+    ensures end { result ≡ 0 → IsTrue S.tells → S.left source.new ≡ [] }
 
     // What the sink has got then.
     ensures replayed { result ≡ 0 → SomeInput S.tells (S.left source.old) (λ input.

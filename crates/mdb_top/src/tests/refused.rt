@@ -1,25 +1,41 @@
 //! Words and inputs that are refused.
-use super::{expect, replayed};
+use super::expect;
 use crate::{MemSink, MemSource, federate};
 use mdb_base::Memory;
 use std::alloc::Global;
 
 #[test]
-fn the_first_bad_line_is_named(rt: HostRuntime) {
+fn an_unknown_word_is_named(rt: HostRuntime) {
     expect(&rt, "sites 1\n", 2, "bad line 1 word\n");
+}
+
+#[test]
+fn a_number_out_of_range_is_named(rt: HostRuntime) {
     expect(&rt, "site 9 locking abort\n", 2, "bad line 1 range\n");
+}
+
+#[test]
+fn a_site_that_stands_twice_is_named(rt: HostRuntime) {
     expect(
         &rt,
         "site 1 locking abort\nsite 1 locking abort\n",
         2,
         "bad line 2 repeated\n",
     );
+}
+
+#[test]
+fn a_register_that_is_not_read_is_named(rt: HostRuntime) {
     expect(
         &rt,
         "site 1 locking abort\nlocal 1 1 add:5:0:1\n",
         2,
         "bad line 2 register\n",
     );
+}
+
+#[test]
+fn a_step_too_many_is_named(rt: HostRuntime) {
     expect(
         &rt,
         "site 1 locking abort\nlocal 1 1 get:1 get:1 get:1 get:1 get:1 get:1 get:1 get:1 get:1 get:1 get:1 get:1 get:1 get:1 get:1 get:1 get:1 get:1 get:1 get:1 get:1 get:1 get:1 get:1 get:1 get:1 get:1 get:1 get:1 get:1 get:1 get:1 get:1\n",
@@ -29,20 +45,32 @@ fn the_first_bad_line_is_named(rt: HostRuntime) {
 }
 
 #[test]
-fn what_does_not_run_yet_is_refused(rt: HostRuntime) {
+fn a_second_site_does_not_run_yet(rt: HostRuntime) {
     expect(
         &rt,
         "site 1 locking abort\nsite 2 locking abort\n",
         2,
         "bad input\n",
     );
+}
+
+#[test]
+fn another_engine_does_not_run_yet(rt: HostRuntime) {
     expect(&rt, "site 1 timestamp abort\n", 2, "bad input\n");
+}
+
+#[test]
+fn a_global_does_not_run_yet(rt: HostRuntime) {
     expect(
         &rt,
         "site 1 locking abort\nglobal 1 1/get:1\n",
         2,
         "bad input\n",
     );
+}
+
+#[test]
+fn a_stop_does_not_run_yet(rt: HostRuntime) {
     expect(
         &rt,
         "site 1 locking abort\ncommands\nhalt 1 0\n",
@@ -51,46 +79,19 @@ fn what_does_not_run_yet_is_refused(rt: HostRuntime) {
     );
 }
 
-/// So many letters.
-fn letters(alloc: Global, count: usize) -> Result<Vec<u8>, Memory> {
-    Ok(Vec::from_elem(alloc, b'x', count)?)
-}
-
-#[test]
-fn a_long_line_is_refused(rt: HostRuntime) {
-    let Ok(mut input) = letters(rt.alloc(), 2_049) else {
-        panic!(rt; "there is memory");
-    };
-    assert!(rt; input.push(b'\n').is_ok());
-    match replayed(rt.alloc(), &input) {
-        Ok((status, put)) => {
-            assert_eq!(rt; status, 2);
-            assert_eq!(rt; put.as_slice(), b"bad line 1 long\n".as_slice());
-        }
-        Err(_) => panic!(rt; "there is memory"),
-    }
-}
-
-/// The status of these words on a few bytes, and what was put.
-fn called(alloc: Global, words: &[String]) -> Result<(u8, Vec<u8>), Memory> {
-    let mut source = MemSource::new(Vec::from_slice(alloc, b"sites 1\n")?, 3, Vec::new(alloc));
+/// The status of two words, and what was put.
+fn called(alloc: Global, first: &str, second: &str) -> Result<(u8, Vec<u8>), Memory> {
+    let mut words = vec![in alloc; String::from_str(alloc, first)?]?;
+    words.push(String::from_str(alloc, second)?)?;
+    let mut source = MemSource::new(Vec::new(alloc), 3, Vec::new(alloc));
     let mut sink = MemSink::new(alloc, 100, 100, Vec::new(alloc))?;
-    let status = federate(alloc, words, &mut source, &mut sink);
+    let status = federate(alloc, &words, &mut source, &mut sink);
     Ok((status, Vec::from_slice(alloc, sink.written())?))
 }
 
 #[test]
 fn other_words_are_told_the_usage(rt: HostRuntime) {
-    let Ok(replay) = String::from_str(rt.alloc(), "replay") else {
-        panic!(rt; "there is memory");
-    };
-    let Ok(more) = String::from_str(rt.alloc(), "x") else {
-        panic!(rt; "there is memory");
-    };
-    let mut words = Vec::new(rt.alloc());
-    assert!(rt; words.push(replay).is_ok());
-    assert!(rt; words.push(more).is_ok());
-    match called(rt.alloc(), &words) {
+    match called(rt.alloc(), "replay", "x") {
         Ok((status, put)) => {
             assert_eq!(rt; status, 1);
             assert_eq!(rt;
