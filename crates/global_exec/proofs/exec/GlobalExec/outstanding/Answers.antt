@@ -1,0 +1,17 @@
+use Rattle.std.proofs.Common.{◌≡◌, Option, Some, None, List, [], sym, ap, subst, ◌∙◌}
+use Rattle.mdb_base.specs.Words.{map_some, or_else}
+use Rattle.std.proofs.Common.{IfOk}
+use Rattle.fed_rules.specs.declared.messages.Due.{Due}
+use Rattle.global_exec.specs.Live.{Live, all_due, is_of, live_of}
+use Rattle.global_exec.specs.Firsts.{place_where, replaced, taken_out}
+use Rattle.global_exec.proofs.Firsts.{first-read, missing, set-replaced, stands}
+use Rattle.global_exec.proofs.exec.GlobalExec.outstanding.Goals as goal
+
+pub returns-in-None : goal.returns-in-None
+returns-in-None c =
+    c.of.ensures ∙ c.new.ensures.items ∙ sym (ap (λ (o : Option Live). or_else (map_some all_due o) []) (ap (live_of c.args.tid) (sym c.self.view_is) ∙ (missing (is_of c.args.tid) c.self.inside.attempts.items (ap (place_where (is_of c.args.tid)) (sym c.as_slice.ensures.value) ∙ sym c.place_of.ensures.place ∙ c.in-None.is)).first))
+
+pub returns-in-Some : goal.returns-in-Some
+returns-in-Some c =
+    subst (λ (ds : List Due). IfOk c.outstanding.result (λ dues. dues ≡ ds))
+    (sym (ap (λ (o : Option Live). or_else (map_some all_due o) []) (ap (live_of c.args.tid) (sym c.self.view_is) ∙ first-read (is_of c.args.tid) c.self.inside.attempts.items c.in-Some.place c.index.result.now (stands (is_of c.args.tid) c.self.inside.attempts.items c.in-Some.place (ap (place_where (is_of c.args.tid)) (sym c.as_slice.ensures.value) ∙ sym c.place_of.ensures.place ∙ c.in-Some.is)) c.index.ensures))) c.outstanding.ensures

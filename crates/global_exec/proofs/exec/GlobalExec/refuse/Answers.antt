@@ -1,0 +1,12 @@
+use Rattle.std.proofs.Common.{◌≡◌, Option, Some, None, List, [], sym, ap, subst, ◌∙◌}
+use Rattle.mdb_base.specs.Words.{map_some, or_else}
+use Rattle.global_exec.specs.Live.{Live, is_of, live_of}
+use Rattle.global_exec.specs.Firsts.{place_where, replaced, taken_out}
+use Rattle.global_exec.proofs.Firsts.{first-read, missing, set-replaced, stands}
+use Rattle.global_exec.proofs.exec.GlobalExec.refuse.Goals as goal
+
+pub returns-in-None : goal.returns-in-None
+returns-in-None c = sym (ap (taken_out (is_of c.args.tid)) (sym c.self.view_is) ∙ (missing (is_of c.args.tid) c.self.inside.attempts.items (ap (place_where (is_of c.args.tid)) (sym c.as_slice.ensures.value) ∙ sym c.place_of.ensures.place ∙ c.in-None.is)).out ∙ c.self.view_is)
+
+pub returns : goal.returns
+returns c = c.remove.ensures.items ∙ (stands (is_of c.args.tid) c.self.inside.attempts.items c.in-Some.place (ap (place_where (is_of c.args.tid)) (sym c.as_slice.ensures.value) ∙ sym c.place_of.ensures.place ∙ c.in-Some.is)).out ∙ ap (taken_out (is_of c.args.tid)) c.self.view_is

@@ -1,0 +1,5 @@
+pub mod Agreement
+pub mod Counted
+pub mod Due
+pub mod Firsts
+pub mod Live

@@ -1,0 +1,5 @@
+pub mod Keeps
+pub mod Named
+pub mod Required
+pub mod Words
+pub mod Written

@@ -1,0 +1,11 @@
+use Rattle.std.proofs.Common.{rules, tests, sym, ◌∙◌}
+use Rattle.std.proofs.lemmas.Iterator.{YieldsList-from_slice}
+use Rattle.std.proofs.lemmas.Iterator.Search.{any_from_yields_List}
+use Rattle.protocol_table.specs.Attempts.{member_acks}
+use Rattle.protocol_table.proofs.Words.{some_of-list_any}
+use Rattle.protocol_table.proofs.members.some_acks.Goals as goal
+
+pub returns : goal.returns
+returns c =
+    any_from_yields_List (member_acks c.args.decision) _ _ _ c.any.ensures.ran (YieldsList-from_slice c.args.members.now cc) (λ x b q k. search (rules, tests))
+    ∙ sym (some_of-list_any (member_acks c.args.decision) c.args.members.now)

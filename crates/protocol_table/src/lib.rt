@@ -1,0 +1,18 @@
+//! The coordinator's table of known attempts: their votes, decisions and acknowledgements, and the answers to inquiries about them.
+//!
+//! Which acknowledgement is required, and that an attempt is forgotten when the required ones are in, is of the Presumed Any
+//! coordinator of Al-Houmaily and Chrysanthis (PODS 1999) with this project's profile of records and acknowledgements.
+#![tactic(auto)]
+
+mod ends;
+mod entries;
+mod known;
+mod members;
+mod table;
+#[cfg(test)]
+mod tests;
+
+pub use ends::{AckEnd, Said, VoteEnd};
+pub use known::{Known, Restored};
+pub use members::{Member, Members};
+pub use table::ProtocolTable;
