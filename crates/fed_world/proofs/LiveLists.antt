@@ -13,7 +13,7 @@ use Rattle.fed_rules.specs.SitePast.{SitePast, epoch_start, engine_lines, run_of
 use Rattle.fed_rules.specs.Story.{attempt}
 use Rattle.engine_laws.proofs.Runs.{tid_is, attempts_have}
 use Rattle.site_laws.specs.Locals.{begun_here, IsRunning}
-use Rattle.site_laws.proofs.OpenRuns.{is_open, open_tids, IsOpen, open_in, in_open}
+use Rattle.site_laws.proofs.OpenRuns.{is_open, open_tids, open_in, in_open}
 use Rattle.site_laws.proofs.RisingLists.{rising_one}
 use Rattle.fed_world.specs.declared.local_site.LocalSite.{LocalSite}
 use Rattle.fed_world.specs.declared.local_tx.Phase.{Phase}

@@ -24,6 +24,7 @@ use Rattle.fed_rules.specs.Story.{attempt}
 use Rattle.site_laws.specs.Locals.{IsIdle, IsRunning}
 use Rattle.site_laws.proofs.About.{about_reads, unread_reads, unbegun_attempts}
 use Rattle.site_laws.proofs.Attempts.{other_attempt, same_tx-refl}
+use Rattle.site_laws.proofs.ListMembers.{item_at-below}
 use Rattle.site_laws.proofs.Lines.{acts_about, act_begins-none}
 use Rattle.site_laws.proofs.Own.{act_line, begun_runs, rests, read_runs, write_runs, stays_runs}
 use Rattle.fed_world.specs.declared.local_tx.Phase.{Phase}
@@ -62,11 +63,6 @@ reads_of-next steps n step e = subst (λ k. reads_of (take k steps) ≡ cond (is
     by_place [] k e = cc
     by_place (x ∷ xs) zero e = (let same : x ≡ step = cc in ap (λ (s : Step). cond (is_get s.act) 1 0) same)
     by_place (x ∷ xs) (suc k) e = further (is_get x.act) (is_get step.act) (reads_of (take (suc k) xs)) (reads_of (take k xs)) (by_place xs k e)
-
-pub item_at-below : (steps : List Step) (n : ℕ) (step : Step) → item_at steps n ≡ Some step → n < length steps
-item_at-below [] n step e = cc
-item_at-below (x ∷ xs) zero step e = omega arith
-item_at-below (x ∷ xs) (suc n) step e = let h = item_at-below xs n step e in omega arith
 
 read_is_get : (reads : List ℕ) (act : Act) (key : Key) → plain_act reads act ≡ Read key → is_get act ≡ true
 read_is_get reads (Get k) key e = refl

@@ -1,10 +1,9 @@
 -- The report of a site, from what is kept.
-use Rattle.std.proofs.Common.{◌≡◌, not, ◌&&◌, List, [], ◌∷◌, ◌++◌, map, reverse, inl, inr, refl, sym, ◌∙◌, ap, ap₂, subst}
-use Rattle.std.proofs.lemmas.List.{reverse-append}
+use Rattle.std.proofs.Common.{◌≡◌, not, ◌&&◌, List, [], ◌∷◌, map, reverse, refl, sym, ◌∙◌, ap, ap₂, subst}
 use Rattle.mdb_base.specs.declared.rows.SiteRows.{SiteRows}
 use Rattle.mdb_base.specs.Names.{same_tid, tid_before}
 use Rattle.mdb_base.specs.Words.{those}
-use Rattle.order_laws.specs.Chains.{In, Distinct}
+use Rattle.order_laws.specs.Chains.{In}
 use Rattle.order_laws.specs.Least.{least_merge}
 use Rattle.order_laws.proofs.Names.{tells_tids}
 use Rattle.fed_rules.specs.declared.report.Report.{Report}

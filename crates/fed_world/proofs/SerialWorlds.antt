@@ -1,5 +1,5 @@
 -- The sessions that a world stands for are serial.
-use Rattle.std.proofs.Common.{◌≡◌, Option, Some, None, List, inl, inr, refl, subst}
+use Rattle.std.proofs.Common.{Option, Some, None, List, inl, inr}
 use Rattle.fed_rules.specs.declared.commands.Command.{Command}
 use Rattle.fed_rules.specs.declared.scenario.Scenario.{Scenario}
 use Rattle.fed_rules.specs.Plans.{IsScenario}

@@ -1,5 +1,5 @@
 -- What is kept of a transaction that a line leaves as it was.
-use Rattle.std.proofs.Common.{ℕ, ◌∷◌, ◌∙◌}
+use Rattle.std.proofs.Common.{◌∷◌, ◌∙◌}
 use Rattle.mdb_base.specs.declared.names.Tx.{Tx}
 use Rattle.fed_rules.specs.declared.scenario.TxLine.{TxLine}
 use Rattle.fed_rules.specs.SitePast.{SiteHappening, SitePast}

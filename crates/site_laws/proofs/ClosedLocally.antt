@@ -22,7 +22,8 @@ use Rattle.site_laws.specs.Sessions.{home_from, IsAlone, IsLocal, LocalSessionsC
 use Rattle.site_laws.proofs.Counted.{counted_local}
 use Rattle.site_laws.proofs.OneSite.{one_site, no_site, one_home}
 use Rattle.site_laws.proofs.OpenRuns.{open_in}
-use Rattle.site_laws.proofs.Orderly.{IsOrderly, each_in}
+use Rattle.site_laws.proofs.ListMembers.{each_in}
+use Rattle.site_laws.proofs.Orderly.{IsOrderly}
 use Rattle.site_laws.proofs.RisingLists.{in_rising}
 use Rattle.site_laws.proofs.SerialSessions.{orderly}
 use Rattle.site_laws.proofs.Uncoordinated.{uncoordinated}

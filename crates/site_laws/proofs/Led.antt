@@ -1,5 +1,5 @@
 -- In every story the events of local transactions at a site are those that their commands ask for.
-use Rattle.std.proofs.Common.{◌≡◌, ℕ, zero, suc, nat_lt, length, Bool, true, false, cond, not, ◌&&◌, Option, Some, None, List, [], ◌∷◌, refl, sym, ◌∙◌, ap, subst, eqb-true}
+use Rattle.std.proofs.Common.{◌≡◌, ℕ, zero, suc, nat_lt, length, Bool, true, false, cond, not, ◌&&◌, Option, Some, None, List, [], ◌∷◌, refl, sym, ◌∙◌, ap, subst}
 use Rattle.mdb_base.specs.declared.acts.PlainAct.{PlainAct}
 use Rattle.mdb_base.specs.declared.names.SiteId.{SiteId}
 use Rattle.mdb_base.specs.declared.names.Tid.{Tid}
@@ -7,6 +7,7 @@ use Rattle.mdb_base.specs.declared.names.Tx.{Tx}
 use Rattle.mdb_base.specs.Names.{same_site, same_tx}
 use Rattle.mdb_base.specs.Words.{when, pick, map_some, first_where, item_at}
 use Rattle.fed_rules.specs.declared.answers.Answer.{Answer}
+use Rattle.order_laws.proofs.Names.{same_site_alike}
 use Rattle.fed_rules.specs.declared.commands.Command.{Command}
 use Rattle.fed_rules.specs.declared.commands.Command.TheVariants as Cmd
 use Rattle.fed_rules.specs.declared.events.CoordEvent.{CoordEvent}
@@ -25,9 +26,6 @@ use Rattle.site_laws.specs.Led.{IsAsked, IsLedLine, IsLed, Allows, AllAllow}
 use Rattle.site_laws.proofs.Attempts.{same_tx-equal}
 use Rattle.site_laws.proofs.LiveRuns.{first_where-passes, is_live_of}
 
-pub same_site-equal : (a b : SiteId) → same_site a b ≡ true → a ≡ b
-same_site-equal a b e = ap {A = ℕ} (λ n. record { 0 = n }) (eqb-true a.0 b.0 e)
-
 -- the home of a site has its number
 home_site : (lines : List SiteLine) (items : List ItemLine) (s : SiteId) (h : Home) → home_in lines items s ≡ Some h → h.site ≡ s
 home_site [] items s h e = cc
@@ -38,7 +36,7 @@ home_site (line ∷ lines) items s h e = by_test (same_site line.site s) refl e 
         → (home_in lines items s ≡ Some h → h.site ≡ s) → h.site ≡ s
     by_test true is e k =
         (let same : record { site = line.site; engine = line.engine; protocol = line.protocol; items = items_of items s } ≡ h = cc in
-        sym (ap (λ (x : Home). x.site) same) ∙ same_site-equal line.site s is)
+        sym (ap (λ (x : Home). x.site) same) ∙ same_site_alike line.site s is)
     by_test false is e k = k e
 
 -- a declared site is found again by its own number
@@ -96,7 +94,7 @@ good_site : (P : SiteEvent → Type 0) (scenario : Scenario) (home : Home) (stor
     → P event → IsAsked scenario other (past_of other.site story) event → Good P scenario home story (at_site other story event)
 good_site P scenario home story other event e f holds asked = record {
   next = (λ same.
-      let both : Some other ≡ Some home = sym f ∙ (ap (home_of scenario) (same_site-equal other.site home.site same) ∙ e) in
+      let both : Some other ≡ Some home = sym f ∙ (ap (home_of scenario) (same_site_alike other.site home.site same) ∙ e) in
       let is : other ≡ home = cc in
       subst (λ h. IsLedLine P scenario h (past_of h.site story) (site_line other (past_of other.site story) event)) is
       (record { event = event; holds = holds; asked = asked; line = refl }));

@@ -2,12 +2,15 @@ pub mod About
 pub mod Attempts
 pub mod ClosedLocally
 pub mod Commands
+pub mod Committed
 pub mod Counted
 pub mod Installed
 pub mod Led
 pub mod Lines
+pub mod ListMembers
 pub mod LiveRuns
 pub mod LiveTx
+pub mod Lives
 pub mod LocalInstalls
 pub mod OneOrder
 pub mod OneSite
@@ -16,6 +19,7 @@ pub mod Orderly
 pub mod OrderlyLines
 pub mod Own
 pub mod OwnRuns
+pub mod PlainLines
 pub mod Reversed
 pub mod RisingLists
 pub mod RunAlone

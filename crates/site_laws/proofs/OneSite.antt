@@ -1,13 +1,14 @@
 -- Scenarios with one site: its home, its transactions, and where their steps are.
-use Rattle.std.proofs.Common.{◌≡◌, Bool, true, false, cond, Option, Some, None, List, [], ◌∷◌, map, inl, inr, refl, sym, ◌∙◌, ap, subst, eq-eqb}
+use Rattle.std.proofs.Common.{◌≡◌, Bool, true, false, cond, Option, Some, None, List, [], ◌∷◌, map, refl, sym, ◌∙◌, ap, eq-eqb}
 use Rattle.std.proofs.lemmas.Bool.{cond-true, and_parts}
 use Rattle.mdb_base.specs.declared.acts.Step.{Step}
 use Rattle.mdb_base.specs.declared.names.SiteId.{SiteId}
 use Rattle.mdb_base.specs.declared.names.Tx.{Tx}
 use Rattle.mdb_base.specs.Names.{same_site, same_tx}
-use Rattle.mdb_base.specs.Words.{Each, each_of, first_where}
+use Rattle.mdb_base.specs.Words.{Each}
 use Rattle.mdb_base.proofs.ListLaws.{each_map}
 use Rattle.order_laws.specs.Chains.{In}
+use Rattle.order_laws.proofs.Names.{same_site_alike}
 use Rattle.fed_rules.specs.declared.scenario.Scenario.{Scenario}
 use Rattle.fed_rules.specs.declared.scenario.SiteLine.{SiteLine}
 use Rattle.fed_rules.specs.declared.scenario.TxLine.{TxLine}
@@ -15,8 +16,7 @@ use Rattle.fed_rules.specs.Plans.{is_in_place, is_transaction, IsScenario}
 use Rattle.fed_rules.specs.Scenarios.{items_of, home_in, home_of, home_at, home_of_line, local_home, program_of, program_of_line, protocols_in, sites, transaction}
 use Rattle.fed_rules.specs.SiteRecords.{Home}
 use Rattle.site_laws.specs.Sessions.{home_from, IsAlone}
-use Rattle.site_laws.proofs.Led.{same_site-equal}
-use Rattle.site_laws.proofs.Orderly.{in_each, found_in}
+use Rattle.site_laws.proofs.ListMembers.{in_each, found_in, none_in, each_passes}
 
 -- the only site
 pub one_site : (scenario : Scenario) (line : SiteLine) → scenario.sites ≡ line ∷ [] → sites scenario ≡ line.site ∷ []
@@ -33,7 +33,7 @@ pub other_home : (scenario : Scenario) (line : SiteLine) (site : SiteId) (home :
 other_home scenario line site home e h = by_test (same_site line.site site) refl (sym (ap (λ ls. home_in ls scenario.items site) e) ∙ h)
   where
     by_test : (b : Bool) → same_site line.site site ≡ b → cond b (Some (record { site = line.site; engine = line.engine; protocol = line.protocol; items = items_of scenario.items site })) None ≡ Some home → site ≡ line.site
-    by_test true is f = sym (same_site-equal line.site site is)
+    by_test true is f = sym (same_site_alike line.site site is)
     by_test false is f = cc
 
 -- so each home is that of the site
@@ -46,16 +46,6 @@ only_home scenario line site home e h =
 pub only_local : (scenario : Scenario) (line : SiteLine) (o : Option SiteId) (home : Home) → scenario.sites ≡ line ∷ [] → home_at scenario o ≡ Some home → home ≡ home_from scenario line
 only_local scenario line None home e h = cc
 only_local scenario line (Some site) home e h = only_home scenario line site home e h
-
--- nothing passes where none is found
-none_in : {A : Type 0} (test : A → Bool) (xs : List A) (x : A) → first_where test xs ≡ None → In x xs → test x ≡ true → ⊥
-none_in test [] x f i t = absurd i
-none_in test (y ∷ ys) x f i t = by_test (test y) refl f i (λ g j. none_in test ys x g j t)
-  where
-    by_test : (b : Bool) → test y ≡ b → cond b (Some y) (first_where test ys) ≡ None → In x (y ∷ ys) → (first_where test ys ≡ None → In x ys → ⊥) → ⊥
-    by_test true e f i k = cc
-    by_test false e f (inl s) k = (let bad : test x ≡ false = subst (λ z. test z ≡ false) s e in cc)
-    by_test false e f (inr j) k = k f j
 
 -- a declared transaction is local at the site
 pub declared_home : (scenario : Scenario) (line : SiteLine) (tx : Tx) (l : TxLine) → IsAlone scenario line → In l scenario.transactions → l.tx ≡ tx → local_home scenario tx ≡ Some (home_from scenario line)
@@ -70,16 +60,12 @@ declared_home scenario line tx l alone i e = by_line (transaction scenario tx) r
         ap (home_at scenario) (in_each (λ tx_line. tx_line.home ≡ Some line.site) scenario.transactions t alone.homes (found_in (λ (u : TxLine). same_tx u.tx tx) scenario.transactions t f))
         ∙ one_home scenario line alone.sites
 
-each_passes : {A : Type 0} (test : A → Bool) (xs : List A) → each_of test xs ≡ true → Each (λ x. test x ≡ true) xs
-each_passes test [] e = tt
-each_passes test (x ∷ xs) e = let parts = and_parts (test x) (each_of test xs) e in (parts.0, each_passes test xs parts.1)
-
 in_place : (lines : List SiteLine) (home : Option SiteId) (site : SiteId) (step : Step) → home ≡ Some site → is_in_place lines home step ≡ true → step.site ≡ site
 in_place lines None site step h e = cc
 in_place lines (Some s) site step h e =
     let same : s ≡ site = cc in
     let parts = and_parts _ (same_site step.site s) e in
-    same_site-equal step.site s parts.1 ∙ same
+    same_site_alike step.site s parts.1 ∙ same
 
 -- all steps of its transactions are at the site
 pub placed : (scenario : Scenario) (line : SiteLine) → IsScenario scenario → IsAlone scenario line → (tx : Tx) → Each (λ step. step.site ≡ line.site) (program_of scenario tx)

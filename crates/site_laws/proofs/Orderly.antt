@@ -1,9 +1,9 @@
 -- What a session of local transactions keeps of its site, over one more line.
-use Rattle.std.proofs.Common.{◌≡◌, ℕ, ◌≤◌, ◌<◌, Bool, true, false, cond, ◌==◌, Option, Some, None, List, [], ◌∷◌, ◌++◌, length, map, inl, inr, refl, sym, ◌∙◌, ap, subst, eqb-true, eq-eqb, arith}
+use Rattle.std.proofs.Common.{◌≡◌, ℕ, ◌≤◌, ◌<◌, Bool, true, false, ◌==◌, Option, Some, None, List, [], ◌∷◌, ◌++◌, length, refl, sym, ◌∙◌, ap, subst, eqb-true, eq-eqb, arith}
 use Rattle.mdb_base.specs.declared.names.Tid.{Tid}
 use Rattle.mdb_base.specs.declared.names.Tx.{Tx}
 use Rattle.mdb_base.specs.Names.{same_tid, same_tx}
-use Rattle.mdb_base.specs.Words.{Each, first_where}
+use Rattle.mdb_base.specs.Words.{Each}
 use Rattle.mdb_base.proofs.NameLaws.{same_tid-equal}
 use Rattle.order_laws.specs.Chains.{In}
 use Rattle.fed_rules.specs.declared.scenario.Scenario.{Scenario}
@@ -20,6 +20,7 @@ use Rattle.site_laws.specs.Follows.{values_read, Follows}
 use Rattle.site_laws.specs.Locals.{IsCalm, IsIdle, IsRunning, IsCommitted, IsCounted, IsInstalled, install_of}
 use Rattle.site_laws.proofs.About.{IsAbout, engine_lines-next, epoch_start-next, about_calm, about_reads, unread_reads, about_attempts}
 use Rattle.site_laws.proofs.Attempts.{same_tx-equal, other_transaction}
+use Rattle.site_laws.proofs.ListMembers.{each_in, in_each, map_in, found_in}
 use Rattle.site_laws.proofs.LiveRuns.{first_where-passes}
 use Rattle.site_laws.proofs.OwnRuns.{live_has}
 use Rattle.site_laws.proofs.Unmoved.{IsUnmoved, other_unmoved, idle_unmoved, running_unmoved, committed_unmoved}
@@ -58,14 +59,6 @@ pub record IsDeclared (scenario : Scenario) (tx : Tx) : Type 0 where
   pub listed : In line scenario.transactions
   pub of : line.tx ≡ tx
 
-pub found_in : {A : Type 0} (test : A → Bool) (xs : List A) (x : A) → first_where test xs ≡ Some x → In x xs
-found_in test [] x e = cc
-found_in test (y ∷ ys) x e = by_test (test y) e (found_in test ys x)
-  where
-    by_test : (b : Bool) → cond b (Some y) (first_where test ys) ≡ Some x → (first_where test ys ≡ Some x → In x ys) → In x (y ∷ ys)
-    by_test true e k = (let same : y ≡ x = cc in inl same)
-    by_test false e k = inr (k e)
-
 pub declared_of : (scenario : Scenario) (tx : Tx) (home : Home) → local_home scenario tx ≡ Some home → IsDeclared scenario tx
 declared_of scenario tx home e = by_line (transaction scenario tx) refl e
   where
@@ -78,25 +71,10 @@ declared_of scenario tx home e = by_line (transaction scenario tx) refl e
     }
 
 -- a committed run is the committed attempt of its transaction
-pub map_in : {A B : Type 0} (f : A → B) (xs : List A) (x : A) → In x xs → In (f x) (map f xs)
-map_in f [] x i = absurd i
-map_in f (y ∷ ys) x (inl e) = inl (ap f e)
-map_in f (y ∷ ys) x (inr i) = inr (map_in f ys x i)
-
 pub committed_of : (scenario : Scenario) (home : Home) (past : SitePast) (run : Run) → IsInstalled scenario.transactions home past → In run (committed (epoch_start home past) (engine_lines past)) → local_of (records home past) run.tid.tx ≡ Some run.tid
 committed_of scenario home past run c i =
     c.owned run.tid (map_in (λ (install : Install). install.tid) (installs (records home past)) (install_of run)
     (subst (λ is. In (install_of run) is) (sym c.runs) (map_in install_of (committed (epoch_start home past) (engine_lines past)) run i)))
-
--- what holds of each member holds of each item
-pub each_in : {A : Type 0} (P : A → Type 0) (xs : List A) → ((x : A) → In x xs → P x) → Each P xs
-each_in P [] f = tt
-each_in P (x ∷ xs) f = (f x (inl refl), each_in P xs (λ y i. f y (inr i)))
-
-pub in_each : {A : Type 0} (P : A → Type 0) (xs : List A) (x : A) → Each P xs → In x xs → P x
-in_each P [] x h i = absurd i
-in_each P (y ∷ ys) x h (inl e) = subst P e h.0
-in_each P (y ∷ ys) x h (inr i) = in_each P ys x h.1 i
 
 -- members keep their reads over a line that doesn't read for them
 pub member_stays : (scenario : Scenario) (past : SitePast) (x : SiteHappening) (run : Run) → read_by run.tid x.event x.answer ≡ None → IsMember scenario past run → IsMember scenario (x ∷ past) run

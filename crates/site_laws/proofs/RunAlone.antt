@@ -18,6 +18,7 @@ use Rattle.fed_rules.specs.Scenarios.{program_of}
 use Rattle.fed_rules.specs.Serial.{Tables, Ran, reads_after, tables_after, run_steps, alone, serial_reads, serial_tables}
 use Rattle.fed_rules.specs.SerialRuns.{ReadsAlone, IsSerial}
 use Rattle.site_laws.specs.Follows.{values_read, Follows}
+use Rattle.site_laws.proofs.ListMembers.{each_item}
 
 -- what one more step makes of a program that ran
 abbrev one_more : Step → Ran → Ran
@@ -32,12 +33,6 @@ take-push : {A : Type 0} (xs : List A) (n : ℕ) (x : A) → item_at xs n ≡ So
 take-push [] n x e = cc
 take-push (y ∷ ys) zero x e = let same : y ≡ x = cc in ap (λ z. z ∷ []) same
 take-push (y ∷ ys) (suc n) x e = ap (λ zs. y ∷ zs) (take-push ys n x e)
-
--- what holds of each item holds of the one at a place
-pub each_item : {A : Type 0} (P : A → Type 0) (xs : List A) (n : ℕ) (x : A) → Each P xs → item_at xs n ≡ Some x → P x
-each_item P [] n x h e = cc
-each_item P (y ∷ ys) zero x h e = let same : y ≡ x = cc in subst P same h.0
-each_item P (y ∷ ys) (suc n) x h e = each_item P ys n x h.1 e
 
 -- the program ran as these accesses did, the newest first, at the site from this table on
 record RanAs (site : SiteId) (acts : List Access) (start : Table) (ran : Ran) : Type 0 where

@@ -45,7 +45,8 @@ use Rattle.site_laws.proofs.Led.{pasts_led}
 use Rattle.site_laws.proofs.LocalInstalls.{due_installed, installed_rows}
 use Rattle.site_laws.proofs.OneOrder.{least_merge-one}
 use Rattle.site_laws.proofs.OneSite.{one_site, no_site, one_home, other_home, only_home, only_local, declared_home, placed}
-use Rattle.site_laws.proofs.Orderly.{IsMember, IsOrderly, map_in, each_in, in_each}
+use Rattle.site_laws.proofs.ListMembers.{map_in, each_in, in_each}
+use Rattle.site_laws.proofs.Orderly.{IsMember, IsOrderly}
 use Rattle.site_laws.proofs.OrderlyLines.{led_orderly}
 use Rattle.site_laws.proofs.Reversed.{reverse_is, map_oldest, in_reverse, reverse_in, distinct_reverse, map_same, map_map, put_in, kept_in}
 use Rattle.site_laws.proofs.RunAlone.{HasDone, programs, RunAs, serial_runs}

@@ -1,5 +1,5 @@
 -- An attempt that no message is about is never prepared, so no start of its site restores it.
-use Rattle.std.proofs.Common.{◌≡◌, ℕ, zero, suc, Bool, true, false, cond, nat_le, ◌||◌, Option, Some, None, List, [], ◌∷◌, ◌++◌, take, map, refl, sym, ◌∙◌, ap, subst}
+use Rattle.std.proofs.Common.{◌≡◌, ℕ, Bool, true, false, cond, nat_le, ◌||◌, Option, Some, None, List, [], ◌∷◌, ◌++◌, take, map, refl, sym, ◌∙◌, ap, subst}
 use Rattle.mdb_base.specs.declared.acts.PlainAct.{PlainAct}
 use Rattle.mdb_base.specs.declared.names.Tid.{Tid}
 use Rattle.mdb_base.specs.declared.names.Tx.{Tx}
@@ -25,15 +25,16 @@ use Rattle.fed_rules.specs.SitePast.{SiteHappening, SitePast, disk, records, tri
 use Rattle.fed_rules.specs.SiteRecords.{Home, Held, site_frame, doubt_of, prepared_tids, kept_held, start_of}
 use Rattle.site_laws.specs.Follows.{IsOwnRun}
 use Rattle.site_laws.specs.Led.{IsLed, tid_in, IsNoMessageTo}
+use Rattle.site_laws.proofs.ListMembers.{take_each}
 use Rattle.site_laws.proofs.OwnRuns.{follows_led}
 
 -- the record doesn't prepare the attempt
-abbrev IsOther : Tid → SiteRecord → Type 0
+abbrev pub IsOther : Tid → SiteRecord → Type 0
 IsOther tid (Rec.Prepared t epoch n ticket writes) = same_tid t tid ≡ false
 IsOther tid newest = Unit {0}
 
 -- nor does the call write such a record
-abbrev IsFineCall : Tid → Call SiteRecord → Type 0
+abbrev pub IsFineCall : Tid → Call SiteRecord → Type 0
 IsFineCall tid (Append newest) = IsOther tid newest
 IsFineCall tid call = Unit {0}
 
@@ -57,8 +58,8 @@ after_each tid d [] f h = h
 after_each tid d (call ∷ calls) f h = after_each tid (after_call site_frame d call) calls f.1 (after_one tid d call f.0 h)
 
 -- no call of the happening prepares the attempt
-record IsFine (tid : Tid) (x : SiteHappening) : Type 0 where
-  calls : Each (IsFineCall tid) x.calls
+pub record IsFine (tid : Tid) (x : SiteHappening) : Type 0 where
+  pub calls : Each (IsFineCall tid) x.calls
 
 fine_when : (tid : Tid) (t : Bool) (x y : SiteHappening) → IsFine tid x → IsFine tid y → IsFine tid (when t x y)
 unfolding when
@@ -152,11 +153,6 @@ fine_back : (home : Home) (past : SitePast) (tid : Tid) → IsFine tid (of_back 
 unfolding of_back
 fine_back home past tid = record { calls = fine_cut tid _ (is_torn site_frame (disk home past)) }
 
-take_each : {A : Type 0} (P : A → Type 0) (n : ℕ) (xs : List A) → Each P xs → Each P (take n xs)
-take_each P zero xs h = tt
-take_each P (suc n) [] h = tt
-take_each P (suc n) (x ∷ xs) h = (h.0, take_each P n xs h.1)
-
 fine_stopped : (tid : Tid) (d : Disk SiteRecord) (event : SiteEvent) (calls : List (Call SiteRecord)) → Each (IsFineCall tid) calls → IsFine tid (stopped site_frame d event calls)
 unfolding stopped
 fine_stopped tid d event calls f = record { calls = f }
@@ -173,7 +169,7 @@ fine_up : (home : Home) (past : SitePast) (tid : Tid) (event : SiteEvent) (x : S
     → IsFine tid (when (is_down past) (record { event = event; answer = Say.Down; sends = []; calls = []; lines = [] }) (unless_tripped home past x))
 fine_up home past tid event x f = fine_when tid _ _ _ (record { calls = tt }) (fine_tripped tid (disk home past) (trip past) x f)
 
-fine_line : (home : Home) (past : SitePast) (tid : Tid) (event : SiteEvent) → IsNoMessageTo tid event → IsFine tid (site_line home past event)
+pub fine_line : (home : Home) (past : SitePast) (tid : Tid) (event : SiteEvent) → IsNoMessageTo tid event → IsFine tid (site_line home past event)
 unfolding site_line answered
 fine_line home past tid (Ev.Begin z) other = fine_up home past tid _ _ (fine_begin home past tid z)
 fine_line home past tid (Ev.Act z act) other = fine_up home past tid _ _ (fine_act home past tid z act)

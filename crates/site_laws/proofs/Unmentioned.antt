@@ -10,7 +10,7 @@ use Rattle.fed_rules.specs.Story.{Story, story_of, past_of, sent_to, sends_to, h
 use Rattle.site_laws.specs.Led.{tid_in, IsNoMessageTo, Allows, AllAllow}
 use Rattle.site_laws.specs.LedLaws.{AnyEvent, LocalEventsAreAskedFor, IsUnmentioned, LocalAttemptsFollowTheirPrograms}
 use Rattle.site_laws.proofs.Led.{home_again, pasts_led}
-use Rattle.site_laws.proofs.RunAlone.{each_item}
+use Rattle.site_laws.proofs.ListMembers.{each_item}
 use Rattle.site_laws.proofs.Undoubted.{follows_always}
 
 any_allowed : (story : Story) (command : Command) → Allows AnyEvent story command

@@ -6,4 +6,7 @@ mod sessions;
 mod stories;
 
 pub use sessions::{local_sessions_are_serial, local_sessions_close_locally};
-pub use stories::{local_attempts_follow_their_programs, local_events_are_asked_for};
+pub use stories::{
+    local_attempts_follow_their_programs, local_commits_do_their_programs,
+    local_events_are_asked_for,
+};
