@@ -1,0 +1,7 @@
+pub mod AttemptsLaws
+pub mod CommitLaws
+pub mod LineLaws
+pub mod RunsLaws
+pub mod StandsLaws
+pub mod StopLaws
+pub mod StoreLaws

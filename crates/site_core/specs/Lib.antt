@@ -1,0 +1,5 @@
+pub mod Attempts
+pub mod Runs
+pub mod Stands
+pub mod Steps
+pub mod Store
