@@ -1,6 +1,6 @@
 -- A local commit: the record that it forces, and what the core stands for after it.
-use Rattle.std.proofs.Common.{◌≡◌, ℕ, zero, suc, ◌+◌, ◌*◌, ◌-◌, ◌<◌, ◌≤◌, ◌^◌, ◌==◌, Bool, true, false, cond, not, is_some, Option, Some, None, Result, Ok, Err, List, [], ◌∷◌, ◌++◌, length, take, refl, sym, ap, ap₂, ◌∙◌, subst, arith}
-use Rattle.std.proofs.lemmas.Bool.{cond-true, cond-false, cond_both}
+use Rattle.std.proofs.Common.{◌≡◌, ℕ, ◌+◌, ◌<◌, ◌≤◌, ◌^◌, ◌==◌, Bool, false, not, Option, Some, None, Err, List, [], ◌∷◌, ◌++◌, length, take, refl, sym, ap, ap₂, ◌∙◌, subst, arith}
+use Rattle.std.proofs.lemmas.Bool.{cond-false, cond_both}
 use Rattle.mdb_base.specs.declared.names.Tid.{Tid}
 use Rattle.mdb_base.specs.declared.names.Tx.{Tx}
 use Rattle.mdb_base.specs.declared.rows.Put.{Put}
@@ -8,41 +8,38 @@ use Rattle.mdb_base.specs.declared.replies.Why.{Why}
 use Rattle.mdb_base.specs.declared.replies.Why.TheVariants as Because
 use Rattle.mdb_base.specs.Names.{same_key}
 use Rattle.mdb_base.specs.Rows.{with_row}
-use Rattle.mdb_base.specs.Words.{Each}
 use Rattle.fed_rules.specs.declared.answers.Answer.{Answer}
 use Rattle.fed_rules.specs.declared.answers.Answer.TheVariants as Say
 use Rattle.fed_rules.specs.declared.events.SiteEvent.TheVariants as Ev
 use Rattle.fed_rules.specs.declared.records.SiteRecord.{SiteRecord}
 use Rattle.fed_rules.specs.declared.records.SiteRecord.TheVariants as Rec
 use Rattle.fed_rules.specs.declared.runs.Sealed.{Sealed}
-use Rattle.fed_rules.specs.Disk.{Call, Append, Sync, Stops, Disk, after_calls}
-use Rattle.fed_rules.specs.EngineLines.{IsLive}
-use Rattle.fed_rules.specs.Happenings.{Trip, comes_up, is_down, stops, used}
+use Rattle.fed_rules.specs.Disk.{Call, Append, Sync, Stops, after_calls}
+use Rattle.fed_rules.specs.Happenings.{comes_up, stops, used}
 use Rattle.fed_rules.specs.Runs as Lines
 use Rattle.fed_rules.specs.Runs.{Access, Got, Wrote, EngineLine, Commits, Refuses, Seals, Run, puts_of, run_at}
 use Rattle.fed_rules.specs.Replies.{seal_number, seal_stop}
 use Rattle.fed_rules.specs.Site.{number_of, of_commit, refusal_answer, seals_local, stop_of, unless_tripped, with_lines}
 use Rattle.fed_rules.specs.SitePast.{SiteHappening, SitePast, attempts_of, begins_tx, engine_lines, epoch_start, live}
 use Rattle.fed_rules.specs.SitePast as Past
-use Rattle.fed_rules.specs.SiteRecords.{Home, prepared_tids, site_frame}
+use Rattle.fed_rules.specs.SiteRecords.{Home, site_frame}
 use Rattle.journal_disk.specs.Disk.{Image}
 use Rattle.journal_disk.specs.Frames.{IsPayload, frame_size}
 use Rattle.site_journal.specs.Spelling.{spelling}
 use Rattle.site_journal.proofs.FrameSizes.{frame_has_size}
 use Rattle.site_core.specs.declared.errors.StepErr.TheVariants as Err_is
-use Rattle.site_core.specs.declared.runs.Runs.{Runs}
 use Rattle.site_core.specs.declared.site.SiteCore.{SiteCore}
 use Rattle.site_core.specs.declared.store.Break.TheVariants.{Stopped, Failed}
 use Rattle.site_core.specs.declared.store.Standing.{Standing}
-use Rattle.site_core.specs.declared.store.Standing.TheVariants.{Up, Down, Failing}
-use Rattle.site_core.specs.Attempts.{SameBegun, finished, noted}
-use Rattle.site_core.specs.Runs.{IsRunning, IsSealing, SealsAs, SealsBy}
-use Rattle.site_core.specs.Stands.{Answers, Fails, Holds, IsOfKind, RunsStand, Stands, StandsSealing}
-use Rattle.site_core.specs.Store.{Ends, Keeps, Passes, is_up, stopped_disk}
+use Rattle.site_core.specs.declared.store.Standing.TheVariants.{Up}
+use Rattle.site_core.specs.Attempts.{SameBegun, finished}
+use Rattle.site_core.specs.Runs.{IsRunning}
+use Rattle.site_core.specs.Stands.{Answers, Fails, IsOfKind, RunsStand, Stands, StandsSealing}
+use Rattle.site_core.specs.Store.{Ends, Keeps, Passes, is_up}
 use Rattle.site_core.proofs.LineLaws.{commit_refused, commit_seals, live_run}
 use Rattle.site_core.proofs.RunsLaws.{listed_lives}
 use Rattle.site_core.proofs.StandsLaws.{holds_line, up_runs}
-use Rattle.site_core.proofs.StopLaws.{IsPlainCall, answers_as, answers_quiet, epoch_kind, fails_as, passes_is, plain_stop, prepared-calls, stands_line, stands_stop, stop_line, stopped_is, trips_is}
+use Rattle.site_core.proofs.StopLaws.{answers_as, answers_quiet, epoch_kind, fails_as, passes_is, plain_stop, stands_line, stands_stop, stop_line, stopped_is, trips_is}
 
 -- a run writes at most as many rows as it has accesses
 with_row-length : (row : Put) (rows : List Put) → length (with_row row rows) ≤ length rows + 1
@@ -89,11 +86,15 @@ module _ {E D : Type 0} (stands : E → Lines.Start → List EngineLine → Type
   record_line tid sealed core disk home past n k live_is =
       let (run, (is, count)) = listed_lives core.runs.attempts.begun (epoch_start home past) (engine_lines past) tid n k.sealing.listed live_is in
       let by = k.by run is.0 in
-      let few = k.sealing.listed.few tid n live_is in
-      (run, (commit_seals home past tid run (live_run home past tid run is) (stop_here home past run None by.passes),
-       by.number ∙ ap (λ kind. seal_number kind (epoch_start home past) (engine_lines past) run) (epoch_kind home past),
-       by.writes,
-       omega arith))
+      let few = k.sealing.listed.few tid n live_is in (
+        run,
+        (
+          commit_seals home past tid run (live_run home past tid run is) (stop_here home past run None by.passes),
+          by.number ∙ ap (λ kind. seal_number kind (epoch_start home past) (engine_lines past) run) (epoch_kind home past),
+          by.writes,
+          omega arith,
+        ),
+      )
 
   pub of_kind : (tid : Tid) (sealed : Sealed) (core : SiteCore E) (disk : D) (home : Home) (past : SitePast) → StandsSealing stands tells image size spare tid sealed core disk home past → IsOfKind stands core.runs.engine home.engine
   of_kind tid sealed core disk home past k = record { start = _; lines = _; stood = k.sealing.stood; of_kind = epoch_kind home past }
@@ -110,13 +111,17 @@ module _ {E D : Type 0} (stands : E → Lines.Start → List EngineLine → Type
   commit_done tid sealed old new disk disk' home past n k live_is ends up doubts running same =
       let (run, (line, number, writes, few)) = record_line tid sealed old disk home past n k live_is in
       let y : SiteHappening = record {
-        event = Ev.Commit tid; answer = Say.Sealed tid sealed.number; sends = [];
-        calls = Append (Rec.Local tid sealed.number sealed.writes) ∷ Sync ∷ []; lines = Commits tid ∷ Seals tid sealed.number ∷ [];
+        event = Ev.Commit tid;
+        answer = Say.Sealed tid sealed.number;
+        sends = [];
+        calls = Append (Rec.Local tid sealed.number sealed.writes) ∷ Sync ∷ [];
+        lines = Commits tid ∷ Seals tid sealed.number ∷ [];
       } in
       let is : of_commit home past tid ≡ y = line ∙ sym (ap₂ (λ m w. record { event = Ev.Commit tid; answer = Say.Sealed tid m; sends = []; calls = Append (Rec.Local tid m w) ∷ Sync ∷ []; lines = Commits tid ∷ Seals tid m ∷ [] }) number writes) in
       answers_as stands tells image size spare (Say.Sealed tid sealed.number) new disk' home past (unless_tripped home past (of_commit home past tid)) y (ap (unless_tripped home past) is ∙ passes_is home past y ends.0)
       (record {
-        said = refl; silent = refl;
+        said = refl;
+        silent = refl;
         stood = stands_line stands tells image size spare new disk' home past y ends.1 up k.up refl refl refl running (λ tx. same tx ∙ k.begun tx) (tt, (tt, tt)) k.unprepared (ap (λ b. b.doubts) doubts ∙ k.undoubted);
       })
 
@@ -131,15 +136,19 @@ module _ {E D : Type 0} (stands : E → Lines.Start → List EngineLine → Type
   commit_stopped tid sealed old new disk disk' home past n kept k live_is ends down doubts engine none same =
       let (run, (line, number, writes, few)) = record_line tid sealed old disk home past n k live_is in
       let y : SiteHappening = record {
-        event = Ev.Commit tid; answer = Say.Sealed tid sealed.number; sends = [];
-        calls = Append (Rec.Local tid sealed.number sealed.writes) ∷ Sync ∷ []; lines = Commits tid ∷ Seals tid sealed.number ∷ [];
+        event = Ev.Commit tid;
+        answer = Say.Sealed tid sealed.number;
+        sends = [];
+        calls = Append (Rec.Local tid sealed.number sealed.writes) ∷ Sync ∷ [];
+        lines = Commits tid ∷ Seals tid sealed.number ∷ [];
       } in
       let is : of_commit home past tid ≡ y = line ∙ sym (ap₂ (λ m w. record { event = Ev.Commit tid; answer = Say.Sealed tid m; sends = []; calls = Append (Rec.Local tid m w) ∷ Sync ∷ []; lines = Commits tid ∷ Seals tid m ∷ [] }) number writes) in
       let (set, trip, within, keeps, count) = ends in
       let calls : List (Call SiteRecord) = take set.calls y.calls ++ Stops set.cut ∷ [] in
       answers_as stands tells image size spare (Say.Stopped kept) new disk' home past (unless_tripped home past (of_commit home past tid)) (stop_line home past y.event calls) (ap (unless_tripped home past) is ∙ trips_is home past y set trip within)
       (record {
-        said = ap (λ m. Say.Stopped m) count; silent = refl;
+        said = ap (λ m. Say.Stopped m) count;
+        silent = refl;
         stood = stands_stop stands tells image size spare new disk' home past y.event calls keeps down (let P : E → Type 0 = λ e. IsOfKind stands e home.engine in subst P (sym engine) (of_kind tid sealed old disk home past k)) none
             (λ tx. same tx ∙ k.begun tx) (plain_stop set.calls set.cut y.calls (tt, (tt, tt))) k.unprepared (ap (λ b. b.doubts) doubts ∙ k.undoubted);
       })
@@ -155,17 +164,23 @@ module _ {E D : Type 0} (stands : E → Lines.Start → List EngineLine → Type
   commit_failed tid sealed old new disk disk' home past n k live_is ends down doubts engine none same =
       let (run, (line, number, writes, few)) = record_line tid sealed old disk home past n k live_is in
       let y : SiteHappening = record {
-        event = Ev.Commit tid; answer = Say.Sealed tid sealed.number; sends = [];
-        calls = Append (Rec.Local tid sealed.number sealed.writes) ∷ Sync ∷ []; lines = Commits tid ∷ Seals tid sealed.number ∷ [];
+        event = Ev.Commit tid;
+        answer = Say.Sealed tid sealed.number;
+        sends = [];
+        calls = Append (Rec.Local tid sealed.number sealed.writes) ∷ Sync ∷ [];
+        lines = Commits tid ∷ Seals tid sealed.number ∷ [];
       } in
       let is : of_commit home past tid ≡ y = line ∙ sym (ap₂ (λ m w. record { event = Ev.Commit tid; answer = Say.Sealed tid m; sends = []; calls = Append (Rec.Local tid m w) ∷ Sync ∷ []; lines = Commits tid ∷ Seals tid m ∷ [] }) number writes) in
       let (m, cut, keeps) = ends in
       let calls : List (Call SiteRecord) = take m y.calls ++ Stops cut ∷ [] in
       let P : SiteHappening → Type 0 = λ x. Stands stands tells image size spare new disk' home (x ∷ past) in
-      fails_as stands tells image size spare Err_is.Disk new disk' home past (of_commit home past tid) y is
-      (m, cut, subst P (sym (stopped_is home past y.event calls))
-       (stands_stop stands tells image size spare new disk' home past y.event calls keeps down (let Q : E → Type 0 = λ e. IsOfKind stands e home.engine in subst Q (sym engine) (of_kind tid sealed old disk home past k)) none
-            (λ tx. same tx ∙ k.begun tx) (plain_stop m cut y.calls (tt, (tt, tt))) k.unprepared (ap (λ b. b.doubts) doubts ∙ k.undoubted)))
+      fails_as stands tells image size spare Err_is.Disk new disk' home past (of_commit home past tid) y is (
+        m,
+        cut,
+        subst P (sym (stopped_is home past y.event calls))
+            (stands_stop stands tells image size spare new disk' home past y.event calls keeps down (let Q : E → Type 0 = λ e. IsOfKind stands e home.engine in subst Q (sym engine) (of_kind tid sealed old disk home past k)) none
+            (λ tx. same tx ∙ k.begun tx) (plain_stop m cut y.calls (tt, (tt, tt))) k.unprepared (ap (λ b. b.doubts) doubts ∙ k.undoubted)),
+      )
 
   -- where there is no memory for the record, the sealing was taken back
   pub unsealed_stands : (tid : Tid) (sealed : Sealed) (old new : SiteCore E) (disk disk' : D) (home : Home) (past : SitePast)

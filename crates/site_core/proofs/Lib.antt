@@ -1,7 +1,12 @@
+pub mod AccessLaws
 pub mod AttemptsLaws
 pub mod CommitLaws
+pub mod EndsLaws
 pub mod LineLaws
+pub mod Outcomes
 pub mod RunsLaws
+pub mod ServeLaws
+pub mod SetUpLaws
 pub mod StandsLaws
 pub mod StopLaws
 pub mod StoreLaws

@@ -132,12 +132,12 @@ module _ (list : List Begun) (start : Start) (lines : List EngineLine) (l : List
   one live some y y_in passes =
       let tx_is = same_tx-equal y.tid.tx tx (and_parts (same_tx y.tid.tx tx) (not (is_sealed y)) passes).0 in
       ap₂ (λ t a. record { tx = t; attempt = a }) tx_is (by_test (live.attempt == y.tid.attempt) refl) where
-    by_test : (t : Bool) → (live.attempt == y.tid.attempt) ≡ t → y.tid.attempt ≡ live.attempt
-    by_test true e = sym (eqb-true live.attempt y.tid.attempt e)
-    by_test false e =
-        let nothing : finished list (record { tx = tx; attempt = y.tid.attempt }) ≡ None = ap (finished_of y.tid.attempt) some ∙ cond-false _ _ _ e in
-        let there = counted y y_in passes in
-        cc
+        by_test : (t : Bool) → (live.attempt == y.tid.attempt) ≡ t → y.tid.attempt ≡ live.attempt
+        by_test true e = sym (eqb-true live.attempt y.tid.attempt e)
+        by_test false e =
+            let nothing : finished list (record { tx = tx; attempt = y.tid.attempt }) ≡ None = ap (finished_of y.tid.attempt) some ∙ cond-false _ _ _ e in
+            let there = counted y y_in passes in
+            cc
 
   running_from : (o : Option LiveAttempt) → live_attempt (noted list tx) ≡ o → map_some (λ run. run.tid) (first_where test (unended start lines)) ≡ running list tx
   running_from None e = ap (map_some (λ (run : Run). run.tid)) (first-none test (unended start lines) (no_run e)) ∙ sym (ap (map_some (tid_at tx)) e)
@@ -156,32 +156,7 @@ pub running_is : (list : List Begun) (home : Home) (past : SitePast) → Lists l
     → live_of_tx home past tx ≡ running list tx
 running_is list home past l right tx = running_from list (epoch_start home past) (engine_lines past) l right tx (live_attempt (noted list tx)) refl
 
--- the line of a site that is down
-pub begin_down : (home : Home) (past : SitePast) (tid : Tid) → is_down past ≡ true → site_line home past (Ev.Begin tid) ≡ quiet (Ev.Begin tid) Say.Down
-unfolding site_line when
-begin_down home past tid d = rw d refl
-
-pub act_down : (home : Home) (past : SitePast) (tid : Tid) (act : PlainAct) → is_down past ≡ true → site_line home past (Ev.Act tid act) ≡ quiet (Ev.Act tid act) Say.Down
-unfolding site_line when
-act_down home past tid act d = rw d refl
-
-pub commit_down : (home : Home) (past : SitePast) (tid : Tid) → is_down past ≡ true → site_line home past (Ev.Commit tid) ≡ quiet (Ev.Commit tid) Say.Down
-unfolding site_line when
-commit_down home past tid d = rw d refl
-
-pub abort_down : (home : Home) (past : SitePast) (tid : Tid) → is_down past ≡ true → site_line home past (Ev.Abort tid) ≡ quiet (Ev.Abort tid) Say.Down
-unfolding site_line when
-abort_down home past tid d = rw d refl
-
-pub fate_down : (home : Home) (past : SitePast) (tx : Tx) → is_down past ≡ true → site_line home past (Ev.Fate tx) ≡ quiet (Ev.Fate tx) Say.Down
-unfolding site_line when
-fate_down home past tx d = rw d refl
-
-pub halt_down : (home : Home) (past : SitePast) (cut : ℕ) → is_down past ≡ true → site_line home past (Ev.Halt cut) ≡ quiet (Ev.Halt cut) Say.Down
-unfolding site_line when
-halt_down home past cut d = rw d refl
-
--- and of one that is up
+-- the line of a site that is up
 pub begin_up : (home : Home) (past : SitePast) (tid : Tid) → is_down past ≡ false → site_line home past (Ev.Begin tid) ≡ unless_tripped home past (of_begin home past tid)
 unfolding site_line answered when
 begin_up home past tid u = rw u refl
@@ -239,3 +214,7 @@ abort_quiet home past tid = pick_quiet (live home past tid) _ _ (refl, refl) (λ
 pub fate_quiet : (home : Home) (past : SitePast) (tx : Tx) → IsQuiet (of_fate home past tx)
 unfolding of_fate
 fate_quiet home past tx = pick_quiet (local_of (records home past) tx) _ _ (pick_quiet (live_of_tx home past tx) _ _ (refl, refl) (λ r. (refl, refl))) (λ c. (refl, refl))
+
+pub back_up : (home : Home) (past : SitePast) → is_down past ≡ false → site_line home past Ev.Back ≡ quiet Ev.Back Say.Awake
+unfolding site_line when
+back_up home past u = rw u refl

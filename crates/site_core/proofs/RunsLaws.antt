@@ -1,6 +1,6 @@
 -- What one engine line leaves of the list of live attempts.
-use Rattle.std.proofs.Common.{◌≡◌, ℕ, zero, suc, ◌+◌, ◌<◌, ◌^◌, Bool, true, false, cond, ◌==◌, Option, Some, None, IsSome, is_some, List, [], ◌∷◌, length, inl, inr, refl, sym, ap, subst, ◌∙◌, arith, map, ◌≤◌}
-use Rattle.std.proofs.lemmas.Bool.{cond-true, cond-false, cases_Bool, eqb-true, eq-eqb, ne_eqb, and_parts, and_from}
+use Rattle.std.proofs.Common.{◌≡◌, ℕ, ◌+◌, ◌<◌, Bool, true, false, cond, ◌==◌, Option, Some, None, IsSome, is_some, List, [], ◌∷◌, length, inl, inr, refl, sym, ap, ◌∙◌, arith, map, ◌≤◌}
+use Rattle.std.proofs.lemmas.Bool.{cond-true, cond-false, cases_Bool, eqb-true, eq-eqb, and_parts, and_from}
 use Rattle.mdb_base.specs.declared.acts.PlainAct.{PlainAct}
 use Rattle.mdb_base.specs.declared.acts.PlainAct.TheVariants.{Read, Write}
 use Rattle.mdb_base.specs.declared.names.Tid.{Tid}
@@ -8,13 +8,13 @@ use Rattle.mdb_base.specs.declared.names.Tx.{Tx}
 use Rattle.mdb_base.specs.declared.replies.Reply.{Reply}
 use Rattle.mdb_base.specs.declared.replies.Reply.TheVariants as Reply_is
 use Rattle.mdb_base.specs.Names.{same_tid, same_tx}
-use Rattle.mdb_base.specs.Words.{first_where, holds_of, map_some}
-use Rattle.mdb_base.proofs.NameLaws.{same_tid-equal, same_tid-refl}
-use Rattle.fed_rules.specs.Runs.{Start, EngineLine, Begins, Acts, Seals, Refuses, Commits, Aborts, Run, begun, changed, acted, is_sealed, puts_of, run_at, tid_of}
+use Rattle.mdb_base.specs.Words.{holds_of, map_some}
+use Rattle.mdb_base.proofs.NameLaws.{same_tid-equal}
+use Rattle.fed_rules.specs.Runs.{Start, EngineLine, Begins, Acts, Seals, Commits, Aborts, Run, begun, changed, acted, is_sealed, puts_of, run_at, tid_of}
 use Rattle.mdb_base.specs.declared.replies.Why.{Why}
 use Rattle.fed_rules.specs.declared.runs.Sealed.{Sealed}
 use Rattle.fed_rules.specs.Replies.{access_reply, seal_number, seal_stop}
-use Rattle.fed_rules.specs.EngineLines.{IsFree, IsLive, IsSealed}
+use Rattle.fed_rules.specs.EngineLines.{IsFree, IsLive}
 use Rattle.site_core.specs.declared.attempts.Begun.{Begun}
 use Rattle.site_core.specs.declared.attempts.LiveAttempt.{LiveAttempt}
 use Rattle.site_core.specs.Attempts.{SameBegun, after_reply, ended, finished, finished_of, granted, live_attempt, noted, running, started, with_note, without_live}
@@ -253,26 +253,26 @@ pub lists_commits : (list : List Begun) (start : Start) (lines : List EngineLine
     → Lists (with_note (ended tid) list) start (Commits tid ∷ Seals tid n ∷ lines)
 lists_commits list start lines tid n done l live =
     record { live = (λ u. at u (same_tid tid u) refl); unsealed = (λ u. sealed_at u (same_tid tid u) refl); few = gone.few } where
-  gone : Lists (with_note (ended tid) list) start (Aborts tid ∷ lines)
-  gone = let (run, (is, count)) = listed_lives list start lines tid done l live in lists_ends list start lines (Aborts tid) done l live (ap (changed (Aborts tid)) is.0)
+      gone : Lists (with_note (ended tid) list) start (Aborts tid ∷ lines)
+      gone = let (run, (is, count)) = listed_lives list start lines tid done l live in lists_ends list start lines (Aborts tid) done l live (ap (changed (Aborts tid)) is.0)
 
-  same_run_at : (u : Tid) (t : Bool) → same_tid tid u ≡ t → run_at start (Commits tid ∷ Seals tid n ∷ lines) u ≡ run_at start (Aborts tid ∷ lines) u
-  same_run_at u true e =
-      cond-true _ _ _ e ∙ commits_none (run_at start (Seals tid n ∷ lines) u) ∙ sym (cond-true _ _ _ e ∙ aborts_none (run_at start lines u)) where
-    commits_none : (o : Option Run) → changed (Commits tid) o ≡ None
-    commits_none None = refl
-    commits_none (Some run) = refl
+      same_run_at : (u : Tid) (t : Bool) → same_tid tid u ≡ t → run_at start (Commits tid ∷ Seals tid n ∷ lines) u ≡ run_at start (Aborts tid ∷ lines) u
+      same_run_at u true e =
+          cond-true _ _ _ e ∙ commits_none (run_at start (Seals tid n ∷ lines) u) ∙ sym (cond-true _ _ _ e ∙ aborts_none (run_at start lines u)) where
+            commits_none : (o : Option Run) → changed (Commits tid) o ≡ None
+            commits_none None = refl
+            commits_none (Some run) = refl
 
-    aborts_none : (o : Option Run) → changed (Aborts tid) o ≡ None
-    aborts_none None = refl
-    aborts_none (Some run) = refl
-  same_run_at u false e = cond-false _ _ _ e ∙ cond-false _ _ _ e ∙ sym (cond-false _ _ _ e)
+            aborts_none : (o : Option Run) → changed (Aborts tid) o ≡ None
+            aborts_none None = refl
+            aborts_none (Some run) = refl
+      same_run_at u false e = cond-false _ _ _ e ∙ cond-false _ _ _ e ∙ sym (cond-false _ _ _ e)
 
-  at : (u : Tid) (t : Bool) → same_tid tid u ≡ t → accesses (run_at start (Commits tid ∷ Seals tid n ∷ lines) u) ≡ finished (with_note (ended tid) list) u
-  at u t e = ap accesses (same_run_at u t e) ∙ gone.live u
+      at : (u : Tid) (t : Bool) → same_tid tid u ≡ t → accesses (run_at start (Commits tid ∷ Seals tid n ∷ lines) u) ≡ finished (with_note (ended tid) list) u
+      at u t e = ap accesses (same_run_at u t e) ∙ gone.live u
 
-  sealed_at : (u : Tid) (t : Bool) → same_tid tid u ≡ t → holds_of is_sealed (run_at start (Commits tid ∷ Seals tid n ∷ lines) u) ≡ false
-  sealed_at u t e = ap (holds_of is_sealed) (same_run_at u t e) ∙ gone.unsealed u
+      sealed_at : (u : Tid) (t : Bool) → same_tid tid u ≡ t → holds_of is_sealed (run_at start (Commits tid ∷ Seals tid n ∷ lines) u) ≡ false
+      sealed_at u t e = ap (holds_of is_sealed) (same_run_at u t e) ∙ gone.unsealed u
 
 -- after a stop no attempt is live, and the same ones were begun
 noted-without_live : (list : List Begun) (tx : Tx) → noted (map without_live list) tx ≡ map_some without_live (noted list tx)

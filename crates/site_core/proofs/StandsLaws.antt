@@ -1,5 +1,5 @@
 -- What a core stands for after a line without disk calls.
-use Rattle.std.proofs.Common.{◌≡◌, ℕ, suc, IsTrue, ◌==◌, Bool, true, false, cond, not, ◌||◌, is_some, Option, Some, None, List, [], ◌∷◌, ◌++◌, refl, sym, ap, ◌∙◌, subst, arith}
+use Rattle.std.proofs.Common.{◌≡◌, suc, IsTrue, ◌==◌, Bool, true, false, cond, not, ◌||◌, is_some, Option, Some, None, List, [], ◌∷◌, ◌++◌, refl, sym, ap, ◌∙◌, subst, arith}
 use Rattle.std.specs.Prelude.{reverse}
 use Rattle.std.proofs.lemmas.Bool.{cond-false, ne_eqb}
 use Rattle.std.proofs.lemmas.List.{reverse-reverse}
@@ -17,7 +17,7 @@ use Rattle.fed_rules.specs.declared.answers.Answer.TheVariants as Say
 use Rattle.fed_rules.specs.declared.events.SiteEvent.{SiteEvent}
 use Rattle.fed_rules.specs.declared.events.SiteEvent.TheVariants as Ev
 use Rattle.fed_rules.specs.declared.messages.FromSite.{FromSite}
-use Rattle.fed_rules.specs.Happenings.{quiet, comes_up, is_down, set, stops, used}
+use Rattle.fed_rules.specs.Happenings.{quiet, comes_up, set, stops, used}
 use Rattle.fed_rules.specs.Runs as Lines
 use Rattle.fed_rules.specs.Runs.{EngineLine, Acts}
 use Rattle.fed_rules.specs.SitePast.{SiteHappening, SitePast, attempts_of, begins_tx, engine_lines, epoch_start, live_of_tx, trip_of}
@@ -26,16 +26,15 @@ use Rattle.fed_rules.specs.Site.{act_answer, of_fate, with_lines}
 use Rattle.fed_rules.specs.SiteRecords.{Home, local_of}
 use Rattle.fed_rules.specs.declared.records.SiteRecord.{SiteRecord}
 use Rattle.site_core.specs.declared.site.SiteCore.{SiteCore}
-use Rattle.site_core.specs.declared.runs.Runs.{Runs}
 use Rattle.site_core.specs.declared.store.Standing.{Standing}
-use Rattle.site_core.specs.declared.store.Standing.TheVariants.{Up, Down, Failing}
+use Rattle.site_core.specs.declared.store.Standing.TheVariants.{Up}
 use Rattle.site_core.specs.Attempts.{SameBegun, noted, started, with_note}
 use Rattle.site_core.specs.Runs.{IsRunning}
 use Rattle.site_core.specs.Stands.{Adds, Holds, RunsStand}
 use Rattle.site_core.specs.Store.{is_up, trip_of_rules}
 use Rattle.site_core.proofs.LineLaws.{fate_ended, fate_unbegun}
 use Rattle.site_core.proofs.RunsLaws.{noted-with_note}
-use Rattle.site_core.proofs.StoreLaws.{used_none}
+use Rattle.site_core.proofs.EndsLaws.{used_none}
 
 -- a line without disk calls
 abbrev without_calls : SiteEvent → Answer → List FromSite → List EngineLine → SiteHappening

@@ -1,16 +1,12 @@
 -- What a core stands for after a line with disk calls, and after a stop within them.
-use Rattle.std.proofs.Common.{◌≡◌, ℕ, zero, suc, ◌+◌, ◌<◌, ◌≤◌, ◌^◌, ◌==◌, leb, Bool, true, false, cond, not, ◌||◌, is_some, IsTrue, Option, Some, None, List, [], ◌∷◌, ◌++◌, length, take, refl, sym, ap, ap₂, ◌∙◌, subst, arith, inl, inr}
-use Rattle.std.specs.Prelude.{reverse}
-use Rattle.std.proofs.lemmas.Bool.{cond-true, cond-false, cases_Bool, le-leb, lt-leb}
-use Rattle.mdb_base.specs.declared.names.Engine.{Engine}
+use Rattle.std.proofs.Common.{◌≡◌, ℕ, zero, suc, ◌≤◌, ◌==◌, leb, Bool, true, false, cond, not, ◌||◌, is_some, Option, Some, None, List, [], ◌∷◌, ◌++◌, length, take, refl, sym, ap, ◌∙◌, subst}
+use Rattle.std.proofs.lemmas.Bool.{cond-true, cond-false, le-leb, lt-leb}
 use Rattle.mdb_base.specs.declared.names.Tid.{Tid}
 use Rattle.mdb_base.specs.declared.names.Tx.{Tx}
-use Rattle.mdb_base.specs.declared.rows.Put.{Put}
 use Rattle.mdb_base.specs.Words.{Each, map_some, when}
 use Rattle.fed_rules.specs.declared.answers.Answer.{Answer}
 use Rattle.fed_rules.specs.declared.answers.Answer.TheVariants as Say
 use Rattle.fed_rules.specs.declared.events.SiteEvent.{SiteEvent}
-use Rattle.fed_rules.specs.declared.messages.FromSite.{FromSite}
 use Rattle.fed_rules.specs.declared.records.SiteRecord.{SiteRecord}
 use Rattle.fed_rules.specs.declared.records.SiteRecord.TheVariants as Rec
 use Rattle.fed_rules.specs.Disk.{Call, Append, Sync, CutBack, Stops, Disk, after_call, after_calls, bytes_of, whole}
@@ -20,7 +16,7 @@ use Rattle.fed_rules.specs.Runs.{EngineLine}
 use Rattle.fed_rules.specs.Site.{unless_tripped}
 use Rattle.fed_rules.specs.SitePast.{SiteHappening, SitePast, attempts_of, begins_tx, engine_lines, epoch_start, trip_of}
 use Rattle.fed_rules.specs.SitePast as Past
-use Rattle.fed_rules.specs.SiteRecords.{Home, prepared_tids, site_frame, start_of}
+use Rattle.fed_rules.specs.SiteRecords.{Home, prepared_tids, site_frame}
 use Rattle.journal_disk.specs.Disk.{Image}
 use Rattle.site_core.specs.declared.site.SiteCore.{SiteCore}
 use Rattle.site_core.specs.declared.errors.StepErr.{StepErr}
@@ -29,9 +25,9 @@ use Rattle.site_core.specs.declared.store.Standing.{Standing}
 use Rattle.site_core.specs.declared.store.Standing.TheVariants.{Up, Down, Failing}
 use Rattle.site_core.specs.Attempts.{SameBegun, finished, noted}
 use Rattle.site_core.specs.Runs.{IsRunning}
-use Rattle.site_core.specs.Stands.{Adds, Answers, Fails, Holds, IsOfKind, IsStopped, RunsStand, Stands, cut_line}
-use Rattle.site_core.proofs.StoreLaws.{passes_none}
-use Rattle.site_core.specs.Store.{Keeps, Passes, is_up, stopped_disk, trip_of_rules}
+use Rattle.site_core.specs.Stands.{Adds, Answers, Fails, Holds, IsOfKind, RunsStand, Stands}
+use Rattle.site_core.proofs.EndsLaws.{passes_none}
+use Rattle.site_core.specs.Store.{Keeps, Passes, is_up, trip_of_rules}
 
 -- an epoch starts by the rule of the home
 pub epoch_kind : (home : Home) (past : SitePast) → (epoch_start home past).kind ≡ home.engine
@@ -175,9 +171,9 @@ module _ {E D : Type 0} (stands : E → Lines.Start → List EngineLine → Type
   stands_quiet old new disk home past y k store none h =
       let same : after_calls site_frame (Past.disk home past) y.calls ≡ Past.disk home past = ap (after_calls site_frame (Past.disk home past)) none in
       let kept : Keeps tells image size spare disk new.store (Past.disk home past) (Past.trip past) =
-          let P : Store → Type 0 = λ s. Keeps tells image size spare disk s (Past.disk home past) (Past.trip past) in subst P (sym store) k.stored in
+      let P : Store → Type 0 = λ s. Keeps tells image size spare disk s (Past.disk home past) (Past.trip past) in subst P (sym store) k.stored in
       let moved : Keeps tells image size spare disk new.store (Past.disk home past) (Past.trip (y ∷ past)) =
-          record { kept_on = kept.kept_on; stands = kept.stands; records = kept.records; are_records = kept.are_records; trip = h.trip; armed = kept.armed; in_order = kept.in_order } in
+      record { kept_on = kept.kept_on; stands = kept.stands; records = kept.records; are_records = kept.are_records; trip = h.trip; armed = kept.armed; in_order = kept.in_order } in
       let Q : Disk SiteRecord → Type 0 = λ d. Keeps tells image size spare disk new.store d (Past.trip (y ∷ past)) in
       record { holds = h; stored = subst Q (sym same) moved }
 

@@ -1,10 +1,11 @@
 -- What the core of a site stands for: a home, and the list of what happened there, the newest first.
-use Rattle.std.specs.Prelude.{ℕ, ◌≡◌, ◌==◌, Bool, true, false, not, is_some, Option, None, List, [], ◌∷◌, ◌++◌, reverse, take}
+use Rattle.std.specs.Prelude.{ℕ, ◌≡◌, ◌==◌, Bool, false, not, is_some, option_to_list, None, List, [], ◌∷◌, ◌++◌, reverse, take}
 use Rattle.mdb_base.specs.declared.names.Engine.{Engine}
 use Rattle.mdb_base.specs.declared.names.Tid.{Tid}
 use Rattle.mdb_base.specs.declared.names.Tx.{Tx}
 use Rattle.mdb_base.specs.Words.{map_some}
 use Rattle.fed_rules.specs.declared.answers.Answer.{Answer}
+use Rattle.fed_rules.specs.declared.events.SiteStep.{SiteStep}
 use Rattle.fed_rules.specs.Happenings.{is_down, stopped}
 use Rattle.fed_rules.specs.Disk.{Stops}
 use Rattle.fed_rules.specs.declared.runs.Sealed.{Sealed}
@@ -90,3 +91,9 @@ pub record StandsSealing {E D : Type 0} (stands : E → Lines.Start → List Eng
   pub begun : (tx : Tx) → is_some (noted core.runs.attempts.begun tx) ≡ not (attempts_of past tx == 0)
   pub unprepared : prepared_tids (Past.records home past) ≡ []
   pub undoubted : core.doubts.doubts ≡ []
+
+-- the step says and sends what the line does, and the core with this disk stands for the line added
+pub record Steps {E D : Type 0} (stands : E → Lines.Start → List EngineLine → Type 0) (tells : Bool) (image : D → Image) (size spare : D → ℕ) (step : SiteStep) (core : SiteCore E) (disk : D) (home : Home) (past : SitePast) (x : SiteHappening) : Type 0 where
+  pub answer : step.answer ≡ x.answer
+  pub sends : option_to_list step.sends ≡ x.sends
+  pub stood : Stands stands tells image size spare core disk home (x ∷ past)

@@ -1,11 +1,12 @@
 -- What a step of a core asks, and what it does to the pasts that the core stands for.
-use Rattle.std.specs.Prelude.{ℕ, ◌≡◌, ◌+◌, ◌<◌, ◌^◌, Some, length}
+use Rattle.std.specs.Prelude.{◌≡◌, ◌+◌, ◌<◌, ◌^◌, false, Some, length}
 use Rattle.mdb_base.specs.declared.names.Tid.{Tid}
 use Rattle.field_bytes.specs.Fields.{IsTid}
 use Rattle.fed_rules.specs.declared.events.SiteEvent.{SiteEvent}
 use Rattle.fed_rules.specs.declared.events.SiteEvent.TheVariants as Ev
+use Rattle.fed_rules.specs.Happenings.{is_down}
 use Rattle.fed_rules.specs.Runs.{Run, counter}
-use Rattle.fed_rules.specs.SitePast.{SitePast, epoch, epoch_start, engine_lines, live}
+use Rattle.fed_rules.specs.SitePast.{SitePast, epoch_start, engine_lines, live}
 use Rattle.fed_rules.specs.SiteRecords.{Home}
 
 -- for some past that it stands for the fact holds
@@ -32,7 +33,7 @@ pub record CanCommit (tid : Tid) (home : Home) (past : SitePast) : Type 0 where
   pub in_range : IsTid tid
   pub fits : NumberFits home past
 
--- what an event asks of the past; the messages of a coordinator aren't among the events yet
+-- what an event asks of the past; the messages of a coordinator and the start of a site that is down aren't among the events yet
 abbrev pub CanStep : SiteEvent → Home → SitePast → Type 0
 CanStep (Ev.Begin tid) home past = NumberFits home past
 CanStep (Ev.Act tid act) home past = HasFewAccesses tid home past
@@ -44,18 +45,4 @@ CanStep (Ev.Ask tid) home past = ⊥
 CanStep (Ev.Drop tid) home past = ⊥
 CanStep (Ev.Halt cut) home past = Unit {0}
 CanStep (Ev.Trip calls cut) home past = Unit {0}
-CanStep Ev.Back home past = epoch home past + 1 < 2 ^ 32
-
--- the events that ask whether the site is up, and are served where it is
-abbrev pub IsServed : SiteEvent → Type 0
-IsServed (Ev.Begin tid) = Unit {0}
-IsServed (Ev.Act tid act) = Unit {0}
-IsServed (Ev.Commit tid) = Unit {0}
-IsServed (Ev.Abort tid) = Unit {0}
-IsServed (Ev.Fate tx) = Unit {0}
-IsServed (Ev.Give message) = Unit {0}
-IsServed (Ev.Ask tid) = Unit {0}
-IsServed (Ev.Drop tid) = Unit {0}
-IsServed (Ev.Halt cut) = Unit {0}
-IsServed (Ev.Trip calls cut) = ⊥
-IsServed Ev.Back = ⊥
+CanStep Ev.Back home past = is_down past ≡ false

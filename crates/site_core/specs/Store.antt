@@ -1,9 +1,9 @@
 -- What a site's store stands for: the disk of the rules, and the trip in force.
-use Rattle.std.specs.Prelude.{ℕ, ◌≡◌, ◌+◌, ◌==◌, ◌<◌, ◌≤◌, Bool, true, false, cond, Option, Some, None, Result, Ok, Err, List, [], ◌∷◌, ◌++◌, length, take, reverse}
+use Rattle.std.specs.Prelude.{ℕ, ◌≡◌, ◌==◌, ◌<◌, ◌≤◌, Bool, true, false, cond, Option, Some, None, Result, Ok, Err, List, [], ◌∷◌, ◌++◌, length, take, reverse}
 use Rattle.std.specs.List.{AllByRecursion}
 use Rattle.mdb_base.specs.Words.{map_some}
 use Rattle.fed_rules.specs.declared.records.SiteRecord.{SiteRecord}
-use Rattle.fed_rules.specs.Disk.{Call, Append, Sync, CutBack, Stops, Disk, after_call, after_calls, is_torn}
+use Rattle.fed_rules.specs.Disk.{Call, CutBack, Stops, Disk, after_call, after_calls, is_torn}
 use Rattle.fed_rules.specs.Happenings.{Trip, used}
 use Rattle.fed_rules.specs.SiteRecords.{site_frame}
 use Rattle.journal_disk.specs.Disk.{Image, all_synced}

@@ -73,6 +73,13 @@ impl Attempts {
         })
     }
 
+    /// Whether the attempt is live.
+    pub fn is_live(&self, tid: Tid) -> bool
+        ensures { result ≡ is_some (finished self.now.begun tid) }
+    {
+        self.finished(tid).is_some()
+    }
+
     /// How many accesses of the attempt are finished, where it is live.
     pub fn finished(&self, tid: Tid) -> Option<u8>
         ensures { result ≡ finished self.now.begun tid }

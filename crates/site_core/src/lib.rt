@@ -1,4 +1,8 @@
 //! The core of one site: it answers each event from its own engine, its own journal and its own disk.
+//!
+//! A core stands for a home and a list of what happened there. Each step answers as the rules say of that list, and the core then stands
+//! for the list with that line added; a stop may come right after any disk call. It is generic in the engine and in the disk, and rests on
+//! their contracts alone.
 #![tactic(auto)]
 
 mod answers;
@@ -8,3 +12,10 @@ mod errors;
 mod runs;
 mod site;
 mod store;
+
+pub use errors::StepErr;
+pub use fed_rules::{SiteEvent, SiteRecord, SiteStep};
+pub use site::SiteCore;
+
+#[cfg(test)]
+mod tests;

@@ -1,22 +1,33 @@
 //! The core of a site and its step.
-ghost use Rattle.std.specs.Prelude.{◌≡◌, ◌≤◌, false, is_some, IfOk, IfErr, IsErrOf, IsSome, IsTrue, OnErr};
+ghost use Rattle.std.specs.Prelude.{◌≡◌, ◌≤◌, [], false, length, reverse, is_some, IfOk, IfErr, IsErrOf, IsSome, IsTrue, OnErr};
 ghost use Rattle.mdb_base.specs.Counts.{HasRisen};
 ghost use Rattle.field_bytes.specs.Fields.{IsTid};
-ghost use Rattle.fed_rules.specs.Site.{of_begin, of_act, of_abort, of_commit, of_fate, unless_tripped};
+ghost use Rattle.fed_rules.specs.Site.{of_begin, of_act, of_abort, of_commit, of_fate, answered, site_line, unless_tripped};
+ghost use Rattle.mdb_base.specs.declared.names.Tid.{Tid};
+ghost use Rattle.record_fields.specs.Named.{IsSite};
+ghost use Rattle.fed_rules.specs.Happenings.{is_down};
+ghost use Rattle.fed_rules.specs.Runs.{rows as rows_after};
+ghost use Rattle.fed_rules.specs.SitePast.{engine_lines, epoch_start, live, records};
+ghost use Rattle.fed_rules.specs.SiteRecords.{doubt_of};
+ghost use Rattle.engine_contract.specs.Calls.{fresh_start};
+ghost use Rattle.prepared_state.specs.Book.{doubt_about};
 ghost use Rattle.site_core.specs.Attempts.{finished, noted};
-ghost use Rattle.site_core.specs.Stands.{Adds, Answers, Fails, Holds, Stands, StandsSealing};
-ghost use Rattle.site_core.specs.Steps.{CanCommit, EachPast, HasFewAccesses, NumberFits, SomePast};
+ghost use Rattle.site_core.specs.Stands.{Adds, Answers, Fails, Holds, Stands, StandsSealing, Steps};
+ghost use Rattle.site_core.specs.Store.{is_up, trip_to};
+ghost use Rattle.site_core.specs.Steps.{CanCommit, CanStep, EachPast, HasFewAccesses, NumberFits, SomePast};
 
 use crate::answers::{act_answer, refusal_answer};
+use crate::attempts::Attempts;
 use crate::committed::committed_local;
 use crate::errors::StepErr;
 use crate::runs::Runs;
-use crate::store::{Break, Standing, Store};
+use crate::store::{Break, SetTrip, Standing, Store};
 use engine_contract::{LocalEngine, SealErr, Sealed};
-use fed_rules::{Answer, SiteRecord};
+use fed_rules::{Answer, SiteEvent, SiteRecord, SiteStep};
 use journal_disk::Disk;
-use mdb_base::{Memory, PlainAct, Tid, Tx};
+use mdb_base::{Engine, Memory, PlainAct, Puts, SiteId, Tid, Tx};
 use prepared_state::PreparedBook;
+use presumptions::Protocol;
 use std::alloc::Global;
 
 /// The core of one site: its local engine with the live attempts, its journal, and the prepared transactions that it is in doubt of.
@@ -28,6 +39,134 @@ pub struct SiteCore<E: LocalEngine> {
 }
 
 impl<E: LocalEngine> SiteCore<E> {
+    /// Sets a new site up on an empty disk: its Setup record and its first Start, synced. `local` is an engine of this rule with these
+    /// rows and no call yet. Without memory the disk stays empty.
+    pub fn set_up<D: Disk>(
+        alloc: Global,
+        disk: &mut D,
+        site: SiteId,
+        engine: Engine,
+        items: Puts,
+        protocol: Protocol,
+        local: E,
+    ) -> Result<SiteCore<E>, StepErr>
+        requires told { IsTrue D.tells }
+        requires empty { D.size disk.old ≡ 0 }
+        requires site { IsSite site }
+        requires few { length items ≤ 4096 }
+        requires fresh { E.stands local (fresh_start engine items) [] }
+        ensures stands { IfOk result (λ core. Stands E.stands D.tells D.image D.size D.spare core disk.new
+            (record { site = site; engine = engine; protocol = protocol; items = items }) []) }
+        ensures memory { IsErrOf result StepErr.Memory → D.image disk.new ≡ D.image disk.old }
+        ensures cause { IsErrOf result StepErr.Disk → HasRisen (D.faults disk.old) (D.faults disk.new) }
+        ensures faults { D.faults disk.old ≤ D.faults disk.new }
+    {
+        let Ok(doubts) = PreparedBook::new(alloc) else {
+            return Err(StepErr::Memory);
+        };
+        match Store::set_up(alloc, disk, site, engine, items, protocol) {
+            Ok(store) => Ok(SiteCore {
+                runs: Runs {
+                    engine: local,
+                    attempts: Attempts::new(alloc),
+                },
+                store,
+                doubts,
+            }),
+            Err(why) => Err(why),
+        }
+    }
+
+    /// Answers the next event. Without memory neither the core nor the disk changes. Where a disk call fails, which comes only where
+    /// the disk's count of faults rose, the site is down, as after a stop within the disk calls of the event.
+    pub fn step<D: Disk>(
+        &mut self,
+        alloc: Global,
+        disk: &mut D,
+        event: SiteEvent,
+    ) -> Result<SiteStep, StepErr>
+        requires told { IsTrue D.tells }
+        requires may { SomePast (Stands E.stands D.tells D.image D.size D.spare self.old disk.old) (CanStep event) }
+        ensures answered { IfOk result (λ step. EachPast (Stands E.stands D.tells D.image D.size D.spare self.old disk.old)
+            (λ home past. Steps E.stands D.tells D.image D.size D.spare step self.new disk.new home past (site_line home past event))) }
+        ensures failed { IfErr result (λ why. EachPast (Stands E.stands D.tells D.image D.size D.spare self.old disk.old)
+            (λ home past. Fails E.stands D.tells D.image D.size D.spare why self.new disk.new home past (answered home past event))) }
+        ensures cause { IsErrOf result StepErr.Disk → HasRisen (D.faults disk.old) (D.faults disk.new) }
+        ensures faults { D.faults disk.old ≤ D.faults disk.new }
+    {
+        match self.answer(alloc, disk, event) {
+            Ok(answer) => Ok(SiteStep {
+                answer,
+                sends: None,
+            }),
+            Err(why) => Err(why),
+        }
+    }
+
+    /// The records, oldest first.
+    pub fn records(&self) -> &[SiteRecord]
+        ensures { EachPast (Holds E.stands self.now) (λ home past. result.now ≡ reverse (records home past)) }
+    {
+        self.store.journal.records()
+    }
+
+    /// The prepared transactions that the site is in doubt of.
+    pub fn doubts(&self) -> &PreparedBook
+        ensures { EachPast (Holds E.stands self.now) (λ home past. (tid : Tid) →
+            is_some (doubt_about tid result.now.doubts) ≡ is_some (doubt_of (records home past) tid)) }
+    {
+        &self.doubts
+    }
+
+    /// Whether the attempt is live.
+    pub fn is_live(&self, tid: Tid) -> bool
+        ensures { EachPast (Holds E.stands self.now) (λ home past. result ≡ is_some (live home past tid)) }
+    {
+        self.runs.attempts.is_live(tid)
+    }
+
+    /// Whether the site is down: between a stop and the next start that comes through.
+    pub fn is_down(&self) -> bool
+        ensures { EachPast (Holds E.stands self.now) (λ home past. result ≡ is_down past) }
+    {
+        match self.store.standing {
+            Standing::Up => false,
+            Standing::Down => true,
+            Standing::Failing => true,
+        }
+    }
+
+    /// The rows of a site that is up: those that the epoch started from, and every key that a committed transaction wrote since.
+    pub fn rows(&self, alloc: Global) -> Result<Puts, Memory>
+        ensures { IfOk result (λ rows. EachPast (Holds E.stands self.now)
+            (λ home past. is_down past ≡ false → rows ≡ rows_after (epoch_start home past) (engine_lines past))) }
+    {
+        self.runs.engine.rows(alloc)
+    }
+
+    /// Answers an event by what the site is: up or down.
+    fn answer<D: Disk>(
+        &mut self,
+        alloc: Global,
+        disk: &mut D,
+        event: SiteEvent,
+    ) -> Result<Answer, StepErr>
+        requires told { IsTrue D.tells }
+        requires may { SomePast (Stands E.stands D.tells D.image D.size D.spare self.old disk.old) (CanStep event) }
+        ensures answered { IfOk result (λ answer. EachPast (Stands E.stands D.tells D.image D.size D.spare self.old disk.old)
+            (λ home past. Answers E.stands D.tells D.image D.size D.spare answer self.new disk.new home past (site_line home past event))) }
+        ensures failed { IfErr result (λ why. EachPast (Stands E.stands D.tells D.image D.size D.spare self.old disk.old)
+            (λ home past. Fails E.stands D.tells D.image D.size D.spare why self.new disk.new home past (answered home past event))) }
+        ensures cause { IsErrOf result StepErr.Disk → HasRisen (D.faults disk.old) (D.faults disk.new) }
+        ensures faults { D.faults disk.old ≤ D.faults disk.new }
+    {
+        match self.store.standing {
+            Standing::Up => self.serve(alloc, disk, event),
+            Standing::Down => self.wait(alloc, disk, event),
+            Standing::Failing => self.wait(alloc, disk, event),
+        }
+    }
+
     /// A local attempt begins, unless its transaction has committed or has a live attempt.
     fn begin(&mut self, alloc: Global, tid: Tid) -> Result<Answer, Memory>
         requires up { self.old.store.standing ≡ Standing.Up }
@@ -85,18 +224,13 @@ impl<E: LocalEngine> SiteCore<E> {
     }
 
     /// A local attempt commits: it is sealed, its record is forced, and its writes are installed.
-    fn commit<D: Disk>(
-        &mut self,
-        alloc: Global,
-        disk: &mut D,
-        tid: Tid,
-    ) -> Result<Answer, StepErr>
+    fn commit<D: Disk>(&mut self, alloc: Global, disk: &mut D, tid: Tid) -> Result<Answer, StepErr>
         requires told { IsTrue D.tells }
         requires up { self.old.store.standing ≡ Standing.Up }
         requires may { SomePast (Stands E.stands D.tells D.image D.size D.spare self.old disk.old) (CanCommit tid) }
         ensures answered { IfOk result (λ answer. EachPast (Stands E.stands D.tells D.image D.size D.spare self.old disk.old)
             (λ home past. Answers E.stands D.tells D.image D.size D.spare answer self.new disk.new home past
-                (unless_tripped home past (of_commit home past tid)))) }
+            (unless_tripped home past (of_commit home past tid)))) }
         ensures failed { IfErr result (λ why. EachPast (Stands E.stands D.tells D.image D.size D.spare self.old disk.old)
             (λ home past. Fails E.stands D.tells D.image D.size D.spare why self.new disk.new home past (of_commit home past tid))) }
         ensures cause { IsErrOf result StepErr.Disk → HasRisen (D.faults disk.old) (D.faults disk.new) }
@@ -128,7 +262,7 @@ impl<E: LocalEngine> SiteCore<E> {
         requires may { SomePast (StandsSealing E.stands D.tells D.image D.size D.spare tid sealed self.old disk.old) (λ home past. Unit {0}) }
         ensures answered { IfOk result (λ answer. EachPast (StandsSealing E.stands D.tells D.image D.size D.spare tid sealed self.old disk.old)
             (λ home past. Answers E.stands D.tells D.image D.size D.spare answer self.new disk.new home past
-                (unless_tripped home past (of_commit home past tid)))) }
+            (unless_tripped home past (of_commit home past tid)))) }
         ensures failed { IfErr result (λ why. EachPast (StandsSealing E.stands D.tells D.image D.size D.spare tid sealed self.old disk.old)
             (λ home past. Fails E.stands D.tells D.image D.size D.spare why self.new disk.new home past (of_commit home past tid))) }
         ensures cause { IsErrOf result StepErr.Disk → HasRisen (D.faults disk.old) (D.faults disk.new) }
@@ -161,6 +295,97 @@ impl<E: LocalEngine> SiteCore<E> {
                 self.runs.stop();
                 Err(StepErr::Disk)
             }
+        }
+    }
+
+    /// Stops the site with this cut.
+    fn halt<D: Disk>(&mut self, disk: &mut D, cut: u64) -> Answer
+        requires told { IsTrue D.tells }
+        requires up { self.old.store.standing ≡ Standing.Up }
+        requires may { SomePast (Stands E.stands D.tells D.image D.size D.spare self.old disk.old) (λ home past. Unit {0}) }
+        ensures answered { EachPast (Stands E.stands D.tells D.image D.size D.spare self.old disk.old)
+            (λ home past. Answers E.stands D.tells D.image D.size D.spare result self.new disk.new home past (site_line home past (SiteEvent.Halt cut))) }
+        ensures faults { D.faults disk.old ≤ D.faults disk.new }
+    {
+        let kept = self.store.stop(disk, cut);
+        self.runs.stop();
+        Answer::Stopped(kept)
+    }
+
+    /// Sets a trip; one of no calls disarms.
+    fn set_trip(&mut self, calls: u32, cut: u64) -> Answer
+        ensures said { result ≡ Answer.Set }
+        ensures runs { self.new.runs ≡ self.old.runs }
+        ensures doubts { self.new.doubts ≡ self.old.doubts }
+        ensures store { self.new.store ≡ record self.old.store { trip = trip_to calls cut } }
+    {
+        self.store.trip = if calls == 0 {
+            None
+        } else {
+            Some(SetTrip { calls, cut })
+        };
+        Answer::Set
+    }
+
+    /// Answers an event of a site that is up.
+    fn serve<D: Disk>(
+        &mut self,
+        alloc: Global,
+        disk: &mut D,
+        event: SiteEvent,
+    ) -> Result<Answer, StepErr>
+        requires told { IsTrue D.tells }
+        requires up { self.old.store.standing ≡ Standing.Up }
+        requires may { SomePast (Stands E.stands D.tells D.image D.size D.spare self.old disk.old) (CanStep event) }
+        ensures answered { IfOk result (λ answer. EachPast (Stands E.stands D.tells D.image D.size D.spare self.old disk.old)
+            (λ home past. Answers E.stands D.tells D.image D.size D.spare answer self.new disk.new home past (site_line home past event))) }
+        ensures failed { IfErr result (λ why. EachPast (Stands E.stands D.tells D.image D.size D.spare self.old disk.old)
+            (λ home past. Fails E.stands D.tells D.image D.size D.spare why self.new disk.new home past (answered home past event))) }
+        ensures cause { IsErrOf result StepErr.Disk → HasRisen (D.faults disk.old) (D.faults disk.new) }
+        ensures faults { D.faults disk.old ≤ D.faults disk.new }
+    {
+        match event {
+            SiteEvent::Begin(tid) => match self.begin(alloc, tid) {
+                Ok(answer) => Ok(answer),
+                Err(Memory) => Err(StepErr::Memory),
+            },
+            SiteEvent::Act { tid, act } => match self.act(alloc, tid, act) {
+                Ok(answer) => Ok(answer),
+                Err(Memory) => Err(StepErr::Memory),
+            },
+            SiteEvent::Commit(tid) => self.commit(alloc, disk, tid),
+            SiteEvent::Abort(tid) => Ok(self.abort(tid)),
+            SiteEvent::Fate(tx) => Ok(self.fate(tx)),
+            SiteEvent::Halt { cut } => Ok(self.halt(disk, cut)),
+            SiteEvent::Give(_) => unreachable!(),
+            SiteEvent::Ask(_) => unreachable!(),
+            SiteEvent::Drop(_) => unreachable!(),
+            SiteEvent::Trip { calls, cut } => Ok(self.set_trip(calls, cut)),
+            SiteEvent::Back => Ok(Answer::Awake),
+        }
+    }
+
+    /// Answers an event of a site that is down.
+    fn wait<D: Disk>(
+        &mut self,
+        alloc: Global,
+        disk: &mut D,
+        event: SiteEvent,
+    ) -> Result<Answer, StepErr>
+        requires told { IsTrue D.tells }
+        requires down { is_up self.old.store.standing ≡ false }
+        requires may { SomePast (Stands E.stands D.tells D.image D.size D.spare self.old disk.old) (CanStep event) }
+        ensures answered { IfOk result (λ answer. EachPast (Stands E.stands D.tells D.image D.size D.spare self.old disk.old)
+            (λ home past. Answers E.stands D.tells D.image D.size D.spare answer self.new disk.new home past (site_line home past event))) }
+        ensures failed { IfErr result (λ why. EachPast (Stands E.stands D.tells D.image D.size D.spare self.old disk.old)
+            (λ home past. Fails E.stands D.tells D.image D.size D.spare why self.new disk.new home past (answered home past event))) }
+        ensures cause { IsErrOf result StepErr.Disk → HasRisen (D.faults disk.old) (D.faults disk.new) }
+        ensures faults { D.faults disk.old ≤ D.faults disk.new }
+    {
+        match event {
+            SiteEvent::Trip { calls, cut } => Ok(self.set_trip(calls, cut)),
+            SiteEvent::Back => unreachable!(),
+            _ => Ok(Answer::Down),
         }
     }
 

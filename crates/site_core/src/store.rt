@@ -1,7 +1,10 @@
 //! A site's journal on its disk, with the trip that is set: each disk call may be the last one before a stop.
-ghost use Rattle.std.specs.Prelude.{◌≡◌, ◌≤◌, ◌<◌, ◌+◌, [], ◌∷◌, ◌++◌, false, true, Option, OnOk, OnErr, IsTrue, length};
+ghost use Rattle.std.specs.Prelude.{◌≡◌, ◌≤◌, ◌<◌, ◌+◌, [], ◌∷◌, ◌++◌, false, true, Option, None, IfOk, IsErrOf, OnOk, OnErr, IsTrue, length};
 ghost use Rattle.mdb_base.specs.Counts.{HasRisen};
-ghost use Rattle.fed_rules.specs.Disk.{Append, CutBack, Sync, Disk as RulesDisk};
+ghost use Rattle.fed_rules.specs.Disk.{Append, CutBack, Sync, Disk as RulesDisk, after_calls, empty_disk};
+ghost use Rattle.fed_rules.specs.SitePast.{disk as disk_of};
+ghost use Rattle.fed_rules.specs.SiteRecords.{site_frame};
+ghost use Rattle.record_fields.specs.Named.{IsSite};
 ghost use Rattle.fed_rules.specs.Happenings.{Trip as RulesTrip};
 ghost use Rattle.fed_rules.specs.declared.records.SiteRecord.{SiteRecord};
 ghost use Rattle.frame_journal.specs.Journal.{HasRoom, with_entry, with_room};
@@ -9,8 +12,10 @@ ghost use Rattle.journal_disk.specs.Frames.{IsPayload, frame_size};
 ghost use Rattle.site_journal.specs.Spelling.{InRange, spelling};
 ghost use Rattle.site_core.specs.Store.{Counts, Ends, Keeps, OnFailed, SomeKept, StopsWith, cut_calls, is_failing, is_up};
 
-use journal_disk::{Disk, Failed};
-use mdb_base::Memory;
+use crate::errors::StepErr;
+use journal_disk::{Disk, Failed, JournalErr};
+use mdb_base::{Engine, Memory, Puts, SiteId};
+use presumptions::Protocol;
 use site_journal::{SiteJournal, SiteRecord};
 use std::alloc::Global;
 
@@ -32,6 +37,7 @@ pub(crate) enum Standing {
 }
 
 /// Why a line ended before its time.
+#[derive(Clone, Copy)]
 pub(crate) enum Break {
     /// A trip stopped the site, and so many records are kept.
     Stopped(u64),
@@ -48,6 +54,99 @@ pub(crate) struct Store {
 }
 
 impl Store {
+    /// The store of a new site on an empty disk.
+    pub fn create<D: Disk>(alloc: Global, disk: &mut D) -> Result<Store, StepErr>
+        requires told { IsTrue D.tells }
+        requires empty { D.size disk.old ≡ 0 }
+        ensures keeps { IfOk result (λ store. Keeps D.tells D.image D.size D.spare disk.new store empty_disk None) }
+        ensures up { IfOk result (λ store. store.standing ≡ Standing.Up) }
+        ensures image { IsTrue D.tells → D.image disk.new ≡ D.image disk.old }
+        ensures cause { IsErrOf result StepErr.Disk → HasRisen (D.faults disk.old) (D.faults disk.new) }
+        ensures faults { D.faults disk.old ≤ D.faults disk.new }
+    {
+        match SiteJournal::load(alloc, disk) {
+            Ok(journal) => Ok(Store {
+                journal,
+                trip: None,
+                standing: Standing::Up,
+            }),
+            Err(JournalErr::Failed) => Err(StepErr::Disk),
+            Err(JournalErr::Memory) => Err(StepErr::Memory),
+            Err(JournalErr::Malformed { .. }) => unreachable!(),
+        }
+    }
+
+    /// Sets a new site up on an empty disk: its Setup record and its first Start, synced.
+    pub fn set_up<D: Disk>(
+        alloc: Global,
+        disk: &mut D,
+        site: SiteId,
+        engine: Engine,
+        items: Puts,
+        protocol: Protocol,
+    ) -> Result<Store, StepErr>
+        requires told { IsTrue D.tells }
+        requires empty { D.size disk.old ≡ 0 }
+        requires site { IsSite site }
+        requires few { length items ≤ 4096 }
+        ensures keeps { IfOk result (λ store. Keeps D.tells D.image D.size D.spare disk.new store
+            (disk_of (record { site = site; engine = engine; protocol = protocol; items = items }) []) None) }
+        ensures up { IfOk result (λ store. store.standing ≡ Standing.Up) }
+        ensures memory { IsErrOf result StepErr.Memory → D.image disk.new ≡ D.image disk.old }
+        ensures cause { IsErrOf result StepErr.Disk → HasRisen (D.faults disk.old) (D.faults disk.new) }
+        ensures faults { D.faults disk.old ≤ D.faults disk.new }
+    {
+        let setup = SiteRecord::Setup {
+            site,
+            engine,
+            protocol,
+            items,
+        };
+        let start = SiteRecord::Start { epoch: 1 };
+        match Store::create(alloc, disk) {
+            Ok(store) => store.begin_journal(alloc, disk, setup, start),
+            Err(why) => Err(why),
+        }
+    }
+
+    /// Appends the first two records and syncs them, with room for both made before.
+    fn begin_journal<D: Disk>(
+        self,
+        alloc: Global,
+        disk: &mut D,
+        setup: SiteRecord,
+        start: SiteRecord,
+    ) -> Result<Store, StepErr>
+        requires told { IsTrue D.tells }
+        requires kept { Keeps D.tells D.image D.size D.spare disk.old self empty_disk None }
+        requires up { self.standing ≡ Standing.Up }
+        requires setup { InRange setup }
+        requires start { InRange start }
+        requires setup_fits { IsPayload (spelling setup) }
+        requires start_fits { IsPayload (spelling start) }
+        ensures keeps { IfOk result (λ store. Keeps D.tells D.image D.size D.spare disk.new store
+            (after_calls site_frame empty_disk (Append setup ∷ Append start ∷ Sync ∷ [])) None) }
+        ensures up { IfOk result (λ store. store.standing ≡ Standing.Up) }
+        ensures memory { IsErrOf result StepErr.Memory → D.image disk.new ≡ D.image disk.old }
+        ensures cause { IsErrOf result StepErr.Disk → HasRisen (D.faults disk.old) (D.faults disk.new) }
+        ensures faults { D.faults disk.old ≤ D.faults disk.new }
+    {
+        let mut store = self;
+        let Ok(()) = store.reserve(alloc, disk, &setup) else {
+            return Err(StepErr::Memory);
+        };
+        let Ok(()) = store.reserve(alloc, disk, &start) else {
+            return Err(StepErr::Memory);
+        };
+        match store.append(disk, setup) {
+            Ok(()) => match store.force(disk, start) {
+                Ok(()) => Ok(store),
+                Err(_) => Err(StepErr::Disk),
+            },
+            Err(_) => Err(StepErr::Disk),
+        }
+    }
+
     /// Stops the disk with this cut, and answers how many records are kept. The trip is disarmed.
     pub fn stop<D: Disk>(&mut self, disk: &mut D, cut: u64) -> u64
         requires told { IsTrue D.tells }
@@ -107,6 +206,7 @@ impl Store {
         ensures room { OnOk result (self.new.journal ≡ with_room (frame_size (spelling entry.now)) self.old.journal) }
         ensures memory { OnErr result (self.new.journal ≡ self.old.journal) }
         ensures standing { self.new.standing ≡ self.old.standing }
+        ensures image { D.image disk.new ≡ D.image disk.old }
         ensures faults { D.faults disk.new ≡ D.faults disk.old }
     {
         self.journal.reserve(alloc, disk, entry)

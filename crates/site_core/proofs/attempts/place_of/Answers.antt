@@ -1,4 +1,3 @@
-use Rattle.std.proofs.Common.{arith}
 use Rattle.std.proofs.lemmas.Bool.{eq-eqb, ne_eqb}
 use Rattle.site_core.proofs.AttemptsLaws.{place-at, noted-take_more}
 use Rattle.site_core.proofs.attempts.place_of.Goals as goal

@@ -1,4 +1,4 @@
-use Rattle.std.proofs.Common.{◌≡◌, ◌∷◌, List, refl, sym, subst, ap}
+use Rattle.std.proofs.Common.{◌∷◌, List, refl, sym, subst, ap}
 use Rattle.fed_rules.specs.Runs.{Aborts, changed}
 use Rattle.site_core.specs.declared.attempts.Begun.{Begun}
 use Rattle.site_core.specs.Attempts.{SameBegun, ended, finished}

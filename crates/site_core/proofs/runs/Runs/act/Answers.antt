@@ -1,9 +1,9 @@
-use Rattle.std.proofs.Common.{◌≡◌, ◌<◌, ◌∷◌, Option, Some, None, ℕ, List, refl, sym, subst, IfSome}
+use Rattle.std.proofs.Common.{◌≡◌, ◌<◌, ◌∷◌, Option, ℕ, List, sym, subst, IfSome}
 use Rattle.fed_rules.specs.Runs.{Acts}
 use Rattle.site_core.specs.declared.attempts.Begun.{Begun}
 use Rattle.site_core.specs.Attempts.{SameBegun, after_reply, finished}
 use Rattle.site_core.specs.Runs.{Lists}
-use Rattle.site_core.proofs.RunsLaws.{reply_begins_none, lists_acts, listed_lives, some_value, same_run}
+use Rattle.site_core.proofs.RunsLaws.{reply_begins_none, lists_acts, some_value, same_run}
 use Rattle.site_core.proofs.runs.Runs.act.Goals as goal
 
 pub returns-clause-answered : goal.returns-clause-answered

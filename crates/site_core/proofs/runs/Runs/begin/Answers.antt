@@ -1,7 +1,7 @@
-use Rattle.std.proofs.Common.{◌≡◌, ℕ, ◌+◌, ◌∙◌, ◌∷◌, None, List, sym, ap, subst}
-use Rattle.fed_rules.specs.Runs.{Begins, EngineLine, counter}
+use Rattle.std.proofs.Common.{◌≡◌, ℕ, ◌+◌, ◌∙◌, ◌∷◌, List, sym, ap, subst}
+use Rattle.fed_rules.specs.Runs.{Begins, counter}
 use Rattle.site_core.specs.declared.attempts.Begun.{Begun}
-use Rattle.site_core.specs.Attempts.{running, with_note, started}
+use Rattle.site_core.specs.Attempts.{with_note, started}
 use Rattle.site_core.specs.Runs.{Lists}
 use Rattle.site_core.proofs.RunsLaws.{lists_begins, not_listed, none_running}
 use Rattle.site_core.proofs.runs.Runs.begin.Goals as goal

@@ -1,4 +1,4 @@
-use Rattle.std.proofs.Common.{◌≡◌, ◌∷◌, List, refl, sym, ap, subst}
+use Rattle.std.proofs.Common.{◌∷◌, List, refl, sym, subst}
 use Rattle.fed_rules.specs.Runs.{Commits, Seals}
 use Rattle.engine_contract.proofs.Follows.{sealed_then}
 use Rattle.site_core.specs.declared.attempts.Begun.{Begun}

@@ -1,4 +1,4 @@
-use Rattle.std.proofs.Common.{◌≡◌, ◌∷◌, List, Some, refl, sym, ap, subst, ◌∙◌}
+use Rattle.std.proofs.Common.{◌∷◌, List, refl, sym, ap, subst}
 use Rattle.fed_rules.specs.Runs.{Refuses, changed}
 use Rattle.engine_contract.proofs.Follows.{NumberFits-below}
 use Rattle.site_core.specs.declared.attempts.Begun.{Begun}
@@ -35,9 +35,10 @@ returns-in-Err-Refused-clause-refused g c = λ start lines k.
     let failed = rw c.in-Err-Refused.field-0-is at c.in-Err-Refused.ensures.failed in
     let stood = failed start lines k.stood in
     let Q : List Begun → Type 0 = λ b. Lists b start (Refuses c.args.tid why ∷ lines) in
-    let (other, (lives, stops)) = (g.met.E.LocalEngine.right _ _ _ stood).0 in
-    (record { stood = stood; listed = subst Q (sym c.end.ensures) (lists_ends list start lines (Refuses c.args.tid why) n k.listed live (ap (changed (Refuses c.args.tid why)) is.0)) },
-     λ r at. stops_as start lines c.args.tid other r why lives.0 at stops)
+    let (other, (lives, stops)) = (g.met.E.LocalEngine.right _ _ _ stood).0 in (
+      record { stood = stood; listed = subst Q (sym c.end.ensures) (lists_ends list start lines (Refuses c.args.tid why) n k.listed live (ap (changed (Refuses c.args.tid why)) is.0)) },
+      λ r at. stops_as start lines c.args.tid other r why lives.0 at stops,
+    )
 
 pub returns-in-Err-Refused-clause-begun : goal.returns-in-Err-Refused-clause-begun
 returns-in-Err-Refused-clause-begun g c =

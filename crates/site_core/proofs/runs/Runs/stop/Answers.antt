@@ -1,5 +1,4 @@
 use Rattle.std.proofs.Common.{◌≡◌, List, None, sym, subst}
-use Rattle.mdb_base.specs.declared.names.Tid.{Tid}
 use Rattle.site_core.specs.declared.attempts.Begun.{Begun}
 use Rattle.site_core.specs.Attempts.{SameBegun, finished}
 use Rattle.site_core.proofs.RunsLaws.{none_live, stop_begins_none}

@@ -1,11 +1,10 @@
-use Rattle.std.proofs.Common.{◌≡◌, ◌==◌, Bool, true, false, not, is_some, Option, Some, None, [], ◌∷◌, refl, sym, ap, ◌∙◌}
+use Rattle.std.proofs.Common.{is_some, Some, None, [], ◌∷◌, refl, sym, ap, ◌∙◌}
 use Rattle.fed_rules.specs.declared.answers.Answer.TheVariants as Say
 use Rattle.fed_rules.specs.declared.events.SiteEvent.TheVariants as Ev
 use Rattle.fed_rules.specs.Runs.{Begins}
 use Rattle.fed_rules.specs.Site.{next_number}
-use Rattle.fed_rules.specs.SitePast.{attempts_of, engine_lines, epoch_start}
+use Rattle.fed_rules.specs.SitePast.{engine_lines, epoch_start}
 use Rattle.site_core.specs.Attempts.{noted}
-use Rattle.site_core.specs.declared.attempts.Begun.{Begun}
 use Rattle.site_core.proofs.LineLaws.{begin_begun, begin_committed, begin_running, running_is}
 use Rattle.site_core.proofs.StandsLaws.{adds_as, begun_more, committed_is, holds_line, holds_quiet, up_runs}
 use Rattle.site_core.proofs.site.SiteCore.begin.Goals as goal

@@ -1,7 +1,6 @@
-use Rattle.std.proofs.Common.{◌≡◌, ℕ, not, ◌==◌, Some, None, [], ◌∷◌, refl, sym, ap, ◌∙◌}
+use Rattle.std.proofs.Common.{refl, sym, ap, ◌∙◌}
 use Rattle.fed_rules.specs.declared.answers.Answer.TheVariants as Say
 use Rattle.fed_rules.specs.declared.events.SiteEvent.TheVariants as Ev
-use Rattle.fed_rules.specs.Runs.{Refuses}
 use Rattle.fed_rules.specs.Site.{refusal_answer, unless_tripped}
 use Rattle.fed_rules.specs.SitePast.{engine_lines, epoch_start}
 use Rattle.site_core.proofs.CommitLaws.{refusal_adds}

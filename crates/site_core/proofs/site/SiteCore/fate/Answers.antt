@@ -1,11 +1,7 @@
-use Rattle.std.proofs.Common.{◌≡◌, ◌==◌, Bool, true, false, not, is_some, Option, Some, None, [], ◌∷◌, refl, sym, ap, ◌∙◌}
+use Rattle.std.proofs.Common.{Some, None, refl, sym, ◌∙◌}
 use Rattle.fed_rules.specs.declared.answers.Answer.TheVariants as Say
 use Rattle.fed_rules.specs.declared.events.SiteEvent.TheVariants as Ev
-use Rattle.fed_rules.specs.Runs.{Begins}
-use Rattle.fed_rules.specs.Site.{next_number}
-use Rattle.fed_rules.specs.SitePast.{attempts_of, engine_lines, epoch_start}
-use Rattle.site_core.specs.Attempts.{noted}
-use Rattle.site_core.proofs.LineLaws.{fate_committed, fate_ended, fate_running, fate_unbegun, running_is}
+use Rattle.site_core.proofs.LineLaws.{fate_committed, fate_running, running_is}
 use Rattle.site_core.proofs.StandsLaws.{adds_as, adds_fate, committed_is, holds_quiet, up_runs}
 use Rattle.site_core.proofs.site.SiteCore.fate.Goals as goal
 

@@ -1,5 +1,5 @@
-use Rattle.std.proofs.Common.{◌≡◌, ℕ, Ok, Err, None, [], ◌∷◌, refl, sym, ap, ◌∙◌}
-use Rattle.fed_rules.specs.SitePast.{disk, engine_lines, epoch_start, trip}
+use Rattle.std.proofs.Common.{refl, ◌∙◌}
+use Rattle.fed_rules.specs.SitePast.{disk, trip}
 use Rattle.site_core.specs.Attempts.{finished}
 use Rattle.site_core.proofs.CommitLaws.{commit_done, commit_failed, commit_stopped, local_fits, record_line, unsealed_stands}
 use Rattle.site_core.proofs.RunsLaws.{some_value}

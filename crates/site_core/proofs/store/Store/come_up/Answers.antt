@@ -1,6 +1,6 @@
 use Rattle.std.proofs.Common.{ap}
-use Rattle.site_core.specs.Store.{Keeps}
-use Rattle.site_core.proofs.StoreLaws.{opens, opens_synced, open_fails, ends_at_once}
+use Rattle.site_core.proofs.EndsLaws.{opens_synced, open_fails, ends_at_once}
+use Rattle.site_core.proofs.StoreLaws.{opens}
 use Rattle.site_core.proofs.store.Store.come_up.Goals as goal
 
 pub returns-in-Down-clause-ends : goal.returns-in-Down-clause-ends

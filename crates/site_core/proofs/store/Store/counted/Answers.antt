@@ -1,4 +1,4 @@
-use Rattle.std.proofs.Common.{◌≡◌, ◌<◌, Option, sym, ap, ◌∙◌, subst, arith}
+use Rattle.std.proofs.Common.{◌<◌, Option, sym, ap, ◌∙◌, subst, arith}
 use Rattle.mdb_base.specs.Words.{map_some}
 use Rattle.site_core.specs.declared.store.SetTrip.{SetTrip}
 use Rattle.site_core.specs.Store.{IsArmed, trip_of_rules}

@@ -2,7 +2,8 @@ use Rattle.std.proofs.Common.{ap}
 use Rattle.fed_rules.specs.Disk.{CutBack, after_call}
 use Rattle.fed_rules.specs.SiteRecords.{site_frame}
 use Rattle.site_core.specs.Store.{Keeps}
-use Rattle.site_core.proofs.StoreLaws.{cut_keeps, cut_fails, counts_end}
+use Rattle.site_core.proofs.EndsLaws.{counts_end}
+use Rattle.site_core.proofs.StoreLaws.{cut_keeps, cut_fails}
 use Rattle.site_core.proofs.store.Store.cut_torn.Goals as goal
 
 pub counted-requires-clause-kept : goal.counted-requires-clause-kept

@@ -1,9 +1,9 @@
-use Rattle.std.proofs.Common.{[], ◌∷◌, Ok, Err, ◌≡◌, Result, subst, ap, sym}
+use Rattle.std.proofs.Common.{[], ◌∷◌}
 use Rattle.fed_rules.specs.Disk.{Append, Sync, after_call}
 use Rattle.fed_rules.specs.Happenings.{used}
 use Rattle.fed_rules.specs.SiteRecords.{site_frame}
-use Rattle.site_core.specs.Store.{Keeps, Ends}
-use Rattle.site_core.proofs.StoreLaws.{ends_more, ends_early}
+use Rattle.site_core.specs.Store.{Keeps}
+use Rattle.site_core.proofs.EndsLaws.{ends_more, ends_early}
 use Rattle.site_core.proofs.store.Store.force.Goals as goal
 
 pub sync-requires-clause-kept : goal.sync-requires-clause-kept

@@ -1,8 +1,8 @@
-use Rattle.std.proofs.Common.{◌≡◌, true, false, List, [], ◌∷◌, sym, ◌∙◌, subst}
+use Rattle.std.proofs.Common.{List, sym, ◌∙◌, subst}
 use Rattle.std.proofs.lemmas.Bool.{cond-true, cond-false}
 use Rattle.fed_rules.specs.declared.records.SiteRecord.{SiteRecord}
-use Rattle.fed_rules.specs.Disk.{Call, CutBack}
-use Rattle.site_core.specs.Store.{Keeps, Ends, cut_calls}
+use Rattle.fed_rules.specs.Disk.{Call}
+use Rattle.site_core.specs.Store.{Keeps, Ends}
 use Rattle.site_core.proofs.StoreLaws.{torn_agrees}
 use Rattle.site_core.proofs.store.Store.open.Goals as goal
 

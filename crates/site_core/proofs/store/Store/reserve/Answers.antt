@@ -1,6 +1,5 @@
-use Rattle.std.proofs.Common.{◌≡◌, Ok, Err, refl, ap, List, Bool, Result}
-use Rattle.fed_rules.specs.declared.records.SiteRecord.{SiteRecord}
-use Rattle.site_core.proofs.StoreLaws.{reserve_keeps, reserved_same}
+use Rattle.site_core.proofs.EndsLaws.{reserved_same}
+use Rattle.site_core.proofs.StoreLaws.{reserve_keeps}
 use Rattle.site_core.proofs.store.Store.reserve.Goals as goal
 
 pub returns-clause-keeps : goal.returns-clause-keeps

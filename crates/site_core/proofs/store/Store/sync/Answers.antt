@@ -1,7 +1,8 @@
 use Rattle.fed_rules.specs.Disk.{Sync, after_call}
 use Rattle.fed_rules.specs.SiteRecords.{site_frame}
 use Rattle.site_core.specs.Store.{Keeps}
-use Rattle.site_core.proofs.StoreLaws.{sync_keeps, sync_fails, counts_end}
+use Rattle.site_core.proofs.EndsLaws.{counts_end}
+use Rattle.site_core.proofs.StoreLaws.{sync_keeps, sync_fails}
 use Rattle.site_core.proofs.store.Store.sync.Goals as goal
 
 pub counted-requires-clause-kept : goal.counted-requires-clause-kept
