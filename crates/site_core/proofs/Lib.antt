@@ -2,8 +2,10 @@ pub mod AccessLaws
 pub mod AttemptsLaws
 pub mod CommitLaws
 pub mod EndsLaws
+pub mod LastWriteLaws
 pub mod LineLaws
 pub mod Outcomes
+pub mod RecoveredLaws
 pub mod RunsLaws
 pub mod ServeLaws
 pub mod SetUpLaws

@@ -1,8 +1,11 @@
 //! What the records of a site that stopped say of its next start: the epoch, the greatest serial number, and the rows.
-ghost use Rattle.std.specs.Prelude.{◌≡◌, IfOk, reverse};
-ghost use Rattle.std.specs.List.{AllByRecursion};
+ghost use Rattle.std.specs.Prelude.{◌≡◌, IfOk, OnOk, reverse};
+ghost use Rattle.std.specs.FinMap.{get};
+ghost use Rattle.mdb_base.specs.declared.names.Key.{Key};
+ghost use Rattle.mdb_base.specs.Rising.{IsRising};
+ghost use Rattle.mdb_base.specs.Rows.{value_in};
 ghost use Rattle.fed_rules.specs.SiteRecords.{Home, epoch_of as epoch_after, last_number as number_after, site_rows};
-ghost use Rattle.site_journal.specs.Spelling.{IsRecord};
+ghost use Rattle.site_core.specs.LastWrites.{last_write, later, version_of, write_of};
 ghost use Rattle.site_core.specs.Recovered.{IsFounded, IsRecoverable};
 
 use fed_rules::SiteRecord;
@@ -29,38 +32,62 @@ pub(crate) fn last_number(records: &[SiteRecord]) -> u64
 {
     let mut last = 0;
     for entry in records {
-        match entry {
-            SiteRecord::Local { number, .. } => last = last.max(*number),
-            SiteRecord::Prepared { number, .. } => last = last.max(*number),
-            _ => {}
+        if let SiteRecord::Local { number, .. } | SiteRecord::Prepared { number, .. } = entry {
+            last = last.max(*number);
         }
     }
     last
 }
 
 /// The rows of a site that prepared nothing: its first rows, and of several writes of a key the one with the greatest number, of equal
-/// ones the newest.
+/// ones the newest. The first rows are installed last, by number 0, so that any write counts before them.
 pub(crate) fn recovered_rows(alloc: Global, records: &[SiteRecord]) -> Result<Puts, Memory>
-    requires recoverable { IsRecoverable (reverse records.now) }
-    requires are_records { AllByRecursion IsRecord records.now }
+    requires { IsRecoverable (reverse records.now) }
     ensures { IfOk result (λ rows. (home : Home) → IsFounded home (reverse records.now) → rows ≡ site_rows home (reverse records.now)) }
+{
+    let mut table = last_writes(alloc, records)?;
+    install(alloc, &mut table, first_rows(records), 0)?;
+    table.rows(alloc)
+}
+
+/// The first rows, which the set-up recorded.
+fn first_rows(records: &[SiteRecord]) -> &Puts
+    requires { IsRecoverable (reverse records.now) }
+    ensures { (home : Home) → IsFounded home (reverse records.now) → result.now ≡ home.items }
+{
+    match &records[0] {
+        SiteRecord::Setup { items, .. } => items,
+        _ => unreachable!(),
+    }
+}
+
+/// The table of the writes of the local records: it keeps of each key the one with the greatest number, of equal ones the newest.
+fn last_writes(alloc: Global, records: &[SiteRecord]) -> Result<Tables, Memory>
+    ensures { IfOk result (λ table. (key : Key) → get table.versions key.0 ≡ last_write (reverse records.now) key) }
 {
     let mut table = Tables::new(alloc, &Puts::of(Vec::new(alloc)))?;
     for entry in records.iter().rev() {
-        match entry {
-            SiteRecord::Local { number, writes, .. } => {
-                table.reserve(alloc, writes.len())?;
-                table.install(writes, *number);
-            }
-            _ => {}
-        }
+        install_record(alloc, &mut table, entry)?;
     }
-    match records {
-        [SiteRecord::Setup { items, .. }, ..] => {
-            table.reserve(alloc, items.len())?;
-            table.install(items, 0);
-        }
-        _ => unreachable!(),
+    Ok(table)
+}
+
+/// Installs the writes of a local record by its number; another record has none.
+fn install_record(alloc: Global, table: &mut Tables, entry: &SiteRecord) -> Result<(), Memory>
+    ensures { OnOk result ((key : Key) → get table.new.versions key.0 ≡ later (get table.old.versions key.0) (write_of entry.now key)) }
+{
+    match entry {
+        SiteRecord::Local { number, writes, .. } => install(alloc, table, writes, *number),
+        _ => Ok(()),
     }
-    table.rows(alloc)
+}
+
+/// Installs these rows by this number: a key whose kept number isn't smaller keeps what it has.
+fn install(alloc: Global, table: &mut Tables, rows: &Puts, number: u64) -> Result<(), Memory>
+    ensures written { OnOk result ((key : Key) → get table.new.versions key.0 ≡ later (get table.old.versions key.0) (version_of number (value_in rows.now key))) }
+    ensures rising { OnOk result (IsRising (λ row. row.key.0) rows.now) }
+{
+    table.reserve(alloc, rows.len())?;
+    table.install(rows, number);
+    Ok(())
 }
