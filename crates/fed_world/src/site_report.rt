@@ -3,7 +3,7 @@ ghost use Rattle.std.specs.Prelude.{◌≡◌, ◌∷◌, [], IfOk, length, map,
 ghost use Rattle.fed_world.specs.Reports.{member_tid, kept_reads, reads_of_member};
 ghost use Rattle.fed_world.specs.Stands.{SomeSiteStory, AnyStory, IsReport};
 
-use crate::commits::Numbered;
+use crate::commits::{Numbered, committed_by_number};
 use crate::local_site::LocalSite;
 use crate::local_tx::LocalTx;
 use crate::places::{sites, transactions};
@@ -75,14 +75,15 @@ impl<E: LocalEngine> LocalSite<E> {
         requires { SomeSiteStory E.stands scenario.now self.now AnyStory }
         ensures { IfOk result (λ report. IsReport E.stands scenario.now self.now report) }
     {
-        let order = members(alloc, self.commits.as_slice())?;
+        let commits = committed_by_number(alloc, self.core.records())?;
+        let order = members(alloc, commits.as_slice())?;
         let reads = all_reads(
             alloc,
             transactions(scenario),
             self.locals.as_slice(),
             order.as_slice(),
         )?;
-        let rows = self.engine.rows(alloc)?;
+        let rows = self.core.rows(alloc)?;
         let site = sites(scenario).at(0).site;
         let mut tables = Vec::new(alloc);
         tables.reserve(1)?;

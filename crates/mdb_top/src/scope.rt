@@ -1,4 +1,4 @@
-//! What runs so far: one locking site at most, local transactions, and the commands that speak of them.
+//! What runs so far: one locking site at most, local transactions, and the commands that speak of them and of sites.
 ghost use Rattle.std.specs.Prelude.{◌≡◌};
 ghost use Rattle.std.specs.List.{list_all};
 ghost use Rattle.mdb_top.specs.Verdicts as verdicts;
@@ -30,13 +30,21 @@ fn are_local(transactions: &[TxLine]) -> bool
     transactions.iter().all(|line| line.home.is_some())
 }
 
+/// Whether the command is one of a local transaction, or of a site: there is no coordinator yet.
 fn is_local_command(command: Command) -> bool
     ensures { result ≡ verdicts.is_local_command command }
 {
-    matches!(
-        command,
-        Command::Begin(_) | Command::Step(_) | Command::Commit(_) | Command::Abort(_)
-    )
+    match command {
+        Command::Begin(_) => true,
+        Command::Step(_) => true,
+        Command::Commit(_) => true,
+        Command::Abort(_) => true,
+        Command::Fate(_) => true,
+        Command::Halt { actor, .. } => actor > 0,
+        Command::Trip { actor, .. } => actor > 0,
+        Command::Back { actor } => actor > 0,
+        _ => false,
+    }
 }
 
 fn are_local_commands(commands: &[Command]) -> bool
