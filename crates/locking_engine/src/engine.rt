@@ -117,7 +117,7 @@ impl LocalEngine for LockingEngine {
         let writes = run.puts(alloc)?;
         let ticket = run.ticket();
         let number = self.book.marks().counter + 1;
-        self.book.seal(tid, number);
+        self.book.seal(alloc, tid, number)?;
         Ok(Sealed {
             number,
             ticket,

@@ -5,9 +5,11 @@ use Rattle.std.proofs.lemmas.Bool.{cond-true, cond-false, cond_both}
 use Rattle.mdb_base.specs.declared.names.Tid.{Tid}
 use Rattle.mdb_base.specs.Words.{or_else, map_some}
 use Rattle.fed_rules.specs.Runs.{number}
+use Rattle.site_tables.specs.Tables.{Versions}
 use Rattle.run_lists.specs.declared.marks.Marks.{Marks}
 use Rattle.run_lists.specs.Held.{Held, without, IsPlace}
 use Rattle.run_lists.specs.Book.{Book, sealed_with, not_sealed, sealed_marks, by_number_held, greater_numbers, seals, unseals, unbegins, drops, commits}
+use Rattle.run_lists.specs.Tables.{with_writes}
 use Rattle.run_lists.proofs.HeldLemmas.{held_in-read, set-changed_in, without-place}
 
 pub unwrap_or-or_else : {A : Type 0} (o : Option A) (d : A) → unwrap_or o d ≡ or_else o d
@@ -55,11 +57,14 @@ by_number_held-insert held (other ∷ helds) =
     (λ e. cond-true _ _ _ e ∙ ap (λ (hs : List Held). other ∷ hs) (by_number_held-insert held helds))
     (λ e. cond-false _ _ _ e)
 
-pub commits-made : (book : Book) (tid : Tid) (place at : ℕ) (held noted : Held) (committed : List Held) → IsPlace book.unended tid place → held ≡ get_or book.unended place held → noted ≡ record held { marks = book.marks } → at ≡ greater_numbers (number noted.run) book.committed → committed ≡ insert book.committed at noted → ◌≡◌ {A = Book} (record book { unended = remove book.unended place; committed = committed }) (commits tid book)
-commits-made book tid place at held noted committed is read made counted inserted =
+pub commits-made : (book : Book) (tid : Tid) (place at : ℕ) (held noted : Held) (committed : List Held) (versions : Versions) → IsPlace book.unended tid place → held ≡ get_or book.unended place held → noted ≡ record held { marks = book.marks } → at ≡ greater_numbers (number noted.run) book.committed → committed ≡ insert book.committed at noted → versions ≡ with_writes (number held.run) held.run.acts book.versions → ◌≡◌ {A = Book} (record book { versions = versions; unended = remove book.unended place; committed = committed }) (commits tid book)
+commits-made book tid place at held noted committed versions is read made counted inserted installed =
     let place_noted = λ (h : Held). by_number_held h book.committed in
-    let found = ap (λ (o : Option Held). or_else (map_some (λ h. by_number_held (record h { marks = book.marks }) book.committed) o) book.committed) (held_in-read book.unended tid place held is read) in
+    let here = held_in-read book.unended tid place held is read in
+    let found = ap (λ (o : Option Held). or_else (map_some (λ h. by_number_held (record h { marks = book.marks }) book.committed) o) book.committed) here in
+    let wrote = ap (λ (o : Option Held). or_else (map_some (λ h. with_writes (number h.run) h.run.acts book.versions) o) book.versions) here in
     let list : committed ≡ by_number_held (record held { marks = book.marks }) book.committed =
     inserted ∙ (ap (λ (p : ℕ). insert book.committed p noted) counted ∙ (sym (by_number_held-insert noted book.committed) ∙ ap place_noted made)) in
-    ap (λ (hs : List Held). let b : Book = record book { unended = hs; committed = committed } in b) (sym (without-place book.unended tid place is))
-    ∙ ap (λ (cs : List Held). let b : Book = record book { unended = without tid book.unended; committed = cs } in b) (list ∙ sym found)
+    ap (λ (hs : List Held). let b : Book = record book { versions = versions; unended = hs; committed = committed } in b) (sym (without-place book.unended tid place is))
+    ∙ (ap (λ (cs : List Held). let b : Book = record book { versions = versions; unended = without tid book.unended; committed = cs } in b) (list ∙ sym found)
+    ∙ ap (λ (vs : Versions). let b : Book = record (commits tid book) { versions = vs } in b) (installed ∙ sym wrote))

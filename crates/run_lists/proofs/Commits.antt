@@ -1,6 +1,7 @@
 -- The book of a commit, and of an epoch that starts.
-use Rattle.std.proofs.Common.{◌≡◌, ℕ, ◌≤◌, Bool, true, false, not, nat_lt, Option, Some, None, List, [], ◌∷◌, map, inl, inr, refl, sym, ap, ◌∙◌, subst, arith}
+use Rattle.std.proofs.Common.{◌≡◌, ℕ, ◌<◌, ◌≤◌, Bool, true, false, not, nat_lt, Option, Some, None, List, [], ◌∷◌, map, inl, inr, refl, sym, ap, ◌∙◌, subst, arith}
 use Rattle.std.proofs.lemmas.Bool.{cond-true, cond-false, cases_Bool, le-ltb}
+use Rattle.std.specs.FinMap.{get}
 use Rattle.mdb_base.specs.declared.names.Engine.{Engine}
 use Rattle.mdb_base.specs.declared.names.Tid.{Tid}
 use Rattle.mdb_base.specs.Names.{same_tid}
@@ -8,13 +9,20 @@ use Rattle.mdb_base.proofs.ListLaws.{each_inserted, each_map}
 use Rattle.mdb_base.specs.Words.{with_some, or_else, map_some, those, inserted}
 use Rattle.fed_rules.specs.Runs.{Start, EngineLine, Commits, Run, changed, run_at, number, counter, by_number, committed, committed_since}
 use Rattle.fed_rules.specs.EngineLines.{IsRightLine}
+use Rattle.fed_rules.specs.SerialRuns.{NumbersFall}
+use Rattle.engine_laws.proofs.Counted.{counted as all_counted}
+use Rattle.engine_laws.proofs.EachRule.{always_serial}
+use Rattle.engine_laws.proofs.Runs.{number_is}
 use Rattle.mdb_base.proofs.NameLaws.{same_tid-equal}
+use Rattle.site_tables.specs.Tables.{written}
 use Rattle.run_lists.specs.declared.marks.Marks.{Marks}
-use Rattle.run_lists.specs.Held.{Held, runs_of, held_in, without}
+use Rattle.run_lists.specs.Held.{Held, runs_of, held_in, without, own_write}
 use Rattle.run_lists.specs.Book.{Book, by_number_held, commits}
+use Rattle.run_lists.specs.Tables.{kept_after, with_writes}
 use Rattle.run_lists.specs.Keeps.{Keeps, SameMembers, commit_counter, ended_since}
 use Rattle.run_lists.proofs.Ages.{own_or_other, age-le}
 use Rattle.run_lists.proofs.Distinct.{held_in-without_own, held_in-without_other, distinct-without}
+use Rattle.run_lists.proofs.Kept.{get-with_writes, kept-by_number}
 use Rattle.run_lists.proofs.Members.{Is, same-trans, same-cons, same-those}
 use Rattle.run_lists.proofs.Steps.{runs-step}
 use Rattle.run_lists.proofs.Numbers.{commit_counter-le}
@@ -100,7 +108,18 @@ keeps_commits kind book start older tid k right =
       of_kind = k.of_kind;
       starts = k.starts;
       right = (right, k.right);
-      rows = k.rows;
+      rising = k.rising;
+      versions = λ key.
+          let site = always_serial start (line ∷ older) k.starts (right, k.right) in
+          let falls = subst (λ (o : Option Run). NumbersFall (by_number o (committed start older))) at site.numbers in
+          let drawn = (all_counted start older k.starts k.right).unended tid run at in
+          let some : 0 < number run = subst (λ (n : ℕ). 0 < n) (sym (number_is run right.1 right.2.1)) (drawn.sealed right.1 right.2.1).0 in
+          ap (λ (o : Option Held). get (or_else (map_some (λ h. with_writes (number h.run) h.run.acts book.versions) o) book.versions) key.0) here.found
+          ∙ (ap (λ (r : Run). get (with_writes (number r) r.acts book.versions) key.0) here.run_is
+          ∙ (get-with_writes (number run) run.acts book.versions key
+          ∙ (ap (written (number run) (own_write key run.acts)) (k.versions key)
+          ∙ (sym (kept-by_number start.rows run (committed start older) key some falls)
+          ∙ ap (λ (o : Option Run). kept_after start.rows (by_number o (committed start older)) key) (sym at)))));
       runs = runs-step start older line book.unended (without tid book.unended) k.runs
           (ap (λ (o : Option Held). map_some (λ h. h.run) o) gone ∙ sym (ap (λ (o : Option Run). changed line o) (k.runs tid ∙ at))) others;
       distinct = distinct-without book.unended tid k.distinct;

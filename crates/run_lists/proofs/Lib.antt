@@ -6,9 +6,15 @@ pub mod Commits
 pub mod Distinct
 pub mod HeldBy
 pub mod HeldLemmas
+pub mod Highest
+pub mod Installs
+pub mod Kept
+pub mod KeptRows
 pub mod Members
 pub mod Numbers
+pub mod Promises
 pub mod RivalLemmas
+pub mod Room
 pub mod RowLemmas
 pub mod Starts
 pub mod Steps

@@ -53,7 +53,8 @@ keeps_begins kind book start older tid k free =
       of_kind = k.of_kind;
       starts = k.starts;
       right = ((free, ap (λ (c : ℕ). c + 1) counted), k.right);
-      rows = k.rows;
+      rising = k.rising;
+      versions = k.versions;
       runs = runs-step start older line book.unended (book.unended ++ held ∷ []) k.runs (ap (λ (o : Option Held). map_some (λ h. h.run) o) pushed) (λ u e. held_in-push_other book.unended held u e);
       distinct = distinct-push book.unended held none k.distinct;
       ended = k.ended;
@@ -100,7 +101,8 @@ keeps_unbegins kind book start older tid n k =
       of_kind = k.of_kind;
       starts = k.starts;
       right = k.right.1;
-      rows = k.rows;
+      rising = k.rising;
+      versions = k.versions;
       runs = λ u. elim (cases_Bool (same_tid tid u)) [
         | inl e ↦
             let at : run_in (without tid book.unended) tid ≡ run_at start older tid = ap (λ (o : Option Held). map_some (λ h. h.run) o) gone ∙ sym free in
@@ -144,7 +146,8 @@ keeps_seals kind book start older tid n k right =
       of_kind = k.of_kind;
       starts = k.starts;
       right = (right, k.right);
-      rows = k.rows;
+      rising = k.rising;
+      versions = k.versions;
       runs = runs-step start older line book.unended (changed_in tid change book.unended) k.runs
           (ap (λ (o : Option Held). map_some (λ h. h.run) o) found ∙ sym (ap (λ (o : Option Held). changed line (map_some (λ h. h.run) o)) here.found))
           (λ u e. held_in-changed_other book.unended tid u change (λ h. refl) e);
@@ -184,7 +187,8 @@ keeps_unseals kind book start older tid n k =
       of_kind = k.of_kind;
       starts = k.starts;
       right = k.right.1;
-      rows = k.rows;
+      rising = k.rising;
+      versions = k.versions;
       runs = λ u. elim (cases_Bool (same_tid tid u)) [
         | inl e ↦
             let open_run : (not_sealed here.held).run ≡ run = ap (λ (r : Run). let x : Run = record r { sealed = None } in x) here.run_is ∙ unsealed_is run n live in

@@ -1,12 +1,12 @@
 -- The least and the greatest of a list with one more run.
-use Rattle.std.proofs.Common.{◌≡◌, ℕ, ◌+◌, ◌<◌, Bool, true, false, cond, nat_lt, Option, Some, None, List, [], ◌∷◌, ◌++◌, length, get_or, take, inl, inr, refl, sym, ap, ◌∙◌, arith}
+use Rattle.std.proofs.Common.{◌≡◌, ℕ, ◌+◌, ◌<◌, Bool, true, false, cond, ◌&&◌, nat_lt, Option, Some, None, List, [], ◌∷◌, ◌++◌, length, get_or, take, inl, inr, refl, sym, ap, ◌∙◌, arith}
 use Rattle.std.proofs.lemmas.Bool.{cond-true, cond-false, cases_Bool, ltb-true, ltb-false, lt-ltb, le-ltb}
 use Rattle.std.proofs.lemmas.List.{take_more, map-append, append-nil}
 use Rattle.mdb_base.specs.Words.{map_some, those, lesser, least, greater, greatest}
 use Rattle.fed_rules.specs.Runs.{Run}
 use Rattle.run_lists.specs.declared.rival.Rival.{Rival}
 use Rattle.run_lists.specs.Held.{Held, runs_of}
-use Rattle.run_lists.specs.Rivals.{rival_by, lower_of, higher_of, least_rival, greatest_rival}
+use Rattle.run_lists.specs.Rivals.{rival_by, lower_of, higher_of, least_rival, greatest_rival, least_held, greatest_held}
 
 pub those-append : {A : Type 0} (test : A → Bool) (xs ys : List A) → those test (xs ++ ys) ≡ those test xs ++ those test ys
 those-append test [] ys = refl
@@ -44,7 +44,7 @@ lesser-lesser m y (Some z) x =
       ]
     ]
 
-pub least-push : {A : Type 0} (m : A → ℕ) (xs : List A) (x : A) → least m (xs ++ x ∷ []) ≡ Some (lesser_of m (least m xs) x)
+least-push : {A : Type 0} (m : A → ℕ) (xs : List A) (x : A) → least m (xs ++ x ∷ []) ≡ Some (lesser_of m (least m xs) x)
 least-push m [] x = refl
 least-push m (y ∷ ys) x =
     ap (λ (o : Option _). Some (lesser m y o)) (least-push m ys x) ∙ ap (λ (w : _). Some w) (lesser-lesser m y (least m ys) x)
@@ -77,7 +77,7 @@ greater-greater m y (Some z) x =
       ]
     ]
 
-pub greatest-push : {A : Type 0} (m : A → ℕ) (xs : List A) (x : A) → greatest m (xs ++ x ∷ []) ≡ Some (greater_of m (greatest m xs) x)
+greatest-push : {A : Type 0} (m : A → ℕ) (xs : List A) (x : A) → greatest m (xs ++ x ∷ []) ≡ Some (greater_of m (greatest m xs) x)
 greatest-push m [] x = refl
 greatest-push m (y ∷ ys) x =
     ap (λ (o : Option _). Some (greater m y o)) (greatest-push m ys x) ∙ ap (λ (w : _). Some w) (greater-greater m y (greatest m ys) x)
@@ -99,67 +99,93 @@ rival-greater m (Some y) x =
       | inr e ↦ ap (rival_by m) (cond-false _ _ _ e) ∙ sym (cond-false _ _ _ e)
     ]
 
--- the runs of the list up to the next one
-runs_of-more : (helds : List Held) (i : ℕ) (held : Held) → i < length helds → held ≡ get_or helds i held → runs_of (take (i + 1) helds) ≡ runs_of (take i helds) ++ held.run ∷ []
-runs_of-more helds i held lt is =
-    ap (λ (hs : List Held). runs_of hs) (take_more helds i held lt ∙ ap (λ (h : Held). take i helds ++ h ∷ []) (sym is)) ∙ map-append _ (take i helds) (held ∷ [])
+-- the runs of the list up to the next one that a test holds of
+held-more : (test : Held → Bool) (helds : List Held) (i : ℕ) (held : Held) → i < length helds → held ≡ get_or helds i held → runs_of (those test (take (i + 1) helds)) ≡ runs_of (those test (take i helds)) ++ runs_of (those test (held ∷ []))
+held-more test helds i held lt is =
+    ap (λ (hs : List Held). runs_of (those test hs)) (take_more helds i held lt ∙ ap (λ (h : Held). take i helds ++ h ∷ []) (sym is))
+    ∙ (ap (λ (hs : List Held). runs_of hs) (those-append test (take i helds) (held ∷ [])) ∙ map-append _ (those test (take i helds)) (those test (held ∷ [])))
 
-those-more : (test : Run → Bool) (helds : List Held) (i : ℕ) (held : Held) → i < length helds → held ≡ get_or helds i held → those test (runs_of (take (i + 1) helds)) ≡ those test (runs_of (take i helds)) ++ those test (held.run ∷ [])
-those-more test helds i held lt is =
-    ap (λ (rs : List Run). those test rs) (runs_of-more helds i held lt is) ∙ those-append test (runs_of (take i helds)) (held.run ∷ [])
+held-one : (test : Held → Bool) (helds : List Held) (i : ℕ) (held : Held) → i < length helds → held ≡ get_or helds i held → test held ≡ true → runs_of (those test (take (i + 1) helds)) ≡ runs_of (those test (take i helds)) ++ held.run ∷ []
+held-one test helds i held lt is holds =
+    held-more test helds i held lt is ∙ ap (λ (hs : List Held). runs_of (those test (take i helds)) ++ runs_of hs) (cond-true _ _ _ holds)
+
+held-skip : (test : Held → Bool) (helds : List Held) (i : ℕ) (held : Held) → i < length helds → held ≡ get_or helds i held → test held ≡ false → runs_of (those test (take (i + 1) helds)) ≡ runs_of (those test (take i helds))
+held-skip test helds i held lt is fails =
+    held-more test helds i held lt is ∙ (ap (λ (hs : List Held). runs_of (those test (take i helds)) ++ runs_of hs) (cond-false _ _ _ fails) ∙ append-nil _)
 
 -- the next run is compared, where the test holds of it
-pub least_rival-more : (m : Run → ℕ) (test : Run → Bool) (helds : List Held) (i : ℕ) (held : Held) → i < length helds → held ≡ get_or helds i held → test held.run ≡ true →
-    least_rival m test (take (i + 1) helds) ≡ Some (lower_of (least_rival m test (take i helds)) (rival_by m held.run))
-least_rival-more m test helds i held lt is holds =
-    let before = those test (runs_of (take i helds)) in
-    ap (λ (rs : List Run). map_some (rival_by m) (least m rs)) (those-more test helds i held lt is ∙ ap (λ (rs : List Run). before ++ rs) (cond-true _ _ _ holds))
+least_held-more : (m : Run → ℕ) (test : Held → Bool) (helds : List Held) (i : ℕ) (held : Held) → i < length helds → held ≡ get_or helds i held → test held ≡ true →
+    least_held m test (take (i + 1) helds) ≡ Some (lower_of (least_held m test (take i helds)) (rival_by m held.run))
+least_held-more m test helds i held lt is holds =
+    let before = runs_of (those test (take i helds)) in
+    ap (λ (rs : List Run). map_some (rival_by m) (least m rs)) (held-one test helds i held lt is holds)
     ∙ (ap (λ (o : Option Run). map_some (rival_by m) o) (least-push m before held.run)
     ∙ ap (λ (r : Rival). Some r) (rival-lesser m (least m before) held.run))
 
-pub greatest_rival-more : (m : Run → ℕ) (test : Run → Bool) (helds : List Held) (i : ℕ) (held : Held) → i < length helds → held ≡ get_or helds i held → test held.run ≡ true →
-    greatest_rival m test (take (i + 1) helds) ≡ Some (higher_of (greatest_rival m test (take i helds)) (rival_by m held.run))
-greatest_rival-more m test helds i held lt is holds =
-    let before = those test (runs_of (take i helds)) in
-    ap (λ (rs : List Run). map_some (rival_by m) (greatest m rs)) (those-more test helds i held lt is ∙ ap (λ (rs : List Run). before ++ rs) (cond-true _ _ _ holds))
+greatest_held-more : (m : Run → ℕ) (test : Held → Bool) (helds : List Held) (i : ℕ) (held : Held) → i < length helds → held ≡ get_or helds i held → test held ≡ true →
+    greatest_held m test (take (i + 1) helds) ≡ Some (higher_of (greatest_held m test (take i helds)) (rival_by m held.run))
+greatest_held-more m test helds i held lt is holds =
+    let before = runs_of (those test (take i helds)) in
+    ap (λ (rs : List Run). map_some (rival_by m) (greatest m rs)) (held-one test helds i held lt is holds)
     ∙ (ap (λ (o : Option Run). map_some (rival_by m) o) (greatest-push m before held.run)
     ∙ ap (λ (r : Rival). Some r) (rival-greater m (greatest m before) held.run))
 
-those-skip : (test : Run → Bool) (helds : List Held) (i : ℕ) (held : Held) → i < length helds → held ≡ get_or helds i held → test held.run ≡ false → those test (runs_of (take (i + 1) helds)) ≡ those test (runs_of (take i helds))
-those-skip test helds i held lt is fails =
-    those-more test helds i held lt is ∙ (ap (λ (rs : List Run). those test (runs_of (take i helds)) ++ rs) (cond-false _ _ _ fails) ∙ append-nil _)
-
--- and is passed over, where it doesn't hold
-pub least_rival-skip : (m : Run → ℕ) (test : Run → Bool) (helds : List Held) (i : ℕ) (held : Held) → i < length helds → held ≡ get_or helds i held → test held.run ≡ false →
-    least_rival m test (take (i + 1) helds) ≡ least_rival m test (take i helds)
-least_rival-skip m test helds i held lt is fails = ap (λ (rs : List Run). map_some (rival_by m) (least m rs)) (those-skip test helds i held lt is fails)
-
-pub greatest_rival-skip : (m : Run → ℕ) (test : Run → Bool) (helds : List Held) (i : ℕ) (held : Held) → i < length helds → held ≡ get_or helds i held → test held.run ≡ false →
-    greatest_rival m test (take (i + 1) helds) ≡ greatest_rival m test (take i helds)
-greatest_rival-skip m test helds i held lt is fails = ap (λ (rs : List Run). map_some (rival_by m) (greatest m rs)) (those-skip test helds i held lt is fails)
-
 -- one step of a scan: the next run counts
-pub least_rival-takes : (m : Run → ℕ) (test : Run → Bool) (helds : List Held) (i : ℕ) (held : Held) (b : Bool) (before after : Option Rival) (by best : Rival) →
-    i < length helds → held ≡ get_or helds i held → b ≡ test held.run → b ≡ true → before ≡ least_rival m test (take i helds) → by ≡ rival_by m held.run → best ≡ lower_of before by → after ≡ Some best →
-    after ≡ least_rival m test (take (i + 1) helds)
-least_rival-takes m test helds i held b before after by best lt is tested holds known named made taken =
-    taken ∙ (ap (λ (r : Rival). Some r) (made ∙ (ap (λ (o : Option Rival). lower_of o by) known ∙ ap (λ (r : Rival). lower_of (least_rival m test (take i helds)) r) named))
-    ∙ sym (least_rival-more m test helds i held lt is (sym tested ∙ holds)))
+pub least_held-takes : (m : Run → ℕ) (test : Held → Bool) (helds : List Held) (i : ℕ) (held : Held) (b : Bool) (before after : Option Rival) (by best : Rival) →
+    i < length helds → held ≡ get_or helds i held → b ≡ test held → b ≡ true → before ≡ least_held m test (take i helds) → by ≡ rival_by m held.run → best ≡ lower_of before by → after ≡ Some best →
+    after ≡ least_held m test (take (i + 1) helds)
+least_held-takes m test helds i held b before after by best lt is tested holds known named made taken =
+    taken ∙ (ap (λ (r : Rival). Some r) (made ∙ (ap (λ (o : Option Rival). lower_of o by) known ∙ ap (λ (r : Rival). lower_of (least_held m test (take i helds)) r) named))
+    ∙ sym (least_held-more m test helds i held lt is (sym tested ∙ holds)))
 
-pub greatest_rival-takes : (m : Run → ℕ) (test : Run → Bool) (helds : List Held) (i : ℕ) (held : Held) (b : Bool) (before after : Option Rival) (by best : Rival) →
-    i < length helds → held ≡ get_or helds i held → b ≡ test held.run → b ≡ true → before ≡ greatest_rival m test (take i helds) → by ≡ rival_by m held.run → best ≡ higher_of before by → after ≡ Some best →
-    after ≡ greatest_rival m test (take (i + 1) helds)
-greatest_rival-takes m test helds i held b before after by best lt is tested holds known named made taken =
-    taken ∙ (ap (λ (r : Rival). Some r) (made ∙ (ap (λ (o : Option Rival). higher_of o by) known ∙ ap (λ (r : Rival). higher_of (greatest_rival m test (take i helds)) r) named))
-    ∙ sym (greatest_rival-more m test helds i held lt is (sym tested ∙ holds)))
+pub greatest_held-takes : (m : Run → ℕ) (test : Held → Bool) (helds : List Held) (i : ℕ) (held : Held) (b : Bool) (before after : Option Rival) (by best : Rival) →
+    i < length helds → held ≡ get_or helds i held → b ≡ test held → b ≡ true → before ≡ greatest_held m test (take i helds) → by ≡ rival_by m held.run → best ≡ higher_of before by → after ≡ Some best →
+    after ≡ greatest_held m test (take (i + 1) helds)
+greatest_held-takes m test helds i held b before after by best lt is tested holds known named made taken =
+    taken ∙ (ap (λ (r : Rival). Some r) (made ∙ (ap (λ (o : Option Rival). higher_of o by) known ∙ ap (λ (r : Rival). higher_of (greatest_held m test (take i helds)) r) named))
+    ∙ sym (greatest_held-more m test helds i held lt is (sym tested ∙ holds)))
 
 -- or it doesn't
-pub least_rival-keeps : (m : Run → ℕ) (test : Run → Bool) (helds : List Held) (i : ℕ) (held : Held) (b : Bool) (before after : Option Rival) →
-    i < length helds → held ≡ get_or helds i held → b ≡ test held.run → b ≡ false → before ≡ least_rival m test (take i helds) → after ≡ before → after ≡ least_rival m test (take (i + 1) helds)
-least_rival-keeps m test helds i held b before after lt is tested fails known same =
-    same ∙ (known ∙ sym (least_rival-skip m test helds i held lt is (sym tested ∙ fails)))
+pub least_held-keeps : (m : Run → ℕ) (test : Held → Bool) (helds : List Held) (i : ℕ) (held : Held) (b : Bool) (before after : Option Rival) →
+    i < length helds → held ≡ get_or helds i held → b ≡ test held → b ≡ false → before ≡ least_held m test (take i helds) → after ≡ before → after ≡ least_held m test (take (i + 1) helds)
+least_held-keeps m test helds i held b before after lt is tested fails known same =
+    same ∙ (known ∙ sym (ap (λ (rs : List Run). map_some (rival_by m) (least m rs)) (held-skip test helds i held lt is (sym tested ∙ fails))))
 
-pub greatest_rival-keeps : (m : Run → ℕ) (test : Run → Bool) (helds : List Held) (i : ℕ) (held : Held) (b : Bool) (before after : Option Rival) →
-    i < length helds → held ≡ get_or helds i held → b ≡ test held.run → b ≡ false → before ≡ greatest_rival m test (take i helds) → after ≡ before → after ≡ greatest_rival m test (take (i + 1) helds)
-greatest_rival-keeps m test helds i held b before after lt is tested fails known same =
-    same ∙ (known ∙ sym (greatest_rival-skip m test helds i held lt is (sym tested ∙ fails)))
+pub greatest_held-keeps : (m : Run → ℕ) (test : Held → Bool) (helds : List Held) (i : ℕ) (held : Held) (b : Bool) (before after : Option Rival) →
+    i < length helds → held ≡ get_or helds i held → b ≡ test held → b ≡ false → before ≡ greatest_held m test (take i helds) → after ≡ before → after ≡ greatest_held m test (take (i + 1) helds)
+greatest_held-keeps m test helds i held b before after lt is tested fails known same =
+    same ∙ (known ∙ sym (ap (λ (rs : List Run). map_some (rival_by m) (greatest m rs)) (held-skip test helds i held lt is (sym tested ∙ fails))))
+
+-- of two tests, that of what is held comes first
+pub those-held : (past : Held → Bool) (test : Run → Bool) (helds : List Held) → runs_of (those (λ held. past held && test held.run) helds) ≡ those test (runs_of (those past helds))
+those-held past test [] = refl
+those-held past test (held ∷ helds) = by_past (past held) (those-held past test helds)
+  where
+    rest : List Held
+    rest = those (λ h. past h && test h.run) helds
+
+    by_test : (b : Bool) → runs_of rest ≡ those test (runs_of (those past helds)) → runs_of (cond b (held ∷ rest) rest) ≡ cond b (held.run ∷ those test (runs_of (those past helds))) (those test (runs_of (those past helds)))
+    by_test true same = ap (λ (rs : List Run). held.run ∷ rs) same
+    by_test false same = same
+
+    by_past : (b : Bool) → runs_of rest ≡ those test (runs_of (those past helds)) → runs_of (cond (b && test held.run) (held ∷ rest) rest) ≡ those test (runs_of (cond b (held ∷ those past helds) (those past helds)))
+    by_past true same = by_test (test held.run) same
+    by_past false same = same
+
+-- a test of the run alone
+runs-tested : (test : Run → Bool) (helds : List Held) → runs_of (those (λ held. test held.run) helds) ≡ those test (runs_of helds)
+runs-tested test [] = refl
+runs-tested test (held ∷ helds) = by_test (test held.run) (runs-tested test helds)
+  where
+    rest : List Held
+    rest = those (λ h. test h.run) helds
+
+    by_test : (b : Bool) → runs_of rest ≡ those test (runs_of helds) → runs_of (cond b (held ∷ rest) rest) ≡ cond b (held.run ∷ those test (runs_of helds)) (those test (runs_of helds))
+    by_test true same = ap (λ (rs : List Run). held.run ∷ rs) same
+    by_test false same = same
+
+pub least_held-rival : (m : Run → ℕ) (test : Run → Bool) (helds : List Held) → least_held m (λ held. test held.run) helds ≡ least_rival m test helds
+least_held-rival m test helds = ap (λ (rs : List Run). map_some (rival_by m) (least m rs)) (runs-tested test helds)
+
+pub greatest_held-rival : (m : Run → ℕ) (test : Run → Bool) (helds : List Held) → greatest_held m (λ held. test held.run) helds ≡ greatest_rival m test helds
+greatest_held-rival m test helds = ap (λ (rs : List Run). map_some (rival_by m) (greatest m rs)) (runs-tested test helds)

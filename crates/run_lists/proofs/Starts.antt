@@ -5,6 +5,7 @@ use Rattle.mdb_base.specs.declared.names.Engine.{Engine}
 use Rattle.mdb_base.specs.declared.names.Tid.{Tid}
 use Rattle.mdb_base.specs.declared.rows.Put.{Put}
 use Rattle.mdb_base.specs.Names.{same_tid}
+use Rattle.mdb_base.specs.Rising.{IsRising}
 use Rattle.mdb_base.specs.Words.{Each, map_some}
 use Rattle.fed_rules.specs.declared.runs.Kept.{Kept}
 use Rattle.fed_rules.specs.Runs.{restored_at}
@@ -15,6 +16,7 @@ use Rattle.run_lists.specs.declared.marks.Marks.{Marks}
 use Rattle.run_lists.specs.Held.{Held, held_in}
 use Rattle.run_lists.specs.Book.{restored_runs, started}
 use Rattle.run_lists.specs.Keeps.{Keeps, AreDistinct, run_in}
+use Rattle.run_lists.proofs.Kept.{get-first}
 use Rattle.run_lists.proofs.Members.{same-refl}
 
 run_in-restored : (marks : Marks) (doubtful : List Kept) (u : Tid) → run_in (restored_runs marks doubtful) u ≡ restored_at doubtful u
@@ -36,15 +38,16 @@ restored-distinct marks (kept ∷ more) apart = (restored-none marks kept more a
 
 -- an epoch starts
 pub keeps_starts : (kind : Engine) (rows : List Put) (doubtful : List Kept) (counter published : ℕ) (owner : Option Tid) →
-    IsStart (start_from kind rows doubtful counter published owner) →
+    IsRising (λ row. row.key.0) rows → IsStart (start_from kind rows doubtful counter published owner) →
     Keeps kind (started rows doubtful (record { counter = counter; published = published; owner = owner })) (start_from kind rows doubtful counter published owner) []
-keeps_starts kind rows doubtful counter published owner starts =
+keeps_starts kind rows doubtful counter published owner rising starts =
     let marks : Marks = record { counter = counter; published = published; owner = owner } in
     record {
       of_kind = refl;
       starts = starts;
       right = tt;
-      rows = refl;
+      rising = rising;
+      versions = get-first rows;
       runs = run_in-restored marks doubtful;
       distinct = restored-distinct marks doubtful starts.apart;
       ended = refl;
@@ -55,5 +58,5 @@ keeps_starts kind rows doubtful counter published owner starts =
     }
 
 -- a new site starts
-pub keeps_fresh : (kind : Engine) (rows : List Put) → Keeps kind (started rows [] (record { counter = 0; published = 0; owner = None })) (fresh_start kind rows) []
-keeps_fresh kind rows = keeps_starts kind rows [] 0 0 None (record { numbered = tt; apart = tt })
+pub keeps_fresh : (kind : Engine) (rows : List Put) → IsRising (λ row. row.key.0) rows → Keeps kind (started rows [] (record { counter = 0; published = 0; owner = None })) (fresh_start kind rows) []
+keeps_fresh kind rows rising = keeps_starts kind rows [] 0 0 None rising (record { numbered = tt; apart = tt })

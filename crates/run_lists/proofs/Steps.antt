@@ -15,6 +15,7 @@ use Rattle.run_lists.specs.declared.marks.Marks.{Marks}
 use Rattle.run_lists.specs.Held.{Held, held_in}
 use Rattle.run_lists.specs.Book.{Book}
 use Rattle.run_lists.specs.Keeps.{Keeps, SameMembers, AreDistinct, run_in, marks_after, marks_before, commit_counter, ended_since}
+use Rattle.run_lists.specs.Tables.{kept_after}
 use Rattle.run_lists.proofs.Ages.{BeginsAt, through_line, own_or_other}
 
 -- the line draws no number, publishes no ticket and commits nothing
@@ -96,7 +97,8 @@ keeps_quiet kind book start older line hs quiet k right own others live distinct
   of_kind = k.of_kind;
   starts = k.starts;
   right = (right, k.right);
-  rows = k.rows;
+  rising = k.rising;
+  versions = λ key. k.versions key ∙ ap (λ (runs : List Run). kept_after start.rows runs key) (sym quiet.ended);
   runs = runs-step start older line book.unended hs k.runs own others;
   distinct = distinct;
   ended = k.ended ∙ sym quiet.ended;

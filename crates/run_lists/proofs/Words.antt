@@ -1,7 +1,8 @@
 -- The words on lists, where a list is turned round or goes on.
-use Rattle.std.proofs.Common.{◌≡◌, Bool, ◌||◌, List, [], ◌∷◌, reverse, Result, Ok, Err, IfOk, refl, sym, ap, ◌∙◌}
+use Rattle.std.proofs.Common.{◌≡◌, ℕ, ◌+◌, ◌<◌, Bool, ◌||◌, List, [], ◌∷◌, ◌++◌, length, get_or, take, reverse, Result, Ok, Err, IfOk, refl, sym, ap, ◌∙◌}
 use Rattle.std.specs.List.{list_any}
 use Rattle.std.proofs.lemmas.List.Sorted.{list_any-IsPermutation, IsPermutation-reverse}
+use Rattle.std.proofs.lemmas.List.{take_more, reverse-append}
 use Rattle.mdb_base.specs.Words.{some_of}
 
 -- the two words for a test of some item are one
@@ -18,3 +19,8 @@ list_any_turned test xs =
 pub if_ok-both : {X Y : Type 0} (r : Result X Y) (P Q R : X → Type 0) → ((x : X) → P x → Q x → R x) → IfOk r P → IfOk r Q → IfOk r R
 if_ok-both (Ok x) P Q R f p q = f x p q
 if_ok-both (Err e) P Q R f p q = tt
+
+-- one item more, where the list is turned round
+pub take_more-turned : {A : Type 0} (xs : List A) (i : ℕ) (x : A) → i < length xs → x ≡ get_or xs i x → reverse (take (i + 1) xs) ≡ x ∷ reverse (take i xs)
+take_more-turned xs i x lt is =
+    ap (λ (ys : List _). reverse ys) (take_more xs i x lt ∙ ap (λ y. take i xs ++ y ∷ []) (sym is)) ∙ reverse-append (take i xs) (x ∷ [])

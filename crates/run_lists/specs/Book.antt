@@ -1,17 +1,20 @@
 -- What a run book holds, and what each of its calls makes of it.
 use Rattle.std.specs.Prelude.{ℕ, suc, ◌+◌, ◌-◌, max, nat_lt, cond, Some, None, List, [], ◌∷◌, ◌++◌, map}
+use Rattle.std.specs.FinMap.{get}
 use Rattle.mdb_base.specs.declared.names.Tid.{Tid}
 use Rattle.mdb_base.specs.declared.rows.Put.{Put}
-use Rattle.mdb_base.specs.Rows.{Table, look_up}
+use Rattle.mdb_base.specs.Rows.{Table}
 use Rattle.mdb_base.specs.Words.{or_else, map_some, inserted}
 use Rattle.fed_rules.specs.declared.runs.Kept.{Kept}
-use Rattle.fed_rules.specs.Runs.{Access, restored, begun, number, table_of, rows_of}
+use Rattle.fed_rules.specs.Runs.{Access, restored, begun, number}
+use Rattle.site_tables.specs.Tables.{Versions, value_of}
 use Rattle.run_lists.specs.declared.marks.Marks.{Marks}
-use Rattle.run_lists.specs.Held.{Held, runs_of, held_in, changed_in, without}
+use Rattle.run_lists.specs.Held.{Held, held_in, changed_in, without}
+use Rattle.run_lists.specs.Tables.{first_versions, with_writes}
 
--- the rows that the epoch began with, the unended runs, those that committed, the one with the greatest serial number first, and the marks
+-- what the table keeps of each key, the unended runs, those that committed, the one with the greatest serial number first, and the marks
 pub record Book : Type 0 where
-  pub rows : List Put
+  pub versions : Versions
   pub unended : List Held
   pub committed : List Held
   pub marks : Marks
@@ -22,7 +25,7 @@ restored_runs marks = map (λ kept. record { run = restored kept; marks = marks 
 
 -- the book of an epoch that starts
 abbrev pub started : List Put → List Kept → Marks → Book
-started rows doubtful marks = record { rows = rows; unended = restored_runs marks doubtful; committed = []; marks = marks }
+started rows doubtful marks = record { versions = first_versions rows; unended = restored_runs marks doubtful; committed = []; marks = marks }
 
 -- a run begins with the next number
 abbrev pub begins : Tid → Book → Book
@@ -82,21 +85,18 @@ drops tid book = record book { unended = without tid book.unended }
 abbrev pub by_number_held : Held → List Held → List Held
 by_number_held = inserted (λ a b. nat_lt (number b.run) (number a.run))
 
--- a run is committed, and the marks at its commit are noted at it
+-- a run is committed: its writes go to the table by its number, and the marks at its commit are noted at it
 abbrev pub commits : Tid → Book → Book
 commits tid book =
     record book {
+      versions = or_else (map_some (λ held. with_writes (number held.run) held.run.acts book.versions) (held_in book.unended tid)) book.versions;
       unended = without tid book.unended;
       committed = or_else (map_some (λ held. by_number_held (record held { marks = book.marks }) book.committed) (held_in book.unended tid)) book.committed;
     }
 
--- the table that the committed ones leave
+-- the value of each key in the table
 abbrev pub table_in : Book → Table
-table_in book = table_of (look_up book.rows) (runs_of book.committed)
-
--- the rows that the committed ones leave
-abbrev pub rows_in : Book → List Put
-rows_in book = rows_of book.rows (runs_of book.committed)
+table_in book key = value_of (get book.versions key.0)
 
 -- how many runs from the front on have a greater number
 abbrev pub greater_numbers : ℕ → List Held → ℕ

@@ -1,14 +1,18 @@
 -- When a book holds what a list of engine lines says.
 use Rattle.std.specs.Prelude.{ℕ, ◌≡◌, ◌≤◌, nat_lt, cond, not, Option, Some, None, List, [], ◌∷◌}
+use Rattle.std.specs.FinMap.{get}
 use Rattle.mdb_base.specs.declared.names.Engine.{Engine}
+use Rattle.mdb_base.specs.declared.names.Key.{Key}
 use Rattle.mdb_base.specs.declared.names.Tid.{Tid}
 use Rattle.mdb_base.specs.Names.{same_tid}
+use Rattle.mdb_base.specs.Rising.{IsRising}
 use Rattle.mdb_base.specs.Words.{Among, Each, map_some, those}
 use Rattle.fed_rules.specs.Runs.{Start, EngineLine, Seals, Commits, Run, run_at, counter, published, owner, committed, committed_since}
 use Rattle.fed_rules.specs.EngineLines.{IsStart, IsRight}
 use Rattle.run_lists.specs.declared.marks.Marks.{Marks}
 use Rattle.run_lists.specs.Held.{Held, runs_of, held_in}
 use Rattle.run_lists.specs.Book.{Book}
+use Rattle.run_lists.specs.Tables.{kept_after}
 
 -- the first run of this attempt
 abbrev pub run_in : List Held → Tid → Option Run
@@ -49,7 +53,8 @@ pub record Keeps (kind : Engine) (book : Book) (start : Start) (lines : List Eng
   pub of_kind : start.kind ≡ kind
   pub starts : IsStart start
   pub right : IsRight start lines
-  pub rows : book.rows ≡ start.rows
+  pub rising : IsRising (λ row. row.key.0) start.rows
+  pub versions : (key : Key) → get book.versions key.0 ≡ kept_after start.rows (committed start lines) key
   pub runs : (u : Tid) → run_in book.unended u ≡ run_at start lines u
   pub distinct : AreDistinct book.unended
   pub ended : runs_of book.committed ≡ committed start lines

@@ -3,3 +3,4 @@ pub mod Held
 pub mod Keeps
 pub mod Rivals
 pub mod Rows
+pub mod Tables

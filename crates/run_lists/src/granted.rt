@@ -1,11 +1,13 @@
 //! A granted access.
-ghost use Rattle.std.specs.Prelude.{◌≡◌, IfOk, reverse};
+ghost use Rattle.std.specs.Prelude.{◌≡◌, ◌+◌, ◌≤◌, IfOk, reverse};
 ghost use Rattle.std.specs.List.{list_any};
 ghost use Rattle.fed_rules.specs.Runs.{Got, Wrote, written};
 ghost use Rattle.fed_rules.specs.Replies.{conflicts, conflicts_with_read, writes, reads, access_key};
 ghost use Rattle.run_lists.specs.Held.{access_value, written_row, own_write};
+ghost use Rattle.run_lists.specs.Tables.{writes_in, with_writes};
 
 use mdb_base::{Key, Memory, PlainAct, Put};
+use site_tables::Tables;
 use std::alloc::Global;
 use std::marker::Model;
 
@@ -162,4 +164,32 @@ pub(crate) fn granted_writes(alloc: Global, rows: &[Put]) -> Result<Vec<Granted>
         writes.push_reserved(Granted::write(row.key, row.value));
     }
     Ok(writes)
+}
+
+/// How many of these accesses are writes.
+pub(crate) fn count_writes(accesses: &[Granted]) -> usize
+    ensures { result ≡ writes_in (reverse accesses.now) }
+{
+    let mut count = 0;
+    for access in accesses {
+        if access.written_row().is_some() {
+            count += 1;
+        }
+    }
+    count
+}
+
+/// Writes these accesses to the table by this number, the oldest access first in the list. The newest one goes first, since of
+/// two writes by one number the table keeps the first.
+pub(crate) fn install_writes(accesses: &[Granted], number: u64, tables: &mut Tables)
+    requires { writes_in (reverse accesses.now) ≤ tables.old.spare }
+    ensures written { tables.new.versions ≡ with_writes number (reverse accesses.now) tables.old.versions }
+    ensures room { tables.old.spare ≤ tables.new.spare + writes_in (reverse accesses.now) }
+{
+    let count = accesses.len();
+    for done in 0..count {
+        if let Some(row) = accesses[count - 1 - done].written_row() {
+            tables.install_row(row, number);
+        }
+    }
 }

@@ -2,16 +2,14 @@
 ghost use Rattle.std.specs.Prelude.{◌≡◌, ◌<◌, length, IfOk, IsSome};
 ghost use Rattle.std.specs.Option.{option_copied};
 ghost use Rattle.mdb_base.specs.Names.{same_tid};
-ghost use Rattle.mdb_base.specs.Rows.{look_up};
-ghost use Rattle.fed_rules.specs.Runs.{rows_of, table_of};
-ghost use Rattle.run_lists.specs.Held.{held_in, runs_of, IsPlace};
+ghost use Rattle.run_lists.specs.Held.{held_in, IsPlace};
 ghost use Rattle.run_lists.specs.Book.{greater_numbers, restored_runs};
+ghost use Rattle.run_lists.specs.Tables.{promised as promised_of_all};
 
 use crate::held_run::HeldRun;
 use crate::marks::Marks;
-use crate::row_list::{copy_rows, put_rows};
 use fed_rules::Kept;
-use mdb_base::{Key, Memory, Put, Puts, Tid};
+use mdb_base::{Memory, Tid};
 use std::alloc::Global;
 
 /// Whether two names are of one attempt.
@@ -59,30 +57,6 @@ pub(crate) fn greater_numbers(runs: &[HeldRun], number: u64) -> usize
     runs.len()
 }
 
-/// The value of a key in these rows, or 0.
-pub(crate) fn look_up(rows: &[Put], key: Key) -> u64
-    ensures { result ≡ look_up rows.now key }
-{
-    for row in rows {
-        if row.key.0 == key.0 {
-            return row.value;
-        }
-    }
-    0
-}
-
-/// The value of a key after these rows and the runs that committed, the last one first.
-pub(crate) fn value_after(rows: &[Put], committed: &[HeldRun], key: Key) -> u64
-    ensures { result ≡ table_of (look_up rows.now) (runs_of committed.now) key }
-{
-    for run in committed {
-        if let Some(value) = run.own_value(key) {
-            return value;
-        }
-    }
-    look_up(rows, key)
-}
-
 /// The runs of transactions in doubt, at each of which these marks are noted.
 pub(crate) fn restored(
     alloc: Global,
@@ -99,15 +73,13 @@ pub(crate) fn restored(
     Ok(runs)
 }
 
-/// The rows after these rows and the runs that committed, the last one first.
-pub(crate) fn rows_after(alloc: Global, rows: &Puts, committed: &[HeldRun]) -> Result<Puts, Memory>
-    ensures { IfOk result (λ after. after ≡ rows_of rows.now (runs_of committed.now)) }
+/// How many writes of these runs, once they are sealed, may go to the table.
+pub(crate) fn promised(runs: &[HeldRun]) -> Result<usize, Memory>
+    ensures { IfOk result (λ count. count ≡ promised_of_all runs.now) }
 {
-    let mut after = copy_rows(alloc, rows)?.into_items();
-    let count = committed.len();
-    for done in 0..count {
-        let puts = committed[count - 1 - done].puts(alloc)?;
-        put_rows(&mut after, puts.as_slice())?;
+    let mut count: usize = 0;
+    for run in runs {
+        count = count.checked_add(run.promised()).ok_or(Memory)?;
     }
-    Ok(Puts::of(after))
+    Ok(count)
 }

@@ -1,19 +1,22 @@
 //! A run with what it was granted.
-ghost use Rattle.std.specs.Prelude.{◌≡◌, [], ◌∷◌, Some, None, OnOk, IfOk, OnErr, reverse, is_some};
+ghost use Rattle.std.specs.Prelude.{◌≡◌, ◌+◌, ◌≤◌, [], ◌∷◌, Some, None, OnOk, IfOk, OnErr, reverse, is_some};
 ghost use Rattle.mdb_base.specs.Words.{some_of};
 ghost use Rattle.fed_rules.specs.Runs.{begun, number, puts_of, restored};
 ghost use Rattle.fed_rules.specs.Replies.{age_of, is_in_the_way, has_read, has_written, conflicts_with_read};
 ghost use Rattle.run_lists.specs.Held.{own_write};
 ghost use Rattle.run_lists.specs.Rivals.{rival_by};
+ghost use Rattle.run_lists.specs.Tables.{writes_in, promised_by, with_writes};
 
 use crate::granted::{
-    Granted, any_conflicts, any_reads, any_reads_against, any_writes, granted_writes, last_write,
+    Granted, any_conflicts, any_reads, any_reads_against, any_writes, count_writes, granted_writes,
+    install_writes, last_write,
 };
 use crate::marks::Marks;
 use crate::rival::Rival;
 use crate::row_list::last_writes;
 use fed_rules::Kept;
 use mdb_base::{Key, Memory, PlainAct, Puts, Tid};
+use site_tables::Tables;
 use std::alloc::Global;
 use std::marker::Model;
 
@@ -182,6 +185,33 @@ impl HeldRun {
         ensures { IfOk result (λ puts. puts ≡ puts_of self.now.run.acts) }
     {
         last_writes(alloc, self.acts.as_slice())
+    }
+
+    /// How many writes it was granted.
+    pub fn count_writes(&self) -> usize
+        ensures { result ≡ writes_in self.now.run.acts }
+    {
+        count_writes(self.acts.as_slice())
+    }
+
+    /// How many writes it may install: none before it is sealed.
+    pub(crate) fn promised(&self) -> usize
+        ensures { result ≡ promised_by self.now }
+    {
+        if self.sealed.is_some() {
+            self.count_writes()
+        } else {
+            0
+        }
+    }
+
+    /// Writes its last write of each key to the table by its serial number. It takes no memory.
+    pub(crate) fn install(&self, tables: &mut Tables)
+        requires { writes_in self.now.run.acts ≤ tables.old.spare }
+        ensures written { tables.new.versions ≡ with_writes (number self.now.run) self.now.run.acts tables.old.versions }
+        ensures room { tables.old.spare ≤ tables.new.spare + writes_in self.now.run.acts }
+    {
+        install_writes(self.acts.as_slice(), self.number(), tables);
     }
 
     /// Adds a granted access.

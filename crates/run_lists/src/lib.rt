@@ -9,6 +9,7 @@ mod marks;
 mod rival;
 mod row_list;
 mod run_book;
+mod scan;
 
 pub use granted::Granted;
 pub use held_list::same_attempt;
@@ -16,3 +17,4 @@ pub use held_run::HeldRun;
 pub use marks::Marks;
 pub use rival::Rival;
 pub use run_book::RunBook;
+pub use scan::{latest, oldest, youngest};

@@ -11,7 +11,7 @@ pub struct Rival {
 }
 
 impl Rival {
-    ghost use Rattle.run_lists.specs.Rivals.{lower_of, higher_of};
+    ghost use Rattle.run_lists.specs.Rivals.{lower_of, higher_of, higher_of_two};
 
     /// The one with the lower rank, the first of two alike.
     pub fn lower(first: Option<Rival>, next: Rival) -> Rival
@@ -30,6 +30,15 @@ impl Rival {
         match first {
             Some(first) if next.rank <= first.rank => first,
             _ => next,
+        }
+    }
+    /// The higher one of two, where both are there, the first of two alike.
+    pub fn higher_of_two(first: Option<Rival>, next: Option<Rival>) -> Option<Rival>
+        ensures { result ≡ higher_of_two first next }
+    {
+        match next {
+            Some(next) => Some(Rival::higher(first, next)),
+            None => first,
         }
     }
 }

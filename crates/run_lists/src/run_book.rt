@@ -1,25 +1,28 @@
 //! The book of a site's runs in one epoch.
-ghost use Rattle.std.specs.Prelude.{◌≡◌, ◌+◌, ◌^◌, ◌<◌, Some, IfOk, OnOk, OnErr, IsSome, IfSome};
+ghost use Rattle.std.specs.Prelude.{◌≡◌, ◌+◌, ◌^◌, ◌<◌, ◌&&◌, not, Some, None, IfOk, OnOk, OnErr, IsSome, IfSome};
 ghost use Rattle.std.specs.Option.{option_copied};
-ghost use Rattle.fed_rules.specs.Runs.{after};
+ghost use Rattle.mdb_base.specs.Rising.{IsRising};
+ghost use Rattle.mdb_base.specs.Words.{holds_of};
+ghost use Rattle.fed_rules.specs.Runs.{after, has_ticket, is_sealed};
 ghost use Rattle.run_lists.specs.Held.{held_in};
-ghost use Rattle.run_lists.specs.Book.{started, begins, unbegins, grants, tickets, seals, unseals, drops, commits, table_in, rows_in};
+ghost use Rattle.run_lists.specs.Book.{started, begins, unbegins, grants, tickets, seals, unseals, drops, commits, table_in};
+ghost use Rattle.run_lists.specs.Tables.{AreRowsOf};
 
 use crate::granted::Granted;
-use crate::held_list::{find, greater_numbers, place_of, restored, rows_after, value_after};
+use crate::held_list::{find, greater_numbers, place_of, promised, restored};
 use crate::held_run::HeldRun;
 use crate::marks::Marks;
-use crate::row_list::copy_rows;
 use fed_rules::Kept;
 use mdb_base::{Key, Memory, Puts, Tid};
+use site_tables::Tables;
 use std::alloc::Global;
 use std::marker::Model;
 
-/// The runs of a site in one epoch: the rows that it began with, the unended runs, those that committed, the one with the
-/// greatest serial number first, and the numbers handed out. Room for the commit of each unended run is always there.
+/// The runs of a site in one epoch: the table, the unended runs, those that committed, the one with the greatest serial number
+/// first, and the numbers handed out. Room for the commit of each sealed run is always there.
 #[derive(Drop)]
 pub struct RunBook {
-    rows: Puts,
+    tables: Tables,
     unended: Vec<HeldRun>,
     committed: Vec<HeldRun>,
     marks: Marks,
@@ -27,18 +30,24 @@ pub struct RunBook {
 
 impl Model for RunBook {
     ghost use Rattle.std.specs.Prelude.{◌+◌, ◌≤◌, vec_len, vec_capacity};
+    ghost use Rattle.std.specs.Coded.{codes};
+    ghost use Rattle.site_tables.specs.Tables.{versions_code};
     ghost use Rattle.run_lists.specs.Book.{Book};
+    ghost use Rattle.run_lists.specs.Tables.{promised};
 
     ghost Value = { Book };
 
+    ghost coded = { Prim.hlevel (codes, versions_code) };
+
     ghost view = { λ b. record {
-      rows = b.rows;
+      versions = b.tables.versions;
       unended = b.unended.items;
       committed = b.committed.items;
       marks = b.marks;
     } };
 
-    ghost invariant = { λ b. vec_len b.committed + vec_len b.unended ≤ vec_capacity b.committed };
+    ghost invariant = { λ b. (vec_len b.committed + vec_len b.unended ≤ vec_capacity b.committed)
+        × (promised b.unended.items ≤ b.tables.spare) };
 }
 
 impl RunBook {
@@ -49,14 +58,16 @@ impl RunBook {
         doubtful: &[Kept],
         marks: Marks,
     ) -> Result<Self, Memory>
-        ensures { IfOk result (λ book. book ≡ started rows.now doubtful.now marks) }
+        ensures book { IfOk result (λ book. book ≡ started rows.now doubtful.now marks) }
+        ensures rising { OnOk result (IsRising (λ row. row.key.0) rows.now) }
     {
-        let rows = copy_rows(alloc, rows)?;
+        let mut tables = Tables::new(alloc, rows)?;
         let unended = restored(alloc, doubtful, marks)?;
+        tables.reserve(alloc, promised(unended.as_slice())?)?;
         let mut committed = Vec::new(alloc);
         committed.reserve(unended.len())?;
         Ok(RunBook {
-            rows,
+            tables,
             unended,
             committed,
             marks,
@@ -99,6 +110,36 @@ impl RunBook {
         find(self.unended.as_slice(), tid)
     }
 
+    /// Whether the attempt has a live run.
+    pub fn is_live(&self, tid: Tid) -> bool
+        ensures { result ≡ holds_of (λ held. not (is_sealed held.run)) (held_in self.now.unended tid) }
+    {
+        match self.find(tid) {
+            Some(run) => run.sealed().is_none(),
+            None => false,
+        }
+    }
+
+    /// Whether the attempt has a live run without a ticket.
+    pub fn is_ticketless(&self, tid: Tid) -> bool
+        ensures { result ≡ holds_of (λ held. not (is_sealed held.run) && not (has_ticket held.run)) (held_in self.now.unended tid) }
+    {
+        match self.find(tid) {
+            Some(run) => run.sealed().is_none() && run.ticket().is_none(),
+            None => false,
+        }
+    }
+
+    /// Whether the attempt has a sealed run.
+    pub fn is_sealed(&self, tid: Tid) -> bool
+        ensures { result ≡ holds_of (λ held. is_sealed held.run) (held_in self.now.unended tid) }
+    {
+        match self.find(tid) {
+            Some(run) => run.sealed().is_some(),
+            None => false,
+        }
+    }
+
     /// Begins a run, and answers its number.
     pub fn begin(&mut self, alloc: Global, tid: Tid) -> Result<u64, Memory>
         requires { self.old.marks.counter + 1 < 2 ^ 64 }
@@ -115,9 +156,10 @@ impl RunBook {
         Ok(number)
     }
 
-    /// Grants an access to a run.
+    /// Grants an access to a live run.
     pub fn grant(&mut self, tid: Tid, access: Granted) -> Result<(), Memory>
-        requires { IsSome (held_in self.old.unended tid) }
+        requires held { IsSome (held_in self.old.unended tid) }
+        requires live { IfSome (held_in self.old.unended tid) (λ held. held.run.sealed ≡ None) }
         ensures granted { OnOk result (self.new ≡ grants tid access self.old) }
         ensures memory { OnErr result (self.new ≡ self.old) }
     {
@@ -134,16 +176,23 @@ impl RunBook {
         self.unended[place].hold_ticket(ticket);
     }
 
-    /// Seals a run with this serial number: its ticket is published with it, and the marks before are noted at it.
-    pub fn seal(&mut self, tid: Tid, number: u64)
+    /// Seals a run with this serial number: its ticket is published with it, and the marks before are noted at it. Room for its
+    /// writes is made in the table.
+    pub fn seal(&mut self, alloc: Global, tid: Tid, number: u64) -> Result<(), Memory>
         requires { IsSome (held_in self.old.unended tid) }
-        ensures { self.new ≡ seals tid number self.old }
+        ensures sealed { OnOk result (self.new ≡ seals tid number self.old) }
+        ensures memory { OnErr result (self.new ≡ self.old) }
     {
         let place = place_of(self.unended.as_slice(), tid);
+        let writes = self.unended[place].count_writes();
+        let others = promised(self.unended.as_slice())?;
+        let room = others.checked_add(writes).ok_or(Memory)?;
+        self.tables.reserve(alloc, room)?;
         let run = &mut self.unended[place];
         let ticket = run.ticket().unwrap_or(0);
         run.seal(number, self.marks);
         self.marks = self.marks.sealed(tid, number, ticket);
+        Ok(())
     }
 
     /// Takes a sealing back, with the number and the publication.
@@ -177,23 +226,25 @@ impl RunBook {
         self.unended.remove(place)
     }
 
-    /// Commits a run, at which the marks now are noted.
+    /// Commits a sealed run: its writes go to the table by its serial number, and the marks now are noted at it.
     pub fn commit(&mut self, tid: Tid)
-        requires { IsSome (held_in self.old.unended tid) }
+        requires held { IsSome (held_in self.old.unended tid) }
+        requires sealed { IfSome (held_in self.old.unended tid) (λ held. IsSome held.run.sealed) }
         ensures { self.new ≡ commits tid self.old }
     {
         let place = place_of(self.unended.as_slice(), tid);
         let mut run = self.unended.remove(place);
+        run.install(&mut self.tables);
         run.note(self.marks);
         let at = greater_numbers(self.committed.as_slice(), run.number());
         self.committed.insert(at, run).unwrap();
     }
 
-    /// The value of a key in the table that the committed ones leave.
+    /// The value of a key in the table.
     pub fn value(&self, key: Key) -> u64
         ensures { result ≡ table_in self.now key }
     {
-        value_after(self.rows.as_slice(), self.committed.as_slice(), key)
+        self.tables.get(key)
     }
 
     /// What a run reads of a key: its own last write, or the table's value.
@@ -208,10 +259,10 @@ impl RunBook {
         }
     }
 
-    /// The rows that the committed ones leave.
+    /// The rows of the table by rising key.
     pub fn rows(&self, alloc: Global) -> Result<Puts, Memory>
-        ensures { IfOk result (λ rows. rows ≡ rows_in self.now) }
+        ensures { IfOk result (AreRowsOf self.now.versions) }
     {
-        rows_after(alloc, &self.rows, self.committed.as_slice())
+        self.tables.rows(alloc)
     }
 }

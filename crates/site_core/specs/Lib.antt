@@ -1,4 +1,5 @@
 pub mod Attempts
+pub mod Recovered
 pub mod Runs
 pub mod Stands
 pub mod Steps

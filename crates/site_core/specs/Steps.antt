@@ -1,12 +1,11 @@
 -- What a step of a core asks, and what it does to the pasts that the core stands for.
-use Rattle.std.specs.Prelude.{◌≡◌, ◌+◌, ◌<◌, ◌^◌, false, Some, length}
+use Rattle.std.specs.Prelude.{◌≡◌, ◌+◌, ◌<◌, ◌^◌, Some, length}
 use Rattle.mdb_base.specs.declared.names.Tid.{Tid}
 use Rattle.field_bytes.specs.Fields.{IsTid}
 use Rattle.fed_rules.specs.declared.events.SiteEvent.{SiteEvent}
 use Rattle.fed_rules.specs.declared.events.SiteEvent.TheVariants as Ev
-use Rattle.fed_rules.specs.Happenings.{is_down}
 use Rattle.fed_rules.specs.Runs.{Run, counter}
-use Rattle.fed_rules.specs.SitePast.{SitePast, epoch_start, engine_lines, live}
+use Rattle.fed_rules.specs.SitePast.{SitePast, epoch, epoch_start, engine_lines, live}
 use Rattle.fed_rules.specs.SiteRecords.{Home}
 
 -- for some past that it stands for the fact holds
@@ -33,7 +32,11 @@ pub record CanCommit (tid : Tid) (home : Home) (past : SitePast) : Type 0 where
   pub in_range : IsTid tid
   pub fits : NumberFits home past
 
--- what an event asks of the past; the messages of a coordinator and the start of a site that is down aren't among the events yet
+-- the number of the next epoch fits
+abbrev pub EpochFits : Home → SitePast → Type 0
+EpochFits home past = epoch home past + 1 < 2 ^ 32
+
+-- what an event asks of the past; the messages of a coordinator aren't among the events yet
 abbrev pub CanStep : SiteEvent → Home → SitePast → Type 0
 CanStep (Ev.Begin tid) home past = NumberFits home past
 CanStep (Ev.Act tid act) home past = HasFewAccesses tid home past
@@ -45,4 +48,4 @@ CanStep (Ev.Ask tid) home past = ⊥
 CanStep (Ev.Drop tid) home past = ⊥
 CanStep (Ev.Halt cut) home past = Unit {0}
 CanStep (Ev.Trip calls cut) home past = Unit {0}
-CanStep Ev.Back home past = is_down past ≡ false
+CanStep Ev.Back home past = EpochFits home past

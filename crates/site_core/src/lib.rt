@@ -9,6 +9,7 @@ mod answers;
 mod attempts;
 mod committed;
 mod errors;
+mod recovered;
 mod runs;
 mod site;
 mod store;

@@ -384,7 +384,7 @@ impl<E: LocalEngine> SiteCore<E> {
     {
         match event {
             SiteEvent::Trip { calls, cut } => Ok(self.set_trip(calls, cut)),
-            SiteEvent::Back => unreachable!(),
+            SiteEvent::Back => Err(StepErr::Memory),
             _ => Ok(Answer::Down),
         }
     }

@@ -1,3 +1,4 @@
 pub mod AllRows
 pub mod Looks
+pub mod OneRow
 pub mod Writes

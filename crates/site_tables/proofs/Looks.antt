@@ -6,7 +6,7 @@ use Rattle.std.specs.FinMap.{find, from_entries, get, get-from_entries, same_map
 use Rattle.std.specs.Map.{lookup}
 use Rattle.std.proofs.lemmas.Bool.Decides.{nat_tests}
 
-ties : (q k : ℕ) → eq_by_cmp nat_cmp q k ≡ nat_eq q k
+pub ties : (q k : ℕ) → eq_by_cmp nat_cmp q k ≡ nat_eq q k
 ties q k = grind (arith, nat_tests)
 
 find-lookup : {X : Type 0} (q : ℕ) (es : List (ℕ × X)) → find nat_cmp q es ≡ lookup (nat_eq q) es

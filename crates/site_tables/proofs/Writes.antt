@@ -10,11 +10,11 @@ use Rattle.site_tables.specs.declared.versions.Version.{Version}
 use Rattle.site_tables.specs.Tables.{is_newer, written}
 
 -- the first of two values
-abbrev either : Option ℕ → Option ℕ → Option ℕ
+abbrev pub either : Option ℕ → Option ℕ → Option ℕ
 either None o = o
 either (Some value) o = Some value
 
-either-cond : (b : Bool) (value : ℕ) (o p : Option ℕ) → cond b (Some value) (either o p) ≡ either (cond b (Some value) o) p
+pub either-cond : (b : Bool) (value : ℕ) (o p : Option ℕ) → cond b (Some value) (either o p) ≡ either (cond b (Some value) o) p
 either-cond true value o p = refl
 either-cond false value o p = refl
 
@@ -37,7 +37,7 @@ written_twice number v w true kept e = cond-false _ _ _ (same_number number)
 written_twice number v w false kept e = cond-false _ _ _ e
 
 -- of two writes of a key by one number the first counts
-written-either : (number : ℕ) (o p : Option ℕ) (kept : Option Version) → written number (either o p) kept ≡ written number p (written number o kept)
+pub written-either : (number : ℕ) (o p : Option ℕ) (kept : Option Version) → written number (either o p) kept ≡ written number p (written number o kept)
 written-either number None p kept = refl
 written-either number (Some v) None kept = refl
 written-either number (Some v) (Some w) kept = sym (written_twice number v w (is_newer number kept) kept refl)

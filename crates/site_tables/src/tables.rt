@@ -1,13 +1,13 @@
 //! The table and its calls.
-ghost use Rattle.std.specs.Prelude.{◌≡◌, ◌+◌, ◌≤◌, length, IfOk, OnOk, None};
+ghost use Rattle.std.specs.Prelude.{◌≡◌, ◌+◌, ◌<◌, ◌≤◌, length, IfOk, OnOk, None};
 ghost use Rattle.std.specs.FinMap as map;
 ghost use Rattle.mdb_base.specs.declared.names.Key.{Key};
 ghost use Rattle.mdb_base.specs.Rising.{IsRising};
 ghost use Rattle.mdb_base.specs.Rows.{value_in};
-ghost use Rattle.site_tables.specs.Tables.{value_of, row_of, written};
+ghost use Rattle.site_tables.specs.Tables.{value_of, row_of, with_row, written};
 
 use crate::versions::{self, Version};
-use mdb_base::{Key, Memory, Puts, sort_rows};
+use mdb_base::{Key, Memory, Put, Puts, sort_rows};
 use std::alloc::Global;
 use std::collections::HashMap;
 use std::marker::Model;
@@ -34,7 +34,8 @@ impl Model for Tables {
 impl Tables {
     /// The table of these rows, each written by number 0.
     pub fn new(alloc: Global, items: &Puts) -> Result<Tables, Memory>
-        ensures { IfOk result (λ t. (key : Key) → map.get t.versions key.0 ≡ written 0 (value_in items.now key) None) }
+        ensures written { IfOk result (λ t. (key : Key) → map.get t.versions key.0 ≡ written 0 (value_in items.now key) None) }
+        ensures rising { OnOk result (IsRising (λ put. put.key.0) items.now) }
     {
         let mut versions = HashMap::with_capacity(alloc, items.len())?;
         versions::write_all(&mut versions, items.as_slice(), 0);
@@ -65,6 +66,15 @@ impl Tables {
         ensures room { self.old.spare ≤ self.new.spare + length writes.now }
     {
         versions::write_all(&mut self.versions, writes.as_slice(), number);
+    }
+
+    /// Writes one row by this number: where the kept number of its key isn't smaller, nothing changes.
+    pub fn install_row(&mut self, put: Put, number: u64)
+        requires { 0 < self.old.spare }
+        ensures written { self.new.versions ≡ with_row number put self.old.versions }
+        ensures room { self.old.spare ≤ self.new.spare + 1 }
+    {
+        versions::write(&mut self.versions, put, number);
     }
 
     /// The rows by rising key.
@@ -107,6 +117,18 @@ mod tests {
             }]
             .as_slice()
         );
+        Ok(())
+    }
+
+    #[test]
+    fn a_row_with_a_smaller_number_is_left_out(rt: HostRuntime) -> Result<(), Fail> {
+        let mut tables = Tables::new(rt.alloc(), &one(rt.alloc(), 5, 7)?)?;
+        for (value, number) in [(1, 4), (2, 3)] {
+            let put = Put { key: Key(5), value };
+            tables.reserve(rt.alloc(), 1)?;
+            tables.install_row(put, number);
+        }
+        assert_eq!(rt; tables.get(Key(5)), 1);
         Ok(())
     }
 

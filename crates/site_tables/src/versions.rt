@@ -37,7 +37,7 @@ fn is_newer(versions: &HashMap<u16, Version>, key: u16, number: u64) -> bool
 }
 
 /// Writes one row, where the kept number of its key is smaller.
-fn write(versions: &mut HashMap<u16, Version>, put: Put, number: u64)
+pub fn write(versions: &mut HashMap<u16, Version>, put: Put, number: u64)
     requires { 0 < spare versions.old }
     ensures written { (key : Key) → get nat_eq versions.new key.0 ≡ written number (value_in (put ∷ []) key) (get nat_eq versions.old key.0) }
     ensures room { spare versions.old ≤ spare versions.new + 1 }

@@ -12,7 +12,7 @@ use Rattle.run_lists.specs.Keeps.{SameMembers}
 use Rattle.run_lists.specs.Rivals.{rival_by, greatest_rival}
 use Rattle.run_lists.proofs.Members.{Is, is-append, is-append_left, is-append_right, same-those, those-is}
 use Rattle.timestamp_engine.specs.Stands.{Holds}
-use Rattle.timestamp_engine.proofs.Youngest.{TellsAttempts, greatest-members}
+use Rattle.run_lists.proofs.Highest.{TellsAttempts, greatest-members}
 
 -- one more at the end, and one more in front
 same-push : (xs ys : List Run) (run : Run) → SameMembers xs ys → SameMembers (xs ++ run ∷ []) (run ∷ ys)

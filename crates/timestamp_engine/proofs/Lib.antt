@@ -1,4 +1,2 @@
 pub mod Gone
 pub mod Lines
-pub mod Room
-pub mod Youngest

@@ -18,16 +18,16 @@ use Rattle.run_lists.specs.declared.rival.Rival.{Rival}
 use Rattle.run_lists.specs.Held.{Held, runs_of, held_in}
 use Rattle.run_lists.specs.Book.{Book, grants, tickets, seals, drops, table_in}
 use Rattle.run_lists.specs.Keeps.{SameMembers}
-use Rattle.run_lists.specs.Rivals.{rival_by, greatest_rival}
+use Rattle.run_lists.specs.Rivals.{rival_by, higher_of_two, greatest_rival}
 use Rattle.run_lists.proofs.Calls.{run_at-held, keeps_read, keeps_wrote, keeps_waits, keeps_refused, keeps_took, keeps_waits_for_ticket, keeps_ticket_refused, keeps_aborts}
 use Rattle.run_lists.proofs.Numbers.{keeps_seals}
 use Rattle.run_lists.proofs.RivalLemmas.{those-append}
 use Rattle.run_lists.proofs.Tables.{after-table}
 use Rattle.run_lists.proofs.Unended.{youngest-unended}
-use Rattle.timestamp_engine.specs.Rule.{is_younger_in_the_way, is_younger_reader, is_older_writer, is_younger_taker, is_older_taker, younger_of, stop_by, youngest_in_the_way, youngest_taker, access_stop_in, ticket_stop_in}
+use Rattle.timestamp_engine.specs.Rule.{is_younger_in_the_way, is_younger_reader, is_older_writer, is_younger_taker, is_older_taker, stop_by, youngest_in_the_way, youngest_taker, access_stop_in, ticket_stop_in}
 use Rattle.timestamp_engine.specs.Stands.{Holds, with_gone, stopped_book, stopped_gone}
 use Rattle.timestamp_engine.proofs.Gone.{gone-push, youngest-aborted}
-use Rattle.timestamp_engine.proofs.Youngest.{greatest-append}
+use Rattle.run_lists.proofs.Highest.{greatest-append}
 
 -- the stop by rivals is the stop by runs
 stop_by-late_or_wait : (youngest older : Option Run) → stop_by (map_some (rival_by age_of) youngest) (map_some (rival_by age_of) older) ≡ late_or_wait youngest older
@@ -51,18 +51,18 @@ module _ (book : Book) (gone : List Held) (start : Start) (lines : List EngineLi
 
   -- the youngest of the unended and the committed runs that a test holds of
   youngest_of-both : (test : Run → Bool) →
-      younger_of (greatest_rival age_of test book.unended) (greatest_rival age_of test book.committed) ≡ rival_of (greatest age_of (those test (unended start lines ++ committed start lines)))
+      higher_of_two (greatest_rival age_of test book.unended) (greatest_rival age_of test book.committed) ≡ rival_of (greatest age_of (those test (unended start lines ++ committed start lines)))
   youngest_of-both test =
-      ap (λ (o : Option Rival). younger_of o (greatest_rival age_of test book.committed)) (youngest-unended Timestamp book start lines test h.keeps)
-      ∙ (ap (λ (runs : List Run). younger_of (rival_of (greatest age_of (those test (unended start lines)))) (rival_of (greatest age_of (those test runs)))) h.keeps.ended
+      ap (λ (o : Option Rival). higher_of_two o (greatest_rival age_of test book.committed)) (youngest-unended Timestamp book start lines test h.keeps)
+      ∙ (ap (λ (runs : List Run). higher_of_two (rival_of (greatest age_of (those test (unended start lines)))) (rival_of (greatest age_of (those test runs)))) h.keeps.ended
       ∙ (sym (greatest-append age_of (those test (unended start lines)) (those test (committed start lines)))
       ∙ ap (λ (runs : List Run). rival_of (greatest age_of runs)) (sym (those-append test (unended start lines) (committed start lines)))))
 
   youngest_in_the_way-rule : (act : PlainAct) → youngest_in_the_way book gone held.run.age act ≡ rival_of (greatest age_of (younger_in_the_way start lines held.run act))
   youngest_in_the_way-rule act =
       let age = held.run.age in
-      ap (λ (o : Option Rival). younger_of o (greatest_rival age_of (is_younger_reader age act) gone)) (youngest_of-both (is_younger_in_the_way age act))
-      ∙ (ap (λ (o : Option Rival). younger_of (rival_of (greatest age_of (those (is_younger_in_the_way age act) (unended start lines ++ committed start lines)))) o)
+      ap (λ (o : Option Rival). higher_of_two o (greatest_rival age_of (is_younger_reader age act) gone)) (youngest_of-both (is_younger_in_the_way age act))
+      ∙ (ap (λ (o : Option Rival). higher_of_two (rival_of (greatest age_of (those (is_younger_in_the_way age act) (unended start lines ++ committed start lines)))) o)
       (youngest-aborted book gone start lines (is_younger_reader age act) h)
       ∙ sym (greatest-append age_of (those (is_younger_in_the_way age act) (unended start lines ++ committed start lines)) (those (is_younger_reader age act) (aborted start lines))))
 

@@ -1,6 +1,6 @@
 -- Strict timestamp order on a book's runs: who stands in the way of a run, and what it is answered.
 -- The rule is of Bernstein, Hadzilacos and Goodman (1987).
-use Rattle.std.specs.Prelude.{ℕ, ◌≡◌, Bool, not, ◌&&◌, nat_lt, Option, Some, None, List}
+use Rattle.std.specs.Prelude.{ℕ, Bool, not, ◌&&◌, nat_lt, Option, Some, None, List}
 use Rattle.mdb_base.specs.declared.names.Key.{Key}
 use Rattle.mdb_base.specs.declared.acts.PlainAct.{PlainAct}
 use Rattle.mdb_base.specs.declared.replies.Reply.{Reply}
@@ -12,7 +12,7 @@ use Rattle.fed_rules.specs.Replies.{age_of, key_of, conflicts_with_read, is_in_t
 use Rattle.run_lists.specs.declared.rival.Rival.{Rival}
 use Rattle.run_lists.specs.Held.{Held}
 use Rattle.run_lists.specs.Book.{Book}
-use Rattle.run_lists.specs.Rivals.{higher_of, greatest_rival}
+use Rattle.run_lists.specs.Rivals.{higher_of_two, greatest_rival}
 
 -- a younger run with a granted conflicting access
 abbrev pub is_younger_in_the_way : ℕ → PlainAct → Run → Bool
@@ -34,16 +34,6 @@ is_younger_taker age run = nat_lt age run.age && has_ticket run
 abbrev pub is_older_taker : ℕ → Run → Bool
 is_older_taker age run = nat_lt run.age age && has_ticket run && not (is_sealed run)
 
--- where the answers are those of a test, it is the youngest run that the test holds of
-abbrev pub IsYoungest : (Held → Bool → Type 0) → List Held → Option Rival → Type 0
-IsYoungest answers helds found =
-    (test : Run → Bool) → ((held : Held) (answer : Bool) → answers held answer → answer ≡ test held.run) → found ≡ greatest_rival age_of test helds
-
--- the younger of two, the first of two alike
-abbrev pub younger_of : Option Rival → Option Rival → Option Rival
-younger_of first None = first
-younger_of first (Some next) = Some (higher_of first next)
-
 -- who comes behind a younger one is late, and else waits for the older one
 abbrev pub stop_by : Option Rival → Option Rival → Option Reply
 stop_by (Some youngest) older = Some (Refused (Late youngest.tid))
@@ -53,7 +43,7 @@ stop_by None None = None
 -- the youngest of the younger ones in the way: unended and committed runs, and of aborted ones their reads
 abbrev pub youngest_in_the_way : Book → List Held → ℕ → PlainAct → Option Rival
 youngest_in_the_way book gone age act =
-    younger_of (younger_of (greatest_rival age_of (is_younger_in_the_way age act) book.unended) (greatest_rival age_of (is_younger_in_the_way age act) book.committed))
+    higher_of_two (higher_of_two (greatest_rival age_of (is_younger_in_the_way age act) book.unended) (greatest_rival age_of (is_younger_in_the_way age act) book.committed))
     (greatest_rival age_of (is_younger_reader age act) gone)
 
 -- what stops an access of a run of this age
@@ -64,7 +54,7 @@ access_stop_in book gone age act =
 -- the youngest of the younger ones that have taken the ticket: unended and committed runs
 abbrev pub youngest_taker : Book → ℕ → Option Rival
 youngest_taker book age =
-    younger_of (greatest_rival age_of (is_younger_taker age) book.unended) (greatest_rival age_of (is_younger_taker age) book.committed)
+    higher_of_two (greatest_rival age_of (is_younger_taker age) book.unended) (greatest_rival age_of (is_younger_taker age) book.committed)
 
 -- what stops the taking of the ticket
 abbrev pub ticket_stop_in : Book → ℕ → Option Reply

@@ -1,11 +1,11 @@
 //! The timestamp engine.
 use crate::rule::{
-    key_of, late_or_wait, younger_of, youngest_in_the_way, youngest_live_taker, youngest_reader,
+    key_of, late_or_wait, youngest_in_the_way, youngest_live_taker, youngest_reader,
     youngest_taker, youngest_writer,
 };
 use engine_contract::{Kept, LocalEngine, SealErr, Sealed};
 use mdb_base::{Key, Memory, PlainAct, Puts, Reply, Tid};
-use run_lists::{Granted, HeldRun, Marks, RunBook};
+use run_lists::{Granted, HeldRun, Marks, Rival, RunBook};
 use std::alloc::Global;
 
 #[cfg(test)]
@@ -54,7 +54,7 @@ impl TimestampEngine {
         let unended = youngest_in_the_way(self.book.unended(), age, act);
         let committed = youngest_in_the_way(self.book.committed(), age, act);
         let reader = youngest_reader(self.aborted.as_slice(), age, act);
-        let youngest = younger_of(younger_of(unended, committed), reader);
+        let youngest = Rival::higher_of_two(Rival::higher_of_two(unended, committed), reader);
         late_or_wait(
             youngest,
             youngest_writer(self.book.unended(), age, key_of(act)),
@@ -71,7 +71,7 @@ impl TimestampEngine {
         let unended = youngest_taker(self.book.unended(), age);
         let committed = youngest_taker(self.book.committed(), age);
         let taker = youngest_live_taker(self.book.unended(), age);
-        late_or_wait(younger_of(unended, committed), taker)
+        late_or_wait(Rival::higher_of_two(unended, committed), taker)
     }
 
     /// Ends a run otherwise than by commit.
@@ -152,7 +152,7 @@ impl LocalEngine for TimestampEngine {
         let writes = run.puts(alloc)?;
         let ticket = run.ticket();
         let number = run.age();
-        self.book.seal(tid, number);
+        self.book.seal(alloc, tid, number)?;
         Ok(Sealed {
             number,
             ticket,

@@ -1,28 +1,13 @@
 //! Who stands in the way of a run, and what it is answered.
 ghost use Rattle.std.specs.Prelude.{◌≡◌};
-ghost use Rattle.std.specs.Fn.{FnReturnsAt};
 ghost use Rattle.fed_rules.specs.Replies.{age_of};
 ghost use Rattle.fed_rules.specs.Replies.{key_of as key_of_act};
 ghost use Rattle.run_lists.specs.Rivals.{greatest_rival};
 ghost use Rattle.timestamp_engine.specs.Rule.{is_younger_in_the_way, is_younger_reader, is_older_writer, is_younger_taker, is_older_taker};
-ghost use Rattle.timestamp_engine.specs.Rule.{IsYoungest, younger_of as the_younger_of, stop_by};
+ghost use Rattle.timestamp_engine.specs.Rule.{stop_by};
 
 use mdb_base::{Key, PlainAct, Reply, Why};
-use run_lists::{HeldRun, Rival};
-
-/// The youngest of the runs that count.
-fn youngest<F: Fn(&HeldRun) -> bool>(runs: &[HeldRun], counts: F) -> Option<Rival>
-    requires { F.IsAlwaysCallable counts }
-    ensures { IsYoungest (FnReturnsAt F.Fn counts) runs.now result }
-{
-    let mut youngest = None;
-    for run in runs {
-        if counts(run) {
-            youngest = Some(Rival::higher(youngest, run.by_age()));
-        }
-    }
-    youngest
-}
+use run_lists::{HeldRun, Rival, youngest};
 
 /// The youngest of the runs younger than this age with a granted access that conflicts with the act.
 pub(crate) fn youngest_in_the_way(runs: &[HeldRun], age: u64, act: PlainAct) -> Option<Rival>
@@ -72,16 +57,6 @@ pub(crate) fn youngest_live_taker(runs: &[HeldRun], age: u64) -> Option<Rival>
         ensures { result ≡ is_older_taker age run.now.run }
     { run.age() < age && run.ticket().is_some() && run.sealed().is_none() };
     youngest(runs, counts)
-}
-
-/// The younger of the two, where both are there.
-pub(crate) fn younger_of(first: Option<Rival>, next: Option<Rival>) -> Option<Rival>
-    ensures { result ≡ the_younger_of first next }
-{
-    match next {
-        Some(next) => Some(Rival::higher(first, next)),
-        None => first,
-    }
 }
 
 /// The key of an act.

@@ -1,21 +1,16 @@
 -- The least bad key of accesses, the oldest one first.
-use Rattle.std.proofs.Common.{◌≡◌, ℕ, ◌+◌, ◌<◌, Bool, true, false, Option, Some, None, List, [], ◌∷◌, ◌++◌, map, length, get_or, take, reverse, refl, sym, ap, ◌∙◌}
+use Rattle.std.proofs.Common.{◌≡◌, ℕ, ◌+◌, ◌<◌, Bool, true, false, Option, Some, None, List, ◌∷◌, map, length, get_or, take, reverse, refl, sym, ap, ◌∙◌}
 use Rattle.std.proofs.lemmas.Bool.{cond-true, cond-false}
-use Rattle.std.proofs.lemmas.List.{take_more, reverse-append}
 use Rattle.mdb_base.specs.declared.names.Key.{Key}
 use Rattle.mdb_base.specs.Words.{those, lesser, least}
 use Rattle.fed_rules.specs.Runs.{Access}
 use Rattle.fed_rules.specs.Replies.{access_key}
+use Rattle.run_lists.proofs.Words.{take_more-turned}
 use Rattle.validation_engine.specs.Rule.{lower_key}
 
 -- the least bad key of accesses, the newest one first
 abbrev pub least_of : (Key → Bool) → List Access → Option Key
 least_of bad acts = least (λ key. key.0) (those bad (map access_key acts))
-
--- one access more
-more-turned : (accesses : List Access) (i : ℕ) (access : Access) → i < length accesses → access ≡ get_or accesses i access → reverse (take (i + 1) accesses) ≡ access ∷ reverse (take i accesses)
-more-turned accesses i access lt is =
-    ap (λ (acts : List Access). reverse acts) (take_more accesses i access lt ∙ ap (λ (a : Access). take i accesses ++ a ∷ []) (sym is)) ∙ reverse-append (take i accesses) (access ∷ [])
 
 lower_is : (key : Key) (keys : List Key) → least (λ k. k.0) (key ∷ keys) ≡ Some (lower_key key (least (λ k. k.0) keys))
 lower_is key keys = by_rest (least (λ k. k.0) keys)
@@ -31,7 +26,7 @@ pub least_of-takes : (bad : Key → Bool) (accesses : List Access) (i : ℕ) (ac
 least_of-takes bad accesses i access key low before after lt is named holds known made taken =
     let rest = those bad (map access_key (reverse (take i accesses))) in
     let more : least_of bad (reverse (take (i + 1) accesses)) ≡ least (λ k. k.0) (key ∷ rest) =
-    ap (λ (acts : List Access). least_of bad acts) (more-turned accesses i access lt is)
+    ap (λ (acts : List Access). least_of bad acts) (take_more-turned accesses i access lt is)
     ∙ (ap (λ (k : Key). least (λ k. k.0) (those bad (k ∷ map access_key (reverse (take i accesses))))) (sym named)
     ∙ ap (λ (keys : List Key). least (λ k. k.0) keys) (cond-true _ (key ∷ rest) rest holds)) in
     taken ∙ (ap (λ (k : Key). Some k) (made ∙ ap (λ (o : Option Key). lower_key key o) known) ∙ sym (more ∙ lower_is key rest))
@@ -43,7 +38,7 @@ pub least_of-keeps : (bad : Key → Bool) (accesses : List Access) (i : ℕ) (ac
 least_of-keeps bad accesses i access key before after lt is named fails known same =
     let rest = those bad (map access_key (reverse (take i accesses))) in
     let more : least_of bad (reverse (take (i + 1) accesses)) ≡ least (λ k. k.0) rest =
-    ap (λ (acts : List Access). least_of bad acts) (more-turned accesses i access lt is)
+    ap (λ (acts : List Access). least_of bad acts) (take_more-turned accesses i access lt is)
     ∙ (ap (λ (k : Key). least (λ k. k.0) (those bad (k ∷ map access_key (reverse (take i accesses))))) (sym named)
     ∙ ap (λ (keys : List Key). least (λ k. k.0) keys) (cond-false _ (key ∷ rest) rest fails)) in
     same ∙ (known ∙ sym more)

@@ -20,7 +20,7 @@ use Rattle.run_lists.specs.Rivals.{rival_by}
 use Rattle.run_lists.proofs.Members.{Is, is-append, those-is, same-append, same-those}
 use Rattle.run_lists.proofs.Unended.{unended-is, unended-same}
 use Rattle.validation_engine.specs.Rule.{is_sealed_writer, last_by_number, spoilers_in, is_bad, least_bad_key, invalid_by_last, invalid_at_key, invalid_in, moved_in, seal_stop_in}
-use Rattle.validation_engine.proofs.Last.{NamesOne, last-same}
+use Rattle.run_lists.proofs.Highest.{TellsAttempts, greatest-members}
 
 -- a run that drew its serial number, which it has
 abbrev HasNumber : Start → List EngineLine → Run → Type 0
@@ -67,13 +67,13 @@ module _ (book : Book) (start : Start) (lines : List EngineLine) (k : Keeps Vali
       ]
 
   -- no two of them have one number
-  spoilers-one : (key : Key) → NamesOne (spoilers start lines me key)
+  spoilers-one : (key : Key) → TellsAttempts number (spoilers start lines me key)
   spoilers-one key a b ha hb same =
       let drew_a = spoiler-number key a ha in let drew_b = spoiler-number key b hb in
       same_number start lines a b (number a) drew_a.0 drew_b.0 drew_a.1 (drew_b.1 ∙ ap (λ (n : ℕ). Some n) (sym same))
 
   last-spoiler : (key : Key) → last_by_number (spoilers_in book me key) ≡ last_by_number (spoilers start lines me key)
-  last-spoiler key = last-same _ _ (spoilers-same key) (spoilers-one key)
+  last-spoiler key = greatest-members number _ _ (spoilers-same key) (spoilers-one key)
 
   bad-same : (key : Key) → is_bad book me key ≡ not (is_empty (spoilers start lines me key))
   bad-same key = ap (λ (o : Option Rival). is_some o) (last-spoiler key) ∙ last-empty (spoilers start lines me key)

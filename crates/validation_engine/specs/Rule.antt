@@ -14,7 +14,7 @@ use Rattle.run_lists.specs.declared.rival.Rival.{Rival}
 use Rattle.run_lists.specs.Held.{Held, runs_of}
 use Rattle.run_lists.specs.Book.{Book}
 use Rattle.run_lists.specs.Keeps.{ended_since}
-use Rattle.run_lists.specs.Rivals.{rival_by, higher_of}
+use Rattle.run_lists.specs.Rivals.{rival_by}
 
 -- it committed since a run of this age began, and wrote the key
 abbrev pub is_ended_writer : ℕ → Key → Held → Bool
@@ -27,11 +27,6 @@ is_sealed_writer tid key run = not (same_tid run.tid tid) && is_sealed run && ha
 -- the first run with the greatest serial number
 abbrev pub last_by_number : List Run → Option Rival
 last_by_number runs = map_some (rival_by number) (greatest number runs)
-
--- the later one of two, the first of two alike
-abbrev pub later : Option Rival → Option Rival → Option Rival
-later first None = first
-later first (Some next) = Some (higher_of first next)
 
 -- the runs that make a key bad: those that wrote it and committed since this one began, where it was read, and other sealed ones that wrote it
 abbrev pub spoilers_in : Book → Run → Key → List Run

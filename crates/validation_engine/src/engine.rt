@@ -78,7 +78,7 @@ impl LocalEngine for ValidationEngine {
         let writes = run.puts(alloc)?;
         let ticket = run.ticket();
         let number = self.book.marks().counter + 1;
-        self.book.seal(tid, number);
+        self.book.seal(alloc, tid, number)?;
         Ok(Sealed {
             number,
             ticket,

@@ -5,61 +5,31 @@ ghost use Rattle.fed_rules.specs.Runs.{number};
 ghost use Rattle.fed_rules.specs.Replies.{has_written};
 ghost use Rattle.run_lists.specs.Keeps.{ended_since};
 ghost use Rattle.run_lists.specs.Rivals.{greatest_rival};
-ghost use Rattle.validation_engine.specs.Rule.{is_ended_writer as has_ended_and_written, is_sealed_writer as is_sealed_and_has_written};
-ghost use Rattle.validation_engine.specs.Rule.{later as later_of, last_by_number, lower_key as lower_key_of, spoilers_in};
+ghost use Rattle.validation_engine.specs.Rule.{is_ended_writer, is_sealed_writer};
+ghost use Rattle.validation_engine.specs.Rule.{last_by_number, lower_key as lower_key_of, spoilers_in};
 ghost use Rattle.validation_engine.specs.Rule.{least_bad_key as least_bad_key_in, invalid_in, moved_in, seal_stop_in};
 
 use mdb_base::{Key, Tid, Why};
-use run_lists::{HeldRun, Marks, Rival, RunBook, same_attempt};
-
-/// Whether it committed since a run of this age began, and wrote the key.
-fn is_ended_writer(run: &HeldRun, age: u64, key: Key) -> bool
-    ensures { result ≡ has_ended_and_written age key run.now }
-{
-    run.marks().counter >= age && run.has_written(key)
-}
-
-/// Whether it is another sealed run, and wrote the key.
-fn is_sealed_writer(run: &HeldRun, tid: Tid, key: Key) -> bool
-    ensures { result ≡ is_sealed_and_has_written tid key run.now.run }
-{
-    !same_attempt(run.tid(), tid) && run.sealed().is_some() && run.has_written(key)
-}
+use run_lists::{HeldRun, Marks, Rival, RunBook, latest, same_attempt};
 
 /// Of the runs that committed since a run of this age began, the last one by number that wrote the key.
 fn last_ended_writer(runs: &[HeldRun], age: u64, key: Key) -> Option<Rival>
     ensures { result ≡ last_by_number (those (has_written key) (ended_since age runs.now)) }
 {
-    let mut last = None;
-    for run in runs {
-        if is_ended_writer(run, age, key) {
-            last = Some(Rival::higher(last, run.by_number()));
-        }
-    }
-    last
+    let counts = |run: &HeldRun| -> bool
+        ensures { result ≡ is_ended_writer age key run.now }
+    { run.marks().counter >= age && run.has_written(key) };
+    latest(runs, counts)
 }
 
 /// Of the other sealed runs, the last one by number that wrote the key.
 fn last_sealed_writer(runs: &[HeldRun], tid: Tid, key: Key) -> Option<Rival>
-    ensures { result ≡ greatest_rival number (is_sealed_and_has_written tid key) runs.now }
+    ensures { result ≡ greatest_rival number (is_sealed_writer tid key) runs.now }
 {
-    let mut last = None;
-    for run in runs {
-        if is_sealed_writer(run, tid, key) {
-            last = Some(Rival::higher(last, run.by_number()));
-        }
-    }
-    last
-}
-
-/// The later one of two, the first of two alike.
-fn later(first: Option<Rival>, next: Option<Rival>) -> Option<Rival>
-    ensures { result ≡ later_of first next }
-{
-    match next {
-        Some(next) => Some(Rival::higher(first, next)),
-        None => first,
-    }
+    let counts = |run: &HeldRun| -> bool
+        ensures { result ≡ is_sealed_writer tid key run.now.run }
+    { !same_attempt(run.tid(), tid) && run.sealed().is_some() && run.has_written(key) };
+    latest(runs, counts)
 }
 
 /// The last one by number of the runs that make a key bad for a run.
@@ -70,7 +40,8 @@ fn last_spoiler(book: &RunBook, run: &HeldRun, key: Key) -> Option<Rival>
     if !run.has_read(key) {
         return sealed;
     }
-    later(last_ended_writer(book.committed(), run.age(), key), sealed)
+    let ended = last_ended_writer(book.committed(), run.age(), key);
+    Rival::higher_of_two(ended, sealed)
 }
 
 /// The lower key of two.

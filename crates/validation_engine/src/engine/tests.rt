@@ -1,9 +1,5 @@
 //! The engine driven from outside: the condition of each call is tested before the call.
-ghost use Rattle.std.specs.Prelude.{◌≡◌, ◌&&◌, [], not};
-ghost use Rattle.mdb_base.specs.Words.{holds_of};
-ghost use Rattle.fed_rules.specs.Runs.{has_ticket, is_sealed};
 ghost use Rattle.engine_contract.specs.Past.{SomePast};
-ghost use Rattle.run_lists.specs.Held.{held_in};
 ghost use Rattle.validation_engine.specs.Stands.{Stands};
 
 use super::ValidationEngine;
@@ -56,36 +52,6 @@ enum Call {
     Abort(Tid),
 }
 
-/// Whether the attempt has a live run.
-fn is_live(engine: &ValidationEngine, tid: Tid) -> bool
-    ensures { result ≡ holds_of (λ held. not (is_sealed held.run)) (held_in engine.now.book.unended tid) }
-{
-    match engine.book.find(tid) {
-        Some(run) => run.sealed().is_none(),
-        None => false,
-    }
-}
-
-/// Whether the attempt has a sealed run.
-fn is_sealed(engine: &ValidationEngine, tid: Tid) -> bool
-    ensures { result ≡ holds_of (λ held. is_sealed held.run) (held_in engine.now.book.unended tid) }
-{
-    match engine.book.find(tid) {
-        Some(run) => run.sealed().is_some(),
-        None => false,
-    }
-}
-
-/// Whether the attempt has a live run without a ticket.
-fn is_ticketless(engine: &ValidationEngine, tid: Tid) -> bool
-    ensures { result ≡ holds_of (λ held. not (is_sealed held.run) && not (has_ticket held.run)) (held_in engine.now.book.unended tid) }
-{
-    match engine.book.find(tid) {
-        Some(run) => run.sealed().is_none() && run.ticket().is_none(),
-        None => false,
-    }
-}
-
 /// Makes an access or takes the ticket, where it may come.
 fn access(
     rt: &impl Abort,
@@ -98,15 +64,15 @@ fn access(
 {
     match call {
         Call::Read(tid, key, value) => {
-            assert!(rt; is_live(engine, tid));
+            assert!(rt; engine.book.is_live(tid));
             assert_eq!(rt; engine.read(alloc, tid, key)?, Reply::Value(value));
         }
         Call::Write(tid, key, value) => {
-            assert!(rt; is_live(engine, tid));
+            assert!(rt; engine.book.is_live(tid));
             assert_eq!(rt; engine.write(alloc, tid, key, value)?, Reply::Done);
         }
         Call::Take(tid, ticket) => {
-            assert!(rt; is_ticketless(engine, tid));
+            assert!(rt; engine.book.is_ticketless(tid));
             assert!(rt; engine.book.marks().published < 1000);
             assert_eq!(rt; engine.take(alloc, tid)?, Reply::Ticket(ticket));
         }
@@ -127,14 +93,14 @@ fn seal(
 {
     match call {
         Call::Seal(tid, number, ticket) => {
-            assert!(rt; is_live(engine, tid));
+            assert!(rt; engine.book.is_live(tid));
             assert!(rt; engine.book.marks().counter < 1000);
             let sealed = engine.seal(alloc, tid)?;
             assert_eq!(rt; sealed.number, number);
             assert_eq!(rt; sealed.ticket, ticket);
         }
         Call::Refuse(tid, why) => {
-            assert!(rt; is_live(engine, tid));
+            assert!(rt; engine.book.is_live(tid));
             assert!(rt; engine.book.marks().counter < 1000);
             match engine.seal(alloc, tid) {
                 Ok(_) => return Err(Fail::from("sealed")),
@@ -164,7 +130,7 @@ fn turn(
             assert_eq!(rt; engine.begin(alloc, tid)?, number);
         }
         Call::Commit(tid) => {
-            assert!(rt; is_sealed(engine, tid));
+            assert!(rt; engine.book.is_sealed(tid));
             engine.commit(tid);
         }
         Call::Abort(tid) => {

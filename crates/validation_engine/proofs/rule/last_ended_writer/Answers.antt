@@ -1,13 +1,13 @@
-use Rattle.std.proofs.Common.{arith}
-use Rattle.validation_engine.proofs.Last.{last_ended-takes, last_ended-keeps}
+use Rattle.std.proofs.Common.{List, not, nat_lt, ◌∙◌, ap}
+use Rattle.fed_rules.specs.Runs.{Run}
+use Rattle.fed_rules.specs.Replies.{has_written}
+use Rattle.run_lists.specs.Held.{Held}
+use Rattle.run_lists.proofs.RivalLemmas.{those-held}
+use Rattle.validation_engine.specs.Rule.{is_ended_writer, last_by_number}
 use Rattle.validation_engine.proofs.rule.last_ended_writer.Goals as goal
-use Rattle.validation_engine.proofs.rule.last_ended_writer.Goals.{then-is_ended_writer, else-is_ended_writer}
 
-pub loop-run-preserved : goal.loop-run-preserved
-loop-run-preserved c =
-    elim c.if-is_ended_writer.branch [
-      | then-is_ended_writer w ↦ last_ended-takes c.args.age c.args.key c.args.runs.now c.loop-run.run-index c.run-item.result _ _ _ _ _ (omega arith) c.run-item.is
-          c.is_ended_writer.ensures w.if-is_ended_writer.true c.loop-run.invariant w.by_number.ensures w.higher.ensures w.last-is
-      | else-is_ended_writer w ↦ last_ended-keeps c.args.age c.args.key c.args.runs.now c.loop-run.run-index c.run-item.result _ _ _ (omega arith) c.run-item.is
-          c.is_ended_writer.ensures w.if-is_ended_writer.false c.loop-run.invariant w.last-is
-    ]
+pub returns : goal.returns
+returns c =
+    let test = is_ended_writer c.args.age c.args.key in
+    c.latest.ensures test (λ held answer says. says.says.met ∙ ap (λ (h : Held). test h) says.shows)
+    ∙ ap (λ (runs : List Run). last_by_number runs) (those-held (λ held. not (nat_lt held.marks.counter c.args.age)) (has_written c.args.key) c.args.runs.now)

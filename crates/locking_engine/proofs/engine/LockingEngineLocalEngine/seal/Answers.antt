@@ -9,5 +9,5 @@ pub returns-clause-sealed : goal.returns-clause-sealed
 returns-clause-sealed c =
     let book = c.args.self.now.book in
     let here = sealable_held Locking book c.requires.start c.requires.lines c.args.tid c.requires.stood c.requires.holds in
-    λ start lines k. rw c.seal.ensures
+    λ start lines k. rw c.in_ok-seal.ensures.sealed
     (keeps_sealing book start lines k c.args.tid here.held here.found _ here.live (ap (λ (marks : Marks). marks.counter + 1) c.marks-number.ensures))

@@ -5,8 +5,8 @@ use Rattle.site_tables.specs.Tables.{written}
 use Rattle.site_tables.proofs.Looks.{get-lookup}
 use Rattle.site_tables.proofs.tables.Tables.new.Goals as goal
 
-pub returns : goal.returns
-returns c key =
+pub returns-clause-written : goal.returns-clause-written
+returns-clause-written c key =
     let was = lookup (nat_eq key.0) c.in_ok-versions.versions.entries in
     get-lookup _ key.0 ∙ c.write_all.ensures.written key
     ∙ ap (λ writes. written 0 (value_in writes key) was) c.as_slice.ensures.items

@@ -1,7 +1,7 @@
 use Rattle.std.proofs.Common.{◌≡◌, length, ap, arith}
 use Rattle.run_lists.specs.Held.{without}
 use Rattle.run_lists.specs.Book.{Book}
-use Rattle.timestamp_engine.proofs.Room.{without-length}
+use Rattle.run_lists.proofs.Room.{without-length}
 use Rattle.timestamp_engine.proofs.engine.TimestampEngine.end.Goals as goal
 
 pub returns-clause-room : goal.returns-clause-room

@@ -3,7 +3,7 @@ use Rattle.mdb_base.specs.declared.names.Engine.TheVariants.{Timestamp}
 use Rattle.run_lists.proofs.Calls.{run_at-held}
 use Rattle.run_lists.proofs.Commits.{keeps_commits}
 use Rattle.run_lists.proofs.HeldBy.{sealed_held}
-use Rattle.timestamp_engine.proofs.Room.{without-le}
+use Rattle.run_lists.proofs.Room.{without-le}
 use Rattle.timestamp_engine.proofs.engine.TimestampEngineLocalEngine.commit.Goals as goal
 
 pub returns : goal.returns

@@ -4,7 +4,7 @@ use Rattle.fed_rules.specs.Runs.{Got}
 use Rattle.run_lists.specs.Book.{granted_to}
 use Rattle.run_lists.proofs.HeldBy.{live_held}
 use Rattle.timestamp_engine.proofs.Lines.{holds_value, holds_stopped}
-use Rattle.timestamp_engine.proofs.Room.{changed_in-length}
+use Rattle.run_lists.proofs.Room.{changed_in-length}
 use Rattle.timestamp_engine.proofs.engine.TimestampEngineLocalEngine.read.Goals as goal
 
 pub returns-in-Some-clause-answered : goal.returns-in-Some-clause-answered

@@ -15,10 +15,10 @@ returns-clause-started c =
     let as_many : length (restored_runs marks doubtful) ≡ length doubtful = length-map doubtful _ in
     let made_room = c.in_ok-reserve.ensures.ok in
     λ start lines stood. record {
-      holds = rw (c.in_ok-self.ensures, stood.holds.keeps.of_kind, none)
+      holds = rw (c.in_ok-self.ensures.book, stood.holds.keeps.of_kind, none)
           (record {
-            keeps = keeps_starts Timestamp c.args.rows.now doubtful c.args.counter c.args.published c.args.owner c.requires;
+            keeps = keeps_starts Timestamp c.args.rows.now doubtful c.args.counter c.args.published c.args.owner c.in_ok-self.ensures.rising c.requires;
             ended = same-refl [];
           });
-      room = rw c.in_ok-self.ensures (omega arith);
+      room = rw c.in_ok-self.ensures.book (omega arith);
     }

@@ -5,7 +5,7 @@ use Rattle.run_lists.specs.Book.{sealed_with}
 use Rattle.run_lists.proofs.Ages.{some_inj}
 use Rattle.run_lists.proofs.HeldBy.{sealable_held}
 use Rattle.timestamp_engine.proofs.Lines.{holds_sealing}
-use Rattle.timestamp_engine.proofs.Room.{changed_in-length}
+use Rattle.run_lists.proofs.Room.{changed_in-length}
 use Rattle.timestamp_engine.proofs.engine.TimestampEngineLocalEngine.seal.Goals as goal
 
 pub returns-clause-sealed : goal.returns-clause-sealed
@@ -18,6 +18,6 @@ returns-clause-sealed c =
     λ start lines stood.
     let room = stood.room in
     record {
-      holds = rw c.seal.ensures (holds_sealing book _ start lines stood.holds c.args.tid here.held here.found _ here.live number);
-      room = rw c.seal.ensures (omega arith);
+      holds = rw c.in_ok-seal.ensures.sealed (holds_sealing book _ start lines stood.holds c.args.tid here.held here.found _ here.live number);
+      room = rw c.in_ok-seal.ensures.sealed (omega arith);
     }

@@ -4,7 +4,7 @@ use Rattle.run_lists.specs.declared.marks.Marks.{Marks}
 use Rattle.run_lists.specs.Book.{with_ticket}
 use Rattle.run_lists.proofs.HeldBy.{ticketless_held}
 use Rattle.timestamp_engine.proofs.Lines.{holds_ticket, holds_ticket_stopped}
-use Rattle.timestamp_engine.proofs.Room.{changed_in-length}
+use Rattle.run_lists.proofs.Room.{changed_in-length}
 use Rattle.timestamp_engine.proofs.engine.TimestampEngineLocalEngine.take.Goals as goal
 
 pub returns-in-Some-clause-answered : goal.returns-in-Some-clause-answered

@@ -1,7 +1,7 @@
 use Rattle.std.proofs.Common.{arith}
 use Rattle.mdb_base.specs.declared.names.Engine.TheVariants.{Timestamp}
 use Rattle.run_lists.proofs.Numbers.{keeps_unbegins}
-use Rattle.timestamp_engine.proofs.Room.{without-le}
+use Rattle.run_lists.proofs.Room.{without-le}
 use Rattle.timestamp_engine.proofs.engine.TimestampEngineLocalEngine.unbegin.Goals as goal
 
 pub returns : goal.returns

@@ -2,7 +2,7 @@ use Rattle.std.proofs.Common.{arith}
 use Rattle.mdb_base.specs.declared.names.Engine.TheVariants.{Timestamp}
 use Rattle.run_lists.specs.Book.{not_sealed}
 use Rattle.run_lists.proofs.Numbers.{keeps_unseals}
-use Rattle.timestamp_engine.proofs.Room.{changed_in-length}
+use Rattle.run_lists.proofs.Room.{changed_in-length}
 use Rattle.timestamp_engine.proofs.engine.TimestampEngineLocalEngine.unseal.Goals as goal
 
 pub returns : goal.returns

@@ -4,5 +4,5 @@ use Rattle.validation_engine.proofs.engine.ValidationEngineLocalEngine.restart.G
 
 pub returns-clause-started : goal.returns-clause-started
 returns-clause-started c =
-    λ start lines k. rw (c.in_ok-self.ensures, k.of_kind)
-    (keeps_starts Validation c.args.rows.now c.args.doubtful.now c.args.counter c.args.published c.args.owner c.requires)
+    λ start lines k. rw (c.in_ok-self.ensures.book, k.of_kind)
+    (keeps_starts Validation c.args.rows.now c.args.doubtful.now c.args.counter c.args.published c.args.owner c.in_ok-self.ensures.rising c.requires)

@@ -14,7 +14,7 @@ returns-clause-sealed c =
     let here = sealable_held Validation book c.requires.start c.requires.lines c.args.tid c.requires.stood c.requires.holds in
     let one = some_inj here.held c.run-run.result.now (sym here.found ∙ c.run-run.ensures) in
     let free = ap (λ (held : Held). seal_stop_in book held.run) one ∙ (sym c.seal_stop.ensures ∙ c.in_default.is) in
-    λ start lines k. rw c.seal.ensures
+    λ start lines k. rw c.in_ok-seal.ensures.sealed
     (keeps_sealing book start lines k c.args.tid here.held here.found _ here.live free (ap (λ (marks : Marks). marks.counter + 1) c.marks-number.ensures))
 
 pub returns-in-Some-clause-failed : goal.returns-in-Some-clause-failed
