@@ -1,0 +1,11 @@
+//! Sessions of local transactions at one site at most, with stops, trips and restarts of the site: what closes them, and that each is
+//! serial. Each law is the contract of a function with an empty body.
+#![tactic(auto)]
+
+mod closing;
+mod serial;
+mod tables;
+
+pub use closing::{own_sessions_close, own_sessions_close_so};
+pub use serial::own_sessions_are_serial;
+pub use tables::tables_of_running_sites;
