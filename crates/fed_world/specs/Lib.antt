@@ -3,3 +3,4 @@ pub mod Live
 pub mod Places
 pub mod Reports
 pub mod Stands
+pub mod Worlds

@@ -1,5 +1,5 @@
 -- The scenarios and commands that a site and a world stand for, and what a call does to them. Commands stand newest first.
-use Rattle.std.specs.Prelude.{ℕ, ◌≡◌, ◌≤◌, ◌<◌, ◌+◌, ◌^◌, Bool, true, false, cond, is_some, Option, Some, None, List, [], ◌∷◌, length, map, slice_get}
+use Rattle.std.specs.Prelude.{ℕ, zero, suc, ◌≡◌, ◌≤◌, ◌<◌, ◌+◌, ◌^◌, Bool, true, false, cond, is_some, Option, Some, None, List, [], ◌∷◌, length, map, slice_get}
 use Rattle.mdb_base.specs.declared.names.SiteId.{SiteId}
 use Rattle.mdb_base.specs.Words.{Each}
 use Rattle.fed_rules.specs.declared.answers.Answer.{Answer}
@@ -9,24 +9,29 @@ use Rattle.fed_rules.specs.declared.events.SiteEvent.{SiteEvent}
 use Rattle.fed_rules.specs.declared.scenario.Scenario.{Scenario}
 use Rattle.fed_rules.specs.declared.scenario.SiteLine.{SiteLine}
 use Rattle.fed_rules.specs.declared.scenario.TxLine.{TxLine}
-use Rattle.fed_rules.specs.Happenings.{stops}
+use Rattle.fed_rules.specs.Happenings.{is_down, stops}
 use Rattle.fed_rules.specs.Runs.{Start, EngineLine}
 use Rattle.fed_rules.specs.Site.{answered}
 use Rattle.fed_rules.specs.SitePast.{SiteHappening, SitePast, trip}
 use Rattle.fed_rules.specs.SiteRecords.{Home}
 use Rattle.fed_rules.specs.Story.{Story, story_of, happens, answer_of, places_of, past_of, coord_past}
 use Rattle.journal_disk.specs.Disk.{Image}
-use Rattle.local_laws.specs.Kept.{State, resting, kept_of}
+use Rattle.local_laws.specs.Kept.{State, resting, unbegun, kept_of}
 use Rattle.local_laws.specs.Sound.{IsOwn}
 use Rattle.site_core.specs.declared.errors.StepErr.{StepErr}
 use Rattle.site_core.specs.declared.errors.StepErr.TheVariants as Err_is
-use Rattle.site_core.specs.Stands.{Stands as CoreStands, cut_line}
+use Rattle.site_core.specs.Stands.{Holds, Stands as CoreStands, cut_line}
 pub use Rattle.site_laws.specs.Sessions.{home_from, IsAlone}
 use Rattle.fed_world.specs.declared.local_site.LocalSite.{LocalSite}
 
 -- what is kept of each transaction is what the lines of the site make of it
 abbrev pub AllKept : List TxLine → SitePast → List State → Type 0
 AllKept lines past states = (place : ℕ) (line : TxLine) (state : State) → slice_get lines place ≡ Some line → slice_get states place ≡ Some state → state ≡ kept_of line.tx past
+
+-- so many transactions of which no attempt began
+abbrev pub all_unbegun : ℕ → List State
+all_unbegun zero = []
+all_unbegun (suc n) = unbegun ∷ all_unbegun n
 
 -- the core stands for this past, and what is kept beside it fits
 pub record SiteAt (core : Home → SitePast → Type 0) (scenario : Scenario) (line : SiteLine) (site : SiteId) (states : List State) (armed : Bool) (past : SitePast) : Type 0 where
@@ -47,6 +52,15 @@ pub record SiteStands (core : Home → SitePast → Type 0) (scenario : Scenario
 abbrev pub LocalStands : {E D : Type 0} → (E → Start → List EngineLine → Type 0) → Bool → (D → Image) → (D → ℕ) → (D → ℕ) → LocalSite E → D → Scenario → List Command → Type 0
 LocalStands stands tells image size spare site disk scenario commands =
     SiteStands (CoreStands stands tells image size spare site.core disk) scenario site.site site.locals.items site.armed commands
+
+-- and a site whatever is on its disk
+abbrev pub LocalHolds : {E : Type 0} → (E → Start → List EngineLine → Type 0) → LocalSite E → Scenario → List Command → Type 0
+LocalHolds stands site scenario commands = SiteStands (Holds stands site.core) scenario site.site site.locals.items site.armed commands
+
+-- no coordinator took part, and the site is up
+pub record IsUpAlone (scenario : Scenario) (site : SiteId) (commands : List Command) : Type 0 where
+  pub uncoordinated : coord_past (story_of scenario commands) ≡ []
+  pub up : is_down (past_of site (story_of scenario commands)) ≡ false
 
 -- for some commands that it stands for the fact holds
 pub record SomeCommands (K : List Command → Type 0) (P : List Command → Type 0) : Type 0 where

@@ -1,13 +1,21 @@
 //! One site with its local transactions, and the disk of its core.
-ghost use Rattle.std.specs.Prelude.{◌≡◌, ◌≤◌, ◌<◌, false, cond, map, IsTrue, IfOk, IfErr, IsErrOf};
+ghost use Rattle.std.specs.Prelude.{◌≡◌, ◌≤◌, ◌<◌, [], false, cond, length, map, IsTrue, IfOk, IfErr, IsErrOf};
 ghost use Rattle.mdb_base.specs.Counts.{HasRisen};
 ghost use Rattle.fed_rules.specs.declared.commands.Command.TheVariants as Cmd;
 ghost use Rattle.fed_rules.specs.Site.{answered, site_line};
 ghost use Rattle.site_core.specs.Stands.{Stands as CoreStands};
 ghost use Rattle.site_core.specs.Steps.{CanStep, EachPast, SomePast};
 ghost use Rattle.fed_rules.specs.Happenings.{stops};
+ghost use Rattle.engine_contract.specs.Calls.{fresh_start};
+ghost use Rattle.fed_rules.specs.Disk.{empty_disk};
+ghost use Rattle.fed_rules.specs.Scenarios.{items_of};
+ghost use Rattle.fed_rules.specs.SitePast.{set_up_calls};
 ghost use Rattle.local_laws.specs.Kept.{resting};
-ghost use Rattle.fed_world.specs.Stands.{AnyCommands, EachCommands, Fails, Hands, IsShort, IsTold, IsUntold, LocalStands, SomeCommands, rest_all};
+ghost use Rattle.local_laws.specs.Sound.{IsOwn};
+ghost use Rattle.record_fields.specs.Named.{IsSite};
+ghost use Rattle.session_laws.specs.Closing.{IsAtSite};
+ghost use Rattle.site_core.specs.Store.{SomeStop};
+ghost use Rattle.fed_world.specs.Stands.{AnyCommands, EachCommands, Fails, Hands, IsAlone, IsShort, IsTold, IsUntold, LocalStands, SomeCommands, all_unbegun, home_from, rest_all};
 
 use crate::commits::committed_of;
 use crate::local_tx::LocalTx;
@@ -32,7 +40,9 @@ pub(crate) struct LocalSite<E: LocalEngine> {
 }
 
 /// What is kept of so many transactions of which no attempt began.
-fn unbegun_locals(alloc: Global, count: usize) -> Result<Vec<LocalTx>, Memory> {
+fn unbegun_locals(alloc: Global, count: usize) -> Result<Vec<LocalTx>, Memory>
+    ensures { IfOk result (λ locals. locals.items ≡ all_unbegun count) }
+{
     let mut locals = Vec::new(alloc);
     for _ in 0..count {
         locals.reserve(1)?;
@@ -50,7 +60,20 @@ impl<E: LocalEngine> LocalSite<E> {
         line: SiteLine,
         items: Puts,
         engine: E,
-    ) -> Result<Self, StepErr> {
+    ) -> Result<Self, StepErr>
+        requires told { IsTrue D.tells }
+        requires alone { IsAlone scenario.now line }
+        requires in_range { IsSite line.site }
+        requires items { items ≡ items_of scenario.now.items line.site }
+        requires few { length items ≤ 4096 }
+        requires fresh { E.stands engine (fresh_start line.engine items) [] }
+        requires empty { D.size disk.old ≡ 0 }
+        ensures stands { IfOk result (λ site. LocalStands E.stands D.tells D.image D.size D.spare site disk.new scenario.now []) }
+        ensures memory { IsErrOf result StepErr.Memory → D.size disk.new ≡ 0 }
+        ensures broken { IsErrOf result StepErr.Disk → SomeStop (D.image disk.new) empty_disk (set_up_calls (home_from scenario.now line)) }
+        ensures cause { IsErrOf result StepErr.Disk → HasRisen (D.faults disk.old) (D.faults disk.new) }
+        ensures faults { D.faults disk.old ≤ D.faults disk.new }
+    {
         let Ok(locals) = unbegun_locals(alloc, transactions(scenario).len()) else {
             return Err(StepErr::Memory);
         };
@@ -393,7 +416,19 @@ impl<E: LocalEngine> LocalSite<E> {
         scenario: &Scenario,
         disk: &mut D,
         command: Command,
-    ) -> Result<Answer, StepErr> {
+    ) -> Result<Answer, StepErr>
+        requires told { IsTrue D.tells }
+        requires own { IsOwn command }
+        requires at_site { IsAtSite command }
+        requires stood { SomeCommands (LocalStands E.stands D.tells D.image D.size D.spare self.old disk.old scenario.now) IsShort }
+        ensures told { IfOk result (λ answer. EachCommands (LocalStands E.stands D.tells D.image D.size D.spare self.old disk.old scenario.now)
+            (λ commands. IsTold (LocalStands E.stands D.tells D.image D.size D.spare self.new disk.new scenario.now) scenario.now commands command answer)) }
+        ensures failed { IfErr result (λ why. EachCommands (LocalStands E.stands D.tells D.image D.size D.spare self.old disk.old scenario.now)
+            (IsUntold (LocalStands E.stands D.tells D.image D.size D.spare self.new disk.new scenario.now) (CoreStands E.stands D.tells D.image D.size D.spare self.new.core disk.new) scenario.now why)) }
+        ensures cause { IsErrOf result StepErr.Disk → HasRisen (D.faults disk.old) (D.faults disk.new) }
+        ensures faults { D.faults disk.old ≤ D.faults disk.new }
+        ensures site { self.new.site ≡ self.old.site }
+    {
         match command {
             Command::Begin(tx) => self.begin(alloc, scenario, disk, tx),
             Command::Step(tx) => self.step(alloc, scenario, disk, tx),

@@ -1,4 +1,11 @@
 //! The world of a session.
+ghost use Rattle.std.specs.Prelude.{◌≡◌, [], ◌∷◌, IfOk, IfErr, OnOk, IsTrue};
+ghost use Rattle.fed_rules.specs.CoordPast.{oldest_first};
+ghost use Rattle.fed_rules.specs.Reports.{report_of};
+ghost use Rattle.fed_rules.specs.Story.{story_of, lines_of};
+ghost use Rattle.fed_rules.specs.Closing.{closed};
+ghost use Rattle.fed_world.specs.Worlds.{AllUp, AreEmpty, CanApply, CanClose, CanStart, EachStory, Fails, FailsToClose, FailsToStart, HasCause, HasLines, NeverFalls, Recalls, SomeStory, Stands};
+
 use crate::errors::WorldErr;
 use crate::live::live_tids;
 use crate::local_site::LocalSite;
@@ -42,7 +49,15 @@ impl<E: LocalEngine> World<E> {
         scenario: Scenario,
         local: Option<NewSite<E>>,
         disks: &mut Vec<D>,
-    ) -> Result<World<E>, WorldErr> {
+    ) -> Result<World<E>, WorldErr>
+        requires told { IsTrue D.tells }
+        requires start { CanStart E.stands scenario local }
+        requires empty { AreEmpty D.size disks.old.items }
+        ensures stands { IfOk result (λ world. Stands E.stands D.tells D.image D.size D.spare world disks.new.items scenario []) }
+        ensures failed { IfErr result (λ why. FailsToStart D.image D.size why disks.new.items scenario) }
+        ensures cause { IfErr result (λ why. HasCause D.faults why disks.old.items disks.new.items) }
+        ensures faults { NeverFalls D.faults disks.old.items disks.new.items }
+    {
         let site = match local {
             None => None,
             Some(NewSite { engine, items }) => {
@@ -89,7 +104,16 @@ impl<E: LocalEngine> World<E> {
         alloc: Global,
         disks: &mut Vec<D>,
         command: Command,
-    ) -> Result<(), WorldErr> {
+    ) -> Result<(), WorldErr>
+        requires told { IsTrue D.tells }
+        requires stood { SomeStory (Stands E.stands D.tells D.image D.size D.spare self.old disks.old.items) (CanApply command) }
+        ensures applied { OnOk result (EachStory (Stands E.stands D.tells D.image D.size D.spare self.old disks.old.items)
+            (λ scenario commands. Stands E.stands D.tells D.image D.size D.spare self.new disks.new.items scenario (command ∷ commands))) }
+        ensures failed { IfErr result (λ why. EachStory (Stands E.stands D.tells D.image D.size D.spare self.old disks.old.items)
+            (Fails E.stands D.tells D.image D.size D.spare why self.new disks.new.items)) }
+        ensures cause { IfErr result (λ why. HasCause D.faults why disks.old.items disks.new.items) }
+        ensures faults { NeverFalls D.faults disks.old.items disks.new.items }
+    {
         let Ok(()) = self.lines.reserve(1) else {
             return Err(WorldErr::Memory);
         };
@@ -111,7 +135,9 @@ impl<E: LocalEngine> World<E> {
     }
 
     /// Whether a disk call failed.
-    pub fn is_broken(&self) -> bool {
+    pub fn is_broken(&self) -> bool
+        ensures { result ≡ self.now.broken }
+    {
         self.broken
     }
 
@@ -182,14 +208,27 @@ impl<E: LocalEngine> World<E> {
 
     /// Closes the session: an armed trip is disarmed, a site that is down comes back, and each live attempt is aborted, by rising
     /// transaction. After a refusal the lines made until then stand.
-    pub fn close<D: Disk>(&mut self, alloc: Global, disks: &mut Vec<D>) -> Result<(), WorldErr> {
+    pub fn close<D: Disk>(&mut self, alloc: Global, disks: &mut Vec<D>) -> Result<(), WorldErr>
+        requires told { IsTrue D.tells }
+        requires stood { SomeStory (Stands E.stands D.tells D.image D.size D.spare self.old disks.old.items) CanClose }
+        ensures closed { OnOk result (EachStory (Stands E.stands D.tells D.image D.size D.spare self.old disks.old.items)
+            (λ scenario commands. Stands E.stands D.tells D.image D.size D.spare self.new disks.new.items scenario (closed scenario commands))) }
+        ensures failed { IfErr result (λ why. EachStory (Stands E.stands D.tells D.image D.size D.spare self.old disks.old.items)
+            (FailsToClose E.stands D.tells D.image D.size D.spare why self.new disks.new.items)) }
+        ensures cause { IfErr result (λ why. HasCause D.faults why disks.old.items disks.new.items) }
+        ensures faults { NeverFalls D.faults disks.old.items disks.new.items }
+    {
         self.disarm(alloc, disks)?;
         self.bring_up(alloc, disks)?;
         self.clear(alloc, disks)
     }
 
-    /// The report: the committed attempts by rising serial number with their reads, and the table of the site.
-    pub fn report(&self, alloc: Global) -> Result<Report, Memory> {
+    /// The report: the committed attempts by rising serial number with their reads, and the table of the site, which is up.
+    pub fn report(&self, alloc: Global) -> Result<Report, Memory>
+        requires { SomeStory (Recalls E.stands self.now) AllUp }
+        ensures { IfOk result (λ report. EachStory (Recalls E.stands self.now)
+            (λ scenario commands. report ≡ report_of scenario (story_of scenario commands))) }
+    {
         match &self.site {
             None => Ok(Report {
                 order: Tids::of(Vec::new(alloc)),
@@ -203,12 +242,16 @@ impl<E: LocalEngine> World<E> {
     }
 
     /// The lines, the first one first.
-    pub fn lines(&self) -> &[Line] {
+    pub fn lines(&self) -> &[Line]
+        ensures { EachStory (HasLines self.now) (λ scenario commands. result.now ≡ oldest_first (lines_of (story_of scenario commands))) }
+    {
         self.lines.as_slice()
     }
 
     /// The scenario.
-    pub fn scenario(&self) -> &Scenario {
+    pub fn scenario(&self) -> &Scenario
+        ensures { EachStory (HasLines self.now) (λ scenario commands. result.now ≡ scenario) }
+    {
         &self.scenario
     }
 }

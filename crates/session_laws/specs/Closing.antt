@@ -1,5 +1,5 @@
 -- The commands that close a session of own commands: those of local transactions, and those that stop, trip or start the site.
-use Rattle.std.specs.Prelude.{◌≡◌, false, cond, is_some, List, [], ◌∷◌}
+use Rattle.std.specs.Prelude.{◌≡◌, ◌<◌, false, cond, is_some, List, [], ◌∷◌}
 use Rattle.mdb_base.specs.declared.names.Tid.{Tid}
 use Rattle.mdb_base.specs.Words.{Each}
 use Rattle.fed_rules.specs.declared.commands.Command.{Command}
@@ -12,6 +12,13 @@ use Rattle.fed_rules.specs.SitePast.{SitePast, trip}
 use Rattle.fed_rules.specs.Story.{past_of, story_of}
 use Rattle.local_laws.specs.Sound.{IsOwn}
 use Rattle.site_laws.specs.Sessions.{IsAlone, IsOneSite}
+
+-- the command names no coordinator
+abbrev pub IsAtSite : Command → Type 0
+IsAtSite (Cmd.Halt actor cut) = 0 < actor
+IsAtSite (Cmd.Trip actor calls cut) = 0 < actor
+IsAtSite (Cmd.Back actor) = 0 < actor
+IsAtSite command = Unit {0}
 
 -- what happened at the site of this line
 abbrev pub past_at : Scenario → SiteLine → List Command → SitePast
