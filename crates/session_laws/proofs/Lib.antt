@@ -1,0 +1,4 @@
+pub mod Closed
+pub mod Heard
+pub mod Uncoordinated
+pub mod Up
