@@ -33,8 +33,9 @@ use Rattle.site_laws.proofs.OneSite.{one_site, no_site, one_home}
 use Rattle.site_laws.proofs.OpenRuns.{open_in}
 use Rattle.site_laws.proofs.RisingLists.{in_rising}
 use Rattle.session_laws.specs.Closing.{IsAtSite, past_at, disarmed, brought_up, with_aborts, cleared, OwnSessionsCloseSo, SessionsWithoutSitesAreClosed, OwnSessionsCloseAsOwn}
+use Rattle.session_laws.proofs.AllLocal.{alone_local, none_local}
 use Rattle.session_laws.proofs.Heard.{site_some}
-use Rattle.session_laws.proofs.Uncoordinated.{alone_local, none_local, uncoordinated}
+use Rattle.session_laws.proofs.Uncoordinated.{uncoordinated}
 
 -- what is kept of the transactions of the site agrees with its past
 pub keeps : (scenario : Scenario) (line : SiteLine) (commands : List Command) → IsAlone scenario line → Each IsOwn commands → Keeps scenario (home_from scenario line) (past_at scenario line commands)

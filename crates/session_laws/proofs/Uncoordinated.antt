@@ -1,50 +1,21 @@
 -- Nothing of own commands that are at sites comes to the coordinator, where no transaction is global.
-use Rattle.std.proofs.Common.{◌≡◌, ℕ, zero, suc, ◌<◌, Bool, true, false, Option, Some, None, List, [], ◌∷◌, refl, ◌∙◌, ap, arith}
-use Rattle.mdb_base.specs.declared.names.SiteId.{SiteId}
+use Rattle.std.proofs.Common.{◌≡◌, ℕ, zero, suc, ◌<◌, Bool, true, false, Option, Some, None, List, [], ◌∷◌, refl, ◌∙◌, arith}
 use Rattle.mdb_base.specs.declared.names.Tid.{Tid}
 use Rattle.mdb_base.specs.declared.names.Tx.{Tx}
-use Rattle.mdb_base.specs.Names.{same_tx}
-use Rattle.mdb_base.specs.Words.{Each, when, pick, first_where, map_some}
+use Rattle.mdb_base.specs.Words.{Each, when, pick}
 use Rattle.fed_rules.specs.declared.commands.Command.{Command}
 use Rattle.fed_rules.specs.declared.commands.Command.TheVariants as Cmd
 use Rattle.fed_rules.specs.declared.events.CoordEvent.{CoordEvent}
 use Rattle.fed_rules.specs.declared.events.SiteEvent.{SiteEvent}
 use Rattle.fed_rules.specs.declared.scenario.Scenario.{Scenario}
-use Rattle.fed_rules.specs.declared.scenario.SiteLine.{SiteLine}
-use Rattle.fed_rules.specs.declared.scenario.TxLine.{TxLine}
 use Rattle.fed_rules.specs.CoordPast.{CoordPast}
 use Rattle.fed_rules.specs.Runs.{Run}
-use Rattle.fed_rules.specs.Scenarios.{global_line, global_program, transaction}
+use Rattle.fed_rules.specs.Scenarios.{global_program}
 use Rattle.fed_rules.specs.SiteRecords.{Home}
 use Rattle.fed_rules.specs.Story.{Story, Happened, story_of, coord_past, with_coordinator, begins_local, on_begin, with_live, next_step, on_step, on_commit, on_abort, on_fate, on_site, on_actor, happens}
 use Rattle.local_laws.specs.Sound.{IsOwn}
-use Rattle.site_laws.specs.Sessions.{IsAlone}
-use Rattle.site_laws.proofs.ListMembers.{found_in, in_each}
 use Rattle.session_laws.specs.Closing.{IsAtSite}
-
--- no transaction of the scenario is global
-abbrev pub IsAllLocal : Scenario → Type 0
-IsAllLocal scenario = (tx : Tx) → global_program scenario tx ≡ None
-
--- so it is where each transaction is local at one site
-pub alone_local : (scenario : Scenario) (line : SiteLine) → IsAlone scenario line → IsAllLocal scenario
-alone_local scenario line alone tx = by_line (transaction scenario tx) refl
-  where
-    homed : (t : TxLine) (site : SiteId) → t.home ≡ Some site → map_some (λ (l : TxLine). l.program) (global_line (Some t)) ≡ None
-    homed t site e = by_home t.home e
-      where
-        by_home : (o : Option SiteId) → o ≡ Some site → map_some (λ (l : TxLine). l.program) (global_line (Some (record t { home = o }))) ≡ None
-        by_home None e = cc
-        by_home (Some s) e = refl
-
-    by_line : (o : Option TxLine) → transaction scenario tx ≡ o → map_some (λ (l : TxLine). l.program) (global_line o) ≡ None
-    by_line None e = refl
-    by_line (Some t) e =
-        homed t line.site (in_each (λ tx_line. tx_line.home ≡ Some line.site) scenario.transactions t alone.homes (found_in (λ (u : TxLine). same_tx u.tx tx) scenario.transactions t e))
-
--- and where there is no transaction
-pub none_local : (scenario : Scenario) → scenario.transactions ≡ [] → IsAllLocal scenario
-none_local scenario e tx = ap (λ (ls : List TxLine). map_some (λ (l : TxLine). l.program) (global_line (first_where (λ line. same_tx line.tx tx) ls))) e
+use Rattle.session_laws.proofs.AllLocal.{IsAllLocal}
 
 -- the coordinator hears nothing of it
 record IsApart (happened : Happened) : Type 0 where
