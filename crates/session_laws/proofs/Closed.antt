@@ -48,7 +48,7 @@ each_cond : (P : Command → Type 0) (b : Bool) (command : Command) (commands : 
 each_cond P true command commands p each = (p, each)
 each_cond P false command commands p each = each
 
--- and with aborts
+-- commands with aborts
 each_aborts : (P : Command → Type 0) → ((tx : Tx) → P (Cmd.Abort tx)) → (tids : List Tid) (commands : List Command) → Each P commands → Each P (with_aborts tids commands)
 each_aborts P p [] commands each = each
 each_aborts P p (tid ∷ tids) commands each = each_aborts P p tids (Cmd.Abort tid.tx ∷ commands) (p tid.tx, each)

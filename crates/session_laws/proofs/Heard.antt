@@ -1,4 +1,4 @@
--- What a site hears of a command to it as an actor, and of an abort.
+-- What a site hears of a command to the actor with its number.
 use Rattle.std.proofs.Common.{◌≡◌, ℕ, zero, suc, ◌<◌, true, [], ◌∷◌, refl, sym, ◌∙◌, ap, subst, eq-eqb, arith}
 use Rattle.std.proofs.lemmas.Bool.{cond-true, and_parts, leb-true}
 use Rattle.mdb_base.specs.Words.{Each}

@@ -83,7 +83,7 @@ local_committed (Rec.Start epoch ∷ rs) tid n writes (inl e) = cc
 local_committed (Rec.Prepared t epoch m ticket puts ∷ rs) tid n writes (inl e) = cc
 local_committed (Rec.Ended t decision ∷ rs) tid n writes (inl e) = cc
 
--- a site's order is that of its site alone
+-- the order of the site names each attempt once, and it is the printed one
 site_once : (scenario : Scenario) (line : SiteLine) (story : Story) → IsAlone scenario line → IsOrdered scenario story → Distinct (order_at scenario story line.site)
 site_once scenario line story alone o = (o.sites line.site (home_from scenario line) (one_home scenario line alone.sites)).distinct
 

@@ -34,7 +34,7 @@ with_aborts = for_each (λ tid more. Cmd.Abort tid.tx ∷ more)
 abbrev pub cleared : Scenario → SiteLine → List Command → List Command
 cleared scenario line commands = with_aborts (live scenario (story_of scenario commands) line.site) commands
 
--- the command stops, trips or starts no coordinator, which is actor 0
+-- the command doesn't stop, trip or start the coordinator, which is actor 0
 abbrev pub IsAtSite : Command → Type 0
 IsAtSite (Cmd.Halt actor cut) = 0 < actor
 IsAtSite (Cmd.Trip actor calls cut) = 0 < actor
