@@ -8,6 +8,7 @@ use Rattle.fed_rules.specs.declared.scenario.Scenario.{Scenario}
 use Rattle.fed_rules.specs.declared.scenario.SiteLine.{SiteLine}
 use Rattle.fed_rules.specs.Closing.{closed, for_each, live}
 use Rattle.fed_rules.specs.Happenings.{is_down}
+use Rattle.fed_rules.specs.Plans.{IsScenario}
 use Rattle.fed_rules.specs.SitePast.{SitePast, trip}
 use Rattle.fed_rules.specs.Story.{past_of, story_of}
 use Rattle.local_laws.specs.Sound.{IsOwn}
@@ -40,25 +41,33 @@ with_aborts = for_each (λ tid more. Cmd.Abort tid.tx ∷ more)
 abbrev pub cleared : Scenario → SiteLine → List Command → List Command
 cleared scenario line commands = with_aborts (live scenario (story_of scenario commands) line.site) commands
 
+-- the command doesn't stop, trip or start the coordinator, which is actor 0
+abbrev pub IsAtSite : Command → Type 0
+IsAtSite (Cmd.Halt actor cut) = 0 < actor
+IsAtSite (Cmd.Trip actor calls cut) = 0 < actor
+IsAtSite (Cmd.Back actor) = 0 < actor
+IsAtSite command = Unit {0}
+
 -- so a session at one site is closed
 abbrev pub OwnSessionsCloseSo : Type 0
 OwnSessionsCloseSo =
-    (scenario : Scenario) (line : SiteLine) (commands : List Command) → IsAlone scenario line → Each IsOwn commands
-    → closed scenario commands ≡ cleared scenario line (brought_up scenario line (disarmed scenario line commands))
+    (scenario : Scenario) (line : SiteLine) (commands : List Command) → IsScenario scenario → IsAlone scenario line → Each IsOwn commands
+    → Each IsAtSite commands → closed scenario commands ≡ cleared scenario line (brought_up scenario line (disarmed scenario line commands))
 
 -- and one without a site is closed as it is
 abbrev pub SessionsWithoutSitesAreClosed : Type 0
 SessionsWithoutSitesAreClosed =
     (scenario : Scenario) (commands : List Command) → scenario.sites ≡ [] → scenario.transactions ≡ [] → Each IsOwn commands
-    → closed scenario commands ≡ commands
+    → Each IsAtSite commands → closed scenario commands ≡ commands
 
--- what closes a session of own commands is own commands
+-- what closes a session of own commands is own commands, and none of them stops, trips or starts the coordinator
 abbrev pub OwnSessionsCloseAsOwn : Type 0
 OwnSessionsCloseAsOwn =
-    (scenario : Scenario) (commands : List Command) → IsOneSite scenario → Each IsOwn commands → Each IsOwn (closed scenario commands)
+    (scenario : Scenario) (commands : List Command) → IsScenario scenario → IsOneSite scenario → Each IsOwn commands → Each IsAtSite commands
+    → Each IsOwn (closed scenario commands) × Each IsAtSite (closed scenario commands)
 
 -- and behind it the site is up
 abbrev pub ClosedSessionsAreUp : Type 0
 ClosedSessionsAreUp =
-    (scenario : Scenario) (line : SiteLine) (commands : List Command) → IsAlone scenario line → Each IsOwn commands
-    → is_down (past_at scenario line (closed scenario commands)) ≡ false
+    (scenario : Scenario) (line : SiteLine) (commands : List Command) → IsScenario scenario → IsAlone scenario line → Each IsOwn commands
+    → Each IsAtSite commands → is_down (past_at scenario line (closed scenario commands)) ≡ false

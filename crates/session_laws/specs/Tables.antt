@@ -18,4 +18,4 @@ TablesOfRunningSites =
     (scenario : Scenario) (line : SiteLine) (commands : List Command) → IsAlone scenario line → Each IsOwn commands
     → is_down (past_at scenario line commands) ≡ false
     → rows (epoch_start (home_from scenario line) (past_at scenario line commands)) (engine_lines (past_at scenario line commands))
-      ≡ site_rows (home_from scenario line) (records (home_from scenario line) (past_at scenario line commands))
+    ≡ site_rows (home_from scenario line) (records (home_from scenario line) (past_at scenario line commands))

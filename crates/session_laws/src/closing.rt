@@ -8,7 +8,8 @@ pub fn own_sessions_close_so()
     ensures none { SessionsWithoutSitesAreClosed }
 {}
 
-/// What closes a session of own commands is such commands, and behind them the site is up.
+/// What closes a session of own commands is such commands, none of which stops, trips or starts the coordinator, and behind them the site
+/// is up.
 pub fn own_sessions_close()
     ensures own { OwnSessionsCloseAsOwn }
     ensures up { ClosedSessionsAreUp }

@@ -1,5 +1,5 @@
-//! Sessions of local transactions at one site at most, with stops, trips and restarts of the site: what closes them, and that each is
-//! serial. Each law is the contract of a function with an empty body.
+//! Sessions of local transactions at one site at most, with stops, trips and restarts of the site: what closes them, that each is serial,
+//! and that the engine's table is that of the records. Each law is the contract of a function that does nothing.
 #![tactic(auto)]
 
 mod closing;
