@@ -14,13 +14,6 @@ use Rattle.fed_rules.specs.Story.{past_of, story_of}
 use Rattle.local_laws.specs.Sound.{IsOwn}
 use Rattle.site_laws.specs.Sessions.{IsAlone, IsOneSite}
 
--- the command names no coordinator
-abbrev pub IsAtSite : Command → Type 0
-IsAtSite (Cmd.Halt actor cut) = 0 < actor
-IsAtSite (Cmd.Trip actor calls cut) = 0 < actor
-IsAtSite (Cmd.Back actor) = 0 < actor
-IsAtSite command = Unit {0}
-
 -- what happened at the site of this line
 abbrev pub past_at : Scenario → SiteLine → List Command → SitePast
 past_at scenario line commands = past_of line.site (story_of scenario commands)
