@@ -31,8 +31,8 @@ fn are_local(transactions: &[TxLine]) -> bool
 }
 
 /// Whether the command is one of a local transaction, or of a site: there is no coordinator yet.
-fn is_local_command(command: Command) -> bool
-    ensures { result ≡ verdicts.is_local_command command }
+fn is_own_command(command: Command) -> bool
+    ensures { result ≡ verdicts.is_own_command command }
 {
     match command {
         Command::Begin(_) => true,
@@ -47,10 +47,10 @@ fn is_local_command(command: Command) -> bool
     }
 }
 
-fn are_local_commands(commands: &[Command]) -> bool
-    ensures { result ≡ list_all verdicts.is_local_command commands.now }
+fn are_own_commands(commands: &[Command]) -> bool
+    ensures { result ≡ list_all verdicts.is_own_command commands.now }
 {
-    commands.iter().all(|command| is_local_command(*command))
+    commands.iter().all(|command| is_own_command(*command))
 }
 
 /// Whether a session runs here.
@@ -59,5 +59,5 @@ pub(crate) fn runs_here(session: &Session) -> bool
 {
     is_one_site(session.scenario.sites.as_slice())
         && are_local(session.scenario.transactions.as_slice())
-        && are_local_commands(session.commands.as_slice())
+        && are_own_commands(session.commands.as_slice())
 }

@@ -108,7 +108,43 @@ pub fn federate<S: Source, K: Sink, D: Disk>(
     source: &mut S,
     sink: &mut K,
     disks: &mut Vec<D>,
-) -> u8 {
+) -> u8
+    requires told { IsTrue D.tells }
+    requires nine { length disks.old.items ≡ 9 }
+
+    // Which status comes when. Want of memory alone is free.
+    ensures usage { (result ≡ 1) ↔ (verdicts.is_replay (map string_bytes words.now) ≡ false) }
+    ensures status { IsTrue (verdicts.is_replay (map string_bytes words.now)) →
+        SomeInput S.tells (S.left source.old) (λ input. IsLedTo result (is_used (map D.size disks.old.items)) (verdict input)) }
+    ensures read_failed { result ≡ 3 → HasRisen (S.faults source.old) (S.faults source.new) }
+    ensures write_failed { result ≡ 4 → HasRisen (K.faults sink.old) (K.faults sink.new) }
+
+    // A session that is replayed was read to its end.
+    ensures end { result ≡ 0 → IsTrue S.tells → S.left source.new ≡ [] }
+
+    // What the sink has got then, and what the disks hold.
+    ensures replayed { result ≡ 0 → SomeInput S.tells (S.left source.old) (λ input.
+        SomeSession (verdict input) (IsReplayed K.tells (K.written sink.old) (K.written sink.new) D.image disks.new.items)) }
+    ensures usage_text { result ≡ 1 →
+        Gets K.tells (K.faults sink.old) (K.faults sink.new) (K.written sink.old) (K.written sink.new) texts.usage_text }
+    ensures refused { result ≡ 2 → SomeInput S.tells (S.left source.old) (λ input.
+        Gets K.tells (K.faults sink.old) (K.faults sink.new) (K.written sink.old) (K.written sink.new) (endings.refusal_text (verdict input))) }
+    ensures unread { result ≡ 3 →
+        Gets K.tells (K.faults sink.old) (K.faults sink.new) (K.written sink.old) (K.written sink.new) texts.read_failed_text }
+    ensures cut_off { result ≡ 4 → SomeInput S.tells (S.left source.old) (λ input.
+        SomeSession (verdict input) (IsCutOff K.tells (K.written sink.old) (K.written sink.new) D.image disks.new.items)) }
+    ensures broken { result ≡ 5 → SomeInput S.tells (S.left source.old) (λ input.
+        SomeSession (verdict input) (IsBroken K.tells (K.faults sink.old) (K.faults sink.new) (K.written sink.old) (K.written sink.new) D.image D.faults disks.old.items disks.new.items)) }
+    ensures no_memory { result ≡ 6 →
+        Gets K.tells (K.faults sink.old) (K.faults sink.new) (K.written sink.old) (K.written sink.new) texts.no_memory_text }
+    ensures short { result ≡ 6 → SomeInput S.tells (S.left source.old) (λ input.
+        AreShort D.image disks.old.items disks.new.items (verdict input)) }
+    ensures too_long { result ≡ 7 →
+        Gets K.tells (K.faults sink.old) (K.faults sink.new) (K.written sink.old) (K.written sink.new) texts.too_long_text }
+    ensures used { result ≡ 8 → IfSome (first_used (map D.size disks.old.items)) (λ number.
+        Gets K.tells (K.faults sink.old) (K.faults sink.new) (K.written sink.old) (K.written sink.new) (texts.disk_used_text number)) }
+    ensures untouched { In result (1 ∷ 2 ∷ 3 ∷ 7 ∷ 8 ∷ []) → disks.new ≡ disks.old }
+{
     if !is_replay(words) {
         return told(
             sink,
