@@ -1,6 +1,6 @@
 pub mod Commits
 pub mod Live
-pub mod Locals
 pub mod Places
 pub mod Reports
 pub mod Stands
+pub mod Worlds

@@ -6,7 +6,7 @@ use Rattle.mdb_base.specs.Names.{same_tx}
 use Rattle.fed_rules.specs.declared.report.TxReads.{TxReads}
 use Rattle.fed_rules.specs.declared.scenario.TxLine.{TxLine}
 use Rattle.fed_world.specs.declared.commits.Numbered.{Numbered}
-use Rattle.fed_world.specs.Locals.{State}
+use Rattle.local_laws.specs.Kept.{State}
 
 abbrev pub member_tid : Numbered → Tid
 member_tid commit = commit.tid

@@ -1,87 +1,186 @@
-//! One site with its local transactions.
-ghost use Rattle.std.specs.Prelude.{◌≡◌, [], IfOk, OnErr};
+//! One site with its local transactions, and the disk of its core.
+ghost use Rattle.std.specs.Prelude.{◌≡◌, ◌≤◌, ◌<◌, [], false, cond, length, map, IsTrue, IfOk, IfErr, IsErrOf};
+ghost use Rattle.mdb_base.specs.Counts.{HasRisen};
 ghost use Rattle.fed_rules.specs.declared.commands.Command.TheVariants as Cmd;
-ghost use Rattle.fed_world.specs.Stands.{CanStartAt, SomeSiteStory, AnyStory, IsShort, IsLocal, Tells, KeepsSite, SiteStands};
-ghost use Rattle.fed_rules.specs.declared.scenario.SiteLine.{SiteLine};
-ghost use Rattle.engine_contract.specs.Past.{SomePast, AddsLine, KeepsPast};
-ghost use Rattle.engine_contract.specs.Calls.{CanAct};
-ghost use Rattle.fed_rules.specs.Runs.{Acts};
-ghost use Rattle.fed_rules.specs.Site.{refusal_answer};
+ghost use Rattle.fed_rules.specs.Site.{answered, site_line};
+ghost use Rattle.site_core.specs.Stands.{Stands as CoreStands};
+ghost use Rattle.site_core.specs.Steps.{CanStep, EachPast, SomePast};
+ghost use Rattle.fed_rules.specs.Happenings.{stops};
+ghost use Rattle.engine_contract.specs.Calls.{fresh_start};
+ghost use Rattle.fed_rules.specs.Disk.{empty_disk};
+ghost use Rattle.fed_rules.specs.Scenarios.{items_of};
+ghost use Rattle.fed_rules.specs.SitePast.{set_up_calls};
+ghost use Rattle.local_laws.specs.Kept.{resting};
+ghost use Rattle.local_laws.specs.Sound.{IsOwn};
+ghost use Rattle.record_fields.specs.Named.{IsSite};
+ghost use Rattle.session_laws.specs.Closing.{IsAtSite};
+ghost use Rattle.site_core.specs.Store.{SomeStop};
+ghost use Rattle.fed_world.specs.Stands.{AnyCommands, EachCommands, Fails, Hands, IsAlone, IsShort, IsTold, IsUntold, LocalStands, SomeCommands, all_unbegun, home_from, rest_all};
 
-use crate::commits::{Numbered, put_by_number};
-use crate::local_tx::{LocalTx, Phase};
+use crate::commits::committed_of;
+use crate::local_tx::LocalTx;
 use crate::places::{place_of, transactions};
-use engine_contract::{LocalEngine, SealErr};
-use fed_rules::{Answer, Command, Scenario};
-use mdb_base::{Memory, PlainAct, Reply, Tid, Tx, Why, next_act};
+use engine_contract::LocalEngine;
+use fed_rules::{Answer, Command, Scenario, SiteEvent, SiteLine};
+use journal_disk::Disk;
+use mdb_base::{Memory, Puts, SiteId, Tid, Tx, next_act};
+use site_core::{SiteCore, StepErr};
 use std::alloc::Global;
 
 /// How many attempts a transaction has.
 const MOST_ATTEMPTS: u8 = 32;
 
-/// The engine of a site, what is kept of each local transaction, in the order of their lines, and the committed attempts, the
-/// one with the greatest serial number first.
+/// A site: its number, its core, what is kept of each local transaction, in the order of their lines, and whether a trip is armed.
 #[derive(Drop)]
 pub(crate) struct LocalSite<E: LocalEngine> {
-    pub(crate) engine: E,
+    pub(crate) site: SiteId,
+    pub(crate) core: SiteCore<E>,
     pub(crate) locals: Vec<LocalTx>,
-    pub(crate) commits: Vec<Numbered>,
+    pub(crate) armed: bool,
 }
 
-/// Carries out an access of a live run.
-fn access<E: LocalEngine>(
-    engine: &mut E,
-    alloc: Global,
-    tid: Tid,
-    act: PlainAct,
-) -> Result<Reply, Memory>
-    requires { SomePast E.stands engine.old (CanAct tid) }
-    ensures answered { IfOk result (λ reply. AddsLine E.stands engine.old (Acts tid act reply) engine.new) }
-    ensures memory { OnErr result (KeepsPast E.stands engine.old engine.new) }
+/// What is kept of so many transactions of which no attempt began.
+fn unbegun_locals(alloc: Global, count: usize) -> Result<Vec<LocalTx>, Memory>
+    ensures { IfOk result (λ locals. locals.items ≡ all_unbegun count) }
 {
-    match act {
-        PlainAct::Read(key) => engine.read(alloc, tid, key),
-        PlainAct::Write(key, value) => engine.write(alloc, tid, key, value),
+    let mut locals = Vec::new(alloc);
+    for _ in 0..count {
+        locals.reserve(1)?;
+        locals.push_reserved(LocalTx::unbegun(alloc)?);
     }
-}
-
-/// The answer to a commit that is refused.
-fn refusal(why: Why) -> Answer
-    ensures { result ≡ refusal_answer why }
-{
-    match why {
-        Why::Invalid { by, key } => Answer::Invalid(by, key),
-        _ => Answer::Idle,
-    }
+    Ok(locals)
 }
 
 impl<E: LocalEngine> LocalSite<E> {
-    /// A site with its new engine. No attempt of a transaction began.
-    pub(crate) fn new(alloc: Global, scenario: &Scenario, engine: E) -> Result<Self, Memory>
-        ensures { IfOk result (λ site. (line : SiteLine) → CanStartAt E.stands scenario.now line engine → SiteStands E.stands scenario.now site []) }
+    /// Sets a site up on its empty disk, with its new engine and these rows. No attempt of a transaction began.
+    pub(crate) fn new<D: Disk>(
+        alloc: Global,
+        scenario: &Scenario,
+        disk: &mut D,
+        line: SiteLine,
+        items: Puts,
+        engine: E,
+    ) -> Result<Self, StepErr>
+        requires told { IsTrue D.tells }
+        requires alone { IsAlone scenario.now line }
+        requires in_range { IsSite line.site }
+        requires items { items ≡ items_of scenario.now.items line.site }
+        requires few { length items ≤ 4096 }
+        requires fresh { E.stands engine (fresh_start line.engine items) [] }
+        requires empty { D.size disk.old ≡ 0 }
+        ensures stands { IfOk result (λ site. LocalStands E.stands D.tells D.image D.size D.spare site disk.new scenario.now []) }
+        ensures memory { IsErrOf result StepErr.Memory → D.size disk.new ≡ 0 }
+        ensures broken { IsErrOf result StepErr.Disk → SomeStop (D.image disk.new) empty_disk (set_up_calls (home_from scenario.now line)) }
+        ensures cause { IsErrOf result StepErr.Disk → HasRisen (D.faults disk.old) (D.faults disk.new) }
+        ensures faults { D.faults disk.old ≤ D.faults disk.new }
     {
-        let mut locals = Vec::new(alloc);
-        for _ in 0..transactions(scenario).len() {
-            locals.reserve(1)?;
-            locals.push_reserved(LocalTx::unbegun(alloc)?);
-        }
-        Ok(LocalSite {
+        let Ok(locals) = unbegun_locals(alloc, transactions(scenario).len()) else {
+            return Err(StepErr::Memory);
+        };
+        match SiteCore::set_up(
+            alloc,
+            disk,
+            line.site,
+            line.engine,
+            items,
+            line.protocol,
             engine,
-            locals,
-            commits: Vec::new(alloc),
-        })
+        ) {
+            Ok(core) => Ok(LocalSite {
+                site: line.site,
+                core,
+                locals,
+                armed: false,
+            }),
+            Err(why) => Err(why),
+        }
+    }
+
+    /// A stop ends each live attempt and disarms the trip. What the last attempts read is kept.
+    fn stops(&mut self)
+        ensures locals { self.new.locals.items ≡ map resting self.old.locals.items }
+        ensures armed { self.new.armed ≡ false }
+        ensures core { self.new.core ≡ self.old.core }
+        ensures site { self.new.site ≡ self.old.site }
+    {
+        for local in self.locals.iter_mut() {
+            local.rests();
+        }
+        self.armed = false;
+    }
+
+    /// Where this answer stops the site, each live attempt ends.
+    fn heeds(&mut self, answer: &Answer)
+        ensures locals { self.new.locals.items ≡ rest_all answer.now self.old.locals.items }
+        ensures armed { self.new.armed ≡ cond (stops answer.now) false self.old.armed }
+        ensures core { self.new.core ≡ self.old.core }
+        ensures site { self.new.site ≡ self.old.site }
+    {
+        match answer {
+            Answer::Stopped(_) => self.stops(),
+            _ => {}
+        }
+    }
+
+    /// Hands an event to the core. Where it stops the site, or a disk call fails, each live attempt ends.
+    fn hand<D: Disk>(
+        &mut self,
+        alloc: Global,
+        disk: &mut D,
+        event: SiteEvent,
+    ) -> Result<Answer, StepErr>
+        requires told { IsTrue D.tells }
+        requires may { SomePast (CoreStands E.stands D.tells D.image D.size D.spare self.old.core disk.old) (CanStep event) }
+        ensures answered { IfOk result (λ answer. EachPast (CoreStands E.stands D.tells D.image D.size D.spare self.old.core disk.old)
+            (λ home past. Hands (CoreStands E.stands D.tells D.image D.size D.spare self.new.core disk.new) self.old self.new answer home past (site_line home past event))) }
+        ensures failed { IfErr result (λ why. EachPast (CoreStands E.stands D.tells D.image D.size D.spare self.old.core disk.old)
+            (λ home past. Fails (CoreStands E.stands D.tells D.image D.size D.spare self.new.core disk.new) why self.old self.new home past)) }
+        ensures cause { IsErrOf result StepErr.Disk → HasRisen (D.faults disk.old) (D.faults disk.new) }
+        ensures faults { D.faults disk.old ≤ D.faults disk.new }
+    {
+        match self.core.step(alloc, disk, event) {
+            Ok(step) => {
+                self.heeds(&step.answer);
+                Ok(step.answer)
+            }
+            Err(StepErr::Disk) => {
+                self.stops();
+                Err(StepErr::Disk)
+            }
+            Err(StepErr::Memory) => Err(StepErr::Memory),
+        }
+    }
+
+    /// What a begin behind the last attempt of a transaction is answered.
+    fn spent(&self, live: Option<u8>, tx: Tx) -> Answer {
+        if self.core.is_down() {
+            return Answer::Down;
+        }
+        match committed_of(self.core.records(), tx) {
+            Some(committed) => Answer::Committed(committed),
+            None => match live {
+                Some(attempt) => Answer::Running(Tid { tx, attempt }),
+                None => Answer::Spent,
+            },
+        }
     }
 
     /// `begin`: the next attempt of a transaction.
-    pub(crate) fn begin(
+    pub(crate) fn begin<D: Disk>(
         &mut self,
         alloc: Global,
         scenario: &Scenario,
+        disk: &mut D,
         tx: Tx,
-    ) -> Result<Answer, Memory>
-        requires { SomeSiteStory E.stands scenario.now self.old IsShort }
-        ensures told { IfOk result (λ answer. Tells E.stands scenario.now self.old (Cmd.Begin tx) answer self.new) }
-        ensures memory { OnErr result (KeepsSite E.stands scenario.now self.old self.new) }
+    ) -> Result<Answer, StepErr>
+        requires told { IsTrue D.tells }
+        requires stood { SomeCommands (LocalStands E.stands D.tells D.image D.size D.spare self.old disk.old scenario.now) IsShort }
+        ensures told { IfOk result (λ answer. EachCommands (LocalStands E.stands D.tells D.image D.size D.spare self.old disk.old scenario.now)
+            (λ commands. IsTold (LocalStands E.stands D.tells D.image D.size D.spare self.new disk.new scenario.now) scenario.now commands (Cmd.Begin tx) answer)) }
+        ensures failed { IfErr result (λ why. EachCommands (LocalStands E.stands D.tells D.image D.size D.spare self.old disk.old scenario.now)
+            (IsUntold (LocalStands E.stands D.tells D.image D.size D.spare self.new disk.new scenario.now) (CoreStands E.stands D.tells D.image D.size D.spare self.new.core disk.new) scenario.now why)) }
+        ensures cause { IsErrOf result StepErr.Disk → HasRisen (D.faults disk.old) (D.faults disk.new) }
+        ensures faults { D.faults disk.old ≤ D.faults disk.new }
     {
         let lines = transactions(scenario);
         let Some(place) = place_of(lines.as_slice(), tx) else {
@@ -89,127 +188,258 @@ impl<E: LocalEngine> LocalSite<E> {
         };
         let local = &self.locals[place];
         let begun = local.begun();
-        match local.phase() {
-            Phase::Idle => {}
-            Phase::Running(attempt) => return Ok(Answer::Running(Tid { tx, attempt })),
-            Phase::Committed(attempt) => return Ok(Answer::Committed(Tid { tx, attempt })),
-        }
         if begun == MOST_ATTEMPTS {
-            return Ok(Answer::Spent);
+            return Ok(self.spent(local.live(), tx));
         }
-        let tid = Tid { tx, attempt: begun };
-        let _age = self.engine.begin(alloc, tid)?;
-        self.locals[place].begins();
-        Ok(Answer::Begun(tid))
+        let event = SiteEvent::Begin(Tid { tx, attempt: begun });
+        let answer = self.hand(alloc, disk, event)?;
+        if let Answer::Begun(_) = answer {
+            self.locals[place].begins();
+        }
+        Ok(answer)
     }
 
     /// `step`: the next step of the live attempt of a transaction.
-    pub(crate) fn step(
+    pub(crate) fn step<D: Disk>(
         &mut self,
         alloc: Global,
         scenario: &Scenario,
+        disk: &mut D,
         tx: Tx,
-    ) -> Result<Answer, Memory>
-        requires { SomeSiteStory E.stands scenario.now self.old AnyStory }
-        ensures told { IfOk result (λ answer. Tells E.stands scenario.now self.old (Cmd.Step tx) answer self.new) }
-        ensures memory { OnErr result (KeepsSite E.stands scenario.now self.old self.new) }
+    ) -> Result<Answer, StepErr>
+        requires told { IsTrue D.tells }
+        requires stood { SomeCommands (LocalStands E.stands D.tells D.image D.size D.spare self.old disk.old scenario.now) IsShort }
+        ensures told { IfOk result (λ answer. EachCommands (LocalStands E.stands D.tells D.image D.size D.spare self.old disk.old scenario.now)
+            (λ commands. IsTold (LocalStands E.stands D.tells D.image D.size D.spare self.new disk.new scenario.now) scenario.now commands (Cmd.Step tx) answer)) }
+        ensures failed { IfErr result (λ why. EachCommands (LocalStands E.stands D.tells D.image D.size D.spare self.old disk.old scenario.now)
+            (IsUntold (LocalStands E.stands D.tells D.image D.size D.spare self.new disk.new scenario.now) (CoreStands E.stands D.tells D.image D.size D.spare self.new.core disk.new) scenario.now why)) }
+        ensures cause { IsErrOf result StepErr.Disk → HasRisen (D.faults disk.old) (D.faults disk.new) }
+        ensures faults { D.faults disk.old ≤ D.faults disk.new }
     {
         let lines = transactions(scenario);
         let Some(place) = place_of(lines.as_slice(), tx) else {
             return Ok(Answer::None);
         };
+        if self.core.is_down() {
+            return Ok(Answer::Down);
+        }
         let local = &self.locals[place];
-        let Phase::Running(attempt) = local.phase() else {
+        let Some(attempt) = local.live() else {
             return Ok(Answer::Idle);
         };
         let program = &lines.at(place).program;
-        let done = local.done() as usize;
-        if done == program.len() {
-            return Ok(Answer::End);
-        }
-        let Some(next) = next_act(program, done, local.reads()) else {
+        let Some(next) = next_act(program, local.done() as usize, local.reads()) else {
             return Ok(Answer::End);
         };
-        let reply = access(&mut self.engine, alloc, Tid { tx, attempt }, next.act)?;
-        Ok(self.locals[place].hears(next.act, reply))
+        let event = SiteEvent::Act {
+            tid: Tid { tx, attempt },
+            act: next.act,
+        };
+        let answer = self.hand(alloc, disk, event)?;
+        self.locals[place].hears(&answer);
+        Ok(answer)
     }
 
-    /// `commit`: the live attempt of a transaction is sealed and committed, once every step is done.
-    pub(crate) fn commit(
+    /// `commit`: the live attempt of a transaction commits, once every step is done.
+    pub(crate) fn commit<D: Disk>(
         &mut self,
         alloc: Global,
         scenario: &Scenario,
+        disk: &mut D,
         tx: Tx,
-    ) -> Result<Answer, Memory>
-        requires { SomeSiteStory E.stands scenario.now self.old IsShort }
-        ensures told { IfOk result (λ answer. Tells E.stands scenario.now self.old (Cmd.Commit tx) answer self.new) }
-        ensures memory { OnErr result (KeepsSite E.stands scenario.now self.old self.new) }
+    ) -> Result<Answer, StepErr>
+        requires told { IsTrue D.tells }
+        requires stood { SomeCommands (LocalStands E.stands D.tells D.image D.size D.spare self.old disk.old scenario.now) IsShort }
+        ensures told { IfOk result (λ answer. EachCommands (LocalStands E.stands D.tells D.image D.size D.spare self.old disk.old scenario.now)
+            (λ commands. IsTold (LocalStands E.stands D.tells D.image D.size D.spare self.new disk.new scenario.now) scenario.now commands (Cmd.Commit tx) answer)) }
+        ensures failed { IfErr result (λ why. EachCommands (LocalStands E.stands D.tells D.image D.size D.spare self.old disk.old scenario.now)
+            (IsUntold (LocalStands E.stands D.tells D.image D.size D.spare self.new disk.new scenario.now) (CoreStands E.stands D.tells D.image D.size D.spare self.new.core disk.new) scenario.now why)) }
+        ensures cause { IsErrOf result StepErr.Disk → HasRisen (D.faults disk.old) (D.faults disk.new) }
+        ensures faults { D.faults disk.old ≤ D.faults disk.new }
     {
         let lines = transactions(scenario);
         let Some(place) = place_of(lines.as_slice(), tx) else {
             return Ok(Answer::None);
         };
+        if self.core.is_down() {
+            return Ok(Answer::Down);
+        }
         let local = &self.locals[place];
-        let Phase::Running(attempt) = local.phase() else {
+        let Some(attempt) = local.live() else {
             return Ok(Answer::Idle);
         };
         if (local.done() as usize) < lines.at(place).program.len() {
             return Ok(Answer::Unfinished);
         }
-        self.commits.reserve(1)?;
-        let tid = Tid { tx, attempt };
-        match self.engine.seal(alloc, tid) {
-            Ok(sealed) => {
-                let number = sealed.number;
-                self.engine.commit(tid);
-                self.locals[place].enter(Phase::Committed(attempt));
-                put_by_number(&mut self.commits, Numbered { tid, number });
-                Ok(Answer::Sealed(tid, number))
-            }
-            Err(SealErr::Refused(why)) => {
-                self.locals[place].enter(Phase::Idle);
-                Ok(refusal(why))
-            }
-            Err(SealErr::Memory) => Err(Memory),
-        }
+        let answer = self.hand(alloc, disk, SiteEvent::Commit(Tid { tx, attempt }))?;
+        self.locals[place].rests();
+        Ok(answer)
     }
 
     /// `abort`: the live attempt of a transaction ends.
-    pub(crate) fn abort(&mut self, scenario: &Scenario, tx: Tx) -> Answer
-        requires { SomeSiteStory E.stands scenario.now self.old AnyStory }
-        ensures { Tells E.stands scenario.now self.old (Cmd.Abort tx) result self.new }
-    {
-        let lines = transactions(scenario);
-        let Some(place) = place_of(lines.as_slice(), tx) else {
-            return Answer::None;
-        };
-        let local = &self.locals[place];
-        let Phase::Running(attempt) = local.phase() else {
-            return Answer::Idle;
-        };
-        let tid = Tid { tx, attempt };
-        self.engine.abort(tid);
-        self.locals[place].enter(Phase::Idle);
-        Answer::Aborted(tid)
-    }
-
-    /// Carries out a command of a local transaction.
-    pub(crate) fn tell(
+    pub(crate) fn abort<D: Disk>(
         &mut self,
         alloc: Global,
         scenario: &Scenario,
+        disk: &mut D,
+        tx: Tx,
+    ) -> Result<Answer, StepErr>
+        requires told { IsTrue D.tells }
+        requires stood { SomeCommands (LocalStands E.stands D.tells D.image D.size D.spare self.old disk.old scenario.now) AnyCommands }
+        ensures told { IfOk result (λ answer. EachCommands (LocalStands E.stands D.tells D.image D.size D.spare self.old disk.old scenario.now)
+            (λ commands. IsTold (LocalStands E.stands D.tells D.image D.size D.spare self.new disk.new scenario.now) scenario.now commands (Cmd.Abort tx) answer)) }
+        ensures failed { IfErr result (λ why. EachCommands (LocalStands E.stands D.tells D.image D.size D.spare self.old disk.old scenario.now)
+            (IsUntold (LocalStands E.stands D.tells D.image D.size D.spare self.new disk.new scenario.now) (CoreStands E.stands D.tells D.image D.size D.spare self.new.core disk.new) scenario.now why)) }
+        ensures cause { IsErrOf result StepErr.Disk → HasRisen (D.faults disk.old) (D.faults disk.new) }
+        ensures faults { D.faults disk.old ≤ D.faults disk.new }
+    {
+        let lines = transactions(scenario);
+        let Some(place) = place_of(lines.as_slice(), tx) else {
+            return Ok(Answer::None);
+        };
+        if self.core.is_down() {
+            return Ok(Answer::Down);
+        }
+        let local = &self.locals[place];
+        let Some(attempt) = local.live() else {
+            return Ok(Answer::Idle);
+        };
+        let answer = self.hand(alloc, disk, SiteEvent::Abort(Tid { tx, attempt }))?;
+        self.locals[place].rests();
+        Ok(answer)
+    }
+
+    /// `fate`: how a transaction ended.
+    pub(crate) fn fate<D: Disk>(
+        &mut self,
+        alloc: Global,
+        scenario: &Scenario,
+        disk: &mut D,
+        tx: Tx,
+    ) -> Result<Answer, StepErr>
+        requires told { IsTrue D.tells }
+        requires stood { SomeCommands (LocalStands E.stands D.tells D.image D.size D.spare self.old disk.old scenario.now) AnyCommands }
+        ensures told { IfOk result (λ answer. EachCommands (LocalStands E.stands D.tells D.image D.size D.spare self.old disk.old scenario.now)
+            (λ commands. IsTold (LocalStands E.stands D.tells D.image D.size D.spare self.new disk.new scenario.now) scenario.now commands (Cmd.Fate tx) answer)) }
+        ensures failed { IfErr result (λ why. EachCommands (LocalStands E.stands D.tells D.image D.size D.spare self.old disk.old scenario.now)
+            (IsUntold (LocalStands E.stands D.tells D.image D.size D.spare self.new disk.new scenario.now) (CoreStands E.stands D.tells D.image D.size D.spare self.new.core disk.new) scenario.now why)) }
+        ensures cause { IsErrOf result StepErr.Disk → HasRisen (D.faults disk.old) (D.faults disk.new) }
+        ensures faults { D.faults disk.old ≤ D.faults disk.new }
+    {
+        match place_of(transactions(scenario).as_slice(), tx) {
+            None => Ok(Answer::None),
+            Some(_) => self.hand(alloc, disk, SiteEvent::Fate(tx)),
+        }
+    }
+
+    /// `halt`: this site stops with this cut. An undeclared one doesn't hear.
+    pub(crate) fn halt<D: Disk>(
+        &mut self,
+        alloc: Global,
+        scenario: &Scenario,
+        disk: &mut D,
+        actor: u8,
+        cut: u64,
+    ) -> Result<Answer, StepErr>
+        requires told { IsTrue D.tells }
+        requires actor { 0 < actor }
+        requires stood { SomeCommands (LocalStands E.stands D.tells D.image D.size D.spare self.old disk.old scenario.now) AnyCommands }
+        ensures told { IfOk result (λ answer. EachCommands (LocalStands E.stands D.tells D.image D.size D.spare self.old disk.old scenario.now)
+            (λ commands. IsTold (LocalStands E.stands D.tells D.image D.size D.spare self.new disk.new scenario.now) scenario.now commands (Cmd.Halt actor cut) answer)) }
+        ensures failed { IfErr result (λ why. EachCommands (LocalStands E.stands D.tells D.image D.size D.spare self.old disk.old scenario.now)
+            (IsUntold (LocalStands E.stands D.tells D.image D.size D.spare self.new disk.new scenario.now) (CoreStands E.stands D.tells D.image D.size D.spare self.new.core disk.new) scenario.now why)) }
+        ensures cause { IsErrOf result StepErr.Disk → HasRisen (D.faults disk.old) (D.faults disk.new) }
+        ensures faults { D.faults disk.old ≤ D.faults disk.new }
+    {
+        if actor != self.site.0 {
+            return Ok(Answer::None);
+        }
+        self.hand(alloc, disk, SiteEvent::Halt { cut })
+    }
+
+    /// `back`: this site starts again. An undeclared one doesn't hear.
+    pub(crate) fn back<D: Disk>(
+        &mut self,
+        alloc: Global,
+        scenario: &Scenario,
+        disk: &mut D,
+        actor: u8,
+    ) -> Result<Answer, StepErr>
+        requires told { IsTrue D.tells }
+        requires actor { 0 < actor }
+        requires stood { SomeCommands (LocalStands E.stands D.tells D.image D.size D.spare self.old disk.old scenario.now) IsShort }
+        ensures told { IfOk result (λ answer. EachCommands (LocalStands E.stands D.tells D.image D.size D.spare self.old disk.old scenario.now)
+            (λ commands. IsTold (LocalStands E.stands D.tells D.image D.size D.spare self.new disk.new scenario.now) scenario.now commands (Cmd.Back actor) answer)) }
+        ensures failed { IfErr result (λ why. EachCommands (LocalStands E.stands D.tells D.image D.size D.spare self.old disk.old scenario.now)
+            (IsUntold (LocalStands E.stands D.tells D.image D.size D.spare self.new disk.new scenario.now) (CoreStands E.stands D.tells D.image D.size D.spare self.new.core disk.new) scenario.now why)) }
+        ensures cause { IsErrOf result StepErr.Disk → HasRisen (D.faults disk.old) (D.faults disk.new) }
+        ensures faults { D.faults disk.old ≤ D.faults disk.new }
+    {
+        if actor != self.site.0 {
+            return Ok(Answer::None);
+        }
+        self.hand(alloc, disk, SiteEvent::Back)
+    }
+
+    /// `trip`: sets a trip, or with no calls disarms it. An undeclared site doesn't hear.
+    pub(crate) fn trip<D: Disk>(
+        &mut self,
+        alloc: Global,
+        scenario: &Scenario,
+        disk: &mut D,
+        actor: u8,
+        calls: u32,
+        cut: u64,
+    ) -> Result<Answer, StepErr>
+        requires told { IsTrue D.tells }
+        requires actor { 0 < actor }
+        requires stood { SomeCommands (LocalStands E.stands D.tells D.image D.size D.spare self.old disk.old scenario.now) AnyCommands }
+        ensures told { IfOk result (λ answer. EachCommands (LocalStands E.stands D.tells D.image D.size D.spare self.old disk.old scenario.now)
+            (λ commands. IsTold (LocalStands E.stands D.tells D.image D.size D.spare self.new disk.new scenario.now) scenario.now commands (Cmd.Trip actor calls cut) answer)) }
+        ensures failed { IfErr result (λ why. EachCommands (LocalStands E.stands D.tells D.image D.size D.spare self.old disk.old scenario.now)
+            (IsUntold (LocalStands E.stands D.tells D.image D.size D.spare self.new disk.new scenario.now) (CoreStands E.stands D.tells D.image D.size D.spare self.new.core disk.new) scenario.now why)) }
+        ensures cause { IsErrOf result StepErr.Disk → HasRisen (D.faults disk.old) (D.faults disk.new) }
+        ensures faults { D.faults disk.old ≤ D.faults disk.new }
+    {
+        if actor != self.site.0 {
+            return Ok(Answer::None);
+        }
+        let answer = self.hand(alloc, disk, SiteEvent::Trip { calls, cut })?;
+        self.armed = calls > 0;
+        Ok(answer)
+    }
+
+    /// Carries out a command of a local transaction, or of a site.
+    pub(crate) fn tell<D: Disk>(
+        &mut self,
+        alloc: Global,
+        scenario: &Scenario,
+        disk: &mut D,
         command: Command,
-    ) -> Result<Answer, Memory>
-        requires local { IsLocal command }
-        requires stood { SomeSiteStory E.stands scenario.now self.old IsShort }
-        ensures told { IfOk result (λ answer. Tells E.stands scenario.now self.old command answer self.new) }
-        ensures memory { OnErr result (KeepsSite E.stands scenario.now self.old self.new) }
+    ) -> Result<Answer, StepErr>
+        requires told { IsTrue D.tells }
+        requires own { IsOwn command }
+        requires at_site { IsAtSite command }
+        requires stood { SomeCommands (LocalStands E.stands D.tells D.image D.size D.spare self.old disk.old scenario.now) IsShort }
+        ensures told { IfOk result (λ answer. EachCommands (LocalStands E.stands D.tells D.image D.size D.spare self.old disk.old scenario.now)
+            (λ commands. IsTold (LocalStands E.stands D.tells D.image D.size D.spare self.new disk.new scenario.now) scenario.now commands command answer)) }
+        ensures failed { IfErr result (λ why. EachCommands (LocalStands E.stands D.tells D.image D.size D.spare self.old disk.old scenario.now)
+            (IsUntold (LocalStands E.stands D.tells D.image D.size D.spare self.new disk.new scenario.now) (CoreStands E.stands D.tells D.image D.size D.spare self.new.core disk.new) scenario.now why)) }
+        ensures cause { IsErrOf result StepErr.Disk → HasRisen (D.faults disk.old) (D.faults disk.new) }
+        ensures faults { D.faults disk.old ≤ D.faults disk.new }
+        ensures site { self.new.site ≡ self.old.site }
     {
         match command {
-            Command::Begin(tx) => self.begin(alloc, scenario, tx),
-            Command::Step(tx) => self.step(alloc, scenario, tx),
-            Command::Commit(tx) => self.commit(alloc, scenario, tx),
-            Command::Abort(tx) => Ok(self.abort(scenario, tx)),
+            Command::Begin(tx) => self.begin(alloc, scenario, disk, tx),
+            Command::Step(tx) => self.step(alloc, scenario, disk, tx),
+            Command::Commit(tx) => self.commit(alloc, scenario, disk, tx),
+            Command::Abort(tx) => self.abort(alloc, scenario, disk, tx),
+            Command::Fate(tx) => self.fate(alloc, scenario, disk, tx),
+            Command::Halt { actor, cut } => self.halt(alloc, scenario, disk, actor, cut),
+            Command::Trip { actor, calls, cut } => {
+                self.trip(alloc, scenario, disk, actor, calls, cut)
+            }
+            Command::Back { actor } => self.back(alloc, scenario, disk, actor),
             _ => unreachable!(),
         }
     }

@@ -1,42 +1,29 @@
 //! What is kept of a local transaction.
 ghost use Rattle.std.specs.Prelude.{◌≡◌, ◌<◌, IfOk, length};
-ghost use Rattle.mdb_base.specs.declared.names.Tid.{Tid};
-ghost use Rattle.fed_rules.specs.Site.{act_answer};
-ghost use Rattle.fed_world.specs.Locals.{unbegun, begins, with_read, with_write, with_phase, heard};
+ghost use Rattle.local_laws.specs.Kept.{after_access, begins, resting, unbegun, with_read, with_write};
 
 use fed_rules::Answer;
-use mdb_base::{Memory, PlainAct, Reply, Why};
+use mdb_base::Memory;
 use std::alloc::Global;
 use std::marker::Model;
 
-/// What became of the last attempt of a transaction.
-#[derive(Clone, Copy, Debug, PartialEq, Eq)]
-pub(crate) enum Phase {
-    /// None is live or committed.
-    Idle,
-    /// This attempt is live.
-    Running(u8),
-    /// This attempt is committed.
-    Committed(u8),
-}
-
-/// How many attempts of a local transaction began, what became of the last one, the steps that it has done, and the values
-/// that it read, for 32 of which there is always room.
+/// How many attempts of a local transaction began, which one is live, the steps that the last one has done, and the values that it read,
+/// for 32 of which there is always room. What the last attempt read is kept when it ends.
 #[derive(Drop)]
 pub(crate) struct LocalTx {
     begun: u8,
-    phase: Phase,
+    live: Option<u8>,
     done: u8,
     reads: Vec<u64>,
 }
 
 impl Model for LocalTx {
     ghost use Rattle.std.specs.Prelude.{◌≤◌, vec_capacity};
-    ghost use Rattle.fed_world.specs.Locals.{State};
+    ghost use Rattle.local_laws.specs.Kept.{State};
 
     ghost Value = { State };
 
-    ghost view = { λ t. record { begun = t.begun; phase = t.phase; done = t.done; reads = t.reads.items } };
+    ghost view = { λ t. record { begun = t.begun; live = t.live; done = t.done; reads = t.reads.items } };
 
     ghost invariant = { λ t. 32 ≤ vec_capacity t.reads };
 }
@@ -48,7 +35,7 @@ impl LocalTx {
     {
         Ok(LocalTx {
             begun: 0,
-            phase: Phase::Idle,
+            live: None,
             done: 0,
             reads: Vec::with_capacity(alloc, 32)?,
         })
@@ -61,11 +48,11 @@ impl LocalTx {
         self.begun
     }
 
-    /// What became of the last attempt.
-    pub(crate) fn phase(&self) -> Phase
-        ensures { result ≡ self.now.phase }
+    /// Which attempt is live.
+    pub(crate) fn live(&self) -> Option<u8>
+        ensures { result ≡ self.now.live }
     {
-        self.phase
+        self.live
     }
 
     /// How many steps the last attempt has done.
@@ -87,7 +74,7 @@ impl LocalTx {
         requires { self.old.begun < 32 }
         ensures { self.new ≡ begins self.old }
     {
-        self.phase = Phase::Running(self.begun);
+        self.live = Some(self.begun);
         self.begun += 1;
         self.done = 0;
         self.reads.clear();
@@ -111,46 +98,25 @@ impl LocalTx {
         self.done += 1;
     }
 
-    /// The last attempt is in this phase from now on.
-    pub(crate) fn enter(&mut self, phase: Phase)
-        ensures { self.new ≡ with_phase phase self.old }
+    /// No attempt is live any more.
+    pub(crate) fn rests(&mut self)
+        ensures { self.new ≡ resting self.old }
     {
-        self.phase = phase;
+        self.live = None;
     }
 
-    /// Hears the reply to its next access: a refusal ends the live attempt, and a wait changes nothing.
-    pub(crate) fn hears(&mut self, act: PlainAct, reply: Reply) -> Answer
+    /// Hears the answer to its next access: a refusal ends the live attempt, and a wait changes nothing.
+    pub(crate) fn hears(&mut self, answer: &Answer)
         requires done { self.old.done < 32 }
         requires room { length self.old.reads < 32 }
-        ensures answer { (tid : Tid) → result ≡ act_answer tid reply act }
-        ensures heard { self.new ≡ heard reply act self.old }
+        ensures { self.new ≡ after_access answer.now self.old }
     {
-        match (reply, act) {
-            (Reply::Value(value), PlainAct::Read(key)) => {
-                self.reads_value(value);
-                Answer::Read(key, value)
-            }
-            (Reply::Done, PlainAct::Write(key, value)) => {
-                self.writes();
-                Answer::Wrote(key, value)
-            }
-            (Reply::Wait { by }, _) => Answer::Waits(by),
-            (Reply::Refused(why), _) => {
-                self.enter(Phase::Idle);
-                stopped_by(why)
-            }
-            _ => Answer::Idle,
+        match answer {
+            Answer::Read(_, value) => self.reads_value(*value),
+            Answer::Wrote(_, _) => self.writes(),
+            Answer::Dies(_) => self.rests(),
+            Answer::Late(_) => self.rests(),
+            _ => {}
         }
-    }
-}
-
-/// The answer to an access that is refused.
-fn stopped_by(why: Why) -> Answer
-    ensures { (tid : Tid) → (act : PlainAct) → result ≡ act_answer tid (Reply.Refused why) act }
-{
-    match why {
-        Why::Die { by } => Answer::Dies(by),
-        Why::Late { by } => Answer::Late(by),
-        _ => Answer::Idle,
     }
 }

@@ -1,9 +1,11 @@
 //! The report of one site.
 ghost use Rattle.std.specs.Prelude.{◌≡◌, ◌∷◌, [], IfOk, length, map, reverse};
 ghost use Rattle.fed_world.specs.Reports.{member_tid, kept_reads, reads_of_member};
-ghost use Rattle.fed_world.specs.Stands.{SomeSiteStory, AnyStory, IsReport};
+ghost use Rattle.fed_rules.specs.Reports.{report_of};
+ghost use Rattle.fed_rules.specs.Story.{coord_past, story_of};
+ghost use Rattle.fed_world.specs.Stands.{EachCommands, IsUpAlone, LocalHolds, SomeCommands};
 
-use crate::commits::Numbered;
+use crate::commits::{Numbered, committed_by_number};
 use crate::local_site::LocalSite;
 use crate::local_tx::LocalTx;
 use crate::places::{sites, transactions};
@@ -70,19 +72,21 @@ fn all_reads(
 }
 
 impl<E: LocalEngine> LocalSite<E> {
-    /// The report of a session over this site: the committed attempts by rising serial number with their reads, and the table.
+    /// The report of a session over this site, which is up: the committed attempts by rising serial number with their reads, and the table.
     pub(crate) fn report(&self, alloc: Global, scenario: &Scenario) -> Result<Report, Memory>
-        requires { SomeSiteStory E.stands scenario.now self.now AnyStory }
-        ensures { IfOk result (λ report. IsReport E.stands scenario.now self.now report) }
+        requires { SomeCommands (LocalHolds E.stands self.now scenario.now) (IsUpAlone scenario.now self.now.site) }
+        ensures { IfOk result (λ report. EachCommands (LocalHolds E.stands self.now scenario.now)
+            (λ commands. coord_past (story_of scenario.now commands) ≡ [] → report ≡ report_of scenario.now (story_of scenario.now commands))) }
     {
-        let order = members(alloc, self.commits.as_slice())?;
+        let commits = committed_by_number(alloc, self.core.records())?;
+        let order = members(alloc, commits.as_slice())?;
         let reads = all_reads(
             alloc,
             transactions(scenario),
             self.locals.as_slice(),
             order.as_slice(),
         )?;
-        let rows = self.engine.rows(alloc)?;
+        let rows = self.core.rows(alloc)?;
         let site = sites(scenario).at(0).site;
         let mut tables = Vec::new(alloc);
         tables.reserve(1)?;

@@ -1,104 +1,233 @@
 //! The world of a session.
-ghost use Rattle.std.specs.Prelude.{◌≡◌, ◌+◌, ◌<◌, [], IfOk, OnOk, OnErr, vec_len, vec_capacity};
-ghost use Rattle.fed_rules.specs.declared.commands.Command.TheVariants as Cmd;
+ghost use Rattle.std.specs.Prelude.{◌≡◌, [], ◌∷◌, IfOk, IfErr, OnOk, IsTrue};
 ghost use Rattle.fed_rules.specs.CoordPast.{oldest_first};
 ghost use Rattle.fed_rules.specs.Reports.{report_of};
 ghost use Rattle.fed_rules.specs.Story.{story_of, lines_of};
-ghost use Rattle.fed_world.specs.Stands.{CanStart, Stands, SomeStory, EachStory, AddsCommand, KeepsStory, CanApply, AnyCommands, Closes};
+ghost use Rattle.fed_rules.specs.Closing.{closed};
+ghost use Rattle.fed_world.specs.Worlds.{AllUp, AreEmpty, CanApply, CanClose, CanStart, EachStory, Fails, FailsToClose, FailsToStart, HasCause, HasLines, NeverFalls, Recalls, SomeStory, Stands};
 
+use crate::errors::WorldErr;
 use crate::live::live_tids;
 use crate::local_site::LocalSite;
-use crate::places::transactions;
+use crate::places::{sites, transactions};
 use engine_contract::LocalEngine;
 use fed_rules::{AllReads, AllRows, Answer, Command, Line, Outcomes, Places, Report, Scenario};
-use mdb_base::{Memory, Tids, Tx};
+use journal_disk::Disk;
+use mdb_base::{Memory, Puts, Tid, Tids};
+use site_core::StepErr;
 use std::alloc::Global;
 
-/// A session: its scenario, the site with its engine, and the lines made so far.
+/// A new site's engine, and the rows that it starts from.
+#[derive(Drop)]
+pub struct NewSite<E: LocalEngine> {
+    pub engine: E,
+    pub items: Puts,
+}
+
+/// A session: its scenario, the site, the lines made so far, and whether a disk call failed.
 #[derive(Drop)]
 pub struct World<E: LocalEngine> {
     scenario: Scenario,
     site: Option<LocalSite<E>>,
     lines: Vec<Line>,
+    broken: bool,
+}
+
+/// Why the disk of this site gave no line.
+fn world_err(number: u8, why: StepErr) -> WorldErr {
+    match why {
+        StepErr::Disk => WorldErr::Disk { number },
+        StepErr::Memory => WorldErr::Memory,
+    }
 }
 
 impl<E: LocalEngine> World<E> {
     /// The world of a scenario with at most one site, whose transactions are local there and differ in their numbers. The engine
-    /// is given exactly where there is a site, new and with the site's rule and first rows.
-    pub fn new(alloc: Global, scenario: Scenario, local: Option<E>) -> Result<World<E>, Memory>
-        requires { CanStart E.stands scenario local }
-        ensures { IfOk result (λ world. Stands E.stands world scenario []) }
+    /// is given exactly where there is a site, new and with the site's rule and these first rows. The site is set up on its disk.
+    pub fn new<D: Disk>(
+        alloc: Global,
+        scenario: Scenario,
+        local: Option<NewSite<E>>,
+        disks: &mut Vec<D>,
+    ) -> Result<World<E>, WorldErr>
+        requires told { IsTrue D.tells }
+        requires start { CanStart E.stands scenario local }
+        requires empty { AreEmpty D.size disks.old.items }
+        ensures stands { IfOk result (λ world. Stands E.stands D.tells D.image D.size D.spare world disks.new.items scenario []) }
+        ensures failed { IfErr result (λ why. FailsToStart D.image D.size why disks.new.items scenario) }
+        ensures cause { IfErr result (λ why. HasCause D.faults why disks.old.items disks.new.items) }
+        ensures faults { NeverFalls D.faults disks.old.items disks.new.items }
     {
         let site = match local {
             None => None,
-            Some(engine) => Some(LocalSite::new(alloc, &scenario, engine)?),
+            Some(NewSite { engine, items }) => {
+                let line = *sites(&scenario).at(0);
+                let number = line.site.0;
+                let disk = &mut disks[number as usize];
+                match LocalSite::new(alloc, &scenario, disk, line, items, engine) {
+                    Ok(site) => Some(site),
+                    Err(why) => return Err(world_err(number, why)),
+                }
+            }
         };
         Ok(World {
             scenario,
             site,
             lines: Vec::new(alloc),
+            broken: false,
         })
     }
 
-    /// Carries out a command of a local transaction, and adds its line. Without memory all stays as it was.
-    pub fn apply(&mut self, alloc: Global, command: Command) -> Result<(), Memory>
-        requires { SomeStory E.stands self.old (CanApply command) }
-        ensures applied { OnOk result (AddsCommand E.stands self.old command self.new) }
-        ensures memory { OnErr result (KeepsStory E.stands self.old self.new) }
-    {
-        self.lines.reserve(1)?;
-        let answer = match &mut self.site {
-            None => Answer::None,
-            Some(site) => site.tell(alloc, &self.scenario, command)?,
-        };
-        self.lines.push_reserved(Line {
-            command,
-            answer,
-            sends: Places::of(Vec::new(alloc)),
-        });
-        Ok(())
+    /// What the site answers to a command.
+    fn answer<D: Disk>(
+        &mut self,
+        alloc: Global,
+        disks: &mut Vec<D>,
+        command: Command,
+    ) -> Result<Answer, WorldErr> {
+        match &mut self.site {
+            None => Ok(Answer::None),
+            Some(site) => {
+                let number = site.site.0;
+                match site.tell(alloc, &self.scenario, &mut disks[number as usize], command) {
+                    Ok(answer) => Ok(answer),
+                    Err(why) => Err(world_err(number, why)),
+                }
+            }
+        }
     }
 
-    /// Aborts the live attempt of a transaction, and adds the line, for which there is room.
-    fn abort_live(&mut self, alloc: Global, tx: Tx)
-        requires room { vec_len self.old.lines < vec_capacity self.old.lines }
-        requires stood { SomeStory E.stands self.old AnyCommands }
-        ensures aborted { AddsCommand E.stands self.old (Cmd.Abort tx) self.new }
-        ensures room { vec_capacity self.new.lines ≡ vec_capacity self.old.lines }
-        ensures length { vec_len self.new.lines ≡ vec_len self.old.lines + 1 }
+    /// Carries out a command of a local transaction or of a site, and adds its line. Without memory all stays as it was. Where a disk
+    /// call fails the world is broken, and there is no line.
+    pub fn apply<D: Disk>(
+        &mut self,
+        alloc: Global,
+        disks: &mut Vec<D>,
+        command: Command,
+    ) -> Result<(), WorldErr>
+        requires told { IsTrue D.tells }
+        requires stood { SomeStory (Stands E.stands D.tells D.image D.size D.spare self.old disks.old.items) (CanApply command) }
+        ensures applied { OnOk result (EachStory (Stands E.stands D.tells D.image D.size D.spare self.old disks.old.items)
+            (λ scenario commands. Stands E.stands D.tells D.image D.size D.spare self.new disks.new.items scenario (command ∷ commands))) }
+        ensures failed { IfErr result (λ why. EachStory (Stands E.stands D.tells D.image D.size D.spare self.old disks.old.items)
+            (Fails E.stands D.tells D.image D.size D.spare why self.new disks.new.items)) }
+        ensures cause { IfErr result (λ why. HasCause D.faults why disks.old.items disks.new.items) }
+        ensures faults { NeverFalls D.faults disks.old.items disks.new.items }
     {
-        let answer = match &mut self.site {
-            None => Answer::None,
-            Some(site) => site.abort(&self.scenario, tx),
+        let Ok(()) = self.lines.reserve(1) else {
+            return Err(WorldErr::Memory);
         };
-        self.lines.push_reserved(Line {
-            command: Command::Abort(tx),
-            answer,
-            sends: Places::of(Vec::new(alloc)),
-        });
+        match self.answer(alloc, disks, command) {
+            Ok(answer) => {
+                self.lines.push_reserved(Line {
+                    command,
+                    answer,
+                    sends: Places::of(Vec::new(alloc)),
+                });
+                Ok(())
+            }
+            Err(WorldErr::Disk { number }) => {
+                self.broken = true;
+                Err(WorldErr::Disk { number })
+            }
+            Err(WorldErr::Memory) => Err(WorldErr::Memory),
+        }
     }
 
-    /// Closes the session: each live attempt is aborted, by rising transaction. Without memory all stays as it was.
-    pub fn close(&mut self, alloc: Global) -> Result<(), Memory>
-        requires { SomeStory E.stands self.old AnyCommands }
-        ensures closed { OnOk result (Closes E.stands self.old self.new) }
-        ensures memory { OnErr result (KeepsStory E.stands self.old self.new) }
+    /// Whether a disk call failed.
+    pub fn is_broken(&self) -> bool
+        ensures { result ≡ self.now.broken }
     {
-        let live = match &self.site {
-            None => Vec::new(alloc),
-            Some(site) => live_tids(alloc, transactions(&self.scenario), site.locals.as_slice())?,
+        self.broken
+    }
+
+    /// The number of the site where a trip is armed.
+    fn armed_site(&self) -> Option<u8> {
+        match &self.site {
+            None => None,
+            Some(site) => { if site.armed { Some(site.site.0) } else { None } }
+        }
+    }
+
+    /// The number of the site where it is down.
+    fn down_site(&self) -> Option<u8> {
+        match &self.site {
+            None => None,
+            Some(site) => {
+                if site.core.is_down() {
+                    Some(site.site.0)
+                } else {
+                    None
+                }
+            }
+        }
+    }
+
+    /// The live attempts.
+    fn live(&self, alloc: Global) -> Result<Vec<Tid>, Memory> {
+        match &self.site {
+            None => Ok(Vec::new(alloc)),
+            Some(site) => live_tids(alloc, transactions(&self.scenario), site.locals.as_slice()),
+        }
+    }
+
+    /// A trip that is armed is disarmed.
+    fn disarm<D: Disk>(&mut self, alloc: Global, disks: &mut Vec<D>) -> Result<(), WorldErr> {
+        match self.armed_site() {
+            None => Ok(()),
+            Some(actor) => self.apply(
+                alloc,
+                disks,
+                Command::Trip {
+                    actor,
+                    calls: 0,
+                    cut: 0,
+                },
+            ),
+        }
+    }
+
+    /// A site that is down comes back.
+    fn bring_up<D: Disk>(&mut self, alloc: Global, disks: &mut Vec<D>) -> Result<(), WorldErr> {
+        match self.down_site() {
+            None => Ok(()),
+            Some(actor) => self.apply(alloc, disks, Command::Back { actor }),
+        }
+    }
+
+    /// Each live attempt is aborted, by rising transaction.
+    fn clear<D: Disk>(&mut self, alloc: Global, disks: &mut Vec<D>) -> Result<(), WorldErr> {
+        let Ok(live) = self.live(alloc) else {
+            return Err(WorldErr::Memory);
         };
-        self.lines.reserve(live.len())?;
         for tid in &live {
-            self.abort_live(alloc, tid.tx);
+            self.apply(alloc, disks, Command::Abort(tid.tx))?;
         }
         Ok(())
     }
 
-    /// The report: the committed attempts by rising serial number with their reads, and the table of the site.
+    /// Closes the session: an armed trip is disarmed, a site that is down comes back, and each live attempt is aborted, by rising
+    /// transaction. After a refusal the lines made until then stand.
+    pub fn close<D: Disk>(&mut self, alloc: Global, disks: &mut Vec<D>) -> Result<(), WorldErr>
+        requires told { IsTrue D.tells }
+        requires stood { SomeStory (Stands E.stands D.tells D.image D.size D.spare self.old disks.old.items) CanClose }
+        ensures closed { OnOk result (EachStory (Stands E.stands D.tells D.image D.size D.spare self.old disks.old.items)
+            (λ scenario commands. Stands E.stands D.tells D.image D.size D.spare self.new disks.new.items scenario (closed scenario commands))) }
+        ensures failed { IfErr result (λ why. EachStory (Stands E.stands D.tells D.image D.size D.spare self.old disks.old.items)
+            (FailsToClose E.stands D.tells D.image D.size D.spare why self.new disks.new.items)) }
+        ensures cause { IfErr result (λ why. HasCause D.faults why disks.old.items disks.new.items) }
+        ensures faults { NeverFalls D.faults disks.old.items disks.new.items }
+    {
+        self.disarm(alloc, disks)?;
+        self.bring_up(alloc, disks)?;
+        self.clear(alloc, disks)
+    }
+
+    /// The report: the committed attempts by rising serial number with their reads, and the table of the site, which is up.
     pub fn report(&self, alloc: Global) -> Result<Report, Memory>
-        requires { SomeStory E.stands self.now AnyCommands }
-        ensures { IfOk result (λ report. EachStory E.stands self.now (λ scenario commands. report ≡ report_of scenario (story_of scenario commands))) }
+        requires { SomeStory (Recalls E.stands self.now) AllUp }
+        ensures { IfOk result (λ report. EachStory (Recalls E.stands self.now)
+            (λ scenario commands. report ≡ report_of scenario (story_of scenario commands))) }
     {
         match &self.site {
             None => Ok(Report {
@@ -114,14 +243,14 @@ impl<E: LocalEngine> World<E> {
 
     /// The lines, the first one first.
     pub fn lines(&self) -> &[Line]
-        ensures { EachStory E.stands self.now (λ scenario commands. result.now ≡ oldest_first (lines_of (story_of scenario commands))) }
+        ensures { EachStory (HasLines self.now) (λ scenario commands. result.now ≡ oldest_first (lines_of (story_of scenario commands))) }
     {
         self.lines.as_slice()
     }
 
     /// The scenario.
     pub fn scenario(&self) -> &Scenario
-        ensures { EachStory E.stands self.now (λ scenario commands. result.now ≡ scenario) }
+        ensures { EachStory (HasLines self.now) (λ scenario commands. result.now ≡ scenario) }
     {
         &self.scenario
     }

@@ -1,23 +1,32 @@
 -- How the top call may end: which status an input leads to, and what the sink has got then.
-use Rattle.std.specs.Prelude.{ℕ, ◌≡◌, Bool, IsTrue, List, [], ◌∷◌, ◌++◌}
+use Rattle.std.specs.Prelude.{ℕ, ◌≡◌, ◌⊎◌, Bool, true, false, IsTrue, List, [], ◌∷◌, ◌++◌}
 use Rattle.order_laws.specs.Chains.{In}
 use Rattle.mdb_base.specs.Counts.{HasRisen}
+use Rattle.fed_rules.specs.declared.commands.Command.{Command}
+use Rattle.fed_rules.specs.declared.scenario.Scenario.{Scenario}
+use Rattle.fed_rules.specs.CoordPast.{oldest_first}
+use Rattle.fed_rules.specs.Right.{IsRightStory}
+use Rattle.fed_rules.specs.Story.{story_of, lines_of}
+use Rattle.journal_disk.specs.Disk.{Image}
 use Rattle.scenario_text.specs.declared.session.Session.{Session}
-use Rattle.mdb_top.specs.Sessions.{output_of, IsRight}
+use Rattle.trace_lines.specs.Spelling.{lines_bytes}
+use Rattle.mdb_top.specs.Disks.{HoldAll, HoldFrames, HoldOthers, RoseAt, StopAt}
+use Rattle.mdb_top.specs.Sessions.{commands_of, output_of, story, IsRight}
 use Rattle.mdb_top.specs.Streams.{WritesFront}
-use Rattle.mdb_top.specs.Texts.{read_failed_text, too_long_text, no_memory_text, bad_input_text, bad_line_text}
+use Rattle.mdb_top.specs.Texts.{read_failed_text, too_long_text, no_memory_text, bad_input_text, bad_line_text, disk_failed_text}
 use Rattle.mdb_top.specs.Verdicts.{Verdict, TooLong, BadInput, NotHere, Runs}
 
--- the statuses that an input leads to: a session that runs may find the sink failing
-abbrev pub statuses : Verdict → List ℕ
-statuses TooLong = 7 ∷ []
-statuses (BadInput bad) = 2 ∷ []
-statuses NotHere = 2 ∷ []
-statuses (Runs session) = 0 ∷ 4 ∷ []
+-- the statuses that an input leads to: a session that runs finds a disk used; or else the sink or a disk may fail
+abbrev pub statuses : Bool → Verdict → List ℕ
+statuses used TooLong = 7 ∷ []
+statuses used (BadInput bad) = 2 ∷ []
+statuses used NotHere = 2 ∷ []
+statuses true (Runs session) = 8 ∷ []
+statuses false (Runs session) = 0 ∷ 4 ∷ 5 ∷ []
 
 -- the status is one that the input leads to, or a read failed, or memory was wanting
-abbrev pub IsLedTo : ℕ → Verdict → Type 0
-IsLedTo status verdict = In status (3 ∷ 6 ∷ statuses verdict)
+abbrev pub IsLedTo : ℕ → Bool → Verdict → Type 0
+IsLedTo status used verdict = In status (3 ∷ 6 ∷ statuses used verdict)
 
 -- what is said of an input that is refused
 abbrev pub refusal_text : Verdict → List ℕ
@@ -35,22 +44,44 @@ pub record SomeSession (verdict : Verdict) (P : Session → Type 0) : Type 0 whe
   pub is : verdict ≡ Runs session
   pub holds : P session
 
--- the sink, where it tells that, has got the whole output of the session, which is right
-pub record IsReplayed (tells : Bool) (before after : List ℕ) (session : Session) : Type 0 where
+-- the sink, where it tells that, has got the whole output of the session, which is right, and each disk holds the records of its actor
+pub record IsReplayed {D : Type 0} (tells : Bool) (before after : List ℕ) (image : D → Image) (disks : List D) (session : Session) : Type 0 where
   pub right : IsRight session
   pub output : IsTrue tells → after ≡ before ++ output_of session
+  pub kept : HoldFrames image disks session.scenario (story session)
 
--- the sink, where it tells that, has got a front of the output of the session
-abbrev pub IsCutOff : Bool → List ℕ → List ℕ → Session → Type 0
-IsCutOff tells before after session = IsTrue tells → WritesFront before after (output_of session)
+-- the sink, where it tells that, has got a front of the output of the session, which is right, and each disk holds the records of its actor
+pub record IsCutOff {D : Type 0} (tells : Bool) (before after : List ℕ) (image : D → Image) (disks : List D) (session : Session) : Type 0 where
+  pub right : IsRight session
+  pub front : IsTrue tells → WritesFront before after (output_of session)
+  pub kept : HoldFrames image disks session.scenario (story session)
 
--- the status and what the sink has got are such as the input leads to
-pub record Ends (verdict : Verdict) (status : ℕ) (tells : Bool) (faults_before faults_after : ℕ) (before after : List ℕ) : Type 0 where
-  pub led : IsLedTo status verdict
-  pub replayed : status ≡ 0 → SomeSession verdict (IsReplayed tells before after)
-  pub refused : status ≡ 2 → Gets tells faults_before faults_after before after (refusal_text verdict)
-  pub unread : status ≡ 3 → Gets tells faults_before faults_after before after read_failed_text
-  pub cut : status ≡ 4 → SomeSession verdict (IsCutOff tells before after)
-  pub failed : status ≡ 4 → HasRisen faults_before faults_after
-  pub wanting : status ≡ 6 → Gets tells faults_before faults_after before after no_memory_text
-  pub long : status ≡ 7 → Gets tells faults_before faults_after before after too_long_text
+-- the commands are the first ones of the session, the last one of them first
+abbrev pub IsFront : List Command → Session → Type 0
+IsFront done session = (left : List Command) × (commands_of session ≡ left ++ done)
+
+-- the lines of these commands, the first one first
+abbrev pub lines_text : Scenario → List Command → List ℕ
+lines_text scenario done = lines_bytes (oldest_first (lines_of (story_of scenario done)))
+
+-- a call of a disk failed within the event of the next command, or of a set-up: the lines made until then are right, and behind them the
+-- disk is named, whose count of faults rose; it holds what some stop within that event leaves, and each other disk what the rules say
+pub record IsBroken {D : Type 0} (tells : Bool) (faults_before faults_after : ℕ) (before after : List ℕ) (image : D → Image) (faults : D → ℕ) (old new : List D) (session : Session) : Type 0 where
+  pub done : List Command
+  pub number : ℕ
+  pub front : IsFront done session
+  pub right : IsRightStory session.scenario (lines_of (story_of session.scenario done))
+  pub text : Gets tells faults_before faults_after before after (lines_text session.scenario done ++ disk_failed_text number)
+  pub rose : RoseAt faults number old new
+  pub stop : StopAt image number new session.scenario done
+  pub others : HoldOthers image number new session.scenario (story_of session.scenario done)
+
+-- memory was wanting behind the first commands of the session: each disk holds what the rules say is on it then
+pub record IsShort {D : Type 0} (image : D → Image) (disks : List D) (session : Session) : Type 0 where
+  pub done : List Command
+  pub front : IsFront done session
+  pub kept : HoldAll image disks session.scenario (story_of session.scenario done)
+
+-- where memory was wanting, the disks are as they were, or those of a session that was begun
+abbrev pub AreShort : {D : Type 0} → (D → Image) → List D → List D → Verdict → Type 0
+AreShort image old new verdict = (new ≡ old) ⊎ SomeSession verdict (IsShort image new)

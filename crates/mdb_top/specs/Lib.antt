@@ -1,3 +1,4 @@
+pub mod Disks
 pub mod Endings
 pub mod FirstRows
 pub mod Inputs

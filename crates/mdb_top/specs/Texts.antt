@@ -23,6 +23,14 @@ no_memory_text = line (codes "no memory")
 abbrev pub bad_input_text : List ℕ
 bad_input_text = line (codes "bad input")
 
+-- which disk isn't empty
+abbrev pub disk_used_text : ℕ → List ℕ
+disk_used_text number = line (codes "disk " ++ decimal number ++ codes " is used")
+
+-- which disk failed
+abbrev pub disk_failed_text : ℕ → List ℕ
+disk_failed_text number = line (codes "disk " ++ decimal number ++ codes " failed")
+
 -- the word of a reason
 abbrev pub why_text : BadWhy → List ℕ
 why_text Bad.Word = codes "word"

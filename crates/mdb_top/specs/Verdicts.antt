@@ -35,18 +35,22 @@ is_one_site (site ∷ more ∷ sites) = false
 abbrev pub is_local : TxLine → Bool
 is_local transaction = is_some transaction.home
 
--- whether the command runs here: so far those of local transactions do
-abbrev pub is_local_command : Command → Bool
-is_local_command (Cmd.Begin tx) = true
-is_local_command (Cmd.Step tx) = true
-is_local_command (Cmd.Commit tx) = true
-is_local_command (Cmd.Abort tx) = true
-is_local_command command = false
+-- whether the command runs here: so far those of local transactions do, and those that stop, trip or start a site, which isn't actor 0
+abbrev pub is_own_command : Command → Bool
+is_own_command (Cmd.Begin tx) = true
+is_own_command (Cmd.Step tx) = true
+is_own_command (Cmd.Commit tx) = true
+is_own_command (Cmd.Abort tx) = true
+is_own_command (Cmd.Fate tx) = true
+is_own_command (Cmd.Halt actor cut) = nat_lt 0 actor
+is_own_command (Cmd.Trip actor calls cut) = nat_lt 0 actor
+is_own_command (Cmd.Back actor) = nat_lt 0 actor
+is_own_command command = false
 
--- whether the session runs here: one locking site at most, and local transactions alone
+-- whether the session runs here: one locking site at most, local transactions alone, and no coordinator
 abbrev pub runs_here : Session → Bool
 runs_here session =
-    is_one_site session.scenario.sites && list_all is_local session.scenario.transactions && list_all is_local_command session.commands
+    is_one_site session.scenario.sites && list_all is_local session.scenario.transactions && list_all is_own_command session.commands
 
 -- what an input is
 pub data Verdict : Type 0 where

@@ -10,10 +10,11 @@ mod reading;
 mod scope;
 mod streams;
 mod top_call;
+mod used_disks;
 mod words;
 mod writing;
 
-pub use journal_disk::Failed;
+pub use journal_disk::{Disk, Failed, MemDisk};
 pub use mem_streams::{MemSink, MemSource};
 pub use streams::{Sink, Source};
 pub use top_call::federate;

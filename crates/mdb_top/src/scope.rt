@@ -1,4 +1,4 @@
-//! What runs so far: one locking site at most, local transactions, and the commands that speak of them.
+//! What runs so far: one locking site at most, local transactions, and the commands that speak of them and of sites.
 ghost use Rattle.std.specs.Prelude.{◌≡◌};
 ghost use Rattle.std.specs.List.{list_all};
 ghost use Rattle.mdb_top.specs.Verdicts as verdicts;
@@ -30,19 +30,27 @@ fn are_local(transactions: &[TxLine]) -> bool
     transactions.iter().all(|line| line.home.is_some())
 }
 
-fn is_local_command(command: Command) -> bool
-    ensures { result ≡ verdicts.is_local_command command }
+/// Whether the command is one of a local transaction, or of a site: there is no coordinator yet.
+fn is_own_command(command: Command) -> bool
+    ensures { result ≡ verdicts.is_own_command command }
 {
-    matches!(
-        command,
-        Command::Begin(_) | Command::Step(_) | Command::Commit(_) | Command::Abort(_)
-    )
+    match command {
+        Command::Begin(_) => true,
+        Command::Step(_) => true,
+        Command::Commit(_) => true,
+        Command::Abort(_) => true,
+        Command::Fate(_) => true,
+        Command::Halt { actor, .. } => actor > 0,
+        Command::Trip { actor, .. } => actor > 0,
+        Command::Back { actor } => actor > 0,
+        _ => false,
+    }
 }
 
-fn are_local_commands(commands: &[Command]) -> bool
-    ensures { result ≡ list_all verdicts.is_local_command commands.now }
+fn are_own_commands(commands: &[Command]) -> bool
+    ensures { result ≡ list_all verdicts.is_own_command commands.now }
 {
-    commands.iter().all(|command| is_local_command(*command))
+    commands.iter().all(|command| is_own_command(*command))
 }
 
 /// Whether a session runs here.
@@ -51,5 +59,5 @@ pub(crate) fn runs_here(session: &Session) -> bool
 {
     is_one_site(session.scenario.sites.as_slice())
         && are_local(session.scenario.transactions.as_slice())
-        && are_local_commands(session.commands.as_slice())
+        && are_own_commands(session.commands.as_slice())
 }

@@ -1,19 +1,30 @@
 //! The top call on whole inputs: what it puts, and its status.
+mod disks;
 mod failing;
 mod refused;
 mod sessions;
 
-use crate::{MemSink, MemSource, federate};
+use crate::{MemDisk, MemSink, MemSource, federate};
 use mdb_base::Memory;
 use std::alloc::Global;
 use std::process::Abort;
+
+/// Nine empty disks, of which no call fails.
+fn empty_disks(alloc: Global) -> Result<Vec<MemDisk>, Memory> {
+    let mut disks = Vec::new(alloc);
+    for _ in 0..9 {
+        disks.push(MemDisk::new(alloc)?)?;
+    }
+    Ok(disks)
+}
 
 /// The status of `replay` on these bytes, given and taken a few at a time, and what was put.
 fn replayed(alloc: Global, input: &[u8]) -> Result<(u8, Vec<u8>), Memory> {
     let words = vec![in alloc; String::from_str(alloc, "replay")?]?;
     let mut source = MemSource::new(Vec::from_slice(alloc, input)?, 1_000, Vec::new(alloc));
     let mut sink = MemSink::new(alloc, 4_096, 7, Vec::new(alloc))?;
-    let status = federate(alloc, &words, &mut source, &mut sink);
+    let mut disks = empty_disks(alloc)?;
+    let status = federate(alloc, &words, &mut source, &mut sink, &mut disks);
     Ok((status, Vec::from_slice(alloc, sink.written())?))
 }
 

@@ -10,10 +10,12 @@ ghost use Rattle.mdb_top.specs.Verdicts.{verdict, Runs, BadInput};
 
 use crate::bad_lines::bad_line_text;
 use crate::input::{Unplayed, read_session};
-use crate::output::output_of;
+use crate::output::{Output, output_of};
 use crate::streams::{Sink, Source};
+use crate::used_disks::{first_used, used_text};
 use crate::words::is_replay;
 use crate::writing::put_all;
+use journal_disk::Disk;
 use scenario_text::{BadLine, Session};
 use std::alloc::Global;
 
@@ -40,31 +42,53 @@ fn refused<K: Sink>(alloc: Global, sink: &mut K, bad: BadLine) -> u8
     }
 }
 
-/// Puts the output of a session that runs here, made whole before.
-fn played<K: Sink>(alloc: Global, sink: &mut K, session: Session) -> u8
-    requires { IsTrue (verdicts.runs_here session) }
-    ensures read { result ≢ 3 }
-    ensures ends { Ends (Runs session) result K.tells (K.faults sink.old) (K.faults sink.new) (K.written sink.old) (K.written sink.new) }
-{
-    let output = match output_of(alloc, session) {
-        Ok(output) => output,
-        Err(_) => return told(sink, 6, b"no memory\n"),
-    };
-    match put_all(sink, &output) {
-        Ok(()) => 0,
-        Err(_) => 4,
+/// Puts the output of a session that runs here, made whole before. No disk may have a byte on it.
+fn played<K: Sink, D: Disk>(
+    alloc: Global,
+    sink: &mut K,
+    session: Session,
+    disks: &mut Vec<D>,
+) -> u8 {
+    match output_of(alloc, session, disks) {
+        Ok(Output::Whole(output)) => match put_all(sink, &output) {
+            Ok(()) => 0,
+            Err(_) => 4,
+        },
+        Ok(Output::Broken(output)) => told(sink, 5, &output),
+        Err(_) => told(sink, 6, b"no memory\n"),
+    }
+}
+
+/// Names the disk that is used.
+fn used<K: Sink>(alloc: Global, sink: &mut K, number: usize) -> u8 {
+    match used_text(alloc, number) {
+        Ok(text) => told(sink, 8, &text),
+        Err(_) => told(sink, 6, b"no memory\n"),
+    }
+}
+
+/// Puts the output of a session that runs here, where every disk is empty.
+fn played_on_empty<K: Sink, D: Disk>(
+    alloc: Global,
+    sink: &mut K,
+    session: Session,
+    disks: &mut Vec<D>,
+) -> u8 {
+    match first_used(disks.as_slice()) {
+        Some(number) => used(alloc, sink, number),
+        None => played(alloc, sink, session, disks),
     }
 }
 
 /// Replays the session that the source gives.
-fn replay<S: Source, K: Sink>(alloc: Global, source: &mut S, sink: &mut K) -> u8
-    ensures ends { SomeInput S.tells (S.left source.old) (λ input.
-        Ends (verdict input) result K.tells (K.faults sink.old) (K.faults sink.new) (K.written sink.old) (K.written sink.new)) }
-    ensures read_failed { result ≡ 3 → HasRisen (S.faults source.old) (S.faults source.new) }
-    ensures end { result ≡ 0 → IsTrue S.tells → S.left source.new ≡ [] }
-{
+fn replay<S: Source, K: Sink, D: Disk>(
+    alloc: Global,
+    source: &mut S,
+    sink: &mut K,
+    disks: &mut Vec<D>,
+) -> u8 {
     match read_session(alloc, source) {
-        Ok(session) => played(alloc, sink, session),
+        Ok(session) => played_on_empty(alloc, sink, session, disks),
         Err(Unplayed::Failed) => told(sink, 3, b"read failed\n"),
         Err(Unplayed::TooLong) => told(sink, 7, b"too long\n"),
         Err(Unplayed::BadLine(bad)) => refused(alloc, sink, bad),
@@ -73,29 +97,34 @@ fn replay<S: Source, K: Sink>(alloc: Global, source: &mut S, sink: &mut K) -> u8
     }
 }
 
-/// Carries out what the words ask for, over the source's bytes, puts what there is to say, and answers the status: 0 where all is
-/// done; 1 where the words are no command; 2 where the bytes are no session that runs here; 3 where a read failed; 4 where the sink
-/// failed while the output was put; 6 where memory was wanting; 7 where there are more than 4,194,304 bytes (this project's
+/// Carries out what the words ask for, over the source's bytes and with nine disks, of which disk a is that of actor a; puts what there
+/// is to say, and answers the status: 0 where all is done; 1 where the words are no command; 2 where the bytes are no session that
+/// runs here; 3 where a read failed; 4 where the sink failed while the output was put; 5 where a call of a disk failed; 6 where memory
+/// was wanting; 7 where there are more than 4,194,304 bytes; 8 where a disk isn't empty, the least of which is named (this project's
 /// profile). The words don't hold the program's name. What a source or a sink doesn't tell, nothing is said of.
-pub fn federate<S: Source, K: Sink>(
+pub fn federate<S: Source, K: Sink, D: Disk>(
     alloc: Global,
     words: &[String],
     source: &mut S,
     sink: &mut K,
+    disks: &mut Vec<D>,
 ) -> u8
+    requires told { IsTrue D.tells }
+    requires nine { length disks.old.items ≡ 9 }
+
     // Which status comes when. Want of memory alone is free.
     ensures usage { (result ≡ 1) ↔ (verdicts.is_replay (map string_bytes words.now) ≡ false) }
     ensures status { IsTrue (verdicts.is_replay (map string_bytes words.now)) →
-        SomeInput S.tells (S.left source.old) (λ input. IsLedTo result (verdict input)) }
+        SomeInput S.tells (S.left source.old) (λ input. IsLedTo result (is_used (map D.size disks.old.items)) (verdict input)) }
     ensures read_failed { result ≡ 3 → HasRisen (S.faults source.old) (S.faults source.new) }
     ensures write_failed { result ≡ 4 → HasRisen (K.faults sink.old) (K.faults sink.new) }
 
     // A session that is replayed was read to its end.
     ensures end { result ≡ 0 → IsTrue S.tells → S.left source.new ≡ [] }
 
-    // What the sink has got then.
+    // What the sink has got then, and what the disks hold.
     ensures replayed { result ≡ 0 → SomeInput S.tells (S.left source.old) (λ input.
-        SomeSession (verdict input) (IsReplayed K.tells (K.written sink.old) (K.written sink.new))) }
+        SomeSession (verdict input) (IsReplayed K.tells (K.written sink.old) (K.written sink.new) D.image disks.new.items)) }
     ensures usage_text { result ≡ 1 →
         Gets K.tells (K.faults sink.old) (K.faults sink.new) (K.written sink.old) (K.written sink.new) texts.usage_text }
     ensures refused { result ≡ 2 → SomeInput S.tells (S.left source.old) (λ input.
@@ -103,11 +132,18 @@ pub fn federate<S: Source, K: Sink>(
     ensures unread { result ≡ 3 →
         Gets K.tells (K.faults sink.old) (K.faults sink.new) (K.written sink.old) (K.written sink.new) texts.read_failed_text }
     ensures cut_off { result ≡ 4 → SomeInput S.tells (S.left source.old) (λ input.
-        SomeSession (verdict input) (IsCutOff K.tells (K.written sink.old) (K.written sink.new))) }
+        SomeSession (verdict input) (IsCutOff K.tells (K.written sink.old) (K.written sink.new) D.image disks.new.items)) }
+    ensures broken { result ≡ 5 → SomeInput S.tells (S.left source.old) (λ input.
+        SomeSession (verdict input) (IsBroken K.tells (K.faults sink.old) (K.faults sink.new) (K.written sink.old) (K.written sink.new) D.image D.faults disks.old.items disks.new.items)) }
     ensures no_memory { result ≡ 6 →
         Gets K.tells (K.faults sink.old) (K.faults sink.new) (K.written sink.old) (K.written sink.new) texts.no_memory_text }
+    ensures short { result ≡ 6 → SomeInput S.tells (S.left source.old) (λ input.
+        AreShort D.image disks.old.items disks.new.items (verdict input)) }
     ensures too_long { result ≡ 7 →
         Gets K.tells (K.faults sink.old) (K.faults sink.new) (K.written sink.old) (K.written sink.new) texts.too_long_text }
+    ensures used { result ≡ 8 → IfSome (first_used (map D.size disks.old.items)) (λ number.
+        Gets K.tells (K.faults sink.old) (K.faults sink.new) (K.written sink.old) (K.written sink.new) (texts.disk_used_text number)) }
+    ensures untouched { In result (1 ∷ 2 ∷ 3 ∷ 7 ∷ 8 ∷ []) → disks.new ≡ disks.old }
 {
     if !is_replay(words) {
         return told(
@@ -116,5 +152,5 @@ pub fn federate<S: Source, K: Sink>(
             b"usage: mdbfed replay | run | make NUMBER SITES TRANSACTIONS\n",
         );
     }
-    replay(alloc, source, sink)
+    replay(alloc, source, sink, disks)
 }

@@ -5,7 +5,8 @@ mod std_streams;
 
 use crate::std_streams::{StdSink, StdSource};
 use mdb_base::Memory;
-use mdb_top::federate;
+use mdb_top::{MemDisk, federate};
+use std::alloc::Global;
 use std::env;
 use std::env::Env;
 use std::io::ErrorKind;
@@ -29,11 +30,26 @@ fn words_of<R: Env + AllocGlobal>(rt: &R) -> Result<Vec<String>, Memory> {
     }
 }
 
+/// How many actors there are: the coordinator, and eight sites.
+const ACTORS: u8 = 9;
+
+/// An empty disk in memory for each actor.
+fn empty_disks(alloc: Global) -> Result<Vec<MemDisk>, Memory> {
+    let mut disks = Vec::new(alloc);
+    for _ in 0..ACTORS {
+        disks.push(MemDisk::new(alloc)?)?;
+    }
+    Ok(disks)
+}
+
 fn main(rt: HostRuntime) -> ExitCode {
     let Ok(words) = words_of(&rt) else {
         return ExitCode::from(NO_MEMORY);
     };
+    let Ok(mut disks) = empty_disks(rt.alloc()) else {
+        return ExitCode::from(NO_MEMORY);
+    };
     let mut source = StdSource::new(rt.reader());
     let mut sink = StdSink::new(rt.stdout());
-    ExitCode::from(federate(rt.alloc(), &words, &mut source, &mut sink))
+    ExitCode::from(federate(rt.alloc(), &words, &mut source, &mut sink, &mut disks))
 }

@@ -8,6 +8,7 @@ use Rattle.fed_rules.specs.Happenings.{Trip, used}
 use Rattle.fed_rules.specs.SiteRecords.{site_frame}
 use Rattle.journal_disk.specs.Disk.{Image, all_synced}
 use Rattle.frame_journal.specs.Journal.{Kept, IsKeptOn}
+use Rattle.frame_journal.specs.Records.{AreRecordsOf}
 use Rattle.journal_rules.specs.Stands.{StandsFor}
 use Rattle.site_journal.specs.Spelling.{spelling, IsRecord}
 use Rattle.site_core.specs.declared.store.SetTrip.{SetTrip}
@@ -69,6 +70,15 @@ SomeKept K = (rules : Disk SiteRecord) × (trip : Option Trip) × K rules trip
 -- a disk after the first of these calls and a stop
 abbrev pub stopped_disk : ℕ → ℕ → Disk SiteRecord → List (Call SiteRecord) → Disk SiteRecord
 stopped_disk n cut rules calls = after_calls site_frame rules (take n calls ++ Stops cut ∷ [])
+
+-- the bytes on the disk are those of the rules, synced or not
+pub record HoldsBytes (image : Image) (rules : Disk SiteRecord) : Type 0 where
+  pub records : AreRecordsOf spelling image.bytes (reverse rules.records)
+  pub bytes : length image.bytes ≡ rules.length
+
+-- the disk holds what some stop within these calls leaves
+abbrev pub SomeStop : Image → Disk SiteRecord → List (Call SiteRecord) → Type 0
+SomeStop image rules calls = (n : ℕ) × (cut : ℕ) × HoldsBytes image (stopped_disk n cut rules calls)
 
 -- a stop with this cut, which keeps so many records
 abbrev pub StopsWith : (Disk SiteRecord → Option Trip → Type 0) → Disk SiteRecord → ℕ → ℕ → Type 0

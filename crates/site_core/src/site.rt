@@ -7,13 +7,14 @@ ghost use Rattle.mdb_base.specs.declared.names.Tid.{Tid};
 ghost use Rattle.record_fields.specs.Named.{IsSite};
 ghost use Rattle.fed_rules.specs.Happenings.{is_down};
 ghost use Rattle.fed_rules.specs.Runs.{rows as rows_after};
-ghost use Rattle.fed_rules.specs.SitePast.{engine_lines, epoch_start, live, records};
+ghost use Rattle.fed_rules.specs.Disk.{empty_disk};
+ghost use Rattle.fed_rules.specs.SitePast.{engine_lines, epoch_start, live, records, set_up_calls};
 ghost use Rattle.fed_rules.specs.SiteRecords.{doubt_of};
 ghost use Rattle.engine_contract.specs.Calls.{fresh_start};
 ghost use Rattle.prepared_state.specs.Book.{doubt_about};
 ghost use Rattle.site_core.specs.Attempts.{finished, noted};
 ghost use Rattle.site_core.specs.Stands.{Adds, Answers, Fails, Holds, Stands, StandsSealing, Steps};
-ghost use Rattle.site_core.specs.Store.{is_up, trip_to};
+ghost use Rattle.site_core.specs.Store.{SomeStop, is_up, trip_to};
 ghost use Rattle.site_core.specs.Steps.{CanCommit, CanStep, EachPast, HasFewAccesses, NumberFits, SomePast};
 
 use crate::answers::{act_answer, refusal_answer};
@@ -58,6 +59,9 @@ impl<E: LocalEngine> SiteCore<E> {
         ensures stands { IfOk result (λ core. Stands E.stands D.tells D.image D.size D.spare core disk.new
             (record { site = site; engine = engine; protocol = protocol; items = items }) []) }
         ensures memory { IsErrOf result StepErr.Memory → D.image disk.new ≡ D.image disk.old }
+        ensures untouched { IsErrOf result StepErr.Memory → D.size disk.new ≡ 0 }
+        ensures broken { IsErrOf result StepErr.Disk → SomeStop (D.image disk.new) empty_disk
+            (set_up_calls (record { site = site; engine = engine; protocol = protocol; items = items })) }
         ensures cause { IsErrOf result StepErr.Disk → HasRisen (D.faults disk.old) (D.faults disk.new) }
         ensures faults { D.faults disk.old ≤ D.faults disk.new }
     {

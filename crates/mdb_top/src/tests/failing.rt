@@ -1,4 +1,5 @@
 //! Streams that fail in the middle, and inputs about as long as the limit.
+use super::empty_disks;
 use crate::{MemSink, MemSource, federate};
 use mdb_base::Memory;
 use std::alloc::Global;
@@ -17,7 +18,8 @@ fn ended(
     let words = vec![in alloc; String::from_str(alloc, "replay")?]?;
     let mut source = MemSource::new(input, 100_000, Vec::from_slice(alloc, takes)?);
     let mut sink = MemSink::new(alloc, 4_096, 10, Vec::from_slice(alloc, puts)?)?;
-    let status = federate(alloc, &words, &mut source, &mut sink);
+    let mut disks = empty_disks(alloc)?;
+    let status = federate(alloc, &words, &mut source, &mut sink, &mut disks);
     Ok((status, Vec::from_slice(alloc, sink.written())?))
 }
 

@@ -1,5 +1,5 @@
 //! Words and inputs that are refused.
-use super::expect;
+use super::{empty_disks, expect};
 use crate::{MemSink, MemSource, federate};
 use mdb_base::Memory;
 use std::alloc::Global;
@@ -73,7 +73,7 @@ fn a_global_does_not_run_yet(rt: HostRuntime) {
 fn a_stop_does_not_run_yet(rt: HostRuntime) {
     expect(
         &rt,
-        "site 1 locking abort\ncommands\nhalt 1 0\n",
+        "site 1 locking abort\ncommands\nhalt 0 0\n",
         2,
         "bad input\n",
     );
@@ -85,7 +85,8 @@ fn called(alloc: Global, first: &str, second: &str) -> Result<(u8, Vec<u8>), Mem
     words.push(String::from_str(alloc, second)?)?;
     let mut source = MemSource::new(Vec::new(alloc), 3, Vec::new(alloc));
     let mut sink = MemSink::new(alloc, 100, 100, Vec::new(alloc))?;
-    let status = federate(alloc, &words, &mut source, &mut sink);
+    let mut disks = empty_disks(alloc)?;
+    let status = federate(alloc, &words, &mut source, &mut sink, &mut disks);
     Ok((status, Vec::from_slice(alloc, sink.written())?))
 }
 

@@ -1,0 +1,34 @@
+use Rattle.std.proofs.Common.{◌≡◌, ◌∙◌, None, List, subst}
+use Rattle.mdb_base.specs.Names.{same_tx}
+use Rattle.mdb_base.specs.Words.{first_where}
+use Rattle.fed_rules.specs.declared.commands.Command.TheVariants as Cmd
+use Rattle.fed_rules.specs.declared.answers.Answer.TheVariants as Say
+use Rattle.fed_rules.specs.declared.scenario.TxLine.{TxLine}
+use Rattle.fed_rules.specs.Story.{past_of, story_of}
+use Rattle.site_core.specs.Stands.{Stands as CoreStands}
+use Rattle.fed_world.specs.Places.{IsPlace}
+use Rattle.fed_world.specs.Stands.{home_from}
+use Rattle.fed_world.proofs.Handed.{fate_nowhere, fate_told, on_answer, on_failure, untold}
+use Rattle.fed_world.proofs.Told.{told_nowhere}
+use Rattle.fed_world.proofs.local_site.LocalSite.fate.Goals as goal
+
+pub returns-in-None-clause-told : goal.returns-in-None-clause-told
+returns-in-None-clause-told g c commands s =
+    told_nowhere _ c.args.scenario.now _ _ _ commands (Cmd.Fate c.args.tx) Say.None s tt
+    (fate_nowhere c.args.scenario.now (story_of c.args.scenario.now commands) c.args.tx
+    (subst (λ xs. first_where (λ (l : TxLine). same_tx l.tx c.args.tx) xs ≡ None) (c.as_slice.ensures ∙ c.transactions.ensures) c.in-None.ensures))
+
+pub returns-in-Some-clause-told : goal.returns-in-Some-clause-told
+returns-in-Some-clause-told g c =
+    on_answer _ _ c.hand.result
+    (λ answer handed commands s. fate_told (CoreStands g.E.LocalEngine.stands g.D.Disk.tells g.D.Disk.image g.D.Disk.size g.D.Disk.spare c.args.self.now.core c.args.disk.now) (CoreStands g.E.LocalEngine.stands g.D.Disk.tells g.D.Disk.image g.D.Disk.size g.D.Disk.spare c.hand.new.self.core c.hand.new.disk) c.args.scenario.now c.args.self.now c.hand.new.self c.args.tx c.in-Some.field-0 answer commands
+    (subst (λ xs. IsPlace xs c.args.tx c.in-Some.field-0) (c.as_slice.ensures ∙ c.transactions.ensures) c.in-Some.ensures) s
+    (handed (home_from c.args.scenario.now s.line) (past_of s.line.site (story_of c.args.scenario.now commands)) s.at.stood))
+    c.hand.ensures.answered
+
+pub returns-in-Some-clause-failed : goal.returns-in-Some-clause-failed
+returns-in-Some-clause-failed g c =
+    on_failure _ _ c.hand.result
+    (λ why failed commands s. untold (CoreStands g.E.LocalEngine.stands g.D.Disk.tells g.D.Disk.image g.D.Disk.size g.D.Disk.spare c.args.self.now.core c.args.disk.now) (CoreStands g.E.LocalEngine.stands g.D.Disk.tells g.D.Disk.image g.D.Disk.size g.D.Disk.spare c.hand.new.self.core c.hand.new.disk) c.args.scenario.now c.args.self.now c.hand.new.self why commands s
+    (failed (home_from c.args.scenario.now s.line) (past_of s.line.site (story_of c.args.scenario.now commands)) s.at.stood))
+    c.hand.ensures.failed

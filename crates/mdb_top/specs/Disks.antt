@@ -1,0 +1,75 @@
+-- The nine disks of a session: which one is used, and what they hold in the end. Disk a is that of actor a; actor 0 is the coordinator.
+use Rattle.std.specs.Prelude.{ℕ, suc, nat_lt, ◌≡◌, ◌⊎◌, Bool, cond, is_some, Option, Some, None, List, [], ◌∷◌, ◌++◌, length, reverse, slice_get}
+use Rattle.mdb_base.specs.Counts.{HasRisen}
+use Rattle.mdb_base.specs.Words.{map_some}
+use Rattle.fed_rules.specs.declared.commands.Command.{Command}
+use Rattle.fed_rules.specs.declared.events.SiteEvent.{SiteEvent}
+use Rattle.fed_rules.specs.declared.records.SiteRecord.{SiteRecord}
+use Rattle.fed_rules.specs.declared.scenario.Scenario.{Scenario}
+use Rattle.fed_rules.specs.Disk.{Disk, empty_disk}
+use Rattle.fed_rules.specs.Scenarios.{home_of}
+use Rattle.fed_rules.specs.Site.{answered}
+use Rattle.fed_rules.specs.SitePast.{SitePast, disk, set_up_calls}
+use Rattle.fed_rules.specs.SiteRecords.{Home}
+use Rattle.fed_rules.specs.Story.{Story, past_of, story_of}
+use Rattle.frame_journal.specs.Records.{spelled}
+use Rattle.journal_disk.specs.Disk.{Image}
+use Rattle.site_core.specs.Store.{HoldsBytes, SomeStop}
+use Rattle.site_journal.specs.Spelling.{spelling}
+
+-- the first disk with bytes on it, by their lengths
+abbrev pub first_used : List ℕ → Option ℕ
+first_used [] = None
+first_used (size ∷ sizes) = cond (nat_lt 0 size) (Some 0) (map_some suc (first_used sizes))
+
+-- whether some disk has bytes on it
+abbrev pub is_used : List ℕ → Bool
+is_used sizes = is_some (first_used sizes)
+
+-- what the rules say is on the disk of a site; no other actor writes
+abbrev pub disk_of : Option Home → Story → Disk SiteRecord
+disk_of None story = empty_disk
+disk_of (Some home) story = disk home (past_of home.site story)
+
+abbrev pub disk_at : Scenario → Story → ℕ → Disk SiteRecord
+disk_at scenario story number = disk_of (home_of scenario (record { 0 = number })) story
+
+-- the frames of an actor's records, the oldest first
+abbrev pub frames_at : Scenario → Story → ℕ → List ℕ
+frames_at scenario story number = spelled spelling (reverse (disk_at scenario story number).records)
+
+-- each disk holds the frames of its actor's records, and nothing else
+abbrev pub HoldFrames : {D : Type 0} → (D → Image) → List D → Scenario → Story → Type 0
+HoldFrames {D} image disks scenario story =
+    (number : ℕ) (one : D) → slice_get disks number ≡ Some one → (image one).bytes ≡ frames_at scenario story number
+
+-- each disk holds what the rules say is on it, which may be a torn rest behind the frames while its actor is down
+abbrev pub HoldAll : {D : Type 0} → (D → Image) → List D → Scenario → Story → Type 0
+HoldAll {D} image disks scenario story =
+    (number : ℕ) (one : D) → slice_get disks number ≡ Some one → HoldsBytes (image one) (disk_at scenario story number)
+
+-- and so does each but this one
+abbrev pub HoldOthers : {D : Type 0} → (D → Image) → ℕ → List D → Scenario → Story → Type 0
+HoldOthers {D} image broken disks scenario story =
+    (number : ℕ) (one : D) → slice_get disks number ≡ Some one → (number ≡ broken → ⊥) → HoldsBytes (image one) (disk_at scenario story number)
+
+-- the bytes are what some stop within the disk calls of one further event of the site leaves
+abbrev pub StopsWithin : Image → Home → SitePast → Type 0
+StopsWithin image home past = (event : SiteEvent) × SomeStop image (disk home past) (answered home past event).calls
+
+-- or before any event, within its set-up
+abbrev pub Unfinished : Image → Home → List Command → Story → Type 0
+Unfinished image home done story =
+    StopsWithin image home (past_of home.site story) ⊎ ((done ≡ []) × SomeStop image empty_disk (set_up_calls home))
+
+-- this disk is that of a declared site, and holds what some stop within its next event leaves
+pub record StopAt {D : Type 0} (image : D → Image) (number : ℕ) (disks : List D) (scenario : Scenario) (done : List Command) : Type 0 where
+  pub home : Home
+  pub declared : home_of scenario (record { 0 = number }) ≡ Some home
+  pub one : D
+  pub own : slice_get disks number ≡ Some one
+  pub stop : Unfinished (image one) home done (story_of scenario done)
+
+-- the count of faults of this disk rose
+abbrev pub RoseAt : {D : Type 0} → (D → ℕ) → ℕ → List D → List D → Type 0
+RoseAt {D} faults number old new = (a b : D) → slice_get old number ≡ Some a → slice_get new number ≡ Some b → HasRisen (faults a) (faults b)

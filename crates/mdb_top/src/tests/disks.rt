@@ -1,0 +1,68 @@
+//! Stops at a disk call, and disks that fail or are used.
+use super::expect;
+use crate::{Disk, MemDisk, MemSink, MemSource, federate};
+use mdb_base::Memory;
+use std::alloc::Global;
+
+const SESSION: &str =
+    "site 1 locking nothing\nlocal 1 1 get:5 add:5:0:7\ncommands\nbegin 1\nstep 1\nstep 1\ncommit 1\n";
+
+/// The status of `replay` on the session with these disks, and what was put.
+fn replayed_on(alloc: Global, mut disks: Vec<MemDisk>) -> Result<(u8, Vec<u8>), Memory> {
+    let words = vec![in alloc; String::from_str(alloc, "replay")?]?;
+    let mut source = MemSource::new(
+        Vec::from_slice(alloc, SESSION.as_bytes())?,
+        1_000,
+        Vec::new(alloc),
+    );
+    let mut sink = MemSink::new(alloc, 4_096, 4_096, Vec::new(alloc))?;
+    let status = federate(alloc, &words, &mut source, &mut sink, &mut disks);
+    Ok((status, Vec::from_slice(alloc, sink.written())?))
+}
+
+#[test]
+fn a_stop_between_append_and_sync(rt: HostRuntime) {
+    expect(
+        &rt,
+        "site 1 locking abort\nlocal 1 1 set:5:1\ncommands\nbegin 1\nstep 1\ntrip 1 1 65535\ncommit 1\nbegin 1\nback 1\nfate 1\nbegin 1\n",
+        0,
+        "begin 1 => begun 1.0\nstep 1 => wrote 5 1\ntrip 1 1 65535 => set\ncommit 1 => stopped kept 3\nbegin 1 => down\nback 1 => up epoch 2 doubtful 0\nfate 1 => committed 1.0\nbegin 1 => committed 1.0\norder 1.0\nreads 1.0\nforgotten\ntable 1 5=1\nend\n",
+    );
+    expect(
+        &rt,
+        "site 1 locking abort\nlocal 1 1 set:5:1\ncommands\nbegin 1\nstep 1\ntrip 1 1 0\ncommit 1\nback 1\nfate 1\nbegin 1\n",
+        0,
+        "begin 1 => begun 1.0\nstep 1 => wrote 5 1\ntrip 1 1 0 => set\ncommit 1 => stopped kept 2\nback 1 => up epoch 2 doubtful 0\nfate 1 => aborted\nbegin 1 => begun 1.1\nabort 1 => aborted 1.1\norder\nforgotten\ntable 1\nend\n",
+    );
+}
+
+#[test]
+fn a_failing_disk_is_named(rt: HostRuntime) -> Result<(), std::test::Fail> {
+    let mut disks = Vec::new(rt.alloc());
+    disks.push(MemDisk::new(rt.alloc())?)?;
+    disks.push(MemDisk::failing(rt.alloc(), &[3])?)?;
+    for _ in 2..9 {
+        disks.push(MemDisk::new(rt.alloc())?)?;
+    }
+    let (status, put) = replayed_on(rt.alloc(), disks)?;
+    assert_eq!(rt; status, 5);
+    assert_eq!(rt; put.as_slice(), b"disk 1 failed\n".as_slice());
+    Ok(())
+}
+
+#[test]
+fn the_least_used_disk_is_named(rt: HostRuntime) -> Result<(), std::test::Fail> {
+    let mut disks = Vec::new(rt.alloc());
+    for number in 0..9 {
+        let mut disk = MemDisk::new(rt.alloc())?;
+        if number >= 4 {
+            disk.reserve(rt.alloc(), 1)?;
+            assert!(rt; disk.append(b"x").is_ok());
+        }
+        disks.push(disk)?;
+    }
+    let (status, put) = replayed_on(rt.alloc(), disks)?;
+    assert_eq!(rt; status, 8);
+    assert_eq!(rt; put.as_slice(), b"disk 4 is used\n".as_slice());
+    Ok(())
+}

@@ -1,0 +1,9 @@
+pub mod AllLocal
+pub mod Closed
+pub mod EpochTables
+pub mod Heard
+pub mod InstallLists
+pub mod LineDeeds
+pub mod SerialSessions
+pub mod Uncoordinated
+pub mod Up
