@@ -21,7 +21,9 @@ use Rattle.site_journal.proofs.FrameSizes.{frame_has_size}
 use Rattle.site_core.specs.declared.store.Break.{Break}
 use Rattle.site_core.specs.declared.store.Break.TheVariants.{Stopped, Failed}
 use Rattle.site_core.specs.declared.store.Standing.TheVariants.{Up}
-use Rattle.site_core.specs.Store.{Ends, Keeps, OnFailed}
+use Rattle.site_core.specs.declared.store.Store.{Store}
+use Rattle.site_core.specs.Store.{Ends, HoldsBytes, Keeps, OnFailed, SomeStop, stopped_disk}
+use Rattle.site_core.proofs.StoreLaws.{seen-bytes}
 
 no_records : AreRecordsOf spelling [] []
 no_records = record { are_payloads = tt; rest = []; parts = refl; is_torn = none_is_part }
@@ -60,6 +62,27 @@ module _ {D : Type 0} (tells : Bool) (image : D → Image) (size spare : D → �
       } where
         not_torn : (torn : Bool) (records : List SiteRecord) (n : ℕ) → torn ≡ nat_lt (spelled_size spelling records) n → records ≡ [] → n ≡ 0 → torn ≡ false
         not_torn torn records n e r z = e ∙ ap (λ (rs : List SiteRecord). nat_lt (spelled_size spelling rs) n) r ∙ ap (nat_lt 0) z
+
+  -- a store that stands for the empty disk has no byte
+  pub keeps_nothing : (disk : D) (store : Store) (trip : Option Trip) → Keeps tells image size spare disk store empty_disk trip → size disk ≡ 0
+  keeps_nothing disk store trip k = sym (told_size disk told) ∙ ap length (sym (seen-bytes store.standing (image disk))) ∙ k.stands.bytes
+
+  -- an empty disk holds what a stop before the first call leaves
+  pub stops_at_once : (disk : D) (calls : List (Call SiteRecord)) → size disk ≡ 0 → SomeStop (image disk) empty_disk calls
+  stops_at_once disk calls empty = (0, 0, record { records = nothing_there disk empty; bytes = told_size disk told ∙ empty })
+
+module _ {D : Type 0} (tells : Bool) (image : D → Image) (size spare : D → ℕ) where
+  -- a store's disk holds the bytes of the rules, synced or not
+  pub keeps_bytes : (disk : D) (store : Store) (rules : Disk SiteRecord) (trip : Option Trip) → Keeps tells image size spare disk store rules trip → HoldsBytes (image disk) rules
+  keeps_bytes disk store rules trip k =
+      let same = seen-bytes store.standing (image disk) in
+      record { records = rw same at k.stands.records; bytes = ap length (sym same) ∙ k.stands.bytes }
+
+  -- where no trip is set, calls that end early leave what some stop within them leaves
+  pub broken_holds : (disk : D) (store : Store) (rules : Disk SiteRecord) (calls : List (Call SiteRecord)) (why : Break)
+      → Ends {A = ℕ} (Keeps tells image size spare disk store) rules None calls (Err why) → SomeStop (image disk) rules calls
+  broken_holds disk store rules calls (Stopped kept) e = let is = e.1 in cc
+  broken_holds disk store rules calls Failed e = let (n, cut, k) = e in (n, cut, keeps_bytes disk store (stopped_disk n cut rules calls) None k)
 
 payload_of : (entry : SiteRecord) (n : ℕ) → frame_size (spelling entry) ≡ n → n < 2 ^ 16 → IsPayload (spelling entry)
 payload_of entry n e few = omega arith

@@ -41,7 +41,8 @@ pub struct SiteCore<E: LocalEngine> {
 
 impl<E: LocalEngine> SiteCore<E> {
     /// Sets a new site up on an empty disk: its Setup record and its first Start, synced. `local` is an engine of this rule with these
-    /// rows and no call yet. Without memory the disk stays empty.
+    /// rows and no call yet. Without memory the disk stays empty. Where a disk call fails, the disk holds what some stop within the
+    /// calls of the set-up leaves.
     pub fn set_up<D: Disk>(
         alloc: Global,
         disk: &mut D,

@@ -2,7 +2,7 @@
 ghost use Rattle.std.specs.Prelude.{◌≡◌, ◌≤◌, ◌<◌, ◌+◌, [], ◌∷◌, ◌++◌, false, true, Option, None, IfOk, IsErrOf, OnOk, OnErr, IsTrue, length};
 ghost use Rattle.mdb_base.specs.Counts.{HasRisen};
 ghost use Rattle.fed_rules.specs.Disk.{Append, CutBack, Sync, Disk as RulesDisk, after_calls, empty_disk};
-ghost use Rattle.fed_rules.specs.SitePast.{disk as disk_of};
+ghost use Rattle.fed_rules.specs.SitePast.{disk as disk_of, set_up_calls};
 ghost use Rattle.fed_rules.specs.SiteRecords.{site_frame};
 ghost use Rattle.record_fields.specs.Named.{IsSite};
 ghost use Rattle.fed_rules.specs.Happenings.{Trip as RulesTrip};
@@ -10,7 +10,7 @@ ghost use Rattle.fed_rules.specs.declared.records.SiteRecord.{SiteRecord};
 ghost use Rattle.frame_journal.specs.Journal.{HasRoom, with_entry, with_room};
 ghost use Rattle.journal_disk.specs.Frames.{IsPayload, frame_size};
 ghost use Rattle.site_journal.specs.Spelling.{InRange, spelling};
-ghost use Rattle.site_core.specs.Store.{Counts, Ends, Keeps, OnFailed, SomeKept, StopsWith, cut_calls, is_failing, is_up};
+ghost use Rattle.site_core.specs.Store.{Counts, Ends, Keeps, OnFailed, SomeKept, SomeStop, StopsWith, cut_calls, is_failing, is_up};
 
 use crate::errors::StepErr;
 use journal_disk::{Disk, Failed, JournalErr};
@@ -60,6 +60,7 @@ impl Store {
         requires empty { D.size disk.old ≡ 0 }
         ensures keeps { IfOk result (λ store. Keeps D.tells D.image D.size D.spare disk.new store empty_disk None) }
         ensures up { IfOk result (λ store. store.standing ≡ Standing.Up) }
+        ensures untouched { disk.new ≡ disk.old }
         ensures image { IsTrue D.tells → D.image disk.new ≡ D.image disk.old }
         ensures cause { IsErrOf result StepErr.Disk → HasRisen (D.faults disk.old) (D.faults disk.new) }
         ensures faults { D.faults disk.old ≤ D.faults disk.new }
@@ -93,6 +94,9 @@ impl Store {
             (disk_of (record { site = site; engine = engine; protocol = protocol; items = items }) []) None) }
         ensures up { IfOk result (λ store. store.standing ≡ Standing.Up) }
         ensures memory { IsErrOf result StepErr.Memory → D.image disk.new ≡ D.image disk.old }
+        ensures untouched { IsErrOf result StepErr.Memory → D.size disk.new ≡ 0 }
+        ensures broken { IsErrOf result StepErr.Disk → SomeStop (D.image disk.new) empty_disk
+            (set_up_calls (record { site = site; engine = engine; protocol = protocol; items = items })) }
         ensures cause { IsErrOf result StepErr.Disk → HasRisen (D.faults disk.old) (D.faults disk.new) }
         ensures faults { D.faults disk.old ≤ D.faults disk.new }
     {
@@ -128,6 +132,8 @@ impl Store {
             (after_calls site_frame empty_disk (Append setup ∷ Append start ∷ Sync ∷ [])) None) }
         ensures up { IfOk result (λ store. store.standing ≡ Standing.Up) }
         ensures memory { IsErrOf result StepErr.Memory → D.image disk.new ≡ D.image disk.old }
+        ensures untouched { IsErrOf result StepErr.Memory → D.size disk.new ≡ 0 }
+        ensures broken { IsErrOf result StepErr.Disk → SomeStop (D.image disk.new) empty_disk (Append setup ∷ Append start ∷ Sync ∷ []) }
         ensures cause { IsErrOf result StepErr.Disk → HasRisen (D.faults disk.old) (D.faults disk.new) }
         ensures faults { D.faults disk.old ≤ D.faults disk.new }
     {
