@@ -43,7 +43,7 @@ pub on_failure : {A B : Type 0} (P Q : B → Type 0) (r : Result A B) → ((b : 
 on_failure P Q (Ok a) f p = tt
 on_failure P Q (Err e) f p = f e p
 
-rest_length : (answer : Answer) (states : List State) → length (rest_all answer states) ≡ length states
+pub rest_length : (answer : Answer) (states : List State) → length (rest_all answer states) ≡ length states
 rest_length answer states = by_test (stops answer)
   where
     by_test : (b : Bool) → length (cond b (map resting states) states) ≡ length states

@@ -1,7 +1,14 @@
+mod Ended
 mod Handed
 mod Inserted
 mod LiveLists
 mod LiveSteps
+mod PassedOn
 mod PlaceLaws
 mod Silent
+mod SiteBounds
+mod TellsAbort
+mod TellsCommit
+mod TellsTrip
 mod Told
+mod TxAtPlace

@@ -54,7 +54,7 @@ get_set_other (y ∷ ys) zero (suc j) v x differ e = e
 get_set_other (y ∷ ys) (suc i) zero v x differ e = e
 get_set_other (y ∷ ys) (suc i) (suc j) v x differ e = get_set_other ys i j v x (λ s. differ (ap (λ k. suc k) s)) e
 
-get_map : {A B : Type 0} (f : A → B) (xs : List A) (i : ℕ) (b : B) → slice_get (map f xs) i ≡ Some b → (a : A) × (slice_get xs i ≡ Some a) × (f a ≡ b)
+pub get_map : {A B : Type 0} (f : A → B) (xs : List A) (i : ℕ) (b : B) → slice_get (map f xs) i ≡ Some b → (a : A) × (slice_get xs i ≡ Some a) × (f a ≡ b)
 get_map f [] i b e = cc
 get_map f (x ∷ xs) zero b e = (x, refl, cc)
 get_map f (x ∷ xs) (suc i) b e = get_map f xs i b e

@@ -257,7 +257,8 @@ impl<E: LocalEngine> LocalSite<E> {
         ensures cause { IsErrOf result StepErr.Disk → HasRisen (D.faults disk.old) (D.faults disk.new) }
         ensures faults { D.faults disk.old ≤ D.faults disk.new }
     {
-        let lines = transactions(scenario);
+        // Every scenario keeps the numbers of its transactions in their range, which a commit's record asks.
+        let lines = &scenario.transactions;
         let Some(place) = place_of(lines.as_slice(), tx) else {
             return Ok(Answer::None);
         };

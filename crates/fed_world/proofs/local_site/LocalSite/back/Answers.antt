@@ -1,4 +1,4 @@
-use Rattle.std.proofs.Common.{refl, List}
+use Rattle.std.proofs.Common.{refl}
 use Rattle.fed_rules.specs.declared.commands.Command.TheVariants as Cmd
 use Rattle.fed_rules.specs.declared.events.CoordEvent.TheVariants as Coord
 use Rattle.fed_rules.specs.declared.events.SiteEvent.TheVariants as Ev
@@ -6,11 +6,23 @@ use Rattle.fed_rules.specs.Story.{past_of, story_of}
 use Rattle.site_core.specs.Stands.{Stands as CoreStands}
 use Rattle.fed_world.specs.Stands.{home_from}
 use Rattle.fed_world.proofs.Handed.{back_happens, actor_told, actor_untouched, on_answer, on_failure, untold}
+use Rattle.fed_world.proofs.SiteBounds.{epoch_fits}
 use Rattle.fed_world.proofs.local_site.LocalSite.back.Goals as goal
 
 pub returns-then-actor-self-clause-told : goal.returns-then-actor-self-clause-told
 returns-then-actor-self-clause-told g c commands s =
     actor_untouched (CoreStands g.E.LocalEngine.stands g.D.Disk.tells g.D.Disk.image g.D.Disk.size g.D.Disk.spare c.args.self.now.core c.args.disk.now) c.args.scenario.now c.args.self.now.site c.args.self.now.locals.items c.args.self.now.armed (Cmd.Back c.args.actor) c.args.actor Coord.Back Ev.Back commands tt (λ story. back_happens c.args.scenario.now story c.args.actor) c.requires.actor c.if-actor-self.true s
+
+pub hand-requires-clause-may : goal.hand-requires-clause-may
+hand-requires-clause-may g c =
+    let r = c.requires.stood in
+    let s = r.stood in
+    record {
+      home = home_from c.args.scenario.now s.line;
+      past = past_of s.line.site (story_of c.args.scenario.now r.commands);
+      stood = s.at.stood;
+      holds = epoch_fits c.args.scenario.now s.line r.commands s.alone s.own r.holds;
+    }
 
 pub returns-clause-told : goal.returns-clause-told
 returns-clause-told g c =
