@@ -1,5 +1,6 @@
 mod Ended
 mod Handed
+mod HandedOne
 mod Inserted
 mod LiveLists
 mod LiveSteps
@@ -10,5 +11,9 @@ mod SiteBounds
 mod TellsAbort
 mod TellsCommit
 mod TellsTrip
+mod Owned
+mod Spent
+mod TellsBegin
+mod TellsStep
 mod Told
 mod TxAtPlace

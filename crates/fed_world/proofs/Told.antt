@@ -34,7 +34,7 @@ in_at f (y ∷ ys) zero x b e s = let same : y ≡ x = cc in inl (ap f same ∙ 
 in_at f (y ∷ ys) (suc i) x b e s = inr (in_at f ys i x b e s)
 
 -- in a list of distinct ones two places of one value are one
-distinct_at : {A B : Type 0} (f : A → B) (xs : List A) (i j : ℕ) (x y : A) → Distinct (map f xs) → slice_get xs i ≡ Some x → slice_get xs j ≡ Some y → f x ≡ f y → i ≡ j
+pub distinct_at : {A B : Type 0} (f : A → B) (xs : List A) (i j : ℕ) (x y : A) → Distinct (map f xs) → slice_get xs i ≡ Some x → slice_get xs j ≡ Some y → f x ≡ f y → i ≡ j
 distinct_at f [] i j x y d e g s = cc
 distinct_at f (z ∷ zs) zero zero x y d e g s = refl
 distinct_at f (z ∷ zs) zero (suc j) x y d e g s = let same : z ≡ x = cc in absurd (d.0 (in_at f zs j y (f z) g (sym s ∙ ap f (sym same))))
@@ -42,12 +42,12 @@ distinct_at f (z ∷ zs) (suc i) zero x y d e g s = let same : z ≡ y = cc in a
 distinct_at f (z ∷ zs) (suc i) (suc j) x y d e g s = ap (λ k. suc k) (distinct_at f zs i j x y d.1 e g s)
 
 -- what stands at a place that was set, and at the others, and in a list that was changed at each place
-get_set : {A : Type 0} (xs : List A) (i : ℕ) (v x : A) → slice_get (slice_set xs i v) i ≡ Some x → v ≡ x
+pub get_set : {A : Type 0} (xs : List A) (i : ℕ) (v x : A) → slice_get (slice_set xs i v) i ≡ Some x → v ≡ x
 get_set [] i v x e = cc
 get_set (y ∷ ys) zero v x e = cc
 get_set (y ∷ ys) (suc i) v x e = get_set ys i v x e
 
-get_set_other : {A : Type 0} (xs : List A) (i j : ℕ) (v x : A) → (i ≡ j → ⊥) → slice_get (slice_set xs i v) j ≡ Some x → slice_get xs j ≡ Some x
+pub get_set_other : {A : Type 0} (xs : List A) (i j : ℕ) (v x : A) → (i ≡ j → ⊥) → slice_get (slice_set xs i v) j ≡ Some x → slice_get xs j ≡ Some x
 get_set_other [] i j v x differ e = e
 get_set_other (y ∷ ys) zero zero v x differ e = absurd (differ refl)
 get_set_other (y ∷ ys) zero (suc j) v x differ e = e

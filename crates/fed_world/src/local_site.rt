@@ -1,15 +1,18 @@
 //! One site with its local transactions, and the disk of its core.
-ghost use Rattle.std.specs.Prelude.{◌≡◌, ◌≤◌, ◌<◌, [], false, cond, length, map, IsTrue, IfOk, IfErr, IsErrOf};
+ghost use Rattle.std.specs.Prelude.{ℕ, ◌≡◌, ◌≤◌, ◌<◌, [], false, cond, length, map, IsTrue, IfOk, IfErr, IsErrOf};
 ghost use Rattle.mdb_base.specs.Counts.{HasRisen};
+ghost use Rattle.mdb_base.specs.Words.{map_some};
 ghost use Rattle.fed_rules.specs.declared.commands.Command.TheVariants as Cmd;
+ghost use Rattle.fed_rules.specs.declared.events.SiteEvent.TheVariants as Ev;
 ghost use Rattle.fed_rules.specs.Site.{answered, site_line};
-ghost use Rattle.site_core.specs.Stands.{Stands as CoreStands};
+ghost use Rattle.site_core.specs.Stands.{Holds as CoreHolds, Stands as CoreStands};
 ghost use Rattle.site_core.specs.Steps.{CanStep, EachPast, SomePast};
 ghost use Rattle.fed_rules.specs.Happenings.{stops};
 ghost use Rattle.engine_contract.specs.Calls.{fresh_start};
 ghost use Rattle.fed_rules.specs.Disk.{empty_disk};
 ghost use Rattle.fed_rules.specs.Scenarios.{items_of};
-ghost use Rattle.fed_rules.specs.SitePast.{set_up_calls};
+ghost use Rattle.fed_rules.specs.SitePast.{live_of_tx, set_up_calls};
+ghost use Rattle.fed_rules.specs.Story.{attempt, unless_begun};
 ghost use Rattle.local_laws.specs.Kept.{resting};
 ghost use Rattle.local_laws.specs.Sound.{IsOwn};
 ghost use Rattle.record_fields.specs.Named.{IsSite};
@@ -19,7 +22,7 @@ ghost use Rattle.fed_world.specs.Stands.{AnyCommands, EachCommands, Fails, Hands
 
 use crate::commits::committed_of;
 use crate::local_tx::LocalTx;
-use crate::places::{place_of, transactions};
+use crate::places::{place_of, program_at, transactions};
 use engine_contract::LocalEngine;
 use fed_rules::{Answer, Command, Scenario, SiteEvent, SiteLine};
 use journal_disk::Disk;
@@ -151,8 +154,12 @@ impl<E: LocalEngine> LocalSite<E> {
         }
     }
 
-    /// What a begin behind the last attempt of a transaction is answered.
-    fn spent(&self, live: Option<u8>, tx: Tx) -> Answer {
+    /// What a begin behind the last attempt of a transaction is answered, given which attempt is live: what the rule says to a begin, but
+    /// spent where one more attempt would begin.
+    fn spent(&self, live: Option<u8>, tx: Tx) -> Answer
+        ensures { EachPast (CoreHolds E.stands self.now.core) (λ home past. live_of_tx home past tx ≡ map_some (attempt tx) live
+            → (n : ℕ) → result ≡ unless_begun (site_line home past (Ev.Begin (attempt tx n))).answer) }
+    {
         if self.core.is_down() {
             return Answer::Down;
         }
@@ -216,8 +223,7 @@ impl<E: LocalEngine> LocalSite<E> {
         ensures cause { IsErrOf result StepErr.Disk → HasRisen (D.faults disk.old) (D.faults disk.new) }
         ensures faults { D.faults disk.old ≤ D.faults disk.new }
     {
-        let lines = transactions(scenario);
-        let Some(place) = place_of(lines.as_slice(), tx) else {
+        let Some(place) = place_of(transactions(scenario).as_slice(), tx) else {
             return Ok(Answer::None);
         };
         if self.core.is_down() {
@@ -227,7 +233,7 @@ impl<E: LocalEngine> LocalSite<E> {
         let Some(attempt) = local.live() else {
             return Ok(Answer::Idle);
         };
-        let program = &lines.at(place).program;
+        let program = program_at(scenario, place);
         let Some(next) = next_act(program, local.done() as usize, local.reads()) else {
             return Ok(Answer::End);
         };

@@ -1,11 +1,13 @@
 //! Finds the line of a transaction.
-ghost use Rattle.std.specs.Prelude.{◌≡◌, None, MatchOption};
+ghost use Rattle.std.specs.Prelude.{◌≡◌, ◌<◌, Some, None, MatchOption, length, slice_get};
 ghost use Rattle.mdb_base.specs.Names.{same_tx};
+ghost use Rattle.mdb_base.specs.Programs.{IsProgram};
 ghost use Rattle.mdb_base.specs.Words.{first_where};
+ghost use Rattle.fed_rules.specs.declared.scenario.TxLine.{TxLine};
 ghost use Rattle.fed_world.specs.Places.{IsPlace};
 
 use fed_rules::{Scenario, SiteLines, TxLine, TxLines};
-use mdb_base::Tx;
+use mdb_base::{Program, Tx};
 
 /// The transactions of a scenario, in the order of their lines.
 pub(crate) fn transactions(scenario: &Scenario) -> &TxLines
@@ -19,6 +21,15 @@ pub(crate) fn sites(scenario: &Scenario) -> &SiteLines
     ensures { result.now ≡ scenario.now.sites }
 {
     &scenario.sites
+}
+
+/// The program of the transaction whose line stands at this place.
+pub(crate) fn program_at(scenario: &Scenario, place: usize) -> &Program
+    requires { place < length scenario.now.transactions }
+    ensures own { (line : TxLine) → slice_get scenario.now.transactions place ≡ Some line → result.now ≡ line.program }
+    ensures program { IsProgram result.now }
+{
+    &scenario.transactions.at(place).program
 }
 
 /// The place of the transaction's line, counted from 0.
