@@ -140,6 +140,7 @@ impl<E: LocalEngine> LocalSite<E> {
             (λ home past. Fails (CoreStands E.stands D.tells D.image D.size D.spare self.new.core disk.new) why self.old self.new home past)) }
         ensures cause { IsErrOf result StepErr.Disk → HasRisen (D.faults disk.old) (D.faults disk.new) }
         ensures faults { D.faults disk.old ≤ D.faults disk.new }
+        ensures site { self.new.site ≡ self.old.site }
     {
         match self.core.step(alloc, disk, event) {
             Ok(step) => {
@@ -188,6 +189,7 @@ impl<E: LocalEngine> LocalSite<E> {
             (IsUntold (LocalStands E.stands D.tells D.image D.size D.spare self.new disk.new scenario.now) (CoreStands E.stands D.tells D.image D.size D.spare self.new.core disk.new) scenario.now why)) }
         ensures cause { IsErrOf result StepErr.Disk → HasRisen (D.faults disk.old) (D.faults disk.new) }
         ensures faults { D.faults disk.old ≤ D.faults disk.new }
+        ensures site { self.new.site ≡ self.old.site }
     {
         let lines = transactions(scenario);
         let Some(place) = place_of(lines.as_slice(), tx) else {
@@ -222,6 +224,7 @@ impl<E: LocalEngine> LocalSite<E> {
             (IsUntold (LocalStands E.stands D.tells D.image D.size D.spare self.new disk.new scenario.now) (CoreStands E.stands D.tells D.image D.size D.spare self.new.core disk.new) scenario.now why)) }
         ensures cause { IsErrOf result StepErr.Disk → HasRisen (D.faults disk.old) (D.faults disk.new) }
         ensures faults { D.faults disk.old ≤ D.faults disk.new }
+        ensures site { self.new.site ≡ self.old.site }
     {
         let Some(place) = place_of(transactions(scenario).as_slice(), tx) else {
             return Ok(Answer::None);
@@ -262,6 +265,7 @@ impl<E: LocalEngine> LocalSite<E> {
             (IsUntold (LocalStands E.stands D.tells D.image D.size D.spare self.new disk.new scenario.now) (CoreStands E.stands D.tells D.image D.size D.spare self.new.core disk.new) scenario.now why)) }
         ensures cause { IsErrOf result StepErr.Disk → HasRisen (D.faults disk.old) (D.faults disk.new) }
         ensures faults { D.faults disk.old ≤ D.faults disk.new }
+        ensures site { self.new.site ≡ self.old.site }
     {
         // Every scenario keeps the numbers of its transactions in their range, which a commit's record asks.
         let lines = &scenario.transactions;
@@ -299,6 +303,7 @@ impl<E: LocalEngine> LocalSite<E> {
             (IsUntold (LocalStands E.stands D.tells D.image D.size D.spare self.new disk.new scenario.now) (CoreStands E.stands D.tells D.image D.size D.spare self.new.core disk.new) scenario.now why)) }
         ensures cause { IsErrOf result StepErr.Disk → HasRisen (D.faults disk.old) (D.faults disk.new) }
         ensures faults { D.faults disk.old ≤ D.faults disk.new }
+        ensures site { self.new.site ≡ self.old.site }
     {
         let lines = transactions(scenario);
         let Some(place) = place_of(lines.as_slice(), tx) else {
@@ -332,6 +337,7 @@ impl<E: LocalEngine> LocalSite<E> {
             (IsUntold (LocalStands E.stands D.tells D.image D.size D.spare self.new disk.new scenario.now) (CoreStands E.stands D.tells D.image D.size D.spare self.new.core disk.new) scenario.now why)) }
         ensures cause { IsErrOf result StepErr.Disk → HasRisen (D.faults disk.old) (D.faults disk.new) }
         ensures faults { D.faults disk.old ≤ D.faults disk.new }
+        ensures site { self.new.site ≡ self.old.site }
     {
         match place_of(transactions(scenario).as_slice(), tx) {
             None => Ok(Answer::None),
@@ -357,6 +363,7 @@ impl<E: LocalEngine> LocalSite<E> {
             (IsUntold (LocalStands E.stands D.tells D.image D.size D.spare self.new disk.new scenario.now) (CoreStands E.stands D.tells D.image D.size D.spare self.new.core disk.new) scenario.now why)) }
         ensures cause { IsErrOf result StepErr.Disk → HasRisen (D.faults disk.old) (D.faults disk.new) }
         ensures faults { D.faults disk.old ≤ D.faults disk.new }
+        ensures site { self.new.site ≡ self.old.site }
     {
         if actor != self.site.0 {
             return Ok(Answer::None);
@@ -381,6 +388,7 @@ impl<E: LocalEngine> LocalSite<E> {
             (IsUntold (LocalStands E.stands D.tells D.image D.size D.spare self.new disk.new scenario.now) (CoreStands E.stands D.tells D.image D.size D.spare self.new.core disk.new) scenario.now why)) }
         ensures cause { IsErrOf result StepErr.Disk → HasRisen (D.faults disk.old) (D.faults disk.new) }
         ensures faults { D.faults disk.old ≤ D.faults disk.new }
+        ensures site { self.new.site ≡ self.old.site }
     {
         if actor != self.site.0 {
             return Ok(Answer::None);
@@ -407,6 +415,7 @@ impl<E: LocalEngine> LocalSite<E> {
             (IsUntold (LocalStands E.stands D.tells D.image D.size D.spare self.new disk.new scenario.now) (CoreStands E.stands D.tells D.image D.size D.spare self.new.core disk.new) scenario.now why)) }
         ensures cause { IsErrOf result StepErr.Disk → HasRisen (D.faults disk.old) (D.faults disk.new) }
         ensures faults { D.faults disk.old ≤ D.faults disk.new }
+        ensures site { self.new.site ≡ self.old.site }
     {
         if actor != self.site.0 {
             return Ok(Answer::None);

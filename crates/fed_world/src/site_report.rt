@@ -12,6 +12,7 @@ use crate::places::{sites, transactions};
 use engine_contract::LocalEngine;
 use fed_rules::{AllReads, AllRows, Outcomes, Report, Scenario, TxLines, TxReads};
 use mdb_base::{Memory, SiteRows, Tid, Tids, Values};
+use session_laws::tables_of_running_sites;
 use std::alloc::Global;
 
 /// The committed attempts by rising serial number.
@@ -78,6 +79,7 @@ impl<E: LocalEngine> LocalSite<E> {
         ensures { IfOk result (λ report. EachCommands (LocalHolds E.stands self.now scenario.now)
             (λ commands. coord_past (story_of scenario.now commands) ≡ [] → report ≡ report_of scenario.now (story_of scenario.now commands))) }
     {
+        tables_of_running_sites();
         let commits = committed_by_number(alloc, self.core.records())?;
         let order = members(alloc, commits.as_slice())?;
         let reads = all_reads(
