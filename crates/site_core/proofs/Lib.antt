@@ -1,7 +1,9 @@
 pub mod AccessLaws
 pub mod AttemptsLaws
+pub mod BackLaws
 pub mod CommitLaws
 pub mod EndsLaws
+pub mod Founded
 pub mod LineLaws
 pub mod Outcomes
 pub mod RunsLaws
