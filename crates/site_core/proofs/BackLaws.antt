@@ -1,5 +1,5 @@
 -- What a core stands for after a start: where it comes through, where a trip stops it, and where a disk call fails.
-use Rattle.std.proofs.Common.{◌≡◌, ℕ, ◌+◌, ◌≤◌, ◌<◌, ◌^◌, ◌==◌, Bool, true, false, cond, not, is_some, IsTrue, Option, Some, None, Err, List, [], ◌∷◌, ◌++◌, length, take, min, refl, sym, ap, ap₂, ◌∙◌, subst, arith}
+use Rattle.std.proofs.Common.{◌≡◌, ℕ, ◌+◌, ◌≤◌, ◌<◌, ◌^◌, ◌==◌, Bool, true, false, cond, not, is_some, IsTrue, Option, Some, None, Err, List, [], ◌∷◌, ◌++◌, length, map, take, min, refl, sym, ap, ap₂, ◌∙◌, subst, arith}
 use Rattle.std.specs.Prelude.{reverse}
 use Rattle.std.proofs.lemmas.List.{reverse-reverse}
 use Rattle.mdb_base.specs.declared.names.Tid.{Tid}
@@ -14,7 +14,7 @@ use Rattle.fed_rules.specs.Disk.{Call, Append, Sync, CutBack, Stops, Disk, after
 use Rattle.fed_rules.specs.Happenings.{is_down, used}
 use Rattle.fed_rules.specs.Runs as Lines
 use Rattle.fed_rules.specs.Runs.{EngineLine}
-use Rattle.fed_rules.specs.Site.{of_back, site_line, unless_tripped}
+use Rattle.fed_rules.specs.Site.{answered, of_back, site_line, unless_tripped}
 use Rattle.fed_rules.specs.SitePast.{SiteHappening, SitePast, attempts_of, engine_lines, epoch, epoch_start}
 use Rattle.fed_rules.specs.SitePast as Past
 use Rattle.fed_rules.specs.SiteRecords.{Held, Home, doubt_of, doubts, kept_held, last_number, last_ticket, prepared_tids, site_frame, site_rows, start_of, ticket_owner}
@@ -28,11 +28,11 @@ use Rattle.site_core.specs.declared.store.Standing.{Standing}
 use Rattle.site_core.specs.declared.store.Standing.TheVariants.{Up, Down, Failing}
 use Rattle.site_core.specs.declared.store.Store.{Store}
 use Rattle.site_core.specs.Attempts.{finished, noted}
-use Rattle.site_core.specs.Recovered.{IsRecoverable}
+use Rattle.site_core.specs.Recovered.{IsFounded, IsRecoverable}
 use Rattle.site_core.specs.Runs.{IsRunning}
 use Rattle.site_core.specs.Stands.{Answers, Fails, Holds, IsOfKind, IsStopped, RunsStand, Stands}
 use Rattle.site_core.specs.Store.{Ends, IsInOrder, Keeps, Passes, cut_calls, is_up}
-use Rattle.site_core.proofs.Founded.{founded, whole-all}
+use Rattle.site_core.proofs.Founded.{all_within, founded, whole-all}
 use Rattle.site_core.proofs.ServeLaws.{down_is}
 use Rattle.site_core.proofs.StopLaws.{IsPlainCall, answers_as, fails_as, passes_is, plain_stop, prepared-calls, stands_stop, stop_line, stopped_is, trips_is}
 
@@ -85,6 +85,10 @@ back_is home past n none next =
     ap (λ (ds : List Held). record { event = Ev.Back; answer = Say.UpSite (epoch home past + 1) (length ds); sends = []; calls = back_calls (epoch home past + 1) (Past.disk home past); lines = [] }) (no_doubts (Past.records home past) none)
     ∙ ap (λ (m : ℕ). up_line m home past) (sym next)
 
+pub back_answered : (home : Home) (past : SitePast) → answered home past Ev.Back ≡ of_back home past
+unfolding answered
+back_answered home past = refl
+
 back_down : (home : Home) (past : SitePast) → is_down past ≡ true → site_line home past Ev.Back ≡ unless_tripped home past (of_back home past)
 unfolding site_line when
 back_down home past d = rw d refl
@@ -136,6 +140,15 @@ module _ {E D : Type 0} (stands : E → Lines.Start → List EngineLine → Type
         runs_stopped Up e r = cc
         runs_stopped Down e r = r
         runs_stopped Failing e r = r
+
+  -- a site that is down, where only its store changed
+  pub stored_anew : (old new : SiteCore E) (disk disk' : D) (home : Home) (past : SitePast) → Stands stands tells image size spare old disk home past → is_up old.store.standing ≡ false
+      → Keeps tells image size spare disk' new.store (Past.disk home past) (Past.trip past)
+      → new.store.standing ≡ old.store.standing → new.doubts ≡ old.doubts → new.runs ≡ old.runs
+      → Stands stands tells image size spare new disk' home past
+  stored_anew old new disk disk' home past k down kept standing doubts runs =
+      let K : Runs E → Type 0 = λ r. IsOfKind stands r.engine home.engine in
+      stays_down old new disk disk' home past k down kept standing doubts (subst K (sym runs) (down_kind old home past k.holds down).engine) (ap (λ r. r.attempts) runs)
 
   -- the records that are read are those of the past, so they can be recovered from
   pub read_records : (core : SiteCore E) (home : Home) (past : SitePast) (slice : List SiteRecord) → Holds stands core home past → slice ≡ core.store.journal.records → reverse slice ≡ Past.records home past
@@ -229,3 +242,44 @@ module _ {E D : Type 0} (stands : E → Lines.Start → List EngineLine → Type
             (stands_stop stands tells image size spare new disk' home past Ev.Back calls keeps still engine (λ tid. ap (λ a. finished a.begun tid) attempts ∙ none tid)
             (λ tx. ap (λ a. is_some (noted a.begun tx)) attempts ∙ k.holds.begun tx) (plain_stop m cut all (back_plain n (Past.disk home past))) k.holds.unprepared (ap (λ b. b.doubts) doubts ∙ k.holds.undoubted)),
       )
+
+  -- a read of the records that failed: it leaves what a stop leaves, and the trip is disarmed
+  pub read_failed : (old new : SiteCore E) (store : Store) (disk disk' : D) (home : Home) (past : SitePast)
+      → Stands stands tells image size spare old disk home past → is_up old.store.standing ≡ false
+      → Keeps tells image size spare disk' store (Past.disk home past) (Past.trip past)
+      → store.standing ≡ old.store.standing → new.store ≡ record store { trip = None } → new.doubts ≡ old.doubts → new.runs ≡ old.runs
+      → Fails stands tells image size spare Err_is.Disk new disk' home past (of_back home past)
+  read_failed old new store disk disk' home past k down kept standing is doubts runs =
+      let rules = Past.disk home past in
+      let stopped = down_kind old home past k.holds down in
+      let same = stop_same rules 0 (settled old.store.standing down k.stored.in_order) (all_within home past) in
+      let disarmed : Keeps tells image size spare disk' (record store { trip = None }) rules None =
+      record { kept_on = kept.kept_on; stands = kept.stands; records = kept.records; are_records = kept.are_records; trip = refl; armed = tt; in_order = kept.in_order } in
+      let S : Store → Type 0 = λ s. Keeps tells image size spare disk' s rules None in
+      let R : Disk SiteRecord → Type 0 = λ d. Keeps tells image size spare disk' new.store d None in
+      let keeps = subst R (sym same) (subst S (sym is) disarmed) in
+      let K : Runs E → Type 0 = λ r. IsOfKind stands r.engine home.engine in
+      let P : SiteHappening → Type 0 = λ x. Stands stands tells image size spare new disk' home (x ∷ past) in
+      fails_as stands tells image size spare Err_is.Disk new disk' home past (of_back home past) (up_line (epoch home past + 1) home past) (back_is home past (epoch home past + 1) k.holds.unprepared refl) (
+        0,
+        0,
+        subst P (sym (stopped_is home past Ev.Back (Stops 0 ∷ [])))
+            (stands_stop stands tells image size spare new disk' home past Ev.Back (Stops 0 ∷ []) keeps (ap (λ s. is_up s.standing) is ∙ ap is_up standing ∙ down) (subst K (sym runs) stopped.engine)
+            (λ tid. ap (λ r. finished r.attempts.begun tid) runs ∙ stopped.none_live tid) (λ tx. ap (λ r. is_some (noted r.attempts.begun tx)) runs ∙ k.holds.begun tx) (tt, tt) k.holds.unprepared (ap (λ b. b.doubts) doubts ∙ k.holds.undoubted)),
+      ) where
+        settled : (standing : Standing) → is_up standing ≡ false → IsInOrder standing old.store.journal (Past.disk home past) → (Past.disk home past).synced ≡ (Past.disk home past).length
+        settled Up e o = cc
+        settled Down e o = o
+        settled Failing e o = o
+
+  -- what was recovered from the records is what they say of the past
+  pub from_records : (runs : Runs E) (home : Home) (past : SitePast) (slice : List SiteRecord) (rows : List Put) (counter : ℕ)
+      → reverse slice ≡ Past.records home past
+      → ((other : Home) → IsFounded other (reverse slice) → rows ≡ site_rows other (reverse slice)) → counter ≡ last_number (reverse slice)
+      → IsRunning stands runs (start_from home.engine rows [] counter 0 None) []
+      → IsRunning stands runs (start_from home.engine (site_rows home (Past.records home past)) [] (last_number (Past.records home past)) 0 None) []
+  from_records runs home past slice rows counter read recovered last running =
+      let here : IsFounded home (reverse slice) = let F : List SiteRecord → Type 0 = IsFounded home in subst F (sym read) (founded home past) in
+      let rows_are : rows ≡ site_rows home (Past.records home past) = recovered home here ∙ ap (site_rows home) read in
+      let counter_is : counter ≡ last_number (Past.records home past) = last ∙ ap last_number read in
+      subst (λ (s : Lines.Start). IsRunning stands runs s []) (ap₂ (λ (rs : List Put) (n : ℕ). start_from home.engine rs [] n 0 None) rows_are counter_is) running

@@ -73,3 +73,7 @@ disk_founded home (x ∷ past) = calls_founded home (disk home past) x.calls (di
 -- the oldest two records of every past are the site's set-up and its first start
 pub founded : (home : Home) (past : SitePast) → IsFounded home (records home past)
 founded home past = (disk_founded home past).founded
+
+-- the frames of all records lie within the disk
+pub all_within : (home : Home) (past : SitePast) → bytes_of site_frame (records home past) ≤ (disk home past).length
+all_within home past = (disk_founded home past).within

@@ -6,6 +6,7 @@ pub mod EndsLaws
 pub mod Founded
 pub mod LineLaws
 pub mod Outcomes
+pub mod ReloadLaws
 pub mod RunsLaws
 pub mod ServeLaws
 pub mod SetUpLaws

@@ -99,7 +99,7 @@ module _ {D : Type 0} (tells : Bool) (image : D → Image) (size spare : D → �
       )
 
   -- a journal on a disk whose bytes stayed
-  synced_on : (old new : D) (journal : Kept SiteRecord) → IsKeptOn spelling tells image size spare old journal → (image new).bytes ≡ (image old).bytes → size new ≡ size old → spare old ≤ spare new → IsKeptOn spelling tells image size spare new journal
+  pub synced_on : (old new : D) (journal : Kept SiteRecord) → IsKeptOn spelling tells image size spare old journal → (image new).bytes ≡ (image old).bytes → size new ≡ size old → spare old ≤ spare new → IsKeptOn spelling tells image size spare new journal
   synced_on old new journal kept_on same sizes room = record {
     records = (λ t. rw same (kept_on.records t));
     whole = omega (arith, kept_on.whole);

@@ -1,6 +1,7 @@
 pub mod Attempts
 pub mod Recovered
 pub mod Runs
+pub mod Sessions
 pub mod Stands
 pub mod Steps
 pub mod Store

@@ -1,4 +1,8 @@
 //! A locking site on a disk in memory.
+ghost use Rattle.std.specs.Prelude.{◌≡◌, [], IfOk};
+ghost use Rattle.journal_disk.specs.MemDisk.{mem_size};
+ghost use Rattle.site_core.specs.Sessions.{TestStands, locking_home, stopped_past};
+
 use super::{SiteCore, SiteEvent};
 use fed_rules::Answer;
 use journal_disk::{Disk, MemDisk};
@@ -61,12 +65,15 @@ fn a_new_site_has_its_first_records_and_begins(rt: HostRuntime) -> Result<(), Fa
     Ok(())
 }
 
-// A locking site 1 with no rows, set up on this disk.
+// A locking site 1 with no rows, set up on this empty disk.
 fn locking_site(
     alloc: Global,
     disk: &mut MemDisk,
     protocol: Protocol,
-) -> Result<SiteCore<LockingEngine>, Fail> {
+) -> Result<SiteCore<LockingEngine>, Fail>
+    requires { mem_size disk.old ≡ 0 }
+    ensures { IfOk result (λ core. TestStands core disk.new (locking_home protocol) []) }
+{
     let items = Puts::of(Vec::new(alloc));
     let engine = LockingEngine::new(alloc, &items)?;
     let core = SiteCore::set_up(
@@ -112,7 +119,10 @@ fn stopped_in_a_commit(
     alloc: Global,
     disk: &mut MemDisk,
     cut: u64,
-) -> Result<(SiteCore<LockingEngine>, u64), Fail> {
+) -> Result<(SiteCore<LockingEngine>, u64), Fail>
+    requires { mem_size disk.old ≡ 0 }
+    ensures { IfOk result (λ pair. TestStands pair.0 disk.new (locking_home Protocol.Abort) (stopped_past cut)) }
+{
     let mut core = locking_site(alloc, disk, Protocol::Abort)?;
     let write = SiteEvent::Act {
         tid: FIRST,
