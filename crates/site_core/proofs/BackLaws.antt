@@ -1,5 +1,5 @@
 -- What a core stands for after a start: where it comes through, where a trip stops it, and where a disk call fails.
-use Rattle.std.proofs.Common.{◌≡◌, ℕ, ◌+◌, ◌≤◌, ◌<◌, ◌^◌, ◌==◌, Bool, true, false, cond, not, is_some, IsTrue, Option, Some, None, Err, List, [], ◌∷◌, ◌++◌, length, map, take, min, refl, sym, ap, ap₂, ◌∙◌, subst, arith}
+use Rattle.std.proofs.Common.{◌≡◌, ℕ, ◌+◌, ◌≤◌, ◌==◌, Bool, true, false, cond, not, is_some, Option, None, Err, List, [], ◌∷◌, ◌++◌, length, map, take, min, refl, sym, ap, ap₂, ◌∙◌, subst, arith}
 use Rattle.std.specs.Prelude.{reverse}
 use Rattle.std.proofs.lemmas.List.{reverse-reverse}
 use Rattle.mdb_base.specs.declared.names.Tid.{Tid}
@@ -188,7 +188,7 @@ module _ {E D : Type 0} (stands : E → Lines.Start → List EngineLine → Type
   pub back_done : (old new : SiteCore E) (disk disk' : D) (home : Home) (past : SitePast) (n : ℕ)
       → Stands stands tells image size spare old disk home past → is_up old.store.standing ≡ false → n ≡ epoch home past + 1
       → Passes (Past.trip past) (length (back_calls n (Past.disk home past)))
-          × Keeps tells image size spare disk' new.store (after_calls site_frame (Past.disk home past) (back_calls n (Past.disk home past))) (used (length (back_calls n (Past.disk home past))) (Past.trip past))
+      × Keeps tells image size spare disk' new.store (after_calls site_frame (Past.disk home past) (back_calls n (Past.disk home past))) (used (length (back_calls n (Past.disk home past))) (Past.trip past))
       → new.store.standing ≡ Up → new.doubts ≡ old.doubts → new.runs.attempts ≡ old.runs.attempts
       → IsRunning stands new.runs (start_from home.engine (site_rows home (Past.records home past)) [] (last_number (Past.records home past)) 0 None) []
       → Answers stands tells image size spare (Say.UpSite n 0) new disk' home past (site_line home past Ev.Back)

@@ -1,6 +1,6 @@
 -- The records of every past stand on those of the site's set-up: no stop takes them away, since they are synced.
-use Rattle.std.proofs.Common.{◌≡◌, ℕ, ◌+◌, ◌≤◌, min, leb, Bool, true, false, cond, List, [], ◌∷◌, ◌++◌, refl, sym, ap, ◌∙◌, subst, arith}
-use Rattle.std.proofs.lemmas.Bool.{cond-true, cond-false, leb-true, le-leb}
+use Rattle.std.proofs.Common.{◌≡◌, ℕ, ◌+◌, ◌≤◌, min, leb, Bool, true, false, cond, List, [], ◌∷◌, ◌++◌, refl, sym, ap, subst, arith}
+use Rattle.std.proofs.lemmas.Bool.{cond-true, leb-true, le-leb}
 use Rattle.fed_rules.specs.declared.records.SiteRecord.{SiteRecord}
 use Rattle.fed_rules.specs.Disk.{Call, Append, Sync, CutBack, Stops, Disk, after_call, after_calls, bytes_of, whole}
 use Rattle.fed_rules.specs.SitePast.{SitePast, disk, records}

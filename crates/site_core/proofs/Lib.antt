@@ -9,6 +9,7 @@ pub mod Outcomes
 pub mod ReloadLaws
 pub mod RunsLaws
 pub mod ServeLaws
+pub mod SessionLaws
 pub mod SetUpLaws
 pub mod StandsLaws
 pub mod StopLaws

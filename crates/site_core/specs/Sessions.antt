@@ -1,9 +1,7 @@
 -- The sites of the tests, and what happened there.
 use Rattle.std.specs.Prelude.{ℕ, true, List, [], ◌∷◌}
 use Rattle.mdb_base.specs.declared.names.Engine.TheVariants.{Locking}
-use Rattle.mdb_base.specs.declared.names.Key.{Key}
 use Rattle.mdb_base.specs.declared.names.Tid.{Tid}
-use Rattle.mdb_base.specs.declared.acts.PlainAct.{PlainAct}
 use Rattle.mdb_base.specs.declared.acts.PlainAct.TheVariants.{Read, Write}
 use Rattle.presumptions.specs.declared.Protocol.{Protocol}
 use Rattle.presumptions.specs.declared.Protocol.TheVariants as By
@@ -37,6 +35,9 @@ read_five = Ev.Act first (Read (record { 0 = 5 }))
 abbrev pub write_five : ℕ → SiteEvent
 write_five value = Ev.Act first (Write (record { 0 = 5 }) value)
 
--- the first attempt writes 1 to key 5, and a trip with this cut stops its commit right after the append of its record
+-- the first attempt writes 1 to key 5, and a trip with this cut stops its commit right after the append of its record; the last event first
+abbrev pub stopped_events : ℕ → List SiteEvent
+stopped_events cut = Ev.Commit first ∷ Ev.Trip 1 cut ∷ write_five 1 ∷ Ev.Begin first ∷ []
+
 abbrev pub stopped_past : ℕ → SitePast
-stopped_past cut = site_past (locking_home By.Abort) (Ev.Commit first ∷ Ev.Trip 1 cut ∷ write_five 1 ∷ Ev.Begin first ∷ [])
+stopped_past cut = site_past (locking_home By.Abort) (stopped_events cut)

@@ -147,7 +147,15 @@ fn a_local_record_that_is_kept_is_committed(rt: HostRuntime) -> Result<(), Fail>
     let down = core.step(alloc, &mut disk, SiteEvent::Begin(FIRST))?;
     assert!(rt; matches!(down.answer, Answer::Down));
     let up = core.step(alloc, &mut disk, SiteEvent::Back)?;
-    assert!(rt; matches!(up.answer, Answer::UpSite { epoch: 2, doubtful: 0 }));
+    assert!(rt;
+        matches!(
+            up.answer,
+            Answer::UpSite {
+                epoch: 2,
+                doubtful: 0
+            }
+        )
+    );
     let fate = core.step(alloc, &mut disk, SiteEvent::Fate(Tx(1)))?;
     assert!(rt; matches!(fate.answer, Answer::Committed(FIRST)));
     let again = core.step(alloc, &mut disk, SiteEvent::Begin(FIRST))?;
@@ -162,7 +170,15 @@ fn a_local_record_that_is_lost_leaves_its_attempt_ended(rt: HostRuntime) -> Resu
     let (mut core, kept) = stopped_in_a_commit(alloc, &mut disk, 0)?;
     assert_eq!(rt; kept, 2);
     let up = core.step(alloc, &mut disk, SiteEvent::Back)?;
-    assert!(rt; matches!(up.answer, Answer::UpSite { epoch: 2, doubtful: 0 }));
+    assert!(rt;
+        matches!(
+            up.answer,
+            Answer::UpSite {
+                epoch: 2,
+                doubtful: 0
+            }
+        )
+    );
     let fate = core.step(alloc, &mut disk, SiteEvent::Fate(Tx(1)))?;
     assert!(rt; matches!(fate.answer, Answer::Ended));
     let begun = core.step(alloc, &mut disk, SiteEvent::Begin(SECOND))?;

@@ -1,7 +1,6 @@
 use Rattle.std.proofs.Common.{None, [], refl, subst}
 use Rattle.mdb_base.specs.declared.names.Engine.{Engine}
 use Rattle.engine_contract.specs.Calls.{start_from}
-use Rattle.engine_contract.specs.Past.{EachPast, KeepsPast}
 use Rattle.site_core.proofs.Outcomes.{map_on_err, map_on_ok}
 use Rattle.site_core.proofs.RunsLaws.{lists_nothing}
 use Rattle.site_core.proofs.runs.Runs.restart.Goals as goal

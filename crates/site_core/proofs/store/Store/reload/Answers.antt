@@ -1,4 +1,3 @@
-use Rattle.std.proofs.Common.{refl}
 use Rattle.site_core.proofs.ReloadLaws.{never_malformed_again, read_same, reload_keeps, reloaded_is, torn_same, unread_keeps}
 use Rattle.site_core.proofs.store.Store.reload.Goals as goal
 
