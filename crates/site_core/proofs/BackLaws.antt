@@ -31,10 +31,11 @@ use Rattle.site_core.specs.Attempts.{finished, noted}
 use Rattle.site_core.specs.Recovered.{IsFounded, IsRecoverable}
 use Rattle.site_core.specs.Runs.{IsRunning}
 use Rattle.site_core.specs.Stands.{Answers, Fails, Holds, IsOfKind, IsStopped, RunsStand, Stands}
-use Rattle.site_core.specs.Store.{Ends, IsInOrder, Keeps, Passes, cut_calls, is_up}
+use Rattle.site_core.specs.Store.{Ends, Keeps, Passes, cut_calls, is_up}
 use Rattle.site_core.proofs.Founded.{all_within, founded, whole-all}
 use Rattle.site_core.proofs.ServeLaws.{down_is}
 use Rattle.site_core.proofs.StopLaws.{IsPlainCall, answers_as, fails_as, passes_is, plain_stop, prepared-calls, stands_stop, stop_line, stopped_is, trips_is}
+use Rattle.site_core.proofs.StoreLaws.{settled}
 
 -- the disk calls of a start
 abbrev pub back_calls : ℕ → Disk SiteRecord → List (Call SiteRecord)
@@ -252,7 +253,7 @@ module _ {E D : Type 0} (stands : E → Lines.Start → List EngineLine → Type
   read_failed old new store disk disk' home past k down kept standing is doubts runs =
       let rules = Past.disk home past in
       let stopped = down_kind old home past k.holds down in
-      let same = stop_same rules 0 (settled old.store.standing down k.stored.in_order) (all_within home past) in
+      let same = stop_same rules 0 (settled old.store.standing old.store.journal rules down k.stored.in_order) (all_within home past) in
       let disarmed : Keeps tells image size spare disk' (record store { trip = None }) rules None =
       record { kept_on = kept.kept_on; stands = kept.stands; records = kept.records; are_records = kept.are_records; trip = refl; armed = tt; in_order = kept.in_order } in
       let S : Store → Type 0 = λ s. Keeps tells image size spare disk' s rules None in
@@ -266,11 +267,7 @@ module _ {E D : Type 0} (stands : E → Lines.Start → List EngineLine → Type
         subst P (sym (stopped_is home past Ev.Back (Stops 0 ∷ [])))
             (stands_stop stands tells image size spare new disk' home past Ev.Back (Stops 0 ∷ []) keeps (ap (λ s. is_up s.standing) is ∙ ap is_up standing ∙ down) (subst K (sym runs) stopped.engine)
             (λ tid. ap (λ r. finished r.attempts.begun tid) runs ∙ stopped.none_live tid) (λ tx. ap (λ r. is_some (noted r.attempts.begun tx)) runs ∙ k.holds.begun tx) (tt, tt) k.holds.unprepared (ap (λ b. b.doubts) doubts ∙ k.holds.undoubted)),
-      ) where
-        settled : (standing : Standing) → is_up standing ≡ false → IsInOrder standing old.store.journal (Past.disk home past) → (Past.disk home past).synced ≡ (Past.disk home past).length
-        settled Up e o = cc
-        settled Down e o = o
-        settled Failing e o = o
+      )
 
   -- what was recovered from the records is what they say of the past
   pub from_records : (runs : Runs E) (home : Home) (past : SitePast) (slice : List SiteRecord) (rows : List Put) (counter : ℕ)

@@ -11,14 +11,14 @@ use Rattle.site_core.specs.declared.store.Store.{Store}
 use Rattle.site_core.specs.Store.{Keeps}
 use Rattle.site_core.proofs.StoreLaws.{reserve_keeps, synced_on}
 
--- what was read are the records that were written
+-- what is read are the records that were written, and none of them is malformed
 pub read_same : (written : List SiteRecord) (journal : Kept SiteRecord) → ◌≡◌ {A = Result (List SiteRecord) ℕ} (Ok written) (Ok journal.records) → journal.records ≡ written
 read_same written journal e = sym (inner written journal.records e) where
   inner : (a b : List SiteRecord) → ◌≡◌ {A = Result (List SiteRecord) ℕ} (Ok a) (Ok b) → a ≡ b
   inner a b e = cc
 
-pub never_malformed_again : (written : List SiteRecord) (at : ℕ) → ◌≡◌ {A = Result (List SiteRecord) ℕ} (Ok written) (Err at) → ⊥
-never_malformed_again written at e = cc
+pub never_malformed : (written : List SiteRecord) (at : ℕ) → ◌≡◌ {A = Result (List SiteRecord) ℕ} (Ok written) (Err at) → ⊥
+never_malformed written at e = cc
 
 -- with the same records and the same rest, only the room is gone
 pub reloaded_is : (new old : Kept SiteRecord) → new.records ≡ old.records → new.is_torn ≡ old.is_torn → (new.entries ≡ 0) × (new.room ≡ 0) → new ≡ record old { entries = 0; room = 0 }

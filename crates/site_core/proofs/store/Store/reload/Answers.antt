@@ -1,4 +1,4 @@
-use Rattle.site_core.proofs.ReloadLaws.{never_malformed_again, read_same, reload_keeps, reloaded_is, torn_same, unread_keeps}
+use Rattle.site_core.proofs.ReloadLaws.{never_malformed, read_same, reload_keeps, reloaded_is, torn_same, unread_keeps}
 use Rattle.site_core.proofs.store.Store.reload.Goals as goal
 
 pub returns-in-Ok-clause-keeps : goal.returns-in-Ok-clause-keeps
@@ -30,4 +30,4 @@ unreachable-requires g c =
     let (rules, trip, k) = c.requires.kept in
     let records = c.args.self.now.journal.records in
     let loads = rw c.in-Err-Malformed.field-0-is at (c.in-Err-Malformed.ensures.again c.requires.told records k.are_records (k.kept_on.records c.requires.told)) in
-    never_malformed_again records _ loads
+    never_malformed records _ loads
