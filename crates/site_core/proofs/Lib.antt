@@ -1,13 +1,17 @@
 pub mod AccessLaws
 pub mod AttemptsLaws
+pub mod BackLaws
 pub mod CommitLaws
 pub mod EndsLaws
+pub mod Founded
 pub mod LastWriteLaws
 pub mod LineLaws
 pub mod Outcomes
 pub mod RecoveredLaws
+pub mod ReloadLaws
 pub mod RunsLaws
 pub mod ServeLaws
+pub mod SessionLaws
 pub mod SetUpLaws
 pub mod StandsLaws
 pub mod StopLaws

@@ -10,8 +10,9 @@ use Rattle.mdb_base.specs.declared.replies.Reply.TheVariants as Reply_is
 use Rattle.mdb_base.specs.Names.{same_tid, same_tx}
 use Rattle.mdb_base.specs.Words.{holds_of, map_some}
 use Rattle.mdb_base.proofs.NameLaws.{same_tid-equal}
-use Rattle.fed_rules.specs.Runs.{Start, EngineLine, Begins, Acts, Seals, Commits, Aborts, Run, begun, changed, acted, is_sealed, puts_of, run_at, tid_of}
+use Rattle.fed_rules.specs.Runs.{Start, EngineLine, Begins, Acts, Seals, Commits, Aborts, Run, begun, changed, acted, is_sealed, puts_of, restored_at, run_at, tid_of}
 use Rattle.mdb_base.specs.declared.replies.Why.{Why}
+use Rattle.fed_rules.specs.declared.runs.Kept.{Kept}
 use Rattle.fed_rules.specs.declared.runs.Sealed.{Sealed}
 use Rattle.fed_rules.specs.Replies.{access_reply, seal_number, seal_stop}
 use Rattle.fed_rules.specs.EngineLines.{IsFree, IsLive}
@@ -305,3 +306,16 @@ seals_as start lines tid other run sealed a b passes number writes =
 pub stops_as : (start : Start) (lines : List EngineLine) (tid : Tid) (other run : Run) (why : Why) → run_at start lines tid ≡ Some other → run_at start lines tid ≡ Some run
     → seal_stop start.kind start lines other ≡ Some why → seal_stop start.kind start lines run ≡ Some why
 stops_as start lines tid other run why a b stops = let same : other ≡ run = some_run other run (sym a ∙ b) in ap (seal_stop start.kind start lines) (sym same) ∙ stops
+
+-- where no attempt is live, the list is that of a start with nothing in doubt
+pub lists_nothing : (list : List Begun) (start : Start) → start.doubtful ≡ [] → ((tid : Tid) → finished list tid ≡ None) → Lists list start []
+lists_nothing list start nothing none = record {
+  live = (λ tid. ap accesses (no_run tid) ∙ sym (none tid));
+  unsealed = (λ tid. ap (holds_of is_sealed) (no_run tid));
+  few = (λ tid n is. absurd (none_is_some n (sym (none tid) ∙ is)));
+} where
+  no_run : (tid : Tid) → run_at start [] tid ≡ None
+  no_run tid = ap (λ (kept : List Kept). restored_at kept tid) nothing
+
+  none_is_some : (n : ℕ) → ◌≡◌ {A = Option ℕ} None (Some n) → ⊥
+  none_is_some n e = cc

@@ -1,5 +1,5 @@
 -- What a new site stands for.
-use Rattle.std.proofs.Common.{◌≡◌, ℕ, ◌<◌, ◌≤◌, ◌^◌, Bool, false, IsTrue, Option, None, Result, Ok, Err, List, [], length, nat_lt, refl, sym, ap, ◌∙◌, arith, inl, inr}
+use Rattle.std.proofs.Common.{◌≡◌, ℕ, ◌<◌, ◌≤◌, ◌^◌, Bool, false, IsTrue, Option, None, Err, List, [], length, nat_lt, refl, ap, ◌∙◌, arith, inl, inr}
 use Rattle.std.proofs.lemmas.List.{nil_from_length}
 use Rattle.mdb_base.specs.Counts.{HasRisen}
 use Rattle.mdb_base.specs.declared.names.Engine.{Engine}
@@ -27,14 +27,6 @@ use Rattle.site_core.proofs.StoreLaws.{seen-bytes}
 
 no_records : AreRecordsOf spelling [] []
 no_records = record { are_payloads = tt; rest = []; parts = refl; is_torn = none_is_part }
-
-pub nothing_read : (journal : Kept SiteRecord) → ◌≡◌ {A = Result (List SiteRecord) ℕ} (Ok []) (Ok journal.records) → journal.records ≡ []
-nothing_read journal e = sym (inner [] journal.records e) where
-  inner : (a b : List SiteRecord) → ◌≡◌ {A = Result (List SiteRecord) ℕ} (Ok a) (Ok b) → a ≡ b
-  inner a b e = cc
-
-pub never_malformed : (at : ℕ) → ◌≡◌ {A = Result (List SiteRecord) ℕ} (Ok []) (Err at) → ⊥
-never_malformed at e = cc
 
 module _ {D : Type 0} (tells : Bool) (image : D → Image) (size spare : D → ℕ) (told : IsTrue tells) (told_size : (disk : D) → IsTrue tells → length (image disk).bytes ≡ size disk) where
   no_bytes_there : (disk : D) → size disk ≡ 0 → (image disk).bytes ≡ []

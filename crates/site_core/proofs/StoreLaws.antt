@@ -65,6 +65,12 @@ pub noted_are_records : (old new : Kept SiteRecord) (entry : SiteRecord) → Not
 noted_are_records old new entry (inl noted) all is = let e : new.records ≡ old.records ++ entry ∷ [] = ap (λ j. j.records) noted in rw e (all_push IsRecord old.records entry all is)
 noted_are_records old new entry (inr not) all is = let e : new.records ≡ old.records = ap (λ j. j.records) not in rw e all
 
+-- while a site is down, all that it holds is synced
+pub settled : (standing : Standing) (journal : Kept SiteRecord) (rules : Disk SiteRecord) → is_up standing ≡ false → IsInOrder standing journal rules → rules.synced ≡ rules.length
+settled Up journal rules e o = cc
+settled Down journal rules e o = o
+settled Failing journal rules e o = o
+
 module _ {D : Type 0} (tells : Bool) (image : D → Image) (size spare : D → ℕ) (told : IsTrue tells) (told_size : (disk : D) → IsTrue tells → length (image disk).bytes ≡ size disk) where
   -- the journal knows whether the disk of the rules is torn
   pub torn_agrees : (disk : D) (store : Store) (rules : Disk SiteRecord) (trip : Option Trip) → Keeps tells image size spare disk store rules trip → store.journal.is_torn ≡ is_torn site_frame rules
@@ -99,7 +105,7 @@ module _ {D : Type 0} (tells : Bool) (image : D → Image) (size spare : D → �
       )
 
   -- a journal on a disk whose bytes stayed
-  synced_on : (old new : D) (journal : Kept SiteRecord) → IsKeptOn spelling tells image size spare old journal → (image new).bytes ≡ (image old).bytes → size new ≡ size old → spare old ≤ spare new → IsKeptOn spelling tells image size spare new journal
+  pub synced_on : (old new : D) (journal : Kept SiteRecord) → IsKeptOn spelling tells image size spare old journal → (image new).bytes ≡ (image old).bytes → size new ≡ size old → spare old ≤ spare new → IsKeptOn spelling tells image size spare new journal
   synced_on old new journal kept_on same sizes room = record {
     records = (λ t. rw same (kept_on.records t));
     whole = omega (arith, kept_on.whole);
@@ -288,12 +294,8 @@ module _ {D : Type 0} (tells : Bool) (image : D → Image) (size spare : D → �
       let at_most = k.kept_on.whole in
       let no_more : size disk ≤ spelled_size spelling store.journal.records = ltb-false _ _ (sym k.kept_on.is_torn ∙ torn) in
       let length_is : bytes_of site_frame rules.records ≡ rules.length = omega arith in
-      let synced_is : rules.synced ≡ rules.length = settled store.standing stopped k.in_order in
-      ap₂ (λ a b. record { records = rules.records; length = a; synced = b }) length_is (length_is ∙ sym synced_is) where
-        settled : (standing : Standing) → is_up standing ≡ false → IsInOrder standing store.journal rules → rules.synced ≡ rules.length
-        settled Up e o = cc
-        settled Down e o = o
-        settled Failing e o = o
+      let synced_is : rules.synced ≡ rules.length = settled store.standing store.journal rules stopped k.in_order in
+      ap₂ (λ a b. record { records = rules.records; length = a; synced = b }) length_is (length_is ∙ sym synced_is)
 
   -- a site that is down and not torn comes up
   pub opens : (disk : D) (store : Store) (rules : Disk SiteRecord) (trip : Option Trip) → Keeps tells image size spare disk store rules trip → store.standing ≡ Down → store.journal.is_torn ≡ false
@@ -316,7 +318,7 @@ module _ {D : Type 0} (tells : Bool) (image : D → Image) (size spare : D → �
       let n = bytes_of site_frame rules.records in
       let counted : spelled_size spelling store.journal.records ≡ n = ap (spelled_size spelling) k.records ∙ sizes_agree spelling site_frame frame_has_size rules.records in
       let same = seen-bytes store.standing (image old) in
-      let synced : i.synced ≡ length i.bytes = k.stands.synced ∙ settled store.standing stopped k.in_order ∙ sym k.stands.bytes in
+      let synced : i.synced ≡ length i.bytes = k.stands.synced ∙ settled store.standing store.journal rules stopped k.in_order ∙ sym k.stands.bytes in
       elim (images told) [
         | inl cut ↦
             let after = after_call site_frame rules CutBack in
@@ -328,8 +330,4 @@ module _ {D : Type 0} (tells : Bool) (image : D → Image) (size spare : D → �
             let bytes : (image new).bytes ≡ take (kept_bytes 0 i) i.bytes =
             ap (λ (x : Image). x.bytes) not ∙ sym same ∙ sym (take_all (kept_bytes 0 i) i.bytes (omega (arith, synced))) in
             (0, 0, failing_keeps new store journal i rules 0 k.stands bytes all kept_on all_journal)
-      ] where
-        settled : (standing : Standing) → is_up standing ≡ false → IsInOrder standing store.journal rules → rules.synced ≡ rules.length
-        settled Up e o = cc
-        settled Down e o = o
-        settled Failing e o = o
+      ]

@@ -12,6 +12,7 @@ mod errors;
 mod recovered;
 mod runs;
 mod site;
+mod starting;
 mod store;
 
 pub use errors::StepErr;

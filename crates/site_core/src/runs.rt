@@ -1,16 +1,18 @@
 //! The runs of a site: its engine, and the list of the local attempts that are live in it.
-ghost use Rattle.std.specs.Prelude.{◌≡◌, ℕ, ◌<◌, ◌+◌, ◌^◌, ◌∷◌, None, Some, IfOk, IfErr, IfSome, IsSome, OnOk, OnErr};
+ghost use Rattle.std.specs.Prelude.{◌≡◌, ℕ, ◌<◌, ◌+◌, ◌^◌, [], ◌∷◌, None, Some, IfOk, IfErr, IfSome, IsSome, OnOk, OnErr};
+ghost use Rattle.mdb_base.specs.declared.names.Engine.{Engine};
 ghost use Rattle.mdb_base.specs.declared.names.Tid.{Tid};
 ghost use Rattle.fed_rules.specs.Replies.{access_reply};
 ghost use Rattle.fed_rules.specs.Runs.{Aborts, Acts, Begins, Commits, Run, Seals, counter, run_at};
 ghost use Rattle.engine_contract.specs.Past.{AddsLine, EachPast, KeepsPast, SomePast};
-ghost use Rattle.engine_contract.specs.Calls.{CanAct};
+ghost use Rattle.engine_contract.specs.Calls.{CanAct, start_from};
 ghost use Rattle.site_core.specs.Attempts.{SameBegun, finished, running, started, with_note};
 ghost use Rattle.site_core.specs.Runs.{IsRunning, IsSealing, RefusesTo, SealsBy, SomeSealing};
+ghost use Rattle.site_core.specs.Stands.{IsOfKind};
 
 use crate::attempts::{Attempts, Begun, LiveAttempt};
 use engine_contract::{LocalEngine, SealErr, Sealed};
-use mdb_base::{Memory, PlainAct, Reply, Tid};
+use mdb_base::{Memory, PlainAct, Puts, Reply, Tid};
 use std::alloc::Global;
 
 /// An engine, and the local attempts that are live in it.
@@ -111,6 +113,17 @@ impl<E: LocalEngine> Runs<E> {
     {
         self.engine.commit(tid);
         self.attempts.end(tid);
+    }
+
+    /// Starts the engine anew, where no attempt is live: with these rows and this counter, nothing in doubt and no ticket published.
+    pub fn restart(&mut self, alloc: Global, rows: &Puts, counter: u64) -> Result<(), Memory>
+        requires none_live { (tid : Tid) → finished self.old.attempts.begun tid ≡ None }
+        ensures started { OnOk result ((kind : Engine) → IsOfKind E.stands self.old.engine kind
+            → IsRunning E.stands self.new (start_from kind rows.now [] counter 0 None) []) }
+        ensures memory { OnErr result ((kind : Engine) → IsOfKind E.stands self.old.engine kind → IsOfKind E.stands self.new.engine kind) }
+        ensures attempts { self.new.attempts ≡ self.old.attempts }
+    {
+        self.engine.restart(alloc, rows, &[], counter, 0, None)
     }
 
     /// A stop ends every attempt.

@@ -34,8 +34,8 @@ use std::alloc::Global;
 /// The core of one site: its local engine with the live attempts, its journal, and the prepared transactions that it is in doubt of.
 #[derive(Drop)]
 pub struct SiteCore<E: LocalEngine> {
-    runs: Runs<E>,
-    store: Store,
+    pub(crate) runs: Runs<E>,
+    pub(crate) store: Store,
     doubts: PreparedBook,
 }
 
@@ -389,7 +389,7 @@ impl<E: LocalEngine> SiteCore<E> {
     {
         match event {
             SiteEvent::Trip { calls, cut } => Ok(self.set_trip(calls, cut)),
-            SiteEvent::Back => Err(StepErr::Memory),
+            SiteEvent::Back => self.back(alloc, disk),
             _ => Ok(Answer::Down),
         }
     }

@@ -295,6 +295,31 @@ impl Store {
         }
     }
 
+    /// Reads the journal again: a stop loses what was in memory. A failed read changes nothing.
+    pub fn reload<D: Disk>(&mut self, alloc: Global, disk: &mut D) -> Result<(), StepErr>
+        requires told { IsTrue D.tells }
+        requires kept { SomeKept (Keeps D.tells D.image D.size D.spare disk.old self.old) }
+        ensures keeps { (rules : RulesDisk SiteRecord) (trip : Option RulesTrip) → Keeps D.tells D.image D.size D.spare disk.old self.old rules trip
+            → Keeps D.tells D.image D.size D.spare disk.new self.new rules trip }
+        ensures journal { OnOk result (self.new.journal ≡ record self.old.journal { entries = 0; room = 0 }) }
+        ensures same { OnErr result (self.new.journal ≡ self.old.journal) }
+        ensures standing { self.new.standing ≡ self.old.standing }
+        ensures trip { self.new.trip ≡ self.old.trip }
+        ensures image { D.image disk.new ≡ D.image disk.old }
+        ensures cause { IsErrOf result StepErr.Disk → HasRisen (D.faults disk.old) (D.faults disk.new) }
+        ensures faults { D.faults disk.old ≤ D.faults disk.new }
+    {
+        match SiteJournal::load(alloc, disk) {
+            Ok(journal) => {
+                self.journal = journal;
+                Ok(())
+            }
+            Err(JournalErr::Failed) => Err(StepErr::Disk),
+            Err(JournalErr::Memory) => Err(StepErr::Memory),
+            Err(JournalErr::Malformed { .. }) => unreachable!(),
+        }
+    }
+
     /// Appends a record, which isn't synced yet.
     pub fn append<D: Disk>(&mut self, disk: &mut D, entry: SiteRecord) -> Result<(), Break>
         requires told { IsTrue D.tells }
@@ -361,6 +386,27 @@ impl Store {
     {
         match self.append(disk, entry) {
             Ok(()) => self.sync(disk),
+            Err(why) => Err(why),
+        }
+    }
+
+    /// Starts a site that is down: a torn rest is cut back, and this record is appended and synced.
+    pub fn start<D: Disk>(&mut self, disk: &mut D, entry: SiteRecord) -> Result<(), Break>
+        requires told { IsTrue D.tells }
+        requires kept { SomeKept (Keeps D.tells D.image D.size D.spare disk.old self.old) }
+        requires stopped { is_up self.old.standing ≡ false }
+        requires reserved { HasRoom (frame_size (spelling entry)) self.old.journal }
+        requires in_range { InRange entry }
+        requires payload { IsPayload (spelling entry) }
+        ensures ends { (rules : RulesDisk SiteRecord) (trip : Option RulesTrip) → Keeps D.tells D.image D.size D.spare disk.old self.old rules trip
+            → Ends (Keeps D.tells D.image D.size D.spare disk.new self.new) rules trip (cut_calls rules ++ Append entry ∷ Sync ∷ []) result }
+        ensures standing { OnOk result (self.new.standing ≡ Standing.Up) }
+        ensures down { OnErr result (is_up self.new.standing ≡ false) }
+        ensures cause { OnFailed result (HasRisen (D.faults disk.old) (D.faults disk.new)) }
+        ensures faults { D.faults disk.old ≤ D.faults disk.new }
+    {
+        match self.open(disk) {
+            Ok(()) => self.force(disk, entry),
             Err(why) => Err(why),
         }
     }

@@ -1,9 +1,13 @@
 //! A locking site on a disk in memory.
+ghost use Rattle.std.specs.Prelude.{◌≡◌, [], IfOk};
+ghost use Rattle.journal_disk.specs.MemDisk.{mem_size};
+ghost use Rattle.site_core.specs.Sessions.{TestStands, locking_home, stopped_past};
+
 use super::{SiteCore, SiteEvent};
 use fed_rules::Answer;
 use journal_disk::{Disk, MemDisk};
 use locking_engine::LockingEngine;
-use mdb_base::{Engine, Puts, SiteId, Tid, Tx};
+use mdb_base::{Engine, Key, PlainAct, Puts, SiteId, Tid, Tx};
 use presumptions::Protocol;
 use std::alloc::Global;
 use std::test::Fail;
@@ -11,9 +15,20 @@ use std::test::Fail;
 // The set-up of a locking site and its first start.
 const BYTES: [u8; 15] = [0, 6, 1, 1, 1, 1, 0, 0, 0, 5, 2, 0, 0, 0, 1];
 
+// The same, and a local transaction 1.0 that wrote 7 to key 5 with the number 2.
+const SEALED: [u8; 43] = [
+    0, 6, 1, 1, 1, 1, 0, 0, 0, 5, 2, 0, 0, 0, 1, 0, 26, 5, 0, 0, 0, 1, 0, 0, 0, 0, 0, 0, 0, 0, 2,
+    0, 1, 0, 5, 0, 0, 0, 0, 0, 0, 0, 7,
+];
+
 const FIRST: Tid = Tid {
     tx: Tx(1),
     attempt: 0,
+};
+
+const SECOND: Tid = Tid {
+    tx: Tx(1),
+    attempt: 1,
 };
 
 // Whether the disk has exactly these bytes.
@@ -47,5 +62,126 @@ fn a_new_site_has_its_first_records_and_begins(rt: HostRuntime) -> Result<(), Fa
     assert!(rt; !core.is_down());
     assert_eq!(rt; core.records().len(), 2);
     assert!(rt; holds(alloc, &mut disk, &BYTES));
+    Ok(())
+}
+
+// A locking site 1 with no rows, set up on this empty disk.
+fn locking_site(
+    alloc: Global,
+    disk: &mut MemDisk,
+    protocol: Protocol,
+) -> Result<SiteCore<LockingEngine>, Fail>
+    requires { mem_size disk.old ≡ 0 }
+    ensures { IfOk result (λ core. TestStands core disk.new (locking_home protocol) []) }
+{
+    let items = Puts::of(Vec::new(alloc));
+    let engine = LockingEngine::new(alloc, &items)?;
+    let core = SiteCore::set_up(
+        alloc,
+        disk,
+        SiteId(1),
+        Engine::Locking,
+        items,
+        protocol,
+        engine,
+    )?;
+    Ok(core)
+}
+
+#[test]
+fn a_local_transaction_reads_writes_and_commits(rt: HostRuntime) -> Result<(), Fail> {
+    let alloc = rt.alloc();
+    let mut disk = MemDisk::new(alloc)?;
+    let mut core = locking_site(alloc, &mut disk, Protocol::Nothing)?;
+    let begun = core.step(alloc, &mut disk, SiteEvent::Begin(FIRST))?;
+    assert!(rt; matches!(begun.answer, Answer::Begun(FIRST)));
+    let read = SiteEvent::Act {
+        tid: FIRST,
+        act: PlainAct::Read(Key(5)),
+    };
+    let read = core.step(alloc, &mut disk, read)?;
+    assert!(rt; matches!(read.answer, Answer::Read(Key(5), 0)));
+    let write = SiteEvent::Act {
+        tid: FIRST,
+        act: PlainAct::Write(Key(5), 7),
+    };
+    let wrote = core.step(alloc, &mut disk, write)?;
+    assert!(rt; matches!(wrote.answer, Answer::Wrote(Key(5), 7)));
+    let sealed = core.step(alloc, &mut disk, SiteEvent::Commit(FIRST))?;
+    assert!(rt; matches!(sealed.answer, Answer::Sealed(FIRST, 2)));
+    assert!(rt; holds(alloc, &mut disk, &SEALED));
+    Ok(())
+}
+
+// A locking site 1 that a trip stopped with this cut, right after the append of the record of 1.0, which wrote 1 to key 5; and how many
+// records it kept.
+fn stopped_in_a_commit(
+    alloc: Global,
+    disk: &mut MemDisk,
+    cut: u64,
+) -> Result<(SiteCore<LockingEngine>, u64), Fail>
+    requires { mem_size disk.old ≡ 0 }
+    ensures { IfOk result (λ pair. TestStands pair.0 disk.new (locking_home Protocol.Abort) (stopped_past cut)) }
+{
+    let mut core = locking_site(alloc, disk, Protocol::Abort)?;
+    let write = SiteEvent::Act {
+        tid: FIRST,
+        act: PlainAct::Write(Key(5), 1),
+    };
+    let _begun = core.step(alloc, disk, SiteEvent::Begin(FIRST))?;
+    let _wrote = core.step(alloc, disk, write)?;
+    let set = core.step(alloc, disk, SiteEvent::Trip { calls: 1, cut })?;
+    let stopped = core.step(alloc, disk, SiteEvent::Commit(FIRST))?;
+    match (set.answer, stopped.answer) {
+        (Answer::Set, Answer::Stopped(kept)) => Ok((core, kept)),
+        _ => Err(Fail::from("the trip stops the commit")),
+    }
+}
+
+#[test]
+fn a_local_record_that_is_kept_is_committed(rt: HostRuntime) -> Result<(), Fail> {
+    let alloc = rt.alloc();
+    let mut disk = MemDisk::new(alloc)?;
+    let (mut core, kept) = stopped_in_a_commit(alloc, &mut disk, 65_535)?;
+    assert_eq!(rt; kept, 3);
+    let down = core.step(alloc, &mut disk, SiteEvent::Begin(FIRST))?;
+    assert!(rt; matches!(down.answer, Answer::Down));
+    let up = core.step(alloc, &mut disk, SiteEvent::Back)?;
+    assert!(rt;
+        matches!(
+            up.answer,
+            Answer::UpSite {
+                epoch: 2,
+                doubtful: 0
+            }
+        )
+    );
+    let fate = core.step(alloc, &mut disk, SiteEvent::Fate(Tx(1)))?;
+    assert!(rt; matches!(fate.answer, Answer::Committed(FIRST)));
+    let again = core.step(alloc, &mut disk, SiteEvent::Begin(FIRST))?;
+    assert!(rt; matches!(again.answer, Answer::Committed(FIRST)));
+    Ok(())
+}
+
+#[test]
+fn a_local_record_that_is_lost_leaves_its_attempt_ended(rt: HostRuntime) -> Result<(), Fail> {
+    let alloc = rt.alloc();
+    let mut disk = MemDisk::new(alloc)?;
+    let (mut core, kept) = stopped_in_a_commit(alloc, &mut disk, 0)?;
+    assert_eq!(rt; kept, 2);
+    let up = core.step(alloc, &mut disk, SiteEvent::Back)?;
+    assert!(rt;
+        matches!(
+            up.answer,
+            Answer::UpSite {
+                epoch: 2,
+                doubtful: 0
+            }
+        )
+    );
+    let fate = core.step(alloc, &mut disk, SiteEvent::Fate(Tx(1)))?;
+    assert!(rt; matches!(fate.answer, Answer::Ended));
+    let begun = core.step(alloc, &mut disk, SiteEvent::Begin(SECOND))?;
+    assert!(rt; matches!(begun.answer, Answer::Begun(SECOND)));
     Ok(())
 }
