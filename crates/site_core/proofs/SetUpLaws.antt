@@ -1,5 +1,5 @@
 -- What a new site stands for.
-use Rattle.std.proofs.Common.{◌≡◌, ℕ, ◌<◌, ◌≤◌, ◌^◌, Bool, false, IsTrue, Option, None, Err, List, [], length, nat_lt, refl, ap, ◌∙◌, arith, inl, inr}
+use Rattle.std.proofs.Common.{◌≡◌, ℕ, ◌<◌, ◌≤◌, ◌^◌, Bool, false, IsTrue, Option, None, Err, List, [], length, nat_lt, refl, ap, ◌∙◌, arith, inl, inr, sym}
 use Rattle.std.proofs.lemmas.List.{nil_from_length}
 use Rattle.mdb_base.specs.Counts.{HasRisen}
 use Rattle.mdb_base.specs.declared.names.Engine.{Engine}
