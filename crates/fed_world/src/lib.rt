@@ -8,7 +8,9 @@ mod live;
 mod local_site;
 mod local_tx;
 mod places;
+mod site_commands;
 mod site_report;
+mod tx_commands;
 mod world;
 
 pub use errors::WorldErr;

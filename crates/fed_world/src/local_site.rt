@@ -1,37 +1,30 @@
 //! One site with its local transactions, and the disk of its core.
-ghost use Rattle.std.specs.Prelude.{ℕ, ◌≡◌, ◌≤◌, ◌<◌, [], false, cond, length, map, IsTrue, IfOk, IfErr, IsErrOf};
+ghost use Rattle.std.specs.Prelude.{◌≡◌, ◌≤◌, ◌<◌, [], false, cond, length, map, IsTrue, IfOk, IfErr, IsErrOf};
 ghost use Rattle.mdb_base.specs.Counts.{HasRisen};
-ghost use Rattle.mdb_base.specs.Words.{map_some};
-ghost use Rattle.fed_rules.specs.declared.commands.Command.TheVariants as Cmd;
-ghost use Rattle.fed_rules.specs.declared.events.SiteEvent.TheVariants as Ev;
 ghost use Rattle.fed_rules.specs.Site.{answered, site_line};
-ghost use Rattle.site_core.specs.Stands.{Holds as CoreHolds, Stands as CoreStands};
+ghost use Rattle.site_core.specs.Stands.{Stands as CoreStands};
 ghost use Rattle.site_core.specs.Steps.{CanStep, EachPast, SomePast};
 ghost use Rattle.fed_rules.specs.Happenings.{stops};
 ghost use Rattle.engine_contract.specs.Calls.{fresh_start};
 ghost use Rattle.fed_rules.specs.Disk.{empty_disk};
 ghost use Rattle.fed_rules.specs.Scenarios.{items_of};
-ghost use Rattle.fed_rules.specs.SitePast.{live_of_tx, set_up_calls};
-ghost use Rattle.fed_rules.specs.Story.{attempt, unless_begun};
+ghost use Rattle.fed_rules.specs.SitePast.{set_up_calls};
+ghost use Rattle.fed_rules.specs.Story.{attempt};
 ghost use Rattle.local_laws.specs.Kept.{resting};
 ghost use Rattle.local_laws.specs.Sound.{IsOwn};
 ghost use Rattle.record_fields.specs.Named.{IsSite};
 ghost use Rattle.session_laws.specs.Closing.{IsAtSite};
 ghost use Rattle.site_core.specs.Store.{SomeStop};
-ghost use Rattle.fed_world.specs.Stands.{AnyCommands, EachCommands, Fails, Hands, IsAlone, IsShort, IsTold, IsUntold, LocalStands, SomeCommands, all_unbegun, home_from, rest_all};
+ghost use Rattle.fed_world.specs.Stands.{EachCommands, Fails, Hands, IsAlone, IsShort, IsTold, IsUntold, LocalStands, SomeCommands, all_unbegun, home_from, rest_all};
 
-use crate::commits::committed_of;
 use crate::local_tx::LocalTx;
-use crate::places::{place_of, program_at, transactions};
+use crate::places::transactions;
 use engine_contract::LocalEngine;
 use fed_rules::{Answer, Command, Scenario, SiteEvent, SiteLine};
 use journal_disk::Disk;
-use mdb_base::{Memory, Puts, SiteId, Tid, Tx, next_act};
+use mdb_base::{Memory, Puts, SiteId};
 use site_core::{SiteCore, StepErr};
 use std::alloc::Global;
-
-/// How many attempts a transaction has.
-const MOST_ATTEMPTS: u8 = 32;
 
 /// A site: its number, its core, what is kept of each local transaction, in the order of their lines, and whether a trip is armed.
 #[derive(Drop)]
@@ -126,7 +119,7 @@ impl<E: LocalEngine> LocalSite<E> {
     }
 
     /// Hands an event to the core. Where it stops the site, or a disk call fails, each live attempt ends.
-    fn hand<D: Disk>(
+    pub(crate) fn hand<D: Disk>(
         &mut self,
         alloc: Global,
         disk: &mut D,
@@ -153,276 +146,6 @@ impl<E: LocalEngine> LocalSite<E> {
             }
             Err(StepErr::Memory) => Err(StepErr::Memory),
         }
-    }
-
-    /// What a begin behind the last attempt of a transaction is answered, given which attempt is live: what the rule says to a begin, but
-    /// spent where one more attempt would begin.
-    fn spent(&self, live: Option<u8>, tx: Tx) -> Answer
-        ensures { EachPast (CoreHolds E.stands self.now.core) (λ home past. live_of_tx home past tx ≡ map_some (attempt tx) live
-            → (n : ℕ) → result ≡ unless_begun (site_line home past (Ev.Begin (attempt tx n))).answer) }
-    {
-        if self.core.is_down() {
-            return Answer::Down;
-        }
-        match committed_of(self.core.records(), tx) {
-            Some(committed) => Answer::Committed(committed),
-            None => match live {
-                Some(attempt) => Answer::Running(Tid { tx, attempt }),
-                None => Answer::Spent,
-            },
-        }
-    }
-
-    /// `begin`: the next attempt of a transaction.
-    pub(crate) fn begin<D: Disk>(
-        &mut self,
-        alloc: Global,
-        scenario: &Scenario,
-        disk: &mut D,
-        tx: Tx,
-    ) -> Result<Answer, StepErr>
-        requires told { IsTrue D.tells }
-        requires stood { SomeCommands (LocalStands E.stands D.tells D.image D.size D.spare self.old disk.old scenario.now) IsShort }
-        ensures told { IfOk result (λ answer. EachCommands (LocalStands E.stands D.tells D.image D.size D.spare self.old disk.old scenario.now)
-            (λ commands. IsTold (LocalStands E.stands D.tells D.image D.size D.spare self.new disk.new scenario.now) scenario.now commands (Cmd.Begin tx) answer)) }
-        ensures failed { IfErr result (λ why. EachCommands (LocalStands E.stands D.tells D.image D.size D.spare self.old disk.old scenario.now)
-            (IsUntold (LocalStands E.stands D.tells D.image D.size D.spare self.new disk.new scenario.now) (CoreStands E.stands D.tells D.image D.size D.spare self.new.core disk.new) scenario.now why)) }
-        ensures cause { IsErrOf result StepErr.Disk → HasRisen (D.faults disk.old) (D.faults disk.new) }
-        ensures faults { D.faults disk.old ≤ D.faults disk.new }
-        ensures site { self.new.site ≡ self.old.site }
-    {
-        let lines = transactions(scenario);
-        let Some(place) = place_of(lines.as_slice(), tx) else {
-            return Ok(Answer::None);
-        };
-        let local = &self.locals[place];
-        let begun = local.begun();
-        if begun == MOST_ATTEMPTS {
-            return Ok(self.spent(local.live(), tx));
-        }
-        let event = SiteEvent::Begin(Tid { tx, attempt: begun });
-        let answer = self.hand(alloc, disk, event)?;
-        if let Answer::Begun(_) = answer {
-            self.locals[place].begins();
-        }
-        Ok(answer)
-    }
-
-    /// `step`: the next step of the live attempt of a transaction.
-    pub(crate) fn step<D: Disk>(
-        &mut self,
-        alloc: Global,
-        scenario: &Scenario,
-        disk: &mut D,
-        tx: Tx,
-    ) -> Result<Answer, StepErr>
-        requires told { IsTrue D.tells }
-        requires stood { SomeCommands (LocalStands E.stands D.tells D.image D.size D.spare self.old disk.old scenario.now) IsShort }
-        ensures told { IfOk result (λ answer. EachCommands (LocalStands E.stands D.tells D.image D.size D.spare self.old disk.old scenario.now)
-            (λ commands. IsTold (LocalStands E.stands D.tells D.image D.size D.spare self.new disk.new scenario.now) scenario.now commands (Cmd.Step tx) answer)) }
-        ensures failed { IfErr result (λ why. EachCommands (LocalStands E.stands D.tells D.image D.size D.spare self.old disk.old scenario.now)
-            (IsUntold (LocalStands E.stands D.tells D.image D.size D.spare self.new disk.new scenario.now) (CoreStands E.stands D.tells D.image D.size D.spare self.new.core disk.new) scenario.now why)) }
-        ensures cause { IsErrOf result StepErr.Disk → HasRisen (D.faults disk.old) (D.faults disk.new) }
-        ensures faults { D.faults disk.old ≤ D.faults disk.new }
-        ensures site { self.new.site ≡ self.old.site }
-    {
-        let Some(place) = place_of(transactions(scenario).as_slice(), tx) else {
-            return Ok(Answer::None);
-        };
-        if self.core.is_down() {
-            return Ok(Answer::Down);
-        }
-        let local = &self.locals[place];
-        let Some(attempt) = local.live() else {
-            return Ok(Answer::Idle);
-        };
-        let program = program_at(scenario, place);
-        let Some(next) = next_act(program, local.done() as usize, local.reads()) else {
-            return Ok(Answer::End);
-        };
-        let event = SiteEvent::Act {
-            tid: Tid { tx, attempt },
-            act: next.act,
-        };
-        let answer = self.hand(alloc, disk, event)?;
-        self.locals[place].hears(&answer);
-        Ok(answer)
-    }
-
-    /// `commit`: the live attempt of a transaction commits, once every step is done.
-    pub(crate) fn commit<D: Disk>(
-        &mut self,
-        alloc: Global,
-        scenario: &Scenario,
-        disk: &mut D,
-        tx: Tx,
-    ) -> Result<Answer, StepErr>
-        requires told { IsTrue D.tells }
-        requires stood { SomeCommands (LocalStands E.stands D.tells D.image D.size D.spare self.old disk.old scenario.now) IsShort }
-        ensures told { IfOk result (λ answer. EachCommands (LocalStands E.stands D.tells D.image D.size D.spare self.old disk.old scenario.now)
-            (λ commands. IsTold (LocalStands E.stands D.tells D.image D.size D.spare self.new disk.new scenario.now) scenario.now commands (Cmd.Commit tx) answer)) }
-        ensures failed { IfErr result (λ why. EachCommands (LocalStands E.stands D.tells D.image D.size D.spare self.old disk.old scenario.now)
-            (IsUntold (LocalStands E.stands D.tells D.image D.size D.spare self.new disk.new scenario.now) (CoreStands E.stands D.tells D.image D.size D.spare self.new.core disk.new) scenario.now why)) }
-        ensures cause { IsErrOf result StepErr.Disk → HasRisen (D.faults disk.old) (D.faults disk.new) }
-        ensures faults { D.faults disk.old ≤ D.faults disk.new }
-        ensures site { self.new.site ≡ self.old.site }
-    {
-        // Every scenario keeps the numbers of its transactions in their range, which a commit's record asks.
-        let lines = &scenario.transactions;
-        let Some(place) = place_of(lines.as_slice(), tx) else {
-            return Ok(Answer::None);
-        };
-        if self.core.is_down() {
-            return Ok(Answer::Down);
-        }
-        let local = &self.locals[place];
-        let Some(attempt) = local.live() else {
-            return Ok(Answer::Idle);
-        };
-        if (local.done() as usize) < lines.at(place).program.len() {
-            return Ok(Answer::Unfinished);
-        }
-        let answer = self.hand(alloc, disk, SiteEvent::Commit(Tid { tx, attempt }))?;
-        self.locals[place].rests();
-        Ok(answer)
-    }
-
-    /// `abort`: the live attempt of a transaction ends.
-    pub(crate) fn abort<D: Disk>(
-        &mut self,
-        alloc: Global,
-        scenario: &Scenario,
-        disk: &mut D,
-        tx: Tx,
-    ) -> Result<Answer, StepErr>
-        requires told { IsTrue D.tells }
-        requires stood { SomeCommands (LocalStands E.stands D.tells D.image D.size D.spare self.old disk.old scenario.now) AnyCommands }
-        ensures told { IfOk result (λ answer. EachCommands (LocalStands E.stands D.tells D.image D.size D.spare self.old disk.old scenario.now)
-            (λ commands. IsTold (LocalStands E.stands D.tells D.image D.size D.spare self.new disk.new scenario.now) scenario.now commands (Cmd.Abort tx) answer)) }
-        ensures failed { IfErr result (λ why. EachCommands (LocalStands E.stands D.tells D.image D.size D.spare self.old disk.old scenario.now)
-            (IsUntold (LocalStands E.stands D.tells D.image D.size D.spare self.new disk.new scenario.now) (CoreStands E.stands D.tells D.image D.size D.spare self.new.core disk.new) scenario.now why)) }
-        ensures cause { IsErrOf result StepErr.Disk → HasRisen (D.faults disk.old) (D.faults disk.new) }
-        ensures faults { D.faults disk.old ≤ D.faults disk.new }
-        ensures site { self.new.site ≡ self.old.site }
-    {
-        let lines = transactions(scenario);
-        let Some(place) = place_of(lines.as_slice(), tx) else {
-            return Ok(Answer::None);
-        };
-        if self.core.is_down() {
-            return Ok(Answer::Down);
-        }
-        let local = &self.locals[place];
-        let Some(attempt) = local.live() else {
-            return Ok(Answer::Idle);
-        };
-        let answer = self.hand(alloc, disk, SiteEvent::Abort(Tid { tx, attempt }))?;
-        self.locals[place].rests();
-        Ok(answer)
-    }
-
-    /// `fate`: how a transaction ended.
-    pub(crate) fn fate<D: Disk>(
-        &mut self,
-        alloc: Global,
-        scenario: &Scenario,
-        disk: &mut D,
-        tx: Tx,
-    ) -> Result<Answer, StepErr>
-        requires told { IsTrue D.tells }
-        requires stood { SomeCommands (LocalStands E.stands D.tells D.image D.size D.spare self.old disk.old scenario.now) AnyCommands }
-        ensures told { IfOk result (λ answer. EachCommands (LocalStands E.stands D.tells D.image D.size D.spare self.old disk.old scenario.now)
-            (λ commands. IsTold (LocalStands E.stands D.tells D.image D.size D.spare self.new disk.new scenario.now) scenario.now commands (Cmd.Fate tx) answer)) }
-        ensures failed { IfErr result (λ why. EachCommands (LocalStands E.stands D.tells D.image D.size D.spare self.old disk.old scenario.now)
-            (IsUntold (LocalStands E.stands D.tells D.image D.size D.spare self.new disk.new scenario.now) (CoreStands E.stands D.tells D.image D.size D.spare self.new.core disk.new) scenario.now why)) }
-        ensures cause { IsErrOf result StepErr.Disk → HasRisen (D.faults disk.old) (D.faults disk.new) }
-        ensures faults { D.faults disk.old ≤ D.faults disk.new }
-        ensures site { self.new.site ≡ self.old.site }
-    {
-        match place_of(transactions(scenario).as_slice(), tx) {
-            None => Ok(Answer::None),
-            Some(_) => self.hand(alloc, disk, SiteEvent::Fate(tx)),
-        }
-    }
-
-    /// `halt`: this site stops with this cut. An undeclared one doesn't hear.
-    pub(crate) fn halt<D: Disk>(
-        &mut self,
-        alloc: Global,
-        scenario: &Scenario,
-        disk: &mut D,
-        actor: u8,
-        cut: u64,
-    ) -> Result<Answer, StepErr>
-        requires told { IsTrue D.tells }
-        requires actor { 0 < actor }
-        requires stood { SomeCommands (LocalStands E.stands D.tells D.image D.size D.spare self.old disk.old scenario.now) AnyCommands }
-        ensures told { IfOk result (λ answer. EachCommands (LocalStands E.stands D.tells D.image D.size D.spare self.old disk.old scenario.now)
-            (λ commands. IsTold (LocalStands E.stands D.tells D.image D.size D.spare self.new disk.new scenario.now) scenario.now commands (Cmd.Halt actor cut) answer)) }
-        ensures failed { IfErr result (λ why. EachCommands (LocalStands E.stands D.tells D.image D.size D.spare self.old disk.old scenario.now)
-            (IsUntold (LocalStands E.stands D.tells D.image D.size D.spare self.new disk.new scenario.now) (CoreStands E.stands D.tells D.image D.size D.spare self.new.core disk.new) scenario.now why)) }
-        ensures cause { IsErrOf result StepErr.Disk → HasRisen (D.faults disk.old) (D.faults disk.new) }
-        ensures faults { D.faults disk.old ≤ D.faults disk.new }
-        ensures site { self.new.site ≡ self.old.site }
-    {
-        if actor != self.site.0 {
-            return Ok(Answer::None);
-        }
-        self.hand(alloc, disk, SiteEvent::Halt { cut })
-    }
-
-    /// `back`: this site starts again. An undeclared one doesn't hear.
-    pub(crate) fn back<D: Disk>(
-        &mut self,
-        alloc: Global,
-        scenario: &Scenario,
-        disk: &mut D,
-        actor: u8,
-    ) -> Result<Answer, StepErr>
-        requires told { IsTrue D.tells }
-        requires actor { 0 < actor }
-        requires stood { SomeCommands (LocalStands E.stands D.tells D.image D.size D.spare self.old disk.old scenario.now) IsShort }
-        ensures told { IfOk result (λ answer. EachCommands (LocalStands E.stands D.tells D.image D.size D.spare self.old disk.old scenario.now)
-            (λ commands. IsTold (LocalStands E.stands D.tells D.image D.size D.spare self.new disk.new scenario.now) scenario.now commands (Cmd.Back actor) answer)) }
-        ensures failed { IfErr result (λ why. EachCommands (LocalStands E.stands D.tells D.image D.size D.spare self.old disk.old scenario.now)
-            (IsUntold (LocalStands E.stands D.tells D.image D.size D.spare self.new disk.new scenario.now) (CoreStands E.stands D.tells D.image D.size D.spare self.new.core disk.new) scenario.now why)) }
-        ensures cause { IsErrOf result StepErr.Disk → HasRisen (D.faults disk.old) (D.faults disk.new) }
-        ensures faults { D.faults disk.old ≤ D.faults disk.new }
-        ensures site { self.new.site ≡ self.old.site }
-    {
-        if actor != self.site.0 {
-            return Ok(Answer::None);
-        }
-        self.hand(alloc, disk, SiteEvent::Back)
-    }
-
-    /// `trip`: sets a trip, or with no calls disarms it. An undeclared site doesn't hear.
-    pub(crate) fn trip<D: Disk>(
-        &mut self,
-        alloc: Global,
-        scenario: &Scenario,
-        disk: &mut D,
-        actor: u8,
-        calls: u32,
-        cut: u64,
-    ) -> Result<Answer, StepErr>
-        requires told { IsTrue D.tells }
-        requires actor { 0 < actor }
-        requires stood { SomeCommands (LocalStands E.stands D.tells D.image D.size D.spare self.old disk.old scenario.now) AnyCommands }
-        ensures told { IfOk result (λ answer. EachCommands (LocalStands E.stands D.tells D.image D.size D.spare self.old disk.old scenario.now)
-            (λ commands. IsTold (LocalStands E.stands D.tells D.image D.size D.spare self.new disk.new scenario.now) scenario.now commands (Cmd.Trip actor calls cut) answer)) }
-        ensures failed { IfErr result (λ why. EachCommands (LocalStands E.stands D.tells D.image D.size D.spare self.old disk.old scenario.now)
-            (IsUntold (LocalStands E.stands D.tells D.image D.size D.spare self.new disk.new scenario.now) (CoreStands E.stands D.tells D.image D.size D.spare self.new.core disk.new) scenario.now why)) }
-        ensures cause { IsErrOf result StepErr.Disk → HasRisen (D.faults disk.old) (D.faults disk.new) }
-        ensures faults { D.faults disk.old ≤ D.faults disk.new }
-        ensures site { self.new.site ≡ self.old.site }
-    {
-        if actor != self.site.0 {
-            return Ok(Answer::None);
-        }
-        let answer = self.hand(alloc, disk, SiteEvent::Trip { calls, cut })?;
-        self.armed = calls > 0;
-        Ok(answer)
     }
 
     /// Carries out a command of a local transaction, or of a site.
