@@ -1,3 +1,7 @@
+mod Answered
+mod Begun
+mod Closed
+mod Disks
 mod Ended
 mod Handed
 mod HandedOne
@@ -12,15 +16,19 @@ mod NewSites
 mod Owned
 mod PassedOn
 mod PlaceLaws
+mod Readings
+pub mod Recalled
 mod RecordLists
 mod ReportLaws
 mod Silent
 mod SiteBounds
 mod Spent
+mod Started
 mod TellsAbort
 mod TellsBegin
 mod TellsCommit
 mod TellsStep
 mod TellsTrip
 mod Told
+mod Towards
 mod TxAtPlace

@@ -1,3 +1,5 @@
+pub mod Calls
+pub mod Closings
 pub mod Commits
 pub mod Live
 pub mod Places

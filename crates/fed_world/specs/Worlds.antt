@@ -77,8 +77,9 @@ pub record HasLines {E : Type 0} (world : World E) (scenario : Scenario) (comman
   pub scenario_is : world.scenario ≡ scenario
   pub lines : world.lines.items ≡ oldest_first (lines_of (story_of scenario commands))
 
--- a site with its disk stands for the commands
+-- a site with its disk, which has its number among 1 to 8, stands for the commands
 pub record SitePart {E D : Type 0} (stands : E → Start → List EngineLine → Type 0) (tells : Bool) (image : D → Image) (size spare : D → ℕ) (site : LocalSite E) (disks : List D) (scenario : Scenario) (commands : List Command) : Type 0 where
+  pub in_range : IsSite site.site
   pub disk : D
   pub own : slice_get disks site.site.0 ≡ Some disk
   pub stood : LocalStands stands tells image size spare site disk scenario commands
@@ -163,12 +164,16 @@ abbrev pub Fails : {E D : Type 0} → (E → Start → List EngineLine → Type 
 Fails stands tells image size spare Err_is.Memory world disks scenario commands = Stands stands tells image size spare world disks scenario commands
 Fails stands tells image size spare (Err_is.Disk number) world disks scenario commands = IsBroken stands tells image size spare number world disks scenario commands
 
--- closing fails at some command: those before it were carried out
-pub record FailsToClose {E D : Type 0} (stands : E → Start → List EngineLine → Type 0) (tells : Bool) (image : D → Image) (size spare : D → ℕ) (why : WorldErr) (world : World E) (disks : List D) (scenario : Scenario) (commands : List Command) : Type 0 where
+-- what leads to all these commands fails at some command: those before it were carried out
+pub record FailsToward {E D : Type 0} (stands : E → Start → List EngineLine → Type 0) (tells : Bool) (image : D → Image) (size spare : D → ℕ) (why : WorldErr) (world : World E) (disks : List D) (whole : List Command) (scenario : Scenario) (commands : List Command) : Type 0 where
   pub done : List Command
   pub left : List Command
-  pub of_closing : closed scenario commands ≡ left ++ done ++ commands
+  pub of_closing : whole ≡ left ++ done ++ commands
   pub fails : Fails stands tells image size spare why world disks scenario (done ++ commands)
+
+-- closing fails at some command: those before it were carried out
+abbrev pub FailsToClose : {E D : Type 0} → (E → Start → List EngineLine → Type 0) → Bool → (D → Image) → (D → ℕ) → (D → ℕ) → WorldErr → World E → List D → Scenario → List Command → Type 0
+FailsToClose stands tells image size spare why world disks scenario commands = FailsToward stands tells image size spare why world disks (closed scenario commands) scenario commands
 
 -- the count of faults of this disk rose
 abbrev pub RisesAt : {D : Type 0} → (D → ℕ) → ℕ → List D → List D → Type 0

@@ -1,10 +1,12 @@
 //! The world of a session.
-ghost use Rattle.std.specs.Prelude.{◌≡◌, [], ◌∷◌, IfOk, IfErr, OnOk, IsTrue};
+ghost use Rattle.std.specs.Prelude.{◌≡◌, ◌≤◌, [], ◌∷◌, IfOk, IfErr, OnOk, IsTrue, length};
 ghost use Rattle.fed_rules.specs.CoordPast.{oldest_first};
 ghost use Rattle.fed_rules.specs.Reports.{report_of};
 ghost use Rattle.fed_rules.specs.Story.{story_of, lines_of};
 ghost use Rattle.fed_rules.specs.Closing.{closed};
-ghost use Rattle.fed_world.specs.Worlds.{AllUp, AreEmpty, CanApply, CanClose, CanStart, EachStory, Fails, FailsToClose, FailsToStart, HasCause, HasLines, NeverFalls, Recalls, SomeStory, Stands};
+ghost use Rattle.fed_world.specs.Calls.{IsAnswered, IsUnanswered, error_of};
+ghost use Rattle.fed_world.specs.Closings.{HasRoom, HasRoomForAll, all_cleared, all_disarmed, all_up, armed_number, down_number, live_tids};
+ghost use Rattle.fed_world.specs.Worlds.{AllUp, AnyStory, AreEmpty, CanApply, CanClose, CanStart, EachStory, Fails, FailsToClose, FailsToStart, FailsToward, HasCause, HasLines, NeverFalls, Recalls, SomeStory, Stands};
 
 use crate::errors::WorldErr;
 use crate::live::live_tids;
@@ -34,7 +36,9 @@ pub struct World<E: LocalEngine> {
 }
 
 /// Why the disk of this site gave no line.
-fn world_err(number: u8, why: StepErr) -> WorldErr {
+fn world_err(number: u8, why: StepErr) -> WorldErr
+    ensures { result ≡ error_of number why }
+{
     match why {
         StepErr::Disk => WorldErr::Disk { number },
         StepErr::Memory => WorldErr::Memory,
@@ -84,7 +88,19 @@ impl<E: LocalEngine> World<E> {
         alloc: Global,
         disks: &mut Vec<D>,
         command: Command,
-    ) -> Result<Answer, WorldErr> {
+    ) -> Result<Answer, WorldErr>
+        requires told { IsTrue D.tells }
+        requires stood { SomeStory (Stands E.stands D.tells D.image D.size D.spare self.old disks.old.items) (CanApply command) }
+        ensures answered { IfOk result (λ answer. EachStory (Stands E.stands D.tells D.image D.size D.spare self.old disks.old.items)
+            (IsAnswered E.stands D.tells D.image D.size D.spare self.new.site disks.new.items command answer)) }
+        ensures failed { IfErr result (λ why. EachStory (Stands E.stands D.tells D.image D.size D.spare self.old disks.old.items)
+            (IsUnanswered E.stands D.tells D.image D.size D.spare why self.new.site disks.new.items)) }
+        ensures scenario { self.new.scenario ≡ self.old.scenario }
+        ensures lines { self.new.lines ≡ self.old.lines }
+        ensures broken { self.new.broken ≡ self.old.broken }
+        ensures cause { IfErr result (λ why. HasCause D.faults why disks.old.items disks.new.items) }
+        ensures faults { NeverFalls D.faults disks.old.items disks.new.items }
+    {
         match &mut self.site {
             None => Ok(Answer::None),
             Some(site) => {
@@ -142,7 +158,9 @@ impl<E: LocalEngine> World<E> {
     }
 
     /// The number of the site where a trip is armed.
-    fn armed_site(&self) -> Option<u8> {
+    fn armed_site(&self) -> Option<u8>
+        ensures { EachStory (Recalls E.stands self.now) (λ scenario commands. result ≡ armed_number scenario commands) }
+    {
         match &self.site {
             None => None,
             Some(site) => { if site.armed { Some(site.site.0) } else { None } }
@@ -150,7 +168,9 @@ impl<E: LocalEngine> World<E> {
     }
 
     /// The number of the site where it is down.
-    fn down_site(&self) -> Option<u8> {
+    fn down_site(&self) -> Option<u8>
+        ensures { EachStory (Recalls E.stands self.now) (λ scenario commands. result ≡ down_number scenario commands) }
+    {
         match &self.site {
             None => None,
             Some(site) => {
@@ -163,8 +183,12 @@ impl<E: LocalEngine> World<E> {
         }
     }
 
-    /// The live attempts.
-    fn live(&self, alloc: Global) -> Result<Vec<Tid>, Memory> {
+    /// The live attempts, of a transaction at most one.
+    fn live(&self, alloc: Global) -> Result<Vec<Tid>, Memory>
+        requires { SomeStory (Recalls E.stands self.now) AnyStory }
+        ensures live { IfOk result (λ tids. EachStory (Recalls E.stands self.now) (λ scenario commands. tids.items ≡ live_tids scenario commands)) }
+        ensures few { IfOk result (λ tids. length tids.items ≤ length self.now.scenario.transactions) }
+    {
         match &self.site {
             None => Ok(Vec::new(alloc)),
             Some(site) => live_tids(alloc, transactions(&self.scenario), site.locals.as_slice()),
@@ -172,7 +196,16 @@ impl<E: LocalEngine> World<E> {
     }
 
     /// A trip that is armed is disarmed.
-    fn disarm<D: Disk>(&mut self, alloc: Global, disks: &mut Vec<D>) -> Result<(), WorldErr> {
+    fn disarm<D: Disk>(&mut self, alloc: Global, disks: &mut Vec<D>) -> Result<(), WorldErr>
+        requires told { IsTrue D.tells }
+        requires stood { SomeStory (Stands E.stands D.tells D.image D.size D.spare self.old disks.old.items) HasRoom }
+        ensures done { OnOk result (EachStory (Stands E.stands D.tells D.image D.size D.spare self.old disks.old.items)
+            (λ scenario commands. Stands E.stands D.tells D.image D.size D.spare self.new disks.new.items scenario (all_disarmed scenario commands))) }
+        ensures failed { IfErr result (λ why. EachStory (Stands E.stands D.tells D.image D.size D.spare self.old disks.old.items)
+            (λ scenario commands. FailsToward E.stands D.tells D.image D.size D.spare why self.new disks.new.items (all_disarmed scenario commands) scenario commands)) }
+        ensures cause { IfErr result (λ why. HasCause D.faults why disks.old.items disks.new.items) }
+        ensures faults { NeverFalls D.faults disks.old.items disks.new.items }
+    {
         match self.armed_site() {
             None => Ok(()),
             Some(actor) => self.apply(
@@ -188,7 +221,16 @@ impl<E: LocalEngine> World<E> {
     }
 
     /// A site that is down comes back.
-    fn bring_up<D: Disk>(&mut self, alloc: Global, disks: &mut Vec<D>) -> Result<(), WorldErr> {
+    fn bring_up<D: Disk>(&mut self, alloc: Global, disks: &mut Vec<D>) -> Result<(), WorldErr>
+        requires told { IsTrue D.tells }
+        requires stood { SomeStory (Stands E.stands D.tells D.image D.size D.spare self.old disks.old.items) HasRoom }
+        ensures done { OnOk result (EachStory (Stands E.stands D.tells D.image D.size D.spare self.old disks.old.items)
+            (λ scenario commands. Stands E.stands D.tells D.image D.size D.spare self.new disks.new.items scenario (all_up scenario commands))) }
+        ensures failed { IfErr result (λ why. EachStory (Stands E.stands D.tells D.image D.size D.spare self.old disks.old.items)
+            (λ scenario commands. FailsToward E.stands D.tells D.image D.size D.spare why self.new disks.new.items (all_up scenario commands) scenario commands)) }
+        ensures cause { IfErr result (λ why. HasCause D.faults why disks.old.items disks.new.items) }
+        ensures faults { NeverFalls D.faults disks.old.items disks.new.items }
+    {
         match self.down_site() {
             None => Ok(()),
             Some(actor) => self.apply(alloc, disks, Command::Back { actor }),
@@ -196,7 +238,16 @@ impl<E: LocalEngine> World<E> {
     }
 
     /// Each live attempt is aborted, by rising transaction.
-    fn clear<D: Disk>(&mut self, alloc: Global, disks: &mut Vec<D>) -> Result<(), WorldErr> {
+    fn clear<D: Disk>(&mut self, alloc: Global, disks: &mut Vec<D>) -> Result<(), WorldErr>
+        requires told { IsTrue D.tells }
+        requires stood { SomeStory (Stands E.stands D.tells D.image D.size D.spare self.old disks.old.items) HasRoomForAll }
+        ensures done { OnOk result (EachStory (Stands E.stands D.tells D.image D.size D.spare self.old disks.old.items)
+            (λ scenario commands. Stands E.stands D.tells D.image D.size D.spare self.new disks.new.items scenario (all_cleared scenario commands))) }
+        ensures failed { IfErr result (λ why. EachStory (Stands E.stands D.tells D.image D.size D.spare self.old disks.old.items)
+            (λ scenario commands. FailsToward E.stands D.tells D.image D.size D.spare why self.new disks.new.items (all_cleared scenario commands) scenario commands)) }
+        ensures cause { IfErr result (λ why. HasCause D.faults why disks.old.items disks.new.items) }
+        ensures faults { NeverFalls D.faults disks.old.items disks.new.items }
+    {
         let Ok(live) = self.live(alloc) else {
             return Err(WorldErr::Memory);
         };

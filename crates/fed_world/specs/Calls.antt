@@ -1,0 +1,34 @@
+-- What one command does to the site of a world and its disks.
+use Rattle.std.specs.Prelude.{ℕ, ◌≡◌, Bool, Option, List, [], ◌∷◌}
+use Rattle.fed_rules.specs.declared.answers.Answer.{Answer}
+use Rattle.fed_rules.specs.declared.commands.Command.{Command}
+use Rattle.fed_rules.specs.declared.scenario.Scenario.{Scenario}
+use Rattle.fed_rules.specs.Runs.{Start, EngineLine}
+use Rattle.fed_rules.specs.Story.{story_of, happens, answer_of, places_of, coord_past}
+use Rattle.journal_disk.specs.Disk.{Image}
+use Rattle.site_core.specs.declared.errors.StepErr.{StepErr}
+use Rattle.site_core.specs.declared.errors.StepErr.TheVariants as Step_err
+use Rattle.fed_world.specs.declared.errors.WorldErr.{WorldErr}
+use Rattle.fed_world.specs.declared.errors.WorldErr.TheVariants as Err_is
+use Rattle.fed_world.specs.declared.local_site.LocalSite.{LocalSite}
+use Rattle.fed_world.specs.Worlds.{OthersEmpty, PartBroke, PartStands}
+
+-- why the disk of this number gave no line
+abbrev pub error_of : ℕ → StepErr → WorldErr
+error_of number Step_err.Disk = Err_is.Disk number
+error_of number Step_err.Memory = Err_is.Memory
+
+-- what a command is answered, and that the site with its disk stands for it too
+pub record IsAnswered {E D : Type 0} (stands : E → Start → List EngineLine → Type 0) (tells : Bool) (image : D → Image) (size spare : D → ℕ) (site : Option (LocalSite E)) (disks : List D) (command : Command) (answer : Answer) (scenario : Scenario) (commands : List Command) : Type 0 where
+  pub told : answer ≡ answer_of (happens scenario (story_of scenario commands) command)
+  pub sends : places_of (story_of scenario commands) (happens scenario (story_of scenario commands) command) ≡ []
+  pub uncoordinated : coord_past (story_of scenario (command ∷ commands)) ≡ coord_past (story_of scenario commands)
+  pub part : PartStands stands tells image size spare site disks scenario (command ∷ commands)
+  pub others : OthersEmpty size site disks
+
+-- a command without an answer: want of memory changes nothing, and behind a failed disk call the disk holds some stop
+abbrev pub IsUnanswered : {E D : Type 0} → (E → Start → List EngineLine → Type 0) → Bool → (D → Image) → (D → ℕ) → (D → ℕ) → WorldErr → Option (LocalSite E) → List D → Scenario → List Command → Type 0
+IsUnanswered stands tells image size spare Err_is.Memory site disks scenario commands =
+    PartStands stands tells image size spare site disks scenario commands × OthersEmpty size site disks
+IsUnanswered stands tells image size spare (Err_is.Disk number) site disks scenario commands =
+    PartBroke stands tells image size spare number site disks scenario commands × OthersEmpty size site disks
