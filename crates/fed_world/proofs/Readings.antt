@@ -29,16 +29,3 @@ lives_are stands site scenario commands s =
     sym (ap (λ sites. live_at_first sites scenario story) s.alone.sites
     ∙ (ap (λ h. live_at h story) (one_home scenario s.line s.alone.sites)
     ∙ live_is scenario home past site.locals.items s.alone.numbers (led_keeps scenario home past led) (led_counted scenario home past led) s.at.places s.at.kept))
-
-inserted_length : (x : Tid) (xs : List Tid) → length (inserted tid_before x xs) ≡ suc (length xs)
-inserted_length x [] = refl
-inserted_length x (y ∷ ys) = by_test (tid_before y x) (inserted_length x ys)
-  where
-    by_test : (b : Bool) → length (inserted tid_before x ys) ≡ suc (length ys) → length (cond b (y ∷ inserted tid_before x ys) (x ∷ y ∷ ys)) ≡ suc (suc (length ys))
-    by_test true h = ap (λ n. suc n) h
-    by_test false h = refl
-
--- putting attempts in order neither adds nor drops one
-pub rising_length : (xs : List Tid) → length (rising xs) ≡ length xs
-rising_length [] = refl
-rising_length (x ∷ xs) = inserted_length x (rising xs) ∙ ap (λ n. suc n) (rising_length xs)

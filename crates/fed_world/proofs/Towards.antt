@@ -48,16 +48,7 @@ aborts_more tids i d commands lt = subst (λ k. with_aborts (take k tids) comman
     by_place (x ∷ xs) zero cs lt = refl
     by_place (x ∷ xs) (suc k) cs lt = by_place xs k (Cmd.Abort x.tx ∷ cs) (omega arith)
 
--- how many commands there are with them
-pub aborts_length : (tids : List Tid) (commands : List Command) → length (with_aborts tids commands) ≡ length tids + length commands
-aborts_length [] commands = omega arith
-aborts_length (tid ∷ tids) commands = let more = aborts_length tids (Cmd.Abort tid.tx ∷ commands) in omega arith
-
-pub take_below : (k : ℕ) (tids : List Tid) → length (take k tids) ≤ length tids
-take_below zero tids = omega arith
-take_below (suc k) [] = omega arith
-take_below (suc k) (tid ∷ tids) = let h = take_below k tids in omega arith
-
+-- one command more at most
 pub with_length : (make : ℕ → Command) (o : Option ℕ) (commands : List Command) → length (with_command make o commands) ≤ suc (length commands)
 with_length make None commands = omega arith
 with_length make (Some actor) commands = omega arith

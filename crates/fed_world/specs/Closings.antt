@@ -52,7 +52,3 @@ all_cleared scenario commands = with_aborts (live_tids scenario commands) comman
 -- the numbers of one more command fit
 abbrev pub HasRoom : Scenario → List Command → Type 0
 HasRoom scenario commands = length commands < 2 ^ 30
-
--- so do those of one for each transaction
-abbrev pub HasRoomForAll : Scenario → List Command → Type 0
-HasRoomForAll scenario commands = length commands + length scenario.transactions < 2 ^ 30

@@ -80,6 +80,11 @@ AnyCommands commands = Unit {0}
 abbrev pub IsShort : List Command → Type 0
 IsShort commands = length commands < 2 ^ 30
 
+-- the numbers that the command may draw fit; an abort draws none
+abbrev pub NumbersFit : Command → List Command → Type 0
+NumbersFit (Cmd.Abort tx) commands = Unit {0}
+NumbersFit command commands = IsShort commands
+
 -- what is kept of the transactions behind an answer that may stop the site
 abbrev pub rest_all : Answer → List State → List State
 rest_all answer states = cond (stops answer) (map resting states) states

@@ -26,7 +26,7 @@ use Rattle.fed_world.specs.declared.errors.WorldErr.TheVariants as Err_is
 use Rattle.fed_world.specs.declared.local_site.LocalSite.{LocalSite}
 use Rattle.fed_world.specs.declared.world.NewSite.{NewSite}
 use Rattle.fed_world.specs.declared.world.World.{World}
-use Rattle.fed_world.specs.Stands.{home_from, IsAlone, IsCut, LocalHolds, LocalStands}
+use Rattle.fed_world.specs.Stands.{home_from, IsAlone, IsCut, LocalHolds, LocalStands, NumbersFit}
 
 -- the site of this line is alone, and this is its new engine with its first rows
 pub record IsNewSite {E : Type 0} (stands : E → Start → List EngineLine → Type 0) (scenario : Scenario) (line : SiteLine) (local : NewSite E) : Type 0 where
@@ -124,15 +124,15 @@ EachStory K P = (scenario : Scenario) (commands : List Command) → K scenario c
 abbrev pub AnyStory : Scenario → List Command → Type 0
 AnyStory scenario commands = Unit {0}
 
--- the command is an own one that names no coordinator, and the numbers of one more fit
+-- the command is an own one that names no coordinator, and its numbers fit
 pub record CanApply (command : Command) (scenario : Scenario) (commands : List Command) : Type 0 where
   pub own : IsOwn command
   pub at_site : IsAtSite command
-  pub few : length commands < 2 ^ 30
+  pub fits : NumbersFit command commands
 
 -- the numbers of the commands that close the session fit
 abbrev pub CanClose : Scenario → List Command → Type 0
-CanClose scenario commands = (length commands < 2 ^ 29) × (length scenario.transactions ≤ 1024)
+CanClose scenario commands = length commands < 2 ^ 29
 
 -- the site is up
 abbrev pub AllUp : Scenario → List Command → Type 0

@@ -9,13 +9,12 @@ ghost use Rattle.engine_contract.specs.Calls.{fresh_start};
 ghost use Rattle.fed_rules.specs.Disk.{empty_disk};
 ghost use Rattle.fed_rules.specs.Scenarios.{items_of};
 ghost use Rattle.fed_rules.specs.SitePast.{set_up_calls};
-ghost use Rattle.fed_rules.specs.Story.{attempt};
 ghost use Rattle.local_laws.specs.Kept.{resting};
 ghost use Rattle.local_laws.specs.Sound.{IsOwn};
 ghost use Rattle.record_fields.specs.Named.{IsSite};
 ghost use Rattle.session_laws.specs.Closing.{IsAtSite};
 ghost use Rattle.site_core.specs.Store.{SomeStop};
-ghost use Rattle.fed_world.specs.Stands.{EachCommands, Fails, Hands, IsAlone, IsShort, IsTold, IsUntold, LocalStands, SomeCommands, all_unbegun, home_from, rest_all};
+ghost use Rattle.fed_world.specs.Stands.{EachCommands, Fails, Hands, IsAlone, IsTold, IsUntold, LocalStands, NumbersFit, SomeCommands, all_unbegun, home_from, rest_all};
 
 use crate::local_tx::LocalTx;
 use crate::places::transactions;
@@ -159,7 +158,7 @@ impl<E: LocalEngine> LocalSite<E> {
         requires told { IsTrue D.tells }
         requires own { IsOwn command }
         requires at_site { IsAtSite command }
-        requires stood { SomeCommands (LocalStands E.stands D.tells D.image D.size D.spare self.old disk.old scenario.now) IsShort }
+        requires stood { SomeCommands (LocalStands E.stands D.tells D.image D.size D.spare self.old disk.old scenario.now) (NumbersFit command) }
         ensures told { IfOk result (λ answer. EachCommands (LocalStands E.stands D.tells D.image D.size D.spare self.old disk.old scenario.now)
             (λ commands. IsTold (LocalStands E.stands D.tells D.image D.size D.spare self.new disk.new scenario.now) scenario.now commands command answer)) }
         ensures failed { IfErr result (λ why. EachCommands (LocalStands E.stands D.tells D.image D.size D.spare self.old disk.old scenario.now)

@@ -1,11 +1,11 @@
 //! The world of a session.
-ghost use Rattle.std.specs.Prelude.{◌≡◌, ◌≤◌, [], ◌∷◌, IfOk, IfErr, OnOk, IsTrue, length};
+ghost use Rattle.std.specs.Prelude.{◌≡◌, [], ◌∷◌, IfOk, IfErr, OnOk, IsTrue};
 ghost use Rattle.fed_rules.specs.CoordPast.{oldest_first};
 ghost use Rattle.fed_rules.specs.Reports.{report_of};
 ghost use Rattle.fed_rules.specs.Story.{story_of, lines_of};
 ghost use Rattle.fed_rules.specs.Closing.{closed};
 ghost use Rattle.fed_world.specs.Calls.{IsAnswered, IsUnanswered, error_of};
-ghost use Rattle.fed_world.specs.Closings.{HasRoom, HasRoomForAll, all_cleared, all_disarmed, all_up, armed_number, down_number, live_tids};
+ghost use Rattle.fed_world.specs.Closings.{HasRoom, all_cleared, all_disarmed, all_up, armed_number, down_number, live_tids};
 ghost use Rattle.fed_world.specs.Worlds.{AllUp, AnyStory, AreEmpty, CanApply, CanClose, CanStart, EachStory, Fails, FailsToClose, FailsToStart, FailsToward, HasCause, HasLines, NeverFalls, Recalls, SomeStory, Stands};
 
 use crate::errors::WorldErr;
@@ -186,8 +186,7 @@ impl<E: LocalEngine> World<E> {
     /// The live attempts, of a transaction at most one.
     fn live(&self, alloc: Global) -> Result<Vec<Tid>, Memory>
         requires { SomeStory (Recalls E.stands self.now) AnyStory }
-        ensures live { IfOk result (λ tids. EachStory (Recalls E.stands self.now) (λ scenario commands. tids.items ≡ live_tids scenario commands)) }
-        ensures few { IfOk result (λ tids. length tids.items ≤ length self.now.scenario.transactions) }
+        ensures { IfOk result (λ tids. EachStory (Recalls E.stands self.now) (λ scenario commands. tids.items ≡ live_tids scenario commands)) }
     {
         match &self.site {
             None => Ok(Vec::new(alloc)),
@@ -240,7 +239,7 @@ impl<E: LocalEngine> World<E> {
     /// Each live attempt is aborted, by rising transaction.
     fn clear<D: Disk>(&mut self, alloc: Global, disks: &mut Vec<D>) -> Result<(), WorldErr>
         requires told { IsTrue D.tells }
-        requires stood { SomeStory (Stands E.stands D.tells D.image D.size D.spare self.old disks.old.items) HasRoomForAll }
+        requires stood { SomeStory (Stands E.stands D.tells D.image D.size D.spare self.old disks.old.items) AnyStory }
         ensures done { OnOk result (EachStory (Stands E.stands D.tells D.image D.size D.spare self.old disks.old.items)
             (λ scenario commands. Stands E.stands D.tells D.image D.size D.spare self.new disks.new.items scenario (all_cleared scenario commands))) }
         ensures failed { IfErr result (λ why. EachStory (Stands E.stands D.tells D.image D.size D.spare self.old disks.old.items)

@@ -172,8 +172,7 @@ none_asked scenario line commands alone own =
 
 -- a session at one site is closed so
 pub closed_so : OwnSessionsCloseSo
-closed_so scenario line commands whole alone own at =
-    let some = site_some scenario line whole alone in
+closed_so scenario line commands some alone own at =
     let only = one_site scenario line alone.sites in
     let first : AreHere commands = record { own = own; at_site = at } in
     let second = disarmed scenario line commands in
@@ -205,5 +204,5 @@ closed_here scenario commands whole (inr (line, alone)) own at =
     let up = brought_up scenario line (disarmed scenario line commands) in
     let here = aborts_here (live scenario (story_of scenario up) line.site) up
     (brought_here scenario line (disarmed scenario line commands) some (disarmed_here scenario line commands some (record { own = own; at_site = at }))) in
-    let same = sym (closed_so scenario line commands whole alone own at) in
+    let same = sym (closed_so scenario line commands some alone own at) in
     (subst (λ cs. Each IsOwn cs) same here.own, subst (λ cs. Each IsAtSite cs) same here.at_site)

@@ -153,5 +153,5 @@ pub closed_up : ClosedSessionsAreUp
 closed_up scenario line commands whole alone own at =
     let calm = disarmed scenario line commands in
     let up = brought_up scenario line calm in
-    ap (λ cs. is_down (past_at scenario line cs)) (closed_so scenario line commands whole alone own at)
+    ap (λ cs. is_down (past_at scenario line cs)) (closed_so scenario line commands (site_some scenario line whole alone) alone own at)
     ∙ (aborts_up scenario line (Closing.live scenario (story_of scenario up) line.site) up (brought_is_up scenario line calm whole alone (disarmed_untripped scenario line commands whole alone))).up

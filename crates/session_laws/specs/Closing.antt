@@ -41,10 +41,10 @@ IsAtSite (Cmd.Trip actor calls cut) = 0 < actor
 IsAtSite (Cmd.Back actor) = 0 < actor
 IsAtSite command = Unit {0}
 
--- so a session at one site is closed
+-- so a session at one site, which isn't numbered 0 as the coordinator, is closed
 abbrev pub OwnSessionsCloseSo : Type 0
 OwnSessionsCloseSo =
-    (scenario : Scenario) (line : SiteLine) (commands : List Command) → IsScenario scenario → IsAlone scenario line → Each IsOwn commands
+    (scenario : Scenario) (line : SiteLine) (commands : List Command) → 0 < line.site.0 → IsAlone scenario line → Each IsOwn commands
     → Each IsAtSite commands → closed scenario commands ≡ cleared scenario line (brought_up scenario line (disarmed scenario line commands))
 
 -- and one without a site is closed as it is

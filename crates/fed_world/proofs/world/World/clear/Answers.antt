@@ -9,7 +9,7 @@ use Rattle.fed_world.specs.Closings.{all_cleared, live_tids}
 use Rattle.fed_world.specs.Worlds.{FailsToward, Stands}
 use Rattle.fed_world.proofs.Disks.{cause_later, never_falls_twice, same_never_falls}
 use Rattle.fed_world.proofs.Recalled.{recalls}
-use Rattle.fed_world.proofs.Towards.{aborts_begin, aborts_extend, aborts_length, aborts_more, fails_behind, fails_here, take_below}
+use Rattle.fed_world.proofs.Towards.{aborts_begin, aborts_extend, aborts_more, fails_behind, fails_here}
 use Rattle.fed_world.proofs.world.World.clear.Goals as goal
 
 pub returns-in_default-clause-failed : goal.returns-in_default-clause-failed
@@ -24,17 +24,11 @@ apply-requires-clause-stood g c =
     let r = c.requires.stood in
     let items = c.deref-tid-items.result.now in
     let done = take c.loop-tid.tid-index items in
-    let count = aborts_length done r.commands in
-    let below = take_below c.loop-tid.tid-index items in
-    let all = ap (λ (ts : List Tid). length ts) c.deref-tid-items.ensures.value in
-    let few = c.in-Ok.ensures.few in
-    let same = ap (λ (x : Scenario). length x.transactions) r.stood.has.scenario_is in
-    let room = r.holds in
     record {
       scenario = r.scenario;
       commands = with_aborts done r.commands;
       stood = c.loop-tid.invariant.stands r.scenario r.commands r.stood;
-      holds = record { own = tt; at_site = tt; few = omega arith };
+      holds = record { own = tt; at_site = tt; fits = tt };
     }
 
 pub returns-in_err-apply-clause-failed : goal.returns-in_err-apply-clause-failed
@@ -44,7 +38,7 @@ returns-in_err-apply-clause-failed g c =
     let items = c.deref-tid-items.result.now in
     let mid = with_aborts (take c.loop-tid.tid-index items) commands in
     let failed = c.in_err-apply.ensures.failed scenario mid (c.loop-tid.invariant.stands scenario commands s) in
-    let now = c.in-Ok.ensures.live scenario commands (recalls g.E.LocalEngine.stands g.D.Disk.tells g.D.Disk.image g.D.Disk.size g.D.Disk.spare c.args.self.now c.args.disks.now.items scenario commands s) in
+    let now = c.in-Ok.ensures scenario commands (recalls g.E.LocalEngine.stands g.D.Disk.tells g.D.Disk.image g.D.Disk.size g.D.Disk.spare c.args.self.now c.args.disks.now.items scenario commands s) in
     subst (λ ts. FailsToward g.E.LocalEngine.stands g.D.Disk.tells g.D.Disk.image g.D.Disk.size g.D.Disk.spare c.in_err-apply.field-0.0 c.apply.new.self c.apply.new.disks.items (with_aborts ts commands) scenario commands) (c.deref-tid-items.ensures.value ∙ now)
     (fails_behind g.E.LocalEngine.stands g.D.Disk.tells g.D.Disk.image g.D.Disk.size g.D.Disk.spare c.in_err-apply.field-0.0 c.apply.new.self c.apply.new.disks.items scenario (with_aborts items commands) mid commands (aborts_extend (take c.loop-tid.tid-index items) commands)
     (fails_here g.E.LocalEngine.stands g.D.Disk.tells g.D.Disk.image g.D.Disk.size g.D.Disk.spare c.in_err-apply.field-0.0 c.apply.new.self c.apply.new.disks.items scenario (with_aborts items commands) mid (aborts_begin c.loop-tid.tid-index items commands) failed)))
@@ -78,7 +72,7 @@ loop-tid-preserved g c =
 pub returns-clause-done : goal.returns-clause-done
 returns-clause-done g c scenario commands s =
     let items = c.deref-tid-items.result.now in
-    let now = c.in-Ok.ensures.live scenario commands (recalls g.E.LocalEngine.stands g.D.Disk.tells g.D.Disk.image g.D.Disk.size g.D.Disk.spare c.args.self.now c.args.disks.now.items scenario commands s) in
+    let now = c.in-Ok.ensures scenario commands (recalls g.E.LocalEngine.stands g.D.Disk.tells g.D.Disk.image g.D.Disk.size g.D.Disk.spare c.args.self.now c.args.disks.now.items scenario commands s) in
     subst (λ ts. Stands g.E.LocalEngine.stands g.D.Disk.tells g.D.Disk.image g.D.Disk.size g.D.Disk.spare c.loop-tid.self c.loop-tid.disks.items scenario (with_aborts ts commands)) (take_all c.loop-tid.tid-index items c.loop-tid-test.false ∙ (c.deref-tid-items.ensures.value ∙ now))
     (c.loop-tid.invariant.stands scenario commands s)
 

@@ -3,6 +3,7 @@ use Rattle.std.proofs.lemmas.Result.{err_from_is_err_and}
 use Rattle.fed_rules.specs.declared.commands.Command.TheVariants as Cmd
 use Rattle.fed_rules.specs.declared.scenario.Scenario.{Scenario}
 use Rattle.fed_rules.specs.Closing.{closed}
+use Rattle.session_laws.proofs.Closed.{closed_none, closed_so}
 use Rattle.fed_world.specs.Closings.{all_cleared, all_disarmed, all_up, armed_number, down_number}
 use Rattle.fed_world.specs.Worlds.{FailsToward, Stands}
 use Rattle.fed_world.proofs.Closed.{ClosesSo, closed_is, closes_disarmed, closes_up, disarmed_extends, up_extends}
@@ -13,7 +14,7 @@ use Rattle.fed_world.proofs.world.World.close.Goals as goal
 
 -- the law of the closing commands
 closes_so : (scenario : Scenario) → ClosesSo scenario
-closes_so scenario = ?
+closes_so scenario = record { site = λ line commands alone some own at. closed_so scenario line commands some alone own at; none = closed_none scenario }
 
 pub returns-in_err-disarm-clause-failed : goal.returns-in_err-disarm-clause-failed
 returns-in_err-disarm-clause-failed g c =
@@ -51,15 +52,11 @@ pub clear-requires-clause-stood : goal.clear-requires-clause-stood
 clear-requires-clause-stood g c =
     let r = c.requires.stood in
     let first = all_disarmed r.scenario r.commands in
-    let one = with_length (λ actor. Cmd.Trip actor 0 0) (armed_number r.scenario r.commands) r.commands in
-    let two = with_length (λ actor. Cmd.Back actor) (down_number r.scenario first) first in
-    let few = r.holds.0 in
-    let lines = r.holds.1 in
     record {
       scenario = r.scenario;
       commands = all_up r.scenario first;
       stood = c.in_ok-bring_up.ensures.done r.scenario first (c.in_ok-disarm.ensures.done r.scenario r.commands r.stood);
-      holds = omega arith;
+      holds = tt;
     }
 
 pub returns-clause-closed : goal.returns-clause-closed
