@@ -1,9 +1,14 @@
-mod EndLemmas
+mod Commands
+mod DiskLemmas
 mod FitStories
 mod Fits
 mod InputLemmas
 mod LocalScenarios
+mod NewSites
+mod OutputLemmas
+mod PlayLemmas
 mod Progress
 mod Rows
-mod SessionLemmas
-mod Untripped
+mod Trips
+mod UsedDisks
+mod WorldLemmas

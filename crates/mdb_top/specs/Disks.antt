@@ -1,5 +1,5 @@
 -- The nine disks of a session: which one is used, and what they hold in the end. Disk a is that of actor a; actor 0 is the coordinator.
-use Rattle.std.specs.Prelude.{ℕ, suc, nat_lt, ◌≡◌, ◌⊎◌, Bool, cond, is_some, Option, Some, None, List, [], ◌∷◌, ◌++◌, length, reverse, slice_get}
+use Rattle.std.specs.Prelude.{ℕ, suc, nat_lt, ◌≡◌, ◌⊎◌, Bool, cond, is_some, Option, Some, None, List, [], ◌∷◌, reverse, slice_get}
 use Rattle.mdb_base.specs.Counts.{HasRisen}
 use Rattle.mdb_base.specs.Words.{map_some}
 use Rattle.fed_rules.specs.declared.commands.Command.{Command}
@@ -70,6 +70,17 @@ pub record StopAt {D : Type 0} (image : D → Image) (number : ℕ) (disks : Lis
   pub own : slice_get disks number ≡ Some one
   pub stop : Unfinished (image one) home done (story_of scenario done)
 
+-- no disk has a byte
+abbrev pub HoldNothing : {D : Type 0} → (D → Image) → List D → Type 0
+HoldNothing {D} image disks = (number : ℕ) (one : D) → slice_get disks number ≡ Some one → (image one).bytes ≡ []
+
 -- the count of faults of this disk rose
 abbrev pub RoseAt : {D : Type 0} → (D → ℕ) → ℕ → List D → List D → Type 0
 RoseAt {D} faults number old new = (a b : D) → slice_get old number ≡ Some a → slice_get new number ≡ Some b → HasRisen (faults a) (faults b)
+
+-- a call of this disk failed behind these commands: its count of faults rose, it holds what some stop within the next event leaves, and each
+-- other disk what the rules say
+pub record BreaksAt {D : Type 0} (image : D → Image) (faults : D → ℕ) (number : ℕ) (old new : List D) (scenario : Scenario) (done : List Command) : Type 0 where
+  pub rose : RoseAt faults number old new
+  pub stop : StopAt image number new scenario done
+  pub others : HoldOthers image number new scenario (story_of scenario done)

@@ -1,5 +1,5 @@
 -- How the top call may end: which status an input leads to, and what the sink has got then.
-use Rattle.std.specs.Prelude.{ℕ, ◌≡◌, ◌⊎◌, Bool, true, false, IsTrue, List, [], ◌∷◌, ◌++◌}
+use Rattle.std.specs.Prelude.{ℕ, ◌≡◌, ◌⊎◌, Bool, true, false, IsTrue, IfSome, List, [], ◌∷◌, ◌++◌, map}
 use Rattle.order_laws.specs.Chains.{In}
 use Rattle.mdb_base.specs.Counts.{HasRisen}
 use Rattle.fed_rules.specs.declared.commands.Command.{Command}
@@ -10,10 +10,10 @@ use Rattle.fed_rules.specs.Story.{story_of, lines_of}
 use Rattle.journal_disk.specs.Disk.{Image}
 use Rattle.scenario_text.specs.declared.session.Session.{Session}
 use Rattle.trace_lines.specs.Spelling.{lines_bytes}
-use Rattle.mdb_top.specs.Disks.{HoldAll, HoldFrames, HoldOthers, RoseAt, StopAt}
+use Rattle.mdb_top.specs.Disks.{BreaksAt, HoldAll, HoldFrames, HoldNothing, first_used, is_used}
 use Rattle.mdb_top.specs.Sessions.{commands_of, output_of, story, IsRight}
 use Rattle.mdb_top.specs.Streams.{WritesFront}
-use Rattle.mdb_top.specs.Texts.{read_failed_text, too_long_text, no_memory_text, bad_input_text, bad_line_text, disk_failed_text}
+use Rattle.mdb_top.specs.Texts.{read_failed_text, too_long_text, no_memory_text, bad_input_text, bad_line_text, disk_failed_text, disk_used_text}
 use Rattle.mdb_top.specs.Verdicts.{Verdict, TooLong, BadInput, NotHere, Runs}
 
 -- the statuses that an input leads to: a session that runs finds a disk used; or else the sink or a disk may fail
@@ -72,16 +72,40 @@ pub record IsBroken {D : Type 0} (tells : Bool) (faults_before faults_after : �
   pub front : IsFront done session
   pub right : IsRightStory session.scenario (lines_of (story_of session.scenario done))
   pub text : Gets tells faults_before faults_after before after (lines_text session.scenario done ++ disk_failed_text number)
-  pub rose : RoseAt faults number old new
-  pub stop : StopAt image number new session.scenario done
-  pub others : HoldOthers image number new session.scenario (story_of session.scenario done)
+  pub breaks : BreaksAt image faults number old new session.scenario done
 
 -- memory was wanting behind the first commands of the session: each disk holds what the rules say is on it then
-pub record IsShort {D : Type 0} (image : D → Image) (disks : List D) (session : Session) : Type 0 where
+pub record StopsShort {D : Type 0} (image : D → Image) (disks : List D) (session : Session) : Type 0 where
   pub done : List Command
   pub front : IsFront done session
   pub kept : HoldAll image disks session.scenario (story_of session.scenario done)
 
+-- memory was wanting for the text of the lines made until a call of a disk failed
+pub record BreaksShort {D : Type 0} (image : D → Image) (faults : D → ℕ) (old new : List D) (session : Session) : Type 0 where
+  pub done : List Command
+  pub number : ℕ
+  pub front : IsFront done session
+  pub breaks : BreaksAt image faults number old new session.scenario done
+
+-- memory was wanting in a session that was begun: before the site was set up, and no disk has a byte; or behind its first commands; or where
+-- a disk had failed
+abbrev pub IsShort : {D : Type 0} → (D → Image) → (D → ℕ) → List D → List D → Session → Type 0
+IsShort image faults old new session = HoldNothing image new ⊎ (StopsShort image new session ⊎ BreaksShort image faults old new session)
+
 -- where memory was wanting, the disks are as they were, or those of a session that was begun
-abbrev pub AreShort : {D : Type 0} → (D → Image) → List D → List D → Verdict → Type 0
-AreShort image old new verdict = (new ≡ old) ⊎ SomeSession verdict (IsShort image new)
+abbrev pub AreShort : {D : Type 0} → (D → Image) → (D → ℕ) → List D → List D → Verdict → Type 0
+AreShort image faults old new verdict = (new ≡ old) ⊎ SomeSession verdict (IsShort image faults old new)
+
+-- the status, what the sink has got and what the disks hold are such as the input leads to
+pub record Ends {D : Type 0} (image : D → Image) (size faults : D → ℕ) (old new : List D) (verdict : Verdict) (status : ℕ) (tells : Bool) (faults_before faults_after : ℕ) (before after : List ℕ) : Type 0 where
+  pub led : IsLedTo status (is_used (map size old)) verdict
+  pub replayed : status ≡ 0 → SomeSession verdict (IsReplayed tells before after image new)
+  pub refused : status ≡ 2 → Gets tells faults_before faults_after before after (refusal_text verdict)
+  pub unread : status ≡ 3 → Gets tells faults_before faults_after before after read_failed_text
+  pub cut : status ≡ 4 → SomeSession verdict (IsCutOff tells before after image new)
+  pub failed : status ≡ 4 → HasRisen faults_before faults_after
+  pub broken : status ≡ 5 → SomeSession verdict (IsBroken tells faults_before faults_after before after image faults old new)
+  pub wanting : status ≡ 6 → Gets tells faults_before faults_after before after no_memory_text
+  pub short : status ≡ 6 → AreShort image faults old new verdict
+  pub long : status ≡ 7 → Gets tells faults_before faults_after before after too_long_text
+  pub used : status ≡ 8 → IfSome (first_used (map size old)) (λ number. Gets tells faults_before faults_after before after (disk_used_text number))

@@ -3,6 +3,8 @@ pub mod Endings
 pub mod FirstRows
 pub mod Inputs
 pub mod MemStreams
+pub mod Outputs
+pub mod Plays
 pub mod Progress
 pub mod Sessions
 pub mod Streams

@@ -1,6 +1,7 @@
 //! The session that a source gives.
-ghost use Rattle.std.specs.Prelude.{◌≡◌, ◌≤◌, [], IsTrue, IsErrOf, OnOk, length};
+ghost use Rattle.std.specs.Prelude.{◌≡◌, ◌≤◌, [], IfOk, IsTrue, IsErrOf, OnOk, length};
 ghost use Rattle.mdb_base.specs.Counts.{HasRisen};
+ghost use Rattle.scenario_text.specs.Kept.{AreCommands};
 ghost use Rattle.mdb_top.specs.Streams.{longest};
 ghost use Rattle.mdb_top.specs.Verdicts.{verdict};
 ghost use Rattle.mdb_top.specs.Inputs.{SomeInput, Tells};
@@ -30,6 +31,7 @@ fn session_in(alloc: Global, text: &[u8]) -> Result<Session, Unplayed>
     ensures told { Tells result (verdict text.now) }
     ensures whole { ¬ IsErrOf result Unplayed.Failed }
     ensures few { OnOk result (length text.now ≤ longest) }
+    ensures commands { IfOk result (λ session. AreCommands session.scenario.sites session.commands) }
 {
     if text.len() > LONGEST {
         return Err(Unplayed::TooLong);
@@ -49,6 +51,7 @@ fn session_in(alloc: Global, text: &[u8]) -> Result<Session, Unplayed>
 pub(crate) fn read_session<S: Source>(alloc: Global, source: &mut S) -> Result<Session, Unplayed>
     ensures told { SomeInput S.tells (S.left source.old) (λ input. Tells result (verdict input)) }
     ensures end { OnOk result (IsTrue S.tells → S.left source.new ≡ []) }
+    ensures commands { IfOk result (λ session. AreCommands session.scenario.sites session.commands) }
     ensures failed { IsErrOf result Unplayed.Failed → HasRisen (S.faults source.old) (S.faults source.new) }
     ensures faults { S.faults source.old ≤ S.faults source.new }
 {

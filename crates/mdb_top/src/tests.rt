@@ -1,4 +1,6 @@
 //! The top call on whole inputs: what it puts, and its status.
+ghost use Rattle.std.specs.Prelude.{◌≡◌, IfOk, length};
+
 mod disks;
 mod failing;
 mod refused;
@@ -10,7 +12,9 @@ use std::alloc::Global;
 use std::process::Abort;
 
 /// Nine empty disks, of which no call fails.
-fn empty_disks(alloc: Global) -> Result<Vec<MemDisk>, Memory> {
+fn empty_disks(alloc: Global) -> Result<Vec<MemDisk>, Memory>
+    ensures { IfOk result (λ disks. length disks.items ≡ 9) }
+{
     let mut disks = Vec::new(alloc);
     for _ in 0..9 {
         disks.push(MemDisk::new(alloc)?)?;

@@ -1,7 +1,10 @@
 //! The top call.
-ghost use Rattle.std.specs.Prelude.{◌≡◌, ◌≢◌, ◌↔◌, [], false, IsTrue, map, string_bytes};
+ghost use Rattle.std.specs.Prelude.{◌≡◌, ◌≢◌, ◌↔◌, [], ◌∷◌, false, IfSome, IsTrue, length, map, string_bytes};
 ghost use Rattle.mdb_base.specs.Counts.{HasRisen};
-ghost use Rattle.mdb_top.specs.Endings.{Ends, Gets, IsCutOff, IsLedTo, IsReplayed, SomeSession};
+ghost use Rattle.order_laws.specs.Chains.{In};
+ghost use Rattle.scenario_text.specs.Kept.{AreCommands};
+ghost use Rattle.mdb_top.specs.Disks.{first_used as first_used_of, is_used};
+ghost use Rattle.mdb_top.specs.Endings.{AreShort, Ends, Gets, IsBroken, IsCutOff, IsLedTo, IsReplayed, SomeSession};
 ghost use Rattle.mdb_top.specs.Inputs.{SomeInput};
 ghost use Rattle.mdb_top.specs.Texts as texts;
 ghost use Rattle.mdb_top.specs.Endings as endings;
@@ -32,9 +35,9 @@ fn told<K: Sink>(sink: &mut K, status: u8, text: &[u8]) -> u8
 
 /// Names the first bad line.
 fn refused<K: Sink>(alloc: Global, sink: &mut K, bad: BadLine) -> u8
-    ensures read { result ≢ 3 }
-    ensures done { result ≢ 0 }
-    ensures ends { Ends (BadInput bad) result K.tells (K.faults sink.old) (K.faults sink.new) (K.written sink.old) (K.written sink.new) }
+    ensures bad { result ≡ 2 → Gets K.tells (K.faults sink.old) (K.faults sink.new) (K.written sink.old) (K.written sink.new) (texts.bad_line_text bad) }
+    ensures wanting { result ≡ 6 → Gets K.tells (K.faults sink.old) (K.faults sink.new) (K.written sink.old) (K.written sink.new) texts.no_memory_text }
+    ensures either { In result (2 ∷ 6 ∷ []) }
 {
     match bad_line_text(alloc, bad) {
         Ok(text) => told(sink, 2, &text),
@@ -43,12 +46,15 @@ fn refused<K: Sink>(alloc: Global, sink: &mut K, bad: BadLine) -> u8
 }
 
 /// Puts the output of a session that runs here, made whole before. No disk may have a byte on it.
-fn played<K: Sink, D: Disk>(
-    alloc: Global,
-    sink: &mut K,
-    session: Session,
-    disks: &mut Vec<D>,
-) -> u8 {
+fn played<K: Sink, D: Disk>(alloc: Global, sink: &mut K, session: Session, disks: &mut Vec<D>) -> u8
+    requires told { IsTrue D.tells }
+    requires runs { IsTrue (verdicts.runs_here session) }
+    requires commands { AreCommands session.scenario.sites session.commands }
+    requires nine { length disks.old.items ≡ 9 }
+    requires unused { is_used (map D.size disks.old.items) ≡ false }
+    ensures any { In result (0 ∷ 4 ∷ 5 ∷ 6 ∷ []) }
+    ensures ends { Ends D.image D.size D.faults disks.old.items disks.new.items (Runs session) result K.tells (K.faults sink.old) (K.faults sink.new) (K.written sink.old) (K.written sink.new) }
+{
     match output_of(alloc, session, disks) {
         Ok(Output::Whole(output)) => match put_all(sink, &output) {
             Ok(()) => 0,
@@ -60,7 +66,11 @@ fn played<K: Sink, D: Disk>(
 }
 
 /// Names the disk that is used.
-fn used<K: Sink>(alloc: Global, sink: &mut K, number: usize) -> u8 {
+fn used<K: Sink>(alloc: Global, sink: &mut K, number: usize) -> u8
+    ensures used { result ≡ 8 → Gets K.tells (K.faults sink.old) (K.faults sink.new) (K.written sink.old) (K.written sink.new) (texts.disk_used_text number) }
+    ensures wanting { result ≡ 6 → Gets K.tells (K.faults sink.old) (K.faults sink.new) (K.written sink.old) (K.written sink.new) texts.no_memory_text }
+    ensures either { In result (8 ∷ 6 ∷ []) }
+{
     match used_text(alloc, number) {
         Ok(text) => told(sink, 8, &text),
         Err(_) => told(sink, 6, b"no memory\n"),
@@ -73,7 +83,15 @@ fn played_on_empty<K: Sink, D: Disk>(
     sink: &mut K,
     session: Session,
     disks: &mut Vec<D>,
-) -> u8 {
+) -> u8
+    requires told { IsTrue D.tells }
+    requires runs { IsTrue (verdicts.runs_here session) }
+    requires commands { AreCommands session.scenario.sites session.commands }
+    requires nine { length disks.old.items ≡ 9 }
+    ensures any { In result (0 ∷ 4 ∷ 5 ∷ 6 ∷ 8 ∷ []) }
+    ensures ends { Ends D.image D.size D.faults disks.old.items disks.new.items (Runs session) result K.tells (K.faults sink.old) (K.faults sink.new) (K.written sink.old) (K.written sink.new) }
+    ensures untouched { result ≡ 8 → disks.new ≡ disks.old }
+{
     match first_used(disks.as_slice()) {
         Some(number) => used(alloc, sink, number),
         None => played(alloc, sink, session, disks),
@@ -86,7 +104,14 @@ fn replay<S: Source, K: Sink, D: Disk>(
     source: &mut S,
     sink: &mut K,
     disks: &mut Vec<D>,
-) -> u8 {
+) -> u8
+    requires told { IsTrue D.tells }
+    requires nine { length disks.old.items ≡ 9 }
+    ensures ends { SomeInput S.tells (S.left source.old) (λ input. Ends D.image D.size D.faults disks.old.items disks.new.items (verdict input) result K.tells (K.faults sink.old) (K.faults sink.new) (K.written sink.old) (K.written sink.new)) }
+    ensures read_failed { result ≡ 3 → HasRisen (S.faults source.old) (S.faults source.new) }
+    ensures end { result ≡ 0 → IsTrue S.tells → S.left source.new ≡ [] }
+    ensures untouched { In result (2 ∷ 3 ∷ 7 ∷ 8 ∷ []) → disks.new ≡ disks.old }
+{
     match read_session(alloc, source) {
         Ok(session) => played_on_empty(alloc, sink, session, disks),
         Err(Unplayed::Failed) => told(sink, 3, b"read failed\n"),
@@ -138,10 +163,10 @@ pub fn federate<S: Source, K: Sink, D: Disk>(
     ensures no_memory { result ≡ 6 →
         Gets K.tells (K.faults sink.old) (K.faults sink.new) (K.written sink.old) (K.written sink.new) texts.no_memory_text }
     ensures short { result ≡ 6 → SomeInput S.tells (S.left source.old) (λ input.
-        AreShort D.image disks.old.items disks.new.items (verdict input)) }
+        AreShort D.image D.faults disks.old.items disks.new.items (verdict input)) }
     ensures too_long { result ≡ 7 →
         Gets K.tells (K.faults sink.old) (K.faults sink.new) (K.written sink.old) (K.written sink.new) texts.too_long_text }
-    ensures used { result ≡ 8 → IfSome (first_used (map D.size disks.old.items)) (λ number.
+    ensures used { result ≡ 8 → IfSome (first_used_of (map D.size disks.old.items)) (λ number.
         Gets K.tells (K.faults sink.old) (K.faults sink.new) (K.written sink.old) (K.written sink.new) (texts.disk_used_text number)) }
     ensures untouched { In result (1 ∷ 2 ∷ 3 ∷ 7 ∷ 8 ∷ []) → disks.new ≡ disks.old }
 {

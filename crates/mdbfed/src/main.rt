@@ -1,5 +1,6 @@
 //! The program: `mdbfed replay` reads a session from standard input, and writes its lines and its report to standard output.
 #![tactic(auto)]
+ghost use Rattle.std.specs.Prelude.{◌≡◌, IfOk, length};
 
 mod std_streams;
 
@@ -34,7 +35,9 @@ fn words_of<R: Env + AllocGlobal>(rt: &R) -> Result<Vec<String>, Memory> {
 const ACTORS: u8 = 9;
 
 /// An empty disk in memory for each actor.
-fn empty_disks(alloc: Global) -> Result<Vec<MemDisk>, Memory> {
+fn empty_disks(alloc: Global) -> Result<Vec<MemDisk>, Memory>
+    ensures { IfOk result (λ disks. length disks.items ≡ 9) }
+{
     let mut disks = Vec::new(alloc);
     for _ in 0..ACTORS {
         disks.push(MemDisk::new(alloc)?)?;

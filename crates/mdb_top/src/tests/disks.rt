@@ -1,5 +1,7 @@
 //! Stops at a disk call, and disks that fail or are used.
-use super::expect;
+ghost use Rattle.std.specs.Prelude.{◌≡◌, length};
+
+use super::{empty_disks, expect};
 use crate::{Disk, MemDisk, MemSink, MemSource, federate};
 use mdb_base::Memory;
 use std::alloc::Global;
@@ -8,7 +10,9 @@ const SESSION: &str =
     "site 1 locking nothing\nlocal 1 1 get:5 add:5:0:7\ncommands\nbegin 1\nstep 1\nstep 1\ncommit 1\n";
 
 /// The status of `replay` on the session with these disks, and what was put.
-fn replayed_on(alloc: Global, mut disks: Vec<MemDisk>) -> Result<(u8, Vec<u8>), Memory> {
+fn replayed_on(alloc: Global, mut disks: Vec<MemDisk>) -> Result<(u8, Vec<u8>), Memory>
+    requires { length disks.items ≡ 9 }
+{
     let words = vec![in alloc; String::from_str(alloc, "replay")?]?;
     let mut source = MemSource::new(
         Vec::from_slice(alloc, SESSION.as_bytes())?,
@@ -18,6 +22,16 @@ fn replayed_on(alloc: Global, mut disks: Vec<MemDisk>) -> Result<(u8, Vec<u8>), 
     let mut sink = MemSink::new(alloc, 4_096, 4_096, Vec::new(alloc))?;
     let status = federate(alloc, &words, &mut source, &mut sink, &mut disks);
     Ok((status, Vec::from_slice(alloc, sink.written())?))
+}
+
+/// A disk with one byte.
+fn used_disk(alloc: Global) -> Result<MemDisk, Memory> {
+    let mut disk = MemDisk::new(alloc)?;
+    disk.reserve(alloc, 1)?;
+    match disk.append(b"x") {
+        Ok(()) => Ok(disk),
+        Err(_) => Err(Memory),
+    }
 }
 
 #[test]
@@ -38,12 +52,8 @@ fn a_stop_between_append_and_sync(rt: HostRuntime) {
 
 #[test]
 fn a_failing_disk_is_named(rt: HostRuntime) -> Result<(), std::test::Fail> {
-    let mut disks = Vec::new(rt.alloc());
-    disks.push(MemDisk::new(rt.alloc())?)?;
-    disks.push(MemDisk::failing(rt.alloc(), &[3])?)?;
-    for _ in 2..9 {
-        disks.push(MemDisk::new(rt.alloc())?)?;
-    }
+    let mut disks = empty_disks(rt.alloc())?;
+    disks[1] = MemDisk::failing(rt.alloc(), &[3])?;
     let (status, put) = replayed_on(rt.alloc(), disks)?;
     assert_eq!(rt; status, 5);
     assert_eq!(rt; put.as_slice(), b"disk 1 failed\n".as_slice());
@@ -52,15 +62,9 @@ fn a_failing_disk_is_named(rt: HostRuntime) -> Result<(), std::test::Fail> {
 
 #[test]
 fn the_least_used_disk_is_named(rt: HostRuntime) -> Result<(), std::test::Fail> {
-    let mut disks = Vec::new(rt.alloc());
-    for number in 0..9 {
-        let mut disk = MemDisk::new(rt.alloc())?;
-        if number >= 4 {
-            disk.reserve(rt.alloc(), 1)?;
-            assert!(rt; disk.append(b"x").is_ok());
-        }
-        disks.push(disk)?;
-    }
+    let mut disks = empty_disks(rt.alloc())?;
+    disks[4] = used_disk(rt.alloc())?;
+    disks[7] = used_disk(rt.alloc())?;
     let (status, put) = replayed_on(rt.alloc(), disks)?;
     assert_eq!(rt; status, 8);
     assert_eq!(rt; put.as_slice(), b"disk 4 is used\n".as_slice());

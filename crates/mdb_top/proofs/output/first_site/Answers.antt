@@ -1,4 +1,4 @@
-use Rattle.std.proofs.Common.{◌≡◌, Some, List, [], slice_get, sym, ap, subst, ◌∙◌}
+use Rattle.std.proofs.Common.{◌≡◌, Some, List, [], slice_get, length, ◌≤◌, sym, ap, subst, ◌∙◌}
 use Rattle.mdb_base.specs.declared.names.Engine.{Engine}
 use Rattle.mdb_base.specs.declared.names.Engine.TheVariants.{Locking}
 use Rattle.mdb_base.specs.declared.rows.Put.{Put}
@@ -10,8 +10,9 @@ use Rattle.fed_rules.specs.Scenarios.{items_of}
 use Rattle.engine_contract.specs.Calls.{fresh_start}
 use Rattle.locking_engine.specs.Stands.{Stands as EngineStands}
 use Rattle.mdb_top.proofs.LocalScenarios.{no_locals, the_site, stands_alone}
+use Rattle.mdb_top.proofs.NewSites.{few_items, site_in_range}
 use Rattle.mdb_top.proofs.Rows.{rising_items}
-use Rattle.mdb_top.proofs.output.first_engine.Goals as goal
+use Rattle.mdb_top.proofs.output.first_site.Goals as goal
 
 pub returns-then-is_empty : goal.returns-then-is_empty
 returns-then-is_empty c =
@@ -19,9 +20,9 @@ returns-then-is_empty c =
     let e : c.args.scenario.now.sites ≡ [] = sym (ap (λ (s : Scenario). s.sites) c.scenario.view_is) ∙ c.is_empty.ensures.0 c.if-is_empty.true in
     (e, no_locals c.args.scenario.now whole e c.requires.local)
 
-pub of-requires : goal.of-requires
-of-requires c =
-    let e : c.in_ok-rows.rows.items ≡ items_of c.as_slice.result.now c.at-line.result.now.site = c.in_ok-rows.ensures in
+pub of-items-requires : goal.of-items-requires
+of-items-requires c =
+    let e : c.in_ok-first_rows.field-0.items ≡ items_of c.as_slice.result.now c.at-line.result.now.site = c.in_ok-first_rows.ensures in
     subst (λ (rows : List Put). IsRising (λ row. row.key.0) rows) (sym e) (rising_items c.as_slice.result.now c.at-line.result.now.site)
 
 pub returns : goal.returns
@@ -31,13 +32,15 @@ returns c =
     let whole : IsScenario scenario = subst (λ (s : Scenario). IsScenario s) c.scenario.view_is c.scenario.invariant in
     let first : slice_get scenario.sites 0 ≡ Some line = subst (λ (s : Scenario). slice_get s.sites 0 ≡ Some line) c.scenario.view_is c.at-line.ensures in
     let only = the_site scenario.sites line c.requires.one first in
-    let rows : c.of.result ≡ items_of scenario.items line.site =
-    c.of.ensures ∙ c.in_ok-rows.ensures ∙ ap (λ items. items_of items line.site) c.as_slice.ensures ∙ ap (λ (s : Scenario). items_of s.items line.site) c.scenario.view_is in
-    let started : EngineStands c.in_ok-engine.engine (fresh_start Locking c.of.result) [] = c.in_ok-engine.ensures in (
+    let rows : c.of-items.result ≡ items_of scenario.items line.site =
+    c.of-items.ensures ∙ c.in_ok-first_rows.ensures ∙ ap (λ items. items_of items line.site) c.as_slice.ensures ∙ ap (λ (s : Scenario). items_of s.items line.site) c.scenario.view_is in
+    let started : EngineStands c.in_ok-engine.engine (fresh_start Locking c.of-items.result) [] = c.in_ok-engine.ensures in (
       line,
       record {
         alone = stands_alone scenario line whole only.sites_are c.requires.local;
-        fresh = subst (λ (kind : Engine). EngineStands c.in_ok-engine.engine (fresh_start kind (items_of scenario.items line.site)) []) (sym only.locking)
-            (subst (λ (puts : List Put). EngineStands c.in_ok-engine.engine (fresh_start Locking puts) []) rows started);
+        in_range = site_in_range scenario line whole only.sites_are;
+        items = rows;
+        few = subst (λ (puts : List Put). length puts ≤ 4096) (sym rows) (few_items scenario line.site whole);
+        fresh = subst (λ (kind : Engine). EngineStands c.in_ok-engine.engine (fresh_start kind c.of-items.result) []) (sym only.locking) started;
       },
     )

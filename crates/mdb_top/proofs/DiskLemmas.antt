@@ -1,0 +1,151 @@
+-- What the disks of a session with one site at most hold: the site's disk what the rules say, and each other disk nothing.
+use Rattle.std.proofs.Common.{◌≡◌, ℕ, ◌==◌, Bool, true, false, IsTrue, Option, Some, None, List, [], ◌∷◌, ◌++◌, length, map, reverse, slice_get, refl, sym, ◌∙◌, ap, subst, arith}
+use Rattle.std.proofs.lemmas.Bool.{cond-false, eqb-true, eqb-false, eq-eqb, ne_eqb}
+use Rattle.std.proofs.lemmas.List.{append-nil, length-append}
+use Rattle.order_laws.proofs.Names.{same_site_alike}
+use Rattle.fed_rules.specs.declared.records.SiteRecord.{SiteRecord}
+use Rattle.fed_rules.specs.declared.scenario.Scenario.{Scenario}
+use Rattle.fed_rules.specs.declared.scenario.SiteLine.{SiteLine}
+use Rattle.fed_rules.specs.Disk.{Disk, empty_disk}
+use Rattle.fed_rules.specs.Happenings.{Trip, stopped}
+use Rattle.fed_rules.specs.Runs.{Start, EngineLine}
+use Rattle.fed_rules.specs.Scenarios.{home_in, home_of}
+use Rattle.fed_rules.specs.Site.{answered}
+use Rattle.fed_rules.specs.SitePast.{SitePast, disk}
+use Rattle.fed_rules.specs.SiteRecords.{Home}
+use Rattle.fed_rules.specs.Story.{Story, past_of}
+use Rattle.fed_world.specs.Stands.{IsCut}
+use Rattle.frame_journal.specs.Records.{AreRecordsOf, spelled}
+use Rattle.frame_journal.proofs.Keeping.{length-frames, none_is_part, not_torn}
+use Rattle.journal_disk.specs.Disk.{Image}
+use Rattle.journal_disk.specs.Frames.{frames, frames_size}
+use Rattle.site_core.specs.declared.site.SiteCore.{SiteCore}
+use Rattle.site_core.specs.declared.store.Standing.{Standing}
+use Rattle.site_core.specs.declared.store.Standing.TheVariants.{Up, Down, Failing}
+use Rattle.site_core.specs.declared.store.Store.{Store}
+use Rattle.site_core.specs.Stands.{Stands as CoreStands}
+use Rattle.site_core.specs.Store.{HoldsBytes, IsInOrder, Keeps, is_up, seen, stopped_disk}
+use Rattle.site_journal.specs.Spelling.{spelling}
+use Rattle.site_laws.specs.Sessions.{home_from}
+use Rattle.site_laws.proofs.OneSite.{one_home}
+use Rattle.mdb_top.specs.Disks.{HoldAll, HoldFrames, HoldNothing, HoldOthers, StopsWithin, disk_at, disk_of, frames_at}
+
+-- a list without items
+pub nothing : {A : Type 0} (xs : List A) → length xs ≡ 0 → xs ≡ []
+nothing [] e = refl
+nothing (x ∷ xs) e = absurd (omega (arith, e))
+
+-- what stands at a place is one thing
+pub one_at : {A : Type 0} (xs : List A) (place : ℕ) (a b : A) → slice_get xs place ≡ Some a → slice_get xs place ≡ Some b → b ≡ a
+one_at xs place a b e f = cc
+
+-- without sites no actor has a home
+pub no_home : (scenario : Scenario) (number : ℕ) → scenario.sites ≡ [] → home_of scenario (record { 0 = number }) ≡ None
+no_home scenario number e = ap (λ (ls : List SiteLine). home_in ls scenario.items (record { 0 = number })) e
+
+-- and where a site is alone no other one has
+pub other_home : (scenario : Scenario) (line : SiteLine) (number : ℕ) → scenario.sites ≡ line ∷ [] → (number ≡ line.site.0 → ⊥) → home_of scenario (record { 0 = number }) ≡ None
+other_home scenario line number e apart =
+    ap (λ (ls : List SiteLine). home_in ls scenario.items (record { 0 = number })) e ∙ cond-false _ _ _ (ne_eqb line.site.0 number (λ same. apart (sym same)))
+
+-- the site's own home
+pub own_home : (scenario : Scenario) (line : SiteLine) (number : ℕ) → scenario.sites ≡ line ∷ [] → number ≡ line.site.0 → home_of scenario (record { 0 = number }) ≡ Some (home_from scenario line)
+own_home scenario line number e same =
+    ap (home_of scenario) (sym (same_site_alike line.site (record { 0 = number }) (eq-eqb line.site.0 number (sym same)))) ∙ one_home scenario line e
+
+-- a disk without bytes holds what the rules say where nothing was written
+pub empty_holds : (image : Image) → image.bytes ≡ [] → HoldsBytes image empty_disk
+empty_holds image e = record {
+  records = subst (λ bytes. AreRecordsOf spelling bytes []) (sym e) (record { are_payloads = tt; rest = []; parts = refl; is_torn = none_is_part });
+  bytes = ap length e;
+}
+
+-- the bytes that a store takes for synced are those on the disk
+seen_bytes : (standing : Standing) (image : Image) → (seen standing image).bytes ≡ image.bytes
+seen_bytes Up image = refl
+seen_bytes Down image = refl
+seen_bytes Failing image = refl
+
+-- a disk on which a store stands for that of the rules holds its bytes
+pub keeps_bytes : {D : Type 0} (tells : Bool) (image : D → Image) (size spare : D → ℕ) (one : D) (store : Store) (rules : Disk SiteRecord) (in_force : Option Trip)
+    → Keeps tells image size spare one store rules in_force → HoldsBytes (image one) rules
+keeps_bytes tells image size spare one store rules in_force k = record {
+  records = subst (λ bytes. AreRecordsOf spelling bytes (reverse rules.records)) (seen_bytes store.standing (image one)) k.stands.records;
+  bytes = ap length (sym (seen_bytes store.standing (image one))) ∙ k.stands.bytes;
+}
+
+-- while its site is up they are the frames of its records
+pub keeps_frames : {D : Type 0} (tells : Bool) (image : D → Image) (size spare : D → ℕ) (one : D) (store : Store) (rules : Disk SiteRecord) (in_force : Option Trip)
+    → IsTrue tells → length (image one).bytes ≡ size one → is_up store.standing ≡ true → Keeps tells image size spare one store rules in_force
+    → (image one).bytes ≡ spelled spelling (reverse rules.records)
+keeps_frames tells image size spare one store rules in_force told sized up k =
+    let payloads = map spelling store.journal.records in
+    let are = k.kept_on.records told in
+    let whole : store.journal.is_torn ≡ false = untorn store.standing up k.in_order in
+    let most = not_torn store.journal.is_torn (frames_size payloads) (size one) k.kept_on.is_torn whole in
+    let parts : length (image one).bytes ≡ length (frames payloads ++ are.rest) = ap length are.parts in
+    let none : are.rest ≡ [] = nothing are.rest (omega (arith, most, parts, sized, length-append (frames payloads) are.rest, length-frames payloads)) in
+    are.parts ∙ ap (λ rest. frames payloads ++ rest) none ∙ append-nil (frames payloads) ∙ ap (λ records. spelled spelling records) k.records
+  where
+    untorn : (standing : Standing) → is_up standing ≡ true → IsInOrder standing store.journal rules → store.journal.is_torn ≡ false
+    untorn Up e o = o
+    untorn Down e o = absurd cc
+    untorn Failing e o = absurd cc
+
+-- what a cut event leaves is some stop within it
+pub cut_stops : {E D : Type 0} (stands : E → Start → List EngineLine → Type 0) (tells : Bool) (image : D → Image) (size spare : D → ℕ) (core : SiteCore E) (one : D) (home : Home) (past : SitePast)
+    → IsCut (CoreStands stands tells image size spare core one) home past → StopsWithin (image one) home past
+unfolding stopped
+cut_stops stands tells image size spare core one home past (event, n, cut, stood) =
+    (event, (n, cut, keeps_bytes tells image size spare one core.store (stopped_disk n cut (disk home past) (answered home past event).calls) _ stood.stored))
+
+-- each disk but those of which the fact holds has no byte
+abbrev pub OthersNothing : {D : Type 0} → (D → Image) → ℕ → List D → Type 0
+OthersNothing {D} image number disks = (place : ℕ) (one : D) → slice_get disks place ≡ Some one → (place ≡ number → ⊥) → (image one).bytes ≡ []
+
+-- without sites disks without bytes hold all
+pub none_hold_all : {D : Type 0} (image : D → Image) (disks : List D) (scenario : Scenario) (story : Story) → scenario.sites ≡ [] → HoldNothing image disks → HoldAll image disks scenario story
+none_hold_all image disks scenario story e held number one at =
+    subst (λ h. HoldsBytes (image one) (disk_of h story)) (sym (no_home scenario number e)) (empty_holds (image one) (held number one at))
+
+pub none_hold_frames : {D : Type 0} (image : D → Image) (disks : List D) (scenario : Scenario) (story : Story) → scenario.sites ≡ [] → HoldNothing image disks → HoldFrames image disks scenario story
+none_hold_frames image disks scenario story e held number one at =
+    held number one at ∙ sym (ap (λ h. spelled spelling (reverse (disk_of h story).records)) (no_home scenario number e))
+
+-- a disk that isn't the site's, without a byte
+pub other_holds : {D : Type 0} (image : D → Image) (one : D) (scenario : Scenario) (line : SiteLine) (story : Story) (number : ℕ) → scenario.sites ≡ line ∷ [] → (number ≡ line.site.0 → ⊥) → (image one).bytes ≡ []
+    → HoldsBytes (image one) (disk_at scenario story number)
+other_holds image one scenario line story number e apart held =
+    subst (λ h. HoldsBytes (image one) (disk_of h story)) (sym (other_home scenario line number e apart)) (empty_holds (image one) held)
+
+-- the site's disk and the others hold all
+pub one_hold_all : {D : Type 0} (image : D → Image) (disks : List D) (scenario : Scenario) (line : SiteLine) (story : Story) (own : D) → scenario.sites ≡ line ∷ [] → slice_get disks line.site.0 ≡ Some own
+    → HoldsBytes (image own) (disk (home_from scenario line) (past_of line.site story)) → OthersNothing image line.site.0 disks → HoldAll image disks scenario story
+one_hold_all {D} image disks scenario line story own e at held others number one is = by_test (number == line.site.0) refl
+  where
+    by_test : (b : Bool) → (number == line.site.0) ≡ b → HoldsBytes (image one) (disk_at scenario story number)
+    by_test true t =
+        let same = eqb-true number line.site.0 t in
+        let one_is : one ≡ own = one_at disks line.site.0 own one at (subst (λ n. slice_get disks n ≡ Some one) same is) in
+        subst (λ h. HoldsBytes (image one) (disk_of h story)) (sym (own_home scenario line number e same))
+        (subst (λ (d : D). HoldsBytes (image d) (disk (home_from scenario line) (past_of line.site story))) (sym one_is) held)
+    by_test false t = let apart = eqb-false number line.site.0 t in other_holds image one scenario line story number e apart (others number one is apart)
+
+pub one_hold_frames : {D : Type 0} (image : D → Image) (disks : List D) (scenario : Scenario) (line : SiteLine) (story : Story) (own : D) → scenario.sites ≡ line ∷ [] → slice_get disks line.site.0 ≡ Some own
+    → (image own).bytes ≡ spelled spelling (reverse (disk (home_from scenario line) (past_of line.site story)).records) → OthersNothing image line.site.0 disks → HoldFrames image disks scenario story
+one_hold_frames {D} image disks scenario line story own e at held others number one is = by_test (number == line.site.0) refl
+  where
+    by_test : (b : Bool) → (number == line.site.0) ≡ b → (image one).bytes ≡ frames_at scenario story number
+    by_test true t =
+        let same = eqb-true number line.site.0 t in
+        let one_is : one ≡ own = one_at disks line.site.0 own one at (subst (λ n. slice_get disks n ≡ Some one) same is) in
+        ap (λ (d : D). (image d).bytes) one_is ∙ held ∙ sym (ap (λ h. spelled spelling (reverse (disk_of h story).records)) (own_home scenario line number e same))
+    by_test false t =
+        let apart = eqb-false number line.site.0 t in
+        others number one is apart ∙ sym (ap (λ h. spelled spelling (reverse (disk_of h story).records)) (other_home scenario line number e apart))
+
+-- the others alone
+pub others_hold : {D : Type 0} (image : D → Image) (disks : List D) (scenario : Scenario) (line : SiteLine) (story : Story) (number : ℕ) → scenario.sites ≡ line ∷ [] → number ≡ line.site.0 → OthersNothing image number disks
+    → HoldOthers image number disks scenario story
+others_hold image disks scenario line story number e same others place one is apart =
+    other_holds image one scenario line story place e (λ f. apart (f ∙ sym same)) (others place one is apart)
