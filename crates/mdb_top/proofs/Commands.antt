@@ -121,7 +121,7 @@ closed_here scenario commands whole (inr (line, alone)) here =
     let second_here : Each P second = each_cond P (is_some (trip (past_at scenario line commands))) (Cmd.Trip line.site.0 0 0) commands (record { own = tt; at_site = some; heard = declared }) here in
     let third_here : Each P third = each_cond P (is_down (past_at scenario line second)) (Cmd.Back line.site.0) second (record { own = tt; at_site = some; heard = declared }) second_here in
     let fourth_here = each_aborts P (λ tx. record { own = tt; at_site = tt; heard = tt }) (live scenario (story_of scenario third) line.site) third third_here in
-    subst (λ cs. Each P cs) (sym (closed_so scenario line commands whole alone (own_each scenario.sites commands here) (at_each scenario.sites commands here))) fourth_here
+    subst (λ cs. Each P cs) (sym (closed_so scenario line commands some alone (own_each scenario.sites commands here) (at_each scenario.sites commands here))) fourth_here
 
 -- a closed session ends with its own commands
 abbrev EndsWith : List Command → List Command → Type 0
@@ -147,4 +147,4 @@ closed_ends scenario commands whole (inr (line, alone)) own at =
     let fourth = cleared scenario line third in
     let ends = behind fourth third commands (aborts_end (live scenario (story_of scenario third) line.site) third)
     (behind third second commands (with_one _ (Cmd.Back line.site.0) second) (with_one _ (Cmd.Trip line.site.0 0 0) commands)) in
-    (ends.0, closed_so scenario line commands whole alone own at ∙ ends.1)
+    (ends.0, closed_so scenario line commands (site_some scenario line whole alone) alone own at ∙ ends.1)
