@@ -124,7 +124,8 @@ pub(crate) fn output_of<D: Disk>(
     requires commands { AreCommands session.scenario.sites session.commands }
     requires nine { length disks.old.items ≡ 9 }
     requires unused { is_used (map D.size disks.old.items) ≡ false }
-    ensures { IsOutput D.image D.faults result disks.old.items disks.new.items session }
+    ensures output { IsOutput D.image D.faults result disks.old.items disks.new.items session }
+    ensures nine { length disks.new.items ≡ 9 }
 {
     own_sessions_are_serial();
     let Session { scenario, commands } = session;

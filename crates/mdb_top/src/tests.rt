@@ -16,7 +16,7 @@ fn empty_disks(alloc: Global) -> Result<Vec<MemDisk>, Memory>
     ensures { IfOk result (λ disks. length disks.items ≡ 9) }
 {
     let mut disks = Vec::new(alloc);
-    for _ in 0..9 {
+    for _ in 0_u8..9 {
         disks.push(MemDisk::new(alloc)?)?;
     }
     Ok(disks)

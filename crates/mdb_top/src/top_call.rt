@@ -54,6 +54,7 @@ fn played<K: Sink, D: Disk>(alloc: Global, sink: &mut K, session: Session, disks
     requires unused { is_used (map D.size disks.old.items) ≡ false }
     ensures any { In result (0 ∷ 4 ∷ 5 ∷ 6 ∷ []) }
     ensures ends { Ends D.image D.size D.faults disks.old.items disks.new.items (Runs session) result K.tells (K.faults sink.old) (K.faults sink.new) (K.written sink.old) (K.written sink.new) }
+    ensures nine { length disks.new.items ≡ 9 }
 {
     match output_of(alloc, session, disks) {
         Ok(Output::Whole(output)) => match put_all(sink, &output) {
@@ -90,6 +91,7 @@ fn played_on_empty<K: Sink, D: Disk>(
     requires nine { length disks.old.items ≡ 9 }
     ensures any { In result (0 ∷ 4 ∷ 5 ∷ 6 ∷ 8 ∷ []) }
     ensures ends { Ends D.image D.size D.faults disks.old.items disks.new.items (Runs session) result K.tells (K.faults sink.old) (K.faults sink.new) (K.written sink.old) (K.written sink.new) }
+    ensures nine { length disks.new.items ≡ 9 }
     ensures untouched { result ≡ 8 → disks.new ≡ disks.old }
 {
     match first_used(disks.as_slice()) {
@@ -111,6 +113,7 @@ fn replay<S: Source, K: Sink, D: Disk>(
     ensures read_failed { result ≡ 3 → HasRisen (S.faults source.old) (S.faults source.new) }
     ensures end { result ≡ 0 → IsTrue S.tells → S.left source.new ≡ [] }
     ensures untouched { In result (2 ∷ 3 ∷ 7 ∷ 8 ∷ []) → disks.new ≡ disks.old }
+    ensures nine { length disks.new.items ≡ 9 }
 {
     match read_session(alloc, source) {
         Ok(session) => played_on_empty(alloc, sink, session, disks),
@@ -169,6 +172,7 @@ pub fn federate<S: Source, K: Sink, D: Disk>(
     ensures used { result ≡ 8 → IfSome (first_used_of (map D.size disks.old.items)) (λ number.
         Gets K.tells (K.faults sink.old) (K.faults sink.new) (K.written sink.old) (K.written sink.new) (texts.disk_used_text number)) }
     ensures untouched { In result (1 ∷ 2 ∷ 3 ∷ 7 ∷ 8 ∷ []) → disks.new ≡ disks.old }
+    ensures still_nine { length disks.new.items ≡ 9 }
 {
     if !is_replay(words) {
         return told(

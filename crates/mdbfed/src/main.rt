@@ -1,5 +1,6 @@
 //! The program: `mdbfed replay` reads a session from standard input, and writes its lines and its report to standard output.
 #![tactic(auto)]
+
 ghost use Rattle.std.specs.Prelude.{◌≡◌, IfOk, length};
 
 mod std_streams;

@@ -70,7 +70,7 @@ fn a_global_does_not_run_yet(rt: HostRuntime) {
 }
 
 #[test]
-fn a_stop_does_not_run_yet(rt: HostRuntime) {
+fn a_stop_of_the_coordinator_does_not_run_yet(rt: HostRuntime) {
     expect(
         &rt,
         "site 1 locking abort\ncommands\nhalt 0 0\n",

@@ -20,14 +20,14 @@ use Rattle.mdb_top.proofs.output.output_of.Goals as goal
 pub new-requires-clause-empty : goal.new-requires-clause-empty
 new-requires-clause-empty g c = are_empty g.D.Disk.size c.args.disks.now.items c.requires.nine c.requires.unused
 
-pub returns-in_err-local : goal.returns-in_err-local
-returns-in_err-local g c =
+pub returns-in_err-local-clause-output : goal.returns-in_err-local-clause-output
+returns-in_err-local-clause-output g c =
     let p = err_from_is_err_and c.from_residual.result c.from_residual.ensures.1 in
     let sized = λ (one : g.row.D.Denot). g.met.D.Disk.told_size one c.requires.told in
     rw p.1 (inl (empty_nothing g.D.Disk.image g.D.Disk.size c.args.disks.now.items sized (are_empty g.D.Disk.size c.args.disks.now.items c.requires.nine c.requires.unused)))
 
-pub returns-in-Err-Disk : goal.returns-in-Err-Disk
-returns-in-Err-Disk g c =
+pub returns-in-Err-Disk-clause-output : goal.returns-in-Err-Disk-clause-output
+returns-in-Err-Disk-clause-output g c =
     let disk = g.D.Disk in
     let session = c.args.session in
     let whole : IsScenario session.scenario = subst (λ (s : Scenario). IsScenario s) c.scenario.view_is c.scenario.invariant in
@@ -53,8 +53,8 @@ printed-requires g c =
       holds = session_printable session plain;
     }
 
-pub returns-in-Ok-play : goal.returns-in-Ok-play
-returns-in-Ok-play g c =
+pub returns-in-Ok-play-clause-output : goal.returns-in-Ok-play-clause-output
+returns-in-Ok-play-clause-output g c =
     let disk = g.D.Disk in
     let session = c.args.session in
     let whole : IsScenario session.scenario = subst (λ (s : Scenario). IsScenario s) c.scenario.view_is c.scenario.invariant in
@@ -81,8 +81,8 @@ broken-requires-in-Err-Disk-play g c =
     subst (Each (λ line. IsTrue (line_fits line))) (sym (c.lines.ensures session.scenario f.done fails.has))
     (each_oldest_first (λ line. IsTrue (line_fits line)) (lines_of (story_of session.scenario f.done)) (front_fits session f.done plain front))
 
-pub returns-in-Err-Disk-play : goal.returns-in-Err-Disk-play
-returns-in-Err-Disk-play g c =
+pub returns-in-Err-Disk-play-clause-output : goal.returns-in-Err-Disk-play-clause-output
+returns-in-Err-Disk-play-clause-output g c =
     let disk = g.D.Disk in
     let session = c.args.session in
     let whole : IsScenario session.scenario = subst (λ (s : Scenario). IsScenario s) c.scenario.view_is c.scenario.invariant in
@@ -98,8 +98,8 @@ returns-in-Err-Disk-play g c =
     broken_output disk.image disk.faults c.broken-in-Err-Disk-play.result c.args.disks.now.items c.play.new.disks.items session f.done c.in-Err-Disk-play.number plain front breaks
     (broken_weaker c.broken-in-Err-Disk-play.result _ _ (λ bytes e. e ∙ ap (λ lines. lines_bytes lines ++ disk_failed_text c.in-Err-Disk-play.number) (c.lines.ensures session.scenario f.done fails.has)) c.broken-in-Err-Disk-play.ensures)
 
-pub returns : goal.returns
-returns g c =
+pub returns-clause-output : goal.returns-clause-output
+returns-clause-output g c =
     let disk = g.D.Disk in
     let session = c.args.session in
     let sized = λ (one : g.row.D.Denot). g.met.D.Disk.told_size one c.requires.told in
@@ -111,3 +111,24 @@ returns g c =
       front = front;
       kept = stands_hold_all EngineStands disk.tells disk.image disk.size disk.spare c.play.new.world c.play.new.disks.items session.scenario f.done sized fails;
     }))
+
+-- there are nine disks as before
+pub returns-in-Err-Disk-clause-nine : goal.returns-in-Err-Disk-clause-nine
+returns-in-Err-Disk-clause-nine g c =
+    let disk = g.D.Disk in
+    (subst (λ (why : WorldErr). FailsToStart disk.image disk.size why c.new.new.disks.items c.args.session.scenario) c.in-Err-Disk.field-0-is c.in-Err-Disk.ensures.failed).nine
+
+pub returns-in-Ok-play-clause-nine : goal.returns-in-Ok-play-clause-nine
+returns-in-Ok-play-clause-nine g c = (c.in-Ok-play.ensures.played c.args.session.scenario [] c.in-Ok.ensures.stands).others.nine
+
+pub returns-in-Err-Disk-play-clause-nine : goal.returns-in-Err-Disk-play-clause-nine
+returns-in-Err-Disk-play-clause-nine g c =
+    let disk = g.D.Disk in
+    let f = c.in-Err-Disk-play.ensures.failed c.args.session.scenario [] c.in-Ok.ensures.stands in
+    (subst (λ (why : WorldErr). Fails EngineStands disk.tells disk.image disk.size disk.spare why c.play.new.world c.play.new.disks.items c.args.session.scenario f.done) c.in-Err-Disk-play.field-0-is f.fails).others.nine
+
+pub returns-clause-nine : goal.returns-clause-nine
+returns-clause-nine g c =
+    let disk = g.D.Disk in
+    let f = c.in-Err-Memory-play.ensures.failed c.args.session.scenario [] c.in-Ok.ensures.stands in
+    (subst (λ (why : WorldErr). Fails EngineStands disk.tells disk.image disk.size disk.spare why c.play.new.world c.play.new.disks.items c.args.session.scenario f.done) c.in-Err-Memory-play.field-0-is f.fails).others.nine

@@ -1,8 +1,15 @@
+use Rattle.std.proofs.lemmas.Option.{slice_get-get_or}
 use Rattle.std.proofs.lemmas.Result.{err_from_is_err_and, on_ok_weaker, IfErr-weaker}
 use Rattle.std.proofs.Common.{take}
-use Rattle.mdb_top.proofs.PlayLemmas.{as_many, fails_at, fails_closing, played_all, played_more}
+use Rattle.mdb_top.proofs.PlayLemmas.{as_many, can_apply, fails_at, fails_closing, played_all, played_more}
 use Rattle.mdb_top.proofs.WorldLemmas.{cause_on, never_falls_on}
 use Rattle.mdb_top.proofs.output.play.Goals as goal
+
+pub apply-requires-clause-stood : goal.apply-requires-clause-stood
+apply-requires-clause-stood g c =
+    let disk = g.D.Disk in
+    can_apply g.E.LocalEngine.stands disk.tells disk.image disk.size disk.spare c.args.world.now c.args.disks.now.items c.loop-command.world c.loop-command.disks.items
+    c.args.commands.now c.loop-command.command-index _ c.requires.stood c.loop-command.invariant.0 (slice_get-get_or c.args.commands.now c.loop-command.command-index _ c.loop-command-test.true)
 
 pub returns-in_err-apply-clause-failed : goal.returns-in_err-apply-clause-failed
 returns-in_err-apply-clause-failed g c =
