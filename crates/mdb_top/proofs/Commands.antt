@@ -45,27 +45,45 @@ declared_actor sites actor some e = by_zero (actor == 0) refl e
     by_zero true is e = let none = eqb-true actor 0 is in absurd (omega arith)
     by_zero false is e = e
 
--- a command that passes the test runs here
-pub runs_as_here : (sites : List SiteLine) (command : Command) → is_own_command command ≡ true → is_command sites command ≡ true → IsHere sites command
-runs_as_here sites (Cmd.Begin tx) e c = record { own = tt; at_site = tt; heard = tt }
-runs_as_here sites (Cmd.Step tx) e c = record { own = tt; at_site = tt; heard = tt }
-runs_as_here sites (Cmd.Commit tx) e c = record { own = tt; at_site = tt; heard = tt }
-runs_as_here sites (Cmd.Abort tx) e c = record { own = tt; at_site = tt; heard = tt }
-runs_as_here sites (Cmd.Fate tx) e c = record { own = tt; at_site = tt; heard = tt }
-runs_as_here sites (Cmd.Halt actor cut) e c =
-    let some : 0 < actor = ltb-true 0 actor e in record { own = tt; at_site = some; heard = declared_actor sites actor some (and_parts (is_actor sites actor) _ c).0 }
-runs_as_here sites (Cmd.Trip actor calls cut) e c =
-    let some : 0 < actor = ltb-true 0 actor e in
-    record { own = tt; at_site = some; heard = declared_actor sites actor some (and_parts (is_actor sites actor) (nat_le calls 1000) (and_parts _ (nat_le cut 65535) c).0).0 }
-runs_as_here sites (Cmd.Back actor) e c =
-    let some : 0 < actor = ltb-true 0 actor e in record { own = tt; at_site = some; heard = declared_actor sites actor some c }
-runs_as_here sites (Cmd.Go tx) e c = absurd cc
-runs_as_here sites (Cmd.Again tid) e c = absurd cc
-runs_as_here sites (Cmd.Late tid) e c = absurd cc
-runs_as_here sites (Cmd.Give site place) e c = absurd cc
-runs_as_here sites (Cmd.Take site place) e c = absurd cc
-runs_as_here sites (Cmd.Ask site tid) e c = absurd cc
-runs_as_here sites (Cmd.Drop site tid) e c = absurd cc
+-- a command that passes the test is an own one, and not of the coordinator
+pub own_command : (command : Command) → is_own_command command ≡ true → IsOwn command × IsAtSite command
+own_command (Cmd.Begin tx) e = (tt, tt)
+own_command (Cmd.Step tx) e = (tt, tt)
+own_command (Cmd.Commit tx) e = (tt, tt)
+own_command (Cmd.Abort tx) e = (tt, tt)
+own_command (Cmd.Fate tx) e = (tt, tt)
+own_command (Cmd.Halt actor cut) e = (tt, ltb-true 0 actor e)
+own_command (Cmd.Trip actor calls cut) e = (tt, ltb-true 0 actor e)
+own_command (Cmd.Back actor) e = (tt, ltb-true 0 actor e)
+own_command (Cmd.Go tx) e = absurd cc
+own_command (Cmd.Again tid) e = absurd cc
+own_command (Cmd.Late tid) e = absurd cc
+own_command (Cmd.Give site place) e = absurd cc
+own_command (Cmd.Take site place) e = absurd cc
+own_command (Cmd.Ask site tid) e = absurd cc
+own_command (Cmd.Drop site tid) e = absurd cc
+
+-- and the actor that it stops, trips or starts is declared
+heard_command : (sites : List SiteLine) (command : Command) → IsAtSite command → is_command sites command ≡ true → IsHeard sites command
+heard_command sites (Cmd.Halt actor cut) some c = declared_actor sites actor some (and_parts (is_actor sites actor) _ c).0
+heard_command sites (Cmd.Trip actor calls cut) some c = declared_actor sites actor some (and_parts (is_actor sites actor) (nat_le calls 1000) (and_parts _ (nat_le cut 65535) c).0).0
+heard_command sites (Cmd.Back actor) some c = declared_actor sites actor some c
+heard_command sites (Cmd.Begin tx) some c = tt
+heard_command sites (Cmd.Step tx) some c = tt
+heard_command sites (Cmd.Commit tx) some c = tt
+heard_command sites (Cmd.Abort tx) some c = tt
+heard_command sites (Cmd.Fate tx) some c = tt
+heard_command sites (Cmd.Go tx) some c = tt
+heard_command sites (Cmd.Again tid) some c = tt
+heard_command sites (Cmd.Late tid) some c = tt
+heard_command sites (Cmd.Give site place) some c = tt
+heard_command sites (Cmd.Take site place) some c = tt
+heard_command sites (Cmd.Ask site tid) some c = tt
+heard_command sites (Cmd.Drop site tid) some c = tt
+
+-- so a command that passes both tests runs here
+runs_as_here : (sites : List SiteLine) (command : Command) → is_own_command command ≡ true → is_command sites command ≡ true → IsHere sites command
+runs_as_here sites command e c = let own = own_command command e in record { own = own.0; at_site = own.1; heard = heard_command sites command own.1 c }
 
 -- so each command of a session does
 pub all_here : (sites : List SiteLine) (commands : List Command) → list_all is_own_command commands ≡ true → each_of (is_command sites) commands ≡ true → Each (IsHere sites) commands

@@ -99,7 +99,7 @@ unfolding stopped
 cut_stops stands tells image size spare core one home past (event, n, cut, stood) =
     (event, (n, cut, keeps_bytes tells image size spare one core.store (stopped_disk n cut (disk home past) (answered home past event).calls) _ stood.stored))
 
--- each disk but those of which the fact holds has no byte
+-- each disk but this one has no byte
 abbrev pub OthersNothing : {D : Type 0} → (D → Image) → ℕ → List D → Type 0
 OthersNothing {D} image number disks = (place : ℕ) (one : D) → slice_get disks place ≡ Some one → (place ≡ number → ⊥) → (image one).bytes ≡ []
 

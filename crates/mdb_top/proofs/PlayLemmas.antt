@@ -1,7 +1,7 @@
 -- The commands of a session one by one: what a world stands for behind the first ones of them, and where it fails.
 use Rattle.std.proofs.Common.{◌≡◌, ℕ, zero, suc, ◌+◌, ◌<◌, ◌≤◌, ◌^◌, Bool, true, Some, List, [], ◌∷◌, ◌++◌, length, reverse, take, drop, get_or, slice_get, sym, ◌∙◌, ap, subst, append_assoc, arith}
 use Rattle.std.specs.List.{list_all}
-use Rattle.std.proofs.lemmas.Bool.{and_parts, ltb-true}
+use Rattle.std.proofs.lemmas.Bool.{and_parts}
 use Rattle.std.proofs.lemmas.List.{length-append, take-append-drop, take_all, take_more, reverse-append}
 use Rattle.mdb_base.specs.Words.{Each}
 use Rattle.fed_rules.specs.declared.commands.Command.{Command}
@@ -19,27 +19,10 @@ use Rattle.local_laws.specs.Sound.{IsOwn}
 use Rattle.session_laws.specs.Closing.{IsAtSite}
 use Rattle.mdb_top.specs.Plays.{CanPlay, FailsToPlay, with_commands}
 use Rattle.mdb_top.specs.Verdicts.{is_own_command}
-use Rattle.mdb_top.proofs.Commands.{closed_ends, each_append, each_reverse}
+use Rattle.mdb_top.proofs.Commands.{closed_ends, each_append, each_reverse, own_command}
 use Rattle.mdb_top.proofs.WorldLemmas.{stands_one}
 
--- a command that passes the test is an own one, and not of the coordinator
-own_command : (command : Command) → is_own_command command ≡ true → IsOwn command × IsAtSite command
-own_command (Cmd.Begin tx) e = (tt, tt)
-own_command (Cmd.Step tx) e = (tt, tt)
-own_command (Cmd.Commit tx) e = (tt, tt)
-own_command (Cmd.Abort tx) e = (tt, tt)
-own_command (Cmd.Fate tx) e = (tt, tt)
-own_command (Cmd.Halt actor cut) e = (tt, ltb-true 0 actor e)
-own_command (Cmd.Trip actor calls cut) e = (tt, ltb-true 0 actor e)
-own_command (Cmd.Back actor) e = (tt, ltb-true 0 actor e)
-own_command (Cmd.Go tx) e = absurd cc
-own_command (Cmd.Again tid) e = absurd cc
-own_command (Cmd.Late tid) e = absurd cc
-own_command (Cmd.Give site place) e = absurd cc
-own_command (Cmd.Take site place) e = absurd cc
-own_command (Cmd.Ask site tid) e = absurd cc
-own_command (Cmd.Drop site tid) e = absurd cc
-
+-- so is one of a list that passes it
 own_at : (commands : List Command) (place : ℕ) (command : Command) → list_all is_own_command commands ≡ true → slice_get commands place ≡ Some command → IsOwn command × IsAtSite command
 own_at [] place command all e = absurd cc
 own_at (first ∷ commands) zero command all e =

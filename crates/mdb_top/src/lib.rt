@@ -1,4 +1,4 @@
-//! The top of the federation: words and bytes in, lines and a report out, and a status.
+//! The top of the federation: words, bytes and nine disks in, lines and a report out, and a status.
 #![tactic(auto)]
 
 mod bad_lines;
