@@ -1,5 +1,5 @@
 -- What a site stands for behind an event that it handed to its core.
-use Rattle.std.proofs.Common.{◌≡◌, ℕ, zero, suc, ◌<◌, Bool, true, false, cond, Option, Some, None, List, [], ◌∷◌, length, map, Result, Ok, Err, IfOk, IfErr, refl, sym, ◌∙◌, ap, subst, eq-eqb, ne_eqb, arith}
+use Rattle.std.proofs.Common.{◌≡◌, ℕ, zero, suc, ◌<◌, Bool, true, false, cond, Some, None, List, ◌∷◌, length, map, Result, Ok, Err, IfOk, IfErr, refl, sym, ◌∙◌, ap, subst, eq-eqb, ne_eqb, arith}
 use Rattle.std.proofs.lemmas.Bool.{cond-true, cond-false}
 use Rattle.std.proofs.lemmas.List.{length-map}
 use Rattle.mdb_base.specs.declared.names.SiteId.{SiteId}

@@ -1,5 +1,5 @@
 -- A site sends nothing at an event of its own.
-use Rattle.std.proofs.Common.{◌≡◌, ◌==◌, Bool, true, false, cond, Option, Some, None, List, [], refl}
+use Rattle.std.proofs.Common.{◌≡◌, Bool, true, false, Option, Some, None, [], refl}
 use Rattle.mdb_base.specs.declared.acts.PlainAct.{PlainAct}
 use Rattle.mdb_base.specs.declared.names.Tid.{Tid}
 use Rattle.mdb_base.specs.declared.names.Tx.{Tx}

@@ -1,5 +1,5 @@
 -- What a site stands for behind a command: the line of its core, and what is kept beside it.
-use Rattle.std.proofs.Common.{◌≡◌, ℕ, zero, suc, Bool, true, false, cond, is_some, Option, Some, None, List, [], ◌∷◌, length, map, slice_get, slice_set, inl, inr, refl, sym, ◌∙◌, ap, subst, eq-eqb, length-set, arith}
+use Rattle.std.proofs.Common.{◌≡◌, ℕ, zero, suc, Bool, true, false, cond, is_some, Option, Some, None, List, [], ◌∷◌, length, map, slice_get, slice_set, inl, inr, refl, sym, ◌∙◌, ap, subst, eq-eqb}
 use Rattle.std.proofs.lemmas.Bool.{cond-true, cond-false}
 use Rattle.mdb_base.specs.declared.names.SiteId.{SiteId}
 use Rattle.mdb_base.specs.declared.names.Tx.{Tx}
@@ -15,7 +15,7 @@ use Rattle.fed_rules.specs.Happenings.{Trip, stops, set, used}
 use Rattle.fed_rules.specs.Scenarios.{home_in, home_at, home_of_line, local_home, program_of, program_of_line}
 use Rattle.fed_rules.specs.SitePast.{SiteHappening, SitePast, trip, trip_of}
 use Rattle.fed_rules.specs.SiteRecords.{Home}
-use Rattle.fed_rules.specs.Story.{Story, AtSite, Nowhere, story_of, happens, answer_of, place_from, sent_from, places_of, past_of, coord_past, with_site, with_coordinator}
+use Rattle.fed_rules.specs.Story.{AtSite, Nowhere, story_of, happens, answer_of, place_from, sent_from, places_of, past_of, coord_past, with_site, with_coordinator}
 use Rattle.site_laws.proofs.Attempts.{same_tx-equal, same_tx-refl}
 use Rattle.site_laws.proofs.LiveRuns.{first_where-passes}
 use Rattle.local_laws.specs.Kept.{State, resting, heard, heard_up, kept_of}
