@@ -2,7 +2,6 @@ mod Answered
 mod Begun
 mod Closed
 mod Disks
-mod Ended
 mod Handed
 mod HandedOne
 mod Inserted
@@ -31,4 +30,3 @@ mod TellsStep
 mod TellsTrip
 mod Told
 mod Towards
-mod TxAtPlace
