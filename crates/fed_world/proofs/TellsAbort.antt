@@ -1,7 +1,5 @@
 -- The lines of `abort`.
-use Rattle.std.proofs.Common.{◌≡◌, ℕ, Bool, true, false, Some, None, List, slice_get, slice_set, refl, ◌∙◌}
-use Rattle.std.proofs.lemmas.Bool.{cond-true, cond-false}
-use Rattle.mdb_base.specs.declared.names.SiteId.{SiteId}
+use Rattle.std.proofs.Common.{◌≡◌, ℕ, true, false, Some, None, List, slice_get, slice_set, refl, ◌∙◌}
 use Rattle.mdb_base.specs.declared.names.Tx.{Tx}
 use Rattle.mdb_base.proofs.Words.{when-true}
 use Rattle.fed_rules.specs.declared.answers.Answer.{Answer}
@@ -17,7 +15,6 @@ use Rattle.fed_rules.specs.Site.{site_line}
 use Rattle.fed_rules.specs.SitePast.{SitePast}
 use Rattle.fed_rules.specs.SiteRecords.{Home}
 use Rattle.fed_rules.specs.Story.{Story, Nowhere, at_site, attempt, happens, on_abort, past_of, story_of, with_live}
-use Rattle.site_laws.proofs.Attempts.{same_tx-refl}
 use Rattle.site_laws.proofs.Commands.{abort_at, abort_idle}
 use Rattle.site_laws.proofs.SiteLines.{pick-some}
 use Rattle.local_laws.specs.Kept.{State, resting}

@@ -1,7 +1,6 @@
 -- The lines of `commit`.
-use Rattle.std.proofs.Common.{◌≡◌, ℕ, ◌<◌, ◌≤◌, nat_le, nat_lt, leb-true, Bool, true, false, Some, None, List, length, slice_get, slice_set, refl, sym, ◌∙◌, ap, ap₂, subst, arith}
+use Rattle.std.proofs.Common.{◌≡◌, ℕ, ◌<◌, ◌≤◌, nat_le, nat_lt, leb-true, Bool, true, false, Some, None, List, length, slice_get, slice_set, refl, ◌∙◌, ap, ap₂, subst, arith}
 use Rattle.std.proofs.lemmas.Bool.{and_parts, le-ltb, lt-ltb}
-use Rattle.mdb_base.specs.declared.names.SiteId.{SiteId}
 use Rattle.mdb_base.specs.declared.names.Tx.{Tx}
 use Rattle.mdb_base.specs.Names.{same_tx}
 use Rattle.mdb_base.specs.Words.{each_of}
@@ -32,7 +31,7 @@ use Rattle.fed_world.specs.Stands.{home_from, SiteStands, Hands, IsShort, IsTold
 use Rattle.fed_world.proofs.HandedOne.{IsHeardBy, one_told}
 use Rattle.fed_world.proofs.Owned.{IsLiveOne, IsOwned, none_live, one_live, own_agrees, own_home}
 use Rattle.fed_world.proofs.SiteBounds.{number_fits}
-use Rattle.fed_world.proofs.Told.{place_program, place_tx}
+use Rattle.fed_world.proofs.Told.{one_at, place_program, place_tx}
 
 -- the site is down
 pub commit_down : (scenario : Scenario) (story : Story) (tx : Tx) (home : Home) → local_home scenario tx ≡ Some home → is_down (past_of home.site story) ≡ true → happens scenario story (Cmd.Commit tx) ≡ Nowhere Say.Down
@@ -41,10 +40,7 @@ commit_down scenario story tx home h down = pick-some _ _ _ home h ∙ when-true
 
 -- the program of its line
 at_program : (scenario : Scenario) (tx : Tx) (place : ℕ) (line : TxLine) → IsPlace scenario.transactions tx place → slice_get scenario.transactions place ≡ Some line → program_of scenario tx ≡ line.program
-at_program scenario tx place line p at =
-    let both : Some p.line ≡ Some line = sym p.at ∙ at in
-    let same : p.line ≡ line = cc in
-    place_program scenario tx place p ∙ ap (λ (l : TxLine). l.program) same
+at_program scenario tx place line p at = place_program scenario tx place p ∙ ap (λ (l : TxLine). l.program) (one_at scenario.transactions place p.line line p.at at)
 
 -- its number is in its range
 tx_in_range : (scenario : Scenario) (tx : Tx) (place : ℕ) → IsScenario scenario → IsPlace scenario.transactions tx place → (1 ≤ tx.0) × (tx.0 ≤ 1024)
