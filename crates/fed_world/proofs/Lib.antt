@@ -7,6 +7,7 @@ mod HandedOne
 mod Inserted
 mod Installed
 mod KeptReads
+mod LineCases
 mod LiveLists
 mod LiveSteps
 mod LocalOnce
