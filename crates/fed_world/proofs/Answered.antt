@@ -30,9 +30,9 @@ use Rattle.fed_world.specs.declared.local_site.LocalSite.{LocalSite}
 use Rattle.fed_world.specs.Calls.{IsAnswered, IsUnanswered, error_of}
 use Rattle.fed_world.specs.Stands.{IsTold, IsUntold, LocalStands}
 use Rattle.fed_world.specs.Worlds.{HasCause, OthersEmpty, PartStands, SitePart}
-use Rattle.fed_world.proofs.Disks.{one_at, own_after, set_rises}
+use Rattle.fed_world.proofs.Disks.{own_after, set_rises}
 use Rattle.fed_world.proofs.Handed.{fate_nowhere, back_happens, halt_happens, trip_happens}
-use Rattle.fed_world.proofs.Told.{get_set_other, no_home}
+use Rattle.fed_world.proofs.Told.{get_set_other, no_home, one_at}
 
 -- without a site no actor hears
 site_nowhere : (scenario : Scenario) (story : Story) (actor : ℕ) (at_coord : CoordEvent) (event : SiteEvent) → scenario.sites ≡ [] → 0 < actor → on_actor scenario story actor at_coord event ≡ Nowhere Say.None

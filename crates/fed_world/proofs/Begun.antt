@@ -5,7 +5,7 @@ use Rattle.mdb_base.specs.declared.acts.PlainAct.{PlainAct}
 use Rattle.mdb_base.specs.declared.names.Tid.{Tid}
 use Rattle.mdb_base.specs.declared.names.Tx.{Tx}
 use Rattle.mdb_base.specs.Names.{same_tx}
-use Rattle.mdb_base.specs.Words.{when, pick}
+use Rattle.mdb_base.specs.Words.{when}
 use Rattle.order_laws.specs.Chains.{In, Distinct}
 use Rattle.fed_rules.specs.declared.answers.Answer.{Answer}
 use Rattle.fed_rules.specs.declared.answers.Answer.TheVariants as Say
@@ -26,6 +26,7 @@ use Rattle.site_laws.proofs.Lines.{acts_about, refused_about}
 use Rattle.site_laws.proofs.Orderly.{declared_of}
 use Rattle.local_laws.specs.Sound.{IsOwnEvent}
 use Rattle.local_laws.proofs.Stories.{led_keeps}
+use Rattle.fed_world.proofs.LineCases.{at_pick, at_when}
 
 -- a line begins an epoch, or no attempt, or the next attempt of its transaction
 data BeginsBy (scenario : Scenario) (home : Home) (past : SitePast) (x : SiteHappening) : Type 0 where
@@ -35,16 +36,6 @@ data BeginsBy (scenario : Scenario) (home : Home) (past : SitePast) (x : SiteHap
       → ((start : Start) (older : List EngineLine) → attempts start (x.lines ++ older) ≡ tid ∷ attempts start older) → BeginsBy scenario home past x
 
 module _ (scenario : Scenario) (home : Home) (past : SitePast) where
-  by_when : (b : Bool) (x y : SiteHappening) → BeginsBy scenario home past x → BeginsBy scenario home past y → BeginsBy scenario home past (when b x y)
-  unfolding when
-  by_when true x y p q = p
-  by_when false x y p q = q
-
-  by_pick : {A : Type 0} (o : Option A) (none : SiteHappening) (some : A → SiteHappening) → BeginsBy scenario home past none → ((a : A) → BeginsBy scenario home past (some a)) → BeginsBy scenario home past (pick o none some)
-  unfolding pick
-  by_pick None none some p q = p
-  by_pick (Some a) none some p q = q a
-
   by_quiet : (event : SiteEvent) (answer : Answer) → stops answer ≡ false → comes_up answer ≡ false → BeginsBy scenario home past (quiet event answer)
   by_quiet event answer goes stays = Stays goes stays (λ start older. refl)
 
@@ -52,38 +43,38 @@ module _ (scenario : Scenario) (home : Home) (past : SitePast) where
   by_trip : (x : SiteHappening) (armed : Option Trip) → BeginsBy scenario home past x → BeginsBy scenario home past (tripped site_frame (disk home past) armed x)
   unfolding tripped stopped
   by_trip x None d = d
-  by_trip x (Some t) d = by_when (nat_le t.calls (length x.calls)) _ _ (Renews refl) d
+  by_trip x (Some t) d = at_when (BeginsBy scenario home past) (nat_le t.calls (length x.calls)) _ _ (Renews refl) d
 
   by_begin : (tid : Tid) → IsBegin scenario home past tid → BeginsBy scenario home past (of_begin home past tid)
   unfolding of_begin
   by_begin tid asked =
-      by_pick (local_of (records home past) tid.tx) _ _
-      (by_pick (live_of_tx home past tid.tx) _ _ (Next tid asked refl refl refl (λ start older. refl)) (λ running. by_quiet _ _ refl refl))
-      (λ committed. by_quiet _ _ refl refl)
+      at_pick (BeginsBy scenario home past) (local_of (records home past) tid.tx) _ _
+      (at_pick (BeginsBy scenario home past) (live_of_tx home past tid.tx) _ _ (Next tid asked refl refl refl (λ start older. refl)) (λ running e. by_quiet _ _ refl refl))
+      (λ committed e. by_quiet _ _ refl refl)
 
   by_act : (tid : Tid) (act : PlainAct) → BeginsBy scenario home past (of_act home past tid act)
   unfolding of_act
   by_act tid act =
-      by_pick (live home past tid) _ _ (by_quiet _ _ refl refl)
-      (λ run. Stays (acts_about tid (reply_to home past run act) act).stays (acts_about tid (reply_to home past run act) act).up (λ start older. refl))
+      at_pick (BeginsBy scenario home past) (live home past tid) _ _ (by_quiet _ _ refl refl)
+      (λ run e. Stays (acts_about tid (reply_to home past run act) act).stays (acts_about tid (reply_to home past run act) act).up (λ start older. refl))
 
   by_commit : (tid : Tid) → BeginsBy scenario home past (of_commit home past tid)
   unfolding of_commit seals_local
   by_commit tid =
-      by_pick (live home past tid) _ _ (by_quiet _ _ refl refl)
-      (λ run. by_pick (stop_of home past run) _ _ (Stays refl refl (λ start older. refl))
-      (λ why. Stays (refused_about tid why).stays (refused_about tid why).up (λ start older. refl)))
+      at_pick (BeginsBy scenario home past) (live home past tid) _ _ (by_quiet _ _ refl refl)
+      (λ run e. at_pick (BeginsBy scenario home past) (stop_of home past run) _ _ (Stays refl refl (λ start older. refl))
+      (λ why e. Stays (refused_about tid why).stays (refused_about tid why).up (λ start older. refl)))
 
   by_abort : (tid : Tid) → BeginsBy scenario home past (of_abort home past tid)
   unfolding of_abort
-  by_abort tid = by_pick (live home past tid) _ _ (by_quiet _ _ refl refl) (λ run. Stays refl refl (λ start older. refl))
+  by_abort tid = at_pick (BeginsBy scenario home past) (live home past tid) _ _ (by_quiet _ _ refl refl) (λ run e. Stays refl refl (λ start older. refl))
 
   by_fate : (tx : Tx) → BeginsBy scenario home past (of_fate home past tx)
   unfolding of_fate
   by_fate tx =
-      by_pick (local_of (records home past) tx) _ _
-      (by_pick (live_of_tx home past tx) _ _ (by_count (attempts_of past tx == 0)) (λ running. by_quiet _ _ refl refl))
-      (λ committed. by_quiet _ _ refl refl)
+      at_pick (BeginsBy scenario home past) (local_of (records home past) tx) _ _
+      (at_pick (BeginsBy scenario home past) (live_of_tx home past tx) _ _ (by_count (attempts_of past tx == 0)) (λ running e. by_quiet _ _ refl refl))
+      (λ committed e. by_quiet _ _ refl refl)
     where
       by_count : (b : Bool) → BeginsBy scenario home past (quiet (Ev.Fate tx) (cond b Say.Unbegun Say.Ended))
       by_count true = by_quiet _ _ refl refl
@@ -91,7 +82,7 @@ module _ (scenario : Scenario) (home : Home) (past : SitePast) where
 
   -- the event of a site that is down, or the line of one that is up
   by_here : (event : SiteEvent) (x : SiteHappening) → BeginsBy scenario home past x → BeginsBy scenario home past (when (is_down past) (quiet event Say.Down) (unless_tripped home past x))
-  by_here event x d = by_when (is_down past) _ _ (by_quiet _ _ refl refl) (by_trip x (trip past) d)
+  by_here event x d = at_when (BeginsBy scenario home past) (is_down past) _ _ (by_quiet _ _ refl refl) (by_trip x (trip past) d)
 
   -- the next line of the site
   by_line : (event : SiteEvent) → IsOwnEvent event → IsAsked scenario home past event → BeginsBy scenario home past (site_line home past event)
@@ -101,9 +92,9 @@ module _ (scenario : Scenario) (home : Home) (past : SitePast) where
   by_line (Ev.Commit tid) own asked = by_here (Ev.Commit tid) (of_commit home past tid) (by_commit tid)
   by_line (Ev.Abort tid) own asked = by_here (Ev.Abort tid) (of_abort home past tid) (by_abort tid)
   by_line (Ev.Fate tx) own asked = by_here (Ev.Fate tx) (of_fate home past tx) (by_fate tx)
-  by_line (Ev.Halt cut) own asked = by_when (is_down past) _ _ (by_quiet _ _ refl refl) (Renews refl)
+  by_line (Ev.Halt cut) own asked = at_when (BeginsBy scenario home past) (is_down past) _ _ (by_quiet _ _ refl refl) (Renews refl)
   by_line (Ev.Trip calls cut) own asked = by_quiet _ _ refl refl
-  by_line Ev.Back own asked = by_when (is_down past) _ _ (by_trip (of_back home past) (trip past) (Renews refl)) (by_quiet _ _ refl refl)
+  by_line Ev.Back own asked = at_when (BeginsBy scenario home past) (is_down past) _ _ (by_trip (of_back home past) (trip past) (Renews refl)) (by_quiet _ _ refl refl)
   by_line (Ev.Give message) own asked = absurd own
   by_line (Ev.Ask tid) own asked = absurd own
   by_line (Ev.Drop tid) own asked = absurd own

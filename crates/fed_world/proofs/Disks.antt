@@ -1,26 +1,11 @@
 -- The disks behind a change of the site's own one: it alone is another.
-use Rattle.std.proofs.Common.{◌≡◌, ℕ, zero, suc, ◌<◌, ◌≤◌, ◌==◌, Bool, true, false, Some, List, [], ◌∷◌, length, slice_get, slice_set, inl, inr, refl, sym, ◌∙◌, ap, subst, eqb-true, eq-eqb, arith}
+use Rattle.std.proofs.Common.{◌≡◌, ℕ, zero, suc, ◌≤◌, ◌==◌, Bool, true, false, Some, List, [], ◌∷◌, length, get_or, slice_get, slice_set, inl, inr, refl, sym, ap, subst, eqb-true, eq-eqb, arith}
+use Rattle.std.proofs.lemmas.Option.{slice_get-get_or, slice_get_within}
 use Rattle.mdb_base.specs.Counts.{HasRisen}
 use Rattle.fed_world.specs.Worlds.{HasCause, NeverFalls, RisesAt}
 use Rattle.fed_world.specs.declared.errors.WorldErr.{WorldErr}
 use Rattle.fed_world.specs.declared.errors.WorldErr.TheVariants as Err_is
-use Rattle.fed_world.proofs.Told.{get_set, get_set_other}
-
--- two items at one place are one
-pub one_at : {A : Type 0} (xs : List A) (place : ℕ) (a b : A) → slice_get xs place ≡ Some a → slice_get xs place ≡ Some b → a ≡ b
-one_at xs place a b at got = let both : Some a ≡ Some b = sym at ∙ got in cc
-
--- below the length an item stands
-pub some_at : {A : Type 0} (xs : List A) (place : ℕ) → place < length xs → (a : A) × (slice_get xs place ≡ Some a)
-some_at [] place lt = absurd (omega arith)
-some_at (x ∷ xs) zero lt = (x, refl)
-some_at (x ∷ xs) (suc place) lt = some_at xs place (omega arith)
-
--- an item's place is below the length
-pub below_at : {A : Type 0} (xs : List A) (place : ℕ) (a : A) → slice_get xs place ≡ Some a → place < length xs
-below_at [] place a at = cc
-below_at (x ∷ xs) zero a at = omega arith
-below_at (x ∷ xs) (suc place) a at = let h = below_at xs place a at in omega arith
+use Rattle.fed_world.proofs.Told.{get_set, get_set_other, one_at}
 
 -- the own disk after
 pub own_after : {A : Type 0} (xs : List A) (place : ℕ) (old new : A) → slice_get xs place ≡ Some old → slice_get (slice_set xs place new) place ≡ Some new
@@ -61,10 +46,11 @@ same_never_falls faults disks place a b at got = let equal = ap faults (one_at d
 -- one change after another
 pub never_falls_twice : {D : Type 0} (faults : D → ℕ) (old mid new : List D) → length old ≡ length mid → NeverFalls faults old mid → NeverFalls faults mid new → NeverFalls faults old new
 never_falls_twice faults old mid new same first second place a b at got =
-    let lt = below_at old place a at in
-    let m = some_at mid place (omega arith) in
-    let one = first place a m.0 at m.1 in
-    let two = second place m.0 b m.1 got in omega arith
+    let lt = slice_get_within old place a at in
+    let m = get_or mid place a in
+    let there = slice_get-get_or mid place a (omega arith) in
+    let one = first place a m at there in
+    let two = second place m b there got in omega arith
 
 risen_later : (a b c : ℕ) → a ≤ b → HasRisen b c → HasRisen a c
 risen_later a b c le (inl lt) = inl (omega arith)
@@ -74,6 +60,7 @@ risen_later a b c le (inr top) = inr top
 pub cause_later : {D : Type 0} (faults : D → ℕ) (why : WorldErr) (old mid new : List D) → length old ≡ length mid → NeverFalls faults old mid → HasCause faults why mid new → HasCause faults why old new
 cause_later faults Err_is.Memory old mid new same first rose = tt
 cause_later faults (Err_is.Disk number) old mid new same first rose = λ a b at got.
-    let lt = below_at old number a at in
-    let m = some_at mid number (omega arith) in
-    risen_later (faults a) (faults m.0) (faults b) (first number a m.0 at m.1) (rose m.0 b m.1 got)
+    let lt = slice_get_within old number a at in
+    let m = get_or mid number a in
+    let there = slice_get-get_or mid number a (omega arith) in
+    risen_later (faults a) (faults m) (faults b) (first number a m at there) (rose m b there got)

@@ -1,6 +1,6 @@
 -- What a site stands for behind an event that it handed to its core.
-use Rattle.std.proofs.Common.{◌≡◌, ℕ, zero, suc, ◌<◌, Bool, true, false, cond, Option, Some, None, List, [], ◌∷◌, length, map, Result, Ok, Err, IfOk, IfErr, refl, sym, ◌∙◌, ap, subst, eq-eqb, ne_eqb, arith}
-use Rattle.std.proofs.lemmas.Bool.{cond-true, cond-false}
+use Rattle.std.proofs.Common.{◌≡◌, ℕ, zero, suc, ◌<◌, Bool, true, false, cond, Some, None, List, ◌∷◌, length, map, Result, Ok, Err, IfOk, IfErr, refl, sym, ◌∙◌, ap, subst, ne_eqb, arith}
+use Rattle.std.proofs.lemmas.Bool.{cond-false}
 use Rattle.std.proofs.lemmas.List.{length-map}
 use Rattle.mdb_base.specs.declared.names.SiteId.{SiteId}
 use Rattle.mdb_base.specs.declared.names.Tx.{Tx}
@@ -23,6 +23,7 @@ use Rattle.fed_rules.specs.Site.{site_line}
 use Rattle.fed_rules.specs.SitePast.{SiteHappening, SitePast, trip_of}
 use Rattle.fed_rules.specs.SiteRecords.{Home}
 use Rattle.fed_rules.specs.Story.{Story, Nowhere, happens, on_actor, on_fate, on_site, story_of, past_of, at_site}
+use Rattle.site_laws.proofs.OneSite.{one_home}
 use Rattle.site_laws.proofs.SiteLines.{pick-none, pick-some}
 use Rattle.local_laws.specs.Kept.{State, resting, heard_up}
 use Rattle.local_laws.specs.Sound.{IsOwn, IsOwnEvent}
@@ -43,12 +44,16 @@ pub on_failure : {A B : Type 0} (P Q : B → Type 0) (r : Result A B) → ((b : 
 on_failure P Q (Ok a) f p = tt
 on_failure P Q (Err e) f p = f e p
 
-pub rest_length : (answer : Answer) (states : List State) → length (rest_all answer states) ≡ length states
+rest_length : (answer : Answer) (states : List State) → length (rest_all answer states) ≡ length states
 rest_length answer states = by_test (stops answer)
   where
     by_test : (b : Bool) → length (cond b (map resting states) states) ≡ length states
     by_test true = length-map states resting
     by_test false = refl
+
+-- an event that is handed to the core leaves as many places
+pub handed_length : {E : Type 0} (core : Home → SitePast → Type 0) (old new : LocalSite E) (answer : Answer) (home : Home) (past : SitePast) (x : SiteHappening) → Hands core old new answer home past x → length new.locals.items ≡ length old.locals.items
+handed_length core old new answer home past x h = ap (λ (states : List State). length states) h.locals ∙ rest_length x.answer old.locals.items
 
 -- an event that changes what is kept only where it stops the site, and sets no trip
 pub record LeavesKept (event : SiteEvent) : Type 0 where
@@ -61,7 +66,7 @@ pub handed_at : {E : Type 0} (core new_core : Home → SitePast → Type 0) (sce
 handed_at core new_core scenario line old new answer past event x h is leaves s = record {
   stood = h.stood;
   number = h.site ∙ s.number;
-  places = ap (λ (states : List State). length states) h.locals ∙ (rest_length x.answer old.locals.items ∙ s.places);
+  places = handed_length new_core old new answer (home_from scenario line) past x h ∙ s.places;
   kept = subst (λ states. AllKept scenario.transactions (x ∷ past) states) (sym h.locals)
       (rest_kept scenario.transactions past x old.locals.items (λ tx st. subst (λ e. heard_up tx e x.answer st ≡ st) (sym is) (leaves.same x.answer tx st)) s.kept);
   tripped = h.armed ∙ trip_next past x old.armed (ap trip_of is ∙ leaves.untripped) s.tripped;
@@ -121,7 +126,7 @@ pub actor_at : (scenario : Scenario) (story : Story) (line : SiteLine) (actor : 
 unfolding on_actor on_site
 actor_at scenario story line zero at_coord event alone some same = absurd (omega arith)
 actor_at scenario story line (suc n) at_coord event alone some same =
-    pick-some (home_of scenario (record { 0 = suc n })) _ _ (home_from scenario line) (ap (λ k. home_of scenario (record { 0 = k })) same ∙ (ap (λ sites. home_in sites scenario.items line.site) alone.sites ∙ cond-true _ _ _ (eq-eqb line.site.0 line.site.0 refl)))
+    pick-some (home_of scenario (record { 0 = suc n })) _ _ (home_from scenario line) (ap (λ k. home_of scenario (record { 0 = k })) same ∙ one_home scenario line alone.sites)
 
 -- the answer to an event of the site by its number
 pub actor_told : {E : Type 0} (core new_core : Home → SitePast → Type 0) (scenario : Scenario) (old new : LocalSite E) (command : Command) (actor : ℕ) (at_coord : CoordEvent) (event : SiteEvent) (answer : Answer) (commands : List Command) → IsOwn command → IsOwnEvent event → LeavesKept event

@@ -1,6 +1,7 @@
 -- What a site stands for behind an event about one of its transactions, which it handed to its core.
-use Rattle.std.proofs.Common.{◌≡◌, ℕ, zero, suc, ◌<◌, Bool, true, false, cond, Some, None, List, [], ◌∷◌, length, map, slice_get, slice_set, get_or, refl, sym, ◌∙◌, ap, ap₂, subst, length-set, arith}
-use Rattle.std.proofs.lemmas.Option.{slice_get_read}
+use Rattle.std.proofs.Common.{◌≡◌, ℕ, ◌<◌, Bool, true, false, cond, option_map, Some, None, List, ◌∷◌, length, map, slice_get, slice_set, get_or, refl, sym, ◌∙◌, ap, ap₂, subst, length-set, arith}
+use Rattle.std.proofs.lemmas.List.{set-get_or}
+use Rattle.std.proofs.lemmas.Option.{get_or_from_slice_get, slice_get-map, slice_get_read}
 use Rattle.std.proofs.lemmas.Bool.{cond-true, cond-false}
 use Rattle.mdb_base.specs.declared.names.Tx.{Tx}
 use Rattle.mdb_base.specs.Names.{same_tx}
@@ -21,33 +22,25 @@ use Rattle.local_laws.specs.Sound.{IsOwn, IsOwnEvent}
 use Rattle.fed_world.specs.declared.local_site.LocalSite.{LocalSite}
 use Rattle.fed_world.specs.Places.{IsPlace}
 use Rattle.fed_world.specs.Stands.{home_from, AllKept, Hands, IsAlone, IsTold, SiteAt, SiteStands, rest_all}
-use Rattle.fed_world.proofs.Handed.{rest_length}
+use Rattle.fed_world.proofs.Handed.{handed_length}
 use Rattle.fed_world.proofs.Owned.{IsOwned}
 use Rattle.fed_world.proofs.Silent.{silent_line}
-use Rattle.fed_world.proofs.Told.{distinct_at, get_map, get_set, get_set_other, place_tx, told_at, trip_next}
-
--- what stands at a place of a list that was changed at each place
-map_at : {A B : Type 0} (f : A → B) (xs : List A) (i : ℕ) (x : A) → slice_get xs i ≡ Some x → slice_get (map f xs) i ≡ Some (f x)
-map_at f [] i x e = cc
-map_at f (y ∷ ys) zero x e = (let same : y ≡ x = cc in ap (λ z. Some (f z)) same)
-map_at f (y ∷ ys) (suc i) x e = map_at f ys i x e
+use Rattle.fed_world.proofs.Told.{distinct_at, get_set, get_set_other, one_at, place_tx, rest_line, told_at, trip_next}
 
 -- what stands at a place, written back, changes nothing
 pub set_same : {A : Type 0} (xs : List A) (i : ℕ) (x : A) → slice_get xs i ≡ Some x → slice_set xs i x ≡ xs
-set_same [] i x e = cc
-set_same (y ∷ ys) zero x e = (let same : y ≡ x = cc in ap (λ z. z ∷ ys) (sym same))
-set_same (y ∷ ys) (suc i) x e = ap (λ zs. y ∷ zs) (set_same ys i x e)
+set_same xs i x e = subst (λ y. slice_set xs i y ≡ xs) (get_or_from_slice_get xs i x x e) (set-get_or xs i x)
 
 -- what is kept at a place behind an answer that may stop the site
 pub rest_at : (answer : Answer) (states : List State) (place : ℕ) (state : State) → slice_get states place ≡ Some state → slice_get (rest_all answer states) place ≡ Some (cond (stops answer) (resting state) state)
 rest_at answer states place state e = by_test (stops answer)
   where
     by_test : (b : Bool) → slice_get (cond b (map resting states) states) place ≡ Some (cond b (resting state) state)
-    by_test true = map_at resting states place state e
+    by_test true = slice_get-map resting states place ∙ ap (λ o. option_map resting o) e
     by_test false = e
 
 rest_is : (answer : Answer) (states : List State) (place : ℕ) (state now : State) → slice_get states place ≡ Some state → slice_get (rest_all answer states) place ≡ Some now → now ≡ cond (stops answer) (resting state) state
-rest_is answer states place state now e f = (let both : Some now ≡ Some (cond (stops answer) (resting state) state) = sym f ∙ rest_at answer states place state e in cc)
+rest_is answer states place state now e f = one_at (rest_all answer states) place now (cond (stops answer) (resting state) state) f (rest_at answer states place state e)
 
 -- such an answer leaves all but which attempt is live
 rest_begun : (b : Bool) (state : State) → (cond b (resting state) state).begun ≡ state.begun
@@ -65,7 +58,7 @@ rest_reads false state = refl
 -- what is kept of a transaction behind an event that was handed to the core
 module _ {E : Type 0} (core : Home → SitePast → Type 0) (old new : LocalSite E) (answer : Answer) (home : Home) (past : SitePast) (x : SiteHappening) (h : Hands core old new answer home past x) (place : ℕ) where
   pub handed_below : place < length old.locals.items → place < length new.locals.items
-  handed_below below = let same = ap (λ (states : List State). length states) h.locals ∙ rest_length x.answer old.locals.items in omega arith
+  handed_below below = let same = handed_length core old new answer home past x h in omega arith
 
   pub handed_got : (now : State) → place < length old.locals.items → now ≡ get_or new.locals.items place now → slice_get new.locals.items place ≡ Some now
   handed_got now below read = slice_get_read new.locals.items (length new.locals.items) place now refl (handed_below below) read
@@ -89,22 +82,15 @@ set_rest_kept : (scenario : Scenario) (line : SiteLine) (past : SitePast) (x : S
     → AllKept scenario.transactions past states → AllKept scenario.transactions (x ∷ past) (slice_set (rest_all x.answer states) place state)
 set_rest_kept scenario line past x tx place p states state alone own others k i l s at got = by_test (same_tx tx l.tx) refl
   where
-    by_stop : same_tx tx l.tx ≡ false → (b : Bool) → stops x.answer ≡ b → slice_get (cond b (map resting states) states) i ≡ Some s → s ≡ heard l.tx x.event x.answer (kept_of l.tx past)
-    by_stop is true stop after =
-        (let (old, before, rests) = get_map resting states i s after in
-        sym rests ∙ (ap resting (k i l old at before) ∙ sym (cond-true _ _ _ stop)))
-    by_stop is false stop after = k i l s at after ∙ sym (cond-false _ _ _ stop ∙ others l.tx (kept_of l.tx past) is)
-
     by_test : (b : Bool) → same_tx tx l.tx ≡ b → s ≡ heard l.tx x.event x.answer (kept_of l.tx past)
     by_test true is =
         (let tx_is : tx ≡ l.tx = same_tx-equal tx l.tx is in
         let here : place ≡ i = distinct_at (λ (t : TxLine). t.tx) scenario.transactions place i p.line l alone.numbers p.at at (place_tx scenario tx place p ∙ tx_is) in
         sym (get_set (rest_all x.answer states) place state s (ap (λ j. slice_get (slice_set (rest_all x.answer states) place state) j) here ∙ got)) ∙ subst (λ t. state ≡ heard t x.event x.answer (kept_of t past)) tx_is own)
     by_test false is =
-        (let apart : place ≡ i → ⊥ = λ h. (let line_is : Some p.line ≡ Some l = sym p.at ∙ (ap (λ j. slice_get scenario.transactions j) h ∙ at) in
-        let lines_same : p.line ≡ l = cc in
+        (let apart : place ≡ i → ⊥ = λ h. (let lines_same : p.line ≡ l = one_at scenario.transactions place p.line l p.at (ap (λ j. slice_get scenario.transactions j) h ∙ at) in
         let bad : same_tx tx l.tx ≡ true = subst (λ (t : TxLine). same_tx tx t.tx ≡ true) lines_same (subst (λ u. same_tx tx u ≡ true) (sym (place_tx scenario tx place p)) (same_tx-refl tx)) in cc) in
-        by_stop is (stops x.answer) refl (get_set_other (rest_all x.answer states) place i state s apart got))
+        rest_line scenario.transactions past x states i l s (others l.tx (kept_of l.tx past) is) k at (get_set_other (rest_all x.answer states) place i state s apart got))
 
 -- the site behind such a line
 handed_set : {E : Type 0} (core new_core : Home → SitePast → Type 0) (scenario : Scenario) (line : SiteLine) (old new : LocalSite E) (answer : Answer) (past : SitePast) (x : SiteHappening) (tx : Tx) (place : ℕ) (state : State) → IsAlone scenario line → IsPlace scenario.transactions tx place
@@ -114,7 +100,7 @@ handed_set : {E : Type 0} (core new_core : Home → SitePast → Type 0) (scenar
 handed_set core new_core scenario line old new answer past x tx place state alone p h untripped own others s = record {
   stood = h.stood;
   number = h.site ∙ s.number;
-  places = length-set new.locals.items place state ∙ (ap (λ (states : List State). length states) h.locals ∙ (rest_length x.answer old.locals.items ∙ s.places));
+  places = length-set new.locals.items place state ∙ (handed_length new_core old new answer (home_from scenario line) past x h ∙ s.places);
   kept = subst (λ states. AllKept scenario.transactions (x ∷ past) (slice_set states place state)) (sym h.locals) (set_rest_kept scenario line past x tx place p old.locals.items state alone own others s.kept);
   tripped = h.armed ∙ trip_next past x old.armed untripped s.tripped;
 }

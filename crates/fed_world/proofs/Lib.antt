@@ -2,12 +2,12 @@ mod Answered
 mod Begun
 mod Closed
 mod Disks
-mod Ended
 mod Handed
 mod HandedOne
 mod Inserted
 mod Installed
 mod KeptReads
+mod LineCases
 mod LiveLists
 mod LiveSteps
 mod LocalOnce
@@ -31,4 +31,3 @@ mod TellsStep
 mod TellsTrip
 mod Told
 mod Towards
-mod TxAtPlace

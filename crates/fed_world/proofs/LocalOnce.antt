@@ -5,7 +5,7 @@ use Rattle.mdb_base.specs.declared.acts.PlainAct.{PlainAct}
 use Rattle.mdb_base.specs.declared.names.Tid.{Tid}
 use Rattle.mdb_base.specs.declared.names.Tx.{Tx}
 use Rattle.mdb_base.specs.Names.{same_tx}
-use Rattle.mdb_base.specs.Words.{when, pick}
+use Rattle.mdb_base.specs.Words.{when}
 use Rattle.fed_rules.specs.declared.answers.Answer.TheVariants as Say
 use Rattle.fed_rules.specs.declared.events.SiteEvent.{SiteEvent}
 use Rattle.fed_rules.specs.declared.events.SiteEvent.TheVariants as Ev
@@ -26,6 +26,7 @@ use Rattle.local_laws.proofs.Stories.{led_keeps}
 use Rattle.site_laws.specs.Led.{IsLed}
 use Rattle.site_laws.proofs.Attempts.{same_tx-equal}
 use Rattle.site_laws.proofs.OwnRuns.{live_has}
+use Rattle.fed_world.proofs.LineCases.{at_pick, at_when}
 
 -- 1 for a Local record of the transaction
 abbrev pub is_of : Tx → SiteRecord → ℕ
@@ -97,33 +98,23 @@ record AddsOnce (home : Home) (past : SitePast) (x : SiteHappening) : Type 0 whe
 adds_none : (home : Home) (past : SitePast) (x : SiteHappening) → x.calls ≡ [] → HasOnce home past → AddsOnce home past x
 adds_none home past x e h = record { once = λ tx. subst (λ calls. appends_of tx calls + locals_of tx (records home past) ≤ 1) (sym e) (let a = h tx in omega arith) }
 
-adds_when : (home : Home) (past : SitePast) (b : Bool) (x y : SiteHappening) → AddsOnce home past x → AddsOnce home past y → AddsOnce home past (when b x y)
-unfolding when
-adds_when home past true x y p q = p
-adds_when home past false x y p q = q
-
-adds_pick : {A : Type 0} (home : Home) (past : SitePast) (o : Option A) (none : SiteHappening) (some : A → SiteHappening) → AddsOnce home past none → ((a : A) → o ≡ Some a → AddsOnce home past (some a)) → AddsOnce home past (pick o none some)
-unfolding pick
-adds_pick home past None none some p q = p
-adds_pick home past (Some a) none some p q = q a refl
-
 -- a line that may be tripped
 adds_tripped : (home : Home) (past : SitePast) (x : SiteHappening) (armed : Option Trip) → AddsOnce home past x → AddsOnce home past (tripped site_frame (disk home past) armed x)
 unfolding tripped stopped
 adds_tripped home past x None a = a
 adds_tripped home past x (Some t) a =
-    adds_when home past (nat_le t.calls (length x.calls)) _ _ (record { once = λ tx. (let all = a.once tx in let some = front_fewer tx t.calls t.cut x.calls in omega arith) }) a
+    at_when (AddsOnce home past) (nat_le t.calls (length x.calls)) _ _ (record { once = λ tx. (let all = a.once tx in let some = front_fewer tx t.calls t.cut x.calls in omega arith) }) a
 
 adds_begin : (home : Home) (past : SitePast) (tid : Tid) → HasOnce home past → AddsOnce home past (of_begin home past tid)
 unfolding of_begin
 adds_begin home past tid h =
-    adds_pick home past (local_of (records home past) tid.tx) _ _
-    (adds_pick home past (live_of_tx home past tid.tx) _ _ (adds_none home past _ refl h) (λ running e. adds_none home past _ refl h))
+    at_pick (AddsOnce home past) (local_of (records home past) tid.tx) _ _
+    (at_pick (AddsOnce home past) (live_of_tx home past tid.tx) _ _ (adds_none home past _ refl h) (λ running e. adds_none home past _ refl h))
     (λ committed e. adds_none home past _ refl h)
 
 adds_act : (home : Home) (past : SitePast) (tid : Tid) (act : PlainAct) → HasOnce home past → AddsOnce home past (of_act home past tid act)
 unfolding of_act
-adds_act home past tid act h = adds_pick home past (live home past tid) _ _ (adds_none home past _ refl h) (λ run e. adds_none home past _ refl h)
+adds_act home past tid act h = at_pick (AddsOnce home past) (live home past tid) _ _ (adds_none home past _ refl h) (λ run e. adds_none home past _ refl h)
 
 -- the record of a live attempt is the first one of its transaction
 adds_sealed : (scenario : Scenario) (home : Home) (past : SitePast) (tid : Tid) (run : Run) → Keeps scenario home past → live home past tid ≡ Some run → HasOnce home past → AddsOnce home past (seals_local home past tid run)
@@ -140,18 +131,18 @@ adds_sealed scenario home past tid run k e h = record { once = λ tx. by_test tx
 adds_commit : (scenario : Scenario) (home : Home) (past : SitePast) (tid : Tid) → Keeps scenario home past → HasOnce home past → AddsOnce home past (of_commit home past tid)
 unfolding of_commit
 adds_commit scenario home past tid k h =
-    adds_pick home past (live home past tid) _ _ (adds_none home past _ refl h)
-    (λ run e. adds_pick home past (stop_of home past run) _ _ (adds_sealed scenario home past tid run k e h) (λ why f. adds_none home past _ refl h))
+    at_pick (AddsOnce home past) (live home past tid) _ _ (adds_none home past _ refl h)
+    (λ run e. at_pick (AddsOnce home past) (stop_of home past run) _ _ (adds_sealed scenario home past tid run k e h) (λ why f. adds_none home past _ refl h))
 
 adds_abort : (home : Home) (past : SitePast) (tid : Tid) → HasOnce home past → AddsOnce home past (of_abort home past tid)
 unfolding of_abort
-adds_abort home past tid h = adds_pick home past (live home past tid) _ _ (adds_none home past _ refl h) (λ run e. adds_none home past _ refl h)
+adds_abort home past tid h = at_pick (AddsOnce home past) (live home past tid) _ _ (adds_none home past _ refl h) (λ run e. adds_none home past _ refl h)
 
 adds_fate : (home : Home) (past : SitePast) (tx : Tx) → HasOnce home past → AddsOnce home past (of_fate home past tx)
 unfolding of_fate
 adds_fate home past tx h =
-    adds_pick home past (local_of (records home past) tx) _ _
-    (adds_pick home past (live_of_tx home past tx) _ _ (adds_none home past _ refl h) (λ running e. adds_none home past _ refl h))
+    at_pick (AddsOnce home past) (local_of (records home past) tx) _ _
+    (at_pick (AddsOnce home past) (live_of_tx home past tx) _ _ (adds_none home past _ refl h) (λ running e. adds_none home past _ refl h))
     (λ committed e. adds_none home past _ refl h)
 
 adds_back : (home : Home) (past : SitePast) → HasOnce home past → AddsOnce home past (of_back home past)
@@ -164,7 +155,7 @@ adds_back home past h = record { once = λ tx. by_test (epoch home past + 1) tx 
 
 -- the event of a site that is down, or the line of one that is up
 adds_here : (home : Home) (past : SitePast) (event : SiteEvent) (x : SiteHappening) → HasOnce home past → AddsOnce home past x → AddsOnce home past (when (is_down past) (quiet event Say.Down) (unless_tripped home past x))
-adds_here home past event x h a = adds_when home past (is_down past) _ _ (adds_none home past _ refl h) (adds_tripped home past x (trip past) a)
+adds_here home past event x h a = at_when (AddsOnce home past) (is_down past) _ _ (adds_none home past _ refl h) (adds_tripped home past x (trip past) a)
 
 -- the next line of a site
 line_adds : (scenario : Scenario) (home : Home) (past : SitePast) (event : SiteEvent) → IsOwnEvent event → Keeps scenario home past → HasOnce home past → AddsOnce home past (site_line home past event)
@@ -174,9 +165,9 @@ line_adds scenario home past (Ev.Act tid act) own k h = adds_here home past (Ev.
 line_adds scenario home past (Ev.Commit tid) own k h = adds_here home past (Ev.Commit tid) (of_commit home past tid) h (adds_commit scenario home past tid k h)
 line_adds scenario home past (Ev.Abort tid) own k h = adds_here home past (Ev.Abort tid) (of_abort home past tid) h (adds_abort home past tid h)
 line_adds scenario home past (Ev.Fate tx) own k h = adds_here home past (Ev.Fate tx) (of_fate home past tx) h (adds_fate home past tx h)
-line_adds scenario home past (Ev.Halt cut) own k h = adds_when home past (is_down past) _ _ (adds_none home past _ refl h) (record { once = λ tx. (let a = h tx in omega arith) })
+line_adds scenario home past (Ev.Halt cut) own k h = at_when (AddsOnce home past) (is_down past) _ _ (adds_none home past _ refl h) (record { once = λ tx. (let a = h tx in omega arith) })
 line_adds scenario home past (Ev.Trip calls cut) own k h = adds_none home past _ refl h
-line_adds scenario home past Ev.Back own k h = adds_when home past (is_down past) _ _ (adds_tripped home past (of_back home past) (trip past) (adds_back home past h)) (adds_none home past _ refl h)
+line_adds scenario home past Ev.Back own k h = at_when (AddsOnce home past) (is_down past) _ _ (adds_tripped home past (of_back home past) (trip past) (adds_back home past h)) (adds_none home past _ refl h)
 line_adds scenario home past (Ev.Give message) own k h = absurd own
 line_adds scenario home past (Ev.Ask tid) own k h = absurd own
 line_adds scenario home past (Ev.Drop tid) own k h = absurd own

@@ -20,18 +20,17 @@ use Rattle.fed_rules.specs.SiteRecords.{Home}
 use Rattle.fed_rules.specs.Story.{past_of, story_of}
 use Rattle.local_laws.specs.Kept.{State, resting, after_access, heard, heard_up, kept_of}
 use Rattle.local_laws.specs.Sound.{IsOwnEvent, Keeps}
-use Rattle.local_laws.proofs.Stories.{all_allow, led_keeps}
 use Rattle.site_laws.specs.Led.{IsAsked, IsLed}
 use Rattle.site_laws.specs.Locals.{installed_tids}
 use Rattle.site_laws.proofs.Attempts.{same_tx-equal}
-use Rattle.site_laws.proofs.Led.{pasts_led}
 use Rattle.site_laws.proofs.ListMembers.{found_in}
 use Rattle.site_laws.proofs.LiveRuns.{first_where-passes}
-use Rattle.site_laws.proofs.OneSite.{one_home, declared_home}
+use Rattle.site_laws.proofs.OneSite.{declared_home}
 use Rattle.fed_world.specs.Reports.{kept_reads}
 use Rattle.fed_world.specs.Stands.{home_from, SiteStands}
 use Rattle.fed_world.proofs.Installed.{installed_last}
 use Rattle.fed_world.proofs.KeptReads.{kept_found}
+use Rattle.fed_world.proofs.SiteBounds.{site_keeps, site_led}
 use Rattle.fed_world.proofs.Silent.{silent_line}
 use Rattle.fed_world.proofs.Told.{no_home}
 
@@ -74,11 +73,6 @@ led_unbegun scenario home (x ∷ past) tx none (line, led) =
     ∙ (either_begun (stops x.answer) (resting (kept_of tx past)) (heard_up tx line.event x.answer (kept_of tx past)) (kept_of tx past).begun refl (asked_begun scenario home past tx line.event x.answer (kept_of tx past) none line.asked)
     ∙ led_unbegun scenario home past tx none led)
 
--- the events of the site came as they were asked for
-pub site_led : (core : Home → SitePast → Type 0) (scenario : Scenario) (site : SiteId) (states : List State) (armed : Bool) (commands : List Command) → (s : SiteStands core scenario site states armed commands)
-    → IsLed IsOwnEvent scenario (home_from scenario s.line) (past_of s.line.site (story_of scenario commands))
-site_led core scenario site states armed commands s = pasts_led IsOwnEvent scenario (home_from scenario s.line) commands (one_home scenario s.line s.alone.sites) (all_allow scenario commands s.own)
-
 -- a committed attempt read what is kept
 pub member_read : (core : Home → SitePast → Type 0) (scenario : Scenario) (site : SiteId) (states : List State) (armed : Bool) (commands : List Command) (tid : Tid) → (s : SiteStands core scenario site states armed commands)
     → In tid (installed_tids (home_from scenario s.line) (past_of s.line.site (story_of scenario commands))) → kept_reads tid.tx scenario.transactions states ≡ reads_of scenario (story_of scenario commands) tid
@@ -91,10 +85,10 @@ member_read core scenario site states armed commands tid s i = by_line (transact
     past = past_of s.line.site (story_of scenario commands)
 
     led : IsLed IsOwnEvent scenario (home_from scenario s.line) (past_of s.line.site (story_of scenario commands))
-    led = site_led core scenario site states armed commands s
+    led = site_led scenario s.line commands s.alone s.own
 
     keeps : Keeps scenario (home_from scenario s.line) (past_of s.line.site (story_of scenario commands))
-    keeps = led_keeps scenario home past led
+    keeps = site_keeps scenario s.line commands s.alone s.own
 
     last : suc tid.attempt ≡ (kept_of tid.tx (past_of s.line.site (story_of scenario commands))).begun
     last = installed_last past _ (records home past) tid keeps.sound.records i ∙ (keeps.agrees tid.tx).begun

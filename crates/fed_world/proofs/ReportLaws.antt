@@ -26,7 +26,6 @@ use Rattle.fed_rules.specs.SiteRecords.{Home, Install, installs, order_of}
 use Rattle.fed_rules.specs.Story.{past_of, coord_past, story_of}
 use Rattle.local_laws.specs.Kept.{State}
 use Rattle.local_laws.proofs.Stops.{unprepared}
-use Rattle.local_laws.proofs.Stories.{led_keeps}
 use Rattle.session_laws.specs.Tables.{TablesOfRunningSites}
 use Rattle.site_laws.specs.Locals.{installed_tids}
 use Rattle.site_laws.proofs.LocalInstalls.{due_installed}
@@ -38,7 +37,8 @@ use Rattle.fed_world.specs.Reports.{member_tid, reads_of_member}
 use Rattle.fed_world.specs.Stands.{home_from, SiteStands}
 use Rattle.fed_world.proofs.Installed.{installed_once}
 use Rattle.fed_world.proofs.LocalOnce.{led_once}
-use Rattle.fed_world.proofs.MemberReads.{site_led, member_read}
+use Rattle.fed_world.proofs.MemberReads.{member_read}
+use Rattle.fed_world.proofs.SiteBounds.{site_keeps, site_led}
 
 tids_numbered : (xs : List Install) → map member_tid (map numbered xs) ≡ map (λ (i : Install). i.tid) xs
 tids_numbered [] = refl
@@ -59,8 +59,8 @@ printed_is core scenario site states armed commands s =
     let story = story_of scenario commands in
     let home = home_from scenario s.line in
     let past = past_of s.line.site story in
-    let led = site_led core scenario site states armed commands s in
-    let fits = (led_keeps scenario home past led).sound.records in
+    let led = site_led scenario s.line commands s.alone s.own in
+    let fits = (site_keeps scenario s.line commands s.alone s.own).sound.records in
     let once : Distinct (installed_tids home past) = installed_once past (length past) (records home past) fits (led_once scenario home past led) in
     let order : order_at scenario story s.line.site ≡ members_of home past =
     ap (λ h. order_of (is_committed story) (records_at h story)) (one_home scenario s.line s.alone.sites)

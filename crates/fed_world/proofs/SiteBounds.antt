@@ -1,17 +1,17 @@
--- What is kept at a site that stands for commands is right, and while there are few commands its numbers fit.
-use Rattle.std.proofs.Common.{ℕ, suc, ◌≡◌, ◌≤◌, Bool, true, false, cond, Some, List, [], ◌∷◌, length, refl, ◌∙◌, ap, eq-eqb, arith}
-use Rattle.std.proofs.lemmas.Bool.{cond-true}
+-- A site that stands for commands: its events came as they were asked for, what is kept of it is right, and while there are few commands its numbers fit.
+use Rattle.std.proofs.Common.{ℕ, suc, ◌≤◌, Bool, true, false, cond, List, [], ◌∷◌, length, arith}
 use Rattle.mdb_base.specs.declared.names.SiteId.{SiteId}
 use Rattle.mdb_base.specs.Names.{same_site}
 use Rattle.mdb_base.specs.Words.{Each}
 use Rattle.fed_rules.specs.declared.commands.Command.{Command}
 use Rattle.fed_rules.specs.declared.scenario.Scenario.{Scenario}
 use Rattle.fed_rules.specs.declared.scenario.SiteLine.{SiteLine}
-use Rattle.fed_rules.specs.Scenarios.{home_in, home_of}
 use Rattle.fed_rules.specs.SitePast.{SitePast, records}
 use Rattle.fed_rules.specs.Story.{Happened, AtSite, AtCoordinator, Nowhere, happens, past_of, story_of, with_site}
 use Rattle.site_core.specs.Steps.{EpochFits, NumberFits}
+use Rattle.site_laws.specs.Led.{IsLed}
 use Rattle.site_laws.proofs.Led.{pasts_led}
+use Rattle.site_laws.proofs.OneSite.{one_home}
 use Rattle.local_laws.specs.Sound.{IsOwn, IsOwnEvent, Keeps}
 use Rattle.local_laws.proofs.Served.{epoch_below}
 use Rattle.local_laws.proofs.Stories.{all_allow, led_keeps}
@@ -32,15 +32,14 @@ past_within scenario site [] = omega arith
 past_within scenario site (command ∷ commands) =
     past_with site (happens scenario (story_of scenario commands) command) (past_of site (story_of scenario commands)) (length commands) (past_within scenario site commands)
 
--- the site is declared
-home_is : (scenario : Scenario) (line : SiteLine) → IsAlone scenario line → home_of scenario line.site ≡ Some (home_from scenario line)
-home_is scenario line alone = ap (λ sites. home_in sites scenario.items line.site) alone.sites ∙ cond-true _ _ _ (eq-eqb line.site.0 line.site.0 refl)
+-- the events of the site came as they were asked for
+pub site_led : (scenario : Scenario) (line : SiteLine) (commands : List Command) → IsAlone scenario line → Each IsOwn commands → IsLed IsOwnEvent scenario (home_from scenario line) (past_of line.site (story_of scenario commands))
+site_led scenario line commands alone own = pasts_led IsOwnEvent scenario (home_from scenario line) commands (one_home scenario line alone.sites) (all_allow scenario commands own)
 
 -- what is kept of each transaction agrees with the past of the site
 pub site_keeps : (scenario : Scenario) (line : SiteLine) (commands : List Command) → IsAlone scenario line → Each IsOwn commands → Keeps scenario (home_from scenario line) (past_of line.site (story_of scenario commands))
 site_keeps scenario line commands alone own =
-    led_keeps scenario (home_from scenario line) (past_of line.site (story_of scenario commands))
-    (pasts_led IsOwnEvent scenario (home_from scenario line) commands (home_is scenario line alone) (all_allow scenario commands own))
+    led_keeps scenario (home_from scenario line) (past_of line.site (story_of scenario commands)) (site_led scenario line commands alone own)
 
 -- the next epoch fits
 pub epoch_fits : (scenario : Scenario) (line : SiteLine) (commands : List Command) → IsAlone scenario line → Each IsOwn commands → IsShort commands → EpochFits (home_from scenario line) (past_of line.site (story_of scenario commands))

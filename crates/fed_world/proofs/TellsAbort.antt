@@ -1,7 +1,5 @@
 -- The lines of `abort`.
-use Rattle.std.proofs.Common.{◌≡◌, ℕ, Bool, true, false, Some, None, List, slice_get, slice_set, refl, ◌∙◌}
-use Rattle.std.proofs.lemmas.Bool.{cond-true, cond-false}
-use Rattle.mdb_base.specs.declared.names.SiteId.{SiteId}
+use Rattle.std.proofs.Common.{◌≡◌, ℕ, true, false, Some, None, List, slice_get, slice_set, refl, ◌∙◌}
 use Rattle.mdb_base.specs.declared.names.Tx.{Tx}
 use Rattle.mdb_base.proofs.Words.{when-true}
 use Rattle.fed_rules.specs.declared.answers.Answer.{Answer}
@@ -10,60 +8,53 @@ use Rattle.fed_rules.specs.declared.commands.Command.{Command}
 use Rattle.fed_rules.specs.declared.commands.Command.TheVariants as Cmd
 use Rattle.fed_rules.specs.declared.events.SiteEvent.TheVariants as Ev
 use Rattle.fed_rules.specs.declared.scenario.Scenario.{Scenario}
+use Rattle.fed_rules.specs.declared.scenario.SiteLine.{SiteLine}
 use Rattle.fed_rules.specs.Happenings.{is_down}
 use Rattle.fed_rules.specs.Scenarios.{local_home}
 use Rattle.fed_rules.specs.Site.{site_line}
 use Rattle.fed_rules.specs.SitePast.{SitePast}
 use Rattle.fed_rules.specs.SiteRecords.{Home}
-use Rattle.fed_rules.specs.Story.{Story, Nowhere, attempt, happens, on_abort, past_of, story_of, with_live}
-use Rattle.site_laws.proofs.Attempts.{same_tx-refl}
+use Rattle.fed_rules.specs.Story.{Story, Nowhere, at_site, attempt, happens, on_abort, past_of, story_of, with_live}
 use Rattle.site_laws.proofs.Commands.{abort_at, abort_idle}
 use Rattle.site_laws.proofs.SiteLines.{pick-some}
 use Rattle.local_laws.specs.Kept.{State, resting}
 use Rattle.fed_world.specs.declared.local_site.LocalSite.{LocalSite}
-use Rattle.fed_world.specs.Places.{IsPlace}
 use Rattle.fed_world.specs.Stands.{home_from, SiteStands, Hands, IsTold}
-use Rattle.fed_world.proofs.Ended.{Ends, ended_told}
-use Rattle.fed_world.proofs.Told.{place_home, told_nowhere}
-use Rattle.fed_world.proofs.TxAtPlace.{kept_at, none_live, one_live}
+use Rattle.fed_world.proofs.HandedOne.{IsHeardBy, one_told}
+use Rattle.fed_world.proofs.Owned.{IsOwned, none_live, one_live, own_home}
 
 -- the site is down
 pub abort_down : (scenario : Scenario) (story : Story) (tx : Tx) (home : Home) → local_home scenario tx ≡ Some home → is_down (past_of home.site story) ≡ true → happens scenario story (Cmd.Abort tx) ≡ Nowhere Say.Down
 unfolding happens on_abort with_live
 abort_down scenario story tx home h down = pick-some _ _ _ home h ∙ when-true _ _ _ down
 
-pub abort_of_down : (core : Home → SitePast → Type 0) (scenario : Scenario) (site : SiteId) (states : List State) (armed : Bool) (commands : List Command) (tx : Tx) (place : ℕ) → IsPlace scenario.transactions tx place → (s : SiteStands core scenario site states armed commands)
-    → is_down (past_of s.line.site (story_of scenario commands)) ≡ true → IsTold (SiteStands core scenario site states armed) scenario commands (Cmd.Abort tx) Say.Down
-abort_of_down core scenario site states armed commands tx place p s down =
-    told_nowhere core scenario site states armed commands (Cmd.Abort tx) Say.Down s tt
-    (abort_down scenario (story_of scenario commands) tx (home_from scenario s.line) (place_home scenario s.line tx place s.alone p) down)
+module _ (scenario : Scenario) (line : SiteLine) (commands : List Command) (tx : Tx) (place : ℕ) (state : State) (o : IsOwned scenario line commands tx place state) where
+  abbrev home : Home
+  home = home_from scenario line
 
--- no attempt is live
-pub abort_of_none : (core : Home → SitePast → Type 0) (scenario : Scenario) (site : SiteId) (states : List State) (armed : Bool) (commands : List Command) (tx : Tx) (place : ℕ) (state : State) → IsPlace scenario.transactions tx place → (s : SiteStands core scenario site states armed commands)
-    → is_down (past_of s.line.site (story_of scenario commands)) ≡ false → slice_get states place ≡ Some state → state.live ≡ None → IsTold (SiteStands core scenario site states armed) scenario commands (Cmd.Abort tx) Say.Idle
-abort_of_none core scenario site states armed commands tx place state p s up got none =
-    let home = home_from scenario s.line in
-    let past = past_of s.line.site (story_of scenario commands) in
-    let k = kept_at core scenario site states armed commands tx place state s p got in
-    told_nowhere core scenario site states armed commands (Cmd.Abort tx) Say.Idle s tt
-    (abort_idle scenario (story_of scenario commands) tx home k.declared up (none_live scenario home past tx state k none))
+  abbrev past : SitePast
+  past = past_of line.site (story_of scenario commands)
 
-abort_ends : (tx : Tx) (n : ℕ) → Ends tx (Ev.Abort (attempt tx n))
-abort_ends tx n = record {
-  untripped = refl;
-  own = λ answer state. cond-true _ _ _ (same_tx-refl tx);
-  others = λ other answer state apart. cond-false _ _ _ apart;
-}
+  -- no attempt is live
+  pub abort_none : is_down past ≡ false → state.live ≡ None → happens scenario (story_of scenario commands) (Cmd.Abort tx) ≡ Nowhere Say.Idle
+  abort_none up none = abort_idle scenario (story_of scenario commands) tx home (own_home scenario line commands tx place state o) up (none_live scenario line commands tx place state o none)
 
--- the live attempt ends
-pub abort_of_live : {E : Type 0} (core new_core : Home → SitePast → Type 0) (scenario : Scenario) (old new : LocalSite E) (commands : List Command) (tx : Tx) (place : ℕ) (state was : State) (n : ℕ) (answer : Answer) → IsPlace scenario.transactions tx place
-    → (s : SiteStands core scenario old.site old.locals.items old.armed commands) → is_down (past_of s.line.site (story_of scenario commands)) ≡ false → slice_get old.locals.items place ≡ Some state → state.live ≡ Some n
+  -- the abort of the live attempt comes to the site
+  abort_next : (n : ℕ) → state.live ≡ Some n → is_down past ≡ false → happens scenario (story_of scenario commands) (Cmd.Abort tx) ≡ at_site home (story_of scenario commands) (Ev.Abort (attempt tx n))
+  abort_next n some up =
+      let one = one_live scenario line commands tx place state o n some in
+      abort_at scenario (story_of scenario commands) tx home (attempt tx n) one.running.run (own_home scenario line commands tx place state o) up one.found one.own
+
+abort_heard : (tx : Tx) (n : ℕ) → IsHeardBy tx (Ev.Abort (attempt tx n)) (λ answer state. resting state)
+abort_heard tx n = record { untripped = refl; rests = λ answer state stop. refl; up = λ other answer state. refl }
+
+-- the line of an abort, and what is kept behind it
+pub abort_told : {E : Type 0} (core new_core : Home → SitePast → Type 0) (scenario : Scenario) (old new : LocalSite E) (tx : Tx) (place : ℕ) (state now : State) (n : ℕ) (answer : Answer) (commands : List Command)
+    → (s : SiteStands core scenario old.site old.locals.items old.armed commands) → IsOwned scenario s.line commands tx place state → state.live ≡ Some n
+    → is_down (past_of s.line.site (story_of scenario commands)) ≡ false
     → Hands new_core old new answer (home_from scenario s.line) (past_of s.line.site (story_of scenario commands)) (site_line (home_from scenario s.line) (past_of s.line.site (story_of scenario commands)) (Ev.Abort (attempt tx n)))
-    → slice_get new.locals.items place ≡ Some was → IsTold (SiteStands new_core scenario new.site (slice_set new.locals.items place (resting was)) new.armed) scenario commands (Cmd.Abort tx) answer
-abort_of_live core new_core scenario old new commands tx place state was n answer p s up got some h now =
-    let story = story_of scenario commands in
-    let home = home_from scenario s.line in
-    let k = kept_at core scenario old.site old.locals.items old.armed commands tx place state s p got in
-    let l = one_live scenario home (past_of s.line.site story) tx state n k some in
-    ended_told core new_core scenario old new (Cmd.Abort tx) (Ev.Abort (attempt tx n)) tx place was answer commands tt tt (abort_ends tx n) p s
-    (abort_at scenario story tx home (attempt tx n) l.running.run k.declared up l.found l.own) h now
+    → slice_get old.locals.items place ≡ Some state → slice_get new.locals.items place ≡ Some now
+    → IsTold (SiteStands new_core scenario new.site (slice_set new.locals.items place (resting now)) new.armed) scenario commands (Cmd.Abort tx) answer
+abort_told core new_core scenario old new tx place state now n answer commands s o some up h got got_now =
+    one_told core new_core scenario old new tx place state now (λ answer state. resting state) answer commands (Cmd.Abort tx) (Ev.Abort (attempt tx n)) s o tt tt (abort_heard tx n)
+    (abort_next scenario s.line commands tx place state o n some up) h got got_now

@@ -1,5 +1,5 @@
 -- The lines of `begin`.
-use Rattle.std.proofs.Common.{◌≡◌, ℕ, ◌<◌, true, false, cond, Some, List, slice_get, slice_set, refl, sym, ◌∙◌, ap, subst, arith}
+use Rattle.std.proofs.Common.{◌≡◌, ℕ, ◌<◌, true, false, cond, Some, List, slice_get, slice_set, refl, sym, ◌∙◌, ap, subst}
 use Rattle.std.specs.Prelude.{nat_le}
 use Rattle.std.proofs.lemmas.Bool.{lt-leb}
 use Rattle.mdb_base.specs.declared.names.Tid.{Tid}
@@ -18,12 +18,11 @@ use Rattle.fed_rules.specs.SitePast.{SitePast}
 use Rattle.fed_rules.specs.SiteRecords.{Home}
 use Rattle.fed_rules.specs.Story.{Nowhere, at_site, attempt, happens, most_attempts, past_of, story_of, unless_begun}
 use Rattle.site_laws.proofs.Commands.{begin_at}
-use Rattle.site_core.specs.Steps.{NumberFits}
 use Rattle.local_laws.specs.Kept.{State, after_begin, resting}
 use Rattle.fed_world.specs.declared.local_site.LocalSite.{LocalSite}
-use Rattle.fed_world.specs.Stands.{home_from, Hands, IsShort, IsTold, SiteStands}
+use Rattle.fed_world.specs.Stands.{home_from, Hands, IsTold, SiteStands}
 use Rattle.fed_world.proofs.HandedOne.{IsHeardBy, one_told, rest_at, set_same}
-use Rattle.fed_world.proofs.Owned.{IsOwned, few_lines, own_agrees, own_home, own_sound}
+use Rattle.fed_world.proofs.Owned.{IsOwned, own_agrees, own_home}
 
 module _ (scenario : Scenario) (line : SiteLine) (commands : List Command) (tx : Tx) (place : ℕ) (state : State) (o : IsOwned scenario line commands tx place state) where
   abbrev home : Home
@@ -43,10 +42,6 @@ module _ (scenario : Scenario) (line : SiteLine) (commands : List Command) (tx :
   begin_next more =
       begin_at scenario (story_of scenario commands) tx home state.begun false _ (own_home scenario line commands tx place state o) (own_agrees scenario line commands tx place state o).begun (lt-leb most_attempts state.begun more) refl
       ∙ when-false false _ _ refl
-
-  -- and the number that it draws fits
-  pub number_fits : IsShort commands → NumberFits home past
-  number_fits short = let few = (own_sound scenario line commands tx place state o).few in let lines = few_lines scenario line.site commands in omega arith
 
 -- what a begin makes of what is kept
 begin_rests : (answer : Answer) (state : State) → stops answer ≡ true → after_begin answer (resting state) ≡ resting state

@@ -5,7 +5,7 @@ use Rattle.mdb_base.specs.declared.acts.Step.{Step}
 use Rattle.mdb_base.specs.declared.names.Tx.{Tx}
 use Rattle.mdb_base.specs.declared.program.Next.{Next}
 use Rattle.mdb_base.specs.Programs.{is_get, next_of, plain_act, reads_of}
-use Rattle.mdb_base.specs.Words.{item_at, map_some, pick}
+use Rattle.mdb_base.specs.Words.{item_at, pick}
 use Rattle.mdb_base.proofs.Words.{when-true}
 use Rattle.fed_rules.specs.declared.answers.Answer.{Answer}
 use Rattle.fed_rules.specs.declared.answers.Answer.TheVariants as Say
@@ -18,20 +18,18 @@ use Rattle.fed_rules.specs.Happenings.{is_down, stops}
 use Rattle.fed_rules.specs.Runs.{Run}
 use Rattle.fed_rules.specs.Scenarios.{local_home, program_of}
 use Rattle.fed_rules.specs.Site.{done, site_line}
-use Rattle.fed_rules.specs.SitePast.{SitePast, live, live_of_tx}
+use Rattle.fed_rules.specs.SitePast.{SitePast}
 use Rattle.fed_rules.specs.SiteRecords.{Home}
 use Rattle.fed_rules.specs.Story.{Story, Nowhere, at_site, attempt, happens, on_step, past_of, story_of, with_live}
 use Rattle.site_core.specs.Steps.{HasFewAccesses}
-use Rattle.site_laws.specs.Locals.{IsRunning}
-use Rattle.site_laws.proofs.Commands.{done_is, step_at, step_end, step_idle}
+use Rattle.site_laws.proofs.Commands.{step_at, step_end, step_idle}
 use Rattle.site_laws.proofs.ListMembers.{item_at-below}
-use Rattle.site_laws.proofs.LiveTx.{running_live}
 use Rattle.site_laws.proofs.SiteLines.{pick-some}
 use Rattle.local_laws.specs.Kept.{State, after_access, resting}
 use Rattle.fed_world.specs.declared.local_site.LocalSite.{LocalSite}
 use Rattle.fed_world.specs.Stands.{home_from, Hands, IsTold, SiteStands}
 use Rattle.fed_world.proofs.HandedOne.{IsHeardBy, one_told}
-use Rattle.fed_world.proofs.Owned.{IsOwned, own_home, own_live, own_running}
+use Rattle.fed_world.proofs.Owned.{IsLiveOne, IsOwned, none_live, one_live, own_home}
 use Rattle.fed_world.proofs.Told.{place_program}
 
 -- what the next step is made of
@@ -90,40 +88,34 @@ module _ (scenario : Scenario) (line : SiteLine) (commands : List Command) (tx :
   pub step_none : is_down past ≡ false → state.live ≡ None → happens scenario (story_of scenario commands) (Cmd.Step tx) ≡ Nowhere Say.Idle
   step_none up e =
       step_idle scenario (story_of scenario commands) tx home (own_home scenario line commands tx place state o) up
-      (own_live scenario line commands tx place state o ∙ ap (map_some (attempt tx)) e)
+      (none_live scenario line commands tx place state o e)
 
   module _ (n : ℕ) (e : state.live ≡ Some n) where
-    running : IsRunning home past tx n state.done state.reads
-    running = (own_running scenario line commands tx place state o n e).1
-
-    live_tx : live_of_tx home past tx ≡ Some (attempt tx n)
-    live_tx = own_live scenario line commands tx place state o ∙ ap (map_some (attempt tx)) e
-
-    live_run : live home past (attempt tx n) ≡ Some running.run
-    live_run = running_live home past tx n state.done state.reads running
+    one : IsLiveOne home past tx n state
+    one = one_live scenario line commands tx place state o n e
 
     -- the step of the program behind the finished ones
-    step_here : item_at (program_of scenario tx) (done running.run) ≡ item_at o.found.line.program state.done
-    step_here = ap₂ (λ steps k. item_at steps k) (place_program scenario tx place o.found) (done_is running.run running.ticketless ∙ running.steps)
+    step_here : item_at (program_of scenario tx) (done one.running.run) ≡ item_at o.found.line.program state.done
+    step_here = ap₂ (λ steps k. item_at steps k) (place_program scenario tx place o.found) one.finished
 
     -- every step is done
     pub step_over : is_down past ≡ false → item_at o.found.line.program state.done ≡ None → happens scenario (story_of scenario commands) (Cmd.Step tx) ≡ Nowhere Say.End
     step_over up over =
-        step_end scenario (story_of scenario commands) tx home (attempt tx n) running.run (own_home scenario line commands tx place state o) up live_tx live_run (step_here ∙ over)
+        step_end scenario (story_of scenario commands) tx home (attempt tx n) one.running.run (own_home scenario line commands tx place state o) up one.found one.own (step_here ∙ over)
 
     -- the next step comes to the site
     pub step_next : (next : Next) → is_down past ≡ false → IsStep o.found.line.program state.done state.reads next
         → happens scenario (story_of scenario commands) (Cmd.Step tx) ≡ at_site home (story_of scenario commands) (Ev.Act (attempt tx n) next.act)
     step_next next up is =
-        step_at scenario (story_of scenario commands) tx home (attempt tx n) running.run is.step (own_home scenario line commands tx place state o) up live_tx live_run (step_here ∙ is.at)
-        ∙ ap (λ act. at_site home (story_of scenario commands) (Ev.Act (attempt tx n) act)) (ap (λ reads. plain_act reads is.step.act) running.values ∙ is.act)
+        step_at scenario (story_of scenario commands) tx home (attempt tx n) one.running.run is.step (own_home scenario line commands tx place state o) up one.found one.own (step_here ∙ is.at)
+        ∙ ap (λ act. at_site home (story_of scenario commands) (Ev.Act (attempt tx n) act)) (ap (λ reads. plain_act reads is.step.act) one.running.values ∙ is.act)
 
     -- the live run has as many accesses as the attempt has finished steps
     pub few_accesses : state.done < 32 → HasFewAccesses (attempt tx n) home past
     few_accesses few run is =
-        (let both : Some running.run ≡ Some run = sym live_run ∙ is in
-        let same : running.run ≡ run = cc in
-        let count : length run.acts ≡ state.done = ap (λ (r : Run). length r.acts) (sym same) ∙ running.steps in
+        (let both : Some one.running.run ≡ Some run = sym one.own ∙ is in
+        let same : one.running.run ≡ run = cc in
+        let count : length run.acts ≡ state.done = ap (λ (r : Run). length r.acts) (sym same) ∙ one.running.steps in
         omega arith)
 
 -- a step that is found is one of the program, which has at most 32

@@ -1,5 +1,5 @@
 -- The line of a trip that is set at the site, or disarmed there.
-use Rattle.std.proofs.Common.{◌≡◌, ◌==◌, ℕ, zero, suc, ◌<◌, nat_lt, cond, is_some, Some, None, List, ◌∷◌, length, refl, sym, ◌∙◌, ap, subst, ne_eqb, arith}
+use Rattle.std.proofs.Common.{◌≡◌, ◌==◌, ℕ, zero, suc, ◌<◌, nat_lt, cond, is_some, Some, None, List, ◌∷◌, refl, sym, ◌∙◌, ap, subst, ne_eqb, arith}
 use Rattle.std.proofs.lemmas.Bool.{lt-ltb}
 use Rattle.mdb_base.specs.declared.names.SiteId.{SiteId}
 use Rattle.fed_rules.specs.declared.answers.Answer.{Answer}
@@ -15,10 +15,10 @@ use Rattle.fed_rules.specs.Site.{site_line}
 use Rattle.fed_rules.specs.SitePast.{SiteHappening, SitePast, trip}
 use Rattle.fed_rules.specs.SiteRecords.{Home}
 use Rattle.fed_rules.specs.Story.{past_of, story_of}
-use Rattle.local_laws.specs.Kept.{State, heard_up}
+use Rattle.local_laws.specs.Kept.{heard_up}
 use Rattle.fed_world.specs.declared.local_site.LocalSite.{LocalSite}
 use Rattle.fed_world.specs.Stands.{home_from, AllKept, SiteAt, SiteStands, Hands, IsTold}
-use Rattle.fed_world.proofs.Handed.{actor_at, rest_length, trip_happens}
+use Rattle.fed_world.proofs.Handed.{actor_at, handed_length, trip_happens}
 use Rattle.fed_world.proofs.Told.{rest_kept, told_at}
 
 -- the line of a trip, at a site that is up or down
@@ -37,7 +37,7 @@ trip_at : {E : Type 0} (core new_core : Home → SitePast → Type 0) (scenario 
 trip_at core new_core scenario line old new answer past calls cut x is h s = record {
   stood = h.stood;
   number = h.site ∙ s.number;
-  places = ap (λ (states : List State). length states) h.locals ∙ (rest_length x.answer old.locals.items ∙ s.places);
+  places = handed_length new_core old new answer (home_from scenario line) past x h ∙ s.places;
   kept = subst (λ states. AllKept scenario.transactions (x ∷ past) states) (sym h.locals)
       (rest_kept scenario.transactions past x old.locals.items (λ tx st. ap (λ (y : SiteHappening). heard_up tx y.event x.answer st) is) s.kept);
   tripped = in_force calls (record { calls = calls; cut = cut }) ∙ sym (ap (λ (y : SiteHappening). is_some (trip (y ∷ past))) is);

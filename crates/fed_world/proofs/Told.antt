@@ -1,6 +1,7 @@
 -- What a site stands for behind a command: the line of its core, and what is kept beside it.
-use Rattle.std.proofs.Common.{◌≡◌, ℕ, zero, suc, Bool, true, false, cond, is_some, Option, Some, None, List, [], ◌∷◌, length, map, slice_get, slice_set, inl, inr, refl, sym, ◌∙◌, ap, subst, eq-eqb, length-set, arith}
+use Rattle.std.proofs.Common.{◌≡◌, ℕ, zero, suc, Bool, true, false, cond, is_some, Option, Some, None, List, [], ◌∷◌, length, map, slice_get, slice_set, inl, inr, refl, sym, ◌∙◌, ap, subst, eq-eqb}
 use Rattle.std.proofs.lemmas.Bool.{cond-true, cond-false}
+use Rattle.std.proofs.lemmas.Option.{same_Some}
 use Rattle.mdb_base.specs.declared.names.SiteId.{SiteId}
 use Rattle.mdb_base.specs.declared.names.Tx.{Tx}
 use Rattle.mdb_base.specs.Names.{same_tx}
@@ -12,21 +13,18 @@ use Rattle.fed_rules.specs.declared.scenario.Scenario.{Scenario}
 use Rattle.fed_rules.specs.declared.scenario.SiteLine.{SiteLine}
 use Rattle.fed_rules.specs.declared.scenario.TxLine.{TxLine}
 use Rattle.fed_rules.specs.Happenings.{Trip, stops, set, used}
-use Rattle.fed_rules.specs.Scenarios.{home_in, home_at, home_of_line, local_home, program_of, program_of_line}
+use Rattle.fed_rules.specs.Scenarios.{home_at, home_of_line, local_home, program_of, program_of_line}
 use Rattle.fed_rules.specs.SitePast.{SiteHappening, SitePast, trip, trip_of}
 use Rattle.fed_rules.specs.SiteRecords.{Home}
-use Rattle.fed_rules.specs.Story.{Story, AtSite, Nowhere, story_of, happens, answer_of, place_from, sent_from, places_of, past_of, coord_past, with_site, with_coordinator}
-use Rattle.site_laws.proofs.Attempts.{same_tx-equal, same_tx-refl}
+use Rattle.fed_rules.specs.Story.{AtSite, Nowhere, story_of, happens, answer_of, place_from, sent_from, places_of, past_of, coord_past, with_site, with_coordinator}
+use Rattle.site_laws.proofs.Attempts.{same_tx-equal}
+use Rattle.site_laws.proofs.ListMembers.{found_in}
 use Rattle.site_laws.proofs.LiveRuns.{first_where-passes}
+use Rattle.site_laws.proofs.OneSite.{declared_home}
 use Rattle.local_laws.specs.Kept.{State, resting, heard, heard_up, kept_of}
 use Rattle.local_laws.specs.Sound.{IsOwn}
 use Rattle.fed_world.specs.Places.{IsPlace}
 use Rattle.fed_world.specs.Stands.{home_from, AllKept, IsAlone, SiteAt, SiteStands, IsTold, rest_all}
-
-pub each_at : {A : Type 0} (P : A → Type 0) (xs : List A) (i : ℕ) (x : A) → Each P xs → slice_get xs i ≡ Some x → P x
-each_at P [] i x h e = cc
-each_at P (y ∷ ys) zero x h e = let same : y ≡ x = cc in subst P same h.0
-each_at P (y ∷ ys) (suc i) x h e = each_at P ys i x h.1 e
 
 pub in_at : {A B : Type 0} (f : A → B) (xs : List A) (i : ℕ) (x : A) (b : B) → slice_get xs i ≡ Some x → f x ≡ b → In b (map f xs)
 in_at f [] i x b e s = cc
@@ -59,6 +57,10 @@ get_map f [] i b e = cc
 get_map f (x ∷ xs) zero b e = (x, refl, cc)
 get_map f (x ∷ xs) (suc i) b e = get_map f xs i b e
 
+-- two items at one place are one
+pub one_at : {A : Type 0} (xs : List A) (place : ℕ) (a b : A) → slice_get xs place ≡ Some a → slice_get xs place ≡ Some b → a ≡ b
+one_at xs place a b at got = same_Some a b (sym at ∙ got)
+
 pub place_tx : (scenario : Scenario) (tx : Tx) (place : ℕ) → (p : IsPlace scenario.transactions tx place) → p.line.tx ≡ tx
 place_tx scenario tx place p = same_tx-equal p.line.tx tx (first_where-passes (λ (l : TxLine). same_tx l.tx tx) scenario.transactions p.line p.first)
 
@@ -67,27 +69,26 @@ place_program scenario tx place p = ap program_of_line p.first
 
 -- the home of a transaction of the site
 pub place_home : (scenario : Scenario) (line : SiteLine) (tx : Tx) (place : ℕ) → IsAlone scenario line → IsPlace scenario.transactions tx place → local_home scenario tx ≡ Some (home_from scenario line)
-place_home scenario line tx place alone p =
-    ap (λ o. home_at scenario (home_of_line o)) p.first
-    ∙ (ap (home_at scenario) (each_at (λ t. t.home ≡ Some line.site) scenario.transactions place p.line alone.homes p.at)
-    ∙ (ap (λ sites. home_in sites scenario.items line.site) alone.sites ∙ cond-true _ _ _ (eq-eqb line.site.0 line.site.0 refl)))
+place_home scenario line tx place alone p = declared_home scenario line tx p.line alone (found_in (λ (l : TxLine). same_tx l.tx tx) scenario.transactions p.line p.first) (place_tx scenario tx place p)
 
 -- and of none that isn't declared
 pub no_home : (scenario : Scenario) (tx : Tx) → first_where (λ (l : TxLine). same_tx l.tx tx) scenario.transactions ≡ None → local_home scenario tx ≡ None
 no_home scenario tx e = ap (λ o. home_at scenario (home_of_line o)) e
 
--- a line that leaves what is kept of each transaction
-pub same_kept : (lines : List TxLine) (past : SitePast) (x : SiteHappening) (states : List State) → ((tx : Tx) (state : State) → heard tx x.event x.answer state ≡ state) → AllKept lines past states → AllKept lines (x ∷ past) states
-same_kept lines past x states same k = λ i l s at got. k i l s at got ∙ sym (same l.tx (kept_of l.tx past))
-
--- a line that stops the site, or else leaves what is kept
-pub rest_kept : (lines : List TxLine) (past : SitePast) (x : SiteHappening) (states : List State) → ((tx : Tx) (state : State) → heard_up tx x.event x.answer state ≡ state) → AllKept lines past states → AllKept lines (x ∷ past) (rest_all x.answer states)
-rest_kept lines past x states same k = by_test (stops x.answer) refl
+-- what is kept of a transaction behind a line that stops the site, or else leaves it
+pub rest_line : (lines : List TxLine) (past : SitePast) (x : SiteHappening) (states : List State) (i : ℕ) (l : TxLine) (s : State) → heard_up l.tx x.event x.answer (kept_of l.tx past) ≡ kept_of l.tx past → AllKept lines past states
+    → slice_get lines i ≡ Some l → slice_get (rest_all x.answer states) i ≡ Some s → s ≡ heard l.tx x.event x.answer (kept_of l.tx past)
+rest_line lines past x states i l s same k at = by_test (stops x.answer) refl
   where
-    by_test : (b : Bool) → stops x.answer ≡ b → AllKept lines (x ∷ past) (cond b (map resting states) states)
-    by_test true is i l s at got = (let (old, before, after) = get_map resting states i s got in
+    by_test : (b : Bool) → stops x.answer ≡ b → slice_get (cond b (map resting states) states) i ≡ Some s → s ≡ heard l.tx x.event x.answer (kept_of l.tx past)
+    by_test true is got =
+        (let (old, before, after) = get_map resting states i s got in
         sym after ∙ (ap resting (k i l old at before) ∙ sym (cond-true _ _ _ is)))
-    by_test false is i l s at got = k i l s at got ∙ sym (cond-false _ _ _ is ∙ same l.tx (kept_of l.tx past))
+    by_test false is got = k i l s at got ∙ sym (cond-false _ _ _ is ∙ same)
+
+-- so it is of each one, where the line leaves them all
+pub rest_kept : (lines : List TxLine) (past : SitePast) (x : SiteHappening) (states : List State) → ((tx : Tx) (state : State) → heard_up tx x.event x.answer state ≡ state) → AllKept lines past states → AllKept lines (x ∷ past) (rest_all x.answer states)
+rest_kept lines past x states same k i l s at got = rest_line lines past x states i l s (same l.tx (kept_of l.tx past)) k at got
 
 -- the trip in force behind a line that sets none
 used_some : (n : ℕ) (o : Option Trip) → is_some (used n o) ≡ is_some o
@@ -135,20 +136,3 @@ told_at core scenario site states armed commands command line x alone all own h 
             (sym (ap (λ y. with_site line.site y (past_of line.site story)) h ∙ cond-true _ _ _ (eq-eqb line.site.0 line.site.0 refl))) at;
       };
     }
-
--- what is kept behind a line about the transaction at this place
-pub set_kept : (scenario : Scenario) (line : SiteLine) (past : SitePast) (x : SiteHappening) (tx : Tx) (place : ℕ) (p : IsPlace scenario.transactions tx place) (states : List State) (state : State) → IsAlone scenario line
-    → state ≡ heard tx x.event x.answer (kept_of tx past) → ((other : Tx) (st : State) → same_tx tx other ≡ false → heard other x.event x.answer st ≡ st)
-    → AllKept scenario.transactions past states → AllKept scenario.transactions (x ∷ past) (slice_set states place state)
-set_kept scenario line past x tx place p states state alone own others k i l s at got = by_test (same_tx tx l.tx) refl
-  where
-    by_test : (b : Bool) → same_tx tx l.tx ≡ b → s ≡ heard l.tx x.event x.answer (kept_of l.tx past)
-    by_test true is =
-        (let tx_is : tx ≡ l.tx = same_tx-equal tx l.tx is in
-        let here : place ≡ i = distinct_at (λ (t : TxLine). t.tx) scenario.transactions place i p.line l alone.numbers p.at at (place_tx scenario tx place p ∙ tx_is) in
-        sym (get_set states place state s (ap (λ k. slice_get (slice_set states place state) k) here ∙ got)) ∙ subst (λ t. state ≡ heard t x.event x.answer (kept_of t past)) tx_is own)
-    by_test false is =
-        (let apart : place ≡ i → ⊥ = λ h. (let line_is : Some p.line ≡ Some l = sym p.at ∙ (ap (λ k. slice_get scenario.transactions k) h ∙ at) in
-        let lines_same : p.line ≡ l = cc in
-        let bad : same_tx tx l.tx ≡ true = subst (λ (t : TxLine). same_tx tx t.tx ≡ true) lines_same (subst (λ u. same_tx tx u ≡ true) (sym (place_tx scenario tx place p)) (same_tx-refl tx)) in cc) in
-        k i l s at (get_set_other states place i state s apart got) ∙ sym (others l.tx (kept_of l.tx past) is))

@@ -1,5 +1,5 @@
 -- Calls one after another on the way to the closed session.
-use Rattle.std.proofs.Common.{◌≡◌, ℕ, zero, suc, ◌+◌, ◌<◌, ◌≤◌, Bool, Option, Some, None, List, [], ◌∷◌, ◌++◌, length, take, get_or, Result, Ok, Err, OnOk, refl, sym, ◌∙◌, ap, subst, append_assoc, append-nil, add-one, arith}
+use Rattle.std.proofs.Common.{◌≡◌, ℕ, zero, suc, ◌+◌, ◌<◌, Bool, Option, Some, None, List, [], ◌∷◌, ◌++◌, length, take, get_or, Result, Ok, Err, OnOk, refl, sym, ◌∙◌, ap, subst, append_assoc, append-nil, add-one, arith}
 use Rattle.mdb_base.specs.declared.names.Tid.{Tid}
 use Rattle.fed_rules.specs.declared.commands.Command.{Command}
 use Rattle.fed_rules.specs.declared.commands.Command.TheVariants as Cmd
@@ -47,11 +47,6 @@ aborts_more tids i d commands lt = subst (λ k. with_aborts (take k tids) comman
     by_place [] k cs lt = absurd (omega arith)
     by_place (x ∷ xs) zero cs lt = refl
     by_place (x ∷ xs) (suc k) cs lt = by_place xs k (Cmd.Abort x.tx ∷ cs) (omega arith)
-
--- one command more at most
-pub with_length : (make : ℕ → Command) (o : Option ℕ) (commands : List Command) → length (with_command make o commands) ≤ suc (length commands)
-with_length make None commands = omega arith
-with_length make (Some actor) commands = omega arith
 
 module _ {E D : Type 0} (stands : E → Start → List EngineLine → Type 0) (tells : Bool) (image : D → Image) (size spare : D → ℕ) (why : WorldErr) (world : World E) (disks : List D) (scenario : Scenario) where
   -- the first command fails

@@ -3,18 +3,21 @@ use Rattle.mdb_base.specs.Names.{same_tx}
 use Rattle.mdb_base.specs.Words.{first_where}
 use Rattle.fed_rules.specs.declared.answers.Answer.TheVariants as Say
 use Rattle.fed_rules.specs.declared.commands.Command.TheVariants as Cmd
+use Rattle.fed_rules.specs.declared.events.SiteEvent.TheVariants as Ev
 use Rattle.fed_rules.specs.declared.scenario.TxLine.{TxLine}
-use Rattle.fed_rules.specs.Story.{past_of, story_of}
+use Rattle.fed_rules.specs.Site.{site_line}
+use Rattle.fed_rules.specs.Story.{attempt, past_of, story_of}
 use Rattle.site_laws.proofs.Commands.{abort_nowhere}
 use Rattle.site_core.specs.Stands.{Stands as CoreStands}
 use Rattle.local_laws.specs.Kept.{State}
 use Rattle.fed_world.specs.Places.{IsPlace}
 use Rattle.fed_world.specs.Stands.{home_from, IsTold, SiteStands}
 use Rattle.fed_world.proofs.Handed.{untold}
+use Rattle.fed_world.proofs.HandedOne.{handed_below, handed_got}
+use Rattle.fed_world.proofs.Owned.{got, owned, place_below}
 use Rattle.fed_world.proofs.PassedOn.{passed_on}
-use Rattle.fed_world.proofs.TellsAbort.{abort_of_down, abort_of_live, abort_of_none}
-use Rattle.fed_world.proofs.Told.{no_home, told_nowhere}
-use Rattle.fed_world.proofs.TxAtPlace.{handed_length, place_below, read_at}
+use Rattle.fed_world.proofs.TellsAbort.{abort_down, abort_none, abort_told}
+use Rattle.fed_world.proofs.Told.{no_home, place_home, told_nowhere}
 use Rattle.fed_world.proofs.local_site.LocalSite.abort.Goals as goal
 
 pub returns-in_default-clause-told : goal.returns-in_default-clause-told
@@ -26,8 +29,11 @@ returns-in_default-clause-told g c commands s =
 pub returns-then-is_down-clause-told : goal.returns-then-is_down-clause-told
 returns-then-is_down-clause-told g c commands s =
     let found : IsPlace c.args.scenario.now.transactions c.args.tx c.in-Some.place = subst (λ xs. IsPlace xs c.args.tx c.in-Some.place) (c.as_slice.ensures ∙ c.transactions-lines.ensures) c.in-Some.ensures in
-    abort_of_down (CoreStands g.E.LocalEngine.stands g.D.Disk.tells g.D.Disk.image g.D.Disk.size g.D.Disk.spare c.args.self.now.core c.args.disk.now) c.args.scenario.now c.args.self.now.site c.args.self.now.locals.items c.args.self.now.armed commands c.args.tx c.in-Some.place found s
-    (sym (c.is_down.ensures (home_from c.args.scenario.now s.line) (past_of s.line.site (story_of c.args.scenario.now commands)) s.at.stood.holds) ∙ c.if-is_down.true)
+    let home = home_from c.args.scenario.now s.line in
+    let past = past_of s.line.site (story_of c.args.scenario.now commands) in
+    told_nowhere _ c.args.scenario.now _ _ _ commands (Cmd.Abort c.args.tx) Say.Down s tt
+    (abort_down c.args.scenario.now (story_of c.args.scenario.now commands) c.args.tx home (place_home c.args.scenario.now s.line c.args.tx c.in-Some.place s.alone found)
+    (sym (c.is_down.ensures home past s.at.stood.holds) ∙ c.if-is_down.true))
 
 pub index-local-requires : goal.index-local-requires
 index-local-requires g c =
@@ -41,10 +47,12 @@ pub returns-in_default-live-clause-told : goal.returns-in_default-live-clause-to
 returns-in_default-live-clause-told g c commands s =
     let found : IsPlace c.args.scenario.now.transactions c.args.tx c.in-Some.place = subst (λ xs. IsPlace xs c.args.tx c.in-Some.place) (c.as_slice.ensures ∙ c.transactions-lines.ensures) c.in-Some.ensures in
     let state : State = c.index-local.result.now in
-    let below = place_below (CoreStands g.E.LocalEngine.stands g.D.Disk.tells g.D.Disk.image g.D.Disk.size g.D.Disk.spare c.args.self.now.core c.args.disk.now) c.args.scenario.now c.args.self.now.site c.args.self.now.locals.items c.args.self.now.armed commands c.args.tx c.in-Some.place s found in
-    abort_of_none (CoreStands g.E.LocalEngine.stands g.D.Disk.tells g.D.Disk.image g.D.Disk.size g.D.Disk.spare c.args.self.now.core c.args.disk.now) c.args.scenario.now c.args.self.now.site c.args.self.now.locals.items c.args.self.now.armed commands c.args.tx c.in-Some.place state found s
-    (sym (c.is_down.ensures (home_from c.args.scenario.now s.line) (past_of s.line.site (story_of c.args.scenario.now commands)) s.at.stood.holds) ∙ c.if-is_down.false)
-    (read_at c.args.self.now.locals.items c.in-Some.place state below c.index-local.ensures) (sym c.live.ensures ∙ c.in_default-live.is)
+    let o = owned (CoreStands g.E.LocalEngine.stands g.D.Disk.tells g.D.Disk.image g.D.Disk.size g.D.Disk.spare c.args.self.now.core c.args.disk.now) c.args.scenario.now c.args.self.now.site c.args.self.now.locals.items c.args.self.now.armed commands c.args.tx c.in-Some.place s found state c.index-local.ensures in
+    let home = home_from c.args.scenario.now s.line in
+    let past = past_of s.line.site (story_of c.args.scenario.now commands) in
+    told_nowhere _ c.args.scenario.now _ _ _ commands (Cmd.Abort c.args.tx) Say.Idle s tt
+    (abort_none c.args.scenario.now s.line commands c.args.tx c.in-Some.place state o (sym (c.is_down.ensures home past s.at.stood.holds) ∙ c.if-is_down.false)
+    (sym c.live.ensures ∙ c.in_default-live.is))
 
 pub returns-in_err-answer-clause-failed : goal.returns-in_err-answer-clause-failed
 returns-in_err-answer-clause-failed g c =
@@ -54,12 +62,14 @@ returns-in_err-answer-clause-failed g c =
 
 pub index_mut-requires : goal.index_mut-requires
 index_mut-requires g c =
-    let r = c.requires.stood in
-    let s = r.stood in
+    let commands = c.requires.stood.commands in
+    let s = c.requires.stood.stood in
     let found : IsPlace c.args.scenario.now.transactions c.args.tx c.in-Some.place = subst (λ xs. IsPlace xs c.args.tx c.in-Some.place) (c.as_slice.ensures ∙ c.transactions-lines.ensures) c.in-Some.ensures in
-    let below = place_below (CoreStands g.E.LocalEngine.stands g.D.Disk.tells g.D.Disk.image g.D.Disk.size g.D.Disk.spare c.args.self.now.core c.args.disk.now) c.args.scenario.now c.args.self.now.site c.args.self.now.locals.items c.args.self.now.armed r.commands c.args.tx c.in-Some.place s found in
-    let same = handed_length (CoreStands g.E.LocalEngine.stands g.D.Disk.tells g.D.Disk.image g.D.Disk.size g.D.Disk.spare c.hand.new.self.core c.hand.new.disk) c.args.self.now c.hand.new.self c.in_ok-answer.answer _ _ _
-    (c.in_ok-answer.ensures.answered (home_from c.args.scenario.now s.line) (past_of s.line.site (story_of c.args.scenario.now r.commands)) s.at.stood) in
+    let home = home_from c.args.scenario.now s.line in
+    let past = past_of s.line.site (story_of c.args.scenario.now commands) in
+    let below = place_below (CoreStands g.E.LocalEngine.stands g.D.Disk.tells g.D.Disk.image g.D.Disk.size g.D.Disk.spare c.args.self.now.core c.args.disk.now) c.args.scenario.now c.args.self.now.site c.args.self.now.locals.items c.args.self.now.armed commands c.args.tx c.in-Some.place s found in
+    let hands = c.in_ok-answer.ensures.answered home past s.at.stood in
+    let below_now = handed_below (CoreStands g.E.LocalEngine.stands g.D.Disk.tells g.D.Disk.image g.D.Disk.size g.D.Disk.spare c.hand.new.self.core c.hand.new.disk) c.args.self.now c.hand.new.self c.in_ok-answer.answer home past (site_line home past (Ev.Abort (attempt c.args.tx c.in-Some-live.attempt))) hands c.in-Some.place below in
     let len = c.hand.new.self.locals.ok.0 in
     omega arith
 
@@ -67,13 +77,15 @@ pub returns-clause-told : goal.returns-clause-told
 returns-clause-told g c commands s =
     let found : IsPlace c.args.scenario.now.transactions c.args.tx c.in-Some.place = subst (λ xs. IsPlace xs c.args.tx c.in-Some.place) (c.as_slice.ensures ∙ c.transactions-lines.ensures) c.in-Some.ensures in
     let state : State = c.index-local.result.now in
-    let was : State = c.index_mut.result.now in
+    let now : State = c.index_mut.result.now in
+    let o = owned (CoreStands g.E.LocalEngine.stands g.D.Disk.tells g.D.Disk.image g.D.Disk.size g.D.Disk.spare c.args.self.now.core c.args.disk.now) c.args.scenario.now c.args.self.now.site c.args.self.now.locals.items c.args.self.now.armed commands c.args.tx c.in-Some.place s found state c.index-local.ensures in
+    let home = home_from c.args.scenario.now s.line in
+    let past = past_of s.line.site (story_of c.args.scenario.now commands) in
     let below = place_below (CoreStands g.E.LocalEngine.stands g.D.Disk.tells g.D.Disk.image g.D.Disk.size g.D.Disk.spare c.args.self.now.core c.args.disk.now) c.args.scenario.now c.args.self.now.site c.args.self.now.locals.items c.args.self.now.armed commands c.args.tx c.in-Some.place s found in
-    let handed = c.in_ok-answer.ensures.answered (home_from c.args.scenario.now s.line) (past_of s.line.site (story_of c.args.scenario.now commands)) s.at.stood in
-    let same = handed_length (CoreStands g.E.LocalEngine.stands g.D.Disk.tells g.D.Disk.image g.D.Disk.size g.D.Disk.spare c.hand.new.self.core c.hand.new.disk) c.args.self.now c.hand.new.self c.in_ok-answer.answer _ _ _ handed in
-    let told = abort_of_live (CoreStands g.E.LocalEngine.stands g.D.Disk.tells g.D.Disk.image g.D.Disk.size g.D.Disk.spare c.args.self.now.core c.args.disk.now) (CoreStands g.E.LocalEngine.stands g.D.Disk.tells g.D.Disk.image g.D.Disk.size g.D.Disk.spare c.hand.new.self.core c.hand.new.disk) c.args.scenario.now c.args.self.now c.hand.new.self commands c.args.tx c.in-Some.place state was c.in-Some-live.attempt c.in_ok-answer.answer found s
-    (sym (c.is_down.ensures (home_from c.args.scenario.now s.line) (past_of s.line.site (story_of c.args.scenario.now commands)) s.at.stood.holds) ∙ c.if-is_down.false)
-    (read_at c.args.self.now.locals.items c.in-Some.place state below c.index-local.ensures) (sym c.live.ensures ∙ c.in-Some-live.is) handed
-    (read_at c.hand.new.self.locals.items c.in-Some.place was (omega arith) c.index_mut.ensures.value) in
+    let hands = c.in_ok-answer.ensures.answered home past s.at.stood in
+    let got_state = got (CoreStands g.E.LocalEngine.stands g.D.Disk.tells g.D.Disk.image g.D.Disk.size g.D.Disk.spare c.args.self.now.core c.args.disk.now) c.args.scenario.now c.args.self.now.site c.args.self.now.locals.items c.args.self.now.armed commands c.args.tx c.in-Some.place s found state c.index-local.ensures in
+    let got_now = handed_got (CoreStands g.E.LocalEngine.stands g.D.Disk.tells g.D.Disk.image g.D.Disk.size g.D.Disk.spare c.hand.new.self.core c.hand.new.disk) c.args.self.now c.hand.new.self c.in_ok-answer.answer home past (site_line home past (Ev.Abort (attempt c.args.tx c.in-Some-live.attempt))) hands c.in-Some.place now below c.index_mut.ensures.value in
     subst (λ (st : State). IsTold (SiteStands (CoreStands g.E.LocalEngine.stands g.D.Disk.tells g.D.Disk.image g.D.Disk.size g.D.Disk.spare c.hand.new.self.core c.hand.new.disk) c.args.scenario.now c.hand.new.self.site (slice_set c.hand.new.self.locals.items c.in-Some.place st) c.hand.new.self.armed) c.args.scenario.now commands (Cmd.Abort c.args.tx) c.in_ok-answer.answer)
-    (sym c.rests.ensures) told
+    (sym c.rests.ensures)
+    (abort_told (CoreStands g.E.LocalEngine.stands g.D.Disk.tells g.D.Disk.image g.D.Disk.size g.D.Disk.spare c.args.self.now.core c.args.disk.now) (CoreStands g.E.LocalEngine.stands g.D.Disk.tells g.D.Disk.image g.D.Disk.size g.D.Disk.spare c.hand.new.self.core c.hand.new.disk) c.args.scenario.now c.args.self.now c.hand.new.self c.args.tx c.in-Some.place state now c.in-Some-live.attempt c.in_ok-answer.answer commands s o
+    (sym c.live.ensures ∙ c.in-Some-live.is) (sym (c.is_down.ensures home past s.at.stood.holds) ∙ c.if-is_down.false) hands got_state got_now)

@@ -16,7 +16,8 @@ use Rattle.fed_world.specs.Stands.{home_from, Hands, IsTold, SiteStands}
 use Rattle.fed_world.proofs.Handed.{untold}
 use Rattle.fed_world.proofs.HandedOne.{handed_begun, handed_below, handed_got}
 use Rattle.fed_world.proofs.Owned.{got, own_agrees, own_live, owned, place_below}
-use Rattle.fed_world.proofs.TellsBegin.{begin_spent, begin_told, begin_told_other, number_fits}
+use Rattle.fed_world.proofs.SiteBounds.{number_fits}
+use Rattle.fed_world.proofs.TellsBegin.{begin_spent, begin_told, begin_told_other}
 use Rattle.fed_world.proofs.Told.{no_home, told_nowhere}
 use Rattle.fed_world.proofs.local_site.LocalSite.begin.Goals as goal
 use Rattle.fed_world.proofs.local_site.LocalSite.begin.Goals.{in-Begun, in_default-answer}
@@ -47,14 +48,11 @@ returns-then-begun-eq-MOST_ATTEMPTS-clause-told g c commands s =
 pub hand-requires-clause-may : goal.hand-requires-clause-may
 hand-requires-clause-may g c =
     let r = c.requires.stood in
-    let found : IsPlace c.args.scenario.now.transactions c.args.tx c.in-Some.place = subst (λ xs. IsPlace xs c.args.tx c.in-Some.place) (c.as_slice.ensures ∙ c.transactions-lines.ensures) c.in-Some.ensures in
-    let state : State = c.index-local.result.now in
-    let o = owned (CoreStands g.E.LocalEngine.stands g.D.Disk.tells g.D.Disk.image g.D.Disk.size g.D.Disk.spare c.args.self.now.core c.args.disk.now) c.args.scenario.now c.args.self.now.site c.args.self.now.locals.items c.args.self.now.armed r.commands c.args.tx c.in-Some.place r.stood found state c.index-local.ensures in
     record {
       home = home_from c.args.scenario.now r.stood.line;
       past = past_of r.stood.line.site (story_of c.args.scenario.now r.commands);
       stood = r.stood.at.stood;
-      holds = number_fits c.args.scenario.now r.stood.line r.commands c.args.tx c.in-Some.place state o r.holds;
+      holds = number_fits c.args.scenario.now r.stood.line r.commands r.stood.alone r.stood.own r.holds;
     }
 
 pub returns-in_err-answer-clause-failed : goal.returns-in_err-answer-clause-failed

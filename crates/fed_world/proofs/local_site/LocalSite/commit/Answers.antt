@@ -4,20 +4,23 @@ use Rattle.mdb_base.specs.Names.{same_tx}
 use Rattle.mdb_base.specs.Words.{first_where}
 use Rattle.fed_rules.specs.declared.answers.Answer.TheVariants as Say
 use Rattle.fed_rules.specs.declared.commands.Command.TheVariants as Cmd
+use Rattle.fed_rules.specs.declared.events.SiteEvent.TheVariants as Ev
 use Rattle.fed_rules.specs.declared.scenario.Scenario.{Scenario}
 use Rattle.fed_rules.specs.declared.scenario.TxLine.{TxLine}
 use Rattle.fed_rules.specs.Plans.{IsScenario}
-use Rattle.fed_rules.specs.Story.{past_of, story_of}
+use Rattle.fed_rules.specs.Site.{site_line}
+use Rattle.fed_rules.specs.Story.{attempt, past_of, story_of}
 use Rattle.site_laws.proofs.Commands.{commit_nowhere}
 use Rattle.site_core.specs.Stands.{Stands as CoreStands}
 use Rattle.local_laws.specs.Kept.{State}
 use Rattle.fed_world.specs.Places.{IsPlace}
 use Rattle.fed_world.specs.Stands.{home_from, IsTold, SiteStands}
 use Rattle.fed_world.proofs.Handed.{untold}
+use Rattle.fed_world.proofs.HandedOne.{handed_below, handed_got}
+use Rattle.fed_world.proofs.Owned.{got, owned, place_below}
 use Rattle.fed_world.proofs.PassedOn.{passed_on}
-use Rattle.fed_world.proofs.TellsCommit.{can_commit, commit_of_down, commit_of_live, commit_of_none, commit_of_unfinished}
-use Rattle.fed_world.proofs.Told.{no_home, told_nowhere}
-use Rattle.fed_world.proofs.TxAtPlace.{handed_length, place_below, read_at}
+use Rattle.fed_world.proofs.TellsCommit.{can_commit, commit_down, commit_left, commit_next, commit_none, commit_told}
+use Rattle.fed_world.proofs.Told.{no_home, place_home, told_nowhere}
 use Rattle.fed_world.proofs.local_site.LocalSite.commit.Goals as goal
 
 pub returns-in_default-clause-told : goal.returns-in_default-clause-told
@@ -31,8 +34,11 @@ pub returns-then-is_down-clause-told : goal.returns-then-is_down-clause-told
 returns-then-is_down-clause-told g c commands s =
     let lines_are = ap (λ (z : Scenario). z.transactions) c.scenario.view_is in
     let found : IsPlace c.args.scenario.now.transactions c.args.tx c.in-Some.place = subst (λ xs. IsPlace xs c.args.tx c.in-Some.place) (c.as_slice.ensures ∙ lines_are) c.in-Some.ensures in
-    commit_of_down (CoreStands g.E.LocalEngine.stands g.D.Disk.tells g.D.Disk.image g.D.Disk.size g.D.Disk.spare c.args.self.now.core c.args.disk.now) c.args.scenario.now c.args.self.now.site c.args.self.now.locals.items c.args.self.now.armed commands c.args.tx c.in-Some.place found s
-    (sym (c.is_down.ensures (home_from c.args.scenario.now s.line) (past_of s.line.site (story_of c.args.scenario.now commands)) s.at.stood.holds) ∙ c.if-is_down.true)
+    let home = home_from c.args.scenario.now s.line in
+    let past = past_of s.line.site (story_of c.args.scenario.now commands) in
+    told_nowhere _ c.args.scenario.now _ _ _ commands (Cmd.Commit c.args.tx) Say.Down s tt
+    (commit_down c.args.scenario.now (story_of c.args.scenario.now commands) c.args.tx home (place_home c.args.scenario.now s.line c.args.tx c.in-Some.place s.alone found)
+    (sym (c.is_down.ensures home past s.at.stood.holds) ∙ c.if-is_down.true))
 
 pub index-local-requires : goal.index-local-requires
 index-local-requires g c =
@@ -49,9 +55,12 @@ returns-in_default-live-clause-told g c commands s =
     let lines_are = ap (λ (z : Scenario). z.transactions) c.scenario.view_is in
     let found : IsPlace c.args.scenario.now.transactions c.args.tx c.in-Some.place = subst (λ xs. IsPlace xs c.args.tx c.in-Some.place) (c.as_slice.ensures ∙ lines_are) c.in-Some.ensures in
     let state : State = c.index-local.result.now in
-    let below = place_below (CoreStands g.E.LocalEngine.stands g.D.Disk.tells g.D.Disk.image g.D.Disk.size g.D.Disk.spare c.args.self.now.core c.args.disk.now) c.args.scenario.now c.args.self.now.site c.args.self.now.locals.items c.args.self.now.armed commands c.args.tx c.in-Some.place s found in
-    commit_of_none (CoreStands g.E.LocalEngine.stands g.D.Disk.tells g.D.Disk.image g.D.Disk.size g.D.Disk.spare c.args.self.now.core c.args.disk.now) c.args.scenario.now c.args.self.now.site c.args.self.now.locals.items c.args.self.now.armed commands c.args.tx c.in-Some.place state found s
-    (sym (c.is_down.ensures (home_from c.args.scenario.now s.line) (past_of s.line.site (story_of c.args.scenario.now commands)) s.at.stood.holds) ∙ c.if-is_down.false) (read_at c.args.self.now.locals.items c.in-Some.place state below c.index-local.ensures) (sym c.live.ensures ∙ c.in_default-live.is)
+    let o = owned (CoreStands g.E.LocalEngine.stands g.D.Disk.tells g.D.Disk.image g.D.Disk.size g.D.Disk.spare c.args.self.now.core c.args.disk.now) c.args.scenario.now c.args.self.now.site c.args.self.now.locals.items c.args.self.now.armed commands c.args.tx c.in-Some.place s found state c.index-local.ensures in
+    let home = home_from c.args.scenario.now s.line in
+    let past = past_of s.line.site (story_of c.args.scenario.now commands) in
+    told_nowhere _ c.args.scenario.now _ _ _ commands (Cmd.Commit c.args.tx) Say.Idle s tt
+    (commit_none c.args.scenario.now s.line commands c.args.tx c.in-Some.place state o (sym (c.is_down.ensures home past s.at.stood.holds) ∙ c.if-is_down.false)
+    (sym c.live.ensures ∙ c.in_default-live.is))
 
 pub at-requires : goal.at-requires
 at-requires g c =
@@ -65,10 +74,12 @@ returns-then-done-len-clause-told g c commands s =
     let found : IsPlace c.args.scenario.now.transactions c.args.tx c.in-Some.place = subst (λ xs. IsPlace xs c.args.tx c.in-Some.place) (c.as_slice.ensures ∙ lines_are) c.in-Some.ensures in
     let at = subst (λ xs. slice_get xs c.in-Some.place ≡ Some c.at.result.now) lines_are c.at.ensures in
     let state : State = c.index-local.result.now in
-    let below = place_below (CoreStands g.E.LocalEngine.stands g.D.Disk.tells g.D.Disk.image g.D.Disk.size g.D.Disk.spare c.args.self.now.core c.args.disk.now) c.args.scenario.now c.args.self.now.site c.args.self.now.locals.items c.args.self.now.armed commands c.args.tx c.in-Some.place s found in
+    let o = owned (CoreStands g.E.LocalEngine.stands g.D.Disk.tells g.D.Disk.image g.D.Disk.size g.D.Disk.spare c.args.self.now.core c.args.disk.now) c.args.scenario.now c.args.self.now.site c.args.self.now.locals.items c.args.self.now.armed commands c.args.tx c.in-Some.place s found state c.index-local.ensures in
+    let home = home_from c.args.scenario.now s.line in
+    let past = past_of s.line.site (story_of c.args.scenario.now commands) in
     let left : state.done < length c.at.result.now.program = (let a = c.done.ensures in let b = c.len.ensures.count in let e = c.if-done-len.true in omega arith) in
-    commit_of_unfinished (CoreStands g.E.LocalEngine.stands g.D.Disk.tells g.D.Disk.image g.D.Disk.size g.D.Disk.spare c.args.self.now.core c.args.disk.now) c.args.scenario.now c.args.self.now.site c.args.self.now.locals.items c.args.self.now.armed commands c.args.tx c.in-Some.place state c.in-Some-live.attempt c.at.result.now found s
-    (sym (c.is_down.ensures (home_from c.args.scenario.now s.line) (past_of s.line.site (story_of c.args.scenario.now commands)) s.at.stood.holds) ∙ c.if-is_down.false) (read_at c.args.self.now.locals.items c.in-Some.place state below c.index-local.ensures) (sym c.live.ensures ∙ c.in-Some-live.is) at left
+    told_nowhere _ c.args.scenario.now _ _ _ commands (Cmd.Commit c.args.tx) Say.Unfinished s tt
+    (commit_left c.args.scenario.now s.line commands c.args.tx c.in-Some.place state o c.in-Some-live.attempt (sym c.live.ensures ∙ c.in-Some-live.is) c.at.result.now (sym (c.is_down.ensures home past s.at.stood.holds) ∙ c.if-is_down.false) at left)
 
 pub hand-requires-clause-may : goal.hand-requires-clause-may
 hand-requires-clause-may g c =
@@ -79,13 +90,12 @@ hand-requires-clause-may g c =
     let found : IsPlace c.args.scenario.now.transactions c.args.tx c.in-Some.place = subst (λ xs. IsPlace xs c.args.tx c.in-Some.place) (c.as_slice.ensures ∙ lines_are) c.in-Some.ensures in
     let whole : IsScenario c.args.scenario.now = subst (λ (z : Scenario). IsScenario z) c.scenario.view_is c.scenario.invariant in
     let state : State = c.index-local.result.now in
-    let below = place_below (CoreStands g.E.LocalEngine.stands g.D.Disk.tells g.D.Disk.image g.D.Disk.size g.D.Disk.spare c.args.self.now.core c.args.disk.now) c.args.scenario.now c.args.self.now.site c.args.self.now.locals.items c.args.self.now.armed commands c.args.tx c.in-Some.place s found in
+    let o = owned (CoreStands g.E.LocalEngine.stands g.D.Disk.tells g.D.Disk.image g.D.Disk.size g.D.Disk.spare c.args.self.now.core c.args.disk.now) c.args.scenario.now c.args.self.now.site c.args.self.now.locals.items c.args.self.now.armed commands c.args.tx c.in-Some.place s found state c.index-local.ensures in
     record {
       home = home_from c.args.scenario.now s.line;
       past = past_of s.line.site (story_of c.args.scenario.now commands);
       stood = s.at.stood;
-      holds = can_commit (CoreStands g.E.LocalEngine.stands g.D.Disk.tells g.D.Disk.image g.D.Disk.size g.D.Disk.spare c.args.self.now.core c.args.disk.now) c.args.scenario.now c.args.self.now.site c.args.self.now.locals.items c.args.self.now.armed commands c.args.tx c.in-Some.place state c.in-Some-live.attempt whole found s
-          (read_at c.args.self.now.locals.items c.in-Some.place state below c.index-local.ensures) (sym c.live.ensures ∙ c.in-Some-live.is) r.holds;
+      holds = can_commit c.args.scenario.now s.line commands c.args.tx c.in-Some.place state o c.in-Some-live.attempt (sym c.live.ensures ∙ c.in-Some-live.is) whole r.holds;
     }
 
 pub returns-in_err-answer-clause-failed : goal.returns-in_err-answer-clause-failed
@@ -100,8 +110,11 @@ index_mut-requires g c =
     let s = c.requires.stood.stood in
     let lines_are = ap (λ (z : Scenario). z.transactions) c.scenario.view_is in
     let found : IsPlace c.args.scenario.now.transactions c.args.tx c.in-Some.place = subst (λ xs. IsPlace xs c.args.tx c.in-Some.place) (c.as_slice.ensures ∙ lines_are) c.in-Some.ensures in
+    let home = home_from c.args.scenario.now s.line in
+    let past = past_of s.line.site (story_of c.args.scenario.now commands) in
     let below = place_below (CoreStands g.E.LocalEngine.stands g.D.Disk.tells g.D.Disk.image g.D.Disk.size g.D.Disk.spare c.args.self.now.core c.args.disk.now) c.args.scenario.now c.args.self.now.site c.args.self.now.locals.items c.args.self.now.armed commands c.args.tx c.in-Some.place s found in
-    let same = handed_length (CoreStands g.E.LocalEngine.stands g.D.Disk.tells g.D.Disk.image g.D.Disk.size g.D.Disk.spare c.hand.new.self.core c.hand.new.disk) c.args.self.now c.hand.new.self c.in_ok-answer.answer _ _ _ (c.in_ok-answer.ensures.answered (home_from c.args.scenario.now s.line) (past_of s.line.site (story_of c.args.scenario.now commands)) s.at.stood) in
+    let hands = c.in_ok-answer.ensures.answered home past s.at.stood in
+    let below_now = handed_below (CoreStands g.E.LocalEngine.stands g.D.Disk.tells g.D.Disk.image g.D.Disk.size g.D.Disk.spare c.hand.new.self.core c.hand.new.disk) c.args.self.now c.hand.new.self c.in_ok-answer.answer home past (site_line home past (Ev.Commit (attempt c.args.tx c.in-Some-live.attempt))) hands c.in-Some.place below in
     let len = c.hand.new.self.locals.ok.0 in
     omega arith
 
@@ -109,15 +122,18 @@ pub returns-clause-told : goal.returns-clause-told
 returns-clause-told g c commands s =
     let lines_are = ap (λ (z : Scenario). z.transactions) c.scenario.view_is in
     let found : IsPlace c.args.scenario.now.transactions c.args.tx c.in-Some.place = subst (λ xs. IsPlace xs c.args.tx c.in-Some.place) (c.as_slice.ensures ∙ lines_are) c.in-Some.ensures in
-    let at = subst (λ xs. slice_get xs c.in-Some.place ≡ Some c.at.result.now) lines_are c.at.ensures in
     let state : State = c.index-local.result.now in
-    let was : State = c.index_mut.result.now in
+    let now : State = c.index_mut.result.now in
+    let o = owned (CoreStands g.E.LocalEngine.stands g.D.Disk.tells g.D.Disk.image g.D.Disk.size g.D.Disk.spare c.args.self.now.core c.args.disk.now) c.args.scenario.now c.args.self.now.site c.args.self.now.locals.items c.args.self.now.armed commands c.args.tx c.in-Some.place s found state c.index-local.ensures in
+    let home = home_from c.args.scenario.now s.line in
+    let past = past_of s.line.site (story_of c.args.scenario.now commands) in
     let below = place_below (CoreStands g.E.LocalEngine.stands g.D.Disk.tells g.D.Disk.image g.D.Disk.size g.D.Disk.spare c.args.self.now.core c.args.disk.now) c.args.scenario.now c.args.self.now.site c.args.self.now.locals.items c.args.self.now.armed commands c.args.tx c.in-Some.place s found in
+    let hands = c.in_ok-answer.ensures.answered home past s.at.stood in
+    let at = subst (λ xs. slice_get xs c.in-Some.place ≡ Some c.at.result.now) lines_are c.at.ensures in
     let finished : length c.at.result.now.program ≤ state.done = (let a = c.done.ensures in let b = c.len.ensures.count in let e = c.if-done-len.false in omega arith) in
-    let handed = c.in_ok-answer.ensures.answered (home_from c.args.scenario.now s.line) (past_of s.line.site (story_of c.args.scenario.now commands)) s.at.stood in
-    let same = handed_length (CoreStands g.E.LocalEngine.stands g.D.Disk.tells g.D.Disk.image g.D.Disk.size g.D.Disk.spare c.hand.new.self.core c.hand.new.disk) c.args.self.now c.hand.new.self c.in_ok-answer.answer _ _ _ handed in
-    let told = commit_of_live (CoreStands g.E.LocalEngine.stands g.D.Disk.tells g.D.Disk.image g.D.Disk.size g.D.Disk.spare c.args.self.now.core c.args.disk.now) (CoreStands g.E.LocalEngine.stands g.D.Disk.tells g.D.Disk.image g.D.Disk.size g.D.Disk.spare c.hand.new.self.core c.hand.new.disk) c.args.scenario.now c.args.self.now c.hand.new.self commands c.args.tx c.in-Some.place state was c.in-Some-live.attempt c.at.result.now c.in_ok-answer.answer found s
-    (sym (c.is_down.ensures (home_from c.args.scenario.now s.line) (past_of s.line.site (story_of c.args.scenario.now commands)) s.at.stood.holds) ∙ c.if-is_down.false) (read_at c.args.self.now.locals.items c.in-Some.place state below c.index-local.ensures) (sym c.live.ensures ∙ c.in-Some-live.is) at finished handed
-    (read_at c.hand.new.self.locals.items c.in-Some.place was (omega arith) c.index_mut.ensures.value) in
+    let got_state = got (CoreStands g.E.LocalEngine.stands g.D.Disk.tells g.D.Disk.image g.D.Disk.size g.D.Disk.spare c.args.self.now.core c.args.disk.now) c.args.scenario.now c.args.self.now.site c.args.self.now.locals.items c.args.self.now.armed commands c.args.tx c.in-Some.place s found state c.index-local.ensures in
+    let got_now = handed_got (CoreStands g.E.LocalEngine.stands g.D.Disk.tells g.D.Disk.image g.D.Disk.size g.D.Disk.spare c.hand.new.self.core c.hand.new.disk) c.args.self.now c.hand.new.self c.in_ok-answer.answer home past (site_line home past (Ev.Commit (attempt c.args.tx c.in-Some-live.attempt))) hands c.in-Some.place now below c.index_mut.ensures.value in
     subst (λ (st : State). IsTold (SiteStands (CoreStands g.E.LocalEngine.stands g.D.Disk.tells g.D.Disk.image g.D.Disk.size g.D.Disk.spare c.hand.new.self.core c.hand.new.disk) c.args.scenario.now c.hand.new.self.site (slice_set c.hand.new.self.locals.items c.in-Some.place st) c.hand.new.self.armed) c.args.scenario.now commands (Cmd.Commit c.args.tx) c.in_ok-answer.answer)
-    (sym c.rests.ensures) told
+    (sym c.rests.ensures)
+    (commit_told (CoreStands g.E.LocalEngine.stands g.D.Disk.tells g.D.Disk.image g.D.Disk.size g.D.Disk.spare c.args.self.now.core c.args.disk.now) (CoreStands g.E.LocalEngine.stands g.D.Disk.tells g.D.Disk.image g.D.Disk.size g.D.Disk.spare c.hand.new.self.core c.hand.new.disk) c.args.scenario.now c.args.self.now c.hand.new.self c.args.tx c.in-Some.place state now c.in-Some-live.attempt c.in_ok-answer.answer commands s o
+    (commit_next c.args.scenario.now s.line commands c.args.tx c.in-Some.place state o c.in-Some-live.attempt (sym c.live.ensures ∙ c.in-Some-live.is) c.at.result.now (sym (c.is_down.ensures home past s.at.stood.holds) ∙ c.if-is_down.false) at finished) hands got_state got_now)

@@ -1,4 +1,4 @@
-use Rattle.std.proofs.Common.{◌≡◌, ◌∙◌, None, List, subst}
+use Rattle.std.proofs.Common.{◌≡◌, ◌∙◌, None, subst}
 use Rattle.mdb_base.specs.Names.{same_tx}
 use Rattle.mdb_base.specs.Words.{first_where}
 use Rattle.fed_rules.specs.declared.commands.Command.TheVariants as Cmd

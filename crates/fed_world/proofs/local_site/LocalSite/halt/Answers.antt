@@ -1,4 +1,4 @@
-use Rattle.std.proofs.Common.{refl, List}
+use Rattle.std.proofs.Common.{refl}
 use Rattle.fed_rules.specs.declared.commands.Command.TheVariants as Cmd
 use Rattle.fed_rules.specs.declared.events.CoordEvent.TheVariants as Coord
 use Rattle.fed_rules.specs.declared.events.SiteEvent.TheVariants as Ev

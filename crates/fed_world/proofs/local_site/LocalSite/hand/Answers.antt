@@ -1,4 +1,4 @@
-use Rattle.std.proofs.Common.{◌∷◌, ◌∙◌, ap, sym, subst, cond, false, List}
+use Rattle.std.proofs.Common.{◌∷◌, ◌∙◌, ap, sym, subst, cond, false}
 use Rattle.fed_rules.specs.declared.answers.Answer.{Answer}
 use Rattle.fed_rules.specs.Happenings.{stops}
 use Rattle.fed_rules.specs.Site.{site_line}

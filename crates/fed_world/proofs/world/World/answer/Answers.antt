@@ -1,4 +1,4 @@
-use Rattle.std.proofs.Common.{◌∙◌, Some, None, Err, List, slice_set, sym, ap, subst}
+use Rattle.std.proofs.Common.{◌∙◌, Some, Err, List, slice_set, sym, ap, subst}
 use Rattle.fed_rules.specs.declared.answers.Answer.TheVariants as Say
 use Rattle.fed_rules.specs.declared.commands.Command.{Command}
 use Rattle.site_core.specs.Stands.{Stands as CoreStands}

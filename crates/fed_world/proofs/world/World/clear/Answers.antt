@@ -1,8 +1,6 @@
-use Rattle.std.proofs.Common.{List, length, take, sym, ◌∙◌, ap, subst, arith}
+use Rattle.std.proofs.Common.{take, sym, ◌∙◌, subst}
 use Rattle.std.proofs.lemmas.List.{take_all}
 use Rattle.std.proofs.lemmas.Result.{err_from_is_err_and}
-use Rattle.mdb_base.specs.declared.names.Tid.{Tid}
-use Rattle.fed_rules.specs.declared.scenario.Scenario.{Scenario}
 use Rattle.session_laws.specs.Closing.{with_aborts}
 use Rattle.fed_world.specs.declared.errors.WorldErr.TheVariants as Err_is
 use Rattle.fed_world.specs.Closings.{all_cleared, live_tids}

@@ -1,15 +1,14 @@
-use Rattle.std.proofs.Common.{sym, ◌∙◌, subst, arith}
+use Rattle.std.proofs.Common.{sym, ◌∙◌, subst}
 use Rattle.std.proofs.lemmas.Result.{err_from_is_err_and}
-use Rattle.fed_rules.specs.declared.commands.Command.TheVariants as Cmd
 use Rattle.fed_rules.specs.declared.scenario.Scenario.{Scenario}
 use Rattle.fed_rules.specs.Closing.{closed}
 use Rattle.session_laws.proofs.Closed.{closed_none, closed_so}
-use Rattle.fed_world.specs.Closings.{all_cleared, all_disarmed, all_up, armed_number, down_number}
+use Rattle.fed_world.specs.Closings.{all_cleared, all_disarmed, all_up}
 use Rattle.fed_world.specs.Worlds.{FailsToward, Stands}
 use Rattle.fed_world.proofs.Closed.{ClosesSo, closed_is, closes_disarmed, closes_up, disarmed_extends, up_extends}
 use Rattle.fed_world.proofs.Disks.{cause_later, never_falls_twice}
 use Rattle.fed_world.proofs.Handed.{on_failure}
-use Rattle.fed_world.proofs.Towards.{fails_before, fails_behind, on_success, with_length}
+use Rattle.fed_world.proofs.Towards.{fails_before, fails_behind, on_success}
 use Rattle.fed_world.proofs.world.World.close.Goals as goal
 
 -- the law of the closing commands
