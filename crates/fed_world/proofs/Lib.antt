@@ -10,7 +10,6 @@ mod KeptReads
 mod LineCases
 mod LiveLists
 mod LiveSteps
-mod LocalOnce
 mod MemberReads
 mod NewSites
 mod Owned

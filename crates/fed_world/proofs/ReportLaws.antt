@@ -27,18 +27,18 @@ use Rattle.fed_rules.specs.Story.{past_of, coord_past, story_of}
 use Rattle.local_laws.specs.Kept.{State}
 use Rattle.local_laws.proofs.Stops.{unprepared}
 use Rattle.session_laws.specs.Tables.{TablesOfRunningSites}
+use Rattle.site_history.specs.SiteOrders.{IsSerialPast}
+use Rattle.site_history.specs.Stories.{OfSites}
 use Rattle.site_laws.specs.Locals.{installed_tids}
 use Rattle.site_laws.proofs.LocalInstalls.{due_installed}
 use Rattle.site_laws.proofs.OneOrder.{least_merge-one}
 use Rattle.site_laws.proofs.OneSite.{one_site, one_home}
-use Rattle.site_laws.proofs.Reversed.{map_reverse, in_reverse, distinct_reverse, map_same}
+use Rattle.site_laws.proofs.Reversed.{map_reverse, in_reverse, map_same}
 use Rattle.fed_world.specs.Commits.{numbered}
 use Rattle.fed_world.specs.Reports.{member_tid, reads_of_member}
 use Rattle.fed_world.specs.Stands.{home_from, SiteStands}
-use Rattle.fed_world.proofs.Installed.{installed_once}
-use Rattle.fed_world.proofs.LocalOnce.{led_once}
 use Rattle.fed_world.proofs.MemberReads.{member_read}
-use Rattle.fed_world.proofs.SiteBounds.{site_keeps, site_led}
+use Rattle.fed_world.proofs.SiteBounds.{site_keeps}
 
 tids_numbered : (xs : List Install) → map member_tid (map numbered xs) ≡ map (λ (i : Install). i.tid) xs
 tids_numbered [] = refl
@@ -53,20 +53,19 @@ pub members_are : (home : Home) (past : SitePast) → map member_tid (reverse (m
 members_are home past = map_reverse member_tid (map numbered (installs (records home past))) ∙ ap (λ ts. reverse ts) (tids_numbered (installs (records home past)))
 
 -- the printed order is the order of the only site
-printed_is : (core : Home → SitePast → Type 0) (scenario : Scenario) (site : SiteId) (states : List State) (armed : Bool) (commands : List Command) → (s : SiteStands core scenario site states armed commands)
+printed_is : OfSites IsSerialPast → (core : Home → SitePast → Type 0) (scenario : Scenario) (site : SiteId) (states : List State) (armed : Bool) (commands : List Command) → (s : SiteStands core scenario site states armed commands)
     → printed_order scenario (story_of scenario commands) ≡ members_of (home_from scenario s.line) (past_of s.line.site (story_of scenario commands))
-printed_is core scenario site states armed commands s =
+printed_is serial core scenario site states armed commands s =
     let story = story_of scenario commands in
     let home = home_from scenario s.line in
     let past = past_of s.line.site story in
-    let led = site_led scenario s.line commands s.alone s.own in
     let fits = (site_keeps scenario s.line commands s.alone s.own).sound.records in
-    let once : Distinct (installed_tids home past) = installed_once past (length past) (records home past) fits (led_once scenario home past led) in
+    let once : Distinct (members_of home past) = (serial scenario commands s.line.site home (one_home scenario s.line s.alone.sites)).settled.distinct in
     let order : order_at scenario story s.line.site ≡ members_of home past =
     ap (λ h. order_of (is_committed story) (records_at h story)) (one_home scenario s.line s.alone.sites)
     ∙ ap (λ is. reverse (map (λ (i : Install). i.tid) is)) (due_installed (is_committed story) (records home past) (unprepared past (length past) (records home past) fits)) in
     let all : orders scenario story ≡ members_of home past ∷ [] = ap (λ ss. map (order_at scenario story) ss) (one_site scenario s.line s.alone.sites) ∙ ap (λ o. o ∷ []) order in
-    ap (λ os. least_merge same_tid tid_before os) all ∙ least_merge-one same_tid tid_before tells_tids (members_of home past) (distinct_reverse (installed_tids home past) once)
+    ap (λ os. least_merge same_tid tid_before os) all ∙ least_merge-one same_tid tid_before tells_tids (members_of home past) once
 
 -- while the site is up its table is that of its engine
 site_tables : (scenario : Scenario) (line : SiteLine) (commands : List Command) → TablesOfRunningSites → (core : Home → SitePast → Type 0) (site : SiteId) (states : List State) (armed : Bool) → (s : SiteStands core scenario site states armed commands)
@@ -80,16 +79,16 @@ site_tables scenario line commands law core site states armed s up =
     ∙ sym (ap (λ ss. map (λ (i : SiteId). let r : SiteRows = record { site = i; rows = table_of scenario story i } in r) ss) (one_site scenario s.line s.alone.sites))
 
 -- the report, from its parts
-pub report_is : (core : Home → SitePast → Type 0) (scenario : Scenario) (site : SiteId) (states : List State) (armed : Bool) (commands : List Command) (report : Report) → TablesOfRunningSites → (s : SiteStands core scenario site states armed commands)
+pub report_is : (core : Home → SitePast → Type 0) (scenario : Scenario) (site : SiteId) (states : List State) (armed : Bool) (commands : List Command) (report : Report) → TablesOfRunningSites → OfSites IsSerialPast → (s : SiteStands core scenario site states armed commands)
     → coord_past (story_of scenario commands) ≡ [] → is_down (past_of s.line.site (story_of scenario commands)) ≡ false
     → report.order ≡ members_of (home_from scenario s.line) (past_of s.line.site (story_of scenario commands))
     → report.reads ≡ map (reads_of_member scenario.transactions states) (members_of (home_from scenario s.line) (past_of s.line.site (story_of scenario commands))) → report.outcomes ≡ [] → report.forgotten ≡ []
     → report.tables ≡ record { site = s.line.site; rows = rows (epoch_start (home_from scenario s.line) (past_of s.line.site (story_of scenario commands))) (engine_lines (past_of s.line.site (story_of scenario commands))) } ∷ []
     → report ≡ report_of scenario (story_of scenario commands)
-report_is core scenario site states armed commands report law s quiet up order reads outs forgot tabs =
+report_is core scenario site states armed commands report law serial s quiet up order reads outs forgot tabs =
     let story = story_of scenario commands in
     let tids = members_of (home_from scenario s.line) (past_of s.line.site story) in
-    let printed = printed_is core scenario site states armed commands s in
+    let printed = printed_is serial core scenario site states armed commands s in
     let told : map (reads_of_member scenario.transactions states) tids ≡ map (λ tid. let r : TxReads = record { tid = tid; values = reads_of scenario story tid } in r) tids =
     map_same (reads_of_member scenario.transactions states) (λ tid. let r : TxReads = record { tid = tid; values = reads_of scenario story tid } in r) tids
     (λ tid i. ap (λ vs. let r : TxReads = record { tid = tid; values = vs } in r) (member_read core scenario site states armed commands tid s (in_reverse (installed_tids (home_from scenario s.line) (past_of s.line.site story)) tid i))) in

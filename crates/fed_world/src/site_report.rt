@@ -13,6 +13,7 @@ use engine_contract::LocalEngine;
 use fed_rules::{AllReads, AllRows, Outcomes, Report, Scenario, TxLines, TxReads};
 use mdb_base::{Memory, SiteRows, Tid, Tids, Values};
 use session_laws::tables_of_running_sites;
+use site_history::each_site_of_a_story_is_serial;
 use std::alloc::Global;
 
 /// The committed attempts by rising serial number.
@@ -80,6 +81,7 @@ impl<E: LocalEngine> LocalSite<E> {
             (λ commands. coord_past (story_of scenario.now commands) ≡ [] → report ≡ report_of scenario.now (story_of scenario.now commands))) }
     {
         tables_of_running_sites();
+        each_site_of_a_story_is_serial();
         let commits = committed_by_number(alloc, self.core.records())?;
         let order = members(alloc, commits.as_slice())?;
         let reads = all_reads(

@@ -31,7 +31,7 @@ returns g c commands s quiet =
     let first : Some c.at.result.now ≡ Some s.line = sym c.at.ensures ∙ ap (λ (ls : List SiteLine). slice_get ls 0) (c.sites.ensures ∙ s.alone.sites) in
     let line_is : c.at.result.now ≡ s.line = cc in
     let table = c.in_ok-rows.ensures home past s.at.stood up in
-    report_is (Holds g.E.LocalEngine.stands c.args.self.now.core) scenario c.args.self.now.site c.args.self.now.locals.items c.args.self.now.armed commands _ c.tables_of_running_sites.ensures s quiet up
+    report_is (Holds g.E.LocalEngine.stands c.args.self.now.core) scenario c.args.self.now.site c.args.self.now.locals.items c.args.self.now.armed commands _ c.tables_of_running_sites.ensures c.each_site_of_a_story_is_serial.ensures.serial s quiet up
     (c.of.ensures ∙ order)
     (c.of-2.ensures ∙ (c.in_ok-reads.ensures
     ∙ (ap₂ (λ ls ss. map (reads_of_member ls ss) c.as_slice-3.result.now) c.transactions.ensures c.as_slice-2.ensures.value
