@@ -1,5 +1,5 @@
 -- The scenarios and commands that a site and a world stand for, and what a call does to them. Commands stand newest first.
-use Rattle.std.specs.Prelude.{ℕ, zero, suc, ◌≡◌, ◌≤◌, ◌<◌, ◌+◌, ◌^◌, Bool, true, false, cond, is_some, Option, Some, None, List, [], ◌∷◌, length, map, slice_get}
+use Rattle.std.specs.Prelude.{ℕ, zero, suc, ◌≡◌, ◌<◌, ◌^◌, Bool, false, cond, is_some, Some, List, [], ◌∷◌, length, map, slice_get}
 use Rattle.mdb_base.specs.declared.names.SiteId.{SiteId}
 use Rattle.mdb_base.specs.Words.{Each}
 use Rattle.fed_rules.specs.declared.answers.Answer.{Answer}
@@ -14,7 +14,7 @@ use Rattle.fed_rules.specs.Runs.{Start, EngineLine}
 use Rattle.fed_rules.specs.Site.{answered}
 use Rattle.fed_rules.specs.SitePast.{SiteHappening, SitePast, trip}
 use Rattle.fed_rules.specs.SiteRecords.{Home}
-use Rattle.fed_rules.specs.Story.{Story, story_of, happens, answer_of, places_of, past_of, coord_past}
+use Rattle.fed_rules.specs.Story.{story_of, happens, answer_of, places_of, past_of, coord_past}
 use Rattle.journal_disk.specs.Disk.{Image}
 use Rattle.local_laws.specs.Kept.{State, resting, unbegun, kept_of}
 use Rattle.local_laws.specs.Sound.{IsOwn}
