@@ -14,7 +14,7 @@ use std::env::Env;
 use std::io::ErrorKind;
 use std::process::ExitCode;
 
-/// The status where there is no memory for the words.
+/// The status where there is no memory for the words or the disks.
 const NO_MEMORY: u8 = 6;
 
 /// The words behind the program's name. Where one of them isn't text they are no command, and none are given.
