@@ -1,10 +1,11 @@
 -- What holds of one attempt at one site and at the coordinator, with what was sent between them: the whole invariant.
-use Rattle.std.proofs.Common.{◌≡◌, ℕ, ◌<◌, ◌≤◌, ◌⊎◌, true, Some, List, []}
+use Rattle.std.proofs.Common.{◌≡◌, ℕ, ◌<◌, ◌≤◌, ◌⊎◌, true, is_some, Some, List, []}
 use Rattle.mdb_base.specs.declared.names.Tid.{Tid}
 use Rattle.mdb_base.specs.declared.replies.Reply.{Reply}
 use Rattle.mdb_base.specs.Words.{Among}
 use Rattle.order_laws.specs.Chains.{In}
 use Rattle.presumptions.specs.declared.Decision.{Decision}
+use Rattle.presumptions.specs.declared.Protocol.TheVariants as By
 use Rattle.presumptions.specs.Table.{forces}
 use Rattle.fed_rules.specs.declared.answers.Answer.TheVariants as Say
 use Rattle.fed_rules.specs.declared.events.CoordEvent.TheVariants as Coord_event
@@ -16,15 +17,16 @@ use Rattle.fed_rules.specs.declared.messages.ToSite.TheVariants as To
 use Rattle.fed_rules.specs.declared.scenario.Scenario.{Scenario}
 use Rattle.fed_rules.specs.CoordPast as Coordinator
 use Rattle.fed_rules.specs.CoordPast.{CoordPast, program, visits, counted_at, epoch_at}
-use Rattle.fed_rules.specs.CoordRecords.{outcome}
+use Rattle.fed_rules.specs.CoordRecords.{named, outcome}
 use Rattle.fed_rules.specs.Happenings.{is_down}
+use Rattle.fed_rules.specs.Scenarios.{protocols}
 use Rattle.fed_rules.specs.SitePast.{SitePast, disk, records, epoch, is_closed}
 use Rattle.fed_rules.specs.SiteRecords.{Home, site_frame}
 use Rattle.fed_rules.specs.Story.{Story, coord_past, past_of, sent_to, sent_from}
 use Rattle.rules_laws.specs.Durable.{IsFirm}
 use Rattle.commit_laws.specs.Records.{IsPrepared, IsEnded, IsLooseEnded}
 use Rattle.commit_laws.specs.Seals.{seals}
-use Rattle.commit_laws.proofs.CoordFacts.{IsOpen, IsInitiation}
+use Rattle.commit_laws.proofs.CoordFacts.{IsOpen}
 use Rattle.commit_laws.proofs.CoordSound.{IsBegun, CoordSound}
 use Rattle.commit_laws.proofs.Links.{IsGlobal}
 use Rattle.commit_laws.proofs.SiteFacts.{Shut}
@@ -40,18 +42,18 @@ pub record IsOver (home : Home) (g : Tid) (past : SitePast) : Type 0 where
   pub ended : (e : ℕ) → Among (IsPrepared g e) (records home past)
       → (d : Decision) × Among (IsEnded g d) (records home past) × (forces home.protocol d ≡ true)
 
--- what was sent of a Prepare
-pub record Prepares (home : Home) (g : Tid) (past : CoordPast) (e : ℕ) : Type 0 where
+-- what was sent of a Prepare: a site that presumes commit gets it only of an attempt with a record
+pub record Prepares (scenario : Scenario) (home : Home) (g : Tid) (past : CoordPast) (e : ℕ) : Type 0 where
   pub begun : IsBegun past g
-  pub initiated : Among (IsInitiation g) (Coordinator.records past)
+  pub recorded : home.protocol ≡ By.Commit → is_some (named (protocols scenario) (Coordinator.records past) g) ≡ true
   pub visits : visits home.site (program past g) ≡ true
   pub epoch : e ≡ epoch_at past g home.site
   pub counted : 1 ≤ e
 
 -- what was sent of a decision
-pub record Decides (home : Home) (g : Tid) (past : CoordPast) (here : SitePast) (d : Decision) : Type 0 where
+pub record Decides (scenario : Scenario) (home : Home) (g : Tid) (past : CoordPast) (here : SitePast) (d : Decision) : Type 0 where
   pub begun : IsBegun past g
-  pub closed : IsOpen past g → ⊥
+  pub closed : IsOpen (protocols scenario) past g → ⊥
   pub right : (d ≡ outcome (Coordinator.records past) g) ⊎ IsOver home g here
 
 -- what was sealed is prepared, or a stop took the record away: the site is down, or in a later epoch
@@ -69,8 +71,8 @@ pub record Agree (scenario : Scenario) (home : Home) (g : Tid) (past : CoordPast
   pub shut : IsGlobal scenario g → Shut home g here
   pub given : (m : ToSite) → Among (λ x. x.event ≡ Ev.Give m) here → In m sent
   pub taken : (m : FromSite) → Among (λ x. x.event ≡ Coord_event.Take home.site m) past → In m back
-  pub preparing : (e n : ℕ) → In (To.Prepare g e n) sent → Prepares home g past e
-  pub telling : (d : Decision) → In (To.Decide g d) sent → Decides home g past here d
+  pub preparing : (e n : ℕ) → In (To.Prepare g e n) sent → Prepares scenario home g past e
+  pub telling : (d : Decision) → In (To.Decide g d) sent → Decides scenario home g past here d
   pub replied : (e n : ℕ) (reply : Reply) → In (From.Did g e n reply) back → (1 ≤ e) × (e ≤ epoch home here)
   pub voted : (ticket : ℕ) → In (From.Vote g (Some ticket)) back → (e : ℕ) × Among (IsPrepared g e) (records home here)
   pub acked : In (From.Ack g) back → IsOver home g here

@@ -1,5 +1,5 @@
 -- A line of the coordinator keeps the invariant.
-use Rattle.std.proofs.Common.{◌≡◌, ℕ, ◌<◌, ◌≤◌, ◌⊎◌, inl, inr, Bool, true, false, cond, ◌&&◌, ◌||◌, ◌==◌, None, List, [], ◌∷◌, ◌++◌, map, refl, sym, ap, subst, ◌∙◌, arith}
+use Rattle.std.proofs.Common.{◌≡◌, ℕ, ◌<◌, ◌≤◌, ◌⊎◌, inl, inr, Bool, true, false, cond, ◌&&◌, ◌||◌, ◌==◌, is_some, None, List, [], ◌∷◌, ◌++◌, map, refl, sym, ap, subst, ◌∙◌, arith}
 use Rattle.std.proofs.lemmas.Bool.{and_parts, eqb-true}
 use Rattle.mdb_base.specs.declared.names.SiteId.{SiteId}
 use Rattle.mdb_base.specs.declared.names.Tid.{Tid}
@@ -22,21 +22,23 @@ use Rattle.fed_rules.specs.declared.messages.FromSite.TheVariants as From
 use Rattle.fed_rules.specs.declared.messages.Sent.{Sent}
 use Rattle.fed_rules.specs.declared.messages.ToSite.{ToSite}
 use Rattle.fed_rules.specs.declared.messages.ToSite.TheVariants as To
+use Rattle.fed_rules.specs.declared.records.CoordRecord.{CoordRecord}
 use Rattle.fed_rules.specs.declared.scenario.Scenario.{Scenario}
 use Rattle.fed_rules.specs.Coord.{fits, protocol_of}
 use Rattle.fed_rules.specs.CoordPast as Coordinator
-use Rattle.fed_rules.specs.CoordPast.{CoordHappening, CoordPast, Standing, Decided, Gone, standing, is_undecided, begins, program, visits, counts, counted_at, last_epoch, epoch_at, outstanding, outstanding_at}
-use Rattle.fed_rules.specs.CoordRecords.{outcome}
+use Rattle.fed_rules.specs.CoordPast.{CoordHappening, CoordPast, Standing, Decided, Gone, is_open, standing, begins, participants, program, visits, counts, counted_at, last_epoch, epoch_at, outstanding, outstanding_at}
+use Rattle.fed_rules.specs.CoordRecords.{Uniform, Mixed, same_protocol, all_follow, class_of, has_initiation, named, has_commit, outcome}
 use Rattle.fed_rules.specs.Scenarios.{protocols}
 use Rattle.fed_rules.specs.SitePast.{SitePast, epoch, is_closed}
 use Rattle.fed_rules.specs.SiteRecords.{Home}
 use Rattle.commit_laws.specs.Seals.{seals}
 use Rattle.commit_laws.proofs.Agree.{IsGot, IsOver, Prepares, Decides, HasSealed, Agree}
 use Rattle.commit_laws.proofs.CoordClear.{coord-turn}
-use Rattle.commit_laws.proofs.CoordFacts.{IsOpen, IsInitiation, IsPreparing, IsTelling, Now, Known, Presumed, Says, Tells, Counted}
-use Rattle.commit_laws.proofs.CoordLists.{decided-outcome}
-use Rattle.commit_laws.proofs.CoordSound.{Declared, IsBegun, kept-stays, end-initiation, decided-not-open, program-stays}
-use Rattle.commit_laws.proofs.CoordTurn.{Turn, fresh, same-program, same-outcome, stays-closed, uncommitted-of}
+use Rattle.commit_laws.proofs.CoordFacts.{is_undecided, IsOpen, IsPreparing, IsTelling, Now, Known, Presumed, Says, Tells, Counted}
+use Rattle.commit_laws.proofs.CoordLists.{commit-named, decided-outcome}
+use Rattle.commit_laws.proofs.CoordRules.{open-undecided}
+use Rattle.commit_laws.proofs.CoordSound.{Declared, IsBegun, named-stays-some, decided-not-open, program-stays}
+use Rattle.commit_laws.proofs.CoordTurn.{Turn, fresh, same-program, same-outcome, stays-closed, uncommitted-of, is-participant}
 use Rattle.commit_laws.proofs.Lists.{among-split, among-left}
 use Rattle.commit_laws.proofs.Taken.{Counting, Unchanged, Cleared, Adds, counting, ticket-counted}
 use Rattle.commit_laws.proofs.Names.{same-site}
@@ -81,18 +83,18 @@ fits-visits past g site n reply f = by_test (visits site (program past g)) refl 
 reply-counts : (scenario : Scenario) (home : Home) (g : Tid) (past : CoordPast) (event : CoordEvent) (x : CoordHappening) (e n : ℕ)
     (reply : Reply) → Turn scenario home g past event x → x.event ≡ Coord_event.Take home.site (From.Did g e n reply)
     → counts x.answer ≡ true
-    → IsOpen past g × (((epoch_at past g home.site == 0) || (e == epoch_at past g home.site)) ≡ true) ×
+    → IsOpen (protocols scenario) past g × (((epoch_at past g home.site == 0) || (e == epoch_at past g home.site)) ≡ true) ×
     (visits home.site (program past g) ≡ true)
 reply-counts scenario home g past event x e n reply t is c =
-    let counted = subst (Counted g past) (sym t.line.is ∙ is) (t.line.counted c) (same_tid-refl g) in
-    let parts = and_parts (is_undecided (standing past g) && fits (outstanding past g home.site) n reply)
+    let counted = subst (Counted (protocols scenario) g past) (sym t.line.is ∙ is) (t.line.counted c) (same_tid-refl g) in
+    let parts = and_parts (is_open past g && fits (outstanding past g home.site) n reply)
     ((epoch_at past g home.site == 0) || (e == epoch_at past g home.site)) counted in
-    let both = and_parts (is_undecided (standing past g)) (fits (outstanding past g home.site) n reply) parts.0 in
-    (both.0, parts.1, fits-visits past g home.site n reply both.1)
+    let both = and_parts (is_open past g) (fits (outstanding past g home.site) n reply) parts.0 in
+    (open-undecided (protocols scenario) past g both.0, parts.1, fits-visits past g home.site n reply both.1)
 
 -- the epoch of an attempt that isn't open stays
 epoch-stays : (scenario : Scenario) (home : Home) (g : Tid) (past : CoordPast) (event : CoordEvent) (x : CoordHappening)
-    → Turn scenario home g past event x → IsBegun past g → (IsOpen past g → ⊥)
+    → Turn scenario home g past event x → IsBegun past g → (IsOpen (protocols scenario) past g → ⊥)
     → epoch_at (x ∷ past) g home.site ≡ epoch_at past g home.site
 epoch-stays scenario home g past event x t begun closed = by_count (counting past g home.site x) where
   by_count : Counting past g home.site x → epoch_at (x ∷ past) g home.site ≡ epoch_at past g home.site
@@ -115,25 +117,64 @@ epoch-known scenario home g past event x t begun one = by_count (counting past g
         | inr same ↦ f ∙ eqb-true e (epoch_at past g home.site) same
       ]
 
--- where no acknowledgement is due, the presumption is the decision
-presumed-right : (p : Protocol) (d : Decision) → acks p d ≡ false → presumed p ≡ d
-presumed-right By.Nothing Decided.Commit e = cc
-presumed-right By.Nothing Decided.Abort e = cc
-presumed-right By.Abort Decided.Commit e = cc
-presumed-right By.Abort Decided.Abort e = refl
-presumed-right By.Commit Decided.Commit e = refl
-presumed-right By.Commit Decided.Abort e = cc
+-- where a participant presumes commit the attempt has an Initiation
+follow-commit : (p : Protocol) (ms : List Participant) → all_follow p ms ≡ true → Among (λ m. m.protocol ≡ By.Commit) ms
+    → same_protocol By.Commit p ≡ true
+follow-commit p [] e i = absurd i
+follow-commit p (m ∷ ms) e (inl c) =
+    ap (λ q. same_protocol q p) (sym c) ∙ (and_parts (same_protocol m.protocol p) (all_follow p ms) e).0
+follow-commit p (m ∷ ms) e (inr i) = follow-commit p ms (and_parts (same_protocol m.protocol p) (all_follow p ms) e).1 i
+
+commit-initiates : (ms : List Participant) → Among (λ m. m.protocol ≡ By.Commit) ms → has_initiation (class_of ms) ≡ true
+commit-initiates [] i = absurd i
+commit-initiates (m ∷ ms) i = by_test (all_follow m.protocol ms) refl i where
+  of_commit : (p : Protocol) → same_protocol By.Commit p ≡ true → has_initiation (Uniform p) ≡ true
+  of_commit By.Nothing e = cc
+  of_commit By.Abort e = cc
+  of_commit By.Commit e = refl
+
+  by_test : (b : Bool) → all_follow m.protocol ms ≡ b → Among (λ k. k.protocol ≡ By.Commit) (m ∷ ms)
+      → has_initiation (cond b (Uniform m.protocol) Mixed) ≡ true
+  by_test false e i = refl
+  by_test true e (inl c) = ap (λ p. has_initiation (Uniform p)) c
+  by_test true e (inr j) = of_commit m.protocol (follow-commit m.protocol ms e j)
+
+among-commit-protocol : (home : Home) → home.protocol ≡ By.Commit → (ms : List Participant)
+    → Among (λ m. (m.site ≡ home.site) × (m.protocol ≡ home.protocol)) ms → Among (λ m. m.protocol ≡ By.Commit) ms
+among-commit-protocol home c [] i = absurd i
+among-commit-protocol home c (m ∷ ms) (inl is) = inl (is.1 ∙ c)
+among-commit-protocol home c (m ∷ ms) (inr i) = inr (among-commit-protocol home c ms i)
+
+-- the presumption of an attempt that isn't known is its outcome, or the attempt has a record, and the site acknowledges the outcome
+presumed-or-kept : (scenario : Scenario) (home : Home) (g : Tid) (past : CoordPast) (e : ℕ) → Prepares scenario home g past e
+    → (presumed home.protocol ≡ outcome (Coordinator.records past) g)
+    ⊎ ((acks home.protocol (outcome (Coordinator.records past) g) ≡ true)
+    × (is_some (named (protocols scenario) (Coordinator.records past) g) ≡ true))
+presumed-or-kept scenario home g past e p =
+    by_commit (has_commit (Coordinator.records past) g) refl home.protocol refl
+  where
+    kept : List CoordRecord
+    kept = Coordinator.records past
+
+    by_commit : (b : Bool) → has_commit kept g ≡ b → (q : Protocol) → home.protocol ≡ q
+        → (presumed q ≡ cond b Decided.Commit Decided.Abort)
+        ⊎ ((acks q (cond b Decided.Commit Decided.Abort) ≡ true) × (is_some (named (protocols scenario) kept g) ≡ true))
+    by_commit true c By.Nothing f = inr (refl, commit-named (protocols scenario) g kept c)
+    by_commit true c By.Abort f = inr (refl, commit-named (protocols scenario) g kept c)
+    by_commit true c By.Commit f = inl refl
+    by_commit false c By.Nothing f = inl refl
+    by_commit false c By.Abort f = inl refl
+    by_commit false c By.Commit f = inr (refl, p.recorded f)
 
 -- the presumption of an attempt that isn't known is its outcome, or the attempt is over at the inquirer
 pub presumes-right : (scenario : Scenario) (home : Home) (g : Tid) (past : CoordPast) (here : SitePast) (sent : List ToSite)
-    (back : List FromSite) → Agree scenario home g past here sent back → Declared scenario home → standing past g ≡ Gone → (e : ℕ)
-    → Prepares home g past e → (presumed home.protocol ≡ outcome (Coordinator.records past) g) ⊎ IsOver home g here
-presumes-right scenario home g past here sent back a declared gone e p = by_ack
-    (acks home.protocol (outcome (Coordinator.records past) g)) refl where
-      by_ack : (b : Bool) → acks home.protocol (outcome (Coordinator.records past) g) ≡ b
-          → (presumed home.protocol ≡ outcome (Coordinator.records past) g) ⊎ IsOver home g here
-      by_ack true k = inr (a.acked (a.taken (From.Ack g) (a.sound.gone gone p.initiated declared k p.visits)))
-      by_ack false k = inl (presumed-right home.protocol (outcome (Coordinator.records past) g) k)
+    (back : List FromSite) → Agree scenario home g past here sent back → Declared scenario home
+    → standing (protocols scenario) past g ≡ Gone → (e : ℕ)
+    → Prepares scenario home g past e → (presumed home.protocol ≡ outcome (Coordinator.records past) g) ⊎ IsOver home g here
+presumes-right scenario home g past here sent back a declared gone e p = elim (presumed-or-kept scenario home g past e p) [
+  | inl right ↦ inl right
+  | inr (acking, kept) ↦ inr (a.acked (a.taken (From.Ack g) (a.sound.gone gone kept declared acking p.visits)))
+]
 
 pub coord-next : (scenario : Scenario) (home : Home) (g : Tid) (past : CoordPast) (here : SitePast) (sent : List ToSite)
     (back : List FromSite) (event : CoordEvent) (x : CoordHappening) → CoordNext scenario home g past here sent back event x
@@ -183,7 +224,7 @@ coord-next scenario home g past here sent back event x n = record {
   taken m (inl e) = n.comes m (sym t.line.is ∙ e)
   taken m (inr i) = a.taken m i
 
-  got_decides : (got : IsGot g here) → Decides home g past here got.0
+  got_decides : (got : IsGot g here) → Decides scenario home g past here got.0
   got_decides got = a.telling got.0 (a.given (To.Decide g got.0) got.1)
 
   -- the outcome of what was decided is the old one
@@ -214,26 +255,29 @@ coord-next scenario home g past here sent back event x n = record {
     ap (visits home.site) (program-stays g past x b) ∙ (reply-counts scenario home g past event x e k reply t is c).2,
   )
 
-  preparing : (e k : ℕ) → In (To.Prepare g e k) (sent ++ to_site home.site x.sends) → Prepares home g (x ∷ past) e
+  preparing : (e k : ℕ) → In (To.Prepare g e k) (sent ++ to_site home.site x.sends) → Prepares scenario home g (x ∷ past) e
   preparing e k i = elim (among-split (λ y. y ≡ To.Prepare g e k) sent (to_site home.site x.sends) i) [
     | inl j ↦ old (a.preparing e k j)
     | inr j ↦ new (told-to (protocols scenario) g past x home.site x.sends (To.Prepare g e k) t.line.tells j (same_tid-refl g))
   ] where
-    old : Prepares home g past e → Prepares home g (x ∷ past) e
+    old : Prepares scenario home g past e → Prepares scenario home g (x ∷ past) e
     old p = record {
       begun = inr p.begun;
-      initiated = kept-stays (protocols scenario) g past event (Coordinator.records (x ∷ past)) (IsInitiation g)
-          (end-initiation g) t.line.kept p.initiated;
+      recorded = (λ c. named-stays-some (protocols scenario) g past event (Coordinator.records (x ∷ past)) t.line.kept
+          (p.recorded c));
       visits = ap (visits home.site) (same-program scenario home g past event x t p.begun) ∙ p.visits;
       epoch = p.epoch ∙ sym
           (epoch-known scenario home g past event x t p.begun (let same = p.epoch in let one = p.counted in omega (arith, same, one)));
       counted = p.counted;
     }
 
-    new : IsPreparing g past x home.site e → Prepares home g (x ∷ past) e
+    new : IsPreparing (protocols scenario) g past x home.site e → Prepares scenario home g (x ∷ past) e
     new p = record {
       begun = inr (a.sound.undecided p.undecided);
-      initiated = p.initiated;
+      recorded = (λ c. p.recorded (commit-initiates (participants (protocols scenario) past g)
+          (among-commit-protocol home c (participants (protocols scenario) past g)
+          (is-participant scenario home past g n.declared
+          (ap (visits home.site) (sym (same-program scenario home g past event x t (a.sound.undecided p.undecided))) ∙ p.visits)))));
       visits = p.visits;
       epoch = p.epoch;
       counted = elim (counted (counting past g home.site x)) [
@@ -242,22 +286,22 @@ coord-next scenario home g past here sent back event x n = record {
       ];
     }
 
-  telling : (d : Decision) → In (To.Decide g d) (sent ++ to_site home.site x.sends) → Decides home g (x ∷ past) here d
+  telling : (d : Decision) → In (To.Decide g d) (sent ++ to_site home.site x.sends) → Decides scenario home g (x ∷ past) here d
   telling d i = elim (among-split (λ y. y ≡ To.Decide g d) sent (to_site home.site x.sends) i) [
     | inl j ↦ old (a.telling d j)
     | inr j ↦ new (told-to (protocols scenario) g past x home.site x.sends (To.Decide g d) t.line.tells j (same_tid-refl g))
   ] where
-    closed_gone : standing past g ≡ Gone → IsOpen past g → ⊥
+    closed_gone : standing (protocols scenario) past g ≡ Gone → IsOpen (protocols scenario) past g → ⊥
     closed_gone is o = let no : is_undecided Gone ≡ true = ap is_undecided (sym is) ∙ o in cc
 
-    old : Decides home g past here d → Decides home g (x ∷ past) here d
+    old : Decides scenario home g past here d → Decides scenario home g (x ∷ past) here d
     old o = record {
       begun = inr o.begun;
       closed = stays-closed scenario home g past event x t o.begun o.closed;
       right = elim o.right [ inl e ↦ inl (e ∙ sym (same-outcome scenario home g past event x t o.closed)) | inr over ↦ inr over ];
     }
 
-    new : IsTelling (protocols scenario) g past x home.site d → Decides home g (x ∷ past) here d
+    new : IsTelling (protocols scenario) g past x home.site d → Decides scenario home g (x ∷ past) here d
     new (Now f o is news r by) = record {
       begun = inr (a.sound.undecided o);
       closed = (λ h. decided-not-open f d (ap is_undecided (sym is) ∙ h));

@@ -56,6 +56,7 @@ new-prepared home g here event now e (inl (r, w, is)) m = by_place r w (subst (A
   by_place (Rec.Ended t d) w (inl p) = absurd p
   by_place (Rec.Start k) w (inl p) = absurd p
   by_place (Rec.Setup site engine protocol items) w (inl p) = absurd p
+  by_place (Rec.Checkpoint sum) w (inl p) = absurd p
   by_place (Rec.Local t number writes) w (inl p) = absurd p
   by_place r w (inr i) = inl i
 
@@ -70,6 +71,7 @@ new-ended home g here event now d (inl (r, w, is)) m = by_place r w (subst (Amon
   by_place (Rec.Prepared t k number ticket writes) w (inl p) = absurd p
   by_place (Rec.Start k) w (inl p) = absurd p
   by_place (Rec.Setup site engine protocol items) w (inl p) = absurd p
+  by_place (Rec.Checkpoint sum) w (inl p) = absurd p
   by_place (Rec.Local t number writes) w (inl p) = absurd p
   by_place r w (inr i) = inl i
 
@@ -91,6 +93,7 @@ epoch-grows home g here event now (inl (r, w, is)) = subst (λ rs. epoch home he
   by_record (Rec.Prepared t k number ticket writes) w = omega arith
   by_record (Rec.Ended t d) w = omega arith
   by_record (Rec.Setup site engine protocol items) w = omega arith
+  by_record (Rec.Checkpoint sum) w = omega arith
   by_record (Rec.Local t number writes) w = omega arith
 
 -- an attempt of which a decision was given isn't sealed any more
@@ -337,6 +340,7 @@ site-turn scenario home g past here sent back event x t = record {
   first (Rec.Ended u d) w e p = absurd p
   first (Rec.Start k) w e p = absurd p
   first (Rec.Setup site engine protocol items) w e p = absurd p
+  first (Rec.Checkpoint sum) w e p = absurd p
   first (Rec.Local u number writes) w e p = absurd p
 
   tidy : Kept home g here event (records home (x ∷ here)) → IsTidy g (records home (x ∷ here))

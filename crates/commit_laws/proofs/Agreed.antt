@@ -12,7 +12,7 @@ use Rattle.fed_rules.specs.declared.scenario.Scenario.{Scenario}
 use Rattle.fed_rules.specs.Coord.{coord_line}
 use Rattle.fed_rules.specs.CoordRecords.{coord_frame}
 use Rattle.fed_rules.specs.Disk.{empty_disk}
-use Rattle.fed_rules.specs.Scenarios.{home_of, local_home, protocols}
+use Rattle.fed_rules.specs.Scenarios.{home_of, local_home, policy, protocols}
 use Rattle.fed_rules.specs.Site.{site_line}
 use Rattle.fed_rules.specs.SitePast.{set_up_calls}
 use Rattle.fed_rules.specs.SiteRecords.{Home, site_frame}
@@ -44,11 +44,11 @@ coord-first scenario home g = record {
   global = (λ b. absurd b);
   undecided = (λ o. cc);
   marked = (λ m. absurd m);
-  initiated = (λ ms m. absurd m);
+  names = (λ ms e. cc);
   decided = (λ d e. cc);
   voted = (λ h m v. absurd m);
   ended = (λ m h a v. absurd m);
-  gone = (λ e m h a v. absurd m);
+  gone = (λ e m h a v. cc);
   waits = (λ d e. cc);
 }
 
@@ -95,6 +95,7 @@ not-begun scenario site story g (Ev.Drop t) came global = tt
 not-begun scenario site story g (Ev.Halt cut) came global = tt
 not-begun scenario site story g (Ev.Trip calls cut) came global = tt
 not-begun scenario site story g Ev.Back came global = tt
+not-begun scenario site story g Ev.Check came global = tt
 
 pub at-site : (scenario : Scenario) (home : Home) (g : Tid) (story : Story) (event : SiteEvent)
     → SiteCame scenario home.site story event
@@ -111,10 +112,10 @@ at-site scenario home g story event came a = record {
 -- the next line of the coordinator
 pub turn : (scenario : Scenario) (home : Home) (g : Tid) (story : Story) (event : CoordEvent) → CoordCame scenario story event
     → CoordSound scenario home g (coord_past story)
-    → Turn scenario home g (coord_past story) event (coord_line (protocols scenario) (coord_past story) event)
+    → Turn scenario home g (coord_past story) event (coord_line (protocols scenario) (policy scenario) (coord_past story) event)
 turn scenario home g story event came s = record {
   sound = s;
-  line = coord-lines (protocols scenario) g (coord_past story) event s.firm;
+  line = coord-lines (protocols scenario) (policy scenario) g (coord_past story) event s.firm;
   begun = (λ steps e. let c = subst (CoordCame scenario story) e came in (c.0, (steps, c.1)));
 }
 
@@ -122,7 +123,7 @@ at-coordinator : (scenario : Scenario) (home : Home) (g : Tid) (story : Story) (
     → home_of scenario home.site ≡ Some home → CoordCame scenario story event
     → Agrees scenario home g story
     → CoordNext scenario home g (coord_past story) (past_of home.site story) (sent_to home.site story)
-    (sent_from home.site story) event (coord_line (protocols scenario) (coord_past story) event)
+    (sent_from home.site story) event (coord_line (protocols scenario) (policy scenario) (coord_past story) event)
 at-coordinator scenario home g story event declared came a = record {
   agree = a;
   turn = turn scenario home g story event came a.sound;
@@ -146,12 +147,12 @@ next scenario home g story (AtCoordinator x) declared l a =
     let (event, is, came) = l.next in
     subst (λ y. Agree scenario home g (y ∷ coord_past story) (past_of home.site story)
     (sent_to home.site story ++ sends_to home.site (AtCoordinator y)) (sent_from home.site story ++ [])) (sym is)
-    (subst (λ m. Agree scenario home g (coord_line (protocols scenario) (coord_past story) event ∷ coord_past story)
+    (subst (λ m. Agree scenario home g (coord_line (protocols scenario) (policy scenario) (coord_past story) event ∷ coord_past story)
     (past_of home.site story)
-    (sent_to home.site story ++ sends_to home.site (AtCoordinator (coord_line (protocols scenario) (coord_past story) event))) m)
+    (sent_to home.site story ++ sends_to home.site (AtCoordinator (coord_line (protocols scenario) (policy scenario) (coord_past story) event))) m)
     (sym (append-nil (sent_from home.site story)))
     (coord-next scenario home g (coord_past story) (past_of home.site story) (sent_to home.site story)
-    (sent_from home.site story) event (coord_line (protocols scenario) (coord_past story) event)
+    (sent_from home.site story) event (coord_line (protocols scenario) (policy scenario) (coord_past story) event)
     (at-coordinator scenario home g story event declared came a)))
 next scenario home g story (AtSite at x) declared l a =
     subst (λ m. Agree scenario home g (coord_past story) (with_site home.site (AtSite at x) (past_of home.site story)) m
@@ -196,5 +197,5 @@ coord-sound scenario home g (command ∷ commands) =
         let (event, is, came) = l.next in
         subst (λ y. CoordSound scenario home g (y ∷ coord_past (story_of scenario commands))) (sym is)
         (coord-turn scenario home g (coord_past (story_of scenario commands)) event
-        (coord_line (protocols scenario) (coord_past (story_of scenario commands)) event)
+        (coord_line (protocols scenario) (policy scenario) (coord_past (story_of scenario commands)) event)
         (turn scenario home g (story_of scenario commands) event came s))

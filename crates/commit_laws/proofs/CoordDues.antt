@@ -1,5 +1,5 @@
 -- Operations and inquiries at the coordinator: the facts on one attempt hold of their lines.
-use Rattle.std.proofs.Common.{◌≡◌, inl, inr, Bool, true, false, cond, not, ◌&&◌, ◌||◌, ◌==◌, is_none, Option, Some, None, List, [], ◌∷◌, map, drop, refl, sym, ap, subst, ◌∙◌}
+use Rattle.std.proofs.Common.{◌≡◌, inl, inr, Bool, true, false, cond, not, ◌&&◌, ◌||◌, ◌==◌, is_some, is_none, Option, Some, None, List, [], ◌∷◌, map, drop, refl, sym, ap, ap₂, subst, ◌∙◌}
 use Rattle.std.proofs.lemmas.Bool.{and_right}
 use Rattle.mdb_base.specs.declared.acts.Step.{Step}
 use Rattle.mdb_base.specs.declared.names.SiteId.{SiteId}
@@ -7,28 +7,28 @@ use Rattle.mdb_base.specs.declared.names.Tid.{Tid}
 use Rattle.mdb_base.specs.declared.names.Tx.{Tx}
 use Rattle.mdb_base.specs.Names.{same_tid, same_site}
 use Rattle.mdb_base.specs.Programs.{plain_act}
-use Rattle.mdb_base.specs.Words.{Each, Among, some_of, how_many, found, with_some}
+use Rattle.mdb_base.specs.Words.{Each, some_of, how_many, those, found, with_some}
 use Rattle.mdb_base.proofs.NameLaws.{same_tid-equal, same_tid-refl}
 use Rattle.order_laws.specs.Chains.{In}
 use Rattle.mdb_base.proofs.ListLaws.{each_map}
 use Rattle.order_laws.proofs.Lists.{each_from, each_at}
 use Rattle.presumptions.specs.declared.Participant.{Participant}
 use Rattle.presumptions.specs.Table.{presumed}
+use Rattle.fed_rules.specs.declared.answers.Answer.{Answer}
 use Rattle.fed_rules.specs.declared.answers.Answer.TheVariants as Say
 use Rattle.fed_rules.specs.declared.events.CoordEvent.{CoordEvent}
 use Rattle.fed_rules.specs.declared.events.CoordEvent.TheVariants as Ev
 use Rattle.fed_rules.specs.declared.messages.Due.{Due}
 use Rattle.fed_rules.specs.declared.messages.Due.TheVariants as Due_is
 use Rattle.fed_rules.specs.declared.messages.FromSite.TheVariants as From
-use Rattle.fed_rules.specs.declared.records.CoordRecord.{CoordRecord}
 use Rattle.fed_rules.specs.declared.records.CoordRecord.TheVariants as Rec
 use Rattle.fed_rules.specs.Disk.{Append, Sync}
 use Rattle.fed_rules.specs.Happenings.{quiet}
-use Rattle.fed_rules.specs.Coord.{send_due, is_prepare, sends_dues, all_outstanding, news, news_at, of_go, of_fate, asked_while, of_inquiry, tells, protocol_of}
-use Rattle.fed_rules.specs.CoordPast.{CoordHappening, CoordPast, records, Standing, Undecided, Decided, Gone, standing, reads, participants, program, visits, counted, epoch_at, count_at, has_ticket_at, is_wait, is_ticket, has_step_left, vote_at, outstanding, outstanding_at, work_at, take_at, prepare_at, next_step, attempts_of, undecided_of}
-use Rattle.fed_rules.specs.CoordRecords.{initiated, committed_of}
-use Rattle.commit_laws.proofs.CoordFacts.{IsOpen, IsInitiation, Stands, Same, Starts, IsPreparing, IsTelling, Known, Presumed, Tells, Counted, Goes}
-use Rattle.commit_laws.proofs.CoordRules.{goes-when, goes-pick, IsCalm, acked-on, IsNoAck, calm-standing, calm-acked, silently, no-ack}
+use Rattle.fed_rules.specs.Coord.{send_due, is_prepare, lacks_initiation, sends_dues, all_outstanding, news, news_at, of_go, of_fate, asked_while, of_inquiry, tells, protocol_of}
+use Rattle.fed_rules.specs.CoordPast.{CoordHappening, CoordPast, records, Standing, Undecided, Decided, Gone, standing, reads, participants, program, program_in, or_steps, visits, counted, did_in, last_epoch, epoch_at, count_at, has_ticket_at, is_wait, is_ticket, has_step_left, vote_at, outstanding, outstanding_at, work_at, take_at, prepare_at, next_step, attempts_of, undecided_of}
+use Rattle.fed_rules.specs.CoordRecords.{named, committed_of}
+use Rattle.commit_laws.proofs.CoordFacts.{IsOpen, Stands, Same, Starts, IsPreparing, IsTelling, Known, Presumed, Tells, Counted, Goes}
+use Rattle.commit_laws.proofs.CoordRules.{goes-when, goes-pick, IsCalm, IsSending, Sending, sending-answer, calm-committed, standing-on, acked-on, IsNoAck, calm-standing, calm-acked, silently, no-ack}
 use Rattle.commit_laws.proofs.Names.{of-same, some-parts}
 
 pub each-found : {A B : Type 0} (P : B → Type 0) (look : A → Option B) → ((x : A) (b : B) → look x ≡ Some b → P b) → (xs : List A)
@@ -161,10 +161,10 @@ by-go protocols g past t steps =
       lines = [];
     }
 
-    stands : (q : Bool) → same_tid t g ≡ q → Stands g past y []
-    stands true q = Starts q (ap (λ b. cond b Undecided (standing past g)) q) refl steps
-        (ap (λ u. Ev.Go u steps) (same_tid-equal t g q))
-    stands false q = Same (ap (λ b. cond b Undecided (standing past g)) q) q tt
+    stands : (q : Bool) → same_tid t g ≡ q → Stands protocols g past y []
+    stands true q = Starts q (standing-on protocols g past y refl refl ∙ ap (λ b. cond b Undecided (standing protocols past g)) q) refl
+        steps (ap (λ u. Ev.Go u steps) (same_tid-equal t g q))
+    stands false q = Same (standing-on protocols g past y refl refl ∙ ap (λ b. cond b Undecided (standing protocols past g)) q) q tt
         (inl (λ site. acked-on g past y site refl refl (and_right (same_tid t g) false refl) refl))
 
     says : (due : Due) → IsNoPrepare due → Tells protocols g past y (send_due t due)
@@ -186,16 +186,9 @@ by-go protocols g past t steps =
       committed = tt;
     }
 
--- an Initiation that is kept stands among the records
-initiated-among : (rs : List CoordRecord) (g : Tid) → is_none (initiated rs g) ≡ false → Among (IsInitiation g) rs
-initiated-among [] g e = cc
-initiated-among (Rec.Initiation t members ∷ rs) g e = by_test (same_tid t g) refl e (initiated-among rs g) where
-  by_test : (b : Bool) → same_tid t g ≡ b → is_none (cond b (Some members) (initiated rs g)) ≡ false
-      → (is_none (initiated rs g) ≡ false → Among (IsInitiation g) rs) → Among (IsInitiation g) (Rec.Initiation t members ∷ rs)
-  by_test true q e k = inl (same_tid-equal t g q)
-  by_test false q e k = inr (k e)
-initiated-among (Rec.Commit t tickets ∷ rs) g e = inr (initiated-among rs g e)
-initiated-among (Rec.End t ∷ rs) g e = inr (initiated-among rs g e)
+is-there : {A : Type 0} (o : Option A) → is_none o ≡ false → is_some o ≡ true
+is-there None e = cc
+is-there (Some x) e = refl
 
 some-in : (test : Due → Bool) (due : Due) (dues : List Due) → In due dues → test due ≡ true → some_of test dues ≡ true
 some-in test due [] i e = absurd i
@@ -205,13 +198,32 @@ some-in test due (d ∷ dues) (inr i) e = ap (λ b. test d || b) (some-in test d
   or_true true = refl
   or_true false = refl
 
+-- what an outstanding Prepare says doesn't depend on the answer of the line
+owed-with : (past : CoordPast) (event : CoordEvent) (t : Tid) (answer : Answer) (due : Due) → IsSending answer
+    → IsOwed (quiet event Say.Only ∷ past) t due → IsOwed (quiet event answer ∷ past) t due
+owed-with past event t answer (Due_is.Work site e n act) s o = tt
+owed-with past event t answer (Due_is.Take site e n) s o = tt
+owed-with past event t answer (Due_is.Prepare site e n) s (v, h, f) = (
+  ap (visits site) same_program ∙ v,
+  ap (λ cs. some_of (λ reply. is_ticket reply.reply) (those (λ reply. same_site reply.site site) cs)) same_counted ∙ h,
+  f ∙ sym (ap (λ cs. last_epoch (those (λ reply. same_site reply.site site) cs)) same_counted),
+) where
+  a : Sending t answer
+  a = sending-answer t answer s
+
+  same_program : program (quiet event answer ∷ past) t ≡ program (quiet event Say.Only ∷ past) t
+  same_program = ap (λ b. cond b (or_steps (program_in t event) []) (program past t)) a.begins
+
+  same_counted : counted (quiet event answer ∷ past) t ≡ counted (quiet event Say.Only ∷ past) t
+  same_counted = ap₂ (λ b c. cond b [] (cond c (with_some (did_in t event) (counted past t)) (counted past t))) a.begins a.counts
+
 -- operations and Prepares of an undecided attempt
-pub by-dues : (protocols : List Participant) (g : Tid) (past : CoordPast) (event : CoordEvent) (t : Tid) (dues : List Due)
-    → IsOpen past t → IsNoAck event → Counted g past event → Each (IsOwed (quiet event Say.Only ∷ past) t) dues
-    → Goes protocols g past event (sends_dues protocols past event t dues)
+pub by-dues : (protocols : List Participant) (g : Tid) (past : CoordPast) (event : CoordEvent) (t : Tid) (answer : Answer)
+    (dues : List Due) → IsOpen protocols past t → IsSending answer → IsNoAck event → Counted protocols g past event
+    → Each (IsOwed (quiet event Say.Only ∷ past) t) dues → Goes protocols g past event (sends_dues protocols past event t answer dues)
 unfolding sends_dues
-by-dues protocols g past event t dues undecided n k each =
-    goes-when protocols g past event (some_of is_prepare dues && is_none (initiated (records past) t)) initiates only
+by-dues protocols g past event t answer dues undecided s n k each =
+    goes-when protocols g past event (some_of is_prepare dues && lacks_initiation protocols past t) initiates only
     (λ b. by_initiation) (λ b. by_only b)
   where
     initiates : CoordHappening
@@ -225,34 +237,44 @@ by-dues protocols g past event t dues undecided n k each =
     }
 
     only : CoordHappening
-    only = record { event = event; answer = Say.Only; sends = map (send_due t) dues; calls = []; lines = [] }
+    only = record { event = event; answer = answer; sends = map (send_due t) dues; calls = []; lines = [] }
+
+    named_now : is_some (named protocols (records (initiates ∷ past)) t) ≡ true
+    named_now = ap (λ b. is_some (cond b (Some (participants protocols past t)) (named protocols (records past) t))) (same_tid-refl t)
 
     says_initiates : (due : Due) → IsOwed (quiet event Say.Only ∷ past) t due → Tells protocols g past initiates (send_due t due)
     says_initiates (Due_is.Work site e m act) o = tt
     says_initiates (Due_is.Take site e m) o = tt
-    says_initiates (Due_is.Prepare site e m) (v, h, f) = λ q. of-same (λ u. IsPreparing u past initiates site e) t g
-        (record { undecided = undecided; visits = v; ticketed = h; epoch = f; initiated = inl refl }) q
+    says_initiates (Due_is.Prepare site e m) (v, h, f) = λ q. of-same (λ u. IsPreparing protocols u past initiates site e) t g
+        (record { undecided = undecided; visits = v; ticketed = h; epoch = f; recorded = (λ c. named_now) }) q
 
-    says_only : (some_of is_prepare dues && is_none (initiated (records past) t)) ≡ false → (due : Due) → In due dues
-        → IsOwed (quiet event Say.Only ∷ past) t due → Tells protocols g past only (send_due t due)
+    says_only : (some_of is_prepare dues && lacks_initiation protocols past t) ≡ false → (due : Due) → In due dues
+        → IsOwed (quiet event answer ∷ past) t due → Tells protocols g past only (send_due t due)
     says_only b (Due_is.Work site e m act) i o = tt
     says_only b (Due_is.Take site e m) i o = tt
     says_only b (Due_is.Prepare site e m) i (v, h, f) = λ q.
         let some = some-in is_prepare (Due_is.Prepare site e m) dues i refl in
-        let kept : is_none (initiated (records past) t) ≡ false = sym (ap (λ s. s && is_none (initiated (records past) t)) some) ∙ b in
-        of-same (λ u. IsPreparing u past only site e) t g
-        (record { undecided = undecided; visits = v; ticketed = h; epoch = f; initiated = initiated-among (records past) t kept }) q
+        let kept : lacks_initiation protocols past t ≡ false = sym (ap (λ s. s && lacks_initiation protocols past t) some) ∙ b in
+        of-same (λ u. IsPreparing protocols u past only site e) t g
+        (record {
+          undecided = undecided;
+          visits = v;
+          ticketed = h;
+          epoch = f;
+          recorded = (λ c. is-there (named protocols (records past) t)
+              (sym (ap (λ w. w && is_none (named protocols (records past) t)) c) ∙ kept));
+        }) q
 
     by_initiation : Goes protocols g past event initiates
     by_initiation = record {
       is = refl;
       quiet = inr tt;
       wrote = (
-        (λ q. of-same (λ u. IsOpen past u × (participants protocols past t ≡ participants protocols past u)) t g
+        (λ q. of-same (λ u. IsOpen protocols past u × (participants protocols past t ≡ participants protocols past u)) t g
             (undecided, refl) q),
         tt,
       );
-      stands = Same (calm-standing g past initiates tt) refl (tt, tt)
+      stands = Same (calm-standing protocols g past initiates tt) refl (tt, tt)
           (inl (λ site. calm-acked g past initiates site tt (no-ack g site initiates n)));
       tells = each-map (Tells protocols g past initiates) (send_due t) dues (each_map (IsOwed (quiet event Say.Only ∷ past) t)
           (λ due. Tells protocols g past initiates (send_due t due)) says_initiates dues each);
@@ -260,21 +282,27 @@ by-dues protocols g past event t dues undecided n k each =
       committed = tt;
     }
 
-    by_only : (some_of is_prepare dues && is_none (initiated (records past) t)) ≡ false → Goes protocols g past event only
+    a : Sending g answer
+    a = sending-answer g answer s
+
+    by_only : (some_of is_prepare dues && lacks_initiation protocols past t) ≡ false → Goes protocols g past event only
     by_only b = record {
       is = refl;
       quiet = tt;
       wrote = tt;
-      stands = Same (calm-standing g past only tt) refl tt (inl (λ site. calm-acked g past only site tt (no-ack g site only n)));
+      stands = Same (calm-standing protocols g past only a.calm) a.begins tt
+          (inl (λ site. calm-acked g past only site a.calm (no-ack g site only n)));
       tells = each-map (Tells protocols g past only) (send_due t) dues
           (each_from (λ due. Tells protocols g past only (send_due t due)) dues
-          (λ due i. says_only b due i (each_at (IsOwed (quiet event Say.Only ∷ past) t) due dues each i)));
+          (λ due i. says_only b due i (owed-with past event t answer due s
+          (each_at (IsOwed (quiet event Say.Only ∷ past) t) due dues each i))));
       counted = (λ e. k);
-      committed = tt;
+      committed = calm-committed g event answer [] a.calm;
     }
 
 -- an inquiry
-by-asked : (protocols : List Participant) (g : Tid) (past : CoordPast) (site : SiteId) (t : Tid) (s : Standing) → standing past t ≡ s
+by-asked : (protocols : List Participant) (g : Tid) (past : CoordPast) (site : SiteId) (t : Tid) (s : Standing)
+    → standing protocols past t ≡ s
     → Goes protocols g past (Ev.Take site (From.Inquiry t)) (asked_while protocols site t s)
 unfolding asked_while
 by-asked protocols g past site t Undecided e = silently protocols g past (Ev.Take site (From.Inquiry t)) Say.Undecided tt tt tt
@@ -282,7 +310,7 @@ by-asked protocols g past site t (Decided decision) e = record {
   is = refl;
   quiet = tt;
   wrote = tt;
-  stands = Same (calm-standing g past y tt) refl tt (inl (λ at. calm-acked g past y at tt refl));
+  stands = Same (calm-standing protocols g past y tt) refl tt (inl (λ at. calm-acked g past y at tt refl));
   tells = ((λ q. of-same (λ u. IsTelling protocols u past y site decision) t g (Known e) q), tt);
   counted = (λ i. tt);
   committed = tt;
@@ -293,7 +321,7 @@ by-asked protocols g past site t Gone e = record {
   is = refl;
   quiet = tt;
   wrote = tt;
-  stands = Same (calm-standing g past y tt) refl tt (inl (λ at. calm-acked g past y at tt refl));
+  stands = Same (calm-standing protocols g past y tt) refl tt (inl (λ at. calm-acked g past y at tt refl));
   tells = (
     (λ q. of-same (λ u. IsTelling protocols u past y site (presumed (protocol_of protocols site))) t g
         (Presumed e refl refl) q),
@@ -308,7 +336,7 @@ by-asked protocols g past site t Gone e = record {
 pub by-inquiry : (protocols : List Participant) (g : Tid) (past : CoordPast) (site : SiteId) (t : Tid)
     → Goes protocols g past (Ev.Take site (From.Inquiry t)) (of_inquiry protocols past site t)
 unfolding of_inquiry
-by-inquiry protocols g past site t = by-asked protocols g past site t (standing past t) refl
+by-inquiry protocols g past site t = by-asked protocols g past site t (standing protocols past t) refl
 
 unbegun-calm : (b : Bool) → IsCalm (cond b Say.Unbegun Say.Ended)
 unbegun-calm true = tt

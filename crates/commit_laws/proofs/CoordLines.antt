@@ -13,13 +13,14 @@ use Rattle.fed_rules.specs.declared.records.CoordRecord.{CoordRecord}
 use Rattle.fed_rules.specs.Disk.{Stops, after_calls}
 use Rattle.fed_rules.specs.Happenings.{Trip, is_down, stops, comes_up, quiet, stopped, tripped}
 use Rattle.fed_rules.specs.Coord.{coord_line, answered, of_back}
-use Rattle.fed_rules.specs.CoordPast.{CoordHappening, CoordPast, disk, records, trip, standing, kept_standing, begins, counts, has_acked}
+use Rattle.fed_rules.specs.CoordPast.{CoordHappening, CoordPast, disk, records, trip, standing, begins, counts, has_acked}
 use Rattle.fed_rules.specs.CoordRecords.{coord_frame}
+use Rattle.fed_rules.specs.Policies.{Policy}
 use Rattle.rules_laws.specs.Durable.{IsFirm}
 use Rattle.commit_laws.specs.Records.{IsEnd, IsCommit}
 use Rattle.commit_laws.proofs.Lists.{among-left}
 use Rattle.commit_laws.proofs.Disks.{appended, IsCut, Keeps, left-by-line, left-by-stop, quiet-plain, plain-records}
-use Rattle.commit_laws.proofs.CoordFacts.{WroteAll, Stands, Tells, Counted, Committed, Goes}
+use Rattle.commit_laws.proofs.CoordFacts.{kept_standing, WroteAll, Stands, Tells, Counted, Committed, Goes}
 use Rattle.commit_laws.proofs.CoordRules.{silently, uncounted}
 use Rattle.commit_laws.proofs.CoordRestarts.{by-answered, by-back}
 
@@ -29,18 +30,20 @@ Kept protocols g past event now =
     ((kept : List CoordRecord) × WroteAll protocols g past event kept × (now ≡ kept ++ records past)) ⊎ IsCut IsEnd (records past) now
 
 -- a line that a stop ends, or one that goes through
-pub data Stood (g : Tid) (past : CoordPast) (x : CoordHappening) : Type 0 where
-  Stopped : begins g x.answer ≡ false → standing (x ∷ past) g ≡ kept_standing (records (x ∷ past)) g
-      → ((site : SiteId) → has_acked (x ∷ past) g site ≡ false) → (stops x.answer || comes_up x.answer) ≡ true → Stood g past x
-  Through : Stands g past x (appended x.calls []) → records (x ∷ past) ≡ appended x.calls [] ++ records past → Stood g past x
+pub data Stood (protocols : List Participant) (g : Tid) (past : CoordPast) (x : CoordHappening) : Type 0 where
+  Stopped : begins g x.answer ≡ false → standing protocols (x ∷ past) g ≡ kept_standing protocols (records (x ∷ past)) g
+      → ((site : SiteId) → has_acked (x ∷ past) g site ≡ false) → (stops x.answer || comes_up x.answer) ≡ true
+      → Stood protocols g past x
+  Through : Stands protocols g past x (appended x.calls []) → records (x ∷ past) ≡ appended x.calls [] ++ records past
+      → Stood protocols g past x
 
 pub record Line (protocols : List Participant) (g : Tid) (past : CoordPast) (event : CoordEvent) (x : CoordHappening) : Type 0 where
   pub is : x.event ≡ event
   pub firm : IsFirm coord_frame IsEnd (disk (x ∷ past))
   pub kept : Kept protocols g past event (records (x ∷ past))
-  pub stood : Stood g past x
+  pub stood : Stood protocols g past x
   pub tells : Each (Tells protocols g past x) x.sends
-  pub counted : counts x.answer ≡ true → Counted g past event
+  pub counted : counts x.answer ≡ true → Counted protocols g past event
   pub committed : Committed g event x.answer (records (x ∷ past))
 
 -- the oldest of records with reasons have their reasons
@@ -117,28 +120,31 @@ is-down : (protocols : List Participant) (g : Tid) (past : CoordPast) (event : C
 is-down protocols g past event f = goes protocols g past event (quiet event Say.Down) f
     (uncounted protocols g past event Say.Down tt refl)
 
-when-up : (protocols : List Participant) (g : Tid) (past : CoordPast) (event : CoordEvent) → IsFirm coord_frame IsEnd (disk past)
+when-up : (protocols : List Participant) (policy : Policy) (g : Tid) (past : CoordPast) (event : CoordEvent)
+    → IsFirm coord_frame IsEnd (disk past)
     → Line protocols g past event
-    (when (is_down past) (quiet event Say.Down) (tripped coord_frame (disk past) (trip past) (answered protocols past event)))
-when-up protocols g past event f =
+    (when (is_down past) (quiet event Say.Down) (tripped coord_frame (disk past) (trip past) (answered protocols policy past event)))
+when-up protocols policy g past event f =
     line-when protocols g past event (is_down past) _ _ (λ down. is-down protocols g past event f)
-    (λ up. unless-tripped protocols g past event (answered protocols past event) (trip past) f (by-answered protocols g past event))
+    (λ up. unless-tripped protocols g past event (answered protocols policy past event) (trip past) f
+    (by-answered protocols policy g past event))
 
-pub coord-lines : (protocols : List Participant) (g : Tid) (past : CoordPast) (event : CoordEvent)
-    → IsFirm coord_frame IsEnd (disk past) → Line protocols g past event (coord_line protocols past event)
+pub coord-lines : (protocols : List Participant) (policy : Policy) (g : Tid) (past : CoordPast) (event : CoordEvent)
+    → IsFirm coord_frame IsEnd (disk past) → Line protocols g past event (coord_line protocols policy past event)
 unfolding coord_line
-coord-lines protocols g past (Ev.Go t steps) f = when-up protocols g past (Ev.Go t steps) f
-coord-lines protocols g past (Ev.Take site message) f = when-up protocols g past (Ev.Take site message) f
-coord-lines protocols g past (Ev.Again t) f = when-up protocols g past (Ev.Again t) f
-coord-lines protocols g past (Ev.Late t) f = when-up protocols g past (Ev.Late t) f
-coord-lines protocols g past (Ev.Fate tx) f = when-up protocols g past (Ev.Fate tx) f
-coord-lines protocols g past (Ev.Trip calls cut) f = goes protocols g past (Ev.Trip calls cut) (quiet (Ev.Trip calls cut) Say.Set) f
+coord-lines protocols policy g past (Ev.Go t steps) f = when-up protocols policy g past (Ev.Go t steps) f
+coord-lines protocols policy g past (Ev.Take site message) f = when-up protocols policy g past (Ev.Take site message) f
+coord-lines protocols policy g past (Ev.Again t) f = when-up protocols policy g past (Ev.Again t) f
+coord-lines protocols policy g past (Ev.Late t) f = when-up protocols policy g past (Ev.Late t) f
+coord-lines protocols policy g past (Ev.Fate tx) f = when-up protocols policy g past (Ev.Fate tx) f
+coord-lines protocols policy g past (Ev.Trip calls cut) f = goes protocols g past (Ev.Trip calls cut) (quiet (Ev.Trip calls cut) Say.Set) f
     (silently protocols g past (Ev.Trip calls cut) Say.Set tt tt tt)
-coord-lines protocols g past (Ev.Halt cut) f =
+coord-lines protocols policy g past (Ev.Halt cut) f =
     line-when protocols g past (Ev.Halt cut) (is_down past) _ _ (λ down. is-down protocols g past (Ev.Halt cut) f)
     (λ up. stops-here protocols g past (Ev.Halt cut) (quiet (Ev.Halt cut) Say.Down) 0 cut f
     (silently protocols g past (Ev.Halt cut) Say.Down tt tt tt))
-coord-lines protocols g past Ev.Back f =
+coord-lines protocols policy g past Ev.Back f =
     line-when protocols g past Ev.Back (is_down past) _ _
-    (λ down. unless-tripped protocols g past Ev.Back (of_back past) (trip past) f (by-back protocols g past))
+    (λ down. unless-tripped protocols g past Ev.Back (of_back protocols past) (trip past) f (by-back protocols g past))
     (λ up. goes protocols g past Ev.Back (quiet Ev.Back Say.Awake) f (silently protocols g past Ev.Back Say.Awake tt tt tt))
+coord-lines protocols policy g past Ev.Check f = when-up protocols policy g past Ev.Check f

@@ -4,17 +4,19 @@ use Rattle.std.proofs.lemmas.Bool.{and_right}
 use Rattle.mdb_base.specs.declared.names.SiteId.{SiteId}
 use Rattle.mdb_base.specs.declared.names.Tid.{Tid}
 use Rattle.mdb_base.specs.Words.{when, pick}
+use Rattle.presumptions.specs.declared.Decision.{Decision}
 use Rattle.presumptions.specs.declared.Participant.{Participant}
 use Rattle.fed_rules.specs.declared.answers.Answer.{Answer}
 use Rattle.fed_rules.specs.declared.answers.Answer.TheVariants as Say
 use Rattle.fed_rules.specs.declared.events.CoordEvent.{CoordEvent}
 use Rattle.fed_rules.specs.declared.events.CoordEvent.TheVariants as Ev
+use Rattle.fed_rules.specs.declared.messages.Due.{Due}
 use Rattle.fed_rules.specs.declared.messages.FromSite.TheVariants as From
 use Rattle.fed_rules.specs.declared.records.CoordRecord.{CoordRecord}
 use Rattle.fed_rules.specs.Happenings.{quiet, stops, comes_up}
-use Rattle.fed_rules.specs.Coord.{news}
-use Rattle.fed_rules.specs.CoordPast.{CoordHappening, CoordPast, records, Standing, standing, kept_standing, moved, is_about, begins, counts, decides, acks_in, has_acked}
-use Rattle.commit_laws.proofs.CoordFacts.{Same, Counted, Committed, Goes}
+use Rattle.fed_rules.specs.Coord.{defers_some, defers_all}
+use Rattle.fed_rules.specs.CoordPast.{CoordHappening, CoordPast, records, Standing, standing_of, standing, opened, is_open, decided, kept_decision, known_decision, is_about, begins, counts, decides, acks_in, has_acked}
+use Rattle.commit_laws.proofs.CoordFacts.{is_undecided, moved, IsOpen, Same, Counted, Committed, Goes}
 
 pub goes-when : (protocols : List Participant) (g : Tid) (past : CoordPast) (event : CoordEvent) (b : Bool) (x y : CoordHappening)
     → (b ≡ true → Goes protocols g past event x) → (b ≡ false → Goes protocols g past event y)
@@ -60,18 +62,60 @@ calm-answer g (Say.Decides decision cause forgets) c = absurd c
 calm-answer g Say.Forgets c = absurd c
 calm-answer g a c = record { stops = refl; up = refl; begins = refl; decides = refl; moved = (λ old. refl) }
 
-calm-committed : (g : Tid) (event : CoordEvent) (a : Answer) (news : List CoordRecord) → IsCalm a → Committed g event a news
+pub calm-committed : (g : Tid) (event : CoordEvent) (a : Answer) (news : List CoordRecord) → IsCalm a → Committed g event a news
 calm-committed g event (Say.Decides decision cause forgets) news c = absurd c
 calm-committed g event a news c = tt
 
+-- an answer with which operations are sent
+abbrev pub IsSending : Answer → Type 0
+IsSending Say.Only = Unit {0}
+IsSending Say.Defers = Unit {0}
+IsSending answer = ⊥
+
+pub record Sending (g : Tid) (a : Answer) : Type 0 where
+  pub calm : IsCalm a
+  pub begins : begins g a ≡ false
+  pub counts : counts a ≡ true
+
+pub sending-answer : (g : Tid) (a : Answer) → IsSending a → Sending g a
+sending-answer g Say.Only s = record { calm = tt; begins = refl; counts = refl }
+sending-answer g Say.Defers s = record { calm = tt; begins = refl; counts = refl }
+sending-answer g a s = absurd s
+
+pub some-sending : (held : List Due) → IsSending (defers_some held)
+some-sending [] = tt
+some-sending (due ∷ held) = tt
+
+pub all-sending : (held sent : List Due) → IsSending (defers_all held sent)
+all-sending held [] = some-sending held
+all-sending held (due ∷ sent) = tt
+
+-- an attempt that is open is known without a decision, and the other way round
+pub open-undecided : (protocols : List Participant) (past : CoordPast) (g : Tid) → is_open past g ≡ true → IsOpen protocols past g
+open-undecided protocols past g e = ap (λ o. is_undecided (standing_of o (known_decision protocols past g))) e
+
+moved-standing : (a : Answer) (o : Bool) (d : Option Decision) → standing_of (opened a o) (decided a d) ≡ moved a (standing_of o d)
+moved-standing (Say.Begun tid) o d = refl
+moved-standing (Say.Decides decision cause true) o d = refl
+moved-standing (Say.Decides decision cause false) o d = refl
+moved-standing Say.Forgets o d = refl
+moved-standing a o d = refl
+
 -- the standing behind a line that neither stops nor starts the coordinator
-pub standing-on : (g : Tid) (past : CoordPast) (x : CoordHappening) → stops x.answer ≡ false → comes_up x.answer ≡ false
-    → standing (x ∷ past) g ≡ cond (is_about g x.event) (moved x.answer (standing past g)) (standing past g)
-standing-on g past x s c = by_test (stops x.answer) (comes_up x.answer) (kept_standing (records (x ∷ past)) g) _ s c where
-  by_test : (s c : Bool) (a z : Standing) → s ≡ false → c ≡ false → cond (s || c) a z ≡ z
-  by_test true c a z e f = cc
-  by_test false true a z e f = cc
-  by_test false false a z e f = refl
+pub standing-on : (protocols : List Participant) (g : Tid) (past : CoordPast) (x : CoordHappening) → stops x.answer ≡ false
+    → comes_up x.answer ≡ false
+    → standing protocols (x ∷ past) g
+    ≡ cond (is_about g x.event) (moved x.answer (standing protocols past g)) (standing protocols past g)
+standing-on protocols g past x s c = by_test (stops x.answer) (comes_up x.answer) (is_about g x.event) s c where
+  by_test : (s c a : Bool) → s ≡ false → c ≡ false
+      → standing_of (cond (s || c) false (cond a (opened x.answer (is_open past g)) (is_open past g)))
+      (cond (s || c) (kept_decision protocols (records (x ∷ past)) g)
+      (cond a (decided x.answer (known_decision protocols past g)) (known_decision protocols past g)))
+      ≡ cond a (moved x.answer (standing protocols past g)) (standing protocols past g)
+  by_test true c a e f = cc
+  by_test false true a e f = cc
+  by_test false false true e f = moved-standing x.answer (is_open past g) (known_decision protocols past g)
+  by_test false false false e f = refl
 
 -- an acknowledgement that doesn't count leaves the acknowledgements as they were
 pub acked-on : (g : Tid) (past : CoordPast) (x : CoordHappening) (site : SiteId) → stops x.answer ≡ false → comes_up x.answer ≡ false
@@ -104,14 +148,16 @@ no-ack g site x n = by_event x.event n where
   by_event (Ev.Halt cut) n = refl
   by_event (Ev.Trip calls cut) n = refl
   by_event Ev.Back n = refl
+  by_event Ev.Check n = refl
 
 -- a calm answer leaves the standing as it was
-pub calm-standing : (g : Tid) (past : CoordPast) (x : CoordHappening) → IsCalm x.answer → standing (x ∷ past) g ≡ standing past g
-calm-standing g past x c =
+pub calm-standing : (protocols : List Participant) (g : Tid) (past : CoordPast) (x : CoordHappening) → IsCalm x.answer
+    → standing protocols (x ∷ past) g ≡ standing protocols past g
+calm-standing protocols g past x c =
     let calm = calm-answer g x.answer c in
-    standing-on g past x calm.stops calm.up
-    ∙ ap (λ s. cond (is_about g x.event) s (standing past g)) (calm.moved (standing past g))
-    ∙ cond-same (is_about g x.event) (standing past g)
+    standing-on protocols g past x calm.stops calm.up
+    ∙ ap (λ s. cond (is_about g x.event) s (standing protocols past g)) (calm.moved (standing protocols past g))
+    ∙ cond-same (is_about g x.event) (standing protocols past g)
 
 pub calm-acked : (g : Tid) (past : CoordPast) (x : CoordHappening) (site : SiteId) → IsCalm x.answer → acks_in g site x ≡ false
     → has_acked (x ∷ past) g site ≡ has_acked past g site
@@ -121,13 +167,13 @@ calm-acked g past x site c a =
 
 -- a quiet line in which no acknowledgement counts
 pub quietly : (protocols : List Participant) (g : Tid) (past : CoordPast) (event : CoordEvent) (answer : Answer) → IsCalm answer
-    → ((site : SiteId) → acks_in g site (quiet event answer) ≡ false) → (counts answer ≡ true → Counted g past event)
+    → ((site : SiteId) → acks_in g site (quiet event answer) ≡ false) → (counts answer ≡ true → Counted protocols g past event)
     → Goes protocols g past event (quiet event answer)
 quietly protocols g past event answer c a k = record {
   is = refl;
   quiet = tt;
   wrote = tt;
-  stands = Same (calm-standing g past (quiet event answer) c) (calm-answer g answer c).begins tt
+  stands = Same (calm-standing protocols g past (quiet event answer) c) (calm-answer g answer c).begins tt
       (inl (λ site. calm-acked g past (quiet event answer) site c (a site)));
   tells = tt;
   counted = k;
@@ -136,7 +182,7 @@ quietly protocols g past event answer c a k = record {
 
 -- a quiet line of an event that is no acknowledgement and no reply
 pub silently : (protocols : List Participant) (g : Tid) (past : CoordPast) (event : CoordEvent) (answer : Answer) → IsCalm answer
-    → IsNoAck event → Counted g past event → Goes protocols g past event (quiet event answer)
+    → IsNoAck event → Counted protocols g past event → Goes protocols g past event (quiet event answer)
 silently protocols g past event answer c n k = quietly protocols g past event answer c (λ site. no-ack g site (quiet event answer) n)
     (λ e. k)
 

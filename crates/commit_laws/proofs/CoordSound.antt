@@ -1,9 +1,10 @@
 -- What holds of one attempt in the coordinator's past, with respect to one site: the coordinator's part of the invariant.
-use Rattle.std.proofs.Common.{◌≡◌, ℕ, ◌<◌, ◌⊎◌, inl, inr, Bool, true, false, cond, Some, List, [], ◌∷◌, ◌++◌, sym, ap, subst, ◌∙◌}
+use Rattle.std.proofs.Common.{◌≡◌, ℕ, ◌<◌, ◌⊎◌, inl, inr, Bool, true, false, cond, is_some, Option, Some, None, List, [], ◌∷◌, ◌++◌, refl, sym, ap, subst, ◌∙◌}
 use Rattle.mdb_base.specs.declared.acts.Step.{Step}
 use Rattle.mdb_base.specs.declared.names.SiteId.{SiteId}
 use Rattle.mdb_base.specs.declared.names.Tid.{Tid}
-use Rattle.mdb_base.specs.Words.{Among}
+use Rattle.mdb_base.specs.Names.{same_tid}
+use Rattle.mdb_base.specs.Words.{Among, or_else}
 use Rattle.presumptions.specs.declared.Decision.{Decision}
 use Rattle.presumptions.specs.declared.Participant.{Participant}
 use Rattle.presumptions.specs.Table.{acks}
@@ -14,18 +15,18 @@ use Rattle.fed_rules.specs.declared.records.CoordRecord.{CoordRecord}
 use Rattle.fed_rules.specs.declared.records.CoordRecord.TheVariants as Rec
 use Rattle.fed_rules.specs.declared.scenario.Scenario.{Scenario}
 use Rattle.fed_rules.specs.Coord.{missing}
-use Rattle.fed_rules.specs.CoordPast.{CoordHappening, CoordPast, disk, records, Decided, Gone, standing, kept_standing, is_undecided, begins, participants, program, program_in, or_steps, visits, attempts_of}
-use Rattle.fed_rules.specs.CoordRecords.{coord_frame, outcome, is_nobody, is_kept}
+use Rattle.fed_rules.specs.CoordPast.{CoordHappening, CoordPast, disk, records, Decided, Gone, standing_of, standing, begins, participants, program, program_in, or_steps, visits, attempts_of}
+use Rattle.fed_rules.specs.CoordRecords.{coord_frame, ticketed, named, outcome, is_nobody, is_kept}
 use Rattle.fed_rules.specs.Scenarios.{protocols}
 use Rattle.fed_rules.specs.SiteRecords.{Home}
 use Rattle.rules_laws.specs.Durable.{IsFirm}
 use Rattle.commit_laws.specs.Records.{IsEnd, IsCommit}
 use Rattle.commit_laws.proofs.Links.{IsGlobal}
 use Rattle.commit_laws.proofs.Lists.{among-split, among-right, cut-old, cut-stays}
-use Rattle.commit_laws.proofs.CoordFacts.{IsOpen, IsInitiation, IsCommitting, WroteAll, Same, Starts, Decides, Forgets, Restarts}
+use Rattle.commit_laws.proofs.CoordFacts.{is_undecided, kept_standing, IsOpen, IsCommitting, WroteAll, Same, Starts, Decides, Forgets, Restarts}
 use Rattle.commit_laws.proofs.CoordLines.{Kept, Stood, Stopped, Through}
-use Rattle.commit_laws.proofs.CoordLists.{IsInitiationOf, IsEndOf}
-use Rattle.commit_laws.proofs.Names.{same-of}
+use Rattle.commit_laws.proofs.CoordLists.{IsEndOf, named-behind, named-more, ends-silent}
+use Rattle.commit_laws.proofs.Names.{same-of, some-parts}
 
 -- the attempt was begun
 abbrev pub IsBegun : CoordPast → Tid → Type 0
@@ -58,16 +59,18 @@ pub record CoordSound (scenario : Scenario) (home : Home) (g : Tid) (past : Coor
   pub firm : IsFirm coord_frame IsEnd (disk past)
   pub numbered : IsBegun past g → g.attempt < attempts_of past g.tx
   pub global : IsBegun past g → IsGlobal scenario g
-  pub undecided : IsOpen past g → IsBegun past g
-  pub marked : Among (IsMark g) (records past) → IsBegun past g × (IsOpen past g → ⊥)
-  pub initiated : (ms : List Participant) → Among (IsInitiationOf g ms) (records past)
+  pub undecided : IsOpen (protocols scenario) past g → IsBegun past g
+  pub marked : Among (IsMark g) (records past) → IsBegun past g × (IsOpen (protocols scenario) past g → ⊥)
+  pub names : (ms : List Participant) → named (protocols scenario) (records past) g ≡ Some ms
       → IsBegun past g × (ms ≡ participants (protocols scenario) past g)
-  pub decided : (d : Decision) → standing past g ≡ Decided d → IsBegun past g × (d ≡ outcome (records past) g)
+  pub decided : (d : Decision) → standing (protocols scenario) past g ≡ Decided d → IsBegun past g × (d ≡ outcome (records past) g)
   pub voted : Declared scenario home → Among (IsCommit g) (records past) → visits home.site (program past g) ≡ true
       → Among (λ x. IsYes g home.site x.event) past
   pub ended : Among (IsEndOf g) (records past) → IsClear scenario home g past
-  pub gone : standing past g ≡ Gone → Among (IsInitiation g) (records past) → IsClear scenario home g past
-  pub waits : (d : Decision) → standing past g ≡ Decided d → is_nobody (missing past g d) ≡ false
+  pub gone : standing (protocols scenario) past g ≡ Gone → is_some (named (protocols scenario) (records past) g) ≡ true
+      → IsClear scenario home g past
+  pub waits : (d : Decision) → standing (protocols scenario) past g ≡ Decided d
+      → is_nobody (missing (protocols scenario) past g d) ≡ false
 
 -- what holds of a kept record holds of an old one, or of one that the line appended
 pub kept-from : (protocols : List Participant) (g : Tid) (past : CoordPast) (event : CoordEvent) (now : List CoordRecord)
@@ -89,50 +92,91 @@ kept-stays protocols g past event now P no-end (inr c) m = cut-stays IsEnd P no-
 
 pub end-commit : (g : Tid) (r : CoordRecord) → IsEnd r → IsCommit g r → ⊥
 end-commit g (Rec.End t) e c = c
+end-commit g (Rec.Checkpoint sum) e c = c
 end-commit g (Rec.Commit t ks) e c = e
 end-commit g (Rec.Initiation t ms) e c = c
+end-commit g (Rec.Abort t ms) e c = c
 
-pub end-initiation : (g : Tid) (r : CoordRecord) → IsEnd r → IsInitiation g r → ⊥
-end-initiation g (Rec.End t) e c = c
-end-initiation g (Rec.Commit t ks) e c = c
-end-initiation g (Rec.Initiation t ms) e c = e
+-- who is named stays so
+pub named-stays-some : (protocols : List Participant) (g : Tid) (past : CoordPast) (event : CoordEvent) (now : List CoordRecord)
+    → Kept protocols g past event now → is_some (named protocols (records past) g) ≡ true → is_some (named protocols now g) ≡ true
+named-stays-some protocols g past event now (inl (kept, w, e)) i =
+    ap (λ rs. is_some (named protocols rs g)) e ∙ named-more protocols g kept (records past) i
+named-stays-some protocols g past event now (inr (newer, each, e)) i =
+    sym (ap (λ rs. is_some (named protocols rs g)) e ∙ ap is_some (named-behind protocols g newer now (ends-silent g newer each))) ∙ i
 
 pub commit-mark : (g : Tid) (rs : List CoordRecord) → Among (IsCommit g) rs → Among (IsMark g) rs
 commit-mark g [] m = m
 commit-mark g (Rec.Commit t ks ∷ rs) (inl c) = inl c
 commit-mark g (Rec.End t ∷ rs) (inl c) = absurd c
+commit-mark g (Rec.Checkpoint sum ∷ rs) (inl c) = absurd c
 commit-mark g (Rec.Initiation t ms ∷ rs) (inl c) = absurd c
+commit-mark g (Rec.Abort t ms ∷ rs) (inl c) = absurd c
 commit-mark g (r ∷ rs) (inr m) = inr (commit-mark g rs m)
 
 pub end-mark : (g : Tid) (rs : List CoordRecord) → Among (IsEndOf g) rs → Among (IsMark g) rs
 end-mark g [] m = m
 end-mark g (Rec.Commit t ks ∷ rs) (inl c) = absurd c
 end-mark g (Rec.End t ∷ rs) (inl c) = inl c
+end-mark g (Rec.Checkpoint sum ∷ rs) (inl c) = inl c
 end-mark g (Rec.Initiation t ms ∷ rs) (inl c) = absurd c
+end-mark g (Rec.Abort t ms ∷ rs) (inl c) = absurd c
 end-mark g (r ∷ rs) (inr m) = inr (end-mark g rs m)
 
--- a Commit that a line appends was open, and so was an Initiation
+-- a Commit that a line appends was open
 pub written-commit : (protocols : List Participant) (g : Tid) (past : CoordPast) (event : CoordEvent) (kept : List CoordRecord)
     → WroteAll protocols g past event kept → Among (IsCommit g) kept → IsCommitting protocols g past event
 written-commit protocols g past event [] w m = absurd m
 written-commit protocols g past event (Rec.Commit t ks ∷ kept) w (inl c) = (w.0 (same-of t g c)).0
 written-commit protocols g past event (Rec.End t ∷ kept) w (inl c) = absurd c
+written-commit protocols g past event (Rec.Checkpoint sum ∷ kept) w (inl c) = absurd c
 written-commit protocols g past event (Rec.Initiation t ms ∷ kept) w (inl c) = absurd c
+written-commit protocols g past event (Rec.Abort t ms ∷ kept) w (inl c) = absurd c
 written-commit protocols g past event (r ∷ kept) w (inr m) = written-commit protocols g past event kept w.1 m
 
-pub written-initiation : (protocols : List Participant) (g : Tid) (past : CoordPast) (event : CoordEvent) (ms : List Participant)
-    (kept : List CoordRecord) → WroteAll protocols g past event kept → Among (IsInitiationOf g ms) kept
-    → IsOpen past g × (ms ≡ participants protocols past g)
-written-initiation protocols g past event ms [] w m = absurd m
-written-initiation protocols g past event ms (Rec.Initiation t ns ∷ kept) w (inl c) = let r = w.0
-    (same-of t g c.0) in (r.0, sym c.1 ∙ r.1)
-written-initiation protocols g past event ms (Rec.End t ∷ kept) w (inl c) = absurd c
-written-initiation protocols g past event ms (Rec.Commit t ks ∷ kept) w (inl c) = absurd c
-written-initiation protocols g past event ms (r ∷ kept) w (inr m) = written-initiation protocols g past event ms kept w.1 m
+-- who is named behind the records of a line was named before, or the attempt was open, and they are its participants
+pub written-named : (protocols : List Participant) (g : Tid) (past : CoordPast) (event : CoordEvent) (ms : List Participant)
+    (kept : List CoordRecord) → WroteAll protocols g past event kept → named protocols (kept ++ records past) g ≡ Some ms
+    → (named protocols (records past) g ≡ Some ms) ⊎ (IsOpen protocols past g × (ms ≡ participants protocols past g))
+written-named protocols g past event ms [] w e = inl e
+written-named protocols g past event ms (Rec.End t ∷ kept) w e = written-named protocols g past event ms kept w.1 e
+written-named protocols g past event ms (Rec.Checkpoint sum ∷ kept) w e = written-named protocols g past event ms kept w.1 e
+written-named protocols g past event ms (Rec.Initiation t ns ∷ kept) w e =
+    by_test (same_tid t g) refl e (written-named protocols g past event ms kept w.1)
+  where
+    by_test : (b : Bool) → same_tid t g ≡ b → cond b (Some ns) (named protocols (kept ++ records past) g) ≡ Some ms
+        → (named protocols (kept ++ records past) g ≡ Some ms
+        → (named protocols (records past) g ≡ Some ms) ⊎ (IsOpen protocols past g × (ms ≡ participants protocols past g)))
+        → (named protocols (records past) g ≡ Some ms) ⊎ (IsOpen protocols past g × (ms ≡ participants protocols past g))
+    by_test true q e k = let r = w.0 q in inr (r.0, sym (some-parts e) ∙ r.1)
+    by_test false q e k = k e
+written-named protocols g past event ms (Rec.Abort t ns ∷ kept) w e =
+    by_test (same_tid t g) refl (named protocols (kept ++ records past) g) refl e (written-named protocols g past event ms kept w.1)
+  where
+    by_test : (b : Bool) → same_tid t g ≡ b → (o : Option (List Participant)) → named protocols (kept ++ records past) g ≡ o
+        → cond b (Some (or_else o ns)) o ≡ Some ms
+        → (named protocols (kept ++ records past) g ≡ Some ms
+        → (named protocols (records past) g ≡ Some ms) ⊎ (IsOpen protocols past g × (ms ≡ participants protocols past g)))
+        → (named protocols (records past) g ≡ Some ms) ⊎ (IsOpen protocols past g × (ms ≡ participants protocols past g))
+    by_test true q None f e k = let r = w.0 q in inr (r.0, sym (some-parts e) ∙ r.1)
+    by_test true q (Some os) f e k = k (f ∙ e)
+    by_test false q o f e k = k (f ∙ e)
+written-named protocols g past event ms (Rec.Commit t ks ∷ kept) w e =
+    by_test (same_tid t g) refl (named protocols (kept ++ records past) g) refl e (written-named protocols g past event ms kept w.1)
+  where
+    by_test : (b : Bool) → same_tid t g ≡ b → (o : Option (List Participant)) → named protocols (kept ++ records past) g ≡ o
+        → cond b (Some (or_else o (ticketed protocols ks))) o ≡ Some ms
+        → (named protocols (kept ++ records past) g ≡ Some ms
+        → (named protocols (records past) g ≡ Some ms) ⊎ (IsOpen protocols past g × (ms ≡ participants protocols past g)))
+        → (named protocols (records past) g ≡ Some ms) ⊎ (IsOpen protocols past g × (ms ≡ participants protocols past g))
+    by_test true q None f e k = let r = w.0 q in inr (r.0.undecided, sym (some-parts e) ∙ r.2)
+    by_test true q (Some os) f e k = k (f ∙ e)
+    by_test false q o f e k = k (f ∙ e)
 
-pub kept-not-open : (rs : List CoordRecord) (g : Tid) → is_undecided (kept_standing rs g) ≡ true → ⊥
-kept-not-open rs g h = by_test (is_kept rs g) h where
-  by_test : (b : Bool) → is_undecided (cond b (Decided (outcome rs g)) Gone) ≡ true → ⊥
+pub kept-not-open : (protocols : List Participant) (rs : List CoordRecord) (g : Tid)
+    → is_undecided (kept_standing protocols rs g) ≡ true → ⊥
+kept-not-open protocols rs g h = by_test (is_kept protocols rs g) h where
+  by_test : (b : Bool) → is_undecided (standing_of false (cond b (Some (outcome rs g)) None)) ≡ true → ⊥
   by_test true h = cc
   by_test false h = cc
 
@@ -141,24 +185,24 @@ decided-not-open true d h = cc
 decided-not-open false d h = cc
 
 -- an attempt that is open behind a line begins in it, or was open before
-pub still-open : (g : Tid) (past : CoordPast) (x : CoordHappening) → Stood g past x → IsOpen (x ∷ past) g
-    → (begins g x.answer ≡ true) ⊎ IsOpen past g
-still-open g past x (Stopped b e a s) h = absurd (kept-not-open (records (x ∷ past)) g (ap is_undecided (sym e) ∙ h))
-still-open g past x (Through (Same e b u a) r) h = inr (ap is_undecided (sym e) ∙ h)
-still-open g past x (Through (Starts b e n steps v) r) h = inl b
-still-open g past x (Through (Decides d f o b e n by a i) r) h = absurd (decided-not-open f d (ap is_undecided (sym e) ∙ h))
-still-open g past x (Through (Forgets d o b e n ends a) r) h = let t : is_undecided Gone ≡ true = ap is_undecided (sym e) ∙ h in cc
-still-open g past x (Through (Restarts b e a s) r) h = absurd (kept-not-open (records (x ∷ past)) g (ap is_undecided (sym e) ∙ h))
+pub still-open : (protocols : List Participant) (g : Tid) (past : CoordPast) (x : CoordHappening) → Stood protocols g past x → IsOpen protocols (x ∷ past) g
+    → (begins g x.answer ≡ true) ⊎ IsOpen protocols past g
+still-open protocols g past x (Stopped b e a s) h = absurd (kept-not-open protocols (records (x ∷ past)) g (ap is_undecided (sym e) ∙ h))
+still-open protocols g past x (Through (Same e b u a) r) h = inr (ap is_undecided (sym e) ∙ h)
+still-open protocols g past x (Through (Starts b e n steps v) r) h = inl b
+still-open protocols g past x (Through (Decides d f o b e n by a) r) h = absurd (decided-not-open f d (ap is_undecided (sym e) ∙ h))
+still-open protocols g past x (Through (Forgets d o b e n ends a) r) h = let t : is_undecided Gone ≡ true = ap is_undecided (sym e) ∙ h in cc
+still-open protocols g past x (Through (Restarts b e a s) r) h = absurd (kept-not-open protocols (records (x ∷ past)) g (ap is_undecided (sym e) ∙ h))
 
 -- a line that begins the attempt is its `go`
-pub begins-go : (g : Tid) (past : CoordPast) (x : CoordHappening) → Stood g past x → begins g x.answer ≡ true
+pub begins-go : (protocols : List Participant) (g : Tid) (past : CoordPast) (x : CoordHappening) → Stood protocols g past x → begins g x.answer ≡ true
     → (steps : List Step) × (x.event ≡ Ev.Go g steps)
-begins-go g past x (Stopped b e a s) h = cc
-begins-go g past x (Through (Same e b u a) r) h = cc
-begins-go g past x (Through (Starts b e n steps v) r) h = (steps, v)
-begins-go g past x (Through (Decides d f o b e n by a i) r) h = cc
-begins-go g past x (Through (Forgets d o b e n ends a) r) h = cc
-begins-go g past x (Through (Restarts b e a s) r) h = cc
+begins-go protocols g past x (Stopped b e a s) h = cc
+begins-go protocols g past x (Through (Same e b u a) r) h = cc
+begins-go protocols g past x (Through (Starts b e n steps v) r) h = (steps, v)
+begins-go protocols g past x (Through (Decides d f o b e n by a) r) h = cc
+begins-go protocols g past x (Through (Forgets d o b e n ends a) r) h = cc
+begins-go protocols g past x (Through (Restarts b e a s) r) h = cc
 
 -- a line about an attempt that was begun before
 pub program-stays : (g : Tid) (past : CoordPast) (x : CoordHappening) → begins g x.answer ≡ false

@@ -17,19 +17,19 @@ use Rattle.fed_rules.specs.declared.events.CoordEvent.TheVariants as Ev
 use Rattle.fed_rules.specs.declared.records.CoordRecord.{CoordRecord}
 use Rattle.fed_rules.specs.declared.records.CoordRecord.TheVariants as Rec
 use Rattle.fed_rules.specs.declared.scenario.Scenario.{Scenario}
-use Rattle.fed_rules.specs.CoordPast.{CoordHappening, CoordPast, records, Undecided, Decided, Gone, standing, is_undecided, begins, participants, participants_of, program, visits, attempts_of, begun_by, begun_tids, vote_at}
-use Rattle.fed_rules.specs.CoordRecords.{initiated, has_commit, has_end, outcome, required_of, required, is_nobody, is_kept}
+use Rattle.fed_rules.specs.CoordPast.{CoordHappening, CoordPast, records, Undecided, Decided, Gone, standing_of, standing, begins, participants, participants_of, program, visits, attempts_of, begun_by, begun_tids, vote_at}
+use Rattle.fed_rules.specs.CoordRecords.{named, has_commit, has_end, outcome, required, is_nobody, is_kept}
 use Rattle.fed_rules.specs.Scenarios.{protocols}
 use Rattle.fed_rules.specs.SiteRecords.{Home}
 use Rattle.commit_laws.specs.Records.{IsCommit}
 use Rattle.commit_laws.proofs.Disks.{appended}
 use Rattle.commit_laws.proofs.Links.{IsGlobal}
 use Rattle.commit_laws.proofs.Lists.{among-split, each-not}
-use Rattle.commit_laws.proofs.CoordFacts.{IsOpen, IsUnmarked, IsCommitting, IsEnding, AtCommit, AtAbort, AtAck, AtBack, WroteAll, Same, Starts, Decides, Forgets, Restarts}
-use Rattle.commit_laws.proofs.CoordLines.{Stood, Stopped, Through, Line}
-use Rattle.commit_laws.proofs.CoordLists.{IsInitiationOf, commit-among, among-commit, initiation-of, among-initiated, some-initiation, decided-outcome, those-among}
+use Rattle.commit_laws.proofs.CoordFacts.{is_undecided, IsOpen, IsUnmarked, IsCommitting, WroteAll, Same, Starts, Decides, Forgets, Restarts}
+use Rattle.commit_laws.proofs.CoordLines.{Kept, Stood, Stopped, Through, Line}
+use Rattle.commit_laws.proofs.CoordLists.{commit-among, among-commit, named-behind, named-some, required-named, ends-silent, decided-outcome, those-among}
 use Rattle.fed_rules.specs.Happenings.{quiet}
-use Rattle.commit_laws.proofs.CoordSound.{Declared, IsBegun, IsYes, IsMark, CoordSound, kept-from, kept-stays, end-commit, commit-mark, written-commit, written-initiation, kept-not-open, decided-not-open, still-open, begins-go, program-stays}
+use Rattle.commit_laws.proofs.CoordSound.{Declared, IsBegun, IsYes, IsMark, CoordSound, kept-from, kept-stays, end-commit, commit-mark, written-commit, written-named, kept-not-open, decided-not-open, still-open, begins-go, program-stays}
 use Rattle.commit_laws.proofs.Taken.{vote-taken, each-of-at}
 use Rattle.commit_laws.proofs.Names.{same-of}
 
@@ -44,7 +44,7 @@ pub record Turn (scenario : Scenario) (home : Home) (g : Tid) (past : CoordPast)
 pub begins-new : (scenario : Scenario) (home : Home) (g : Tid) (past : CoordPast) (event : CoordEvent) (x : CoordHappening)
     → Turn scenario home g past event x → begins g x.answer ≡ true → (g.attempt ≡ attempts_of past g.tx) × IsGlobal scenario g
 begins-new scenario home g past event x t b =
-    let go = begins-go g past x t.line.stood b in t.begun go.0 (sym t.line.is ∙ go.1)
+    let go = begins-go (protocols scenario) g past x t.line.stood b in t.begun go.0 (sym t.line.is ∙ go.1)
 
 pub fresh : (scenario : Scenario) (home : Home) (g : Tid) (past : CoordPast) (event : CoordEvent) (x : CoordHappening)
     → Turn scenario home g past event x → IsBegun past g → begins g x.answer ≡ false
@@ -62,15 +62,15 @@ same-program scenario home g past event x t begun = program-stays g past x (fres
 
 -- what isn't open any more stays so
 pub stays-closed : (scenario : Scenario) (home : Home) (g : Tid) (past : CoordPast) (event : CoordEvent) (x : CoordHappening)
-    → Turn scenario home g past event x → IsBegun past g → (IsOpen past g → ⊥) → IsOpen (x ∷ past) g → ⊥
-stays-closed scenario home g past event x t begun closed h = elim (still-open g past x t.line.stood h) [
+    → Turn scenario home g past event x → IsBegun past g → (IsOpen (protocols scenario) past g → ⊥) → IsOpen (protocols scenario) (x ∷ past) g → ⊥
+stays-closed scenario home g past event x t begun closed h = elim (still-open (protocols scenario) g past x t.line.stood h) [
   | inl b ↦ let f = fresh scenario home g past event x t begun in let no : true ≡ false = sym b ∙ f in cc
   | inr o ↦ closed o
 ]
 
 -- and its outcome too
 pub same-outcome : (scenario : Scenario) (home : Home) (g : Tid) (past : CoordPast) (event : CoordEvent) (x : CoordHappening)
-    → Turn scenario home g past event x → (IsOpen past g → ⊥) → outcome (records (x ∷ past)) g ≡ outcome (records past) g
+    → Turn scenario home g past event x → (IsOpen (protocols scenario) past g → ⊥) → outcome (records (x ∷ past)) g ≡ outcome (records past) g
 same-outcome scenario home g past event x t closed =
     ap (λ b. cond b Decided.Commit Decided.Abort)
     (tests_agree (has_commit (records (x ∷ past)) g) (has_commit (records past) g)
@@ -116,55 +116,62 @@ turn-global scenario home g past event x t (inl b) = (begins-new scenario home g
 turn-global scenario home g past event x t (inr begun) = t.sound.global begun
 
 pub turn-undecided : (scenario : Scenario) (home : Home) (g : Tid) (past : CoordPast) (event : CoordEvent) (x : CoordHappening)
-    → Turn scenario home g past event x → IsOpen (x ∷ past) g → IsBegun (x ∷ past) g
-turn-undecided scenario home g past event x t h = elim (still-open g past x t.line.stood h) [
+    → Turn scenario home g past event x → IsOpen (protocols scenario) (x ∷ past) g → IsBegun (x ∷ past) g
+turn-undecided scenario home g past event x t h = elim (still-open (protocols scenario) g past x t.line.stood h) [
   | inl b ↦ inl b
   | inr o ↦ inr (t.sound.undecided o)
 ]
 
--- Initiations name the participants
-pub turn-initiated : (scenario : Scenario) (home : Home) (g : Tid) (past : CoordPast) (event : CoordEvent) (x : CoordHappening)
-    → Turn scenario home g past event x → (ms : List Participant) → Among (IsInitiationOf g ms) (records (x ∷ past))
+-- the records name the participants
+pub turn-named : (scenario : Scenario) (home : Home) (g : Tid) (past : CoordPast) (event : CoordEvent) (x : CoordHappening)
+    → Turn scenario home g past event x → (ms : List Participant) → named (protocols scenario) (records (x ∷ past)) g ≡ Some ms
     → IsBegun (x ∷ past) g × (ms ≡ participants (protocols scenario) (x ∷ past) g)
-turn-initiated scenario home g past event x t ms m = elim
-    (kept-from (protocols scenario) g past event (records (x ∷ past)) (IsInitiationOf g ms) t.line.kept m) [
-      | inl i ↦ let r = t.sound.initiated ms i in named r.0 r.1
-      | inr (kept, w, e, i) ↦ let r = written-initiation (protocols scenario) g past event ms kept w i in named
-          (t.sound.undecided r.0) r.1
-    ] where
-      named : IsBegun past g → ms ≡ participants (protocols scenario) past g
-          → IsBegun (x ∷ past) g × (ms ≡ participants (protocols scenario) (x ∷ past) g)
-      named begun e = (
-        inr begun,
-        e ∙ ap (participants_of (protocols scenario))
-            (sym (same-program scenario home g past event x t begun)),
-      )
+turn-named scenario home g past event x t ms m = by_kept t.line.kept where
+  now : IsBegun past g → ms ≡ participants (protocols scenario) past g
+      → IsBegun (x ∷ past) g × (ms ≡ participants (protocols scenario) (x ∷ past) g)
+  now begun e = (
+    inr begun,
+    e ∙ ap (participants_of (protocols scenario))
+        (sym (same-program scenario home g past event x t begun)),
+  )
+
+  old : named (protocols scenario) (records past) g ≡ Some ms
+      → IsBegun (x ∷ past) g × (ms ≡ participants (protocols scenario) (x ∷ past) g)
+  old e = let r = t.sound.names ms e in now r.0 r.1
+
+  by_kept : Kept (protocols scenario) g past event (records (x ∷ past))
+      → IsBegun (x ∷ past) g × (ms ≡ participants (protocols scenario) (x ∷ past) g)
+  by_kept (inl (kept, w, e)) = elim
+      (written-named (protocols scenario) g past event ms kept w (sym (ap (λ rs. named (protocols scenario) rs g) e) ∙ m)) [
+        | inl i ↦ old i
+        | inr (o, is) ↦ now (t.sound.undecided o) is
+      ]
+  by_kept (inr (newer, each, e)) =
+      old (ap (λ rs. named (protocols scenario) rs g) e
+      ∙ named-behind (protocols scenario) g newer (records (x ∷ past)) (ends-silent g newer each) ∙ m)
 
 -- a record that a line appends is of an attempt that was begun
 written-begun : (scenario : Scenario) (home : Home) (g : Tid) (past : CoordPast) (event : CoordEvent) (kept : List CoordRecord)
     → CoordSound scenario home g past → WroteAll (protocols scenario) g past event kept → Among (IsMark g) kept → IsBegun past g
 written-begun scenario home g past event [] s w m = absurd m
 written-begun scenario home g past event (Rec.Commit t ks ∷ kept) s w (inl c) = s.undecided (w.0 (same-of t g c)).0.undecided
-written-begun scenario home g past event (Rec.End t ∷ kept) s w (inl c) = by_reason (w.0 (same-of t g c)).0
-    (w.0 (same-of t g c)).1 where
-      by_reason : IsEnding g past event kept → is_some (initiated (records past) g) ≡ true → IsBegun past g
-      by_reason (AtCommit o m n) i = s.undecided o
-      by_reason (AtAbort o m n) i = s.undecided o
-      by_reason (AtAck d e m n) i = (s.decided d e).0
-      by_reason (AtBack m n) i =
-          let found = among-initiated g (records past) (some-initiation g (records past) i) in
-          (s.initiated found.0 (initiation-of g (records past) found.0 found.1)).0
+written-begun scenario home g past event (Rec.End t ∷ kept) s w (inl c) =
+    let r = w.0 (same-of t g c) in (s.decided r.decision r.known).0
 written-begun scenario home g past event (Rec.Initiation t ms ∷ kept) s w (inl c) = absurd c
+written-begun scenario home g past event (Rec.Abort t ms ∷ kept) s w (inl c) = absurd c
+written-begun scenario home g past event (Rec.Checkpoint sum ∷ kept) s w (inl c) = absurd c
 written-begun scenario home g past event (r ∷ kept) s w (inr m) = written-begun scenario home g past event kept s w.1 m
 
 unmarked : (g : Tid) (r : CoordRecord) → IsUnmarked g r → IsMark g r → ⊥
 unmarked g (Rec.Commit t ks) u m = let s = same-of t g m in cc
 unmarked g (Rec.End t) u m = let s = same-of t g m in cc
 unmarked g (Rec.Initiation t ms) u m = m
+unmarked g (Rec.Abort t ms) u m = m
+unmarked g (Rec.Checkpoint sum) u m = m
 
 -- an attempt with a Commit or End record isn't open
 pub turn-marked : (scenario : Scenario) (home : Home) (g : Tid) (past : CoordPast) (event : CoordEvent) (x : CoordHappening)
-    → Turn scenario home g past event x → Among (IsMark g) (records (x ∷ past)) → IsBegun (x ∷ past) g × (IsOpen (x ∷ past) g → ⊥)
+    → Turn scenario home g past event x → Among (IsMark g) (records (x ∷ past)) → IsBegun (x ∷ past) g × (IsOpen (protocols scenario) (x ∷ past) g → ⊥)
 turn-marked scenario home g past event x t m = (
   elim (kept-from (protocols scenario) g past event (records (x ∷ past)) (IsMark g) t.line.kept m) [
     | inl i ↦ inr (t.sound.marked i).0
@@ -172,8 +179,8 @@ turn-marked scenario home g past event x t m = (
   ],
   (λ h. by_stood t.line.stood h),
 ) where
-  by_stood : Stood g past x → IsOpen (x ∷ past) g → ⊥
-  by_stood (Stopped b e a stop) h = kept-not-open (records (x ∷ past)) g (ap is_undecided (sym e) ∙ h)
+  by_stood : Stood (protocols scenario) g past x → IsOpen (protocols scenario) (x ∷ past) g → ⊥
+  by_stood (Stopped b e a stop) h = kept-not-open (protocols scenario) (records (x ∷ past)) g (ap is_undecided (sym e) ∙ h)
   by_stood (Through (Same e b u a) r) h = elim
       (among-split (IsMark g) (appended x.calls []) (records past) (subst (Among (IsMark g)) r m)) [
         | inl i ↦ each-not (IsUnmarked g) (IsMark g) (unmarked g) (appended x.calls []) u i
@@ -183,11 +190,11 @@ turn-marked scenario home g past event x t m = (
       let old : Among (IsMark g) (records past) = subst (Among (IsMark g)) (r ∙ ap (λ news. news ++ records past) n) m in
       let f = fresh scenario home g past event x t (t.sound.marked old).0 in
       let no : true ≡ false = sym b ∙ f in cc
-  by_stood (Through (Decides d f o b e n by a i) r) h = decided-not-open f d (ap is_undecided (sym e) ∙ h)
+  by_stood (Through (Decides d f o b e n by a) r) h = decided-not-open f d (ap is_undecided (sym e) ∙ h)
   by_stood (Through (Forgets d o b e n ends a) r) h = let no : is_undecided Gone ≡ true = ap is_undecided (sym e) ∙ h in cc
-  by_stood (Through (Restarts b e a stop) r) h = kept-not-open (records (x ∷ past)) g (ap is_undecided (sym e) ∙ h)
+  by_stood (Through (Restarts b e a stop) r) h = kept-not-open (protocols scenario) (records (x ∷ past)) g (ap is_undecided (sym e) ∙ h)
 
-pub uncommitted-of : (scenario : Scenario) (home : Home) (g : Tid) (past : CoordPast) → CoordSound scenario home g past → IsOpen past g
+pub uncommitted-of : (scenario : Scenario) (home : Home) (g : Tid) (past : CoordPast) → CoordSound scenario home g past → IsOpen (protocols scenario) past g
     → has_commit (records past) g ≡ false
 uncommitted-of scenario home g past s o = by_test (has_commit (records past) g) refl where
   by_test : (b : Bool) → has_commit (records past) g ≡ b → has_commit (records past) g ≡ false
@@ -196,25 +203,24 @@ uncommitted-of scenario home g past s o = by_test (has_commit (records past) g) 
 
 -- a known decision is the outcome
 pub turn-decided : (scenario : Scenario) (home : Home) (g : Tid) (past : CoordPast) (event : CoordEvent) (x : CoordHappening)
-    → Turn scenario home g past event x → (d : Decision) → standing (x ∷ past) g ≡ Decided d
+    → Turn scenario home g past event x → (d : Decision) → standing (protocols scenario) (x ∷ past) g ≡ Decided d
     → IsBegun (x ∷ past) g × (d ≡ outcome (records (x ∷ past)) g)
 turn-decided scenario home g past event x t d is = by_stood t.line.stood where
   -- behind a stop or a start
-  by_kept : (b : Bool) → is_kept (records (x ∷ past)) g ≡ b → cond b (Decided (outcome (records (x ∷ past)) g)) Gone ≡ Decided d
+  by_kept : (b : Bool) → is_kept (protocols scenario) (records (x ∷ past)) g ≡ b
+      → standing_of false (cond b (Some (outcome (records (x ∷ past)) g)) None) ≡ Decided d
       → IsBegun (x ∷ past) g × (d ≡ outcome (records (x ∷ past)) g)
   by_kept false k h = cc
-  by_kept true k h = (initiated_begun (initiated (records (x ∷ past)) g) refl, cc) where
-    initiated_begun : (o : Option (List Participant)) → initiated (records (x ∷ past)) g ≡ o → IsBegun (x ∷ past) g
-    initiated_begun (Some ms) f = (turn-initiated scenario home g past event x t ms (initiation-of g (records (x ∷ past)) ms f)).0
-    initiated_begun None f =
-        let nobody : is_nobody (required (records (x ∷ past)) g (outcome (records (x ∷ past)) g)) ≡ true = ap
-        (λ o. is_nobody (required_of (outcome (records (x ∷ past)) g) o)) f in
-        let somebody = not-true (is_nobody (required (records (x ∷ past)) g (outcome (records (x ∷ past)) g))) (and_parts
-        (not (has_end (records (x ∷ past)) g))
-        (not (is_nobody (required (records (x ∷ past)) g (outcome (records (x ∷ past)) g)))) k).1 in cc
+  by_kept true k h =
+      let kept = records (x ∷ past) in
+      let somebody = not-true (is_nobody (required (protocols scenario) kept g (outcome kept g))) (and_parts
+      (not (has_end kept g)) (not (is_nobody (required (protocols scenario) kept g (outcome kept g)))) k).1 in
+      let found = named-some (named (protocols scenario) kept g)
+      (required-named (outcome kept g) (named (protocols scenario) kept g) somebody) in
+      ((turn-named scenario home g past event x t found.0 found.1).0, cc)
 
-  by_stood : Stood g past x → IsBegun (x ∷ past) g × (d ≡ outcome (records (x ∷ past)) g)
-  by_stood (Stopped b e a stop) = by_kept (is_kept (records (x ∷ past)) g) refl (sym e ∙ is)
+  by_stood : Stood (protocols scenario) g past x → IsBegun (x ∷ past) g × (d ≡ outcome (records (x ∷ past)) g)
+  by_stood (Stopped b e a stop) = by_kept (is_kept (protocols scenario) (records (x ∷ past)) g) refl (sym e ∙ is)
   by_stood (Through (Same e b u a) r) =
       let old = t.sound.decided d (sym e ∙ is) in (
         inr old.0,
@@ -222,7 +228,7 @@ turn-decided scenario home g past event x t d is = by_stood t.line.stood where
             (λ o. let no : is_undecided (Decided d) ≡ true = ap is_undecided (sym (sym e ∙ is)) ∙ o in cc)),
       )
   by_stood (Through (Starts b e n steps v) r) = let no : Undecided ≡ Decided d = sym e ∙ is in cc
-  by_stood (Through (Decides made f o b e n by a i) r) = (
+  by_stood (Through (Decides made f o b e n by a) r) = (
     inr (t.sound.undecided o),
     (let same : made ≡ d = of_cond f (sym e ∙ is) in
         sym same ∙ sym (ap (λ rs. outcome rs g) r ∙ decided-outcome g made (appended x.calls []) (records past)
@@ -232,7 +238,7 @@ turn-decided scenario home g past event x t d is = by_stood t.line.stood where
     of_cond true h = cc
     of_cond false h = cc
   by_stood (Through (Forgets made o b e n ends a) r) = let no : Gone ≡ Decided d = sym e ∙ is in cc
-  by_stood (Through (Restarts b e a stop) r) = by_kept (is_kept (records (x ∷ past)) g) refl (sym e ∙ is)
+  by_stood (Through (Restarts b e a stop) r) = by_kept (is_kept (protocols scenario) (records (x ∷ past)) g) refl (sym e ∙ is)
 
 -- the site is a participant
 pub is-participant : (scenario : Scenario) (home : Home) (past : CoordPast) (g : Tid)

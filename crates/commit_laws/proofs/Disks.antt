@@ -1,7 +1,7 @@
 -- What a line's disk calls leave. A line that a stop ends keeps the oldest of the records that it appends, or it loses loose ones before them.
 use Rattle.std.proofs.Common.{◌≡◌, ℕ, zero, suc, ◌+◌, ◌≤◌, ◌⊎◌, inl, inr, min, Bool, true, false, cond, nat_le, List, [], ◌∷◌, ◌++◌, take, refl, sym, ap, subst, ◌∙◌, arith}
 use Rattle.mdb_base.specs.Words.{Each}
-use Rattle.fed_rules.specs.Disk.{Disk, Call, Append, Sync, CutBack, Stops, bytes_of, whole, after_call, after_calls}
+use Rattle.fed_rules.specs.Disk.{Disk, Call, Append, Sync, CutBack, TrimFront, Stops, bytes_of, whole, after_call, after_calls}
 use Rattle.rules_laws.specs.Durable.{IsSound, LooseFirst, IsFirm, IsFrontOf}
 use Rattle.commit_laws.proofs.Durable.{whole-all, sound-call, all-synced, firm-append, firm-sync, firm-cut, firm-stop}
 
@@ -11,6 +11,7 @@ appended [] rs = rs
 appended (Append r ∷ cs) rs = appended cs (r ∷ rs)
 appended (Sync ∷ cs) rs = appended cs rs
 appended (CutBack ∷ cs) rs = appended cs rs
+appended (TrimFront ∷ cs) rs = appended cs rs
 appended (Stops cut ∷ cs) rs = appended cs rs
 
 -- none of these calls is a stop, and only loose records are left unsynced; said behind what is synced, or behind what still has to be
@@ -21,6 +22,7 @@ IsQuiet Loose false (Append r ∷ cs) = (Loose r × IsQuiet Loose false cs) ⊎ 
 IsQuiet Loose true (Append r ∷ cs) = IsQuiet Loose true cs
 IsQuiet Loose b (Sync ∷ cs) = IsQuiet Loose false cs
 IsQuiet Loose b (CutBack ∷ cs) = IsQuiet Loose false cs
+IsQuiet Loose b (TrimFront ∷ cs) = IsQuiet Loose b cs
 IsQuiet Loose b (Stops cut ∷ cs) = ⊥
 
 -- none of these calls is a stop
@@ -29,6 +31,7 @@ IsPlain [] = Unit {0}
 IsPlain (Append r ∷ cs) = IsPlain cs
 IsPlain (Sync ∷ cs) = IsPlain cs
 IsPlain (CutBack ∷ cs) = IsPlain cs
+IsPlain (TrimFront ∷ cs) = IsPlain cs
 IsPlain (Stops cut ∷ cs) = ⊥
 
 -- what is left of these records when the newest were taken away, all of them loose
@@ -48,7 +51,9 @@ quiet-plain Loose true (Append r ∷ cs) q = quiet-plain Loose true cs q
 quiet-plain Loose false (Sync ∷ cs) q = quiet-plain Loose false cs q
 quiet-plain Loose true (Sync ∷ cs) q = quiet-plain Loose false cs q
 quiet-plain Loose false (CutBack ∷ cs) q = quiet-plain Loose false cs q
+quiet-plain Loose false (TrimFront ∷ cs) q = quiet-plain Loose false cs q
 quiet-plain Loose true (CutBack ∷ cs) q = quiet-plain Loose false cs q
+quiet-plain Loose true (TrimFront ∷ cs) q = quiet-plain Loose true cs q
 quiet-plain Loose false (Stops cut ∷ cs) q = absurd q
 quiet-plain Loose true (Stops cut ∷ cs) q = absurd q
 
@@ -58,7 +63,11 @@ plain-take (suc k) [] p = tt
 plain-take (suc k) (Append r ∷ cs) p = plain-take k cs p
 plain-take (suc k) (Sync ∷ cs) p = plain-take k cs p
 plain-take (suc k) (CutBack ∷ cs) p = plain-take k cs p
+plain-take (suc k) (TrimFront ∷ cs) p = plain-take k cs p
 plain-take (suc k) (Stops cut ∷ cs) p = absurd p
+
+firm-trim : {R : Type 0} (size : R → ℕ) (Loose : R → Type 0) (d : Disk R) → IsFirm size Loose d → IsFirm size Loose (after_call size d TrimFront)
+firm-trim size Loose d f = record { sound = sound-call size d TrimFront f.sound; loose = f.loose }
 
 -- quiet calls leave a firm disk firm
 firm-calls : {R : Type 0} (size : R → ℕ) (Loose : R → Type 0) (b : Bool) (d : Disk R) (cs : List (Call R)) → IsQuiet Loose b cs
@@ -78,8 +87,12 @@ firm-calls size Loose true d (Sync ∷ cs) q s f =
     firm-calls size Loose false (after_call size d Sync) cs q (sound-call size d Sync s) (λ e. firm-sync size Loose d s)
 firm-calls size Loose false d (CutBack ∷ cs) q s f =
     firm-calls size Loose false (after_call size d CutBack) cs q (sound-call size d CutBack s) (λ e. firm-cut size Loose d s)
+firm-calls size Loose false d (TrimFront ∷ cs) q s f =
+    firm-calls size Loose false (after_call size d TrimFront) cs q (sound-call size d TrimFront s) (λ e. firm-trim size Loose d (f e))
 firm-calls size Loose true d (CutBack ∷ cs) q s f =
     firm-calls size Loose false (after_call size d CutBack) cs q (sound-call size d CutBack s) (λ e. firm-cut size Loose d s)
+firm-calls size Loose true d (TrimFront ∷ cs) q s f =
+    firm-calls size Loose true (after_call size d TrimFront) cs q (sound-call size d TrimFront s) (λ e. cc)
 firm-calls size Loose false d (Stops cut ∷ cs) q s f = absurd q
 firm-calls size Loose true d (Stops cut ∷ cs) q s f = absurd q
 
@@ -95,6 +108,7 @@ plain-records size d (Append r ∷ cs) news old p e = plain-records size (after_
     (ap (λ rs. r ∷ rs) e)
 plain-records size d (Sync ∷ cs) news old p e = plain-records size (after_call size d Sync) cs news old p e
 plain-records size d (CutBack ∷ cs) news old p e = plain-records size (after_call size d CutBack) cs news old p e
+plain-records size d (TrimFront ∷ cs) news old p e = plain-records size (after_call size d TrimFront) cs news old p e
 plain-records size d (Stops cut ∷ cs) news old p e = absurd p
 
 -- in the middle of a line: its records so far stand before the old ones
@@ -130,6 +144,9 @@ mid-calls size Loose old news d (CutBack ∷ cs) p m =
       loose = all-synced size Loose (bytes_of size d.records) old
           (subst (λ rs. bytes_of size old ≤ bytes_of size rs) (sym m.records) (bytes-behind size news old));
     })
+mid-calls size Loose old news d (TrimFront ∷ cs) p m =
+    mid-calls size Loose old news (after_call size d TrimFront) cs p
+    (record { records = m.records; sound = sound-call size d TrimFront m.sound; loose = m.loose })
 mid-calls size Loose old news d (Stops cut ∷ cs) p m = absurd p
 
 whole-cut : {R : Type 0} (size : R → ℕ) (Loose : R → Type 0) (a b : ℕ) (rs : List R) → a ≤ b → LooseFirst size Loose a rs
@@ -165,6 +182,7 @@ appended-grows [] news = ([], refl)
 appended-grows (Append r ∷ cs) news = front-of-front _ (r ∷ news) news (appended-grows cs (r ∷ news)) (r ∷ [], refl)
 appended-grows (Sync ∷ cs) news = appended-grows cs news
 appended-grows (CutBack ∷ cs) news = appended-grows cs news
+appended-grows (TrimFront ∷ cs) news = appended-grows cs news
 appended-grows (Stops cut ∷ cs) news = appended-grows cs news
 
 appended-take : {R : Type 0} (k : ℕ) (cs : List (Call R)) (news : List R) → IsFrontOf (appended cs news) (appended (take k cs) news)
@@ -173,6 +191,7 @@ appended-take (suc k) [] news = ([], refl)
 appended-take (suc k) (Append r ∷ cs) news = appended-take k cs (r ∷ news)
 appended-take (suc k) (Sync ∷ cs) news = appended-take k cs news
 appended-take (suc k) (CutBack ∷ cs) news = appended-take k cs news
+appended-take (suc k) (TrimFront ∷ cs) news = appended-take k cs news
 appended-take (suc k) (Stops cut ∷ cs) news = appended-take k cs news
 
 after-append : {R : Type 0} (size : R → ℕ) (d : Disk R) (cs bs : List (Call R))

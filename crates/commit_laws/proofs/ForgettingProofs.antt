@@ -1,5 +1,5 @@
 -- The coordinator forgets an attempt exactly when its required acknowledgements are in, and answers inquiries about it rightly.
-use Rattle.std.proofs.Common.{◌≡◌, inl, inr, Bool, true, false, cond, not, ◌&&◌, ◌||◌, Option, Some, None, List, [], ◌∷◌, refl, sym, ap, subst, ◌∙◌, nat_le, length, take, ◌++◌}
+use Rattle.std.proofs.Common.{◌≡◌, inl, inr, Bool, true, false, cond, not, ◌&&◌, ◌||◌, is_some, Option, Some, None, List, [], ◌∷◌, refl, sym, ap, subst, ◌∙◌, nat_le, length, take, ◌++◌}
 use Rattle.mdb_base.specs.declared.names.SiteId.{SiteId}
 use Rattle.mdb_base.specs.declared.names.Tid.{Tid}
 use Rattle.mdb_base.specs.Words.{those, when}
@@ -16,11 +16,11 @@ use Rattle.fed_rules.specs.declared.records.CoordRecord.{CoordRecord}
 use Rattle.fed_rules.specs.declared.scenario.Scenario.{Scenario}
 use Rattle.fed_rules.specs.Coord.{missing, of_inquiry, of_take, answered, coord_line, asked_while, tells, protocol_of}
 use Rattle.fed_rules.specs.CoordPast as Coordinator
-use Rattle.fed_rules.specs.CoordPast.{trip, CoordHappening, CoordPast, Standing, Undecided, Decided, Gone, standing, is_known, is_undecided, program, visits, is_about, decides, acks_in, has_acked, participants}
-use Rattle.fed_rules.specs.CoordRecords.{coord_frame, initiated, outcome, required_of, required, is_nobody}
+use Rattle.fed_rules.specs.CoordPast.{trip, CoordHappening, CoordPast, Standing, Undecided, Decided, Gone, standing, is_known, program, visits, is_about, decides, acks_in, has_acked, participants}
+use Rattle.fed_rules.specs.CoordRecords.{coord_frame, named, outcome, required_of, required, is_nobody}
 use Rattle.fed_rules.specs.Happenings.{Trip, stops, comes_up, is_down, quiet, stopped, tripped}
 use Rattle.fed_rules.specs.Disk.{Disk, Stops}
-use Rattle.fed_rules.specs.Scenarios.{home_of, protocols}
+use Rattle.fed_rules.specs.Scenarios.{home_of, policy, protocols}
 use Rattle.fed_rules.specs.SitePast.{records}
 use Rattle.fed_rules.specs.SiteRecords.{Home, Held, doubt_of}
 use Rattle.fed_rules.specs.Story.{AtCoordinator, coord_past, past_of, sent_to, sent_from, story_of}
@@ -29,10 +29,10 @@ use Rattle.commit_laws.specs.Outcomes.{coordinator_keeps}
 use Rattle.commit_laws.proofs.Agree.{Agrees}
 use Rattle.commit_laws.proofs.AgreeCoord.{presumes-right}
 use Rattle.commit_laws.proofs.Agreed.{agreed, turn, coord-sound}
-use Rattle.commit_laws.proofs.CoordClear.{all-missing, initiated-stays}
-use Rattle.commit_laws.proofs.CoordFacts.{IsOpen, Same, Starts, Decides, Forgets, Restarts}
+use Rattle.commit_laws.proofs.CoordClear.{all-missing, named-stays}
+use Rattle.commit_laws.proofs.CoordFacts.{is_undecided, IsOpen, Same, Starts, Decides, Forgets, Restarts}
 use Rattle.commit_laws.proofs.CoordLines.{Stood, Stopped, Through}
-use Rattle.commit_laws.proofs.CoordLists.{initiation-of, initiation-is, initiated-behind, decided-outcome}
+use Rattle.commit_laws.proofs.CoordLists.{decided-outcome}
 use Rattle.commit_laws.proofs.CoordTurn.{Turn, same-outcome, uncommitted-of}
 use Rattle.commit_laws.proofs.Declared.{is-declared}
 use Rattle.commit_laws.proofs.Disks.{appended}
@@ -59,35 +59,34 @@ next-turn scenario commands x (command, e) tid =
     )
 
 forgotten : (scenario : Scenario) (past : CoordPast) (event : CoordEvent) (x : CoordHappening) (tid : Tid)
-    → Turn scenario nowhere tid past event x → (stops x.answer || comes_up x.answer) ≡ false → is_known (standing past tid) ≡ true
-    → is_known (standing (x ∷ past) tid) ≡ false
-    → is_nobody (missing (x ∷ past) tid (outcome (Coordinator.records (x ∷ past)) tid)) ≡ true
+    → Turn scenario nowhere tid past event x → (stops x.answer || comes_up x.answer) ≡ false → is_known (standing (protocols scenario) past tid) ≡ true
+    → is_known (standing (protocols scenario) (x ∷ past) tid) ≡ false
+    → is_nobody (missing (protocols scenario) (x ∷ past) tid (outcome (Coordinator.records (x ∷ past)) tid)) ≡ true
 forgotten scenario past event x tid t on before behind = by_stood t.line.stood where
-  by_stood : Stood tid past x → is_nobody (missing (x ∷ past) tid (outcome (Coordinator.records (x ∷ past)) tid)) ≡ true
+  by_stood : Stood (protocols scenario) tid past x → is_nobody (missing (protocols scenario) (x ∷ past) tid (outcome (Coordinator.records (x ∷ past)) tid)) ≡ true
   by_stood (Stopped b e a stop) = let no : true ≡ false = sym stop ∙ on in cc
   by_stood (Through (Same e b u a) r) = let no : true ≡ false = sym (ap is_known e ∙ before) ∙ behind in cc
   by_stood (Through (Starts b e n steps v) r) = let no : true ≡ false = sym (ap is_known e) ∙ behind in cc
-  by_stood (Through (Decides made f o b e n by a i) r) = by_forgets f refl where
-    by_forgets : (c : Bool) → f ≡ c → is_nobody (missing (x ∷ past) tid (outcome (Coordinator.records (x ∷ past)) tid)) ≡ true
+  by_stood (Through (Decides made f o b e n by a) r) = by_forgets f refl where
+    by_forgets : (c : Bool) → f ≡ c → is_nobody (missing (protocols scenario) (x ∷ past) tid (outcome (Coordinator.records (x ∷ past)) tid)) ≡ true
     by_forgets false q = let no : true ≡ false = sym (ap is_known (e ∙ ap (λ c. cond c Gone (Decided made)) q)) ∙ behind in cc
     by_forgets true q =
         let made_is : outcome (Coordinator.records (x ∷ past)) tid ≡ made = ap (λ rs. outcome rs tid) r ∙ decided-outcome tid made
         (appended x.calls []) (Coordinator.records past) (uncommitted-of scenario nowhere tid past t.sound o) by in
-        ap (λ d. is_nobody (missing (x ∷ past) tid d)) made_is
-        ∙ ap is_nobody (all-missing tid (x ∷ past) made a)
-        ∙ ap (λ k. is_nobody (required_of made k))
-        (ap (λ rs. initiated rs tid) r ∙ initiated-behind tid (appended x.calls []) (Coordinator.records past) i)
+        ap (λ d. is_nobody (missing (protocols scenario) (x ∷ past) tid d)) made_is
+        ∙ ap is_nobody (all-missing (protocols scenario) tid (x ∷ past) made a)
+        ∙ ap (λ rs. is_nobody (required (protocols scenario) rs tid made)) r
         ∙ (n ∙ q)
   by_stood (Through (Forgets made k b e n ends a) r) =
-      let closed : IsOpen past tid → ⊥ = λ o. (let no : is_undecided (Decided made) ≡ true = ap is_undecided (sym k) ∙ o in cc) in
+      let closed : IsOpen (protocols scenario) past tid → ⊥ = λ o. (let no : is_undecided (Decided made) ≡ true = ap is_undecided (sym k) ∙ o in cc) in
       let made_is : outcome (Coordinator.records (x ∷ past)) tid ≡ made = same-outcome scenario nowhere tid past event x t closed ∙ sym
       (t.sound.decided made k).1 in
-      ap (λ d. is_nobody (missing (x ∷ past) tid d)) made_is
+      ap (λ d. is_nobody (missing (protocols scenario) (x ∷ past) tid d)) made_is
       ∙ ap (λ o. is_nobody (those (λ m. not (has_acked (x ∷ past) tid m.site)) (required_of made o)))
-      (initiated-stays scenario nowhere tid past event x t closed)
+      (named-stays scenario nowhere tid past event x t closed)
       ∙ ap is_nobody (those-agree (λ m. not (has_acked (x ∷ past) tid m.site))
       (λ m. not (has_acked (quiet x.event Say.Acked ∷ past) tid m.site)) (λ m. ap not (a m.site))
-      (required (Coordinator.records past) tid made))
+      (required (protocols scenario) (Coordinator.records past) tid made))
       ∙ n
   by_stood (Through (Restarts b e a stop) r) = let no : true ≡ false = sym stop ∙ on in cc
 
@@ -98,7 +97,7 @@ forgotten-when-none-is-missing scenario commands x next on tid before behind =
 
 pub restarts-count-anew : RestartsCountAnew
 restarts-count-anew scenario commands x next off tid decision =
-    all-missing tid (x ∷ coord_past (story_of scenario commands)) decision
+    all-missing (protocols scenario) tid (x ∷ coord_past (story_of scenario commands)) decision
     (λ site. none (stops x.answer) (comes_up x.answer) (is_about tid x.event && decides x.answer)
     (acks_in tid site x || has_acked (coord_past (story_of scenario commands)) tid site) off)
   where
@@ -109,7 +108,7 @@ restarts-count-anew scenario commands x next off tid decision =
 
 -- a site in doubt has the right presumption
 presumes : (scenario : Scenario) (commands : List Command) (home : Home) → home_of scenario home.site ≡ Some home → (tid : Tid)
-    → standing (coord_past (story_of scenario commands)) tid ≡ Gone → (held : Held)
+    → standing (protocols scenario) (coord_past (story_of scenario commands)) tid ≡ Gone → (held : Held)
     → doubt_of (records home (past_of home.site (story_of scenario commands))) tid ≡ Some held
     → presumed home.protocol ≡ outcome (coordinator_keeps scenario commands) tid
 presumes scenario commands home declared tid gone held doubt =
@@ -124,7 +123,7 @@ presumes scenario commands home declared tid gone held doubt =
 
 pub presumptions-are-right : PresumptionsAreRight
 presumptions-are-right scenario commands site home declared =
-    subst (λ s. (tid : Tid) → standing (coord_past (story_of scenario commands)) tid ≡ Gone → (held : Held) → doubt_of
+    subst (λ s. (tid : Tid) → standing (protocols scenario) (coord_past (story_of scenario commands)) tid ≡ Gone → (held : Held) → doubt_of
     (records home (past_of s (story_of scenario commands))) tid ≡ Some held → presumed home.protocol ≡ outcome
     (coordinator_keeps scenario commands) tid)
     (its-site scenario site home declared) (presumes scenario commands home (home-again scenario site home declared))
@@ -143,11 +142,11 @@ no-stop d (Some t) y s = by_test (nat_le t.calls (length y.calls)) s where
 
 -- the line of an inquiry at a coordinator that is up
 inquiry-line : (scenario : Scenario) (past : CoordPast) (site : SiteId) (tid : Tid) → is_down past ≡ false
-    → stops (coord_line (protocols scenario) past (Ev.Take site (From.Inquiry tid))).answer ≡ false
-    → coord_line (protocols scenario) past (Ev.Take site (From.Inquiry tid)) ≡ of_inquiry (protocols scenario) past site tid
+    → stops (coord_line (protocols scenario) (policy scenario) past (Ev.Take site (From.Inquiry tid))).answer ≡ false
+    → coord_line (protocols scenario) (policy scenario) past (Ev.Take site (From.Inquiry tid)) ≡ of_inquiry (protocols scenario) past site tid
 unfolding coord_line answered of_take
 inquiry-line scenario past site tid up s =
-    let is : coord_line (protocols scenario) past (Ev.Take site (From.Inquiry tid)) ≡ tripped coord_frame (Coordinator.disk past)
+    let is : coord_line (protocols scenario) (policy scenario) past (Ev.Take site (From.Inquiry tid)) ≡ tripped coord_frame (Coordinator.disk past)
     (trip past) (of_inquiry (protocols scenario) past site tid) =
     when-false (is_down past) (quiet (Ev.Take site (From.Inquiry tid)) Say.Down)
     (tripped coord_frame (Coordinator.disk past) (trip past) (of_inquiry (protocols scenario) past site tid)) up in
@@ -156,7 +155,7 @@ inquiry-line scenario past site tid up s =
 
 -- the rule's answer to a site in doubt
 answers-the-outcome : (scenario : Scenario) (commands : List Command) (site : SiteId) (home : Home) → home_of scenario site ≡ Some home
-    → (tid : Tid) → standing (coord_past (story_of scenario commands)) tid ≡ Gone → (held : Held)
+    → (tid : Tid) → standing (protocols scenario) (coord_past (story_of scenario commands)) tid ≡ Gone → (held : Held)
     → doubt_of (records home (past_of site (story_of scenario commands))) tid ≡ Some held
     → of_inquiry (protocols scenario) (coord_past (story_of scenario commands)) site tid
     ≡ tells site tid (Say.Presumes (outcome (coordinator_keeps scenario commands) tid))
@@ -175,19 +174,19 @@ inquiries-are-answered-the-outcome scenario commands site home declared tid gone
     let (event, is, came) = l in
     let t = turn scenario nowhere tid (story_of scenario commands) event came (coord-sound scenario nowhere tid commands) in
     let named : event ≡ Ev.Take site (From.Inquiry tid) = sym t.line.is ∙ (ap (λ y. y.event) (sym is) ∙ inquiry) in
-    let line : x ≡ coord_line (protocols scenario) (coord_past (story_of scenario commands)) (Ev.Take site (From.Inquiry tid)) =
-    is ∙ ap (coord_line (protocols scenario) (coord_past (story_of scenario commands))) named in
+    let line : x ≡ coord_line (protocols scenario) (policy scenario) (coord_past (story_of scenario commands)) (Ev.Take site (From.Inquiry tid)) =
+    is ∙ ap (coord_line (protocols scenario) (policy scenario) (coord_past (story_of scenario commands))) named in
     line
     ∙ inquiry-line scenario (coord_past (story_of scenario commands)) site tid up (ap (λ y. stops y.answer) (sym line) ∙ on)
     ∙ answers-the-outcome scenario commands site home declared tid gone held doubt
 
 -- a required participant of an attempt that isn't known has acknowledged
 acknowledged : (scenario : Scenario) (commands : List Command) (home : Home) → home_of scenario home.site ≡ Some home → (tid : Tid)
-    → standing (coord_past (story_of scenario commands)) tid ≡ Gone
+    → standing (protocols scenario) (coord_past (story_of scenario commands)) tid ≡ Gone
     → In (record { site = home.site; protocol = home.protocol })
-    (required (coordinator_keeps scenario commands) tid (outcome (coordinator_keeps scenario commands) tid))
+    (required (protocols scenario) (coordinator_keeps scenario commands) tid (outcome (coordinator_keeps scenario commands) tid))
     → In (From.Ack tid) (sent_from home.site (story_of scenario commands))
-acknowledged scenario commands home declared tid gone i = by_initiation (initiated kept tid) refl i where
+acknowledged scenario commands home declared tid gone i = by_named (named (protocols scenario) kept tid) refl i where
   kept : List CoordRecord
   kept = coordinator_keeps scenario commands
 
@@ -197,22 +196,21 @@ acknowledged scenario commands home declared tid gone i = by_initiation (initiat
   member : Participant
   member = record { site = home.site; protocol = home.protocol }
 
-  by_initiation : (o : Option (List Participant)) → initiated kept tid ≡ o → In member (required_of (outcome kept tid) o)
+  by_named : (o : Option (List Participant)) → named (protocols scenario) kept tid ≡ o → In member (required_of (outcome kept tid) o)
       → In (From.Ack tid) (sent_from home.site (story_of scenario commands))
-  by_initiation None e i = absurd i
-  by_initiation (Some ms) e i =
+  by_named None e i = absurd i
+  by_named (Some ms) e i =
       let acking = in-those (λ p. acks p.protocol (outcome kept tid)) member ms i in
-      let found = initiation-of tid kept ms e in
-      let names = (a.sound.initiated ms found).1 in
+      let names = (a.sound.names ms e).1 in
       let visiting = in-those (λ p. visits p.site (program (coord_past (story_of scenario commands)) tid)) member (protocols scenario)
       (subst (In member) names acking.1) in
       a.taken (From.Ack tid)
-      (a.sound.gone gone (initiation-is tid ms kept found) (is-declared scenario home.site home declared).0 acking.0 visiting.0)
+      (a.sound.gone gone (ap is_some e) (is-declared scenario home.site home declared).0 acking.0 visiting.0)
 
 pub forgotten-are-acknowledged : ForgottenAreAcknowledged
 forgotten-are-acknowledged scenario commands site home declared =
-    subst (λ s. (tid : Tid) → standing (coord_past (story_of scenario commands)) tid ≡ Gone → In
+    subst (λ s. (tid : Tid) → standing (protocols scenario) (coord_past (story_of scenario commands)) tid ≡ Gone → In
     (record { site = s; protocol = home.protocol })
-    (required (coordinator_keeps scenario commands) tid (outcome (coordinator_keeps scenario commands) tid)) → In (From.Ack tid)
+    (required (protocols scenario) (coordinator_keeps scenario commands) tid (outcome (coordinator_keeps scenario commands) tid)) → In (From.Ack tid)
     (sent_from s (story_of scenario commands)))
     (its-site scenario site home declared) (acknowledged scenario commands home (home-again scenario site home declared))

@@ -1,6 +1,7 @@
 -- Facts among the items of joined lists, and of a list whose newest loose records are gone.
-use Rattle.std.proofs.Common.{◌≡◌, ◌⊎◌, inl, inr, Bool, true, false, cond, List, [], ◌∷◌, ◌++◌, refl, sym, ap, subst}
+use Rattle.std.proofs.Common.{◌≡◌, ◌⊎◌, inl, inr, Bool, true, false, cond, List, [], ◌∷◌, ◌++◌, refl, sym, ap, subst, ◌∙◌}
 use Rattle.mdb_base.specs.Words.{Each, Among, those}
+use Rattle.order_laws.specs.Chains.{In}
 use Rattle.commit_laws.proofs.Disks.{IsCut}
 
 pub among-split : {A : Type 0} (P : A → Type 0) (xs ys : List A) → Among P (xs ++ ys) → Among P xs ⊎ Among P ys
@@ -45,3 +46,24 @@ those-agree {A = A} f g e (x ∷ xs) = by_test (f x) (g x) (e x) (those f xs) (t
   by_test false false e ys zs h = h
   by_test true false e ys zs h = cc
   by_test false true e ys zs h = cc
+
+-- tests that agree on the items of a list choose the same ones
+pub those-agree-on : {A : Type 0} (f g : A → Bool) (xs : List A) → ((x : A) → In x xs → f x ≡ g x) → those f xs ≡ those g xs
+those-agree-on f g [] e = refl
+those-agree-on {A = A} f g (x ∷ xs) e =
+    by_test (f x) (g x) (e x (inl refl)) (those f xs) (those g xs) (those-agree-on f g xs (λ y i. e y (inr i))) where
+      by_test : (a b : Bool) → a ≡ b → (ys zs : List A) → ys ≡ zs → cond a (x ∷ ys) ys ≡ cond b (x ∷ zs) zs
+      by_test true true e ys zs h = ap (λ r. x ∷ r) h
+      by_test false false e ys zs h = h
+      by_test true false e ys zs h = cc
+      by_test false true e ys zs h = cc
+
+-- an item that passes the test is one of those
+pub in-those-test : {A : Type 0} (test : A → Bool) (y : A) (xs : List A) → In y xs → test y ≡ true → In y (those test xs)
+in-those-test test y [] i t = absurd i
+in-those-test test y (x ∷ xs) (inl e) t =
+    subst (λ b. In y (cond b (x ∷ those test xs) (those test xs))) (sym (ap test e ∙ t)) (inl e)
+in-those-test test y (x ∷ xs) (inr i) t = by_test (test x) (in-those-test test y xs i t) where
+  by_test : (b : Bool) → In y (those test xs) → In y (cond b (x ∷ those test xs) (those test xs))
+  by_test true h = inr h
+  by_test false h = h

@@ -25,7 +25,7 @@ use Rattle.fed_rules.specs.Coord.{coord_line}
 use Rattle.fed_rules.specs.CoordPast as Coordinator
 use Rattle.fed_rules.specs.CoordPast.{CoordHappening, CoordPast, is_about, program, visits, participants}
 use Rattle.fed_rules.specs.Disk.{Disk}
-use Rattle.fed_rules.specs.Scenarios.{home_in, home_of, items_of, protocols_in, protocols}
+use Rattle.fed_rules.specs.Scenarios.{home_in, home_of, items_of, protocols_in, policy, protocols}
 use Rattle.fed_rules.specs.SitePast.{disk, records}
 use Rattle.fed_rules.specs.SiteRecords.{Home, site_frame}
 use Rattle.fed_rules.specs.Story.{Happened, AtSite, AtCoordinator, Nowhere, coord_past, past_of, with_coordinator, happens, story_of}
@@ -145,15 +145,15 @@ decided-commit scenario home (command ∷ commands) tid m =
     past : CoordPast
     past = coord_past (story_of scenario commands)
 
-    here : (event : CoordEvent) → Turn scenario home tid past event (coord_line (protocols scenario) past event)
-        → Among (DecidesCommit tid) (coord_line (protocols scenario) past event ∷ past)
+    here : (event : CoordEvent) → Turn scenario home tid past event (coord_line (protocols scenario) (policy scenario) past event)
+        → Among (DecidesCommit tid) (coord_line (protocols scenario) (policy scenario) past event ∷ past)
         → (Among (DecidesCommit tid) past → Among (IsCommit tid) (Coordinator.records past))
-        → Among (IsCommit tid) (Coordinator.records (coord_line (protocols scenario) past event ∷ past))
-    here event t (inl d) k = commit-answer tid event (coord_line (protocols scenario) past event).answer
-        (Coordinator.records (coord_line (protocols scenario) past event ∷ past)) t.line.committed d.1
+        → Among (IsCommit tid) (Coordinator.records (coord_line (protocols scenario) (policy scenario) past event ∷ past))
+    here event t (inl d) k = commit-answer tid event (coord_line (protocols scenario) (policy scenario) past event).answer
+        (Coordinator.records (coord_line (protocols scenario) (policy scenario) past event ∷ past)) t.line.committed d.1
         (ap (is_about tid) (sym t.line.is) ∙ d.0)
     here event t (inr i) k = kept-stays (protocols scenario) tid past event
-        (Coordinator.records (coord_line (protocols scenario) past event ∷ past)) (IsCommit tid) (end-commit tid) t.line.kept (k i)
+        (Coordinator.records (coord_line (protocols scenario) (policy scenario) past event ∷ past)) (IsCommit tid) (end-commit tid) t.line.kept (k i)
 
     more : (happened : Happened) → Linked scenario (story_of scenario commands) happened
         → Among (DecidesCommit tid) (with_coordinator happened past)

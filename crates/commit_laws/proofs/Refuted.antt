@@ -8,7 +8,7 @@ use Rattle.presumptions.specs.declared.Protocol.{Protocol}
 use Rattle.presumptions.specs.declared.Protocol.TheVariants as By
 use Rattle.fed_rules.specs.declared.commands.Command.{Command}
 use Rattle.fed_rules.specs.declared.events.SiteEvent.{SiteEvent}
-use Rattle.fed_rules.specs.declared.events.SiteEvent.TheVariants.{Begin, Act, Commit, Abort, Fate, Give, Ask, Drop, Halt, Trip, Back}
+use Rattle.fed_rules.specs.declared.events.SiteEvent.TheVariants.{Begin, Act, Commit, Abort, Fate, Give, Ask, Drop, Halt, Trip, Back, Check}
 use Rattle.fed_rules.specs.declared.messages.ToSite.TheVariants.{Work, Take, Prepare, Decide}
 use Rattle.fed_rules.specs.declared.scenario.Scenario.{Scenario}
 use Rattle.fed_rules.specs.CoordPast as Coordinator
@@ -213,6 +213,7 @@ prepare-names e (Give (Work tid k n act)) h = absurd h
 prepare-names e (Give (Take tid k n)) h = absurd h
 prepare-names e (Give (Decide tid d)) h = absurd h
 prepare-names e Back h = absurd h
+prepare-names e Check h = absurd h
 prepare-names e (Begin tid) h = absurd h
 prepare-names e (Act tid act) h = absurd h
 prepare-names e (Commit tid) h = absurd h

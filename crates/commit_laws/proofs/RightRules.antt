@@ -4,7 +4,7 @@ use Rattle.mdb_base.specs.declared.names.Tid.{Tid}
 use Rattle.fed_rules.specs.declared.commands.Command.{Command}
 use Rattle.fed_rules.specs.declared.scenario.Scenario.{Scenario}
 use Rattle.fed_rules.specs.Coord.{coord_line}
-use Rattle.fed_rules.specs.Scenarios.{protocols}
+use Rattle.fed_rules.specs.Scenarios.{policy, protocols}
 use Rattle.fed_rules.specs.Site.{site_line}
 use Rattle.fed_rules.specs.Story.{Happened, AtSite, AtCoordinator, Nowhere, past_of, coord_past, happens, story_of}
 use Rattle.commit_laws.specs.WrongRules.{at_home, made_by, story_by, right_rules}
@@ -29,10 +29,10 @@ made scenario commands (AtSite site x) (home, found, event, is, came) =
     ap (at_home right_rules (story_of scenario commands) site x.event) found
     ∙ ap (AtSite site) (ap (site_line home (past_of site (story_of scenario commands))) same ∙ sym is)
 made scenario commands (AtCoordinator x) (event, is, came) =
-    let line = coord-lines (protocols scenario) some_attempt (coord_past (story_of scenario commands)) event
+    let line = coord-lines (protocols scenario) (policy scenario) some_attempt (coord_past (story_of scenario commands)) event
     (coord-sound scenario nowhere some_attempt commands).firm in
     let same : x.event ≡ event = ap (λ y. y.event) is ∙ line.is in
-    ap AtCoordinator (ap (coord_line (protocols scenario) (coord_past (story_of scenario commands))) same ∙ sym is)
+    ap AtCoordinator (ap (coord_line (protocols scenario) (policy scenario) (coord_past (story_of scenario commands))) same ∙ sym is)
 
 pub right-rules : (scenario : Scenario) (commands : List Command) → story_by right_rules scenario commands ≡ story_of scenario commands
 right-rules scenario [] = refl

@@ -15,21 +15,22 @@ use Rattle.fed_rules.specs.declared.messages.ToSite.{ToSite}
 use Rattle.fed_rules.specs.declared.messages.ToSite.TheVariants as To
 use Rattle.fed_rules.specs.declared.records.SiteRecord.{SiteRecord}
 use Rattle.fed_rules.specs.declared.records.SiteRecord.TheVariants as Rec
-use Rattle.fed_rules.specs.Disk.{Append, Sync, CutBack, after_calls, is_torn}
+use Rattle.fed_rules.specs.Disk.{Append, Sync, CutBack, after_calls, is_torn, longest, TrimFront}
 use Rattle.fed_rules.specs.Happenings.{is_down}
 use Rattle.fed_rules.specs.Runs.{EngineLine, Aborts, Run, changed, run_at, tid_of}
-use Rattle.fed_rules.specs.Site.{settling_line, settles, unheld, of_decide, of_give, of_back, answered}
+use Rattle.fed_rules.specs.Site.{settling_line, settles, unheld, of_decide, of_give, of_back, answered, of_check, checkpoint}
 use Rattle.fed_rules.specs.SitePast.{SiteHappening, SitePast, records, epoch, epoch_start, engine_lines, live, live_one, ends, is_closed}
-use Rattle.fed_rules.specs.SiteRecords.{Home, Held, site_frame, epoch_of, doubt_of}
+use Rattle.fed_rules.specs.SiteRecords.{Home, Held, site_frame, epoch_of, doubt_of, site_payload}
 use Rattle.commit_laws.specs.Records.{IsEnded, IsLooseEnded}
 use Rattle.commit_laws.specs.Seals.{appends_prepared}
 use Rattle.commit_laws.proofs.SiteFacts.{WroteOne, IsSettling, IsAcking, Says, Shut, Step}
 use Rattle.commit_laws.proofs.SiteShut.{other-line, this-line, shut-on, restored-sealed}
 use Rattle.commit_laws.proofs.Disks.{appended, IsQuiet}
 use Rattle.fed_rules.specs.SitePast.{disk}
-use Rattle.commit_laws.proofs.SiteRules.{step-pick, quietly, by-begin, by-act, by-commit, by-abort, by-fate, by-drop, by-ask}
+use Rattle.commit_laws.proofs.SiteRules.{step-pick, quietly, by-begin, by-act, by-commit, by-abort, by-fate, by-drop, by-ask, step-when}
 use Rattle.commit_laws.proofs.SiteWork.{by-work, by-take, by-prepare}
 use Rattle.commit_laws.proofs.Names.{of-same}
+use Rattle.std.specs.Prelude.{nat_lt}
 
 settling-tid : (tid : Tid) (d : Decision) → tid_of (settling_line tid d) ≡ tid
 settling-tid tid Decided.Commit = refl
@@ -212,6 +213,28 @@ by-give home g past (To.Take tid e n) up = by-take home g past tid e n up
 by-give home g past (To.Prepare tid e n) up = by-prepare home g past tid e n up
 by-give home g past (To.Decide tid d) up = by-decide home g past tid d up
 
+-- a Checkpoint
+by-check : (home : Home) (g : Tid) (past : SitePast) → is_down past ≡ false → Step home g past Ev.Check (of_check home past)
+unfolding of_check
+by-check home g past up =
+    step-when home g past Ev.Check (nat_lt longest (site_payload (checkpoint home past))) _ sums
+    (λ b. quietly home g past Ev.Check Say.Large up tt tt) (λ b. by_sum)
+  where
+    sums : SiteHappening
+    sums = record { event = Ev.Check; answer = Say.Checked; sends = []; calls = Append (checkpoint home past) ∷ Sync ∷ TrimFront ∷ []; lines = [] }
+
+    by_sum : Step home g past Ev.Check sums
+    by_sum = record {
+      is = refl;
+      quiet = inr tt;
+      wrote = tt;
+      says = tt;
+      shut = (λ nb s. shut-on home g past sums refl refl up (λ h. s.over h));
+      settled = tt;
+      seals = (λ e. cc);
+      rises = (λ e. cc);
+    }
+
 -- what a site that is up answers
 pub by-answered : (home : Home) (g : Tid) (past : SitePast) (event : SiteEvent) → is_down past ≡ false
     → Step home g past event (answered home past event)
@@ -227,3 +250,4 @@ by-answered home g past (Ev.Drop tid) up = by-drop home g past tid up
 by-answered home g past (Ev.Halt cut) up = quietly home g past (Ev.Halt cut) Say.Down up tt tt
 by-answered home g past (Ev.Trip calls cut) up = quietly home g past (Ev.Trip calls cut) Say.Set up tt tt
 by-answered home g past Ev.Back up = by-back home g past
+by-answered home g past Ev.Check up = by-check home g past up

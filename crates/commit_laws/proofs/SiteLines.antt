@@ -167,3 +167,4 @@ site-lines home g past Ev.Back f =
     line-when home g past Ev.Back (is_down past) _ _
     (λ down. unless-tripped home g past Ev.Back (of_back home past) (trip past) f (by-back home g past))
     (λ up. idle home g past Ev.Back Say.Awake f tt refl (λ s. record { down = s.down; over = s.over }))
+site-lines home g past Ev.Check f = when-up home g past Ev.Check f

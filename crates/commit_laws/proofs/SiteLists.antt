@@ -32,8 +32,11 @@ pub tidy-doubt : (g : Tid) (rs : List SiteRecord) (e : ℕ) (d : Decision) → I
     → Among (IsEnded g d) rs → doubt_of rs g ≡ None
 tidy-doubt g [] e d t p n = absurd p
 tidy-doubt g (Rec.Setup site engine protocol items ∷ rs) e d t (inl p) n = absurd p
+tidy-doubt g (Rec.Checkpoint sum ∷ rs) e d t (inl p) n = absurd p
 tidy-doubt g (Rec.Setup site engine protocol items ∷ rs) e d t (inr p) (inl n) = absurd n
+tidy-doubt g (Rec.Checkpoint sum ∷ rs) e d t (inr p) (inl n) = absurd n
 tidy-doubt g (Rec.Setup site engine protocol items ∷ rs) e d t (inr p) (inr n) = tidy-doubt g rs e d t.1 p n
+tidy-doubt g (Rec.Checkpoint sum ∷ rs) e d t (inr p) (inr n) = tidy-doubt g rs e d t.1 p n
 tidy-doubt g (Rec.Start k ∷ rs) e d t (inl p) n = absurd p
 tidy-doubt g (Rec.Start k ∷ rs) e d t (inr p) (inl n) = absurd n
 tidy-doubt g (Rec.Start k ∷ rs) e d t (inr p) (inr n) = tidy-doubt g rs e d t.1 p n
@@ -64,7 +67,9 @@ pub settled-ended : (g : Tid) (rs : List SiteRecord) (e : ℕ) → Among (IsPrep
     → (d : Decision) × Among (IsEnded g d) rs
 settled-ended g [] e p n = absurd p
 settled-ended g (Rec.Setup site engine protocol items ∷ rs) e (inl p) n = absurd p
+settled-ended g (Rec.Checkpoint sum ∷ rs) e (inl p) n = absurd p
 settled-ended g (Rec.Setup site engine protocol items ∷ rs) e (inr p) n = let r = settled-ended g rs e p n in (r.0, inr r.1)
+settled-ended g (Rec.Checkpoint sum ∷ rs) e (inr p) n = let r = settled-ended g rs e p n in (r.0, inr r.1)
 settled-ended g (Rec.Start k ∷ rs) e (inl p) n = absurd p
 settled-ended g (Rec.Start k ∷ rs) e (inr p) n = let r = settled-ended g rs e p n in (r.0, inr r.1)
 settled-ended g (Rec.Local tid number writes ∷ rs) e (inl p) n = absurd p
@@ -93,6 +98,7 @@ pub epoch-cut : (p : Protocol) (newer now : List SiteRecord) → Each (IsLooseEn
 epoch-cut p [] now h = refl
 epoch-cut p (Rec.Ended tid made ∷ newer) now h = epoch-cut p newer now h.1
 epoch-cut p (Rec.Setup site engine protocol items ∷ newer) now h = absurd h.0
+epoch-cut p (Rec.Checkpoint sum ∷ newer) now h = absurd h.0
 epoch-cut p (Rec.Start k ∷ newer) now h = absurd h.0
 epoch-cut p (Rec.Prepared tid k number ticket writes ∷ newer) now h = absurd h.0
 epoch-cut p (Rec.Local tid number writes ∷ newer) now h = absurd h.0
@@ -100,6 +106,7 @@ epoch-cut p (Rec.Local tid number writes ∷ newer) now h = absurd h.0
 pub loose-prepared : (p : Protocol) (g : Tid) (e : ℕ) (r : SiteRecord) → IsLooseEnded p r → IsPrepared g e r → ⊥
 loose-prepared p g e (Rec.Ended tid made) l h = h
 loose-prepared p g e (Rec.Setup site engine protocol items) l h = h
+loose-prepared p g e (Rec.Checkpoint sum) l h = h
 loose-prepared p g e (Rec.Start k) l h = h
 loose-prepared p g e (Rec.Prepared tid k number ticket writes) l h = l
 loose-prepared p g e (Rec.Local tid number writes) l h = h
@@ -107,6 +114,7 @@ loose-prepared p g e (Rec.Local tid number writes) l h = h
 pub loose-forced : (p : Protocol) (g : Tid) (d : Decision) → forces p d ≡ true → (r : SiteRecord) → IsLooseEnded p r → IsEnded g d r → ⊥
 loose-forced p g d f (Rec.Ended tid made) l h = let e : forces p made ≡ forces p d = ap (forces p) h.1 in cc
 loose-forced p g d f (Rec.Setup site engine protocol items) l h = h
+loose-forced p g d f (Rec.Checkpoint sum) l h = h
 loose-forced p g d f (Rec.Start k) l h = h
 loose-forced p g d f (Rec.Prepared tid k number ticket writes) l h = h
 loose-forced p g d f (Rec.Local tid number writes) l h = h
@@ -122,6 +130,7 @@ none-counted g (Rec.Prepared tid k number ticket writes ∷ rs) f = by_test (sam
       by_test false q h = h
 none-counted g (Rec.Ended tid made ∷ rs) f = none-counted g rs (λ e m. f e (inr m))
 none-counted g (Rec.Setup site engine protocol items ∷ rs) f = none-counted g rs (λ e m. f e (inr m))
+none-counted g (Rec.Checkpoint sum ∷ rs) f = none-counted g rs (λ e m. f e (inr m))
 none-counted g (Rec.Start k ∷ rs) f = none-counted g rs (λ e m. f e (inr m))
 none-counted g (Rec.Local tid number writes ∷ rs) f = none-counted g rs (λ e m. f e (inr m))
 
@@ -135,5 +144,6 @@ tidy-once g (Rec.Prepared tid k number ticket writes ∷ rs) t = by_test (same_t
   by_test false q h = h
 tidy-once g (Rec.Ended tid made ∷ rs) t = tidy-once g rs t.1
 tidy-once g (Rec.Setup site engine protocol items ∷ rs) t = tidy-once g rs t.1
+tidy-once g (Rec.Checkpoint sum ∷ rs) t = tidy-once g rs t.1
 tidy-once g (Rec.Start k ∷ rs) t = tidy-once g rs t.1
 tidy-once g (Rec.Local tid number writes ∷ rs) t = tidy-once g rs t.1

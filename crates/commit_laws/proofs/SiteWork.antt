@@ -147,6 +147,7 @@ held-prepared (Rec.Ended tid d ∷ rs) t h is = by_test (same_tid tid t) is (hel
   by_test true i k = cc
   by_test false i k = inr (k i)
 held-prepared (Rec.Setup site engine protocol items ∷ rs) t h is = inr (held-prepared rs t h is)
+held-prepared (Rec.Checkpoint sum ∷ rs) t h is = inr (held-prepared rs t h is)
 held-prepared (Rec.Start e ∷ rs) t h is = inr (held-prepared rs t h is)
 held-prepared (Rec.Local tid number writes ∷ rs) t h is = inr (held-prepared rs t h is)
 

@@ -35,6 +35,7 @@ acks-event g site x e = by_event x.event e where
   by_event (Ev.Halt cut) h = cc
   by_event (Ev.Trip calls cut) h = cc
   by_event Ev.Back h = cc
+  by_event Ev.Check h = cc
 
 pub acked-taken : (past : CoordPast) (g : Tid) (site : SiteId) → has_acked past g site ≡ true → IsAcked past g site
 acked-taken [] g site e = cc
@@ -68,6 +69,7 @@ vote-event g site (Ev.Fate tx) ticket h = cc
 vote-event g site (Ev.Halt cut) ticket h = cc
 vote-event g site (Ev.Trip calls cut) ticket h = cc
 vote-event g site Ev.Back ticket h = cc
+vote-event g site Ev.Check ticket h = cc
 
 pub vote-taken : (past : CoordPast) (g : Tid) (site : SiteId) → is_some (vote_at past g site) ≡ true
     → Among (λ x. IsYes g site x.event) past
@@ -122,6 +124,7 @@ same-reply g site (Ev.Fate tx) c h s = cc
 same-reply g site (Ev.Halt cut) c h s = cc
 same-reply g site (Ev.Trip calls cut) c h s = cc
 same-reply g site Ev.Back c h s = cc
+same-reply g site Ev.Check c h s = cc
 
 pub counting : (past : CoordPast) (g : Tid) (site : SiteId) (x : CoordHappening) → Counting past g site x
 counting past g site x = by_test (begins g x.answer) (counts x.answer) (did_in g x.event) refl refl refl where

@@ -15,7 +15,7 @@ use Rattle.fed_rules.specs.CoordPast as Coordinator
 use Rattle.fed_rules.specs.CoordPast.{CoordHappening, Standing, Decided, Gone, standing, is_known}
 use Rattle.fed_rules.specs.CoordRecords.{outcome, required, is_nobody}
 use Rattle.fed_rules.specs.Happenings.{stops, comes_up, is_down}
-use Rattle.fed_rules.specs.Scenarios.{home_of}
+use Rattle.fed_rules.specs.Scenarios.{home_of, protocols}
 use Rattle.fed_rules.specs.SitePast.{records}
 use Rattle.fed_rules.specs.SiteRecords.{Home, Held, doubt_of}
 use Rattle.fed_rules.specs.Story.{AtCoordinator, coord_past, past_of, sent_from, happens, story_of}
@@ -29,19 +29,19 @@ IsNextOfCoordinator scenario commands x = (command : Command) × (happens scenar
 abbrev pub KnownWhileMissing : Type 0
 KnownWhileMissing =
     (scenario : Scenario) (commands : List Command) (tid : Tid) (decision : Decision) →
-    standing (coord_past (story_of scenario commands)) tid ≡ Decided decision →
+    standing (protocols scenario) (coord_past (story_of scenario commands)) tid ≡ Decided decision →
     (decision ≡ outcome (coordinator_keeps scenario commands) tid)
-    × (is_nobody (missing (coord_past (story_of scenario commands)) tid decision) ≡ false)
+    × (is_nobody (missing (protocols scenario) (coord_past (story_of scenario commands)) tid decision) ≡ false)
 
 -- a line, no stop and no start, behind which an attempt isn't known any more: no required acknowledgement is missing then
 abbrev pub ForgottenWhenNoneIsMissing : Type 0
 ForgottenWhenNoneIsMissing =
     (scenario : Scenario) (commands : List Command) (x : CoordHappening) → IsNextOfCoordinator scenario commands x →
     (stops x.answer || comes_up x.answer) ≡ false → (tid : Tid) →
-    is_known (standing (coord_past (story_of scenario commands)) tid) ≡ true →
-    is_known (standing (x ∷ coord_past (story_of scenario commands)) tid) ≡ false →
+    is_known (standing (protocols scenario) (coord_past (story_of scenario commands)) tid) ≡ true →
+    is_known (standing (protocols scenario) (x ∷ coord_past (story_of scenario commands)) tid) ≡ false →
     is_nobody
-    (missing (x ∷ coord_past (story_of scenario commands)) tid
+    (missing (protocols scenario) (x ∷ coord_past (story_of scenario commands)) tid
     (outcome (Coordinator.records (x ∷ coord_past (story_of scenario commands))) tid))
     ≡ true
 
@@ -50,23 +50,23 @@ abbrev pub RestartsCountAnew : Type 0
 RestartsCountAnew =
     (scenario : Scenario) (commands : List Command) (x : CoordHappening) → IsNextOfCoordinator scenario commands x →
     (stops x.answer || comes_up x.answer) ≡ true → (tid : Tid) (decision : Decision) →
-    missing (x ∷ coord_past (story_of scenario commands)) tid decision
-    ≡ required (Coordinator.records (x ∷ coord_past (story_of scenario commands))) tid decision
+    missing (protocols scenario) (x ∷ coord_past (story_of scenario commands)) tid decision
+    ≡ required (protocols scenario) (Coordinator.records (x ∷ coord_past (story_of scenario commands))) tid decision
 
 -- of an attempt that the coordinator doesn't know, each site whose acknowledgement of the outcome is required has sent it
 abbrev pub ForgottenAreAcknowledged : Type 0
 ForgottenAreAcknowledged =
     (scenario : Scenario) (commands : List Command) (site : SiteId) (home : Home) → home_of scenario site ≡ Some home →
-    (tid : Tid) → standing (coord_past (story_of scenario commands)) tid ≡ Gone →
+    (tid : Tid) → standing (protocols scenario) (coord_past (story_of scenario commands)) tid ≡ Gone →
     In (record { site = site; protocol = home.protocol })
-    (required (coordinator_keeps scenario commands) tid (outcome (coordinator_keeps scenario commands) tid)) →
+    (required (protocols scenario) (coordinator_keeps scenario commands) tid (outcome (coordinator_keeps scenario commands) tid)) →
     In (From.Ack tid) (sent_from site (story_of scenario commands))
 
 -- the presumption of a site in doubt of an attempt that the coordinator doesn't know is the attempt's outcome
 abbrev pub PresumptionsAreRight : Type 0
 PresumptionsAreRight =
     (scenario : Scenario) (commands : List Command) (site : SiteId) (home : Home) → home_of scenario site ≡ Some home →
-    (tid : Tid) → standing (coord_past (story_of scenario commands)) tid ≡ Gone →
+    (tid : Tid) → standing (protocols scenario) (coord_past (story_of scenario commands)) tid ≡ Gone →
     (held : Held) → doubt_of (records home (past_of site (story_of scenario commands))) tid ≡ Some held →
     presumed home.protocol ≡ outcome (coordinator_keeps scenario commands) tid
 
@@ -75,7 +75,7 @@ PresumptionsAreRight =
 abbrev pub InquiriesAreAnsweredTheOutcome : Type 0
 InquiriesAreAnsweredTheOutcome =
     (scenario : Scenario) (commands : List Command) (site : SiteId) (home : Home) → home_of scenario site ≡ Some home →
-    (tid : Tid) → standing (coord_past (story_of scenario commands)) tid ≡ Gone →
+    (tid : Tid) → standing (protocols scenario) (coord_past (story_of scenario commands)) tid ≡ Gone →
     (held : Held) → doubt_of (records home (past_of site (story_of scenario commands))) tid ≡ Some held →
     (x : CoordHappening) → IsNextOfCoordinator scenario commands x → x.event ≡ Ev.Take site (From.Inquiry tid) →
     is_down (coord_past (story_of scenario commands)) ≡ false → stops x.answer ≡ false →

@@ -23,7 +23,8 @@ use Rattle.fed_rules.specs.CoordPast as Coordinator
 use Rattle.fed_rules.specs.CoordPast.{CoordHappening, CoordPast}
 use Rattle.fed_rules.specs.CoordRecords.{coord_frame, outcome}
 use Rattle.fed_rules.specs.Disk.{Call, Append, is_torn}
-use Rattle.fed_rules.specs.Scenarios.{home_of, protocols}
+use Rattle.fed_rules.specs.Policies.{Policy}
+use Rattle.fed_rules.specs.Scenarios.{home_of, policy, protocols}
 use Rattle.fed_rules.specs.Site.{site_line}
 use Rattle.fed_rules.specs.SitePast.{SiteHappening, SitePast, epoch}
 use Rattle.fed_rules.specs.SiteRecords.{Home}
@@ -34,7 +35,7 @@ use Rattle.commit_laws.specs.Seals.{seals, IsPrepareOf}
 -- what makes the next line of a site, and of the coordinator
 pub record Rules : Type 0 where
   pub site : Home → SitePast → SiteEvent → SiteHappening
-  pub coordinator : List Participant → CoordPast → CoordEvent → CoordHappening
+  pub coordinator : List Participant → Policy → CoordPast → CoordEvent → CoordHappening
 
 abbrev pub at_home : Rules → Story → SiteId → SiteEvent → Option Home → Happened
 at_home rules story site event None = Nowhere Say.None
@@ -43,7 +44,7 @@ at_home rules story site event (Some home) = AtSite site (rules.site home (past_
 -- what happens, with the line that these rules make of the event
 abbrev pub made_by : Rules → Scenario → Story → Happened → Happened
 made_by rules scenario story (AtSite site x) = at_home rules story site x.event (home_of scenario site)
-made_by rules scenario story (AtCoordinator x) = AtCoordinator (rules.coordinator (protocols scenario) (coord_past story) x.event)
+made_by rules scenario story (AtCoordinator x) = AtCoordinator (rules.coordinator (protocols scenario) (policy scenario) (coord_past story) x.event)
 made_by rules scenario story (Nowhere answer) = Nowhere answer
 
 -- the story of these commands by these rules, the last one first
@@ -76,7 +77,7 @@ forgotten_commit x answer = x
 
 abbrev pub commits_forgotten_at_once : Rules
 commits_forgotten_at_once =
-    record right_rules { coordinator = λ protocols past event. (let x = coord_line protocols past event in forgotten_commit x x.answer) }
+    record right_rules { coordinator = λ protocols policy past event. (let x = coord_line protocols policy past event in forgotten_commit x x.answer) }
 
 abbrev pub abort_message : ToSite → ToSite
 abort_message (To.Decide tid decision) = To.Decide tid Decided.Abort
@@ -92,7 +93,7 @@ presumed_abort x answer = x
 
 abbrev pub abort_always_presumed : Rules
 abort_always_presumed =
-    record right_rules { coordinator = λ protocols past event. (let x = coord_line protocols past event in presumed_abort x x.answer) }
+    record right_rules { coordinator = λ protocols policy past event. (let x = coord_line protocols policy past event in presumed_abort x x.answer) }
 
 -- a coordinator that sends a Prepare while the Initiation is only appended
 abbrev pub unsynced_initiation : CoordHappening → Answer → CoordHappening
@@ -101,7 +102,7 @@ unsynced_initiation x answer = x
 
 abbrev pub prepares_sent_early : Rules
 prepares_sent_early =
-    record right_rules { coordinator = λ protocols past event. (let x = coord_line protocols past event in unsynced_initiation x x.answer) }
+    record right_rules { coordinator = λ protocols policy past event. (let x = coord_line protocols policy past event in unsynced_initiation x x.answer) }
 
 -- the message, read as one of this epoch
 abbrev pub of_this_epoch : ℕ → SiteEvent → SiteEvent
@@ -136,7 +137,7 @@ torn_taken x answer torn = x
 abbrev pub torn_records_kept : Rules
 torn_records_kept =
     record right_rules {
-      coordinator = λ protocols past event. (let x = coord_line protocols past event in torn_taken x x.answer (torn_record past));
+      coordinator = λ protocols policy past event. (let x = coord_line protocols policy past event in torn_taken x x.answer (torn_record past));
     }
 
 -- by these rules a site of this protocol settles an attempt otherwise than by its outcome

@@ -8,6 +8,7 @@ use Rattle.mdb_base.specs.Rows.{look_up}
 use Rattle.mdb_base.specs.Words.{Each}
 use Rattle.mdb_base.proofs.NameLaws.{same_tid-sym}
 use Rattle.fed_rules.specs.Runs.{Start, EngineLine, Commits, Run, run_at, number, committed, table_of, table, after}
+use Rattle.fed_rules.specs.Replies.{Drawn}
 use Rattle.fed_rules.specs.EngineLines.{IsRight}
 use Rattle.engine_laws.specs.Laws.{AlwaysBy, IsSerialSite, HasTicketsInOrder, with_commits, AreSealed, WithAnyCommits}
 use Rattle.engine_laws.proofs.ByNumber.{table_inserted_last}
@@ -37,21 +38,21 @@ any_commits kind P always start lines by begun right tids sealed =
     always start (with_commits tids lines) by begun (commits_right start lines tids right sealed)
 
 -- a commit leaves the writes of its run as the last ones of their keys
-pub writes_last : (kind : Engine) (start : Start) (lines : List EngineLine) (tid : Tid) (run : Run) (n : ℕ) (key : Key)
-    → IsSound kind start lines
-    → run_at start lines tid ≡ Some run → run.sealed ≡ Some n → place kind run ≡ Some n
+pub writes_last : (drawn : Drawn) (start : Start) (lines : List EngineLine) (tid : Tid) (run : Run) (n : ℕ) (key : Key)
+    → IsSound drawn start lines
+    → run_at start lines tid ≡ Some run → run.sealed ≡ Some n → place drawn run ≡ Some n
     → table start (Commits tid ∷ lines) key ≡ after run.acts (table start lines) key
-writes_last kind start lines tid run n key sound at sealed placed =
+writes_last drawn start lines tid run n key sound at sealed placed =
     ap (λ runs. table_of (look_up start.rows) runs key) (committed_is start lines tid run at)
     ∙ table_inserted_last (look_up start.rows) run (committed start lines) key
     (sound.clear tid run at (number run) (placed ∙ ap Some (sym (number_is run n sealed))))
 
-pub serial_site : (kind : Engine) (start : Start) (lines : List EngineLine) → IsSound kind start lines → IsSerialSite start lines
-serial_site kind start lines sound = record { numbers = sound.falls; alone = sound.serial }
+pub serial_site : (drawn : Drawn) (start : Start) (lines : List EngineLine) → IsSound drawn start lines → IsSerialSite start lines
+serial_site drawn start lines sound = record { numbers = sound.falls; alone = sound.serial }
 
-pub tickets_in_order : (kind : Engine) (start : Start) (lines : List EngineLine) → IsSound kind start lines
+pub tickets_in_order : (drawn : Drawn) (start : Start) (lines : List EngineLine) → IsSound drawn start lines
     → IsInOrder start lines → HasTicketsInOrder start lines
-tickets_in_order kind start lines sound order = record {
+tickets_in_order drawn start lines sound order = record {
   among_committed = tickets_fall (committed start lines) sound.falls order.agree;
   among_sealed = λ t u a b apart ea eb m n sealed_a sealed_b less.
       order.apart t u a b apart ea eb m n sealed_a sealed_b

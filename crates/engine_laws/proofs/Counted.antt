@@ -1,12 +1,10 @@
 -- Every number that a run has was drawn: it is at least 1 and at most the counter.
 use Rattle.std.proofs.Common.{◌≡◌, ℕ, ◌<◌, ◌≤◌, max, Some, List, [], ◌∷◌, sym, ap, ◌∙◌, subst, arith}
-use Rattle.mdb_base.specs.declared.names.Engine.{Engine}
-use Rattle.mdb_base.specs.declared.names.Engine.TheVariants.{Locking, Timestamp, Validation}
 use Rattle.mdb_base.specs.Words.{Each}
 use Rattle.mdb_base.proofs.ListLaws.{each_map}
 use Rattle.fed_rules.specs.declared.runs.Kept.{Kept}
 use Rattle.fed_rules.specs.Runs.{Start, EngineLine, Begins, Acts, Takes, Seals, Refuses, Commits, Aborts, Run, restored, counter, number, committed}
-use Rattle.fed_rules.specs.Replies.{seal_number}
+use Rattle.fed_rules.specs.Replies.{Drawn, AtBegin, AtSealing, rule, number_drawn}
 use Rattle.fed_rules.specs.EngineLines.{IsRight, IsStart, IsNumbered}
 use Rattle.engine_laws.specs.Unended.{EachRun}
 use Rattle.engine_laws.proofs.Runs.{Own, begins, stays, got, wrote, takes, seals, own, each_run, each_restored, each_committed, number_is}
@@ -46,12 +44,11 @@ has_drawn_grows c d run le h = record {
 }
 
 -- a number drawn at sealing is at most the counter after it
-seal_number_drawn : (kind : Engine) (start : Start) (older : List EngineLine) (run : Run) (n : ℕ)
+seal_number_drawn : (drawn : Drawn) (start : Start) (older : List EngineLine) (run : Run) (n : ℕ)
     → HasDrawn (counter start older) run
-    → n ≡ seal_number kind start older run → (0 < n) × (n ≤ max n (counter start older))
-seal_number_drawn Locking start older run n h e = (omega arith, omega arith)
-seal_number_drawn Timestamp start older run n h e = let some = h.age_some in (omega arith, omega arith)
-seal_number_drawn Validation start older run n h e = (omega arith, omega arith)
+    → n ≡ number_drawn drawn start older run → (0 < n) × (n ≤ max n (counter start older))
+seal_number_drawn AtBegin start older run n h e = let some = h.age_some in (omega arith, omega arith)
+seal_number_drawn AtSealing start older run n h e = (omega arith, omega arith)
 
 own_drawn : (start : Start) (older : List EngineLine) (line : EngineLine) (r : Run)
     → EachRun start older (HasDrawn (counter start older))
@@ -66,7 +63,7 @@ own_drawn start older line r h (takes run live is) =
     let old = h _ run live.0 in record { age_some = old.age_some; age_kept = old.age_kept; sealed = old.sealed }
 own_drawn start older (Seals tid n) r h (seals run live stop next) =
     let old = h _ run live.0 in
-    let drawn = seal_number_drawn start.kind start older run n old next in
+    let drawn = seal_number_drawn (rule start.kind).drawn start older run n old next in
     record {
       age_some = old.age_some;
       age_kept = let kept = old.age_kept in omega arith;

@@ -1,14 +1,12 @@
 -- Each number was drawn by one attempt, so runs with one age, or with one serial number, are of one attempt.
 use Rattle.std.proofs.Common.{◌≡◌, ℕ, ◌<◌, ◌≤◌, ◌⊎◌, Bool, true, false, cond, ◌==◌, Option, Some, None, List, [], ◌∷◌, refl, sym, ap, ◌∙◌, subst, inl, inr, arith, eq-eqb, ne_eqb, eqb-true}
 use Rattle.mdb_base.specs.declared.names.Tid.{Tid}
-use Rattle.mdb_base.specs.declared.names.Engine.{Engine}
-use Rattle.mdb_base.specs.declared.names.Engine.TheVariants.{Locking, Timestamp, Validation}
 use Rattle.mdb_base.specs.Names.{same_tid}
 use Rattle.mdb_base.specs.Words.{Each, with_some}
 use Rattle.mdb_base.proofs.ListLaws.{each_map}
 use Rattle.fed_rules.specs.declared.runs.Kept.{Kept}
 use Rattle.fed_rules.specs.Runs.{Start, EngineLine, Begins, Seals, Commits, Run, tid_of, restored, run_at, counter, number, committed, aborted, committed_since, gives_up}
-use Rattle.fed_rules.specs.Replies.{seal_number}
+use Rattle.fed_rules.specs.Replies.{Drawn, AtBegin, AtSealing, rule, number_drawn}
 use Rattle.fed_rules.specs.EngineLines.{IsRight, IsRightLine, IsStart, AreApart, AllApart, IsNumbered, IsSealed}
 use Rattle.engine_laws.specs.Unended.{EachRun}
 use Rattle.engine_laws.proofs.Runs.{Own, begins, stays, got, wrote, takes, seals, own, each_run, each_restored, each_committed, tid_is, number_is}
@@ -48,21 +46,19 @@ same_number start lines a b n drew_a drew_b sealed_a sealed_b =
     let both : Some a.tid ≡ Some b.tid = sym (drew_a.sealed n sealed_a) ∙ drew_b.sealed n sealed_b in cc
 
 -- a line leaves each drawer: the number of a sealing is the next one, or the run's own
-sealing_keeps : (kind : Engine) (start : Start) (older : List EngineLine) (tid t : Tid) (run : Run) (m n : ℕ)
+sealing_keeps : (drawn : Drawn) (start : Start) (older : List EngineLine) (tid t : Tid) (run : Run) (m n : ℕ)
     → IsDrawer start older run → run.tid ≡ tid
-    → m ≡ seal_number kind start older run → n ≤ counter start older → drawer start older n ≡ Some t
+    → m ≡ number_drawn drawn start older run → n ≤ counter start older → drawer start older n ≡ Some t
     → drawer start (Seals tid m ∷ older) n ≡ Some t
-sealing_keeps Locking start older tid t run m n drew is_tid next kept e =
+sealing_keeps AtSealing start older tid t run m n drew is_tid next kept e =
     ap (λ b. cond b (Some tid) (drawer start older n)) (ne_eqb m n (λ same. absurd (omega arith))) ∙ e
-sealing_keeps Timestamp start older tid t run m n drew is_tid next kept e = by_test (m == n) refl
+sealing_keeps AtBegin start older tid t run m n drew is_tid next kept e = by_test (m == n) refl
   where
     by_test : (b : Bool) → (m == n) ≡ b → cond b (Some tid) (drawer start older n) ≡ Some t
     by_test true is =
         let age : run.age ≡ n = sym next ∙ eqb-true m n is in
         ap Some (sym is_tid) ∙ sym drew.age ∙ ap (drawer start older) age ∙ e
     by_test false is = e
-sealing_keeps Validation start older tid t run m n drew is_tid next kept e =
-    ap (λ b. cond b (Some tid) (drawer start older n)) (ne_eqb m n (λ same. absurd (omega arith))) ∙ e
 
 drawer_keeps : (start : Start) (older : List EngineLine) (line : EngineLine) (t : Tid) (n : ℕ) → IsRightLine start older line
     → IsRight start older → EachRun start older (IsDrawer start older)
@@ -70,7 +66,7 @@ drawer_keeps : (start : Start) (older : List EngineLine) (line : EngineLine) (t 
 drawer_keeps start older (Begins tid m) t n (free, next) right drew kept e =
     ap (λ b. cond b (Some tid) (drawer start older n)) (ne_eqb m n (λ same. absurd (omega arith))) ∙ e
 drawer_keeps start older (Seals tid m) t n (run, (live, stop, next)) right drew kept e =
-    sealing_keeps start.kind start older tid t run m n (drew tid run live.0) (tid_is start older right tid run live.0) next kept e
+    sealing_keeps (rule start.kind).drawn start older tid t run m n (drew tid run live.0) (tid_is start older right tid run live.0) next kept e
 drawer_keeps start older line t n line_right right drew kept e = e
 
 drew_next : (start : Start) (older : List EngineLine) (line : EngineLine) (r : Run) → IsRightLine start older line

@@ -1,13 +1,18 @@
+pub mod AgeRuns
+pub mod AgeTickets
 pub mod ByNumber
 pub mod Commits
 pub mod Counted
 pub mod Drawers
 pub mod EachRule
 pub mod Epochs
+pub mod Forms
 pub mod Granted
 pub mod LockingReplies
 pub mod LockingRuns
 pub mod LockingTickets
+pub mod MultiversionReplies
+pub mod MultiversionRuns
 pub mod Origins
 pub mod Refuted
 pub mod Relations
@@ -21,7 +26,6 @@ pub mod Takers
 pub mod Tickets
 pub mod TimestampReplies
 pub mod TimestampRuns
-pub mod TimestampTickets
 pub mod ValidationReplies
 pub mod ValidationRuns
 pub mod ValidationTickets

@@ -11,7 +11,7 @@ use Rattle.mdb_base.specs.Words.{inserted}
 use Rattle.mdb_base.proofs.ListLaws.{each_map, each_all, those_none}
 use Rattle.mdb_base.proofs.NameLaws.{same_tid-sym}
 use Rattle.fed_rules.specs.Runs.{Start, EngineLine, Seals, Commits, Run, tid_of, run_at, unended, counter, number, committed, table_of, table, after}
-use Rattle.fed_rules.specs.Replies.{access_reply, access_stop, seal_number, granted, holders, is_other, is_in_the_way, or_reply}
+use Rattle.fed_rules.specs.Replies.{AtSealing, access_reply_by, rule, locking, access_reply, seal_number, granted_by, holders, is_other, is_in_the_way}
 use Rattle.fed_rules.specs.EngineLines.{IsRight, IsStart}
 use Rattle.fed_rules.specs.SerialRuns.{ReadsAlone}
 use Rattle.engine_laws.specs.Unended.{EachRun, EachPair, IsClear}
@@ -36,10 +36,10 @@ locking_grants : (start : Start) (lines : List EngineLine) → IsRight start lin
     → (tid : Tid) (me : Run) (act : PlainAct) (reply : Reply)
     → run_at start lines tid ≡ Some me → is_grant reply ≡ true → reply ≡ access_reply start lines me act
     → ((u : Tid) (b : Run) → same_tid tid u ≡ false → run_at start lines u ≡ Some b → is_in_the_way act b ≡ false)
-    × (reply ≡ granted start lines me act)
+    × (reply ≡ granted_by locking start lines me act)
 locking_grants start lines right kind tid me act reply at grant is =
-    let by_rule = ap (λ k. or_reply (access_stop k start lines me act) (granted start lines me act)) kind in
-    let free = wait_die_grants me (holders start lines me act) (granted start lines me act) reply grant (is ∙ by_rule) in
+    let by_rule = ap (λ k. access_reply_by (rule k) start lines me act) kind in
+    let free = wait_die_grants me (holders start lines me act) (granted_by locking start lines me act) reply grant (is ∙ by_rule) in
     let none = those_none (λ run. is_other me run && is_in_the_way act run) (unended start lines) free.0 in (
       λ u b apart was.
           and_rest (is_other me b) (is_in_the_way act b)
@@ -125,17 +125,17 @@ locked start (line ∷ older) kind begun right = locked_next start older line ri
 
 -- a sealed run fits in above all others
 own_fits : (start : Start) (older : List EngineLine) (line : EngineLine) (r : Run) (n : ℕ) → start.kind ≡ Locking
-    → IsCounted start older → IsLocked start older → IsSound Locking start older
-    → Own start older line r → r.sealed ≡ Some n → Fits Locking start older (tid_of line) r.acts n
+    → IsCounted start older → IsLocked start older → IsSound AtSealing start older
+    → Own start older line r → r.sealed ≡ Some n → Fits AtSealing start older (tid_of line) r.acts n
 own_fits start older line r n kind drawn h sound (begins free next) e = cc
-own_fits start older line r n kind drawn h sound (stays waits at) e = still_fits Locking start older _ r n sound at e
+own_fits start older line r n kind drawn h sound (stays waits at) e = still_fits AtSealing start older _ r n sound at e
 own_fits start older line r n kind drawn h sound (got run live is) e = let open_run = live.1 in cc
 own_fits start older line r n kind drawn h sound (wrote run live is) e = let open_run = live.1 in cc
 own_fits start older line r n kind drawn h sound (takes run live is) e = let open_run = live.1 in cc
 own_fits start older (Seals tid m) r n kind drawn h sound (seals run live stop next) e =
     let same : m ≡ n = cc in
     let last : n ≡ counter start older + 1 = sym same ∙ next ∙ ap (λ k. seal_number k start older run) kind in
-    fits_last Locking start older tid run.acts n
+    fits_last AtSealing start older tid run.acts n
     (each_map _ (λ d. number d < n) (λ d was. let kept = was.kept in omega arith) (committed start older) drawn.committed)
     (h.now tid run live.0)
     (λ u b other was k sealed. (
@@ -144,11 +144,11 @@ own_fits start older (Seals tid m) r n kind drawn h sound (seals run live stop n
     ))
 
 pub locking_sound : (start : Start) (lines : List EngineLine) → start.kind ≡ Locking → IsStart start → IsRight start lines
-    → IsSound Locking start lines
-locking_sound start [] kind begun right = sound_start Locking start begun
+    → IsSound AtSealing start lines
+locking_sound start [] kind begun right = sound_start AtSealing start begun
 locking_sound start (line ∷ older) kind begun right =
     let sound = locking_sound start older kind begun right.1 in
     let drawn = counted start older begun right.1 in
     let h = locked start older kind begun right.1 in
-    sound_next Locking start older line right.0 sound (λ run n at sealed. sealed)
+    sound_next AtSealing start older line right.0 sound (λ run n at sealed. sealed)
     (λ r n mine placed. own_fits start older line r n kind drawn h sound mine placed)

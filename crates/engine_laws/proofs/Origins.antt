@@ -1,19 +1,17 @@
 -- Where a run comes from: it was restored and is as it was then, or its numbers and its ticket are greater than those of the start.
 use Rattle.std.proofs.Common.{◌≡◌, ℕ, ◌+◌, ◌<◌, ◌≤◌, ◌⊎◌, Some, None, List, [], ◌∷◌, refl, ap, ◌∙◌, inl, inr, arith}
-use Rattle.mdb_base.specs.declared.names.Engine.{Engine}
-use Rattle.mdb_base.specs.declared.names.Engine.TheVariants.{Locking, Timestamp, Validation}
 use Rattle.mdb_base.specs.declared.replies.Reply.TheVariants.{Ticket}
 use Rattle.mdb_base.specs.Words.{Each}
 use Rattle.mdb_base.proofs.ListLaws.{each_all}
 use Rattle.fed_rules.specs.declared.runs.Kept.{Kept}
 use Rattle.fed_rules.specs.Runs.{Start, EngineLine, Takes, Seals, Run, tid_of, restored, restored_at, counter, committed, published}
-use Rattle.fed_rules.specs.Replies.{ticket_stop, ticket_holders, younger_takers, older_takers, or_reply, seal_number}
+use Rattle.fed_rules.specs.Replies.{Drawn, AtBegin, AtSealing, rule, ticket_reply, number_drawn}
 use Rattle.fed_rules.specs.EngineLines.{IsRight}
 use Rattle.engine_laws.specs.Unended.{EachRun}
 use Rattle.engine_laws.proofs.Runs.{Own, begins, stays, got, wrote, takes, seals, own, at_line, each_committed, each_restored, tid_is}
 use Rattle.engine_laws.proofs.Counted.{counter_grows}
 use Rattle.engine_laws.proofs.Tickets.{published_grows}
-use Rattle.engine_laws.proofs.Granted.{wait_die_grants, late_or_wait_grants}
+use Rattle.engine_laws.proofs.Forms.{forms, form_grants}
 
 -- the numbers and the ticket of the run are greater than those of the start
 pub record IsNew (start : Start) (run : Run) : Type 0 where
@@ -39,21 +37,16 @@ published_from start (line ∷ older) = let rest = published_from start older in
     published_grows start older line in omega arith
 
 -- a ticket that is given is the one behind the published one
-ticket_next : (kind : Engine) (start : Start) (older : List EngineLine) (run : Run) (n : ℕ)
-    → Ticket n ≡ or_reply (ticket_stop kind start older run) (Ticket (published start older + 1)) → n ≡ published start older + 1
-ticket_next Locking start older run n e =
-    let same = (wait_die_grants run (ticket_holders start older run) (Ticket (published start older + 1)) (Ticket n) refl
-    e).1 in cc
-ticket_next Timestamp start older run n e =
-    let same = (late_or_wait_grants (younger_takers start older run) (older_takers start older run)
-    (Ticket (published start older + 1)) (Ticket n) refl e).2 in cc
-ticket_next Validation start older run n e = cc
+pub ticket_next : (start : Start) (older : List EngineLine) (run : Run) (n : ℕ)
+    → Ticket n ≡ ticket_reply start older run → n ≡ published start older + 1
+ticket_next start older run n e =
+    let same = (form_grants ((rule start.kind).ticket start older run) (Ticket (published start older + 1)) (Ticket n)
+    ((forms start.kind).ticket start older run) refl e).1 in cc
 
-sealed_new : (kind : Engine) (start : Start) (older : List EngineLine) (run : Run) (n : ℕ) → IsNew start run
-    → n ≡ seal_number kind start older run → start.counter < n
-sealed_new Locking start older run n new e = let from = counter_from start older in omega arith
-sealed_new Timestamp start older run n new e = let age = new.age in omega arith
-sealed_new Validation start older run n new e = let from = counter_from start older in omega arith
+sealed_new : (drawn : Drawn) (start : Start) (older : List EngineLine) (run : Run) (n : ℕ) → IsNew start run
+    → n ≡ number_drawn drawn start older run → start.counter < n
+sealed_new AtBegin start older run n new e = let age = new.age in omega arith
+sealed_new AtSealing start older run n new e = let from = counter_from start older in omega arith
 
 -- a live run was begun here
 live_new : (start : Start) (run : Run) → run.sealed ≡ None → IsFrom start run → IsNew start run
@@ -80,14 +73,14 @@ own_from start older (Takes tid (Ticket n)) r h (takes run live is) =
       sealed = new.sealed;
       ticket = λ t e.
           let same : n ≡ t = cc in
-          let next = ticket_next start.kind start older run n is in
+          let next = ticket_next start older run n is in
           let from = published_from start older in omega arith;
     })
 own_from start older (Seals tid n) r h (seals run live stop next) =
     let new = live_new start run live.1 (h _ run live.0) in
     inr (record {
       age = new.age;
-      sealed = λ m e. let same : n ≡ m = cc in let greater = sealed_new start.kind start older run n new next in omega arith;
+      sealed = λ m e. let same : n ≡ m = cc in let greater = sealed_new (rule start.kind).drawn start older run n new next in omega arith;
       ticket = new.ticket;
     })
 

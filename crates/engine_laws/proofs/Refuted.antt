@@ -1,14 +1,14 @@
 -- A list of lines for each wrong rule, right by it and not serial.
-use Rattle.std.proofs.Common.{◌≡◌, ℕ, Some, None, List, [], ◌∷◌, refl, arith, ◌↔◌}
+use Rattle.std.proofs.Common.{◌≡◌, ℕ, Some, None, List, [], ◌∷◌, refl, arith}
 use Rattle.mdb_base.specs.declared.acts.PlainAct.TheVariants.{Read, Write}
 use Rattle.mdb_base.specs.declared.names.Engine.{Engine}
-use Rattle.mdb_base.specs.declared.names.Engine.TheVariants.{Locking, Timestamp, Validation}
+use Rattle.mdb_base.specs.declared.names.Engine.TheVariants.{Locking, Timestamp, Validation, Multiversion}
 use Rattle.mdb_base.specs.declared.names.Key.{Key}
 use Rattle.mdb_base.specs.declared.names.Tid.{Tid}
 use Rattle.mdb_base.specs.declared.replies.Reply.TheVariants.{Done, Value, Ticket}
-use Rattle.fed_rules.specs.Runs.{Start, EngineLine, Begins, Acts, Takes, Seals, Refuses, Commits, Aborts, Access, Got, Wrote, Run}
-use Rattle.fed_rules.specs.EngineLines.{IsStart, IsRight, IsRightLine}
-use Rattle.engine_laws.specs.WrongRules.{IsRightBy, IsRightLineBy, right_rule, IsRefuted, IsRestartRefuted, locking_until_sealed, timestamps_without_committed_reads, timestamps_without_waits, validation_without_prepared, validation_without_committed}
+use Rattle.fed_rules.specs.Runs.{Start, EngineLine, Begins, Acts, Takes, Seals, Commits, Aborts, Access, Got, Wrote, Run}
+use Rattle.fed_rules.specs.EngineLines.{IsStart}
+use Rattle.engine_laws.specs.WrongRules.{IsRefuted, IsRestartRefuted, locking_until_sealed, timestamps_without_committed_reads, timestamps_without_waits, versions_newest, versions_without_waits, validation_without_prepared, validation_without_committed}
 
 abbrev attempt_of : ℕ → Tid
 attempt_of n = record { tx = record { 0 = n }; attempt = 0 }
@@ -38,37 +38,10 @@ live tid age acts = record { tid = tid; age = age; sealed = None; ticket = None;
 abbrev sealed : Tid → ℕ → ℕ → List Access → Run
 sealed tid age n acts = record { tid = tid; age = age; sealed = Some n; ticket = None; acts = acts }
 
-line_by : (start : Start) (older : List EngineLine) (line : EngineLine) → IsRightLineBy (right_rule start.kind) start older line
-    → IsRightLine start older line
-line_by start older (Acts tid act reply) h = h
-line_by start older (Seals tid n) h = h
-line_by start older (Refuses tid why) h = h
-line_by start older line h = h
-
-line_back : (start : Start) (older : List EngineLine) (line : EngineLine) → IsRightLine start older line
-    → IsRightLineBy (right_rule start.kind) start older line
-line_back start older (Acts tid act reply) h = h
-line_back start older (Seals tid n) h = h
-line_back start older (Refuses tid why) h = h
-line_back start older line h = h
-
-right_by : (start : Start) (lines : List EngineLine) → IsRightBy (right_rule start.kind) start lines → IsRight start lines
-right_by start [] h = h
-right_by start (line ∷ older) h = (line_by start older line h.0, right_by start older h.1)
-
-right_back : (start : Start) (lines : List EngineLine) → IsRight start lines → IsRightBy (right_rule start.kind) start lines
-right_back start [] h = h
-right_back start (line ∷ older) h = (line_back start older line h.0, right_back start older h.1)
-
--- of the rule itself both ways to say that a list is right agree
-pub right_rules : (start : Start) (lines : List EngineLine) → IsRightBy (right_rule start.kind) start lines ↔ IsRight start lines
-right_rules start lines = (right_by start lines, right_back start lines)
-
 -- the second reads the old value of what the sealed first one wrote
 pub until_sealed_refuted : IsRefuted locking_until_sealed
 until_sealed_refuted = record {
   start = empty_start Locking;
-  kind = refl;
   good = good_start Locking;
   lines =
       Commits first ∷ Commits second ∷ Seals second 4 ∷ Acts second (Read x) (Value 0)
@@ -102,7 +75,6 @@ until_sealed_refuted = record {
 pub committed_reads_refuted : IsRefuted timestamps_without_committed_reads
 committed_reads_refuted = record {
   start = empty_start Timestamp;
-  kind = refl;
   good = good_start Timestamp;
   lines =
       Commits first ∷ Seals first 1 ∷ Acts first (Write x 9) Done
@@ -136,7 +108,6 @@ committed_reads_refuted = record {
 pub without_waits_refuted : IsRefuted timestamps_without_waits
 without_waits_refuted = record {
   start = empty_start Timestamp;
-  kind = refl;
   good = good_start Timestamp;
   lines =
       Commits first ∷ Seals first 1 ∷ Commits second ∷ Seals second 2
@@ -170,7 +141,6 @@ without_waits_refuted = record {
 pub without_prepared_refuted : IsRefuted validation_without_prepared
 without_prepared_refuted = record {
   start = empty_start Validation;
-  kind = refl;
   good = good_start Validation;
   lines =
       Commits first ∷ Commits second ∷ Seals second 4 ∷ Acts second (Read x) (Value 0)
@@ -204,7 +174,6 @@ without_prepared_refuted = record {
 pub without_committed_refuted : IsRefuted validation_without_committed
 without_committed_refuted = record {
   start = empty_start Validation;
-  kind = refl;
   good = good_start Validation;
   lines =
       Commits first ∷ Seals first 4 ∷ Commits second ∷ Seals second 3
@@ -217,6 +186,72 @@ without_committed_refuted = record {
         (sealed second 2 3 (Wrote x 9 ∷ []), 3, (refl, refl)),
         (
           (live second 2 (Wrote x 9 ∷ []), ((refl, refl), refl, refl)),
+          (
+            (live second 2 [], ((refl, refl), refl)),
+            (
+              (live first 1 [], ((refl, refl), refl)),
+              (
+                (refl, refl),
+                ((refl, refl), tt),
+              ),
+            ),
+          ),
+        ),
+      ),
+    ),
+  );
+  not_serial = λ serial. let read : 0 ≡ 9 = serial.0.0 in cc;
+}
+
+-- the first reads what the younger second one wrote and committed
+pub newest_version_refuted : IsRefuted versions_newest
+newest_version_refuted = record {
+  start = empty_start Multiversion;
+  good = good_start Multiversion;
+  lines =
+      Commits first ∷ Seals first 1 ∷ Acts first (Read x) (Value 9)
+      ∷ Commits second ∷ Seals second 2 ∷ Acts second (Write x 9) Done ∷ Begins second 2 ∷ Begins first 1 ∷ [];
+  right = (
+    (sealed first 1 1 (Got x 9 ∷ []), 1, (refl, refl)),
+    (
+      (live first 1 (Got x 9 ∷ []), ((refl, refl), refl, refl)),
+      (
+        (live first 1 [], ((refl, refl), refl)),
+        (
+          (sealed second 2 2 (Wrote x 9 ∷ []), 2, (refl, refl)),
+          (
+            (live second 2 (Wrote x 9 ∷ []), ((refl, refl), refl, refl)),
+            (
+              (live second 2 [], ((refl, refl), refl)),
+              (
+                (refl, refl),
+                ((refl, refl), tt),
+              ),
+            ),
+          ),
+        ),
+      ),
+    ),
+  );
+  not_serial = λ serial. let read : 9 ≡ 0 = serial.1.0.0 in cc;
+}
+
+-- the second reads past the older first one, which has written the key and commits later
+pub versions_without_waits_refuted : IsRefuted versions_without_waits
+versions_without_waits_refuted = record {
+  start = empty_start Multiversion;
+  good = good_start Multiversion;
+  lines =
+      Commits first ∷ Seals first 1 ∷ Commits second ∷ Seals second 2
+      ∷ Acts second (Read x) (Value 0) ∷ Acts first (Write x 9) Done ∷ Begins second 2 ∷ Begins first 1 ∷ [];
+  right = (
+    (sealed first 1 1 (Wrote x 9 ∷ []), 1, (refl, refl)),
+    (
+      (live first 1 (Wrote x 9 ∷ []), ((refl, refl), refl, refl)),
+      (
+        (sealed second 2 2 (Got x 0 ∷ []), 2, (refl, refl)),
+        (
+          (live second 2 (Got x 0 ∷ []), ((refl, refl), refl, refl)),
           (
             (live second 2 [], ((refl, refl), refl)),
             (

@@ -97,10 +97,10 @@ youngest_of runs P m h e = record {
 }
 
 -- a grant is neither a wait nor a refusal
-no_wait : (grant : Reply) (by : Tid) → is_grant grant ≡ true → grant ≡ Wait by → ⊥
+pub no_wait : (grant : Reply) (by : Tid) → is_grant grant ≡ true → grant ≡ Wait by → ⊥
 no_wait grant by h e = let none : is_grant grant ≡ false = ap is_grant e in cc
 
-no_refusal : (grant : Reply) (why : Why) → is_grant grant ≡ true → grant ≡ Refused why → ⊥
+pub no_refusal : (grant : Reply) (why : Why) → is_grant grant ≡ true → grant ≡ Refused why → ⊥
 no_refusal grant why h e = let none : is_grant grant ≡ false = ap is_grant e in cc
 
 -- wait-die over a list of runs says what it says of the runs in the way

@@ -11,6 +11,7 @@ use Rattle.mdb_base.specs.Words.{Each}
 use Rattle.mdb_base.proofs.NameLaws.{same_key-equal, same_tid-equal, same_tid-sym}
 use Rattle.fed_rules.specs.declared.runs.Kept.{Kept}
 use Rattle.fed_rules.specs.Runs.{Start, EngineLine, Access, Got, Wrote, Run, run_at, published, written, restored, restored_at, table, after, puts_of}
+use Rattle.fed_rules.specs.Replies.{Drawn, rule}
 use Rattle.fed_rules.specs.EngineLines.{IsRight, IsStart, IsNumbered, AreApart, AllApart, has_row}
 use Rattle.engine_laws.specs.Unended.{has_write, IsClear}
 use Rattle.engine_laws.specs.Laws.{AlwaysBy, with_commits, AreSealed, IsLeft, EachOnce, IsRestart, MayRestart}
@@ -70,7 +71,7 @@ has_row_with_row key row (other ∷ puts) = by_same (same_key other.key row.key)
     by_same false apart rest = by_less (nat_lt other.key.0 row.key.0) rest
 
 -- a key is among the last writes where it is written
-has_row_puts : (key : Key) (acts : List Access) → has_row key (puts_of acts) ≡ has_write key acts
+pub has_row_puts : (key : Key) (acts : List Access) → has_row key (puts_of acts) ≡ has_write key acts
 has_row_puts key [] = refl
 has_row_puts key (Got k value ∷ acts) = has_row_puts key acts
 has_row_puts key (Wrote k value ∷ acts) =
@@ -78,7 +79,7 @@ has_row_puts key (Wrote k value ∷ acts) =
     ∙ ap (λ b. same_key k key || b) (has_row_puts key acts)
 
 -- last writes of accesses that are clear of others have no key that those write
-puts_clear : (first acts : List Access) → IsClear first acts
+pub puts_clear : (first acts : List Access) → IsClear first acts
     → Each (λ put. has_row put.key (puts_of first) ≡ false) (puts_of acts)
 puts_clear first [] clear = tt
 puts_clear first (Got key value ∷ acts) clear = puts_clear first acts clear.1
@@ -87,11 +88,11 @@ puts_clear first (Wrote key value ∷ acts) clear =
     (has_row_puts key first ∙ clear.0) (puts_clear first acts clear.1)
 
 -- each kept one is numbered in the new epoch
-left_numbered : (kind : Engine) (start : Start) (lines : List EngineLine) (next : Start) (kept : Kept) → IsCounted start lines
+left_numbered : (drawn : Drawn) (start : Start) (lines : List EngineLine) (next : Start) (kept : Kept) → IsCounted start lines
     → IsInOrder start lines
     → IsLeft start lines kept → kept.number ≤ next.counter → published start lines ≤ next.published → IsNumbered next kept
-left_numbered kind start lines next kept drawn order left counted to_published =
-    let number = (drawn.unended kept.tid left.run left.sealed.0).sealed kept.number left.sealed.1 in
+left_numbered drawn start lines next kept counts order left counted to_published =
+    let number = (counts.unended kept.tid left.run left.sealed.0).sealed kept.number left.sealed.1 in
     let ticket = order.unended kept.tid left.run left.sealed.0 kept.number left.sealed.1 kept.ticket left.ticket in
     record {
       number_some = number.0;
@@ -101,10 +102,10 @@ left_numbered kind start lines next kept drawn order left counted to_published =
     }
 
 -- each two kept ones are apart
-left_apart : (kind : Engine) (start : Start) (lines : List EngineLine) (a b : Kept) → IsSound kind start lines
-    → IsInOrder start lines → IsPlaced kind start lines
+left_apart : (drawn : Drawn) (start : Start) (lines : List EngineLine) (a b : Kept) → IsSound drawn start lines
+    → IsInOrder start lines → IsPlaced drawn start lines
     → IsLeft start lines a → IsLeft start lines b → same_tid a.tid b.tid ≡ false → AreApart a b
-left_apart kind start lines a b sound order placed left_a left_b tids = by_place
+left_apart drawn start lines a b sound order placed left_a left_b tids = by_place
     (sound.apart a.tid b.tid left_a.run left_b.run tids left_a.sealed.0 left_b.sealed.0 a.number b.number
     (placed a.tid left_a.run left_a.sealed.0 a.number left_a.sealed.1)
     (placed b.tid left_b.run left_b.sealed.0 b.number left_b.sealed.1))
@@ -143,39 +144,39 @@ left_apart kind start lines a b sound order placed left_a left_b tids = by_place
       order = inr (first, less b a left_b left_a first pair.1);
     }
 
-all_numbered : (kind : Engine) (start : Start) (lines : List EngineLine) (next : Start) (doubtful : List Kept)
+all_numbered : (drawn : Drawn) (start : Start) (lines : List EngineLine) (next : Start) (doubtful : List Kept)
     → IsCounted start lines → IsInOrder start lines
     → Each (IsLeft start lines) doubtful → Each (λ kept. kept.number ≤ next.counter) doubtful
     → published start lines ≤ next.published → Each (IsNumbered next) doubtful
-all_numbered kind start lines next [] drawn order left most to_published = tt
-all_numbered kind start lines next (kept ∷ more) drawn order left most to_published = (
-  left_numbered kind start lines next kept drawn order left.0 most.0 to_published,
-  all_numbered kind start lines next more drawn order left.1 most.1 to_published,
+all_numbered drawn start lines next [] counts order left most to_published = tt
+all_numbered drawn start lines next (kept ∷ more) counts order left most to_published = (
+  left_numbered drawn start lines next kept counts order left.0 most.0 to_published,
+  all_numbered drawn start lines next more counts order left.1 most.1 to_published,
 )
 
-all_apart : (kind : Engine) (start : Start) (lines : List EngineLine) (doubtful : List Kept) → IsSound kind start lines
-    → IsInOrder start lines → IsPlaced kind start lines
+all_apart : (drawn : Drawn) (start : Start) (lines : List EngineLine) (doubtful : List Kept) → IsSound drawn start lines
+    → IsInOrder start lines → IsPlaced drawn start lines
     → Each (IsLeft start lines) doubtful → EachOnce doubtful → AllApart doubtful
-all_apart kind start lines [] sound order placed left once = tt
-all_apart kind start lines (kept ∷ more) sound order placed left once =
-    (with_more more left.1 once.0, all_apart kind start lines more sound order placed left.1 once.1)
+all_apart drawn start lines [] sound order placed left once = tt
+all_apart drawn start lines (kept ∷ more) sound order placed left once =
+    (with_more more left.1 once.0, all_apart drawn start lines more sound order placed left.1 once.1)
   where
     with_more : (others : List Kept) → Each (IsLeft start lines) others
         → Each (λ other. same_tid kept.tid other.tid ≡ false) others → Each (AreApart kept) others
     with_more [] left_others tids = tt
     with_more (other ∷ others) left_others tids = (
-      left_apart kind start lines kept other sound order placed left.0 left_others.0 tids.0,
+      left_apart drawn start lines kept other sound order placed left.0 left_others.0 tids.0,
       with_more others left_others.1
           tids.1,
     )
 
 -- what a stop leaves in doubt makes a good start
-good_restart : (kind : Engine) (start : Start) (lines : List EngineLine) (next : Start) → IsCounted start lines
-    → IsSound kind start lines → IsInOrder start lines → IsPlaced kind start lines
+good_restart : (drawn : Drawn) (start : Start) (lines : List EngineLine) (next : Start) → IsCounted start lines
+    → IsSound drawn start lines → IsInOrder start lines → IsPlaced drawn start lines
     → IsRestart start lines next → IsStart next
-good_restart kind start lines next drawn sound order placed restart = record {
-  numbered = all_numbered kind start lines next next.doubtful drawn order restart.left restart.counter restart.published;
-  apart = all_apart kind start lines next.doubtful sound order placed restart.left restart.once;
+good_restart drawn start lines next counts sound order placed restart = record {
+  numbered = all_numbered drawn start lines next next.doubtful counts order restart.left restart.counter restart.published;
+  apart = all_apart drawn start lines next.doubtful sound order placed restart.left restart.once;
 }
 
 -- which kept one a restored run is of
@@ -210,8 +211,8 @@ sealed_before start lines next left (tid ∷ tids) (run, n, sealed, apart, more)
       sealed_before start lines next left tids more,
     )
 
-same_table : (kind : Engine) (start : Start) (lines : List EngineLine) (next : Start) (key : Key) → AlwaysBy kind (IsSound kind)
-    → AlwaysBy kind (IsPlaced kind)
+same_table : (kind : Engine) (start : Start) (lines : List EngineLine) (next : Start) (key : Key) → AlwaysBy kind (IsSound (rule kind).drawn)
+    → AlwaysBy kind (IsPlaced (rule kind).drawn)
     → start.kind ≡ kind → IsStart start → IsRight start lines → IsStart next → IsRestart start lines next
     → (tids : List Tid) → AreSealed next [] tids
     → table next (with_commits tids []) key ≡ table start (with_commits tids lines) key
@@ -228,9 +229,9 @@ same_table kind start lines next key sound placed by begun right good restart (t
     let at_newer : run_at next newer tid ≡ Some run = run_beside next [] tid tids apart ∙ sealed.0 in
     let at_older : run_at start older tid ≡ Some it.left.run =
     run_beside start lines tid tids apart ∙ ap (run_at start lines) (sym it.tid_same) ∙ it.left.sealed.0 in
-    let new_table = writes_last kind next newer tid run n key (sound next newer next_by good newer_right) at_newer sealed.1
+    let new_table = writes_last (rule kind).drawn next newer tid run n key (sound next newer next_by good newer_right) at_newer sealed.1
     (placed next newer next_by good newer_right tid run at_newer n sealed.1) in
-    let old_table = writes_last kind start older tid it.left.run it.kept.number key (sound start older by begun older_right)
+    let old_table = writes_last (rule kind).drawn start older tid it.left.run it.kept.number key (sound start older by begun older_right)
     at_older it.left.sealed.1
     (placed start older by begun older_right tid it.left.run at_older it.kept.number it.left.sealed.1) in
     let acts : run.acts ≡ written (puts_of it.left.run.acts) = ap (λ r. r.acts) (sym it.is) ∙ ap written it.left.writes in
@@ -242,10 +243,10 @@ same_table kind start lines next key sound placed by begun right good restart (t
     ∙ sym old_table
 
 -- each restart is a good start, and commits as before
-pub may_restart : (kind : Engine) → AlwaysBy kind (IsSound kind) → AlwaysBy kind IsInOrder → AlwaysBy kind (IsPlaced kind)
+pub may_restart : (kind : Engine) → AlwaysBy kind (IsSound (rule kind).drawn) → AlwaysBy kind IsInOrder → AlwaysBy kind (IsPlaced (rule kind).drawn)
     → AlwaysBy kind MayRestart
 may_restart kind sound order placed start lines by begun right next restart =
-    let good = good_restart kind start lines next (counted start lines begun right) (sound start lines by begun right)
+    let good = good_restart (rule kind).drawn start lines next (counted start lines begun right) (sound start lines by begun right)
     (order start lines by begun right)
     (placed start lines by begun right) restart in (
       good,

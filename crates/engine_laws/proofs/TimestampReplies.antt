@@ -9,7 +9,7 @@ use Rattle.mdb_base.specs.Words.{those, some_of}
 use Rattle.mdb_base.proofs.NameLaws.{same_tid-equal}
 use Rattle.mdb_base.proofs.ListLaws.{each_among, some_among, among_some}
 use Rattle.fed_rules.specs.Runs.{Start, EngineLine, Run, unended, committed, aborted, has_ticket, is_sealed}
-use Rattle.fed_rules.specs.Replies.{conflicts, conflicts_with_read, writes, granted, access_stop, ticket_stop, younger_in_the_way, older_writers, younger_takers, older_takers, is_younger, is_older, is_in_the_way, has_written, key_of, or_reply, seal_stop}
+use Rattle.fed_rules.specs.Replies.{AtBegin, conflicts, conflicts_with_read, writes, granted, access_stop, ticket_stop, younger_in_the_way, older_writers, younger_takers, older_takers, is_younger, is_older, is_in_the_way, has_written, key_of, or_reply, seal_stop}
 use Rattle.fed_rules.specs.EngineLines.{IsRight}
 use Rattle.engine_laws.specs.Unended.{has_write}
 use Rattle.engine_laws.specs.Laws.{AlwaysBy}
@@ -20,10 +20,11 @@ use Rattle.engine_laws.proofs.Relations.{Lists, lists_self, lists_unended, lists
 use Rattle.engine_laws.proofs.LockingReplies.{granted_is, taken_from, open_from}
 use Rattle.engine_laws.proofs.Sound.{IsApart, IsSound}
 use Rattle.engine_laws.proofs.Takers.{IsTaker, HasOneTaker}
-use Rattle.engine_laws.proofs.TimestampRuns.{timestamp_sound}
-use Rattle.engine_laws.proofs.TimestampTickets.{timestamp_one_taker}
+use Rattle.engine_laws.proofs.AgeRuns.{age_sound}
+use Rattle.engine_laws.proofs.AgeTickets.{age_one_taker}
+use Rattle.engine_laws.proofs.TimestampRuns.{timestamp_by_age}
 
-lists_younger : (start : Start) (lines : List EngineLine) (me : Run) (act : PlainAct) → IsRight start lines
+pub lists_younger : (start : Start) (lines : List EngineLine) (me : Run) (act : PlainAct) → IsRight start lines
     → Lists (younger_in_the_way start lines me act) (IsYoungerInTheWay start lines me act)
 lists_younger start lines me act right =
     lists_as (younger_in_the_way start lines me act) Found (IsYoungerInTheWay start lines me act) to from
@@ -95,7 +96,7 @@ lists_younger start lines me act right =
     from : (run : Run) → IsYoungerInTheWay start lines me act run → Found run
     from run h = by_way run h.younger h.conflict
 
-lists_older : (start : Start) (lines : List EngineLine) (me : Run) (act : PlainAct) → IsRight start lines
+pub lists_older : (start : Start) (lines : List EngineLine) (me : Run) (act : PlainAct) → IsRight start lines
     → Lists (older_writers start lines me act) (IsOlderWriter start lines me act)
 lists_older start lines me act right =
     lists_as (older_writers start lines me act) (λ run. IsUnended start lines run
@@ -151,7 +152,7 @@ lists_older_takers start lines me right =
     (lists_unended start lines right))
 
 -- runs in the way drew their ages
-drew_younger : (start : Start) (lines : List EngineLine) (me : Run) (act : PlainAct) (run : Run) → AllDrew start lines
+pub drew_younger : (start : Start) (lines : List EngineLine) (me : Run) (act : PlainAct) (run : Run) → AllDrew start lines
     → IsYoungerInTheWay start lines me act run → IsDrawer start lines run
 drew_younger start lines me act run drew h = by_way h.conflict
   where
@@ -171,7 +172,7 @@ drew_taker start lines me run drew h = by_way h.counts
     by_way (inr among) = each_among (IsDrawer start lines) run (committed start lines) drew.committed among
 
 -- at most one unended run has written a key
-one_writer : (start : Start) (lines : List EngineLine) (key : Key) (a b : Run) → IsSound Timestamp start lines
+pub one_writer : (start : Start) (lines : List EngineLine) (key : Key) (a b : Run) → IsSound AtBegin start lines
     → IsUnended start lines a → IsUnended start lines b
     → HasWritten key a → HasWritten key b → a.tid ≡ b.tid
 one_writer start lines key a b sound at_a at_b wrote_a wrote_b = by_test (same_tid a.tid b.tid) refl
@@ -215,7 +216,7 @@ timestamp_answers start lines kind begun right me act =
     (in_time_is Younger Older grant (younger_in_the_way start lines me act) (older_writers start lines me act)
     (lists_younger start lines me act right) (lists_older start lines me act right)
     (λ a b h g. same_age start lines a b (drew_younger start lines me act a drew h) (drew_younger start lines me act b drew g))
-    (λ a b h g. one_writer start lines (key_of act) a b (timestamp_sound start lines kind begun right) h.unended g.unended h.wrote
+    (λ a b h g. one_writer start lines (key_of act) a b (age_sound Timestamp start lines timestamp_by_age kind begun right) h.unended g.unended h.wrote
     g.wrote)
     (granted_is start lines me act))
 
@@ -230,7 +231,7 @@ timestamp_takes start lines kind begun right me =
     (in_time_is Younger Older grant (younger_takers start lines me) (older_takers start lines me)
     (lists_younger_takers start lines me right) (lists_older_takers start lines me right)
     (λ a b h g. same_age start lines a b (drew_taker start lines me a drew h) (drew_taker start lines me b drew g))
-    (λ a b h g. one_taker start lines me a b (timestamp_one_taker start lines kind begun right) h g)
+    (λ a b h g. one_taker start lines me a b (age_one_taker Timestamp timestamp_by_age start lines kind begun right) h g)
     refl)
 
 pub timestamp_seals : AlwaysBy Timestamp AlwaysSeals

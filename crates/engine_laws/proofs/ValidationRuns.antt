@@ -13,7 +13,7 @@ use Rattle.mdb_base.specs.Words.{Each, some_of, those, least, greatest, with_som
 use Rattle.mdb_base.proofs.NameLaws.{same_key-refl}
 use Rattle.mdb_base.proofs.ListLaws.{each_map, each_all, those_none, none_some_of, append_none, each_of_map, least_none, least_among, those_pass}
 use Rattle.fed_rules.specs.Runs.{Start, EngineLine, Begins, Acts, Takes, Seals, Refuses, Commits, Aborts, Access, Got, Wrote, Run, tid_of, restored, run_at, unended, counter, number, committed, committed_since, is_sealed, table_of, table, after}
-use Rattle.fed_rules.specs.Replies.{access_key, access_stop, granted, or_reply, reads, has_read, has_written, is_other, spoilers, is_empty, bad_keys, invalid, invalid_at, invalid_by, moved, or_why, seal_stop, seal_number}
+use Rattle.fed_rules.specs.Replies.{AtSealing, access_reply_by, rule, access_key, validation, granted_by, reads, has_read, has_written, is_other, spoilers, is_empty, bad_keys, invalid, invalid_at, invalid_by, moved, or_why, seal_stop, seal_number}
 use Rattle.fed_rules.specs.EngineLines.{IsRight, IsRightLine, IsStart}
 use Rattle.fed_rules.specs.SerialRuns.{ReadsAlone}
 use Rattle.engine_laws.specs.Unended.{EachRun, has_write}
@@ -97,8 +97,8 @@ own_fresh start older line r kind h (begins free next) open_run = tt
 own_fresh start older line r kind h (stays waits at) open_run =
     fresh_still start older line r.tid r.acts waits (h _ r at open_run)
 own_fresh start older line r kind h (got {key = key} {value = value} run live is) open_run =
-    let by_rule = ap (λ k. or_reply (access_stop k start older run (Read key)) (granted start older run (Read key))) kind in
-    let answer : Reply_is.Value value ≡ granted start older run (Read key) = is ∙ by_rule in
+    let by_rule = ap (λ k. access_reply_by (rule k) start older run (Read key)) kind in
+    let answer : Reply_is.Value value ≡ granted_by validation start older run (Read key) = is ∙ by_rule in
     ((λ none. cc), h _ run live.0 open_run)
 own_fresh start older line r kind h (wrote run live is) open_run = h _ run live.0 open_run
 own_fresh start older line r kind h (takes run live is) open_run = h _ run live.0 open_run
@@ -195,10 +195,10 @@ reads_all whole (Wrote key value ∷ acts) except items inside none h = reads_al
 -- a sealed run fits in above all others
 own_fits : (start : Start) (older : List EngineLine) (line : EngineLine) (r : Run) (n : ℕ) → start.kind ≡ Validation
     → IsRight start older → IsCounted start older → IsFresh start older
-    → IsSound Validation start older → Own start older line r → r.sealed ≡ Some n
-    → Fits Validation start older (tid_of line) r.acts n
+    → IsSound AtSealing start older → Own start older line r → r.sealed ≡ Some n
+    → Fits AtSealing start older (tid_of line) r.acts n
 own_fits start older line r n kind right drawn h sound (begins free next) e = cc
-own_fits start older line r n kind right drawn h sound (stays waits at) e = still_fits Validation start older _ r n sound at e
+own_fits start older line r n kind right drawn h sound (stays waits at) e = still_fits AtSealing start older _ r n sound at e
 own_fits start older line r n kind right drawn h sound (got run live is) e = let open_run = live.1 in cc
 own_fits start older line r n kind right drawn h sound (wrote run live is) e = let open_run = live.1 in cc
 own_fits start older line r n kind right drawn h sound (takes run live is) e = let open_run = live.1 in cc
@@ -208,7 +208,7 @@ own_fits start older (Seals tid m) r n kind right drawn h sound (seals run live 
     let passed = (or_why_none (invalid start older run) (moved start older run.ticket)
     (sym (ap (λ k. seal_stop k start older run) kind) ∙ stop)).0 in
     let none = no_spoilers start older run passed in
-    fits_last Validation start older tid run.acts n
+    fits_last AtSealing start older tid run.acts n
     (each_map _ (λ d. number d < n) (λ d was. let kept = was.kept in omega arith) (committed start older) drawn.committed)
     (reads_all run.acts run.acts (changed_since start older run.tid) (table start older) (λ key e. e)
     (each_map _ (λ access. has_read (access_key access) run ≡ true
@@ -223,11 +223,11 @@ own_fits start older (Seals tid m) r n kind right drawn h sound (seals run live 
     ))
 
 pub validation_sound : (start : Start) (lines : List EngineLine) → start.kind ≡ Validation → IsStart start → IsRight start lines
-    → IsSound Validation start lines
-validation_sound start [] kind begun right = sound_start Validation start begun
+    → IsSound AtSealing start lines
+validation_sound start [] kind begun right = sound_start AtSealing start begun
 validation_sound start (line ∷ older) kind begun right =
     let sound = validation_sound start older kind begun right.1 in
     let drawn = counted start older begun right.1 in
     let h = fresh start older kind right.1 in
-    sound_next Validation start older line right.0 sound (λ run n at sealed. sealed)
+    sound_next AtSealing start older line right.0 sound (λ run n at sealed. sealed)
     (λ r n mine placed. own_fits start older line r n kind right.1 drawn h sound mine placed)

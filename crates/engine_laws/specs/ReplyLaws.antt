@@ -1,19 +1,21 @@
 -- What the computed replies say, in the words of the field.
 -- Strict two-phase locking with wait-die and strict timestamp order are of Bernstein, Hadzilacos and Goodman (1987), backward validation of
 -- Härder (1984), tickets of Georgakopoulos, Rusinkiewicz and Sheth (1994); prepared runs in validation are this project's profile.
-use Rattle.std.specs.Prelude.{ℕ, ◌≡◌, ◌≢◌, ◌+◌, ◌<◌, ◌≤◌, ◌⊎◌, ◌↔◌, true, false, Option, Some, None, List}
+use Rattle.std.specs.Prelude.{ℕ, ◌≡◌, ◌≢◌, ◌+◌, ◌<◌, ◌≤◌, ◌⊎◌, ◌↔◌, Bool, true, false, Option, Some, None, List}
 use Rattle.mdb_base.specs.declared.acts.PlainAct.{PlainAct}
+use Rattle.mdb_base.specs.declared.acts.PlainAct.TheVariants.{Read, Write}
 use Rattle.mdb_base.specs.declared.names.Key.{Key}
 use Rattle.mdb_base.specs.declared.names.Tid.{Tid}
 use Rattle.mdb_base.specs.declared.replies.Reply.{Reply}
-use Rattle.mdb_base.specs.declared.replies.Reply.TheVariants.{Ticket, Wait, Refused}
+use Rattle.mdb_base.specs.declared.replies.Reply.TheVariants.{Value, Ticket, Wait, Refused}
 use Rattle.mdb_base.specs.declared.replies.Why.{Why}
 use Rattle.mdb_base.specs.declared.replies.Why.TheVariants.{Die, Late, Invalid, TicketMoved}
 use Rattle.mdb_base.specs.Names.{same_tid}
+use Rattle.mdb_base.specs.Rows.{Table, look_up}
 use Rattle.mdb_base.specs.Words.{Among}
-use Rattle.fed_rules.specs.Runs.{Start, EngineLine, Run, run_at, committed, aborted, committed_since, published, owner, number}
+use Rattle.fed_rules.specs.Runs.{Start, EngineLine, Acts, Takes, Aborts, Run, tid_of, gives_up, run_at, committed, aborted, committed_since, published, owner, number, after}
 use Rattle.fed_rules.specs.Replies.{conflicts, conflicts_with_read, reads, writes, access_key, key_of, granted, access_reply, ticket_reply, seal_stop}
-use Rattle.fed_rules.specs.EngineLines.{IsLive}
+use Rattle.fed_rules.specs.EngineLines.{IsLive, IsRightLine}
 
 -- the run is one of these
 abbrev pub IsAmong : Run → List Run → Type 0
@@ -184,3 +186,49 @@ AlwaysSeals start lines = (me : Run) → seal_stop start.kind start lines me ≡
 abbrev pub SealsByValidation : Start → List EngineLine → Type 0
 SealsByValidation start lines =
     (tid : Tid) (me : Run) → IsLive start lines tid me → IsValidated start lines me (seal_stop start.kind start lines me)
+
+-- Multiversion: a read is granted where the run wrote the key itself or no older unended run did, else it waits for that one, and it is
+-- never refused
+pub record IsOfItsAge (Own : Type 0) (Older : Run → Type 0) (grant reply : Reply) : Type 0 where
+  pub granted : (reply ≡ grant) ↔ (Own ⊎ IsNone Older)
+  pub waits : (by : Tid) → (reply ≡ Wait by) ↔ ((Own → ⊥) × ((run : Run) × Older run × (by ≡ run.tid)))
+  pub passes : (why : Why) → reply ≡ Refused why → ⊥
+
+-- of the committed runs with smaller numbers than this that wrote the key the one with the greatest number
+pub record IsNewestBelow (runs : List Run) (n : ℕ) (key : Key) (run : Run) : Type 0 where
+  pub among : IsAmong run runs
+  pub below : number run < n
+  pub wrote : HasWritten key run
+  pub newest : (other : Run) → IsAmong other runs → number other < n → HasWritten key other → number other ≤ number run
+
+-- the value is its last write of the key, or the item where there is no such run
+abbrev pub IsVersionBelow : Table → List Run → ℕ → Key → ℕ → Type 0
+IsVersionBelow items runs n key value =
+    ((run : Run) × IsNewestBelow runs n key run × (value ≡ after run.acts items key))
+    ⊎ (((run : Run) → IsAmong run runs → number run < n → HasWritten key run → ⊥) × (value ≡ items key))
+
+-- a read is answered the run's own last write, else the committed version with the greatest number below the run's own
+abbrev pub ReadsItsVersion : Start → List EngineLine → Type 0
+ReadsItsVersion start lines =
+    (me : Run) (key : Key) → (HasWritten key me × ((T : Table) → granted start lines me (Read key) ≡ Value (after me.acts T key)))
+    ⊎ ((value : ℕ) × (granted start lines me (Read key) ≡ Value value)
+    × IsVersionBelow (look_up start.rows) (committed start lines) me.age key value)
+
+-- a read is answered by age and never too late, a write by timestamp order
+pub record AnswersByVersion (start : Start) (lines : List EngineLine) : Type 0 where
+  pub reads : (me : Run) (key : Key) → IsOfItsAge (HasWritten key me) (IsOlderWriter start lines me (Read key))
+      (granted start lines me (Read key)) (access_reply start lines me (Read key))
+  pub writes : (me : Run) (key : Key) (value : ℕ)
+      → IsInTime (IsYoungerInTheWay start lines me (Write key value)) (IsOlderWriter start lines me (Write key value))
+      (granted start lines me (Write key value)) (access_reply start lines me (Write key value))
+
+-- whether a run that only reads and takes no ticket may make the line
+abbrev pub is_of_reader : EngineLine → Bool
+is_of_reader (Acts tid (Write key value) reply) = false
+is_of_reader (Takes tid reply) = false
+is_of_reader line = true
+
+-- the engine never ends a run of reads alone otherwise than by commit: only its client does
+abbrev pub ReadersPass : Start → List EngineLine → Type 0
+ReadersPass start lines =
+    (line : EngineLine) → IsRightLine start lines line → is_of_reader line ≡ true → gives_up line ≡ true → line ≡ Aborts (tid_of line)

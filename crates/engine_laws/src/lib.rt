@@ -5,6 +5,7 @@
 
 mod every_rule;
 mod locking;
+mod multiversion;
 mod timestamp;
 mod validation;
 mod wrong_rules;
@@ -18,6 +19,11 @@ pub use locking::{
     locking_answers, locking_commits_any_sealed, locking_has_no_conflicts, locking_is_serial,
     locking_may_restart, locking_orders_tickets,
 };
+pub use multiversion::{
+    multiversion_answers, multiversion_commits_any_sealed, multiversion_is_serial,
+    multiversion_may_restart, multiversion_orders_tickets, multiversion_readers_pass,
+    multiversion_reads_its_version,
+};
 pub use timestamp::{
     timestamp_answers, timestamp_commits_any_sealed, timestamp_is_serial, timestamp_may_restart,
     timestamp_orders_tickets,
@@ -26,6 +32,4 @@ pub use validation::{
     validation_answers, validation_commits_any_sealed, validation_is_serial,
     validation_may_restart, validation_orders_tickets,
 };
-pub use wrong_rules::{
-    right_rules_in_this_form, wrong_locking, wrong_timestamp_order, wrong_validation,
-};
+pub use wrong_rules::{wrong_locking, wrong_multiversion, wrong_timestamp_order, wrong_validation};

@@ -43,11 +43,11 @@ printed =
     ∷ line (give 2 0) (Say.Did (tid 2 0) (Reply_is.Value 0)) (place 2 0 ∷ [])
     ∷ line (take 2 0) Say.Only (place 1 2 ∷ place 2 2 ∷ [])
     ∷ line (give 1 1) (Say.Did (tid 1 0) (Reply_is.Ticket 1)) (place 1 1 ∷ [])
-    ∷ line (take 1 1) Say.Initiates (place 1 3 ∷ [])
+    ∷ line (take 1 1) Say.Only (place 1 3 ∷ [])
     ∷ line (give 1 3) (Say.VotesYes (tid 1 0) 1) (place 1 2 ∷ [])
     ∷ line (take 1 2) Say.Voted []
     ∷ line (give 2 2) (Say.Did (tid 2 0) (Reply_is.Ticket 1)) (place 2 1 ∷ [])
-    ∷ line (take 2 1) Say.Initiates (place 2 3 ∷ [])
+    ∷ line (take 2 1) Say.Only (place 2 3 ∷ [])
     ∷ line (give 2 3) (Say.VotesYes (tid 2 0) 1) (place 2 2 ∷ [])
     ∷ line (take 2 2) Say.Voted []
     ∷ line (begin 3) (Say.Begun (tid 3 0)) []

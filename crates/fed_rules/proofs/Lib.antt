@@ -6,6 +6,8 @@ mod YoungerDies
 mod OlderWaits
 mod TransferBetweenTwoSites
 mod TimestampOrder
+mod OldVersionIsRead
+mod WriteBehindAYoungerRead
 mod ReadBehindACommitIsInvalid
 mod ReadUnderAPreparedIsInvalid
 mod SumWrapsAround
@@ -19,5 +21,14 @@ mod GivenUpAtTheLastVote
 mod CommitRecordIsKept
 mod CommitRecordIsTorn
 mod OldMessages
+mod NothingIsRecordedBeforeAnAbort
+mod AbortRecordIsKept
+mod AbortRecordIsLost
+mod CommitIsForgottenAtOnce
+mod TicketsAreTakenConservatively
 mod LocalRecordIsKept
 mod LocalRecordIsLost
+mod CheckpointIsKept
+mod CheckpointIsTorn
+mod CheckpointIsNotTrimmed
+mod CommitIsInACheckpoint

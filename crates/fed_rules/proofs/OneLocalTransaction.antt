@@ -13,7 +13,9 @@ use Rattle.fed_rules.specs.Reports.{report_of}
 use Rattle.fed_rules.specs.Right.{story_told}
 use Rattle.fed_rules.specs.Scenarios.{sites}
 use Rattle.fed_rules.specs.Serial.{serial_reads, serial_tables}
-use Rattle.fed_rules.specs.Story.{Story, lines_of}
+use Rattle.fed_rules.specs.Disk.{held_bytes}
+use Rattle.fed_rules.specs.SitePast.{disk}
+use Rattle.fed_rules.specs.Story.{Story, lines_of, past_of}
 use Rattle.fed_rules.proofs.Opened.{opened}
 use Rattle.fed_rules.proofs.Spelled.{at, key, tid, get, add, site, local, scenario_of, begin, step, commit, line, entry, read_by, table}
 
@@ -47,6 +49,11 @@ lines_are_right = refl
 nothing_is_left_to_close : closed scenario (map (λ line. line.command) lines) ≡ map (λ line. line.command) lines
 unfolding opened
 nothing_is_left_to_close = refl
+
+-- the disk holds a Setup of 42 bytes, a Start of 41 and a Local of 62
+site_1_holds : held_bytes (disk (record { site = at 1; engine = Locking; protocol = By.Nothing; items = [] }) (past_of (at 1) story)) ≡ 145
+unfolding opened
+site_1_holds = refl
 
 abbrev order : List Tid
 order = tid 1 0 ∷ []

@@ -34,7 +34,7 @@ printed =
     ∷ line (give 1 0) (Say.Did (tid 3 0) Reply_is.Done) (place 1 0 ∷ [])
     ∷ line (take 1 0) Say.Only (place 1 1 ∷ [])
     ∷ line (give 1 1) (Say.Did (tid 3 0) (Reply_is.Ticket 1)) (place 1 1 ∷ [])
-    ∷ line (take 1 1) Say.Initiates (place 1 2 ∷ [])
+    ∷ line (take 1 1) Say.Only (place 1 2 ∷ [])
     ∷ line (give 1 2) (Say.VotesYes (tid 3 0) 1) (place 1 2 ∷ [])
     ∷ line (begin 1) (Say.Begun (tid 1 0)) []
     ∷ line (step 1) (Say.Read (key 5) 0) []

@@ -1,5 +1,5 @@
 -- Short names in which the worked examples are written down: sites, transactions, commands and lines.
-use Rattle.std.specs.Prelude.{ℕ, Some, None, List, [], map, reverse, take as first}
+use Rattle.std.specs.Prelude.{ℕ, true, false, Some, None, List, [], map, reverse, take as first}
 use Rattle.mdb_base.specs.declared.acts.Act.{Act}
 use Rattle.mdb_base.specs.declared.acts.Act.TheVariants as Does
 use Rattle.mdb_base.specs.declared.acts.Step.{Step}
@@ -66,10 +66,24 @@ local t s acts = record { tx = tx t; home = Some (at s); program = map (step_at 
 abbrev pub global : ℕ → List Step → TxLine
 global t steps = record { tx = tx t; home = None; program = steps }
 
--- a scenario with the default clients, turns and tries, and no links or stops
+-- a scenario with the default clients, turns, tries and policy, and no links or stops
 abbrev pub scenario_of : List SiteLine → List ItemLine → List TxLine → Scenario
 scenario_of sites items transactions =
-    record { sites = sites; items = items; transactions = transactions; clients = 4; turns = 1000; tries = 4; links = []; stops = [] }
+    record {
+      sites = sites;
+      items = items;
+      transactions = transactions;
+      clients = 4;
+      turns = 1000;
+      tries = 4;
+      links = [];
+      stops = [];
+      conservative = false;
+    }
+
+-- the scenario with the conservative policy
+abbrev pub conservatively : Scenario → Scenario
+conservatively scenario = record scenario { conservative = true }
 
 abbrev pub begin : ℕ → Command
 begin t = Cmd.Begin (tx t)
@@ -115,6 +129,9 @@ trip actor calls cut = Cmd.Trip actor calls cut
 
 abbrev pub back : ℕ → Command
 back actor = Cmd.Back actor
+
+abbrev pub check : ℕ → Command
+check actor = Cmd.Check actor
 
 abbrev pub place : ℕ → ℕ → Place
 place s i = record { site = at s; place = i }

@@ -29,7 +29,7 @@ printed =
     ∷ line (take 1 0) Say.Only (place 1 2 ∷ [])
     ∷ line (take 1 1) Say.Only (place 1 3 ∷ [])
     ∷ line (give 1 2) (Say.Did (tid 1 0) (Reply_is.Ticket 1)) (place 1 2 ∷ [])
-    ∷ line (take 1 2) Say.Initiates (place 1 4 ∷ [])
+    ∷ line (take 1 2) Say.Only (place 1 4 ∷ [])
     ∷ line (give 1 3) (Say.Did (tid 2 0) (Reply_is.Refused (Because.Die (tid 1 0)))) (place 1 3 ∷ [])
     ∷ []
 

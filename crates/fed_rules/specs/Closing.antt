@@ -14,11 +14,11 @@ use Rattle.fed_rules.specs.declared.commands.Place.{Place}
 use Rattle.fed_rules.specs.declared.scenario.Scenario.{Scenario}
 use Rattle.fed_rules.specs.declared.scenario.TxLine.{TxLine}
 use Rattle.fed_rules.specs.CoordPast as Coordinator
-use Rattle.fed_rules.specs.CoordPast.{CoordPast, is_undecided, is_known, standing, begun_tids}
+use Rattle.fed_rules.specs.CoordPast.{CoordPast, is_open, is_known, standing, begun_tids}
 use Rattle.fed_rules.specs.CoordRecords.{committed_of}
 use Rattle.fed_rules.specs.Happenings.{is_down}
 use Rattle.fed_rules.specs.Runs.{unended, is_sealed}
-use Rattle.fed_rules.specs.Scenarios.{home_of, local_home, sites}
+use Rattle.fed_rules.specs.Scenarios.{home_of, local_home, protocols, sites}
 use Rattle.fed_rules.specs.SitePast.{SitePast, epoch_start, engine_lines, is_local, trip, records}
 use Rattle.fed_rules.specs.SiteRecords.{Home, doubts, local_of}
 use Rattle.fed_rules.specs.Story.{Story, story_of, past_of, coord_past, lines_of}
@@ -57,8 +57,7 @@ bring_up scenario commands =
 
 -- the attempts that are known without a decision
 abbrev pub undecided : Story → List Tid
-undecided story =
-    rising (those (λ tid. is_undecided (standing (coord_past story) tid)) (begun_tids (coord_past story)))
+undecided story = rising (those (is_open (coord_past story)) (begun_tids (coord_past story)))
 
 -- each of them is given up
 abbrev pub give_up : Scenario → List Command → List Command
@@ -109,12 +108,13 @@ send_again scenario tid commands =
     let again = Cmd.Again tid ∷ commands in for_each (deliver scenario) (last_sends scenario again) again
 
 -- the attempts that are known
-abbrev pub known : Story → List Tid
-known story = rising (those (λ tid. is_known (standing (coord_past story) tid)) (begun_tids (coord_past story)))
+abbrev pub known : Scenario → Story → List Tid
+known scenario story =
+    rising (those (λ tid. is_known (standing (protocols scenario) (coord_past story) tid)) (begun_tids (coord_past story)))
 
 -- each known attempt is ended
 abbrev pub end_known : Scenario → List Command → List Command
-end_known scenario commands = for_each (send_again scenario) (known (story_of scenario commands)) commands
+end_known scenario commands = for_each (send_again scenario) (known scenario (story_of scenario commands)) commands
 
 abbrev pub in_doubt_at : Option Home → Story → List Tid
 in_doubt_at None story = []

@@ -1,6 +1,6 @@
 -- What the coordinator's past says of an attempt: whether it is undecided, decided or not known, which replies, votes and acknowledgements
 -- counted, and what is outstanding at each participant.
-use Rattle.std.specs.Prelude.{ℕ, Bool, true, false, cond, not, ◌&&◌, ◌||◌, is_none, Option, Some, None, List, [], ◌∷◌, ◌++◌, drop}
+use Rattle.std.specs.Prelude.{ℕ, Bool, true, false, cond, not, ◌&&◌, ◌||◌, is_none, Option, Some, None, List, [], ◌∷◌, ◌++◌, drop, map}
 use Rattle.mdb_base.specs.declared.acts.Step.{Step}
 use Rattle.mdb_base.specs.declared.names.SiteId.{SiteId}
 use Rattle.mdb_base.specs.declared.names.Tid.{Tid}
@@ -21,8 +21,11 @@ use Rattle.fed_rules.specs.declared.messages.Due.TheVariants as Due_is
 use Rattle.fed_rules.specs.declared.messages.FromSite.{FromSite}
 use Rattle.fed_rules.specs.declared.messages.FromSite.TheVariants as From
 use Rattle.fed_rules.specs.declared.messages.Sent.{Sent}
+use Rattle.fed_rules.specs.declared.messages.ToSite.{ToSite}
+use Rattle.fed_rules.specs.declared.messages.ToSite.TheVariants as To
 use Rattle.fed_rules.specs.declared.records.CoordRecord.{CoordRecord}
-use Rattle.fed_rules.specs.Disk.{Disk, empty_disk, after_calls}
+use Rattle.fed_rules.specs.Disk as Disk
+use Rattle.fed_rules.specs.Disk.{empty_disk, after_calls}
 use Rattle.fed_rules.specs.Happenings.{Happening, Trip, stops, comes_up, armed}
 use Rattle.fed_rules.specs.CoordRecords.{coord_frame, outcome, is_kept}
 
@@ -35,13 +38,17 @@ abbrev pub CoordPast : Type 0
 CoordPast = List CoordHappening
 
 -- the coordinator's disk
-abbrev pub disk : CoordPast → Disk CoordRecord
+abbrev pub disk : CoordPast → Disk.Disk CoordRecord
 disk [] = empty_disk
 disk (x ∷ past) = after_calls coord_frame (disk past) x.calls
 
--- the coordinator's records, the newest first
+-- all records that ever stood there and weren't lost by a stop, the newest first
 abbrev pub records : CoordPast → List CoordRecord
 records past = (disk past).records
+
+-- the records that stand on the coordinator's disk, the newest first
+abbrev pub journal : CoordPast → List CoordRecord
+journal past = Disk.journal coord_frame (disk past)
 
 abbrev pub trip_of : CoordEvent → Option Trip
 trip_of (Ev.Trip calls cut) = Some (record { calls = calls; cut = cut })
@@ -50,12 +57,6 @@ trip_of event = None
 -- the trip in force
 abbrev pub trip : CoordPast → Option Trip
 trip past = armed trip_of past
-
--- how the coordinator stands to an attempt
-pub data Standing : Type 0 where
-  Undecided : Standing
-  Decided : Decision → Standing
-  Gone : Standing  -- not known: forgotten, or never begun
 
 -- the attempt that a message is about
 abbrev pub message_tid : FromSite → Tid
@@ -72,27 +73,51 @@ is_about tid (Ev.Again again) = same_tid again tid
 is_about tid (Ev.Late late) = same_tid late tid
 is_about tid event = false
 
--- what the answer of a line about an attempt makes of it
-abbrev pub moved : Answer → Standing → Standing
-moved (Say.Begun tid) old = Undecided
-moved (Say.Decides decision cause forgets) old = cond forgets Gone (Decided decision)
-moved Say.Forgets old = Gone
-moved answer old = old
+-- whether an attempt is undecided behind a line about it with this answer
+abbrev pub opened : Answer → Bool → Bool
+opened (Say.Begun tid) old = true
+opened (Say.Decides decision cause forgets) old = false
+opened Say.Forgets old = false
+opened answer old = old
+
+-- an attempt is undecided from its `go` until a line decides it or a stop loses it
+abbrev pub is_open : CoordPast → Tid → Bool
+is_open [] tid = false
+is_open (x ∷ past) tid =
+    cond (stops x.answer || comes_up x.answer) false
+    (cond (is_about tid x.event) (opened x.answer (is_open past tid)) (is_open past tid))
+
+-- the decision that is known of an attempt behind a line about it with this answer
+abbrev pub decided : Answer → Option Decision → Option Decision
+decided (Say.Begun tid) old = None
+decided (Say.Decides decision cause forgets) old = cond forgets None (Some decision)
+decided Say.Forgets old = None
+decided answer old = old
 
 -- after a stop, and so after a restart, what the kept records say
-abbrev pub kept_standing : List CoordRecord → Tid → Standing
-kept_standing records tid = cond (is_kept records tid) (Decided (outcome records tid)) Gone
+abbrev pub kept_decision : List Participant → List CoordRecord → Tid → Option Decision
+kept_decision protocols records tid = cond (is_kept protocols records tid) (Some (outcome records tid)) None
 
--- an attempt is known from its `go` until it is decided and every required acknowledgement has counted; a stop loses what isn't kept
-abbrev pub standing : CoordPast → Tid → Standing
-standing [] tid = Gone
-standing (x ∷ past) tid =
-    cond (stops x.answer || comes_up x.answer) (kept_standing (records (x ∷ past)) tid)
-    (cond (is_about tid x.event) (moved x.answer (standing past tid)) (standing past tid))
+-- the decision of an attempt is known until every required acknowledgement has counted; a stop loses what isn't kept
+abbrev pub known_decision : List Participant → CoordPast → Tid → Option Decision
+known_decision protocols [] tid = None
+known_decision protocols (x ∷ past) tid =
+    cond (stops x.answer || comes_up x.answer) (kept_decision protocols (records (x ∷ past)) tid)
+    (cond (is_about tid x.event) (decided x.answer (known_decision protocols past tid)) (known_decision protocols past tid))
 
-abbrev pub is_undecided : Standing → Bool
-is_undecided Undecided = true
-is_undecided standing = false
+-- how the coordinator stands to an attempt
+pub data Standing : Type 0 where
+  Undecided : Standing
+  Decided : Decision → Standing
+  Gone : Standing  -- not known: forgotten, or never begun
+
+abbrev pub standing_of : Bool → Option Decision → Standing
+standing_of true decision = Undecided
+standing_of false (Some decision) = Decided decision
+standing_of false None = Gone
+
+abbrev pub standing : List Participant → CoordPast → Tid → Standing
+standing protocols past tid = standing_of (is_open past tid) (known_decision protocols past tid)
 
 abbrev pub is_known : Standing → Bool
 is_known Gone = false
@@ -117,7 +142,7 @@ attempts_of past tx = how_many (λ tid. same_tx tid.tx tx) (begun_tids past)
 
 -- the attempt of the transaction that is known without a decision
 abbrev pub undecided_of : CoordPast → Tx → Option Tid
-undecided_of past tx = first_where (λ tid. same_tx tid.tx tx && is_undecided (standing past tid)) (begun_tids past)
+undecided_of past tx = first_where (λ tid. same_tx tid.tx tx && is_open past tid) (begun_tids past)
 
 abbrev pub program_in : Tid → CoordEvent → Option (List Step)
 program_in tid (Ev.Go begun program) = cond (same_tid begun tid) (Some program) None
@@ -142,6 +167,42 @@ participants_of protocols steps = those (λ participant. visits participant.site
 
 abbrev pub participants : List Participant → CoordPast → Tid → List Participant
 participants protocols past tid = participants_of protocols (program past tid)
+
+-- the sites of the participants
+abbrev pub sites_of : List Participant → CoordPast → Tid → List SiteId
+sites_of protocols past tid = map (λ participant. participant.site) (participants protocols past tid)
+
+-- whether a message is a Take of the attempt
+abbrev pub is_take_of : Tid → Sent → Bool
+is_take_of tid sent = takes sent.message where
+  takes : ToSite → Bool
+  takes (To.Take taken epoch n) = same_tid taken tid
+  takes message = false
+
+-- whether a message is a Prepare of the attempt
+abbrev pub is_prepare_of : Tid → Sent → Bool
+is_prepare_of tid sent = prepares sent.message where
+  prepares : ToSite → Bool
+  prepares (To.Prepare prepared epoch n) = same_tid prepared tid
+  prepares message = false
+
+-- whether a line sent such a message
+abbrev pub has_sent : (Sent → Bool) → CoordPast → Bool
+has_sent test past = some_of (λ x. some_of test x.sends) past
+
+-- an attempt is in its phase from the line that sends its first Take until it is decided; a stop loses it
+abbrev pub in_phase : CoordPast → Tid → Bool
+in_phase past tid = is_open past tid && has_sent (is_take_of tid) past
+
+abbrev pub oldest_first : {A : Type 0} → List A → List A
+oldest_first [] = []
+oldest_first (x ∷ xs) = oldest_first xs ++ x ∷ []
+
+-- the sites of each other attempt in its phase, in the order in which they were begun
+abbrev pub others_in_phase : List Participant → CoordPast → Tid → List (List SiteId)
+others_in_phase protocols past tid =
+    map (sites_of protocols past)
+    (those (λ other. not (same_tid other tid) && in_phase past other) (oldest_first (begun_tids past)))
 
 -- whether a line counts the message that it takes
 abbrev pub counts : Answer → Bool
@@ -205,10 +266,6 @@ value_in counted = value_of counted.reply where
   value_of : Reply → Option ℕ
   value_of (Reply_is.Value value) = Some value
   value_of reply = None
-
-abbrev pub oldest_first : {A : Type 0} → List A → List A
-oldest_first [] = []
-oldest_first (x ∷ xs) = oldest_first xs ++ x ∷ []
 
 -- the values that the attempt read, in program order
 abbrev pub reads : CoordPast → Tid → List ℕ

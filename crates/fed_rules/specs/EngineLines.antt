@@ -7,7 +7,7 @@ use Rattle.mdb_base.specs.Names.{same_tid, same_key}
 use Rattle.mdb_base.specs.Words.{Each, some_of}
 use Rattle.fed_rules.specs.declared.runs.Kept.{Kept}
 use Rattle.fed_rules.specs.Runs.{Start, EngineLine, Begins, Acts, Takes, Seals, Refuses, Commits, Aborts, Run, run_at, counter}
-use Rattle.fed_rules.specs.Replies.{access_reply, ticket_reply, seal_stop, seal_number}
+use Rattle.fed_rules.specs.Replies.{Rule, rule, access_reply_by, ticket_reply_by, number_drawn}
 
 -- the attempt has no unended run
 abbrev pub IsFree : Start → List EngineLine → Tid → Type 0
@@ -25,22 +25,31 @@ IsTicketless start lines tid run = (run_at start lines tid ≡ Some run) × (run
 abbrev pub IsSealed : Start → List EngineLine → Tid → Run → ℕ → Type 0
 IsSealed start lines tid run n = (run_at start lines tid ≡ Some run) × (run.sealed ≡ Some n)
 
--- the line may come there, and its answer is the rule's
+-- the line may come there, and its answer is this rule's
+abbrev pub IsRightLineBy : Rule → Start → List EngineLine → EngineLine → Type 0
+IsRightLineBy by start older (Begins tid n) = IsFree start older tid × (n ≡ counter start older + 1)
+IsRightLineBy by start older (Acts tid act reply) =
+    (run : Run) × (IsLive start older tid run × (reply ≡ access_reply_by by start older run act))
+IsRightLineBy by start older (Takes tid reply) =
+    (run : Run) × (IsTicketless start older tid run × (reply ≡ ticket_reply_by by start older run))
+IsRightLineBy by start older (Seals tid n) =
+    (run : Run) × (IsLive start older tid run × (by.seal start older run ≡ None) × (n ≡ number_drawn by.drawn start older run))
+IsRightLineBy by start older (Refuses tid why) = (run : Run) × (IsLive start older tid run × (by.seal start older run ≡ Some why))
+IsRightLineBy by start older (Commits tid) = (run : Run) × (n : ℕ) × IsSealed start older tid run n
+IsRightLineBy by start older (Aborts tid) = (run : Run) × (run_at start older tid ≡ Some run)
+
+-- each line is right by this rule on the lines before it
+abbrev pub IsRightBy : Rule → Start → List EngineLine → Type 0
+IsRightBy by start [] = Unit {0}
+IsRightBy by start (line ∷ older) = IsRightLineBy by start older line × IsRightBy by start older
+
+-- the line may come there, and its answer is that of the start's rule
 abbrev pub IsRightLine : Start → List EngineLine → EngineLine → Type 0
-IsRightLine start older (Begins tid n) = IsFree start older tid × (n ≡ counter start older + 1)
-IsRightLine start older (Acts tid act reply) = (run : Run) × (IsLive start older tid run × (reply ≡ access_reply start older run act))
-IsRightLine start older (Takes tid reply) = (run : Run) × (IsTicketless start older tid run × (reply ≡ ticket_reply start older run))
-IsRightLine start older (Seals tid n) =
-    (run : Run) × (IsLive start older tid run × (seal_stop start.kind start older run ≡ None) × (n ≡ seal_number start.kind start older run))
-IsRightLine start older (Refuses tid why) =
-    (run : Run) × (IsLive start older tid run × (seal_stop start.kind start older run ≡ Some why))
-IsRightLine start older (Commits tid) = (run : Run) × (n : ℕ) × IsSealed start older tid run n
-IsRightLine start older (Aborts tid) = (run : Run) × (run_at start older tid ≡ Some run)
+IsRightLine start older line = IsRightLineBy (rule start.kind) start older line
 
 -- each line is right on the lines before it
 abbrev pub IsRight : Start → List EngineLine → Type 0
-IsRight start [] = Unit {0}
-IsRight start (line ∷ older) = IsRightLine start older line × IsRight start older
+IsRight start lines = IsRightBy (rule start.kind) start lines
 
 -- one of the rows has this key
 abbrev pub has_row : Key → List Put → Bool

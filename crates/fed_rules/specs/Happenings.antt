@@ -3,7 +3,7 @@ use Rattle.std.specs.Prelude.{ℕ, ◌-◌, ◌==◌, nat_le, Bool, true, false,
 use Rattle.mdb_base.specs.Words.{when}
 use Rattle.fed_rules.specs.declared.answers.Answer.{Answer}
 use Rattle.fed_rules.specs.declared.answers.Answer.TheVariants as Say
-use Rattle.fed_rules.specs.Disk.{Call, Stops, Disk, after_calls}
+use Rattle.fed_rules.specs.Disk.{Call, Stops, Disk, after_calls, journal}
 use Rattle.fed_rules.specs.Runs.{EngineLine}
 
 -- one line of an actor, with the message that it takes in its event
@@ -54,10 +54,10 @@ abbrev pub armed : {Event Message Record : Type 0} → (Event → Option Trip) �
 armed trip_of [] = None
 armed trip_of (x ∷ past) = cond (stops x.answer) None (set (trip_of x.event) (used (length x.calls) (armed trip_of past)))
 
--- the line that a stop ends: it sends nothing, its runs end, and its answer counts the records that are kept
+-- the line that a stop ends: it sends nothing, its runs end, and its answer counts the records that stand on the disk
 unfoldable pub stopped : {Event Message Record : Type 0} → (Record → ℕ) → Disk Record → Event → List (Call Record) → Happening Event Message Record
 stopped size disk event calls =
-    record { event = event; answer = Say.Stopped (length (after_calls size disk calls).records); sends = []; calls = calls; lines = [] }
+    record { event = event; answer = Say.Stopped (length (journal size (after_calls size disk calls))); sends = []; calls = calls; lines = [] }
 
 -- the line, or where the trip comes within its disk calls the line that it ends
 unfoldable pub tripped : {Event Message Record : Type 0} → (Record → ℕ) → Disk Record → Option Trip → Happening Event Message Record → Happening Event Message Record

@@ -24,6 +24,7 @@ pub record Plan : Type 0 where
   pub tries : ℕ
   pub links : List LinkLine
   pub stops : List StopLine
+  pub conservative : Bool
 
 -- the most first rows of a site, link lines in all, and stop lines of an actor
 abbrev pub most_items : ℕ

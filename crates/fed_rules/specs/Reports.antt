@@ -14,7 +14,7 @@ use Rattle.fed_rules.specs.CoordPast.{begun_tids, is_known, standing}
 use Rattle.fed_rules.specs.CoordRecords.{outcome}
 use Rattle.fed_rules.specs.Happenings.{is_down}
 use Rattle.fed_rules.specs.Orders.{orders, reads_of, table_of}
-use Rattle.fed_rules.specs.Scenarios.{sites}
+use Rattle.fed_rules.specs.Scenarios.{protocols, sites}
 use Rattle.fed_rules.specs.Story.{Story, coord_past}
 
 -- at each place stands the least attempt all of whose predecessors at every site stand before it
@@ -29,11 +29,12 @@ abbrev pub outcomes : Story → List Outcome
 outcomes story = map (λ tid. record { tid = tid; decision = outcome (Coordinator.records (coord_past story)) tid }) (begun story)
 
 -- an attempt is forgotten where it was begun, the coordinator is up, and the attempt isn't known
-abbrev pub is_forgotten : Story → Tid → Bool
-is_forgotten story tid = not (is_down (coord_past story)) && not (is_known (standing (coord_past story) tid))
+abbrev pub is_forgotten : Scenario → Story → Tid → Bool
+is_forgotten scenario story tid =
+    not (is_down (coord_past story)) && not (is_known (standing (protocols scenario) (coord_past story) tid))
 
-abbrev pub forgotten : Story → List Tid
-forgotten story = those (is_forgotten story) (begun story)
+abbrev pub forgotten : Scenario → Story → List Tid
+forgotten scenario story = those (is_forgotten scenario story) (begun story)
 
 abbrev pub tables : Scenario → Story → List SiteRows
 tables scenario story = map (λ site. record { site = site; rows = table_of scenario story site }) (sites scenario)
@@ -46,6 +47,6 @@ report_of scenario story =
       order = order;
       reads = map (λ tid. record { tid = tid; values = reads_of scenario story tid }) order;
       outcomes = outcomes story;
-      forgotten = forgotten story;
+      forgotten = forgotten scenario story;
       tables = tables scenario story;
     }

@@ -1,4 +1,4 @@
--- What a scenario says: the site of each number with its first rows, the participants with their protocols, and the transactions.
+-- What a scenario says: the site of each number with its first rows, the participants with their protocols, the policy, and the transactions.
 use Rattle.std.specs.Prelude.{nat_lt, cond, Option, Some, None, List, [], ◌∷◌, map}
 use Rattle.mdb_base.specs.declared.acts.Step.{Step}
 use Rattle.mdb_base.specs.declared.names.SiteId.{SiteId}
@@ -12,6 +12,7 @@ use Rattle.fed_rules.specs.declared.scenario.ItemLine.{ItemLine}
 use Rattle.fed_rules.specs.declared.scenario.Scenario.{Scenario}
 use Rattle.fed_rules.specs.declared.scenario.SiteLine.{SiteLine}
 use Rattle.fed_rules.specs.declared.scenario.TxLine.{TxLine}
+use Rattle.fed_rules.specs.Policies.{Policy, policy_of}
 use Rattle.fed_rules.specs.SiteRecords.{Home}
 
 -- the first rows of a site, by rising key
@@ -38,6 +39,10 @@ protocols_in (line ∷ lines) =
 
 abbrev pub protocols : Scenario → List Participant
 protocols scenario = protocols_in scenario.sites
+
+-- the policy of its Takes
+abbrev pub policy : Scenario → Policy
+policy scenario = policy_of scenario.conservative
 
 -- the declared sites, by rising number
 abbrev pub sites : Scenario → List SiteId

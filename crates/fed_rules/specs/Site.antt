@@ -23,11 +23,12 @@ use Rattle.fed_rules.specs.declared.messages.ToSite.{ToSite}
 use Rattle.fed_rules.specs.declared.messages.ToSite.TheVariants as To
 use Rattle.fed_rules.specs.declared.records.SiteRecord.{SiteRecord}
 use Rattle.fed_rules.specs.declared.records.SiteRecord.TheVariants as Rec
-use Rattle.fed_rules.specs.Disk.{Call, Append, Sync, CutBack, Stops, is_torn}
+use Rattle.fed_rules.specs.Disk.{Call, Append, Sync, CutBack, TrimFront, Stops, is_torn, longest}
 use Rattle.fed_rules.specs.Happenings.{quiet, is_down, stopped, tripped}
 use Rattle.fed_rules.specs.Runs.{EngineLine, Begins, Acts, Takes, Seals, Refuses, Commits, Aborts, Access, Got, Wrote, Run, begun, counter, has_ticket, puts_of}
 use Rattle.fed_rules.specs.Replies.{access_reply, ticket_reply, seal_stop, seal_number}
-use Rattle.fed_rules.specs.SiteRecords.{Home, Held, site_frame, doubt_of, doubts, local_of}
+use Rattle.fed_rules.specs.SiteRecords.{Home, Held, site_frame, site_payload, doubt_of, doubts, local_of}
+use Rattle.fed_rules.specs.SiteSums.{site_sum}
 use Rattle.fed_rules.specs.SitePast.{SiteHappening, SitePast, disk, records, epoch, trip, epoch_start, engine_lines, live, live_of_tx, attempts_of, is_local, is_closed}
 
 -- an answer with engine lines alone
@@ -330,6 +331,16 @@ of_back home past =
       lines = [];
     }
 
+-- the Checkpoint that the site would write
+abbrev pub checkpoint : Home → SitePast → SiteRecord
+checkpoint home past = Rec.Checkpoint (site_sum home (records home past))
+
+-- `check`: a Checkpoint is forced, unless it would be too long, and what stands before it is trimmed
+unfoldable pub of_check : Home → SitePast → SiteHappening
+of_check home past =
+    when (nat_lt longest (site_payload (checkpoint home past))) (quiet Ev.Check Say.Large)
+    (record { event = Ev.Check; answer = Say.Checked; sends = []; calls = Append (checkpoint home past) ∷ Sync ∷ TrimFront ∷ []; lines = [] })
+
 -- what a site that is up answers, before a trip may stop it
 unfoldable pub answered : Home → SitePast → SiteEvent → SiteHappening
 answered home past (Ev.Begin tid) = of_begin home past tid
@@ -343,6 +354,7 @@ answered home past (Ev.Drop tid) = of_drop home past tid
 answered home past (Ev.Halt cut) = quiet (Ev.Halt cut) Say.Down
 answered home past (Ev.Trip calls cut) = quiet (Ev.Trip calls cut) Say.Set
 answered home past Ev.Back = of_back home past
+answered home past Ev.Check = of_check home past
 
 -- the line, unless the trip in force comes within its disk calls
 abbrev pub unless_tripped : Home → SitePast → SiteHappening → SiteHappening

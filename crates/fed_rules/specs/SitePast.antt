@@ -12,7 +12,8 @@ use Rattle.fed_rules.specs.declared.messages.FromSite.{FromSite}
 use Rattle.fed_rules.specs.declared.messages.ToSite.TheVariants as To
 use Rattle.fed_rules.specs.declared.records.SiteRecord.{SiteRecord}
 use Rattle.fed_rules.specs.declared.records.SiteRecord.TheVariants as Rec
-use Rattle.fed_rules.specs.Disk.{Call, Append, Sync, Disk, empty_disk, after_calls}
+use Rattle.fed_rules.specs.Disk as Disk
+use Rattle.fed_rules.specs.Disk.{Call, Append, Sync, empty_disk, after_calls}
 use Rattle.fed_rules.specs.Happenings.{Happening, Trip, stops, comes_up, armed}
 use Rattle.fed_rules.specs.Runs as Runs
 use Rattle.fed_rules.specs.Runs.{EngineLine, Begins, Acts, Takes, Seals, Refuses, Commits, Aborts, Run, run_at, unended, is_sealed, tid_of, gives_up}
@@ -31,13 +32,17 @@ abbrev pub set_up_calls : Home → List (Call SiteRecord)
 set_up_calls home = Append (Rec.Setup home.site home.engine home.protocol home.items) ∷ Append (Rec.Start 1) ∷ Sync ∷ []
 
 -- the site's disk
-abbrev pub disk : Home → SitePast → Disk SiteRecord
+abbrev pub disk : Home → SitePast → Disk.Disk SiteRecord
 disk home [] = after_calls site_frame empty_disk (set_up_calls home)
 disk home (x ∷ past) = after_calls site_frame (disk home past) x.calls
 
--- the site's records, the newest first
+-- all records that ever stood there and weren't lost by a stop, the newest first
 abbrev pub records : Home → SitePast → List SiteRecord
 records home past = (disk home past).records
+
+-- the records that stand on the site's disk, the newest first
+abbrev pub journal : Home → SitePast → List SiteRecord
+journal home past = Disk.journal site_frame (disk home past)
 
 -- the epoch, which counts the starts of the site
 abbrev pub epoch : Home → SitePast → ℕ

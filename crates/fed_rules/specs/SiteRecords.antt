@@ -1,17 +1,21 @@
--- What the records of a site's journal say, the newest first: who is in doubt, the greatest number and ticket, the table, and what it is due.
+-- What the records of a site say, the newest first: who is in doubt, the greatest number and ticket, the table, and what it is due.
+-- A Checkpoint among them says nothing new, and every word here passes over it.
 use Rattle.std.specs.Prelude.{ℕ, ◌+◌, ◌*◌, max, nat_lt, Bool, cond, Option, Some, None, List, [], ◌∷◌, map, length, reverse}
 use Rattle.mdb_base.specs.declared.names.Engine.{Engine}
 use Rattle.mdb_base.specs.declared.names.SiteId.{SiteId}
 use Rattle.mdb_base.specs.declared.names.Tid.{Tid}
 use Rattle.mdb_base.specs.declared.names.Tx.{Tx}
 use Rattle.mdb_base.specs.declared.rows.Put.{Put}
-use Rattle.mdb_base.specs.Names.{same_tid, same_tx}
+use Rattle.mdb_base.specs.Names.{same_tid, same_tx, tid_before}
 use Rattle.mdb_base.specs.Rows.{with_rows}
 use Rattle.mdb_base.specs.Words.{found, inserted}
 use Rattle.presumptions.specs.declared.Protocol.{Protocol}
 use Rattle.presumptions.specs.declared.Decision.TheVariants as Decided
 use Rattle.fed_rules.specs.declared.records.SiteRecord.{SiteRecord}
-use Rattle.fed_rules.specs.declared.records.SiteRecord.TheVariants.{Setup, Start, Prepared, Ended, Local}
+use Rattle.fed_rules.specs.declared.records.SiteRecord.TheVariants.{Setup, Start, Prepared, Ended, Local, Checkpoint}
+use Rattle.fed_rules.specs.declared.sums.DoubtfulSum.{DoubtfulSum}
+use Rattle.fed_rules.specs.declared.sums.SiteSum.{SiteSum}
+use Rattle.fed_rules.specs.Disk.{framed}
 use Rattle.fed_rules.specs.declared.runs.Kept.{Kept}
 use Rattle.fed_rules.specs.Runs as Runs
 
@@ -26,13 +30,32 @@ pub record Home : Type 0 where
 abbrev pub writes_size : List Put → ℕ
 writes_size writes = 2 + 10 * length writes
 
--- the bytes of a record's frame: two of length, then the payload
+-- the bytes of a subtransaction in doubt in a Checkpoint
+abbrev pub doubtful_size : List DoubtfulSum → ℕ
+doubtful_size [] = 0
+doubtful_size (held ∷ more) = 25 + writes_size held.writes + doubtful_size more
+
+-- the bytes of what may be an attempt
+abbrev pub owner_size : Option Tid → ℕ
+owner_size None = 1
+owner_size (Some tid) = 6
+
+-- the bytes of a Checkpoint's payload
+abbrev pub sum_size : SiteSum → ℕ
+sum_size sum = 24 + owner_size sum.owner + writes_size sum.rows + (2 + 5 * length sum.locals) + (2 + doubtful_size sum.doubtful)
+
+-- the bytes of a record's payload
+abbrev pub site_payload : SiteRecord → ℕ
+site_payload (Setup site engine protocol items) = 4 + writes_size items
+site_payload (Start epoch) = 5
+site_payload (Prepared tid epoch number ticket writes) = 26 + writes_size writes
+site_payload (Ended tid decision) = 7
+site_payload (Local tid number writes) = 14 + writes_size writes
+site_payload (Checkpoint sum) = sum_size sum
+
+-- the bytes of a record's frame
 abbrev pub site_frame : SiteRecord → ℕ
-site_frame (Setup site engine protocol items) = 6 + writes_size items
-site_frame (Start epoch) = 7
-site_frame (Prepared tid epoch number ticket writes) = 28 + writes_size writes
-site_frame (Ended tid decision) = 9
-site_frame (Local tid number writes) = 16 + writes_size writes
+site_frame kept = framed (site_payload kept)
 
 -- the epoch of the last Start
 abbrev pub epoch_of : List SiteRecord → ℕ
@@ -41,12 +64,8 @@ epoch_of (Start epoch ∷ records) = epoch
 epoch_of (newest ∷ records) = epoch_of records
 
 -- a Prepared record's content
-pub record Held : Type 0 where
-  pub tid : Tid
-  pub epoch : ℕ
-  pub number : ℕ
-  pub ticket : ℕ
-  pub writes : List Put
+abbrev pub Held : Type 0
+Held = DoubtfulSum
 
 -- the Prepared record of an attempt with no Ended record behind it: the site is in doubt of it
 abbrev pub doubt_of : List SiteRecord → Tid → Option Held
@@ -63,9 +82,17 @@ prepared_tids [] = []
 prepared_tids (Prepared tid epoch number ticket writes ∷ records) = tid ∷ prepared_tids records
 prepared_tids (newest ∷ records) = prepared_tids records
 
--- all that the site is in doubt of, the last one first
+abbrev pub held_before : Held → Held → Bool
+held_before a b = tid_before a.tid b.tid
+
+-- these by rising attempt
+abbrev pub by_tid : List Held → List Held
+by_tid [] = []
+by_tid (held ∷ more) = inserted held_before held (by_tid more)
+
+-- all that the site is in doubt of, by rising attempt
 abbrev pub doubts : List SiteRecord → List Held
-doubts records = found (doubt_of records) (prepared_tids records)
+doubts records = by_tid (found (doubt_of records) (prepared_tids records))
 
 -- the greatest serial number
 abbrev pub last_number : List SiteRecord → ℕ

@@ -1,13 +1,11 @@
 -- The story of a scenario and its commands: what each command makes happen, which messages were sent, and which line is printed.
 -- The story is kept newest first. Any message that was sent may be taken at any time, any number of times, or never.
-use Rattle.std.specs.Prelude.{ℕ, zero, suc, nat_le, nat_lt, cond, Option, Some, None, List, [], ◌∷◌, ◌++◌, length, map}
-use Rattle.mdb_base.specs.declared.acts.Step.{Step}
+use Rattle.std.specs.Prelude.{ℕ, zero, suc, cond, List, [], ◌∷◌, ◌++◌, length, map}
 use Rattle.mdb_base.specs.declared.names.SiteId.{SiteId}
 use Rattle.mdb_base.specs.declared.names.Tid.{Tid}
 use Rattle.mdb_base.specs.declared.names.Tx.{Tx}
-use Rattle.mdb_base.specs.Names.{same_site, same_tid}
-use Rattle.mdb_base.specs.Programs.{plain_act}
-use Rattle.mdb_base.specs.Words.{when, pick, some_of, those, found, item_at}
+use Rattle.mdb_base.specs.Names.{same_site}
+use Rattle.mdb_base.specs.Words.{pick, those, item_at}
 use Rattle.fed_rules.specs.declared.answers.Answer.{Answer}
 use Rattle.fed_rules.specs.declared.answers.Answer.TheVariants as Say
 use Rattle.fed_rules.specs.declared.commands.Command.{Command}
@@ -21,14 +19,15 @@ use Rattle.fed_rules.specs.declared.events.SiteEvent.TheVariants as Site_event
 use Rattle.fed_rules.specs.declared.messages.FromSite.{FromSite}
 use Rattle.fed_rules.specs.declared.messages.ToSite.{ToSite}
 use Rattle.fed_rules.specs.declared.scenario.Scenario.{Scenario}
-use Rattle.fed_rules.specs.CoordPast as Coordinator
-use Rattle.fed_rules.specs.CoordPast.{CoordHappening, CoordPast, oldest_first}
 use Rattle.fed_rules.specs.Coord.{coord_line}
-use Rattle.fed_rules.specs.Happenings.{is_down}
-use Rattle.fed_rules.specs.Runs.{Access, Got, Wrote, Run}
-use Rattle.fed_rules.specs.Scenarios.{home_of, local_home, global_program, program_of, protocols}
-use Rattle.fed_rules.specs.Site.{site_line, done}
-use Rattle.fed_rules.specs.SitePast.{SiteHappening, SitePast, live, live_of_tx, attempts_of}
+use Rattle.fed_rules.specs.CoordCommands.{go_request, fate_request, attempt_request}
+use Rattle.fed_rules.specs.CoordPast.{CoordHappening, CoordPast}
+pub use Rattle.fed_rules.specs.Requests.{Request, Submits, Declines, most_attempts, unless_begun, attempt}
+use Rattle.fed_rules.specs.Scenarios.{home_of, local_home, global_program, program_of, policy, protocols}
+use Rattle.fed_rules.specs.Site.{site_line}
+pub use Rattle.fed_rules.specs.SiteCommands.{value_of, run_reads}
+use Rattle.fed_rules.specs.SiteCommands.{Verb, Begin, Step_on, Commit, Abort, Fate, request}
+use Rattle.fed_rules.specs.SitePast.{SiteHappening, SitePast}
 use Rattle.fed_rules.specs.SiteRecords.{Home}
 
 -- who makes a line: a site, the coordinator, or nobody, where no actor hears of the command
@@ -87,100 +86,43 @@ abbrev pub sent_from : SiteId → Story → List FromSite
 sent_from site [] = []
 sent_from site (told ∷ story) = sent_from site story ++ sends_from site told.happened
 
--- how many attempts a transaction has
-abbrev pub most_attempts : ℕ
-most_attempts = 32
-
--- where all attempts were begun, what would begin a further one answers spent
-abbrev pub unless_begun : Answer → Answer
-unless_begun (Say.Begun tid) = Say.Spent
-unless_begun answer = answer
-
 -- the next event of a site
 abbrev pub at_site : Home → Story → SiteEvent → Happened
 at_site home story event = AtSite home.site (site_line home (past_of home.site story) event)
 
 -- the next event of the coordinator
 abbrev pub at_coordinator : Scenario → Story → CoordEvent → Happened
-at_coordinator scenario story event = AtCoordinator (coord_line (protocols scenario) (coord_past story) event)
+at_coordinator scenario story event = AtCoordinator (coord_line (protocols scenario) (policy scenario) (coord_past story) event)
 
--- the attempt that would begin next
-abbrev pub attempt : Tx → ℕ → Tid
-attempt tx n = record { tx = tx; attempt = n }
+-- what a request makes happen at a site
+abbrev pub requested : Home → Story → Request SiteEvent → Happened
+requested home story (Submits event) = at_site home story event
+requested home story (Declines answer) = Nowhere answer
 
-unfoldable pub begins_local : Home → Story → Tx → ℕ → Happened
-begins_local home story tx n =
-    let event = Site_event.Begin (attempt tx n) in
-    when (nat_le most_attempts n) (Nowhere (unless_begun (site_line home (past_of home.site story) event).answer)) (at_site home story event)
+-- what a request makes happen at the coordinator
+abbrev pub coord_requested : Scenario → Story → Request CoordEvent → Happened
+coord_requested scenario story (Submits event) = at_coordinator scenario story event
+coord_requested scenario story (Declines answer) = Nowhere answer
 
--- `begin`: the next attempt of a local transaction
-unfoldable pub on_begin : Scenario → Story → Tx → Happened
-on_begin scenario story tx =
-    pick (local_home scenario tx) (Nowhere Say.None)
-    (λ home. begins_local home story tx (attempts_of (past_of home.site story) tx))
+-- a command of a local transaction comes to its site; without one it comes to this
+unfoldable pub on_local : Scenario → Story → Verb → Tx → Happened → Happened
+on_local scenario story verb tx nowhere =
+    pick (local_home scenario tx) nowhere
+    (λ home. requested home story (request verb home (program_of scenario tx) (past_of home.site story) tx))
 
-abbrev pub value_of : Access → Option ℕ
-value_of (Got key value) = Some value
-value_of (Wrote key value) = None
-
--- the values that a run read, in program order
-abbrev pub run_reads : Run → List ℕ
-run_reads run = oldest_first (found value_of run.acts)
-
--- the live attempt of a local transaction, with its run; what finds none is answered idle
-unfoldable pub with_live : Home → Story → Tx → (Tid → Run → Happened) → Happened
-with_live home story tx next =
-    when (is_down (past_of home.site story)) (Nowhere Say.Down)
-    (pick (live_of_tx home (past_of home.site story) tx) (Nowhere Say.Idle)
-    (λ tid. pick (live home (past_of home.site story) tid) (Nowhere Say.Idle) (next tid)))
-
-unfoldable pub next_step : Home → Story → List Step → Tid → Run → Happened
-next_step home story steps tid run =
-    pick (item_at steps (done run)) (Nowhere Say.End)
-    (λ step. at_site home story (Site_event.Act tid (plain_act (run_reads run) step.act)))
-
--- `step`: the next step of the live attempt
-unfoldable pub on_step : Scenario → Story → Tx → Happened
-on_step scenario story tx =
-    pick (local_home scenario tx) (Nowhere Say.None)
-    (λ home. with_live home story tx (next_step home story (program_of scenario tx)))
-
--- `commit`: every step is done
-unfoldable pub on_commit : Scenario → Story → Tx → Happened
-on_commit scenario story tx =
-    pick (local_home scenario tx) (Nowhere Say.None)
-    (λ home. with_live home story tx (λ tid run.
-    when (nat_lt (done run) (length (program_of scenario tx))) (Nowhere Say.Unfinished) (at_site home story (Site_event.Commit tid))))
-
--- `abort`
-unfoldable pub on_abort : Scenario → Story → Tx → Happened
-on_abort scenario story tx =
-    pick (local_home scenario tx) (Nowhere Say.None)
-    (λ home. with_live home story tx (λ tid run. at_site home story (Site_event.Abort tid)))
+-- a command of a global transaction
+unfoldable pub on_go : Scenario → Story → Tx → Happened
+on_go scenario story tx =
+    coord_requested scenario story (go_request (protocols scenario) (policy scenario) (global_program scenario tx) (coord_past story) tx)
 
 -- `fate`, of a local transaction at its site and of a global one at the coordinator
 unfoldable pub on_fate : Scenario → Story → Tx → Happened
 on_fate scenario story tx =
-    pick (local_home scenario tx)
-    (pick (global_program scenario tx) (Nowhere Say.None) (λ steps. at_coordinator scenario story (Coord_event.Fate tx)))
-    (λ home. at_site home story (Site_event.Fate tx))
-
-unfoldable pub begins_global : Scenario → Story → Tx → List Step → ℕ → Happened
-begins_global scenario story tx steps n =
-    let event = Coord_event.Go (attempt tx n) steps in
-    when (nat_le most_attempts n) (Nowhere (unless_begun (coord_line (protocols scenario) (coord_past story) event).answer))
-    (at_coordinator scenario story event)
-
--- `go`: the next attempt of a global transaction
-unfoldable pub on_go : Scenario → Story → Tx → Happened
-on_go scenario story tx =
-    pick (global_program scenario tx) (Nowhere Say.None)
-    (λ steps. begins_global scenario story tx steps (Coordinator.attempts_of (coord_past story) tx))
+    on_local scenario story Fate tx (coord_requested scenario story (fate_request (global_program scenario tx) tx))
 
 -- an event of the coordinator about an attempt that was begun
 unfoldable pub on_attempt : Scenario → Story → Tid → CoordEvent → Happened
-on_attempt scenario story tid event =
-    when (some_of (same_tid tid) (Coordinator.begun_tids (coord_past story))) (at_coordinator scenario story event) (Nowhere Say.None)
+on_attempt scenario story tid event = coord_requested scenario story (attempt_request (coord_past story) tid event)
 
 -- an event of a declared site
 unfoldable pub on_site : Scenario → Story → SiteId → SiteEvent → Happened
@@ -204,10 +146,10 @@ on_actor scenario story (suc n) at_coord at_site = on_site scenario story (recor
 
 -- what a command makes happen
 unfoldable pub happens : Scenario → Story → Command → Happened
-happens scenario story (Cmd.Begin tx) = on_begin scenario story tx
-happens scenario story (Cmd.Step tx) = on_step scenario story tx
-happens scenario story (Cmd.Commit tx) = on_commit scenario story tx
-happens scenario story (Cmd.Abort tx) = on_abort scenario story tx
+happens scenario story (Cmd.Begin tx) = on_local scenario story Begin tx (Nowhere Say.None)
+happens scenario story (Cmd.Step tx) = on_local scenario story Step_on tx (Nowhere Say.None)
+happens scenario story (Cmd.Commit tx) = on_local scenario story Commit tx (Nowhere Say.None)
+happens scenario story (Cmd.Abort tx) = on_local scenario story Abort tx (Nowhere Say.None)
 happens scenario story (Cmd.Fate tx) = on_fate scenario story tx
 happens scenario story (Cmd.Go tx) = on_go scenario story tx
 happens scenario story (Cmd.Again tid) = on_attempt scenario story tid (Coord_event.Again tid)
@@ -220,6 +162,7 @@ happens scenario story (Cmd.Halt actor cut) = on_actor scenario story actor (Coo
 happens scenario story (Cmd.Trip actor calls cut) =
     on_actor scenario story actor (Coord_event.Trip calls cut) (Site_event.Trip calls cut)
 happens scenario story (Cmd.Back actor) = on_actor scenario story actor Coord_event.Back Site_event.Back
+happens scenario story (Cmd.Check actor) = on_actor scenario story actor Coord_event.Check Site_event.Check
 
 abbrev pub tell : Scenario → Story → Command → Told
 tell scenario story command = record { command = command; happened = happens scenario story command }

@@ -49,6 +49,10 @@ pub enum Answer {
     Forgets,
     Undecided,
     Initiates,
+    /// The Checkpoint would be too long.
+    Large,
+    /// The Checkpoint is written, and what stood before it is trimmed.
+    Checked,
     Committed(Tid),
     Running(Tid),
     Begun(Tid),

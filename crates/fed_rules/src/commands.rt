@@ -24,6 +24,8 @@ pub enum Command {
     Halt { actor: u8, cut: u64 },
     Trip { actor: u8, calls: u32, cut: u64 },
     Back { actor: u8 },
+    /// Write a Checkpoint, and trim what stands before it.
+    Check { actor: u8 },
 }
 
 /// The place of a sent message in the channel to or from a site, counted from 0.

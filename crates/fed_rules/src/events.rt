@@ -29,6 +29,8 @@ pub enum SiteEvent {
     Trip { calls: u32, cut: u64 },
     /// Start again.
     Back,
+    /// Write a Checkpoint, and trim what stands before it.
+    Check,
 }
 
 /// What a site answers and sends at an event.
@@ -57,6 +59,8 @@ pub enum CoordEvent {
     Trip { calls: u32, cut: u64 },
     /// Start again.
     Back,
+    /// Write a Checkpoint, and trim what stands before it.
+    Check,
 }
 
 /// What the coordinator answers and sends at an event.

@@ -10,6 +10,7 @@ mod records;
 mod report;
 mod runs;
 mod scenario;
+mod sums;
 
 pub use answers::{Answer, Cause};
 pub use commands::{Command, Line, Place, Stamped};
@@ -20,6 +21,7 @@ pub use records::{CoordRecord, SiteRecord};
 pub use report::{Outcome, Report, TxReads};
 pub use runs::{Doubt, Kept, Sealed};
 pub use scenario::{ItemLine, LinkLine, Scenario, SiteLine, StopLine, TxLine};
+pub use sums::{CommittedAttempt, CoordSum, DoubtfulSum, OpenAttempt, SiteSum};
 
 /// Places of sent messages, in the order in which they are printed.
 pub type Places = ListOf<Place>;
@@ -44,6 +46,15 @@ pub type FromMessages = ListOf<FromSite>;
 
 /// Messages to sites in the order of sending.
 pub type SentMessages = ListOf<Sent>;
+
+/// Subtransactions in doubt by rising attempt.
+pub type DoubtfulSums = ListOf<DoubtfulSum>;
+
+/// Attempts without an End by rising attempt.
+pub type OpenAttempts = ListOf<OpenAttempt>;
+
+/// Committed attempts by rising attempt.
+pub type CommittedAttempts = ListOf<CommittedAttempt>;
 
 /// Commands in the order of their lines.
 pub type Commands = ListOf<Command>;

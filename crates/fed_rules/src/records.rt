@@ -1,4 +1,5 @@
 //! The records that a site and the coordinator keep on their disks.
+use crate::sums::{CoordSum, SiteSum};
 use mdb_base::{Engine, Puts, SiteId, Tickets, Tid};
 use presumptions::{Decision, Participants, Protocol};
 
@@ -35,6 +36,8 @@ pub enum SiteRecord {
         number: u64,
         writes: Puts,
     },
+    /// What all records before it say together.
+    Checkpoint(SiteSum),
 }
 
 /// A record of the coordinator's journal.
@@ -50,8 +53,15 @@ pub enum CoordRecord {
         tid: Tid,
         tickets: Tickets,
     },
+    /// The attempt is decided abort, and these sites, which all presume nothing, have to acknowledge it.
+    Abort {
+        tid: Tid,
+        participants: Participants,
+    },
     /// Every required acknowledgement is in.
     End {
         tid: Tid,
     },
+    /// What all records before it say together.
+    Checkpoint(CoordSum),
 }

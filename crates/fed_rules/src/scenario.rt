@@ -58,6 +58,8 @@ pub struct Scenario {
     pub tries: u8,
     pub links: LinkLines,
     pub stops: StopLines,
+    /// Whether tickets are taken by the conservative method.
+    pub conservative: bool,
 }
 
 impl Model for Scenario {
@@ -74,6 +76,7 @@ impl Model for Scenario {
       tries = z.tries;
       links = z.links;
       stops = z.stops;
+      conservative = z.conservative;
     } };
 
     ghost invariant = { λ z. IsScenario (record {
@@ -85,5 +88,6 @@ impl Model for Scenario {
       tries = z.tries;
       links = z.links;
       stops = z.stops;
+      conservative = z.conservative;
     }) };
 }

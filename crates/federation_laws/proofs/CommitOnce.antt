@@ -2,13 +2,14 @@
 use Rattle.std.proofs.Common.{◌≡◌, ◌⊎◌, ℕ, Bool, true, false, cond, ◌&&◌, is_some, nat_le, Option, Some, None, List, [], ◌∷◌, map, inl, inr, refl, sym, ap, subst, ◌∙◌}
 use Rattle.std.proofs.lemmas.Bool.{and_parts}
 use Rattle.mdb_base.specs.declared.names.SiteId.{SiteId}
+use Rattle.mdb_base.specs.declared.names.SiteTicket.{SiteTicket}
 use Rattle.mdb_base.specs.declared.names.Tid.{Tid}
 use Rattle.mdb_base.specs.Names.{same_site, same_tid}
 use Rattle.mdb_base.specs.Words.{Each, Among, found, with_some}
 use Rattle.presumptions.specs.declared.Participant.{Participant}
 use Rattle.order_laws.specs.Chains.{In, Distinct}
 use Rattle.order_laws.specs.Tickets.{Ticketed, OneEach}
-use Rattle.order_laws.proofs.Lists.{among_is, in_those, one_image, each_of_at}
+use Rattle.order_laws.proofs.Lists.{among_is, in_those, one_image, each_of_at, those_in}
 use Rattle.order_laws.proofs.Tickets.{acyclic_no_cycle}
 use Rattle.order_laws.proofs.Names.{same_site_alike, same_tid_alike, same_tid_self}
 use Rattle.fed_rules.specs.declared.answers.Answer.TheVariants as Say
@@ -19,10 +20,10 @@ use Rattle.fed_rules.specs.declared.messages.FromSite.TheVariants as From
 use Rattle.fed_rules.specs.declared.records.CoordRecord.{CoordRecord}
 use Rattle.fed_rules.specs.declared.records.CoordRecord.TheVariants as Rec
 use Rattle.fed_rules.specs.declared.scenario.Scenario.{Scenario}
-use Rattle.fed_rules.specs.Coord.{vote_ticket}
-use Rattle.fed_rules.specs.CoordPast.{CoordHappening, CoordPast, disk, records, standing, is_undecided, begins, counts, program, visits, participants, or_vote, vote_in, vote_at}
+use Rattle.fed_rules.specs.Coord.{vote_ticket, vote_tickets}
+use Rattle.fed_rules.specs.CoordPast.{CoordHappening, CoordPast, disk, records, is_open, begins, counts, program, visits, participants, or_vote, vote_in, vote_at}
 use Rattle.fed_rules.specs.CoordRecords.{coord_frame, has_commit, commits}
-use Rattle.fed_rules.specs.Disk.{Disk, Call, Append, Sync, CutBack, Stops, bytes_of, whole, after_calls}
+use Rattle.fed_rules.specs.Disk.{Disk, Call, Append, Sync, CutBack, TrimFront, Stops, bytes_of, whole, after_calls}
 use Rattle.fed_rules.specs.Happenings.{quiet}
 use Rattle.fed_rules.specs.Plans.{IsScenario}
 use Rattle.fed_rules.specs.Scenarios.{protocols}
@@ -33,7 +34,7 @@ use Rattle.federation_laws.proofs.CoordHolds.{last-vote-of, starts-novote, fresh
 use Rattle.federation_laws.proofs.CoordMade.{CommitsNobody, IsAccepted, IsLastVote, Writes}
 use Rattle.federation_laws.proofs.Standings.{AppendsCommit}
 use Rattle.federation_laws.proofs.StoryGlobals.{StoryHolds, story-holds, coord-made, fresh-line, declared-program}
-use Rattle.federation_laws.proofs.Told.{IsCoordLine, IsLine, CoordCause, line_is}
+use Rattle.federation_laws.proofs.Told.{some-parts, IsCoordLine, IsLine, CoordCause, line_is}
 use Rattle.federation_laws.proofs.TicketCycles.{commits-whole, free-story}
 use Rattle.federation_laws.proofs.Lists.{in-more}
 
@@ -50,7 +51,9 @@ committed-tid (Rec.Commit tid tickets ∷ rs) t (inr i) = by_test (same_tid tid 
     by_test true h = refl
     by_test false h = h
 committed-tid (Rec.Initiation tid members ∷ rs) t i = committed-tid rs t i
+committed-tid (Rec.Abort tid members ∷ rs) t i = committed-tid rs t i
 committed-tid (Rec.End tid ∷ rs) t i = committed-tid rs t i
+committed-tid (Rec.Checkpoint sum ∷ rs) t i = committed-tid rs t i
 
 -- who has a Commit record has a node
 pub commit-node : (rs : List CoordRecord) (t : Tid) → has_commit rs t ≡ true → (node : Ticketed) × In node (commits rs) × (node.tid ≡ t)
@@ -62,12 +65,16 @@ commit-node (Rec.Commit tid tickets ∷ rs) t e = by_test (same_tid tid t) refl 
     by_test true q e h = (record { tid = tid; tickets = tickets }, inl refl, same_tid_alike tid t q)
     by_test false q e h = let r = h e in (r.0, inr r.1, r.2)
 commit-node (Rec.Initiation tid members ∷ rs) t e = commit-node rs t e
+commit-node (Rec.Abort tid members ∷ rs) t e = commit-node rs t e
 commit-node (Rec.End tid ∷ rs) t e = commit-node rs t e
+commit-node (Rec.Checkpoint sum ∷ rs) t e = commit-node rs t e
 
 behind-one : (r : CoordRecord) (rs : List CoordRecord) → Distinct (tids_of (r ∷ rs)) → Distinct (tids_of rs)
 behind-one (Rec.Commit tid tickets) rs d = d.1
 behind-one (Rec.Initiation tid members) rs d = d
+behind-one (Rec.Abort tid members) rs d = d
 behind-one (Rec.End tid) rs d = d
+behind-one (Rec.Checkpoint sum) rs d = d
 
 distinct-whole : (b : ℕ) (rs : List CoordRecord) → Distinct (tids_of rs) → Distinct (tids_of (whole coord_frame b rs))
 distinct-whole b [] d = d
@@ -80,7 +87,9 @@ distinct-whole b (r ∷ rs) d = by_test (nat_le (bytes_of coord_frame (r ∷ rs)
 in-behind : (r : CoordRecord) (rs : List CoordRecord) (t : Tid) → In t (tids_of rs) → In t (tids_of (r ∷ rs))
 in-behind (Rec.Commit tid tickets) rs t i = inr i
 in-behind (Rec.Initiation tid members) rs t i = i
+in-behind (Rec.Abort tid members) rs t i = i
 in-behind (Rec.End tid) rs t i = i
+in-behind (Rec.Checkpoint sum) rs t i = i
 
 in-whole : (b : ℕ) (rs : List CoordRecord) (t : Tid) → In t (tids_of (whole coord_frame b rs)) → In t (tids_of rs)
 in-whole b [] t i = i
@@ -93,10 +102,13 @@ in-whole b (r ∷ rs) t i = by_test (nat_le (bytes_of coord_frame (r ∷ rs)) b)
 nobody-distinct : (calls : List (Call CoordRecord)) (d : Disk CoordRecord) → Each CommitsNobody calls → Distinct (tids_of d.records) → Distinct (tids_of (after_calls coord_frame d calls).records)
 nobody-distinct [] d n h = h
 nobody-distinct (Append (Rec.Commit tid tickets) ∷ calls) d n h = absurd n.0
+nobody-distinct (Append (Rec.Checkpoint sum) ∷ calls) d n h = nobody-distinct calls _ n.1 h
 nobody-distinct (Append (Rec.Initiation tid members) ∷ calls) d n h = nobody-distinct calls _ n.1 h
+nobody-distinct (Append (Rec.Abort tid members) ∷ calls) d n h = nobody-distinct calls _ n.1 h
 nobody-distinct (Append (Rec.End tid) ∷ calls) d n h = nobody-distinct calls _ n.1 h
 nobody-distinct (Sync ∷ calls) d n h = nobody-distinct calls _ n.1 h
 nobody-distinct (CutBack ∷ calls) d n h = nobody-distinct calls _ n.1 h
+nobody-distinct (TrimFront ∷ calls) d n h = nobody-distinct calls _ n.1 h
 nobody-distinct (Stops cut ∷ calls) d n h = nobody-distinct calls _ n.1 (distinct-whole _ d.records h)
 
 -- calls of which one appends a Commit of an attempt that has none
@@ -106,9 +118,12 @@ accepted-distinct [] d others all a new sub h = h
 accepted-distinct (Append (Rec.Commit tid tickets) ∷ calls) d others all a new sub h =
     nobody-distinct calls _ a.1 ((λ i. new tid (inl refl) (sub tid i)), h)
 accepted-distinct (Append (Rec.Initiation tid members) ∷ calls) d others all a new sub h = accepted-distinct calls _ others all a (λ g i. new g (inr i)) sub h
+accepted-distinct (Append (Rec.Abort tid members) ∷ calls) d others all a new sub h = accepted-distinct calls _ others all a (λ g i. new g (inr i)) sub h
 accepted-distinct (Append (Rec.End tid) ∷ calls) d others all a new sub h = accepted-distinct calls _ others all a (λ g i. new g (inr i)) sub h
+accepted-distinct (Append (Rec.Checkpoint sum) ∷ calls) d others all a new sub h = accepted-distinct calls _ others all a (λ g i. new g (inr i)) sub h
 accepted-distinct (Sync ∷ calls) d others all a new sub h = accepted-distinct calls _ others all a (λ g i. new g (inr i)) sub h
 accepted-distinct (CutBack ∷ calls) d others all a new sub h = accepted-distinct calls _ others all a (λ g i. new g (inr i)) sub h
+accepted-distinct (TrimFront ∷ calls) d others all a new sub h = accepted-distinct calls _ others all a (λ g i. new g (inr i)) sub h
 accepted-distinct (Stops cut ∷ calls) d others all a new sub h = accepted-distinct calls _ others all a (λ g i. new g (inr i)) (λ t i. sub t (in-whole _ d.records t i)) (distinct-whole _ d.records h)
 
 -- who is about to be committed has no Commit record
@@ -116,8 +131,8 @@ new-commit : (scenario : Scenario) (story : Story) (x : CoordHappening) (line : 
 new-commit scenario story x line holds g i old =
     let made = coord-made scenario story x line in
     let (tickets, v) = last-vote-of (protocols scenario) (coord_past story) line.event g x.calls made.writes i in
-    let undecided : is_undecided (standing (coord_past story) g) ≡ true = (and_parts _ _ v.is_counted).0 in
-    let over : is_undecided (standing (coord_past story) g) ≡ false = (holds g).holds.over (committed-tid (records (coord_past story)) g old) in
+    let undecided : is_open (coord_past story) g ≡ true = (and_parts _ _ v.is_counted).0 in
+    let over : is_open (coord_past story) g ≡ false = (holds g).holds.over (committed-tid (records (coord_past story)) g old) in
     let clash = sym undecided ∙ over in cc
 
 once-happened : (scenario : Scenario) (story : Story) (happened : Happened) → ((g : Tid) → StoryHolds scenario story g) → IsLine scenario story happened → Distinct (tids_of (records (coord_past story))) → Distinct (tids_of (records (with_coordinator happened (coord_past story))))
@@ -144,7 +159,9 @@ node-more : (node : Ticketed) (r : CoordRecord) (rs : List CoordRecord) → In n
 node-more node (Rec.Commit tid tickets) rs (inl e) = inr (ap (λ (n : Ticketed). Rec.Commit n.tid n.tickets) e)
 node-more node (Rec.Commit tid tickets) rs (inr i) = inl i
 node-more node (Rec.Initiation tid members) rs i = inl i
+node-more node (Rec.Abort tid members) rs i = inl i
 node-more node (Rec.End tid) rs i = inl i
+node-more node (Rec.Checkpoint sum) rs i = inl i
 
 node-from : (calls : List (Call CoordRecord)) (d : Disk CoordRecord) (node : Ticketed) → In node (commits (after_calls coord_frame d calls).records) → In node (commits d.records) ⊎ Among (AppendsNode node) calls
 unfolding AppendsNode
@@ -155,6 +172,7 @@ node-from (Append r ∷ calls) d node i = elim (node-from calls _ node i) [
 ]
 node-from (Sync ∷ calls) d node i = elim (node-from calls _ node i) [ inl k ↦ inl k | inr k ↦ inr (inr k) ]
 node-from (CutBack ∷ calls) d node i = elim (node-from calls _ node i) [ inl k ↦ inl k | inr k ↦ inr (inr k) ]
+node-from (TrimFront ∷ calls) d node i = elim (node-from calls _ node i) [ inl k ↦ inl k | inr k ↦ inr (inr k) ]
 node-from (Stops cut ∷ calls) d node i = elim (node-from calls _ node i) [ inl k ↦ inl (commits-whole _ d.records node k) | inr k ↦ inr (inr k) ]
 
 -- the vote that it comes from
@@ -170,10 +188,16 @@ IsVoted story node =
     (s : SiteId) → visits s (program (coord_past story) node.tid) ≡ true
     → (ticket : ℕ) × In (record { site = s; ticket = ticket }) node.tickets × In (From.Vote node.tid (Some ticket)) (sent_from s story)
 
+-- the ticket is that of a yes vote from a site of the program
+pub record IsVote (story : Story) (g : Tid) (k : SiteTicket) : Type 0 where
+  pub sent : In (From.Vote g (Some k.ticket)) (sent_from k.site story)
+  pub visited : visits k.site (program (coord_past story) g) ≡ true
+
 -- the votes that counted were sent, and so were those of the Commit records
 pub record VotesSent (story : Story) : Type 0 where
   pub votes : (g : Tid) (s : SiteId) (ticket : ℕ) → vote_at (coord_past story) g s ≡ Some ticket → In (From.Vote g (Some ticket)) (sent_from s story)
   pub nodes : (node : Ticketed) → In node (commits (records (coord_past story))) → IsVoted story node
+  pub tickets : (node : Ticketed) → In node (commits (records (coord_past story))) → (k : SiteTicket) → In k node.tickets → IsVote story node.tid k
 
 some-value : (o : Option ℕ) → is_some o ≡ true → (n : ℕ) × (o ≡ Some n)
 some-value None e = cc
@@ -191,6 +215,21 @@ in-found {A} {B} look x y (z ∷ xs) (inr i) e = later (look z) (in-found look x
     later : (o : Option B) → In y (found look xs) → In y (with_some o (found look xs))
     later None j = j
     later (Some w) j = inr j
+
+found-from : {A B : Type 0} (look : A → Option B) (y : B) (xs : List A) → In y (found look xs) → (x : A) × In x xs × (look x ≡ Some y)
+found-from look y [] i = absurd i
+found-from {A} {B} look y (x ∷ xs) i = first (look x) refl i (found-from look y xs)
+  where
+    first : (o : Option B) → look x ≡ o → In y (with_some o (found look xs)) → (In y (found look xs) → (z : A) × In z xs × (look z ≡ Some y)) → (z : A) × In z (x ∷ xs) × (look z ≡ Some y)
+    first None q i k = let r = k i in (r.0, inr r.1, r.2)
+    first (Some w) q (inl p) k = (x, inl refl, q ∙ ap Some p)
+    first (Some w) q (inr j) k = let r = k j in (r.0, inr r.1, r.2)
+
+ticket-vote : (site : SiteId) (o : Option ℕ) (k : SiteTicket) → vote_ticket site o ≡ Some k → (o ≡ Some k.ticket) × (site ≡ k.site)
+ticket-vote site None k e = cc
+ticket-vote site (Some ticket) k e =
+    let same : record { site = site; ticket = ticket } ≡ k = some-parts e in
+    (ap (λ (z : SiteTicket). Some z.ticket) same, ap (λ (z : SiteTicket). z.site) same)
 
 -- the vote that a line counts was sent
 vote-sent : (scenario : Scenario) (story : Story) (g : Tid) (s : SiteId) (event : CoordEvent) (ticket : ℕ) → CoordCause scenario story event → VotesSent story → or_vote (vote_in g s event) (vote_at (coord_past story) g s) ≡ Some ticket → In (From.Vote g (Some ticket)) (sent_from s story)
@@ -219,8 +258,9 @@ vote-sent scenario story g s (Ev.Fate tx) ticket c v e = v.votes g s ticket e
 vote-sent scenario story g s (Ev.Halt cut) ticket c v e = v.votes g s ticket e
 vote-sent scenario story g s (Ev.Trip calls cut) ticket c v e = v.votes g s ticket e
 vote-sent scenario story g s Ev.Back ticket c v e = v.votes g s ticket e
+vote-sent scenario story g s Ev.Check ticket c v e = v.votes g s ticket e
 
-node-tid : (rs : List CoordRecord) (node : Ticketed) → In node (commits rs) → In node.tid (tids_of rs)
+pub node-tid : (rs : List CoordRecord) (node : Ticketed) → In node (commits rs) → In node.tid (tids_of rs)
 node-tid rs node i = image (commits rs) i
   where
     image : (nodes : List Ticketed) → In node nodes → In node.tid (map (λ n. n.tid) nodes)
@@ -270,32 +310,72 @@ old-node scenario story x line holds votes node i s visited = votes.nodes node i
         ((holds node.tid).holds.committed (committed-tid (records (coord_past story)) node.tid (node-tid (records (coord_past story)) node i))).known b)
     by_begun false b = ap (visits s) (sym (program-stays (coord_past story) node.tid x b)) ∙ visited
 
+-- the tickets at a last vote are of votes that were sent
+pub tickets-voted : (scenario : Scenario) (story : Story) (g : Tid) (event : CoordEvent) → CoordCause scenario story event → VotesSent story → (k : SiteTicket) → In k (vote_tickets (quiet event Say.Voted ∷ coord_past story) g (participants (protocols scenario) (coord_past story) g)) → IsVote story g k
+tickets-voted scenario story g event cause votes k i =
+    let (p, j, e) = found-from (λ (m : Participant). vote_ticket m.site (vote_at (quiet event Say.Voted ∷ coord_past story) g m.site)) k (participants (protocols scenario) (coord_past story) g) i in
+    let (v, at) = ticket-vote p.site (vote_at (quiet event Say.Voted ∷ coord_past story) g p.site) k e in
+    record {
+      sent = subst (λ z. In (From.Vote g (Some k.ticket)) (sent_from z story)) at (vote-sent scenario story g p.site event k.ticket cause votes v);
+      visited = subst (λ z. visits z (program (coord_past story) g) ≡ true) at (those_in (λ (m : Participant). visits m.site (program (coord_past story) g)) p (protocols scenario) j).1;
+    }
+
+new-ticket : (scenario : Scenario) (story : Story) (x : CoordHappening) (line : IsCoordLine scenario story x) → VotesSent story → (node : Ticketed) → IsLastVote (protocols scenario) (coord_past story) line.event node.tid node.tickets
+    → (k : SiteTicket) → In k node.tickets → In (From.Vote node.tid (Some k.ticket)) (sent_from k.site story) × (visits k.site (program (x ∷ coord_past story) node.tid) ≡ true)
+new-ticket scenario story x line votes node v k i =
+    let voted = tickets-voted scenario story node.tid line.event line.cause votes k (subst (In k) v.theirs i) in
+    (voted.sent, by_begun (begins node.tid x.answer) refl voted.visited)
+  where
+    by_begun : (t : Bool) → begins node.tid x.answer ≡ t → visits k.site (program (coord_past story) node.tid) ≡ true → visits k.site (program (x ∷ coord_past story) node.tid) ≡ true
+    by_begun true b visited = absurd (starts-novote node.tid x line.event v.site v.ticket (coord-made scenario story x line).begun b v.is_vote)
+    by_begun false b visited = ap (visits k.site) (program-stays (coord_past story) node.tid x b) ∙ visited
+
+old-ticket : (scenario : Scenario) (story : Story) (x : CoordHappening) (line : IsCoordLine scenario story x) → ((g : Tid) → StoryHolds scenario story g) → VotesSent story → (node : Ticketed) → In node (commits (records (coord_past story)))
+    → (k : SiteTicket) → In k node.tickets → In (From.Vote node.tid (Some k.ticket)) (sent_from k.site story) × (visits k.site (program (x ∷ coord_past story) node.tid) ≡ true)
+old-ticket scenario story x line holds votes node i k j =
+    let voted = votes.tickets node i k j in (voted.sent, by_begun (begins node.tid x.answer) refl voted.visited)
+  where
+    by_begun : (t : Bool) → begins node.tid x.answer ≡ t → visits k.site (program (coord_past story) node.tid) ≡ true → visits k.site (program (x ∷ coord_past story) node.tid) ≡ true
+    by_begun true b visited =
+        absurd (fresh-begun (coord_past story) node.tid x (fresh-line scenario story node.tid x line (coord-made scenario story x line) (holds node.tid))
+        ((holds node.tid).holds.committed (committed-tid (records (coord_past story)) node.tid (node-tid (records (coord_past story)) node i))).known b)
+    by_begun false b visited = ap (visits k.site) (program-stays (coord_past story) node.tid x b) ∙ visited
+
 votes-happened : (scenario : Scenario) → IsScenario scenario → (story : Story) (command : Command) (happened : Happened) → ((g : Tid) → StoryHolds scenario story g) → IsLine scenario story happened → VotesSent story → VotesSent (record { command = command; happened = happened } ∷ story)
 votes-happened scenario good story command (AtSite at x) holds line v =
     record {
       votes = λ g s ticket e. in-more _ (sent_from s story) _ (v.votes g s ticket e);
       nodes = λ node i s visited. let r = v.nodes node i s visited in (r.0, r.1, in-more _ (sent_from s story) _ r.2);
+      tickets = λ node i k j. let r = v.tickets node i k j in record { sent = in-more _ (sent_from k.site story) _ r.sent; visited = r.visited };
     }
 votes-happened scenario good story command (AtCoordinator x) holds line v =
     record {
       votes = λ g s ticket e. in-more _ (sent_from s story) [] (votes-coord scenario story x line v g s ticket e);
       nodes = λ node i s visited.
           let r = either node (node-from x.calls (disk (coord_past story)) node i) s visited in (r.0, r.1, in-more _ (sent_from s story) [] r.2);
+      tickets = λ node i k j.
+          let r = either-ticket node (node-from x.calls (disk (coord_past story)) node i) k j in record { sent = in-more _ (sent_from k.site story) [] r.0; visited = r.1 };
     }
   where
     either : (node : Ticketed) → In node (commits (records (coord_past story))) ⊎ Among (AppendsNode node) x.calls → (s : SiteId) → visits s (program (x ∷ coord_past story) node.tid) ≡ true
         → (ticket : ℕ) × In (record { site = s; ticket = ticket }) node.tickets × In (From.Vote node.tid (Some ticket)) (sent_from s story)
     either node (inl old) s visited = old-node scenario story x line holds v node old s visited
     either node (inr new) s visited = new-node scenario good story x line holds v node (node-vote (protocols scenario) (coord_past story) line.event node x.calls (coord-made scenario story x line).writes new) s visited
+
+    either-ticket : (node : Ticketed) → In node (commits (records (coord_past story))) ⊎ Among (AppendsNode node) x.calls → (k : SiteTicket) → In k node.tickets
+        → In (From.Vote node.tid (Some k.ticket)) (sent_from k.site story) × (visits k.site (program (x ∷ coord_past story) node.tid) ≡ true)
+    either-ticket node (inl old) k j = old-ticket scenario story x line holds v node old k j
+    either-ticket node (inr new) k j = new-ticket scenario story x line v node (node-vote (protocols scenario) (coord_past story) line.event node x.calls (coord-made scenario story x line).writes new) k j
 votes-happened scenario good story command (Nowhere answer) holds line v =
     record {
       votes = λ g s ticket e. in-more _ (sent_from s story) [] (v.votes g s ticket e);
       nodes = λ node i s visited. let r = v.nodes node i s visited in (r.0, r.1, in-more _ (sent_from s story) [] r.2);
+      tickets = λ node i k j. let r = v.tickets node i k j in record { sent = in-more _ (sent_from k.site story) [] r.sent; visited = r.visited };
     }
 
 -- so it is in every story
 pub votes-sent : (scenario : Scenario) → IsScenario scenario → (commands : List Command) → VotesSent (story_of scenario commands)
-votes-sent scenario good [] = record { votes = λ g s ticket e. cc; nodes = λ node i. absurd i }
+votes-sent scenario good [] = record { votes = λ g s ticket e. cc; nodes = λ node i. absurd i; tickets = λ node i. absurd i }
 votes-sent scenario good (command ∷ commands) =
     votes-happened scenario good (story_of scenario commands) command _ (story-holds scenario good commands) (line_is scenario (story_of scenario commands) command) (votes-sent scenario good commands)
 

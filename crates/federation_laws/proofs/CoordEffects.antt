@@ -152,6 +152,7 @@ of-event past g x (Ev.Fate tx) h e f k = still-other past g x e f (ap (did_in g)
 of-event past g x (Ev.Halt cut) h e f k = still-other past g x e f (ap (did_in g) h) (ap (op_in past g) h) (λ s. ap (vote_in g s) h)
 of-event past g x (Ev.Trip calls cut) h e f k = still-other past g x e f (ap (did_in g) h) (ap (op_in past g) h) (λ s. ap (vote_in g s) h)
 of-event past g x Ev.Back h e f k = still-other past g x e f (ap (did_in g) h) (ap (op_in past g) h) (λ s. ap (vote_in g s) h)
+of-event past g x Ev.Check h e f k = still-other past g x e f (ap (did_in g) h) (ap (op_in past g) h) (λ s. ap (vote_in g s) h)
 
 -- what a line changes of an attempt
 pub effect : (past : CoordPast) (g : Tid) (x : CoordHappening) (event : CoordEvent) → x.event ≡ event → Counts past event x.answer → Effect past g x

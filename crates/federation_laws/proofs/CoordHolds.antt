@@ -22,9 +22,9 @@ use Rattle.fed_rules.specs.declared.messages.FromSite.TheVariants as From
 use Rattle.fed_rules.specs.declared.records.CoordRecord.{CoordRecord}
 use Rattle.fed_rules.specs.declared.records.CoordRecord.TheVariants as Rec
 use Rattle.fed_rules.specs.Coord.{is_due_vote}
-use Rattle.fed_rules.specs.CoordPast.{CoordHappening, CoordPast, Counted, disk, records, standing, is_undecided, is_about, begins, begun_by, begun_tids, program, visits, participants, counted, or_vote, vote_at, outstanding, is_wait, is_ticket, decides}
+use Rattle.fed_rules.specs.CoordPast.{CoordHappening, CoordPast, Counted, disk, records, is_open, is_about, begins, begun_by, begun_tids, program, visits, participants, counted, or_vote, vote_at, outstanding, is_wait, is_ticket, decides}
 use Rattle.fed_rules.specs.CoordRecords.{has_commit}
-use Rattle.fed_rules.specs.Disk.{Call, Append, Sync, CutBack, Stops}
+use Rattle.fed_rules.specs.Disk.{Call, Append, Sync, CutBack, TrimFront, Stops}
 use Rattle.fed_rules.specs.Happenings.{quiet, stops, comes_up}
 use Rattle.federation_laws.specs.Accesses.{act_of, Follows}
 use Rattle.federation_laws.proofs.CoordEffects.{program-stays, CountsReply, Effect, Starts, Replies, Votes, Still, effect}
@@ -52,12 +52,12 @@ pub record Finished (past : CoordPast) (g : Tid) : Type 0 where
 -- what holds of an attempt
 pub record Holds (past : CoordPast) (g : Tid) : Type 0 where
   pub unbegun : is_begun past g ≡ false → program past g ≡ []
-  pub alive : is_undecided (standing past g) ≡ true → is_dead (counted past g) ≡ false
+  pub alive : is_open past g ≡ true → is_dead (counted past g) ≡ false
   pub agree : is_dead (counted past g) ≡ false → Agree (counted past g) (ops past g)
   pub follows : is_dead (counted past g) ≡ false → Follows (program past g) (accesses (ops past g))
   pub voted : (s : SiteId) → is_some (vote_at past g s) ≡ true → IsDone (program past g) (counted past g) s
   pub committed : has_commit (records past) g ≡ true → Finished past g
-  pub over : has_commit (records past) g ≡ true → is_undecided (standing past g) ≡ false
+  pub over : has_commit (records past) g ≡ true → is_open past g ≡ false
 
 -- at first
 pub holds-first : (g : Tid) → Holds [] g
@@ -150,9 +150,12 @@ pub last-vote-of : (protocols : List Participant) (past : CoordPast) (event : Co
 last-vote-of protocols past event g [] w i = absurd i
 last-vote-of protocols past event g (Append (Rec.Commit tid tickets) ∷ calls) w (inl own) = (tickets, subst (λ t. IsLastVote protocols past event t tickets) own w.0)
 last-vote-of protocols past event g (Append (Rec.Initiation tid members) ∷ calls) w (inl own) = absurd own
+last-vote-of protocols past event g (Append (Rec.Abort tid members) ∷ calls) w (inl own) = absurd own
 last-vote-of protocols past event g (Append (Rec.End tid) ∷ calls) w (inl own) = absurd own
+last-vote-of protocols past event g (Append (Rec.Checkpoint sum) ∷ calls) w (inl own) = absurd own
 last-vote-of protocols past event g (Sync ∷ calls) w (inl own) = absurd own
 last-vote-of protocols past event g (CutBack ∷ calls) w (inl own) = absurd own
+last-vote-of protocols past event g (TrimFront ∷ calls) w (inl own) = absurd own
 last-vote-of protocols past event g (Stops cut ∷ calls) w (inl own) = absurd own
 last-vote-of protocols past event g (call ∷ calls) w (inr i) = last-vote-of protocols past event g calls w.1 i
 
@@ -166,7 +169,7 @@ last-finished protocols past event g tickets h declared v =
     }
   where
     here : (visits v.site (program past g) ≡ true) × (left_at (program past g) (counted past g) v.site ≡ false) × (ticket_of (counted past g) v.site ≡ true)
-    here = voting (program past g) (counted past g) (vote_at past g v.site) v.site (and_parts (is_undecided (standing past g)) (is_due_vote (outstanding past g v.site)) v.is_counted).1
+    here = voting (program past g) (counted past g) (vote_at past g v.site) v.site (and_parts (is_open past g) (is_due_vote (outstanding past g v.site)) v.is_counted).1
 
     begun : (t : Bool) → is_begun past g ≡ t → is_begun past g ≡ true
     begun true e = e
@@ -276,10 +279,10 @@ going-next past g x h (Still q) d =
     going-by (x ∷ past) g _ _ _ q.replies q.done (program-stays past g x q.begun) (h.agree was) (h.follows was)
 
 -- who is undecided has had no refusal
-alive-next : (past : CoordPast) (g : Tid) (x : CoordHappening) → Begins x.event x.answer → Decides x.event x.answer → Holds past g → Effect past g x → is_undecided (standing (x ∷ past) g) ≡ true → is_dead (counted (x ∷ past) g) ≡ false
+alive-next : (past : CoordPast) (g : Tid) (x : CoordHappening) → Begins x.event x.answer → Decides x.event x.answer → Holds past g → Effect past g x → is_open (x ∷ past) g ≡ true → is_dead (counted (x ∷ past) g) ≡ false
 alive-next past g x b d h effects u = by_case effects (undecided-from past g x b u)
   where
-    by_case : Effect past g x → (begins g x.answer ≡ true) ⊎ ((is_undecided (standing past g) ≡ true) × (is_about g x.event ≡ true → decides x.answer ≡ false) × ((stops x.answer || comes_up x.answer) ≡ false)) → is_dead (counted (x ∷ past) g) ≡ false
+    by_case : Effect past g x → (begins g x.answer ≡ true) ⊎ ((is_open past g ≡ true) × (is_about g x.event ≡ true → decides x.answer ≡ false) × ((stops x.answer || comes_up x.answer) ≡ false)) → is_dead (counted (x ∷ past) g) ≡ false
     by_case eff (inl e) = ap is_dead (cond-true (begins g x.answer) [] _ e)
     by_case (Starts e) (inr k) = ap is_dead (cond-true (begins g x.answer) [] _ e)
     by_case (Replies r) (inr k) = ap is_dead r.replies ∙ goes (is_refusal r.reply) refl
@@ -315,8 +318,8 @@ voted-next past g x s h (Votes v) e = done-same past g x s v.begun v.replies (by
 voted-next past g x s h (Still q) e = done-same past g x s q.begun q.replies (h.voted s (ap is_some (sym (q.votes s)) ∙ e))
 
 -- who is committed isn't undecided any more
-over-next : (protocols : List Participant) (past : CoordPast) (g : Tid) (event : CoordEvent) (x : CoordHappening) → IsMade protocols past event x → IsFresh past g x → Holds past g → has_commit (records (x ∷ past)) g ≡ true → is_undecided (standing (x ∷ past) g) ≡ false
-over-next protocols past g event x made fresh h e = by_test (is_undecided (standing (x ∷ past) g)) refl
+over-next : (protocols : List Participant) (past : CoordPast) (g : Tid) (event : CoordEvent) (x : CoordHappening) → IsMade protocols past event x → IsFresh past g x → Holds past g → has_commit (records (x ∷ past)) g ≡ true → is_open (x ∷ past) g ≡ false
+over-next protocols past g event x made fresh h e = by_test (is_open (x ∷ past) g) refl
   where
     begins-none : begins g x.answer ≡ true → (has_commit (records past) g ≡ true) ⊎ Among (AppendsCommit g) x.calls → ⊥
     begins-none b (inl old) = fresh-begun past g x fresh (h.committed old).known b
@@ -326,16 +329,19 @@ over-next protocols past g event x made fresh h e = by_test (is_undecided (stand
     nobody-else [] n i = i
     nobody-else (Append (Rec.Commit tid tickets) ∷ calls) n i = n.0
     nobody-else (Append (Rec.Initiation tid members) ∷ calls) n (inl own) = own
+    nobody-else (Append (Rec.Abort tid members) ∷ calls) n (inl own) = own
     nobody-else (Append (Rec.End tid) ∷ calls) n (inl own) = own
+    nobody-else (Append (Rec.Checkpoint sum) ∷ calls) n (inl own) = own
     nobody-else (Sync ∷ calls) n (inl own) = own
     nobody-else (CutBack ∷ calls) n (inl own) = own
+    nobody-else (TrimFront ∷ calls) n (inl own) = own
     nobody-else (Stops cut ∷ calls) n (inl own) = own
     nobody-else (call ∷ calls) n (inr i) = nobody-else calls n.1 i
 
     none : (a b : Bool) → a ≡ false → b ≡ false → (a || b) ≡ false
     none a b e f = ap (λ t. t || b) e ∙ f
 
-    going : (has_commit (records past) g ≡ true) ⊎ Among (AppendsCommit g) x.calls → (is_undecided (standing past g) ≡ true) × (is_about g x.event ≡ true → decides x.answer ≡ false) × ((stops x.answer || comes_up x.answer) ≡ false) → ⊥
+    going : (has_commit (records past) g ≡ true) ⊎ Among (AppendsCommit g) x.calls → (is_open past g ≡ true) × (is_about g x.event ≡ true → decides x.answer ≡ false) × ((stops x.answer || comes_up x.answer) ≡ false) → ⊥
     going (inl old) k = let clash = sym k.0 ∙ h.over old in cc
     going (inr new) k =
         let (tickets, v) = last-vote-of protocols past event g x.calls made.writes new in
@@ -347,7 +353,7 @@ over-next protocols past g event x made fresh h e = by_test (is_undecided (stand
         first true b e = cc
         first false b e = refl
 
-    by_test : (t : Bool) → is_undecided (standing (x ∷ past) g) ≡ t → is_undecided (standing (x ∷ past) g) ≡ false
+    by_test : (t : Bool) → is_open (x ∷ past) g ≡ t → is_open (x ∷ past) g ≡ false
     by_test true u = absurd (elim (undecided-from past g x (subst (λ ev. Begins ev x.answer) (sym made.heard) made.begun) u) [
       | inl b ↦ begins-none b (commit-from x.calls (disk past) g e)
       | inr k ↦ going (commit-from x.calls (disk past) g e) k

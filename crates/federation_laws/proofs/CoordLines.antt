@@ -1,5 +1,5 @@
 -- Each line of the coordinator is made so, by whichever rule it goes.
-use Rattle.std.proofs.Common.{◌≡◌, ℕ, zero, suc, Bool, true, false, cond, ◌||◌, is_some, is_none, Option, Some, None, List, [], ◌∷◌, ◌++◌, take, map, refl, sym, ap, ◌∙◌}
+use Rattle.std.proofs.Common.{◌≡◌, ℕ, zero, suc, Bool, true, false, cond, not, ◌&&◌, ◌||◌, is_none, Option, Some, None, List, [], ◌∷◌, ◌++◌, take, map, refl, sym, ap, ◌∙◌}
 use Rattle.mdb_base.specs.declared.acts.Step.{Step}
 use Rattle.mdb_base.specs.declared.names.SiteId.{SiteId}
 use Rattle.mdb_base.specs.declared.names.SiteTicket.{SiteTicket}
@@ -10,7 +10,8 @@ use Rattle.mdb_base.specs.declared.replies.Reply.TheVariants as Reply_is
 use Rattle.mdb_base.specs.declared.replies.Why.TheVariants as Because
 use Rattle.mdb_base.specs.Names.{same_site}
 use Rattle.mdb_base.specs.Programs.{plain_act}
-use Rattle.mdb_base.specs.Words.{Each, when, found, with_some, those}
+use Rattle.mdb_base.specs.Words.{Each, when, found, with_some}
+use Rattle.mdb_base.proofs.ListLaws.{each_filtered}
 use Rattle.presumptions.specs.declared.Decision.{Decision}
 use Rattle.presumptions.specs.declared.Decision.TheVariants as Decide_is
 use Rattle.presumptions.specs.declared.Participant.{Participant}
@@ -27,10 +28,11 @@ use Rattle.fed_rules.specs.declared.messages.FromSite.{FromSite}
 use Rattle.fed_rules.specs.declared.messages.FromSite.TheVariants as From
 use Rattle.fed_rules.specs.declared.records.CoordRecord.{CoordRecord}
 use Rattle.fed_rules.specs.declared.records.CoordRecord.TheVariants as Rec
-use Rattle.fed_rules.specs.Coord.{message_of, send_due, decide_to, sends_dues, all_outstanding, news_at, news, end_calls, forgets_at_once, aborts, commits_it, of_go, did_counts, did_reply, of_did, last_vote, yes_vote, vote_counts, vote_counted, of_vote, missing, ack_counts, acked_while, of_ack, asked_while, of_inquiry, of_take, again_while, of_again, of_late, of_fate, of_back, answered, unless_tripped, coord_line}
-use Rattle.fed_rules.specs.CoordPast.{CoordHappening, CoordPast, disk, records, trip, Standing, Undecided, Decided, Gone, standing, program, visits, participants, reads, epoch_at, count_at, next_step, has_step_left, has_ticket_at, work_at, take_at, prepare_at, outstanding, vote_at, decides, oldest_first}
-use Rattle.fed_rules.specs.CoordRecords.{coord_frame, initiated, commits, initiated_tids, ends_at_once}
-use Rattle.fed_rules.specs.Disk.{Call, Append, Sync, CutBack, Stops, is_torn}
+use Rattle.fed_rules.specs.Coord.{message_of, send_due, is_take, decide_to, may_take, held_back, let_through, defers_some, defers_all, sends_dues, sends_news, sends_all, all_outstanding, news_at, news, abort_records, forced, aborts, commits_it, of_go, did_counts, did_reply, of_did, last_vote, yes_vote, vote_counts, vote_counted, of_vote, missing, ack_counts, acked_while, of_ack, asked_while, of_inquiry, of_take, again_while, of_again, of_late, of_fate, of_back, answered, unless_tripped, coord_line, of_check}
+use Rattle.fed_rules.specs.CoordPast.{CoordHappening, CoordPast, disk, records, trip, Standing, Undecided, Decided, Gone, standing, program, visits, participants, reads, epoch_at, count_at, next_step, has_step_left, has_ticket_at, work_at, take_at, prepare_at, outstanding, vote_at, decides, is_prepare_of, has_sent}
+use Rattle.fed_rules.specs.CoordRecords.{coord_frame, class_of, has_abort, commits}
+use Rattle.fed_rules.specs.Policies.{Policy}
+use Rattle.fed_rules.specs.Disk.{Call, Append, Sync, CutBack, TrimFront, Stops, is_torn}
 use Rattle.fed_rules.specs.Happenings.{Trip, quiet, is_down, stopped, tripped}
 use Rattle.fed_rules.specs.Site_of.{due_site}
 use Rattle.federation_laws.proofs.Told.{some-parts}
@@ -110,29 +112,49 @@ decides-each : (past : CoordPast) (tid : Tid) (decision : Decision) (members : L
 decides-each past tid decision [] = tt
 decides-each past tid decision (member ∷ members) = (tt, decides-each past tid decision members)
 
+-- an answer with which operations are sent
+abbrev IsSending : Answer → Type 0
+IsSending Say.Only = Unit {0}
+IsSending Say.Defers = Unit {0}
+IsSending answer = ⊥
+
+some-sending : (held : List Due) → IsSending (defers_some held)
+some-sending [] = tt
+some-sending (due ∷ held) = tt
+
+all-sending : (held sent : List Due) → IsSending (defers_all held sent)
+all-sending held [] = some-sending held
+all-sending held (due ∷ sent) = tt
+
 -- operations and Prepares are sent
-dues_made : (protocols : List Participant) (past : CoordPast) (event : CoordEvent) (tid : Tid) (dues : List Due) → AreDue (quiet event Say.Only ∷ past) tid dues → ((answer : Answer) → decides answer ≡ false → Decides event answer) → ((answer : Answer) → Counts past event answer) → IsMade protocols past event (sends_dues protocols past event tid dues)
+sent_made : (protocols : List Participant) (past : CoordPast) (event : CoordEvent) (tid : Tid) (answer : Answer) (dues : List Due) → IsSending answer → AreDue (quiet event Say.Only ∷ past) tid dues → ((answer : Answer) → decides answer ≡ false → Decides event answer) → ((answer : Answer) → Counts past event answer)
+    → IsMade protocols past event (record { event = event; answer = answer; sends = map (send_due tid) dues; calls = []; lines = [] })
+sent_made protocols past event tid Say.Only dues s h d k = record { heard = refl; accepted = tt; writes = tt; sends = sends-due (quiet event Say.Only ∷ past) tid dues h; counted = k _; decided = d _ refl; begun = tt; first = tt; commits_by = λ e. tt }
+sent_made protocols past event tid Say.Defers dues s h d k = record { heard = refl; accepted = tt; writes = tt; sends = sends-due (quiet event Say.Only ∷ past) tid dues h; counted = k _; decided = d _ refl; begun = tt; first = tt; commits_by = λ e. tt }
+sent_made protocols past event tid answer dues s h d k = absurd s
+
+dues_made : (protocols : List Participant) (past : CoordPast) (event : CoordEvent) (tid : Tid) (answer : Answer) (dues : List Due) → IsSending answer → AreDue (quiet event Say.Only ∷ past) tid dues → ((answer : Answer) → decides answer ≡ false → Decides event answer) → ((answer : Answer) → Counts past event answer) → IsMade protocols past event (sends_dues protocols past event tid answer dues)
 unfolding sends_dues
-dues_made protocols past event tid dues h d k =
+dues_made protocols past event tid answer dues s h d k =
     made_when protocols past event _ _ _
     (λ t. record { heard = refl; accepted = tt; writes = (tt, (tt, tt)); sends = sends-due (quiet event Say.Only ∷ past) tid dues h; counted = k _; decided = d _ refl; begun = tt; first = tt; commits_by = λ e. (tt, (tt, tt)) })
-    (λ t. record { heard = refl; accepted = tt; writes = tt; sends = sends-due (quiet event Say.Only ∷ past) tid dues h; counted = k _; decided = d _ refl; begun = tt; first = tt; commits_by = λ e. tt })
+    (λ t. sent_made protocols past event tid answer dues s h d k)
 
-end_calls-shape : (P : List (Call CoordRecord) → Type 0) (past : CoordPast) (tid : Tid) → P (Append (Rec.End tid) ∷ []) → P [] → (b : Bool) → P (cond b (end_calls past tid) [])
-end_calls-shape P past tid p q true = by_test (is_some (initiated (records past) tid))
+-- what holds of no call and of a forced Abort record holds of what an abort calls
+abort-shape : (P : List (Call CoordRecord) → Type 0) (protocols : List Participant) (past : CoordPast) (tid : Tid) → P [] → P (Append (Rec.Abort tid (participants protocols past tid)) ∷ Sync ∷ []) → P (forced (abort_records protocols past tid))
+abort-shape P protocols past tid p q = by_test (has_abort (class_of (participants protocols past tid)) && has_sent (is_prepare_of tid) past)
   where
-    by_test : (t : Bool) → P (cond t (Append (Rec.End tid) ∷ []) [])
-    by_test true = p
-    by_test false = q
-end_calls-shape P past tid p q false = q
+    by_test : (t : Bool) → P (forced (cond t (Rec.Abort tid (participants protocols past tid) ∷ []) []))
+    by_test true = q
+    by_test false = p
 
 aborts_made : (protocols : List Participant) (past : CoordPast) (event : CoordEvent) (tid : Tid) (cause : Cause) → ((answer : Answer) → decides answer ≡ true → Decides event answer) → ((answer : Answer) → Counts past event answer) → IsMade protocols past event (aborts protocols past event tid cause)
 unfolding aborts
 aborts_made protocols past event tid cause d k =
     record {
       heard = refl;
-      accepted = end_calls-shape (IsAccepted (commits (records past))) past tid tt tt (forgets_at_once past tid Decide_is.Abort);
-      writes = end_calls-shape (λ calls. Each (Writes protocols past event) calls) past tid (tt, tt) tt (forgets_at_once past tid Decide_is.Abort);
+      accepted = abort-shape (IsAccepted (commits (records past))) protocols past tid tt tt;
+      writes = abort-shape (λ calls. Each (Writes protocols past event) calls) protocols past tid tt (tt, (tt, tt));
       sends = decides-each (aborts protocols past event tid cause ∷ past) tid Decide_is.Abort (participants protocols past tid);
       counted = k _;
       decided = d _ refl;
@@ -146,8 +168,8 @@ unfolding commits_it
 commits_made protocols past event tid tickets none last d k =
     record {
       heard = refl;
-      accepted = (none, (tt, end_calls-shape (λ calls. Each CommitsNobody calls) past tid (tt, tt) tt (forgets_at_once past tid Decide_is.Commit)));
-      writes = (last, (tt, end_calls-shape (λ calls. Each (Writes protocols past event) calls) past tid (tt, tt) tt (forgets_at_once past tid Decide_is.Commit)));
+      accepted = (none, (tt, tt));
+      writes = (last, (tt, tt));
       sends = decides-each (commits_it protocols past event tid tickets ∷ past) tid Decide_is.Commit (participants protocols past tid);
       counted = k _;
       decided = d _ refl;
@@ -166,28 +188,38 @@ go_made protocols past tid steps =
     (λ committed e. quiet_plain protocols past _ _ tt tt tt)
 
 -- a reply that counts and goes on
-goes_made : (protocols : List Participant) (past : CoordPast) (site : SiteId) (tid : Tid) (epoch n : ℕ) (reply : Reply) → is_refusal reply ≡ false → did_counts past site tid epoch n reply ≡ true
-    → IsMade protocols past (Ev.Take site (From.Did tid epoch n reply)) (sends_dues protocols past (Ev.Take site (From.Did tid epoch n reply)) tid (news protocols past (quiet (Ev.Take site (From.Did tid epoch n reply)) Say.Only ∷ past) tid site))
-goes_made protocols past site tid epoch n reply r t =
-    dues_made protocols past _ tid _ (news-due protocols past (quiet (Ev.Take site (From.Did tid epoch n reply)) Say.Only ∷ past) tid site) (λ answer no h k. cc) (λ answer h. t)
+goes_made : (protocols : List Participant) (policy : Policy) (past : CoordPast) (site : SiteId) (tid : Tid) (epoch n : ℕ) (reply : Reply) → is_refusal reply ≡ false → did_counts past site tid epoch n reply ≡ true
+    → IsMade protocols past (Ev.Take site (From.Did tid epoch n reply)) (sends_news protocols policy past (Ev.Take site (From.Did tid epoch n reply)) tid (news protocols past (quiet (Ev.Take site (From.Did tid epoch n reply)) Say.Only ∷ past) tid site))
+unfolding sends_news
+goes_made protocols policy past site tid epoch n reply r t =
+    dues_made protocols past _ tid (defers_some (held_back protocols policy past tid due)) (let_through protocols policy past tid due)
+    (some-sending (held_back protocols policy past tid due))
+    (each_filtered (λ d. (s : SiteId) × (outstanding now tid s ≡ Some d)) (λ d. not (is_take d && not (may_take protocols policy past tid))) due (news-due protocols past now tid site))
+    (λ answer no h k. cc) (λ answer h. t)
+  where
+    now : CoordPast
+    now = quiet (Ev.Take site (From.Did tid epoch n reply)) Say.Only ∷ past
 
-did-reply_made : (protocols : List Participant) (past : CoordPast) (site : SiteId) (tid : Tid) (epoch n : ℕ) (reply : Reply) → did_counts past site tid epoch n reply ≡ true
-    → IsMade protocols past (Ev.Take site (From.Did tid epoch n reply)) (did_reply protocols past site (From.Did tid epoch n reply) tid reply)
+    due : List Due
+    due = news protocols past (quiet (Ev.Take site (From.Did tid epoch n reply)) Say.Only ∷ past) tid site
+
+did-reply_made : (protocols : List Participant) (policy : Policy) (past : CoordPast) (site : SiteId) (tid : Tid) (epoch n : ℕ) (reply : Reply) → did_counts past site tid epoch n reply ≡ true
+    → IsMade protocols past (Ev.Take site (From.Did tid epoch n reply)) (did_reply protocols policy past site (From.Did tid epoch n reply) tid reply)
 unfolding did_reply
-did-reply_made protocols past site tid epoch n (Reply_is.Wait by) t = record { heard = refl; accepted = tt; writes = tt; sends = tt; counted = λ h. t; decided = λ h r. cc; begun = tt; first = tt; commits_by = λ e. tt }
-did-reply_made protocols past site tid epoch n (Reply_is.Refused (Because.Die by)) t = aborts_made protocols past _ tid _ (λ answer d h r. d) (λ answer h. t)
-did-reply_made protocols past site tid epoch n (Reply_is.Refused (Because.Late by)) t = aborts_made protocols past _ tid _ (λ answer d h r. d) (λ answer h. t)
-did-reply_made protocols past site tid epoch n (Reply_is.Refused (Because.Invalid by key)) t = goes_made protocols past site tid epoch n _ refl t
-did-reply_made protocols past site tid epoch n (Reply_is.Refused (Because.TicketMoved by)) t = goes_made protocols past site tid epoch n _ refl t
-did-reply_made protocols past site tid epoch n Reply_is.Unknown t = aborts_made protocols past _ tid _ (λ answer d h r. d) (λ answer h. t)
-did-reply_made protocols past site tid epoch n (Reply_is.Value value) t = goes_made protocols past site tid epoch n _ refl t
-did-reply_made protocols past site tid epoch n Reply_is.Done t = goes_made protocols past site tid epoch n _ refl t
-did-reply_made protocols past site tid epoch n (Reply_is.Ticket ticket) t = goes_made protocols past site tid epoch n _ refl t
+did-reply_made protocols policy past site tid epoch n (Reply_is.Wait by) t = record { heard = refl; accepted = tt; writes = tt; sends = tt; counted = λ h. t; decided = λ h r. cc; begun = tt; first = tt; commits_by = λ e. tt }
+did-reply_made protocols policy past site tid epoch n (Reply_is.Refused (Because.Die by)) t = aborts_made protocols past _ tid _ (λ answer d h r. d) (λ answer h. t)
+did-reply_made protocols policy past site tid epoch n (Reply_is.Refused (Because.Late by)) t = aborts_made protocols past _ tid _ (λ answer d h r. d) (λ answer h. t)
+did-reply_made protocols policy past site tid epoch n (Reply_is.Refused (Because.Invalid by key)) t = goes_made protocols policy past site tid epoch n _ refl t
+did-reply_made protocols policy past site tid epoch n (Reply_is.Refused (Because.TicketMoved by)) t = goes_made protocols policy past site tid epoch n _ refl t
+did-reply_made protocols policy past site tid epoch n Reply_is.Unknown t = aborts_made protocols past _ tid _ (λ answer d h r. d) (λ answer h. t)
+did-reply_made protocols policy past site tid epoch n (Reply_is.Value value) t = goes_made protocols policy past site tid epoch n _ refl t
+did-reply_made protocols policy past site tid epoch n Reply_is.Done t = goes_made protocols policy past site tid epoch n _ refl t
+did-reply_made protocols policy past site tid epoch n (Reply_is.Ticket ticket) t = goes_made protocols policy past site tid epoch n _ refl t
 
-did_made : (protocols : List Participant) (past : CoordPast) (site : SiteId) (tid : Tid) (epoch n : ℕ) (reply : Reply) → IsMade protocols past (Ev.Take site (From.Did tid epoch n reply)) (of_did protocols past site tid epoch n reply)
+did_made : (protocols : List Participant) (policy : Policy) (past : CoordPast) (site : SiteId) (tid : Tid) (epoch n : ℕ) (reply : Reply) → IsMade protocols past (Ev.Take site (From.Did tid epoch n reply)) (of_did protocols policy past site tid epoch n reply)
 unfolding of_did
-did_made protocols past site tid epoch n reply =
-    made_when protocols past _ _ _ _ (λ t. did-reply_made protocols past site tid epoch n reply t)
+did_made protocols policy past site tid epoch n reply =
+    made_when protocols past _ _ _ _ (λ t. did-reply_made protocols policy past site tid epoch n reply t)
     (λ t. quiet_uncounted protocols past _ _ refl tt tt)
 
 last_made : (protocols : List Participant) (past : CoordPast) (site : SiteId) (tid : Tid) (ticket : ℕ) (tickets : List SiteTicket) → vote_counts past site tid ≡ true → IsLastVote protocols past (Ev.Take site (From.Vote tid (Some ticket))) tid tickets
@@ -209,21 +241,21 @@ vote_made protocols past site tid (Some ticket) =
     (λ f. record { heard = refl; accepted = tt; writes = tt; sends = tt; counted = λ h. t; decided = tt; begun = tt; first = tt; commits_by = λ e. tt }))
     (λ t. quiet_uncounted protocols past _ _ refl tt tt)
 
-ack_made : (protocols : List Participant) (past : CoordPast) (site : SiteId) (tid : Tid) (s : Standing) → IsMade protocols past (Ev.Take site (From.Ack tid)) (acked_while past site tid s)
+ack_made : (protocols : List Participant) (past : CoordPast) (site : SiteId) (tid : Tid) (s : Standing) → IsMade protocols past (Ev.Take site (From.Ack tid)) (acked_while protocols past site tid s)
 unfolding acked_while ack_counts
 ack_made protocols past site tid (Decided decision) =
     made_when protocols past _ _ _ _
     (λ t. made_when protocols past _ _ _ _
     (λ u. record {
       heard = refl;
-      accepted = end_calls-shape (IsAccepted (commits (records past))) past tid tt tt true;
-      writes = end_calls-shape (λ calls. Each (Writes protocols past (Ev.Take site (From.Ack tid))) calls) past tid (tt, tt) tt true;
+      accepted = tt;
+      writes = (tt, tt);
       sends = tt;
       counted = tt;
       decided = tt;
       begun = tt;
       first = tt;
-      commits_by = λ e. end_calls-shape (λ calls. Each CommitsNobody calls) past tid (tt, tt) tt true;
+      commits_by = λ e. (tt, tt);
     })
     (λ u. quiet_plain protocols past _ _ tt tt tt))
     (λ t. quiet_plain protocols past _ _ tt tt tt)
@@ -236,18 +268,25 @@ inquiry_made protocols past site tid Undecided = quiet_plain protocols past _ _ 
 inquiry_made protocols past site tid (Decided decision) = record { heard = refl; accepted = tt; writes = tt; sends = (tt, tt); counted = tt; decided = tt; begun = tt; first = tt; commits_by = λ e. tt }
 inquiry_made protocols past site tid Gone = record { heard = refl; accepted = tt; writes = tt; sends = (tt, tt); counted = tt; decided = tt; begun = tt; first = tt; commits_by = λ e. tt }
 
-take_made : (protocols : List Participant) (past : CoordPast) (site : SiteId) (message : FromSite) → IsMade protocols past (Ev.Take site message) (of_take protocols past site message)
+take_made : (protocols : List Participant) (policy : Policy) (past : CoordPast) (site : SiteId) (message : FromSite) → IsMade protocols past (Ev.Take site message) (of_take protocols policy past site message)
 unfolding of_take of_ack of_inquiry
-take_made protocols past site (From.Did tid epoch n reply) = did_made protocols past site tid epoch n reply
-take_made protocols past site (From.Vote tid vote) = vote_made protocols past site tid vote
-take_made protocols past site (From.Ack tid) = ack_made protocols past site tid (standing past tid)
-take_made protocols past site (From.Inquiry tid) = inquiry_made protocols past site tid (standing past tid)
+take_made protocols policy past site (From.Did tid epoch n reply) = did_made protocols policy past site tid epoch n reply
+take_made protocols policy past site (From.Vote tid vote) = vote_made protocols past site tid vote
+take_made protocols policy past site (From.Ack tid) = ack_made protocols past site tid (standing protocols past tid)
+take_made protocols policy past site (From.Inquiry tid) = inquiry_made protocols past site tid (standing protocols past tid)
 
-again_made : (protocols : List Participant) (past : CoordPast) (tid : Tid) (s : Standing) → IsMade protocols past (Ev.Again tid) (again_while protocols past tid s)
-unfolding again_while
-again_made protocols past tid Undecided = dues_made protocols past _ tid _ (all-due protocols past tid) (λ answer d. tt) (λ answer. tt)
-again_made protocols past tid (Decided decision) = record { heard = refl; accepted = tt; writes = tt; sends = decides-each (again_while protocols past tid (Decided decision) ∷ past) tid decision (missing past tid decision); counted = tt; decided = tt; begun = tt; first = tt; commits_by = λ e. tt }
-again_made protocols past tid Gone = quiet_plain protocols past _ _ tt tt tt
+again_made : (protocols : List Participant) (policy : Policy) (past : CoordPast) (tid : Tid) (s : Standing) → IsMade protocols past (Ev.Again tid) (again_while protocols policy past tid s)
+unfolding again_while sends_all
+again_made protocols policy past tid Undecided =
+    dues_made protocols past _ tid (defers_all (held_back protocols policy past tid due) (let_through protocols policy past tid due)) (let_through protocols policy past tid due)
+    (all-sending (held_back protocols policy past tid due) (let_through protocols policy past tid due))
+    (each_filtered (λ d. (s : SiteId) × (outstanding past tid s ≡ Some d)) (λ d. not (is_take d && not (may_take protocols policy past tid))) due (all-due protocols past tid))
+    (λ answer d. tt) (λ answer. tt)
+  where
+    due : List Due
+    due = all_outstanding protocols past tid
+again_made protocols policy past tid (Decided decision) = record { heard = refl; accepted = tt; writes = tt; sends = decides-each (again_while protocols policy past tid (Decided decision) ∷ past) tid decision (missing protocols past tid decision); counted = tt; decided = tt; begun = tt; first = tt; commits_by = λ e. tt }
+again_made protocols policy past tid Gone = quiet_plain protocols past _ _ tt tt tt
 
 late_made : (protocols : List Participant) (past : CoordPast) (tid : Tid) → IsMade protocols past (Ev.Late tid) (of_late protocols past tid)
 unfolding of_late
@@ -271,66 +310,63 @@ fate_made protocols past tx =
     by_first true = tt
     by_first false = tt
 
-ends-accepted : (others : List Ticketed) (tids : List Tid) → IsAccepted others (map (λ tid. Append (Rec.End tid)) tids)
-ends-accepted others [] = tt
-ends-accepted others (tid ∷ tids) = ends-accepted others tids
-
-ends-write : (protocols : List Participant) (past : CoordPast) (event : CoordEvent) (tids : List Tid) → Each (Writes protocols past event) (map (λ tid. Append (Rec.End tid)) tids)
-ends-write protocols past event [] = tt
-ends-write protocols past event (tid ∷ tids) = (tt, ends-write protocols past event tids)
-
-ends-nobody : (tids : List Tid) → Each CommitsNobody (map (λ tid. Append (Rec.End tid)) tids)
-ends-nobody [] = tt
-ends-nobody (tid ∷ tids) = (tt, ends-nobody tids)
-
-back_made : (protocols : List Participant) (past : CoordPast) → IsMade protocols past Ev.Back (of_back past)
+back_made : (protocols : List Participant) (past : CoordPast) → IsMade protocols past Ev.Back (of_back protocols past)
 unfolding of_back
 back_made protocols past =
-    let ended = oldest_first (those (ends_at_once (records past)) (initiated_tids (records past))) in
     record {
       heard = refl;
-      accepted = cut_accepted (is_torn coord_frame (disk past)) ended;
-      writes = cut_writes (is_torn coord_frame (disk past)) ended;
+      accepted = cut_accepted (is_torn coord_frame (disk past));
+      writes = cut_writes (is_torn coord_frame (disk past));
       sends = tt;
       counted = tt;
       decided = tt;
       begun = tt;
       first = tt;
-      commits_by = λ e. cut_nobody (is_torn coord_frame (disk past)) ended;
+      commits_by = λ e. cut_nobody (is_torn coord_frame (disk past));
     }
   where
-    cut_nobody : (t : Bool) (ended : List Tid) → Each CommitsNobody (cond t (CutBack ∷ []) [] ++ map (λ tid. Append (Rec.End tid)) ended)
-    cut_nobody true ended = (tt, ends-nobody ended)
-    cut_nobody false ended = ends-nobody ended
+    cut_nobody : (t : Bool) → Each CommitsNobody (cond t (CutBack ∷ []) [])
+    cut_nobody true = (tt, tt)
+    cut_nobody false = tt
 
-    cut_accepted : (t : Bool) (ended : List Tid) → IsAccepted (commits (records past)) (cond t (CutBack ∷ []) [] ++ map (λ tid. Append (Rec.End tid)) ended)
-    cut_accepted true ended = ends-accepted (commits (records past)) ended
-    cut_accepted false ended = ends-accepted (commits (records past)) ended
+    cut_accepted : (t : Bool) → IsAccepted (commits (records past)) (cond t (CutBack ∷ []) [])
+    cut_accepted true = tt
+    cut_accepted false = tt
 
-    cut_writes : (t : Bool) (ended : List Tid) → Each (Writes protocols past Ev.Back) (cond t (CutBack ∷ []) [] ++ map (λ tid. Append (Rec.End tid)) ended)
-    cut_writes true ended = (tt, ends-write protocols past Ev.Back ended)
-    cut_writes false ended = ends-write protocols past Ev.Back ended
+    cut_writes : (t : Bool) → Each (Writes protocols past Ev.Back) (cond t (CutBack ∷ []) [])
+    cut_writes true = (tt, tt)
+    cut_writes false = tt
+
+check_made : (protocols : List Participant) (past : CoordPast) → IsMade protocols past Ev.Check (of_check protocols past)
+unfolding of_check
+check_made protocols past =
+    made_when protocols past _ _ _ _ (λ large. quiet_plain protocols past _ _ tt tt tt)
+    (λ fits. record { heard = refl; accepted = tt; writes = (tt, (tt, (tt, tt))); sends = tt; counted = tt; decided = tt; begun = tt; first = tt; commits_by = λ e. (tt, (tt, (tt, tt))) })
 
 -- what the coordinator answers while it is up
-answered_made : (protocols : List Participant) (past : CoordPast) (event : CoordEvent) → IsMade protocols past event (answered protocols past event)
+answered_made : (protocols : List Participant) (policy : Policy) (past : CoordPast) (event : CoordEvent) → IsMade protocols past event (answered protocols policy past event)
 unfolding answered of_again
-answered_made protocols past (Ev.Go tid steps) = go_made protocols past tid steps
-answered_made protocols past (Ev.Take site message) = take_made protocols past site message
-answered_made protocols past (Ev.Again tid) = again_made protocols past tid (standing past tid)
-answered_made protocols past (Ev.Late tid) = late_made protocols past tid
-answered_made protocols past (Ev.Fate tx) = fate_made protocols past tx
-answered_made protocols past (Ev.Halt cut) = quiet_plain protocols past _ _ tt tt tt
-answered_made protocols past (Ev.Trip calls cut) = quiet_plain protocols past _ _ tt tt tt
-answered_made protocols past Ev.Back = back_made protocols past
+answered_made protocols policy past (Ev.Go tid steps) = go_made protocols past tid steps
+answered_made protocols policy past (Ev.Take site message) = take_made protocols policy past site message
+answered_made protocols policy past (Ev.Again tid) = again_made protocols policy past tid (standing protocols past tid)
+answered_made protocols policy past (Ev.Late tid) = late_made protocols past tid
+answered_made protocols policy past (Ev.Fate tx) = fate_made protocols past tx
+answered_made protocols policy past (Ev.Halt cut) = quiet_plain protocols past _ _ tt tt tt
+answered_made protocols policy past (Ev.Trip calls cut) = quiet_plain protocols past _ _ tt tt tt
+answered_made protocols policy past Ev.Back = back_made protocols past
+answered_made protocols policy past Ev.Check = check_made protocols past
 
 accepted-cut : (others : List Ticketed) (k : ℕ) (calls : List (Call CoordRecord)) (cut : ℕ) → IsAccepted others calls → IsAccepted others (take k calls ++ Stops cut ∷ [])
 accepted-cut others zero calls cut h = tt
 accepted-cut others (suc k) [] cut h = tt
 accepted-cut others (suc k) (Append (Rec.Commit tid tickets) ∷ calls) cut h = (h.0, each-cut CommitsNobody k calls (Stops cut) h.1 tt)
 accepted-cut others (suc k) (Append (Rec.Initiation tid members) ∷ calls) cut h = accepted-cut others k calls cut h
+accepted-cut others (suc k) (Append (Rec.Abort tid members) ∷ calls) cut h = accepted-cut others k calls cut h
 accepted-cut others (suc k) (Append (Rec.End tid) ∷ calls) cut h = accepted-cut others k calls cut h
+accepted-cut others (suc k) (Append (Rec.Checkpoint sum) ∷ calls) cut h = accepted-cut others k calls cut h
 accepted-cut others (suc k) (Sync ∷ calls) cut h = accepted-cut others k calls cut h
 accepted-cut others (suc k) (CutBack ∷ calls) cut h = accepted-cut others k calls cut h
+accepted-cut others (suc k) (TrimFront ∷ calls) cut h = accepted-cut others k calls cut h
 accepted-cut others (suc k) (Stops c ∷ calls) cut h = accepted-cut others k calls cut h
 
 -- a line that a trip ends
@@ -352,23 +388,24 @@ tripped_made protocols past event (Some t) x m =
     })
     (λ c. m)
 
-unless_down : (protocols : List Participant) (past : CoordPast) (event : CoordEvent) → IsMade protocols past event (when (is_down past) (quiet event Say.Down) (unless_tripped past (answered protocols past event)))
-unless_down protocols past event =
+unless_down : (protocols : List Participant) (policy : Policy) (past : CoordPast) (event : CoordEvent) → IsMade protocols past event (when (is_down past) (quiet event Say.Down) (unless_tripped past (answered protocols policy past event)))
+unless_down protocols policy past event =
     made_when protocols past event _ _ _ (λ d. quiet_uncounted protocols past event _ refl tt tt)
-    (λ d. tripped_made protocols past event (trip past) _ (answered_made protocols past event))
+    (λ d. tripped_made protocols past event (trip past) _ (answered_made protocols policy past event))
 
 -- each line of the coordinator is made so
-pub coord_made : (protocols : List Participant) (past : CoordPast) (event : CoordEvent) → IsMade protocols past event (coord_line protocols past event)
+pub coord_made : (protocols : List Participant) (policy : Policy) (past : CoordPast) (event : CoordEvent) → IsMade protocols past event (coord_line protocols policy past event)
 unfolding coord_line stopped
-coord_made protocols past (Ev.Trip calls cut) = quiet_plain protocols past _ _ tt tt tt
-coord_made protocols past (Ev.Halt cut) =
+coord_made protocols policy past (Ev.Trip calls cut) = quiet_plain protocols past _ _ tt tt tt
+coord_made protocols policy past (Ev.Halt cut) =
     made_when protocols past _ _ _ _ (λ d. quiet_plain protocols past _ _ tt tt tt)
     (λ d. record { heard = refl; accepted = tt; writes = (tt, tt); sends = tt; counted = tt; decided = tt; begun = tt; first = tt; commits_by = λ e. (tt, tt) })
-coord_made protocols past Ev.Back =
+coord_made protocols policy past Ev.Back =
     made_when protocols past _ _ _ _ (λ d. tripped_made protocols past Ev.Back (trip past) _ (back_made protocols past))
     (λ d. quiet_plain protocols past _ _ tt tt tt)
-coord_made protocols past (Ev.Go tid steps) = unless_down protocols past (Ev.Go tid steps)
-coord_made protocols past (Ev.Take site message) = unless_down protocols past (Ev.Take site message)
-coord_made protocols past (Ev.Again tid) = unless_down protocols past (Ev.Again tid)
-coord_made protocols past (Ev.Late tid) = unless_down protocols past (Ev.Late tid)
-coord_made protocols past (Ev.Fate tx) = unless_down protocols past (Ev.Fate tx)
+coord_made protocols policy past (Ev.Go tid steps) = unless_down protocols policy past (Ev.Go tid steps)
+coord_made protocols policy past (Ev.Take site message) = unless_down protocols policy past (Ev.Take site message)
+coord_made protocols policy past (Ev.Again tid) = unless_down protocols policy past (Ev.Again tid)
+coord_made protocols policy past (Ev.Late tid) = unless_down protocols policy past (Ev.Late tid)
+coord_made protocols policy past (Ev.Fate tx) = unless_down protocols policy past (Ev.Fate tx)
+coord_made protocols policy past Ev.Check = unless_down protocols policy past Ev.Check

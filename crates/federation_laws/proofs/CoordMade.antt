@@ -117,6 +117,7 @@ plain_counts past (Ev.Fate tx) answer p = tt
 plain_counts past (Ev.Halt cut) answer p = tt
 plain_counts past (Ev.Trip calls cut) answer p = tt
 plain_counts past Ev.Back answer p = tt
+plain_counts past Ev.Check answer p = tt
 
 pub plain_decides : (event : CoordEvent) (answer : Answer) → IsPlain event → Decides event answer
 plain_decides (Ev.Take site (From.Did tid epoch n reply)) answer p = absurd p
@@ -130,6 +131,7 @@ plain_decides (Ev.Fate tx) answer p = tt
 plain_decides (Ev.Halt cut) answer p = tt
 plain_decides (Ev.Trip calls cut) answer p = tt
 plain_decides Ev.Back answer p = tt
+plain_decides Ev.Check answer p = tt
 
 -- what isn't counted says nothing
 pub uncounted_counts : (past : CoordPast) (event : CoordEvent) (answer : Answer) → counts answer ≡ false → Counts past event answer
@@ -145,6 +147,7 @@ uncounted_counts past (Ev.Fate tx) answer e = tt
 uncounted_counts past (Ev.Halt cut) answer e = tt
 uncounted_counts past (Ev.Trip calls cut) answer e = tt
 uncounted_counts past Ev.Back answer e = tt
+uncounted_counts past Ev.Check answer e = tt
 
 pub uncounted_decides : (event : CoordEvent) (answer : Answer) → counts answer ≡ false → Decides event answer
 uncounted_decides (Ev.Take site (From.Did tid epoch n reply)) answer e = λ h r. cc
@@ -158,6 +161,7 @@ uncounted_decides (Ev.Fate tx) answer e = tt
 uncounted_decides (Ev.Halt cut) answer e = tt
 uncounted_decides (Ev.Trip calls cut) answer e = tt
 uncounted_decides Ev.Back answer e = tt
+uncounted_decides Ev.Check answer e = tt
 
 -- a quiet line of an event that counts nothing, or that isn't counted
 pub quiet_plain : (protocols : List Participant) (past : CoordPast) (event : CoordEvent) (answer : Answer) → IsPlain event → Begins event answer → IsFirst past answer → IsMade protocols past event (quiet event answer)

@@ -1,6 +1,7 @@
 pub mod Agreement
 pub mod Asked
 pub mod CommitOnce
+pub mod ConservativeTickets
 pub mod CoordAgreement
 pub mod CoordEffects
 pub mod CoordHolds
@@ -25,6 +26,8 @@ pub mod OnceEach
 pub mod OneOrders
 pub mod Refuted
 pub mod Ordered
+pub mod Phases
+pub mod PhasesApart
 pub mod ScenarioFacts
 pub mod SerialOrders
 pub mod SerialRuns

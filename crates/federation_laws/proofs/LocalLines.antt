@@ -13,7 +13,7 @@ use Rattle.fed_rules.specs.declared.records.SiteRecord.{SiteRecord}
 use Rattle.fed_rules.specs.Disk.{Call, Stops}
 use Rattle.fed_rules.specs.Happenings.{Trip, quiet, is_down, stopped, tripped}
 use Rattle.fed_rules.specs.Orders.{read_by}
-use Rattle.fed_rules.specs.Site.{of_give, answered, site_line}
+use Rattle.fed_rules.specs.Site.{of_give, answered, site_line, of_check}
 use Rattle.fed_rules.specs.SitePast.{SiteHappening, SitePast, disk, trip}
 use Rattle.fed_rules.specs.SiteRecords.{Home, site_frame}
 use Rattle.commit_laws.proofs.SiteEnds.{by-answered}
@@ -51,6 +51,12 @@ give-made home past t (To.Decide tid decision) no_one h =
     by-tid t tid (λ z. (answered home past (Ev.Give (To.Decide z decision))).event ≡ Ev.Give (To.Decide z decision) → Made home past t (Ev.Give (To.Decide z decision)) (answered home past (Ev.Give (To.Decide z decision))))
     (λ own k. decide-made home past t decision) (λ other k. other-made home past t tid _ _ k tt (decide_about home past tid decision) other) h
 
+check-made : (home : Home) (past : SitePast) (t : Tid) → Made home past t Ev.Check (of_check home past)
+unfolding of_check
+check-made home past t =
+    made_when home past t _ _ _ _ (λ large. plain-made home past t _ _ refl refl)
+    (λ fits. record { heard = refl; move = Rests (record { reads = refl; unsealed = refl }) refl })
+
 answered-made : (home : Home) (past : SitePast) (t : Tid) (event : SiteEvent) → is_down past ≡ false → NotAsked t event → Made home past t event (answered home past event)
 unfolding answered
 answered-made home past t (Ev.Begin tid) up n =
@@ -74,6 +80,7 @@ answered-made home past t (Ev.Drop tid) up n =
 answered-made home past t (Ev.Halt cut) up n = plain-made home past t _ _ refl refl
 answered-made home past t (Ev.Trip calls cut) up n = plain-made home past t _ _ refl refl
 answered-made home past t Ev.Back up n = back-made home past t
+answered-made home past t Ev.Check up n = check-made home past t
 
 unsealed-cut : (t : Tid) (k : ℕ) (calls : List (Call SiteRecord)) (cut : ℕ) → some_of (seals t) calls ≡ false → some_of (seals t) (take k calls ++ Stops cut ∷ []) ≡ false
 unsealed-cut t k calls cut e = by_test (some_of (seals t) (take k calls ++ Stops cut ∷ [])) refl
@@ -94,6 +101,7 @@ stopped-read t (Ev.Drop tid) kept = refl
 stopped-read t (Ev.Halt cut) kept = refl
 stopped-read t (Ev.Trip calls cut) kept = refl
 stopped-read t Ev.Back kept = refl
+stopped-read t Ev.Check kept = refl
 
 stopped-move : (home : Home) (past : SitePast) (t : Tid) (event : SiteEvent) (x : SiteHappening) (k cut : ℕ) → LocalMove home past t event x → LocalMove home past t event (stopped site_frame (disk home past) x.event (take k x.calls ++ Stops cut ∷ []))
 unfolding stopped
@@ -121,6 +129,7 @@ down-read t (Ev.Drop tid) = refl
 down-read t (Ev.Halt cut) = refl
 down-read t (Ev.Trip calls cut) = refl
 down-read t Ev.Back = refl
+down-read t Ev.Check = refl
 
 unless-down : (home : Home) (past : SitePast) (t : Tid) (event : SiteEvent) → NotAsked t event → Made home past t event (when (is_down past) (quiet event Say.Down) (tripped site_frame (disk home past) (trip past) (answered home past event)))
 unless-down home past t event n =
@@ -144,3 +153,4 @@ local-made home past t (Ev.Halt cut) n =
     (λ up. record { heard = refl; move = Gone (record { reads = refl; unsealed = refl }) (restored-sealed _ t) })
 local-made home past t Ev.Back n =
     made_when home past t _ _ _ _ (λ down. tripped-made home past t Ev.Back (trip past) _ (back-made home past t)) (λ up. plain-made home past t _ _ refl refl)
+local-made home past t Ev.Check n = unless-down home past t Ev.Check n

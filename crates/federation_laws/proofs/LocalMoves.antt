@@ -110,6 +110,7 @@ no-read t (Ev.Drop tid) answer n = refl
 no-read t (Ev.Halt cut) answer n = refl
 no-read t (Ev.Trip calls cut) answer n = refl
 no-read t Ev.Back answer n = refl
+no-read t Ev.Check answer n = refl
 
 -- a line about another attempt
 pub other-made : (home : Home) (past : SitePast) (t tid : Tid) (event : SiteEvent) (x : SiteHappening) → x.event ≡ event → NoAccess t event → IsAbout home past tid x → same_tid tid t ≡ false → Made home past t event x

@@ -69,6 +69,7 @@ not-asked scenario good commands t own at_home (Ev.Drop tid) here c = tt
 not-asked scenario good commands t own at_home (Ev.Halt cut) here c = tt
 not-asked scenario good commands t own at_home (Ev.Trip calls cut) here c = tt
 not-asked scenario good commands t own at_home Ev.Back here c = tt
+not-asked scenario good commands t own at_home Ev.Check here c = tt
 
 -- the home of a local transaction is its declared site
 pub local-site-of : (scenario : Scenario) (tx : Tx) (home : Home) → local_home scenario tx ≡ Some home → local_site scenario tx ≡ Some home.site

@@ -8,7 +8,7 @@ use Rattle.order_laws.specs.Chains.{In}
 use Rattle.order_laws.proofs.Names.{same_tid_self}
 use Rattle.fed_rules.specs.declared.records.SiteRecord.{SiteRecord}
 use Rattle.fed_rules.specs.declared.records.SiteRecord.TheVariants as Rec
-use Rattle.fed_rules.specs.Disk.{Disk, Call, Append, Sync, CutBack, Stops, bytes_of, whole, after_calls}
+use Rattle.fed_rules.specs.Disk.{Disk, Call, Append, Sync, CutBack, TrimFront, Stops, bytes_of, whole, after_calls}
 use Rattle.fed_rules.specs.SitePast.{SitePast, disk, records}
 use Rattle.fed_rules.specs.SiteRecords.{Home, Install, site_frame, by_number, due_installs, order_of}
 use Rattle.site_history.specs.Accesses.{seals}
@@ -70,6 +70,7 @@ install-member commits (Rec.Prepared tid epoch number ticket writes ∷ rs) inst
         ]
     by_test false q i h = member-behind commits (Rec.Prepared tid epoch number ticket writes) rs install.tid (h i)
 install-member commits (Rec.Setup site engine protocol items ∷ rs) install i = member-behind commits _ rs install.tid (install-member commits rs install i)
+install-member commits (Rec.Checkpoint sum ∷ rs) install i = member-behind commits _ rs install.tid (install-member commits rs install i)
 install-member commits (Rec.Start epoch ∷ rs) install i = member-behind commits _ rs install.tid (install-member commits rs install i)
 install-member commits (Rec.Ended tid decision ∷ rs) install i = member-behind commits _ rs install.tid (install-member commits rs install i)
 
@@ -140,7 +141,9 @@ due-tid commits (Rec.Prepared t p n k w ∷ rs) tid epoch number ticket writes c
     later true j = tid-inserted above (record { tid = t; number = n; writes = w }) (due_installs commits rs) tid (inr j)
     later false j = j
 due-tid commits (Rec.Setup site engine protocol items ∷ rs) tid epoch number ticket writes c (inl e) = cc
+due-tid commits (Rec.Checkpoint sum ∷ rs) tid epoch number ticket writes c (inl e) = cc
 due-tid commits (Rec.Setup site engine protocol items ∷ rs) tid epoch number ticket writes c (inr i) = due-tid commits rs tid epoch number ticket writes c i
+due-tid commits (Rec.Checkpoint sum ∷ rs) tid epoch number ticket writes c (inr i) = due-tid commits rs tid epoch number ticket writes c i
 due-tid commits (Rec.Start s ∷ rs) tid epoch number ticket writes c (inl e) = cc
 due-tid commits (Rec.Start s ∷ rs) tid epoch number ticket writes c (inr i) = due-tid commits rs tid epoch number ticket writes c i
 due-tid commits (Rec.Ended t decision ∷ rs) tid epoch number ticket writes c (inl e) = cc
@@ -157,7 +160,9 @@ due-local commits (Rec.Prepared t p n k w ∷ rs) tid number writes (inr i) = la
     later true j = tid-inserted above (record { tid = t; number = n; writes = w }) (due_installs commits rs) tid (inr j)
     later false j = j
 due-local commits (Rec.Setup site engine protocol items ∷ rs) tid number writes (inl e) = cc
+due-local commits (Rec.Checkpoint sum ∷ rs) tid number writes (inl e) = cc
 due-local commits (Rec.Setup site engine protocol items ∷ rs) tid number writes (inr i) = due-local commits rs tid number writes i
+due-local commits (Rec.Checkpoint sum ∷ rs) tid number writes (inr i) = due-local commits rs tid number writes i
 due-local commits (Rec.Start s ∷ rs) tid number writes (inl e) = cc
 due-local commits (Rec.Start s ∷ rs) tid number writes (inr i) = due-local commits rs tid number writes i
 due-local commits (Rec.Ended t decision ∷ rs) tid number writes (inl e) = cc
@@ -190,6 +195,7 @@ record-from (Append x ∷ calls) d r i = elim (record-from calls _ r i) [
 ]
 record-from (Sync ∷ calls) d r i = elim (record-from calls _ r i) [ inl k ↦ inl k | inr k ↦ inr (inr k) ]
 record-from (CutBack ∷ calls) d r i = elim (record-from calls _ r i) [ inl k ↦ inl k | inr k ↦ inr (inr k) ]
+record-from (TrimFront ∷ calls) d r i = elim (record-from calls _ r i) [ inl k ↦ inl k | inr k ↦ inr (inr k) ]
 record-from (Stops cut ∷ calls) d r i = elim (record-from calls _ r i) [ inl k ↦ inl (in-whole _ d.records r k) | inr k ↦ inr (inr k) ]
 
 -- the record is by which an attempt is sealed

@@ -13,7 +13,7 @@ use Rattle.fed_rules.specs.declared.commands.Command.{Command}
 use Rattle.fed_rules.specs.declared.records.CoordRecord.{CoordRecord}
 use Rattle.fed_rules.specs.declared.records.CoordRecord.TheVariants as Rec
 use Rattle.fed_rules.specs.declared.scenario.Scenario.{Scenario}
-use Rattle.fed_rules.specs.CoordPast.{CoordHappening, CoordPast, disk, records, standing, is_undecided, begins, begun_tids}
+use Rattle.fed_rules.specs.CoordPast.{CoordHappening, CoordPast, disk, records, is_open, begins, begun_tids}
 use Rattle.fed_rules.specs.CoordRecords.{has_commit, committed_of}
 use Rattle.fed_rules.specs.Scenarios.{protocols}
 use Rattle.fed_rules.specs.Story.{Story, Happened, AtSite, AtCoordinator, Nowhere, coord_past, with_coordinator, story_of}
@@ -26,12 +26,12 @@ use Rattle.std.proofs.lemmas.Bool.{and_parts, or_left}
 
 -- the attempt is undecided, or a Commit of it is kept
 abbrev pub IsActive : CoordPast → Tid → Type 0
-IsActive past g = (is_undecided (standing past g) ≡ true) ⊎ (has_commit (records past) g ≡ true)
+IsActive past g = (is_open past g ≡ true) ⊎ (has_commit (records past) g ≡ true)
 
 -- no two attempts of one transaction are so, and who is undecided was begun
 pub record OnceHolds (past : CoordPast) : Type 0 where
   pub once : (a b : Tid) → a.tx ≡ b.tx → IsActive past a → IsActive past b → a ≡ b
-  pub begun : (g : Tid) → is_undecided (standing past g) ≡ true → is_begun past g ≡ true
+  pub begun : (g : Tid) → is_open past g ≡ true → is_begun past g ≡ true
 
 made-begins : (members : List Participant) (past : CoordPast) (event : CoordEvent) (x : CoordHappening) → IsMade members past event x → Begins x.event x.answer
 made-begins members past event x made = subst (λ ev. Begins ev x.answer) (sym made.heard) made.begun
@@ -57,15 +57,17 @@ none-committed (Rec.Commit tid tickets ∷ rs) tx g e s h = by_tests (same_tx ti
     by_tests false true p q e h k = (let own = same_tid_alike tid g q in let yes = same_tx-true tid.tx tx (ap (λ (t : Tid). t.tx) own ∙ s) in let clash = sym yes ∙ p in cc)
     by_tests false false p q e h k = k e s h
 none-committed (Rec.Initiation tid members ∷ rs) tx g e s h = none-committed rs tx g e s h
+none-committed (Rec.Abort tid members ∷ rs) tx g e s h = none-committed rs tx g e s h
 none-committed (Rec.End tid ∷ rs) tx g e s h = none-committed rs tx g e s h
+none-committed (Rec.Checkpoint sum ∷ rs) tx g e s h = none-committed rs tx g e s h
 
 -- where an attempt begins, no other one of its transaction is active
 first-alone : (past : CoordPast) (tid g : Tid) → OnceHolds past → IsFirst past (Say.Begun tid) → g.tx ≡ tid.tx → IsActive past g → ⊥
 first-alone past tid g h f s (inr c) = none-committed (records past) tid.tx g f.0 s c
 first-alone past tid g h f s (inl u) =
     let listed : In g (begun_tids past) = is_in_true same_tid tells_tids (begun_tids past) g (h.begun g u) in
-    let fails : (same_tx g.tx tid.tx && is_undecided (standing past g)) ≡ false = first_where_none (λ (t : Tid). same_tx t.tx tid.tx && is_undecided (standing past t)) (begun_tids past) g f.1 listed in
-    let passes : (same_tx g.tx tid.tx && is_undecided (standing past g)) ≡ true = ap (λ b. b && is_undecided (standing past g)) (same_tx-true g.tx tid.tx s) ∙ u in
+    let fails : (same_tx g.tx tid.tx && is_open past g) ≡ false = first_where_none (λ (t : Tid). same_tx t.tx tid.tx && is_open past t) (begun_tids past) g f.1 listed in
+    let passes : (same_tx g.tx tid.tx && is_open past g) ≡ true = ap (λ b. b && is_open past g) (same_tx-true g.tx tid.tx s) ∙ u in
     let clash = sym passes ∙ fails in cc
 
 begins-first : (members : List Participant) (past : CoordPast) (event : CoordEvent) (x : CoordHappening) → IsMade members past event x → OnceHolds past → (a g : Tid) → begins a x.answer ≡ true → g.tx ≡ a.tx → IsActive past g → ⊥

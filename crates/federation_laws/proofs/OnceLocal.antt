@@ -78,6 +78,7 @@ none-local (r ∷ rs) tx t number writes e s (inr i) = none-local rs tx t number
         by_test true e = cc
         by_test false e = e
     behind (Rec.Setup site engine protocol items) e = e
+    behind (Rec.Checkpoint sum) e = e
     behind (Rec.Start epoch) e = e
     behind (Rec.Prepared tid epoch n ticket w) e = e
     behind (Rec.Ended tid decision) e = e

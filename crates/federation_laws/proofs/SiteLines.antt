@@ -14,14 +14,14 @@ use Rattle.fed_rules.specs.declared.records.SiteRecord.{SiteRecord}
 use Rattle.fed_rules.specs.declared.records.SiteRecord.TheVariants as Rec
 use Rattle.fed_rules.specs.Disk.{Call, Append, Sync, CutBack, Stops, is_torn}
 use Rattle.fed_rules.specs.Happenings.{Trip, quiet, stops, comes_up, is_down, stopped, tripped}
-use Rattle.fed_rules.specs.Site.{of_fate, of_give, of_back, answered, site_line}
+use Rattle.fed_rules.specs.Site.{of_fate, of_give, of_back, answered, site_line, of_check}
 use Rattle.fed_rules.specs.SitePast.{SiteHappening, SitePast, disk, epoch, trip}
 use Rattle.fed_rules.specs.SiteRecords.{Home, site_frame}
 use Rattle.commit_laws.proofs.SiteEnds.{by-answered}
 use Rattle.commit_laws.proofs.SiteShut.{restored-sealed}
 use Rattle.site_history.specs.Accesses.{seals}
 use Rattle.federation_laws.proofs.SiteAbout.{begin_about, act_about, commit_about, abort_about, work_about, take_about, prepare_about, decide_about, drop_about}
-use Rattle.federation_laws.proofs.SiteMoves.{Ending, IsSealing, Moves}
+use Rattle.federation_laws.proofs.SiteMoves.{Ending, IsSealing, Moves, Same}
 use Rattle.federation_laws.proofs.SiteOperations.{moves_when, moves_pick, work_moves, take_moves}
 use Rattle.federation_laws.proofs.SiteSteps.{other_moves, prepare_moves, decide_moves, plain_moves, ask_moves, drop_moves}
 
@@ -82,6 +82,12 @@ back_moves home g past =
     by_test true s = cc
     by_test false s = cc
 
+check_moves : (home : Home) (g : Tid) (past : SitePast) → Moves home g past Ev.Check (of_check home past)
+unfolding of_check
+check_moves home g past =
+    moves_when home g past _ _ _ _ (λ t. plain_moves home g past _ _ refl)
+    (λ t. record { heard = refl; move = Same refl; says = tt; sealing = λ s. cc; calm = λ p. refl })
+
 -- what a site that is up answers
 answered_moves : (home : Home) (g : Tid) (past : SitePast) (event : SiteEvent) → is_down past ≡ false → IsForeign g event → Moves home g past event (answered home past event)
 unfolding answered
@@ -98,6 +104,7 @@ answered_moves home g past (Ev.Drop tid) up f =
 answered_moves home g past (Ev.Halt cut) up f = plain_moves home g past _ _ refl
 answered_moves home g past (Ev.Trip calls cut) up f = plain_moves home g past _ _ refl
 answered_moves home g past Ev.Back up f = back_moves home g past
+answered_moves home g past Ev.Check up f = check_moves home g past
 
 pub seals-cut : (g : Tid) (k : ℕ) (calls : List (Call SiteRecord)) (cut : ℕ) → some_of (seals g) (take k calls ++ Stops cut ∷ []) ≡ true → some_of (seals g) calls ≡ true
 seals-cut g zero calls cut e = cc
@@ -145,3 +152,4 @@ site_moves home g past (Ev.Halt cut) f =
 site_moves home g past Ev.Back f =
     moves_when home g past _ _ _ _ (λ down. tripped_moves home g past Ev.Back (trip past) _ (back_moves home g past))
     (λ up. plain_moves home g past _ _ refl)
+site_moves home g past Ev.Check f = unless_down home g past Ev.Check f

@@ -10,9 +10,9 @@ use Rattle.fed_rules.specs.declared.messages.ToSite.{ToSite}
 use Rattle.fed_rules.specs.declared.messages.ToSite.TheVariants as To
 use Rattle.fed_rules.specs.declared.records.SiteRecord.{SiteRecord}
 use Rattle.fed_rules.specs.declared.records.SiteRecord.TheVariants as Rec
-use Rattle.fed_rules.specs.Disk.{Call, Append, Sync, CutBack, Stops, is_torn}
+use Rattle.fed_rules.specs.Disk.{Call, Append, Sync, CutBack, TrimFront, Stops, is_torn}
 use Rattle.fed_rules.specs.Happenings.{Trip, quiet, is_down, stopped, tripped}
-use Rattle.fed_rules.specs.Site.{of_give, of_back, answered, site_line}
+use Rattle.fed_rules.specs.Site.{of_give, of_back, answered, site_line, of_check}
 use Rattle.fed_rules.specs.SitePast.{SiteHappening, SitePast, disk, epoch, trip}
 use Rattle.fed_rules.specs.SiteRecords.{Home, site_frame}
 use Rattle.commit_laws.proofs.SiteEnds.{by-answered}
@@ -45,27 +45,32 @@ no-local (Ev.Drop t) tid number writes n l = l
 no-local (Ev.Halt cut) tid number writes n l = l
 no-local (Ev.Trip calls cut) tid number writes n l = l
 no-local Ev.Back tid number writes n l = l
+no-local Ev.Check tid number writes n l = l
 
 plain-own : (event : SiteEvent) (calls : List (Call SiteRecord)) → IsNoCommit event → Each (LocalAt event) calls → Each (IsOwnLocal event) calls
 plain-own event [] n h = tt
 plain-own event (Append (Rec.Local tid number writes) ∷ calls) n h = absurd (no-local event tid number writes n h.0)
 plain-own event (Append (Rec.Setup site engine protocol items) ∷ calls) n h = (tt, plain-own event calls n h.1)
+plain-own event (Append (Rec.Checkpoint sum) ∷ calls) n h = (tt, plain-own event calls n h.1)
 plain-own event (Append (Rec.Start e) ∷ calls) n h = (tt, plain-own event calls n h.1)
 plain-own event (Append (Rec.Prepared of e number ticket writes) ∷ calls) n h = (tt, plain-own event calls n h.1)
 plain-own event (Append (Rec.Ended of decision) ∷ calls) n h = (tt, plain-own event calls n h.1)
 plain-own event (Sync ∷ calls) n h = (tt, plain-own event calls n h.1)
 plain-own event (CutBack ∷ calls) n h = (tt, plain-own event calls n h.1)
+plain-own event (TrimFront ∷ calls) n h = (tt, plain-own event calls n h.1)
 plain-own event (Stops cut ∷ calls) n h = (tt, plain-own event calls n h.1)
 
 commit-own : (tid : Tid) (calls : List (Call SiteRecord)) → Each (SealsOnly tid) calls → Each (IsOwnLocal (Ev.Commit tid)) calls
 commit-own tid [] h = tt
 commit-own tid (Append (Rec.Local of number writes) ∷ calls) h = (ap (λ t. Ev.Commit t) (sym h.0), commit-own tid calls h.1)
 commit-own tid (Append (Rec.Setup site engine protocol items) ∷ calls) h = (tt, commit-own tid calls h.1)
+commit-own tid (Append (Rec.Checkpoint sum) ∷ calls) h = (tt, commit-own tid calls h.1)
 commit-own tid (Append (Rec.Start e) ∷ calls) h = (tt, commit-own tid calls h.1)
 commit-own tid (Append (Rec.Prepared of e number ticket writes) ∷ calls) h = (tt, commit-own tid calls h.1)
 commit-own tid (Append (Rec.Ended of decision) ∷ calls) h = (tt, commit-own tid calls h.1)
 commit-own tid (Sync ∷ calls) h = (tt, commit-own tid calls h.1)
 commit-own tid (CutBack ∷ calls) h = (tt, commit-own tid calls h.1)
+commit-own tid (TrimFront ∷ calls) h = (tt, commit-own tid calls h.1)
 commit-own tid (Stops cut ∷ calls) h = (tt, commit-own tid calls h.1)
 
 -- a line about an attempt at an event that is no local commit
@@ -93,6 +98,15 @@ give_about home past (To.Take tid e n) = take_about home past tid e n
 give_about home past (To.Prepare tid e n) = prepare_about home past tid e n
 give_about home past (To.Decide tid decision) = decide_about home past tid decision
 
+keeps-when : (event : SiteEvent) (t : Bool) (a b : SiteHappening) → (t ≡ true → Keeps event a) → (t ≡ false → Keeps event b) → Keeps event (when t a b)
+unfolding when
+keeps-when event true a b p q = p refl
+keeps-when event false a b p q = q refl
+
+check-own : (home : Home) (past : SitePast) → Keeps Ev.Check (of_check home past)
+unfolding of_check
+check-own home past = keeps-when _ _ _ _ (λ large. record { calls = tt }) (λ fits. record { calls = (tt, (tt, (tt, tt))) })
+
 answered-own : (home : Home) (past : SitePast) (event : SiteEvent) → is_down past ≡ false → (any : Tid) → Keeps event (answered home past event)
 unfolding answered
 answered-own home past (Ev.Begin tid) up any = about-own home past tid _ _ (by-answered home any past (Ev.Begin tid) up).is tt (begin_about home past tid)
@@ -106,11 +120,7 @@ answered-own home past (Ev.Drop tid) up any = about-own home past tid _ _ (by-an
 answered-own home past (Ev.Halt cut) up any = record { calls = tt }
 answered-own home past (Ev.Trip calls cut) up any = record { calls = tt }
 answered-own home past Ev.Back up any = back-own home past
-
-keeps-when : (event : SiteEvent) (t : Bool) (a b : SiteHappening) → (t ≡ true → Keeps event a) → (t ≡ false → Keeps event b) → Keeps event (when t a b)
-unfolding when
-keeps-when event true a b p q = p refl
-keeps-when event false a b p q = q refl
+answered-own home past Ev.Check up any = check-own home past
 
 tripped-own : (home : Home) (past : SitePast) (event : SiteEvent) (t : Option Trip) (x : SiteHappening) → Keeps event x → Keeps event (tripped site_frame (disk home past) t x)
 unfolding tripped stopped
@@ -135,6 +145,7 @@ line-own home past (Ev.Drop tid) any = unless-down home past (Ev.Drop tid) any
 line-own home past (Ev.Trip calls cut) any = record { calls = tt }
 line-own home past (Ev.Halt cut) any = keeps-when _ _ _ _ (λ down. record { calls = tt }) (λ up. record { calls = (tt, tt) })
 line-own home past Ev.Back any = keeps-when _ _ _ _ (λ down. tripped-own home past Ev.Back (trip past) _ (back-own home past)) (λ up. record { calls = tt })
+line-own home past Ev.Check any = unless-down home past Ev.Check any
 
 local-call : (event : SiteEvent) (tid : Tid) (number : ℕ) (writes : List Put) (calls : List (Call SiteRecord)) → Each (IsOwnLocal event) calls → Among (λ call. call ≡ Append (Rec.Local tid number writes)) calls → event ≡ Ev.Commit tid
 local-call event tid number writes [] h i = absurd i

@@ -3,20 +3,18 @@ use Rattle.std.proofs.Common.{◌≡◌, ◌⊎◌, ℕ, suc, ◌+◌, Bool, tru
 use Rattle.mdb_base.specs.declared.acts.PlainAct.{PlainAct}
 use Rattle.mdb_base.specs.declared.acts.PlainAct.TheVariants.{Read, Write}
 use Rattle.mdb_base.specs.declared.names.Tid.{Tid}
-use Rattle.mdb_base.specs.declared.names.Engine.{Engine}
-use Rattle.mdb_base.specs.declared.names.Engine.TheVariants.{Locking, Timestamp, Validation}
 use Rattle.mdb_base.specs.declared.replies.Reply.{Reply}
 use Rattle.mdb_base.specs.declared.replies.Reply.TheVariants as Reply_is
-use Rattle.mdb_base.specs.declared.replies.Why.TheVariants as Because
 use Rattle.mdb_base.specs.Names.{same_tid}
-use Rattle.mdb_base.specs.Words.{Each, some_of, least, greatest}
+use Rattle.mdb_base.specs.Words.{Each, some_of}
 use Rattle.fed_rules.specs.declared.events.SiteEvent.{SiteEvent}
 use Rattle.fed_rules.specs.declared.events.SiteEvent.TheVariants as Ev
 use Rattle.fed_rules.specs.declared.messages.FromSite.{FromSite}
 use Rattle.fed_rules.specs.declared.messages.FromSite.TheVariants as From
 use Rattle.fed_rules.specs.declared.messages.ToSite.TheVariants as To
 use Rattle.fed_rules.specs.Happenings.{stops, comes_up, is_down}
-use Rattle.fed_rules.specs.Replies.{access_stop, access_reply, ticket_stop, ticket_reply, wait_die, late_or_wait, is_younger, holders, ticket_holders, younger_in_the_way, older_writers, younger_takers, older_takers, age_of, or_reply, granted}
+use Rattle.fed_rules.specs.Replies.{access_reply, ticket_reply, granted, or_reply, rule}
+use Rattle.engine_laws.proofs.Forms.{IsStop, forms}
 use Rattle.fed_rules.specs.Runs.{Start, EngineLine, Access, Run, has_ticket, tid_of, changed, run_at, published}
 use Rattle.fed_rules.specs.Site.{done, is_over}
 use Rattle.fed_rules.specs.SitePast.{SiteHappening, SitePast, records, epoch, epoch_start, engine_lines, live, live_one}
@@ -116,41 +114,11 @@ Fits (Read key) (Reply_is.Value value) = Unit {0}
 Fits (Write key value) Reply_is.Done = Unit {0}
 Fits act reply = ⊥
 
--- what stops an access or a ticket is a wait or a refusal
-abbrev Stops : Option Reply → Type 0
-Stops None = Unit {0}
-Stops (Some (Reply_is.Wait by)) = Unit {0}
-Stops (Some (Reply_is.Refused why)) = Unit {0}
-Stops (Some reply) = ⊥
-
-wait-die-stops : (me : Run) (o : Option Run) → Stops (wait_die me o)
-wait-die-stops me None = tt
-wait-die-stops me (Some run) = by_test (is_younger me run)
-  where
-    by_test : (t : Bool) → Stops (Some (cond t (Reply_is.Wait run.tid) (Reply_is.Refused (Because.Die run.tid))))
-    by_test true = tt
-    by_test false = tt
-
-late-or-wait-stops : (a b : Option Run) → Stops (late_or_wait a b)
-late-or-wait-stops (Some run) b = tt
-late-or-wait-stops None (Some run) = tt
-late-or-wait-stops None None = tt
-
-access-stops : (kind : Engine) (start : Start) (lines : List EngineLine) (me : Run) (act : PlainAct) → Stops (access_stop kind start lines me act)
-access-stops Locking start lines me act = wait-die-stops me (least age_of (holders start lines me act))
-access-stops Timestamp start lines me act = late-or-wait-stops (greatest age_of (younger_in_the_way start lines me act)) (greatest age_of (older_writers start lines me act))
-access-stops Validation start lines me act = tt
-
-ticket-stops : (kind : Engine) (start : Start) (lines : List EngineLine) (me : Run) → Stops (ticket_stop kind start lines me)
-ticket-stops Locking start lines me = wait-die-stops me (least age_of (ticket_holders start lines me))
-ticket-stops Timestamp start lines me = late-or-wait-stops (greatest age_of (younger_takers start lines me)) (greatest age_of (older_takers start lines me))
-ticket-stops Validation start lines me = tt
-
 -- each reply to an access fits it
 pub access-fits : (start : Start) (lines : List EngineLine) (me : Run) (act : PlainAct) → Fits act (access_reply start lines me act)
-access-fits start lines me (Read key) = by_stop (access_stop start.kind start lines me (Read key)) (access-stops start.kind start lines me (Read key))
+access-fits start lines me (Read key) = by_stop ((rule start.kind).access start lines me (Read key)) ((forms start.kind).access start lines me (Read key))
   where
-    by_stop : (o : Option Reply) → Stops o → Fits (Read key) (or_reply o (granted start lines me (Read key)))
+    by_stop : (o : Option Reply) → IsStop o → Fits (Read key) (or_reply o (granted start lines me (Read key)))
     by_stop None s = tt
     by_stop (Some (Reply_is.Wait by)) s = tt
     by_stop (Some (Reply_is.Refused why)) s = tt
@@ -158,9 +126,9 @@ access-fits start lines me (Read key) = by_stop (access_stop start.kind start li
     by_stop (Some Reply_is.Done) s = absurd s
     by_stop (Some (Reply_is.Ticket ticket)) s = absurd s
     by_stop (Some Reply_is.Unknown) s = absurd s
-access-fits start lines me (Write key value) = by_stop (access_stop start.kind start lines me (Write key value)) (access-stops start.kind start lines me (Write key value))
+access-fits start lines me (Write key value) = by_stop ((rule start.kind).access start lines me (Write key value)) ((forms start.kind).access start lines me (Write key value))
   where
-    by_stop : (o : Option Reply) → Stops o → Fits (Write key value) (or_reply o (granted start lines me (Write key value)))
+    by_stop : (o : Option Reply) → IsStop o → Fits (Write key value) (or_reply o (granted start lines me (Write key value)))
     by_stop None s = tt
     by_stop (Some (Reply_is.Wait by)) s = tt
     by_stop (Some (Reply_is.Refused why)) s = tt
@@ -176,9 +144,9 @@ FitsTicket (Reply_is.Ticket ticket) = Unit {0}
 FitsTicket reply = ⊥
 
 pub ticket-fits : (start : Start) (lines : List EngineLine) (me : Run) → FitsTicket (ticket_reply start lines me)
-ticket-fits start lines me = by_stop (ticket_stop start.kind start lines me) (ticket-stops start.kind start lines me)
+ticket-fits start lines me = by_stop ((rule start.kind).ticket start lines me) ((forms start.kind).ticket start lines me)
   where
-    by_stop : (o : Option Reply) → Stops o → FitsTicket (or_reply o (Reply_is.Ticket (published start lines + 1)))
+    by_stop : (o : Option Reply) → IsStop o → FitsTicket (or_reply o (Reply_is.Ticket (published start lines + 1)))
     by_stop None s = tt
     by_stop (Some (Reply_is.Wait by)) s = tt
     by_stop (Some (Reply_is.Refused why)) s = tt

@@ -49,6 +49,7 @@ tells-outcomes scenario commands home declared = each_from (TellsOutcome (is_com
     tells (Rec.Ended tid Decided.Commit) i = committed (is_committed (story_of scenario commands) tid) (is-outcome tid Decided.Commit i)
     tells (Rec.Ended tid Decided.Abort) i = aborted (is_committed (story_of scenario commands) tid) (is-outcome tid Decided.Abort i)
     tells (Rec.Setup site engine protocol items) i = tt
+    tells (Rec.Checkpoint sum) i = tt
     tells (Rec.Start epoch) i = tt
     tells (Rec.Prepared tid epoch number ticket writes) i = tt
     tells (Rec.Local tid number writes) i = tt

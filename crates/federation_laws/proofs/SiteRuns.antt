@@ -45,6 +45,7 @@ ended-epoch : (protocol : Protocol) (newer now : List SiteRecord) → Each (IsLo
 ended-epoch protocol [] now h = refl
 ended-epoch protocol (Rec.Ended tid decision ∷ newer) now h = ended-epoch protocol newer now h.1
 ended-epoch protocol (Rec.Setup site engine p items ∷ newer) now h = absurd h.0
+ended-epoch protocol (Rec.Checkpoint sum ∷ newer) now h = absurd h.0
 ended-epoch protocol (Rec.Start e ∷ newer) now h = absurd h.0
 ended-epoch protocol (Rec.Prepared tid e number ticket writes ∷ newer) now h = absurd h.0
 ended-epoch protocol (Rec.Local tid number writes ∷ newer) now h = absurd h.0
@@ -52,6 +53,7 @@ ended-epoch protocol (Rec.Local tid number writes ∷ newer) now h = absurd h.0
 wrote-epoch : (home : Home) (g : Tid) (past : SitePast) (event : SiteEvent) (r : SiteRecord) → Wrote home g past event r → epoch home past ≤ epoch_of (r ∷ records home past)
 wrote-epoch home g past event (Rec.Start e) w = omega (arith, w)
 wrote-epoch home g past event (Rec.Setup site engine p items) w = omega arith
+wrote-epoch home g past event (Rec.Checkpoint sum) w = omega arith
 wrote-epoch home g past event (Rec.Prepared tid e number ticket writes) w = omega arith
 wrote-epoch home g past event (Rec.Ended tid decision) w = omega arith
 wrote-epoch home g past event (Rec.Local tid number writes) w = omega arith
@@ -70,6 +72,7 @@ ended-doubt protocol (Rec.Ended tid decision ∷ newer) now g h d = by_test (sam
     by_test true d k = cc
     by_test false d k = k d
 ended-doubt protocol (Rec.Setup site engine p items ∷ newer) now g h d = absurd h.0
+ended-doubt protocol (Rec.Checkpoint sum ∷ newer) now g h d = absurd h.0
 ended-doubt protocol (Rec.Start e ∷ newer) now g h d = absurd h.0
 ended-doubt protocol (Rec.Prepared tid e number ticket writes ∷ newer) now g h d = absurd h.0
 ended-doubt protocol (Rec.Local tid number writes ∷ newer) now g h d = absurd h.0
@@ -77,6 +80,7 @@ ended-doubt protocol (Rec.Local tid number writes ∷ newer) now g h d = absurd 
 wrote-doubt : (home : Home) (g : Tid) (past : SitePast) (event : SiteEvent) (r : SiteRecord) → Wrote home g past event r → is_some (doubt_of (records home past) g) ≡ true → (is_some (doubt_of (r ∷ records home past) g) ≡ true) ⊎ (decides_on g event ≡ true)
 wrote-doubt home g past event (Rec.Start e) w d = inl d
 wrote-doubt home g past event (Rec.Setup site engine p items) w d = inl d
+wrote-doubt home g past event (Rec.Checkpoint sum) w d = inl d
 wrote-doubt home g past event (Rec.Local tid number writes) w d = inl d
 wrote-doubt home g past event (Rec.Prepared tid e number ticket writes) w d = inl (by_test (same_tid tid g))
   where

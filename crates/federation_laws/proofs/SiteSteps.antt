@@ -17,7 +17,7 @@ use Rattle.fed_rules.specs.declared.messages.FromSite.TheVariants as From
 use Rattle.fed_rules.specs.declared.messages.ToSite.TheVariants as To
 use Rattle.fed_rules.specs.declared.records.SiteRecord.{SiteRecord}
 use Rattle.fed_rules.specs.declared.records.SiteRecord.TheVariants as Rec
-use Rattle.fed_rules.specs.Disk.{Call, Append, Sync, CutBack, Stops, after_call}
+use Rattle.fed_rules.specs.Disk.{Call, Append, Sync, CutBack, TrimFront, Stops, after_call}
 use Rattle.fed_rules.specs.Happenings.{quiet, stops, comes_up}
 use Rattle.fed_rules.specs.Runs.{EngineLine, Seals, Refuses, Aborts, Run, tid_of, changed, puts_of}
 use Rattle.fed_rules.specs.Site.{votes_again, votes_no, votes_yes, seals_global, prepare_live, of_prepare, done, ack_of, settling_line, settles, unheld, of_decide, of_ask, of_drop, number_of}
@@ -38,10 +38,12 @@ no-seals tid g [] e h = refl
 no-seals tid g (Append (Rec.Prepared of epoch number ticket writes) ∷ calls) e h = ap (λ t. t || some_of (seals g) calls) (ap (λ t. same_tid t g) h.0 ∙ e) ∙ no-seals tid g calls e h.1
 no-seals tid g (Append (Rec.Local of number writes) ∷ calls) e h = ap (λ t. t || some_of (seals g) calls) (ap (λ t. same_tid t g) h.0 ∙ e) ∙ no-seals tid g calls e h.1
 no-seals tid g (Append (Rec.Setup site engine protocol items) ∷ calls) e h = no-seals tid g calls e h.1
+no-seals tid g (Append (Rec.Checkpoint sum) ∷ calls) e h = no-seals tid g calls e h.1
 no-seals tid g (Append (Rec.Start epoch) ∷ calls) e h = no-seals tid g calls e h.1
 no-seals tid g (Append (Rec.Ended of decision) ∷ calls) e h = no-seals tid g calls e h.1
 no-seals tid g (Sync ∷ calls) e h = no-seals tid g calls e h.1
 no-seals tid g (CutBack ∷ calls) e h = no-seals tid g calls e h.1
+no-seals tid g (TrimFront ∷ calls) e h = no-seals tid g calls e h.1
 no-seals tid g (Stops cut ∷ calls) e h = no-seals tid g calls e h.1
 
 no-says : (home : Home) (past : SitePast) (x : SiteHappening) (tid g : Tid) (sends : List FromSite) → same_tid tid g ≡ false → Each (Speaks tid) sends → Each (Says home g past x) sends
@@ -64,7 +66,7 @@ other_moves home g past event tid x h a e =
     }
 
 -- a held one is prepared
-doubt-prepared : (rs : List SiteRecord) (g : Tid) (held : Held) → doubt_of rs g ≡ Some held → IsPrepared rs g held.ticket
+pub doubt-prepared : (rs : List SiteRecord) (g : Tid) (held : Held) → doubt_of rs g ≡ Some held → IsPrepared rs g held.ticket
 doubt-prepared [] g held e = cc
 doubt-prepared (Rec.Prepared tid epoch number ticket writes ∷ rs) g held e = by_test (same_tid tid g) refl e (doubt-prepared rs g held)
   where
@@ -81,6 +83,7 @@ doubt-prepared (Rec.Ended tid decision ∷ rs) g held e = by_test (same_tid tid 
     by_test true e k = cc
     by_test false e k = let p = k e in record { epoch = p.epoch; number = p.number; writes = p.writes; kept = inr p.kept }
 doubt-prepared (Rec.Setup site engine protocol items ∷ rs) g held e = let p = doubt-prepared rs g held e in record { epoch = p.epoch; number = p.number; writes = p.writes; kept = inr p.kept }
+doubt-prepared (Rec.Checkpoint sum ∷ rs) g held e = let p = doubt-prepared rs g held e in record { epoch = p.epoch; number = p.number; writes = p.writes; kept = inr p.kept }
 doubt-prepared (Rec.Start epoch ∷ rs) g held e = let p = doubt-prepared rs g held e in record { epoch = p.epoch; number = p.number; writes = p.writes; kept = inr p.kept }
 doubt-prepared (Rec.Local tid number writes ∷ rs) g held e = let p = doubt-prepared rs g held e in record { epoch = p.epoch; number = p.number; writes = p.writes; kept = inr p.kept }
 

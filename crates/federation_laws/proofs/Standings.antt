@@ -9,33 +9,22 @@ use Rattle.fed_rules.specs.declared.answers.Answer.{Answer}
 use Rattle.fed_rules.specs.declared.answers.Answer.TheVariants as Say
 use Rattle.fed_rules.specs.declared.records.CoordRecord.{CoordRecord}
 use Rattle.fed_rules.specs.declared.records.CoordRecord.TheVariants as Rec
-use Rattle.fed_rules.specs.CoordPast.{CoordHappening, CoordPast, records, Standing, Decided, Gone, standing, kept_standing, moved, is_about, is_undecided, begins, decides}
-use Rattle.fed_rules.specs.CoordRecords.{coord_frame, has_commit, is_kept, outcome}
-use Rattle.fed_rules.specs.Disk.{Disk, Call, Append, Sync, CutBack, Stops, bytes_of, whole, after_calls}
+use Rattle.fed_rules.specs.CoordPast.{CoordHappening, CoordPast, opened, is_open, is_about, begins, decides}
+use Rattle.fed_rules.specs.CoordRecords.{coord_frame, has_commit}
+use Rattle.fed_rules.specs.Disk.{Disk, Call, Append, Sync, CutBack, TrimFront, Stops, bytes_of, whole, after_calls}
 use Rattle.fed_rules.specs.Happenings.{stops, comes_up}
 use Rattle.federation_laws.proofs.CoordMade.{Begins}
 
-kept-decided : (rs : List CoordRecord) (g : Tid) → is_undecided (kept_standing rs g) ≡ true → ⊥
-kept-decided rs g e = by_test (is_kept rs g) e
-  where
-    by_test : (t : Bool) → is_undecided (cond t (Decided (outcome rs g)) Gone) ≡ true → ⊥
-    by_test true e = cc
-    by_test false e = cc
-
 -- an answer leaves an attempt undecided where it begins it, or where it was so and isn't decided
-moved-undecided : (answer : Answer) (old : Standing) → is_undecided (moved answer old) ≡ true → ((tid : Tid) × (answer ≡ Say.Begun tid)) ⊎ ((is_undecided old ≡ true) × (decides answer ≡ false))
-moved-undecided (Say.Begun tid) old e = inl (tid, refl)
-moved-undecided (Say.Decides decision cause forgets) old e = by_test forgets e
-  where
-    by_test : (t : Bool) → is_undecided (cond t Gone (Decided decision)) ≡ true → ((tid : Tid) × (Say.Decides decision cause forgets ≡ Say.Begun tid)) ⊎ ((is_undecided old ≡ true) × (decides (Say.Decides decision cause forgets) ≡ false))
-    by_test true e = cc
-    by_test false e = cc
-moved-undecided Say.Forgets old e = cc
-moved-undecided answer old e = inr (e, refl)
+opened-from : (answer : Answer) (old : Bool) → opened answer old ≡ true → ((tid : Tid) × (answer ≡ Say.Begun tid)) ⊎ ((old ≡ true) × (decides answer ≡ false))
+opened-from (Say.Begun tid) old e = inl (tid, refl)
+opened-from (Say.Decides decision cause forgets) old e = cc
+opened-from Say.Forgets old e = cc
+opened-from answer old e = inr (e, refl)
 
 -- who is undecided after a line began at it, or was undecided and isn't decided by it
-pub undecided-from : (past : CoordPast) (g : Tid) (x : CoordHappening) → Begins x.event x.answer → is_undecided (standing (x ∷ past) g) ≡ true
-    → (begins g x.answer ≡ true) ⊎ ((is_undecided (standing past g) ≡ true) × (is_about g x.event ≡ true → decides x.answer ≡ false) × ((stops x.answer || comes_up x.answer) ≡ false))
+pub undecided-from : (past : CoordPast) (g : Tid) (x : CoordHappening) → Begins x.event x.answer → is_open (x ∷ past) g ≡ true
+    → (begins g x.answer ≡ true) ⊎ ((is_open past g ≡ true) × (is_about g x.event ≡ true → decides x.answer ≡ false) × ((stops x.answer || comes_up x.answer) ≡ false))
 undecided-from past g x b e = by_tests (stops x.answer || comes_up x.answer) (is_about g x.event) refl refl e
   where
     begun : (tid : Tid) → x.answer ≡ Say.Begun tid → is_about g x.event ≡ true → begins g x.answer ≡ true
@@ -44,10 +33,10 @@ undecided-from past g x b e = by_tests (stops x.answer || comes_up x.answer) (is
         let own : same_tid tid g ≡ true = subst (λ ev. is_about g ev ≡ true) go.1 about in
         ap (begins g) is ∙ own
 
-    by_tests : (s a : Bool) → (stops x.answer || comes_up x.answer) ≡ s → is_about g x.event ≡ a → is_undecided (cond s (kept_standing (records (x ∷ past)) g) (cond a (moved x.answer (standing past g)) (standing past g))) ≡ true
-        → (begins g x.answer ≡ true) ⊎ ((is_undecided (standing past g) ≡ true) × (is_about g x.event ≡ true → decides x.answer ≡ false) × ((stops x.answer || comes_up x.answer) ≡ false))
-    by_tests true a r q e = absurd (kept-decided (records (x ∷ past)) g e)
-    by_tests false true r q e = elim (moved-undecided x.answer (standing past g) e) [
+    by_tests : (s a : Bool) → (stops x.answer || comes_up x.answer) ≡ s → is_about g x.event ≡ a → cond s false (cond a (opened x.answer (is_open past g)) (is_open past g)) ≡ true
+        → (begins g x.answer ≡ true) ⊎ ((is_open past g ≡ true) × (is_about g x.event ≡ true → decides x.answer ≡ false) × ((stops x.answer || comes_up x.answer) ≡ false))
+    by_tests true a r q e = cc
+    by_tests false true r q e = elim (opened-from x.answer (is_open past g) e) [
       | inl h ↦ inl (begun h.0 h.1 q)
       | inr h ↦ inr (h.0, (λ about. h.1), r)
     ]
@@ -69,7 +58,9 @@ commit-whole g b (r ∷ rs) e = by_test (nat_le (bytes_of coord_frame (r ∷ rs)
         by_own true h = refl
         by_own false h = h
     behind (Rec.Initiation tid members) h = h
+    behind (Rec.Abort tid members) h = h
     behind (Rec.End tid) h = h
+    behind (Rec.Checkpoint sum) h = h
 
     by_test : (t : Bool) → has_commit (cond t (r ∷ rs) (whole coord_frame b rs)) g ≡ true → (has_commit (whole coord_frame b rs) g ≡ true → has_commit rs g ≡ true) → has_commit (r ∷ rs) g ≡ true
     by_test true e h = e
@@ -90,7 +81,10 @@ commit-from (Append (Rec.Commit tid tickets) ∷ calls) d g e = elim (commit-fro
   | inr i ↦ inr (inr i)
 ]
 commit-from (Append (Rec.Initiation tid members) ∷ calls) d g e = elim (commit-from calls _ g e) [ inl h ↦ inl h | inr i ↦ inr (inr i) ]
+commit-from (Append (Rec.Abort tid members) ∷ calls) d g e = elim (commit-from calls _ g e) [ inl h ↦ inl h | inr i ↦ inr (inr i) ]
 commit-from (Append (Rec.End tid) ∷ calls) d g e = elim (commit-from calls _ g e) [ inl h ↦ inl h | inr i ↦ inr (inr i) ]
+commit-from (Append (Rec.Checkpoint sum) ∷ calls) d g e = elim (commit-from calls _ g e) [ inl h ↦ inl h | inr i ↦ inr (inr i) ]
 commit-from (Sync ∷ calls) d g e = elim (commit-from calls _ g e) [ inl h ↦ inl h | inr i ↦ inr (inr i) ]
 commit-from (CutBack ∷ calls) d g e = elim (commit-from calls _ g e) [ inl h ↦ inl h | inr i ↦ inr (inr i) ]
+commit-from (TrimFront ∷ calls) d g e = elim (commit-from calls _ g e) [ inl h ↦ inl h | inr i ↦ inr (inr i) ]
 commit-from (Stops cut ∷ calls) d g e = elim (commit-from calls _ g e) [ inl h ↦ inl (commit-whole g _ d.records h) | inr i ↦ inr (inr i) ]

@@ -24,7 +24,7 @@ use Rattle.fed_rules.specs.CoordPast.{CoordHappening, begins, begun_by, begun_ti
 use Rattle.fed_rules.specs.Disk.{empty_disk}
 use Rattle.fed_rules.specs.Plans.{IsScenario}
 use Rattle.fed_rules.specs.Runs.{Run, unended, is_sealed}
-use Rattle.fed_rules.specs.Scenarios.{home_of, local_site, local_home, home_at, program_of, protocols}
+use Rattle.fed_rules.specs.Scenarios.{home_of, local_site, local_home, home_at, program_of, policy, protocols}
 use Rattle.fed_rules.specs.Site.{site_line}
 use Rattle.fed_rules.specs.SitePast.{SiteHappening, SitePast, set_up_calls, epoch_start, engine_lines, live_of_tx}
 use Rattle.fed_rules.specs.SiteRecords.{Home, site_frame}
@@ -100,7 +100,7 @@ declared-program scenario good story g h s v = by_test (is_begun (coord_past sto
     by_test false k = (let none = ap (visits s) (h.holds.unbegun k) in let clash = sym v ∙ none in cc)
 
 pub coord-made : (scenario : Scenario) (story : Story) (x : CoordHappening) (line : IsCoordLine scenario story x) → IsMade (protocols scenario) (coord_past story) line.event x
-coord-made scenario story x line = subst (λ (y : CoordHappening). IsMade (protocols scenario) (coord_past story) line.event y) (sym line.is_next) (coord_made (protocols scenario) (coord_past story) line.event)
+coord-made scenario story x line = subst (λ (y : CoordHappening). IsMade (protocols scenario) (coord_past story) line.event y) (sym line.is_next) (coord_made (protocols scenario) (policy scenario) (coord_past story) line.event)
 
 -- a line of the coordinator keeps what holds
 coord-holds : (scenario : Scenario) → IsScenario scenario → (story : Story) (g : Tid) (x : CoordHappening) → IsCoordLine scenario story x → StoryHolds scenario story g → (Holds (x ∷ coord_past story) g)
@@ -196,6 +196,7 @@ foreign scenario story home g (To_site.Drop tid) none c = tt
 foreign scenario story home g (To_site.Halt cut) none c = tt
 foreign scenario story home g (To_site.Trip calls cut) none c = tt
 foreign scenario story home g To_site.Back none c = tt
+foreign scenario story home g To_site.Check none c = tt
 
 given-sent : (scenario : Scenario) (story : Story) (home : Home) (event : SiteEvent) → SiteCause scenario story home event → (message : ToSite) → event ≡ To_site.Give message → In message (sent_to home.site story)
 given-sent scenario story home event c message e = subst (SiteCause scenario story home) e c

@@ -14,8 +14,8 @@ use Rattle.fed_rules.specs.declared.records.CoordRecord.TheVariants as Rec
 use Rattle.fed_rules.specs.declared.scenario.Scenario.{Scenario}
 use Rattle.fed_rules.specs.CoordPast.{CoordPast, CoordHappening, disk, records}
 use Rattle.fed_rules.specs.CoordRecords.{coord_frame, commits}
-use Rattle.fed_rules.specs.Disk.{Disk, Call, Append, Sync, CutBack, Stops, bytes_of, whole, after_calls}
-use Rattle.fed_rules.specs.Scenarios.{protocols}
+use Rattle.fed_rules.specs.Disk.{Disk, Call, Append, Sync, CutBack, TrimFront, Stops, bytes_of, whole, after_calls}
+use Rattle.fed_rules.specs.Scenarios.{policy, protocols}
 use Rattle.fed_rules.specs.Story.{Story, Happened, AtSite, AtCoordinator, Nowhere, coord_past, with_coordinator, story_of}
 use Rattle.federation_laws.specs.Edges.{committed, HasEdge, TicketsAreCycleFree}
 use Rattle.federation_laws.proofs.Told.{IsLine, line_is}
@@ -36,7 +36,9 @@ fewer some all sub free =
 commit-behind : (newest : CoordRecord) (rs : List CoordRecord) (a : Ticketed) → In a (commits rs) → In a (commits (newest ∷ rs))
 commit-behind (Rec.Commit tid tickets) rs a i = inr i
 commit-behind (Rec.Initiation tid members) rs a i = i
+commit-behind (Rec.Abort tid members) rs a i = i
 commit-behind (Rec.End tid) rs a i = i
+commit-behind (Rec.Checkpoint sum) rs a i = i
 
 -- what is left of the records has no other commits
 pub commits-whole : (b : ℕ) (rs : List CoordRecord) (a : Ticketed) → In a (commits (whole coord_frame b rs)) → In a (commits rs)
@@ -51,10 +53,13 @@ commits-whole b (r ∷ rs) a i = by_test (nat_le (bytes_of coord_frame (r ∷ rs
 free-after : (calls : List (Call CoordRecord)) (d : Disk CoordRecord) (all : List Ticketed) → Each CommitsNobody calls → ((a : Ticketed) → In a (commits d.records) → In a all) → IsFree all → IsFree (commits (after_calls coord_frame d calls).records)
 free-after [] d all h sub free = fewer (commits d.records) all sub free
 free-after (Append (Rec.Commit tid tickets) ∷ calls) d all h sub free = absurd h.0
+free-after (Append (Rec.Checkpoint sum) ∷ calls) d all h sub free = free-after calls _ all h.1 sub free
 free-after (Append (Rec.Initiation tid members) ∷ calls) d all h sub free = free-after calls _ all h.1 sub free
+free-after (Append (Rec.Abort tid members) ∷ calls) d all h sub free = free-after calls _ all h.1 sub free
 free-after (Append (Rec.End tid) ∷ calls) d all h sub free = free-after calls _ all h.1 sub free
 free-after (Sync ∷ calls) d all h sub free = free-after calls _ all h.1 sub free
 free-after (CutBack ∷ calls) d all h sub free = free-after calls _ all h.1 sub free
+free-after (TrimFront ∷ calls) d all h sub free = free-after calls _ all h.1 sub free
 free-after (Stops cut ∷ calls) d all h sub free = free-after calls _ all h.1 (λ a i. sub a (commits-whole _ d.records a i)) free
 
 -- and calls of which one appends an accepted Commit leave no cycle
@@ -68,9 +73,12 @@ free-accepted (Append (Rec.Commit tid tickets) ∷ calls) d all h sub free =
     one-more a (inl e) = inl e
     one-more a (inr i) = inr (sub a i)
 free-accepted (Append (Rec.Initiation tid members) ∷ calls) d all h sub free = free-accepted calls _ all h sub free
+free-accepted (Append (Rec.Abort tid members) ∷ calls) d all h sub free = free-accepted calls _ all h sub free
 free-accepted (Append (Rec.End tid) ∷ calls) d all h sub free = free-accepted calls _ all h sub free
+free-accepted (Append (Rec.Checkpoint sum) ∷ calls) d all h sub free = free-accepted calls _ all h sub free
 free-accepted (Sync ∷ calls) d all h sub free = free-accepted calls _ all h sub free
 free-accepted (CutBack ∷ calls) d all h sub free = free-accepted calls _ all h sub free
+free-accepted (TrimFront ∷ calls) d all h sub free = free-accepted calls _ all h sub free
 free-accepted (Stops cut ∷ calls) d all h sub free = free-accepted calls _ all h (λ a i. sub a (commits-whole _ d.records a i)) free
 
 -- a line keeps the committed attempts without a cycle
@@ -80,7 +88,7 @@ free-line members past x h free = free-accepted x.calls (disk past) (commits (re
 free-happened : (scenario : Scenario) (story : Story) (happened : Happened) → IsLine scenario story happened → IsFree (commits (records (coord_past story))) → IsFree (commits (records (with_coordinator happened (coord_past story))))
 free-happened scenario story (AtSite site x) line free = free
 free-happened scenario story (AtCoordinator x) line free =
-    let made = coord_made (protocols scenario) (coord_past story) line.event in
+    let made = coord_made (protocols scenario) (policy scenario) (coord_past story) line.event in
     free-line (protocols scenario) (coord_past story) x
     (subst (λ (y : CoordHappening). IsAccepted (commits (records (coord_past story))) y.calls) (sym line.is_next) made.accepted) free
 free-happened scenario story (Nowhere answer) line free = free

@@ -1,4 +1,5 @@
 pub mod Accesses
+pub mod Conservative
 pub mod Edges
 pub mod OneOrder
 pub mod Parts

@@ -30,7 +30,7 @@ without_graph protocols past event x answer = x
 -- a coordinator that commits every attempt for which all sites voted yes
 abbrev pub commits_without_graph : Rules
 commits_without_graph =
-    record right_rules { coordinator = λ protocols past event. (let x = coord_line protocols past event in without_graph protocols past event x x.answer) }
+    record right_rules { coordinator = λ protocols policy past event. (let x = coord_line protocols policy past event in without_graph protocols past event x x.answer) }
 
 -- by these rules a story has no order for all sites
 pub record HasNoOrder (rules : Rules) : Type 0 where

@@ -2,13 +2,14 @@
 use Rattle.std.proofs.Common.{ℕ, Bool, true, false, cond, List, [], ◌∷◌}
 use Rattle.std.specs.Prelude.{nat_le}
 use Rattle.mdb_base.specs.Words.{Each}
-use Rattle.fed_rules.specs.Disk.{Disk, Call, Append, Sync, CutBack, Stops, bytes_of, whole, after_call, after_calls}
+use Rattle.fed_rules.specs.Disk.{Disk, Call, Append, Sync, CutBack, TrimFront, Stops, bytes_of, whole, after_call, after_calls}
 
 -- what the call appends has the fact
 abbrev pub Appends : {R : Type 0} → (R → Type 0) → Call R → Type 0
 Appends P (Append r) = P r
 Appends P Sync = Unit {0}
 Appends P CutBack = Unit {0}
+Appends P TrimFront = Unit {0}
 Appends P (Stops cut) = Unit {0}
 
 whole_each : {R : Type 0} (P : R → Type 0) (size : R → ℕ) (b : ℕ) (rs : List R) → Each P rs → Each P (whole size b rs)
@@ -23,6 +24,7 @@ call_each : {R : Type 0} (P : R → Type 0) (size : R → ℕ) (disk : Disk R) (
 call_each P size disk (Append r) h a = (a, h)
 call_each P size disk Sync h a = h
 call_each P size disk CutBack h a = h
+call_each P size disk TrimFront h a = h
 call_each P size disk (Stops cut) h a = whole_each P size _ disk.records h
 
 pub calls_each : {R : Type 0} (P : R → Type 0) (size : R → ℕ) (disk : Disk R) (calls : List (Call R)) → Each P disk.records → Each (Appends P) calls → Each P (after_calls size disk calls).records

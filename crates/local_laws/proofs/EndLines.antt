@@ -3,8 +3,6 @@ use Rattle.std.proofs.Common.{◌≡◌, ℕ, suc, ◌≤◌, false, Some, None,
 use Rattle.std.proofs.lemmas.Bool.{cond-true, cond-false}
 use Rattle.mdb_base.specs.declared.acts.PlainAct.{PlainAct}
 use Rattle.mdb_base.specs.declared.acts.Step.{Step}
-use Rattle.mdb_base.specs.declared.names.Engine.{Engine}
-use Rattle.mdb_base.specs.declared.names.Engine.TheVariants.{Locking, Timestamp, Validation}
 use Rattle.mdb_base.specs.declared.names.Tid.{Tid}
 use Rattle.mdb_base.specs.declared.names.Tx.{Tx}
 use Rattle.mdb_base.specs.declared.replies.Reply.{Reply}
@@ -13,20 +11,19 @@ use Rattle.mdb_base.specs.Programs.{plain_act}
 use Rattle.mdb_base.specs.Words.{item_at}
 use Rattle.fed_rules.specs.declared.answers.Answer.TheVariants as Say
 use Rattle.fed_rules.specs.declared.events.SiteEvent.TheVariants as Ev
-use Rattle.fed_rules.specs.declared.scenario.Scenario.{Scenario}
+use Rattle.fed_rules.specs.SiteCommands.{Programs}
 use Rattle.fed_rules.specs.EngineLines.{IsStart}
 use Rattle.fed_rules.specs.Happenings.{is_down}
 use Rattle.fed_rules.specs.Orders.{read_by}
-use Rattle.fed_rules.specs.Replies.{seal_stop, seal_number}
+use Rattle.fed_rules.specs.Replies.{seal_stop, seal_number, Drawn, AtBegin, AtSealing, rule, number_drawn}
 use Rattle.fed_rules.specs.Runs.{Start, EngineLine, Seals, Refuses, Aborts, Run, counter}
-use Rattle.fed_rules.specs.Scenarios.{program_of}
 use Rattle.fed_rules.specs.Site.{with_lines, refusal_answer, reply_to, stop_of, number_of, seals_local, done}
 use Rattle.fed_rules.specs.SitePast.{SiteHappening, SitePast, records, epoch_start, engine_lines, run_of, live, attempts_of, begins_tx}
 use Rattle.fed_rules.specs.SiteRecords.{Home}
 use Rattle.fed_rules.specs.Story.{attempt, run_reads}
 use Rattle.engine_contract.proofs.Follows.{run_at-own}
 use Rattle.engine_laws.proofs.Counted.{counted}
-use Rattle.site_laws.specs.Led.{IsStep}
+use Rattle.local_laws.specs.Asked.{IsStep}
 use Rattle.site_laws.specs.Locals.{IsQuiet, IsRunning}
 use Rattle.site_laws.proofs.About.{IsAbout, unread_reads, unbegun_attempts}
 use Rattle.site_laws.proofs.Attempts.{same_tx-refl}
@@ -46,28 +43,27 @@ undoubted_start start e =
     subst (λ ds. IsStart (record { kind = start.kind; rows = start.rows; doubtful = ds; counter = start.counter; published = start.published; owner = start.owner })) (sym e) (record { numbered = tt; apart = tt })
 
 -- the number of a sealing is at most one more than the numbers that were drawn
-number_below : (kind : Engine) (start : Start) (lines : List EngineLine) (run : Run) (n : ℕ) → counter start lines ≤ n → run.age ≤ counter start lines → seal_number kind start lines run ≤ suc n
-number_below Locking start lines run n few age = omega arith
-number_below Timestamp start lines run n few age = omega arith
-number_below Validation start lines run n few age = omega arith
+number_below : (drawn : Drawn) (start : Start) (lines : List EngineLine) (run : Run) (n : ℕ) → counter start lines ≤ n → run.age ≤ counter start lines → number_drawn drawn start lines run ≤ suc n
+number_below AtBegin start lines run n few age = omega arith
+number_below AtSealing start lines run n few age = omega arith
 
 -- the run of a live attempt of which what is kept is known
 pub record IsLiveHere (home : Home) (past : SitePast) (tid : Tid) (run : Run) (state : State) : Type 0 where
   pub own : run_of home past tid ≡ Some run
   pub one : IsOwnLive home past tid run state
 
-pub live_here : (scenario : Scenario) (home : Home) (past : SitePast) (tid : Tid) (run : Run) → Keeps scenario home past → live home past tid ≡ Some run → IsLiveHere home past tid run (kept_of tid.tx past)
-live_here scenario home past tid run k e =
+pub live_here : (programs : Programs) (home : Home) (past : SitePast) (tid : Tid) (run : Run) → Keeps programs home past → live home past tid ≡ Some run → IsLiveHere home past tid run (kept_of tid.tx past)
+live_here programs home past tid run k e =
     let own = live_has (run_of home past tid) run e in
-    record { own = own; one = own_live home past tid (program_of scenario tid.tx) (kept_of tid.tx past) run (k.agrees tid.tx) own }
+    record { own = own; one = own_live home past tid (programs tid.tx) (kept_of tid.tx past) run (k.agrees tid.tx) own }
 
 unsealed_run : (home : Home) (past : SitePast) (tid : Tid) (run : Run) (state : State) → IsLiveHere home past tid run state → run.sealed ≡ None
 unsealed_run home past tid run state l = subst (λ (r : Run). r.sealed ≡ None) l.one.same l.one.running.unsealed
 
 -- the access of a live attempt
-pub act_own : (scenario : Scenario) (home : Home) (past : SitePast) (tid : Tid) (act : PlainAct) → Keeps scenario home past → is_down past ≡ false → (s : IsStep scenario home past tid act)
-    → IsOwnLine scenario home past tid (act_line tid (reply_to home past s.run act) act)
-act_own scenario home past tid act k here s = record {
+pub act_own : (programs : Programs) (home : Home) (past : SitePast) (tid : Tid) (act : PlainAct) → Keeps programs home past → is_down past ≡ false → (s : IsStep programs home past tid act)
+    → IsOwnLine programs home past tid (act_line tid (reply_to home past s.run act) act)
+act_own programs home past tid act k here s = record {
   about = about;
   next = record {
     stays = about.stays;
@@ -86,7 +82,7 @@ act_own scenario home past tid act k here s = record {
     state = kept_of tid.tx past
 
     program : List Step
-    program = program_of scenario tid.tx
+    program = programs tid.tx
 
     reply : Reply
     reply = reply_to home past s.run act
@@ -98,7 +94,7 @@ act_own scenario home past tid act k here s = record {
     about = acts_about tid reply act
 
     l : IsLiveHere home past tid s.run state
-    l = live_here scenario home past tid s.run k s.live
+    l = live_here programs home past tid s.run k s.live
 
     r : IsRunning home past tid.tx tid.attempt state.done state.reads
     r = l.one.running
@@ -123,9 +119,9 @@ rest_own home past tx program state x unread unbegun quiet a = record {
 }
 
 -- the abort of a live attempt
-pub abort_own : (scenario : Scenario) (home : Home) (past : SitePast) (tid : Tid) (run : Run) → Keeps scenario home past → is_down past ≡ false → live home past tid ≡ Some run
-    → IsOwnLine scenario home past tid (with_lines (Ev.Abort tid) (Say.Aborted tid) (Aborts tid ∷ []))
-abort_own scenario home past tid run k here e = record {
+pub abort_own : (programs : Programs) (home : Home) (past : SitePast) (tid : Tid) (run : Run) → Keeps programs home past → is_down past ≡ false → live home past tid ≡ Some run
+    → IsOwnLine programs home past tid (with_lines (Ev.Abort tid) (Say.Aborted tid) (Aborts tid ∷ []))
+abort_own programs home past tid run k here e = record {
   about = about;
   next = record {
     stays = refl;
@@ -135,8 +131,8 @@ abort_own scenario home past tid run k here e = record {
     few = (let few = k.sound.few in omega arith);
     right = ((run, l.own), k.sound.right);
   };
-  own = subst (λ st. Agrees home (x ∷ past) tid.tx (program_of scenario tid.tx) st) (sym (cond-true _ _ _ (same_tx-refl tid.tx)))
-      (rest_own home past tid.tx (program_of scenario tid.tx) state x (λ t. refl) refl (rests home past tid.tx tid.attempt state.done state.reads x (Aborts tid) l.one.running about refl refl refl refl).quiet (k.agrees tid.tx));
+  own = subst (λ st. Agrees home (x ∷ past) tid.tx (programs tid.tx) st) (sym (cond-true _ _ _ (same_tx-refl tid.tx)))
+      (rest_own home past tid.tx (programs tid.tx) state x (λ t. refl) refl (rests home past tid.tx tid.attempt state.done state.reads x (Aborts tid) l.one.running about refl refl refl refl).quiet (k.agrees tid.tx));
   others = λ tx st apart. cond-false _ _ _ apart;
 }
   where
@@ -150,12 +146,12 @@ abort_own scenario home past tid run k here e = record {
     about = aborts_about tid
 
     l : IsLiveHere home past tid run state
-    l = live_here scenario home past tid run k e
+    l = live_here programs home past tid run k e
 
 -- the commit of a live attempt that is refused
-pub refused_own : (scenario : Scenario) (home : Home) (past : SitePast) (tid : Tid) (run : Run) (why : Why) → Keeps scenario home past → is_down past ≡ false → live home past tid ≡ Some run → stop_of home past run ≡ Some why
-    → IsOwnLine scenario home past tid (with_lines (Ev.Commit tid) (refusal_answer why) (Refuses tid why ∷ []))
-refused_own scenario home past tid run why k here e stop = record {
+pub refused_own : (programs : Programs) (home : Home) (past : SitePast) (tid : Tid) (run : Run) (why : Why) → Keeps programs home past → is_down past ≡ false → live home past tid ≡ Some run → stop_of home past run ≡ Some why
+    → IsOwnLine programs home past tid (with_lines (Ev.Commit tid) (refusal_answer why) (Refuses tid why ∷ []))
+refused_own programs home past tid run why k here e stop = record {
   about = about;
   next = record {
     stays = about.stays;
@@ -165,8 +161,8 @@ refused_own scenario home past tid run why k here e stop = record {
     few = (let few = k.sound.few in omega arith);
     right = ((run, ((l.own, unsealed_run home past tid run state l), ap (λ kind. seal_stop kind (epoch_start home past) (engine_lines past) run) k.sound.kind ∙ stop)), k.sound.right);
   };
-  own = subst (λ st. Agrees home (x ∷ past) tid.tx (program_of scenario tid.tx) st) (sym (cond-false _ _ _ about.stays ∙ cond-true _ _ _ (same_tx-refl tid.tx)))
-      (rest_own home past tid.tx (program_of scenario tid.tx) state x (λ t. refl) (unbegun tid.tx) (rests home past tid.tx tid.attempt state.done state.reads x (Refuses tid why) l.one.running about refl refl refl refl).quiet (k.agrees tid.tx));
+  own = subst (λ st. Agrees home (x ∷ past) tid.tx (programs tid.tx) st) (sym (cond-false _ _ _ about.stays ∙ cond-true _ _ _ (same_tx-refl tid.tx)))
+      (rest_own home past tid.tx (programs tid.tx) state x (λ t. refl) (unbegun tid.tx) (rests home past tid.tx tid.attempt state.done state.reads x (Refuses tid why) l.one.running about refl refl refl refl).quiet (k.agrees tid.tx));
   others = λ tx st apart. cond-false _ _ _ about.stays ∙ cond-false _ _ _ apart;
 }
   where
@@ -180,7 +176,7 @@ refused_own scenario home past tid run why k here e stop = record {
     about = refused_about tid why
 
     l : IsLiveHere home past tid run state
-    l = live_here scenario home past tid run k e
+    l = live_here programs home past tid run k e
 
     unbegun : (tx : Tx) → begins_tx tx (refusal_answer why) ≡ false
     unbegun tx = refusal_answer-is (λ a. begins_tx tx a ≡ false) (λ by key. refl) refl why
@@ -190,20 +186,20 @@ pub record CommitFits (home : Home) (past : SitePast) (tid : Tid) (run : Run) : 
   pub number : number_of home past run ≤ suc (length past)
   pub last : suc tid.attempt ≡ attempts_of past tid.tx
 
-pub commit_fits : (scenario : Scenario) (home : Home) (past : SitePast) (tid : Tid) (run : Run) → Keeps scenario home past → live home past tid ≡ Some run → CommitFits home past tid run
-commit_fits scenario home past tid run k e =
-    let l = live_here scenario home past tid run k e in
+pub commit_fits : (programs : Programs) (home : Home) (past : SitePast) (tid : Tid) (run : Run) → Keeps programs home past → live home past tid ≡ Some run → CommitFits home past tid run
+commit_fits programs home past tid run k e =
+    let l = live_here programs home past tid run k e in
     let drawn = (counted (epoch_start home past) (engine_lines past) (undoubted_start (epoch_start home past) k.sound.undoubted) k.sound.right).unended tid run l.own in
     record {
-      number = number_below home.engine (epoch_start home past) (engine_lines past) run (length past) k.sound.few drawn.age_kept;
+      number = number_below (rule home.engine).drawn (epoch_start home past) (engine_lines past) run (length past) k.sound.few drawn.age_kept;
       last = l.one.last ∙ sym (k.agrees tid.tx).begun;
     }
 
 -- the commit of a live attempt that nothing stops
-pub sealed_own : (scenario : Scenario) (home : Home) (past : SitePast) (tid : Tid) (run : Run) → Keeps scenario home past → is_down past ≡ false → live home past tid ≡ Some run → stop_of home past run ≡ None
-    → IsOwnLine scenario home past tid (seals_local home past tid run)
+pub sealed_own : (programs : Programs) (home : Home) (past : SitePast) (tid : Tid) (run : Run) → Keeps programs home past → is_down past ≡ false → live home past tid ≡ Some run → stop_of home past run ≡ None
+    → IsOwnLine programs home past tid (seals_local home past tid run)
 unfolding seals_local
-sealed_own scenario home past tid run k here e stop = record {
+sealed_own programs home past tid run k here e stop = record {
   about = sealed_about home past tid run;
   next = record {
     stays = refl;
@@ -216,8 +212,8 @@ sealed_own scenario home past tid run k here e stop = record {
       ((run, ((l.own, unsealed_run home past tid run state l), ap (λ kind. seal_stop kind start (engine_lines past) run) k.sound.kind ∙ stop, ap (λ kind. seal_number kind start (engine_lines past) run) (sym k.sound.kind))), k.sound.right),
     );
   };
-  own = subst (λ st. Agrees home (x ∷ past) tid.tx (program_of scenario tid.tx) st) (sym (cond-true _ _ _ (same_tx-refl tid.tx)))
-      (rest_own home past tid.tx (program_of scenario tid.tx) state x (λ t. refl) refl
+  own = subst (λ st. Agrees home (x ∷ past) tid.tx (programs tid.tx) st) (sym (cond-true _ _ _ (same_tx-refl tid.tx)))
+      (rest_own home past tid.tx (programs tid.tx) state x (λ t. refl) refl
       (subst (λ (u : Run). IsQuiet home (seals_local home past tid u ∷ past) tid.tx) l.one.same (sealed_commits home past tid.tx tid.attempt state.done state.reads l.one.running).quiet) (k.agrees tid.tx));
   others = λ tx st apart. cond-false _ _ _ apart;
 }
@@ -235,7 +231,7 @@ sealed_own scenario home past tid run k here e stop = record {
     x = seals_local home past tid run
 
     f : CommitFits home past tid run
-    f = commit_fits scenario home past tid run k e
+    f = commit_fits programs home past tid run k e
 
     l : IsLiveHere home past tid run state
-    l = live_here scenario home past tid run k e
+    l = live_here programs home past tid run k e

@@ -6,8 +6,6 @@ use Rattle.mdb_base.specs.declared.acts.Act.TheVariants.{Get, Set, Add}
 use Rattle.mdb_base.specs.declared.acts.PlainAct.{PlainAct}
 use Rattle.mdb_base.specs.declared.acts.PlainAct.TheVariants.{Read, Write}
 use Rattle.mdb_base.specs.declared.acts.Step.{Step}
-use Rattle.mdb_base.specs.declared.names.Engine.{Engine}
-use Rattle.mdb_base.specs.declared.names.Engine.TheVariants.{Locking, Timestamp, Validation}
 use Rattle.mdb_base.specs.declared.names.Key.{Key}
 use Rattle.mdb_base.specs.declared.names.Tid.{Tid}
 use Rattle.mdb_base.specs.declared.names.Tx.{Tx}
@@ -15,10 +13,11 @@ use Rattle.mdb_base.specs.declared.replies.Reply.{Reply}
 use Rattle.mdb_base.specs.declared.replies.Reply.TheVariants as Reply_is
 use Rattle.mdb_base.specs.declared.replies.Why.TheVariants as Because
 use Rattle.mdb_base.specs.Programs.{is_get, plain_act, reads_of}
-use Rattle.mdb_base.specs.Words.{item_at, least, greatest}
+use Rattle.mdb_base.specs.Words.{item_at}
 use Rattle.fed_rules.specs.declared.events.SiteEvent.TheVariants as Ev
 use Rattle.fed_rules.specs.Orders.{local_reads, read_by}
-use Rattle.fed_rules.specs.Replies.{access_reply, access_stop, granted, wait_die, late_or_wait, age_of, holders, younger_in_the_way, older_writers, or_reply, is_younger}
+use Rattle.fed_rules.specs.Replies.{access_reply, granted, or_reply, rule}
+use Rattle.engine_laws.proofs.Forms.{IsStop, forms}
 use Rattle.fed_rules.specs.Runs.{Start, EngineLine, Acts, Run, acted}
 use Rattle.fed_rules.specs.Site.{act_answer}
 use Rattle.fed_rules.specs.SitePast.{SitePast, run_of}
@@ -62,29 +61,24 @@ own_live home past tid program state run a own = by_live state.live refl a.live
 pub reply-is : (P : PlainAct → Reply → Type 0) → ((act : PlainAct) (by : Tid) → P act (Reply_is.Wait by)) → ((act : PlainAct) (by : Tid) → P act (Reply_is.Refused (Because.Die by)))
     → ((act : PlainAct) (by : Tid) → P act (Reply_is.Refused (Because.Late by))) → ((key : Key) (value : ℕ) → P (Read key) (Reply_is.Value value)) → ((key : Key) (value : ℕ) → P (Write key value) Reply_is.Done)
     → (start : Start) (lines : List EngineLine) (me : Run) (act : PlainAct) → P act (access_reply start lines me act)
-reply-is P waits dies lates reads writes start lines me act = by_kind start.kind
+reply-is P waits dies lates reads writes start lines me act =
+    by_stop ((rule start.kind).access start lines me act) ((forms start.kind).access start lines me act)
   where
     grants : (a : PlainAct) → P a (granted start lines me a)
     grants (Read key) = reads key _
     grants (Write key value) = writes key value
 
-    by_die : (o : Option Run) → P act (or_reply (wait_die me o) (granted start lines me act))
-    by_die None = grants act
-    by_die (Some oldest) = by_test (is_younger me oldest)
-      where
-        by_test : (b : Bool) → P act (cond b (Reply_is.Wait oldest.tid) (Reply_is.Refused (Because.Die oldest.tid)))
-        by_test true = waits act oldest.tid
-        by_test false = dies act oldest.tid
-
-    by_late : (o q : Option Run) → P act (or_reply (late_or_wait o q) (granted start lines me act))
-    by_late (Some youngest) q = lates act youngest.tid
-    by_late None (Some older) = waits act older.tid
-    by_late None None = grants act
-
-    by_kind : (kind : Engine) → P act (or_reply (access_stop kind start lines me act) (granted start lines me act))
-    by_kind Locking = by_die (least age_of (holders start lines me act))
-    by_kind Timestamp = by_late (greatest age_of (younger_in_the_way start lines me act)) (greatest age_of (older_writers start lines me act))
-    by_kind Validation = grants act
+    by_stop : (o : Option Reply) → IsStop o → P act (or_reply o (granted start lines me act))
+    by_stop None form = grants act
+    by_stop (Some (Reply_is.Wait by)) form = waits act by
+    by_stop (Some (Reply_is.Refused (Because.Die by))) form = dies act by
+    by_stop (Some (Reply_is.Refused (Because.Late by))) form = lates act by
+    by_stop (Some (Reply_is.Refused (Because.Invalid by key))) form = absurd form
+    by_stop (Some (Reply_is.Refused (Because.TicketMoved by))) form = absurd form
+    by_stop (Some (Reply_is.Value value)) form = absurd form
+    by_stop (Some Reply_is.Done) form = absurd form
+    by_stop (Some (Reply_is.Ticket ticket)) form = absurd form
+    by_stop (Some Reply_is.Unknown) form = absurd form
 
 -- the number of reads in a front with one step more
 reads_of-next : (steps : List Step) (n : ℕ) (step : Step) → item_at steps n ≡ Some step → reads_of (take (n + 1) steps) ≡ cond (is_get step.act) (suc (reads_of (take n steps))) (reads_of (take n steps))

@@ -9,11 +9,10 @@ use Rattle.fed_rules.specs.declared.answers.Answer.TheVariants as Say
 use Rattle.fed_rules.specs.declared.events.SiteEvent.TheVariants as Ev
 use Rattle.fed_rules.specs.declared.records.SiteRecord.{SiteRecord}
 use Rattle.fed_rules.specs.declared.records.SiteRecord.TheVariants as Rec
-use Rattle.fed_rules.specs.declared.scenario.Scenario.{Scenario}
+use Rattle.fed_rules.specs.SiteCommands.{Programs}
 use Rattle.fed_rules.specs.EngineLines.{IsRight}
 use Rattle.fed_rules.specs.Happenings.{is_down}
 use Rattle.fed_rules.specs.Runs.{Start, Begins}
-use Rattle.fed_rules.specs.Scenarios.{program_of}
 use Rattle.fed_rules.specs.Site.{with_lines, next_number}
 use Rattle.fed_rules.specs.SitePast.{SiteHappening, SitePast, records, epoch_start, engine_lines, attempts_of}
 use Rattle.fed_rules.specs.SiteRecords.{Home, local_of}
@@ -45,6 +44,7 @@ fit_begun : (past : SitePast) (x : SiteHappening) (tid : Tid) (n : ℕ) (rs : Li
     → local_of rs tid.tx ≡ None → Each (Fits past n) rs → Each (Fits (x ∷ past) (suc n)) rs
 fit_begun past x tid n [] same none f = tt
 fit_begun past x tid n (Rec.Setup site engine protocol items ∷ rs) same none f = (tt, fit_begun past x tid n rs same none f.1)
+fit_begun past x tid n (Rec.Checkpoint sum ∷ rs) same none f = (tt, fit_begun past x tid n rs same none f.1)
 fit_begun past x tid n (Rec.Start epoch ∷ rs) same none f = (let e = f.0 in omega arith, fit_begun past x tid n rs same none f.1)
 fit_begun past x tid n (Rec.Prepared t epoch number ticket writes ∷ rs) same none f = absurd f.0
 fit_begun past x tid n (Rec.Ended t decision ∷ rs) same none f = absurd f.0
@@ -56,9 +56,9 @@ fit_begun past x tid n (Rec.Local t number writes ∷ rs) same none f = by_test 
     by_test false is e more = ((let le = f.0.0 in omega arith, f.0.1 ∙ sym (same t.tx (unlike_back t.tx tid.tx is))), more e f.1)
 
 -- the next attempt begins
-pub begin_own : (scenario : Scenario) (home : Home) (past : SitePast) (tx : Tx) → Keeps scenario home past → is_down past ≡ false → IsIdle home past tx → (kept_of tx past).begun < most_attempts
-    → IsOwnLine scenario home past (attempt tx (kept_of tx past).begun) (begin_line (attempt tx (kept_of tx past).begun) (next_number home past))
-begin_own scenario home past tx k here idle few = record {
+pub begin_own : (programs : Programs) (home : Home) (past : SitePast) (tx : Tx) → Keeps programs home past → is_down past ≡ false → IsIdle home past tx → (kept_of tx past).begun < most_attempts
+    → IsOwnLine programs home past (attempt tx (kept_of tx past).begun) (begin_line (attempt tx (kept_of tx past).begun) (next_number home past))
+begin_own programs home past tx k here idle few = record {
   about = about;
   next = record {
     stays = refl;
@@ -68,7 +68,7 @@ begin_own scenario home past tx k here idle few = record {
     few = (let drawn = counter-begun start (engine_lines past) tid (next_number home past) right in let before = k.sound.few in omega arith);
     right = right;
   };
-  own = subst (λ st. Agrees home (x ∷ past) tx (program_of scenario tx) st) (sym (cond-true _ _ _ (same_tx-refl tx))) (record {
+  own = subst (λ st. Agrees home (x ∷ past) tx (programs tx) st) (sym (cond-true _ _ _ (same_tx-refl tx))) (record {
     begun = cond-true _ _ _ (same_tx-refl tx) ∙ (ap (λ n. suc n) a.begun ∙ sym (add-one state.begun));
     few = omega arith;
     within = omega arith;
@@ -83,7 +83,7 @@ begin_own scenario home past tx k here idle few = record {
     state : State
     state = kept_of tx past
 
-    a : Agrees home past tx (program_of scenario tx) state
+    a : Agrees home past tx (programs tx) state
     a = k.agrees tx
 
     tid : Tid

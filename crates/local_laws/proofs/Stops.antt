@@ -11,14 +11,13 @@ use Rattle.fed_rules.specs.declared.events.SiteEvent.{SiteEvent}
 use Rattle.fed_rules.specs.declared.events.SiteEvent.TheVariants as Ev
 use Rattle.fed_rules.specs.declared.records.SiteRecord.{SiteRecord}
 use Rattle.fed_rules.specs.declared.records.SiteRecord.TheVariants as Rec
-use Rattle.fed_rules.specs.declared.scenario.Scenario.{Scenario}
+use Rattle.fed_rules.specs.SiteCommands.{Programs}
 use Rattle.fed_rules.specs.EngineLines.{IsRight}
 use Rattle.fed_rules.specs.Happenings.{stops, comes_up, is_down}
 use Rattle.fed_rules.specs.Orders.{read_by}
 use Rattle.fed_rules.specs.Runs.{run_at, restored_at, counter}
-use Rattle.fed_rules.specs.Scenarios.{program_of}
 use Rattle.fed_rules.specs.SitePast.{SiteHappening, SitePast, disk, records, epoch_start, engine_lines, run_of, attempts_of, begins_tx}
-use Rattle.fed_rules.specs.SiteRecords.{Home, site_frame, kept_held, doubt_of, prepared_tids, last_number, start_of}
+use Rattle.fed_rules.specs.SiteRecords.{Home, site_frame, kept_held, doubt_of, prepared_tids, last_number, start_of, by_tid}
 use Rattle.fed_rules.specs.Story.{attempt}
 use Rattle.site_laws.proofs.About.{unread_reads, unbegun_attempts}
 use Rattle.site_laws.proofs.Unmoved.{IsUnmoved, running_unmoved}
@@ -30,6 +29,7 @@ use Rattle.local_laws.proofs.Appended.{Appends, calls_each}
 pub unprepared : (past : SitePast) (n : ℕ) (rs : List SiteRecord) → Each (Fits past n) rs → prepared_tids rs ≡ []
 unprepared past n [] f = refl
 unprepared past n (Rec.Setup site engine protocol items ∷ rs) f = unprepared past n rs f.1
+unprepared past n (Rec.Checkpoint sum ∷ rs) f = unprepared past n rs f.1
 unprepared past n (Rec.Start epoch ∷ rs) f = unprepared past n rs f.1
 unprepared past n (Rec.Prepared tid epoch number ticket writes ∷ rs) f = absurd f.0
 unprepared past n (Rec.Ended tid decision ∷ rs) f = absurd f.0
@@ -37,12 +37,13 @@ unprepared past n (Rec.Local tid number writes ∷ rs) f = unprepared past n rs 
 
 -- and nothing is in doubt at a start from them
 pub start_undoubted : (home : Home) (past : SitePast) (n : ℕ) (rs : List SiteRecord) → Each (Fits past n) rs → (start_of home rs).doubtful ≡ []
-start_undoubted home past n rs f = ap (λ tids. map kept_held (found (doubt_of rs) tids)) (unprepared past n rs f)
+start_undoubted home past n rs f = ap (λ tids. map kept_held (by_tid (found (doubt_of rs) tids))) (unprepared past n rs f)
 
 -- their greatest number is at most the bound
 pub last_below : (past : SitePast) (n : ℕ) (rs : List SiteRecord) → Each (Fits past n) rs → last_number rs ≤ n
 last_below past n [] f = omega arith
 last_below past n (Rec.Setup site engine protocol items ∷ rs) f = last_below past n rs f.1
+last_below past n (Rec.Checkpoint sum ∷ rs) f = last_below past n rs f.1
 last_below past n (Rec.Start epoch ∷ rs) f = last_below past n rs f.1
 last_below past n (Rec.Prepared tid epoch number ticket writes ∷ rs) f = absurd f.0
 last_below past n (Rec.Ended tid decision ∷ rs) f = absurd f.0
@@ -51,6 +52,7 @@ last_below past n (Rec.Local tid number writes ∷ rs) f = (let a = last_below p
 -- a record that fits still does after lines that begin nothing, and with a greater bound
 pub fits_same : (past later : SitePast) (m n : ℕ) (r : SiteRecord) → m ≤ n → ((tx : Tx) → attempts_of later tx ≡ attempts_of past tx) → Fits past m r → Fits later n r
 fits_same past later m n (Rec.Setup site engine protocol items) le same f = tt
+fits_same past later m n (Rec.Checkpoint sum) le same f = tt
 fits_same past later m n (Rec.Start epoch) le same f = omega arith
 fits_same past later m n (Rec.Prepared tid epoch number ticket writes) le same f = f
 fits_same past later m n (Rec.Ended tid decision) le same f = f
@@ -141,14 +143,14 @@ rest_agrees home past x tx program state unread unbegun none a = record {
 }
 
 -- a stop ends every attempt
-pub stop_keeps : (scenario : Scenario) (home : Home) (past : SitePast) (x : SiteHappening) → IsStop past x → Keeps scenario home past → Keeps scenario home (x ∷ past)
-stop_keeps scenario home past x stop k =
+pub stop_keeps : (programs : Programs) (home : Home) (past : SitePast) (x : SiteHappening) → IsStop past x → Keeps programs home past → Keeps programs home (x ∷ past)
+stop_keeps programs home past x stop k =
     let new : (stops x.answer || comes_up x.answer) ≡ true = ap (λ b. b || comes_up x.answer) stop.is in
     let sound = new_epoch home past x new (fit_behind home past x (λ tx. stop_unbegun tx x.answer stop.is) k.sound.records stop.fits) in
     record {
       sound = sound;
-      agrees = λ tx. subst (λ st. Agrees home (x ∷ past) tx (program_of scenario tx) st) (sym (cond-true _ _ _ stop.is))
-          (rest_agrees home past x tx (program_of scenario tx) (kept_of tx past) (λ t. stop_unread t x.event x.answer stop.is) (stop_unbegun tx x.answer stop.is)
+      agrees = λ tx. subst (λ st. Agrees home (x ∷ past) tx (programs tx) st) (sym (cond-true _ _ _ stop.is))
+          (rest_agrees home past x tx (programs tx) (kept_of tx past) (λ t. stop_unread t x.event x.answer stop.is) (stop_unbegun tx x.answer stop.is)
           (λ tid. begin_none home (x ∷ past) tid (cond-true _ _ _ new) sound.undoubted) (k.agrees tx));
     }
 
@@ -161,15 +163,15 @@ down_rests home past tx program state s down a = by_live state.live refl a.live
     by_live (Some n) e l = (let own = l.1.own in let none = down_none home past (attempt tx n) s down in cc)
 
 -- a start leaves no attempt live either
-pub rise_keeps : (scenario : Scenario) (home : Home) (past : SitePast) (x : SiteHappening) → IsRise past x → Keeps scenario home past → Keeps scenario home (x ∷ past)
-rise_keeps scenario home past x rise k =
+pub rise_keeps : (programs : Programs) (home : Home) (past : SitePast) (x : SiteHappening) → IsRise past x → Keeps programs home past → Keeps programs home (x ∷ past)
+rise_keeps programs home past x rise k =
     let new : (stops x.answer || comes_up x.answer) ≡ true = ap (λ b. b || comes_up x.answer) rise.stays ∙ rise.is in
     let sound = new_epoch home past x new (fit_behind home past x (λ tx. rise_unbegun tx x.answer rise.is) k.sound.records rise.fits) in
     record {
       sound = sound;
-      agrees = λ tx. subst (λ st. Agrees home (x ∷ past) tx (program_of scenario tx) st)
-          (sym (rise.same tx (kept_of tx past) ∙ down_rests home past tx (program_of scenario tx) (kept_of tx past) k.sound rise.down (k.agrees tx)))
-          (rest_agrees home past x tx (program_of scenario tx) (kept_of tx past) rise.unread (rise_unbegun tx x.answer rise.is)
+      agrees = λ tx. subst (λ st. Agrees home (x ∷ past) tx (programs tx) st)
+          (sym (rise.same tx (kept_of tx past) ∙ down_rests home past tx (programs tx) (kept_of tx past) k.sound rise.down (k.agrees tx)))
+          (rest_agrees home past x tx (programs tx) (kept_of tx past) rise.unread (rise_unbegun tx x.answer rise.is)
           (λ tid. begin_none home (x ∷ past) tid (cond-true _ _ _ new) sound.undoubted) (k.agrees tx));
     }
 

@@ -17,6 +17,7 @@ use Rattle.fed_rules.specs.Happenings.{is_down}
 use Rattle.fed_rules.specs.Orders.{local_reads}
 use Rattle.fed_rules.specs.Runs.{counter}
 use Rattle.fed_rules.specs.Scenarios.{home_of, program_of}
+use Rattle.fed_rules.specs.SiteCommands.{Programs}
 use Rattle.fed_rules.specs.SitePast.{SitePast, attempts_of, epoch_start, engine_lines, records}
 use Rattle.fed_rules.specs.SiteRecords.{Home}
 use Rattle.fed_rules.specs.Story.{attempt, most_attempts, past_of, story_of}
@@ -42,6 +43,7 @@ pub record Agrees (home : Home) (past : SitePast) (tx : Tx) (program : List Step
 -- that began; nothing was prepared
 abbrev pub Fits : SitePast → ℕ → SiteRecord → Type 0
 Fits past count (Rec.Setup site engine protocol items) = Unit {0}
+Fits past count (Rec.Checkpoint sum) = Unit {0}
 Fits past count (Rec.Start epoch) = epoch ≤ suc count
 Fits past count (Rec.Prepared tid epoch number ticket writes) = ⊥
 Fits past count (Rec.Ended tid decision) = ⊥
@@ -58,9 +60,9 @@ pub record IsSound (home : Home) (past : SitePast) : Type 0 where
   pub right : IsRight (epoch_start home past) (engine_lines past)
 
 -- the site is sound, and what is kept of each transaction agrees
-pub record Keeps (scenario : Scenario) (home : Home) (past : SitePast) : Type 0 where
+pub record Keeps (programs : Programs) (home : Home) (past : SitePast) : Type 0 where
   pub sound : IsSound home past
-  pub agrees : (tx : Tx) → Agrees home past tx (program_of scenario tx) (kept_of tx past)
+  pub agrees : (tx : Tx) → Agrees home past tx (programs tx) (kept_of tx past)
 
 -- no message of a coordinator, and nothing that is asked or dropped for one
 abbrev pub IsOwnEvent : SiteEvent → Type 0
@@ -69,7 +71,7 @@ IsOwnEvent (Ev.Ask tid) = ⊥
 IsOwnEvent (Ev.Drop tid) = ⊥
 IsOwnEvent event = Unit {0}
 
--- the command is of a local transaction, or it stops, trips or starts an actor
+-- the command is of a local transaction, or it stops, trips or starts an actor, or has it write a Checkpoint
 abbrev pub IsOwn : Command → Type 0
 IsOwn (Cmd.Begin tx) = Unit {0}
 IsOwn (Cmd.Step tx) = Unit {0}
@@ -79,10 +81,11 @@ IsOwn (Cmd.Fate tx) = Unit {0}
 IsOwn (Cmd.Halt actor cut) = Unit {0}
 IsOwn (Cmd.Trip actor calls cut) = Unit {0}
 IsOwn (Cmd.Back actor) = Unit {0}
+IsOwn (Cmd.Check actor) = Unit {0}
 IsOwn command = ⊥
 
 -- so it is at each declared site of every story of such commands
 abbrev pub WhatIsKeptAgrees : Type 0
 WhatIsKeptAgrees =
     (scenario : Scenario) (commands : List Command) (site : SiteId) (home : Home) → home_of scenario site ≡ Some home → Each IsOwn commands
-    → Keeps scenario home (past_of home.site (story_of scenario commands))
+    → Keeps (program_of scenario) home (past_of home.site (story_of scenario commands))

@@ -2,7 +2,7 @@
 use Rattle.std.proofs.Common.{◌≡◌, ℕ, ◌+◌, ◌≤◌, ◌⊎◌, inl, inr, min, Bool, true, false, cond, nat_le, List, [], ◌∷◌, refl, sym, ap, subst, arith}
 use Rattle.std.proofs.lemmas.Bool.{leb-true, le-leb}
 use Rattle.order_laws.specs.Chains.{In}
-use Rattle.fed_rules.specs.Disk.{Disk, Call, Append, Sync, CutBack, Stops, bytes_of, whole, after_call, after_calls}
+use Rattle.fed_rules.specs.Disk.{Disk, Call, Append, Sync, CutBack, TrimFront, Stops, bytes_of, whole, after_call, after_calls}
 use Rattle.rules_laws.specs.Durable.{IsSafe, IsSound, LooseFirst, IsFirm, IsFrontOf}
 
 -- the frames of those that are whole within so many bytes take no more
@@ -55,6 +55,7 @@ sound-call size d (Append r) s = record {
 }
 sound-call size d Sync s = record { frames = s.frames; synced = omega arith }
 sound-call size d CutBack s = record { frames = omega arith; synced = omega arith }
+sound-call size d TrimFront s = record { frames = s.frames; synced = s.synced }
 sound-call size d (Stops cut) s = record { frames = bytes-whole size _ d.records; synced = omega arith }
 
 -- what is safe stays so at every call
@@ -63,6 +64,7 @@ safe-call size d (Append x) r s i = whole-behind size d.synced x d.records r i
 safe-call size d Sync r s i = whole-more size d.synced d.length d.records r s.synced i
 safe-call size d CutBack r s i =
     subst (λ rs. In r rs) (sym (whole-all size (bytes_of size d.records) d.records (omega arith))) (whole-some size d.synced d.records r i)
+safe-call size d TrimFront r s i = i
 safe-call size d (Stops cut) r s i =
     let b = min d.length (d.synced + cut) in
     let le : d.synced ≤ b = (let h = s.synced in omega arith) in

@@ -1,5 +1,5 @@
 -- A message that counts is about an attempt that the coordinator knows.
-use Rattle.std.proofs.Common.{◌≡◌, ℕ, Bool, true, false, Option, Some, None, List, length, nat_le, refl}
+use Rattle.std.proofs.Common.{◌≡◌, ℕ, Bool, true, false, Option, Some, None, List, length, nat_le, refl, ap}
 use Rattle.std.proofs.lemmas.Bool.{and_parts}
 use Rattle.mdb_base.specs.declared.names.SiteId.{SiteId}
 use Rattle.mdb_base.specs.declared.names.Tid.{Tid}
@@ -11,9 +11,10 @@ use Rattle.fed_rules.specs.declared.messages.FromSite.{FromSite}
 use Rattle.fed_rules.specs.declared.messages.FromSite.TheVariants as From
 use Rattle.fed_rules.specs.declared.records.CoordRecord.{CoordRecord}
 use Rattle.fed_rules.specs.Coord.{did_counts, vote_counts, of_did, of_vote, of_ack, acked_while, of_take, answered, coord_line}
-use Rattle.fed_rules.specs.CoordPast.{CoordHappening, CoordPast, Standing, Undecided, Decided, Gone, standing, is_undecided, is_known, counts, message_tid, trip, disk}
+use Rattle.fed_rules.specs.CoordPast.{CoordHappening, CoordPast, Standing, Undecided, Decided, Gone, is_open, known_decision, standing_of, standing, is_known, counts, message_tid, trip, disk}
 use Rattle.fed_rules.specs.CoordRecords.{coord_frame}
 use Rattle.fed_rules.specs.Disk.{Disk}
+use Rattle.fed_rules.specs.Policies.{Policy}
 use Rattle.fed_rules.specs.Happenings.{Trip, is_down, stopped, tripped}
 use Rattle.rules_laws.specs.Heard.{is_inquiry}
 
@@ -35,41 +36,40 @@ unfolding tripped stopped
 counts-tripped d None x h = h
 counts-tripped d (Some t) x h = when-second (nat_le t.calls (length x.calls)) _ x refl h
 
-undecided-known : (s : Standing) → is_undecided s ≡ true → is_known s ≡ true
-undecided-known Undecided h = refl
-undecided-known (Decided d) h = refl
-undecided-known Gone h = cc
+open-known : (protocols : List Participant) (past : CoordPast) (tid : Tid) → is_open past tid ≡ true
+    → is_known (standing protocols past tid) ≡ true
+open-known protocols past tid h = ap (λ o. is_known (standing_of o (known_decision protocols past tid))) h
 
-did-known : (protocols : List Participant) (past : CoordPast) (site : SiteId) (tid : Tid) (epoch n : ℕ) (reply : Reply) → counts (of_did protocols past site tid epoch n reply).answer ≡ true → is_known (standing past tid) ≡ true
+did-known : (protocols : List Participant) (policy : Policy) (past : CoordPast) (site : SiteId) (tid : Tid) (epoch n : ℕ) (reply : Reply) → counts (of_did protocols policy past site tid epoch n reply).answer ≡ true → is_known (standing protocols past tid) ≡ true
 unfolding of_did
-did-known protocols past site tid epoch n reply h =
+did-known protocols policy past site tid epoch n reply h =
     let t = when-first (did_counts past site tid epoch n reply) _ _ refl h in
-    undecided-known _ (and_parts _ _ (and_parts _ _ t).0).0
+    open-known protocols past tid (and_parts _ _ (and_parts _ _ t).0).0
 
-vote-known : (protocols : List Participant) (past : CoordPast) (site : SiteId) (tid : Tid) (vote : Option ℕ) → counts (of_vote protocols past site tid vote).answer ≡ true → is_known (standing past tid) ≡ true
+vote-known : (protocols : List Participant) (past : CoordPast) (site : SiteId) (tid : Tid) (vote : Option ℕ) → counts (of_vote protocols past site tid vote).answer ≡ true → is_known (standing protocols past tid) ≡ true
 unfolding of_vote
 vote-known protocols past site tid vote h =
-    let t = when-first (vote_counts past site tid) _ _ refl h in undecided-known _ (and_parts _ _ t).0
+    let t = when-first (vote_counts past site tid) _ _ refl h in open-known protocols past tid (and_parts _ _ t).0
 
-ack-while : (past : CoordPast) (site : SiteId) (tid : Tid) (s : Standing) → counts (acked_while past site tid s).answer ≡ true → is_known s ≡ true
+ack-while : (protocols : List Participant) (past : CoordPast) (site : SiteId) (tid : Tid) (s : Standing) → counts (acked_while protocols past site tid s).answer ≡ true → is_known s ≡ true
 unfolding acked_while
-ack-while past site tid (Decided d) h = refl
-ack-while past site tid Undecided h = refl
-ack-while past site tid Gone h = cc
+ack-while protocols past site tid (Decided d) h = refl
+ack-while protocols past site tid Undecided h = refl
+ack-while protocols past site tid Gone h = cc
 
-ack-known : (past : CoordPast) (site : SiteId) (tid : Tid) → counts (of_ack past site tid).answer ≡ true → is_known (standing past tid) ≡ true
+ack-known : (protocols : List Participant) (past : CoordPast) (site : SiteId) (tid : Tid) → counts (of_ack protocols past site tid).answer ≡ true → is_known (standing protocols past tid) ≡ true
 unfolding of_ack
-ack-known past site tid h = ack-while past site tid (standing past tid) h
+ack-known protocols past site tid h = ack-while protocols past site tid (standing protocols past tid) h
 
-take-known : (protocols : List Participant) (past : CoordPast) (site : SiteId) (message : FromSite) → is_inquiry message ≡ false → counts (of_take protocols past site message).answer ≡ true → is_known (standing past (message_tid message)) ≡ true
+take-known : (protocols : List Participant) (policy : Policy) (past : CoordPast) (site : SiteId) (message : FromSite) → is_inquiry message ≡ false → counts (of_take protocols policy past site message).answer ≡ true → is_known (standing protocols past (message_tid message)) ≡ true
 unfolding of_take
-take-known protocols past site (From.Did tid epoch n reply) e h = did-known protocols past site tid epoch n reply h
-take-known protocols past site (From.Vote tid vote) e h = vote-known protocols past site tid vote h
-take-known protocols past site (From.Ack tid) e h = ack-known past site tid h
-take-known protocols past site (From.Inquiry tid) e h = cc
+take-known protocols policy past site (From.Did tid epoch n reply) e h = did-known protocols policy past site tid epoch n reply h
+take-known protocols policy past site (From.Vote tid vote) e h = vote-known protocols past site tid vote h
+take-known protocols policy past site (From.Ack tid) e h = ack-known protocols past site tid h
+take-known protocols policy past site (From.Inquiry tid) e h = cc
 
 -- a message that counts, an inquiry apart, is about an attempt that is known
-pub heard-known : (protocols : List Participant) (past : CoordPast) (site : SiteId) (message : FromSite) → is_inquiry message ≡ false → counts (coord_line protocols past (Ev.Take site message)).answer ≡ true → is_known (standing past (message_tid message)) ≡ true
+pub heard-known : (protocols : List Participant) (policy : Policy) (past : CoordPast) (site : SiteId) (message : FromSite) → is_inquiry message ≡ false → counts (coord_line protocols policy past (Ev.Take site message)).answer ≡ true → is_known (standing protocols past (message_tid message)) ≡ true
 unfolding coord_line answered
-heard-known protocols past site message e h =
-    take-known protocols past site message e (counts-tripped (disk past) (trip past) _ (when-second (is_down past) _ _ refl h))
+heard-known protocols policy past site message e h =
+    take-known protocols policy past site message e (counts-tripped (disk past) (trip past) _ (when-second (is_down past) _ _ refl h))

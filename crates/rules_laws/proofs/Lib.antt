@@ -1,3 +1,6 @@
-mod Durable
-mod Heard
-mod Pasts
+pub mod Declared
+pub mod Durable
+pub mod Heard
+pub mod Lines
+pub mod Pasts
+pub mod SiteRequests

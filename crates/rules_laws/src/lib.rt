@@ -7,4 +7,4 @@ mod site_laws;
 
 pub use coordinator_laws::counted_messages_are_about_known_attempts;
 pub use disk_laws::{stops_keep_the_oldest, synced_records_survive};
-pub use site_laws::pasts_are_made_by_events;
+pub use site_laws::{each_line_is_asked_for, pasts_are_made_by_events};

@@ -15,9 +15,9 @@ use Rattle.fed_rules.specs.CoordPast as Coordinator
 use Rattle.fed_rules.specs.CoordPast.{CoordPast}
 use Rattle.fed_rules.specs.Happenings.{is_down}
 use Rattle.fed_rules.specs.Runs.{Run, is_sealed, run_at, attempts, unended}
-use Rattle.fed_rules.specs.Scenarios.{home_of, program_of, sites}
+use Rattle.fed_rules.specs.Scenarios.{home_of, program_of, protocols, sites}
 use Rattle.fed_rules.specs.SitePast.{SitePast, epoch_start, engine_lines, is_local, trip, records}
-use Rattle.fed_rules.specs.SiteRecords.{doubt_of}
+use Rattle.fed_rules.specs.SiteRecords.{doubt_of, by_tid}
 use Rattle.fed_rules.specs.Story.{Story, story_of, past_of, coord_past}
 use Rattle.engine_laws.proofs.Runs.{tid_is}
 use Rattle.local_laws.specs.Kept.{kept_of}
@@ -38,7 +38,7 @@ use Rattle.session_laws.proofs.Heard.{site_some}
 use Rattle.session_laws.proofs.Uncoordinated.{uncoordinated}
 
 -- what is kept of the transactions of the site agrees with its past
-pub keeps : (scenario : Scenario) (line : SiteLine) (commands : List Command) → IsAlone scenario line → Each IsOwn commands → Keeps scenario (home_from scenario line) (past_at scenario line commands)
+pub keeps : (scenario : Scenario) (line : SiteLine) (commands : List Command) → IsAlone scenario line → Each IsOwn commands → Keeps (program_of scenario) (home_from scenario line) (past_at scenario line commands)
 keeps scenario line commands alone own =
     led_keeps scenario (home_from scenario line) (past_at scenario line commands)
     (pasts_led IsOwnEvent scenario (home_from scenario line) commands (one_home scenario line alone.sites) (all_allow scenario commands own))
@@ -96,11 +96,11 @@ no_actor add of_coordinator of_site scenario commands none quiet coord =
 -- nothing is undecided or known where no global attempt was begun
 none_undecided : (scenario : Scenario) (commands : List Command) → coord_past (story_of scenario commands) ≡ [] → give_up scenario commands ≡ commands
 none_undecided scenario commands e =
-    ap (λ past. for_each (λ tid more. Cmd.Late tid ∷ more) (rising (those (λ tid. Coordinator.is_undecided (Coordinator.standing past tid)) (Coordinator.begun_tids past))) commands) e
+    ap (λ past. for_each (λ tid more. Cmd.Late tid ∷ more) (rising (those (Coordinator.is_open past) (Coordinator.begun_tids past))) commands) e
 
 none_known : (scenario : Scenario) (commands : List Command) → coord_past (story_of scenario commands) ≡ [] → end_known scenario commands ≡ commands
 none_known scenario commands e =
-    ap (λ past. for_each (send_again scenario) (rising (those (λ tid. Coordinator.is_known (Coordinator.standing past tid)) (Coordinator.begun_tids past))) commands) e
+    ap (λ past. for_each (send_again scenario) (rising (those (λ tid. Coordinator.is_known (Coordinator.standing (protocols scenario) past tid)) (Coordinator.begun_tids past))) commands) e
 
 -- without sites nothing closes
 pub closed_none : SessionsWithoutSitesAreClosed
@@ -133,7 +133,7 @@ live_local scenario line commands alone own =
     past : SitePast
     past = past_at scenario line commands
 
-    k : Keeps scenario (home_from scenario line) (past_at scenario line commands)
+    k : Keeps (program_of scenario) (home_from scenario line) (past_at scenario line commands)
     k = keeps scenario line commands alone own
 
     listed : (tid : Tid) → In tid (live_at (Some (home_from scenario line)) (story_of scenario commands)) → is_local (past_at scenario line commands) tid ≡ true
@@ -167,7 +167,7 @@ none_asked scenario line commands alone own =
     let k = keeps scenario line commands alone own in
     let undoubted : in_doubt_at (home_of scenario line.site) story ≡ [] =
     ap (λ h. in_doubt_at h story) (one_home scenario line alone.sites)
-    ∙ ap (λ ts. rising (map (λ held. held.tid) (found (doubt_of (records (home_from scenario line) past)) ts))) (unprepared past (length past) (records (home_from scenario line) past) k.sound.records) in
+    ∙ ap (λ ts. rising (map (λ held. held.tid) (by_tid (found (doubt_of (records (home_from scenario line) past)) ts)))) (unprepared past (length past) (records (home_from scenario line) past) k.sound.records) in
     ap (λ ss. for_each (ask_site scenario story) ss commands) (one_site scenario line alone.sites) ∙ ap (λ ts. for_each (inquire scenario line.site) ts commands) undoubted
 
 -- a session at one site is closed so

@@ -30,7 +30,7 @@ use Rattle.site_laws.proofs.OneSite.{one_home}
 use Rattle.session_laws.specs.Closing.{past_at}
 use Rattle.session_laws.specs.Tables.{TablesOfRunningSites}
 use Rattle.session_laws.proofs.InstallLists.{installs_below, by_number_before, rows_behind}
-use Rattle.session_laws.proofs.LineDeeds.{Does, Renews, Rests, Installs, line_does}
+use Rattle.session_laws.proofs.LineDeeds.{Does, Renews, Rests, Installs, Sums, line_does}
 
 -- the epoch started from the rows of these installs, and from no lesser number; and the installs of the records are those of the runs that
 -- committed since, before them
@@ -53,17 +53,17 @@ tabled_anew home past x new s =
       since = sym (ap₂ (λ st ls. map install_of (committed st ls) ++ installs rs) start lines);
     }
 
--- a line that leaves the records and the committed runs
-tabled_same : (home : Home) (past : SitePast) (x : SiteHappening) → stops x.answer ≡ false → comes_up x.answer ≡ false → x.calls ≡ []
+-- a line that leaves the installs and the committed runs
+tabled_same : (home : Home) (past : SitePast) (x : SiteHappening) → stops x.answer ≡ false → comes_up x.answer ≡ false
+    → installs (records home (x ∷ past)) ≡ installs (records home past)
     → committed (epoch_start home past) (x.lines ++ engine_lines past) ≡ committed (epoch_start home past) (engine_lines past) → IsTabled home past → IsTabled home (x ∷ past)
-tabled_same home past x stays goes calls none t =
+tabled_same home past x stays goes kept none t =
     let start = epoch_start-next home past x stays goes in
     record {
       base = t.base;
       rows = ap (λ st. st.rows) start ∙ t.rows;
       below = subst (λ (st : Start). Each (λ i. i.number ≤ st.counter) t.base) (sym start) t.below;
-      since = ap (λ cs. installs (after_calls site_frame (disk home past) cs).records) calls
-          ∙ (t.since ∙ sym (ap (λ rs. map install_of rs ++ t.base) (committed_next home past x stays goes ∙ none)));
+      since = kept ∙ (t.since ∙ sym (ap (λ rs. map install_of rs ++ t.base) (committed_next home past x stays goes ∙ none)));
     }
 
 -- the number of a run that was sealed in an epoch with nothing in doubt is greater than those of its start
@@ -108,7 +108,11 @@ tabled_more home past x tid n run stays goes own calls lines s t =
 -- so it is behind each line
 tabled_behind : (home : Home) (past : SitePast) (x : SiteHappening) → Does home past x → IsSound home (x ∷ past) → IsTabled home past → IsTabled home (x ∷ past)
 tabled_behind home past x (Renews new) s t = tabled_anew home past x new s
-tabled_behind home past x (Rests stays goes calls none) s t = tabled_same home past x stays goes calls none t
+tabled_behind home past x (Rests stays goes calls none) s t =
+    tabled_same home past x stays goes (ap (λ cs. installs (after_calls site_frame (disk home past) cs).records) calls) none t
+tabled_behind home past x (Sums sum stays goes calls lines) s t =
+    tabled_same home past x stays goes (ap (λ cs. installs (after_calls site_frame (disk home past) cs).records) calls)
+    (ap (λ ls. committed (epoch_start home past) (ls ++ engine_lines past)) lines) t
 tabled_behind home past x (Installs tid n run stays goes own calls lines) s t = tabled_more home past x tid n run stays goes own calls lines s t
 
 led_tabled : (scenario : Scenario) (home : Home) (past : SitePast) → IsLed IsOwnEvent scenario home past → IsTabled home past

@@ -16,6 +16,7 @@ use Rattle.site_laws.proofs.LocalInstalls.{undoubted}
 pub installs_below : (rs : List SiteRecord) → prepared_tids rs ≡ [] → Each (λ i. i.number ≤ last_number rs) (installs rs)
 installs_below [] e = tt
 installs_below (Rec.Setup site engine protocol items ∷ rs) e = installs_below rs e
+installs_below (Rec.Checkpoint sum ∷ rs) e = installs_below rs e
 installs_below (Rec.Start epoch ∷ rs) e = installs_below rs e
 installs_below (Rec.Prepared t epoch n ticket writes ∷ rs) e = cc
 installs_below (Rec.Ended t Decided.Commit ∷ rs) e =

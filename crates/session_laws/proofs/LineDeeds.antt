@@ -1,6 +1,6 @@
 -- What a line of own events does to the records and the committed runs of its site.
 use Rattle.std.proofs.Common.{◌≡◌, ℕ, ◌||◌, ◌==◌, Bool, true, false, cond, Option, Some, None, [], ◌∷◌, ◌++◌, length, refl}
-use Rattle.std.specs.Prelude.{nat_le}
+use Rattle.std.specs.Prelude.{nat_le, nat_lt}
 use Rattle.mdb_base.specs.declared.acts.PlainAct.{PlainAct}
 use Rattle.mdb_base.specs.declared.names.Tid.{Tid}
 use Rattle.mdb_base.specs.declared.names.Tx.{Tx}
@@ -9,23 +9,27 @@ use Rattle.fed_rules.specs.declared.answers.Answer.TheVariants as Say
 use Rattle.fed_rules.specs.declared.events.SiteEvent.{SiteEvent}
 use Rattle.fed_rules.specs.declared.events.SiteEvent.TheVariants as Ev
 use Rattle.fed_rules.specs.declared.records.SiteRecord.TheVariants as Rec
-use Rattle.fed_rules.specs.Disk.{Append, Sync}
+use Rattle.fed_rules.specs.Disk.{Append, Sync, TrimFront, longest}
 use Rattle.fed_rules.specs.Happenings.{Trip, quiet, stops, comes_up, is_down, stopped, tripped}
 use Rattle.fed_rules.specs.Runs.{Run, Commits, Seals, committed, puts_of}
-use Rattle.fed_rules.specs.Site.{of_begin, of_act, of_commit, of_abort, of_fate, of_back, answered, reply_to, stop_of, number_of, seals_local, unless_tripped, site_line}
+use Rattle.fed_rules.specs.Site.{of_begin, of_act, of_commit, of_abort, of_fate, of_back, answered, reply_to, stop_of, number_of, seals_local, unless_tripped, site_line, of_check, checkpoint}
 use Rattle.fed_rules.specs.SitePast.{SiteHappening, SitePast, disk, epoch_start, engine_lines, records, run_of, live, live_of_tx, attempts_of, trip}
-use Rattle.fed_rules.specs.SiteRecords.{Home, site_frame, local_of}
+use Rattle.fed_rules.specs.SiteRecords.{Home, site_frame, local_of, site_payload}
+use Rattle.fed_rules.specs.SiteSums.{site_sum}
+use Rattle.fed_rules.specs.declared.sums.SiteSum.{SiteSum}
 use Rattle.local_laws.specs.Sound.{IsOwnEvent}
 use Rattle.site_laws.proofs.Lines.{acts_about, refused_about}
 use Rattle.site_laws.proofs.OwnRuns.{live_has}
 
--- the line begins an epoch, or it leaves the records and the committed runs, or it commits a run
+-- the line begins an epoch, or it leaves the records and the committed runs, or it commits a run, or it writes a Checkpoint
 pub data Does (home : Home) (past : SitePast) (x : SiteHappening) : Type 0 where
   Renews : (stops x.answer || comes_up x.answer) ≡ true → Does home past x
   Rests : stops x.answer ≡ false → comes_up x.answer ≡ false → x.calls ≡ []
       → committed (epoch_start home past) (x.lines ++ engine_lines past) ≡ committed (epoch_start home past) (engine_lines past) → Does home past x
   Installs : (tid : Tid) (n : ℕ) (run : Run) → stops x.answer ≡ false → comes_up x.answer ≡ false → run_of home past tid ≡ Some run
       → x.calls ≡ Append (Rec.Local tid n (puts_of run.acts)) ∷ Sync ∷ [] → x.lines ≡ Commits tid ∷ Seals tid n ∷ [] → Does home past x
+  Sums : (sum : SiteSum) → stops x.answer ≡ false → comes_up x.answer ≡ false
+      → x.calls ≡ Append (Rec.Checkpoint sum) ∷ Sync ∷ TrimFront ∷ [] → x.lines ≡ [] → Does home past x
 
 does_when : (home : Home) (past : SitePast) (b : Bool) (x y : SiteHappening) → Does home past x → Does home past y → Does home past (when b x y)
 unfolding when
@@ -79,6 +83,12 @@ does_fate home past tx =
     by_count true = Rests refl refl refl refl
     by_count false = Rests refl refl refl refl
 
+does_check : (home : Home) (past : SitePast) → Does home past (of_check home past)
+unfolding of_check
+does_check home past =
+    does_when home past (nat_lt longest (site_payload (checkpoint home past))) _ _ (Rests refl refl refl refl)
+    (Sums (site_sum home (records home past)) refl refl refl refl)
+
 -- the event of a site that is down, or the line of one that is up
 does_here : (home : Home) (past : SitePast) (event : SiteEvent) (x : SiteHappening) → Does home past x → Does home past (when (is_down past) (quiet event Say.Down) (unless_tripped home past x))
 does_here home past event x d = does_when home past (is_down past) _ _ (Rests refl refl refl refl) (does_tripped home past x (trip past) d)
@@ -94,6 +104,7 @@ line_does home past (Ev.Fate tx) own = does_here home past (Ev.Fate tx) (of_fate
 line_does home past (Ev.Halt cut) own = does_when home past (is_down past) _ _ (Rests refl refl refl refl) (Renews refl)
 line_does home past (Ev.Trip calls cut) own = Rests refl refl refl refl
 line_does home past Ev.Back own = does_when home past (is_down past) _ _ (does_tripped home past (of_back home past) (trip past) (Renews refl)) (Rests refl refl refl refl)
+line_does home past Ev.Check own = does_here home past Ev.Check (of_check home past) (does_check home past)
 line_does home past (Ev.Give message) own = absurd own
 line_does home past (Ev.Ask tid) own = absurd own
 line_does home past (Ev.Drop tid) own = absurd own

@@ -60,6 +60,7 @@ committed_local (r ∷ rs) tx tid e = by_record r e (committed_local rs tx tid)
             (record { number = n; writes = writes; kept = inl (ap (λ (u : Tid). Rec.Local u n writes) same) }, ap (λ (u : Tid). u.tx) (sym same) ∙ same_tx-equal t.tx tx is))
         by_test false is e = behind (Rec.Local t n writes) (k e)
     by_record (Rec.Setup site engine protocol items) e k = behind (Rec.Setup site engine protocol items) (k e)
+    by_record (Rec.Checkpoint sum) e k = behind (Rec.Checkpoint sum) (k e)
     by_record (Rec.Start epoch) e k = behind (Rec.Start epoch) (k e)
     by_record (Rec.Prepared t epoch n ticket writes) e k = behind (Rec.Prepared t epoch n ticket writes) (k e)
     by_record (Rec.Ended t decision) e k = behind (Rec.Ended t decision) (k e)
@@ -75,10 +76,12 @@ local_committed (Rec.Local t m puts ∷ rs) tid n writes i = by_test (same_tx t.
     by_test false is (inr j) k = k j
     by_test false is (inl e) k = (let same : t ≡ tid = cc in let itself : same_tx tid.tx tid.tx ≡ false = subst (λ (u : Tid). same_tx u.tx tid.tx ≡ false) same is in let yes = same_tx-refl tid.tx in cc)
 local_committed (Rec.Setup site engine protocol items ∷ rs) tid n writes (inr i) = local_committed rs tid n writes i
+local_committed (Rec.Checkpoint sum ∷ rs) tid n writes (inr i) = local_committed rs tid n writes i
 local_committed (Rec.Start epoch ∷ rs) tid n writes (inr i) = local_committed rs tid n writes i
 local_committed (Rec.Prepared t epoch m ticket puts ∷ rs) tid n writes (inr i) = local_committed rs tid n writes i
 local_committed (Rec.Ended t decision ∷ rs) tid n writes (inr i) = local_committed rs tid n writes i
 local_committed (Rec.Setup site engine protocol items ∷ rs) tid n writes (inl e) = cc
+local_committed (Rec.Checkpoint sum ∷ rs) tid n writes (inl e) = cc
 local_committed (Rec.Start epoch ∷ rs) tid n writes (inl e) = cc
 local_committed (Rec.Prepared t epoch m ticket puts ∷ rs) tid n writes (inl e) = cc
 local_committed (Rec.Ended t decision ∷ rs) tid n writes (inl e) = cc

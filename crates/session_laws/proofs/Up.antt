@@ -5,10 +5,9 @@ use Rattle.mdb_base.specs.declared.names.Tid.{Tid}
 use Rattle.mdb_base.specs.declared.names.Tx.{Tx}
 use Rattle.mdb_base.specs.declared.names.SiteId.{SiteId}
 use Rattle.mdb_base.specs.Names.{same_site}
-use Rattle.mdb_base.specs.Words.{when, pick}
+use Rattle.mdb_base.specs.Words.{pick}
 use Rattle.mdb_base.proofs.Words.{when-true, when-false}
 use Rattle.order_laws.proofs.Names.{same_site_alike}
-use Rattle.fed_rules.specs.declared.answers.Answer.{Answer}
 use Rattle.fed_rules.specs.declared.answers.Answer.TheVariants as Say
 use Rattle.fed_rules.specs.declared.commands.Command.{Command}
 use Rattle.fed_rules.specs.declared.commands.Command.TheVariants as Cmd
@@ -22,11 +21,12 @@ use Rattle.fed_rules.specs.Closing as Closing
 use Rattle.fed_rules.specs.Happenings.{Trip, quiet, is_down, stops, comes_up, used, set, tripped}
 use Rattle.fed_rules.specs.Plans.{IsScenario}
 use Rattle.fed_rules.specs.Runs.{Run, Aborts}
-use Rattle.fed_rules.specs.Scenarios.{local_home}
 use Rattle.fed_rules.specs.Site.{with_lines, of_abort, of_back, answered, site_line}
 use Rattle.fed_rules.specs.SitePast.{SiteHappening, SitePast, disk, live, trip, trip_of}
 use Rattle.fed_rules.specs.SiteRecords.{Home, site_frame}
-use Rattle.fed_rules.specs.Story.{Story, Happened, Nowhere, at_site, happens, on_abort, on_actor, past_of, story_of, with_live, with_site}
+use Rattle.fed_rules.specs.Story.{Story, Happened, AtSite, AtCoordinator, Nowhere, happens, on_actor, past_of, story_of, with_site}
+use Rattle.rules_laws.specs.Lines.{IsLine}
+use Rattle.rules_laws.proofs.Lines.{line_is}
 use Rattle.site_laws.specs.Sessions.{home_from, IsAlone}
 use Rattle.session_laws.specs.Closing.{past_at, disarmed, brought_up, with_aborts, ClosedSessionsAreUp}
 use Rattle.session_laws.proofs.Closed.{closed_so}
@@ -109,44 +109,35 @@ abort_up home past tid u =
     subst (λ x. IsUp (x ∷ past)) (sym (when-false _ _ _ u.up ∙ ap (λ t. tripped site_frame (disk home past) t (of_abort home past tid)) u.untripped))
     (mild_up past (of_abort home past tid) (abort_mild home past tid) u)
 
--- what happens leaves the site up
-record LeavesUp (site : SiteId) (story : Story) (happened : Happened) : Type 0 where
-  leaves : IsUp (past_of site story) → IsUp (with_site site happened (past_of site story))
-
-leaves_when : (site : SiteId) (story : Story) (t : Bool) (a b : Happened) → LeavesUp site story a → LeavesUp site story b → LeavesUp site story (when t a b)
-unfolding when
-leaves_when site story true a b p q = p
-leaves_when site story false a b p q = q
-
-leaves_pick : {A : Type 0} (site : SiteId) (story : Story) (o : Option A) (none : Happened) (some : A → Happened) → LeavesUp site story none → ((x : A) → LeavesUp site story (some x)) → LeavesUp site story (pick o none some)
-unfolding pick
-leaves_pick site story None none some p q = p
-leaves_pick site story (Some x) none some p q = q x
-
-leaves_nowhere : (site : SiteId) (story : Story) (answer : Answer) → LeavesUp site story (Nowhere answer)
-leaves_nowhere site story answer = record { leaves = λ u. u }
-
-leaves_abort : (site : SiteId) (story : Story) (home : Home) (tid : Tid) → LeavesUp site story (at_site home story (Ev.Abort tid))
-leaves_abort site story home tid = record { leaves = λ u. by_test (same_site home.site site) refl u }
+-- what an abort makes happen leaves the site up
+leaves_line : (scenario : Scenario) (site : SiteId) (story : Story) (tx : Tx) (happened : Happened) → IsLine scenario story (Cmd.Abort tx) happened → IsUp (past_of site story) → IsUp (with_site site happened (past_of site story))
+leaves_line scenario site story tx (AtCoordinator x) line u = u
+leaves_line scenario site story tx (Nowhere answer) line u = u
+leaves_line scenario site story tx (AtSite at x) line u = by_test (same_site at site) refl
   where
-    by_test : (b : Bool) → same_site home.site site ≡ b → IsUp (past_of site story) → IsUp (cond b (site_line home (past_of home.site story) (Ev.Abort tid) ∷ past_of site story) (past_of site story))
-    by_test false e u = u
-    by_test true e u =
-        subst (λ s. IsUp (site_line home (past_of home.site story) (Ev.Abort tid) ∷ past_of s story)) (same_site_alike home.site site e)
-        (abort_up home (past_of home.site story) tid (subst (λ s. IsUp (past_of s story)) (sym (same_site_alike home.site site e)) u))
+    past : SitePast
+    past = past_of line.home.site story
 
-leaves_command : (scenario : Scenario) (site : SiteId) (story : Story) (tx : Tx) → LeavesUp site story (happens scenario story (Cmd.Abort tx))
-unfolding happens on_abort with_live
-leaves_command scenario site story tx =
-    leaves_pick site story (local_home scenario tx) _ _ (leaves_nowhere site story _) (λ home.
-    leaves_when site story _ _ _ (leaves_nowhere site story _)
-    (leaves_pick site story _ _ _ (leaves_nowhere site story _) (λ tid. leaves_pick site story _ _ _ (leaves_nowhere site story _) (λ run. leaves_abort site story home tid))))
+    here : same_site at site ≡ true → line.home.site ≡ site
+    here e = sym line.here ∙ same_site_alike at site e
+
+    is : x ≡ site_line line.home past (Ev.Abort line.cause.asks.tid)
+    is = line.is_next ∙ ap (site_line line.home past) line.cause.asks.is
+
+    by_test : (b : Bool) → same_site at site ≡ b → IsUp (cond b (x ∷ past_of site story) (past_of site story))
+    by_test false e = u
+    by_test true e =
+        subst (λ s. IsUp (x ∷ past_of s story)) (here e)
+        (subst (λ y. IsUp (y ∷ past)) (sym is) (abort_up line.home past line.cause.asks.tid (subst (λ s. IsUp (past_of s story)) (sym (here e)) u)))
+
+leaves_command : (scenario : Scenario) (site : SiteId) (story : Story) (tx : Tx) → IsUp (past_of site story) → IsUp (with_site site (happens scenario story (Cmd.Abort tx)) (past_of site story))
+leaves_command scenario site story tx = leaves_line scenario site story tx (happens scenario story (Cmd.Abort tx)) (line_is scenario story (Cmd.Abort tx))
 
 -- aborts leave the site up
 aborts_up : (scenario : Scenario) (line : SiteLine) (tids : List Tid) (commands : List Command) → IsUp (past_at scenario line commands) → IsUp (past_at scenario line (with_aborts tids commands))
 aborts_up scenario line [] commands u = u
 aborts_up scenario line (tid ∷ tids) commands u =
-    aborts_up scenario line tids (Cmd.Abort tid.tx ∷ commands) ((leaves_command scenario line.site (story_of scenario commands) tid.tx).leaves u)
+    aborts_up scenario line tids (Cmd.Abort tid.tx ∷ commands) (leaves_command scenario line.site (story_of scenario commands) tid.tx u)
 
 -- so it is up behind a closed session
 pub closed_up : ClosedSessionsAreUp

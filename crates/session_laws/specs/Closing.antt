@@ -34,11 +34,12 @@ with_aborts = for_each (λ tid more. Cmd.Abort tid.tx ∷ more)
 abbrev pub cleared : Scenario → SiteLine → List Command → List Command
 cleared scenario line commands = with_aborts (live scenario (story_of scenario commands) line.site) commands
 
--- the command doesn't stop, trip or start the coordinator, which is actor 0
+-- the command doesn't stop, trip or start the coordinator, which is actor 0, nor has it write a Checkpoint
 abbrev pub IsAtSite : Command → Type 0
 IsAtSite (Cmd.Halt actor cut) = 0 < actor
 IsAtSite (Cmd.Trip actor calls cut) = 0 < actor
 IsAtSite (Cmd.Back actor) = 0 < actor
+IsAtSite (Cmd.Check actor) = 0 < actor
 IsAtSite command = Unit {0}
 
 -- so a session at one site, which isn't numbered 0 as the coordinator, is closed

@@ -13,7 +13,7 @@ use Rattle.fed_rules.specs.declared.answers.Answer.{Answer}
 use Rattle.fed_rules.specs.declared.events.SiteEvent.{SiteEvent}
 use Rattle.fed_rules.specs.declared.messages.FromSite.{FromSite}
 use Rattle.fed_rules.specs.declared.records.SiteRecord.{SiteRecord}
-use Rattle.fed_rules.specs.Disk.{Call, Stops}
+use Rattle.fed_rules.specs.Disk.{Call, Stops, Append, Sync, TrimFront}
 use Rattle.fed_rules.specs.Happenings.{Trip, stops, comes_up, stopped, tripped}
 use Rattle.fed_rules.specs.Runs.{Start, EngineLine, Run, tid_of, changed, run_at, acted, took}
 use Rattle.fed_rules.specs.EngineLines.{IsRight, IsRightLine, IsLive}
@@ -21,6 +21,8 @@ use Rattle.fed_rules.specs.SitePast.{SiteHappening, SitePast, disk, records, epo
 use Rattle.fed_rules.specs.SiteRecords.{Home, Held, site_frame, doubt_of, start_of}
 use Rattle.site_history.specs.Lines.{Agrees}
 use Rattle.site_history.proofs.Starts.{HasRisingWrites, EachAppend, each_after, append_take, start_agrees}
+use Rattle.fed_rules.specs.declared.sums.SiteSum.{SiteSum}
+use Rattle.fed_rules.specs.declared.records.SiteRecord.TheVariants as Rec
 
 -- the engine lines of the past are right, and its sealed runs are those in doubt
 pub record IsKept (home : Home) (past : SitePast) : Type 0 where
@@ -144,6 +146,12 @@ pub still : (home : Home) (past : SitePast) (event : SiteEvent) (answer : Answer
     → (stops answer || comes_up answer) ≡ false
     → IsGoodLine home past (record { event = event; answer = answer; sends = sends; calls = []; lines = [] })
 still home past event answer sends k plain = record { plain = plain; right = k.right; agrees = k.agrees; appends = tt }
+
+-- a line that appends a Checkpoint
+pub summed : (home : Home) (past : SitePast) (event : SiteEvent) (answer : Answer) (sum : SiteSum) → IsKept home past
+    → (stops answer || comes_up answer) ≡ false
+    → IsGoodLine home past (record { event = event; answer = answer; sends = []; calls = Append (Rec.Checkpoint sum) ∷ Sync ∷ TrimFront ∷ []; lines = [] })
+summed home past event answer sum k plain = record { plain = plain; right = k.right; agrees = k.agrees; appends = (tt, tt) }
 
 -- a line with one engine line
 pub one : (home : Home) (past : SitePast) (event : SiteEvent) (answer : Answer) (sends : List FromSite) (line : EngineLine) → IsKept home past

@@ -4,7 +4,7 @@ use Rattle.std.specs.Prelude.{nat_le}
 use Rattle.mdb_base.specs.declared.names.Tid.{Tid}
 use Rattle.mdb_base.specs.Words.{Each, some_of}
 use Rattle.fed_rules.specs.declared.records.SiteRecord.{SiteRecord}
-use Rattle.fed_rules.specs.Disk.{Append, Call, CutBack, Disk, Stops, Sync, after_call, after_calls, bytes_of, whole}
+use Rattle.fed_rules.specs.Disk.{Append, Call, CutBack, TrimFront, Disk, Stops, Sync, after_call, after_calls, bytes_of, whole}
 use Rattle.fed_rules.specs.Runs as Runs
 use Rattle.fed_rules.specs.Runs.{Access, EngineLine}
 use Rattle.fed_rules.specs.SitePast.{SitePast, live}
@@ -83,6 +83,7 @@ appended_none [] records h = refl
 appended_none (Append newest ∷ calls) records h = elim h [ ]
 appended_none (Sync ∷ calls) records h = appended_none calls records h
 appended_none (CutBack ∷ calls) records h = appended_none calls records h
+appended_none (TrimFront ∷ calls) records h = appended_none calls records h
 appended_none (Stops cut ∷ calls) records h = appended_none calls records h
 
 pub front_more : {A : Type 0} (xs ys zs : List A) → IsFrontOf xs ys → IsFrontOf ys zs → IsFrontOf xs zs
@@ -108,6 +109,7 @@ front_after size disk [] h = ([], refl)
 front_after size disk (Append newest ∷ calls) h = front_after size (after_call size disk (Append newest)) calls h
 front_after size disk (Sync ∷ calls) h = front_after size (after_call size disk Sync) calls h
 front_after size disk (CutBack ∷ calls) h = front_after size (after_call size disk CutBack) calls h
+front_after size disk (TrimFront ∷ calls) h = front_after size (after_call size disk TrimFront) calls h
 front_after size disk (Stops cut ∷ calls) h =
     subst (λ rs. IsFrontOf rs (after_calls size (after_call size disk (Stops cut)) calls).records) (sym (appended_none calls disk.records h))
     (front_more disk.records (after_call size disk (Stops cut)).records (after_calls size (after_call size disk (Stops cut)) calls).records
@@ -121,6 +123,7 @@ front_after size disk (Stops cut ∷ calls) h =
     stops_last (Append newest ∷ cs) h = elim h [ ]
     stops_last (Sync ∷ cs) h = stops_last cs h
     stops_last (CutBack ∷ cs) h = stops_last cs h
+    stops_last (TrimFront ∷ cs) h = stops_last cs h
     stops_last (Stops cut ∷ cs) h = h
 
 -- the accesses of attempts after a line with these calls
@@ -132,6 +135,7 @@ seals_none tid [] h = refl
 seals_none tid (Append newest ∷ calls) h = elim h [ ]
 seals_none tid (Sync ∷ calls) h = seals_none tid calls h
 seals_none tid (CutBack ∷ calls) h = seals_none tid calls h
+seals_none tid (TrimFront ∷ calls) h = seals_none tid calls h
 seals_none tid (Stops cut ∷ calls) h = seals_none tid calls h
 
 -- only the first call appends

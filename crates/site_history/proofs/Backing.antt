@@ -5,7 +5,7 @@ use Rattle.mdb_base.specs.Names.{same_tid}
 use Rattle.mdb_base.proofs.NameLaws.{same_tid-equal, same_tid-refl}
 use Rattle.order_laws.specs.Chains.{In}
 use Rattle.fed_rules.specs.declared.records.SiteRecord.{SiteRecord}
-use Rattle.fed_rules.specs.declared.records.SiteRecord.TheVariants.{Setup, Start, Prepared, Ended, Local}
+use Rattle.fed_rules.specs.declared.records.SiteRecord.TheVariants.{Setup, Start, Prepared, Ended, Local, Checkpoint}
 use Rattle.fed_rules.specs.EngineLines.{IsRight, IsLive}
 use Rattle.fed_rules.specs.Runs as Runs
 use Rattle.fed_rules.specs.Runs.{EngineLine, Seals, Access, Run, committed, number, published, puts_of, run_at, tid_of, changed}
@@ -19,6 +19,7 @@ use Rattle.site_history.proofs.EpochLines.{committed_stays, epoch_of_lines, seal
 use Rattle.site_history.proofs.Records.{bound_by, doubt_in, record_of}
 use Rattle.site_history.proofs.SameLists.{install_of}
 use Rattle.site_history.proofs.Starts.{doubt_tid}
+use Rattle.fed_rules.specs.declared.sums.SiteSum.{SiteSum}
 
 -- the record is the one of the run
 abbrev pub IsKeptAs : Run → SiteRecord → Type 0
@@ -31,6 +32,7 @@ pub binds_kept : (run : Run) (kept : SiteRecord) → IsKeptAs run kept → Binds
 binds_kept run (Prepared tid epoch n ticket writes) is = sym is.0
 binds_kept run (Local tid n writes) is = sym is.0
 binds_kept run (Setup site engine protocol items) is = is
+binds_kept run (Checkpoint sum) is = is
 binds_kept run (Start epoch) is = is
 binds_kept run (Ended tid decision) is = is
 
@@ -186,6 +188,24 @@ pub backed_start : (home : Home) (acts : Tid → List Access) (records : List Si
     (earlier : List Epoch) (n : ℕ) → IsBacked home acts records start lines earlier
     → IsBacked home acts (Start n ∷ records) start lines earlier
 backed_start home acts records start lines earlier n b = record {
+  epochs = b.epochs;
+  first = b.first;
+  kind = b.kind;
+  agrees = b.agrees;
+  doubts = b.doubts;
+  committed = λ run w.
+      let h = b.committed run w in
+      record { kept = h.kept; among = inr h.among; is = h.is; had = h.had; installed = h.installed };
+  installed = b.installed;
+  counter = b.counter;
+  published = b.published;
+}
+
+-- where a Checkpoint is appended
+pub backed_sum : (home : Home) (acts : Tid → List Access) (records : List SiteRecord) (start : Runs.Start) (lines : List EngineLine)
+    (earlier : List Epoch) (sum : SiteSum) → IsBacked home acts records start lines earlier
+    → IsBacked home acts (Checkpoint sum ∷ records) start lines earlier
+backed_sum home acts records start lines earlier sum b = record {
   epochs = b.epochs;
   first = b.first;
   kind = b.kind;

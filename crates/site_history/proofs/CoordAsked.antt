@@ -17,7 +17,7 @@ use Rattle.fed_rules.specs.declared.events.CoordEvent.TheVariants as Ev
 use Rattle.fed_rules.specs.declared.messages.Due.TheVariants as Due_is
 use Rattle.fed_rules.specs.declared.messages.FromSite.TheVariants as From
 use Rattle.fed_rules.specs.Coord.{did_counts, fits}
-use Rattle.fed_rules.specs.CoordPast.{Counted, CoordHappening, CoordPast, attempts_of, begins, begun_by, begun_tids, count_at, counted, counts, did_in, epoch_at, has_step_left, has_ticket_at, is_ticket, is_undecided, last_epoch, next_step, or_steps, outstanding, prepare_at, program, program_in, standing, take_at, visits, vote_at, work_at}
+use Rattle.fed_rules.specs.CoordPast.{Counted, CoordHappening, CoordPast, attempts_of, begins, begun_by, begun_tids, count_at, counted, counts, did_in, epoch_at, has_step_left, has_ticket_at, is_open, is_ticket, last_epoch, next_step, or_steps, outstanding, prepare_at, program, program_in, take_at, visits, vote_at, work_at}
 use Rattle.site_history.proofs.CoordSteps.{AllDone, IsCoordStep, IsGoOf, MayCount, is_from, is_step}
 use Rattle.site_history.proofs.LocalLines.{same_tx-refl}
 
@@ -63,9 +63,9 @@ fits_none past tid site e n reply d =
 no_count : (past : CoordPast) (tid : Tid) (site : SiteId) (e epoch n : ℕ) (reply : Reply) → AllDone (program past tid) (counted past tid) site e
     → did_counts past site tid epoch n reply ≡ true → ⊥
 no_count past tid site e epoch n reply d counts =
-    let first = and_parts (is_undecided (standing past tid) && fits (outstanding past tid site) n reply)
+    let first = and_parts (is_open past tid && fits (outstanding past tid site) n reply)
     ((epoch_at past tid site == 0) || (epoch == epoch_at past tid site)) counts in
-    let second = and_parts (is_undecided (standing past tid)) (fits (outstanding past tid site) n reply) first.0 in
+    let second = and_parts (is_open past tid) (fits (outstanding past tid site) n reply) first.0 in
     let clash = sym (fits_none past tid site e n reply d) ∙ second.1 in cc
 
 -- a reply of another site, or none, leaves all done
@@ -116,6 +116,7 @@ done_stays past event x tid site e step fresh d = by_begins (begins tid x.answer
     by_event (Ev.Halt cut) may = d
     by_event (Ev.Trip calls cut) may = d
     by_event Ev.Back may = d
+    by_event Ev.Check may = d
 
     by_counts : (b : Bool) → counts x.answer ≡ b
         → AllDone (program past tid) (cond b (with_some (did_in tid x.event) (counted past tid)) (counted past tid)) site e
@@ -168,6 +169,7 @@ line_begun past event x tid step next is =
     by_event (Ev.Halt cut) go next = elim go [ ]
     by_event (Ev.Trip calls cut) go next = elim go [ ]
     by_event Ev.Back go next = elim go [ ]
+    by_event Ev.Check go next = elim go [ ]
 
 -- what was begun has a number
 abbrev pub AreBegun : CoordPast → Type 0
@@ -193,6 +195,7 @@ not_again past (Ev.Fate tx) tid next b go = go
 not_again past (Ev.Halt cut) tid next b go = go
 not_again past (Ev.Trip calls cut) tid next b go = go
 not_again past Ev.Back tid next b go = go
+not_again past Ev.Check tid next b go = go
 
 -- where a vote is asked for the attempt has a program, with a step at some site
 pub record IsAskedVote (past : CoordPast) (tid : Tid) (site : SiteId) (e : ℕ) : Type 0 where

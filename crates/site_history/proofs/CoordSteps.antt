@@ -1,7 +1,7 @@
 -- Each line of the coordinator: it is at its event, begins only at a `go`, counts only what may count, and asks for a vote only where all
 -- operations of a site are done.
 use Rattle.std.proofs.Common.{◌≡◌, ℕ, Bool, true, false, cond, ◌&&◌, ◌||◌, Option, Some, None, List, [], ◌∷◌, ◌++◌, drop, map, take, refl, sym, ◌∙◌, subst}
-use Rattle.std.specs.Prelude.{is_none, not, nat_le, length}
+use Rattle.std.specs.Prelude.{is_none, not, nat_le, length, nat_lt}
 use Rattle.mdb_base.specs.declared.acts.Step.{Step}
 use Rattle.mdb_base.specs.declared.names.SiteId.{SiteId}
 use Rattle.mdb_base.specs.declared.names.SiteTicket.{SiteTicket}
@@ -12,12 +12,14 @@ use Rattle.mdb_base.specs.declared.replies.Why.TheVariants as Because
 use Rattle.mdb_base.specs.Names.{same_site}
 use Rattle.mdb_base.specs.Programs.{plain_act}
 use Rattle.mdb_base.specs.Words.{Each, found, how_many, pick, some_of, those, when, with_some}
+use Rattle.mdb_base.proofs.ListLaws.{each_filtered}
 use Rattle.mdb_base.proofs.NameLaws.{same_tid-equal}
 use Rattle.order_laws.specs.Search.{cycle_through}
 use Rattle.order_laws.specs.Tickets.{edge_between}
 use Rattle.presumptions.specs.declared.Decision.{Decision}
 use Rattle.presumptions.specs.declared.Decision.TheVariants as Decision_is
 use Rattle.presumptions.specs.declared.Participant.{Participant}
+use Rattle.fed_rules.specs.declared.answers.Answer.{Answer}
 use Rattle.fed_rules.specs.declared.answers.Answer.TheVariants as Say
 use Rattle.fed_rules.specs.declared.answers.Cause.{Cause}
 use Rattle.fed_rules.specs.declared.events.CoordEvent.{CoordEvent}
@@ -30,11 +32,12 @@ use Rattle.fed_rules.specs.declared.messages.Sent.{Sent}
 use Rattle.fed_rules.specs.declared.messages.ToSite.{ToSite}
 use Rattle.fed_rules.specs.declared.messages.ToSite.TheVariants as To
 use Rattle.fed_rules.specs.declared.records.CoordRecord.{CoordRecord}
-use Rattle.fed_rules.specs.Disk.{Call, Stops}
+use Rattle.fed_rules.specs.Disk.{Call, Stops, longest}
 use Rattle.fed_rules.specs.Happenings.{Trip, is_down, quiet, stopped, tripped}
-use Rattle.fed_rules.specs.Coord.{aborts, ack_counts, acked_while, again_while, all_outstanding, all_voted, answered, asked_while, commits_it, coord_line, decide_to, did_counts, did_reply, is_member, is_prepare, last_vote, missing, news, news_at, of_ack, of_again, of_back, of_did, of_fate, of_go, of_inquiry, of_late, of_take, of_vote, send_due, sends_dues, unless_tripped, vote_counted, vote_counts, yes_vote}
-use Rattle.fed_rules.specs.CoordPast.{Counted, CoordHappening, CoordPast, Standing, Undecided, Decided, Gone, begins, count_at, counted, counts, did_in, disk, epoch_at, has_step_left, has_ticket_at, is_ticket, is_undecided, is_wait, last_epoch, outstanding, participants, prepare_at, program, reads, records, standing, take_at, trip, undecided_of, visits, vote_at, next_step, work_at}
-use Rattle.fed_rules.specs.CoordRecords.{commits, committed_of, coord_frame, initiated, is_nobody}
+use Rattle.fed_rules.specs.Coord.{aborts, ack_counts, acked_while, again_while, all_outstanding, all_voted, answered, asked_while, commits_it, coord_line, decide_to, defers_all, defers_some, did_counts, did_reply, held_back, is_member, is_prepare, is_take, lacks_initiation, last_vote, let_through, may_take, missing, news, news_at, of_ack, of_again, of_back, of_did, of_fate, of_go, of_inquiry, of_late, of_take, of_vote, send_due, sends_all, sends_dues, sends_news, unless_tripped, vote_counted, vote_counts, yes_vote, of_check, checkpoint}
+use Rattle.fed_rules.specs.CoordPast.{Counted, CoordHappening, CoordPast, Standing, Undecided, Decided, Gone, begins, count_at, counted, counts, did_in, disk, epoch_at, has_step_left, has_ticket_at, is_open, is_ticket, is_wait, last_epoch, outstanding, participants, prepare_at, program, reads, records, standing, take_at, trip, undecided_of, visits, vote_at, next_step, work_at}
+use Rattle.fed_rules.specs.CoordRecords.{commits, committed_of, coord_frame, is_nobody, coord_payload}
+use Rattle.fed_rules.specs.Policies.{Policy}
 use Rattle.site_history.proofs.Restarts.{each_found_from}
 
 -- whether the reply answers a step
@@ -144,25 +147,53 @@ unfolding pick
 step_pick past event None none some p q = p
 step_pick past event (Some a) none some p q = q a
 
--- what is sent of an attempt, as it is done with the line
-step_dues : (protocols : List Participant) (past : CoordPast) (event : CoordEvent) (tid : Tid) (dues : List Due) → MayCount past event
+-- an answer with which operations are sent
+abbrev pub IsSending : Answer → Type 0
+IsSending Say.Only = Unit {0}
+IsSending Say.Defers = Unit {0}
+IsSending answer = ⊥
+
+some_sending : (held : List Due) → IsSending (defers_some held)
+some_sending [] = tt
+some_sending (due ∷ held) = tt
+
+all_sending : (held sent : List Due) → IsSending (defers_all held sent)
+all_sending held [] = some_sending held
+all_sending held (due ∷ sent) = tt
+
+step_sent : (past : CoordPast) (event : CoordEvent) (tid : Tid) (answer : Answer) (dues : List Due)
+    → IsSending answer → MayCount past event
     → Each (IsDueDone (program past tid) (with_some (did_in tid event) (counted past tid))) dues
-    → IsCoordStep past event (sends_dues protocols past event tid dues)
+    → IsCoordStep past event (record { event = event; answer = answer; sends = map (send_due tid) dues; calls = []; lines = [] })
+step_sent past event tid Say.Only dues s may h = record {
+  named = refl;
+  begun = λ t b. cc;
+  counts = λ c. may;
+  asked = asked_dues (record { event = event; answer = Say.Only; sends = []; calls = []; lines = [] } ∷ past) tid dues h;
+}
+step_sent past event tid Say.Defers dues s may h = record {
+  named = refl;
+  begun = λ t b. cc;
+  counts = λ c. may;
+  asked = asked_dues (record { event = event; answer = Say.Defers; sends = []; calls = []; lines = [] } ∷ past) tid dues h;
+}
+step_sent past event tid answer dues s may h = absurd s
+
+-- what is sent of an attempt, as it is done with the line
+step_dues : (protocols : List Participant) (past : CoordPast) (event : CoordEvent) (tid : Tid) (answer : Answer) (dues : List Due)
+    → IsSending answer → MayCount past event
+    → Each (IsDueDone (program past tid) (with_some (did_in tid event) (counted past tid))) dues
+    → IsCoordStep past event (sends_dues protocols past event tid answer dues)
 unfolding sends_dues
-step_dues protocols past event tid dues may h =
-    step_when past event (some_of is_prepare dues && is_none (initiated (records past) tid)) _ _
+step_dues protocols past event tid answer dues s may h =
+    step_when past event (some_of is_prepare dues && lacks_initiation protocols past tid) _ _
     (λ e. record {
       named = refl;
       begun = λ t b. cc;
       counts = λ c. may;
       asked = asked_dues (record { event = event; answer = Say.Initiates; sends = []; calls = []; lines = [] } ∷ past) tid dues h;
     })
-    (λ e. record {
-      named = refl;
-      begun = λ t b. cc;
-      counts = λ c. may;
-      asked = asked_dues (record { event = event; answer = Say.Only; sends = []; calls = []; lines = [] } ∷ past) tid dues h;
-    })
+    (λ e. step_sent past event tid answer dues s may h)
 
 step_aborts : (protocols : List Participant) (past : CoordPast) (event : CoordEvent) (tid : Tid) (cause : Cause) → MayCount past event
     → IsCoordStep past event (aborts protocols past event tid cause)
@@ -219,34 +250,43 @@ step_go protocols past tid steps =
     (λ running. record { named = refl; begun = λ t b. cc; counts = λ c. tt; asked = tt }))
     (λ committed. record { named = refl; begun = λ t b. cc; counts = λ c. tt; asked = tt })
 
-step_news : (protocols : List Participant) (past : CoordPast) (site : SiteId) (message : FromSite) (tid : Tid)
+step_news : (protocols : List Participant) (policy : Policy) (past : CoordPast) (site : SiteId) (message : FromSite) (tid : Tid)
     → MayCount past (Ev.Take site message)
-    → IsCoordStep past (Ev.Take site message) (sends_dues protocols past (Ev.Take site message) tid
+    → IsCoordStep past (Ev.Take site message) (sends_news protocols policy past (Ev.Take site message) tid
     (news protocols past (quiet (Ev.Take site message) Say.Only ∷ past) tid site))
-step_news protocols past site message tid may =
-    step_dues protocols past (Ev.Take site message) tid (news protocols past (quiet (Ev.Take site message) Say.Only ∷ past) tid site) may
-    (news_done past (quiet (Ev.Take site message) Say.Only ∷ past) tid site (participants protocols past tid))
+unfolding sends_news
+step_news protocols policy past site message tid may =
+    step_dues protocols past (Ev.Take site message) tid (defers_some (held_back protocols policy past tid due))
+    (let_through protocols policy past tid due) (some_sending (held_back protocols policy past tid due)) may
+    (each_filtered (IsDueDone (program now tid) (counted now tid)) (λ d. not (is_take d && not (may_take protocols policy past tid))) due
+    (news_done past now tid site (participants protocols past tid)))
+  where
+    now : CoordPast
+    now = quiet (Ev.Take site message) Say.Only ∷ past
 
-step_reply : (protocols : List Participant) (past : CoordPast) (site : SiteId) (message : FromSite) (tid : Tid) (reply : Reply)
-    → MayCount past (Ev.Take site message) → IsCoordStep past (Ev.Take site message) (did_reply protocols past site message tid reply)
+    due : List Due
+    due = news protocols past (quiet (Ev.Take site message) Say.Only ∷ past) tid site
+
+step_reply : (protocols : List Participant) (policy : Policy) (past : CoordPast) (site : SiteId) (message : FromSite) (tid : Tid) (reply : Reply)
+    → MayCount past (Ev.Take site message) → IsCoordStep past (Ev.Take site message) (did_reply protocols policy past site message tid reply)
 unfolding did_reply
-step_reply protocols past site message tid (Reply_is.Wait by) may =
+step_reply protocols policy past site message tid (Reply_is.Wait by) may =
     record { named = refl; begun = λ t b. cc; counts = λ c. may; asked = tt }
-step_reply protocols past site message tid (Reply_is.Refused (Because.Die by)) may = step_aborts protocols past _ tid _ may
-step_reply protocols past site message tid (Reply_is.Refused (Because.Late by)) may = step_aborts protocols past _ tid _ may
-step_reply protocols past site message tid (Reply_is.Refused (Because.Invalid by key)) may = step_news protocols past site message tid may
-step_reply protocols past site message tid (Reply_is.Refused (Because.TicketMoved by)) may = step_news protocols past site message tid may
-step_reply protocols past site message tid Reply_is.Unknown may = step_aborts protocols past _ tid _ may
-step_reply protocols past site message tid (Reply_is.Value value) may = step_news protocols past site message tid may
-step_reply protocols past site message tid Reply_is.Done may = step_news protocols past site message tid may
-step_reply protocols past site message tid (Reply_is.Ticket n) may = step_news protocols past site message tid may
+step_reply protocols policy past site message tid (Reply_is.Refused (Because.Die by)) may = step_aborts protocols past _ tid _ may
+step_reply protocols policy past site message tid (Reply_is.Refused (Because.Late by)) may = step_aborts protocols past _ tid _ may
+step_reply protocols policy past site message tid (Reply_is.Refused (Because.Invalid by key)) may = step_news protocols policy past site message tid may
+step_reply protocols policy past site message tid (Reply_is.Refused (Because.TicketMoved by)) may = step_news protocols policy past site message tid may
+step_reply protocols policy past site message tid Reply_is.Unknown may = step_aborts protocols past _ tid _ may
+step_reply protocols policy past site message tid (Reply_is.Value value) may = step_news protocols policy past site message tid may
+step_reply protocols policy past site message tid Reply_is.Done may = step_news protocols policy past site message tid may
+step_reply protocols policy past site message tid (Reply_is.Ticket n) may = step_news protocols policy past site message tid may
 
-step_did : (protocols : List Participant) (past : CoordPast) (site : SiteId) (tid : Tid) (epoch n : ℕ) (reply : Reply)
-    → IsCoordStep past (Ev.Take site (From.Did tid epoch n reply)) (of_did protocols past site tid epoch n reply)
+step_did : (protocols : List Participant) (policy : Policy) (past : CoordPast) (site : SiteId) (tid : Tid) (epoch n : ℕ) (reply : Reply)
+    → IsCoordStep past (Ev.Take site (From.Did tid epoch n reply)) (of_did protocols policy past site tid epoch n reply)
 unfolding of_did
-step_did protocols past site tid epoch n reply =
+step_did protocols policy past site tid epoch n reply =
     step_when past (Ev.Take site (From.Did tid epoch n reply)) (did_counts past site tid epoch n reply) _ _
-    (λ is. step_reply protocols past site (From.Did tid epoch n reply) tid reply is)
+    (λ is. step_reply protocols policy past site (From.Did tid epoch n reply) tid reply is)
     (λ is. record { named = refl; begun = λ t b. cc; counts = λ c. cc; asked = tt })
 
 step_last : (protocols : List Participant) (past : CoordPast) (event : CoordEvent) (tid : Tid) (tickets : List SiteTicket) → MayCount past event
@@ -277,17 +317,17 @@ step_vote protocols past site tid vote =
     step_when past (Ev.Take site (From.Vote tid vote)) (vote_counts past site tid) _ _ (λ e. step_vote_counted protocols past site tid vote)
     (λ e. record { named = refl; begun = λ t b. cc; counts = λ c. tt; asked = tt })
 
-step_acked : (past : CoordPast) (site : SiteId) (tid : Tid) (s : Standing)
-    → IsCoordStep past (Ev.Take site (From.Ack tid)) (acked_while past site tid s)
+step_acked : (protocols : List Participant) (past : CoordPast) (site : SiteId) (tid : Tid) (s : Standing)
+    → IsCoordStep past (Ev.Take site (From.Ack tid)) (acked_while protocols past site tid s)
 unfolding acked_while ack_counts
-step_acked past site tid (Decided decision) =
-    step_when past (Ev.Take site (From.Ack tid)) (is_member site (missing past tid decision)) _ _
-    (λ e. step_when past (Ev.Take site (From.Ack tid)) (is_nobody (missing (quiet (Ev.Take site (From.Ack tid)) Say.Acked ∷ past) tid decision)) _ _
+step_acked protocols past site tid (Decided decision) =
+    step_when past (Ev.Take site (From.Ack tid)) (is_member site (missing protocols past tid decision)) _ _
+    (λ e. step_when past (Ev.Take site (From.Ack tid)) (is_nobody (missing protocols (quiet (Ev.Take site (From.Ack tid)) Say.Acked ∷ past) tid decision)) _ _
     (λ f. record { named = refl; begun = λ t b. cc; counts = λ c. tt; asked = tt })
     (λ f. record { named = refl; begun = λ t b. cc; counts = λ c. tt; asked = tt }))
     (λ e. record { named = refl; begun = λ t b. cc; counts = λ c. tt; asked = tt })
-step_acked past site tid Undecided = record { named = refl; begun = λ t b. cc; counts = λ c. tt; asked = tt }
-step_acked past site tid Gone = record { named = refl; begun = λ t b. cc; counts = λ c. tt; asked = tt }
+step_acked protocols past site tid Undecided = record { named = refl; begun = λ t b. cc; counts = λ c. tt; asked = tt }
+step_acked protocols past site tid Gone = record { named = refl; begun = λ t b. cc; counts = λ c. tt; asked = tt }
 
 step_asked : (protocols : List Participant) (past : CoordPast) (site : SiteId) (tid : Tid) (s : Standing)
     → IsCoordStep past (Ev.Take site (From.Inquiry tid)) (asked_while protocols site tid s)
@@ -296,48 +336,60 @@ step_asked protocols past site tid Undecided = record { named = refl; begun = λ
 step_asked protocols past site tid (Decided decision) = record { named = refl; begun = λ t b. cc; counts = λ c. tt; asked = (tt, tt) }
 step_asked protocols past site tid Gone = record { named = refl; begun = λ t b. cc; counts = λ c. tt; asked = (tt, tt) }
 
-step_take : (protocols : List Participant) (past : CoordPast) (site : SiteId) (message : FromSite)
-    → IsCoordStep past (Ev.Take site message) (of_take protocols past site message)
+step_take : (protocols : List Participant) (policy : Policy) (past : CoordPast) (site : SiteId) (message : FromSite)
+    → IsCoordStep past (Ev.Take site message) (of_take protocols policy past site message)
 unfolding of_take of_ack of_inquiry
-step_take protocols past site (From.Did tid epoch n reply) = step_did protocols past site tid epoch n reply
-step_take protocols past site (From.Vote tid vote) = step_vote protocols past site tid vote
-step_take protocols past site (From.Ack tid) = step_acked past site tid (standing past tid)
-step_take protocols past site (From.Inquiry tid) = step_asked protocols past site tid (standing past tid)
+step_take protocols policy past site (From.Did tid epoch n reply) = step_did protocols policy past site tid epoch n reply
+step_take protocols policy past site (From.Vote tid vote) = step_vote protocols past site tid vote
+step_take protocols policy past site (From.Ack tid) = step_acked protocols past site tid (standing protocols past tid)
+step_take protocols policy past site (From.Inquiry tid) = step_asked protocols past site tid (standing protocols past tid)
 
-step_again_while : (protocols : List Participant) (past : CoordPast) (tid : Tid) (s : Standing)
-    → IsCoordStep past (Ev.Again tid) (again_while protocols past tid s)
-unfolding again_while
-step_again_while protocols past tid Undecided =
-    step_dues protocols past (Ev.Again tid) tid (all_outstanding protocols past tid) tt (all_done past tid (participants protocols past tid))
-step_again_while protocols past tid (Decided decision) = record {
+step_again_while : (protocols : List Participant) (policy : Policy) (past : CoordPast) (tid : Tid) (s : Standing)
+    → IsCoordStep past (Ev.Again tid) (again_while protocols policy past tid s)
+unfolding again_while sends_all
+step_again_while protocols policy past tid Undecided =
+    step_dues protocols past (Ev.Again tid) tid
+    (defers_all (held_back protocols policy past tid due) (let_through protocols policy past tid due))
+    (let_through protocols policy past tid due)
+    (all_sending (held_back protocols policy past tid due) (let_through protocols policy past tid due)) tt
+    (each_filtered (IsDueDone (program past tid) (counted past tid)) (λ d. not (is_take d && not (may_take protocols policy past tid))) due
+    (all_done past tid (participants protocols past tid)))
+  where
+    due : List Due
+    due = all_outstanding protocols past tid
+step_again_while protocols policy past tid (Decided decision) = record {
   named = refl;
   begun = λ t b. cc;
   counts = λ c. tt;
-  asked = asked_decides (again_while protocols past tid (Decided decision) ∷ past) tid decision (missing past tid decision);
+  asked = asked_decides (again_while protocols policy past tid (Decided decision) ∷ past) tid decision (missing protocols past tid decision);
 }
-step_again_while protocols past tid Gone = record { named = refl; begun = λ t b. cc; counts = λ c. tt; asked = tt }
+step_again_while protocols policy past tid Gone = record { named = refl; begun = λ t b. cc; counts = λ c. tt; asked = tt }
 
 fate_begins : (tid : Tid) (b : Bool) → begins tid (cond b Say.Unbegun Say.Ended) ≡ false
 fate_begins tid true = refl
 fate_begins tid false = refl
 
-step_answered : (protocols : List Participant) (past : CoordPast) (event : CoordEvent) → IsCoordStep past event (answered protocols past event)
-unfolding answered of_again of_late of_fate of_back
-step_answered protocols past (Ev.Go tid steps) = step_go protocols past tid steps
-step_answered protocols past (Ev.Take site message) = step_take protocols past site message
-step_answered protocols past (Ev.Again tid) = step_again_while protocols past tid (standing past tid)
-step_answered protocols past (Ev.Late tid) =
-    step_when past (Ev.Late tid) (is_undecided (standing past tid)) _ _ (λ e. step_aborts protocols past _ tid _ tt)
+step_answered : (protocols : List Participant) (policy : Policy) (past : CoordPast) (event : CoordEvent) → IsCoordStep past event (answered protocols policy past event)
+unfolding answered of_again of_late of_fate of_back of_check
+step_answered protocols policy past (Ev.Go tid steps) = step_go protocols past tid steps
+step_answered protocols policy past (Ev.Take site message) = step_take protocols policy past site message
+step_answered protocols policy past (Ev.Again tid) = step_again_while protocols policy past tid (standing protocols past tid)
+step_answered protocols policy past (Ev.Late tid) =
+    step_when past (Ev.Late tid) (is_open past tid) _ _ (λ e. step_aborts protocols past _ tid _ tt)
     (λ e. record { named = refl; begun = λ t b. cc; counts = λ c. tt; asked = tt })
-step_answered protocols past (Ev.Fate tx) =
+step_answered protocols policy past (Ev.Fate tx) =
     step_pick past (Ev.Fate tx) (committed_of (records past) tx) _ _
     (step_pick past (Ev.Fate tx) (undecided_of past tx) _ _
     (record { named = refl; begun = λ t b. (let clash = sym (fate_begins t _) ∙ b in cc); counts = λ c. tt; asked = tt })
     (λ running. record { named = refl; begun = λ t b. cc; counts = λ c. tt; asked = tt }))
     (λ committed. record { named = refl; begun = λ t b. cc; counts = λ c. tt; asked = tt })
-step_answered protocols past (Ev.Halt cut) = record { named = refl; begun = λ t b. cc; counts = λ c. tt; asked = tt }
-step_answered protocols past (Ev.Trip calls cut) = record { named = refl; begun = λ t b. cc; counts = λ c. tt; asked = tt }
-step_answered protocols past Ev.Back = record { named = refl; begun = λ t b. cc; counts = λ c. tt; asked = tt }
+step_answered protocols policy past (Ev.Halt cut) = record { named = refl; begun = λ t b. cc; counts = λ c. tt; asked = tt }
+step_answered protocols policy past (Ev.Trip calls cut) = record { named = refl; begun = λ t b. cc; counts = λ c. tt; asked = tt }
+step_answered protocols policy past Ev.Back = record { named = refl; begun = λ t b. cc; counts = λ c. tt; asked = tt }
+step_answered protocols policy past Ev.Check =
+    step_when past Ev.Check (nat_lt longest (coord_payload (checkpoint protocols past))) _ _
+    (λ e. record { named = refl; begun = λ t b. cc; counts = λ c. tt; asked = tt })
+    (λ e. record { named = refl; begun = λ t b. cc; counts = λ c. tt; asked = tt })
 
 step_stopped : (past : CoordPast) (event named : CoordEvent) (calls : List (Call CoordRecord)) → named ≡ event
     → IsCoordStep past event (stopped coord_frame (disk past) named calls)
@@ -352,26 +404,27 @@ step_tripped past event (Some t) x s =
     step_when past event (nat_le t.calls (length x.calls)) _ x
     (λ e. step_stopped past event x.event (take t.calls x.calls ++ Stops t.cut ∷ []) s.named) (λ e. s)
 
-step_up : (protocols : List Participant) (past : CoordPast) (event : CoordEvent)
-    → IsCoordStep past event (when (is_down past) (quiet event Say.Down) (unless_tripped past (answered protocols past event)))
-step_up protocols past event =
-    step_when past event (is_down past) (quiet event Say.Down) (unless_tripped past (answered protocols past event))
+step_up : (protocols : List Participant) (policy : Policy) (past : CoordPast) (event : CoordEvent)
+    → IsCoordStep past event (when (is_down past) (quiet event Say.Down) (unless_tripped past (answered protocols policy past event)))
+step_up protocols policy past event =
+    step_when past event (is_down past) (quiet event Say.Down) (unless_tripped past (answered protocols policy past event))
     (λ e. record { named = refl; begun = λ t b. cc; counts = λ c. cc; asked = tt })
-    (λ e. step_tripped past event (trip past) (answered protocols past event) (step_answered protocols past event))
+    (λ e. step_tripped past event (trip past) (answered protocols policy past event) (step_answered protocols policy past event))
 
 -- the next line of the coordinator
-pub step_line : (protocols : List Participant) (past : CoordPast) (event : CoordEvent) → IsCoordStep past event (coord_line protocols past event)
+pub step_line : (protocols : List Participant) (policy : Policy) (past : CoordPast) (event : CoordEvent) → IsCoordStep past event (coord_line protocols policy past event)
 unfolding coord_line of_back answered
-step_line protocols past (Ev.Trip calls cut) = record { named = refl; begun = λ t b. cc; counts = λ c. tt; asked = tt }
-step_line protocols past (Ev.Halt cut) =
+step_line protocols policy past (Ev.Trip calls cut) = record { named = refl; begun = λ t b. cc; counts = λ c. tt; asked = tt }
+step_line protocols policy past (Ev.Halt cut) =
     step_when past (Ev.Halt cut) (is_down past) _ _ (λ e. record { named = refl; begun = λ t b. cc; counts = λ c. cc; asked = tt })
     (λ e. step_stopped past (Ev.Halt cut) (Ev.Halt cut) (Stops cut ∷ []) refl)
-step_line protocols past Ev.Back =
+step_line protocols policy past Ev.Back =
     step_when past Ev.Back (is_down past) _ _
-    (λ e. step_tripped past Ev.Back (trip past) (of_back past) (step_answered protocols past Ev.Back))
+    (λ e. step_tripped past Ev.Back (trip past) (of_back protocols past) (step_answered protocols policy past Ev.Back))
     (λ e. record { named = refl; begun = λ t b. cc; counts = λ c. tt; asked = tt })
-step_line protocols past (Ev.Go tid steps) = step_up protocols past (Ev.Go tid steps)
-step_line protocols past (Ev.Take site message) = step_up protocols past (Ev.Take site message)
-step_line protocols past (Ev.Again tid) = step_up protocols past (Ev.Again tid)
-step_line protocols past (Ev.Late tid) = step_up protocols past (Ev.Late tid)
-step_line protocols past (Ev.Fate tx) = step_up protocols past (Ev.Fate tx)
+step_line protocols policy past (Ev.Go tid steps) = step_up protocols policy past (Ev.Go tid steps)
+step_line protocols policy past (Ev.Take site message) = step_up protocols policy past (Ev.Take site message)
+step_line protocols policy past (Ev.Again tid) = step_up protocols policy past (Ev.Again tid)
+step_line protocols policy past (Ev.Late tid) = step_up protocols policy past (Ev.Late tid)
+step_line protocols policy past (Ev.Fate tx) = step_up protocols policy past (Ev.Fate tx)
+step_line protocols policy past Ev.Check = step_up protocols policy past Ev.Check

@@ -1,6 +1,6 @@
 -- The coordinator sends operations and Prepares only for attempts that were begun, and those are of global transactions.
 use Rattle.std.proofs.Common.{◌≡◌, ℕ, Bool, true, false, cond, ◌&&◌, ◌||◌, Option, Some, None, List, [], ◌∷◌, map, refl, sym, ap, ◌∙◌}
-use Rattle.std.specs.Prelude.{is_none}
+use Rattle.std.specs.Prelude.{is_none, nat_lt, not}
 use Rattle.mdb_base.specs.declared.acts.Step.{Step}
 use Rattle.mdb_base.specs.declared.names.SiteId.{SiteId}
 use Rattle.mdb_base.specs.declared.names.SiteTicket.{SiteTicket}
@@ -11,12 +11,14 @@ use Rattle.mdb_base.specs.declared.replies.Reply.TheVariants as Reply_is
 use Rattle.mdb_base.specs.declared.replies.Why.TheVariants as Because
 use Rattle.mdb_base.specs.Names.{same_site, same_tid}
 use Rattle.mdb_base.specs.Words.{Each, found, pick, some_of, when}
+use Rattle.mdb_base.proofs.ListLaws.{each_filtered}
 use Rattle.mdb_base.proofs.NameLaws.{same_tid-equal}
 use Rattle.order_laws.specs.Search.{cycle_through}
 use Rattle.order_laws.specs.Tickets.{edge_between}
 use Rattle.presumptions.specs.declared.Decision.{Decision}
 use Rattle.presumptions.specs.declared.Decision.TheVariants as Decision_is
 use Rattle.presumptions.specs.declared.Participant.{Participant}
+use Rattle.fed_rules.specs.declared.answers.Answer.{Answer}
 use Rattle.fed_rules.specs.declared.answers.Answer.TheVariants as Say
 use Rattle.fed_rules.specs.declared.answers.Cause.{Cause}
 use Rattle.fed_rules.specs.declared.events.CoordEvent.{CoordEvent}
@@ -28,11 +30,12 @@ use Rattle.fed_rules.specs.declared.messages.FromSite.TheVariants as From
 use Rattle.fed_rules.specs.declared.messages.Sent.{Sent}
 use Rattle.fed_rules.specs.declared.events.SiteEvent.TheVariants as At_site
 use Rattle.fed_rules.specs.declared.records.CoordRecord.{CoordRecord}
-use Rattle.fed_rules.specs.Disk.{Call, Stops}
+use Rattle.fed_rules.specs.Disk.{Call, Stops, longest}
 use Rattle.fed_rules.specs.Happenings.{Trip, is_down, quiet, stopped, tripped}
-use Rattle.fed_rules.specs.Coord.{aborts, ack_counts, acked_while, again_while, all_outstanding, all_voted, answered, asked_while, commits_it, coord_line, decide_to, did_counts, did_reply, is_member, is_prepare, last_vote, missing, news, news_at, of_ack, of_again, of_back, of_did, of_fate, of_go, of_inquiry, of_late, of_take, of_vote, send_due, sends_dues, unless_tripped, vote_counted, vote_counts, yes_vote}
-use Rattle.fed_rules.specs.CoordPast.{CoordHappening, CoordPast, Standing, Undecided, Decided, Gone, begins, disk, is_undecided, or_steps, outstanding, outstanding_at, participants, program, program_in, records, standing, trip, undecided_of, visits}
-use Rattle.fed_rules.specs.CoordRecords.{commits, committed_of, coord_frame, initiated, is_nobody}
+use Rattle.fed_rules.specs.Coord.{aborts, ack_counts, acked_while, again_while, all_outstanding, all_voted, answered, asked_while, commits_it, coord_line, decide_to, defers_all, defers_some, did_counts, did_reply, held_back, is_member, is_prepare, is_take, lacks_initiation, last_vote, let_through, may_take, missing, news, news_at, of_ack, of_again, of_back, of_did, of_fate, of_go, of_inquiry, of_late, of_take, of_vote, send_due, sends_all, sends_dues, sends_news, unless_tripped, vote_counted, vote_counts, yes_vote, of_check, checkpoint}
+use Rattle.fed_rules.specs.CoordPast.{CoordHappening, CoordPast, Standing, Undecided, Decided, Gone, begins, disk, is_open, or_steps, outstanding, outstanding_at, participants, program, program_in, records, standing, trip, undecided_of, visits}
+use Rattle.fed_rules.specs.CoordRecords.{commits, committed_of, coord_frame, is_nobody, coord_payload}
+use Rattle.fed_rules.specs.Policies.{Policy}
 use Rattle.site_history.specs.Events.{IsSorted}
 use Rattle.site_history.proofs.Restarts.{each_found_from}
 
@@ -65,6 +68,7 @@ program_global local (x ∷ past) tid site h e = by_begins (begins tid x.answer)
     by_event (Ev.Halt cut) mine e = cc
     by_event (Ev.Trip calls cut) mine e = cc
     by_event Ev.Back mine e = cc
+    by_event Ev.Check mine e = cc
 
     by_begins : (b : Bool) → visits site (cond b (or_steps (program_in tid x.event) []) (program past tid)) ≡ true
         → (visits site (program past tid) ≡ true → local tid.tx ≡ false) → local tid.tx ≡ false
@@ -111,11 +115,13 @@ unfolding pick
 sends_pick local None none some p q = p
 sends_pick local (Some a) none some p q = q a
 
-sends_of_dues : (local : Tx → Bool) (protocols : List Participant) (past : CoordPast) (event : CoordEvent) (tid : Tid) (dues : List Due)
-    → BeginsGlobal local event → Each (λ due. local tid.tx ≡ false) dues → SendsSorted local (sends_dues protocols past event tid dues)
+sends_of_dues : (local : Tx → Bool) (protocols : List Participant) (past : CoordPast) (event : CoordEvent) (tid : Tid) (answer : Answer)
+    (dues : List Due) → BeginsGlobal local event → Each (λ due. local tid.tx ≡ false) dues
+    → SendsSorted local (sends_dues protocols past event tid answer dues)
 unfolding sends_dues
-sends_of_dues local protocols past event tid dues mine h =
-    sends_when local (some_of is_prepare dues && is_none (initiated (records past) tid)) _ _ (record { sends = sorted_dues local tid dues h; begins = mine })
+sends_of_dues local protocols past event tid answer dues mine h =
+    sends_when local (some_of is_prepare dues && lacks_initiation protocols past tid) _ _
+    (record { sends = sorted_dues local tid dues h; begins = mine })
     (record { sends = sorted_dues local tid dues h; begins = mine })
 
 sends_aborts : (local : Tx → Bool) (protocols : List Participant) (past : CoordPast) (event : CoordEvent) (tid : Tid) (cause : Cause)
@@ -162,35 +168,41 @@ sends_go local protocols past tid steps h mine =
     (λ running. record { sends = tt; begins = mine }))
     (λ committed. record { sends = tt; begins = mine })
 
-sends_news : (local : Tx → Bool) (protocols : List Participant) (past : CoordPast) (site : SiteId) (message : FromSite) (tid : Tid)
-    → Each (λ x. BeginsGlobal local x.event) past
-    → SendsSorted local (sends_dues protocols past (Ev.Take site message) tid
+news_sorted : (local : Tx → Bool) (protocols : List Participant) (policy : Policy) (past : CoordPast) (site : SiteId)
+    (message : FromSite) (tid : Tid) → Each (λ x. BeginsGlobal local x.event) past
+    → SendsSorted local (sends_news protocols policy past (Ev.Take site message) tid
     (news protocols past (quiet (Ev.Take site message) Say.Only ∷ past) tid site))
-sends_news local protocols past site message tid h =
-    sends_of_dues local protocols past (Ev.Take site message) tid (news protocols past (quiet (Ev.Take site message) Say.Only ∷ past) tid site) tt
-    (news_global local past (quiet (Ev.Take site message) Say.Only ∷ past) tid site (tt, h) (participants protocols past tid))
+unfolding sends_news
+news_sorted local protocols policy past site message tid h =
+    sends_of_dues local protocols past (Ev.Take site message) tid (defers_some (held_back protocols policy past tid due))
+    (let_through protocols policy past tid due) tt
+    (each_filtered (λ d. local tid.tx ≡ false) (λ d. not (is_take d && not (may_take protocols policy past tid))) due
+    (news_global local past (quiet (Ev.Take site message) Say.Only ∷ past) tid site (tt, h) (participants protocols past tid)))
+  where
+    due : List Due
+    due = news protocols past (quiet (Ev.Take site message) Say.Only ∷ past) tid site
 
-sends_reply : (local : Tx → Bool) (protocols : List Participant) (past : CoordPast) (site : SiteId) (message : FromSite) (tid : Tid) (reply : Reply)
-    → Each (λ x. BeginsGlobal local x.event) past → SendsSorted local (did_reply protocols past site message tid reply)
+sends_reply : (local : Tx → Bool) (protocols : List Participant) (policy : Policy) (past : CoordPast) (site : SiteId) (message : FromSite) (tid : Tid) (reply : Reply)
+    → Each (λ x. BeginsGlobal local x.event) past → SendsSorted local (did_reply protocols policy past site message tid reply)
 unfolding did_reply
-sends_reply local protocols past site message tid (Reply_is.Wait by) h = record { sends = tt; begins = tt }
-sends_reply local protocols past site message tid (Reply_is.Refused (Because.Die by)) h = sends_aborts local protocols past _ tid _ tt
-sends_reply local protocols past site message tid (Reply_is.Refused (Because.Late by)) h = sends_aborts local protocols past _ tid _ tt
-sends_reply local protocols past site message tid (Reply_is.Refused (Because.Invalid by key)) h =
-    sends_news local protocols past site message tid h
-sends_reply local protocols past site message tid (Reply_is.Refused (Because.TicketMoved by)) h =
-    sends_news local protocols past site message tid h
-sends_reply local protocols past site message tid Reply_is.Unknown h = sends_aborts local protocols past _ tid _ tt
-sends_reply local protocols past site message tid (Reply_is.Value value) h = sends_news local protocols past site message tid h
-sends_reply local protocols past site message tid Reply_is.Done h = sends_news local protocols past site message tid h
-sends_reply local protocols past site message tid (Reply_is.Ticket n) h = sends_news local protocols past site message tid h
+sends_reply local protocols policy past site message tid (Reply_is.Wait by) h = record { sends = tt; begins = tt }
+sends_reply local protocols policy past site message tid (Reply_is.Refused (Because.Die by)) h = sends_aborts local protocols past _ tid _ tt
+sends_reply local protocols policy past site message tid (Reply_is.Refused (Because.Late by)) h = sends_aborts local protocols past _ tid _ tt
+sends_reply local protocols policy past site message tid (Reply_is.Refused (Because.Invalid by key)) h =
+    news_sorted local protocols policy past site message tid h
+sends_reply local protocols policy past site message tid (Reply_is.Refused (Because.TicketMoved by)) h =
+    news_sorted local protocols policy past site message tid h
+sends_reply local protocols policy past site message tid Reply_is.Unknown h = sends_aborts local protocols past _ tid _ tt
+sends_reply local protocols policy past site message tid (Reply_is.Value value) h = news_sorted local protocols policy past site message tid h
+sends_reply local protocols policy past site message tid Reply_is.Done h = news_sorted local protocols policy past site message tid h
+sends_reply local protocols policy past site message tid (Reply_is.Ticket n) h = news_sorted local protocols policy past site message tid h
 
-sends_did : (local : Tx → Bool) (protocols : List Participant) (past : CoordPast) (site : SiteId) (tid : Tid) (epoch n : ℕ) (reply : Reply)
-    → Each (λ x. BeginsGlobal local x.event) past → SendsSorted local (of_did protocols past site tid epoch n reply)
+sends_did : (local : Tx → Bool) (protocols : List Participant) (policy : Policy) (past : CoordPast) (site : SiteId) (tid : Tid) (epoch n : ℕ) (reply : Reply)
+    → Each (λ x. BeginsGlobal local x.event) past → SendsSorted local (of_did protocols policy past site tid epoch n reply)
 unfolding of_did
-sends_did local protocols past site tid epoch n reply h =
+sends_did local protocols policy past site tid epoch n reply h =
     sends_when local (did_counts past site tid epoch n reply) _ _
-    (sends_reply local protocols past site (From.Did tid epoch n reply) tid reply h) (record { sends = tt; begins = tt })
+    (sends_reply local protocols policy past site (From.Did tid epoch n reply) tid reply h) (record { sends = tt; begins = tt })
 
 sends_last : (local : Tx → Bool) (protocols : List Participant) (past : CoordPast) (event : CoordEvent) (tid : Tid) (tickets : List SiteTicket)
     → BeginsGlobal local event → SendsSorted local (last_vote protocols past event tid tickets)
@@ -218,19 +230,19 @@ unfolding of_vote
 sends_vote local protocols past site tid vote =
     sends_when local (vote_counts past site tid) _ _ (sends_vote_counted local protocols past site tid vote) (record { sends = tt; begins = tt })
 
-sends_acked : (local : Tx → Bool) (past : CoordPast) (site : SiteId) (tid : Tid) (s : Standing) → SendsSorted local (acked_while past site tid s)
+sends_acked : (local : Tx → Bool) (protocols : List Participant) (past : CoordPast) (site : SiteId) (tid : Tid) (s : Standing) → SendsSorted local (acked_while protocols past site tid s)
 unfolding acked_while ack_counts
-sends_acked local past site tid (Decided decision) =
-    sends_when local (is_member site (missing past tid decision)) _ _
-    (sends_when local (is_nobody (missing (quiet (Ev.Take site (From.Ack tid)) Say.Acked ∷ past) tid decision)) _ _ (record { sends = tt; begins = tt })
+sends_acked local protocols past site tid (Decided decision) =
+    sends_when local (is_member site (missing protocols past tid decision)) _ _
+    (sends_when local (is_nobody (missing protocols (quiet (Ev.Take site (From.Ack tid)) Say.Acked ∷ past) tid decision)) _ _ (record { sends = tt; begins = tt })
     (record { sends = tt; begins = tt }))
     (record { sends = tt; begins = tt })
-sends_acked local past site tid Undecided = record { sends = tt; begins = tt }
-sends_acked local past site tid Gone = record { sends = tt; begins = tt }
+sends_acked local protocols past site tid Undecided = record { sends = tt; begins = tt }
+sends_acked local protocols past site tid Gone = record { sends = tt; begins = tt }
 
-sends_ack : (local : Tx → Bool) (past : CoordPast) (site : SiteId) (tid : Tid) → SendsSorted local (of_ack past site tid)
+sends_ack : (local : Tx → Bool) (protocols : List Participant) (past : CoordPast) (site : SiteId) (tid : Tid) → SendsSorted local (of_ack protocols past site tid)
 unfolding of_ack
-sends_ack local past site tid = sends_acked local past site tid (standing past tid)
+sends_ack local protocols past site tid = sends_acked local protocols past site tid (standing protocols past tid)
 
 sends_asked : (local : Tx → Bool) (protocols : List Participant) (site : SiteId) (tid : Tid) (s : Standing)
     → SendsSorted local (asked_while protocols site tid s)
@@ -242,35 +254,41 @@ sends_asked local protocols site tid Gone = record { sends = (tt, tt); begins = 
 sends_inquiry : (local : Tx → Bool) (protocols : List Participant) (past : CoordPast) (site : SiteId) (tid : Tid)
     → SendsSorted local (of_inquiry protocols past site tid)
 unfolding of_inquiry
-sends_inquiry local protocols past site tid = sends_asked local protocols site tid (standing past tid)
+sends_inquiry local protocols past site tid = sends_asked local protocols site tid (standing protocols past tid)
 
-sends_take : (local : Tx → Bool) (protocols : List Participant) (past : CoordPast) (site : SiteId) (message : FromSite)
-    → Each (λ x. BeginsGlobal local x.event) past → SendsSorted local (of_take protocols past site message)
+sends_take : (local : Tx → Bool) (protocols : List Participant) (policy : Policy) (past : CoordPast) (site : SiteId) (message : FromSite)
+    → Each (λ x. BeginsGlobal local x.event) past → SendsSorted local (of_take protocols policy past site message)
 unfolding of_take
-sends_take local protocols past site (From.Did tid epoch n reply) h = sends_did local protocols past site tid epoch n reply h
-sends_take local protocols past site (From.Vote tid vote) h = sends_vote local protocols past site tid vote
-sends_take local protocols past site (From.Ack tid) h = sends_ack local past site tid
-sends_take local protocols past site (From.Inquiry tid) h = sends_inquiry local protocols past site tid
+sends_take local protocols policy past site (From.Did tid epoch n reply) h = sends_did local protocols policy past site tid epoch n reply h
+sends_take local protocols policy past site (From.Vote tid vote) h = sends_vote local protocols past site tid vote
+sends_take local protocols policy past site (From.Ack tid) h = sends_ack local protocols past site tid
+sends_take local protocols policy past site (From.Inquiry tid) h = sends_inquiry local protocols past site tid
 
-sends_again_while : (local : Tx → Bool) (protocols : List Participant) (past : CoordPast) (tid : Tid) (s : Standing)
-    → Each (λ x. BeginsGlobal local x.event) past → SendsSorted local (again_while protocols past tid s)
-unfolding again_while
-sends_again_while local protocols past tid Undecided h =
-    sends_of_dues local protocols past (Ev.Again tid) tid (all_outstanding protocols past tid) tt
-    (all_global local protocols past tid h (participants protocols past tid))
-sends_again_while local protocols past tid (Decided decision) h =
-    record { sends = sorted_decides local tid decision (missing past tid decision); begins = tt }
-sends_again_while local protocols past tid Gone h = record { sends = tt; begins = tt }
+sends_again_while : (local : Tx → Bool) (protocols : List Participant) (policy : Policy) (past : CoordPast) (tid : Tid) (s : Standing)
+    → Each (λ x. BeginsGlobal local x.event) past → SendsSorted local (again_while protocols policy past tid s)
+unfolding again_while sends_all
+sends_again_while local protocols policy past tid Undecided h =
+    sends_of_dues local protocols past (Ev.Again tid) tid
+    (defers_all (held_back protocols policy past tid due) (let_through protocols policy past tid due))
+    (let_through protocols policy past tid due) tt
+    (each_filtered (λ d. local tid.tx ≡ false) (λ d. not (is_take d && not (may_take protocols policy past tid))) due
+    (all_global local protocols past tid h (participants protocols past tid)))
+  where
+    due : List Due
+    due = all_outstanding protocols past tid
+sends_again_while local protocols policy past tid (Decided decision) h =
+    record { sends = sorted_decides local tid decision (missing protocols past tid decision); begins = tt }
+sends_again_while local protocols policy past tid Gone h = record { sends = tt; begins = tt }
 
-sends_again : (local : Tx → Bool) (protocols : List Participant) (past : CoordPast) (tid : Tid)
-    → Each (λ x. BeginsGlobal local x.event) past → SendsSorted local (of_again protocols past tid)
+sends_again : (local : Tx → Bool) (protocols : List Participant) (policy : Policy) (past : CoordPast) (tid : Tid)
+    → Each (λ x. BeginsGlobal local x.event) past → SendsSorted local (of_again protocols policy past tid)
 unfolding of_again
-sends_again local protocols past tid h = sends_again_while local protocols past tid (standing past tid) h
+sends_again local protocols policy past tid h = sends_again_while local protocols policy past tid (standing protocols past tid) h
 
 sends_late : (local : Tx → Bool) (protocols : List Participant) (past : CoordPast) (tid : Tid) → SendsSorted local (of_late protocols past tid)
 unfolding of_late
 sends_late local protocols past tid =
-    sends_when local (is_undecided (standing past tid)) _ _ (sends_aborts local protocols past _ tid _ tt) (record { sends = tt; begins = tt })
+    sends_when local (is_open past tid) _ _ (sends_aborts local protocols past _ tid _ tt) (record { sends = tt; begins = tt })
 
 sends_fate : (local : Tx → Bool) (past : CoordPast) (tx : Tx) → SendsSorted local (of_fate past tx)
 unfolding of_fate
@@ -279,21 +297,27 @@ sends_fate local past tx =
     (sends_pick local (undecided_of past tx) _ _ (record { sends = tt; begins = tt }) (λ running. record { sends = tt; begins = tt }))
     (λ committed. record { sends = tt; begins = tt })
 
-sends_back : (local : Tx → Bool) (past : CoordPast) → SendsSorted local (of_back past)
+sends_back : (local : Tx → Bool) (protocols : List Participant) (past : CoordPast) → SendsSorted local (of_back protocols past)
 unfolding of_back
-sends_back local past = record { sends = tt; begins = tt }
+sends_back local protocols past = record { sends = tt; begins = tt }
 
-sends_answered : (local : Tx → Bool) (protocols : List Participant) (past : CoordPast) (event : CoordEvent)
-    → Each (λ x. BeginsGlobal local x.event) past → BeginsGlobal local event → SendsSorted local (answered protocols past event)
+sends_check : (local : Tx → Bool) (protocols : List Participant) (past : CoordPast) → SendsSorted local (of_check protocols past)
+unfolding of_check
+sends_check local protocols past =
+    sends_when local (nat_lt longest (coord_payload (checkpoint protocols past))) _ _ (record { sends = tt; begins = tt }) (record { sends = tt; begins = tt })
+
+sends_answered : (local : Tx → Bool) (protocols : List Participant) (policy : Policy) (past : CoordPast) (event : CoordEvent)
+    → Each (λ x. BeginsGlobal local x.event) past → BeginsGlobal local event → SendsSorted local (answered protocols policy past event)
 unfolding answered
-sends_answered local protocols past (Ev.Go tid steps) h mine = sends_go local protocols past tid steps h mine
-sends_answered local protocols past (Ev.Take site message) h mine = sends_take local protocols past site message h
-sends_answered local protocols past (Ev.Again tid) h mine = sends_again local protocols past tid h
-sends_answered local protocols past (Ev.Late tid) h mine = sends_late local protocols past tid
-sends_answered local protocols past (Ev.Fate tx) h mine = sends_fate local past tx
-sends_answered local protocols past (Ev.Halt cut) h mine = record { sends = tt; begins = tt }
-sends_answered local protocols past (Ev.Trip calls cut) h mine = record { sends = tt; begins = tt }
-sends_answered local protocols past Ev.Back h mine = sends_back local past
+sends_answered local protocols policy past (Ev.Go tid steps) h mine = sends_go local protocols past tid steps h mine
+sends_answered local protocols policy past (Ev.Take site message) h mine = sends_take local protocols policy past site message h
+sends_answered local protocols policy past (Ev.Again tid) h mine = sends_again local protocols policy past tid h
+sends_answered local protocols policy past (Ev.Late tid) h mine = sends_late local protocols past tid
+sends_answered local protocols policy past (Ev.Fate tx) h mine = sends_fate local past tx
+sends_answered local protocols policy past (Ev.Halt cut) h mine = record { sends = tt; begins = tt }
+sends_answered local protocols policy past (Ev.Trip calls cut) h mine = record { sends = tt; begins = tt }
+sends_answered local protocols policy past Ev.Back h mine = sends_back local protocols past
+sends_answered local protocols policy past Ev.Check h mine = sends_check local protocols past
 
 sends_stopped : (local : Tx → Bool) (past : CoordPast) (event : CoordEvent) (calls : List (Call CoordRecord))
     → BeginsGlobal local event → SendsSorted local (stopped coord_frame (disk past) event calls)
@@ -306,24 +330,25 @@ unfolding tripped
 sends_tripped local past None x s = s
 sends_tripped local past (Some t) x s = sends_when local _ _ x (sends_stopped local past x.event _ s.begins) s
 
-sends_up : (local : Tx → Bool) (protocols : List Participant) (past : CoordPast) (event : CoordEvent)
+sends_up : (local : Tx → Bool) (protocols : List Participant) (policy : Policy) (past : CoordPast) (event : CoordEvent)
     → Each (λ x. BeginsGlobal local x.event) past → BeginsGlobal local event
-    → SendsSorted local (when (is_down past) (quiet event Say.Down) (unless_tripped past (answered protocols past event)))
-sends_up local protocols past event h mine =
-    sends_when local (is_down past) (quiet event Say.Down) (unless_tripped past (answered protocols past event)) (record { sends = tt; begins = mine })
-    (sends_tripped local past (trip past) (answered protocols past event) (sends_answered local protocols past event h mine))
+    → SendsSorted local (when (is_down past) (quiet event Say.Down) (unless_tripped past (answered protocols policy past event)))
+sends_up local protocols policy past event h mine =
+    sends_when local (is_down past) (quiet event Say.Down) (unless_tripped past (answered protocols policy past event)) (record { sends = tt; begins = mine })
+    (sends_tripped local past (trip past) (answered protocols policy past event) (sends_answered local protocols policy past event h mine))
 
 -- the next line of the coordinator
-pub sends_line : (local : Tx → Bool) (protocols : List Participant) (past : CoordPast) (event : CoordEvent)
-    → Each (λ x. BeginsGlobal local x.event) past → BeginsGlobal local event → SendsSorted local (coord_line protocols past event)
+pub sends_line : (local : Tx → Bool) (protocols : List Participant) (policy : Policy) (past : CoordPast) (event : CoordEvent)
+    → Each (λ x. BeginsGlobal local x.event) past → BeginsGlobal local event → SendsSorted local (coord_line protocols policy past event)
 unfolding coord_line
-sends_line local protocols past (Ev.Trip calls cut) h mine = record { sends = tt; begins = tt }
-sends_line local protocols past (Ev.Halt cut) h mine =
+sends_line local protocols policy past (Ev.Trip calls cut) h mine = record { sends = tt; begins = tt }
+sends_line local protocols policy past (Ev.Halt cut) h mine =
     sends_when local (is_down past) _ _ (record { sends = tt; begins = tt }) (sends_stopped local past (Ev.Halt cut) (Stops cut ∷ []) tt)
-sends_line local protocols past Ev.Back h mine =
-    sends_when local (is_down past) _ _ (sends_tripped local past (trip past) (of_back past) (sends_back local past)) (record { sends = tt; begins = tt })
-sends_line local protocols past (Ev.Go tid steps) h mine = sends_up local protocols past (Ev.Go tid steps) h mine
-sends_line local protocols past (Ev.Take site message) h mine = sends_up local protocols past (Ev.Take site message) h mine
-sends_line local protocols past (Ev.Again tid) h mine = sends_up local protocols past (Ev.Again tid) h mine
-sends_line local protocols past (Ev.Late tid) h mine = sends_up local protocols past (Ev.Late tid) h mine
-sends_line local protocols past (Ev.Fate tx) h mine = sends_up local protocols past (Ev.Fate tx) h mine
+sends_line local protocols policy past Ev.Back h mine =
+    sends_when local (is_down past) _ _ (sends_tripped local past (trip past) (of_back protocols past) (sends_back local protocols past)) (record { sends = tt; begins = tt })
+sends_line local protocols policy past (Ev.Go tid steps) h mine = sends_up local protocols policy past (Ev.Go tid steps) h mine
+sends_line local protocols policy past (Ev.Take site message) h mine = sends_up local protocols policy past (Ev.Take site message) h mine
+sends_line local protocols policy past (Ev.Again tid) h mine = sends_up local protocols policy past (Ev.Again tid) h mine
+sends_line local protocols policy past (Ev.Late tid) h mine = sends_up local protocols policy past (Ev.Late tid) h mine
+sends_line local protocols policy past (Ev.Fate tx) h mine = sends_up local protocols policy past (Ev.Fate tx) h mine
+sends_line local protocols policy past Ev.Check h mine = sends_up local protocols policy past Ev.Check h mine

@@ -7,7 +7,7 @@ use Rattle.mdb_base.specs.Names.{same_tx}
 use Rattle.mdb_base.specs.Words.{Among, Each, some_of}
 use Rattle.mdb_base.proofs.ListLaws.{each_among}
 use Rattle.fed_rules.specs.declared.records.SiteRecord.{SiteRecord}
-use Rattle.fed_rules.specs.declared.records.SiteRecord.TheVariants.{Setup, Start, Prepared, Ended, Local}
+use Rattle.fed_rules.specs.declared.records.SiteRecord.TheVariants.{Setup, Start, Prepared, Ended, Local, Checkpoint}
 use Rattle.fed_rules.specs.Disk.{Append, Call}
 use Rattle.fed_rules.specs.EngineLines.{IsLive}
 use Rattle.fed_rules.specs.Runs as Runs
@@ -80,7 +80,9 @@ local_unbound local (Local p number writes ∷ rs) tid sorted mine none b = by_t
         let same : same_tx p.tx tid.tx ≡ true = ap (λ t. same_tx p.tx t.tx) (sym e) ∙ same_tx-refl p.tx in cc
     by_test false is none (inr b) rest = rest none b
 local_unbound local (Setup site engine protocol items ∷ rs) tid sorted mine none (inl b) = b
+local_unbound local (Checkpoint sum ∷ rs) tid sorted mine none (inl b) = b
 local_unbound local (Setup site engine protocol items ∷ rs) tid sorted mine none (inr b) = local_unbound local rs tid sorted.1 mine none b
+local_unbound local (Checkpoint sum ∷ rs) tid sorted mine none (inr b) = local_unbound local rs tid sorted.1 mine none b
 local_unbound local (Start epoch ∷ rs) tid sorted mine none (inl b) = b
 local_unbound local (Start epoch ∷ rs) tid sorted mine none (inr b) = local_unbound local rs tid sorted.1 mine none b
 local_unbound local (Ended ended decision ∷ rs) tid sorted mine none (inl b) = b
@@ -97,7 +99,9 @@ prepares_unbound local (Local p number writes ∷ rs) tid sorted others (inl e) 
     let clash = sym others ∙ ap (λ t. local t.tx) (sym e) ∙ sorted.0 in cc
 prepares_unbound local (Local p number writes ∷ rs) tid sorted others (inr b) = inr (prepares_unbound local rs tid sorted.1 others b)
 prepares_unbound local (Setup site engine protocol items ∷ rs) tid sorted others (inl b) = elim b [ ]
+prepares_unbound local (Checkpoint sum ∷ rs) tid sorted others (inl b) = elim b [ ]
 prepares_unbound local (Setup site engine protocol items ∷ rs) tid sorted others (inr b) = inr (prepares_unbound local rs tid sorted.1 others b)
+prepares_unbound local (Checkpoint sum ∷ rs) tid sorted others (inr b) = inr (prepares_unbound local rs tid sorted.1 others b)
 prepares_unbound local (Start epoch ∷ rs) tid sorted others (inl b) = elim b [ ]
 prepares_unbound local (Start epoch ∷ rs) tid sorted others (inr b) = inr (prepares_unbound local rs tid sorted.1 others b)
 prepares_unbound local (Ended ended decision ∷ rs) tid sorted others (inl b) = elim b [ ]

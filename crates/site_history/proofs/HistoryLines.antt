@@ -5,8 +5,8 @@ use Rattle.mdb_base.specs.declared.names.Tx.{Tx}
 use Rattle.mdb_base.specs.Words.{Among, Each, some_of}
 use Rattle.mdb_base.proofs.NameLaws.{same_tid-equal}
 use Rattle.fed_rules.specs.declared.records.SiteRecord.{SiteRecord}
-use Rattle.fed_rules.specs.declared.records.SiteRecord.TheVariants.{Setup, Start, Prepared, Ended, Local}
-use Rattle.fed_rules.specs.Disk.{Append, Call, CutBack, Disk, Stops, Sync, after_call, after_calls}
+use Rattle.fed_rules.specs.declared.records.SiteRecord.TheVariants.{Setup, Start, Prepared, Ended, Local, Checkpoint}
+use Rattle.fed_rules.specs.Disk.{Append, Call, CutBack, TrimFront, Disk, Stops, Sync, after_call, after_calls}
 use Rattle.fed_rules.specs.Happenings.{comes_up, stops}
 use Rattle.fed_rules.specs.Runs as Runs
 use Rattle.fed_rules.specs.Runs.{EngineLine, Run, run_at}
@@ -48,6 +48,7 @@ seals_binds : (tid : Tid) (kept : SiteRecord) → seals tid (Append kept) ≡ tr
 seals_binds tid (Prepared p epoch number ticket writes) e = same_tid-equal p tid e
 seals_binds tid (Local p number writes) e = same_tid-equal p tid e
 seals_binds tid (Setup site engine protocol items) e = cc
+seals_binds tid (Checkpoint sum) e = cc
 seals_binds tid (Start epoch) e = cc
 seals_binds tid (Ended p decision) e = cc
 
@@ -56,6 +57,7 @@ none_of_syncs [] s = tt
 none_of_syncs (Sync ∷ calls) s = none_of_syncs calls s
 none_of_syncs (Append newest ∷ calls) s = elim s [ ]
 none_of_syncs (CutBack ∷ calls) s = elim s [ ]
+none_of_syncs (TrimFront ∷ calls) s = none_of_syncs calls s
 none_of_syncs (Stops cut ∷ calls) s = elim s [ ]
 
 pub last_of_syncs : (calls : List (Call SiteRecord)) → OnlySyncs calls → StopsLast calls
@@ -63,6 +65,7 @@ last_of_syncs [] s = tt
 last_of_syncs (Sync ∷ calls) s = last_of_syncs calls s
 last_of_syncs (Append newest ∷ calls) s = elim s [ ]
 last_of_syncs (CutBack ∷ calls) s = elim s [ ]
+last_of_syncs (TrimFront ∷ calls) s = last_of_syncs calls s
 last_of_syncs (Stops cut ∷ calls) s = elim s [ ]
 
 pub torn_none : (n : ℕ) (calls : List (Call SiteRecord)) (cut : ℕ) → OnlySyncs calls → AppendsNone (take n calls ++ Stops cut ∷ [])
@@ -71,6 +74,7 @@ torn_none (suc n) [] cut s = tt
 torn_none (suc n) (Sync ∷ calls) cut s = torn_none n calls cut s
 torn_none (suc n) (Append newest ∷ calls) cut s = elim s [ ]
 torn_none (suc n) (CutBack ∷ calls) cut s = elim s [ ]
+torn_none (suc n) (TrimFront ∷ calls) cut s = torn_none n calls cut s
 torn_none (suc n) (Stops c ∷ calls) cut s = elim s [ ]
 
 pub torn_last : (n : ℕ) (calls : List (Call SiteRecord)) (cut : ℕ) → OnlySyncs calls → StopsLast (take n calls ++ Stops cut ∷ [])
@@ -79,6 +83,7 @@ torn_last (suc n) [] cut s = tt
 torn_last (suc n) (Sync ∷ calls) cut s = torn_last n calls cut s
 torn_last (suc n) (Append newest ∷ calls) cut s = elim s [ ]
 torn_last (suc n) (CutBack ∷ calls) cut s = elim s [ ]
+torn_last (suc n) (TrimFront ∷ calls) cut s = torn_last n calls cut s
 torn_last (suc n) (Stops c ∷ calls) cut s = elim s [ ]
 
 pub synced_records : (d : Disk SiteRecord) (calls : List (Call SiteRecord)) → OnlySyncs calls → (after_calls site_frame d calls).records ≡ d.records
@@ -86,6 +91,7 @@ synced_records d [] s = refl
 synced_records d (Sync ∷ calls) s = synced_records (after_call site_frame d Sync) calls s
 synced_records d (Append newest ∷ calls) s = elim s [ ]
 synced_records d (CutBack ∷ calls) s = elim s [ ]
+synced_records d (TrimFront ∷ calls) s = synced_records (after_call site_frame d TrimFront) calls s
 synced_records d (Stops cut ∷ calls) s = elim s [ ]
 
 -- a record is appended, and nothing behind it

@@ -13,8 +13,8 @@ use Rattle.presumptions.specs.declared.Decision.{Decision}
 use Rattle.presumptions.specs.declared.Decision.TheVariants as Decided
 use Rattle.fed_rules.specs.declared.events.SiteEvent.{SiteEvent}
 use Rattle.fed_rules.specs.declared.records.SiteRecord.{SiteRecord}
-use Rattle.fed_rules.specs.declared.records.SiteRecord.TheVariants.{Prepared, Ended, Local}
-use Rattle.fed_rules.specs.Disk.{Append, Call, CutBack, Stops, Sync}
+use Rattle.fed_rules.specs.declared.records.SiteRecord.TheVariants.{Prepared, Ended, Local, Checkpoint}
+use Rattle.fed_rules.specs.Disk.{Append, Call, CutBack, TrimFront, Stops, Sync}
 use Rattle.fed_rules.specs.EngineLines.{IsRight}
 use Rattle.fed_rules.specs.Runs as Runs
 use Rattle.fed_rules.specs.Runs.{EngineLine, Begins, Acts, Takes, Seals, Refuses, Commits, Aborts, Run, acted, begun, changed, committed, published, puts_of, run_at, tid_of, took}
@@ -29,9 +29,10 @@ use Rattle.site_history.specs.Lines.{Agrees}
 use Rattle.site_history.specs.Records.{BindOnce, IsBound, Prepares}
 use Rattle.site_history.proofs.Backed.{acts_after, appended}
 use Rattle.site_history.proofs.BackedSteps.{backed_abort, backed_commit, backed_local, backed_prepared}
-use Rattle.site_history.proofs.Backing.{IsBacked, backed_acts, backed_calm, beside_doubt, run_beside_line}
+use Rattle.site_history.proofs.Backing.{IsBacked, backed_acts, backed_calm, beside_doubt, run_beside_line, backed_sum}
 use Rattle.site_history.proofs.Histories.{IsHistory, IsSortedRecord, IsUnbound, LocalsUnbound, acts_of_line, acts_of_others, local_unbound, prepares_unbound}
-use Rattle.site_history.proofs.Moves.{IsCalm, Moves, OnlySyncs, rests, begins_local, begins_work, goes_on, commits_local, prepares_run, settles_held}
+use Rattle.site_history.proofs.Moves.{IsCalm, Moves, OnlySyncs, rests, begins_local, begins_work, goes_on, commits_local, prepares_run, settles_held, checks_sum}
+use Rattle.fed_rules.specs.declared.sums.SiteSum.{SiteSum}
 
 -- no Prepared record of the attempt is kept
 abbrev pub IsNewRecord : Home → SitePast → SiteRecord → Type 0
@@ -62,7 +63,7 @@ free_doubt : (home : Home) (past : SitePast) (local : Tx → Bool) (tid : Tid) �
 free_doubt home past local tid h free =
     no_run_no_doubt (doubt_of (records home past) tid) (run_of home past tid) free (h.kept.agrees tid)
 
-calm_committed : (local : Tx → Bool) (start : Runs.Start) (lines : List EngineLine) (line : EngineLine) → IsCalm local line
+pub calm_committed : (local : Tx → Bool) (start : Runs.Start) (lines : List EngineLine) (line : EngineLine) → IsCalm local line
     → committed start (line ∷ lines) ≡ committed start lines
 calm_committed local start lines (Acts tid act reply) c = refl
 calm_committed local start lines (Takes tid reply) c = refl
@@ -99,7 +100,17 @@ synced_append [] rs s = refl
 synced_append (Sync ∷ rest) rs s = synced_append rest rs s
 synced_append (Append newest ∷ rest) rs s = elim s [ ]
 synced_append (CutBack ∷ rest) rs s = elim s [ ]
+synced_append (TrimFront ∷ rest) rs s = synced_append rest rs s
 synced_append (Stops cut ∷ rest) rs s = elim s [ ]
+
+unbound_sum : (local : Tx → Bool) (records : List SiteRecord) (start : Runs.Start) (lines : List EngineLine) (sum : SiteSum)
+    → LocalsUnbound local records start lines → LocalsUnbound local (Checkpoint sum ∷ records) start lines
+unbound_sum local records start lines sum l tid run at mine =
+    let u = l tid run at mine in record { ticketless = u.ticketless; unbound = λ b. by_place tid u.unbound b }
+  where
+    by_place : (tid : Tid) → (IsBound tid records → ⊥) → IsBound tid (Checkpoint sum ∷ records) → ⊥
+    by_place tid free (inl b) = b
+    by_place tid free (inr b) = free b
 
 pub move_step : (home : Home) (past : SitePast) (local : Tx → Bool) (event : SiteEvent) (calls : List (Call SiteRecord)) (lines : List EngineLine)
     (h : IsHistory home local past) → IsFine home past calls (lines ++ engine_lines past) → Moves home past local event calls lines
@@ -156,7 +167,13 @@ move_step home past local event calls lines h fine (prepares_run {tid = tid} {ti
           fine.right fine.agrees here.live took
           (acts_of_line home past newest [] tid run here.live (same_tid-refl tid));
     })
-move_step home past local event calls lines h fine (settles_held {tid = tid} {decision = Decided.Commit} {rest = rest} held doubt synced) =
+move_step home past local event calls lines h fine (checks_sum {sum = sum} is) =
+    appends tt (λ new. record {
+      once = h.once;
+      sorted = tt;
+      backed = backed_sum home (acts_at home past) (records home past) (epoch_start home past) (engine_lines past) h.earlier sum h.now;
+    })
+move_step home past local event calls lines h fine (settles_held {tid = tid} {decision = Decided.Commit} {rest = rest} held doubt synced just) =
     appends synced (λ new. record {
       once = h.once;
       sorted = tt;
@@ -166,7 +183,7 @@ move_step home past local event calls lines h fine (settles_held {tid = tid} {de
           (synced_append rest (Ended tid Decided.Commit ∷ records home past) synced) (fine.agrees t))
           doubt;
     })
-move_step home past local event calls lines h fine (settles_held {tid = tid} {decision = Decided.Abort} {rest = rest} held doubt synced) =
+move_step home past local event calls lines h fine (settles_held {tid = tid} {decision = Decided.Abort} {rest = rest} held doubt synced just) =
     appends synced (λ new. record {
       once = h.once;
       sorted = tt;
@@ -270,7 +287,9 @@ move_locals home past local event calls lines h (prepares_run {tid = tid} {ticke
     apart_bound : (t : Tid) → same_tid tid t ≡ false → (tid ≡ t) ⊎ IsBound t (records home past) → IsBound t (records home past)
     apart_bound t apart (inl e) = let same : same_tid tid t ≡ true = subst (λ u. same_tid tid u ≡ true) e (same_tid-refl tid) in cc
     apart_bound t apart (inr b) = b
-move_locals home past local event calls lines h (settles_held {tid = tid} {decision = decision} {rest = rest} held doubt synced) =
+move_locals home past local event calls lines h (checks_sum {sum = sum} is) =
+    unbound_sum local (records home past) (epoch_start home past) (engine_lines past) sum h.locals
+move_locals home past local event calls lines h (settles_held {tid = tid} {decision = decision} {rest = rest} held doubt synced just) =
     subst (λ rs. LocalsUnbound local rs (epoch_start home past) (settling_line tid decision ∷ engine_lines past))
     (sym (synced_append rest (Ended tid decision ∷ records home past) synced)) (by_decision decision)
   where

@@ -23,7 +23,7 @@ use Rattle.site_history.proofs.Backing.{backed_start}
 use Rattle.site_history.proofs.Histories.{IsHistory, no_local_doubt}
 use Rattle.site_history.proofs.HistoryLines.{AreBacked, AreNew, history_plain, history_start, none_backed, none_of_syncs, start_locals, synced_records, torn_step, whole_step}
 use Rattle.site_history.proofs.HistoryMoves.{Step, appends, move_locals, move_step}
-use Rattle.site_history.proofs.Moves.{IsMove, Moves, move_answered, rests, begins_local, begins_work, goes_on, commits_local, prepares_run, settles_held}
+use Rattle.site_history.proofs.Moves.{IsMove, Moves, move_answered, rests, begins_local, begins_work, goes_on, commits_local, prepares_run, settles_held, checks_sum}
 use Rattle.site_history.proofs.Restarts.{backed_empty}
 use Rattle.site_history.proofs.RightLines.{back_appends, good_answered, is_back, kept_first}
 use Rattle.site_history.proofs.Starts.{EachAppend, HasRisingWrites, append_take, each_after}
@@ -47,7 +47,8 @@ move_records home past local event calls lines (begins_work others none fresh) =
 move_records home past local event calls lines (goes_on run here calm) = refl
 move_records home past local event calls lines (commits_local run mine here) = refl
 move_records home past local event calls lines (prepares_run asks run asked others here took) = refl
-move_records home past local event calls lines (settles_held {tid = tid} {decision = decision} {rest = rest} held doubt synced) =
+move_records home past local event calls lines (checks_sum is) = refl
+move_records home past local event calls lines (settles_held {tid = tid} {decision = decision} {rest = rest} held doubt synced just) =
     synced_records (after_call site_frame (disk home past) (Append (Ended tid decision))) rest synced
     ∙ sym (appended_none rest (Ended tid decision ∷ records home past) (none_of_syncs rest synced))
 
@@ -186,6 +187,7 @@ next_line home local past (Ev.Fate tx) h sorted = next_up home local past (Ev.Fa
 next_line home local past (Ev.Give message) h sorted = next_up home local past (Ev.Give message) h sorted tt refl
 next_line home local past (Ev.Ask tid) h sorted = next_up home local past (Ev.Ask tid) h sorted tt refl
 next_line home local past (Ev.Drop tid) h sorted = next_up home local past (Ev.Drop tid) h sorted tt refl
+next_line home local past Ev.Check h sorted = next_up home local past Ev.Check h sorted tt refl
 
 -- a site that was set up
 history_first : (home : Home) (local : Tx → Bool) → IsHistory home local []

@@ -8,7 +8,7 @@ use Rattle.mdb_base.proofs.NameLaws.{same_tid-equal, same_tid-refl}
 use Rattle.order_laws.specs.Chains.{In, Distinct}
 use Rattle.presumptions.specs.declared.Decision.TheVariants as Decided
 use Rattle.fed_rules.specs.declared.records.SiteRecord.{SiteRecord}
-use Rattle.fed_rules.specs.declared.records.SiteRecord.TheVariants.{Setup, Start, Prepared, Ended, Local}
+use Rattle.fed_rules.specs.declared.records.SiteRecord.TheVariants.{Setup, Start, Prepared, Ended, Local, Checkpoint}
 use Rattle.fed_rules.specs.SiteRecords.{Held, Install, by_number, doubt_of, due_installs, install_held, installs}
 use Rattle.site_history.specs.Records.{IsBound, BindOnce, TellOutcomes}
 use Rattle.site_history.proofs.Starts.{doubt_tid}
@@ -37,6 +37,7 @@ installed_bound (Ended p Decided.Commit ∷ records) i j = by_held (doubt_of rec
     ]
 installed_bound (Ended p Decided.Abort ∷ records) i j = inr (installed_bound records i j)
 installed_bound (Setup site engine protocol items ∷ records) i j = inr (installed_bound records i j)
+installed_bound (Checkpoint sum ∷ records) i j = inr (installed_bound records i j)
 installed_bound (Start epoch ∷ records) i j = inr (installed_bound records i j)
 installed_bound (Prepared p epoch number ticket writes ∷ records) i j = inr (installed_bound records i j)
 
@@ -70,6 +71,7 @@ installed_settled (Ended p Decided.Commit ∷ records) i once j = by_held (doubt
     ]
 installed_settled (Ended p Decided.Abort ∷ records) i once j = doubt_ended records p i.tid (installed_settled records i once j)
 installed_settled (Setup site engine protocol items ∷ records) i once j = installed_settled records i once j
+installed_settled (Checkpoint sum ∷ records) i once j = installed_settled records i once j
 installed_settled (Start epoch ∷ records) i once j = installed_settled records i once j
 installed_settled (Prepared p epoch number ticket writes ∷ records) i once j =
     by_test (same_tid p i.tid) refl (installed_settled records i once.1 j)
@@ -121,6 +123,7 @@ installs_distinct (Ended p Decided.Commit ∷ records) once = by_held (doubt_of 
         let clash = sym (ap (doubt_of records) (sym (one.image ∙ of_p)) ∙ settled) ∙ is in cc)
 installs_distinct (Ended p Decided.Abort ∷ records) once = installs_distinct records once
 installs_distinct (Setup site engine protocol items ∷ records) once = installs_distinct records once
+installs_distinct (Checkpoint sum ∷ records) once = installs_distinct records once
 installs_distinct (Start epoch ∷ records) once = installs_distinct records once
 installs_distinct (Prepared p epoch number ticket writes ∷ records) once = installs_distinct records once.1
 
@@ -144,6 +147,7 @@ due_bound commits (Prepared p epoch number ticket writes ∷ records) i j = by_t
     by_test false j rest = inr (rest j)
 due_bound commits (Ended p decision ∷ records) i j = inr (due_bound commits records i j)
 due_bound commits (Setup site engine protocol items ∷ records) i j = inr (due_bound commits records i j)
+due_bound commits (Checkpoint sum ∷ records) i j = inr (due_bound commits records i j)
 due_bound commits (Start epoch ∷ records) i j = inr (due_bound commits records i j)
 
 pub due_distinct : (commits : Tid → Bool) (records : List SiteRecord) → BindOnce records → Distinct (tids_of (due_installs commits records))
@@ -164,6 +168,7 @@ due_distinct commits (Prepared p epoch number ticket writes ∷ records) once = 
     by_test false rest = rest
 due_distinct commits (Ended p decision ∷ records) once = due_distinct commits records once
 due_distinct commits (Setup site engine protocol items ∷ records) once = due_distinct commits records once
+due_distinct commits (Checkpoint sum ∷ records) once = due_distinct commits records once
 due_distinct commits (Start epoch ∷ records) once = due_distinct commits records once
 
 -- one more install that may be due
@@ -200,7 +205,9 @@ prepared_due commits (Local p number writes ∷ records) held (inr i) c =
 prepared_due commits (Ended p decision ∷ records) held (inl e) c = cc
 prepared_due commits (Ended p decision ∷ records) held (inr i) c = prepared_due commits records held i c
 prepared_due commits (Setup site engine protocol items ∷ records) held (inl e) c = cc
+prepared_due commits (Checkpoint sum ∷ records) held (inl e) c = cc
 prepared_due commits (Setup site engine protocol items ∷ records) held (inr i) c = prepared_due commits records held i c
+prepared_due commits (Checkpoint sum ∷ records) held (inr i) c = prepared_due commits records held i c
 prepared_due commits (Start epoch ∷ records) held (inl e) c = cc
 prepared_due commits (Start epoch ∷ records) held (inr i) c = prepared_due commits records held i c
 
@@ -229,6 +236,7 @@ installed_due commits (Ended p Decided.Commit ∷ records) i told j = by_held (d
     ]
 installed_due commits (Ended p Decided.Abort ∷ records) i told j = installed_due commits records i told.1 j
 installed_due commits (Setup site engine protocol items ∷ records) i told j = installed_due commits records i told.1 j
+installed_due commits (Checkpoint sum ∷ records) i told j = installed_due commits records i told.1 j
 installed_due commits (Start epoch ∷ records) i told j = installed_due commits records i told.1 j
 installed_due commits (Prepared p epoch number ticket writes ∷ records) i told j =
     due_behind commits (record { tid = p; number = number; writes = writes }) (commits p) i (due_installs commits records)
@@ -319,6 +327,12 @@ due_installed commits (Setup site engine protocol items ∷ records) i once told
   where
     by_old : In i (installs records) ⊎ IsDoubtful commits records i
         → In i (installs records) ⊎ IsDoubtful commits (Setup site engine protocol items ∷ records) i
+    by_old (inl m) = inl m
+    by_old (inr d) = inr (record { held = d.held; doubt = d.doubt; commit = d.commit; is = d.is })
+due_installed commits (Checkpoint sum ∷ records) i once told j = by_old (due_installed commits records i once told.1 j)
+  where
+    by_old : In i (installs records) ⊎ IsDoubtful commits records i
+        → In i (installs records) ⊎ IsDoubtful commits (Checkpoint sum ∷ records) i
     by_old (inl m) = inl m
     by_old (inr d) = inr (record { held = d.held; doubt = d.doubt; commit = d.commit; is = d.is })
 due_installed commits (Start epoch ∷ records) i once told j = by_old (due_installed commits records i once told.1 j)

@@ -1,32 +1,33 @@
-mod Agreement
-mod AsSealed
-mod Backed
-mod BackedSteps
-mod Backing
-mod CoordAsked
-mod CoordSteps
-mod EpochLines
-mod GlobalSends
-mod Histories
-mod HistoryLines
-mod HistoryMoves
-mod HistoryPasts
-mod Installs
-mod LocalLines
-mod MadeSorted
-mod MessageLines
-mod Moves
-mod OrdersRun
-mod Records
-mod Restarts
-mod RightLines
-mod SameLists
-mod SerialPasts
-mod Shut
-mod ShutLines
-mod ShutPasts
-mod ShutWalk
-mod SitesOfStories
-mod SortedPasts
-mod SortedStories
-mod Starts
+pub mod Agreement
+pub mod AsSealed
+pub mod Backed
+pub mod BackedSteps
+pub mod Backing
+pub mod CoordAsked
+pub mod CoordSteps
+pub mod EpochLines
+pub mod GlobalSends
+pub mod Histories
+pub mod HistoryLines
+pub mod HistoryMoves
+pub mod HistoryPasts
+pub mod Installs
+pub mod LocalLines
+pub mod MadeSorted
+pub mod MessageLines
+pub mod Moves
+pub mod OrdersRun
+pub mod Records
+pub mod Restarts
+pub mod RightLines
+pub mod SameLists
+pub mod SerialPasts
+pub mod Shut
+pub mod ShutLines
+pub mod ShutPasts
+pub mod ShutWalk
+pub mod SitesOfStories
+pub mod SortedPasts
+pub mod SortedStories
+pub mod Starts
+pub mod TicketLines

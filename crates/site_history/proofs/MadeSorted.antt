@@ -17,7 +17,8 @@ use Rattle.fed_rules.specs.Story.{Story, Happened, AtSite, AtCoordinator, Nowher
 use Rattle.site_history.specs.Events.{AreSorted}
 use Rattle.site_history.specs.Stories.{EventsAreSorted, IsGiven, is_local}
 use Rattle.site_history.proofs.AsSealed.{append_in}
-use Rattle.site_history.proofs.SortedStories.{IsGood, IsVoteAsked, good_happens, home_again, same-site, some-parts, sorted_story}
+use Rattle.rules_laws.proofs.Declared.{home-again, same-site, some-parts}
+use Rattle.site_history.proofs.SortedStories.{IsGood, IsVoteAsked, good_happens, sorted_story}
 
 -- the events that make the past of a site so far
 record IsMade (scenario : Scenario) (sent : List ToSite) (home : Home) (past : SitePast) : Type 0 where
@@ -38,6 +39,7 @@ given_more sent more (Site_event.Drop tid) i = tt
 given_more sent more (Site_event.Halt cut) i = tt
 given_more sent more (Site_event.Trip calls cut) i = tt
 given_more sent more Site_event.Back i = tt
+given_more sent more Site_event.Check i = tt
 
 all_given : (sent more : List ToSite) (events : List SiteEvent) → Each (IsGiven sent) events → Each (IsGiven (sent ++ more)) events
 all_given sent more events = each_map (IsGiven sent) (IsGiven (sent ++ more)) (given_more sent more) events
@@ -95,7 +97,7 @@ made_sorted scenario home (command ∷ commands) declared =
 pub events_sorted : EventsAreSorted
 events_sorted scenario commands site home declared =
     let story = story_of scenario commands in
-    let m = made_sorted scenario home commands (home_again scenario site home declared) in
+    let m = made_sorted scenario home commands (home-again scenario site home declared) in
     let votes = (sorted_story scenario commands).votes home.site in
     record {
       events = m.events;

@@ -15,9 +15,9 @@ use Rattle.fed_rules.specs.declared.messages.ToSite.{ToSite}
 use Rattle.fed_rules.specs.declared.messages.ToSite.TheVariants as To
 use Rattle.fed_rules.specs.declared.records.SiteRecord.{SiteRecord}
 use Rattle.fed_rules.specs.declared.records.SiteRecord.TheVariants as Rec
-use Rattle.fed_rules.specs.Disk.{Call, Append, Sync}
+use Rattle.fed_rules.specs.Disk.{Call, Append, Sync, TrimFront}
 use Rattle.fed_rules.specs.Runs.{EngineLine, Begins, Acts, Takes, Seals, Refuses, Commits, Aborts, Run, has_ticket, puts_of, tid_of}
-use Rattle.fed_rules.specs.Site.{answered, did, done, first_work, is_of_epoch, is_over, next_number, next_take, next_work, number_of, of_abort, of_act, of_ask, of_begin, of_commit, of_decide, of_drop, of_fate, of_give, of_prepare, of_take, of_work, prepare_live, repeated, seals_global, seals_local, settles, settling_line, stop_of, take_live, unheld, unknown, votes_again, votes_no, votes_yes, work_live}
+use Rattle.fed_rules.specs.Site.{answered, did, done, first_work, is_of_epoch, is_over, next_number, next_take, next_work, number_of, of_abort, of_act, of_ask, of_begin, of_commit, of_decide, of_drop, of_fate, of_give, of_prepare, of_take, of_work, prepare_live, repeated, seals_global, seals_local, settles, settling_line, stop_of, take_live, unheld, unknown, votes_again, votes_no, votes_yes, work_live, of_check}
 use Rattle.fed_rules.specs.SitePast.{SiteHappening, SitePast, epoch, is_local, live, live_of_tx, records, run_of}
 use Rattle.fed_rules.specs.SiteRecords.{Home, Held, doubt_of, local_of}
 use Rattle.site_history.specs.Events.{IsFresh, IsSorted}
@@ -25,6 +25,8 @@ use Rattle.site_history.proofs.Agreement.{IsKept, IsLiveHere, free_here, live_he
 use Rattle.site_history.proofs.LocalLines.{begin_free}
 use Rattle.site_history.proofs.MessageLines.{not_over}
 use Rattle.site_history.proofs.RightLines.{is_back}
+use Rattle.fed_rules.specs.declared.sums.SiteSum.{SiteSum}
+use Rattle.fed_rules.specs.SiteSums.{site_sum}
 
 -- a line of a live run that neither begins nor seals nor commits it; only others than local attempts take tickets
 abbrev pub IsCalm : (Tx → Bool) → EngineLine → Type 0
@@ -38,7 +40,14 @@ IsCalm local line = ⊥
 abbrev pub OnlySyncs : List (Call SiteRecord) → Type 0
 OnlySyncs [] = Unit {0}
 OnlySyncs (Sync ∷ calls) = OnlySyncs calls
+OnlySyncs (TrimFront ∷ calls) = OnlySyncs calls
 OnlySyncs (call ∷ calls) = ⊥
+
+-- and trim nothing
+abbrev pub JustSyncs : List (Call SiteRecord) → Type 0
+JustSyncs [] = Unit {0}
+JustSyncs (Sync ∷ calls) = JustSyncs calls
+JustSyncs (call ∷ calls) = ⊥
 
 -- the disk calls and engine lines of one line of a site that is up
 pub data Moves (home : Home) (past : SitePast) (local : Tx → Bool) (event : SiteEvent) : List (Call SiteRecord) → List EngineLine → Type 0 where
@@ -57,8 +66,9 @@ pub data Moves (home : Home) (past : SitePast) (local : Tx → Bool) (event : Si
       → Moves home past local event (Append (Rec.Prepared tid (epoch home past) (number_of home past run) ticket (puts_of run.acts)) ∷ Sync ∷ [])
       (Seals tid (number_of home past run) ∷ [])
   settles_held : {tid : Tid} {decision : Decision} {rest : List (Call SiteRecord)} (held : Held)
-      → doubt_of (records home past) tid ≡ Some held → OnlySyncs rest
+      → doubt_of (records home past) tid ≡ Some held → OnlySyncs rest → JustSyncs rest
       → Moves home past local event (Append (Rec.Ended tid decision) ∷ rest) (settling_line tid decision ∷ [])
+  checks_sum : {sum : SiteSum} → sum ≡ site_sum home (records home past) → Moves home past local event (Append (Rec.Checkpoint sum) ∷ Sync ∷ TrimFront ∷ []) []
 
 pub record IsMove (home : Home) (past : SitePast) (local : Tx → Bool) (event : SiteEvent) (x : SiteHappening) : Type 0 where
   pub moves : Moves home past local event x.calls x.lines
@@ -229,8 +239,12 @@ move_prepare home past local tid e n k others =
 move_settles : (home : Home) (past : SitePast) (local : Tx → Bool) (event : SiteEvent) (tid : Tid) (decision : Decision) (held : Held)
     → doubt_of (records home past) tid ≡ Some held → IsMove home past local event (settles home tid decision)
 unfolding settles
-move_settles home past local event tid decision held at = record { moves = settles_held held at (by_forces (forces home.protocol decision)) }
+move_settles home past local event tid decision held at = record { moves = settles_held held at (by_forces (forces home.protocol decision)) (by_just (forces home.protocol decision)) }
   where
+    by_just : (b : Bool) → JustSyncs (cond b (Sync ∷ []) [])
+    by_just true = tt
+    by_just false = tt
+
     by_forces : (b : Bool) → OnlySyncs (cond b (Sync ∷ []) [])
     by_forces true = tt
     by_forces false = tt
@@ -252,6 +266,10 @@ move_give home past local (To.Take tid e n) k sorted = move_take home past local
 move_give home past local (To.Prepare tid e n) k sorted = move_prepare home past local tid e n k sorted
 move_give home past local (To.Decide tid decision) k sorted = move_decide home past local (Ev.Give (To.Decide tid decision)) tid decision k
 
+move_check : (home : Home) (past : SitePast) (local : Tx → Bool) (event : SiteEvent) → IsMove home past local event (of_check home past)
+unfolding of_check
+move_check home past local event = move_when home past local event _ _ _ (λ q. record { moves = rests }) (λ q. record { moves = checks_sum refl })
+
 -- what a site that is up answers, but for its start
 pub move_answered : (home : Home) (past : SitePast) (local : Tx → Bool) (event : SiteEvent) → IsKept home past → IsSorted local event
     → IsFresh home past event → is_back event ≡ false → IsMove home past local event (answered home past event)
@@ -267,3 +285,4 @@ move_answered home past local (Ev.Drop tid) k sorted fresh b = move_drop home pa
 move_answered home past local (Ev.Halt cut) k sorted fresh b = record { moves = rests }
 move_answered home past local (Ev.Trip calls cut) k sorted fresh b = record { moves = rests }
 move_answered home past local Ev.Back k sorted fresh b = cc
+move_answered home past local Ev.Check k sorted fresh b = move_check home past local Ev.Check

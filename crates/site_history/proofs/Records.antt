@@ -4,7 +4,7 @@ use Rattle.mdb_base.specs.declared.names.Tid.{Tid}
 use Rattle.mdb_base.specs.Names.{same_tid}
 use Rattle.order_laws.specs.Chains.{In, Distinct}
 use Rattle.fed_rules.specs.declared.records.SiteRecord.{SiteRecord}
-use Rattle.fed_rules.specs.declared.records.SiteRecord.TheVariants.{Setup, Start, Prepared, Ended, Local}
+use Rattle.fed_rules.specs.declared.records.SiteRecord.TheVariants.{Setup, Start, Prepared, Ended, Local, Checkpoint}
 use Rattle.fed_rules.specs.SiteRecords.{Held, Install, doubt_of, last_number, prepared_tids}
 use Rattle.site_history.specs.Records.{Binds, IsBound, BindOnce}
 use Rattle.site_history.proofs.Starts.{doubt_tid}
@@ -42,6 +42,7 @@ doubt_in (Ended ended decision ∷ records) tid held e = by_test (same_tid ended
     by_test true e rest = cc
     by_test false e rest = inr (rest e)
 doubt_in (Setup site engine protocol items ∷ records) tid held e = inr (doubt_in records tid held e)
+doubt_in (Checkpoint sum ∷ records) tid held e = inr (doubt_in records tid held e)
 doubt_in (Start epoch ∷ records) tid held e = inr (doubt_in records tid held e)
 doubt_in (Local local number writes ∷ records) tid held e = inr (doubt_in records tid held e)
 
@@ -66,6 +67,7 @@ pub bound_alone : (newest : SiteRecord) (records : List SiteRecord) (tid : Tid) 
 bound_alone (Prepared p epoch number ticket writes) records tid once is h = once.0 (subst (λ t. IsBound t records) (sym is) h)
 bound_alone (Local p number writes) records tid once is h = once.0 (subst (λ t. IsBound t records) (sym is) h)
 bound_alone (Setup site engine protocol items) records tid once is h = is
+bound_alone (Checkpoint sum) records tid once is h = is
 bound_alone (Start epoch) records tid once is h = is
 bound_alone (Ended ended decision) records tid once is h = is
 
@@ -73,6 +75,7 @@ pub once_behind : (newest : SiteRecord) (records : List SiteRecord) → BindOnce
 once_behind (Prepared p epoch number ticket writes) records once = once.1
 once_behind (Local p number writes) records once = once.1
 once_behind (Setup site engine protocol items) records once = once
+once_behind (Checkpoint sum) records once = once
 once_behind (Start epoch) records once = once
 once_behind (Ended ended decision) records once = once
 
@@ -94,6 +97,7 @@ prepared_bound [] tid i = i
 prepared_bound (Prepared p epoch number ticket writes ∷ records) tid (inl e) = inl e
 prepared_bound (Prepared p epoch number ticket writes ∷ records) tid (inr i) = inr (prepared_bound records tid i)
 prepared_bound (Setup site engine protocol items ∷ records) tid i = inr (prepared_bound records tid i)
+prepared_bound (Checkpoint sum ∷ records) tid i = inr (prepared_bound records tid i)
 prepared_bound (Start epoch ∷ records) tid i = inr (prepared_bound records tid i)
 prepared_bound (Ended ended decision ∷ records) tid i = inr (prepared_bound records tid i)
 prepared_bound (Local p number writes ∷ records) tid i = inr (prepared_bound records tid i)
@@ -103,6 +107,7 @@ prepared_once [] once = tt
 prepared_once (Prepared p epoch number ticket writes ∷ records) once =
     (λ i. once.0 (prepared_bound records p i), prepared_once records once.1)
 prepared_once (Setup site engine protocol items ∷ records) once = prepared_once records once
+prepared_once (Checkpoint sum ∷ records) once = prepared_once records once
 prepared_once (Start epoch ∷ records) once = prepared_once records once
 prepared_once (Ended ended decision ∷ records) once = prepared_once records once
 prepared_once (Local p number writes ∷ records) once = prepared_once records once.1
@@ -125,7 +130,9 @@ number_most (Local p number writes ∷ records) kept n (inr i) h = let rest = nu
 number_most (Ended p decision ∷ records) kept n (inl e) h = elim (subst (HasNumber n) (sym e) h) [ ]
 number_most (Ended p decision ∷ records) kept n (inr i) h = number_most records kept n i h
 number_most (Setup site engine protocol items ∷ records) kept n (inl e) h = elim (subst (HasNumber n) (sym e) h) [ ]
+number_most (Checkpoint sum ∷ records) kept n (inl e) h = elim (subst (HasNumber n) (sym e) h) [ ]
 number_most (Setup site engine protocol items ∷ records) kept n (inr i) h = number_most records kept n i h
+number_most (Checkpoint sum ∷ records) kept n (inr i) h = number_most records kept n i h
 number_most (Start epoch ∷ records) kept n (inl e) h = elim (subst (HasNumber n) (sym e) h) [ ]
 number_most (Start epoch ∷ records) kept n (inr i) h = number_most records kept n i h
 

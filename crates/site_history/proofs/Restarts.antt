@@ -5,16 +5,16 @@ use Rattle.mdb_base.specs.declared.names.Key.{Key}
 use Rattle.mdb_base.specs.declared.names.Tid.{Tid}
 use Rattle.mdb_base.specs.Names.{same_tid}
 use Rattle.mdb_base.specs.Rows.{look_up}
-use Rattle.mdb_base.specs.Words.{Each, found, with_some, or_else}
-use Rattle.mdb_base.proofs.NameLaws.{same_tid-equal}
+use Rattle.mdb_base.specs.Words.{Each, found, with_some, or_else, inserted}
+use Rattle.mdb_base.proofs.NameLaws.{same_tid-equal, same_tid-sym}
 use Rattle.order_laws.specs.Chains.{In, Distinct}
 use Rattle.fed_rules.specs.declared.records.SiteRecord.{SiteRecord}
-use Rattle.fed_rules.specs.declared.records.SiteRecord.TheVariants.{Setup, Start, Prepared, Ended, Local}
+use Rattle.fed_rules.specs.declared.records.SiteRecord.TheVariants.{Setup, Start, Prepared, Ended, Local, Checkpoint}
 use Rattle.fed_rules.specs.declared.runs.Kept.{Kept}
 use Rattle.fed_rules.specs.EngineLines.{AllApart, IsNumbered, IsStart}
 use Rattle.fed_rules.specs.Runs as Runs
 use Rattle.fed_rules.specs.Runs.{EngineLine, Access, Run, committed, number, published, restored, run_at, table, table_of}
-use Rattle.fed_rules.specs.SiteRecords.{Home, Held, doubt_of, doubts, installs, kept_held, last_number, prepared_tids, rows_after, start_of}
+use Rattle.fed_rules.specs.SiteRecords.{Home, Held, doubt_of, doubts, installs, kept_held, last_number, prepared_tids, rows_after, start_of, by_tid, held_before}
 use Rattle.engine_laws.specs.Epochs.{Epoch, AreEpochs, StartsAfter, all_committed}
 use Rattle.engine_laws.specs.Laws.{EachOnce, IsLeft}
 use Rattle.engine_laws.proofs.EachRule.{always_may_restart}
@@ -28,6 +28,7 @@ use Rattle.site_history.proofs.Installs.{installs_distinct}
 use Rattle.site_history.proofs.Records.{HasNumber, doubt_number, number_most, prepared_once}
 use Rattle.site_history.proofs.SameLists.{install_of, installs_fall, rows_of_runs, same_list}
 use Rattle.site_history.proofs.Starts.{HasRisingWrites, doubt_tid, restored_doubt, restored_held, start_agrees}
+use Rattle.mdb_base.proofs.ListLaws.{each_inserted}
 
 -- the committed runs of backed records, by falling numbers, are their installs
 pub installs_are : (home : Home) (acts : Tid → List Access) (records : List SiteRecord) (start : Runs.Start) (lines : List EngineLine)
@@ -78,12 +79,17 @@ pub each_image : {A B : Type 0} (P : B → Type 0) (f : A → B) (xs : List A) �
 each_image P f [] h = tt
 each_image P f (x ∷ xs) h = (h.0, each_image P f xs h.1)
 
+pub each_by_tid : (P : Held → Type 0) (helds : List Held) → Each P helds → Each P (by_tid helds)
+each_by_tid P [] h = tt
+each_by_tid P (held ∷ helds) h = each_inserted P held_before held (by_tid helds) h.0 (each_by_tid P helds h.1)
+
 -- a fact of each of those in doubt
 pub each_doubt : (P : Kept → Type 0) (records : List SiteRecord)
     → ((tid : Tid) (held : Held) → doubt_of records tid ≡ Some held → P (kept_held held)) → Each P (map kept_held (doubts records))
 each_doubt P records f =
     each_image P kept_held (doubts records)
-    (each_found_from (λ held. P (kept_held held)) (doubt_of records) (prepared_tids records) (λ tid held i e. f tid held e))
+    (each_by_tid (λ held. P (kept_held held)) (found (doubt_of records) (prepared_tids records))
+    (each_found_from (λ held. P (kept_held held)) (doubt_of records) (prepared_tids records) (λ tid held i e. f tid held e)))
 
 once_found : (records : List SiteRecord) (tids : List Tid) → Distinct tids → EachOnce (map kept_held (found (doubt_of records) tids))
 once_found records [] apart = tt
@@ -121,6 +127,7 @@ kept_number : (run : Run) (kept : SiteRecord) → IsKeptAs run kept → HasNumbe
 kept_number run (Prepared tid epoch n ticket writes) is = sym (ap (λ o. or_else o 0) is.1)
 kept_number run (Local tid n writes) is = sym (ap (λ o. or_else o 0) is.1)
 kept_number run (Setup site engine protocol items) is = is
+kept_number run (Checkpoint sum) is = is
 kept_number run (Start epoch) is = is
 kept_number run (Ended tid decision) is = is
 
@@ -145,6 +152,32 @@ numbers_most home acts records start lines earlier b (run ∷ runs) sub = (
         number_most records h.kept (number run) h.among (kept_number run h.kept h.is)
     by_test false is = let most = ltb-false start.counter (number run) is in let c = b.counter in omega arith
 
+each_held : (P : Kept → Type 0) (helds : List Held) → Each P (map kept_held helds) → Each (λ held. P (kept_held held)) helds
+each_held P [] h = tt
+each_held P (held ∷ helds) h = (h.0, each_held P helds h.1)
+
+once_inserted : (held : Held) (more : List Held) → Each (λ other. same_tid held.tid other.tid ≡ false) more → EachOnce (map kept_held more)
+    → EachOnce (map kept_held (inserted held_before held more))
+once_inserted held [] apart once = (tt, tt)
+once_inserted held (y ∷ more) apart once = by_before (held_before y held) (once_inserted held more apart.1 once.1)
+  where
+    by_before : (c : Bool) → EachOnce (map kept_held (inserted held_before held more))
+        → EachOnce (map kept_held (cond c (y ∷ inserted held_before held more) (held ∷ y ∷ more)))
+    by_before true rest = (
+      each_image (λ other. same_tid y.tid other.tid ≡ false) kept_held (inserted held_before held more)
+          (each_inserted (λ other. same_tid y.tid other.tid ≡ false) held_before held more (same_tid-sym y.tid held.tid ∙ apart.0)
+          (each_held (λ other. same_tid y.tid other.tid ≡ false) more once.0)),
+      rest,
+    )
+    by_before false rest = (each_image (λ other. same_tid held.tid other.tid ≡ false) kept_held (y ∷ more) apart, once)
+
+once_by_tid : (helds : List Held) → EachOnce (map kept_held helds) → EachOnce (map kept_held (by_tid helds))
+once_by_tid [] once = tt
+once_by_tid (held ∷ helds) once =
+    once_inserted held (by_tid helds)
+    (each_by_tid (λ other. same_tid held.tid other.tid ≡ false) helds (each_held (λ other. same_tid held.tid other.tid ≡ false) helds once.0))
+    (once_by_tid helds once.1)
+
 -- the start comes after the epoch before it
 pub starts_after : (home : Home) (acts : Tid → List Access) (records : List SiteRecord) (start : Runs.Start) (lines : List EngineLine)
     (earlier : List Epoch) → IsBacked home acts records start lines earlier → BindOnce records
@@ -156,7 +189,7 @@ starts_after home acts records start lines earlier b once = record {
     left = each_doubt (IsLeft start lines) records
         (λ tid held e. left_sealed start lines tid held (run_at start lines tid) (doubt_tid records tid held e) refl
         (subst (λ o. Agrees o (run_at start lines tid)) e (b.agrees tid)));
-    once = once_found records (prepared_tids records) (prepared_once records once);
+    once = once_by_tid (found (doubt_of records) (prepared_tids records)) (once_found records (prepared_tids records) (prepared_once records once));
     counter = each_doubt (λ kept. kept.number ≤ last_number records) records (λ tid held e. doubt_number records tid held e);
     published = b.published;
   };

@@ -1,29 +1,39 @@
 -- Each line of a site is a good one, so the engine lines of every past are right.
 use Rattle.std.proofs.Common.{◌≡◌, Bool, true, false, cond, List, [], ◌∷◌, ◌++◌, refl}
-use Rattle.std.specs.Prelude.{◌+◌}
+use Rattle.std.specs.Prelude.{◌+◌, nat_lt}
 use Rattle.mdb_base.specs.Words.{when}
 use Rattle.fed_rules.specs.declared.answers.Answer.TheVariants as Say
 use Rattle.fed_rules.specs.declared.events.SiteEvent.{SiteEvent}
 use Rattle.fed_rules.specs.declared.events.SiteEvent.TheVariants as Ev
 use Rattle.fed_rules.specs.declared.records.SiteRecord.{SiteRecord}
 use Rattle.fed_rules.specs.declared.records.SiteRecord.TheVariants as Rec
-use Rattle.fed_rules.specs.Disk.{CutBack, Append, Sync, Stops, is_torn}
+use Rattle.fed_rules.specs.Disk.{CutBack, Append, Sync, Stops, is_torn, longest, TrimFront}
 use Rattle.fed_rules.specs.EngineLines.{IsRight}
-use Rattle.fed_rules.specs.Happenings.{is_down}
-use Rattle.fed_rules.specs.Site.{answered, of_back, site_line, site_past, unless_tripped}
+use Rattle.fed_rules.specs.Happenings.{is_down, quiet}
+use Rattle.fed_rules.specs.Site.{answered, of_back, site_line, site_past, unless_tripped, of_check, checkpoint}
 use Rattle.fed_rules.specs.SitePast.{SitePast, SiteHappening, disk, epoch, epoch_start, engine_lines, records, trip}
-use Rattle.fed_rules.specs.SiteRecords.{Home, site_frame}
+use Rattle.fed_rules.specs.SiteRecords.{Home, site_frame, site_payload}
 use Rattle.site_history.specs.Events.{IsFresh, AreFresh}
 use Rattle.site_history.specs.Lines.{LinesAreRight}
 use Rattle.site_history.proofs.Starts.{HasRisingWrites, EachAppend, each_after, start_agrees}
-use Rattle.site_history.proofs.Agreement.{IsKept, IsGoodLine, kept_good, kept_start, kept_stopped, kept_tripped, still}
+use Rattle.site_history.proofs.Agreement.{IsKept, IsGoodLine, kept_good, kept_start, kept_stopped, kept_tripped, still, summed}
 use Rattle.site_history.proofs.LocalLines.{good_abort, good_act, good_ask, good_begin, good_commit, good_drop, good_fate}
 use Rattle.site_history.proofs.MessageLines.{good_give}
+use Rattle.fed_rules.specs.SiteSums.{site_sum}
 
 -- whether the event starts the site again
 abbrev pub is_back : SiteEvent → Bool
 is_back Ev.Back = true
 is_back event = false
+
+good_check : (home : Home) (past : SitePast) → IsKept home past → IsGoodLine home past (of_check home past)
+unfolding of_check when
+good_check home past k = by_size (nat_lt longest (site_payload (checkpoint home past)))
+  where
+    by_size : (b : Bool) → IsGoodLine home past (when b (quiet Ev.Check Say.Large)
+        (record { event = Ev.Check; answer = Say.Checked; sends = []; calls = Append (checkpoint home past) ∷ Sync ∷ TrimFront ∷ []; lines = [] }))
+    by_size true = still home past Ev.Check Say.Large [] k refl
+    by_size false = summed home past Ev.Check Say.Checked (site_sum home (records home past)) k refl
 
 -- what a site that is up answers is a good line
 pub good_answered : (home : Home) (past : SitePast) (event : SiteEvent) → IsKept home past → IsFresh home past event → is_back event ≡ false
@@ -40,6 +50,7 @@ good_answered home past (Ev.Drop tid) k fresh b = good_drop home past tid k
 good_answered home past (Ev.Halt cut) k fresh b = still home past (Ev.Halt cut) Say.Down [] k refl
 good_answered home past (Ev.Trip calls cut) k fresh b = still home past (Ev.Trip calls cut) Say.Set [] k refl
 good_answered home past Ev.Back k fresh b = cc
+good_answered home past Ev.Check k fresh b = good_check home past k
 
 -- one more line with no engine line, of a site that is up or down
 quiet_kept : (home : Home) (past : SitePast) (event : SiteEvent) → IsKept home past
@@ -99,6 +110,7 @@ kept_line home past (Ev.Fate tx) k fresh = kept_up home past (Ev.Fate tx) k fres
 kept_line home past (Ev.Give message) k fresh = kept_up home past (Ev.Give message) k fresh refl
 kept_line home past (Ev.Ask tid) k fresh = kept_up home past (Ev.Ask tid) k fresh refl
 kept_line home past (Ev.Drop tid) k fresh = kept_up home past (Ev.Drop tid) k fresh refl
+kept_line home past Ev.Check k fresh = kept_up home past Ev.Check k fresh refl
 
 pub kept_first : (home : Home) → IsKept home []
 kept_first home = record {
@@ -128,6 +140,7 @@ next_right home past (Ev.Fate tx) k fresh = (good_fate home past tx k).right
 next_right home past (Ev.Give message) k fresh = (good_give home past message k).right
 next_right home past (Ev.Ask tid) k fresh = (good_ask home past tid k).right
 next_right home past (Ev.Drop tid) k fresh = (good_drop home past tid k).right
+next_right home past Ev.Check k fresh = (good_check home past k).right
 
 pub lines_right : LinesAreRight
 lines_right home events fresh =

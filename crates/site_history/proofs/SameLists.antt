@@ -11,7 +11,7 @@ use Rattle.mdb_base.proofs.ListLaws.{each_among, each_inserted, each_map}
 use Rattle.order_laws.specs.Chains.{In, Distinct}
 use Rattle.presumptions.specs.declared.Decision.TheVariants as Decided
 use Rattle.fed_rules.specs.declared.records.SiteRecord.{SiteRecord}
-use Rattle.fed_rules.specs.declared.records.SiteRecord.TheVariants.{Setup, Start, Prepared, Ended, Local}
+use Rattle.fed_rules.specs.declared.records.SiteRecord.TheVariants.{Setup, Start, Prepared, Ended, Local, Checkpoint}
 use Rattle.fed_rules.specs.Runs.{Run, after, number, puts_of, table_of, written}
 use Rattle.fed_rules.specs.SerialRuns.{NumbersFall}
 use Rattle.fed_rules.specs.SiteRecords.{Held, Install, by_number, doubt_of, due_installs, install_held, installs, rows_after}
@@ -52,6 +52,7 @@ installs_fall (Local p n writes ∷ records) = falls_by_number (record { tid = p
 installs_fall (Ended p Decided.Commit ∷ records) = falls_held (doubt_of records p) (installs records) (installs_fall records)
 installs_fall (Ended p Decided.Abort ∷ records) = installs_fall records
 installs_fall (Setup site engine protocol items ∷ records) = installs_fall records
+installs_fall (Checkpoint sum ∷ records) = installs_fall records
 installs_fall (Start epoch ∷ records) = installs_fall records
 installs_fall (Prepared p epoch n ticket writes ∷ records) = installs_fall records
 
@@ -67,6 +68,7 @@ due_fall commits (Prepared p epoch n ticket writes ∷ records) = by_test (commi
     by_test false rest = rest
 due_fall commits (Ended p decision ∷ records) = due_fall commits records
 due_fall commits (Setup site engine protocol items ∷ records) = due_fall commits records
+due_fall commits (Checkpoint sum ∷ records) = due_fall commits records
 due_fall commits (Start epoch ∷ records) = due_fall commits records
 
 -- a number names one run

@@ -23,7 +23,7 @@ use Rattle.site_history.proofs.Backed.{appended}
 use Rattle.site_history.proofs.Backing.{run_beside_line}
 use Rattle.site_history.proofs.Histories.{live_of_here}
 use Rattle.site_history.proofs.HistoryMoves.{synced_append}
-use Rattle.site_history.proofs.Moves.{Moves, rests, begins_local, begins_work, goes_on, commits_local, prepares_run, settles_held}
+use Rattle.site_history.proofs.Moves.{Moves, rests, begins_local, begins_work, goes_on, commits_local, prepares_run, settles_held, checks_sum}
 
 -- the attempt is over, and has no live run
 pub record IsShut (home : Home) (past : SitePast) (tid : Tid) : Type 0 where
@@ -127,7 +127,9 @@ shut_stays home past local event calls lines tid (prepares_run {tid = mine} {tic
   where
     held : Held
     held = record { tid = mine; epoch = epoch home past; number = number_of home past run; ticket = ticket; writes = puts_of run.acts }
-shut_stays home past local event calls lines tid (settles_held {tid = mine} {decision = decision} {rest = rest} held doubt synced) others s =
+shut_stays home past local event calls lines tid (checks_sum is) others s =
+    record { over = keeps_over home past [] tid (doubt_of (records home past) tid) (λ d. d) s.over; dead = s.dead }
+shut_stays home past local event calls lines tid (settles_held {tid = mine} {decision = decision} {rest = rest} held doubt synced just) others s =
     subst (λ rs. (is_closed past tid ≡ true) ⊎ ((some_of (ends tid) (settling_line mine decision ∷ []) ≡ true) ⊎ (is_some (doubt_of rs tid) ≡ true))
     → IsShutAfter home past (Append (Ended mine decision) ∷ rest) (settling_line mine decision ∷ []) tid)
     (synced_append rest (Ended mine decision ∷ records home past) synced)

@@ -9,8 +9,8 @@ use Rattle.mdb_base.proofs.ListLaws.{each_among}
 use Rattle.order_laws.specs.Chains.{In}
 use Rattle.fed_rules.specs.declared.events.SiteEvent.{SiteEvent}
 use Rattle.fed_rules.specs.declared.records.SiteRecord.{SiteRecord}
-use Rattle.fed_rules.specs.declared.records.SiteRecord.TheVariants.{Setup, Start, Prepared, Ended, Local}
-use Rattle.fed_rules.specs.Disk.{Append, Call, CutBack, Stops, Sync, after_calls}
+use Rattle.fed_rules.specs.declared.records.SiteRecord.TheVariants.{Setup, Start, Prepared, Ended, Local, Checkpoint}
+use Rattle.fed_rules.specs.Disk.{Append, Call, CutBack, TrimFront, Stops, Sync, after_calls}
 use Rattle.fed_rules.specs.Happenings.{comes_up, is_down, stopped, stops}
 use Rattle.fed_rules.specs.Runs.{EngineLine, Seals, puts_of, run_at}
 use Rattle.fed_rules.specs.Site.{number_of}
@@ -24,7 +24,7 @@ use Rattle.site_history.proofs.Histories.{IsSortedRecord}
 use Rattle.site_history.proofs.HistoryLines.{torn_last, torn_none}
 use Rattle.site_history.proofs.HistoryMoves.{synced_append}
 use Rattle.site_history.proofs.HistoryPasts.{move_records}
-use Rattle.site_history.proofs.Moves.{IsMove, Moves, OnlySyncs, rests, begins_local, begins_work, goes_on, commits_local, prepares_run, settles_held}
+use Rattle.site_history.proofs.Moves.{IsMove, Moves, OnlySyncs, rests, begins_local, begins_work, goes_on, commits_local, prepares_run, settles_held, checks_sum}
 use Rattle.site_history.proofs.Shut.{AreShut, IsShut, IsShutAfter, shut_prepared, shut_stays}
 use Rattle.site_history.proofs.ShutPasts.{AreAsked, EpochsRise, IsAskedNow, IsNew, WasAsked, asked_move, in_after, prepares_new, rises_front}
 
@@ -63,7 +63,8 @@ move_rises home past local event calls lines (begins_work others none fresh) h =
 move_rises home past local event calls lines (goes_on run here calm) h = (h, refl)
 move_rises home past local event calls lines (commits_local run mine here) h = (h, refl)
 move_rises home past local event calls lines (prepares_run n run asked others here took) h = ((omega arith, h), refl)
-move_rises home past local event calls lines (settles_held {tid = tid} {decision = decision} {rest = rest} held doubt synced) h =
+move_rises home past local event calls lines (checks_sum is) h = (h, refl)
+move_rises home past local event calls lines (settles_held {tid = tid} {decision = decision} {rest = rest} held doubt synced just) h =
     subst (λ rs. EpochsRise rs × (epoch_of rs ≡ epoch_of (records home past)))
     (sym (synced_append rest (Ended tid decision ∷ records home past) synced)) (h, refl)
 
@@ -92,7 +93,12 @@ move_torn home past local event calls lines (suc n) cut (prepares_run {tid = tid
       (torn_none n (Sync ∷ []) cut tt))) (omega arith, h);
   last = torn_last n (Sync ∷ []) cut tt;
 }
-move_torn home past local event calls lines (suc n) cut (settles_held {tid = tid} {decision = decision} {rest = rest} held doubt synced) h = record {
+move_torn home past local event calls lines (suc n) cut (checks_sum {sum = sum} is) h = record {
+  rises = subst EpochsRise (sym (appended_none (take n (Sync ∷ TrimFront ∷ []) ++ Stops cut ∷ []) (Checkpoint sum ∷ records home past)
+      (torn_none n (Sync ∷ TrimFront ∷ []) cut tt))) h;
+  last = torn_last n (Sync ∷ TrimFront ∷ []) cut tt;
+}
+move_torn home past local event calls lines (suc n) cut (settles_held {tid = tid} {decision = decision} {rest = rest} held doubt synced just) h = record {
   rises = subst EpochsRise (sym (appended_none (take n rest ++ Stops cut ∷ []) (Ended tid decision ∷ records home past) (torn_none n rest cut synced))) h;
   last = torn_last n rest cut synced;
 }
@@ -114,8 +120,10 @@ new_shut home past local event calls lines tid e number ticket writes (prepares_
     (Seals p (number_of home past run) ∷ []) u) of_tid
     (shut_prepared home past p (number_of home past run) t run here)
 new_shut home past local event calls lines tid e number ticket writes (prepares_run n run asked others here took) (inr i) = elim i [ ]
-new_shut home past local event calls lines tid e number ticket writes (settles_held {rest = rest} held doubt synced) (inl same) = cc
-new_shut home past local event calls lines tid e number ticket writes (settles_held {rest = rest} held doubt synced) (inr i) =
+new_shut home past local event calls lines tid e number ticket writes (checks_sum is) (inl same) = cc
+new_shut home past local event calls lines tid e number ticket writes (checks_sum is) (inr i) = elim i [ ]
+new_shut home past local event calls lines tid e number ticket writes (settles_held {rest = rest} held doubt synced just) (inl same) = cc
+new_shut home past local event calls lines tid e number ticket writes (settles_held {rest = rest} held doubt synced just) (inr i) =
     elim (none_new rest synced i) [ ]
   where
     none_new : (calls : List (Call SiteRecord)) → OnlySyncs calls → IsNew (Prepared tid e number ticket writes) calls → ⊥
@@ -123,6 +131,7 @@ new_shut home past local event calls lines tid e number ticket writes (settles_h
     none_new (Sync ∷ cs) s i = none_new cs s i
     none_new (Append newest ∷ cs) s i = s
     none_new (CutBack ∷ cs) s i = s
+    none_new (TrimFront ∷ cs) s i = none_new cs s i
     none_new (Stops cut ∷ cs) s i = s
 
 -- a line that neither stops the site nor brings it up, as the answer tells
@@ -178,6 +187,7 @@ has_prepared (newest ∷ rs) tid (inr a) =
     let r = has_prepared rs tid a in
     record { e = r.e; number = r.number; ticket = r.ticket; writes = r.writes; among = inr r.among }
 has_prepared (Setup site engine protocol items ∷ rs) tid (inl b) = elim b [ ]
+has_prepared (Checkpoint sum ∷ rs) tid (inl b) = elim b [ ]
 has_prepared (Start n ∷ rs) tid (inl b) = elim b [ ]
 has_prepared (Ended p decision ∷ rs) tid (inl b) = elim b [ ]
 has_prepared (Local p n writes ∷ rs) tid (inl b) = elim b [ ]

@@ -12,14 +12,14 @@ use Rattle.fed_rules.specs.declared.events.SiteEvent.{SiteEvent}
 use Rattle.fed_rules.specs.declared.events.SiteEvent.TheVariants as Ev
 use Rattle.fed_rules.specs.declared.messages.ToSite.TheVariants as To
 use Rattle.fed_rules.specs.declared.records.SiteRecord.{SiteRecord}
-use Rattle.fed_rules.specs.declared.records.SiteRecord.TheVariants.{Setup, Start, Prepared, Ended, Local}
-use Rattle.fed_rules.specs.Disk.{Append, Call, CutBack, Disk, Stops, Sync, after_call, after_calls, bytes_of, whole}
+use Rattle.fed_rules.specs.declared.records.SiteRecord.TheVariants.{Setup, Start, Prepared, Ended, Local, Checkpoint}
+use Rattle.fed_rules.specs.Disk.{Append, Call, CutBack, TrimFront, Disk, Stops, Sync, after_call, after_calls, bytes_of, whole}
 use Rattle.fed_rules.specs.Runs.{EngineLine, Run}
 use Rattle.fed_rules.specs.SitePast.{SitePast, epoch, live, records}
 use Rattle.fed_rules.specs.SiteRecords.{Home, epoch_of}
 use Rattle.site_history.specs.Events.{prepares}
 use Rattle.site_history.proofs.Histories.{live_of_here}
-use Rattle.site_history.proofs.Moves.{Moves, OnlySyncs, rests, begins_local, begins_work, goes_on, commits_local, prepares_run, settles_held}
+use Rattle.site_history.proofs.Moves.{Moves, OnlySyncs, rests, begins_local, begins_work, goes_on, commits_local, prepares_run, settles_held, checks_sum}
 
 -- the epoch of a Prepared record is at most that of the last start behind it, and each start begins a later epoch
 abbrev pub EpochsRise : List SiteRecord → Type 0
@@ -32,6 +32,7 @@ pub rises_behind : (newest : SiteRecord) (rs : List SiteRecord) → EpochsRise (
 rises_behind (Prepared tid e number ticket writes) rs h = h.1
 rises_behind (Start n) rs h = h.1
 rises_behind (Setup site engine protocol items) rs h = h
+rises_behind (Checkpoint sum) rs h = h
 rises_behind (Ended tid decision) rs h = h
 rises_behind (Local tid number writes) rs h = h
 
@@ -50,7 +51,9 @@ prepared_epoch (Start n ∷ rs) tid e number ticket writes h (inl same) = cc
 prepared_epoch (Start n ∷ rs) tid e number ticket writes h (inr i) =
     let most = prepared_epoch rs tid e number ticket writes h.1 i in let less = h.0 in omega arith
 prepared_epoch (Setup site engine protocol items ∷ rs) tid e number ticket writes h (inl same) = cc
+prepared_epoch (Checkpoint sum ∷ rs) tid e number ticket writes h (inl same) = cc
 prepared_epoch (Setup site engine protocol items ∷ rs) tid e number ticket writes h (inr i) = prepared_epoch rs tid e number ticket writes h i
+prepared_epoch (Checkpoint sum ∷ rs) tid e number ticket writes h (inr i) = prepared_epoch rs tid e number ticket writes h i
 prepared_epoch (Ended p decision ∷ rs) tid e number ticket writes h (inl same) = cc
 prepared_epoch (Ended p decision ∷ rs) tid e number ticket writes h (inr i) = prepared_epoch rs tid e number ticket writes h i
 prepared_epoch (Local p n ws ∷ rs) tid e number ticket writes h (inl same) = cc
@@ -82,6 +85,7 @@ in_after size d (Append newest ∷ calls) kept i = by_place (in_after size (afte
     by_place (inr n) = inr (inr n)
 in_after size d (Sync ∷ calls) kept i = in_after size (after_call size d Sync) calls kept i
 in_after size d (CutBack ∷ calls) kept i = in_after size (after_call size d CutBack) calls kept i
+in_after size d (TrimFront ∷ calls) kept i = in_after size (after_call size d TrimFront) calls kept i
 in_after size d (Stops cut ∷ calls) kept i = elim (in_after size (after_call size d (Stops cut)) calls kept i) [
   | inl j ↦ inl (whole_in size (min d.length (d.synced + cut)) d.records kept j)
   | inr n ↦ inr n
@@ -94,6 +98,7 @@ new_torn kept (suc n) cut (Append newest ∷ calls) (inl e) = inl e
 new_torn kept (suc n) cut (Append newest ∷ calls) (inr i) = inr (new_torn kept n cut calls i)
 new_torn kept (suc n) cut (Sync ∷ calls) i = new_torn kept n cut calls i
 new_torn kept (suc n) cut (CutBack ∷ calls) i = new_torn kept n cut calls i
+new_torn kept (suc n) cut (TrimFront ∷ calls) i = new_torn kept n cut calls i
 new_torn kept (suc n) cut (Stops c ∷ calls) i = new_torn kept n cut calls i
 
 -- a record that prepares among the calls is new
@@ -133,6 +138,7 @@ prepares_new tid (Append newest ∷ calls) h = by_record newest h (prepares_new 
         → (some_of (prepares tid) calls ≡ true → IsNewPrepared tid calls) → IsNewPrepared tid (Append r ∷ calls)
     by_record (Prepared p e n t ws) h rest = by_test p e n t ws (same_tid p tid) refl h rest
     by_record (Setup site engine protocol items) h rest = behind (Setup site engine protocol items) (rest h)
+    by_record (Checkpoint sum) h rest = behind (Checkpoint sum) (rest h)
     by_record (Start n) h rest = behind (Start n) (rest h)
     by_record (Ended p decision) h rest = behind (Ended p decision) (rest h)
     by_record (Local p n ws) h rest = behind (Local p n ws) (rest h)
@@ -140,6 +146,9 @@ prepares_new tid (Sync ∷ calls) h =
     let r = prepares_new tid calls h in
     record { of = r.of; e = r.e; number = r.number; ticket = r.ticket; writes = r.writes; new = r.new; same = r.same }
 prepares_new tid (CutBack ∷ calls) h =
+    let r = prepares_new tid calls h in
+    record { of = r.of; e = r.e; number = r.number; ticket = r.ticket; writes = r.writes; new = r.new; same = r.same }
+prepares_new tid (TrimFront ∷ calls) h =
     let r = prepares_new tid calls h in
     record { of = r.of; e = r.e; number = r.number; ticket = r.ticket; writes = r.writes; new = r.new; same = r.same }
 prepares_new tid (Stops cut ∷ calls) h =
@@ -184,8 +193,10 @@ asked_move home past local event calls lines tid e number ticket writes (prepare
       live_is = ap (live home past) (sym of_tid) ∙ live_of_here home past p run here.live;
     }
 asked_move home past local event calls lines tid e number ticket writes (prepares_run n run asked others here took) (inr i) = elim i [ ]
-asked_move home past local event calls lines tid e number ticket writes (settles_held {rest = rest} held doubt synced) (inl same) = cc
-asked_move home past local event calls lines tid e number ticket writes (settles_held {rest = rest} held doubt synced) (inr i) =
+asked_move home past local event calls lines tid e number ticket writes (checks_sum is) (inl same) = cc
+asked_move home past local event calls lines tid e number ticket writes (checks_sum is) (inr i) = elim i [ ]
+asked_move home past local event calls lines tid e number ticket writes (settles_held {rest = rest} held doubt synced just) (inl same) = cc
+asked_move home past local event calls lines tid e number ticket writes (settles_held {rest = rest} held doubt synced just) (inr i) =
     elim (none_new rest synced i) [ ]
   where
     none_new : (calls : List (Call SiteRecord)) → OnlySyncs calls → IsNew (Prepared tid e number ticket writes) calls → ⊥
@@ -193,4 +204,5 @@ asked_move home past local event calls lines tid e number ticket writes (settles
     none_new (Sync ∷ cs) s i = none_new cs s i
     none_new (Append newest ∷ cs) s i = s
     none_new (CutBack ∷ cs) s i = s
+    none_new (TrimFront ∷ cs) s i = none_new cs s i
     none_new (Stops cut ∷ cs) s i = s

@@ -161,6 +161,7 @@ shut_next home local events past (Ev.Fate tx) s one sorted = shut_up home local 
 shut_next home local events past (Ev.Give message) s one sorted = shut_up home local events past (Ev.Give message) s one sorted refl
 shut_next home local events past (Ev.Ask tid) s one sorted = shut_up home local events past (Ev.Ask tid) s one sorted refl
 shut_next home local events past (Ev.Drop tid) s one sorted = shut_up home local events past (Ev.Drop tid) s one sorted refl
+shut_next home local events past Ev.Check s one sorted = shut_up home local events past Ev.Check s one sorted refl
 
 -- what is known after all events
 record IsPreparedOnce (home : Home) (local : Tx → Bool) (events : List SiteEvent) : Type 0 where

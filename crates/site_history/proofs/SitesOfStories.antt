@@ -6,11 +6,13 @@ use Rattle.site_history.specs.Events.{PreparesOnce}
 use Rattle.site_history.specs.Lines.{HasRightLines}
 use Rattle.site_history.specs.SiteOrders.{HasEpochs, IsSerialPast, OfSortedPasts}
 use Rattle.site_history.specs.Stories.{OfSites, OfSitesPreparedOnce, StoriesHaveRightLines, StoriesPrepareOnce, is_local}
+use Rattle.site_history.specs.Tickets.{TicketsRise}
 use Rattle.site_history.proofs.RightLines.{lines_right}
 use Rattle.site_history.proofs.SerialPasts.{pasts_epochs, pasts_serial}
 use Rattle.site_history.proofs.SortedPasts.{are_fresh}
 use Rattle.site_history.proofs.MadeSorted.{events_sorted}
 use Rattle.site_history.proofs.ShutWalk.{prepares_once}
+use Rattle.site_history.proofs.TicketLines.{pasts_rise}
 
 pub stories_right : StoriesHaveRightLines
 stories_right scenario commands site home declared =
@@ -22,7 +24,7 @@ stories_once scenario commands site home declared =
     let m = events_sorted scenario commands site home declared in
     subst (PreparesOnce home) (sym m.made) (prepares_once home (is_local scenario) m.events m.sorted m.one_epoch)
 
-of_stories : (P : Home → SitePast → Type 0) → OfSortedPasts P → OfSitesPreparedOnce P
+pub of_stories : (P : Home → SitePast → Type 0) → OfSortedPasts P → OfSitesPreparedOnce P
 of_stories P always scenario commands site home declared once =
     let m = events_sorted scenario commands site home declared in
     subst (P home) (sym m.made) (always home (is_local scenario) m.events m.sorted (subst (PreparesOnce home) m.made once))
@@ -33,6 +35,9 @@ stories_epochs = of_stories HasEpochs pasts_epochs
 pub stories_serial : OfSitesPreparedOnce IsSerialPast
 stories_serial = of_stories IsSerialPast pasts_serial
 
+stories_rise : OfSitesPreparedOnce TicketsRise
+stories_rise = of_stories TicketsRise pasts_rise
+
 -- with no premise
 pub sites_epochs : OfSites HasEpochs
 sites_epochs scenario commands site home declared =
@@ -41,3 +46,7 @@ sites_epochs scenario commands site home declared =
 pub sites_serial : OfSites IsSerialPast
 sites_serial scenario commands site home declared =
     stories_serial scenario commands site home declared (stories_once scenario commands site home declared)
+
+pub sites_rise : OfSites TicketsRise
+sites_rise scenario commands site home declared =
+    stories_rise scenario commands site home declared (stories_once scenario commands site home declared)

@@ -8,7 +8,7 @@ use Rattle.fed_rules.specs.declared.events.SiteEvent.{SiteEvent}
 use Rattle.fed_rules.specs.declared.events.SiteEvent.TheVariants as Ev
 use Rattle.fed_rules.specs.declared.records.SiteRecord.{SiteRecord}
 use Rattle.fed_rules.specs.declared.records.SiteRecord.TheVariants.{Start}
-use Rattle.fed_rules.specs.Disk.{Append, Call, CutBack, Stops, Sync, is_torn}
+use Rattle.fed_rules.specs.Disk.{Append, Call, CutBack, TrimFront, Stops, Sync, is_torn}
 use Rattle.fed_rules.specs.Happenings.{Trip, is_down, stopped, tripped}
 use Rattle.fed_rules.specs.Runs.{EngineLine}
 use Rattle.fed_rules.specs.Site.{answered, of_back, site_line, site_past, unless_tripped}
@@ -17,7 +17,7 @@ use Rattle.fed_rules.specs.SiteRecords.{Home, site_frame}
 use Rattle.site_history.specs.Events.{AreFresh, AreSorted, IsFresh, IsSorted}
 use Rattle.site_history.proofs.Agreement.{IsKept}
 use Rattle.site_history.proofs.Histories.{IsSortedRecord, no_local_doubt}
-use Rattle.site_history.proofs.Moves.{Moves, OnlySyncs, move_answered, rests, begins_local, begins_work, goes_on, commits_local, prepares_run, settles_held}
+use Rattle.site_history.proofs.Moves.{Moves, OnlySyncs, move_answered, rests, begins_local, begins_work, goes_on, commits_local, prepares_run, settles_held, checks_sum}
 use Rattle.site_history.proofs.RightLines.{is_back, kept_first, kept_line}
 use Rattle.site_history.proofs.Starts.{EachAppend, append_take, each_after}
 
@@ -30,6 +30,7 @@ sorted_syncs local [] s = tt
 sorted_syncs local (Sync ∷ rest) s = sorted_syncs local rest s
 sorted_syncs local (Append newest ∷ rest) s = elim s [ ]
 sorted_syncs local (CutBack ∷ rest) s = elim s [ ]
+sorted_syncs local (TrimFront ∷ rest) s = sorted_syncs local rest s
 sorted_syncs local (Stops cut ∷ rest) s = elim s [ ]
 
 sorted_moves : (home : Home) (past : SitePast) (local : Tx → Bool) (event : SiteEvent) (calls : List (Call SiteRecord)) (lines : List EngineLine)
@@ -40,7 +41,8 @@ sorted_moves home past local event calls lines (begins_work others none fresh) =
 sorted_moves home past local event calls lines (goes_on run here calm) = tt
 sorted_moves home past local event calls lines (commits_local run mine here) = (mine, tt)
 sorted_moves home past local event calls lines (prepares_run asks run asked others here took) = (others, tt)
-sorted_moves home past local event calls lines (settles_held {rest = rest} held doubt synced) = (tt, sorted_syncs local rest synced)
+sorted_moves home past local event calls lines (checks_sum is) = (tt, tt)
+sorted_moves home past local event calls lines (settles_held {rest = rest} held doubt synced just) = (tt, sorted_syncs local rest synced)
 
 sorted_when : (local : Tx → Bool) (b : Bool) (x y : SiteHappening) → AppendsSorted local x → AppendsSorted local y → AppendsSorted local (when b x y)
 unfolding when
@@ -98,6 +100,7 @@ sorted_line home past local (Ev.Fate tx) k sorted fresh = sorted_up home past lo
 sorted_line home past local (Ev.Give message) k sorted fresh = sorted_up home past local (Ev.Give message) k sorted fresh refl
 sorted_line home past local (Ev.Ask tid) k sorted fresh = sorted_up home past local (Ev.Ask tid) k sorted fresh refl
 sorted_line home past local (Ev.Drop tid) k sorted fresh = sorted_up home past local (Ev.Drop tid) k sorted fresh refl
+sorted_line home past local Ev.Check k sorted fresh = sorted_up home past local Ev.Check k sorted fresh refl
 
 -- a sorted event is fresh
 pub fresh_sorted : (home : Home) (past : SitePast) (local : Tx → Bool) (event : SiteEvent) → Each (IsSortedRecord local) (records home past)
@@ -113,6 +116,7 @@ fresh_sorted home past local (Ev.Drop tid) rs sorted = tt
 fresh_sorted home past local (Ev.Halt cut) rs sorted = tt
 fresh_sorted home past local (Ev.Trip calls cut) rs sorted = tt
 fresh_sorted home past local Ev.Back rs sorted = tt
+fresh_sorted home past local Ev.Check rs sorted = tt
 
 pub record IsSortedPast (home : Home) (local : Tx → Bool) (events : List SiteEvent) : Type 0 where
   pub fresh : AreFresh home events

@@ -5,59 +5,35 @@ use Rattle.mdb_base.specs.declared.names.SiteId.{SiteId}
 use Rattle.mdb_base.specs.declared.names.Tid.{Tid}
 use Rattle.mdb_base.specs.declared.names.Tx.{Tx}
 use Rattle.mdb_base.specs.Names.{same_site, same_tx}
-use Rattle.mdb_base.specs.Words.{Each, first_where, item_at, map_some, pick, those, when}
+use Rattle.mdb_base.specs.Words.{Each, first_where, item_at, map_some, those}
 use Rattle.mdb_base.proofs.ListLaws.{append_each}
 use Rattle.order_laws.specs.Chains.{In}
 use Rattle.fed_rules.specs.CoordPast.{CoordHappening, CoordPast}
 use Rattle.fed_rules.specs.declared.messages.ToSite.{ToSite}
 use Rattle.fed_rules.specs.declared.messages.ToSite.TheVariants as To
 use Rattle.std.specs.Prelude.{◌++◌}
-use Rattle.fed_rules.specs.declared.answers.Answer.{Answer}
 use Rattle.fed_rules.specs.declared.commands.Command.{Command}
 use Rattle.fed_rules.specs.declared.commands.Command.TheVariants as Cmd
 use Rattle.fed_rules.specs.declared.events.CoordEvent.{CoordEvent}
 use Rattle.fed_rules.specs.declared.events.SiteEvent.{SiteEvent}
 use Rattle.fed_rules.specs.declared.events.SiteEvent.TheVariants as Site_event
 use Rattle.fed_rules.specs.declared.messages.Sent.{Sent}
-use Rattle.fed_rules.specs.declared.scenario.ItemLine.{ItemLine}
 use Rattle.fed_rules.specs.declared.scenario.Scenario.{Scenario}
-use Rattle.fed_rules.specs.declared.scenario.SiteLine.{SiteLine}
 use Rattle.fed_rules.specs.declared.scenario.TxLine.{TxLine}
 use Rattle.fed_rules.specs.Runs.{Run, is_sealed, unended}
-use Rattle.fed_rules.specs.Scenarios.{global_line, global_program, home_at, home_in, home_of, home_of_line, items_of, local_home, local_site, protocols, transaction}
+use Rattle.fed_rules.specs.Scenarios.{global_line, global_program, home_at, home_of, home_of_line, local_home, local_site, policy, protocols, transaction}
 use Rattle.fed_rules.specs.Site.{site_line}
 use Rattle.fed_rules.specs.SitePast.{SitePast, epoch_start, engine_lines, live_of_tx}
 use Rattle.fed_rules.specs.SiteRecords.{Home}
-use Rattle.fed_rules.specs.Story.{Story, Happened, AtSite, AtCoordinator, Nowhere, at_coordinator, at_site, begins_global, begins_local, coord_past, happens, next_step, on_abort, on_actor, on_attempt, on_begin, on_commit, on_fate, on_give, on_go, on_site, on_step, on_take, past_of, sends_to, sent_to, story_of, with_coordinator, with_live}
+use Rattle.fed_rules.specs.Story.{Story, Happened, AtSite, AtCoordinator, Nowhere, at_coordinator, coord_past, happens, past_of, sends_to, sent_to, story_of, with_coordinator}
+use Rattle.rules_laws.specs.Lines.{SiteCause, CoordCause, IsLine}
+use Rattle.rules_laws.proofs.Declared.{same-site}
+use Rattle.rules_laws.proofs.Lines.{line_is}
 use Rattle.site_history.specs.Events.{IsSorted}
 use Rattle.site_history.specs.Stories.{IsGiven, is_local}
 use Rattle.site_history.proofs.CoordAsked.{AreBegun, IsAskedVote, IsNextGo, begun_next, vote_stays}
 use Rattle.site_history.proofs.CoordSteps.{IsAsked, IsAskedSend, IsCoordStep, step_line}
 use Rattle.site_history.proofs.GlobalSends.{BeginsGlobal, IsSortedSend, SendsSorted, sends_line}
-
-pub some-parts : {A : Type 0} {x y : A} → Some x ≡ Some y → x ≡ y
-some-parts e = cc
-
-pub same-site : (a b : SiteId) → same_site a b ≡ true → a ≡ b
-same-site a b h = let P : ℕ → SiteId = λ n. record { 0 = n } in ap P (eqb-true a.0 b.0 h)
-
--- the home that a line declares
-abbrev home_at_line : SiteLine → List ItemLine → SiteId → Home
-home_at_line line items s = record { site = line.site; engine = line.engine; protocol = line.protocol; items = items_of items s }
-
-home_site : (lines : List SiteLine) (items : List ItemLine) (s : SiteId) (h : Home) → home_in lines items s ≡ Some h → h.site ≡ s
-home_site [] items s h e = cc
-home_site (line ∷ lines) items s h e = by_test (same_site line.site s) refl e (home_site lines items s h)
-  where
-    by_test : (t : Bool) → same_site line.site s ≡ t → cond t (Some (home_at_line line items s)) (home_in lines items s) ≡ Some h
-        → (home_in lines items s ≡ Some h → h.site ≡ s) → h.site ≡ s
-    by_test true q e k =
-        let p : home_at_line line items s ≡ h = some-parts e in sym (ap (λ x. x.site) p) ∙ same-site line.site s q
-    by_test false q e k = k e
-
--- a declared site is found again by its own number
-pub home_again : (scenario : Scenario) (s : SiteId) (h : Home) → home_of scenario s ≡ Some h → home_of scenario h.site ≡ Some h
-home_again scenario s h e = ap (home_of scenario) (home_site scenario.sites scenario.items s h e) ∙ e
 
 -- the coordinator's line at an event, which begins only a next attempt
 pub record IsAskedLine (story : Story) (x : CoordHappening) : Type 0 where
@@ -88,38 +64,14 @@ pub record IsSortedStory (scenario : Scenario) (story : Story) : Type 0 where
   pub begun : AreBegun (coord_past story)
   pub votes : (site : SiteId) → Each (IsVoteAsked (coord_past story) site) (sent_to site story)
 
-good_nowhere : (scenario : Scenario) (story : Story) (answer : Answer) → IsGood scenario story (Nowhere answer)
-good_nowhere scenario story answer = record { sorted = tt }
-
 good_coordinator : (scenario : Scenario) (story : Story) (event : CoordEvent) → IsSortedStory scenario story
     → BeginsGlobal (is_local scenario) event → IsNextGo (coord_past story) event → IsGood scenario story (at_coordinator scenario story event)
 good_coordinator scenario story event s mine next = record {
   sorted = (
-    sends_line (is_local scenario) (protocols scenario) (coord_past story) event s.begins mine,
-    record { event = event; step = step_line (protocols scenario) (coord_past story) event; next = next },
+    sends_line (is_local scenario) (protocols scenario) (policy scenario) (coord_past story) event s.begins mine,
+    record { event = event; step = step_line (protocols scenario) (policy scenario) (coord_past story) event; next = next },
   );
 }
-
-good_site : (scenario : Scenario) (story : Story) (home : Home) (event : SiteEvent) → home_of scenario home.site ≡ Some home
-    → IsSorted (is_local scenario) event → IsGiven (sent_to home.site story) event → IsGood scenario story (at_site home story event)
-good_site scenario story home event declared sorted given = record { sorted = (home, event, declared, refl, sorted, given) }
-
-good_when : (scenario : Scenario) (story : Story) (t : Bool) (a b : Happened) → IsGood scenario story a → IsGood scenario story b
-    → IsGood scenario story (when t a b)
-unfolding when
-good_when scenario story true a b p q = p
-good_when scenario story false a b p q = q
-
-good_pick : {A : Type 0} (scenario : Scenario) (story : Story) (o : Option A) (none : Happened) (some : A → Happened)
-    → IsGood scenario story none → ((x : A) → o ≡ Some x → IsGood scenario story (some x)) → IsGood scenario story (pick o none some)
-unfolding pick
-good_pick scenario story None none some p q = p
-good_pick scenario story (Some x) none some p q = q x refl
-
--- the home of a local transaction is a declared site
-local_declared : (scenario : Scenario) (s : Option SiteId) (h : Home) → home_at scenario s ≡ Some h → home_of scenario h.site ≡ Some h
-local_declared scenario None h e = cc
-local_declared scenario (Some s) h e = home_again scenario s h e
 
 -- who has a home is local
 local_is : (scenario : Scenario) (tx : Tx) (h : Home) → local_home scenario tx ≡ Some h → is_local scenario tx ≡ true
@@ -141,13 +93,6 @@ global_is scenario tx steps e = by_line (transaction scenario tx) e
     by_line : (o : Option TxLine) → map_some (λ (l : TxLine). l.program) (global_line o) ≡ Some steps → is_some (home_of_line o) ≡ false
     by_line None e = cc
     by_line (Some line) e = by_home line line.home e
-
-good_begin : (scenario : Scenario) (story : Story) (tx : Tx) → IsGood scenario story (on_begin scenario story tx)
-unfolding on_begin begins_local
-good_begin scenario story tx =
-    good_pick scenario story (local_home scenario tx) _ _ (good_nowhere scenario story _)
-    (λ home f. good_when scenario story _ _ _ (good_nowhere scenario story _)
-    (good_site scenario story home _ (local_declared scenario (local_site scenario tx) home f) (local_is scenario tx home f) tt))
 
 same-tx : (a b : Tx) → same_tx a b ≡ true → a ≡ b
 same-tx a b h = let P : ℕ → Tx = λ n. record { 0 = n } in ap P (eqb-true a.0 b.0 h)
@@ -175,68 +120,6 @@ first_tx tx tid (run ∷ runs) e = by_test (is_live_of tx run) refl e (first_tx 
 live_tx : (home : Home) (past : SitePast) (tx : Tx) (tid : Tid) → live_of_tx home past tx ≡ Some tid → tid.tx ≡ tx
 live_tx home past tx tid e = first_tx tx tid (unended (epoch_start home past) (engine_lines past)) e
 
--- an event of the live attempt
-good_live : (scenario : Scenario) (story : Story) (home : Home) (tx : Tx) (next : Tid → Run → Happened)
-    → ((tid : Tid) (run : Run) → tid.tx ≡ tx → IsGood scenario story (next tid run)) → IsGood scenario story (with_live home story tx next)
-unfolding with_live
-good_live scenario story home tx next g =
-    good_when scenario story _ _ _ (good_nowhere scenario story _)
-    (good_pick scenario story _ _ _ (good_nowhere scenario story _)
-    (λ tid f. good_pick scenario story _ _ _ (good_nowhere scenario story _)
-    (λ run h. g tid run (live_tx home (past_of home.site story) tx tid f))))
-
-good_step : (scenario : Scenario) (story : Story) (tx : Tx) → IsGood scenario story (on_step scenario story tx)
-unfolding on_step next_step
-good_step scenario story tx =
-    good_pick scenario story (local_home scenario tx) _ _ (good_nowhere scenario story _)
-    (λ home f. good_live scenario story home tx _
-    (λ tid run of_tx. good_pick scenario story _ _ _ (good_nowhere scenario story _)
-    (λ step h. good_site scenario story home _ (local_declared scenario (local_site scenario tx) home f) tt tt)))
-
-good_commit : (scenario : Scenario) (story : Story) (tx : Tx) → IsGood scenario story (on_commit scenario story tx)
-unfolding on_commit
-good_commit scenario story tx =
-    good_pick scenario story (local_home scenario tx) _ _ (good_nowhere scenario story _)
-    (λ home f. good_live scenario story home tx _
-    (λ tid run of_tx. good_when scenario story _ _ _ (good_nowhere scenario story _)
-    (good_site scenario story home _ (local_declared scenario (local_site scenario tx) home f)
-    (ap (is_local scenario) of_tx ∙ local_is scenario tx home f) tt)))
-
-good_abort : (scenario : Scenario) (story : Story) (tx : Tx) → IsGood scenario story (on_abort scenario story tx)
-unfolding on_abort
-good_abort scenario story tx =
-    good_pick scenario story (local_home scenario tx) _ _ (good_nowhere scenario story _)
-    (λ home f. good_live scenario story home tx _
-    (λ tid run of_tx. good_site scenario story home _ (local_declared scenario (local_site scenario tx) home f) tt tt))
-
-good_fate : (scenario : Scenario) (story : Story) (tx : Tx) → IsSortedStory scenario story → IsGood scenario story (on_fate scenario story tx)
-unfolding on_fate
-good_fate scenario story tx s =
-    good_pick scenario story (local_home scenario tx) _ _
-    (good_pick scenario story _ _ _ (good_nowhere scenario story _) (λ steps f. good_coordinator scenario story _ s tt tt))
-    (λ home f. good_site scenario story home _ (local_declared scenario (local_site scenario tx) home f) tt tt)
-
-good_go : (scenario : Scenario) (story : Story) (tx : Tx) → IsSortedStory scenario story → IsGood scenario story (on_go scenario story tx)
-unfolding on_go begins_global
-good_go scenario story tx s =
-    good_pick scenario story (global_program scenario tx) _ _ (good_nowhere scenario story _)
-    (λ steps f. good_when scenario story _ _ _ (good_nowhere scenario story _)
-    (good_coordinator scenario story _ s (global_is scenario tx steps f) refl))
-
-good_attempt : (scenario : Scenario) (story : Story) (tid : Tid) (event : CoordEvent) → IsSortedStory scenario story
-    → BeginsGlobal (is_local scenario) event → IsNextGo (coord_past story) event → IsGood scenario story (on_attempt scenario story tid event)
-unfolding on_attempt
-good_attempt scenario story tid event s mine next =
-    good_when scenario story _ _ _ (good_coordinator scenario story event s mine next) (good_nowhere scenario story _)
-
-good_on_site : (scenario : Scenario) (story : Story) (site : SiteId) (event : SiteEvent) → IsSorted (is_local scenario) event
-    → IsGiven (sent_to site story) event → IsGood scenario story (on_site scenario story site event)
-unfolding on_site
-good_on_site scenario story site event sorted given =
-    good_pick scenario story (home_of scenario site) _ _ (good_nowhere scenario story _)
-    (λ home f. good_site scenario story home event (home_again scenario site home f) sorted
-    (subst (λ s. IsGiven (sent_to s story) event) (sym (home_site scenario.sites scenario.items site home f)) given))
-
 -- an item at a place of the list
 each_at : {A : Type 0} (P : A → Type 0) (xs : List A) (n : ℕ) (x : A) → Each P xs → item_at xs n ≡ Some x → P x
 each_at P [] n x h e = cc
@@ -248,47 +131,86 @@ in_at [] n x e = cc
 in_at (y ∷ xs) zero x e = inl (cc)
 in_at (y ∷ xs) (suc n) x e = inr (in_at xs n x e)
 
-good_give : (scenario : Scenario) (story : Story) (site : SiteId) (place : ℕ) → IsSortedStory scenario story
-    → IsGood scenario story (on_give scenario story site place)
-unfolding on_give
-good_give scenario story site place s =
-    good_pick scenario story (item_at (sent_to site story) place) _ _ (good_nowhere scenario story _)
-    (λ message f. good_on_site scenario story site (Site_event.Give message)
-    (each_at (λ m. IsSorted (is_local scenario) (Site_event.Give m)) (sent_to site story) place message (s.sent site) f)
-    (in_at (sent_to site story) place message f))
+module _ (scenario : Scenario) (story : Story) where
+  -- a command asks a site for sorted events alone, and gives only what was sent
+  sorted_event : (home : Home) (command : Command) (event : SiteEvent) → IsSortedStory scenario story → SiteCause scenario home story command event
+      → IsSorted (is_local scenario) event × IsGiven (sent_to home.site story) event
+  sorted_event home command event s c = by_command command c
+    where
+      Holds : SiteEvent → Type 0
+      Holds e = IsSorted (is_local scenario) e × IsGiven (sent_to home.site story) e
 
-good_take : (scenario : Scenario) (story : Story) (site : SiteId) (place : ℕ) → IsSortedStory scenario story
-    → IsGood scenario story (on_take scenario story site place)
-unfolding on_take
-good_take scenario story site place s =
-    good_pick scenario story _ _ _ (good_nowhere scenario story _) (λ message f. good_coordinator scenario story _ s tt tt)
+      by_command : (command : Command) → SiteCause scenario home story command event → Holds event
+      by_command (Cmd.Begin tx) c = subst Holds (sym c.asks.is) (local_is scenario tx home c.here, tt)
+      by_command (Cmd.Step tx) c = subst Holds (sym c.asks.is) (tt, tt)
+      by_command (Cmd.Commit tx) c =
+          subst Holds (sym c.asks.is)
+          (ap (is_local scenario) (live_tx home (past_of home.site story) tx c.asks.tid c.asks.is_live.found) ∙ local_is scenario tx home c.here, tt)
+      by_command (Cmd.Abort tx) c = subst Holds (sym c.asks.is) (tt, tt)
+      by_command (Cmd.Fate tx) c = subst Holds (sym c.asks) (tt, tt)
+      by_command (Cmd.Give site place) c =
+          subst Holds (sym c.1.is) (
+            each_at (λ m. IsSorted (is_local scenario) (Site_event.Give m)) (sent_to home.site story) place c.1.message (s.sent home.site) c.1.at,
+            in_at (sent_to home.site story) place c.1.message c.1.at,
+          )
+      by_command (Cmd.Ask site tid) c = subst Holds (sym c.1) (tt, tt)
+      by_command (Cmd.Drop site tid) c = subst Holds (sym c.1) (tt, tt)
+      by_command (Cmd.Halt actor cut) c = subst Holds (sym c.1) (tt, tt)
+      by_command (Cmd.Trip actor calls cut) c = subst Holds (sym c.1) (tt, tt)
+      by_command (Cmd.Back actor) c = subst Holds (sym c.1) (tt, tt)
+      by_command (Cmd.Check actor) c = subst Holds (sym c.1) (tt, tt)
+      by_command (Cmd.Go tx) c = absurd c
+      by_command (Cmd.Again tid) c = absurd c
+      by_command (Cmd.Late tid) c = absurd c
+      by_command (Cmd.Take site place) c = absurd c
 
-good_actor : (scenario : Scenario) (story : Story) (actor : ℕ) (c : CoordEvent) (e : SiteEvent) → IsSortedStory scenario story
-    → BeginsGlobal (is_local scenario) c → IsNextGo (coord_past story) c → IsSorted (is_local scenario) e
-    → ((sent : List ToSite) → IsGiven sent e) → IsGood scenario story (on_actor scenario story actor c e)
-unfolding on_actor
-good_actor scenario story zero c e s mine next sorted given = good_coordinator scenario story c s mine next
-good_actor scenario story (suc n) c e s mine next sorted given =
-    good_on_site scenario story (record { 0 = suc n }) e sorted (given (sent_to (record { 0 = suc n }) story))
+  -- and the coordinator only to begin a next attempt of a global transaction
+  global_event : (command : Command) (event : CoordEvent) → CoordCause scenario story command event
+      → BeginsGlobal (is_local scenario) event × IsNextGo (coord_past story) event
+  global_event command event c = by_command command c
+    where
+      Holds : CoordEvent → Type 0
+      Holds e = BeginsGlobal (is_local scenario) e × IsNextGo (coord_past story) e
 
-pub good_happens : (scenario : Scenario) (story : Story) (command : Command) → IsSortedStory scenario story
-    → IsGood scenario story (happens scenario story command)
-unfolding happens
-good_happens scenario story (Cmd.Begin tx) s = good_begin scenario story tx
-good_happens scenario story (Cmd.Step tx) s = good_step scenario story tx
-good_happens scenario story (Cmd.Commit tx) s = good_commit scenario story tx
-good_happens scenario story (Cmd.Abort tx) s = good_abort scenario story tx
-good_happens scenario story (Cmd.Fate tx) s = good_fate scenario story tx s
-good_happens scenario story (Cmd.Go tx) s = good_go scenario story tx s
-good_happens scenario story (Cmd.Again tid) s = good_attempt scenario story tid _ s tt tt
-good_happens scenario story (Cmd.Late tid) s = good_attempt scenario story tid _ s tt tt
-good_happens scenario story (Cmd.Give site place) s = good_give scenario story site place s
-good_happens scenario story (Cmd.Take site place) s = good_take scenario story site place s
-good_happens scenario story (Cmd.Ask site tid) s = good_on_site scenario story site _ tt tt
-good_happens scenario story (Cmd.Drop site tid) s = good_on_site scenario story site _ tt tt
-good_happens scenario story (Cmd.Halt actor cut) s = good_actor scenario story actor _ _ s tt tt tt (λ sent. tt)
-good_happens scenario story (Cmd.Trip actor calls cut) s = good_actor scenario story actor _ _ s tt tt tt (λ sent. tt)
-good_happens scenario story (Cmd.Back actor) s = good_actor scenario story actor _ _ s tt tt tt (λ sent. tt)
+      by_command : (command : Command) → CoordCause scenario story command event → Holds event
+      by_command (Cmd.Go tx) c = subst Holds (sym c.is) (global_is scenario tx c.steps c.program, refl)
+      by_command (Cmd.Fate tx) c = subst Holds (sym c.is) (tt, tt)
+      by_command (Cmd.Again tid) c = subst Holds (sym c) (tt, tt)
+      by_command (Cmd.Late tid) c = subst Holds (sym c) (tt, tt)
+      by_command (Cmd.Take site place) c = subst Holds (sym c.is) (tt, tt)
+      by_command (Cmd.Halt actor cut) c = subst Holds (sym c.1) (tt, tt)
+      by_command (Cmd.Trip actor calls cut) c = subst Holds (sym c.1) (tt, tt)
+      by_command (Cmd.Back actor) c = subst Holds (sym c.1) (tt, tt)
+      by_command (Cmd.Check actor) c = subst Holds (sym c.1) (tt, tt)
+      by_command (Cmd.Begin tx) c = absurd c
+      by_command (Cmd.Step tx) c = absurd c
+      by_command (Cmd.Commit tx) c = absurd c
+      by_command (Cmd.Abort tx) c = absurd c
+      by_command (Cmd.Give site place) c = absurd c
+      by_command (Cmd.Ask site tid) c = absurd c
+      by_command (Cmd.Drop site tid) c = absurd c
+
+  good_line : (command : Command) (happened : Happened) → IsSortedStory scenario story → IsLine scenario story command happened
+      → IsGood scenario story happened
+  good_line command (AtSite at x) s line =
+      let both = sorted_event line.home command line.event s line.cause in
+      record {
+        sorted = (
+          line.home,
+          line.event,
+          ap (home_of scenario) line.here ∙ line.declared,
+          line.is_next ∙ ap (λ site. site_line line.home (past_of site story) line.event) (sym line.here),
+          both.0,
+          subst (λ site. IsGiven (sent_to site story) line.event) (sym line.here) both.1,
+        );
+      }
+  good_line command (AtCoordinator x) s line =
+      let both = global_event command line.event line.cause in
+      subst (λ y. IsGood scenario story (AtCoordinator y)) (sym line.is_next) (good_coordinator scenario story line.event s both.0 both.1)
+  good_line command (Nowhere answer) s line = record { sorted = tt }
+
+  pub good_happens : (command : Command) → IsSortedStory scenario story → IsGood scenario story (happens scenario story command)
+  good_happens command s = good_line command (happens scenario story command) s (line_is scenario story command)
 
 -- what is sent to a site makes sorted events
 sorted_messages : (local : Tx → Bool) (site : SiteId) (sends : List Sent) → Each (IsSortedSend local) sends

@@ -1,18 +1,18 @@
 -- What a start of a site restores agrees with its records.
-use Rattle.std.proofs.Common.{◌≡◌, ℕ, ◌⊎◌, Bool, true, false, cond, Option, Some, None, List, [], ◌∷◌, map, take, zero, suc, refl, sym, ap, ◌∙◌, subst, inl, inr}
+use Rattle.std.proofs.Common.{◌≡◌, ℕ, ◌⊎◌, Bool, true, false, cond, Option, Some, None, List, [], ◌∷◌, map, take, zero, suc, refl, sym, ap, ◌∙◌, subst, inl, inr, arith, le-ltb}
 use Rattle.mdb_base.specs.declared.names.Tid.{Tid}
-use Rattle.mdb_base.specs.Names.{same_tid}
+use Rattle.mdb_base.specs.Names.{same_tid, tid_before}
 use Rattle.mdb_base.specs.Rising.{IsRising}
-use Rattle.mdb_base.specs.Words.{Each, Among, found, with_some, map_some}
+use Rattle.mdb_base.specs.Words.{Each, Among, found, with_some, map_some, inserted}
 use Rattle.mdb_base.proofs.NameLaws.{same_tid-equal, same_tid-refl}
 use Rattle.fed_rules.specs.declared.records.SiteRecord.{SiteRecord}
-use Rattle.fed_rules.specs.declared.records.SiteRecord.TheVariants.{Setup, Start, Prepared, Ended, Local}
-use Rattle.fed_rules.specs.Disk.{Disk, Call, Append, Sync, CutBack, Stops, whole, bytes_of, after_call, after_calls}
+use Rattle.fed_rules.specs.declared.records.SiteRecord.TheVariants.{Setup, Start, Prepared, Ended, Local, Checkpoint}
+use Rattle.fed_rules.specs.Disk.{Disk, Call, Append, Sync, CutBack, TrimFront, Stops, whole, bytes_of, after_call, after_calls}
 use Rattle.fed_rules.specs.Runs.{Run, restored, restored_at, run_at}
-use Rattle.fed_rules.specs.SiteRecords.{Home, Held, doubt_of, prepared_tids, doubts, kept_held, start_of}
+use Rattle.fed_rules.specs.SiteRecords.{Home, Held, doubt_of, prepared_tids, doubts, kept_held, start_of, by_tid, held_before}
 use Rattle.engine_laws.proofs.Rows.{puts_of_written}
 use Rattle.site_history.specs.Lines.{Agrees}
-use Rattle.std.specs.Prelude.{nat_le, min, ◌+◌, ◌++◌}
+use Rattle.std.specs.Prelude.{nat_le, min, ◌+◌, ◌++◌, nat_lt, ◌||◌, ◌&&◌, ◌==◌}
 
 -- the writes of a Prepared record rise by their keys
 abbrev pub HasRisingWrites : SiteRecord → Type 0
@@ -39,6 +39,7 @@ doubt_tid (Ended ended decision ∷ records) tid held e = by_test (same_tid ende
     by_test true e rest = cc
     by_test false e rest = rest e
 doubt_tid (Setup site engine protocol items ∷ records) tid held e = doubt_tid records tid held e
+doubt_tid (Checkpoint sum ∷ records) tid held e = doubt_tid records tid held e
 doubt_tid (Start epoch ∷ records) tid held e = doubt_tid records tid held e
 doubt_tid (Local local number writes ∷ records) tid held e = doubt_tid records tid held e
 
@@ -64,6 +65,7 @@ doubt_rising (Ended ended decision ∷ records) tid held rising e = by_test (sam
     by_test true e rest = cc
     by_test false e rest = rest e
 doubt_rising (Setup site engine protocol items ∷ records) tid held rising e = doubt_rising records tid held rising.1 e
+doubt_rising (Checkpoint sum ∷ records) tid held rising e = doubt_rising records tid held rising.1 e
 doubt_rising (Start epoch ∷ records) tid held rising e = doubt_rising records tid held rising.1 e
 doubt_rising (Local local number writes ∷ records) tid held rising e = doubt_rising records tid held rising.1 e
 
@@ -85,8 +87,22 @@ doubt_among (Ended ended decision ∷ records) tid = by_test (same_tid ended tid
     by_test true rest = inr refl
     by_test false rest = rest
 doubt_among (Setup site engine protocol items ∷ records) tid = doubt_among records tid
+doubt_among (Checkpoint sum ∷ records) tid = doubt_among records tid
 doubt_among (Start epoch ∷ records) tid = doubt_among records tid
 doubt_among (Local local number writes ∷ records) tid = doubt_among records tid
+
+-- no attempt stands before itself
+pub never_before : (t : Tid) → tid_before t t ≡ false
+never_before t = by_numbers (nat_lt t.tx.0 t.tx.0) (nat_lt t.attempt t.attempt) (le-ltb t.tx.0 t.tx.0 (omega arith)) (le-ltb t.attempt t.attempt (omega arith))
+  where
+    by_numbers : (a b : Bool) → a ≡ false → b ≡ false → (a || ((t.tx.0 == t.tx.0) && b)) ≡ false
+    by_numbers true b e f = cc
+    by_numbers false true e f = cc
+    by_numbers false false e f = none (t.tx.0 == t.tx.0)
+      where
+        none : (c : Bool) → (c && false) ≡ false
+        none true = refl
+        none false = refl
 
 abbrev pub restored_held : Option Held → Option Run
 restored_held held = map_some (λ h. restored (kept_held h)) held
@@ -131,8 +147,40 @@ restored_found records (u ∷ tids) tid among =
             sym (ap restored_held (sym (ap (doubt_of records) (sym of_u ∙ same_tid-equal held.tid tid same)) ∙ is))
         by_test false apart = rest a k (ap (λ v. same_tid v tid) (sym of_u) ∙ apart)
 
+-- one more of another place among those by rising attempt is found as one more before them
+restored_inserted : (held : Held) (more : List Held) (tid : Tid)
+    → restored_at (map kept_held (inserted held_before held more)) tid ≡ restored_at (map kept_held (held ∷ more)) tid
+restored_inserted held [] tid = refl
+restored_inserted held (y ∷ more) tid = by_before (held_before y held) refl (restored_inserted held more tid)
+  where
+    swap : (a b : Bool) → same_tid held.tid tid ≡ a → same_tid y.tid tid ≡ b → held_before y held ≡ true
+        → restored_at (map kept_held (inserted held_before held more)) tid
+        ≡ cond a (Some (restored (kept_held held))) (restored_at (map kept_held more) tid)
+        → cond b (Some (restored (kept_held y))) (restored_at (map kept_held (inserted held_before held more)) tid)
+        ≡ cond a (Some (restored (kept_held held))) (cond b (Some (restored (kept_held y))) (restored_at (map kept_held more) tid))
+    swap true true is_a is_b first rest =
+        let same : y.tid ≡ held.tid = same_tid-equal y.tid tid is_b ∙ sym (same_tid-equal held.tid tid is_a) in
+        let never : tid_before held.tid held.tid ≡ true = subst (λ t. tid_before t held.tid ≡ true) same first in
+        let clash = sym (never_before held.tid) ∙ never in cc
+    swap true false is_a is_b first rest = rest
+    swap false true is_a is_b first rest = refl
+    swap false false is_a is_b first rest = rest
+
+    by_before : (c : Bool) → held_before y held ≡ c
+        → restored_at (map kept_held (inserted held_before held more)) tid ≡ restored_at (map kept_held (held ∷ more)) tid
+        → restored_at (map kept_held (cond c (y ∷ inserted held_before held more) (held ∷ y ∷ more))) tid
+        ≡ restored_at (map kept_held (held ∷ y ∷ more)) tid
+    by_before true first rest = swap (same_tid held.tid tid) (same_tid y.tid tid) refl refl first rest
+    by_before false first rest = refl
+
+restored_by_tid : (helds : List Held) (tid : Tid) → restored_at (map kept_held (by_tid helds)) tid ≡ restored_at (map kept_held helds) tid
+restored_by_tid [] tid = refl
+restored_by_tid (held ∷ helds) tid =
+    restored_inserted held (by_tid helds) tid
+    ∙ ap (λ o. cond (same_tid held.tid tid) (Some (restored (kept_held held))) o) (restored_by_tid helds tid)
+
 pub restored_doubt : (records : List SiteRecord) (tid : Tid) → restored_at (map kept_held (doubts records)) tid ≡ restored_held (doubt_of records tid)
-restored_doubt records tid = restored_found records (prepared_tids records) tid (doubt_among records tid)
+restored_doubt records tid = restored_by_tid (found (doubt_of records) (prepared_tids records)) tid ∙ restored_found records (prepared_tids records) tid (doubt_among records tid)
 
 agrees_restored : (o : Option Held) → ((held : Held) → o ≡ Some held → IsRising (λ put. put.key.0) held.writes) → Agrees o (restored_held o)
 agrees_restored None rising = tt
@@ -166,6 +214,7 @@ each_after size P d [] h a = h
 each_after size P d (Append r ∷ calls) h a = each_after size P (after_call size d (Append r)) calls (a.0, h) a.1
 each_after size P d (Sync ∷ calls) h a = each_after size P (after_call size d Sync) calls h a
 each_after size P d (CutBack ∷ calls) h a = each_after size P (after_call size d CutBack) calls h a
+each_after size P d (TrimFront ∷ calls) h a = each_after size P (after_call size d TrimFront) calls h a
 each_after size P d (Stops cut ∷ calls) h a =
     each_after size P (after_call size d (Stops cut)) calls (each_whole size P (min d.length (d.synced + cut)) d.records h) a
 
@@ -176,4 +225,5 @@ append_take P (suc n) [] more a m = m
 append_take P (suc n) (Append r ∷ calls) more a m = (a.0, append_take P n calls more a.1 m)
 append_take P (suc n) (Sync ∷ calls) more a m = append_take P n calls more a m
 append_take P (suc n) (CutBack ∷ calls) more a m = append_take P n calls more a m
+append_take P (suc n) (TrimFront ∷ calls) more a m = append_take P n calls more a m
 append_take P (suc n) (Stops cut ∷ calls) more a m = append_take P n calls more a m

@@ -4,3 +4,4 @@ pub mod Lines
 pub mod Records
 pub mod SiteOrders
 pub mod Stories
+pub mod Tickets

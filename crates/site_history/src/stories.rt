@@ -1,6 +1,7 @@
 //! The same for each declared site of a scenario, in the story of any commands.
 ghost use Rattle.site_history.specs.SiteOrders.{HasEpochs, IsSerialPast};
 ghost use Rattle.site_history.specs.Stories.{EventsAreSorted, OfSites, OfSitesPreparedOnce, StoriesHaveRightLines, StoriesPrepareOnce};
+ghost use Rattle.site_history.specs.Tickets.{TicketsRise};
 
 /// In the story of any commands the past of a declared site is made by sorted events: what begins and commits as a local attempt is of a
 /// local transaction, and the messages that the site takes were sent by the coordinator, which begins attempts of global ones only. All
@@ -30,4 +31,10 @@ pub fn stories_have_serial_sites()
 pub fn each_site_of_a_story_is_serial()
     ensures epochs { OfSites HasEpochs }
     ensures serial { OfSites IsSerialPast }
+{}
+
+/// At each declared site of every story tickets rise, over all its stops and restarts: a ticket that is taken is greater than those of all
+/// attempts that were prepared before.
+pub fn tickets_rise()
+    ensures { OfSites TicketsRise }
 {}

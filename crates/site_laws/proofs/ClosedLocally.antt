@@ -13,9 +13,9 @@ use Rattle.fed_rules.specs.CoordPast as Coordinator
 use Rattle.fed_rules.specs.CoordPast.{CoordPast}
 use Rattle.fed_rules.specs.Happenings.{is_down}
 use Rattle.fed_rules.specs.Runs.{Run, is_sealed, run_at, attempts, unended}
-use Rattle.fed_rules.specs.Scenarios.{home_of, sites}
+use Rattle.fed_rules.specs.Scenarios.{home_of, protocols, sites}
 use Rattle.fed_rules.specs.SitePast.{SitePast, epoch_start, engine_lines, is_local, trip, records}
-use Rattle.fed_rules.specs.SiteRecords.{doubt_of}
+use Rattle.fed_rules.specs.SiteRecords.{doubt_of, by_tid}
 use Rattle.fed_rules.specs.Story.{Story, story_of, past_of, coord_past}
 use Rattle.engine_laws.proofs.Runs.{tid_is}
 use Rattle.site_laws.specs.Sessions.{home_from, IsAlone, IsLocal, LocalSessionsCloseLocally}
@@ -41,10 +41,10 @@ no_actors_at_all of_coordinator of_site scenario story none quiet coord =
 
 -- nothing is undecided or known where no global attempt was begun
 none_undecided : (story : Story) → coord_past story ≡ [] → undecided story ≡ []
-none_undecided story e = ap (λ past. rising (those (λ tid. Coordinator.is_undecided (Coordinator.standing past tid)) (Coordinator.begun_tids past))) e
+none_undecided story e = ap (λ past. rising (those (Coordinator.is_open past) (Coordinator.begun_tids past))) e
 
-none_known : (story : Story) → coord_past story ≡ [] → known story ≡ []
-none_known story e = ap (λ past. rising (those (λ tid. Coordinator.is_known (Coordinator.standing past tid)) (Coordinator.begun_tids past))) e
+none_known : (scenario : Scenario) (story : Story) → coord_past story ≡ [] → known scenario story ≡ []
+none_known scenario story e = ap (λ past. rising (those (λ tid. Coordinator.is_known (Coordinator.standing (protocols scenario) past tid)) (Coordinator.begun_tids past))) e
 
 -- without sites nothing closes
 pub closed_none : (scenario : Scenario) (commands : List Command) → scenario.sites ≡ [] → coord_past (story_of scenario commands) ≡ [] → closed scenario commands ≡ commands
@@ -55,7 +55,7 @@ closed_none scenario commands e quiet =
     let up : bring_up scenario commands ≡ commands = ap (λ acts. for_each (λ actor more. Cmd.Back actor ∷ more) acts commands) (no_actors_at_all (λ past. is_down past) (λ past. is_down past) scenario story none quiet refl) in
     let given : give_up scenario commands ≡ commands = ap (λ ts. for_each (λ tid more. Cmd.Late tid ∷ more) ts commands) (none_undecided story quiet) in
     let cleared : clear scenario commands ≡ commands = ap (λ ss. for_each (clear_site scenario story) ss commands) none in
-    let ended : end_known scenario commands ≡ commands = ap (λ ts. for_each (send_again scenario) ts commands) (none_known story quiet) in
+    let ended : end_known scenario commands ≡ commands = ap (λ ts. for_each (send_again scenario) ts commands) (none_known scenario story quiet) in
     let asked : ask_all scenario commands ≡ commands = ap (λ ss. for_each (ask_site scenario story) ss commands) none in
     ap (λ cs. ask_all scenario (end_known scenario (clear scenario (give_up scenario (bring_up scenario cs))))) disarmed
     ∙ (ap (λ cs. ask_all scenario (end_known scenario (clear scenario (give_up scenario cs)))) up
@@ -115,10 +115,10 @@ closed_is scenario line commands alone local =
     let up : bring_up scenario commands ≡ commands = ap (λ acts. for_each (λ actor more. Cmd.Back actor ∷ more) acts commands)
     (no_actors (λ past. is_down past) (λ past. is_down past) scenario story line.site only quiet refl o.calm.up) in
     let given : give_up scenario commands ≡ commands = ap (λ ts. for_each (λ tid more. Cmd.Late tid ∷ more) ts commands) (none_undecided story quiet) in
-    let ended : end_known scenario then ≡ then = ap (λ ts. for_each (send_again scenario) ts then) (none_known later quiet_then) in
+    let ended : end_known scenario then ≡ then = ap (λ ts. for_each (send_again scenario) ts then) (none_known scenario later quiet_then) in
     let undoubted : in_doubt_at (home_of scenario line.site) later ≡ [] =
     ap (λ h. in_doubt_at h later) (one_home scenario line alone.sites)
-    ∙ ap (λ ts. rising (map (λ held. held.tid) (found (doubt_of (records (home_from scenario line) (past_of line.site later))) ts))) o_then.calm.unprepared in
+    ∙ ap (λ ts. rising (map (λ held. held.tid) (by_tid (found (doubt_of (records (home_from scenario line) (past_of line.site later))) ts)))) o_then.calm.unprepared in
     let asked : ask_all scenario then ≡ then = ap (λ ss. for_each (ask_site scenario later) ss then) only ∙ ap (λ ts. for_each (inquire scenario line.site) ts then) undoubted in
     ap (λ cs. ask_all scenario (end_known scenario (clear scenario (give_up scenario (bring_up scenario cs))))) disarmed
     ∙ (ap (λ cs. ask_all scenario (end_known scenario (clear scenario (give_up scenario cs)))) up

@@ -1,5 +1,5 @@
 -- What a command of a local transaction makes happen at its site.
-use Rattle.std.proofs.Common.{◌≡◌, ℕ, ◌+◌, Bool, true, false, cond, nat_lt, is_some, Option, Some, None, length, ◌∙◌, ap, add-zero}
+use Rattle.std.proofs.Common.{◌≡◌, ℕ, ◌+◌, Bool, true, false, cond, nat_lt, is_some, Option, Some, None, List, length, ◌∙◌, ap, add-zero}
 use Rattle.std.specs.Prelude.{nat_le}
 use Rattle.mdb_base.specs.declared.acts.Step.{Step}
 use Rattle.mdb_base.specs.declared.names.Tid.{Tid}
@@ -8,97 +8,73 @@ use Rattle.mdb_base.specs.Programs.{plain_act}
 use Rattle.mdb_base.specs.Words.{when, item_at}
 use Rattle.mdb_base.proofs.Words.{when-true, when-false}
 use Rattle.fed_rules.specs.declared.answers.Answer.TheVariants as Say
-use Rattle.fed_rules.specs.declared.commands.Command.TheVariants as Cmd
+use Rattle.fed_rules.specs.declared.events.SiteEvent.{SiteEvent}
 use Rattle.fed_rules.specs.declared.events.SiteEvent.TheVariants as Ev
 use Rattle.fed_rules.specs.declared.scenario.Scenario.{Scenario}
 use Rattle.fed_rules.specs.Happenings.{is_down}
 use Rattle.fed_rules.specs.Runs.{Run}
 use Rattle.fed_rules.specs.Scenarios.{local_home, program_of}
 use Rattle.fed_rules.specs.Site.{site_line, done}
-use Rattle.fed_rules.specs.SitePast.{SiteHappening, live, live_of_tx, attempts_of}
+use Rattle.fed_rules.specs.SitePast.{SiteHappening, SitePast, live_of_tx, attempts_of}
 use Rattle.fed_rules.specs.SiteRecords.{Home}
-use Rattle.fed_rules.specs.Story.{Story, Happened, AtSite, Nowhere, past_of, attempt, most_attempts, unless_begun, begins_local, on_begin, run_reads, with_live, next_step, on_step, on_commit, on_abort, happens}
+use Rattle.fed_rules.specs.Requests.{Request, Submits, Declines, attempt, most_attempts, unless_begun}
+use Rattle.fed_rules.specs.SiteCommands.{Verb, Begin, Step_on, Commit, Abort, request, begin_next, with_live, next_step, when_done, run_reads}
+use Rattle.fed_rules.specs.Story.{Story, Happened, past_of, requested, on_local}
+use Rattle.rules_laws.specs.Lines.{IsLive}
 use Rattle.site_laws.proofs.SiteLines.{pick-none, pick-some}
 
--- without a home nothing hears of a command
-pub begin_nowhere : (scenario : Scenario) (story : Story) (tx : Tx) → local_home scenario tx ≡ None → happens scenario story (Cmd.Begin tx) ≡ Nowhere Say.None
-unfolding happens on_begin
-begin_nowhere scenario story tx h = pick-none _ _ _ h
+-- a command of a local transaction is what its site makes of it
+pub local_nowhere : (scenario : Scenario) (story : Story) (verb : Verb) (tx : Tx) (other : Happened) → local_home scenario tx ≡ None → on_local scenario story verb tx other ≡ other
+unfolding on_local
+local_nowhere scenario story verb tx other h = pick-none _ _ _ h
 
-pub step_nowhere : (scenario : Scenario) (story : Story) (tx : Tx) → local_home scenario tx ≡ None → happens scenario story (Cmd.Step tx) ≡ Nowhere Say.None
-unfolding happens on_step
-step_nowhere scenario story tx h = pick-none _ _ _ h
+pub local_at : (scenario : Scenario) (story : Story) (verb : Verb) (tx : Tx) (other : Happened) (home : Home) (r : Request SiteEvent) → local_home scenario tx ≡ Some home
+    → request verb home (program_of scenario tx) (past_of home.site story) tx ≡ r → on_local scenario story verb tx other ≡ requested home story r
+unfolding on_local
+local_at scenario story verb tx other home r h e = pick-some _ _ _ home h ∙ ap (requested home story) e
 
-pub commit_nowhere : (scenario : Scenario) (story : Story) (tx : Tx) → local_home scenario tx ≡ None → happens scenario story (Cmd.Commit tx) ≡ Nowhere Say.None
-unfolding happens on_commit
-commit_nowhere scenario story tx h = pick-none _ _ _ h
+-- what a site makes of each command
+module _ (home : Home) (steps : List Step) (past : SitePast) (tx : Tx) where
+  pub begin_request : (n : ℕ) (b : Bool) (x : SiteHappening) → attempts_of past tx ≡ n → nat_le most_attempts n ≡ b → site_line home past (Ev.Begin (attempt tx n)) ≡ x
+      → request Begin home steps past tx ≡ when b (Declines (unless_begun x.answer)) (Submits (Ev.Begin (attempt tx n)))
+  unfolding request begin_next
+  begin_request n b x a few e =
+      ap (begin_next home past tx) a
+      ∙ (ap (λ c. when c (Declines (unless_begun (site_line home past (Ev.Begin (attempt tx n))).answer)) (Submits (Ev.Begin (attempt tx n)))) few
+      ∙ ap (λ (y : SiteHappening). when b (Declines (unless_begun y.answer)) (Submits (Ev.Begin (attempt tx n)))) e)
 
-pub abort_nowhere : (scenario : Scenario) (story : Story) (tx : Tx) → local_home scenario tx ≡ None → happens scenario story (Cmd.Abort tx) ≡ Nowhere Say.None
-unfolding happens on_abort
-abort_nowhere scenario story tx h = pick-none _ _ _ h
+  pub live_down : (next : Tid → Run → Request SiteEvent) → is_down past ≡ true → with_live home past tx next ≡ Declines Say.Down
+  unfolding with_live
+  live_down next down = when-true _ _ _ down
 
--- a begin comes to the site, unless all attempts were begun
-pub begin_at : (scenario : Scenario) (story : Story) (tx : Tx) (home : Home) (n : ℕ) (b : Bool) (x : SiteHappening) → local_home scenario tx ≡ Some home
-    → attempts_of (past_of home.site story) tx ≡ n → nat_le most_attempts n ≡ b → site_line home (past_of home.site story) (Ev.Begin (attempt tx n)) ≡ x
-    → happens scenario story (Cmd.Begin tx) ≡ when b (Nowhere (unless_begun x.answer)) (AtSite home.site x)
-unfolding happens on_begin begins_local
-begin_at scenario story tx home n b x h a few e =
-    pick-some _ _ _ home h ∙ (ap (begins_local home story tx) a
-    ∙ (ap (λ c. when c (Nowhere (unless_begun (site_line home (past_of home.site story) (Ev.Begin (attempt tx n))).answer)) (AtSite home.site (site_line home (past_of home.site story) (Ev.Begin (attempt tx n))))) few
-    ∙ ap (λ (y : SiteHappening). when b (Nowhere (unless_begun y.answer)) (AtSite home.site y)) e))
+  pub live_none : (next : Tid → Run → Request SiteEvent) → is_down past ≡ false → live_of_tx home past tx ≡ None → with_live home past tx next ≡ Declines Say.Idle
+  unfolding with_live
+  live_none next up e = when-false _ _ _ up ∙ pick-none _ _ _ e
 
--- what speaks of a live attempt finds none, or the one that there is
-pub live_none : (home : Home) (story : Story) (tx : Tx) (next : Tid → Run → Happened) → is_down (past_of home.site story) ≡ false → live_of_tx home (past_of home.site story) tx ≡ None → with_live home story tx next ≡ Nowhere Say.Idle
-unfolding with_live
-live_none home story tx next up e = when-false _ _ _ up ∙ pick-none _ _ _ e
+  pub live_some : (next : Tid → Run → Request SiteEvent) (tid : Tid) (run : Run) → IsLive home past tx tid run → with_live home past tx next ≡ next tid run
+  unfolding with_live
+  live_some next tid run l = when-false _ _ _ l.up ∙ (pick-some _ _ _ tid l.found ∙ pick-some _ _ _ run l.own)
 
-pub live_some : (home : Home) (story : Story) (tx : Tx) (next : Tid → Run → Happened) (tid : Tid) (run : Run) → is_down (past_of home.site story) ≡ false → live_of_tx home (past_of home.site story) tx ≡ Some tid
-    → live home (past_of home.site story) tid ≡ Some run → with_live home story tx next ≡ next tid run
-unfolding with_live
-live_some home story tx next tid run up e f = when-false _ _ _ up ∙ (pick-some _ _ _ tid e ∙ pick-some _ _ _ run f)
+  pub step_end : (tid : Tid) (run : Run) → IsLive home past tx tid run → item_at steps (done run) ≡ None → request Step_on home steps past tx ≡ Declines Say.End
+  unfolding request next_step
+  step_end tid run l i = live_some (next_step steps) tid run l ∙ pick-none _ _ _ i
 
-pub step_idle : (scenario : Scenario) (story : Story) (tx : Tx) (home : Home) → local_home scenario tx ≡ Some home → is_down (past_of home.site story) ≡ false → live_of_tx home (past_of home.site story) tx ≡ None → happens scenario story (Cmd.Step tx) ≡ Nowhere Say.Idle
-unfolding happens on_step
-step_idle scenario story tx home h up e = pick-some _ _ _ home h ∙ live_none home story tx _ up e
+  pub step_at : (tid : Tid) (run : Run) (step : Step) → IsLive home past tx tid run → item_at steps (done run) ≡ Some step
+      → request Step_on home steps past tx ≡ Submits (Ev.Act tid (plain_act (run_reads run) step.act))
+  unfolding request next_step
+  step_at tid run step l i = live_some (next_step steps) tid run l ∙ pick-some _ _ _ step i
 
-pub commit_idle : (scenario : Scenario) (story : Story) (tx : Tx) (home : Home) → local_home scenario tx ≡ Some home → is_down (past_of home.site story) ≡ false → live_of_tx home (past_of home.site story) tx ≡ None → happens scenario story (Cmd.Commit tx) ≡ Nowhere Say.Idle
-unfolding happens on_commit
-commit_idle scenario story tx home h up e = pick-some _ _ _ home h ∙ live_none home story tx _ up e
+  pub commit_unfinished : (tid : Tid) (run : Run) → IsLive home past tx tid run → nat_lt (done run) (length steps) ≡ true → request Commit home steps past tx ≡ Declines Say.Unfinished
+  unfolding request when_done
+  commit_unfinished tid run l i = live_some (when_done steps) tid run l ∙ when-true _ _ _ i
 
-pub abort_idle : (scenario : Scenario) (story : Story) (tx : Tx) (home : Home) → local_home scenario tx ≡ Some home → is_down (past_of home.site story) ≡ false → live_of_tx home (past_of home.site story) tx ≡ None → happens scenario story (Cmd.Abort tx) ≡ Nowhere Say.Idle
-unfolding happens on_abort
-abort_idle scenario story tx home h up e = pick-some _ _ _ home h ∙ live_none home story tx _ up e
+  pub commit_at : (tid : Tid) (run : Run) → IsLive home past tx tid run → nat_lt (done run) (length steps) ≡ false → request Commit home steps past tx ≡ Submits (Ev.Commit tid)
+  unfolding request when_done
+  commit_at tid run l i = live_some (when_done steps) tid run l ∙ when-false _ _ _ i
 
--- a step behind the last one, and one that comes to the site
-pub step_end : (scenario : Scenario) (story : Story) (tx : Tx) (home : Home) (tid : Tid) (run : Run) → local_home scenario tx ≡ Some home → is_down (past_of home.site story) ≡ false → live_of_tx home (past_of home.site story) tx ≡ Some tid
-    → live home (past_of home.site story) tid ≡ Some run → item_at (program_of scenario tx) (done run) ≡ None → happens scenario story (Cmd.Step tx) ≡ Nowhere Say.End
-unfolding happens on_step next_step
-step_end scenario story tx home tid run h up e f i = pick-some _ _ _ home h ∙ (live_some home story tx _ tid run up e f ∙ pick-none _ _ _ i)
-
-pub step_at : (scenario : Scenario) (story : Story) (tx : Tx) (home : Home) (tid : Tid) (run : Run) (step : Step) → local_home scenario tx ≡ Some home → is_down (past_of home.site story) ≡ false → live_of_tx home (past_of home.site story) tx ≡ Some tid
-    → live home (past_of home.site story) tid ≡ Some run → item_at (program_of scenario tx) (done run) ≡ Some step
-    → happens scenario story (Cmd.Step tx) ≡ AtSite home.site (site_line home (past_of home.site story) (Ev.Act tid (plain_act (run_reads run) step.act)))
-unfolding happens on_step next_step
-step_at scenario story tx home tid run step h up e f i = pick-some _ _ _ home h ∙ (live_some home story tx _ tid run up e f ∙ pick-some _ _ _ step i)
-
--- a commit before the last step, and one that comes to the site
-pub commit_unfinished : (scenario : Scenario) (story : Story) (tx : Tx) (home : Home) (tid : Tid) (run : Run) → local_home scenario tx ≡ Some home → is_down (past_of home.site story) ≡ false → live_of_tx home (past_of home.site story) tx ≡ Some tid
-    → live home (past_of home.site story) tid ≡ Some run → nat_lt (done run) (length (program_of scenario tx)) ≡ true → happens scenario story (Cmd.Commit tx) ≡ Nowhere Say.Unfinished
-unfolding happens on_commit
-commit_unfinished scenario story tx home tid run h up e f i = pick-some _ _ _ home h ∙ (live_some home story tx _ tid run up e f ∙ when-true _ _ _ i)
-
-pub commit_at : (scenario : Scenario) (story : Story) (tx : Tx) (home : Home) (tid : Tid) (run : Run) → local_home scenario tx ≡ Some home → is_down (past_of home.site story) ≡ false → live_of_tx home (past_of home.site story) tx ≡ Some tid
-    → live home (past_of home.site story) tid ≡ Some run → nat_lt (done run) (length (program_of scenario tx)) ≡ false
-    → happens scenario story (Cmd.Commit tx) ≡ AtSite home.site (site_line home (past_of home.site story) (Ev.Commit tid))
-unfolding happens on_commit
-commit_at scenario story tx home tid run h up e f i = pick-some _ _ _ home h ∙ (live_some home story tx _ tid run up e f ∙ when-false _ _ _ i)
-
--- an abort that comes to the site
-pub abort_at : (scenario : Scenario) (story : Story) (tx : Tx) (home : Home) (tid : Tid) (run : Run) → local_home scenario tx ≡ Some home → is_down (past_of home.site story) ≡ false → live_of_tx home (past_of home.site story) tx ≡ Some tid
-    → live home (past_of home.site story) tid ≡ Some run
-    → happens scenario story (Cmd.Abort tx) ≡ AtSite home.site (site_line home (past_of home.site story) (Ev.Abort tid))
-unfolding happens on_abort
-abort_at scenario story tx home tid run h up e f = pick-some _ _ _ home h ∙ live_some home story tx _ tid run up e f
+  pub abort_at : (tid : Tid) (run : Run) → IsLive home past tx tid run → request Abort home steps past tx ≡ Submits (Ev.Abort tid)
+  unfolding request
+  abort_at tid run l = live_some _ tid run l
 
 -- without a ticket the finished steps are the granted accesses
 pub done_is : (run : Run) → run.ticket ≡ None → done run ≡ length run.acts

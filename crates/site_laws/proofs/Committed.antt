@@ -181,6 +181,7 @@ life_next scenario home past tid x led (Ev.Drop z) is other asked before life = 
 life_next scenario home past tid x led (Ev.Halt cut) is other asked before life = life_plain scenario home past tid x (Ev.Halt cut) led is tt tt (λ answer. refl) tt life
 life_next scenario home past tid x led (Ev.Trip calls cut) is other asked before life = life_plain scenario home past tid x (Ev.Trip calls cut) led is tt tt (λ answer. refl) tt life
 life_next scenario home past tid x led Ev.Back is other asked before life = life_plain scenario home past tid x Ev.Back led is tt tt (λ answer. refl) tt life
+life_next scenario home past tid x led Ev.Check is other asked before life = life_plain scenario home past tid x Ev.Check led is tt tt (λ answer. refl) tt life
 
 -- the life of an attempt that no message is about
 pub life_of : (scenario : Scenario) (home : Home) (past : SitePast) (tid : Tid) → IsLed (IsNoMessageTo tid) scenario home past → Life scenario home past tid

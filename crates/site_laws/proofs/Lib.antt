@@ -25,6 +25,7 @@ pub mod RisingLists
 pub mod RunAlone
 pub mod SerialSessions
 pub mod SiteLines
+pub mod StoryCommands
 pub mod Uncoordinated
 pub mod Undoubted
 pub mod Unmentioned

@@ -19,7 +19,7 @@ use Rattle.fed_rules.specs.declared.records.SiteRecord.{SiteRecord}
 use Rattle.fed_rules.specs.declared.records.SiteRecord.TheVariants as Rec
 use Rattle.fed_rules.specs.declared.scenario.Scenario.{Scenario}
 use Rattle.fed_rules.specs.CoordPast.{oldest_first}
-use Rattle.fed_rules.specs.Disk.{Call, Append, Sync, CutBack, Stops, Disk}
+use Rattle.fed_rules.specs.Disk.{Call, Append, Sync, CutBack, TrimFront, Stops, Disk}
 use Rattle.fed_rules.specs.Happenings.{Trip, stops, comes_up, stopped, tripped}
 use Rattle.fed_rules.specs.Orders.{local_reads, read_by}
 use Rattle.fed_rules.specs.Runs.{Acts, Got, Wrote, Run, acted, run_at, restored_at}
@@ -151,10 +151,12 @@ unsealed_both tid [] u f = tt
 unsealed_both tid (Append (Rec.Local t n writes) ∷ calls) u f = absurd u.0
 unsealed_both tid (Append (Rec.Prepared t epoch n ticket writes) ∷ calls) u f = (f.0, unsealed_both tid calls u.1 f.1)
 unsealed_both tid (Append (Rec.Setup site engine protocol items) ∷ calls) u f = (refl, unsealed_both tid calls u.1 f.1)
+unsealed_both tid (Append (Rec.Checkpoint sum) ∷ calls) u f = (refl, unsealed_both tid calls u.1 f.1)
 unsealed_both tid (Append (Rec.Start epoch) ∷ calls) u f = (refl, unsealed_both tid calls u.1 f.1)
 unsealed_both tid (Append (Rec.Ended t decision) ∷ calls) u f = (refl, unsealed_both tid calls u.1 f.1)
 unsealed_both tid (Sync ∷ calls) u f = (refl, unsealed_both tid calls u.1 f.1)
 unsealed_both tid (CutBack ∷ calls) u f = (refl, unsealed_both tid calls u.1 f.1)
+unsealed_both tid (TrimFront ∷ calls) u f = (refl, unsealed_both tid calls u.1 f.1)
 unsealed_both tid (Stops cut ∷ calls) u f = (refl, unsealed_both tid calls u.1 f.1)
 
 -- a line that begins nothing leaves the number of attempts

@@ -16,6 +16,7 @@ use Rattle.site_laws.specs.Locals.{install_of}
 pub undoubted : (records : List SiteRecord) (tid : Tid) → prepared_tids records ≡ [] → doubt_of records tid ≡ None
 undoubted [] tid e = refl
 undoubted (Rec.Setup site engine protocol items ∷ records) tid e = undoubted records tid e
+undoubted (Rec.Checkpoint sum ∷ records) tid e = undoubted records tid e
 undoubted (Rec.Start epoch ∷ records) tid e = undoubted records tid e
 undoubted (Rec.Prepared t epoch n ticket writes ∷ records) tid e = cc
 undoubted (Rec.Ended t decision ∷ records) tid e = by_test (same_tid t tid) (undoubted records tid e)
@@ -29,6 +30,7 @@ undoubted (Rec.Local t n writes ∷ records) tid e = undoubted records tid e
 pub due_installed : (commits : Tid → Bool) (records : List SiteRecord) → prepared_tids records ≡ [] → due_installs commits records ≡ installs records
 due_installed commits [] e = refl
 due_installed commits (Rec.Setup site engine protocol items ∷ records) e = due_installed commits records e
+due_installed commits (Rec.Checkpoint sum ∷ records) e = due_installed commits records e
 due_installed commits (Rec.Start epoch ∷ records) e = due_installed commits records e
 due_installed commits (Rec.Prepared t epoch n ticket writes ∷ records) e = cc
 due_installed commits (Rec.Ended t Decided.Commit ∷ records) e = due_installed commits records e ∙ sym (ap (λ o. install_held o (installs records)) (undoubted records t e))

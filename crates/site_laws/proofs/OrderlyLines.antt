@@ -215,6 +215,7 @@ orderly_line scenario home past (Ev.Drop tid) o local asked own = absurd local
 orderly_line scenario home past (Ev.Halt cut) o local asked own = absurd local
 orderly_line scenario home past (Ev.Trip calls cut) o local asked own = absurd local
 orderly_line scenario home past Ev.Back o local asked own = absurd local
+orderly_line scenario home past Ev.Check o local asked own = absurd local
 
 -- a local event is no message
 not_told : (tid : Tid) (event : SiteEvent) → IsLocalEvent event → IsNoMessageTo tid event
@@ -229,6 +230,7 @@ not_told tid (Ev.Drop t) local = absurd local
 not_told tid (Ev.Halt cut) local = absurd local
 not_told tid (Ev.Trip calls cut) local = absurd local
 not_told tid Ev.Back local = absurd local
+not_told tid Ev.Check local = absurd local
 
 -- the past of a site to which local transactions alone come is orderly
 pub led_orderly : (scenario : Scenario) (home : Home) (past : SitePast) → IsLed IsLocalEvent scenario home past → IsOrderly scenario home past

@@ -24,7 +24,7 @@ use Rattle.fed_rules.specs.Disk.{Disk, Stops}
 use Rattle.fed_rules.specs.Happenings.{Trip, stops, comes_up, is_down, stopped, tripped}
 use Rattle.fed_rules.specs.Runs.{Start, EngineLine, Acts, Refuses, Aborts, Got, Wrote, Run, tid_of, begun, acted, changed, run_at, is_sealed, restored_at}
 use Rattle.fed_rules.specs.Scenarios.{program_of}
-use Rattle.fed_rules.specs.Site.{next_number, of_begin, reply_to, of_act, seals_local, of_commit, of_abort, of_fate, done, did, unknown, first_work, next_work, next_take, repeated, work_live, of_work, take_live, of_take, votes_again, votes_no, votes_yes, seals_global, prepare_live, of_prepare, settling_line, settles, unheld, of_decide, of_give, of_ask, of_drop, of_back, answered, unless_tripped, site_line}
+use Rattle.fed_rules.specs.Site.{next_number, of_begin, reply_to, of_act, seals_local, of_commit, of_abort, of_fate, done, did, unknown, first_work, next_work, next_take, repeated, work_live, of_work, take_live, of_take, votes_again, votes_no, votes_yes, seals_global, prepare_live, of_prepare, settling_line, settles, unheld, of_decide, of_give, of_ask, of_drop, of_back, answered, unless_tripped, site_line, of_check}
 use Rattle.fed_rules.specs.SitePast.{SiteHappening, SitePast, disk, records, trip, epoch_start, engine_lines, run_of, live_one, live}
 use Rattle.fed_rules.specs.SiteRecords.{Home, site_frame, start_of}
 use Rattle.fed_rules.specs.Story.{run_reads}
@@ -261,6 +261,10 @@ keeps_up : (P : Run → Type 0) (home : Home) (past : SitePast) (tid : Tid) (eve
     → Keeps P home past tid (when (is_down past) (record { event = event; answer = Say.Down; sends = []; calls = []; lines = [] }) (unless_tripped home past x))
 keeps_up P home past tid event x own k = keeps_when P home past tid _ _ _ (keeps_none P home past tid _ own refl) (keeps_tripped P home past tid (trip past) x own k)
 
+keeps_check : (P : Run → Type 0) (home : Home) (past : SitePast) (tid : Tid) → HasOwn P (epoch_start home past) (engine_lines past) tid → Keeps P home past tid (of_check home past)
+unfolding of_check
+keeps_check P home past tid own = keeps_when P home past tid _ _ _ (keeps_none P home past tid _ own refl) (keeps_none P home past tid _ own refl)
+
 -- what an event makes of the run of its attempt has the fact too
 abbrev pub Makes : (Run → Type 0) → Home → SitePast → Tid → SiteEvent → Type 0
 Makes P home past tid (Ev.Begin z) = z ≡ tid → P (begun z (next_number home past))
@@ -282,6 +286,7 @@ keeps_line_of P home past tid (Ev.Halt cut) own other new =
 keeps_line_of P home past tid (Ev.Trip calls cut) own other new = keeps_none P home past tid _ own refl
 keeps_line_of P home past tid Ev.Back own other new =
     keeps_when P home past tid _ _ _ (keeps_tripped P home past tid (trip past) _ own (keeps_back P home past tid own)) (keeps_none P home past tid _ own refl)
+keeps_line_of P home past tid Ev.Check own other new = keeps_up P home past tid _ _ own (keeps_check P home past tid own)
 
 -- what is asked for makes runs that follow the program
 asked_makes : (scenario : Scenario) (home : Home) (past : SitePast) (tid : Tid) (event : SiteEvent) → HasOwn (IsOwnRun (program_of scenario tid.tx)) (epoch_start home past) (engine_lines past) tid → IsAsked scenario home past event
@@ -303,6 +308,7 @@ asked_makes scenario home past tid (Ev.Drop z) own asked = tt
 asked_makes scenario home past tid (Ev.Halt cut) own asked = tt
 asked_makes scenario home past tid (Ev.Trip calls cut) own asked = tt
 asked_makes scenario home past tid Ev.Back own asked = tt
+asked_makes scenario home past tid Ev.Check own asked = tt
 
 -- a local attempt that no message is about, and that wasn't restored in this epoch, is live where it has a run, and follows its program
 pub follows_led : (scenario : Scenario) (home : Home) (past : SitePast) (tid : Tid) → IsLed (IsNoMessageTo tid) scenario home past → restored_at (epoch_start home past).doubtful tid ≡ None

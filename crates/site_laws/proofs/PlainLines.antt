@@ -18,7 +18,7 @@ use Rattle.fed_rules.specs.declared.records.SiteRecord.TheVariants as Rec
 use Rattle.fed_rules.specs.Disk.{Call, Append, Sync, CutBack, Stops, Disk, is_torn}
 use Rattle.fed_rules.specs.Happenings.{Trip, is_down, stopped, tripped}
 use Rattle.fed_rules.specs.Runs.{EngineLine, Run}
-use Rattle.fed_rules.specs.Site.{of_act, of_abort, of_fate, reply_to, did, unknown, first_work, next_work, next_take, repeated, work_live, of_work, take_live, of_take, votes_again, votes_no, votes_yes, seals_global, prepare_live, of_prepare, settles, unheld, of_decide, of_give, of_ask, of_drop, of_back, answered, unless_tripped, site_line}
+use Rattle.fed_rules.specs.Site.{of_act, of_abort, of_fate, reply_to, did, unknown, first_work, next_work, next_take, repeated, work_live, of_work, take_live, of_take, votes_again, votes_no, votes_yes, seals_global, prepare_live, of_prepare, settles, unheld, of_decide, of_give, of_ask, of_drop, of_back, answered, unless_tripped, site_line, of_check}
 use Rattle.fed_rules.specs.SitePast.{SiteHappening, SitePast, disk, trip, begins_tx}
 use Rattle.fed_rules.specs.SiteRecords.{Home, site_frame}
 use Rattle.site_laws.proofs.Lines.{act_begins-none}
@@ -160,6 +160,10 @@ IsPlainEvent (Ev.Begin tid) = ⊥
 IsPlainEvent (Ev.Commit tid) = ⊥
 IsPlainEvent event = Unit {0}
 
+plain_check : (home : Home) (past : SitePast) → IsPlain Ev.Check (of_check home past)
+unfolding of_check
+plain_check home past = plain_when _ _ _ _ (record { is = refl; unlocal = tt; unbegun = λ tx. refl }) (record { is = refl; unlocal = (tt, (tt, (tt, tt))); unbegun = λ tx. refl })
+
 pub plain_line : (home : Home) (past : SitePast) (event : SiteEvent) → IsPlainEvent event → IsPlain event (site_line home past event)
 unfolding site_line answered
 plain_line home past (Ev.Begin z) p = absurd p
@@ -173,3 +177,4 @@ plain_line home past (Ev.Drop z) p = plain_up home past _ _ (plain_drop home pas
 plain_line home past (Ev.Halt cut) p = plain_when _ _ _ _ (record { is = refl; unlocal = tt; unbegun = λ tx. refl }) (plain_stopped (disk home past) (Ev.Halt cut) (Stops cut ∷ []) (tt, tt))
 plain_line home past (Ev.Trip calls cut) p = record { is = refl; unlocal = tt; unbegun = λ tx. refl }
 plain_line home past Ev.Back p = plain_when _ _ _ _ (plain_tripped (disk home past) (trip past) Ev.Back (of_back home past) (plain_back home past)) (record { is = refl; unlocal = tt; unbegun = λ tx. refl })
+plain_line home past Ev.Check p = plain_up home past _ _ (plain_check home past)

@@ -62,6 +62,7 @@ orderly scenario line commands alone local =
 installed_in : (rs : List SiteRecord) (tx : Tx) (tid : Tid) → local_of rs tx ≡ Some tid → In tid (map (λ (i : Install). i.tid) (installs rs))
 installed_in [] tx tid e = cc
 installed_in (Rec.Setup site engine protocol items ∷ rs) tx tid e = installed_in rs tx tid e
+installed_in (Rec.Checkpoint sum ∷ rs) tx tid e = installed_in rs tx tid e
 installed_in (Rec.Start epoch ∷ rs) tx tid e = installed_in rs tx tid e
 installed_in (Rec.Prepared t epoch n ticket writes ∷ rs) tx tid e = installed_in rs tx tid e
 installed_in (Rec.Ended t Decided.Abort ∷ rs) tx tid e = installed_in rs tx tid e

@@ -5,7 +5,7 @@ use Rattle.mdb_base.specs.declared.names.Tid.{Tid}
 use Rattle.mdb_base.specs.declared.names.Tx.{Tx}
 use Rattle.mdb_base.specs.Names.{same_tid}
 use Rattle.mdb_base.specs.Words.{Each, when, pick, found, with_some}
-use Rattle.mdb_base.proofs.ListLaws.{append_each}
+use Rattle.mdb_base.proofs.ListLaws.{append_each, each_inserted}
 use Rattle.presumptions.specs.declared.Decision.{Decision}
 use Rattle.presumptions.specs.Table.{forces}
 use Rattle.fed_rules.specs.declared.answers.Answer.TheVariants as Say
@@ -16,13 +16,13 @@ use Rattle.fed_rules.specs.declared.messages.ToSite.TheVariants as To
 use Rattle.fed_rules.specs.declared.records.SiteRecord.{SiteRecord}
 use Rattle.fed_rules.specs.declared.records.SiteRecord.TheVariants as Rec
 use Rattle.fed_rules.specs.declared.scenario.Scenario.{Scenario}
-use Rattle.fed_rules.specs.Disk.{Call, Append, Sync, CutBack, Stops, Disk, bytes_of, whole, after_call, after_calls, is_torn}
+use Rattle.fed_rules.specs.Disk.{Call, Append, Sync, CutBack, Stops, Disk, bytes_of, whole, after_call, after_calls, is_torn, TrimFront}
 use Rattle.fed_rules.specs.Happenings.{Trip, stops, comes_up, is_down, stopped, tripped}
 use Rattle.fed_rules.specs.Runs.{Run, restored, restored_at}
 use Rattle.fed_rules.specs.Scenarios.{program_of}
-use Rattle.fed_rules.specs.Site.{of_begin, of_act, seals_local, of_commit, of_abort, of_fate, did, unknown, first_work, next_work, next_take, repeated, work_live, of_work, take_live, of_take, votes_again, votes_no, votes_yes, seals_global, prepare_live, of_prepare, settles, unheld, of_decide, of_give, of_ask, of_drop, of_back, answered, unless_tripped, site_line}
+use Rattle.fed_rules.specs.Site.{of_begin, of_act, seals_local, of_commit, of_abort, of_fate, did, unknown, first_work, next_work, next_take, repeated, work_live, of_work, take_live, of_take, votes_again, votes_no, votes_yes, seals_global, prepare_live, of_prepare, settles, unheld, of_decide, of_give, of_ask, of_drop, of_back, answered, unless_tripped, site_line, of_check}
 use Rattle.fed_rules.specs.SitePast.{SiteHappening, SitePast, disk, records, trip, epoch_start, run_of}
-use Rattle.fed_rules.specs.SiteRecords.{Home, Held, site_frame, doubt_of, prepared_tids, kept_held, start_of}
+use Rattle.fed_rules.specs.SiteRecords.{Home, Held, site_frame, doubt_of, prepared_tids, kept_held, start_of, held_before, by_tid, doubts}
 use Rattle.site_laws.specs.Follows.{IsOwnRun}
 use Rattle.site_laws.specs.Led.{IsLed, tid_in, IsNoMessageTo}
 use Rattle.site_laws.proofs.ListMembers.{take_each}
@@ -51,6 +51,7 @@ after_one : (tid : Tid) (d : Disk SiteRecord) (call : Call SiteRecord) → IsFin
 after_one tid d (Append newest) f h = (f, h)
 after_one tid d Sync f h = h
 after_one tid d CutBack f h = h
+after_one tid d TrimFront f h = h
 after_one tid d (Stops cut) f h = whole_each (IsOther tid) _ d.records h
 
 after_each : (tid : Tid) (d : Disk SiteRecord) (calls : List (Call SiteRecord)) → Each (IsFineCall tid) calls → Each (IsOther tid) d.records → Each (IsOther tid) (after_calls site_frame d calls).records
@@ -145,6 +146,10 @@ fine_drop : (home : Home) (past : SitePast) (tid z : Tid) → IsFine tid (of_dro
 unfolding of_drop
 fine_drop home past tid z = fine_when tid _ _ _ (record { calls = tt }) (fine_pick tid _ _ _ (record { calls = tt }) (λ run. record { calls = tt }))
 
+fine_check : (home : Home) (past : SitePast) (tid : Tid) → IsFine tid (of_check home past)
+unfolding of_check
+fine_check home past tid = fine_when tid _ _ _ (record { calls = tt }) (record { calls = (tt, (tt, (tt, tt))) })
+
 fine_cut : (tid : Tid) (epoch : ℕ) (b : Bool) → Each (IsFineCall tid) (cond b (CutBack ∷ []) [] ++ Append (Rec.Start epoch) ∷ Sync ∷ [])
 fine_cut tid epoch true = (tt, (tt, (tt, tt)))
 fine_cut tid epoch false = (tt, (tt, tt))
@@ -182,6 +187,7 @@ fine_line home past tid (Ev.Drop z) other = fine_up home past tid _ _ (fine_drop
 fine_line home past tid (Ev.Halt cut) other = fine_when tid _ _ _ (record { calls = tt }) (fine_stopped tid (disk home past) (Ev.Halt cut) (Stops cut ∷ []) (tt, tt))
 fine_line home past tid (Ev.Trip calls cut) other = record { calls = tt }
 fine_line home past tid Ev.Back other = fine_when tid _ _ _ (fine_tripped tid (disk home past) (trip past) (of_back home past) (fine_back home past tid)) (record { calls = tt })
+fine_line home past tid Ev.Check other = fine_up home past tid _ _ (fine_check home past tid)
 
 -- so no record of the site prepares it
 records_other : (scenario : Scenario) (home : Home) (past : SitePast) (tid : Tid) → IsLed (IsNoMessageTo tid) scenario home past → Each (IsOther tid) (records home past)
@@ -192,6 +198,7 @@ records_other scenario home (x ∷ past) tid (line, led) =
 doubt_other : (tid : Tid) (rs : List SiteRecord) (z : Tid) (held : Held) → Each (IsOther tid) rs → doubt_of rs z ≡ Some held → same_tid held.tid tid ≡ false
 doubt_other tid [] z held h e = cc
 doubt_other tid (Rec.Setup site engine protocol items ∷ rs) z held h e = doubt_other tid rs z held h.1 e
+doubt_other tid (Rec.Checkpoint sum ∷ rs) z held h e = doubt_other tid rs z held h.1 e
 doubt_other tid (Rec.Start epoch ∷ rs) z held h e = doubt_other tid rs z held h.1 e
 doubt_other tid (Rec.Local t n writes ∷ rs) z held h e = doubt_other tid rs z held h.1 e
 doubt_other tid (Rec.Prepared t epoch n ticket writes ∷ rs) z held h e = by_test (same_tid t z) e (doubt_other tid rs z held h.1)
@@ -205,20 +212,37 @@ doubt_other tid (Rec.Ended t decision ∷ rs) z held h e = by_test (same_tid t z
     by_test true e k = cc
     by_test false e k = k e
 
--- and no start restores it
-restored_none : (tid : Tid) (rs : List SiteRecord) (zs : List Tid) → Each (IsOther tid) rs → restored_at (map kept_held (found (doubt_of rs) zs)) tid ≡ None
-restored_none tid rs [] h = refl
-restored_none tid rs (z ∷ zs) h = by_held (doubt_of rs z) refl (restored_none tid rs zs h)
+-- so none of those in doubt is it
+doubts_other : (tid : Tid) (rs : List SiteRecord) (zs : List Tid) → Each (IsOther tid) rs
+    → Each (λ (held : Held). same_tid held.tid tid ≡ false) (found (doubt_of rs) zs)
+doubts_other tid rs [] h = tt
+doubts_other tid rs (z ∷ zs) h = by_held (doubt_of rs z) refl (doubts_other tid rs zs h)
   where
-    by_held : (o : Option Held) → doubt_of rs z ≡ o → restored_at (map kept_held (found (doubt_of rs) zs)) tid ≡ None → restored_at (map kept_held (with_some o (found (doubt_of rs) zs))) tid ≡ None
+    by_held : (o : Option Held) → doubt_of rs z ≡ o → Each (λ (held : Held). same_tid held.tid tid ≡ false) (found (doubt_of rs) zs)
+        → Each (λ (held : Held). same_tid held.tid tid ≡ false) (with_some o (found (doubt_of rs) zs))
     by_held None e k = k
-    by_held (Some held) e k =
-        ap (λ b. cond b (Some (restored (kept_held held))) (restored_at (map kept_held (found (doubt_of rs) zs)) tid)) (doubt_other tid rs z held h e) ∙ k
+    by_held (Some held) e k = (doubt_other tid rs z held h e, k)
+
+sorted_other : (tid : Tid) (helds : List Held) → Each (λ (held : Held). same_tid held.tid tid ≡ false) helds
+    → Each (λ (held : Held). same_tid held.tid tid ≡ false) (by_tid helds)
+sorted_other tid [] h = tt
+sorted_other tid (held ∷ helds) h =
+    each_inserted (λ (held : Held). same_tid held.tid tid ≡ false) held_before held (by_tid helds) h.0 (sorted_other tid helds h.1)
+
+-- and no start restores it
+restored_none : (tid : Tid) (helds : List Held) → Each (λ (held : Held). same_tid held.tid tid ≡ false) helds
+    → restored_at (map kept_held helds) tid ≡ None
+restored_none tid [] h = refl
+restored_none tid (held ∷ helds) h =
+    ap (λ b. cond b (Some (restored (kept_held held))) (restored_at (map kept_held helds) tid)) h.0 ∙ restored_none tid helds h.1
+
+start_restores_none : (home : Home) (tid : Tid) (rs : List SiteRecord) → Each (IsOther tid) rs → restored_at (start_of home rs).doubtful tid ≡ None
+start_restores_none home tid rs h = restored_none tid (doubts rs) (sorted_other tid _ (doubts_other tid rs (prepared_tids rs) h))
 
 pub never_restored : (scenario : Scenario) (home : Home) (past : SitePast) (tid : Tid) → IsLed (IsNoMessageTo tid) scenario home past → restored_at (epoch_start home past).doubtful tid ≡ None
 never_restored scenario home [] tid led = refl
 never_restored scenario home (x ∷ past) tid (line, led) =
-    by_test (stops x.answer || comes_up x.answer) (restored_none tid (records home (x ∷ past)) (prepared_tids (records home (x ∷ past))) (records_other scenario home (x ∷ past) tid (line, led))) (never_restored scenario home past tid led)
+    by_test (stops x.answer || comes_up x.answer) (start_restores_none home tid (records home (x ∷ past)) (records_other scenario home (x ∷ past) tid (line, led))) (never_restored scenario home past tid led)
   where
     by_test : (b : Bool) → restored_at (start_of home (records home (x ∷ past))).doubtful tid ≡ None → restored_at (epoch_start home past).doubtful tid ≡ None
         → restored_at (cond b (start_of home (records home (x ∷ past))) (epoch_start home past)).doubtful tid ≡ None

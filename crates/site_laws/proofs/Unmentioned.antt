@@ -29,6 +29,7 @@ any_allowed story (Cmd.Drop site tid) = tt
 any_allowed story (Cmd.Halt actor cut) = tt
 any_allowed story (Cmd.Trip actor calls cut) = tt
 any_allowed story (Cmd.Back actor) = tt
+any_allowed story (Cmd.Check actor) = tt
 
 all_allowed : (scenario : Scenario) (commands : List Command) → AllAllow AnyEvent scenario commands
 all_allowed scenario [] = tt
@@ -54,6 +55,7 @@ unsent tid story (Cmd.Drop site t) u = tt
 unsent tid story (Cmd.Halt actor cut) u = tt
 unsent tid story (Cmd.Trip actor calls cut) u = tt
 unsent tid story (Cmd.Back actor) u = tt
+unsent tid story (Cmd.Check actor) u = tt
 
 pub none_told : (scenario : Scenario) (commands : List Command) (tid : Tid) → IsUnmentioned tid (story_of scenario commands) → AllAllow (IsNoMessageTo tid) scenario commands
 none_told scenario [] tid u = tt

@@ -93,6 +93,7 @@ Allows P story (Cmd.Drop site tid) = P (Ev.Drop tid)
 Allows P story (Cmd.Halt actor cut) = P (Ev.Halt cut)
 Allows P story (Cmd.Trip actor calls cut) = P (Ev.Trip calls cut)
 Allows P story (Cmd.Back actor) = P Ev.Back
+Allows P story (Cmd.Check actor) = P Ev.Check
 Allows P story command = Unit {0}
 
 -- and of every event that these commands may make

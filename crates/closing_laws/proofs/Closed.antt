@@ -1,0 +1,29 @@
+-- A closed session is at rest.
+use Rattle.fed_rules.specs.Closing.{disarm, bring_up, give_up, clear, end_known, ask_all}
+use Rattle.fed_rules.specs.Story.{story_of}
+use Rattle.site_history.specs.Stories.{StoriesHaveRightLines}
+use Rattle.closing_laws.specs.AtRest.{ClosedSessionsRest}
+use Rattle.closing_laws.proofs.Clear.{cleared}
+use Rattle.closing_laws.proofs.EndKnown.{ended}
+use Rattle.closing_laws.proofs.GiveUp.{given_up}
+use Rattle.closing_laws.proofs.Inquire.{settled}
+use Rattle.closing_laws.proofs.Quiet.{quiet_rests}
+use Rattle.closing_laws.proofs.Ready.{brought_calm}
+
+pub closed_rests : StoriesHaveRightLines → ClosedSessionsRest
+closed_rests rights scenario commands whole =
+    let up = bring_up scenario (disarm scenario commands) in
+    let late = give_up scenario up in
+    let swept = clear scenario late in
+    let told = end_known scenario swept in
+    let calm = brought_calm scenario commands whole in
+    let third = given_up scenario up calm in
+    let fourth = cleared rights scenario late whole third.onward.calm in
+    let fifth = ended scenario swept whole fourth.onward.calm (λ tid. fourth.onward.decided tid (third.decided tid)) in
+    let sixth = settled scenario told fifth.onward.calm fifth.gone in
+    quiet_rests scenario (story_of scenario (ask_all scenario told)) (record {
+      calm = sixth.onward.calm;
+      clear = λ home tid d. sixth.onward.quiets home tid d (fifth.onward.quiets home tid d (fourth.clear home tid d));
+      settled = sixth.settled;
+      gone = λ tid. sixth.onward.gone tid (fifth.gone tid);
+    })

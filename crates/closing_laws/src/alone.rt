@@ -1,0 +1,24 @@
+//! How a transaction is finished alone.
+ghost use Rattle.closing_laws.specs.Alone.{GlobalsCommitAlone, LocalsCommitAlone};
+
+use rules_laws::pasts_are_made_by_events;
+use site_history::{each_site_of_a_story_is_serial, stories_have_right_lines};
+
+/// At rest, a local transaction without a commit, of which not all attempts were begun, commits when it is run alone, and the session is
+/// at rest again.
+pub fn locals_commit_alone()
+    ensures { LocalsCommitAlone }
+{
+    stories_have_right_lines();
+    each_site_of_a_story_is_serial();
+}
+
+/// At rest, a global transaction without a commit, of which not all attempts were begun, commits when each message of an attempt of it is
+/// delivered in the order of sending, and the session is at rest again.
+pub fn globals_commit_alone()
+    ensures { GlobalsCommitAlone }
+{
+    pasts_are_made_by_events();
+    stories_have_right_lines();
+    each_site_of_a_story_is_serial();
+}

@@ -1,0 +1,12 @@
+pub mod RowsOnTop
+pub mod Behind
+pub mod Doubtful
+pub mod Mixed
+pub mod Whole
+pub mod InOrder
+pub mod InOrderPasts
+pub mod Journals
+pub mod SummedPasts
+pub mod CoordJournals
+pub mod CoordPasts
+pub mod Plain
