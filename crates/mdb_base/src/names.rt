@@ -46,6 +46,8 @@ pub enum Engine {
     Timestamp,
     /// Backward validation (Härder 1984).
     Validation,
+    /// Multiversion timestamp order with strict writes (Bernstein, Hadzilacos, Goodman 1987).
+    Multiversion,
 }
 
 /// What a scripted link does with one message.
