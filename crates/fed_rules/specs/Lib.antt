@@ -1,4 +1,6 @@
 pub mod Closing
+pub mod Endings
+pub mod Headline
 pub mod Orders
 pub mod Plans
 pub mod Policies
