@@ -39,6 +39,8 @@ use Rattle.closing_laws.proofs.Declared.{listed}
 use Rattle.closing_laws.proofs.Delivered.{item_behind, give_told, sent_behind}
 use Rattle.closing_laws.proofs.Locals.{found_in}
 use Rattle.closing_laws.proofs.Onward.{IsCalm, Onward, onward_here, onward_on, onward_next, at_home, gentle_ask, gentle_give}
+use Rattle.fed_rules.specs.Attempts.{each_attempt}
+use Rattle.rules_laws.proofs.EachAttempt.{in_each}
 
 -- the site is in doubt of the attempt
 abbrev pub doubt_at : Home → Story → Tid → Option Held
@@ -94,7 +96,7 @@ pub doubt_listed : (home : Home) (story : Story) (tid : Tid) (held : Held) → d
 doubt_listed home story tid held e =
     let rs = records home (past_of home.site story) in
     let p = prepared_as rs tid held e in
-    rising_in _ tid (subst (λ t. In t (map (λ (h : Held). h.tid) (doubts rs))) p.named (in_map (λ (h : Held). h.tid) held (doubts rs) (in_sorted held (found (doubt_of rs) (prepared_tids rs)) (found_in (doubt_of rs) (prepared_tids rs) tid held p.prepared e))))
+    rising_in _ tid (subst (λ t. In t (map (λ (h : Held). h.tid) (doubts rs))) p.named (in_map (λ (h : Held). h.tid) held (doubts rs) (in_sorted held (found (doubt_of rs) (each_attempt (prepared_tids rs))) (found_in (doubt_of rs) (each_attempt (prepared_tids rs)) tid held (in_each (prepared_tids rs) tid p.prepared) e))))
 
 -- behind a settling the attempt isn't in doubt
 settled_now : (home : Home) (past : SitePast) (tid : Tid) (decision : Decision) → doubt_of (records home (settles home tid decision ∷ past)) tid ≡ None

@@ -25,6 +25,7 @@ use Rattle.closing_laws.proofs.CoordTurns.{begun_in}
 use Rattle.closing_laws.proofs.Inquire.{doubt_listed}
 use Rattle.closing_laws.proofs.Onward.{IsCalm}
 use Rattle.commit_laws.proofs.CoordFacts.{is_undecided}
+use Rattle.fed_rules.specs.Attempts.{each_attempt}
 
 -- lists of what isn't there
 nothing_found : {A B : Type 0} (look : A → Option B) (xs : List A) → ((x : A) → look x ≡ None) → found look xs ≡ []
@@ -76,7 +77,7 @@ quiet_rests scenario story q = record {
     doubted site None e = refl
     doubted site (Some home) e =
         ap (λ hs. rising (map (λ (held : Held). held.tid) (by_tid hs)))
-        (nothing_found (doubt_of (records home (past_of home.site story))) (prepared_tids (records home (past_of home.site story))) (λ tid. q.settled home tid (home-again scenario site home e)))
+        (nothing_found (doubt_of (records home (past_of home.site story))) (each_attempt (prepared_tids (records home (past_of home.site story)))) (λ tid. q.settled home tid (home-again scenario site home e)))
 
 -- and back, in the story of any commands
 pub rests_quiet : StoriesHaveRightLines → (scenario : Scenario) (commands : List Command) → IsAtRest scenario (story_of scenario commands) → IsQuiet scenario (story_of scenario commands)

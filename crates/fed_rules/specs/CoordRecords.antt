@@ -20,6 +20,7 @@ use Rattle.fed_rules.specs.declared.records.CoordRecord.{CoordRecord}
 use Rattle.fed_rules.specs.declared.records.CoordRecord.TheVariants.{Initiation, Commit, Abort, End, Checkpoint}
 use Rattle.fed_rules.specs.declared.sums.CommittedAttempt.{CommittedAttempt}
 use Rattle.fed_rules.specs.declared.sums.OpenAttempt.{OpenAttempt}
+use Rattle.fed_rules.specs.Attempts.{with_attempt}
 use Rattle.fed_rules.specs.Disk.{framed}
 
 -- the class of an attempt: uniform where all its participants have one protocol, and else mixed
@@ -131,10 +132,6 @@ abbrev pub commits : List CoordRecord → List Ticketed
 commits [] = []
 commits (Commit tid tickets ∷ records) = record { tid = tid; tickets = tickets } ∷ commits records
 commits (newest ∷ records) = commits records
-
--- these attempts and this one, each once
-abbrev pub with_attempt : Tid → List Tid → List Tid
-with_attempt tid tids = cond (some_of (same_tid tid) tids) tids (tid ∷ tids)
 
 -- the attempts that have a record, each once, the last one first
 abbrev pub recorded : List CoordRecord → List Tid

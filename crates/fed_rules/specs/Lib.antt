@@ -1,3 +1,4 @@
+pub mod Attempts
 pub mod Closing
 pub mod Endings
 pub mod Headline

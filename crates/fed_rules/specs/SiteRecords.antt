@@ -11,6 +11,7 @@ use Rattle.mdb_base.specs.Rows.{with_rows}
 use Rattle.mdb_base.specs.Words.{found, inserted}
 use Rattle.presumptions.specs.declared.Protocol.{Protocol}
 use Rattle.presumptions.specs.declared.Decision.TheVariants as Decided
+use Rattle.fed_rules.specs.Attempts.{each_attempt}
 use Rattle.fed_rules.specs.declared.records.SiteRecord.{SiteRecord}
 use Rattle.fed_rules.specs.declared.records.SiteRecord.TheVariants.{Setup, Start, Prepared, Ended, Local, Checkpoint}
 use Rattle.fed_rules.specs.declared.sums.DoubtfulSum.{DoubtfulSum}
@@ -90,9 +91,9 @@ abbrev pub by_tid : List Held → List Held
 by_tid [] = []
 by_tid (held ∷ more) = inserted held_before held (by_tid more)
 
--- all that the site is in doubt of, by rising attempt
+-- all that the site is in doubt of, by rising attempt, each attempt once
 abbrev pub doubts : List SiteRecord → List Held
-doubts records = by_tid (found (doubt_of records) (prepared_tids records))
+doubts records = by_tid (found (doubt_of records) (each_attempt (prepared_tids records)))
 
 -- the greatest serial number
 abbrev pub last_number : List SiteRecord → ℕ

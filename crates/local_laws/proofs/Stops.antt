@@ -24,6 +24,7 @@ use Rattle.site_laws.proofs.Unmoved.{IsUnmoved, running_unmoved}
 use Rattle.local_laws.specs.Kept.{State, resting, heard, kept_of}
 use Rattle.local_laws.specs.Sound.{IsLiveAs, Agrees, Fits, IsSound, Keeps}
 use Rattle.local_laws.proofs.Appended.{Appends, calls_each}
+use Rattle.fed_rules.specs.Attempts.{each_attempt}
 
 -- records that fit name nothing prepared
 pub unprepared : (past : SitePast) (n : ℕ) (rs : List SiteRecord) → Each (Fits past n) rs → prepared_tids rs ≡ []
@@ -37,7 +38,7 @@ unprepared past n (Rec.Local tid number writes ∷ rs) f = unprepared past n rs 
 
 -- and nothing is in doubt at a start from them
 pub start_undoubted : (home : Home) (past : SitePast) (n : ℕ) (rs : List SiteRecord) → Each (Fits past n) rs → (start_of home rs).doubtful ≡ []
-start_undoubted home past n rs f = ap (λ tids. map kept_held (by_tid (found (doubt_of rs) tids))) (unprepared past n rs f)
+start_undoubted home past n rs f = ap (λ tids. map kept_held (by_tid (found (doubt_of rs) (each_attempt tids)))) (unprepared past n rs f)
 
 -- their greatest number is at most the bound
 pub last_below : (past : SitePast) (n : ℕ) (rs : List SiteRecord) → Each (Fits past n) rs → last_number rs ≤ n

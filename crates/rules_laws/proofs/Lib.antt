@@ -1,5 +1,6 @@
 pub mod Declared
 pub mod Durable
+pub mod EachAttempt
 pub mod Heard
 pub mod Lines
 pub mod Pasts

@@ -36,6 +36,7 @@ use Rattle.session_laws.specs.Closing.{IsAtSite, past_at, disarmed, brought_up, 
 use Rattle.session_laws.proofs.AllLocal.{alone_local, none_local}
 use Rattle.session_laws.proofs.Heard.{site_some}
 use Rattle.session_laws.proofs.Uncoordinated.{uncoordinated}
+use Rattle.fed_rules.specs.Attempts.{each_attempt}
 
 -- what is kept of the transactions of the site agrees with its past
 pub keeps : (scenario : Scenario) (line : SiteLine) (commands : List Command) → IsAlone scenario line → Each IsOwn commands → Keeps (program_of scenario) (home_from scenario line) (past_at scenario line commands)
@@ -167,7 +168,7 @@ none_asked scenario line commands alone own =
     let k = keeps scenario line commands alone own in
     let undoubted : in_doubt_at (home_of scenario line.site) story ≡ [] =
     ap (λ h. in_doubt_at h story) (one_home scenario line alone.sites)
-    ∙ ap (λ ts. rising (map (λ held. held.tid) (by_tid (found (doubt_of (records (home_from scenario line) past)) ts)))) (unprepared past (length past) (records (home_from scenario line) past) k.sound.records) in
+    ∙ ap (λ ts. rising (map (λ held. held.tid) (by_tid (found (doubt_of (records (home_from scenario line) past)) (each_attempt ts))))) (unprepared past (length past) (records (home_from scenario line) past) k.sound.records) in
     ap (λ ss. for_each (ask_site scenario story) ss commands) (one_site scenario line alone.sites) ∙ ap (λ ts. for_each (inquire scenario line.site) ts commands) undoubted
 
 -- a session at one site is closed so

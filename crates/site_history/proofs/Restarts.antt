@@ -14,6 +14,7 @@ use Rattle.fed_rules.specs.declared.runs.Kept.{Kept}
 use Rattle.fed_rules.specs.EngineLines.{AllApart, IsNumbered, IsStart}
 use Rattle.fed_rules.specs.Runs as Runs
 use Rattle.fed_rules.specs.Runs.{EngineLine, Access, Run, committed, number, published, restored, run_at, table, table_of}
+use Rattle.fed_rules.specs.Attempts.{each_attempt}
 use Rattle.fed_rules.specs.SiteRecords.{Home, Held, doubt_of, doubts, installs, kept_held, last_number, prepared_tids, rows_after, start_of, by_tid, held_before}
 use Rattle.engine_laws.specs.Epochs.{Epoch, AreEpochs, StartsAfter, all_committed}
 use Rattle.engine_laws.specs.Laws.{EachOnce, IsLeft}
@@ -29,6 +30,7 @@ use Rattle.site_history.proofs.Records.{HasNumber, doubt_number, number_most, pr
 use Rattle.site_history.proofs.SameLists.{install_of, installs_fall, rows_of_runs, same_list}
 use Rattle.site_history.proofs.Starts.{HasRisingWrites, doubt_tid, restored_doubt, restored_held, start_agrees}
 use Rattle.mdb_base.proofs.ListLaws.{each_inserted}
+use Rattle.rules_laws.proofs.EachAttempt.{each_distinct}
 
 -- the committed runs of backed records, by falling numbers, are their installs
 pub installs_are : (home : Home) (acts : Tid → List Access) (records : List SiteRecord) (start : Runs.Start) (lines : List EngineLine)
@@ -88,8 +90,8 @@ pub each_doubt : (P : Kept → Type 0) (records : List SiteRecord)
     → ((tid : Tid) (held : Held) → doubt_of records tid ≡ Some held → P (kept_held held)) → Each P (map kept_held (doubts records))
 each_doubt P records f =
     each_image P kept_held (doubts records)
-    (each_by_tid (λ held. P (kept_held held)) (found (doubt_of records) (prepared_tids records))
-    (each_found_from (λ held. P (kept_held held)) (doubt_of records) (prepared_tids records) (λ tid held i e. f tid held e)))
+    (each_by_tid (λ held. P (kept_held held)) (found (doubt_of records) (each_attempt (prepared_tids records)))
+    (each_found_from (λ held. P (kept_held held)) (doubt_of records) (each_attempt (prepared_tids records)) (λ tid held i e. f tid held e)))
 
 once_found : (records : List SiteRecord) (tids : List Tid) → Distinct tids → EachOnce (map kept_held (found (doubt_of records) tids))
 once_found records [] apart = tt
@@ -178,6 +180,12 @@ once_by_tid (held ∷ helds) once =
     (each_by_tid (λ other. same_tid held.tid other.tid ≡ false) helds (each_held (λ other. same_tid held.tid other.tid ≡ false) helds once.0))
     (once_by_tid helds once.1)
 
+-- no attempt is in doubt twice
+pub once_doubts : (records : List SiteRecord) → EachOnce (map kept_held (doubts records))
+once_doubts records =
+    once_by_tid (found (doubt_of records) (each_attempt (prepared_tids records)))
+    (once_found records (each_attempt (prepared_tids records)) (each_distinct (prepared_tids records)))
+
 -- the start comes after the epoch before it
 pub starts_after : (home : Home) (acts : Tid → List Access) (records : List SiteRecord) (start : Runs.Start) (lines : List EngineLine)
     (earlier : List Epoch) → IsBacked home acts records start lines earlier → BindOnce records
@@ -189,7 +197,7 @@ starts_after home acts records start lines earlier b once = record {
     left = each_doubt (IsLeft start lines) records
         (λ tid held e. left_sealed start lines tid held (run_at start lines tid) (doubt_tid records tid held e) refl
         (subst (λ o. Agrees o (run_at start lines tid)) e (b.agrees tid)));
-    once = once_by_tid (found (doubt_of records) (prepared_tids records)) (once_found records (prepared_tids records) (prepared_once records once));
+    once = once_doubts records;
     counter = each_doubt (λ kept. kept.number ≤ last_number records) records (λ tid held e. doubt_number records tid held e);
     published = b.published;
   };

@@ -9,10 +9,12 @@ use Rattle.fed_rules.specs.declared.records.SiteRecord.{SiteRecord}
 use Rattle.fed_rules.specs.declared.records.SiteRecord.TheVariants.{Setup, Start, Prepared, Ended, Local, Checkpoint}
 use Rattle.fed_rules.specs.Disk.{Disk, Call, Append, Sync, CutBack, TrimFront, Stops, whole, bytes_of, after_call, after_calls}
 use Rattle.fed_rules.specs.Runs.{Run, restored, restored_at, run_at}
+use Rattle.fed_rules.specs.Attempts.{each_attempt}
 use Rattle.fed_rules.specs.SiteRecords.{Home, Held, doubt_of, prepared_tids, doubts, kept_held, start_of, by_tid, held_before}
 use Rattle.engine_laws.proofs.Rows.{puts_of_written}
 use Rattle.site_history.specs.Lines.{Agrees}
 use Rattle.std.specs.Prelude.{nat_le, min, ◌+◌, ◌++◌, nat_lt, ◌||◌, ◌&&◌, ◌==◌}
+use Rattle.rules_laws.proofs.EachAttempt.{in_each}
 
 -- the writes of a Prepared record rise by their keys
 abbrev pub HasRisingWrites : SiteRecord → Type 0
@@ -180,7 +182,10 @@ restored_by_tid (held ∷ helds) tid =
     ∙ ap (λ o. cond (same_tid held.tid tid) (Some (restored (kept_held held))) o) (restored_by_tid helds tid)
 
 pub restored_doubt : (records : List SiteRecord) (tid : Tid) → restored_at (map kept_held (doubts records)) tid ≡ restored_held (doubt_of records tid)
-restored_doubt records tid = restored_by_tid (found (doubt_of records) (prepared_tids records)) tid ∙ restored_found records (prepared_tids records) tid (doubt_among records tid)
+restored_doubt records tid =
+    restored_by_tid (found (doubt_of records) (each_attempt (prepared_tids records))) tid
+    ∙ restored_found records (each_attempt (prepared_tids records)) tid
+    (elim (doubt_among records tid) [ inl among ↦ inl (in_each (prepared_tids records) tid among) | inr none ↦ inr none ])
 
 agrees_restored : (o : Option Held) → ((held : Held) → o ≡ Some held → IsRising (λ put. put.key.0) held.writes) → Agrees o (restored_held o)
 agrees_restored None rising = tt

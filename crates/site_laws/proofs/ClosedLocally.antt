@@ -27,6 +27,7 @@ use Rattle.site_laws.proofs.Orderly.{IsOrderly}
 use Rattle.site_laws.proofs.RisingLists.{in_rising}
 use Rattle.site_laws.proofs.SerialSessions.{orderly}
 use Rattle.site_laws.proofs.Uncoordinated.{uncoordinated}
+use Rattle.fed_rules.specs.Attempts.{each_attempt}
 
 -- no actor of which a test holds
 no_actors : (of_coordinator : CoordPast → Bool) (of_site : SitePast → Bool) (scenario : Scenario) (story : Story) (site : SiteId) → sites scenario ≡ site ∷ [] → coord_past story ≡ [] → of_coordinator [] ≡ false → of_site (past_of site story) ≡ false → actors of_coordinator of_site scenario story ≡ []
@@ -118,7 +119,7 @@ closed_is scenario line commands alone local =
     let ended : end_known scenario then ≡ then = ap (λ ts. for_each (send_again scenario) ts then) (none_known scenario later quiet_then) in
     let undoubted : in_doubt_at (home_of scenario line.site) later ≡ [] =
     ap (λ h. in_doubt_at h later) (one_home scenario line alone.sites)
-    ∙ ap (λ ts. rising (map (λ held. held.tid) (by_tid (found (doubt_of (records (home_from scenario line) (past_of line.site later))) ts)))) o_then.calm.unprepared in
+    ∙ ap (λ ts. rising (map (λ held. held.tid) (by_tid (found (doubt_of (records (home_from scenario line) (past_of line.site later))) (each_attempt ts))))) o_then.calm.unprepared in
     let asked : ask_all scenario then ≡ then = ap (λ ss. for_each (ask_site scenario later) ss then) only ∙ ap (λ ts. for_each (inquire scenario line.site) ts then) undoubted in
     ap (λ cs. ask_all scenario (end_known scenario (clear scenario (give_up scenario (bring_up scenario cs))))) disarmed
     ∙ (ap (λ cs. ask_all scenario (end_known scenario (clear scenario (give_up scenario cs)))) up

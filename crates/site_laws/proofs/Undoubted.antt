@@ -27,6 +27,7 @@ use Rattle.site_laws.specs.Follows.{IsOwnRun}
 use Rattle.site_laws.specs.Led.{IsLed, tid_in, IsNoMessageTo}
 use Rattle.site_laws.proofs.ListMembers.{take_each}
 use Rattle.site_laws.proofs.OwnRuns.{follows_led}
+use Rattle.fed_rules.specs.Attempts.{each_attempt}
 
 -- the record doesn't prepare the attempt
 abbrev pub IsOther : Tid → SiteRecord → Type 0
@@ -237,7 +238,7 @@ restored_none tid (held ∷ helds) h =
     ap (λ b. cond b (Some (restored (kept_held held))) (restored_at (map kept_held helds) tid)) h.0 ∙ restored_none tid helds h.1
 
 start_restores_none : (home : Home) (tid : Tid) (rs : List SiteRecord) → Each (IsOther tid) rs → restored_at (start_of home rs).doubtful tid ≡ None
-start_restores_none home tid rs h = restored_none tid (doubts rs) (sorted_other tid _ (doubts_other tid rs (prepared_tids rs) h))
+start_restores_none home tid rs h = restored_none tid (doubts rs) (sorted_other tid _ (doubts_other tid rs (each_attempt (prepared_tids rs)) h))
 
 pub never_restored : (scenario : Scenario) (home : Home) (past : SitePast) (tid : Tid) → IsLed (IsNoMessageTo tid) scenario home past → restored_at (epoch_start home past).doubtful tid ≡ None
 never_restored scenario home [] tid led = refl

@@ -16,6 +16,8 @@ use Rattle.fed_rules.specs.SiteSums.{carried, epoch_with, locals_with}
 use Rattle.site_history.proofs.Starts.{doubt_tid, doubt_among}
 use Rattle.sum_laws.specs.Sums.{StaysBelow, HeldComes, ComeInOrder}
 use Rattle.sum_laws.proofs.RowsOnTop.{rows_on_top}
+use Rattle.fed_rules.specs.Attempts.{each_attempt}
+use Rattle.rules_laws.proofs.EachAttempt.{in_each}
 
 pub epoch_behind : (e : ℕ) (newer older : List SiteRecord) → epoch_with (epoch_with e older) newer ≡ epoch_with e (newer ++ older)
 epoch_behind e [] older = refl
@@ -122,7 +124,7 @@ carried_doubt older (held ∷ helds) tid are among = by_test (same_tid held.tid 
     by_test false is (inl (inr more)) rest = rest (inl more)
     by_test false is (inr none) rest = rest (inr none)
 
-found_doubts : (older : List SiteRecord) (tids : List Tid) → AreDoubts older (found (doubt_of older) tids)
+pub found_doubts : (older : List SiteRecord) (tids : List Tid) → AreDoubts older (found (doubt_of older) tids)
 found_doubts older [] = tt
 found_doubts older (t ∷ tids) = by_held (doubt_of older t) refl (found_doubts older tids)
   where
@@ -172,9 +174,9 @@ found_among older (t ∷ tids) tid (inr a) = by_held (doubt_of older t) (found_a
 -- a Checkpoint's Prepared records leave the same ones in doubt
 pub carried_same : (older : List SiteRecord) (tid : Tid) → doubt_of (carried (doubts older)) tid ≡ doubt_of older tid
 carried_same older tid =
-    carried_doubt older (doubts older) tid (each_by_tid _ _ (found_doubts older (prepared_tids older)))
+    carried_doubt older (doubts older) tid (each_by_tid _ _ (found_doubts older (each_attempt (prepared_tids older))))
     (elim (doubt_among older tid) [
-      | inl a ↦ (elim (found_among older (prepared_tids older) tid a) [ inl b ↦ inl (among_by_tid _ _ b) | inr none ↦ inr none ])
+      | inl a ↦ (elim (found_among older (each_attempt (prepared_tids older)) tid (in_each (prepared_tids older) tid a)) [ inl b ↦ inl (among_by_tid _ _ b) | inr none ↦ inr none ])
       | inr none ↦ inr none
     ])
 

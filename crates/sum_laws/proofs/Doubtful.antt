@@ -1,20 +1,24 @@
 -- Those in doubt by rising attempt, behind a Checkpoint and behind the records that it stands for.
-use Rattle.std.proofs.Common.{◌≡◌, ◌⊎◌, Bool, true, false, cond, Option, Some, None, List, [], ◌∷◌, ◌++◌, map, refl, sym, ap, ap₂, ◌∙◌, inl, inr, arith}
+use Rattle.std.proofs.Common.{◌≡◌, ◌⊎◌, Bool, true, false, cond, Option, Some, None, List, [], ◌∷◌, ◌++◌, map, refl, sym, subst, ap, ap₂, ◌∙◌, inl, inr, arith}
 use Rattle.std.specs.Prelude.{is_some}
 use Rattle.mdb_base.specs.declared.names.Tid.{Tid}
 use Rattle.mdb_base.specs.Names.{same_tid, tid_before}
 use Rattle.mdb_base.specs.Words.{Each, found, with_some, inserted, those}
-use Rattle.mdb_base.proofs.ListLaws.{each_inserted, each_map, each_filtered}
-use Rattle.mdb_base.proofs.NameLaws.{same_tid-equal}
-use Rattle.order_laws.specs.Chains.{In}
+use Rattle.mdb_base.proofs.ListLaws.{each_among, each_inserted, each_map, each_filtered}
+use Rattle.mdb_base.proofs.NameLaws.{same_tid-equal, same_tid-refl}
+use Rattle.order_laws.specs.Chains.{In, Distinct}
 use Rattle.order_laws.proofs.Names.{ranks_tids}
 use Rattle.fed_rules.specs.declared.records.SiteRecord.{SiteRecord}
 use Rattle.fed_rules.specs.declared.records.SiteRecord.TheVariants.{Setup, Start, Prepared, Ended, Local, Checkpoint}
-use Rattle.fed_rules.specs.SiteRecords.{Held, doubt_of, prepared_tids, doubts, by_tid, held_before}
+use Rattle.fed_rules.specs.Attempts.{each_attempt}
+use Rattle.fed_rules.specs.SiteRecords.{Held, doubt_of, prepared_tids, doubts, by_tid, held_before, kept_held}
 use Rattle.fed_rules.specs.SiteSums.{carried}
-use Rattle.site_history.proofs.Starts.{doubt_tid}
+use Rattle.engine_laws.specs.Laws.{EachOnce}
+use Rattle.rules_laws.proofs.EachAttempt.{each_append, each_kept, each_of_distinct}
+use Rattle.site_history.proofs.Restarts.{once_doubts}
+use Rattle.site_history.proofs.Starts.{doubt_tid, doubt_among}
 use Rattle.sum_laws.specs.Sums.{PreparesNoneAgain}
-use Rattle.sum_laws.proofs.Behind.{carried_same, doubt_behind, each_by_tid}
+use Rattle.sum_laws.proofs.Behind.{AreDoubts, carried_same, doubt_behind, each_by_tid, found_doubts}
 
 -- none behind stands before
 abbrev pub AreSorted : List Held → Type 0
@@ -207,20 +211,49 @@ found_itself f older (t ∷ tids) h = by_held (doubt_of older t) refl (found_its
         let is = doubt_tid older t held e in
         (elim h.0 [ inl same ↦ inl (ap f is ∙ same ∙ e) | inr none ↦ inr (ap f is ∙ none) ], rest)
 
+-- no attempt stands twice among those of which none is in doubt twice
+distinct_held : (helds : List Held) → EachOnce (map kept_held helds) → Distinct (map (λ held. held.tid) helds)
+distinct_held [] once = tt
+distinct_held (held ∷ helds) once = (out helds once.0, distinct_held helds once.1)
+  where
+    out : (more : List Held) → Each (λ other. same_tid held.tid other.tid ≡ false) (map kept_held more) → In held.tid (map (λ h. h.tid) more) → ⊥
+    out [] h i = i
+    out (next ∷ more) h (inl e) =
+        let same : same_tid held.tid next.tid ≡ true = subst (λ t. same_tid held.tid t ≡ true) (sym e) (same_tid-refl held.tid) in
+        let apart = h.0 in cc
+    out (next ∷ more) h (inr i) = out more h.1 i
+
+-- the attempts of those in doubt have Prepared records
+doubt_prepared : (older : List SiteRecord) (helds : List Held) → AreDoubts older helds → (tid : Tid)
+    → In tid (map (λ held. held.tid) helds) → In tid (prepared_tids older)
+doubt_prepared older [] h tid i = absurd i
+doubt_prepared older (held ∷ helds) h tid (inr i) = doubt_prepared older helds h.1 tid i
+doubt_prepared older (held ∷ helds) h tid (inl e) = by_record (doubt_among older tid)
+  where
+    by_record : (In tid (prepared_tids older)) ⊎ (doubt_of older tid ≡ None) → In tid (prepared_tids older)
+    by_record (inl among) = among
+    by_record (inr none) = (let is : doubt_of older tid ≡ Some held = subst (λ t. doubt_of older t ≡ Some held) e h.0 in cc)
+
 -- those in doubt behind a Checkpoint are those of all
 pub doubts_behind : (newer older : List SiteRecord) → PreparesNoneAgain newer older → doubts (newer ++ carried (doubts older)) ≡ doubts (newer ++ older)
 doubts_behind newer older none =
-    ap by_tid (found_alike now f (doubt_behind newer older (carried sums) (carried_same older)) (prepared_tids (newer ++ carried sums))
-    ∙ ap (found f) (tids_append newer (carried sums) ∙ ap (λ ts. prepared_tids newer ++ ts) (carried_tids sums))
-    ∙ found_append f (prepared_tids newer) (map (λ held. held.tid) sums))
-    ∙ by_tid_append (found f (prepared_tids newer)) (found f (map (λ held. held.tid) sums)) (found f olds) same
-    ∙ sym (ap by_tid (ap (found f) (tids_append newer older) ∙ found_append f (prepared_tids newer) olds))
+    ap by_tid (found_alike now f (doubt_behind newer older (carried sums) (carried_same older)) (each_attempt (prepared_tids (newer ++ carried sums)))
+    ∙ ap (λ tids. found f (each_attempt tids)) (tids_append newer (carried sums) ∙ ap (λ ts. news ++ ts) (carried_tids sums))
+    ∙ ap (found f) (each_append news (map (λ held. held.tid) sums) (λ g i j. again g i (doubt_prepared older sums are g j))
+    ∙ ap (λ ts. each_attempt news ++ ts) (each_of_distinct (map (λ held. held.tid) sums) (distinct_held sums (once_doubts older))))
+    ∙ found_append f (each_attempt news) (map (λ held. held.tid) sums))
+    ∙ by_tid_append (found f (each_attempt news)) (found f (map (λ held. held.tid) sums)) (found f olds) same
+    ∙ sym (ap by_tid (ap (λ tids. found f (each_attempt tids)) (tids_append newer older)
+    ∙ ap (found f) (each_append news (prepared_tids older) again) ∙ found_append f (each_attempt news) olds))
   where
     sums : List Held
     sums = doubts older
 
+    news : List Tid
+    news = prepared_tids newer
+
     olds : List Tid
-    olds = prepared_tids older
+    olds = each_attempt (prepared_tids older)
 
     now : Tid → Option Held
     now = doubt_of (newer ++ carried sums)
@@ -228,8 +261,16 @@ doubts_behind newer older none =
     f : Tid → Option Held
     f = doubt_of (newer ++ older)
 
+    again : (g : Tid) → In g news → In g (prepared_tids older) → ⊥
+    again g i j = each_among (λ tid. In tid news → ⊥) g (prepared_tids older) none j i
+
+    are : AreDoubts older sums
+    are = each_by_tid _ _ (found_doubts older olds)
+
     stays : Each (StaysOrEnds f (doubt_of older)) olds
-    stays = each_map (λ tid. In tid (prepared_tids newer) → ⊥) (StaysOrEnds f (doubt_of older)) (λ tid no. stays_or_ends newer older tid no) olds none
+    stays =
+        each_kept (StaysOrEnds f (doubt_of older)) (prepared_tids older)
+        (each_map (λ tid. In tid news → ⊥) (StaysOrEnds f (doubt_of older)) (λ tid no. stays_or_ends newer older tid no) (prepared_tids older) none)
 
     same : by_tid (found f (map (λ held. held.tid) sums)) ≡ by_tid (found f olds)
     same =

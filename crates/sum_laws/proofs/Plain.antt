@@ -12,6 +12,7 @@ use Rattle.fed_rules.specs.SiteSums.{epoch_with, locals_with, site_sum}
 use Rattle.sum_laws.specs.Sums.{plain}
 use Rattle.sum_laws.proofs.Doubtful.{found_alike}
 use Rattle.sum_laws.proofs.Whole.{same_parts}
+use Rattle.fed_rules.specs.Attempts.{each_attempt}
 
 pub epoch_plain : (rs : List SiteRecord) → epoch_with 0 (plain rs) ≡ epoch_with 0 rs
 epoch_plain [] = refl
@@ -90,4 +91,5 @@ installs_plain (Local t n writes ∷ rs) = ap (by_number (record { tid = t; numb
 pub sum_plain : (home : Home) (rs : List SiteRecord) → site_sum home (plain rs) ≡ site_sum home rs
 sum_plain home rs =
     same_parts home (epoch_plain rs) (number_plain rs) (ticket_plain rs) (owner_plain rs) (ap (rows_after home.items) (installs_plain rs)) (locals_plain rs)
-    (ap by_tid (found_alike (doubt_of (plain rs)) (doubt_of rs) (doubt_plain rs) (prepared_tids (plain rs)) ∙ ap (found (doubt_of rs)) (tids_plain rs)))
+    (ap by_tid (found_alike (doubt_of (plain rs)) (doubt_of rs) (doubt_plain rs) (each_attempt (prepared_tids (plain rs)))
+    ∙ ap (λ tids. found (doubt_of rs) (each_attempt tids)) (tids_plain rs)))
