@@ -2,7 +2,7 @@
 use Rattle.std.proofs.Common.{◌≡◌, ℕ, ◌+◌, ◌<◌, ◌^◌, false, Option, Some, List, ◌∷◌, refl, ap, ◌∙◌, arith}
 use Rattle.std.proofs.lemmas.Bool.{cond-true, cond-false}
 use Rattle.mdb_base.specs.declared.names.Engine.{Engine}
-use Rattle.mdb_base.specs.declared.names.Engine.TheVariants.{Locking, Timestamp, Validation}
+use Rattle.fed_rules.specs.Replies.{Drawn, AtBegin, AtSealing}
 use Rattle.mdb_base.specs.declared.names.Key.{Key}
 use Rattle.mdb_base.specs.declared.names.Tid.{Tid}
 use Rattle.mdb_base.specs.declared.acts.PlainAct.{PlainAct}
@@ -72,7 +72,6 @@ pub counter-begun : (start : Start) (older : List EngineLine) (tid : Tid) (n : �
 counter-begun start older tid n h = let e = h.0.1 in omega arith
 
 -- a sealing draws at most one
-pub NumberFits-below : (kind : Engine) (start : Start) (lines : List EngineLine) → counter start lines + 1 < 2 ^ 64 → NumberFits kind start lines
-NumberFits-below Locking start lines h = h
-NumberFits-below Timestamp start lines h = tt
-NumberFits-below Validation start lines h = h
+pub NumberFits-below : (drawn : Drawn) (start : Start) (lines : List EngineLine) → counter start lines + 1 < 2 ^ 64 → NumberFits drawn start lines
+NumberFits-below AtBegin start lines h = tt
+NumberFits-below AtSealing start lines h = h

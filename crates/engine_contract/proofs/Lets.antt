@@ -7,6 +7,7 @@ use Rattle.mdb_base.specs.declared.acts.PlainAct.TheVariants.{Read, Write}
 use Rattle.mdb_base.specs.declared.replies.Reply.TheVariants.{Done, Value, Ticket, Wait}
 use Rattle.fed_rules.specs.Runs.{Start, EngineLine, Begins, Acts, Takes, Seals, counter, published}
 use Rattle.engine_contract.specs.Calls.{CanAct, CanTake, CanSeal, CanCommit, CanAbort, HasJustBegun, HasJustSealed}
+use Rattle.fed_rules.specs.Replies.{rule}
 use Rattle.engine_contract.proofs.Follows.{begun_then, read_then, wrote_then, waits_then, waits_for_ticket_then, took_then, sealed_then, NumberFits-below}
 
 -- what was begun can act, take the ticket and be taken back
@@ -38,7 +39,7 @@ took_acts {start} {older} {tid} {ticket} c = record { run = _; live = (took_then
 
 -- what can act can be sealed and aborted
 pub act_seals : {start : Start} {lines : List EngineLine} {tid : Tid} → CanAct tid start lines → counter start lines + 1 < 2 ^ 64 → CanSeal tid start lines
-act_seals {start} {lines} {tid} c few = record { run = c.run; live = c.live; fits = NumberFits-below start.kind start lines few }
+act_seals {start} {lines} {tid} c few = record { run = c.run; live = c.live; fits = NumberFits-below (rule start.kind).drawn start lines few }
 
 pub act_aborts : {start : Start} {lines : List EngineLine} {tid : Tid} → CanAct tid start lines → CanAbort tid start lines
 act_aborts c = record { run = c.run; unended = c.live.0 }

@@ -1,12 +1,12 @@
 -- When each call may come on a list of engine lines, and what it answers beside the line that it adds.
 use Rattle.std.specs.Prelude.{ℕ, ◌≡◌, ◌+◌, ◌^◌, ◌<◌, Option, Some, None, List, [], ◌∷◌}
 use Rattle.mdb_base.specs.declared.names.Engine.{Engine}
-use Rattle.mdb_base.specs.declared.names.Engine.TheVariants.{Locking, Timestamp, Validation}
 use Rattle.mdb_base.specs.declared.names.Tid.{Tid}
 use Rattle.mdb_base.specs.declared.rows.Put.{Put}
 use Rattle.fed_rules.specs.declared.runs.Kept.{Kept}
 use Rattle.fed_rules.specs.declared.runs.Sealed.{Sealed}
 use Rattle.fed_rules.specs.Runs.{Start, EngineLine, Begins, Seals, Refuses, Run, run_at, counter, published, puts_of}
+use Rattle.fed_rules.specs.Replies.{Drawn, AtBegin, AtSealing, rule}
 use Rattle.fed_rules.specs.EngineLines.{IsFree, IsLive, IsTicketless, IsSealed}
 use Rattle.engine_contract.specs.declared.seal_err.SealErr.{SealErr}
 use Rattle.engine_contract.specs.declared.seal_err.SealErr.TheVariants as Err_is
@@ -28,17 +28,16 @@ pub record CanTake (tid : Tid) (start : Start) (lines : List EngineLine) : Type 
   pub ticketless : IsTicketless start lines tid run
   pub fits : published start lines + 1 < 2 ^ 64
 
--- where a sealing draws a number, which it doesn't under timestamp order, the next one fits
-abbrev pub NumberFits : Engine → Start → List EngineLine → Type 0
-NumberFits Locking start lines = counter start lines + 1 < 2 ^ 64
-NumberFits Timestamp start lines = Unit {0}
-NumberFits Validation start lines = counter start lines + 1 < 2 ^ 64
+-- where a sealing draws a number, the next one fits
+abbrev pub NumberFits : Drawn → Start → List EngineLine → Type 0
+NumberFits AtBegin start lines = Unit {0}
+NumberFits AtSealing start lines = counter start lines + 1 < 2 ^ 64
 
 -- the attempt has a live run, and its serial number fits
 pub record CanSeal (tid : Tid) (start : Start) (lines : List EngineLine) : Type 0 where
   pub run : Run
   pub live : IsLive start lines tid run
-  pub fits : NumberFits start.kind start lines
+  pub fits : NumberFits (rule start.kind).drawn start lines
 
 -- the attempt has a sealed run
 pub record CanCommit (tid : Tid) (start : Start) (lines : List EngineLine) : Type 0 where

@@ -12,7 +12,7 @@ use Rattle.mdb_base.specs.declared.replies.Reply.TheVariants.{Done, Value, Ticke
 use Rattle.mdb_base.specs.declared.replies.Why.TheVariants.{Die}
 use Rattle.mdb_base.specs.Words.{map_some, those, least}
 use Rattle.fed_rules.specs.Runs.{Start, EngineLine, Acts, Takes, Seals, Got, Wrote, Run, run_at, unended, counter, published, after}
-use Rattle.fed_rules.specs.Replies.{age_of, wait_die, access_stop, ticket_stop, seal_stop, seal_number, granted, or_reply}
+use Rattle.fed_rules.specs.Replies.{age_of, wait_die, access_stop, ticket_stop, seal_stop, seal_number, granted, granted_by, rule, or_reply}
 use Rattle.fed_rules.specs.EngineLines.{IsRightLine}
 use Rattle.run_lists.specs.declared.marks.Marks.{Marks}
 use Rattle.run_lists.specs.declared.rival.Rival.{Rival}
@@ -68,7 +68,8 @@ module _ (book : Book) (start : Start) (lines : List EngineLine) (k : Keeps Lock
   pub keeps_value : (key : Key) (value : ℕ) → held.run.sealed ≡ None → access_stop_in book tid held.run.age (Read key) ≡ None → value ≡ after held.run.acts (table_in book) key → Keeps Locking (grants tid (Got key value) book) start (Acts tid (Read key) (Value value) ∷ lines)
   keeps_value key value live free is =
       keeps_read Locking book start lines tid key value k
-      (right_access (Read key) (Value value) None live free (ap (λ (n : ℕ). Value n) (is ∙ after-table Locking book start lines held.run.acts key k)))
+      (right_access (Read key) (Value value) None live free (ap (λ (n : ℕ). Value n) (is ∙ after-table Locking book start lines held.run.acts key k)
+      ∙ sym (ap (λ (kind : Engine). granted_by (rule kind) start lines held.run (Read key)) k.of_kind)))
 
   -- a granted write
   pub keeps_done : (key : Key) (value : ℕ) → held.run.sealed ≡ None → access_stop_in book tid held.run.age (Write key value) ≡ None → Keeps Locking (grants tid (Wrote key value) book) start (Acts tid (Write key value) Done ∷ lines)

@@ -57,7 +57,7 @@ newer-kept n m None kept less newer = newer
 newer-kept n m (Some value) kept less newer = lt-ltb m n less
 
 -- a number above those of all runs is newer than what is kept
-newer-after : (n : ℕ) (rows : List Put) (runs : List Run) (key : Key) → 0 < n → Each (λ run. number run < n) runs → is_newer n (kept_after rows runs key) ≡ true
+pub newer-after : (n : ℕ) (rows : List Put) (runs : List Run) (key : Key) → 0 < n → Each (λ run. number run < n) runs → is_newer n (kept_after rows runs key) ≡ true
 newer-after n rows [] key some low = newer-first n (value_in rows key) some
 newer-after n rows (run ∷ runs) key some low =
     newer-kept n (number run) (own_write key run.acts) (kept_after rows runs key) low.0 (newer-after n rows runs key some low.1)

@@ -11,7 +11,7 @@ use Rattle.mdb_base.specs.declared.replies.Reply.TheVariants.{Done, Value, Ticke
 use Rattle.mdb_base.specs.declared.replies.Why.TheVariants.{Late}
 use Rattle.mdb_base.specs.Words.{map_some, with_some, those, greatest}
 use Rattle.fed_rules.specs.Runs.{Start, EngineLine, Acts, Takes, Seals, Aborts, Got, Wrote, Run, run_at, unended, committed, aborted, published, after}
-use Rattle.fed_rules.specs.Replies.{age_of, key_of, late_or_wait, younger_in_the_way, older_writers, younger_takers, older_takers, access_stop, ticket_stop, seal_stop, seal_number, granted, or_reply}
+use Rattle.fed_rules.specs.Replies.{age_of, key_of, late_or_wait, younger_in_the_way, older_writers, younger_takers, older_takers, access_stop, ticket_stop, seal_stop, seal_number, granted, granted_by, rule, or_reply}
 use Rattle.fed_rules.specs.EngineLines.{IsRightLine}
 use Rattle.run_lists.specs.declared.marks.Marks.{Marks}
 use Rattle.run_lists.specs.declared.rival.Rival.{Rival}
@@ -96,7 +96,8 @@ module _ (book : Book) (gone : List Held) (start : Start) (lines : List EngineLi
   pub holds_value : (key : Key) (value : ℕ) → held.run.sealed ≡ None → access_stop_in book gone held.run.age (Read key) ≡ None → value ≡ after held.run.acts (table_in book) key → Holds (grants tid (Got key value) book) gone start (Acts tid (Read key) (Value value) ∷ lines)
   holds_value key value live free is = record {
     keeps = keeps_read Timestamp book start lines tid key value h.keeps
-        (right_access (Read key) (Value value) None live free (ap (λ (n : ℕ). Value n) (is ∙ after-table Timestamp book start lines held.run.acts key h.keeps)));
+        (right_access (Read key) (Value value) None live free (ap (λ (n : ℕ). Value n) (is ∙ after-table Timestamp book start lines held.run.acts key h.keeps)
+        ∙ sym (ap (λ (kind : Engine). granted_by (rule kind) start lines held.run (Read key)) h.keeps.of_kind)));
     ended = h.ended;
   }
 

@@ -10,7 +10,7 @@ use Rattle.mdb_base.specs.declared.replies.Reply.{Reply}
 use Rattle.mdb_base.specs.declared.replies.Reply.TheVariants.{Done, Value, Ticket}
 use Rattle.mdb_base.specs.declared.replies.Why.{Why}
 use Rattle.fed_rules.specs.Runs.{Start, EngineLine, Acts, Takes, Seals, Refuses, Got, Wrote, run_at, counter, published, after}
-use Rattle.fed_rules.specs.Replies.{access_stop, ticket_stop, seal_stop, seal_number, granted, or_reply}
+use Rattle.fed_rules.specs.Replies.{access_stop, ticket_stop, seal_stop, seal_number, granted, granted_by, rule, or_reply}
 use Rattle.fed_rules.specs.EngineLines.{IsRightLine}
 use Rattle.run_lists.specs.declared.marks.Marks.{Marks}
 use Rattle.run_lists.specs.Held.{Held, held_in}
@@ -36,7 +36,8 @@ module _ (book : Book) (start : Start) (lines : List EngineLine) (k : Keeps Vali
   pub keeps_value : (key : Key) (value : ℕ) → held.run.sealed ≡ None → value ≡ after held.run.acts (table_in book) key → Keeps Validation (grants tid (Got key value) book) start (Acts tid (Read key) (Value value) ∷ lines)
   keeps_value key value live is =
       keeps_read Validation book start lines tid key value k
-      (right_access (Read key) (Value value) live (ap (λ (n : ℕ). Value n) (is ∙ after-table Validation book start lines held.run.acts key k)))
+      (right_access (Read key) (Value value) live (ap (λ (n : ℕ). Value n) (is ∙ after-table Validation book start lines held.run.acts key k)
+      ∙ sym (ap (λ (kind : Engine). granted_by (rule kind) start lines held.run (Read key)) k.of_kind)))
 
   -- a granted write
   pub keeps_done : (key : Key) (value : ℕ) → held.run.sealed ≡ None → Keeps Validation (grants tid (Wrote key value) book) start (Acts tid (Write key value) Done ∷ lines)
