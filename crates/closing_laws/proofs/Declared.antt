@@ -60,24 +60,6 @@ actor_hears scenario home story c s whole d = by_number home.site.0 refl
         let here : home.site ≡ record { 0 = suc n } = same_site_alike home.site (record { 0 = suc n }) (eq-eqb home.site.0 (suc n) e) in
         ap (λ o. pick o (Nowhere Say.None) (λ h. at_site h story s)) (ap (home_of scenario) (sym here) ∙ d)
 
--- nothing happens at a site that isn't declared
-pub undeclared : (scenario : Scenario) (site : SiteId) (commands : List Command) → home_of scenario site ≡ None → past_of site (story_of scenario commands) ≡ []
-undeclared scenario site [] none = refl
-undeclared scenario site (command ∷ commands) none =
-    more (happens scenario story command) (linked scenario story command) (undeclared scenario site commands none)
-  where
-    story : Story
-    story = story_of scenario commands
-
-    more : (happened : Happened) → Linked scenario story happened → past_of site story ≡ [] → with_site site happened (past_of site story) ≡ []
-    more (Nowhere answer) l e = e
-    more (AtCoordinator x) l e = e
-    more (AtSite at x) l e = by_test (same_site at site) refl
-      where
-        by_test : (b : Bool) → same_site at site ≡ b → cond b (x ∷ past_of site story) (past_of site story) ≡ []
-        by_test false q = e
-        by_test true q = (let found : home_of scenario site ≡ Some l.next.0 = subst (λ s. home_of scenario s ≡ Some l.next.0) (same_site_alike at site q) l.next.1 in cc)
-
 -- no two lines are of one site, so each participant is a declared site with its protocol
 pub record IsMemberHome (scenario : Scenario) (member : Participant) : Type 0 where
   pub home : Home

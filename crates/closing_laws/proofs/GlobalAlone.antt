@@ -43,7 +43,7 @@ use Rattle.engine_laws.proofs.Drawers.{IsDrawer, AllDrew, all_drew}
 use Rattle.site_history.specs.Lines.{Agrees}
 use Rattle.site_history.specs.SiteOrders.{HasEpochs}
 use Rattle.site_history.specs.Stories.{StoriesHaveRightLines, OfSites}
-use Rattle.federation_laws.proofs.ScenarioFacts.{global_program-is, global-declared}
+use Rattle.federation_laws.proofs.ScenarioFacts.{global_program-is, global-declared, program_fits}
 use Rattle.closing_laws.specs.Alone.{IsFinished, GlobalsCommitAlone}
 use Rattle.closing_laws.specs.Given.{UnbegunAreOpen, CommittedTicketsArePublished}
 use Rattle.closing_laws.proofs.AloneSites.{IsIdle, Stage, NotYet}
@@ -128,19 +128,6 @@ few_members (step ∷ steps) ms h v =
         by_test true q less =
             let far = all_off ks (each_from (λ (z : Participant). same_site step.site z.site ≡ false) ks (λ z i. ap (λ s. same_site s z.site) (same_site_alike step.site k.site q) ∙ each_at (λ (w : Participant). same_site k.site w.site ≡ false) z ks e.0 i)) in
             omega (arith, far)
-
--- a global transaction's program is one
-program_fits : (scenario : Scenario) (tx : Tx) (steps : List Step) → IsScenario scenario → global_program scenario tx ≡ Some steps → IsProgram steps
-program_fits scenario tx steps whole e = by_line (transaction scenario tx) refl
-  where
-    p : program_of scenario tx ≡ steps
-    p = (global_program-is scenario tx steps e).0
-
-    by_line : (o : Option TxLine) → transaction scenario tx ≡ o → IsProgram steps
-    by_line None f = (let none : map_some (λ (l : TxLine). l.program) (global_line None) ≡ Some steps = ap (λ w. map_some (λ (l : TxLine). l.program) (global_line w)) (sym f) ∙ e in cc)
-    by_line (Some line) f =
-        let listed = (first_where_some (λ (l : TxLine). same_tx l.tx tx) scenario.transactions line f).0 in
-        subst IsProgram (sym (ap program_of_line f) ∙ p) (each_at (λ (l : TxLine). IsProgram l.program) line scenario.transactions whole.transactions.programs listed)
 
 first_none : {A : Type 0} (test : A → Bool) (xs : List A) → ((x : A) → test x ≡ false) → first_where test xs ≡ None
 first_none test [] f = refl

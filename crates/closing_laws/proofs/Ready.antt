@@ -28,8 +28,9 @@ use Rattle.fed_rules.specs.SitePast.{SitePast, disk, trip_of, trip}
 use Rattle.fed_rules.specs.SiteRecords.{Home, site_frame}
 use Rattle.fed_rules.specs.Story.{Story, Nowhere, past_of, coord_past, with_site, with_coordinator, at_site, on_site, on_actor, happens, story_of}
 use Rattle.commit_laws.proofs.Links.{its-site, home-again}
+use Rattle.commit_laws.proofs.Walks.{undeclared}
 use Rattle.closing_laws.proofs.Calm.{IsReady, ready_next}
-use Rattle.closing_laws.proofs.Declared.{listed, actor_hears, undeclared}
+use Rattle.closing_laws.proofs.Declared.{listed, actor_hears}
 use Rattle.closing_laws.proofs.Onward.{IsCalm}
 use Rattle.fed_rules.specs.Policies.{Policy}
 

@@ -84,7 +84,7 @@ same-outcome scenario home g past event x t closed =
       | inr (kept, w, e, i) ↦ absurd (closed (written-commit (protocols scenario) g past event kept w i).undecided)
     ]
 
-begun-answer : (g : Tid) (a : Answer) → begins g a ≡ true → a ≡ Say.Begun g
+pub begun-answer : (g : Tid) (a : Answer) → begins g a ≡ true → a ≡ Say.Begun g
 begun-answer g (Say.Begun t) e = ap Say.Begun (same_tid-equal t g e)
 begun-answer g a e = cc
 

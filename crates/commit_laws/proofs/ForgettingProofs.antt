@@ -47,7 +47,7 @@ known-while-missing scenario commands tid decision is =
     let s = coord-sound scenario nowhere tid commands in ((s.decided decision is).1, s.waits decision is)
 
 -- the next line of the coordinator, with its part of the invariant before it
-next-turn : (scenario : Scenario) (commands : List Command) (x : CoordHappening) → IsNextOfCoordinator scenario commands x
+pub next-turn : (scenario : Scenario) (commands : List Command) (x : CoordHappening) → IsNextOfCoordinator scenario commands x
     → (tid : Tid) → (event : CoordEvent) × Turn scenario nowhere tid (coord_past (story_of scenario commands)) event x
 next-turn scenario commands x (command, e) tid =
     let l : IsNext scenario (story_of scenario commands) (AtCoordinator x) = subst (IsNext scenario (story_of scenario commands)) e

@@ -16,6 +16,7 @@ pub mod CoordTurn
 pub mod Declared
 pub mod Disks
 pub mod Durable
+pub mod EndingProofs
 pub mod ForgettingProofs
 pub mod Links
 pub mod Lists
@@ -33,3 +34,4 @@ pub mod SiteRules
 pub mod SiteShut
 pub mod SiteWork
 pub mod Taken
+pub mod Walks

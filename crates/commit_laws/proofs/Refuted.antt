@@ -66,11 +66,11 @@ aborts_acknowledged_early_refuted = record {
 abbrev forgotten_commands : List Command
 forgotten_commands = behind_the_vote (take 1 2 ∷ ask 1 attempt ∷ take 1 3 ∷ give 1 4 ∷ [])
 
-forgotten_outcome : outcome_by commits_forgotten_at_once By.Abort forgotten_commands ≡ Decided.Commit
+pub forgotten_outcome : outcome_by commits_forgotten_at_once By.Abort forgotten_commands ≡ Decided.Commit
 unfolding opened
 forgotten_outcome = refl
 
-pub commits_forgotten_at_once_refuted : BreaksTheOutcome commits_forgotten_at_once By.Abort
+unfoldable pub commits_forgotten_at_once_refuted : BreaksTheOutcome commits_forgotten_at_once By.Abort
 unfolding opened
 commits_forgotten_at_once_refuted = record {
   scenario = one_site By.Abort;

@@ -1,24 +1,22 @@
 -- The coordinator forgets an attempt exactly when its required acknowledgements are in, and answers inquiries about it rightly.
-use Rattle.std.specs.Prelude.{◌≡◌, true, false, ◌||◌, Some, List, ◌∷◌}
+use Rattle.std.specs.Prelude.{◌≡◌, false, Some, List}
 use Rattle.mdb_base.specs.declared.names.SiteId.{SiteId}
 use Rattle.mdb_base.specs.declared.names.Tid.{Tid}
-use Rattle.order_laws.specs.Chains.{In}
-use Rattle.presumptions.specs.declared.Decision.{Decision}
 use Rattle.presumptions.specs.Table.{presumed}
 use Rattle.fed_rules.specs.declared.answers.Answer.TheVariants as Say
 use Rattle.fed_rules.specs.declared.commands.Command.{Command}
 use Rattle.fed_rules.specs.declared.events.CoordEvent.TheVariants as Ev
 use Rattle.fed_rules.specs.declared.messages.FromSite.TheVariants as From
 use Rattle.fed_rules.specs.declared.scenario.Scenario.{Scenario}
-use Rattle.fed_rules.specs.Coord.{missing, tells}
-use Rattle.fed_rules.specs.CoordPast as Coordinator
-use Rattle.fed_rules.specs.CoordPast.{CoordHappening, Standing, Decided, Gone, standing, is_known}
-use Rattle.fed_rules.specs.CoordRecords.{outcome, required, is_nobody}
-use Rattle.fed_rules.specs.Happenings.{stops, comes_up, is_down}
+use Rattle.fed_rules.specs.Coord.{tells}
+use Rattle.fed_rules.specs.CoordPast.{CoordHappening, Gone, standing}
+use Rattle.fed_rules.specs.CoordRecords.{outcome}
+use Rattle.fed_rules.specs.Endings as endings
+use Rattle.fed_rules.specs.Happenings.{stops, is_down}
 use Rattle.fed_rules.specs.Scenarios.{home_of, protocols}
 use Rattle.fed_rules.specs.SitePast.{records}
 use Rattle.fed_rules.specs.SiteRecords.{Home, Held, doubt_of}
-use Rattle.fed_rules.specs.Story.{AtCoordinator, coord_past, past_of, sent_from, happens, story_of}
+use Rattle.fed_rules.specs.Story.{AtCoordinator, coord_past, past_of, happens, story_of}
 use Rattle.commit_laws.specs.Outcomes.{coordinator_keeps}
 
 -- the next command after these makes this line of the coordinator
@@ -28,39 +26,24 @@ IsNextOfCoordinator scenario commands x = (command : Command) × (happens scenar
 -- a decided attempt is known only while a required acknowledgement hasn't counted since the decision or the last start of the coordinator
 abbrev pub KnownWhileMissing : Type 0
 KnownWhileMissing =
-    (scenario : Scenario) (commands : List Command) (tid : Tid) (decision : Decision) →
-    standing (protocols scenario) (coord_past (story_of scenario commands)) tid ≡ Decided decision →
-    (decision ≡ outcome (coordinator_keeps scenario commands) tid)
-    × (is_nobody (missing (protocols scenario) (coord_past (story_of scenario commands)) tid decision) ≡ false)
+    (scenario : Scenario) (commands : List Command) → endings.KnownWhileMissing (protocols scenario) (coord_past (story_of scenario commands))
 
 -- a line, no stop and no start, behind which an attempt isn't known any more: no required acknowledgement is missing then
 abbrev pub ForgottenWhenNoneIsMissing : Type 0
 ForgottenWhenNoneIsMissing =
     (scenario : Scenario) (commands : List Command) (x : CoordHappening) → IsNextOfCoordinator scenario commands x →
-    (stops x.answer || comes_up x.answer) ≡ false → (tid : Tid) →
-    is_known (standing (protocols scenario) (coord_past (story_of scenario commands)) tid) ≡ true →
-    is_known (standing (protocols scenario) (x ∷ coord_past (story_of scenario commands)) tid) ≡ false →
-    is_nobody
-    (missing (protocols scenario) (x ∷ coord_past (story_of scenario commands)) tid
-    (outcome (Coordinator.records (x ∷ coord_past (story_of scenario commands))) tid))
-    ≡ true
+    endings.ForgottenWhenNoneIsMissing (protocols scenario) x (coord_past (story_of scenario commands))
 
 -- behind a stop or a start of the coordinator every required acknowledgement is missing: it is counted anew
 abbrev pub RestartsCountAnew : Type 0
 RestartsCountAnew =
     (scenario : Scenario) (commands : List Command) (x : CoordHappening) → IsNextOfCoordinator scenario commands x →
-    (stops x.answer || comes_up x.answer) ≡ true → (tid : Tid) (decision : Decision) →
-    missing (protocols scenario) (x ∷ coord_past (story_of scenario commands)) tid decision
-    ≡ required (protocols scenario) (Coordinator.records (x ∷ coord_past (story_of scenario commands))) tid decision
+    endings.RestartsCountAnew (protocols scenario) x (coord_past (story_of scenario commands))
 
 -- of an attempt that the coordinator doesn't know, each site whose acknowledgement of the outcome is required has sent it
 abbrev pub ForgottenAreAcknowledged : Type 0
 ForgottenAreAcknowledged =
-    (scenario : Scenario) (commands : List Command) (site : SiteId) (home : Home) → home_of scenario site ≡ Some home →
-    (tid : Tid) → standing (protocols scenario) (coord_past (story_of scenario commands)) tid ≡ Gone →
-    In (record { site = site; protocol = home.protocol })
-    (required (protocols scenario) (coordinator_keeps scenario commands) tid (outcome (coordinator_keeps scenario commands) tid)) →
-    In (From.Ack tid) (sent_from site (story_of scenario commands))
+    (scenario : Scenario) (commands : List Command) → endings.ForgottenAreAcknowledged scenario (story_of scenario commands)
 
 -- the presumption of a site in doubt of an attempt that the coordinator doesn't know is the attempt's outcome
 abbrev pub PresumptionsAreRight : Type 0

@@ -1,3 +1,4 @@
+pub mod Endings
 pub mod Forgetting
 pub mod Outcomes
 pub mod Prepared

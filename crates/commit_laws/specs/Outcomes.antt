@@ -5,14 +5,13 @@ use Rattle.mdb_base.specs.declared.names.Tid.{Tid}
 use Rattle.mdb_base.specs.Words.{Among}
 use Rattle.presumptions.specs.declared.Decision.{Decision}
 use Rattle.presumptions.specs.declared.Decision.TheVariants as Decided
-use Rattle.fed_rules.specs.declared.answers.Answer.TheVariants as Say
 use Rattle.fed_rules.specs.declared.commands.Command.{Command}
 use Rattle.fed_rules.specs.declared.records.CoordRecord.{CoordRecord}
 use Rattle.fed_rules.specs.declared.scenario.Scenario.{Scenario}
 use Rattle.fed_rules.specs.CoordPast as Coordinator
 use Rattle.fed_rules.specs.CoordRecords.{outcome}
+pub use Rattle.fed_rules.specs.Endings.{Settles}
 use Rattle.fed_rules.specs.Scenarios.{home_of}
-use Rattle.fed_rules.specs.SitePast.{SitePast}
 use Rattle.fed_rules.specs.SiteRecords.{Home}
 use Rattle.fed_rules.specs.Story.{coord_past, past_of, story_of}
 use Rattle.commit_laws.specs.Records.{IsCommit}
@@ -20,10 +19,6 @@ use Rattle.commit_laws.specs.Records.{IsCommit}
 -- what the coordinator keeps at the end of the story of these commands
 abbrev pub coordinator_keeps : Scenario → List Command → List CoordRecord
 coordinator_keeps scenario commands = Coordinator.records (coord_past (story_of scenario commands))
-
--- a line of the site settles the attempt with this decision
-abbrev pub Settles : SitePast → Tid → Decision → Type 0
-Settles past tid decision = Among (λ x. x.answer ≡ Say.Settles tid decision) past
 
 -- wherever a site settles an attempt, it says the attempt's outcome over the whole story
 abbrev pub SettlesSayTheOutcome : Type 0

@@ -1,5 +1,6 @@
 //! When the coordinator forgets: once it has the acknowledgements that the participants' protocols require, and it answers later inquiries
 //! by the presumption of the inquirer's protocol (Al-Houmaily, Chrysanthis 1999).
+ghost use Rattle.commit_laws.specs.Endings.{StoriesAnswerInDoubt, StoriesEndAlike, StoriesForgetExactly};
 ghost use Rattle.commit_laws.specs.Forgetting.{ForgottenAreAcknowledged, ForgottenWhenNoneIsMissing, InquiriesAreAnsweredTheOutcome, KnownWhileMissing, PresumptionsAreRight, RestartsCountAnew};
 
 /// A decided attempt is known exactly while a required acknowledgement is missing. While it is known, its decision is the outcome, and some
@@ -18,4 +19,13 @@ pub fn attempts_are_forgotten_when_acknowledged()
 pub fn inquiries_in_doubt_are_answered_the_outcome()
     ensures presumption { PresumptionsAreRight }
     ensures answer { InquiriesAreAnsweredTheOutcome }
+{}
+
+/// How global attempts end, at every line of any story, by the outcome at its end. Every line that settles an attempt says it. An attempt
+/// is known from the line that begins it until its required acknowledgements are in, counted since its decision or the coordinator's last
+/// start, and behind a stop or a start as its records say. An inquiry afterwards, from a site in doubt, is answered it.
+pub fn attempts_end_by_their_outcomes()
+    ensures alike { StoriesEndAlike }
+    ensures forgets { StoriesForgetExactly }
+    ensures answers { StoriesAnswerInDoubt }
 {}

@@ -11,7 +11,8 @@ mod seal_laws;
 mod wrong_rules;
 
 pub use forgetting_laws::{
-    attempts_are_forgotten_when_acknowledged, inquiries_in_doubt_are_answered_the_outcome,
+    attempts_are_forgotten_when_acknowledged, attempts_end_by_their_outcomes,
+    inquiries_in_doubt_are_answered_the_outcome,
 };
 pub use outcome_laws::{sites_settle_alike, sites_settle_the_outcome};
 pub use prepared_laws::commits_find_all_prepared;

@@ -1,5 +1,5 @@
 -- How a global attempt ends: what the sites settle, until when the coordinator knows the attempt, and how it answers who asks afterwards.
-use Rattle.std.specs.Prelude.{◌≡◌, true, false, ◌||◌, Some, List, [], ◌∷◌}
+use Rattle.std.specs.Prelude.{◌≡◌, ◌↔◌, true, false, ◌||◌, Some, List, [], ◌∷◌}
 use Rattle.mdb_base.specs.declared.names.SiteId.{SiteId}
 use Rattle.mdb_base.specs.declared.names.Tid.{Tid}
 use Rattle.mdb_base.specs.Words.{Among}
@@ -38,6 +38,13 @@ abbrev pub EndsAlike : Story → Type 0
 EndsAlike story =
     (site : SiteId) (tid : Tid) (decision : Decision) → Settles (past_of site story) tid decision → decision ≡ outcome_in story tid
 
+-- a line, no stop and no start, behind which an attempt is known that wasn't known before it is the one that begins the attempt
+abbrev pub KnownFromItsBeginning : List Participant → CoordHappening → CoordPast → Type 0
+KnownFromItsBeginning protocols x past =
+    (stops x.answer || comes_up x.answer) ≡ false → (tid : Tid) →
+    is_known (standing protocols past tid) ≡ false →
+    (is_known (standing protocols (x ∷ past) tid) ≡ true) ↔ (x.answer ≡ Say.Begun tid)
+
 -- a decided attempt is known only while a required acknowledgement hasn't counted since the decision or the last start of the coordinator
 abbrev pub KnownWhileMissing : List Participant → CoordPast → Type 0
 KnownWhileMissing protocols past =
@@ -73,9 +80,10 @@ ForgottenAreAcknowledged scenario story =
     (required (protocols scenario) (Coordinator.records (coord_past story)) tid (outcome_in story tid)) →
     In (From.Ack tid) (sent_from site story)
 
--- at every line the coordinator forgets an attempt exactly when its required acknowledgements are in, counted since the decision or the
--- coordinator's last start
+-- at every line: an attempt is known from the line that begins it; the coordinator forgets it exactly when its required acknowledgements are
+-- in, counted since the decision or the coordinator's last start; and behind a stop or a start its records say what is known
 pub record ForgetsExactly (scenario : Scenario) (story : Story) : Type 0 where
+  pub begun : AtEach (KnownFromItsBeginning (protocols scenario)) (coord_past story)
   pub known : AtEach (λ x past. KnownWhileMissing (protocols scenario) (x ∷ past)) (coord_past story)
   pub forgotten : AtEach (ForgottenWhenNoneIsMissing (protocols scenario)) (coord_past story)
   pub restarted : AtEach (KnownFromRecords (protocols scenario)) (coord_past story)

@@ -12,6 +12,7 @@ pub mod CountedReplies
 pub mod Declared
 pub mod Dues
 pub mod Globals
+pub mod Headlines
 pub mod Lists
 pub mod LocalLines
 pub mod LocalMoves

@@ -12,7 +12,8 @@ use Rattle.order_laws.specs.Tickets.{Ticketed}
 use Rattle.order_laws.proofs.Chains.{acyclic_map}
 use Rattle.order_laws.proofs.Least.{least_is_merge, least_merge_one}
 use Rattle.order_laws.proofs.LeastFound.{merged_is_least}
-use Rattle.order_laws.proofs.Lists.{among_is}
+use Rattle.order_laws.proofs.Lists.{among_is, each_from}
+use Rattle.order_laws.proofs.Merge.{merge_distinct}
 use Rattle.order_laws.proofs.Names.{same_tid_alike, same_tid_self, tells_tids, ranks_tids}
 use Rattle.order_laws.proofs.Orders.{before_in}
 use Rattle.order_laws.proofs.Placed.{least_merge_placed, least_order_left}
@@ -108,12 +109,20 @@ agrees scenario story sites commits s a b before ga gb =
       );
     }
 
+-- no order names an attempt twice
+order-distinct : (scenario : Scenario) (story : Story) → SitesAreSerial scenario story → (s : SiteId) → Distinct (order_at scenario story s)
+order-distinct scenario story sites s = by_home (home_of scenario s) refl
+  where
+    by_home : (o : Option Home) → home_of scenario s ≡ o → Distinct (order_at scenario story s)
+    by_home None e = subst Distinct (sym (nobody-there scenario story s e)) tt
+    by_home (Some home) e = subst (λ z. Distinct (order_at scenario story z)) (home_is-site scenario s home e) (sites s home e).distinct
+
 -- the orders of all sites have no cycle together
 pub orders-acyclic : (scenario : Scenario) (story : Story) → Acyclic (Within HasEdge (committed story)) → SitesAreSerial scenario story → CommitsAgree scenario story → Acyclic (Union (orders scenario story))
 orders-acyclic scenario story free sites commits =
     acyclic_map (Union (orders scenario story)) (BeforeAtSite (order_at scenario story)) (λ (a : Tid). a) at-a-site
     (sites_acyclic (order_at scenario story) (λ tid. local_site scenario tid.tx) (Edge story)
-    (record { distinct = each-distinct; at_home = λ s h a i e. commits.at_home s h a i e; agree = agrees scenario story sites commits })
+    (record { distinct = order-distinct scenario story sites; at_home = λ s h a i e. commits.at_home s h a i e; agree = agrees scenario story sites commits })
     (edges-acyclic story free commits.once))
   where
     at-a-site : (a b : Tid) → Union (orders scenario story) a b → BeforeAtSite (order_at scenario story) a b
@@ -121,13 +130,6 @@ orders-acyclic scenario story free sites commits =
         let (ts, i, before) = among_is (λ ts. Before ts a b) (orders scenario story) u in
         let (s, e) = order-of scenario story ts i in
         record { site = s; before = subst (λ us. Before us a b) (sym e) before }
-
-    each-distinct : (s : SiteId) → Distinct (order_at scenario story s)
-    each-distinct s = by_home (home_of scenario s) refl
-      where
-        by_home : (o : Option Home) → home_of scenario s ≡ o → Distinct (order_at scenario story s)
-        by_home None e = subst Distinct (sym (nobody-there scenario story s e)) tt
-        by_home (Some home) e = subst (λ z. Distinct (order_at scenario story z)) (home_is-site scenario s home e) (sites s home e).distinct
 
 -- so the printed order is a merge of them
 pub printed-merge : (scenario : Scenario) (story : Story) → Acyclic (Union (orders scenario story)) → IsMerge scenario story (printed_order scenario story)
@@ -145,3 +147,9 @@ printed-only scenario story none order least =
     least_merge_one same_tid tid_before ranks_tids (orders scenario story) order (printed_order scenario story)
     (least_order_left same_tid tid_before tells_tids (orders scenario story) order least)
     (merged_is_least same_tid tid_before tells_tids ranks_tids (orders scenario story) none)
+
+-- a merge names each attempt once, since each order does
+pub merge-once : (scenario : Scenario) (story : Story) → SitesAreSerial scenario story → (order : List Tid) → IsMerge scenario story order → Distinct order
+merge-once scenario story sites order merge =
+    merge_distinct same_tid (orders scenario story) order
+    (each_from Distinct (orders scenario story) (λ ts i. let (site, e) = order-of scenario story ts i in subst Distinct e (order-distinct scenario story sites site))) merge

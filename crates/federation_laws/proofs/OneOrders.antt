@@ -4,7 +4,7 @@ use Rattle.fed_rules.specs.declared.commands.Command.{Command}
 use Rattle.fed_rules.specs.declared.scenario.Scenario.{Scenario}
 use Rattle.fed_rules.specs.Story.{story_of}
 use Rattle.federation_laws.specs.OneOrder.{Parts, HasOneOrder}
-use Rattle.federation_laws.proofs.Merges.{orders-acyclic, printed-merge, printed-least, printed-only}
+use Rattle.federation_laws.proofs.Merges.{orders-acyclic, merge-once, printed-merge, printed-least, printed-only}
 use Rattle.federation_laws.proofs.SerialStories.{merge-serial}
 use Rattle.federation_laws.proofs.TicketCycles.{tickets_cycle_free}
 
@@ -17,6 +17,7 @@ one-order scenario commands parts =
       cycle_free = none;
       merge = printed-merge scenario story none;
       least = printed-least scenario story none;
+      once = merge-once scenario story parts.sites;
       only = printed-only scenario story none;
       serial = merge-serial scenario story parts;
     }

@@ -4,6 +4,7 @@ use Rattle.mdb_base.specs.declared.names.Engine.TheVariants.{Locking, Validation
 use Rattle.mdb_base.specs.declared.names.Tid.{Tid}
 use Rattle.mdb_base.specs.Names.{same_tid}
 use Rattle.mdb_base.specs.Words.{Each}
+use Rattle.presumptions.specs.declared.Protocol.{Protocol}
 use Rattle.presumptions.specs.declared.Protocol.TheVariants as By
 use Rattle.order_laws.specs.Chains.{Distinct}
 use Rattle.order_laws.specs.Merge as merge
@@ -14,11 +15,13 @@ use Rattle.fed_rules.specs.declared.commands.Command.{Command}
 use Rattle.fed_rules.specs.declared.scenario.Scenario.{Scenario}
 use Rattle.fed_rules.specs.Orders.{orders}
 use Rattle.fed_rules.specs.Plans.{IsScenario}
+use Rattle.fed_rules.specs.Reports.{printed_order}
 use Rattle.fed_rules.specs.Story.{story_of}
 use Rattle.fed_rules.proofs.Opened.{opened}
 use Rattle.fed_rules.proofs.Spelled.{tid, get, set, site, step_at, local, global, scenario_of, begin, step, commit, go, give, take}
-use Rattle.commit_laws.specs.WrongRules.{story_by}
-use Rattle.federation_laws.specs.WrongRules.{commits_without_graph, by_decision_time, HasNoOrder, IsNoMerge}
+use Rattle.commit_laws.specs.WrongRules.{BreaksTheOutcome, Rules, commits_forgotten_at_once, story_by}
+use Rattle.commit_laws.proofs.Refuted.{commits_forgotten_at_once_refuted}
+use Rattle.federation_laws.specs.WrongRules.{commits_without_graph, by_decision_time, BreaksTheHeadline, HasNoOrder, IsNoMerge}
 
 -- two global transactions without a common key, and a local one at each site between them
 abbrev through_locals : Scenario
@@ -133,3 +136,42 @@ by_decision_time_refuted =
       wrong = λ m. not_kept (subst (λ order. merge.IsMerge same_tid ((tid 1 0 ∷ tid 2 0 ∷ []) ∷ []) order) decision_order
           (subst (λ all. merge.IsMerge same_tid all (by_decision_time one_site (story_of one_site second_first))) ticket_order m));
     }
+
+-- a story without an order for all sites has no headline, and neither has one in which a site settles otherwise than by the outcome
+unordered : (rules : Rules) → HasNoOrder rules → BreaksTheHeadline rules
+unordered rules wrong =
+    record {
+      scenario = wrong.scenario;
+      good = wrong.good;
+      commands = wrong.commands;
+      broken = λ headline. wrong.none (printed_order wrong.scenario (story_by rules wrong.scenario wrong.commands)) headline.is_merge;
+    }
+
+ends_apart : (rules : Rules) (protocol : Protocol) (wrong : BreaksTheOutcome rules protocol) → IsScenario wrong.scenario → BreaksTheHeadline rules
+ends_apart rules protocol wrong good =
+    record {
+      scenario = wrong.scenario;
+      good = good;
+      commands = wrong.commands;
+      broken = λ headline. wrong.wrong (headline.ends_alike wrong.site wrong.tid wrong.decision wrong.settles);
+    }
+
+pub without_graph_broken : BreaksTheHeadline commits_without_graph
+without_graph_broken = unordered commits_without_graph commits_without_graph_refuted
+
+good_by_abort : IsScenario commits_forgotten_at_once_refuted.scenario
+unfolding commits_forgotten_at_once_refuted
+good_by_abort =
+    record {
+      sites = record { range = refl; differ = refl };
+      items = record { declared = refl; differ = refl; few = λ s. omega arith };
+      transactions = record { in_place = refl; differ = refl; programs = (record { some = omega arith; few = omega arith; registers = refl }, tt) };
+      clients = refl;
+      turns = refl;
+      tries = refl;
+      links = record { range = refl; differ = refl; few = omega arith };
+      stops = record { range = refl; few = λ actor. omega arith };
+    }
+
+pub forgotten_broken : BreaksTheHeadline commits_forgotten_at_once
+forgotten_broken = ends_apart commits_forgotten_at_once By.Abort commits_forgotten_at_once_refuted good_by_abort

@@ -5,10 +5,11 @@ use Rattle.mdb_base.specs.declared.acts.Step.{Step}
 use Rattle.mdb_base.specs.declared.names.SiteId.{SiteId}
 use Rattle.mdb_base.specs.declared.names.Tx.{Tx}
 use Rattle.mdb_base.specs.Names.{same_site, same_tx}
+use Rattle.mdb_base.specs.Programs.{IsProgram}
 use Rattle.mdb_base.specs.Words.{Among, each_of, map_some}
 use Rattle.presumptions.specs.declared.Participant.{Participant}
 use Rattle.order_laws.specs.Chains.{In}
-use Rattle.order_laws.proofs.Lists.{each_of_at, first_where_some, some_of_is}
+use Rattle.order_laws.proofs.Lists.{each_at, each_of_at, first_where_some, some_of_is}
 use Rattle.order_laws.proofs.Names.{same_site_alike}
 use Rattle.fed_rules.specs.declared.scenario.Scenario.{Scenario}
 use Rattle.fed_rules.specs.declared.scenario.SiteLine.{SiteLine}
@@ -73,3 +74,16 @@ line-local scenario good tx (Some line) e home h step i =
 -- the steps of a local program are at its home
 pub local-at-home : (scenario : Scenario) → IsScenario scenario → (tx : Tx) (home : SiteId) → local_site scenario tx ≡ Some home → (step : Step) → In step (program_of scenario tx) → step.site ≡ home
 local-at-home scenario good tx home h step i = line-local scenario good tx (transaction scenario tx) refl home h step i
+
+-- a global transaction's program is one
+pub program_fits : (scenario : Scenario) (tx : Tx) (steps : List Step) → IsScenario scenario → global_program scenario tx ≡ Some steps → IsProgram steps
+program_fits scenario tx steps whole e = by_line (transaction scenario tx) refl
+  where
+    p : program_of scenario tx ≡ steps
+    p = (global_program-is scenario tx steps e).0
+
+    by_line : (o : Option TxLine) → transaction scenario tx ≡ o → IsProgram steps
+    by_line None f = (let none : map_some (λ (l : TxLine). l.program) (global_line None) ≡ Some steps = ap (λ w. map_some (λ (l : TxLine). l.program) (global_line w)) (sym f) ∙ e in cc)
+    by_line (Some line) f =
+        let listed = (first_where_some (λ (l : TxLine). same_tx l.tx tx) scenario.transactions line f).0 in
+        subst IsProgram (sym (ap program_of_line f) ∙ p) (each_at (λ (l : TxLine). IsProgram l.program) line scenario.transactions whole.transactions.programs listed)

@@ -26,7 +26,7 @@ use Rattle.federation_laws.specs.SiteOrders.{SitesAreSerial}
 use Rattle.federation_laws.proofs.Told.{home-again}
 
 -- each Ended record tells the outcome
-tells-outcomes : (scenario : Scenario) (commands : List Command) (home : Home) → home_of scenario home.site ≡ Some home → TellOutcomes (is_committed (story_of scenario commands)) (records home (past_of home.site (story_of scenario commands)))
+pub tells-outcomes : (scenario : Scenario) (commands : List Command) (home : Home) → home_of scenario home.site ≡ Some home → TellOutcomes (is_committed (story_of scenario commands)) (records home (past_of home.site (story_of scenario commands)))
 tells-outcomes scenario commands home declared = each_from (TellsOutcome (is_committed (story_of scenario commands))) (records home (past_of home.site (story_of scenario commands))) tells
   where
     ended-in : (tid : Tid) (decision : Decision) (rs : List SiteRecord) → In (Rec.Ended tid decision) rs → Among (IsEnded tid decision) rs

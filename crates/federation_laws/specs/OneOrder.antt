@@ -5,14 +5,14 @@ use Rattle.mdb_base.specs.declared.names.SiteId.{SiteId}
 use Rattle.mdb_base.specs.declared.names.Tid.{Tid}
 use Rattle.mdb_base.specs.declared.rows.Put.{Put}
 use Rattle.mdb_base.specs.Names.{tid_before}
-use Rattle.order_laws.specs.Chains.{Acyclic, In}
+use Rattle.order_laws.specs.Chains.{Acyclic, Distinct, In}
 use Rattle.order_laws.specs.Merge.{IsLeastOrder}
 use Rattle.order_laws.specs.Orders.{Union}
 use Rattle.fed_rules.specs.declared.commands.Command.{Command}
 use Rattle.fed_rules.specs.declared.records.SiteRecord.TheVariants.{Local}
 use Rattle.fed_rules.specs.declared.scenario.Scenario.{Scenario}
+pub use Rattle.fed_rules.specs.Headline.{OfStories}
 use Rattle.fed_rules.specs.Orders.{is_committed, records_of, order_at, orders, IsMerge, IsSerial}
-use Rattle.fed_rules.specs.Plans.{IsScenario}
 use Rattle.fed_rules.specs.Reports.{printed_order}
 use Rattle.fed_rules.specs.Scenarios.{program_of}
 use Rattle.fed_rules.specs.Story.{Story, story_of}
@@ -20,11 +20,12 @@ use Rattle.federation_laws.specs.Parts.{CommitsAgree, MembersFollowPrograms}
 use Rattle.federation_laws.specs.SiteOrders.{SitesAreSerial}
 
 -- the orders of all sites have no cycle together; the printed order is a merge of them, the only one with the least attempt at each place;
--- and running the programs one at a time, in this order or any other merge, gives every read of every member and what is due at each site
+-- each merge names each attempt once; and running the programs one at a time, in this order or any other merge, gives every read of every member and what is due at each site
 pub record HasOneOrder (scenario : Scenario) (story : Story) : Type 0 where
   pub cycle_free : Acyclic (Union (orders scenario story))
   pub merge : IsMerge scenario story (printed_order scenario story)
   pub least : IsLeastOrder tid_before (orders scenario story) [] (printed_order scenario story)
+  pub once : (order : List Tid) → IsMerge scenario story order → Distinct order
   pub only : (order : List Tid) → IsLeastOrder tid_before (orders scenario story) [] order → order ≡ printed_order scenario story
   pub serial : (order : List Tid) → IsMerge scenario story order → IsSerial scenario story order
 
@@ -53,7 +54,3 @@ pub record AllAreOrdered (scenario : Scenario) (story : Story) : Type 0 where
       → In tid (order_at scenario story site)
   pub globals : (tid : Tid) → is_committed story tid ≡ true → (step : Step) → In step (program_of scenario tid.tx)
       → In tid (order_at scenario story step.site)
-
--- the fact holds of the story of any commands of every scenario
-abbrev pub OfStories : (Scenario → Story → Type 0) → Type 0
-OfStories P = (scenario : Scenario) → IsScenario scenario → (commands : List Command) → P scenario (story_of scenario commands)

@@ -15,6 +15,7 @@ use Rattle.fed_rules.specs.declared.scenario.Scenario.{Scenario}
 use Rattle.fed_rules.specs.Coord.{coord_line, commits_it, vote_tickets}
 use Rattle.fed_rules.specs.CoordPast.{CoordHappening, CoordPast, message_tid, participants, oldest_first}
 use Rattle.fed_rules.specs.Happenings.{quiet}
+use Rattle.fed_rules.specs.Headline.{Headline}
 use Rattle.fed_rules.specs.Orders.{IsMerge}
 use Rattle.fed_rules.specs.Plans.{IsScenario}
 use Rattle.fed_rules.specs.Story.{Story, Happened, AtSite, AtCoordinator, Nowhere, story_of}
@@ -63,3 +64,10 @@ pub record IsNoMerge (order : Scenario → Story → List Tid) : Type 0 where
   pub good : IsScenario scenario
   pub commands : List Command  -- the last one first
   pub wrong : IsMerge scenario (story_of scenario commands) (order scenario (story_of scenario commands)) → ⊥
+
+-- by these rules the headline doesn't hold of some story
+pub record BreaksTheHeadline (rules : Rules) : Type 0 where
+  pub scenario : Scenario
+  pub good : IsScenario scenario
+  pub commands : List Command  -- the last one first
+  pub broken : Headline scenario (story_by rules scenario commands) → ⊥

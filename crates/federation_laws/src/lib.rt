@@ -12,4 +12,4 @@ pub use serial_laws::{
     federation_is_serializable, parts_make_one_order, sites_are_serial_in_every_story,
 };
 pub use ticket_laws::{committed_tickets_are_cycle_free, conservative_tickets_close_no_cycle};
-pub use wrong_rules::{wrong_commits, wrong_order};
+pub use wrong_rules::{wrong_commits, wrong_headlines, wrong_order};

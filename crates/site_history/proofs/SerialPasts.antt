@@ -200,6 +200,28 @@ due_image home acts rs start lines earlier commits i b (inr d) =
       image = held_install h.run d.held h.is ∙ d.is;
     }
 
+-- what they are due, as the runs of the history of these commits
+due_sealed : (home : Home) (local : Tx → Bool) (past : SitePast) (commits : Tid → Bool) → IsHistory home local past
+    → AreSealed (epoch_start home past) (engine_lines past) (due_tids commits (records home past))
+due_sealed home local past commits h =
+    sealed_tids (epoch_start home past) (engine_lines past) (records home past) h.now.agrees (λ t. commits t && is_some (doubt_of (records home past) t))
+    (prepared_tids (records home past)) (prepared_once (records home past) h.once)
+    (λ t e. let d = due_tid commits (records home past) t e in (d.held, d.doubt))
+
+due_runs : (home : Home) (local : Tx → Bool) (past : SitePast) (commits : Tid → Bool) → (h : IsHistory home local past)
+    → TellOutcomes commits (records home past)
+    → map install_of (all_committed (due_tids commits (records home past)) (epoch_of_lines (epoch_start home past) (engine_lines past)) h.earlier)
+    ≡ due_installs commits (records home past)
+due_runs home local past commits h told =
+    let rs = records home past in
+    let tids = due_tids commits rs in
+    let epoch = epoch_of_lines (epoch_start home past) (engine_lines past) in
+    same_list (all_committed tids epoch h.earlier) (due_installs commits rs)
+    (history epoch h.earlier h.now.epochs tids (due_sealed home local past commits h)).numbers (due_fall commits rs) (due_distinct commits rs h.once)
+    (λ run i. (due_run home (acts_at home past) rs (epoch_start home past) (engine_lines past) h.earlier commits run h.now told
+    (in_all tids epoch h.earlier run h.now.epochs i)).due)
+    (λ i j. due_image home (acts_at home past) rs (epoch_start home past) (engine_lines past) h.earlier commits i h.now (due_installed commits rs i h.once told j))
+
 -- with the prepared ones whose outcome is commit
 due_order : (home : Home) (local : Tx → Bool) (past : SitePast) (commits : Tid → Bool) → IsHistory home local past
     → TellOutcomes commits (records home past)
@@ -207,24 +229,14 @@ due_order : (home : Home) (local : Tx → Bool) (past : SitePast) (commits : Tid
     (rows_after home.items (due_installs commits (records home past)))
 due_order home local past commits h told =
     let rs = records home past in
-    let start = epoch_start home past in
-    let lines = engine_lines past in
-    let acts = acts_at home past in
     let tids = due_tids commits rs in
-    let epoch = epoch_of_lines start lines in
+    let epoch = epoch_of_lines (epoch_start home past) (engine_lines past) in
     let runs = all_committed tids epoch h.earlier in
-    let sealed = sealed_tids start lines rs h.now.agrees (λ t. commits t && is_some (doubt_of rs t)) (prepared_tids rs)
-    (prepared_once rs h.once) (λ t e. let d = due_tid commits rs t e in (d.held, d.doubt)) in
-    let serial = history epoch h.earlier h.now.epochs tids sealed in
-    let of_run : (run : Run) → In run runs → IsDueRun acts commits rs run =
-    λ run i. due_run home acts rs start lines h.earlier commits run h.now told (in_all tids epoch h.earlier run h.now.epochs i) in
-    serial_order home past runs (due_installs commits rs) h.once
-    (same_list runs (due_installs commits rs) serial.numbers (due_fall commits rs) (due_distinct commits rs h.once)
-    (λ run i. (of_run run i).due)
-    (λ i j. due_image home acts rs start lines h.earlier commits i h.now (due_installed commits rs i h.once told j)))
-    (due_distinct commits rs h.once)
+    let serial = history epoch h.earlier h.now.epochs tids (due_sealed home local past commits h) in
+    serial_order home past runs (due_installs commits rs) h.once (due_runs home local past commits h told) (due_distinct commits rs h.once)
     (subst (λ items. IsSerial (look_up items) runs) h.now.first serial.alone) serial.tickets
-    (λ run i. (of_run run i).member)
+    (λ run i. (due_run home (acts_at home past) rs (epoch_start home past) (engine_lines past) h.earlier commits run h.now told
+    (in_all tids epoch h.earlier run h.now.epochs i)).member)
 
 -- the committed ones alone
 settled_serial : (home : Home) (local : Tx → Bool) (past : SitePast) → IsHistory home local past
@@ -246,6 +258,29 @@ settled_serial home local past h =
     of_origin run (inl w) = let k = h.now.committed run w in record { kept = k.kept; among = k.among; is = k.is; had = k.had }
     of_origin run (inr r) = elim r.among [ ]
 
+-- where no attempt whose outcome is commit is in doubt, no run is sealed for one
+none_due : (commits : Tid → Bool) (rs : List SiteRecord) → ((tid : Tid) → commits tid ≡ true → doubt_of rs tid ≡ None) → (tids : List Tid)
+    → those (λ tid. commits tid && is_some (doubt_of rs tid)) tids ≡ []
+none_due commits rs none [] = refl
+none_due commits rs none (tid ∷ tids) = by_test (commits tid) refl (none_due commits rs none tids) where
+  by_test : (b : Bool) → commits tid ≡ b → those (λ t. commits t && is_some (doubt_of rs t)) tids ≡ []
+      → cond (b && is_some (doubt_of rs tid)) (tid ∷ those (λ t. commits t && is_some (doubt_of rs t)) tids) (those (λ t. commits t && is_some (doubt_of rs t)) tids) ≡ []
+  by_test false e rest = rest
+  by_test true e rest =
+      ap (λ o. cond (is_some o) (tid ∷ those (λ t. commits t && is_some (doubt_of rs t)) tids) (those (λ t. commits t && is_some (doubt_of rs t)) tids))
+      (none tid e) ∙ rest
+
+-- so those are due that are committed
+settled_due : (home : Home) (local : Tx → Bool) (past : SitePast) (commits : Tid → Bool) → IsHistory home local past
+    → TellOutcomes commits (records home past) → ((tid : Tid) → commits tid ≡ true → doubt_of (records home past) tid ≡ None)
+    → due_installs commits (records home past) ≡ installs (records home past)
+settled_due home local past commits h told none =
+    let rs = records home past in
+    let epoch = epoch_of_lines (epoch_start home past) (engine_lines past) in
+    sym (due_runs home local past commits h told)
+    ∙ ap (λ tids. map install_of (all_committed tids epoch h.earlier)) (none_due commits rs none (prepared_tids rs))
+    ∙ installs_are home (acts_at home past) rs (epoch_start home past) (engine_lines past) h.earlier h.now h.once
+
 pub pasts_serial : OfSortedPasts IsSerialPast
 pasts_serial home local events sorted once =
     let h = history_past home local events sorted once in
@@ -253,6 +288,7 @@ pasts_serial home local events sorted once =
       once = h.once;
       settled = settled_serial home local (site_past home events) h;
       due = λ commits told. due_order home local (site_past home events) commits h told;
+      all_settled = λ commits told none. settled_due home local (site_past home events) commits h told none;
     }
 
 -- whatever a stop may leave of the records makes a good start

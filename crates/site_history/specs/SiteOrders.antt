@@ -1,5 +1,5 @@
 -- What the order of a site means for the site alone, over all its stops and restarts.
-use Rattle.std.specs.Prelude.{ℕ, ◌≡◌, ◌<◌, Bool, List, [], ◌∷◌, map, reverse}
+use Rattle.std.specs.Prelude.{ℕ, ◌≡◌, ◌<◌, Bool, true, None, List, [], ◌∷◌, map, reverse}
 use Rattle.mdb_base.specs.declared.names.Key.{Key}
 use Rattle.mdb_base.specs.declared.names.Tid.{Tid}
 use Rattle.mdb_base.specs.declared.names.Tx.{Tx}
@@ -14,7 +14,7 @@ use Rattle.fed_rules.specs.Runs.{Access, after}
 use Rattle.fed_rules.specs.SerialRuns.{ReadsAlone}
 use Rattle.fed_rules.specs.Site.{site_past}
 use Rattle.fed_rules.specs.SitePast.{SitePast, epoch_start, engine_lines, records}
-use Rattle.fed_rules.specs.SiteRecords.{Home, due_rows, installs, order_of, site_rows, start_of}
+use Rattle.fed_rules.specs.SiteRecords.{Home, doubt_of, due_installs, due_rows, installs, order_of, site_rows, start_of}
 use Rattle.engine_laws.specs.Epochs.{Epoch, AreEpochs, first_rows}
 use Rattle.rules_laws.specs.Durable.{IsFrontOf}
 use Rattle.site_history.specs.Accesses.{acts_at}
@@ -52,12 +52,15 @@ pub record HasEpochs (home : Home) (past : SitePast) : Type 0 where
   pub restart : (kept : List SiteRecord) → IsFrontOf (records home past) kept → IsStart (start_of home kept)
 
 -- no attempt is bound twice; the committed attempts are in a serial order, which gives the rows of the site; and so are they with all prepared
--- ones whose outcome is commit, which give what the site is due
+-- ones whose outcome is commit, which give what the site is due; where none of these is in doubt, they are the committed ones
 pub record IsSerialPast (home : Home) (past : SitePast) : Type 0 where
   pub once : BindOnce (records home past)
   pub settled : IsSerialOrder home past (settled_order (records home past)) (site_rows home (records home past))
   pub due : (commits : Tid → Bool) → TellOutcomes commits (records home past)
       → IsSerialOrder home past (order_of commits (records home past)) (due_rows commits home (records home past))
+  pub all_settled : (commits : Tid → Bool) → TellOutcomes commits (records home past)
+      → ((tid : Tid) → commits tid ≡ true → doubt_of (records home past) tid ≡ None)
+      → due_installs commits (records home past) ≡ installs (records home past)
 
 -- the fact holds of every past that sorted events make, in which no attempt is prepared twice
 abbrev pub OfSortedPasts : (Home → SitePast → Type 0) → Type 0

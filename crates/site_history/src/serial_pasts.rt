@@ -11,7 +11,7 @@ pub fn restarts_keep_sealed_runs()
 
 /// Over all its stops and restarts the committed attempts of a site by their serial numbers, alone and one after another, read what they
 /// were answered, their tickets rise, and they leave the rows of the site; and so do they together with all prepared ones whose outcome is
-/// commit, which leave what the site is due. The accesses of an attempt are those of its run when its record was appended.
+/// commit, which leave what the site is due: where none of these is in doubt, they are the committed ones. The accesses of an attempt are those of its run when its record was appended.
 pub fn sites_are_serial()
     ensures { OfSortedPasts IsSerialPast }
 {}
