@@ -22,7 +22,11 @@ use Rattle.fed_rules.specs.Scenarios.{home_in, home_of, global_line, global_prog
 use Rattle.fed_rules.specs.Site.{site_line}
 use Rattle.fed_rules.specs.SitePast.{SiteHappening, SitePast, trip_of}
 use Rattle.fed_rules.specs.SiteRecords.{Home}
-use Rattle.fed_rules.specs.Story.{Story, Nowhere, happens, on_actor, on_fate, on_site, story_of, past_of, at_site}
+use Rattle.fed_rules.specs.CoordCommands.{fate_request}
+use Rattle.fed_rules.specs.Requests.{Declines}
+use Rattle.fed_rules.specs.SiteCommands.{Fate, request}
+use Rattle.site_laws.proofs.Commands.{local_at, local_nowhere}
+use Rattle.fed_rules.specs.Story.{Story, Nowhere, coord_requested, happens, on_actor, on_fate, on_site, story_of, past_of, at_site}
 use Rattle.site_laws.proofs.OneSite.{one_home}
 use Rattle.site_laws.proofs.SiteLines.{pick-none, pick-some}
 use Rattle.local_laws.specs.Kept.{State, resting, heard_up}
@@ -91,14 +95,15 @@ untold core new_core scenario old new Err_is.Disk commands s cut = (s.line, s.al
 
 -- a fate of a transaction that isn't declared
 pub fate_nowhere : (scenario : Scenario) (story : Story) (tx : Tx) → first_where (λ (l : TxLine). same_tx l.tx tx) scenario.transactions ≡ None → happens scenario story (Cmd.Fate tx) ≡ Nowhere Say.None
-unfolding happens on_fate
+unfolding happens on_fate fate_request
 fate_nowhere scenario story tx e =
-    pick-none (local_home scenario tx) _ _ (no_home scenario tx e) ∙ pick-none (global_program scenario tx) (Nowhere Say.None) _ (ap (λ o. map_some (λ (l : TxLine). l.program) (global_line o)) e)
+    local_nowhere scenario story Fate tx _ (no_home scenario tx e)
+    ∙ ap (coord_requested scenario story) (pick-none (global_program scenario tx) (Declines Say.None) _ (ap (λ o. map_some (λ (l : TxLine). l.program) (global_line o)) e))
 
 -- and of one that is
 fate_at : (scenario : Scenario) (story : Story) (tx : Tx) (home : Home) → local_home scenario tx ≡ Some home → happens scenario story (Cmd.Fate tx) ≡ at_site home story (Ev.Fate tx)
-unfolding happens on_fate
-fate_at scenario story tx home e = pick-some (local_home scenario tx) _ _ home e
+unfolding happens on_fate request
+fate_at scenario story tx home e = local_at scenario story Fate tx _ home _ e refl
 
 -- the answer to a fate
 pub fate_told : {E : Type 0} (core new_core : Home → SitePast → Type 0) (scenario : Scenario) (old new : LocalSite E) (tx : Tx) (place : ℕ) (answer : Answer) (commands : List Command) → IsPlace scenario.transactions tx place

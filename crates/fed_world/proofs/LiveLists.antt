@@ -100,7 +100,7 @@ stood (l ∷ ls) (s ∷ ss) line e (inl h) = record { place = 0; state = s; at =
 stood (l ∷ ls) (s ∷ ss) line e (inr i) = let k = stood ls ss line (omega arith) i in record { place = suc k.place; state = k.state; at = k.at; got = k.got }
 
 -- the live attempts by rising number
-pub live_is : (scenario : Scenario) (home : Home) (past : SitePast) (states : List State) → Distinct (map (λ tx_line. tx_line.tx) scenario.transactions) → Keeps scenario home past → IsCounted scenario.transactions home past
+pub live_is : (scenario : Scenario) (home : Home) (past : SitePast) (states : List State) → Distinct (map (λ tx_line. tx_line.tx) scenario.transactions) → Keeps (program_of scenario) home past → IsCounted scenario.transactions home past
     → length states ≡ length scenario.transactions → AllKept scenario.transactions past states
     → rising (map (λ run. run.tid) (those (λ run. not (is_sealed run)) (unended (epoch_start home past) (engine_lines past)))) ≡ rising (live_ones scenario.transactions states)
 live_is scenario home past states numbers keeps counted places kept =

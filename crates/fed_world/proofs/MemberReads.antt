@@ -14,7 +14,7 @@ use Rattle.fed_rules.specs.declared.scenario.Scenario.{Scenario}
 use Rattle.fed_rules.specs.declared.scenario.TxLine.{TxLine}
 use Rattle.fed_rules.specs.Happenings.{stops}
 use Rattle.fed_rules.specs.Orders.{reads_at, reads_of}
-use Rattle.fed_rules.specs.Scenarios.{local_home, transaction}
+use Rattle.fed_rules.specs.Scenarios.{program_of, local_home, transaction}
 use Rattle.fed_rules.specs.SitePast.{SiteHappening, SitePast, records}
 use Rattle.fed_rules.specs.SiteRecords.{Home}
 use Rattle.fed_rules.specs.Story.{past_of, story_of}
@@ -87,7 +87,7 @@ member_read core scenario site states armed commands tid s i = by_line (transact
     led : IsLed IsOwnEvent scenario (home_from scenario s.line) (past_of s.line.site (story_of scenario commands))
     led = site_led scenario s.line commands s.alone s.own
 
-    keeps : Keeps scenario (home_from scenario s.line) (past_of s.line.site (story_of scenario commands))
+    keeps : Keeps (program_of scenario) (home_from scenario s.line) (past_of s.line.site (story_of scenario commands))
     keeps = site_keeps scenario s.line commands s.alone s.own
 
     last : suc tid.attempt ≡ (kept_of tid.tx (past_of s.line.site (story_of scenario commands))).begun

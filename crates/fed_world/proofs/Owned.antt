@@ -9,7 +9,7 @@ use Rattle.fed_rules.specs.declared.commands.Command.{Command}
 use Rattle.fed_rules.specs.declared.scenario.Scenario.{Scenario}
 use Rattle.fed_rules.specs.declared.scenario.SiteLine.{SiteLine}
 use Rattle.fed_rules.specs.EngineLines.{IsRight}
-use Rattle.fed_rules.specs.Scenarios.{local_home}
+use Rattle.fed_rules.specs.Scenarios.{program_of, local_home}
 use Rattle.fed_rules.specs.Site.{done}
 use Rattle.fed_rules.specs.SitePast.{SitePast, engine_lines, epoch_start, live, live_of_tx}
 use Rattle.fed_rules.specs.SiteRecords.{Home}
@@ -71,7 +71,7 @@ module _ (scenario : Scenario) (line : SiteLine) (commands : List Command) (tx :
   pub own_home : local_home scenario tx ≡ Some home
   own_home = place_home scenario line tx place o.alone o.found
 
-  keeps : Keeps scenario home past
+  keeps : Keeps (program_of scenario) home past
   keeps = site_keeps scenario line commands o.alone o.own
 
   -- what is kept of the transaction agrees with the site's past

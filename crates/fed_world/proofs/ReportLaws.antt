@@ -21,6 +21,7 @@ use Rattle.fed_rules.specs.Happenings.{is_down}
 use Rattle.fed_rules.specs.Orders.{is_committed, records_at, orders, order_at, reads_of, table_at, table_of}
 use Rattle.fed_rules.specs.Reports.{printed_order, outcomes, forgotten, tables, report_of}
 use Rattle.fed_rules.specs.Runs.{rows}
+use Rattle.fed_rules.specs.Scenarios.{protocols}
 use Rattle.fed_rules.specs.SitePast.{SitePast, records, engine_lines, epoch_start}
 use Rattle.fed_rules.specs.SiteRecords.{Home, Install, installs, order_of}
 use Rattle.fed_rules.specs.Story.{past_of, coord_past, story_of}
@@ -94,7 +95,7 @@ report_is core scenario site states armed commands report law serial s quiet up 
     (λ tid i. ap (λ vs. let r : TxReads = record { tid = tid; values = vs } in r) (member_read core scenario site states armed commands tid s (in_reverse (installed_tids (home_from scenario s.line) (past_of s.line.site story)) tid i))) in
     let with_order = ap (λ o. let r : Report = record { order = o; reads = map (λ tid. let r : TxReads = record { tid = tid; values = reads_of scenario story tid } in r) o; outcomes = []; forgotten = []; tables = tables scenario story } in r) (sym printed) in
     let none_out : outcomes story ≡ [] = ap (λ past. map (λ tid. let r : Outcome = record { tid = tid; decision = outcome (Coordinator.records past) tid } in r) (rising (Coordinator.begun_tids past))) quiet in
-    let none_forgot : forgotten story ≡ [] = ap (λ past. those (λ tid. not (is_down past) && not (Coordinator.is_known (Coordinator.standing past tid))) (rising (Coordinator.begun_tids past))) quiet in
+    let none_forgot : forgotten scenario story ≡ [] = ap (λ past. those (λ tid. not (is_down past) && not (Coordinator.is_known (Coordinator.standing (protocols scenario) past tid))) (rising (Coordinator.begun_tids past))) quiet in
     let tables_are = tabs ∙ site_tables scenario s.line commands law core site states armed s up in
     ap (λ o. let r : Report = record report { order = o } in r) order
     ∙ (ap (λ v. let r : Report = record { order = tids; reads = v; outcomes = report.outcomes; forgotten = report.forgotten; tables = report.tables } in r) (reads ∙ told)

@@ -6,6 +6,7 @@ use Rattle.mdb_base.specs.Words.{Each}
 use Rattle.fed_rules.specs.declared.commands.Command.{Command}
 use Rattle.fed_rules.specs.declared.scenario.Scenario.{Scenario}
 use Rattle.fed_rules.specs.declared.scenario.SiteLine.{SiteLine}
+use Rattle.fed_rules.specs.Scenarios.{program_of}
 use Rattle.fed_rules.specs.SitePast.{SitePast, records}
 use Rattle.fed_rules.specs.Story.{Happened, AtSite, AtCoordinator, Nowhere, happens, past_of, story_of, with_site}
 use Rattle.site_core.specs.Steps.{EpochFits, NumberFits}
@@ -37,7 +38,7 @@ pub site_led : (scenario : Scenario) (line : SiteLine) (commands : List Command)
 site_led scenario line commands alone own = pasts_led IsOwnEvent scenario (home_from scenario line) commands (one_home scenario line alone.sites) (all_allow scenario commands own)
 
 -- what is kept of each transaction agrees with the past of the site
-pub site_keeps : (scenario : Scenario) (line : SiteLine) (commands : List Command) → IsAlone scenario line → Each IsOwn commands → Keeps scenario (home_from scenario line) (past_of line.site (story_of scenario commands))
+pub site_keeps : (scenario : Scenario) (line : SiteLine) (commands : List Command) → IsAlone scenario line → Each IsOwn commands → Keeps (program_of scenario) (home_from scenario line) (past_of line.site (story_of scenario commands))
 site_keeps scenario line commands alone own =
     led_keeps scenario (home_from scenario line) (past_of line.site (story_of scenario commands)) (site_led scenario line commands alone own)
 

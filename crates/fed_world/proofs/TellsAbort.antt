@@ -14,19 +14,15 @@ use Rattle.fed_rules.specs.Scenarios.{local_home}
 use Rattle.fed_rules.specs.Site.{site_line}
 use Rattle.fed_rules.specs.SitePast.{SitePast}
 use Rattle.fed_rules.specs.SiteRecords.{Home}
-use Rattle.fed_rules.specs.Story.{Story, Nowhere, at_site, attempt, happens, on_abort, past_of, story_of, with_live}
-use Rattle.site_laws.proofs.Commands.{abort_at, abort_idle}
+use Rattle.fed_rules.specs.Story.{Story, Nowhere, at_site, attempt, happens, past_of, story_of}
+use Rattle.site_laws.proofs.StoryCommands.{abort_at, abort_idle}
+pub use Rattle.site_laws.proofs.StoryCommands.{abort_down}
 use Rattle.site_laws.proofs.SiteLines.{pick-some}
 use Rattle.local_laws.specs.Kept.{State, resting}
 use Rattle.fed_world.specs.declared.local_site.LocalSite.{LocalSite}
 use Rattle.fed_world.specs.Stands.{home_from, SiteStands, Hands, IsTold}
 use Rattle.fed_world.proofs.HandedOne.{IsHeardBy, one_told}
 use Rattle.fed_world.proofs.Owned.{IsOwned, none_live, one_live, own_home}
-
--- the site is down
-pub abort_down : (scenario : Scenario) (story : Story) (tx : Tx) (home : Home) → local_home scenario tx ≡ Some home → is_down (past_of home.site story) ≡ true → happens scenario story (Cmd.Abort tx) ≡ Nowhere Say.Down
-unfolding happens on_abort with_live
-abort_down scenario story tx home h down = pick-some _ _ _ home h ∙ when-true _ _ _ down
 
 module _ (scenario : Scenario) (line : SiteLine) (commands : List Command) (tx : Tx) (place : ℕ) (state : State) (o : IsOwned scenario line commands tx place state) where
   abbrev home : Home

@@ -20,8 +20,9 @@ use Rattle.fed_rules.specs.Scenarios.{local_home, program_of}
 use Rattle.fed_rules.specs.Site.{done, site_line}
 use Rattle.fed_rules.specs.SitePast.{SitePast}
 use Rattle.fed_rules.specs.SiteRecords.{Home}
-use Rattle.fed_rules.specs.Story.{Story, Nowhere, at_site, attempt, happens, on_commit, past_of, story_of, with_live}
-use Rattle.site_laws.proofs.Commands.{commit_at, commit_idle, commit_unfinished}
+use Rattle.fed_rules.specs.Story.{Story, Nowhere, at_site, attempt, happens, past_of, story_of}
+use Rattle.site_laws.proofs.StoryCommands.{commit_at, commit_idle, commit_unfinished}
+pub use Rattle.site_laws.proofs.StoryCommands.{commit_down}
 use Rattle.site_laws.proofs.SiteLines.{pick-some}
 use Rattle.site_core.specs.Steps.{CanCommit}
 use Rattle.local_laws.specs.Kept.{State, resting}
@@ -32,11 +33,6 @@ use Rattle.fed_world.proofs.HandedOne.{IsHeardBy, one_told}
 use Rattle.fed_world.proofs.Owned.{IsLiveOne, IsOwned, none_live, one_live, own_agrees, own_home}
 use Rattle.fed_world.proofs.SiteBounds.{number_fits}
 use Rattle.fed_world.proofs.Told.{one_at, place_program, place_tx}
-
--- the site is down
-pub commit_down : (scenario : Scenario) (story : Story) (tx : Tx) (home : Home) → local_home scenario tx ≡ Some home → is_down (past_of home.site story) ≡ true → happens scenario story (Cmd.Commit tx) ≡ Nowhere Say.Down
-unfolding happens on_commit with_live
-commit_down scenario story tx home h down = pick-some _ _ _ home h ∙ when-true _ _ _ down
 
 -- the program of its line
 at_program : (scenario : Scenario) (tx : Tx) (place : ℕ) (line : TxLine) → IsPlace scenario.transactions tx place → slice_get scenario.transactions place ≡ Some line → program_of scenario tx ≡ line.program

@@ -20,9 +20,10 @@ use Rattle.fed_rules.specs.Scenarios.{local_home, program_of}
 use Rattle.fed_rules.specs.Site.{done, site_line}
 use Rattle.fed_rules.specs.SitePast.{SitePast}
 use Rattle.fed_rules.specs.SiteRecords.{Home}
-use Rattle.fed_rules.specs.Story.{Story, Nowhere, at_site, attempt, happens, on_step, past_of, story_of, with_live}
+use Rattle.fed_rules.specs.Story.{Story, Nowhere, at_site, attempt, happens, past_of, story_of}
 use Rattle.site_core.specs.Steps.{HasFewAccesses}
-use Rattle.site_laws.proofs.Commands.{step_at, step_end, step_idle}
+use Rattle.site_laws.proofs.StoryCommands.{step_at, step_end, step_idle}
+pub use Rattle.site_laws.proofs.StoryCommands.{step_down}
 use Rattle.site_laws.proofs.ListMembers.{item_at-below}
 use Rattle.site_laws.proofs.SiteLines.{pick-some}
 use Rattle.local_laws.specs.Kept.{State, after_access, resting}
@@ -71,11 +72,6 @@ reads_of-le (x ∷ xs) (suc n) = by_test (is_get x.act) (reads_of-le xs n)
     by_test : (b : Bool) → reads_of (take n xs) ≤ n → cond b (suc (reads_of (take n xs))) (reads_of (take n xs)) ≤ suc n
     by_test true h = omega arith
     by_test false h = omega arith
-
--- a step of a site that is down
-pub step_down : (scenario : Scenario) (story : Story) (tx : Tx) (home : Home) → local_home scenario tx ≡ Some home → is_down (past_of home.site story) ≡ true → happens scenario story (Cmd.Step tx) ≡ Nowhere Say.Down
-unfolding happens on_step with_live
-step_down scenario story tx home h down = pick-some _ _ _ home h ∙ when-true _ _ _ down
 
 module _ (scenario : Scenario) (line : SiteLine) (commands : List Command) (tx : Tx) (place : ℕ) (state : State) (o : IsOwned scenario line commands tx place state) where
   abbrev home : Home

@@ -22,7 +22,10 @@ use Rattle.fed_rules.specs.Scenarios.{protocols, program_of, global_program, hom
 use Rattle.fed_rules.specs.Site.{site_line}
 use Rattle.fed_rules.specs.SitePast.{trip}
 use Rattle.fed_rules.specs.SiteRecords.{Home}
-use Rattle.fed_rules.specs.Story.{Happened, AtSite, AtCoordinator, Nowhere, Story, past_of, with_site, attempt, at_site, unless_begun, begins_local, on_begin, with_live, next_step, on_step, on_commit, on_abort, on_fate, on_site, on_actor, happens, tell, story_of, answer_of, places_of, line_of, lines_of}
+use Rattle.fed_rules.specs.CoordCommands.{fate_request}
+use Rattle.fed_rules.specs.Requests.{Request, Submits, Declines}
+use Rattle.fed_rules.specs.SiteCommands.{Verb, Begin, Step_on, Commit, Abort, Fate, request, begin_next, with_live, next_step, when_done}
+use Rattle.fed_rules.specs.Story.{Happened, AtSite, AtCoordinator, Nowhere, Story, past_of, with_site, attempt, at_site, unless_begun, requested, coord_requested, on_local, on_fate, on_site, on_actor, happens, tell, story_of, answer_of, places_of, line_of, lines_of}
 use Rattle.order_laws.proofs.Names.{same_site_alike}
 use Rattle.session_laws.proofs.AllLocal.{IsAllLocal}
 use Rattle.trace_lines.specs.Fits.{is_begin_answer, is_only, line_fits}
@@ -48,57 +51,55 @@ unless_begun_fits : (tx : Tx) (answer : Answer) → is_begin_answer answer ≡ t
 unless_begun_fits tx (Say.Begun tid) e f = record { answer_is = refl; other = refl }
 unless_begun_fits tx answer e f = record { answer_is = e; other = f }
 
--- what a live attempt's command makes happen
-live_fits : (home : Home) (story : Story) (tx : Tx) (command : Command) (next : Tid → Run → Happened)
-    → IsNowhere command Say.Down → IsNowhere command Say.Idle → ((tid : Tid) (run : Run) → Fit story command (next tid run)) → Fit story command (with_live home story tx next)
+-- what a request makes happen
+abbrev RequestFits : Story → Command → Home → Request SiteEvent → Type 0
+RequestFits story command home r = Fit story command (requested home story r)
+
+-- a command of a live attempt
+live_fits : (home : Home) (story : Story) (tx : Tx) (command : Command) (next : Tid → Run → Request SiteEvent)
+    → IsNowhere command Say.Down → IsNowhere command Say.Idle → ((tid : Tid) (run : Run) → RequestFits story command home (next tid run)) → RequestFits story command home (with_live home (past_of home.site story) tx next)
 unfolding with_live
 live_fits home story tx command next down idle step =
-    by_when (Fit story command) _ _ _ (record { is = down })
-    (by_pick (Fit story command) _ _ _ (record { is = idle }) (λ tid. by_pick (Fit story command) _ _ _ (record { is = idle }) (step tid)))
+    by_when (RequestFits story command home) _ _ _ (record { is = down })
+    (by_pick (RequestFits story command home) _ _ _ (record { is = idle }) (λ tid. by_pick (RequestFits story command home) _ _ _ (record { is = idle }) (step tid)))
 
-step_fits : (home : Home) (story : Story) (tx : Tx) (steps : List Step) → AllPrimed story → (tid : Tid) (run : Run) → Fit story (Cmd.Step tx) (next_step home story steps tid run)
-unfolding next_step
-step_fits home story tx steps primed tid run =
-    by_pick (Fit story (Cmd.Step tx)) _ _ _ (record { is = record { answer_is = refl; other = refl } })
-    (λ step. at_site_fits story (Cmd.Step tx) home _ primed (act_line home (past_of home.site story) tid _ tx (primed home.site)))
+-- the command of a local transaction
+abbrev verb_command : Verb → Tx → Command
+verb_command Begin tx = Cmd.Begin tx
+verb_command Step_on tx = Cmd.Step tx
+verb_command Commit tx = Cmd.Commit tx
+verb_command Abort tx = Cmd.Abort tx
+verb_command Fate tx = Cmd.Fate tx
 
-begin_fits : (scenario : Scenario) (story : Story) (tx : Tx) → AllPrimed story → Fit story (Cmd.Begin tx) (on_begin scenario story tx)
-unfolding on_begin begins_local
-begin_fits scenario story tx primed =
-    by_pick (Fit story (Cmd.Begin tx)) _ _ _ (record { is = record { answer_is = refl; other = refl } })
-    (λ home. let q = begin_line home (past_of home.site story) (attempt tx _) tx (primed home.site) in
-    by_when (Fit story (Cmd.Begin tx)) _ _ _ (record { is = unless_begun_fits tx _ q.answer q.other }) (at_site_fits story (Cmd.Begin tx) home _ primed q))
+request_fits : (verb : Verb) (home : Home) (story : Story) (steps : List Step) (tx : Tx) → AllPrimed story → RequestFits story (verb_command verb tx) home (request verb home steps (past_of home.site story) tx)
+unfolding request begin_next next_step when_done
+request_fits Begin home story steps tx primed =
+    let q = begin_line home (past_of home.site story) (attempt tx _) tx (primed home.site) in
+    by_when (RequestFits story (Cmd.Begin tx) home) _ _ _ (record { is = unless_begun_fits tx _ q.answer q.other }) (at_site_fits story (Cmd.Begin tx) home _ primed q)
+request_fits Step_on home story steps tx primed =
+    live_fits home story tx (Cmd.Step tx) _ (record { answer_is = refl; other = refl }) (record { answer_is = refl; other = refl }) (λ tid run.
+    by_pick (RequestFits story (Cmd.Step tx) home) _ _ _ (record { is = record { answer_is = refl; other = refl } })
+    (λ step. at_site_fits story (Cmd.Step tx) home _ primed (act_line home (past_of home.site story) tid _ tx (primed home.site))))
+request_fits Commit home story steps tx primed =
+    live_fits home story tx (Cmd.Commit tx) _ (record { answer_is = refl; other = refl }) (record { answer_is = refl; other = refl }) (λ tid run.
+    by_when (RequestFits story (Cmd.Commit tx) home) _ _ _ (record { is = record { answer_is = refl; other = refl } })
+    (at_site_fits story (Cmd.Commit tx) home _ primed (commit_line home (past_of home.site story) tid tx)))
+request_fits Abort home story steps tx primed =
+    live_fits home story tx (Cmd.Abort tx) _ (record { answer_is = refl; other = refl }) (record { answer_is = refl; other = refl }) (λ tid run.
+    at_site_fits story (Cmd.Abort tx) home _ primed (abort_line home (past_of home.site story) tid tx (primed home.site)))
+request_fits Fate home story steps tx primed = at_site_fits story (Cmd.Fate tx) home _ primed (fate_line home (past_of home.site story) tx (primed home.site))
 
-on_step_fits : (scenario : Scenario) (story : Story) (tx : Tx) → AllPrimed story → Fit story (Cmd.Step tx) (on_step scenario story tx)
-unfolding on_step
-on_step_fits scenario story tx primed =
-    by_pick (Fit story (Cmd.Step tx)) _ _ _ (record { is = record { answer_is = refl; other = refl } })
-    (λ home. live_fits home story tx (Cmd.Step tx) _ (record { answer_is = refl; other = refl }) (record { answer_is = refl; other = refl })
-    (step_fits home story tx (program_of scenario tx) primed))
-
-commit_fits : (scenario : Scenario) (story : Story) (tx : Tx) → AllPrimed story → Fit story (Cmd.Commit tx) (on_commit scenario story tx)
-unfolding on_commit
-commit_fits scenario story tx primed =
-    by_pick (Fit story (Cmd.Commit tx)) _ _ _ (record { is = record { answer_is = refl; other = refl } })
-    (λ home. live_fits home story tx (Cmd.Commit tx) _ (record { answer_is = refl; other = refl }) (record { answer_is = refl; other = refl })
-    (λ tid run. by_when (Fit story (Cmd.Commit tx)) _ _ _ (record { is = record { answer_is = refl; other = refl } })
-    (at_site_fits story (Cmd.Commit tx) home _ primed (commit_line home (past_of home.site story) tid tx))))
-
-abort_fits : (scenario : Scenario) (story : Story) (tx : Tx) → AllPrimed story → Fit story (Cmd.Abort tx) (on_abort scenario story tx)
-unfolding on_abort
-abort_fits scenario story tx primed =
-    by_pick (Fit story (Cmd.Abort tx)) _ _ _ (record { is = record { answer_is = refl; other = refl } })
-    (λ home. live_fits home story tx (Cmd.Abort tx) _ (record { answer_is = refl; other = refl }) (record { answer_is = refl; other = refl })
-    (λ tid run. at_site_fits story (Cmd.Abort tx) home _ primed (abort_line home (past_of home.site story) tid tx (primed home.site))))
+local_fits : (scenario : Scenario) (story : Story) (verb : Verb) (tx : Tx) (other : Happened) → AllPrimed story → Fit story (verb_command verb tx) other → Fit story (verb_command verb tx) (on_local scenario story verb tx other)
+unfolding on_local
+local_fits scenario story verb tx other primed p =
+    by_pick (Fit story (verb_command verb tx)) _ _ _ p (λ home. request_fits verb home story (program_of scenario tx) tx primed)
 
 -- the fate of a transaction that isn't global
 fate_fits : (scenario : Scenario) (story : Story) (tx : Tx) → IsAllLocal scenario → AllPrimed story → Fit story (Cmd.Fate tx) (on_fate scenario story tx)
-unfolding on_fate pick
-fate_fits scenario story tx local primed =
-    by_pick (Fit story (Cmd.Fate tx)) _ _ _ (no_global (global_program scenario tx) (local tx) _)
-    (λ home. at_site_fits story (Cmd.Fate tx) home _ primed (fate_line home (past_of home.site story) tx (primed home.site)))
+unfolding on_fate fate_request pick
+fate_fits scenario story tx local primed = local_fits scenario story Fate tx _ primed (no_global (global_program scenario tx) (local tx) _)
   where
-    no_global : (o : Option (List Step)) → o ≡ None → (f : List Step → Happened) → Fit story (Cmd.Fate tx) (pick o (Nowhere Say.None) f)
+    no_global : (o : Option (List Step)) → o ≡ None → (f : List Step → Request CoordEvent) → Fit story (Cmd.Fate tx) (coord_requested scenario story (pick o (Declines Say.None) f))
     no_global None e f = record { is = record { answer_is = refl; other = refl } }
     no_global (Some steps) e f = absurd cc
 
@@ -125,10 +126,10 @@ actor_fits scenario story command (suc n) c s some declared primed quiet =
 -- what a command that runs here makes happen
 pub fits : (scenario : Scenario) (story : Story) (command : Command) → IsAllLocal scenario → IsHere scenario.sites command → AllPrimed story → Fit story command (happens scenario story command)
 unfolding happens
-fits scenario story (Cmd.Begin tx) local here primed = begin_fits scenario story tx primed
-fits scenario story (Cmd.Step tx) local here primed = on_step_fits scenario story tx primed
-fits scenario story (Cmd.Commit tx) local here primed = commit_fits scenario story tx primed
-fits scenario story (Cmd.Abort tx) local here primed = abort_fits scenario story tx primed
+fits scenario story (Cmd.Begin tx) local here primed = local_fits scenario story Begin tx _ primed (record { is = record { answer_is = refl; other = refl } })
+fits scenario story (Cmd.Step tx) local here primed = local_fits scenario story Step_on tx _ primed (record { is = record { answer_is = refl; other = refl } })
+fits scenario story (Cmd.Commit tx) local here primed = local_fits scenario story Commit tx _ primed (record { is = record { answer_is = refl; other = refl } })
+fits scenario story (Cmd.Abort tx) local here primed = local_fits scenario story Abort tx _ primed (record { is = record { answer_is = refl; other = refl } })
 fits scenario story (Cmd.Fate tx) local here primed = fate_fits scenario story tx local primed
 fits scenario story (Cmd.Halt actor cut) local here primed =
     actor_fits scenario story (Cmd.Halt actor cut) actor _ _ here.at_site here.heard primed (λ home. halt_line home (past_of home.site story) actor cut)

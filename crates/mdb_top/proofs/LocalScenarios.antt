@@ -4,7 +4,7 @@ use Rattle.std.specs.List.{list_all}
 use Rattle.std.proofs.lemmas.Bool.{and_parts, or_left, or_right}
 use Rattle.mdb_base.specs.declared.acts.Step.{Step}
 use Rattle.mdb_base.specs.declared.names.Engine.{Engine}
-use Rattle.mdb_base.specs.declared.names.Engine.TheVariants.{Locking, Timestamp, Validation}
+use Rattle.mdb_base.specs.declared.names.Engine.TheVariants.{Locking, Timestamp, Validation, Multiversion}
 use Rattle.mdb_base.specs.declared.names.SiteId.{SiteId}
 use Rattle.mdb_base.specs.Names.{same_site}
 use Rattle.mdb_base.specs.Programs.{IsProgram}
@@ -76,6 +76,7 @@ locks : (engine : Engine) → is_locking engine ≡ true → engine ≡ Locking
 locks Locking e = refl
 locks Timestamp e = absurd cc
 locks Validation e = absurd cc
+locks Multiversion e = absurd cc
 
 -- the first line is the only one
 pub record IsOnly (sites : List SiteLine) (line : SiteLine) : Type 0 where

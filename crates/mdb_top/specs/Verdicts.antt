@@ -3,7 +3,7 @@ use Rattle.std.specs.Prelude.{ℕ, nat_lt, Bool, true, false, cond, ◌&&◌, co
 use Rattle.std.specs.List.{list_all}
 use Rattle.std.specs.Str.{bytes_eq}
 use Rattle.mdb_base.specs.declared.names.Engine.{Engine}
-use Rattle.mdb_base.specs.declared.names.Engine.TheVariants.{Locking, Timestamp, Validation}
+use Rattle.mdb_base.specs.declared.names.Engine.TheVariants.{Locking, Timestamp, Validation, Multiversion}
 use Rattle.fed_rules.specs.declared.commands.Command.{Command}
 use Rattle.fed_rules.specs.declared.commands.Command.TheVariants as Cmd
 use Rattle.fed_rules.specs.declared.scenario.SiteLine.{SiteLine}
@@ -24,6 +24,7 @@ abbrev pub is_locking : Engine → Bool
 is_locking Locking = true
 is_locking Timestamp = false
 is_locking Validation = false
+is_locking Multiversion = false
 
 -- whether there is no site, or a single one that locks
 abbrev pub is_one_site : List SiteLine → Bool

@@ -1,5 +1,6 @@
 use Rattle.std.proofs.Common.{◌∷◌, List, refl, sym, ap, subst}
 use Rattle.fed_rules.specs.Runs.{Refuses, changed}
+use Rattle.fed_rules.specs.Replies.{rule}
 use Rattle.engine_contract.proofs.Follows.{NumberFits-below}
 use Rattle.site_core.specs.declared.attempts.Begun.{Begun}
 use Rattle.site_core.specs.Attempts.{SameBegun, ended, finished}
@@ -13,7 +14,7 @@ seal-requires g c =
     let list = c.args.self.now.attempts.begun in
     let (n, live) = some_value (finished list c.args.tid) c.requires.live in
     let (run, (is, count)) = listed_lives list k.start k.lines c.args.tid n k.stood.listed live in
-    record { start = k.start; lines = k.lines; stood = k.stood.stood; holds = record { run = run; live = is; fits = NumberFits-below k.start.kind k.start k.lines k.holds } }
+    record { start = k.start; lines = k.lines; stood = k.stood.stood; holds = record { run = run; live = is; fits = NumberFits-below (rule k.start.kind).drawn k.start k.lines k.holds } }
 
 pub returns-in-Ok-clause-sealed : goal.returns-in-Ok-clause-sealed
 returns-in-Ok-clause-sealed g c = λ start lines k. record { stood = c.in-Ok.ensures.sealed start lines k.stood; listed = k.listed }
