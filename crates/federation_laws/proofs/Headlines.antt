@@ -22,6 +22,7 @@ use Rattle.fed_rules.specs.Plans.{IsScenario}
 use Rattle.fed_rules.specs.Reports.{printed_order}
 use Rattle.fed_rules.specs.Scenarios.{home_of, program_of}
 use Rattle.fed_rules.specs.SitePast.{records}
+use Rattle.fed_rules.specs.Attempts.{each_attempt}
 use Rattle.fed_rules.specs.SiteRecords.{Home, Held, by_tid, doubt_of, doubts, held_before, prepared_tids, rows_after}
 use Rattle.fed_rules.specs.Story.{Story, coord_past, past_of, story_of}
 use Rattle.commit_laws.specs.Endings.{StoriesEndAlike, StoriesForgetExactly, StoriesAnswerInDoubt}
@@ -37,6 +38,7 @@ use Rattle.federation_laws.proofs.Declared.{member-declared, order-in, order-of}
 use Rattle.federation_laws.proofs.ScenarioFacts.{global_program-is, program_fits}
 use Rattle.federation_laws.proofs.SiteParts.{tells-outcomes}
 use Rattle.federation_laws.proofs.Told.{home-again}
+use Rattle.rules_laws.proofs.EachAttempt.{in_each}
 
 -- the members of each site's order stand in each merge
 member_merged : (scenario : Scenario) (story : Story) (order : List Tid) → IsMerge scenario story order → (site : SiteId) (tid : Tid)
@@ -112,9 +114,9 @@ none_found {B = B} look (y ∷ ys) x e i = by_look (look y) refl e i (none_found
 -- where a site's list of doubts is empty, it is in doubt of no attempt
 no_doubt : (rs : List SiteRecord) → rising (map (λ held. held.tid) (doubts rs)) ≡ [] → (tid : Tid) → doubt_of rs tid ≡ None
 no_doubt rs none tid =
-    let looked = none_sorted (found (doubt_of rs) (prepared_tids rs)) (none_named (doubts rs) (none_rising _ none)) in
+    let looked = none_sorted (found (doubt_of rs) (each_attempt (prepared_tids rs))) (none_named (doubts rs) (none_rising _ none)) in
     elim (doubt_among rs tid) [
-      | inl i ↦ none_found (doubt_of rs) (prepared_tids rs) tid looked i
+      | inl i ↦ none_found (doubt_of rs) (each_attempt (prepared_tids rs)) tid looked (in_each (prepared_tids rs) tid i)
       | inr e ↦ e
     ]
 
