@@ -17,7 +17,7 @@ use Rattle.order_laws.specs.Chains.{In}
 use Rattle.order_laws.proofs.Lists.{each_at}
 use Rattle.fed_rules.specs.Replies.{is_other, is_younger, is_older, is_in_the_way, conflicts_with_read, has_written, has_read, key_of, access_key, age_of, wait_die, late_or_wait, access_stop, granted, or_reply, access_reply, ticket_stop, ticket_reply, spoilers, is_empty, bad_keys, invalid_at, moved, moved_by, or_why, seal_stop, wait_for_writer, rule, age_stop, age_ticket_stop}
 use Rattle.fed_rules.specs.Runs.{Start, EngineLine, Begins, Acts, Takes, Seals, Commits, Access, Got, Wrote, Run, run_at, attempts, unended, begun, changed, after, committed, aborted, committed_since, published, owner, is_sealed, has_ticket}
-use Rattle.commit_laws.proofs.Lists.{among-split}
+use Rattle.order_laws.proofs.Joined.{among_split}
 use Rattle.closing_laws.proofs.Locals.{found_from}
 
 -- the run is live, and every other one has ended and is older; who ended by commit did so before it began; its ticket, if it has one, is the next
@@ -66,7 +66,7 @@ module _ (start : Start) (lines : List EngineLine) (me : Run) (alone : IsAlone s
   none_younger test runs h = none_pass (λ run. is_younger me run && test run) runs (λ run i. ap (λ b. b && test run) (older_run run (each_at (λ r. r.age < me.age) run runs h i)))
 
   none_younger_all : (test : Run → Bool) → those (λ run. is_younger me run && test run) (unended start lines ++ committed start lines) ≡ []
-  none_younger_all test = none_pass (λ run. is_younger me run && test run) (unended start lines ++ committed start lines) (λ run i. elim (among-split (λ r. r ≡ run) (unended start lines) (committed start lines) i) [
+  none_younger_all test = none_pass (λ run. is_younger me run && test run) (unended start lines ++ committed start lines) (λ run i. elim (among_split (λ r. r ≡ run) (unended start lines) (committed start lines) i) [
     | inl j ↦ ap (λ r. is_younger me r && test r) (only_me run j) ∙ ap (λ b. b && test me) not_younger
     | inr j ↦ ap (λ b. b && test run) (older_run run (each_at (λ r. r.age < me.age) run (committed start lines) alone.committed j))
   ])

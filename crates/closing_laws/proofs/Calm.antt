@@ -34,9 +34,9 @@ use Rattle.fed_rules.specs.Site.{site_line, answered, of_give, of_abort, of_drop
 use Rattle.fed_rules.specs.SitePast.{SiteHappening, SitePast, disk, records, epoch_start, engine_lines, live_one, live, trip_of, is_local, begins_tx}
 use Rattle.fed_rules.specs.SiteRecords.{Home, Held, site_frame, doubt_of}
 use Rattle.rules_laws.specs.Durable.{IsFirm}
-use Rattle.commit_laws.specs.Records.{IsEnd}
-use Rattle.commit_laws.proofs.CoordFacts.{Same, Starts, Decides, Forgets, Restarts, is_undecided}
-use Rattle.commit_laws.proofs.CoordLines.{Stood, Stopped, Through, coord-lines}
+use Rattle.coord_laws.specs.Records.{IsEnd}
+use Rattle.coord_laws.proofs.Facts.{Same, Starts, Decides, Forgets, Restarts, is_undecided}
+use Rattle.coord_laws.proofs.Lines.{Stood, Stopped, Through, coord_lines}
 use Rattle.federation_laws.proofs.SiteAbout.{sync-records}
 use Rattle.federation_laws.proofs.SiteMoves.{live-next}
 use Rattle.fed_rules.specs.Policies.{Policy}
@@ -272,7 +272,7 @@ plain_mild protocols policy past event x firm is heard p calm t = record {
 }
   where
     stood : (tid : Tid) → Stood protocols tid past x
-    stood tid = subst (Stood protocols tid past) (sym is) (coord-lines protocols policy tid past event firm).stood
+    stood tid = subst (Stood protocols tid past) (sym is) (coord_lines protocols policy tid past event firm).stood
 
     no_go : (tid : Tid) (steps : List Step) → x.event ≡ To_coord.Go tid steps → ⊥
     no_go tid steps e = subst IsNoGo (sym heard ∙ e) calm

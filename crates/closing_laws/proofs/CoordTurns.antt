@@ -24,12 +24,13 @@ use Rattle.fed_rules.specs.CoordPast.{CoordHappening, CoordPast, Standing, Undec
 use Rattle.fed_rules.specs.Scenarios.{protocols, policy}
 use Rattle.fed_rules.specs.Story.{Story, AtCoordinator, Nowhere, coord_past, sent_from, at_coordinator, on_attempt, on_take, happens, story_of, coord_requested}
 use Rattle.commit_laws.proofs.Agreed.{coord-sound}
-use Rattle.commit_laws.proofs.CoordLines.{coord-lines}
-use Rattle.commit_laws.proofs.CoordSound.{IsBegun}
+use Rattle.coord_laws.proofs.Begun.{begun_in}
+use Rattle.coord_laws.proofs.Lines.{coord_lines}
+use Rattle.coord_laws.proofs.Sound.{IsBegun}
 use Rattle.commit_laws.proofs.PreparedLaws.{nowhere}
 use Rattle.closing_laws.proofs.Calm.{lates, agains, takes, IsPlain, IsNoGo, plain_mild, undecided_open}
 use Rattle.closing_laws.proofs.Onward.{IsCalm, IsGentle, gentle_nowhere, onward_next}
-use Rattle.commit_laws.proofs.CoordFacts.{is_undecided}
+use Rattle.coord_laws.proofs.Facts.{is_undecided}
 use Rattle.fed_rules.specs.declared.messages.Due.{Due}
 use Rattle.fed_rules.specs.CoordCommands.{attempt_request}
 use Rattle.fed_rules.specs.Requests.{Submits, Declines}
@@ -85,7 +86,7 @@ gentle_line : (scenario : Scenario) (commands : List Command) (event : CoordEven
 gentle_line scenario commands event tid p calm t =
     let past = coord_past (story_of scenario commands) in
     let firm = (coord-sound scenario nowhere tid commands).firm in
-    record { mildly = plain_mild (protocols scenario) (policy scenario) past event (coord_line (protocols scenario) (policy scenario) past event) firm refl (coord-lines (protocols scenario) (policy scenario) tid past event firm).is p calm t }
+    record { mildly = plain_mild (protocols scenario) (policy scenario) past event (coord_line (protocols scenario) (policy scenario) past event) firm refl (coord_lines (protocols scenario) (policy scenario) tid past event firm).is p calm t }
 
 -- an event about an attempt, where its line is gentle
 gentle_attempt : (scenario : Scenario) (story : Story) (tid : Tid) (event : CoordEvent) → IsGentle scenario story (at_coordinator scenario story event)
@@ -132,20 +133,6 @@ gentle_inquiry scenario commands site n tid c e =
     let past = coord_past (story_of scenario commands) in
     subst (IsGentle scenario (story_of scenario commands)) (sym (takes_there scenario (story_of scenario commands) site n (From.Inquiry tid) e))
     (gentle_line scenario commands (Ev.Take site (From.Inquiry tid)) tid (subst (λ x. IsPlain x.answer) (sym (takes (protocols scenario) (policy scenario) past site (From.Inquiry tid) c.coordinator)) (plain_inquiry scenario past site tid)) tt refl)
-
--- an attempt that was begun is listed
-begun_in_answer : (g : Tid) (a : Answer) (tids : List Tid) → begins g a ≡ true → In g (with_some (begun_by a) tids)
-begun_in_answer g (Say.Begun t) tids e = inl (same_tid-equal t g e)
-begun_in_answer g a tids e = cc
-
-more_begun : (g : Tid) (o : Option Tid) (tids : List Tid) → In g tids → In g (with_some o tids)
-more_begun g None tids i = i
-more_begun g (Some t) tids i = inr i
-
-pub begun_in : (past : CoordPast) (g : Tid) → IsBegun past g → In g (begun_tids past)
-begun_in [] g i = absurd i
-begun_in (x ∷ past) g (inl e) = begun_in_answer g x.answer (begun_tids past) e
-begun_in (x ∷ past) g (inr i) = more_begun g (begun_by x.answer) (begun_tids past) (begun_in past g i)
 
 -- so the coordinator hears of it
 pub hears_of : (scenario : Scenario) (story : Story) (tid : Tid) (event : CoordEvent) → IsBegun (coord_past story) tid → on_attempt scenario story tid event ≡ at_coordinator scenario story event

@@ -32,7 +32,7 @@ use Rattle.fed_rules.specs.Plans.{IsScenario, all_differ, one_site}
 use Rattle.fed_rules.specs.Scenarios.{protocols_in, protocols}
 use Rattle.fed_rules.specs.Site_of.{due_site}
 use Rattle.closing_laws.proofs.Dues.{steps_of, count_of, epoch_of, ticketed, work_of, prepare_of, due_of, due_is}
-use Rattle.commit_laws.proofs.CoordRules.{calm-standing}
+use Rattle.coord_laws.proofs.Rules.{calm_standing}
 
 cond_same : {A : Type 0} (b : Bool) (x : A) → cond b x x ≡ x
 cond_same true x = refl
@@ -65,7 +65,7 @@ module _ (g : Tid) (past : CoordPast) (site : SiteId) (e n : ℕ) (reply : Reply
     counted_is = counts_it;
     votes_are = λ o. refl;
     undecided = λ o. cond_same (same_tid g g) (is_open past g) ∙ o;
-    others = λ protocols tid o. calm-standing protocols tid past (record { event = did_event; answer = Say.Only; sends = sends; calls = []; lines = [] }) tt ∙ o;
+    others = λ protocols tid o. calm_standing protocols tid past (record { event = did_event; answer = Say.Only; sends = sends; calls = []; lines = [] }) tt ∙ o;
     commits_are = refl;
     goes = refl;
     unset = refl;
@@ -78,7 +78,7 @@ module _ (g : Tid) (past : CoordPast) (site : SiteId) (e n : ℕ) (reply : Reply
     counted_is = counts_it;
     votes_are = λ o. refl;
     undecided = λ o. cond_same (same_tid g g) (is_open past g) ∙ o;
-    others = λ protocols tid o. calm-standing protocols tid past (record { event = did_event; answer = Say.Initiates; sends = sends; calls = Append (Rec.Initiation g members) ∷ Sync ∷ []; lines = [] }) tt ∙ o;
+    others = λ protocols tid o. calm_standing protocols tid past (record { event = did_event; answer = Say.Initiates; sends = sends; calls = Append (Rec.Initiation g members) ∷ Sync ∷ []; lines = [] }) tt ∙ o;
     commits_are = refl;
     goes = refl;
     unset = refl;
@@ -109,7 +109,7 @@ vote_views g past site ticket = record {
   counted_is = refl;
   votes_are = λ o. ap (λ b. or_vote (cond (b && same_site site o) (Some ticket) None) (vote_at past g o)) (same_tid-refl g);
   undecided = λ o. cond_same (same_tid g g) (is_open past g) ∙ o;
-  others = λ protocols tid o. calm-standing protocols tid past (quiet (Ev.Take site (From.Vote g (Some ticket))) Say.Voted) tt ∙ o;
+  others = λ protocols tid o. calm_standing protocols tid past (quiet (Ev.Take site (From.Vote g (Some ticket))) Say.Voted) tt ∙ o;
   commits_are = refl;
   goes = refl;
   unset = refl;

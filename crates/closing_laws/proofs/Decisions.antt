@@ -34,10 +34,10 @@ use Rattle.fed_rules.specs.Site.{of_decide}
 use Rattle.fed_rules.specs.SitePast.{SiteHappening, records, live}
 use Rattle.fed_rules.specs.SiteRecords.{Home, doubt_of}
 use Rattle.fed_rules.specs.Story.{Story, Happened, AtSite, AtCoordinator, Nowhere, past_of, coord_past, with_site, with_coordinator, sent_to, sent_from, at_coordinator, on_take, happens, place_from, places_of, story_of}
-use Rattle.commit_laws.specs.Records.{IsCommit}
+use Rattle.coord_laws.specs.Records.{IsCommit}
 use Rattle.commit_laws.proofs.Agreed.{coord-sound}
-use Rattle.commit_laws.proofs.CoordLines.{coord-lines}
-use Rattle.commit_laws.proofs.CoordSound.{kept-stays, end-commit}
+use Rattle.coord_laws.proofs.Lines.{coord_lines}
+use Rattle.coord_laws.proofs.Sound.{kept_stays, end_commit}
 use Rattle.commit_laws.proofs.Links.{Linked, linked}
 use Rattle.commit_laws.proofs.PreparedLaws.{nowhere}
 use Rattle.site_laws.proofs.Attempts.{same_tx-refl}
@@ -65,8 +65,8 @@ commit_kept scenario commands command g m = by_case (happens scenario story comm
     by_case (AtCoordinator x) l =
         let (event, is, came) = l.next in
         subst (λ y. Among (IsCommit g) (Coordinator.records (y ∷ coord_past story))) (sym is)
-        (kept-stays (protocols scenario) g (coord_past story) event (Coordinator.records (coord_line (protocols scenario) (policy scenario) (coord_past story) event ∷ coord_past story)) (IsCommit g) (end-commit g)
-        (coord-lines (protocols scenario) (policy scenario) g (coord_past story) event (coord-sound scenario nowhere g commands).firm).kept m)
+        (kept_stays (protocols scenario) g (coord_past story) event (Coordinator.records (coord_line (protocols scenario) (policy scenario) (coord_past story) event ∷ coord_past story)) (IsCommit g) (end_commit g)
+        (coord_lines (protocols scenario) (policy scenario) g (coord_past story) event (coord-sound scenario nowhere g commands).firm).kept m)
 
 commit_takes : (scenario : Scenario) (places : List Place) (commands : List Command) (g : Tid) → Among (IsCommit g) (Coordinator.records (coord_past (story_of scenario commands)))
     → Among (IsCommit g) (Coordinator.records (coord_past (story_of scenario (take_answers places commands))))

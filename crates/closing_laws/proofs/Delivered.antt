@@ -39,7 +39,7 @@ use Rattle.closing_laws.proofs.Calm.{gives, takes}
 use Rattle.closing_laws.proofs.CoordTurns.{takes_there, gentle_ack}
 use Rattle.closing_laws.proofs.Onward.{IsCalm, Onward, onward_on, onward_next, at_home, gentle_give}
 use Rattle.fed_rules.specs.Disk.{Append}
-use Rattle.commit_laws.proofs.CoordRules.{calm-standing}
+use Rattle.coord_laws.proofs.Rules.{calm_standing}
 
 -- what comes behind a list stands at its length
 pub item_behind : {A : Type 0} (xs ys : List A) (y : A) → item_at (xs ++ y ∷ ys) (length xs) ≡ Some y
@@ -127,10 +127,10 @@ ack_taken protocols past tid site decision ss known waits =
     forgets = record { event = event; answer = Say.Forgets; sends = []; calls = Append (Rec.End tid) ∷ []; lines = [] }
 
     stays : standing protocols (quiet event Say.Acked ∷ past) tid ≡ Decided decision
-    stays = calm-standing protocols tid past (quiet event Say.Acked) tt ∙ known
+    stays = calm_standing protocols tid past (quiet event Say.Acked) tt ∙ known
 
     stays_so : standing protocols (quiet event Say.Ignored ∷ past) tid ≡ Decided decision
-    stays_so = calm-standing protocols tid past (quiet event Say.Ignored) tt ∙ known
+    stays_so = calm_standing protocols tid past (quiet event Say.Ignored) tt ∙ known
 
     member_test : CoordPast → Participant → Bool
     member_test now member = not (has_acked now tid member.site)

@@ -31,12 +31,13 @@ use Rattle.commit_laws.proofs.Agreed.{coord-sound}
 use Rattle.commit_laws.proofs.PreparedLaws.{nowhere}
 use Rattle.site_laws.proofs.RisingLists.{rising_in}
 use Rattle.closing_laws.proofs.Calm.{agains}
-use Rattle.closing_laws.proofs.CoordTurns.{gentle_again, hears_of, begun_in}
+use Rattle.closing_laws.proofs.CoordTurns.{gentle_again, hears_of}
+use Rattle.coord_laws.proofs.Begun.{begun_in}
 use Rattle.closing_laws.proofs.Declared.{IsMemberHome, member_home}
 use Rattle.closing_laws.proofs.Delivered.{item_behind, IsWaiting, IsDelivered, delivered}
 use Rattle.closing_laws.proofs.Onward.{IsCalm, Onward, onward_here, onward_on, onward_next}
-use Rattle.commit_laws.proofs.CoordFacts.{is_undecided}
-use Rattle.commit_laws.proofs.CoordRules.{calm-standing}
+use Rattle.coord_laws.proofs.Facts.{is_undecided}
+use Rattle.coord_laws.proofs.Rules.{calm_standing}
 use Rattle.fed_rules.specs.CoordCommands.{attempt_request}
 use Rattle.fed_rules.specs.Requests.{Submits, Declines}
 
@@ -232,7 +233,7 @@ module _ (scenario : Scenario) where
           ∙ ap (λ ys. cond (not (has_acked past tid m.site)) (m ∷ ys) ys) (same_missing xs)
 
       waits : IsWaiting (protocols scenario) now tid decision (map (λ (k : Participant). k.site) members)
-      waits = inr (calm-standing (protocols scenario) tid past (sends_again tid decision members) tt ∙ e, (λ m i. site_in members m (subst (λ xs. In m xs) (same_missing (required (protocols scenario) (records past) tid decision)) i)))
+      waits = inr (calm_standing (protocols scenario) tid past (sends_again tid decision members) tt ∙ e, (λ m i. site_in members m (subst (λ xs. In m xs) (same_missing (required (protocols scenario) (records past) tid decision)) i)))
 
       all : AllDelivered tid decision (story_of scenario again) (story_of scenario (for_each (deliver scenario) (map (place_for story) members) again))
       all = deliver_members story tid decision members again first.calm (stand members (λ m i. i))

@@ -32,7 +32,7 @@ use Rattle.fed_rules.specs.SitePast.{SiteHappening, records, live}
 use Rattle.fed_rules.specs.SiteRecords.{Home, doubt_of}
 use Rattle.fed_rules.specs.Site_of.{due_site}
 use Rattle.fed_rules.specs.Story.{Story, AtCoordinator, past_of, coord_past, sent_to, sends_to, places_of, story_of}
-use Rattle.commit_laws.proofs.Lists.{among-left, among-right}
+use Rattle.order_laws.proofs.Joined.{among_right, among_left}
 use Rattle.closing_laws.proofs.AloneSites.{Stage}
 use Rattle.closing_laws.proofs.CoordView.{Views, did_event, reply_of, only_views, SendsDues, due_now, Apart, apart_those, protocols_apart, found_where, found_apart, IsNew, new_from, new_to, first_due}
 use Rattle.closing_laws.proofs.Delivered.{item_behind}
@@ -346,7 +346,7 @@ module _ (scenario : Scenario) (whole : IsScenario scenario) (g : Tid) (prog : L
           let here_too : news_at past (quiet (did_event g past home.site e n reply) Say.Only ∷ past) g home.site m.site ≡ Some due =
           ap (news_at past (quiet (did_event g past home.site e n reply) Say.Only ∷ past) g home.site) same
           ∙ new_to past (quiet (did_event g past home.site e n reply) Say.Only ∷ past) g home.site site due (record { is_now = due_within site ∙ out; fresh = w }) in
-          among-right (λ entry. site_of entry ≡ site) queue sent_entries
+          among_right (λ entry. site_of entry ≡ site) queue sent_entries
           (entry_among mid dues due site
           (found_in (λ (k : Participant). news_at past (quiet (did_event g past home.site e n reply) Say.Only ∷ past) g home.site k.site) (participants (protocols scenario) past g) m due
           (subst (λ p. In m (participants_of (protocols scenario) p)) (sym flow.program_is) i) here_too)
@@ -360,7 +360,7 @@ module _ (scenario : Scenario) (whole : IsScenario scenario) (g : Tid) (prog : L
             let t : same_site site site ≡ false = ap (same_site site) (sym (here ∙ same)) ∙ q in
             let yes = same_site_self site in
             let clash = sym t ∙ yes in cc
-        | inr i ↦ among-left (λ entry. site_of entry ≡ site) queue sent_entries i
+        | inr i ↦ among_left (λ entry. site_of entry ≡ site) queue sent_entries i
       ]
 
       by_kind : IsDue prog (answer ∷ replies) (votes site) site due → Among (λ entry. site_of entry ≡ site) (queue ++ sent_entries)

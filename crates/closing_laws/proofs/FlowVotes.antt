@@ -41,9 +41,9 @@ use Rattle.fed_rules.specs.SitePast.{SiteHappening, SitePast, records, epoch, ep
 use Rattle.fed_rules.specs.SiteRecords.{Home, doubt_of}
 use Rattle.fed_rules.specs.Story.{Story, AtCoordinator, past_of, coord_past, sent_to, places_of, story_of}
 use Rattle.commit_laws.proofs.Agreed.{coord-sound}
-use Rattle.commit_laws.proofs.CoordSound.{commit-mark}
+use Rattle.coord_laws.proofs.Sound.{commit_mark}
 use Rattle.commit_laws.proofs.PreparedLaws.{nowhere}
-use Rattle.commit_laws.specs.Records.{IsCommit}
+use Rattle.coord_laws.specs.Records.{IsCommit}
 use Rattle.closing_laws.specs.Given.{CommittedTicketsArePublished}
 use Rattle.closing_laws.proofs.AloneAt.{IsAlone}
 use Rattle.closing_laws.proofs.AloneSites.{Stage, prepare_stage}
@@ -53,7 +53,7 @@ use Rattle.closing_laws.proofs.Exchange.{IsExchange, given, both, past_given, ot
 use Rattle.closing_laws.proofs.Flow.{Entry, site_of, place_of, IsQueued, members_of, Flow, member_there}
 use Rattle.closing_laws.proofs.FlowSteps.{weight, weight_of, Advances, one_more_passes}
 use Rattle.closing_laws.proofs.Onward.{item_more, one_home}
-use Rattle.commit_laws.proofs.CoordRules.{open-undecided}
+use Rattle.coord_laws.proofs.Rules.{open_undecided}
 
 -- a commit of an attempt is its record
 pub commit_in : (g : Tid) (rs : List CoordRecord) (c : Ticketed) → In c (commits rs) → c.tid ≡ g → Among (IsCommit g) rs
@@ -388,7 +388,7 @@ module _ (published_law : CommittedTicketsArePublished) (scenario : Scenario) (w
       none : cycle_through edge_between (record { tid = g; tickets = tickets }) (commits (Coordinator.records past)) ≡ None
       none = no_cycle_above g tickets (commits (Coordinator.records past)) (vote_at (quiet event Say.Voted ∷ past) g)
           (named_votes (quiet event Say.Voted ∷ past) g (participants (protocols scenario) past g))
-          (λ c i e. ((coord-sound scenario nowhere g commands).marked (commit-mark g (Coordinator.records past) (commit_in g (Coordinator.records past) c i e))).1 (open-undecided (protocols scenario) past g flow.undecided))
+          (λ c i e. ((coord-sound scenario nowhere g commands).marked (commit_mark g (Coordinator.records past) (commit_in g (Coordinator.records past) c i e))).1 (open_undecided (protocols scenario) past g flow.undecided))
           (λ site m c k v i j f. all_above site m c k (sym ((vote_views g past home.site n).votes_are site) ∙ v) i j f)
 
   -- nothing is left in the queue then

@@ -12,9 +12,10 @@ use Rattle.fed_rules.specs.Story.{Story, coord_past, happens, story_of}
 use Rattle.commit_laws.proofs.Agreed.{coord-sound}
 use Rattle.commit_laws.proofs.PreparedLaws.{nowhere}
 use Rattle.site_laws.proofs.RisingLists.{rising_in}
-use Rattle.closing_laws.proofs.CoordTurns.{gentle_late, begun_in, late_decides}
+use Rattle.closing_laws.proofs.CoordTurns.{gentle_late, late_decides}
+use Rattle.coord_laws.proofs.Begun.{begun_in}
 use Rattle.closing_laws.proofs.Onward.{IsCalm, Onward, onward_here, onward_on, onward_next}
-use Rattle.commit_laws.proofs.CoordFacts.{is_undecided}
+use Rattle.coord_laws.proofs.Facts.{is_undecided}
 use Rattle.fed_rules.specs.Scenarios.{protocols}
 use Rattle.closing_laws.proofs.Calm.{undecided_open}
 

@@ -36,10 +36,10 @@ use Rattle.fed_rules.specs.SitePast.{SitePast, epoch, epoch_start, engine_lines,
 use Rattle.fed_rules.specs.SitePast as Site_past
 use Rattle.fed_rules.specs.SiteRecords.{Home, doubt_of}
 use Rattle.fed_rules.specs.Story.{Story, AtCoordinator, past_of, coord_past, sent_to, sends_to, places_of, story_of}
-use Rattle.commit_laws.specs.Records.{IsCommit}
+use Rattle.coord_laws.specs.Records.{IsCommit}
 use Rattle.commit_laws.proofs.Agreed.{coord-sound}
-use Rattle.commit_laws.proofs.CoordFacts.{Committed}
-use Rattle.commit_laws.proofs.CoordLines.{coord-lines}
+use Rattle.coord_laws.proofs.Facts.{Committed}
+use Rattle.coord_laws.proofs.Lines.{coord_lines}
 use Rattle.commit_laws.proofs.PreparedLaws.{nowhere}
 use Rattle.closing_laws.specs.Alone.{IsFinished}
 use Rattle.closing_laws.specs.Given.{CommittedTicketsArePublished}
@@ -217,7 +217,7 @@ module _ (published_law : CommittedTicketsArePublished) (scenario : Scenario) (w
         line_committed : is_about g event ≡ true → Among (IsCommit g) (Coordinator.records (coord_line (protocols scenario) (policy scenario) past event ∷ past))
         line_committed =
             subst (λ (z : CoordHappening). Committed g event z.answer (Coordinator.records (coord_line (protocols scenario) (policy scenario) past event ∷ past))) line
-            (coord-lines (protocols scenario) (policy scenario) g past event (coord-sound scenario nowhere g commands).firm).committed
+            (coord_lines (protocols scenario) (policy scenario) g past event (coord-sound scenario nowhere g commands).firm).committed
 
     told_now : IsTold scenario whole g sent_in (members_of scenario prog) (story_of scenario after)
     told_now = record {

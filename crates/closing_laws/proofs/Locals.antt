@@ -35,7 +35,8 @@ use Rattle.federation_laws.proofs.LocalLines.{local-made}
 use Rattle.federation_laws.proofs.LocalMoves.{LocalMove, Made, Opens, Rests, Gone, Opening, Granting, Closing}
 use Rattle.federation_laws.proofs.LocalStories.{not-asked}
 use Rattle.federation_laws.proofs.SiteMoves.{live-run}
-use Rattle.federation_laws.proofs.Told.{some-parts, local_home-declared, SiteCause, IsSiteLine, IsLine, line_is}
+use Rattle.federation_laws.proofs.Told.{local_home-declared, SiteCause, IsSiteLine, IsLine, line_is}
+use Rattle.order_laws.proofs.Alike.{some_parts}
 
 -- what begins an attempt of the transaction is a `begin` of it
 abbrev IsBeginOf : Tx → SiteEvent → Type 0
@@ -176,7 +177,7 @@ pub record IsHere (scenario : Scenario) (story : Story) (home : Home) (x : SiteH
 pub line_here : (scenario : Scenario) (story : Story) (home : Home) (s : SiteId) (x : SiteHappening) → home_of scenario home.site ≡ Some home → same_site s home.site ≡ true → IsSiteLine scenario story s x → IsHere scenario story home x
 line_here scenario story home s x d q line =
     let own : line.home.site ≡ home.site = sym line.here ∙ same_site_alike s home.site q in
-    let same : line.home ≡ home = some-parts (sym line.declared ∙ (ap (home_of scenario) own ∙ d)) in
+    let same : line.home ≡ home = some_parts (sym line.declared ∙ (ap (home_of scenario) own ∙ d)) in
     record {
       event = line.event;
       is = subst (λ (z : Home). x ≡ site_line z (past_of z.site story) line.event) same line.is_next;
@@ -219,7 +220,7 @@ found_in look (z ∷ xs) x y (inl same) e = here (look z) (ap look same ∙ e)
   where
     here : (o : Option _) → o ≡ Some y → In y (with_some o (found look xs))
     here None f = cc
-    here (Some w) f = inl (some-parts f)
+    here (Some w) f = inl (some_parts f)
 found_in look (z ∷ xs) x y (inr i) e = there (look z) (found_in look xs x y i e)
   where
     there : (o : Option _) → In y (found look xs) → In y (with_some o (found look xs))
@@ -279,7 +280,7 @@ found_live home past tx tid right e = by_first (first_where (is_live_one tx) (un
         let (at, was) = found_from (run_at (epoch_start home past) (engine_lines past)) (attempts (epoch_start home past) (engine_lines past)) run first.0 in
         let tests = parts (same_tx run.tid.tx tx) (not (is_sealed run)) first.1 in
         let own : run.tid ≡ at = tid_is (epoch_start home past) (engine_lines past) right at run was in
-        let named : run.tid ≡ tid = some-parts g in
+        let named : run.tid ≡ tid = some_parts g in
         record {
           run = run;
           is_live = ap (live home past) (sym named ∙ own) ∙ (ap (λ o. live_here o) was ∙ open_one run run.sealed refl tests.1);

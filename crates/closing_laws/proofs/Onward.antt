@@ -24,9 +24,9 @@ use Rattle.fed_rules.specs.SitePast.{SiteHappening, records, live, trip_of, is_l
 use Rattle.fed_rules.specs.SiteRecords.{Home, doubt_of}
 use Rattle.fed_rules.specs.Story.{Story, Happened, AtSite, AtCoordinator, Nowhere, past_of, coord_past, sent_to, sends_to, at_site, on_site, on_give, happens}
 use Rattle.commit_laws.proofs.Links.{home-again}
-use Rattle.commit_laws.proofs.Names.{some-parts}
+use Rattle.order_laws.proofs.Alike.{some_parts}
 use Rattle.closing_laws.proofs.Calm.{IsReady, ready_next, gives, aborts_here, drops, asks, IsMild, decide_mild, abort_mild, drop_mild, ask_mild, IsCoordMild}
-use Rattle.commit_laws.proofs.CoordFacts.{is_undecided}
+use Rattle.coord_laws.proofs.Facts.{is_undecided}
 use Rattle.rules_laws.specs.Lines.{IsLine}
 use Rattle.rules_laws.proofs.Lines.{line_is}
 
@@ -77,7 +77,7 @@ item_more (y ∷ xs) ys (suc n) x e = item_more xs ys n x e
 
 -- one home for a site
 pub one_home : (scenario : Scenario) (a b : Home) → home_of scenario a.site ≡ Some a → home_of scenario b.site ≡ Some b → a.site ≡ b.site → a ≡ b
-one_home scenario a b e f same = some-parts (sym e ∙ (ap (home_of scenario) same ∙ f))
+one_home scenario a b e f same = some_parts (sym e ∙ (ap (home_of scenario) same ∙ f))
 
 -- one more gentle line
 pub onward_next : (scenario : Scenario) (story : Story) (command : Command) (happened : Happened) → IsCalm story → IsGentle scenario story happened
@@ -213,7 +213,7 @@ pub gentle_give : (scenario : Scenario) (story : Story) (site : SiteId) (n : ℕ
 unfolding happens on_give of_give
 gentle_give scenario story site n tid decision c e =
     gentle_pick scenario story (item_at (sent_to site story) n) _ _ (gentle_nowhere scenario story _) (λ message f.
-    (let same : To.Decide tid decision ≡ message = some-parts (sym e ∙ f) in
+    (let same : To.Decide tid decision ≡ message = some_parts (sym e ∙ f) in
     subst (λ m. IsGentle scenario story (on_site scenario story site (Ev.Give m))) same
     (gentle_on_site scenario story site (Ev.Give (To.Decide tid decision)) (λ home.
     subst (IsMild home (past_of home.site story)) (sym (gives home (past_of home.site story) (To.Decide tid decision) (c.sites home.site))) (decide_mild home (past_of home.site story) tid decision)))))

@@ -40,15 +40,15 @@ use Rattle.fed_rules.specs.Story.{Story, Happened, AtSite, AtCoordinator, Nowher
 use Rattle.rules_laws.specs.Pasts.{PastsAreMadeByEvents}
 use Rattle.site_history.specs.Records.{IsPrepared}
 use Rattle.engine_laws.proofs.Tickets.{published_grows, published_at}
-use Rattle.commit_laws.proofs.CoordLists.{among-commit}
-use Rattle.commit_laws.proofs.Lists.{among-left}
+use Rattle.coord_laws.proofs.RecordLists.{among_commit}
+use Rattle.order_laws.proofs.Joined.{among_left}
 use Rattle.federation_laws.proofs.Agreement.{IsSaid}
 use Rattle.federation_laws.proofs.CommitOnce.{votes-sent}
-use Rattle.federation_laws.proofs.CoordMade.{IsLastVote, Writes}
+use Rattle.coord_laws.proofs.Made.{IsLastVote, Writes}
 use Rattle.federation_laws.proofs.SiteAbout.{act-plain, refusal-plain}
 use Rattle.federation_laws.proofs.SiteMoves.{live-run}
 use Rattle.federation_laws.proofs.StoryGlobals.{story-holds, story-agrees, coord-made}
-use Rattle.federation_laws.proofs.TicketCycles.{commits-whole}
+use Rattle.coord_laws.proofs.Cycles.{commits_whole}
 use Rattle.federation_laws.proofs.Told.{CoordCause, IsLine, line_is}
 use Rattle.closing_laws.specs.Given.{CommittedTicketsArePublished}
 use Rattle.closing_laws.proofs.Calm.{settled_records}
@@ -201,7 +201,7 @@ commit_from (Append r ∷ calls) d node i = elim (commit_from calls _ node i) [
 commit_from (Sync ∷ calls) d node i = elim (commit_from calls _ node i) [ inl k ↦ inl k | inr k ↦ inr (inr k) ]
 commit_from (TrimFront ∷ calls) d node i = elim (commit_from calls _ node i) [ inl k ↦ inl k | inr k ↦ inr (inr k) ]
 commit_from (CutBack ∷ calls) d node i = elim (commit_from calls _ node i) [ inl k ↦ inl k | inr k ↦ inr (inr k) ]
-commit_from (Stops cut ∷ calls) d node i = elim (commit_from calls _ node i) [ inl k ↦ inl (commits-whole _ d.records node k) | inr k ↦ inr (inr k) ]
+commit_from (Stops cut ∷ calls) d node i = elim (commit_from calls _ node i) [ inl k ↦ inl (commits_whole _ d.records node k) | inr k ↦ inr (inr k) ]
 
 last_vote_of : (scenario : Scenario) (past : CoordPast) (event : CoordEvent) (node : Ticketed) (calls : List (Call CoordRecord)) → Each (Writes (protocols scenario) past event) calls → Among (AppendsIt node) calls
     → IsLastVote (protocols scenario) past event node.tid node.tickets
@@ -247,9 +247,9 @@ ticket_sent scenario whole (command ∷ commands) node k i j =
 
     by_case : (happened : Happened) → IsLine scenario story happened → In node (commits (Coordinator.records (with_coordinator happened past)))
         → (In node (commits (Coordinator.records past)) → In (From.Vote node.tid (Some k.ticket)) (sent_from k.site story)) → In (From.Vote node.tid (Some k.ticket)) (sent_from k.site story ++ sends_from k.site happened)
-    by_case (Nowhere answer) line i old = among-left (λ m. m ≡ From.Vote node.tid (Some k.ticket)) (sent_from k.site story) [] (old i)
-    by_case (AtSite at x) line i old = among-left (λ m. m ≡ From.Vote node.tid (Some k.ticket)) (sent_from k.site story) (sends_from k.site (AtSite at x)) (old i)
-    by_case (AtCoordinator x) line i old = among-left (λ m. m ≡ From.Vote node.tid (Some k.ticket)) (sent_from k.site story) []
+    by_case (Nowhere answer) line i old = among_left (λ m. m ≡ From.Vote node.tid (Some k.ticket)) (sent_from k.site story) [] (old i)
+    by_case (AtSite at x) line i old = among_left (λ m. m ≡ From.Vote node.tid (Some k.ticket)) (sent_from k.site story) (sends_from k.site (AtSite at x)) (old i)
+    by_case (AtCoordinator x) line i old = among_left (λ m. m ≡ From.Vote node.tid (Some k.ticket)) (sent_from k.site story) []
         (elim (commit_from x.calls (Coordinator.disk past) node i) [
           | inl before ↦ old before
           | inr new ↦ vote_sent line.event line.cause (last_vote_of scenario past line.event node x.calls (coord-made scenario story x line).writes new)
@@ -260,7 +260,7 @@ tickets_published pasts scenario commands home commit k whole d i j here =
     let story = story_of scenario commands in
     let sent = subst (λ s. In (From.Vote commit.tid (Some k.ticket)) (sent_from s (story_of scenario commands))) here (ticket_sent scenario whole commands commit k i j) in
     let held = story-holds scenario whole commands commit.tid in
-    let known = (held.holds.committed (among-commit commit.tid (Coordinator.records (coord_past (story_of scenario commands))) (commit_in commit.tid (Coordinator.records (coord_past (story_of scenario commands))) commit i refl))).known in
+    let known = (held.holds.committed (among_commit commit.tid (Coordinator.records (coord_past (story_of scenario commands))) (commit_in commit.tid (Coordinator.records (coord_past (story_of scenario commands))) commit i refl))).known in
     let agrees = story-agrees scenario whole commands home commit.tid d (held.programmed known).1 in
     let prepared : IsPrepared (records home (past_of home.site (story_of scenario commands))) commit.tid k.ticket =
     each_at (IsSaid home (past_of home.site (story_of scenario commands)) commit.tid) (From.Vote commit.tid (Some k.ticket)) (sent_from home.site (story_of scenario commands)) agrees.said sent refl in

@@ -21,10 +21,10 @@ use Rattle.site_history.specs.Stories.{StoriesHaveRightLines}
 use Rattle.site_laws.proofs.RisingLists.{rising_in}
 use Rattle.closing_laws.specs.AtRest.{IsAtRest}
 use Rattle.closing_laws.proofs.Clear.{live_listed}
-use Rattle.closing_laws.proofs.CoordTurns.{begun_in}
+use Rattle.coord_laws.proofs.Begun.{begun_in}
 use Rattle.closing_laws.proofs.Inquire.{doubt_listed}
 use Rattle.closing_laws.proofs.Onward.{IsCalm}
-use Rattle.commit_laws.proofs.CoordFacts.{is_undecided}
+use Rattle.coord_laws.proofs.Facts.{is_undecided}
 use Rattle.fed_rules.specs.Attempts.{each_attempt}
 
 -- lists of what isn't there

@@ -25,6 +25,7 @@ use Rattle.fed_rules.specs.Site.{site_line, answered, with_lines, of_ask, of_dro
 use Rattle.fed_rules.specs.SitePast.{SiteHappening, SitePast, disk, records, trip, live, live_of_tx, is_closed, decides_on, ends}
 use Rattle.fed_rules.specs.SiteRecords.{Home, site_frame, local_of, doubt_of}
 use Rattle.fed_rules.specs.Story.{Story, Happened, AtSite, AtCoordinator, Nowhere, past_of, coord_past, with_site, with_coordinator, sent_to, happens, story_of}
+use Rattle.coord_laws.proofs.Begun.{more_attempts as attempts_grow}
 use Rattle.commit_laws.proofs.Agreed.{agreed, coord-sound}
 use Rattle.commit_laws.proofs.PreparedLaws.{nowhere}
 use Rattle.federation_laws.proofs.Asked.{IsOf}
@@ -135,18 +136,10 @@ more_attempts scenario commands command tx = by_case (happens scenario (story_of
     past : CoordPast
     past = coord_past (story_of scenario commands)
 
-    by_begun : (o : Option Tid) → how_many (λ (t : Tid). same_tx t.tx tx) (begun_tids past) ≤ how_many (λ (t : Tid). same_tx t.tx tx) (with_some o (begun_tids past))
-    by_begun None = omega arith
-    by_begun (Some t) = by_test (same_tx t.tx tx)
-      where
-        by_test : (b : Bool) → how_many (λ (z : Tid). same_tx z.tx tx) (begun_tids past) ≤ cond b (suc (how_many (λ (z : Tid). same_tx z.tx tx) (begun_tids past))) (how_many (λ (z : Tid). same_tx z.tx tx) (begun_tids past))
-        by_test true = omega arith
-        by_test false = omega arith
-
     by_case : (happened : Happened) → Coordinator.attempts_of past tx ≤ Coordinator.attempts_of (with_coordinator happened past) tx
     by_case (Nowhere answer) = omega arith
     by_case (AtSite at x) = omega arith
-    by_case (AtCoordinator x) = by_begun (begun_by x.answer)
+    by_case (AtCoordinator x) = attempts_grow tx (begun_by x.answer) (begun_tids past)
 
 -- the attempt isn't there
 record IsUnopened (home : Home) (past : SitePast) (g : Tid) : Type 0 where

@@ -26,9 +26,9 @@ use Rattle.fed_rules.specs.Story.{Story, coord_past, past_of, sent_to, sent_from
 use Rattle.rules_laws.specs.Durable.{IsFirm}
 use Rattle.commit_laws.specs.Records.{IsPrepared, IsEnded, IsLooseEnded}
 use Rattle.commit_laws.specs.Seals.{seals}
-use Rattle.commit_laws.proofs.CoordFacts.{IsOpen}
-use Rattle.commit_laws.proofs.CoordSound.{IsBegun, CoordSound}
-use Rattle.commit_laws.proofs.Links.{IsGlobal}
+use Rattle.commit_laws.proofs.Links.{member_of, IsGlobal}
+use Rattle.coord_laws.proofs.Facts.{IsOpen}
+use Rattle.coord_laws.proofs.Sound.{IsBegun, CoordSound}
 use Rattle.commit_laws.proofs.SiteFacts.{Shut}
 use Rattle.commit_laws.proofs.SiteLists.{IsTidy}
 
@@ -66,7 +66,8 @@ pub record HasSealed (home : Home) (g : Tid) (past : CoordPast) (here : SitePast
 
 pub record Agree (scenario : Scenario) (home : Home) (g : Tid) (past : CoordPast) (here : SitePast) (sent : List ToSite)
     (back : List FromSite) : Type 0 where
-  pub sound : CoordSound scenario home g past
+  pub sound : CoordSound (protocols scenario) (member_of home) g past
+  pub global : IsBegun past g → IsGlobal scenario g
   pub firm : IsFirm site_frame (IsLooseEnded home.protocol) (disk home here)
   pub shut : IsGlobal scenario g → Shut home g here
   pub given : (m : ToSite) → Among (λ x. x.event ≡ Ev.Give m) here → In m sent

@@ -1,6 +1,7 @@
 -- A line of the coordinator keeps the invariant.
 use Rattle.std.proofs.Common.{◌≡◌, ℕ, ◌<◌, ◌≤◌, ◌⊎◌, inl, inr, Bool, true, false, cond, ◌&&◌, ◌||◌, ◌==◌, is_some, None, List, [], ◌∷◌, ◌++◌, map, refl, sym, ap, subst, ◌∙◌, arith}
 use Rattle.std.proofs.lemmas.Bool.{and_parts, eqb-true}
+use Rattle.mdb_base.specs.declared.acts.Step.{Step}
 use Rattle.mdb_base.specs.declared.names.SiteId.{SiteId}
 use Rattle.mdb_base.specs.declared.names.Tid.{Tid}
 use Rattle.mdb_base.specs.declared.replies.Reply.{Reply}
@@ -33,23 +34,25 @@ use Rattle.fed_rules.specs.SitePast.{SitePast, epoch, is_closed}
 use Rattle.fed_rules.specs.SiteRecords.{Home}
 use Rattle.commit_laws.specs.Seals.{seals}
 use Rattle.commit_laws.proofs.Agree.{IsGot, IsOver, Prepares, Decides, HasSealed, Agree}
-use Rattle.commit_laws.proofs.CoordClear.{coord-turn}
-use Rattle.commit_laws.proofs.CoordFacts.{is_undecided, IsOpen, IsPreparing, IsTelling, Now, Known, Presumed, Says, Tells, Counted}
-use Rattle.commit_laws.proofs.CoordLists.{commit-named, decided-outcome}
-use Rattle.commit_laws.proofs.CoordRules.{open-undecided}
-use Rattle.commit_laws.proofs.CoordSound.{Declared, IsBegun, named-stays-some, decided-not-open, program-stays}
-use Rattle.commit_laws.proofs.CoordTurn.{Turn, fresh, same-program, same-outcome, stays-closed, uncommitted-of, is-participant}
-use Rattle.commit_laws.proofs.Lists.{among-split, among-left}
-use Rattle.commit_laws.proofs.Taken.{Counting, Unchanged, Cleared, Adds, counting, ticket-counted}
-use Rattle.commit_laws.proofs.Names.{same-site}
+use Rattle.commit_laws.proofs.Links.{IsGlobal, member_of}
+use Rattle.coord_laws.proofs.Clear.{coord_turn}
+use Rattle.coord_laws.proofs.Facts.{is_undecided, IsOpen, IsPreparing, IsTelling, Now, Known, Presumed, Says, Tells, Counted}
+use Rattle.coord_laws.proofs.RecordLists.{commit_named, decided_outcome}
+use Rattle.coord_laws.proofs.Rules.{open_undecided}
+use Rattle.coord_laws.proofs.Sound.{begins_go, Declared, IsBegun, named_stays_some, decided_not_open, program_stays}
+use Rattle.coord_laws.proofs.Turns.{Turn, fresh, same_program, same_outcome, stays_closed, uncommitted_of, is_participant}
+use Rattle.order_laws.proofs.Joined.{among_left, among_split}
+use Rattle.coord_laws.proofs.Taken.{Counting, Unchanged, Cleared, Adds, counting, ticket_counted}
+use Rattle.order_laws.proofs.Names.{same_site_alike}
 
 -- the next line of the coordinator, where the invariant holds
 pub record CoordNext (scenario : Scenario) (home : Home) (g : Tid) (past : CoordPast) (here : SitePast) (sent : List ToSite)
     (back : List FromSite) (event : CoordEvent) (x : CoordHappening) : Type 0 where
   pub agree : Agree scenario home g past here sent back
-  pub turn : Turn scenario home g past event x
+  pub turn : Turn (protocols scenario) (member_of home) g past event x
+  pub begins : (steps : List Step) → event ≡ Coord_event.Go g steps → IsGlobal scenario g
   pub comes : (m : FromSite) → event ≡ Coord_event.Take home.site m → In m back
-  pub declared : Declared scenario home
+  pub declared : Declared (protocols scenario) (member_of home)
   pub protocol : protocol_of (protocols scenario) home.site ≡ home.protocol
 
 -- the messages of these that go to the site
@@ -66,7 +69,7 @@ told-to protocols g past x site (s ∷ sends) m h i = by_test (same_site s.site 
           (cond b (s ∷ those (λ k. same_site k.site site) sends) (those (λ k. same_site k.site site) sends)))
           → (In m (to_site site sends) → Says protocols g past x site m) → Says protocols g past x site m
       by_test true q (inl e) k = subst (Says protocols g past x site) e
-          (subst (λ at. Says protocols g past x at s.message) (same-site s.site site q) h.0)
+          (subst (λ at. Says protocols g past x at s.message) (same_site_alike s.site site q) h.0)
       by_test true q (inr j) k = k j
       by_test false q j k = k j
 
@@ -81,7 +84,7 @@ fits-visits past g site n reply f = by_test (visits site (program past g)) refl 
 
 -- a reply of the site that counts is of an open attempt, and names the known epoch where there is one
 reply-counts : (scenario : Scenario) (home : Home) (g : Tid) (past : CoordPast) (event : CoordEvent) (x : CoordHappening) (e n : ℕ)
-    (reply : Reply) → Turn scenario home g past event x → x.event ≡ Coord_event.Take home.site (From.Did g e n reply)
+    (reply : Reply) → Turn (protocols scenario) (member_of home) g past event x → x.event ≡ Coord_event.Take home.site (From.Did g e n reply)
     → counts x.answer ≡ true
     → IsOpen (protocols scenario) past g × (((epoch_at past g home.site == 0) || (e == epoch_at past g home.site)) ≡ true) ×
     (visits home.site (program past g) ≡ true)
@@ -90,26 +93,26 @@ reply-counts scenario home g past event x e n reply t is c =
     let parts = and_parts (is_open past g && fits (outstanding past g home.site) n reply)
     ((epoch_at past g home.site == 0) || (e == epoch_at past g home.site)) counted in
     let both = and_parts (is_open past g) (fits (outstanding past g home.site) n reply) parts.0 in
-    (open-undecided (protocols scenario) past g both.0, parts.1, fits-visits past g home.site n reply both.1)
+    (open_undecided (protocols scenario) past g both.0, parts.1, fits-visits past g home.site n reply both.1)
 
 -- the epoch of an attempt that isn't open stays
 epoch-stays : (scenario : Scenario) (home : Home) (g : Tid) (past : CoordPast) (event : CoordEvent) (x : CoordHappening)
-    → Turn scenario home g past event x → IsBegun past g → (IsOpen (protocols scenario) past g → ⊥)
+    → Turn (protocols scenario) (member_of home) g past event x → IsBegun past g → (IsOpen (protocols scenario) past g → ⊥)
     → epoch_at (x ∷ past) g home.site ≡ epoch_at past g home.site
 epoch-stays scenario home g past event x t begun closed = by_count (counting past g home.site x) where
   by_count : Counting past g home.site x → epoch_at (x ∷ past) g home.site ≡ epoch_at past g home.site
   by_count (Unchanged b e) = ap last_epoch e
-  by_count (Cleared b e) = let f = fresh scenario home g past event x t begun in let no : true ≡ false = sym b ∙ f in cc
+  by_count (Cleared b e) = let f = fresh (protocols scenario) (member_of home) g past event x t begun in let no : true ≡ false = sym b ∙ f in cc
   by_count (Adds b e n reply is c f) = absurd (closed (reply-counts scenario home g past event x e n reply t is c).0)
 
 -- and so does one that is known
 epoch-known : (scenario : Scenario) (home : Home) (g : Tid) (past : CoordPast) (event : CoordEvent) (x : CoordHappening)
-    → Turn scenario home g past event x → IsBegun past g → 1 ≤ epoch_at past g home.site
+    → Turn (protocols scenario) (member_of home) g past event x → IsBegun past g → 1 ≤ epoch_at past g home.site
     → epoch_at (x ∷ past) g home.site ≡ epoch_at past g home.site
 epoch-known scenario home g past event x t begun one = by_count (counting past g home.site x) where
   by_count : Counting past g home.site x → epoch_at (x ∷ past) g home.site ≡ epoch_at past g home.site
   by_count (Unchanged b e) = ap last_epoch e
-  by_count (Cleared b e) = let f = fresh scenario home g past event x t begun in let no : true ≡ false = sym b ∙ f in cc
+  by_count (Cleared b e) = let f = fresh (protocols scenario) (member_of home) g past event x t begun in let no : true ≡ false = sym b ∙ f in cc
   by_count (Adds b e n reply is c f) = elim (or_cases (epoch_at past g home.site == 0) (e == epoch_at past g home.site)
       (reply-counts scenario home g past event x e n reply t is c).1) [
         | inl none ↦ let zero_is : epoch_at past g home.site ≡ 0 = eqb-true (epoch_at past g home.site) 0 none in let no : ⊥ = omega
@@ -159,8 +162,8 @@ presumed-or-kept scenario home g past e p =
     by_commit : (b : Bool) → has_commit kept g ≡ b → (q : Protocol) → home.protocol ≡ q
         → (presumed q ≡ cond b Decided.Commit Decided.Abort)
         ⊎ ((acks q (cond b Decided.Commit Decided.Abort) ≡ true) × (is_some (named (protocols scenario) kept g) ≡ true))
-    by_commit true c By.Nothing f = inr (refl, commit-named (protocols scenario) g kept c)
-    by_commit true c By.Abort f = inr (refl, commit-named (protocols scenario) g kept c)
+    by_commit true c By.Nothing f = inr (refl, commit_named (protocols scenario) g kept c)
+    by_commit true c By.Abort f = inr (refl, commit_named (protocols scenario) g kept c)
     by_commit true c By.Commit f = inl refl
     by_commit false c By.Nothing f = inl refl
     by_commit false c By.Abort f = inl refl
@@ -168,7 +171,7 @@ presumed-or-kept scenario home g past e p =
 
 -- the presumption of an attempt that isn't known is its outcome, or the attempt is over at the inquirer
 pub presumes-right : (scenario : Scenario) (home : Home) (g : Tid) (past : CoordPast) (here : SitePast) (sent : List ToSite)
-    (back : List FromSite) → Agree scenario home g past here sent back → Declared scenario home
+    (back : List FromSite) → Agree scenario home g past here sent back → Declared (protocols scenario) (member_of home)
     → standing (protocols scenario) past g ≡ Gone → (e : ℕ)
     → Prepares scenario home g past e → (presumed home.protocol ≡ outcome (Coordinator.records past) g) ⊎ IsOver home g here
 presumes-right scenario home g past here sent back a declared gone e p = elim (presumed-or-kept scenario home g past e p) [
@@ -180,17 +183,18 @@ pub coord-next : (scenario : Scenario) (home : Home) (g : Tid) (past : CoordPast
     (back : List FromSite) (event : CoordEvent) (x : CoordHappening) → CoordNext scenario home g past here sent back event x
     → Agree scenario home g (x ∷ past) here (sent ++ to_site home.site x.sends) back
 coord-next scenario home g past here sent back event x n = record {
-  sound = coord-turn scenario home g past event x t;
+  sound = coord_turn (protocols scenario) (member_of home) g past event x t;
+  global = global;
   firm = a.firm;
   shut = a.shut;
-  given = (λ m i. among-left (λ y. y ≡ m) sent (to_site home.site x.sends) (a.given m i));
+  given = (λ m i. among_left (λ y. y ≡ m) sent (to_site home.site x.sends) (a.given m i));
   taken = taken;
   preparing = preparing;
   telling = telling;
   replied = a.replied;
   voted = a.voted;
   acked = a.acked;
-  asked = (λ i. let r = a.asked i in (r.0, r.1, among-left (λ y. y ≡ To.Prepare g r.0 r.1) sent (to_site home.site x.sends) r.2));
+  asked = (λ i. let r = a.asked i in (r.0, r.1, among_left (λ y. y ≡ To.Prepare g r.0 r.1) sent (to_site home.site x.sends) r.2));
   started = a.started;
   known = known (counting past g home.site x);
   counted = counted (counting past g home.site x);
@@ -198,15 +202,19 @@ coord-next scenario home g past here sent back event x n = record {
       (sym (epoch-stays scenario home g past event x t d.begun d.closed)) (a.barred got));
   ended = (λ d m. let r = a.ended d m in (r.0, r.1 ∙ still r.0));
   settled = (λ d m. let r = a.settled d m in (r.0, r.1 ∙ still r.0));
-  prepared = (λ e m. let r = a.prepared e m in (r.0, among-left (λ y. y ≡ To.Prepare g e r.0) sent (to_site home.site x.sends) r.1));
+  prepared = (λ e m. let r = a.prepared e m in (r.0, among_left (λ y. y ≡ To.Prepare g e r.0) sent (to_site home.site x.sends) r.1));
   sealed = sealed;
   tidy = a.tidy;
 } where
   a : Agree scenario home g past here sent back
   a = n.agree
 
-  t : Turn scenario home g past event x
+  t : Turn (protocols scenario) (member_of home) g past event x
   t = n.turn
+
+  global : IsBegun (x ∷ past) g → IsGlobal scenario g
+  global (inl b) = let go = begins_go (protocols scenario) g past x t.line.stood b in n.begins go.0 (sym t.line.is ∙ go.1)
+  global (inr b) = a.global b
 
   sealed : Among (λ y. seals g y ≡ true) here → HasSealed home g (x ∷ past) here (sent ++ to_site home.site x.sends)
   sealed i =
@@ -216,7 +224,7 @@ coord-next scenario home g past here sent back event x n = record {
       record {
         e = r.e;
         n = r.n;
-        taken = among-left (λ y. y ≡ To.Prepare g r.e r.n) sent (to_site home.site x.sends) r.taken;
+        taken = among_left (λ y. y ≡ To.Prepare g r.e r.n) sent (to_site home.site x.sends) r.taken;
         left = elim r.left [ inl o ↦ inl o | inr less ↦ inr (omega (arith, same, less)) ];
       }
 
@@ -229,7 +237,7 @@ coord-next scenario home g past here sent back event x n = record {
 
   -- the outcome of what was decided is the old one
   still : IsGot g here → outcome (Coordinator.records past) g ≡ outcome (Coordinator.records (x ∷ past)) g
-  still got = sym (same-outcome scenario home g past event x t (got_decides got).closed)
+  still got = sym (same_outcome (protocols scenario) (member_of home) g past event x t (got_decides got).closed)
 
   known : Counting past g home.site x → epoch_at (x ∷ past) g home.site ≤ epoch home here
   known (Unchanged b e) = let same : epoch_at
@@ -246,26 +254,26 @@ coord-next scenario home g past here sent back event x n = record {
     | inr (one, v) ↦ inr (
       (let same : epoch_at (x ∷ past) g home.site ≡ epoch_at past g home.site = ap last_epoch e in omega (arith, same, one)),
       ap
-          (visits home.site) (program-stays g past x b) ∙ v,
+          (visits home.site) (program_stays g past x b) ∙ v,
     )
   ]
   counted (Cleared b e) = inl e
   counted (Adds b e k reply is c f) = inr (
     (let low = (a.replied e k reply (n.comes (From.Did g e k reply) (sym t.line.is ∙ is))).0 in omega (arith, f, low)),
-    ap (visits home.site) (program-stays g past x b) ∙ (reply-counts scenario home g past event x e k reply t is c).2,
+    ap (visits home.site) (program_stays g past x b) ∙ (reply-counts scenario home g past event x e k reply t is c).2,
   )
 
   preparing : (e k : ℕ) → In (To.Prepare g e k) (sent ++ to_site home.site x.sends) → Prepares scenario home g (x ∷ past) e
-  preparing e k i = elim (among-split (λ y. y ≡ To.Prepare g e k) sent (to_site home.site x.sends) i) [
+  preparing e k i = elim (among_split (λ y. y ≡ To.Prepare g e k) sent (to_site home.site x.sends) i) [
     | inl j ↦ old (a.preparing e k j)
     | inr j ↦ new (told-to (protocols scenario) g past x home.site x.sends (To.Prepare g e k) t.line.tells j (same_tid-refl g))
   ] where
     old : Prepares scenario home g past e → Prepares scenario home g (x ∷ past) e
     old p = record {
       begun = inr p.begun;
-      recorded = (λ c. named-stays-some (protocols scenario) g past event (Coordinator.records (x ∷ past)) t.line.kept
+      recorded = (λ c. named_stays_some (protocols scenario) g past event (Coordinator.records (x ∷ past)) t.line.kept
           (p.recorded c));
-      visits = ap (visits home.site) (same-program scenario home g past event x t p.begun) ∙ p.visits;
+      visits = ap (visits home.site) (same_program (protocols scenario) (member_of home) g past event x t p.begun) ∙ p.visits;
       epoch = p.epoch ∙ sym
           (epoch-known scenario home g past event x t p.begun (let same = p.epoch in let one = p.counted in omega (arith, same, one)));
       counted = p.counted;
@@ -276,18 +284,18 @@ coord-next scenario home g past here sent back event x n = record {
       begun = inr (a.sound.undecided p.undecided);
       recorded = (λ c. p.recorded (commit-initiates (participants (protocols scenario) past g)
           (among-commit-protocol home c (participants (protocols scenario) past g)
-          (is-participant scenario home past g n.declared
-          (ap (visits home.site) (sym (same-program scenario home g past event x t (a.sound.undecided p.undecided))) ∙ p.visits)))));
+          (is_participant (protocols scenario) (member_of home) past g n.declared
+          (ap (visits home.site) (sym (same_program (protocols scenario) (member_of home) g past event x t (a.sound.undecided p.undecided))) ∙ p.visits)))));
       visits = p.visits;
       epoch = p.epoch;
       counted = elim (counted (counting past g home.site x)) [
-        | inl none ↦ absurd (ticket-counted (x ∷ past) g home.site p.ticketed none)
+        | inl none ↦ absurd (ticket_counted (x ∷ past) g home.site p.ticketed none)
         | inr (one, v) ↦ (let same = p.epoch in omega (arith, same, one))
       ];
     }
 
   telling : (d : Decision) → In (To.Decide g d) (sent ++ to_site home.site x.sends) → Decides scenario home g (x ∷ past) here d
-  telling d i = elim (among-split (λ y. y ≡ To.Decide g d) sent (to_site home.site x.sends) i) [
+  telling d i = elim (among_split (λ y. y ≡ To.Decide g d) sent (to_site home.site x.sends) i) [
     | inl j ↦ old (a.telling d j)
     | inr j ↦ new (told-to (protocols scenario) g past x home.site x.sends (To.Decide g d) t.line.tells j (same_tid-refl g))
   ] where
@@ -297,16 +305,16 @@ coord-next scenario home g past here sent back event x n = record {
     old : Decides scenario home g past here d → Decides scenario home g (x ∷ past) here d
     old o = record {
       begun = inr o.begun;
-      closed = stays-closed scenario home g past event x t o.begun o.closed;
-      right = elim o.right [ inl e ↦ inl (e ∙ sym (same-outcome scenario home g past event x t o.closed)) | inr over ↦ inr over ];
+      closed = stays_closed (protocols scenario) (member_of home) g past event x t o.begun o.closed;
+      right = elim o.right [ inl e ↦ inl (e ∙ sym (same_outcome (protocols scenario) (member_of home) g past event x t o.closed)) | inr over ↦ inr over ];
     }
 
     new : IsTelling (protocols scenario) g past x home.site d → Decides scenario home g (x ∷ past) here d
     new (Now f o is news r by) = record {
       begun = inr (a.sound.undecided o);
-      closed = (λ h. decided-not-open f d (ap is_undecided (sym is) ∙ h));
-      right = inl (sym (ap (λ rs. outcome rs g) r ∙ decided-outcome g d news (Coordinator.records past)
-          (uncommitted-of scenario home g past a.sound o) by));
+      closed = (λ h. decided_not_open f d (ap is_undecided (sym is) ∙ h));
+      right = inl (sym (ap (λ rs. outcome rs g) r ∙ decided_outcome g d news (Coordinator.records past)
+          (uncommitted_of (protocols scenario) (member_of home) g past a.sound o) by));
     }
     new (Known is) =
         let k = a.sound.decided d is in

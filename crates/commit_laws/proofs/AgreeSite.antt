@@ -28,13 +28,14 @@ use Rattle.fed_rules.specs.SiteRecords.{Home, doubt_of, epoch_of}
 use Rattle.commit_laws.specs.Records.{IsPrepared, IsEnded, IsLooseEnded}
 use Rattle.commit_laws.specs.Seals.{seals}
 use Rattle.commit_laws.proofs.Agree.{IsGot, IsOver, HasSealed, Agree}
-use Rattle.commit_laws.proofs.Lists.{among-split, among-left, cut-old, cut-stays}
+use Rattle.rules_laws.proofs.Disks.{cut_stays, cut_old}
+use Rattle.order_laws.proofs.Joined.{among_left, among_split}
 use Rattle.commit_laws.proofs.Links.{IsGlobal}
 use Rattle.commit_laws.proofs.SiteFacts.{IsSealing, IsSettling, IsAcking, Wrote, Says, Settled, NotBegun}
 use Rattle.commit_laws.proofs.SiteLines.{Kept, Line}
 use Rattle.commit_laws.proofs.SiteLists.{Free, IsTidy, tidy-behind, tidy-doubt, settled-ended, epoch-cut, loose-prepared, loose-forced}
 use Rattle.commit_laws.proofs.SiteWork.{held-prepared}
-use Rattle.commit_laws.proofs.Names.{same-of}
+use Rattle.order_laws.proofs.Alike.{same_of}
 
 -- the next line of a site, where the invariant holds
 pub record SiteTurn (scenario : Scenario) (home : Home) (g : Tid) (past : CoordPast) (here : SitePast) (sent : List ToSite)
@@ -48,11 +49,11 @@ pub record SiteTurn (scenario : Scenario) (home : Home) (g : Tid) (past : CoordP
 new-prepared : (home : Home) (g : Tid) (here : SitePast) (event : SiteEvent) (now : List SiteRecord) (e : ℕ)
     → Kept home g here event now → Among (IsPrepared g e) now
     → Among (IsPrepared g e) (records home here) ⊎ IsSealing home g here event e
-new-prepared home g here event now e (inr c) m = inl (cut-old (IsLooseEnded home.protocol) (IsPrepared g e) (records home here) now c m)
+new-prepared home g here event now e (inr c) m = inl (cut_old (IsLooseEnded home.protocol) (IsPrepared g e) (records home here) now c m)
 new-prepared home g here event now e (inl (r, w, is)) m = by_place r w (subst (Among (IsPrepared g e)) is m) where
   by_place : (r : SiteRecord) → Wrote home g here event r → Among (IsPrepared g e) (r ∷ records home here)
       → Among (IsPrepared g e) (records home here) ⊎ IsSealing home g here event e
-  by_place (Rec.Prepared t k number ticket writes) w (inl p) = inr (subst (IsSealing home g here event) p.1 (w (same-of t g p.0)))
+  by_place (Rec.Prepared t k number ticket writes) w (inl p) = inr (subst (IsSealing home g here event) p.1 (w (same_of t g p.0)))
   by_place (Rec.Ended t d) w (inl p) = absurd p
   by_place (Rec.Start k) w (inl p) = absurd p
   by_place (Rec.Setup site engine protocol items) w (inl p) = absurd p
@@ -63,11 +64,11 @@ new-prepared home g here event now e (inl (r, w, is)) m = by_place r w (subst (A
 -- an Ended record behind the line was there, or the line settles
 new-ended : (home : Home) (g : Tid) (here : SitePast) (event : SiteEvent) (now : List SiteRecord) (d : Decision)
     → Kept home g here event now → Among (IsEnded g d) now → Among (IsEnded g d) (records home here) ⊎ IsSettling home g here event d
-new-ended home g here event now d (inr c) m = inl (cut-old (IsLooseEnded home.protocol) (IsEnded g d) (records home here) now c m)
+new-ended home g here event now d (inr c) m = inl (cut_old (IsLooseEnded home.protocol) (IsEnded g d) (records home here) now c m)
 new-ended home g here event now d (inl (r, w, is)) m = by_place r w (subst (Among (IsEnded g d)) is m) where
   by_place : (r : SiteRecord) → Wrote home g here event r → Among (IsEnded g d) (r ∷ records home here)
       → Among (IsEnded g d) (records home here) ⊎ IsSettling home g here event d
-  by_place (Rec.Ended t k) w (inl p) = inr (subst (IsSettling home g here event) p.1 (w (same-of t g p.0)))
+  by_place (Rec.Ended t k) w (inl p) = inr (subst (IsSettling home g here event) p.1 (w (same_of t g p.0)))
   by_place (Rec.Prepared t k number ticket writes) w (inl p) = absurd p
   by_place (Rec.Start k) w (inl p) = absurd p
   by_place (Rec.Setup site engine protocol items) w (inl p) = absurd p
@@ -80,7 +81,7 @@ site-stays : (home : Home) (g : Tid) (here : SitePast) (event : SiteEvent) (now 
     → ((r : SiteRecord) → IsLooseEnded home.protocol r → P r → ⊥) → Kept home g here event now → Among P (records home here)
     → Among P now
 site-stays home g here event now P firm (inl (r, w, is)) m = subst (Among P) (sym is) (inr m)
-site-stays home g here event now P firm (inr c) m = cut-stays (IsLooseEnded home.protocol) P firm (records home here) now c m
+site-stays home g here event now P firm (inr c) m = cut_stays (IsLooseEnded home.protocol) P firm (records home here) now c m
 
 -- the epoch never falls
 epoch-grows : (home : Home) (g : Tid) (here : SitePast) (event : SiteEvent) (now : List SiteRecord) → Kept home g here event now
@@ -105,7 +106,7 @@ bars scenario home g past here sent back event e a comes s got =
     elim (a.barred got) [
       | inl less ↦ let e1 = prepares.epoch in let e2 = s.epoch in omega (arith, less, e1, e2)
       | inr closed ↦
-          let dead = (a.shut (a.sound.global prepares.begun)).over
+          let dead = (a.shut (a.global prepares.begun)).over
           (or_left (is_closed here g) (is_some (doubt_of (records home here) g)) closed) in
           let alive = s.live in cc
     ]
@@ -206,10 +207,11 @@ pub site-turn : (scenario : Scenario) (home : Home) (g : Tid) (past : CoordPast)
     → Agree scenario home g past (x ∷ here) sent (back ++ x.sends)
 site-turn scenario home g past here sent back event x t = record {
   sound = a.sound;
+  global = a.global;
   firm = t.line.firm;
   shut = (λ global. t.line.shut (t.global global) (a.shut global));
   given = given;
-  taken = (λ m i. among-left (λ y. y ≡ m) back x.sends (a.taken m i));
+  taken = (λ m i. among_left (λ y. y ≡ m) back x.sends (a.taken m i));
   preparing = a.preparing;
   telling = (λ d i. let o = a.telling d i in record {
     begun = o.begun;
@@ -222,7 +224,7 @@ site-turn scenario home g past here sent back event x t = record {
   });
   replied = replied;
   voted = voted;
-  acked = (λ i. elim (among-split (λ y. y ≡ From.Ack g) back x.sends i) [
+  acked = (λ i. elim (among_split (λ y. y ≡ From.Ack g) back x.sends i) [
     | inl j ↦ over-stays scenario home g past here sent back event x t (a.acked j)
     | inr j ↦ acks-over scenario home g past here sent back event x t (said home g here x (From.Ack g) t.line.says j (same_tid-refl g))
   ]);
@@ -254,7 +256,7 @@ site-turn scenario home g past here sent back event x t = record {
   given m (inr i) = a.given m i
 
   replied : (e n : ℕ) (reply : Reply) → In (From.Did g e n reply) (back ++ x.sends) → (1 ≤ e) × (e ≤ epoch home (x ∷ here))
-  replied e n reply i = elim (among-split (λ y. y ≡ From.Did g e n reply) back x.sends i) [
+  replied e n reply i = elim (among_split (λ y. y ≡ From.Did g e n reply) back x.sends i) [
     | inl j ↦ let r = a.replied e n reply j in (r.0, (let low = r.1 in omega (arith, low, grows)))
     | inr j ↦
         let same : e ≡ epoch home here = said home g here x (From.Did g e n reply) t.line.says j in
@@ -263,7 +265,7 @@ site-turn scenario home g past here sent back event x t = record {
   ]
 
   voted : (ticket : ℕ) → In (From.Vote g (Some ticket)) (back ++ x.sends) → (e : ℕ) × Among (IsPrepared g e) (records home (x ∷ here))
-  voted ticket i = elim (among-split (λ y. y ≡ From.Vote g (Some ticket)) back x.sends i) [
+  voted ticket i = elim (among_split (λ y. y ≡ From.Vote g (Some ticket)) back x.sends i) [
     | inl j ↦ let r = a.voted ticket j in (
       r.0,
       site-stays home g here event (records home (x ∷ here)) (IsPrepared g r.0)
@@ -273,7 +275,7 @@ site-turn scenario home g past here sent back event x t = record {
   ]
 
   asked : In (From.Inquiry g) (back ++ x.sends) → (e : ℕ) × (n : ℕ) × In (To.Prepare g e n) sent
-  asked i = elim (among-split (λ y. y ≡ From.Inquiry g) back x.sends i) [
+  asked i = elim (among_split (λ y. y ≡ From.Inquiry g) back x.sends i) [
     | inl j ↦ a.asked j
     | inr j ↦
         let (held, doubt) = said home g here x (From.Inquiry g) t.line.says j (same_tid-refl g) in
@@ -336,7 +338,7 @@ site-turn scenario home g past here sent back event x t = record {
   }
 
   first : (r : SiteRecord) → Wrote home g here event r → (e : ℕ) → IsPrepared g e r → Free g (records home here)
-  first (Rec.Prepared u k number ticket writes) w e p = free k (w (same-of u g p.0))
+  first (Rec.Prepared u k number ticket writes) w e p = free k (w (same_of u g p.0))
   first (Rec.Ended u d) w e p = absurd p
   first (Rec.Start k) w e p = absurd p
   first (Rec.Setup site engine protocol items) w e p = absurd p

@@ -10,7 +10,6 @@ use Rattle.fed_rules.specs.declared.events.SiteEvent.{SiteEvent}
 use Rattle.fed_rules.specs.declared.events.SiteEvent.TheVariants as Ev
 use Rattle.fed_rules.specs.declared.scenario.Scenario.{Scenario}
 use Rattle.fed_rules.specs.Coord.{coord_line}
-use Rattle.fed_rules.specs.CoordRecords.{coord_frame}
 use Rattle.fed_rules.specs.Disk.{empty_disk}
 use Rattle.fed_rules.specs.Scenarios.{home_of, local_home, policy, protocols}
 use Rattle.fed_rules.specs.Site.{site_line}
@@ -18,18 +17,18 @@ use Rattle.fed_rules.specs.SitePast.{set_up_calls}
 use Rattle.fed_rules.specs.SiteRecords.{Home, site_frame}
 use Rattle.fed_rules.specs.Story.{Story, Happened, AtSite, AtCoordinator, Nowhere, past_of, coord_past, with_site, with_coordinator, sent_to, sent_from, sends_to, sends_from, happens, story_of}
 use Rattle.rules_laws.specs.Durable.{IsFirm}
-use Rattle.commit_laws.specs.Records.{IsEnd, IsLooseEnded}
+use Rattle.commit_laws.specs.Records.{IsLooseEnded}
+use Rattle.commit_laws.proofs.Links.{story_made, numbered, member_of, IsGlobal, SiteCame, CoordCame, Linked, linked, linked-here, not-both}
+use Rattle.coord_laws.proofs.Past.{past_sound}
 use Rattle.commit_laws.proofs.Agree.{Agree, Agrees}
 use Rattle.commit_laws.proofs.AgreeCoord.{CoordNext, coord-next}
 use Rattle.commit_laws.proofs.AgreeSite.{SiteTurn, site-turn}
-use Rattle.commit_laws.proofs.CoordClear.{coord-turn}
-use Rattle.commit_laws.proofs.CoordLines.{coord-lines}
-use Rattle.commit_laws.proofs.CoordSound.{CoordSound}
-use Rattle.commit_laws.proofs.CoordTurn.{Turn}
+use Rattle.coord_laws.proofs.Lines.{coord_lines}
+use Rattle.coord_laws.proofs.Sound.{CoordSound}
+use Rattle.coord_laws.proofs.Turns.{Turn}
 use Rattle.commit_laws.proofs.Declared.{is-declared}
-use Rattle.commit_laws.proofs.Disks.{firm-quiet}
-use Rattle.commit_laws.proofs.Links.{IsGlobal, SiteCame, CoordCame, Linked, linked, linked-here, not-both}
-use Rattle.commit_laws.proofs.Lists.{append-nil}
+use Rattle.rules_laws.proofs.Disks.{firm_quiet}
+use Rattle.order_laws.proofs.Joined.{append_nil}
 use Rattle.commit_laws.proofs.SiteFacts.{NotBegun}
 use Rattle.commit_laws.proofs.SiteLines.{site-lines}
 
@@ -37,25 +36,11 @@ empty-firm : {R : Type 0} (size : R → ℕ) (Loose : R → Type 0) → IsFirm s
 empty-firm size Loose = record { sound = record { frames = omega arith; synced = omega arith }; loose = tt }
 
 -- before the first command
-pub coord-first : (scenario : Scenario) (home : Home) (g : Tid) → CoordSound scenario home g []
-coord-first scenario home g = record {
-  firm = empty-firm coord_frame IsEnd;
-  numbered = (λ b. absurd b);
-  global = (λ b. absurd b);
-  undecided = (λ o. cc);
-  marked = (λ m. absurd m);
-  names = (λ ms e. cc);
-  decided = (λ d e. cc);
-  voted = (λ h m v. absurd m);
-  ended = (λ m h a v. absurd m);
-  gone = (λ e m h a v. cc);
-  waits = (λ d e. cc);
-}
-
 first : (scenario : Scenario) (home : Home) (g : Tid) → Agree scenario home g [] [] [] []
 first scenario home g = record {
-  sound = coord-first scenario home g;
-  firm = firm-quiet site_frame (IsLooseEnded home.protocol) empty_disk (set_up_calls home) (inr tt)
+  sound = past_sound (protocols scenario) (policy scenario) (member_of home) g [] tt;
+  global = (λ b. absurd b);
+  firm = firm_quiet site_frame (IsLooseEnded home.protocol) empty_disk (set_up_calls home) (inr tt)
       (empty-firm site_frame (IsLooseEnded home.protocol));
   shut = (λ global. record { down = (λ e. cc); over = (λ e. cc) });
   given = (λ m i. absurd i);
@@ -111,12 +96,12 @@ at-site scenario home g story event came a = record {
 
 -- the next line of the coordinator
 pub turn : (scenario : Scenario) (home : Home) (g : Tid) (story : Story) (event : CoordEvent) → CoordCame scenario story event
-    → CoordSound scenario home g (coord_past story)
-    → Turn scenario home g (coord_past story) event (coord_line (protocols scenario) (policy scenario) (coord_past story) event)
+    → CoordSound (protocols scenario) (member_of home) g (coord_past story)
+    → Turn (protocols scenario) (member_of home) g (coord_past story) event (coord_line (protocols scenario) (policy scenario) (coord_past story) event)
 turn scenario home g story event came s = record {
   sound = s;
-  line = coord-lines (protocols scenario) (policy scenario) g (coord_past story) event s.firm;
-  begun = (λ steps e. let c = subst (CoordCame scenario story) e came in (c.0, (steps, c.1)));
+  line = coord_lines (protocols scenario) (policy scenario) g (coord_past story) event s.firm;
+  numbered = numbered scenario story event came;
 }
 
 at-coordinator : (scenario : Scenario) (home : Home) (g : Tid) (story : Story) (event : CoordEvent)
@@ -127,6 +112,7 @@ at-coordinator : (scenario : Scenario) (home : Home) (g : Tid) (story : Story) (
 at-coordinator scenario home g story event declared came a = record {
   agree = a;
   turn = turn scenario home g story event came a.sound;
+  begins = (λ steps e. (steps, (subst (CoordCame scenario story) e came).1));
   comes = (λ m e. subst (CoordCame scenario story) e came);
   declared = (is-declared scenario home.site home declared).0;
   protocol = (is-declared scenario home.site home declared).1;
@@ -140,9 +126,9 @@ next : (scenario : Scenario) (home : Home) (g : Tid) (story : Story) (happened :
     (sent_to home.site story ++ sends_to home.site happened) (sent_from home.site story ++ sends_from home.site happened)
 next scenario home g story (Nowhere answer) declared l a =
     subst (λ m. Agree scenario home g (coord_past story) (past_of home.site story) m (sent_from home.site story ++ []))
-    (sym (append-nil (sent_to home.site story)))
+    (sym (append_nil (sent_to home.site story)))
     (subst (λ m. Agree scenario home g (coord_past story) (past_of home.site story) (sent_to home.site story) m)
-    (sym (append-nil (sent_from home.site story))) a)
+    (sym (append_nil (sent_from home.site story))) a)
 next scenario home g story (AtCoordinator x) declared l a =
     let (event, is, came) = l.next in
     subst (λ y. Agree scenario home g (y ∷ coord_past story) (past_of home.site story)
@@ -150,20 +136,20 @@ next scenario home g story (AtCoordinator x) declared l a =
     (subst (λ m. Agree scenario home g (coord_line (protocols scenario) (policy scenario) (coord_past story) event ∷ coord_past story)
     (past_of home.site story)
     (sent_to home.site story ++ sends_to home.site (AtCoordinator (coord_line (protocols scenario) (policy scenario) (coord_past story) event))) m)
-    (sym (append-nil (sent_from home.site story)))
+    (sym (append_nil (sent_from home.site story)))
     (coord-next scenario home g (coord_past story) (past_of home.site story) (sent_to home.site story)
     (sent_from home.site story) event (coord_line (protocols scenario) (policy scenario) (coord_past story) event)
     (at-coordinator scenario home g story event declared came a)))
 next scenario home g story (AtSite at x) declared l a =
     subst (λ m. Agree scenario home g (coord_past story) (with_site home.site (AtSite at x) (past_of home.site story)) m
-    (sent_from home.site story ++ sends_from home.site (AtSite at x))) (sym (append-nil (sent_to home.site story)))
+    (sent_from home.site story ++ sends_from home.site (AtSite at x))) (sym (append_nil (sent_to home.site story)))
     (by_test (same_site at home.site) refl)
   where
     by_test : (b : Bool) → same_site at home.site ≡ b
         → Agree scenario home g (coord_past story) (cond b (x ∷ past_of home.site story) (past_of home.site story))
         (sent_to home.site story) (sent_from home.site story ++ cond b x.sends [])
     by_test false q = subst (λ m. Agree scenario home g (coord_past story) (past_of home.site story) (sent_to home.site story) m)
-        (sym (append-nil (sent_from home.site story))) a
+        (sym (append_nil (sent_from home.site story))) a
     by_test true q =
         let (event, is, came) = linked-here scenario home story x at declared q l.next in
         subst (λ y. Agree scenario home g (coord_past story) (y ∷ past_of home.site story) (sent_to home.site story)
@@ -182,20 +168,6 @@ agreed scenario home g (command ∷ commands) declared =
 
 -- the coordinator's part holds for any site, also for one that isn't declared
 pub coord-sound : (scenario : Scenario) (home : Home) (g : Tid) (commands : List Command)
-    → CoordSound scenario home g (coord_past (story_of scenario commands))
-coord-sound scenario home g [] = coord-first scenario home g
-coord-sound scenario home g (command ∷ commands) =
-    more (happens scenario (story_of scenario commands) command) (linked scenario (story_of scenario commands) command)
-    (coord-sound scenario home g commands)
-  where
-    more : (happened : Happened) → Linked scenario (story_of scenario commands) happened
-        → CoordSound scenario home g (coord_past (story_of scenario commands))
-        → CoordSound scenario home g (with_coordinator happened (coord_past (story_of scenario commands)))
-    more (Nowhere answer) l s = s
-    more (AtSite at x) l s = s
-    more (AtCoordinator x) l s =
-        let (event, is, came) = l.next in
-        subst (λ y. CoordSound scenario home g (y ∷ coord_past (story_of scenario commands))) (sym is)
-        (coord-turn scenario home g (coord_past (story_of scenario commands)) event
-        (coord_line (protocols scenario) (policy scenario) (coord_past (story_of scenario commands)) event)
-        (turn scenario home g (story_of scenario commands) event came s))
+    → CoordSound (protocols scenario) (member_of home) g (coord_past (story_of scenario commands))
+coord-sound scenario home g commands =
+    past_sound (protocols scenario) (policy scenario) (member_of home) g (coord_past (story_of scenario commands)) (story_made scenario commands)

@@ -11,7 +11,8 @@ use Rattle.fed_rules.specs.declared.scenario.SiteLine.{SiteLine}
 use Rattle.fed_rules.specs.Coord.{protocol_of}
 use Rattle.fed_rules.specs.Scenarios.{home_in, home_of, items_of, protocols_in, protocols}
 use Rattle.fed_rules.specs.SiteRecords.{Home}
-use Rattle.commit_laws.proofs.Names.{same-site, some-parts}
+use Rattle.order_laws.proofs.Names.{same_site_alike}
+use Rattle.order_laws.proofs.Alike.{some_parts}
 
 abbrev pub by_site : Participant → Participant → Bool
 by_site a b = nat_lt a.site.0 b.site.0
@@ -54,7 +55,7 @@ found-first site x (y ∷ ys) e = by_test (by_site y x) refl (found-first site x
   differs : (b : Bool) → same_site y.site site ≡ b → by_site y x ≡ true → b ≡ false
   differs false q l = refl
   differs true q l =
-      let same : y.site ≡ x.site = same-site y.site site q ∙ sym (same-site x.site site e) in
+      let same : y.site ≡ x.site = same_site_alike y.site site q ∙ sym (same_site_alike x.site site e) in
       let less : nat_lt x.site.0 x.site.0 ≡ true = ap (λ s. nat_lt s.0 x.site.0) (sym same) ∙ l in
       let number = x.site.0 in
       let strict = ltb-true number number less in
@@ -81,8 +82,8 @@ declared-in (line ∷ lines) items site home e = by_test (same_site line.site si
       → Among (Is site home.protocol) (inserted by_site member (protocols_in lines)) ×
       (protocol_of (inserted by_site member (protocols_in lines)) site ≡ home.protocol)
   by_test true q e k =
-      let same : here ≡ home = some-parts e in (
-        inserted-here (Is site home.protocol) member (protocols_in lines) (same-site line.site site q, ap (λ h. h.protocol) same),
+      let same : here ≡ home = some_parts e in (
+        inserted-here (Is site home.protocol) member (protocols_in lines) (same_site_alike line.site site q, ap (λ h. h.protocol) same),
         found-first site member (protocols_in lines) q ∙ ap (λ h. h.protocol) same,
       )
   by_test false q e k =

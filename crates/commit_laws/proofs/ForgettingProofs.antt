@@ -29,15 +29,15 @@ use Rattle.commit_laws.specs.Outcomes.{coordinator_keeps}
 use Rattle.commit_laws.proofs.Agree.{Agrees}
 use Rattle.commit_laws.proofs.AgreeCoord.{presumes-right}
 use Rattle.commit_laws.proofs.Agreed.{agreed, turn, coord-sound}
-use Rattle.commit_laws.proofs.CoordClear.{all-missing, named-stays}
-use Rattle.commit_laws.proofs.CoordFacts.{is_undecided, IsOpen, Same, Starts, Decides, Forgets, Restarts}
-use Rattle.commit_laws.proofs.CoordLines.{Stood, Stopped, Through}
-use Rattle.commit_laws.proofs.CoordLists.{decided-outcome}
-use Rattle.commit_laws.proofs.CoordTurn.{Turn, same-outcome, uncommitted-of}
+use Rattle.commit_laws.proofs.Links.{member_of, IsNext, linked, home-again, its-site}
+use Rattle.coord_laws.proofs.Clear.{all_missing, named_stays}
+use Rattle.coord_laws.proofs.Facts.{is_undecided, IsOpen, Same, Starts, Decides, Forgets, Restarts}
+use Rattle.coord_laws.proofs.Lines.{Stood, Stopped, Through}
+use Rattle.coord_laws.proofs.RecordLists.{decided_outcome}
+use Rattle.coord_laws.proofs.Turns.{Turn, same_outcome, uncommitted_of}
 use Rattle.commit_laws.proofs.Declared.{is-declared}
-use Rattle.commit_laws.proofs.Disks.{appended}
-use Rattle.commit_laws.proofs.Links.{IsNext, linked, home-again, its-site}
-use Rattle.commit_laws.proofs.Lists.{those-agree}
+use Rattle.rules_laws.proofs.Disks.{appended}
+use Rattle.order_laws.proofs.Lists.{those_same}
 use Rattle.commit_laws.proofs.PreparedLaws.{nowhere, in-those}
 use Rattle.commit_laws.proofs.SealProofs.{over-free}
 use Rattle.commit_laws.proofs.SiteWork.{held-prepared}
@@ -48,18 +48,18 @@ known-while-missing scenario commands tid decision is =
 
 -- the next line of the coordinator, with its part of the invariant before it
 pub next-turn : (scenario : Scenario) (commands : List Command) (x : CoordHappening) → IsNextOfCoordinator scenario commands x
-    → (tid : Tid) → (event : CoordEvent) × Turn scenario nowhere tid (coord_past (story_of scenario commands)) event x
+    → (tid : Tid) → (event : CoordEvent) × Turn (protocols scenario) (member_of nowhere) tid (coord_past (story_of scenario commands)) event x
 next-turn scenario commands x (command, e) tid =
     let l : IsNext scenario (story_of scenario commands) (AtCoordinator x) = subst (IsNext scenario (story_of scenario commands)) e
     (linked scenario (story_of scenario commands) command).next in
     let (event, is, came) = l in (
       event,
-      subst (λ y. Turn scenario nowhere tid (coord_past (story_of scenario commands)) event y) (sym is)
+      subst (λ y. Turn (protocols scenario) (member_of nowhere) tid (coord_past (story_of scenario commands)) event y) (sym is)
           (turn scenario nowhere tid (story_of scenario commands) event came (coord-sound scenario nowhere tid commands)),
     )
 
 forgotten : (scenario : Scenario) (past : CoordPast) (event : CoordEvent) (x : CoordHappening) (tid : Tid)
-    → Turn scenario nowhere tid past event x → (stops x.answer || comes_up x.answer) ≡ false → is_known (standing (protocols scenario) past tid) ≡ true
+    → Turn (protocols scenario) (member_of nowhere) tid past event x → (stops x.answer || comes_up x.answer) ≡ false → is_known (standing (protocols scenario) past tid) ≡ true
     → is_known (standing (protocols scenario) (x ∷ past) tid) ≡ false
     → is_nobody (missing (protocols scenario) (x ∷ past) tid (outcome (Coordinator.records (x ∷ past)) tid)) ≡ true
 forgotten scenario past event x tid t on before behind = by_stood t.line.stood where
@@ -71,22 +71,22 @@ forgotten scenario past event x tid t on before behind = by_stood t.line.stood w
     by_forgets : (c : Bool) → f ≡ c → is_nobody (missing (protocols scenario) (x ∷ past) tid (outcome (Coordinator.records (x ∷ past)) tid)) ≡ true
     by_forgets false q = let no : true ≡ false = sym (ap is_known (e ∙ ap (λ c. cond c Gone (Decided made)) q)) ∙ behind in cc
     by_forgets true q =
-        let made_is : outcome (Coordinator.records (x ∷ past)) tid ≡ made = ap (λ rs. outcome rs tid) r ∙ decided-outcome tid made
-        (appended x.calls []) (Coordinator.records past) (uncommitted-of scenario nowhere tid past t.sound o) by in
+        let made_is : outcome (Coordinator.records (x ∷ past)) tid ≡ made = ap (λ rs. outcome rs tid) r ∙ decided_outcome tid made
+        (appended x.calls []) (Coordinator.records past) (uncommitted_of (protocols scenario) (member_of nowhere) tid past t.sound o) by in
         ap (λ d. is_nobody (missing (protocols scenario) (x ∷ past) tid d)) made_is
-        ∙ ap is_nobody (all-missing (protocols scenario) tid (x ∷ past) made a)
+        ∙ ap is_nobody (all_missing (protocols scenario) tid (x ∷ past) made a)
         ∙ ap (λ rs. is_nobody (required (protocols scenario) rs tid made)) r
         ∙ (n ∙ q)
   by_stood (Through (Forgets made k b e n ends a) r) =
       let closed : IsOpen (protocols scenario) past tid → ⊥ = λ o. (let no : is_undecided (Decided made) ≡ true = ap is_undecided (sym k) ∙ o in cc) in
-      let made_is : outcome (Coordinator.records (x ∷ past)) tid ≡ made = same-outcome scenario nowhere tid past event x t closed ∙ sym
+      let made_is : outcome (Coordinator.records (x ∷ past)) tid ≡ made = same_outcome (protocols scenario) (member_of nowhere) tid past event x t closed ∙ sym
       (t.sound.decided made k).1 in
       ap (λ d. is_nobody (missing (protocols scenario) (x ∷ past) tid d)) made_is
       ∙ ap (λ o. is_nobody (those (λ m. not (has_acked (x ∷ past) tid m.site)) (required_of made o)))
-      (named-stays scenario nowhere tid past event x t closed)
-      ∙ ap is_nobody (those-agree (λ m. not (has_acked (x ∷ past) tid m.site))
-      (λ m. not (has_acked (quiet x.event Say.Acked ∷ past) tid m.site)) (λ m. ap not (a m.site))
-      (required (protocols scenario) (Coordinator.records past) tid made))
+      (named_stays (protocols scenario) (member_of nowhere) tid past event x t closed)
+      ∙ ap is_nobody (those_same (λ m. not (has_acked (x ∷ past) tid m.site))
+      (λ m. not (has_acked (quiet x.event Say.Acked ∷ past) tid m.site)) (required (protocols scenario) (Coordinator.records past) tid made)
+      (λ m i. ap not (a m.site)))
       ∙ n
   by_stood (Through (Restarts b e a stop) r) = let no : true ≡ false = sym stop ∙ on in cc
 
@@ -97,7 +97,7 @@ forgotten-when-none-is-missing scenario commands x next on tid before behind =
 
 pub restarts-count-anew : RestartsCountAnew
 restarts-count-anew scenario commands x next off tid decision =
-    all-missing (protocols scenario) tid (x ∷ coord_past (story_of scenario commands)) decision
+    all_missing (protocols scenario) tid (x ∷ coord_past (story_of scenario commands)) decision
     (λ site. none (stops x.answer) (comes_up x.answer) (is_about tid x.event && decides x.answer)
     (acks_in tid site x || has_acked (coord_past (story_of scenario commands)) tid site) off)
   where

@@ -7,6 +7,7 @@ use Rattle.mdb_base.specs.declared.names.Tx.{Tx}
 use Rattle.mdb_base.specs.Names.{same_site}
 use Rattle.mdb_base.specs.Words.{item_at, map_some}
 use Rattle.order_laws.specs.Chains.{In}
+use Rattle.presumptions.specs.declared.Participant.{Participant}
 use Rattle.fed_rules.specs.declared.commands.Command.{Command}
 use Rattle.fed_rules.specs.declared.commands.Command.TheVariants as Cmd
 use Rattle.fed_rules.specs.declared.events.CoordEvent.{CoordEvent}
@@ -21,11 +22,14 @@ use Rattle.fed_rules.specs.Scenarios.{home_of, home_at, home_of_line, local_home
 use Rattle.fed_rules.specs.Site.{site_line}
 use Rattle.fed_rules.specs.SitePast.{SiteHappening}
 use Rattle.fed_rules.specs.SiteRecords.{Home}
-use Rattle.fed_rules.specs.Story.{Story, Happened, AtSite, AtCoordinator, Nowhere, past_of, coord_past, sent_to, sent_from, happens}
+use Rattle.fed_rules.specs.Story.{Story, Happened, AtSite, AtCoordinator, Nowhere, past_of, coord_past, story_of, with_coordinator, sent_to, sent_from, happens}
+use Rattle.coord_laws.specs.Pasts.{IsNumbered, IsMadeByEvents}
+use Rattle.commit_laws.specs.Pasts.{CoordinatorsAreMadeByEvents}
 use Rattle.rules_laws.specs.Lines.{SiteCause, CoordCause, IsLine}
 pub use Rattle.rules_laws.proofs.Declared.{home-again, its-site}
 use Rattle.rules_laws.proofs.Lines.{line_is}
-use Rattle.commit_laws.proofs.Names.{same-site, some-parts}
+use Rattle.order_laws.proofs.Names.{same_site_alike}
+use Rattle.order_laws.proofs.Alike.{some_parts}
 
 -- the attempt is one of a global transaction
 abbrev pub IsGlobal : Scenario → Tid → Type 0
@@ -44,6 +48,10 @@ not-both scenario tx h steps e f = by_line (transaction scenario tx) e f where
       → ⊥
   by_line None e f = cc
   by_line (Some line) e f = by_home line line.home e f
+
+-- a site with its protocol, as a participant
+abbrev pub member_of : Home → Participant
+member_of home = record { site = home.site; protocol = home.protocol }
 
 -- where the event of a site comes from
 abbrev pub SiteCame : Scenario → SiteId → Story → SiteEvent → Type 0
@@ -71,7 +79,7 @@ pub record Linked (scenario : Scenario) (story : Story) (happened : Happened) : 
 
 pub item-in : {A : Type 0} (xs : List A) (n : ℕ) (x : A) → item_at xs n ≡ Some x → In x xs
 item-in [] n x e = cc
-item-in (y ∷ ys) zero x e = inl (some-parts e)
+item-in (y ∷ ys) zero x e = inl (some_parts e)
 item-in (y ∷ ys) (suc n) x e = inr (item-in ys n x e)
 
 site_came : (scenario : Scenario) (home : Home) (story : Story) (command : Command) (event : SiteEvent) → SiteCause scenario home story command event
@@ -135,6 +143,30 @@ pub linked-here : (scenario : Scenario) (home : Home) (story : Story) (x : SiteH
     → home_of scenario home.site ≡ Some home → same_site at home.site ≡ true → IsNext scenario story (AtSite at x)
     → (event : SiteEvent) × (x ≡ site_line home (past_of home.site story) event) × SiteCame scenario home.site story event
 linked-here scenario home story x at declared q (other, found, event, is, came) =
-    let site : at ≡ home.site = same-site at home.site q in
-    let same : other ≡ home = some-parts (sym found ∙ ap (home_of scenario) site ∙ declared) in
+    let site : at ≡ home.site = same_site_alike at home.site q in
+    let same : other ≡ home = some_parts (sym found ∙ ap (home_of scenario) site ∙ declared) in
     (event, is ∙ ap₂ (λ h s. site_line h (past_of s story) event) same site, subst (λ s. SiteCame scenario s story event) site came)
+
+pub numbered : (scenario : Scenario) (story : Story) (event : CoordEvent) → CoordCame scenario story event → IsNumbered (coord_past story) event
+numbered scenario story (Coord_event.Go t steps) c = c.0
+numbered scenario story (Coord_event.Take site message) c = tt
+numbered scenario story (Coord_event.Again t) c = tt
+numbered scenario story (Coord_event.Late t) c = tt
+numbered scenario story (Coord_event.Fate tx) c = tt
+numbered scenario story (Coord_event.Halt cut) c = tt
+numbered scenario story (Coord_event.Trip calls cut) c = tt
+numbered scenario story Coord_event.Back c = tt
+numbered scenario story Coord_event.Check c = tt
+
+-- in the story of any commands the coordinator's past is one that events make
+pub story_made : CoordinatorsAreMadeByEvents
+story_made scenario [] = tt
+story_made scenario (command ∷ commands) =
+    more (happens scenario (story_of scenario commands) command) (linked scenario (story_of scenario commands) command) (story_made scenario commands)
+  where
+    more : (happened : Happened) → Linked scenario (story_of scenario commands) happened
+        → IsMadeByEvents (protocols scenario) (policy scenario) (coord_past (story_of scenario commands))
+        → IsMadeByEvents (protocols scenario) (policy scenario) (with_coordinator happened (coord_past (story_of scenario commands)))
+    more (Nowhere answer) l m = m
+    more (AtSite at x) l m = m
+    more (AtCoordinator x) l m = (l.next.0, l.next.1, numbered scenario (story_of scenario commands) l.next.0 l.next.2, m)

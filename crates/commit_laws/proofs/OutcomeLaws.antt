@@ -7,9 +7,9 @@ use Rattle.fed_rules.specs.declared.records.CoordRecord.{CoordRecord}
 use Rattle.fed_rules.specs.CoordRecords.{has_commit, outcome}
 use Rattle.fed_rules.specs.Story.{past_of, story_of}
 use Rattle.commit_laws.specs.Outcomes.{coordinator_keeps, Settles, SettlesSayTheOutcome, SettlesCommitWhereKept, SitesAgree}
-use Rattle.commit_laws.specs.Records.{IsCommit}
+use Rattle.coord_laws.specs.Records.{IsCommit}
 use Rattle.commit_laws.proofs.Agreed.{agreed}
-use Rattle.commit_laws.proofs.CoordLists.{commit-among, among-commit, outcome-is}
+use Rattle.coord_laws.proofs.RecordLists.{commit_among, among_commit, outcome_is}
 use Rattle.commit_laws.proofs.Links.{home-again, its-site}
 
 pub settles-say-the-outcome : SettlesSayTheOutcome
@@ -21,11 +21,11 @@ settles-say-the-outcome scenario commands site home declared tid decision m =
 pub outcome-commits : (kept : List CoordRecord) (tid : Tid) → outcome kept tid ≡ Decided.Commit → Among (IsCommit tid) kept
 outcome-commits kept tid e = by_test (has_commit kept tid) refl e where
   by_test : (b : Bool) → has_commit kept tid ≡ b → cond b Decided.Commit Decided.Abort ≡ Decided.Commit → Among (IsCommit tid) kept
-  by_test true q e = commit-among tid kept q
+  by_test true q e = commit_among tid kept q
   by_test false q e = cc
 
 pub commits-outcome : (kept : List CoordRecord) (tid : Tid) → Among (IsCommit tid) kept → outcome kept tid ≡ Decided.Commit
-commits-outcome kept tid m = outcome-is kept tid true (among-commit tid kept m)
+commits-outcome kept tid m = outcome_is kept tid true (among_commit tid kept m)
 
 pub settles-commit-where-kept : SettlesCommitWhereKept
 settles-commit-where-kept scenario commands site home declared tid decision m =

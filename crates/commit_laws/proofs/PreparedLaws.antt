@@ -32,16 +32,17 @@ use Rattle.fed_rules.specs.Story.{Happened, AtSite, AtCoordinator, Nowhere, coor
 use Rattle.rules_laws.specs.Durable.{IsSafe, IsFirm}
 use Rattle.commit_laws.specs.Outcomes.{coordinator_keeps}
 use Rattle.commit_laws.specs.Prepared.{IsPreparedForEver, IsCommitAnswer, DecidesCommit, CommitDecisionsFindAllPrepared, CommitRecordsFindAllPrepared}
-use Rattle.commit_laws.specs.Records.{IsCommit, IsPrepared, IsLooseEnded}
+use Rattle.commit_laws.specs.Records.{IsPrepared, IsLooseEnded}
+use Rattle.commit_laws.proofs.Links.{member_of, Linked, linked, home-again, its-site}
+use Rattle.coord_laws.specs.Records.{IsCommit}
 use Rattle.commit_laws.proofs.Agreed.{agreed, turn, coord-sound}
-use Rattle.commit_laws.proofs.CoordFacts.{Committed}
-use Rattle.commit_laws.proofs.CoordSound.{IsYes, kept-stays, end-commit}
-use Rattle.commit_laws.proofs.CoordTurn.{Turn}
+use Rattle.coord_laws.proofs.Facts.{Committed}
+use Rattle.coord_laws.proofs.Sound.{IsYes, kept_stays, end_commit}
+use Rattle.coord_laws.proofs.Turns.{Turn}
 use Rattle.commit_laws.proofs.Declared.{is-declared, by_site}
-use Rattle.commit_laws.proofs.Durable.{safe-or-loose}
-use Rattle.commit_laws.proofs.Links.{Linked, linked, home-again, its-site}
+use Rattle.rules_laws.proofs.Durable.{safe_or_loose}
 use Rattle.commit_laws.proofs.SiteLists.{loose-prepared}
-use Rattle.commit_laws.proofs.Names.{same-site-refl}
+use Rattle.order_laws.proofs.Names.{same_site_self}
 
 yes-ticket : (g : Tid) (site : SiteId) (past : CoordPast) → Among (λ x. IsYes g site x.event) past
     → (ticket : ℕ) × Among (λ x. x.event ≡ Coord_event.Take site (From.Vote g (Some ticket))) past
@@ -54,7 +55,7 @@ pub prepared-safe : (home : Home) (tid : Tid) (e : ℕ) (d : Disk SiteRecord) �
     → Among (IsPrepared tid e) d.records → (kept : SiteRecord) × IsPrepared tid e kept × IsSafe site_frame d kept
 prepared-safe home tid e d f m =
     let (r, i, p) = among_is (IsPrepared tid e) d.records m in
-    elim (safe-or-loose site_frame (IsLooseEnded home.protocol) d.synced d.records r f.loose i) [
+    elim (safe_or_loose site_frame (IsLooseEnded home.protocol) d.synced d.records r f.loose i) [
       | inl s ↦ (r, p, s)
       | inr l ↦ absurd (loose-prepared home.protocol tid e r l p)
     ]
@@ -108,7 +109,7 @@ declared-home (line ∷ lines) items m i = by_test (same_site line.site m.site) 
           → (home : Home) × (cond b (Some here) (home_in lines items m.site) ≡ Some home)
       by_test true q o k = (here, refl)
       by_test false q (inl e) k = let same : same_site line.site m.site ≡ true = subst (λ n. same_site line.site n.site ≡ true) e
-          (same-site-refl line.site) in cc
+          (same_site_self line.site) in cc
       by_test false q (inr i) k = k i
 
 pub commit-records-find-all-prepared : CommitRecordsFindAllPrepared
@@ -145,15 +146,15 @@ decided-commit scenario home (command ∷ commands) tid m =
     past : CoordPast
     past = coord_past (story_of scenario commands)
 
-    here : (event : CoordEvent) → Turn scenario home tid past event (coord_line (protocols scenario) (policy scenario) past event)
+    here : (event : CoordEvent) → Turn (protocols scenario) (member_of home) tid past event (coord_line (protocols scenario) (policy scenario) past event)
         → Among (DecidesCommit tid) (coord_line (protocols scenario) (policy scenario) past event ∷ past)
         → (Among (DecidesCommit tid) past → Among (IsCommit tid) (Coordinator.records past))
         → Among (IsCommit tid) (Coordinator.records (coord_line (protocols scenario) (policy scenario) past event ∷ past))
     here event t (inl d) k = commit-answer tid event (coord_line (protocols scenario) (policy scenario) past event).answer
         (Coordinator.records (coord_line (protocols scenario) (policy scenario) past event ∷ past)) t.line.committed d.1
         (ap (is_about tid) (sym t.line.is) ∙ d.0)
-    here event t (inr i) k = kept-stays (protocols scenario) tid past event
-        (Coordinator.records (coord_line (protocols scenario) (policy scenario) past event ∷ past)) (IsCommit tid) (end-commit tid) t.line.kept (k i)
+    here event t (inr i) k = kept_stays (protocols scenario) tid past event
+        (Coordinator.records (coord_line (protocols scenario) (policy scenario) past event ∷ past)) (IsCommit tid) (end_commit tid) t.line.kept (k i)
 
     more : (happened : Happened) → Linked scenario (story_of scenario commands) happened
         → Among (DecidesCommit tid) (with_coordinator happened past)

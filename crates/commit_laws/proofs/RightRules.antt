@@ -9,7 +9,7 @@ use Rattle.fed_rules.specs.Site.{site_line}
 use Rattle.fed_rules.specs.Story.{Happened, AtSite, AtCoordinator, Nowhere, past_of, coord_past, happens, story_of}
 use Rattle.commit_laws.specs.WrongRules.{at_home, made_by, story_by, right_rules}
 use Rattle.commit_laws.proofs.Agreed.{agreed, coord-sound}
-use Rattle.commit_laws.proofs.CoordLines.{coord-lines}
+use Rattle.coord_laws.proofs.Lines.{coord_lines}
 use Rattle.commit_laws.proofs.Links.{IsNext, linked, home-again, its-site}
 use Rattle.commit_laws.proofs.PreparedLaws.{nowhere}
 use Rattle.commit_laws.proofs.SiteLines.{site-lines}
@@ -29,7 +29,7 @@ made scenario commands (AtSite site x) (home, found, event, is, came) =
     ap (at_home right_rules (story_of scenario commands) site x.event) found
     ∙ ap (AtSite site) (ap (site_line home (past_of site (story_of scenario commands))) same ∙ sym is)
 made scenario commands (AtCoordinator x) (event, is, came) =
-    let line = coord-lines (protocols scenario) (policy scenario) some_attempt (coord_past (story_of scenario commands)) event
+    let line = coord_lines (protocols scenario) (policy scenario) some_attempt (coord_past (story_of scenario commands)) event
     (coord-sound scenario nowhere some_attempt commands).firm in
     let same : x.event ≡ event = ap (λ y. y.event) is ∙ line.is in
     ap AtCoordinator (ap (coord_line (protocols scenario) (policy scenario) (coord_past (story_of scenario commands))) same ∙ sym is)

@@ -33,7 +33,7 @@ use Rattle.commit_laws.proofs.OutcomeLaws.{outcome-commits}
 use Rattle.commit_laws.proofs.PreparedLaws.{committed-prepared}
 use Rattle.commit_laws.proofs.SiteLists.{tidy-doubt, settled-ended, tidy-once}
 use Rattle.commit_laws.proofs.SiteWork.{held-prepared}
-use Rattle.commit_laws.proofs.Names.{same-site-refl}
+use Rattle.order_laws.proofs.Names.{same_site_self}
 
 -- the next line of the site, with the invariant before it
 abbrev pub Next : Scenario → List Command → Home → Tid → SiteEvent → SiteHappening → Type 0
@@ -48,7 +48,7 @@ next-line scenario commands home declared x (command, e) tid =
     let l : IsNext scenario (story_of scenario commands) (AtSite home.site x) = subst (IsNext scenario (story_of scenario commands)) e
     (linked scenario (story_of scenario commands) command).next in
     let (event, is, came) = linked-here scenario home (story_of scenario commands) x home.site declared
-    (same-site-refl home.site) l in (
+    (same_site_self home.site) l in (
       event,
       subst (λ y. Next scenario commands home tid event y) (sym is)
           (at-site scenario home tid (story_of scenario commands) event came (agreed scenario home tid commands declared)),
@@ -173,7 +173,7 @@ no-live scenario commands home declared x next tid is run alive = by_line (next-
       → (is_closed here tid || is_some (doubt_of (records home here) tid)) ≡ true → ⊥
   open_run event t over =
       let told = a.telling Decided.Commit (t.comes (To.Decide tid Decided.Commit) (sym t.line.is ∙ is)) in
-      let dead = (a.shut (a.sound.global told.begun)).over over in
+      let dead = (a.shut (a.global told.begun)).over over in
       let no : Some run ≡ None = sym alive ∙ dead in cc
 
   by_got : (event : SiteEvent) → Next scenario commands home tid event x → IsGot tid here

@@ -19,17 +19,16 @@ use Rattle.fed_rules.specs.Disk.{Append, Sync, CutBack, after_calls, is_torn, lo
 use Rattle.fed_rules.specs.Happenings.{is_down}
 use Rattle.fed_rules.specs.Runs.{EngineLine, Aborts, Run, changed, run_at, tid_of}
 use Rattle.fed_rules.specs.Site.{settling_line, settles, unheld, of_decide, of_give, of_back, answered, of_check, checkpoint}
-use Rattle.fed_rules.specs.SitePast.{SiteHappening, SitePast, records, epoch, epoch_start, engine_lines, live, live_one, ends, is_closed}
+use Rattle.fed_rules.specs.SitePast.{SiteHappening, SitePast, records, epoch, epoch_start, engine_lines, live, live_one, ends, is_closed, disk}
 use Rattle.fed_rules.specs.SiteRecords.{Home, Held, site_frame, epoch_of, doubt_of, site_payload}
 use Rattle.commit_laws.specs.Records.{IsEnded, IsLooseEnded}
 use Rattle.commit_laws.specs.Seals.{appends_prepared}
 use Rattle.commit_laws.proofs.SiteFacts.{WroteOne, IsSettling, IsAcking, Says, Shut, Step}
 use Rattle.commit_laws.proofs.SiteShut.{other-line, this-line, shut-on, restored-sealed}
-use Rattle.commit_laws.proofs.Disks.{appended, IsQuiet}
-use Rattle.fed_rules.specs.SitePast.{disk}
+use Rattle.rules_laws.proofs.Disks.{appended, IsQuiet}
 use Rattle.commit_laws.proofs.SiteRules.{step-pick, quietly, by-begin, by-act, by-commit, by-abort, by-fate, by-drop, by-ask, step-when}
 use Rattle.commit_laws.proofs.SiteWork.{by-work, by-take, by-prepare}
-use Rattle.commit_laws.proofs.Names.{of-same}
+use Rattle.order_laws.proofs.Alike.{of_same}
 use Rattle.std.specs.Prelude.{nat_lt}
 
 settling-tid : (tid : Tid) (d : Decision) → tid_of (settling_line tid d) ≡ tid
@@ -89,7 +88,7 @@ by-settles home g past tid d held up doubt = record {
   is = refl;
   quiet = ended-quiet home.protocol tid d;
   wrote = subst (WroteOne home g past (Ev.Give (To.Decide tid d))) (sym (ended-appended (forces home.protocol d) tid d)) settling;
-  says = ack-says home g past y tid d (λ a q. of-same (λ u. IsAcking home u past y) tid g (acking a) q);
+  says = ack-says home g past y tid d (λ a q. of_same (λ u. IsAcking home u past y) tid g (acking a) q);
   shut = (λ nb s. shut-on home g past y refl refl up (by_test (same_tid tid g) refl s));
   settled = settling;
   seals = (λ i. absurd (ended-seals g tid d (forces home.protocol d) i));
@@ -102,7 +101,7 @@ by-settles home g past tid d held up doubt = record {
   line = settling_line tid d
 
   settling : same_tid tid g ≡ true → IsSettling home g past (Ev.Give (To.Decide tid d)) d
-  settling q = of-same (λ u. IsSettling home u past (Ev.Give (To.Decide tid d)) d) tid g
+  settling q = of_same (λ u. IsSettling home u past (Ev.Give (To.Decide tid d)) d) tid g
       (record { taken = refl; held = held; doubt = doubt }) q
 
   acking : acks home.protocol d ≡ true → IsAcking home tid past (settles home tid d)
@@ -142,7 +141,7 @@ by-unheld home g past tid d lines up free here other = record {
   is = refl;
   quiet = tt;
   wrote = tt;
-  says = ack-says home g past (unheld home tid d lines) tid d (λ a q. of-same
+  says = ack-says home g past (unheld home tid d lines) tid d (λ a q. of_same
       (λ u. IsAcking home u past (unheld home tid d lines)) tid g
       (record { decision = d; taken = refl; acks = a; after = inr (refl, free) }) q);
   shut = (λ nb s. shut-on home g past (unheld home tid d lines) refl refl up (by_test (same_tid tid g) refl s));
@@ -165,7 +164,7 @@ unfolding of_decide
 by-decide home g past tid d up =
     step-pick home g past (Ev.Give (To.Decide tid d)) _ _ _
     (λ free. step-pick home g past (Ev.Give (To.Decide tid d)) _ _ _
-    (λ dead. by-unheld home g past tid d [] up free (λ q. of-same (λ u. live home past u ≡ None) tid g dead q) (λ q. (refl, refl)))
+    (λ dead. by-unheld home g past tid d [] up free (λ q. of_same (λ u. live home past u ≡ None) tid g dead q) (λ q. (refl, refl)))
     (λ run alive. by-unheld home g past tid d (Aborts tid ∷ []) up free
     (λ q. ap live_one (this-line (epoch_start home past) (engine_lines past) g (Aborts tid) q))
     (λ q. other-line (epoch_start home past) (engine_lines past) g (Aborts tid) q)))

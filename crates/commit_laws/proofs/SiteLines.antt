@@ -15,7 +15,7 @@ use Rattle.fed_rules.specs.SiteRecords.{Home, site_frame}
 use Rattle.rules_laws.specs.Durable.{IsFirm}
 use Rattle.commit_laws.specs.Records.{IsPrepared, IsLooseEnded}
 use Rattle.commit_laws.specs.Seals.{appends_prepared, seals}
-use Rattle.commit_laws.proofs.Disks.{appended, IsCut, Keeps, left-by-line, left-by-stop, quiet-plain}
+use Rattle.rules_laws.proofs.Disks.{appended, IsCut, Keeps, left_by_line, left_by_stop, quiet_plain}
 use Rattle.commit_laws.proofs.SiteFacts.{IsSealing, Wrote, WroteOne, Says, Settled, NotBegun, Shut, Step}
 use Rattle.commit_laws.proofs.SiteShut.{restored-sealed}
 use Rattle.commit_laws.proofs.SiteEnds.{by-answered, by-back}
@@ -54,7 +54,7 @@ keeps-one home g past event (r ∷ q ∷ rs) now w (inl k) = absurd w
 goes : (home : Home) (g : Tid) (past : SitePast) (event : SiteEvent) (y : SiteHappening)
     → IsFirm site_frame (IsLooseEnded home.protocol) (disk home past) → Step home g past event y → Line home g past event y
 goes home g past event y f s =
-    let l = left-by-line site_frame (IsLooseEnded home.protocol) (disk home past) y.calls s.quiet f in
+    let l = left_by_line site_frame (IsLooseEnded home.protocol) (disk home past) y.calls s.quiet f in
     record {
       is = s.is;
       firm = l.firm;
@@ -83,8 +83,8 @@ stops-here : (home : Home) (g : Tid) (past : SitePast) (event : SiteEvent) (y : 
     → Line home g past event (stopped site_frame (disk home past) y.event (take k y.calls ++ Stops cut ∷ []))
 unfolding stopped
 stops-here home g past event y k cut f s =
-    let l = left-by-stop site_frame (IsLooseEnded home.protocol) (disk home past) y.calls k cut
-    (quiet-plain (IsLooseEnded home.protocol) false y.calls s.quiet) f in
+    let l = left_by_stop site_frame (IsLooseEnded home.protocol) (disk home past) y.calls k cut
+    (quiet_plain (IsLooseEnded home.protocol) false y.calls s.quiet) f in
     record {
       is = s.is;
       firm = l.firm;

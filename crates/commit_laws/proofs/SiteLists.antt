@@ -12,7 +12,7 @@ use Rattle.fed_rules.specs.declared.records.SiteRecord.TheVariants as Rec
 use Rattle.fed_rules.specs.SiteRecords.{Held, doubt_of, epoch_of}
 use Rattle.commit_laws.specs.Seals.{is_prepared}
 use Rattle.commit_laws.specs.Records.{IsPrepared, IsEnded, IsLooseEnded}
-use Rattle.commit_laws.proofs.Names.{same-of}
+use Rattle.order_laws.proofs.Alike.{same_of}
 
 -- neither a Prepared nor an Ended record of the attempt
 pub record Free (g : Tid) (rs : List SiteRecord) : Type 0 where
@@ -52,14 +52,14 @@ tidy-doubt g (Rec.Prepared tid k number ticket writes ∷ rs) e d t p (inr n) = 
       by_test : (q : Bool) → same_tid tid g ≡ q → Among (IsPrepared g e) (Rec.Prepared tid k number ticket writes ∷ rs)
           → (Among (IsPrepared g e) rs → doubt_of rs g ≡ None) → cond q (Some held) (doubt_of rs g) ≡ None
       by_test true q p rest = absurd ((t.0 k (same_tid-equal tid g q, refl)).ended d n)
-      by_test false q (inl p) rest = let same = same-of tid g p.0 in cc
+      by_test false q (inl p) rest = let same = same_of tid g p.0 in cc
       by_test false q (inr p) rest = rest p
 tidy-doubt g (Rec.Ended tid made ∷ rs) e d t (inl p) n = absurd p
 tidy-doubt g (Rec.Ended tid made ∷ rs) e d t (inr p) n = by_test (same_tid tid g) refl n (tidy-doubt g rs e d t.1 p) where
   by_test : (q : Bool) → same_tid tid g ≡ q → Among (IsEnded g d) (Rec.Ended tid made ∷ rs)
       → (Among (IsEnded g d) rs → doubt_of rs g ≡ None) → cond q None (doubt_of rs g) ≡ None
   by_test true q n k = refl
-  by_test false q (inl n) k = let same = same-of tid g n.0 in cc
+  by_test false q (inl n) k = let same = same_of tid g n.0 in cc
   by_test false q (inr n) k = k n
 
 -- an attempt with a Prepared record that isn't in doubt has an Ended record
@@ -83,7 +83,7 @@ settled-ended g (Rec.Prepared tid k number ticket writes ∷ rs) e p n = by_test
       → (Among (IsPrepared g e) rs → doubt_of rs g ≡ None → (d : Decision) × Among (IsEnded g d) rs)
       → (d : Decision) × Among (IsEnded g d) (Rec.Prepared tid k number ticket writes ∷ rs)
   by_test true q p n k = cc
-  by_test false q (inl p) n k = let same = same-of tid g p.0 in cc
+  by_test false q (inl p) n k = let same = same_of tid g p.0 in cc
   by_test false q (inr p) n k = let r = k p n in (r.0, inr r.1)
 settled-ended g (Rec.Ended tid made ∷ rs) e (inl p) n = absurd p
 settled-ended g (Rec.Ended tid made ∷ rs) e (inr p) n = by_test (same_tid tid g) refl n (settled-ended g rs e p) where

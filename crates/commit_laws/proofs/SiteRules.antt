@@ -24,7 +24,7 @@ use Rattle.fed_rules.specs.SitePast.{SiteHappening, SitePast, records, epoch_sta
 use Rattle.fed_rules.specs.SiteRecords.{Home, Held, doubt_of}
 use Rattle.commit_laws.proofs.SiteFacts.{Says, Settled, NotBegun, Shut, Step}
 use Rattle.commit_laws.proofs.SiteShut.{Leaves, leaves-shut, other-line, other-lines, this-line, given-up, shut-on}
-use Rattle.commit_laws.proofs.Names.{of-same}
+use Rattle.order_laws.proofs.Alike.{of_same}
 
 pub step-when : (home : Home) (g : Tid) (past : SitePast) (event : SiteEvent) (b : Bool) (x y : SiteHappening)
     → (b ≡ true → Step home g past event x) → (b ≡ false → Step home g past event y) → Step home g past event (when b x y)
@@ -103,7 +103,7 @@ pub one-line : (home : Home) (g : Tid) (past : SitePast) (event : SiteEvent) (ru
 one-line home g past event run l s alive stays = by_test (same_tid (tid_of l) g) (gives_up l) refl refl where
   over_no : (o : Bool) → is_over home past g ≡ o → same_tid (tid_of l) g ≡ true → is_over home past g ≡ false
   over_no false e q = e
-  over_no true e q = let dead = s.over e in let here = of-same (λ u. live home past u ≡ Some run) (tid_of l) g alive q in cc
+  over_no true e q = let dead = s.over e in let here = of_same (λ u. live home past u ≡ Some run) (tid_of l) g alive q in cc
 
   by_test : (q u : Bool) → same_tid (tid_of l) g ≡ q → gives_up l ≡ u → Touches home g past event (l ∷ [])
   by_test false u q e = inl (other-line (epoch_start home past) (engine_lines past) g l q)
@@ -260,5 +260,5 @@ unfolding of_ask
 by-ask home g past tid up =
     step-pick home g past (Ev.Ask tid) _ _ _ (λ e. quietly home g past (Ev.Ask tid) Say.Idle up tt tt)
     (λ held e. calm home g past (Ev.Ask tid) (Say.Asks tid) (From.Inquiry tid ∷ []) [] up tt tt
-    ((λ q. of-same (λ u. (h : Held) × (doubt_of (records home past) u ≡ Some h)) tid g (held, e) q), tt)
+    ((λ q. of_same (λ u. (h : Held) × (doubt_of (records home past) u ≡ Some h)) tid g (held, e) q), tt)
     (λ nb s. no-lines home g past (Ev.Ask tid)))

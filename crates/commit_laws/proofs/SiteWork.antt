@@ -26,7 +26,7 @@ use Rattle.commit_laws.specs.Records.{IsPrepared}
 use Rattle.commit_laws.proofs.SiteFacts.{IsSealing, Shut, Step}
 use Rattle.commit_laws.proofs.SiteShut.{other-line, other-lines, this-line, given-up, sealed-now, shut-on}
 use Rattle.commit_laws.proofs.SiteRules.{step-when, step-pick, IsNoDecision, Touches, no-lines, one-line, calm, acts-stay, takes-stay}
-use Rattle.commit_laws.proofs.Names.{of-same, some-parts}
+use Rattle.order_laws.proofs.Alike.{of_same, some_parts}
 
 -- an operation's answer
 by-did : (home : Home) (g : Tid) (past : SitePast) (message : ToSite) (tid : Tid) (n : ℕ) (reply : Reply) (lines : List EngineLine)
@@ -89,7 +89,7 @@ by-first_work home g past message tid n act up nd free = by-did home g past mess
           (this-line (epoch_start home past) (Begins tid number ∷ engine_lines past) g (Acts tid act reply) q) ∙ given-up
           (Acts tid act reply) (run_at (epoch_start home past) (Begins tid number ∷ engine_lines past) g) e))
       by_test true false q e = inr
-          (inr (ap (λ b. b || false) (acts-stay g tid act reply e), of-same (λ u. is_over home past u ≡ false) tid g free q))
+          (inr (ap (λ b. b || false) (acts-stay g tid act reply e), of_same (λ u. is_over home past u ≡ false) tid g free q))
 
 by-work_live : (home : Home) (g : Tid) (past : SitePast) (message : ToSite) (tid : Tid) (e n : ℕ) (act : PlainAct) (run : Run)
     → is_down past ≡ false → IsNoDecision (Ev.Give message) → live home past tid ≡ Some run
@@ -138,7 +138,7 @@ held-prepared (Rec.Prepared tid e number ticket writes ∷ rs) t h is = by_test 
       → Among (IsPrepared t h.epoch) (Rec.Prepared tid e number ticket writes ∷ rs)
   by_test true q i k =
       let held : Held = record { tid = tid; epoch = e; number = number; ticket = ticket; writes = writes } in
-      let same : held ≡ h = some-parts i in
+      let same : held ≡ h = some_parts i in
       inl (same_tid-equal tid t q, ap (λ x. x.epoch) same)
   by_test false q i k = inr (k i)
 held-prepared (Rec.Ended tid d ∷ rs) t h is = by_test (same_tid tid t) is (held-prepared rs t h) where
@@ -169,7 +169,7 @@ by-votes_again : (home : Home) (g : Tid) (past : SitePast) (tid : Tid) (e n : �
 unfolding votes_again
 by-votes_again home g past tid e n held up doubt =
     calm home g past (Ev.Give (To.Prepare tid e n)) (Say.VotesYes tid held.ticket) (From.Vote tid (Some held.ticket) ∷ []) [] up tt tt (
-      (λ q. of-same (λ u. (k : ℕ) × Among (IsPrepared u k) (records home past)) tid g
+      (λ q. of_same (λ u. (k : ℕ) × Among (IsPrepared u k) (records home past)) tid g
           (held.epoch, held-prepared (records home past) tid held doubt) q),
       tt,
     )
@@ -197,7 +197,7 @@ by-votes_yes home g past tid e n run ticket up free alive here = record {
   rises = (λ i. cc);
 } where
   sealing : same_tid tid g ≡ true → IsSealing home g past (Ev.Give (To.Prepare tid e n)) (epoch home past)
-  sealing q = of-same (λ u. IsSealing home u past (Ev.Give (To.Prepare tid e n)) (epoch home past)) tid g
+  sealing q = of_same (λ u. IsSealing home u past (Ev.Give (To.Prepare tid e n)) (epoch home past)) tid g
       (record {
         up = up;
         n = n;

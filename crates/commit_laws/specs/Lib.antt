@@ -1,6 +1,7 @@
 pub mod Endings
 pub mod Forgetting
 pub mod Outcomes
+pub mod Pasts
 pub mod Prepared
 pub mod Records
 pub mod SealLaws

@@ -14,7 +14,7 @@ pub use Rattle.fed_rules.specs.Endings.{Settles}
 use Rattle.fed_rules.specs.Scenarios.{home_of}
 use Rattle.fed_rules.specs.SiteRecords.{Home}
 use Rattle.fed_rules.specs.Story.{coord_past, past_of, story_of}
-use Rattle.commit_laws.specs.Records.{IsCommit}
+use Rattle.coord_laws.specs.Records.{IsCommit}
 
 -- what the coordinator keeps at the end of the story of these commands
 abbrev pub coordinator_keeps : Scenario → List Command → List CoordRecord

@@ -17,7 +17,8 @@ use Rattle.fed_rules.specs.SiteRecords.{Home, site_frame}
 use Rattle.fed_rules.specs.Story.{coord_past, past_of, story_of}
 use Rattle.rules_laws.specs.Durable.{IsSafe}
 use Rattle.commit_laws.specs.Outcomes.{coordinator_keeps}
-use Rattle.commit_laws.specs.Records.{IsCommit, IsPrepared}
+use Rattle.commit_laws.specs.Records.{IsPrepared}
+use Rattle.coord_laws.specs.Records.{IsCommit}
 
 -- a Prepared record of the attempt stands on the disk, and its bytes are synced: it survives every call and every stop
 pub record IsPreparedForEver (home : Home) (past : SitePast) (tid : Tid) : Type 0 where

@@ -1,11 +1,9 @@
--- What the records of a journal say of an attempt, as facts on one record.
+-- What the records of a site's journal say of an attempt, as facts on one record.
 use Rattle.std.specs.Prelude.{◌≡◌, ℕ, false}
 use Rattle.mdb_base.specs.declared.names.Tid.{Tid}
 use Rattle.presumptions.specs.declared.Decision.{Decision}
 use Rattle.presumptions.specs.declared.Protocol.{Protocol}
 use Rattle.presumptions.specs.Table.{forces}
-use Rattle.fed_rules.specs.declared.records.CoordRecord.{CoordRecord}
-use Rattle.fed_rules.specs.declared.records.CoordRecord.TheVariants as Coord_record
 use Rattle.fed_rules.specs.declared.records.SiteRecord.{SiteRecord}
 use Rattle.fed_rules.specs.declared.records.SiteRecord.TheVariants as Rec
 
@@ -23,13 +21,3 @@ IsEnded tid decision kept = ⊥
 abbrev pub IsLooseEnded : Protocol → SiteRecord → Type 0
 IsLooseEnded protocol (Rec.Ended ended made) = forces protocol made ≡ false
 IsLooseEnded protocol kept = ⊥
-
--- a record that the coordinator appends without a sync
-abbrev pub IsEnd : CoordRecord → Type 0
-IsEnd (Coord_record.End ended) = Unit {0}
-IsEnd kept = ⊥
-
--- a Commit record of the attempt
-abbrev pub IsCommit : Tid → CoordRecord → Type 0
-IsCommit tid (Coord_record.Commit committed tickets) = committed ≡ tid
-IsCommit tid kept = ⊥

@@ -6,6 +6,7 @@
 
 mod forgetting_laws;
 mod outcome_laws;
+mod past_laws;
 mod prepared_laws;
 mod seal_laws;
 mod wrong_rules;
@@ -15,6 +16,7 @@ pub use forgetting_laws::{
     inquiries_in_doubt_are_answered_the_outcome,
 };
 pub use outcome_laws::{sites_settle_alike, sites_settle_the_outcome};
+pub use past_laws::coordinators_are_made_by_events;
 pub use prepared_laws::commits_find_all_prepared;
 pub use seal_laws::{
     acknowledged_attempts_are_over, attempts_are_sealed_once, closed_attempts_have_no_live_run,

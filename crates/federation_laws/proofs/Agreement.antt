@@ -31,7 +31,7 @@ use Rattle.federation_laws.proofs.Dues.{epoch_of}
 use Rattle.federation_laws.proofs.SiteMoves.{run_ops, ops_of, done-ops, IsNth, IsFrom, finishes, Says, IsSealing, Moves}
 use Rattle.federation_laws.proofs.SiteRuns.{site_ops, RunsHold, Growth, Stays, Grows, growth, runs-next, live-plain}
 use Rattle.std.proofs.lemmas.List.{length-append}
-use Rattle.federation_laws.proofs.Lists.{or-cases}
+use Rattle.order_laws.proofs.Alike.{first_or_second}
 
 -- the operation was asked for, so many operations of the site being done
 abbrev pub WasAsked : Tid → List ToSite → Option Access → ℕ → Type 0
@@ -193,7 +193,7 @@ agrees-site home past g event x coordinator sent answered holds given m line a =
           (each_map (Says home g past x) (IsSaid home (x ∷ past) g) (said-now home past g event x a.runs runs m) x.sends m.says);
       from = λ e. were-asked home past g event x sent e given (grow e) (a.from e);
       behind = λ alive. behind-stays home past g event x _ _ (grow (epoch_of (counted coordinator g) home.site)) (a.behind alive);
-      sealed = λ s. elim (or-cases (some_of (seals g) x.calls) (has_sealed past g) s) [
+      sealed = λ s. elim (first_or_second (some_of (seals g) x.calls) (has_sealed past g) s) [
         | inl now ↦ seals-now home past g event x coordinator sent answered holds a given now (m.sealing now)
         | inr before ↦ sealed-before home past g x coordinator sent before.0 (a.sealed before.1)
       ];

@@ -19,11 +19,11 @@ use Rattle.fed_rules.specs.declared.messages.ToSite.TheVariants as To
 use Rattle.fed_rules.specs.CoordPast.{CoordHappening, CoordPast, Counted, begins, program, visits, counted, vote_at, outstanding, is_wait, is_ticket, last_epoch}
 use Rattle.federation_laws.proofs.CoordEffects.{program-stays, CountsReply, Effect, Starts, Replies, Votes, Still}
 use Rattle.federation_laws.proofs.CoordHolds.{is_begun, begun-stays, Holds, dead-more, IsDone, done-more, left-more, IsFresh}
-use Rattle.federation_laws.proofs.CoordMade.{IsAsked}
+use Rattle.coord_laws.proofs.Made.{IsAsked}
 use Rattle.federation_laws.proofs.CoordOps.{Matches, matches-ends, count-wait, count-elsewhere}
 use Rattle.federation_laws.specs.Accesses.{act_of}
 use Rattle.fed_rules.specs.Coord.{fits}
-use Rattle.federation_laws.proofs.Told.{some-parts}
+use Rattle.order_laws.proofs.Alike.{some_parts}
 use Rattle.federation_laws.proofs.CountedReplies.{is_dead, Progress, Waiting, Working, Taking, progress}
 use Rattle.federation_laws.proofs.Dues.{of_site, count_of, epoch_of, ticket_of, steps_of, reads_of, left_at, IsWork, IsTake, IsPrepare, due-is}
 
@@ -175,7 +175,7 @@ other-work program replies now site at epoch m done e o due n act w =
       most = subst (λ k. n ≤ k) (sym same) w.most;
       next = λ q.
           let k = w.next (q ∙ same) in
-          let step : due.step ≡ k.step = some-parts (sym due.next ∙ k.next) in
+          let step : due.step ≡ k.step = some_parts (sym due.next ∙ k.next) in
           let where_ : at ≡ site = sym due.its_site ∙ (ap (λ (x : Step). x.site) step ∙ k.its_site) in
           let yes : same_site at site ≡ true = subst (λ z. same_site at z ≡ true) where_ (same_site_self at) in
           absurd (let clash = sym e ∙ yes in cc);

@@ -1,5 +1,5 @@
 -- No attempt has two Commit records, and each Commit record names the tickets of the votes.
-use Rattle.std.proofs.Common.{◌≡◌, ◌⊎◌, ℕ, Bool, true, false, cond, ◌&&◌, is_some, nat_le, Option, Some, None, List, [], ◌∷◌, map, inl, inr, refl, sym, ap, subst, ◌∙◌}
+use Rattle.std.proofs.Common.{◌≡◌, ◌⊎◌, ℕ, Bool, true, false, cond, ◌&&◌, is_some, Option, Some, None, List, [], ◌∷◌, map, inl, inr, refl, sym, ap, subst, ◌∙◌}
 use Rattle.std.proofs.lemmas.Bool.{and_parts}
 use Rattle.mdb_base.specs.declared.names.SiteId.{SiteId}
 use Rattle.mdb_base.specs.declared.names.SiteTicket.{SiteTicket}
@@ -7,11 +7,11 @@ use Rattle.mdb_base.specs.declared.names.Tid.{Tid}
 use Rattle.mdb_base.specs.Names.{same_site, same_tid}
 use Rattle.mdb_base.specs.Words.{Each, Among, found, with_some}
 use Rattle.presumptions.specs.declared.Participant.{Participant}
-use Rattle.order_laws.specs.Chains.{In, Distinct}
+use Rattle.order_laws.specs.Chains.{In}
 use Rattle.order_laws.specs.Tickets.{Ticketed, OneEach}
 use Rattle.order_laws.proofs.Lists.{among_is, in_those, one_image, each_of_at, those_in}
 use Rattle.order_laws.proofs.Tickets.{acyclic_no_cycle}
-use Rattle.order_laws.proofs.Names.{same_site_alike, same_tid_alike, same_tid_self}
+use Rattle.order_laws.proofs.Names.{same_site_alike, same_tid_alike}
 use Rattle.fed_rules.specs.declared.answers.Answer.TheVariants as Say
 use Rattle.fed_rules.specs.declared.commands.Command.{Command}
 use Rattle.fed_rules.specs.declared.events.CoordEvent.{CoordEvent}
@@ -21,135 +21,33 @@ use Rattle.fed_rules.specs.declared.records.CoordRecord.{CoordRecord}
 use Rattle.fed_rules.specs.declared.records.CoordRecord.TheVariants as Rec
 use Rattle.fed_rules.specs.declared.scenario.Scenario.{Scenario}
 use Rattle.fed_rules.specs.Coord.{vote_ticket, vote_tickets}
-use Rattle.fed_rules.specs.CoordPast.{CoordHappening, CoordPast, disk, records, is_open, begins, counts, program, visits, participants, or_vote, vote_in, vote_at}
-use Rattle.fed_rules.specs.CoordRecords.{coord_frame, has_commit, commits}
-use Rattle.fed_rules.specs.Disk.{Disk, Call, Append, Sync, CutBack, TrimFront, Stops, bytes_of, whole, after_calls}
+use Rattle.fed_rules.specs.CoordPast.{CoordHappening, CoordPast, disk, records, begins, counts, program, visits, participants, or_vote, vote_in, vote_at}
+use Rattle.fed_rules.specs.CoordRecords.{coord_frame, commits}
+use Rattle.fed_rules.specs.Disk.{Disk, Call, Append, Sync, CutBack, TrimFront, Stops, after_calls}
 use Rattle.fed_rules.specs.Happenings.{quiet}
 use Rattle.fed_rules.specs.Plans.{IsScenario}
 use Rattle.fed_rules.specs.Scenarios.{protocols}
-use Rattle.fed_rules.specs.Story.{Story, Happened, AtSite, AtCoordinator, Nowhere, coord_past, with_coordinator, sent_from, story_of}
+use Rattle.fed_rules.specs.Story.{Story, Happened, AtSite, AtCoordinator, Nowhere, coord_past, sent_from, story_of}
 use Rattle.federation_laws.specs.Edges.{committed, TicketGraphsAreCycleFree}
 use Rattle.federation_laws.proofs.CoordEffects.{program-stays}
-use Rattle.federation_laws.proofs.CoordHolds.{last-vote-of, starts-novote, fresh-begun}
-use Rattle.federation_laws.proofs.CoordMade.{CommitsNobody, IsAccepted, IsLastVote, Writes}
-use Rattle.federation_laws.proofs.Standings.{AppendsCommit}
+use Rattle.federation_laws.proofs.CoordHolds.{starts-novote, fresh-begun}
+use Rattle.coord_laws.proofs.Made.{IsLastVote, Writes}
+use Rattle.coord_laws.proofs.OneEach.{tids_of, committed_tid}
+use Rattle.coord_laws.proofs.Past.{commits_once}
+use Rattle.commit_laws.proofs.Links.{story_made}
 use Rattle.federation_laws.proofs.StoryGlobals.{StoryHolds, story-holds, coord-made, fresh-line, declared-program}
-use Rattle.federation_laws.proofs.Told.{some-parts, IsCoordLine, IsLine, CoordCause, line_is}
-use Rattle.federation_laws.proofs.TicketCycles.{commits-whole, free-story}
-use Rattle.federation_laws.proofs.Lists.{in-more}
-
--- the attempts that have a Commit record
-abbrev pub tids_of : List CoordRecord → List Tid
-tids_of rs = map (λ node. node.tid) (commits rs)
-
-pub committed-tid : (rs : List CoordRecord) (t : Tid) → In t (tids_of rs) → has_commit rs t ≡ true
-committed-tid [] t i = absurd i
-committed-tid (Rec.Commit tid tickets ∷ rs) t (inl e) = ap (λ b. cond b true (has_commit rs t)) (subst (λ u. same_tid tid u ≡ true) e (same_tid_self tid))
-committed-tid (Rec.Commit tid tickets ∷ rs) t (inr i) = by_test (same_tid tid t) (committed-tid rs t i)
-  where
-    by_test : (b : Bool) → has_commit rs t ≡ true → cond b true (has_commit rs t) ≡ true
-    by_test true h = refl
-    by_test false h = h
-committed-tid (Rec.Initiation tid members ∷ rs) t i = committed-tid rs t i
-committed-tid (Rec.Abort tid members ∷ rs) t i = committed-tid rs t i
-committed-tid (Rec.End tid ∷ rs) t i = committed-tid rs t i
-committed-tid (Rec.Checkpoint sum ∷ rs) t i = committed-tid rs t i
-
--- who has a Commit record has a node
-pub commit-node : (rs : List CoordRecord) (t : Tid) → has_commit rs t ≡ true → (node : Ticketed) × In node (commits rs) × (node.tid ≡ t)
-commit-node [] t e = cc
-commit-node (Rec.Commit tid tickets ∷ rs) t e = by_test (same_tid tid t) refl e (commit-node rs t)
-  where
-    by_test : (b : Bool) → same_tid tid t ≡ b → cond b true (has_commit rs t) ≡ true → (has_commit rs t ≡ true → (node : Ticketed) × In node (commits rs) × (node.tid ≡ t))
-        → (node : Ticketed) × In node (record { tid = tid; tickets = tickets } ∷ commits rs) × (node.tid ≡ t)
-    by_test true q e h = (record { tid = tid; tickets = tickets }, inl refl, same_tid_alike tid t q)
-    by_test false q e h = let r = h e in (r.0, inr r.1, r.2)
-commit-node (Rec.Initiation tid members ∷ rs) t e = commit-node rs t e
-commit-node (Rec.Abort tid members ∷ rs) t e = commit-node rs t e
-commit-node (Rec.End tid ∷ rs) t e = commit-node rs t e
-commit-node (Rec.Checkpoint sum ∷ rs) t e = commit-node rs t e
-
-behind-one : (r : CoordRecord) (rs : List CoordRecord) → Distinct (tids_of (r ∷ rs)) → Distinct (tids_of rs)
-behind-one (Rec.Commit tid tickets) rs d = d.1
-behind-one (Rec.Initiation tid members) rs d = d
-behind-one (Rec.Abort tid members) rs d = d
-behind-one (Rec.End tid) rs d = d
-behind-one (Rec.Checkpoint sum) rs d = d
-
-distinct-whole : (b : ℕ) (rs : List CoordRecord) → Distinct (tids_of rs) → Distinct (tids_of (whole coord_frame b rs))
-distinct-whole b [] d = d
-distinct-whole b (r ∷ rs) d = by_test (nat_le (bytes_of coord_frame (r ∷ rs)) b) (distinct-whole b rs (behind-one r rs d))
-  where
-    by_test : (t : Bool) → Distinct (tids_of (whole coord_frame b rs)) → Distinct (tids_of (cond t (r ∷ rs) (whole coord_frame b rs)))
-    by_test true h = d
-    by_test false h = h
-
-in-behind : (r : CoordRecord) (rs : List CoordRecord) (t : Tid) → In t (tids_of rs) → In t (tids_of (r ∷ rs))
-in-behind (Rec.Commit tid tickets) rs t i = inr i
-in-behind (Rec.Initiation tid members) rs t i = i
-in-behind (Rec.Abort tid members) rs t i = i
-in-behind (Rec.End tid) rs t i = i
-in-behind (Rec.Checkpoint sum) rs t i = i
-
-in-whole : (b : ℕ) (rs : List CoordRecord) (t : Tid) → In t (tids_of (whole coord_frame b rs)) → In t (tids_of rs)
-in-whole b [] t i = i
-in-whole b (r ∷ rs) t i = by_test (nat_le (bytes_of coord_frame (r ∷ rs)) b) i (in-whole b rs t)
-  where
-    by_test : (u : Bool) → In t (tids_of (cond u (r ∷ rs) (whole coord_frame b rs))) → (In t (tids_of (whole coord_frame b rs)) → In t (tids_of rs)) → In t (tids_of (r ∷ rs))
-    by_test true i h = i
-    by_test false i h = in-behind r rs t (h i)
-
-nobody-distinct : (calls : List (Call CoordRecord)) (d : Disk CoordRecord) → Each CommitsNobody calls → Distinct (tids_of d.records) → Distinct (tids_of (after_calls coord_frame d calls).records)
-nobody-distinct [] d n h = h
-nobody-distinct (Append (Rec.Commit tid tickets) ∷ calls) d n h = absurd n.0
-nobody-distinct (Append (Rec.Checkpoint sum) ∷ calls) d n h = nobody-distinct calls _ n.1 h
-nobody-distinct (Append (Rec.Initiation tid members) ∷ calls) d n h = nobody-distinct calls _ n.1 h
-nobody-distinct (Append (Rec.Abort tid members) ∷ calls) d n h = nobody-distinct calls _ n.1 h
-nobody-distinct (Append (Rec.End tid) ∷ calls) d n h = nobody-distinct calls _ n.1 h
-nobody-distinct (Sync ∷ calls) d n h = nobody-distinct calls _ n.1 h
-nobody-distinct (CutBack ∷ calls) d n h = nobody-distinct calls _ n.1 h
-nobody-distinct (TrimFront ∷ calls) d n h = nobody-distinct calls _ n.1 h
-nobody-distinct (Stops cut ∷ calls) d n h = nobody-distinct calls _ n.1 (distinct-whole _ d.records h)
-
--- calls of which one appends a Commit of an attempt that has none
-accepted-distinct : (calls : List (Call CoordRecord)) (d : Disk CoordRecord) (others : List Ticketed) (all : List Tid) → IsAccepted others calls → ((g : Tid) → Among (AppendsCommit g) calls → In g all → ⊥) → ((t : Tid) → In t (tids_of d.records) → In t all) → Distinct (tids_of d.records)
-    → Distinct (tids_of (after_calls coord_frame d calls).records)
-accepted-distinct [] d others all a new sub h = h
-accepted-distinct (Append (Rec.Commit tid tickets) ∷ calls) d others all a new sub h =
-    nobody-distinct calls _ a.1 ((λ i. new tid (inl refl) (sub tid i)), h)
-accepted-distinct (Append (Rec.Initiation tid members) ∷ calls) d others all a new sub h = accepted-distinct calls _ others all a (λ g i. new g (inr i)) sub h
-accepted-distinct (Append (Rec.Abort tid members) ∷ calls) d others all a new sub h = accepted-distinct calls _ others all a (λ g i. new g (inr i)) sub h
-accepted-distinct (Append (Rec.End tid) ∷ calls) d others all a new sub h = accepted-distinct calls _ others all a (λ g i. new g (inr i)) sub h
-accepted-distinct (Append (Rec.Checkpoint sum) ∷ calls) d others all a new sub h = accepted-distinct calls _ others all a (λ g i. new g (inr i)) sub h
-accepted-distinct (Sync ∷ calls) d others all a new sub h = accepted-distinct calls _ others all a (λ g i. new g (inr i)) sub h
-accepted-distinct (CutBack ∷ calls) d others all a new sub h = accepted-distinct calls _ others all a (λ g i. new g (inr i)) sub h
-accepted-distinct (TrimFront ∷ calls) d others all a new sub h = accepted-distinct calls _ others all a (λ g i. new g (inr i)) sub h
-accepted-distinct (Stops cut ∷ calls) d others all a new sub h = accepted-distinct calls _ others all a (λ g i. new g (inr i)) (λ t i. sub t (in-whole _ d.records t i)) (distinct-whole _ d.records h)
-
--- who is about to be committed has no Commit record
-new-commit : (scenario : Scenario) (story : Story) (x : CoordHappening) (line : IsCoordLine scenario story x) → ((g : Tid) → StoryHolds scenario story g) → (g : Tid) → Among (AppendsCommit g) x.calls → In g (tids_of (records (coord_past story))) → ⊥
-new-commit scenario story x line holds g i old =
-    let made = coord-made scenario story x line in
-    let (tickets, v) = last-vote-of (protocols scenario) (coord_past story) line.event g x.calls made.writes i in
-    let undecided : is_open (coord_past story) g ≡ true = (and_parts _ _ v.is_counted).0 in
-    let over : is_open (coord_past story) g ≡ false = (holds g).holds.over (committed-tid (records (coord_past story)) g old) in
-    let clash = sym undecided ∙ over in cc
-
-once-happened : (scenario : Scenario) (story : Story) (happened : Happened) → ((g : Tid) → StoryHolds scenario story g) → IsLine scenario story happened → Distinct (tids_of (records (coord_past story))) → Distinct (tids_of (records (with_coordinator happened (coord_past story))))
-once-happened scenario story (AtSite s x) holds line d = d
-once-happened scenario story (AtCoordinator x) holds line d =
-    let made = coord-made scenario story x line in
-    accepted-distinct x.calls (disk (coord_past story)) (commits (records (coord_past story))) (tids_of (records (coord_past story))) made.accepted (new-commit scenario story x line holds) (λ t i. i) d
-once-happened scenario story (Nowhere answer) holds line d = d
+use Rattle.federation_laws.proofs.Told.{IsCoordLine, IsLine, CoordCause, line_is}
+use Rattle.order_laws.proofs.Alike.{some_parts}
+use Rattle.federation_laws.proofs.TicketCycles.{free-story}
+use Rattle.coord_laws.proofs.Cycles.{commits_whole}
+use Rattle.order_laws.proofs.Joined.{in_more}
 
 -- no attempt has two Commit records
-pub commits-once : (scenario : Scenario) → IsScenario scenario → (commands : List Command) → OneEach (committed (story_of scenario commands))
-commits-once scenario good [] = tt
-commits-once scenario good (command ∷ commands) =
-    once-happened scenario (story_of scenario commands) _ (story-holds scenario good commands) (line_is scenario (story_of scenario commands) command) (commits-once scenario good commands)
+pub commits-once : (scenario : Scenario) (commands : List Command) → OneEach (committed (story_of scenario commands))
+commits-once scenario commands = commits_once _ _ (coord_past (story_of scenario commands)) (story_made scenario commands)
 
 pub one-commit : (scenario : Scenario) → IsScenario scenario → (commands : List Command) → (a b : Ticketed) → In a (committed (story_of scenario commands)) → In b (committed (story_of scenario commands)) → a.tid ≡ b.tid → a ≡ b
-one-commit scenario good commands a b i j e = one_image (λ (node : Ticketed). node.tid) (committed (story_of scenario commands)) (commits-once scenario good commands) a b i j e
+one-commit scenario good commands a b i j e = one_image (λ (node : Ticketed). node.tid) (committed (story_of scenario commands)) (commits-once scenario commands) a b i j e
 
 -- a Commit record that is kept after some calls was kept before, or one of them appended it
 AppendsNode : Ticketed → Call CoordRecord → Type 0
@@ -173,7 +71,7 @@ node-from (Append r ∷ calls) d node i = elim (node-from calls _ node i) [
 node-from (Sync ∷ calls) d node i = elim (node-from calls _ node i) [ inl k ↦ inl k | inr k ↦ inr (inr k) ]
 node-from (CutBack ∷ calls) d node i = elim (node-from calls _ node i) [ inl k ↦ inl k | inr k ↦ inr (inr k) ]
 node-from (TrimFront ∷ calls) d node i = elim (node-from calls _ node i) [ inl k ↦ inl k | inr k ↦ inr (inr k) ]
-node-from (Stops cut ∷ calls) d node i = elim (node-from calls _ node i) [ inl k ↦ inl (commits-whole _ d.records node k) | inr k ↦ inr (inr k) ]
+node-from (Stops cut ∷ calls) d node i = elim (node-from calls _ node i) [ inl k ↦ inl (commits_whole _ d.records node k) | inr k ↦ inr (inr k) ]
 
 -- the vote that it comes from
 node-vote : (protocols : List Participant) (past : CoordPast) (event : CoordEvent) (node : Ticketed) (calls : List (Call CoordRecord)) → Each (Writes protocols past event) calls → Among (AppendsNode node) calls → IsLastVote protocols past event node.tid node.tickets
@@ -228,7 +126,7 @@ found-from {A} {B} look y (x ∷ xs) i = first (look x) refl i (found-from look 
 ticket-vote : (site : SiteId) (o : Option ℕ) (k : SiteTicket) → vote_ticket site o ≡ Some k → (o ≡ Some k.ticket) × (site ≡ k.site)
 ticket-vote site None k e = cc
 ticket-vote site (Some ticket) k e =
-    let same : record { site = site; ticket = ticket } ≡ k = some-parts e in
+    let same : record { site = site; ticket = ticket } ≡ k = some_parts e in
     (ap (λ (z : SiteTicket). Some z.ticket) same, ap (λ (z : SiteTicket). z.site) same)
 
 -- the vote that a line counts was sent
@@ -307,7 +205,7 @@ old-node scenario story x line holds votes node i s visited = votes.nodes node i
     by_begun : (t : Bool) → begins node.tid x.answer ≡ t → visits s (program (coord_past story) node.tid) ≡ true
     by_begun true b =
         absurd (fresh-begun (coord_past story) node.tid x (fresh-line scenario story node.tid x line (coord-made scenario story x line) (holds node.tid))
-        ((holds node.tid).holds.committed (committed-tid (records (coord_past story)) node.tid (node-tid (records (coord_past story)) node i))).known b)
+        ((holds node.tid).holds.committed (committed_tid (records (coord_past story)) node.tid (node-tid (records (coord_past story)) node i))).known b)
     by_begun false b = ap (visits s) (sym (program-stays (coord_past story) node.tid x b)) ∙ visited
 
 -- the tickets at a last vote are of votes that were sent
@@ -338,23 +236,23 @@ old-ticket scenario story x line holds votes node i k j =
     by_begun : (t : Bool) → begins node.tid x.answer ≡ t → visits k.site (program (coord_past story) node.tid) ≡ true → visits k.site (program (x ∷ coord_past story) node.tid) ≡ true
     by_begun true b visited =
         absurd (fresh-begun (coord_past story) node.tid x (fresh-line scenario story node.tid x line (coord-made scenario story x line) (holds node.tid))
-        ((holds node.tid).holds.committed (committed-tid (records (coord_past story)) node.tid (node-tid (records (coord_past story)) node i))).known b)
+        ((holds node.tid).holds.committed (committed_tid (records (coord_past story)) node.tid (node-tid (records (coord_past story)) node i))).known b)
     by_begun false b visited = ap (visits k.site) (program-stays (coord_past story) node.tid x b) ∙ visited
 
 votes-happened : (scenario : Scenario) → IsScenario scenario → (story : Story) (command : Command) (happened : Happened) → ((g : Tid) → StoryHolds scenario story g) → IsLine scenario story happened → VotesSent story → VotesSent (record { command = command; happened = happened } ∷ story)
 votes-happened scenario good story command (AtSite at x) holds line v =
     record {
-      votes = λ g s ticket e. in-more _ (sent_from s story) _ (v.votes g s ticket e);
-      nodes = λ node i s visited. let r = v.nodes node i s visited in (r.0, r.1, in-more _ (sent_from s story) _ r.2);
-      tickets = λ node i k j. let r = v.tickets node i k j in record { sent = in-more _ (sent_from k.site story) _ r.sent; visited = r.visited };
+      votes = λ g s ticket e. in_more _ (sent_from s story) _ (v.votes g s ticket e);
+      nodes = λ node i s visited. let r = v.nodes node i s visited in (r.0, r.1, in_more _ (sent_from s story) _ r.2);
+      tickets = λ node i k j. let r = v.tickets node i k j in record { sent = in_more _ (sent_from k.site story) _ r.sent; visited = r.visited };
     }
 votes-happened scenario good story command (AtCoordinator x) holds line v =
     record {
-      votes = λ g s ticket e. in-more _ (sent_from s story) [] (votes-coord scenario story x line v g s ticket e);
+      votes = λ g s ticket e. in_more _ (sent_from s story) [] (votes-coord scenario story x line v g s ticket e);
       nodes = λ node i s visited.
-          let r = either node (node-from x.calls (disk (coord_past story)) node i) s visited in (r.0, r.1, in-more _ (sent_from s story) [] r.2);
+          let r = either node (node-from x.calls (disk (coord_past story)) node i) s visited in (r.0, r.1, in_more _ (sent_from s story) [] r.2);
       tickets = λ node i k j.
-          let r = either-ticket node (node-from x.calls (disk (coord_past story)) node i) k j in record { sent = in-more _ (sent_from k.site story) [] r.0; visited = r.1 };
+          let r = either-ticket node (node-from x.calls (disk (coord_past story)) node i) k j in record { sent = in_more _ (sent_from k.site story) [] r.0; visited = r.1 };
     }
   where
     either : (node : Ticketed) → In node (commits (records (coord_past story))) ⊎ Among (AppendsNode node) x.calls → (s : SiteId) → visits s (program (x ∷ coord_past story) node.tid) ≡ true
@@ -368,9 +266,9 @@ votes-happened scenario good story command (AtCoordinator x) holds line v =
     either-ticket node (inr new) k j = new-ticket scenario story x line v node (node-vote (protocols scenario) (coord_past story) line.event node x.calls (coord-made scenario story x line).writes new) k j
 votes-happened scenario good story command (Nowhere answer) holds line v =
     record {
-      votes = λ g s ticket e. in-more _ (sent_from s story) [] (v.votes g s ticket e);
-      nodes = λ node i s visited. let r = v.nodes node i s visited in (r.0, r.1, in-more _ (sent_from s story) [] r.2);
-      tickets = λ node i k j. let r = v.tickets node i k j in record { sent = in-more _ (sent_from k.site story) [] r.sent; visited = r.visited };
+      votes = λ g s ticket e. in_more _ (sent_from s story) [] (v.votes g s ticket e);
+      nodes = λ node i s visited. let r = v.nodes node i s visited in (r.0, r.1, in_more _ (sent_from s story) [] r.2);
+      tickets = λ node i k j. let r = v.tickets node i k j in record { sent = in_more _ (sent_from k.site story) [] r.sent; visited = r.visited };
     }
 
 -- so it is in every story
@@ -382,5 +280,5 @@ votes-sent scenario good (command ∷ commands) =
 -- the ticket graph of the committed attempts has no cycle
 pub graphs_cycle_free : TicketGraphsAreCycleFree
 graphs_cycle_free scenario good commands =
-    let once = commits-once scenario good commands in
+    let once = commits-once scenario commands in
     (once, acyclic_no_cycle (committed (story_of scenario commands)) once (free-story scenario commands))

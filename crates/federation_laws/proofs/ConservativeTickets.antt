@@ -48,9 +48,11 @@ use Rattle.site_history.specs.Stories.{OfSites, StoriesHaveRightLines}
 use Rattle.site_history.specs.Tickets.{HasTicket, TicketsRise}
 use Rattle.federation_laws.specs.Conservative.{ConservativeTicketsCloseNoCycle, RefusesForCycle}
 use Rattle.federation_laws.proofs.Agreement.{IsSaid, WereAsked}
-use Rattle.federation_laws.proofs.CommitOnce.{IsVote, committed-tid, node-tid, tickets-voted, votes-sent}
+use Rattle.federation_laws.proofs.CommitOnce.{IsVote, node-tid, tickets-voted, votes-sent}
+use Rattle.coord_laws.proofs.OneEach.{committed_tid}
 use Rattle.federation_laws.proofs.CoordEffects.{program-stays}
-use Rattle.federation_laws.proofs.CoordHolds.{fresh-begun, is_begun, last-vote-of}
+use Rattle.federation_laws.proofs.CoordHolds.{fresh-begun, is_begun}
+use Rattle.coord_laws.proofs.Standings.{last_vote_of, AppendsCommit, commit_from}
 use Rattle.federation_laws.proofs.Declared.{undeclared}
 use Rattle.federation_laws.proofs.Globals.{global-agreed}
 use Rattle.federation_laws.proofs.OnceGlobal.{global-once}
@@ -58,7 +60,6 @@ use Rattle.federation_laws.proofs.Phases.{IsChecked, IsOnCycle, MayTake, Refuses
 use Rattle.federation_laws.proofs.PhasesApart.{phase_from, story-phased}
 use Rattle.federation_laws.proofs.SiteRuns.{site_ops}
 use Rattle.federation_laws.proofs.SiteSteps.{doubt-prepared}
-use Rattle.federation_laws.proofs.Standings.{AppendsCommit, commit-from}
 use Rattle.federation_laws.proofs.StoryGlobals.{coord-made, declared-program, fresh-line, story-agrees, story-holds}
 use Rattle.federation_laws.proofs.Told.{IsCoordLine, IsLine, home_is-site, home-again, line_is}
 
@@ -226,7 +227,7 @@ module _ (scenario : Scenario) (good : IsScenario scenario) (right : StoriesHave
       → IsLater home (past_of home.site (story_of scenario commands)) (coord_past (story_of scenario commands)) g b t k
       → IsLater home (past_of home.site (story_of scenario commands)) (x ∷ coord_past (story_of scenario commands)) g b t k
   later_decided careful commands home declared g b t k x line over before phase commit v w p h =
-      by_commit (commit-from x.calls (Coordinator.disk past) b commit)
+      by_commit (commit_from x.calls (Coordinator.disk past) b commit)
     where
       past : CoordPast
       past = coord_past (story_of scenario commands)
@@ -262,7 +263,7 @@ module _ (scenario : Scenario) (good : IsScenario scenario) (right : StoriesHave
       by_commit (inl old) =
           before phase_before old visited (ap (visits home.site) (sym (program-stays past b x (fresh b (committed_begun commands b old)))) ∙ w) p h
       by_commit (inr new) =
-          let vote = (last-vote-of (protocols scenario) past line.event b x.calls (coord-made scenario (story_of scenario commands) x line).writes new).1 in
+          let vote = (last_vote_of (protocols scenario) past line.event b x.calls (coord-made scenario (story_of scenario commands) x line).writes new).1 in
           let open_b = (and_cases (is_open past b) (is_due_vote (outstanding past b vote.site)) vote.is_counted).0 in
           let known = open_begun commands b open_b in
           let phase_b = and_both (is_open past b) (has_sent (is_take_of b) past) open_b (prepared_sent commands home declared b (begun_global commands b known) t p) in
@@ -315,7 +316,7 @@ module _ (scenario : Scenario) (good : IsScenario scenario) (right : StoriesHave
       let past = coord_past (story_of scenario commands) in
       let mine = votes p.smaller p.first in
       let theirs = (votes-sent scenario good commands).tickets b i p.greater p.second in
-      let commit = committed-tid (Coordinator.records past) b.tid (node-tid (Coordinator.records past) b i) in
+      let commit = committed_tid (Coordinator.records past) b.tid (node-tid (Coordinator.records past) b i) in
       let (home, declared, at) = declared_site commands g.tid p.smaller.site mine.visited in
       let here = voted commands g.tid p.smaller home declared at (open_begun commands g.tid opened) mine in
       let there = voted commands b.tid p.greater home declared (p.here ∙ (sym p.there ∙ at)) (committed_begun commands b.tid commit) theirs in

@@ -26,19 +26,19 @@ use Rattle.federation_laws.proofs.Agreement.{WasAsked, WereAsked, IsSaid, IsBehi
 use Rattle.federation_laws.proofs.Asked.{IsAskedWork, IsAskedVote, IsOld, IsOf, Asked, asked-next, sent_here}
 use Rattle.federation_laws.proofs.CoordEffects.{CountsReply, Effect, Starts, Replies, Votes, Still}
 use Rattle.federation_laws.proofs.CoordHolds.{is_begun, IsDone, Holds, IsFresh, dead-more}
-use Rattle.federation_laws.proofs.CoordMade.{IsAsked}
+use Rattle.coord_laws.proofs.Made.{IsAsked}
 use Rattle.federation_laws.proofs.CoordOps.{Op, op_at, ops, ops_at, granted, Matches, agree-count}
 use Rattle.federation_laws.proofs.CountedReplies.{is_dead, Works, Progress, Waiting, Working, Taking, progress, counts-epoch}
 use Rattle.federation_laws.proofs.Dues.{of_site, epoch_of, left_at, ticket_of, count_of, reads_of}
 use Rattle.federation_laws.proofs.SiteMoves.{IsNth, finishes}
 use Rattle.federation_laws.proofs.SiteRuns.{site_ops, RunsHold}
-use Rattle.federation_laws.proofs.Told.{some-parts}
+use Rattle.order_laws.proofs.Alike.{some_parts}
 use Rattle.std.proofs.lemmas.List.{append-nil, length-append}
-use Rattle.federation_laws.proofs.Lists.{in-more}
+use Rattle.order_laws.proofs.Joined.{in_more}
 
 was-more : (g : Tid) (sent more : List ToSite) (op : Option Access) (n : ℕ) → WasAsked g sent op n → WasAsked g (sent ++ more) op n
-was-more g sent more (Some access) n h = (h.0, in-more _ sent more h.1)
-was-more g sent more None n h = (h.0, in-more _ sent more h.1)
+was-more g sent more (Some access) n h = (h.0, in_more _ sent more h.1)
+was-more g sent more None n h = (h.0, in_more _ sent more h.1)
 
 were-more : (g : Tid) (sent more : List ToSite) (all : List (Option Access)) → WereAsked g sent all → WereAsked g (sent ++ more) all
 were-more g sent more [] h = tt
@@ -110,7 +110,7 @@ same-step past g x site r w sent (Some access) own a alive was m =
     let old : IsAskedWork (program past g) (counted past g) site r.n (act_of access) = each_at (IsOld g (program past g) (counted past g) site) (To.Work g was.0 r.n (act_of access)) sent (a.old alive) was.1 refl in
     let count : r.n ≡ count_of (counted past g) site = w.facts.count ∙ ap (count_of (counted past g)) own in
     let next = old.next count in
-    let step : next.step ≡ w.facts.step = some-parts (sym next.next ∙ w.facts.next) in
+    let step : next.step ≡ w.facts.step = some_parts (sym next.next ∙ w.facts.next) in
     let acts : act_of access ≡ act_of w.access = next.its_act ∙ (ap (λ (s : Step). plain_act (reads_of (counted past g)) s.act) step ∙ sym w.facts.its_act) in
     ap (λ z. Some z) (one-access r.reply access w.access m w.answers acts)
 
@@ -247,7 +247,7 @@ agrees-coord home past coordinator g x sent answered holds now fresh sends heard
           record {
             e = old.e;
             n = old.n;
-            asked = in-more _ sent (sent_here home.site x.sends) old.asked;
+            asked = in_more _ sent (sent_here home.site x.sends) old.asked;
             same = λ d. let stays = sealed-ops home past coordinator g x sent fresh a.asked old.e old.n old.asked effects d in old.same stays.0 ∙ ap granted (sym stays.1);
           };
     }

@@ -11,7 +11,7 @@ use Rattle.fed_rules.specs.declared.events.CoordEvent.TheVariants as Ev
 use Rattle.fed_rules.specs.declared.messages.FromSite.TheVariants as From
 use Rattle.fed_rules.specs.Coord.{did_counts, vote_counts}
 use Rattle.fed_rules.specs.CoordPast.{CoordHappening, CoordPast, Counted, begins, program_in, or_steps, program, counts, did_in, counted, vote_in, or_vote, vote_at, outstanding}
-use Rattle.federation_laws.proofs.CoordMade.{Counts}
+use Rattle.coord_laws.proofs.Made.{Counts}
 use Rattle.federation_laws.proofs.CoordOps.{Op, finished, op_at, op_in, ops}
 
 -- the program stays

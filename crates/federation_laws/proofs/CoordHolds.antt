@@ -28,11 +28,11 @@ use Rattle.fed_rules.specs.Disk.{Call, Append, Sync, CutBack, TrimFront, Stops}
 use Rattle.fed_rules.specs.Happenings.{quiet, stops, comes_up}
 use Rattle.federation_laws.specs.Accesses.{act_of, Follows}
 use Rattle.federation_laws.proofs.CoordEffects.{program-stays, CountsReply, Effect, Starts, Replies, Votes, Still, effect}
-use Rattle.federation_laws.proofs.CoordMade.{CommitsNobody, IsLastVote, Writes, is_refusal, Decides, Begins, IsMade}
+use Rattle.coord_laws.proofs.Made.{CommitsNobody, IsLastVote, is_refusal, Decides, Begins, IsMade}
 use Rattle.federation_laws.proofs.CoordOps.{Op, op_at, ops, accesses, Agree, agree-wait, agree-steps, agree-reads}
 use Rattle.federation_laws.proofs.CountedReplies.{is_dead, Works, Progress, Waiting, Working, Taking, progress, counts-fits}
 use Rattle.federation_laws.proofs.Dues.{left_at, ticket_of, steps_of, of_site, voting, IsWork, IsTake, due-is, Fitting, ToWork, ToTake, fitting}
-use Rattle.federation_laws.proofs.Standings.{undecided-from, AppendsCommit, commit-from}
+use Rattle.coord_laws.proofs.Standings.{last_vote_of, undecided_from, AppendsCommit, commit_from}
 
 -- whether the attempt was begun
 abbrev pub is_begun : CoordPast → Tid → Bool
@@ -144,21 +144,6 @@ starts-novote g x event site ticket b e v =
     let go = subst (Begins event) is b in
     let clash = sym go.1 ∙ v in cc
 
--- the vote that an appended Commit comes from
-pub last-vote-of : (protocols : List Participant) (past : CoordPast) (event : CoordEvent) (g : Tid) (calls : List (Call CoordRecord)) → Each (Writes protocols past event) calls → Among (AppendsCommit g) calls
-    → (tickets : List SiteTicket) × IsLastVote protocols past event g tickets
-last-vote-of protocols past event g [] w i = absurd i
-last-vote-of protocols past event g (Append (Rec.Commit tid tickets) ∷ calls) w (inl own) = (tickets, subst (λ t. IsLastVote protocols past event t tickets) own w.0)
-last-vote-of protocols past event g (Append (Rec.Initiation tid members) ∷ calls) w (inl own) = absurd own
-last-vote-of protocols past event g (Append (Rec.Abort tid members) ∷ calls) w (inl own) = absurd own
-last-vote-of protocols past event g (Append (Rec.End tid) ∷ calls) w (inl own) = absurd own
-last-vote-of protocols past event g (Append (Rec.Checkpoint sum) ∷ calls) w (inl own) = absurd own
-last-vote-of protocols past event g (Sync ∷ calls) w (inl own) = absurd own
-last-vote-of protocols past event g (CutBack ∷ calls) w (inl own) = absurd own
-last-vote-of protocols past event g (TrimFront ∷ calls) w (inl own) = absurd own
-last-vote-of protocols past event g (Stops cut ∷ calls) w (inl own) = absurd own
-last-vote-of protocols past event g (call ∷ calls) w (inr i) = last-vote-of protocols past event g calls w.1 i
-
 -- at the last vote everything is done
 last-finished : (protocols : List Participant) (past : CoordPast) (event : CoordEvent) (g : Tid) (tickets : List SiteTicket) → Holds past g → AreDeclared protocols (program past g) → IsLastVote protocols past event g tickets → Finished past g
 last-finished protocols past event g tickets h declared v =
@@ -221,14 +206,14 @@ pub fresh-begun : (past : CoordPast) (g : Tid) (x : CoordHappening) → IsFresh 
 fresh-begun past g x fresh known e = let no_one = fresh e in let clash = sym known ∙ no_one in cc
 
 committed-next : (protocols : List Participant) (past : CoordPast) (g : Tid) (event : CoordEvent) (x : CoordHappening) → IsMade protocols past event x → IsFresh past g x → AreDeclared protocols (program past g) → Holds past g → has_commit (records (x ∷ past)) g ≡ true → Finished (x ∷ past) g
-committed-next protocols past g event x made fresh declared h e = by_case (commit-from x.calls (disk past) g e)
+committed-next protocols past g event x made fresh declared h e = by_case (commit_from x.calls (disk past) g e)
   where
     by_case : (has_commit (records past) g ≡ true) ⊎ Among (AppendsCommit g) x.calls → Finished (x ∷ past) g
     by_case (inl old) =
         let f = h.committed old in
         finished-next past g x (fresh-begun past g x fresh f.known) (effect past g x event made.heard made.counted) f
     by_case (inr new) =
-        let (tickets, v) = last-vote-of protocols past event g x.calls made.writes new in
+        let (tickets, v) = last_vote_of protocols past event g x.calls made.writes new in
         finished-next past g x (λ b. starts-novote g x event v.site v.ticket made.begun b v.is_vote) (effect past g x event made.heard made.counted) (last-finished protocols past event g tickets h declared v)
 
 -- a step that counted is the next one of the program
@@ -280,7 +265,7 @@ going-next past g x h (Still q) d =
 
 -- who is undecided has had no refusal
 alive-next : (past : CoordPast) (g : Tid) (x : CoordHappening) → Begins x.event x.answer → Decides x.event x.answer → Holds past g → Effect past g x → is_open (x ∷ past) g ≡ true → is_dead (counted (x ∷ past) g) ≡ false
-alive-next past g x b d h effects u = by_case effects (undecided-from past g x b u)
+alive-next past g x b d h effects u = by_case effects (undecided_from past g x b u)
   where
     by_case : Effect past g x → (begins g x.answer ≡ true) ⊎ ((is_open past g ≡ true) × (is_about g x.event ≡ true → decides x.answer ≡ false) × ((stops x.answer || comes_up x.answer) ≡ false)) → is_dead (counted (x ∷ past) g) ≡ false
     by_case eff (inl e) = ap is_dead (cond-true (begins g x.answer) [] _ e)
@@ -323,7 +308,7 @@ over-next protocols past g event x made fresh h e = by_test (is_open (x ∷ past
   where
     begins-none : begins g x.answer ≡ true → (has_commit (records past) g ≡ true) ⊎ Among (AppendsCommit g) x.calls → ⊥
     begins-none b (inl old) = fresh-begun past g x fresh (h.committed old).known b
-    begins-none b (inr new) = let (tickets, v) = last-vote-of protocols past event g x.calls made.writes new in starts-novote g x event v.site v.ticket made.begun b v.is_vote
+    begins-none b (inr new) = let (tickets, v) = last_vote_of protocols past event g x.calls made.writes new in starts-novote g x event v.site v.ticket made.begun b v.is_vote
 
     nobody-else : (calls : List (Call CoordRecord)) → Each CommitsNobody calls → Among (AppendsCommit g) calls → ⊥
     nobody-else [] n i = i
@@ -344,7 +329,7 @@ over-next protocols past g event x made fresh h e = by_test (is_open (x ∷ past
     going : (has_commit (records past) g ≡ true) ⊎ Among (AppendsCommit g) x.calls → (is_open past g ≡ true) × (is_about g x.event ≡ true → decides x.answer ≡ false) × ((stops x.answer || comes_up x.answer) ≡ false) → ⊥
     going (inl old) k = let clash = sym k.0 ∙ h.over old in cc
     going (inr new) k =
-        let (tickets, v) = last-vote-of protocols past event g x.calls made.writes new in
+        let (tickets, v) = last_vote_of protocols past event g x.calls made.writes new in
         let about : is_about g x.event ≡ true = ap (is_about g) (made.heard ∙ v.is_vote) ∙ same_tid_self g in
         let up : stops x.answer ≡ false = first (stops x.answer) (comes_up x.answer) k.2 in
         nobody-else x.calls (made.commits_by (none (decides x.answer) (stops x.answer) (k.1 about) up)) new
@@ -354,9 +339,9 @@ over-next protocols past g event x made fresh h e = by_test (is_open (x ∷ past
         first false b e = refl
 
     by_test : (t : Bool) → is_open (x ∷ past) g ≡ t → is_open (x ∷ past) g ≡ false
-    by_test true u = absurd (elim (undecided-from past g x (subst (λ ev. Begins ev x.answer) (sym made.heard) made.begun) u) [
-      | inl b ↦ begins-none b (commit-from x.calls (disk past) g e)
-      | inr k ↦ going (commit-from x.calls (disk past) g e) k
+    by_test true u = absurd (elim (undecided_from past g x (subst (λ ev. Begins ev x.answer) (sym made.heard) made.begun) u) [
+      | inl b ↦ begins-none b (commit_from x.calls (disk past) g e)
+      | inr k ↦ going (commit_from x.calls (disk past) g e) k
     ])
     by_test false u = u
 

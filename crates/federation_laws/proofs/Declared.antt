@@ -15,7 +15,7 @@ use Rattle.fed_rules.specs.Orders.{is_committed, records_at, order_at, orders}
 use Rattle.fed_rules.specs.Scenarios.{home_in, home_of, items_of, protocols_in, protocols, sites}
 use Rattle.fed_rules.specs.SiteRecords.{Home, order_of}
 use Rattle.fed_rules.specs.Story.{Story}
-use Rattle.federation_laws.proofs.Told.{some-parts}
+use Rattle.order_laws.proofs.Alike.{some_parts}
 
 -- a declared site has the first rows of its number
 home-items : (lines : List SiteLine) (items : List ItemLine) (s : SiteId) (h : Home) → home_in lines items s ≡ Some h → h.items ≡ items_of items s
@@ -24,7 +24,7 @@ home-items (line ∷ lines) items s h e = by_test (same_site line.site s) e (hom
   where
     by_test : (t : Bool) → cond t (Some (record { site = line.site; engine = line.engine; protocol = line.protocol; items = items_of items s })) (home_in lines items s) ≡ Some h
         → (home_in lines items s ≡ Some h → h.items ≡ items_of items s) → h.items ≡ items_of items s
-    by_test true e k = (let p = some-parts e in sym (ap (λ (x : Home). x.items) p))
+    by_test true e k = (let p = some_parts e in sym (ap (λ (x : Home). x.items) p))
     by_test false e k = k e
 
 pub home_is-items : (scenario : Scenario) (s : SiteId) (h : Home) → home_of scenario s ≡ Some h → h.items ≡ items_of scenario.items s

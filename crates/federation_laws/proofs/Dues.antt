@@ -13,7 +13,7 @@ use Rattle.fed_rules.specs.declared.messages.Due.{Due}
 use Rattle.fed_rules.specs.declared.messages.Due.TheVariants as Due_is
 use Rattle.fed_rules.specs.Coord.{fits, fits_act, fits_take, is_due_vote}
 use Rattle.fed_rules.specs.CoordPast.{Counted, visits, is_wait, is_ticket, last_epoch, value_in, oldest_first}
-use Rattle.federation_laws.proofs.Told.{some-parts}
+use Rattle.order_laws.proofs.Alike.{some_parts}
 
 -- those of one site, how many of them are no waits, their epoch, and whether a ticket is among them
 abbrev pub of_site : List Counted → SiteId → List Counted
@@ -97,7 +97,7 @@ work-is program replies site due v l (Some step) i e = by_test (same_site step.s
     by_test : (t : Bool) → same_site step.site site ≡ t
         → cond t (Some (Due_is.Work site (epoch_of replies site) (count_of replies site) (plain_act (reads_of replies) step.act))) None ≡ Some due
         → IsDue program replies site due
-    by_test true q e = subst (IsDue program replies site) (some-parts e) (record {
+    by_test true q e = subst (IsDue program replies site) (some_parts e) (record {
       here = refl;
       known = refl;
       count = refl;
@@ -113,7 +113,7 @@ work-is program replies site due v l (Some step) i e = by_test (same_site step.s
 prepare-is : (program : List Step) (replies : List Counted) (vote : Option ℕ) (site : SiteId) (due : Due) → visits site program ≡ true → left_at program replies site ≡ false → ticket_of replies site ≡ true
     → cond (is_none vote) (Some (Due_is.Prepare site (epoch_of replies site) (count_of replies site))) None ≡ Some due → IsDue program replies site due
 prepare-is program replies None site due v l t e =
-    subst (IsDue program replies site) (some-parts e) (record { here = refl; known = refl; count = refl; visited = v; left = l; ticket = t })
+    subst (IsDue program replies site) (some_parts e) (record { here = refl; known = refl; count = refl; visited = v; left = l; ticket = t })
 prepare-is program replies (Some vote) site due v l t e = cc
 
 -- what is outstanding tells what was answered
@@ -128,7 +128,7 @@ due-is program replies vote site due e = by_tests (visits site program) (left_at
     by_tests true true t p q r e = work-is program replies site due p q (item_at program (steps_of replies)) refl e
     by_tests true false true p q r e = prepare-is program replies vote site due p q r e
     by_tests true false false p q r e =
-        subst (IsDue program replies site) (some-parts e) (record { here = refl; known = refl; count = refl; visited = p; left = q; ticket = r })
+        subst (IsDue program replies site) (some_parts e) (record { here = refl; known = refl; count = refl; visited = p; left = q; ticket = r })
     by_tests false l t p q r e = cc
 
 -- an operation whose reply counts: the step that was sent with a reply that it can have, or the taking of the ticket

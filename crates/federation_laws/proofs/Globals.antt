@@ -27,7 +27,8 @@ use Rattle.federation_laws.specs.Parts.{IsAgreed, IsByProgram}
 use Rattle.site_history.specs.Records.{IsPrepared}
 use Rattle.federation_laws.proofs.Agreement.{IsSaid, has_sealed}
 use Rattle.federation_laws.proofs.Asked.{IsOld, IsAskedVote}
-use Rattle.federation_laws.proofs.CommitOnce.{commit-node, votes-sent}
+use Rattle.federation_laws.proofs.CommitOnce.{votes-sent}
+use Rattle.coord_laws.proofs.OneEach.{commit_node}
 use Rattle.federation_laws.proofs.CoordHolds.{Finished}
 use Rattle.federation_laws.proofs.CoordOps.{ops, accesses, agree-steps, agree-reads, at-granted}
 use Rattle.federation_laws.proofs.Declared.{undeclared}
@@ -119,7 +120,7 @@ pub global-agreed : (scenario : Scenario) → IsScenario scenario → (commands 
     → visits home.site (program (coord_past (story_of scenario commands)) g) ≡ true → IsAgreed scenario (story_of scenario commands) home.site g
 global-agreed scenario good commands home g declared none commit visited =
     let story = story_of scenario commands in
-    let (node, kept, theirs) = commit-node (Coordinator.records (coord_past story)) g commit in
+    let (node, kept, theirs) = commit_node (Coordinator.records (coord_past story)) g commit in
     let voted = (votes-sent scenario good commands).nodes node kept home.site (subst (λ t. visits home.site (program (coord_past story) t) ≡ true) (sym theirs) visited) in
     let a = story-agrees scenario good commands home g declared none in
     let said = each_at (IsSaid home (past_of home.site story) g) (From.Vote g (Some voted.0)) (sent_from home.site story) a.said (subst (λ t. In (From.Vote t (Some voted.0)) (sent_from home.site story)) theirs voted.2) refl in

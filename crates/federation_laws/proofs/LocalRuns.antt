@@ -24,7 +24,7 @@ use Rattle.federation_laws.proofs.Agreement.{has_sealed}
 use Rattle.federation_laws.proofs.Globals.{follows-below}
 use Rattle.federation_laws.proofs.LocalMoves.{Idle, Opens, Grants, Closes, LocalMove, Rests, Gone, Opening, Granting, Closing}
 use Rattle.federation_laws.proofs.SiteMoves.{length-map}
-use Rattle.federation_laws.proofs.Told.{some-parts}
+use Rattle.order_laws.proofs.Alike.{some_parts}
 
 -- the accesses of a site
 abbrev pub tagged : SiteId → List Access → List SiteAccess
@@ -146,7 +146,7 @@ opens-holds home past t program event x o c h =
     record {
       unbegun = λ few. (let one = one-attempt past t.tx x o.begins in absurd (omega (arith, few, one, next)));
       running = λ run e.
-          let same : begun t o.number ≡ run = some-parts (sym o.now ∙ e) in
+          let same : begun t o.number ≡ run = some_parts (sym o.now ∙ e) in
           subst (Running (x ∷ past) t home.site program) same
           (record { unsealed = sealed-same past t x o.idle.unsealed ∙ fresh.unsealed; ticketless = refl; follows = tt; reads = reads-next past t x None o.idle.reads ∙ fresh.reads });
       settled = λ e. (let was = sealed-same past t x o.idle.unsealed ∙ fresh.unsealed in let clash = sym was ∙ e in cc);
@@ -158,7 +158,7 @@ grants-holds home past t program event x g c h =
     record {
       unbegun = λ few. (let more = more-attempts past t.tx x in let none = (h.unbegun (omega (arith, few, more))).none in let clash = sym none ∙ g.was in cc);
       running = λ run e.
-          let same : record g.run { acts = g.access ∷ g.run.acts } ≡ run = some-parts (sym g.now ∙ e) in
+          let same : record g.run { acts = g.access ∷ g.run.acts } ≡ run = some_parts (sym g.now ∙ e) in
           subst (Running (x ∷ past) t home.site program) same (record { unsealed = sealed-same past t x g.unsealed ∙ was.unsealed; ticketless = was.ticketless; follows = (step was, was.follows); reads = reads was });
       settled = λ e. (let old = sealed-same past t x g.unsealed ∙ was.unsealed in let clash = sym old ∙ e in cc);
     }

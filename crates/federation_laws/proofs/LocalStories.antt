@@ -32,7 +32,8 @@ use Rattle.federation_laws.proofs.Members.{IsLocal, record-from}
 use Rattle.federation_laws.proofs.ScenarioFacts.{local-at-home}
 use Rattle.federation_laws.proofs.SiteLocals.{local-by-commit}
 use Rattle.federation_laws.proofs.StoryGlobals.{StoryHolds, story-holds, coord-made, fresh-line, live_of_tx-is, same_tx_alike}
-use Rattle.federation_laws.proofs.Told.{some-parts, home_is-site, local_home-declared, SiteCause, IsSiteLine, IsLine, line_is, item-in}
+use Rattle.federation_laws.proofs.Told.{home_is-site, local_home-declared, SiteCause, IsSiteLine, IsLine, line_is, item-in}
+use Rattle.order_laws.proofs.Alike.{some_parts}
 use Rattle.std.proofs.lemmas.List.{append-nil}
 
 -- what was sent to a site was asked of begun attempts
@@ -87,7 +88,7 @@ local-cause scenario good story home t event here c =
       acts = λ act run e alive.
           let k = subst (SiteCause scenario story home) e c in
           let tx : t.tx ≡ k.tx = same_tx_alike t.tx k.tx (live_of_tx-is home (past_of home.site story) k.tx t k.found_live) in
-          let same : k.run ≡ run = some-parts (sym k.is_live ∙ alive) in
+          let same : k.run ≡ run = some_parts (sym k.is_live ∙ alive) in
           let place = subst (λ z. item_at (program_of scenario z) (done k.run) ≡ Some k.step) (sym tx) k.is_next in (
             k.step,
             subst (λ (r : Run). item_at (program_of scenario t.tx) (done r) ≡ Some k.step) same place,
@@ -97,7 +98,7 @@ local-cause scenario good story home t event here c =
       commits = λ run e alive.
           let k = subst (SiteCause scenario story home) e c in
           let tx : t.tx ≡ k.tx = same_tx_alike t.tx k.tx (live_of_tx-is home (past_of home.site story) k.tx t k.found_live) in
-          let same : k.run ≡ run = some-parts (sym k.is_live ∙ alive) in
+          let same : k.run ≡ run = some_parts (sym k.is_live ∙ alive) in
           subst (λ (r : Run). nat_lt (done r) (length (program_of scenario t.tx)) ≡ false) same
           (subst (λ z. nat_lt (done k.run) (length (program_of scenario z)) ≡ false) (sym tx) k.all);
     }
@@ -115,7 +116,7 @@ local-site-line : (scenario : Scenario) → IsScenario scenario → (commands : 
     → LocalHolds home (cond b (x ∷ past_of home.site (story_of scenario commands)) (past_of home.site (story_of scenario commands))) t (program_of scenario t.tx)
 local-site-line scenario good commands home t s x declared here line h true q =
     let own : line.home.site ≡ home.site = sym line.here ∙ same_site_alike s home.site q in
-    let same : line.home ≡ home = some-parts (sym line.declared ∙ (ap (home_of scenario) own ∙ declared)) in
+    let same : line.home ≡ home = some_parts (sym line.declared ∙ (ap (home_of scenario) own ∙ declared)) in
     local-here scenario good commands home t x line.event here
     (subst (λ (z : Home). x ≡ site_line z (past_of z.site (story_of scenario commands)) line.event) same line.is_next)
     (subst (λ z. SiteCause scenario (story_of scenario commands) z line.event) same line.cause) h
@@ -150,7 +151,7 @@ record-site-line : (scenario : Scenario) (story : Story) (home : Home) (s : Site
     → IsLocal (records home (cond b (x ∷ past_of home.site story) (past_of home.site story))) t → local_home scenario t.tx ≡ Some home
 record-site-line scenario story home s x t declared line old true q l =
     let own : line.home.site ≡ home.site = sym line.here ∙ same_site_alike s home.site q in
-    let same : line.home ≡ home = some-parts (sym line.declared ∙ (ap (home_of scenario) own ∙ declared)) in
+    let same : line.home ≡ home = some_parts (sym line.declared ∙ (ap (home_of scenario) own ∙ declared)) in
     record-here scenario story home x line.event t
     (subst (λ (z : Home). x ≡ site_line z (past_of z.site story) line.event) same line.is_next)
     (subst (λ z. SiteCause scenario story z line.event) same line.cause) l old

@@ -27,7 +27,8 @@ use Rattle.federation_laws.proofs.LocalRuns.{tagged, tagged-here, tagged-elsewhe
 use Rattle.federation_laws.proofs.LocalStories.{local-site-of, local-story, local-record}
 use Rattle.federation_laws.proofs.Members.{IsLocal, IsMember, AsLocal, AsGlobal, member-of, prepared-sealed, local-sealed}
 use Rattle.federation_laws.proofs.StoryGlobals.{story-holds}
-use Rattle.federation_laws.proofs.Told.{some-parts, home_is-site, home-again}
+use Rattle.federation_laws.proofs.Told.{home_is-site, home-again}
+use Rattle.order_laws.proofs.Alike.{some_parts}
 
 -- a member of a declared site: a local one at its home, or a global one that is prepared there and commits
 pub record LocalMember (scenario : Scenario) (commands : List Command) (home : Home) (tid : Tid) : Type 0 where
@@ -91,7 +92,7 @@ local-program scenario good commands home tid declared i m =
             ∙ ap (λ h. acts_at h (past_of site (story_of scenario commands)) tid) same))
 
         of_kind : Kind scenario commands there tid → at site (tagged home.site (acts_at home (past_of home.site (story_of scenario commands)) tid)) ≡ acts_at there (past_of site (story_of scenario commands)) tid
-        of_kind (AtHome other) = same-home (some-parts (sym m.here ∙ other.here))
+        of_kind (AtHome other) = same-home (some_parts (sym m.here ∙ other.here))
         of_kind (Roaming other) = (let none = ap (home_at scenario) other.roams in let clash = sym none ∙ m.here in cc)
 
     elsewhere : (site : SiteId) → is_in same_tid (order_at scenario (story_of scenario commands) site) tid ≡ false → (b : Bool) → same_site home.site site ≡ b → at site (tagged home.site (acts_at home (past_of home.site (story_of scenario commands)) tid)) ≡ []
@@ -120,7 +121,7 @@ commits-agree scenario good commands = record { at_home = at_home; global = glob
     at_home site home tid i e = let (there, declared) = member-declared scenario (story_of scenario commands) site tid i in of_kind there declared (kind-of scenario good commands site there tid declared i)
       where
         of_kind : (there : Home) → home_of scenario site ≡ Some there → Kind scenario commands there tid → home ≡ site
-        of_kind there declared (AtHome m) = some-parts (sym e ∙ local-site-of scenario tid.tx there m.here) ∙ home_is-site scenario site there declared
+        of_kind there declared (AtHome m) = some_parts (sym e ∙ local-site-of scenario tid.tx there m.here) ∙ home_is-site scenario site there declared
         of_kind there declared (Roaming m) = (let none = m.roams in let clash = sym none ∙ e in cc)
 
     global : (site : SiteId) (tid : Tid) → In tid (order_at scenario (story_of scenario commands) site) → local_site scenario tid.tx ≡ None → IsAgreed scenario (story_of scenario commands) site tid

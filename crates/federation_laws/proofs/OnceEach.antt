@@ -14,13 +14,14 @@ use Rattle.federation_laws.proofs.Members.{IsLocal}
 use Rattle.federation_laws.proofs.Memberships.{Kind, AtHome, Roaming, kind-of}
 use Rattle.federation_laws.proofs.OnceGlobal.{global-once}
 use Rattle.federation_laws.proofs.OnceLocal.{local-once}
-use Rattle.federation_laws.proofs.Told.{some-parts, local_home-declared}
+use Rattle.federation_laws.proofs.Told.{local_home-declared}
+use Rattle.order_laws.proofs.Alike.{some_parts}
 use Rattle.fed_rules.specs.SitePast.{records}
 
 -- two members of one transaction are one attempt: both local, at one home, or both global
 once-kinds : StoriesHaveRightLines → (scenario : Scenario) → IsScenario scenario → (commands : List Command) (here there : Home) (a b : Tid) → a.tx ≡ b.tx → Kind scenario commands here a → Kind scenario commands there b → a ≡ b
 once-kinds right scenario good commands here there a b s (AtHome p) (AtHome q) =
-    let one : there ≡ here = some-parts (sym q.here ∙ (ap (local_home scenario) (sym s) ∙ p.here)) in
+    let one : there ≡ here = some_parts (sym q.here ∙ (ap (local_home scenario) (sym s) ∙ p.here)) in
     local-once right scenario good commands here (local_home-declared scenario a.tx here p.here) a b p.here s (inr p.record_kept)
     (inr (subst (λ (h : Home). IsLocal (records h (past_of h.site (story_of scenario commands))) b) one q.record_kept))
 once-kinds right scenario good commands here there a b s (AtHome p) (Roaming q) =

@@ -17,9 +17,9 @@ use Rattle.fed_rules.specs.CoordPast.{CoordHappening, CoordPast, disk, records, 
 use Rattle.fed_rules.specs.CoordRecords.{has_commit, committed_of}
 use Rattle.fed_rules.specs.Scenarios.{protocols}
 use Rattle.fed_rules.specs.Story.{Story, Happened, AtSite, AtCoordinator, Nowhere, coord_past, with_coordinator, story_of}
-use Rattle.federation_laws.proofs.CoordHolds.{is_begun, begun-next, begun-stays, begins-answer, last-vote-of}
-use Rattle.federation_laws.proofs.CoordMade.{IsFirst, IsMade, Begins}
-use Rattle.federation_laws.proofs.Standings.{undecided-from, commit-from}
+use Rattle.federation_laws.proofs.CoordHolds.{is_begun, begun-next, begun-stays, begins-answer}
+use Rattle.coord_laws.proofs.Standings.{last_vote_of, undecided_from, commit_from}
+use Rattle.coord_laws.proofs.Made.{IsFirst, IsMade, Begins}
 use Rattle.federation_laws.proofs.StoryGlobals.{coord-made}
 use Rattle.federation_laws.proofs.Told.{IsLine, line_is}
 use Rattle.std.proofs.lemmas.Bool.{and_parts, or_left}
@@ -38,10 +38,10 @@ made-begins members past event x made = subst (λ ev. Begins ev x.answer) (sym m
 
 -- who is active after a line was so, or begins
 active-from : (members : List Participant) (past : CoordPast) (event : CoordEvent) (x : CoordHappening) → IsMade members past event x → (g : Tid) → IsActive (x ∷ past) g → IsActive past g ⊎ (begins g x.answer ≡ true)
-active-from members past event x made g (inl u) = elim (undecided-from past g x (made-begins members past event x made) u) [ inl b ↦ inr b | inr k ↦ inl (inl k.0) ]
-active-from members past event x made g (inr c) = elim (commit-from x.calls (disk past) g c) [
+active-from members past event x made g (inl u) = elim (undecided_from past g x (made-begins members past event x made) u) [ inl b ↦ inr b | inr k ↦ inl (inl k.0) ]
+active-from members past event x made g (inr c) = elim (commit_from x.calls (disk past) g c) [
   | inl old ↦ inl (inr old)
-  | inr new ↦ let v = last-vote-of members past event g x.calls made.writes new in inl (inl (and_parts _ _ v.1.is_counted).0)
+  | inr new ↦ let v = last_vote_of members past event g x.calls made.writes new in inl (inl (and_parts _ _ v.1.is_counted).0)
 ]
 
 pub same_tx-true : (a b : Tx) → a ≡ b → same_tx a b ≡ true
@@ -85,7 +85,7 @@ once-next : (members : List Participant) (past : CoordPast) (event : CoordEvent)
 once-next members past event x made h =
     record {
       once = λ a b s p q. either a b s (active-from members past event x made a p) (active-from members past event x made b q);
-      begun = λ g u. elim (undecided-from past g x (made-begins members past event x made) u) [
+      begun = λ g u. elim (undecided_from past g x (made-begins members past event x made) u) [
         | inl b ↦ begun-next past g x ∙ or_left (begins g x.answer) (is_begun past g) b
         | inr k ↦ begun-stays past g x (h.begun g k.0)
       ];

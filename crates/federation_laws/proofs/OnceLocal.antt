@@ -32,7 +32,8 @@ use Rattle.federation_laws.proofs.LocalStories.{not-asked}
 use Rattle.federation_laws.proofs.Members.{IsLocal, record-from, sealing-call}
 use Rattle.federation_laws.proofs.OnceGlobal.{same_tx-true}
 use Rattle.federation_laws.proofs.SiteMoves.{live-run}
-use Rattle.federation_laws.proofs.Told.{some-parts, SiteCause, IsSiteLine, IsLine, line_is}
+use Rattle.federation_laws.proofs.Told.{SiteCause, IsSiteLine, IsLine, line_is}
+use Rattle.order_laws.proofs.Alike.{some_parts}
 
 -- a run of the attempt is live, or a Local record of it is kept
 abbrev pub IsActive : Home → SitePast → Tid → Type 0
@@ -138,7 +139,7 @@ once-site-line : (scenario : Scenario) → IsScenario scenario → (commands : L
     → IsSiteLine scenario (story_of scenario commands) s x → LocalOnce scenario home (past_of home.site (story_of scenario commands)) → (b : Bool) → same_site s home.site ≡ b → LocalOnce scenario home (cond b (x ∷ past_of home.site (story_of scenario commands)) (past_of home.site (story_of scenario commands)))
 once-site-line scenario good commands home s x declared right line h true q =
     let own : line.home.site ≡ home.site = sym line.here ∙ same_site_alike s home.site q in
-    let same : line.home ≡ home = some-parts (sym line.declared ∙ (ap (home_of scenario) own ∙ declared)) in
+    let same : line.home ≡ home = some_parts (sym line.declared ∙ (ap (home_of scenario) own ∙ declared)) in
     once-here scenario good commands home x line.event right
     (subst (λ (z : Home). x ≡ site_line z (past_of z.site (story_of scenario commands)) line.event) same line.is_next)
     (subst (λ z. SiteCause scenario (story_of scenario commands) z line.event) same line.cause) h

@@ -23,10 +23,10 @@ use Rattle.fed_rules.specs.Scenarios.{policy, protocols}
 use Rattle.fed_rules.specs.Story.{Happened, AtSite, AtCoordinator, Nowhere, coord_past, with_coordinator, story_of}
 use Rattle.federation_laws.proofs.CoordEffects.{program-stays}
 use Rattle.federation_laws.proofs.CoordHolds.{is_begun, begun-stays, fresh-begun, IsFresh}
-use Rattle.federation_laws.proofs.CoordMade.{Begins, IsMade}
+use Rattle.coord_laws.proofs.Made.{Begins, IsMade}
 use Rattle.federation_laws.proofs.OnceGlobal.{OnceHolds, global-once}
 use Rattle.federation_laws.proofs.Phases.{IsChecked, MayBeSent, MayTake, coord_checked}
-use Rattle.federation_laws.proofs.Standings.{undecided-from}
+use Rattle.coord_laws.proofs.Standings.{undecided_from}
 use Rattle.federation_laws.proofs.StoryGlobals.{coord-made, fresh-line, story-holds}
 use Rattle.federation_laws.proofs.Told.{IsLine, line_is}
 
@@ -113,7 +113,7 @@ module _ (protocols : List Participant) (past : CoordPast) (event : CoordEvent) 
         none,
         elim (or_cases (some_of (is_take_of g) x.sends) (has_sent (is_take_of g) past) sent) [
           | inl now ↦ inr (take_sent protocols conservatively past event g x.sends checked.takes now)
-          | inr before ↦ elim (undecided-from past g x (subst (λ ev. Begins ev x.answer) (sym made.heard) made.begun) opened) [
+          | inr before ↦ elim (undecided_from past g x (subst (λ ev. Begins ev x.answer) (sym made.heard) made.begun) opened) [
             | inl does ↦ absurd (let clash = sym does ∙ none in cc)
             | inr was ↦ inl (and_both (is_open past g) (has_sent (is_take_of g) past) was.0 before)
           ]

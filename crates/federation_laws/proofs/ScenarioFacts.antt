@@ -18,14 +18,14 @@ use Rattle.fed_rules.specs.CoordPast.{visits}
 use Rattle.fed_rules.specs.Plans.{IsScenario, is_declared, is_in_place, is_transaction, is_between}
 use Rattle.fed_rules.specs.Scenarios.{protocols_in, protocols, transaction, program_of_line, program_of, home_of_line, local_site, global_line, global_program}
 use Rattle.federation_laws.proofs.Declared.{put-in, put-kept}
-use Rattle.federation_laws.proofs.Told.{some-parts}
+use Rattle.order_laws.proofs.Alike.{some_parts}
 
 global-is : (o : Option TxLine) (steps : List Step) → map_some (λ line. line.program) (global_line o) ≡ Some steps → (program_of_line o ≡ steps) × (home_of_line o ≡ None)
 global-is None steps e = cc
 global-is (Some line) steps e = by_home line.home e
   where
     by_home : (home : Option SiteId) → map_some (λ (l : TxLine). l.program) (global_line (Some (record line { home = home }))) ≡ Some steps → (line.program ≡ steps) × (home ≡ None)
-    by_home None e = (some-parts e, refl)
+    by_home None e = (some_parts e, refl)
     by_home (Some site) e = cc
 
 -- the program of a global transaction is that of its line, which has no home

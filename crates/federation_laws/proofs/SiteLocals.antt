@@ -17,7 +17,7 @@ use Rattle.fed_rules.specs.SitePast.{SiteHappening, SitePast, disk, epoch, trip}
 use Rattle.fed_rules.specs.SiteRecords.{Home, site_frame}
 use Rattle.commit_laws.proofs.SiteEnds.{by-answered}
 use Rattle.federation_laws.proofs.SiteAbout.{SealsOnly, LocalAt, IsAbout, begin_about, act_about, commit_about, abort_about, work_about, take_about, prepare_about, decide_about, ask_about, drop_about, fate_about}
-use Rattle.federation_laws.proofs.Lists.{each-cut}
+use Rattle.order_laws.proofs.Joined.{each_cut}
 
 -- a Local record that the call appends is of the attempt that commits
 abbrev pub IsOwnLocal : SiteEvent → Call SiteRecord → Type 0
@@ -126,7 +126,7 @@ tripped-own : (home : Home) (past : SitePast) (event : SiteEvent) (t : Option Tr
 unfolding tripped stopped
 tripped-own home past event None x k = k
 tripped-own home past event (Some t) x k =
-    keeps-when event _ _ _ (λ c. record { calls = each-cut (IsOwnLocal event) t.calls x.calls (Stops t.cut) k.calls tt }) (λ c. k)
+    keeps-when event _ _ _ (λ c. record { calls = each_cut (IsOwnLocal event) t.calls x.calls (Stops t.cut) k.calls tt }) (λ c. k)
 
 unless-down : (home : Home) (past : SitePast) (event : SiteEvent) (any : Tid) → Keeps event (when (is_down past) (quiet event Say.Down) (tripped site_frame (disk home past) (trip past) (answered home past event)))
 unless-down home past event any =

@@ -1,5 +1,5 @@
 -- In every story the coordinator holds each attempt to its program, and agrees with each site on a global one.
-use Rattle.std.proofs.Common.{◌≡◌, ◌⊎◌, ℕ, suc, ◌≤◌, ◌<◌, ◌==◌, Bool, true, false, cond, not, ◌&&◌, Option, Some, None, List, [], ◌∷◌, ◌++◌, inl, inr, refl, sym, ap, subst, ◌∙◌, eqb-true, arith}
+use Rattle.std.proofs.Common.{◌≡◌, ◌⊎◌, ℕ, ◌<◌, Bool, true, false, cond, not, ◌&&◌, Option, Some, None, List, [], ◌∷◌, ◌++◌, inl, inr, refl, sym, ap, subst, ◌∙◌, eqb-true, arith}
 use Rattle.std.proofs.lemmas.Bool.{and_parts}
 use Rattle.mdb_base.specs.declared.acts.Step.{Step}
 use Rattle.mdb_base.specs.declared.names.SiteId.{SiteId}
@@ -7,12 +7,10 @@ use Rattle.mdb_base.specs.declared.names.Tid.{Tid}
 use Rattle.mdb_base.specs.declared.names.Tx.{Tx}
 use Rattle.mdb_base.specs.declared.replies.Reply.{Reply}
 use Rattle.mdb_base.specs.Names.{same_site, same_tid, same_tx}
-use Rattle.mdb_base.specs.Words.{Among, how_many, with_some, map_some, first_where}
+use Rattle.mdb_base.specs.Words.{Among, map_some, first_where}
 use Rattle.order_laws.specs.Chains.{In}
 use Rattle.order_laws.proofs.Lists.{first_where_some}
 use Rattle.order_laws.proofs.Names.{same_site_alike, same_tid_alike, same_tid_self}
-use Rattle.fed_rules.specs.declared.answers.Answer.{Answer}
-use Rattle.fed_rules.specs.declared.answers.Answer.TheVariants as Say
 use Rattle.fed_rules.specs.declared.commands.Command.{Command}
 use Rattle.fed_rules.specs.declared.events.CoordEvent.TheVariants as To_coord
 use Rattle.fed_rules.specs.declared.events.SiteEvent.{SiteEvent}
@@ -30,21 +28,22 @@ use Rattle.fed_rules.specs.SitePast.{SiteHappening, SitePast, set_up_calls, epoc
 use Rattle.fed_rules.specs.SiteRecords.{Home, site_frame}
 use Rattle.fed_rules.specs.Story.{Story, Happened, AtSite, AtCoordinator, Nowhere, past_of, with_site, coord_past, sent_to, sends_to, sent_from, sends_from, story_of}
 use Rattle.commit_laws.specs.Records.{IsLooseEnded}
-use Rattle.commit_laws.proofs.Disks.{firm-quiet}
+use Rattle.rules_laws.proofs.Disks.{firm_quiet}
 use Rattle.commit_laws.proofs.SiteLines.{Line, site-lines}
 use Rattle.federation_laws.proofs.Agreement.{Agrees, agrees-site}
 use Rattle.federation_laws.proofs.CoordAgreement.{agrees-coord}
 use Rattle.federation_laws.proofs.CoordEffects.{program-stays, effect}
 use Rattle.federation_laws.proofs.CoordHolds.{is_begun, Holds, holds-first, holds-next, IsFresh, AreDeclared, begun-next, begins-answer}
-use Rattle.federation_laws.proofs.CoordLines.{coord_made}
-use Rattle.federation_laws.proofs.CoordMade.{Begins, IsMade}
+use Rattle.coord_laws.proofs.Begun.{more_attempts, begun_number}
+use Rattle.coord_laws.proofs.MadeLines.{coord_made}
+use Rattle.coord_laws.proofs.Made.{Begins, IsMade}
 use Rattle.federation_laws.proofs.ScenarioFacts.{global_program-is, global-declared}
 use Rattle.federation_laws.proofs.SiteLines.{IsForeign, site_moves}
 use Rattle.federation_laws.proofs.SiteMoves.{Moves}
 use Rattle.federation_laws.proofs.SiteRuns.{RunsHold}
-use Rattle.federation_laws.proofs.Told.{some-parts, CoordCause, SiteCause, IsCoordLine, IsSiteLine, IsLine, line_is}
+use Rattle.federation_laws.proofs.Told.{CoordCause, SiteCause, IsCoordLine, IsSiteLine, IsLine, line_is}
+use Rattle.order_laws.proofs.Alike.{some_parts, first_or_second}
 use Rattle.std.proofs.lemmas.List.{append-nil}
-use Rattle.federation_laws.proofs.Lists.{or-cases}
 
 -- what holds of an attempt at the coordinator of a story
 pub record StoryHolds (scenario : Scenario) (story : Story) (g : Tid) : Type 0 where
@@ -53,21 +52,6 @@ pub record StoryHolds (scenario : Scenario) (story : Story) (g : Tid) : Type 0 w
   pub programmed : is_begun (coord_past story) g ≡ true → (program (coord_past story) g ≡ program_of scenario g.tx) × (local_site scenario g.tx ≡ None)
 
 -- how many attempts there are after a line
-more-attempts : (answer : Answer) (tids : List Tid) (tx : Tx) → how_many (λ tid. same_tx tid.tx tx) tids ≤ how_many (λ tid. same_tx tid.tx tx) (with_some (begun_by answer) tids)
-more-attempts (Say.Begun tid) tids tx = by_test (same_tx tid.tx tx)
-  where
-    by_test : (t : Bool) → how_many (λ tid. same_tx tid.tx tx) tids ≤ cond t (suc (how_many (λ tid. same_tx tid.tx tx) tids)) (how_many (λ tid. same_tx tid.tx tx) tids)
-    by_test true = omega arith
-    by_test false = omega arith
-more-attempts answer tids tx = omega arith
-
-one-attempt : (g : Tid) (answer : Answer) (tids : List Tid) → begins g answer ≡ true → how_many (λ tid. same_tx tid.tx g.tx) (with_some (begun_by answer) tids) ≡ suc (how_many (λ tid. same_tx tid.tx g.tx) tids)
-one-attempt g (Say.Begun tid) tids e =
-    let own = same_tid_alike tid g e in
-    let same : same_tx tid.tx g.tx ≡ true = subst (λ t. same_tx tid.tx t.tx ≡ true) own (and_parts (same_tx tid.tx tid.tx) (tid.attempt == tid.attempt) (same_tid_self tid)).0 in
-    ap (λ t. cond t (suc (how_many (λ tid. same_tx tid.tx g.tx) tids)) (how_many (λ tid. same_tx tid.tx g.tx) tids)) same
-one-attempt g answer tids e = cc
-
 -- an attempt that begins is the next one of its transaction
 record Beginning (scenario : Scenario) (story : Story) (g : Tid) (x : CoordHappening) : Type 0 where
   steps : List Step
@@ -108,8 +92,8 @@ coord-holds : (scenario : Scenario) → IsScenario scenario → (story : Story) 
     × (is_begun (x ∷ coord_past story) g ≡ true → (program (x ∷ coord_past story) g ≡ program_of scenario g.tx) × (local_site scenario g.tx ≡ None))
 coord-holds scenario good story g x line h = (
   holds-next (protocols scenario) (coord_past story) g line.event x made (fresh-line scenario story g x line made h) (declared-program scenario good story g h) h.holds,
-  λ k. numbered (or-cases (begins g x.answer) (is_begun (coord_past story) g) (sym (begun-next (coord_past story) g x) ∙ k)),
-  λ k. programmed (or-cases (begins g x.answer) (is_begun (coord_past story) g) (sym (begun-next (coord_past story) g x) ∙ k)),
+  λ k. numbered (first_or_second (begins g x.answer) (is_begun (coord_past story) g) (sym (begun-next (coord_past story) g x) ∙ k)),
+  λ k. programmed (first_or_second (begins g x.answer) (is_begun (coord_past story) g) (sym (begun-next (coord_past story) g x) ∙ k)),
 )
   where
     made : IsMade (protocols scenario) (coord_past story) line.event x
@@ -118,10 +102,10 @@ coord-holds scenario good story g x line h = (
     numbered : (begins g x.answer ≡ true) ⊎ ((begins g x.answer ≡ false) × (is_begun (coord_past story) g ≡ true)) → g.attempt < attempts_of (x ∷ coord_past story) g.tx
     numbered (inl e) =
         let next = (beginning scenario story g x line made e).next in
-        let one = one-attempt g x.answer (begun_tids (coord_past story)) e in omega (arith, next, one)
+        let one = begun_number g x.answer (begun_tids (coord_past story)) e in omega (arith, next, one)
     numbered (inr e) =
         let below = h.numbered e.1 in
-        let more = more-attempts x.answer (begun_tids (coord_past story)) g.tx in omega (arith, below, more)
+        let more = more_attempts g.tx (begun_by x.answer) (begun_tids (coord_past story)) in omega (arith, below, more)
 
     programmed : (begins g x.answer ≡ true) ⊎ ((begins g x.answer ≡ false) × (is_begun (coord_past story) g ≡ true)) → (program (x ∷ coord_past story) g ≡ program_of scenario g.tx) × (local_site scenario g.tx ≡ None)
     programmed (inl e) =
@@ -149,7 +133,7 @@ AgreesIn story home g = Agrees home (past_of home.site story) (coord_past story)
 first-runs : (home : Home) (g : Tid) → RunsHold home [] g
 first-runs home g =
     record {
-      firm = firm-quiet site_frame (IsLooseEnded home.protocol) empty_disk (set_up_calls home) (inr tt) (record { sound = record { frames = omega arith; synced = omega arith }; loose = tt });
+      firm = firm_quiet site_frame (IsLooseEnded home.protocol) empty_disk (set_up_calls home) (inr tt) (record { sound = record { frames = omega arith; synced = omega arith }; loose = tt });
       some = omega arith;
       zeroth = refl;
       future = λ e less. refl;
@@ -169,7 +153,7 @@ live_of_tx-is home past tx tid e = of_first (first_where (λ run. same_tx run.ti
     of_first None q e = cc
     of_first (Some run) q e =
         let test = (first_where_some (λ (run : Run). same_tx run.tid.tx tx && not (is_sealed run)) (unended (epoch_start home past) (engine_lines past)) run q).1 in
-        let is : run.tid ≡ tid = some-parts e in
+        let is : run.tid ≡ tid = some_parts e in
         subst (λ (t : Tid). same_tx t.tx tx ≡ true) is (and_parts (same_tx run.tid.tx tx) (not (is_sealed run)) test).0
 
 pub same_tx_alike : (a b : Tx) → same_tx a b ≡ true → a ≡ b
@@ -214,7 +198,7 @@ agrees-site-line : (scenario : Scenario) (story : Story) (home : Home) (g : Tid)
     → Agrees home (cond t (x ∷ past_of home.site story) (past_of home.site story)) (coord_past story) (sent_to home.site story) (sent_from home.site story ++ cond t x.sends []) g
 agrees-site-line scenario story home g s x declared none h line a true q =
     let own : line.home.site ≡ home.site = sym line.here ∙ same_site_alike s home.site q in
-    let same : line.home ≡ home = some-parts (sym line.declared ∙ (ap (home_of scenario) own ∙ declared)) in
+    let same : line.home ≡ home = some_parts (sym line.declared ∙ (ap (home_of scenario) own ∙ declared)) in
     agrees-here scenario story home g x line.event none h
     (subst (λ (z : Home). x ≡ site_line z (past_of z.site story) line.event) same line.is_next)
     (subst (λ z. SiteCause scenario story z line.event) same line.cause) a

@@ -1,4 +1,4 @@
-use Rattle.std.proofs.Common.{◌≡◌, ◌⊎◌, Bool, true, false, cond, Option, Some, None, List, [], ◌∷◌, ◌++◌, inl, inr, refl, subst}
+use Rattle.std.proofs.Common.{◌≡◌, Bool, true, false, cond, Option, Some, None, List, [], ◌∷◌, ◌++◌, inl, inr, refl, subst}
 use Rattle.order_laws.specs.Chains.{In}
 use Rattle.order_laws.specs.Orders.{Ranks}
 use Rattle.order_laws.specs.Least.{earlier, earliest}

@@ -2,12 +2,12 @@ use Rattle.std.proofs.Common.{suc, ◌<◌, ◌≤◌, ◌≡◌, Bool, true, fa
 use Rattle.mdb_base.specs.Words.{Each, Among, those}
 use Rattle.order_laws.specs.Chains.{In, Acyclic, Path}
 use Rattle.order_laws.specs.Orders.{Before, Union, is_in, TellsApart, Ranks}
-use Rattle.order_laws.specs.Least.{without, IsFree, IsLeastMerge, rest, heads, all_items, earlier, earliest, is_free, next_item, merged, least_merge}
+use Rattle.order_laws.specs.Least.{without, IsFree, IsLeastMerge, rest, heads, all_items, is_free, next_item, merged, least_merge}
 use Rattle.order_laws.proofs.Chains.{acyclic_map}
 use Rattle.order_laws.proofs.Lists.{among_is, is_among, not_true, not_false, bool_is, is_in_true, is_in_false, not_in_false, those_in, in_those, each_of_at, each_of_true, each_of_false}
 use Rattle.order_laws.proofs.Orders.{union_those, before_rest}
 use Rattle.order_laws.proofs.Source.{some_source, path_one}
-use Rattle.order_laws.proofs.Earliest.{IsEarliest, earliest_none, earliest_is}
+use Rattle.order_laws.proofs.Earliest.{earliest_none, earliest_is}
 use Rattle.order_laws.proofs.Least.{not_self}
 
 -- the first item of an order is a first item of the orders

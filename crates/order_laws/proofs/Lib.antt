@@ -1,14 +1,16 @@
+mod Examples
+pub mod Alike
 pub mod Chains
-pub mod Search
-pub mod Lists
-pub mod Orders
-pub mod Sites
-pub mod Source
 pub mod Earliest
+pub mod Joined
 pub mod Least
 pub mod LeastFound
+pub mod Lists
 pub mod Merge
-pub mod Placed
 pub mod Names
+pub mod Orders
+pub mod Placed
+pub mod Search
+pub mod Sites
+pub mod Source
 pub mod Tickets
-mod Examples

@@ -1,4 +1,5 @@
 pub mod Declared
+pub mod Disks
 pub mod Durable
 pub mod EachAttempt
 pub mod Heard

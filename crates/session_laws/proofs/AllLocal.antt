@@ -15,7 +15,7 @@ use Rattle.fed_rules.specs.Plans.{IsScenario}
 use Rattle.fed_rules.specs.Scenarios.{global_line, global_program, transaction}
 use Rattle.fed_rules.specs.Story.{Story, Happened, AtSite, AtCoordinator, Nowhere, story_of, coord_past, with_coordinator, happens}
 use Rattle.federation_laws.proofs.CoordHolds.{is_begun, begun-next, begins-answer}
-use Rattle.federation_laws.proofs.CoordMade.{Begins}
+use Rattle.coord_laws.proofs.Made.{Begins}
 use Rattle.federation_laws.proofs.StoryGlobals.{coord-made, story-holds}
 use Rattle.federation_laws.proofs.Told.{CoordCause, IsCoordLine, IsLine, line_is}
 use Rattle.site_laws.specs.Sessions.{IsAlone}

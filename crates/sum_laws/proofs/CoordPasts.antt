@@ -11,9 +11,9 @@ use Rattle.fed_rules.specs.CoordRecords.{coord_frame}
 use Rattle.fed_rules.specs.CoordSums.{coord_sum, coord_journal_sum}
 use Rattle.fed_rules.specs.Policies.{Policy}
 use Rattle.rules_laws.specs.Durable.{IsFirm}
-use Rattle.commit_laws.specs.Records.{IsEnd}
-use Rattle.commit_laws.proofs.CoordFacts.{WroteAll}
-use Rattle.commit_laws.proofs.CoordLines.{Kept, coord-lines}
+use Rattle.coord_laws.specs.Records.{IsEnd}
+use Rattle.coord_laws.proofs.Facts.{WroteAll}
+use Rattle.coord_laws.proofs.Lines.{Kept, coord_lines}
 use Rattle.sum_laws.specs.Sums.{AreCoordSums, OfCoordinators}
 use Rattle.sum_laws.proofs.CoordJournals.{journal_says}
 
@@ -57,7 +57,7 @@ coord_summed protocols policy g [] =
     record { firm = record { sound = record { frames = omega arith; synced = omega arith }; loose = tt }; sums = tt }
 coord_summed protocols policy g (event ∷ events) =
     let s = coord_summed protocols policy g events in
-    let l = coord-lines protocols policy g (coord_past protocols policy events) event s.firm in
+    let l = coord_lines protocols policy g (coord_past protocols policy events) event s.firm in
     record { firm = l.firm; sums = kept_sums protocols g (coord_past protocols policy events) event _ l.kept s.sums }
 
 some_attempt : Tid

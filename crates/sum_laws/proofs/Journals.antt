@@ -11,7 +11,7 @@ use Rattle.fed_rules.specs.Disk.{Append, Call, CutBack, TrimFront, Stops, Sync, 
 use Rattle.fed_rules.specs.SiteRecords.{Home, prepared_tids, site_frame}
 use Rattle.fed_rules.specs.SiteSums.{behind_sum, journal_sum, last_sum, site_sum, sum_behind, sum_with}
 use Rattle.rules_laws.specs.Durable.{IsSound}
-use Rattle.rules_laws.proofs.Durable.{sound-call, whole-all, whole-front}
+use Rattle.rules_laws.proofs.Durable.{sound_call, whole_all, whole_front}
 use Rattle.site_history.specs.Records.{BindOnce}
 use Rattle.site_history.proofs.Records.{prepared_once}
 use Rattle.sum_laws.specs.Sums.{AreSums, ComeInOrder, PreparesNoneAgain}
@@ -68,7 +68,7 @@ more newest rs synced trimmed (inr t) =
 -- within a place behind the Checkpoint it stays whole
 whole_trimmed : (place : ℕ) (newer older : List SiteRecord) → bytes_of site_frame older ≤ place
     → (kept : List SiteRecord) × (whole site_frame place (newer ++ older) ≡ kept ++ older)
-whole_trimmed place [] older le = ([], whole-all site_frame place older le)
+whole_trimmed place [] older le = ([], whole_all site_frame place older le)
 whole_trimmed place (x ∷ newer) older le = by_test (nat_le (bytes_of site_frame (x ∷ (newer ++ older))) place) (whole_trimmed place newer older le)
   where
     by_test : (b : Bool) → (kept : List SiteRecord) × (whole site_frame place (newer ++ older) ≡ kept ++ older)
@@ -79,23 +79,23 @@ whole_trimmed place (x ∷ newer) older le = by_test (nat_le (bytes_of site_fram
 summed_call : (home : Home) (d : Disk SiteRecord) (call : Call SiteRecord) (calls : List (Call SiteRecord)) → Fits home d (call ∷ calls) → IsSummed home d
     → IsSummed home (after_call site_frame d call) × Fits home (after_call site_frame d call) calls
 summed_call home d (Append (Checkpoint sum)) calls f s = (
-  record { sound = sound-call site_frame d (Append (Checkpoint sum)) s.sound; sums = (f.0, s.sums); front = more _ d.records d.synced d.trimmed s.front },
+  record { sound = sound_call site_frame d (Append (Checkpoint sum)) s.sound; sums = (f.0, s.sums); front = more _ d.records d.synced d.trimmed s.front },
   f.1,
 )
 summed_call home d (Append (Setup site engine protocol items)) calls f s =
-    (record { sound = sound-call site_frame d (Append (Setup site engine protocol items)) s.sound; sums = s.sums; front = more _ d.records d.synced d.trimmed s.front }, f)
+    (record { sound = sound_call site_frame d (Append (Setup site engine protocol items)) s.sound; sums = s.sums; front = more _ d.records d.synced d.trimmed s.front }, f)
 summed_call home d (Append (Start n)) calls f s =
-    (record { sound = sound-call site_frame d (Append (Start n)) s.sound; sums = s.sums; front = more _ d.records d.synced d.trimmed s.front }, f)
+    (record { sound = sound_call site_frame d (Append (Start n)) s.sound; sums = s.sums; front = more _ d.records d.synced d.trimmed s.front }, f)
 summed_call home d (Append (Prepared t e n ticket writes)) calls f s =
-    (record { sound = sound-call site_frame d (Append (Prepared t e n ticket writes)) s.sound; sums = s.sums; front = more _ d.records d.synced d.trimmed s.front }, f)
+    (record { sound = sound_call site_frame d (Append (Prepared t e n ticket writes)) s.sound; sums = s.sums; front = more _ d.records d.synced d.trimmed s.front }, f)
 summed_call home d (Append (Ended t decision)) calls f s =
-    (record { sound = sound-call site_frame d (Append (Ended t decision)) s.sound; sums = s.sums; front = more _ d.records d.synced d.trimmed s.front }, f)
+    (record { sound = sound_call site_frame d (Append (Ended t decision)) s.sound; sums = s.sums; front = more _ d.records d.synced d.trimmed s.front }, f)
 summed_call home d (Append (Local t n writes)) calls f s =
-    (record { sound = sound-call site_frame d (Append (Local t n writes)) s.sound; sums = s.sums; front = more _ d.records d.synced d.trimmed s.front }, f)
+    (record { sound = sound_call site_frame d (Append (Local t n writes)) s.sound; sums = s.sums; front = more _ d.records d.synced d.trimmed s.front }, f)
 summed_call home d Sync calls f s =
-    (record { sound = sound-call site_frame d Sync s.sound; sums = s.sums; front = longer d.records d.synced d.length d.trimmed s.sound.synced s.front }, f)
+    (record { sound = sound_call site_frame d Sync s.sound; sums = s.sums; front = longer d.records d.synced d.length d.trimmed s.sound.synced s.front }, f)
 summed_call home d CutBack calls f s =
-    (record { sound = sound-call site_frame d CutBack s.sound; sums = s.sums; front = cut s.front }, f)
+    (record { sound = sound_call site_frame d CutBack s.sound; sums = s.sums; front = cut s.front }, f)
   where
     behind : (newer older : List SiteRecord) → bytes_of site_frame older ≤ bytes_of site_frame (newer ++ older)
     behind [] older = omega arith
@@ -113,7 +113,7 @@ summed_call home d CutBack calls f s =
     })
 summed_call home d TrimFront calls ((sum, before, all, kept), f) s = (
   record {
-    sound = sound-call site_frame d TrimFront s.sound;
+    sound = sound_call site_frame d TrimFront s.sound;
     sums = s.sums;
     front = inr (record { newer = []; sum = sum; before = before; all = all; at = ap (λ rs. bytes_of site_frame (Rattle.fed_rules.specs.Disk.before_last rs)) all; kept = kept });
   },
@@ -121,8 +121,8 @@ summed_call home d TrimFront calls ((sum, before, all, kept), f) s = (
 )
 summed_call home d (Stops stop) calls f s = (
   record {
-    sound = sound-call site_frame d (Stops stop) s.sound;
-    sums = (let (newer, e) = whole-front site_frame place d.records in sums_front home newer (whole site_frame place d.records) (subst (AreSums home) e s.sums));
+    sound = sound_call site_frame d (Stops stop) s.sound;
+    sums = (let (newer, e) = whole_front site_frame place d.records in sums_front home newer (whole site_frame place d.records) (subst (AreSums home) e s.sums));
     front = stopped s.front;
   },
   f,

@@ -1,0 +1,221 @@
+-- What holds of every past that events make of a coordinator.
+use Rattle.std.proofs.Common.{◌≡◌, ◌⊎◌, Bool, true, false, cond, is_some, Option, Some, None, List, [], ◌∷◌, inl, inr, refl, sym, ap, subst, ◌∙◌, arith}
+use Rattle.std.proofs.lemmas.Bool.{and_parts}
+use Rattle.mdb_base.specs.declared.names.Tid.{Tid}
+use Rattle.mdb_base.specs.Names.{same_tid}
+use Rattle.mdb_base.specs.Words.{Among, some_of, with_some, or_else}
+use Rattle.mdb_base.proofs.ListLaws.{each_self, each_filtered}
+use Rattle.mdb_base.proofs.NameLaws.{same_tid-refl}
+use Rattle.order_laws.specs.Chains.{In, Distinct}
+use Rattle.order_laws.proofs.Alike.{same_of}
+use Rattle.order_laws.proofs.Lists.{bool_is, each_from, is_among, some_of_true}
+use Rattle.order_laws.proofs.Tickets.{acyclic_no_cycle}
+use Rattle.presumptions.specs.declared.Participant.{Participant}
+use Rattle.presumptions.specs.declared.Protocol.TheVariants as By
+use Rattle.fed_rules.specs.declared.events.CoordEvent.{CoordEvent}
+use Rattle.fed_rules.specs.declared.records.CoordRecord.{CoordRecord}
+use Rattle.fed_rules.specs.declared.records.CoordRecord.TheVariants as Rec
+use Rattle.fed_rules.specs.CoordPast.{CoordHappening, CoordPast, disk, records, Standing, Undecided, Decided, Gone, standing, is_known, is_open, begun_by, begun_tids, program, visits}
+use Rattle.fed_rules.specs.CoordRecords.{named, has_end, commits, with_attempt, recorded}
+use Rattle.fed_rules.specs.Policies.{Policy}
+use Rattle.coord_laws.specs.Laws.{BeginOnce, BeginInOrder, KnownAreBegun, UndecidedAreUnmarked, DecisionsAreOutcomes, DecidedAreAwaited, RecordsNameParticipants, RecordedAreBegun, ParticipantsAreDeclared, CommitOnce, CommitsCloseNoCycle}
+use Rattle.coord_laws.specs.Pasts.{IsMadeByEvents, OfPasts}
+use Rattle.coord_laws.proofs.Begun.{AreNumbered, begun_in, begins_some, numbered_below, below_listed, numbered_distinct}
+use Rattle.coord_laws.proofs.Clear.{coord_turn}
+use Rattle.coord_laws.proofs.Cycles.{IsFree, free_line, nothing_free}
+use Rattle.coord_laws.proofs.Facts.{is_undecided}
+use Rattle.coord_laws.proofs.Lines.{coord_lines}
+use Rattle.coord_laws.proofs.Made.{IsMade}
+use Rattle.coord_laws.proofs.MadeLines.{coord_made}
+use Rattle.coord_laws.proofs.OneEach.{tids_of, committed_tid, accepted_distinct}
+use Rattle.coord_laws.proofs.RecordLists.{end_among, named_more, named_some}
+use Rattle.coord_laws.proofs.Rules.{open_undecided}
+use Rattle.coord_laws.proofs.Sound.{IsMark, CoordSound, end_mark}
+use Rattle.coord_laws.proofs.Standings.{AppendsCommit, last_vote_of}
+use Rattle.coord_laws.proofs.Turns.{Turn, begins_new, uncommitted_of}
+
+-- nothing holds of a past without lines that could fail
+nothing_sound : (protocols : List Participant) (member : Participant) (g : Tid) → CoordSound protocols member g []
+nothing_sound protocols member g = record {
+  firm = record { sound = record { frames = omega arith; synced = omega arith }; loose = tt };
+  numbered = (λ b. absurd b);
+  undecided = (λ o. cc);
+  marked = (λ m. absurd m);
+  names = (λ ms e. cc);
+  decided = (λ d e. cc);
+  voted = (λ h m v. absurd m);
+  ended = (λ m h a v. absurd m);
+  gone = (λ e m h a v. cc);
+  waits = (λ d e. cc);
+}
+
+-- the next line of a past
+pub next_turn : (protocols : List Participant) (policy : Policy) (member : Participant) (g : Tid) (past : CoordPast) (x : CoordHappening)
+    → (made : IsMadeByEvents protocols policy (x ∷ past)) → CoordSound protocols member g past → Turn protocols member g past made.0 x
+next_turn protocols policy member g past x (event, is, numbered, made) s =
+    subst (Turn protocols member g past event) (sym is)
+    (record { sound = s; line = coord_lines protocols policy g past event s.firm; numbered = numbered })
+
+-- what holds of one attempt and one member holds of every past
+pub past_sound : (protocols : List Participant) (policy : Policy) (member : Participant) (g : Tid) (past : CoordPast)
+    → IsMadeByEvents protocols policy past → CoordSound protocols member g past
+past_sound protocols policy member g [] made = nothing_sound protocols member g
+past_sound protocols policy member g (x ∷ past) made =
+    coord_turn protocols member g past made.0 x
+    (next_turn protocols policy member g past x made (past_sound protocols policy member g past made.3))
+
+-- any site, where nothing depends on it
+pub any_member : Participant
+any_member = record { site = record { 0 = 0 }; protocol = By.Nothing }
+
+begun_numbered : (protocols : List Participant) (policy : Policy) (past : CoordPast) → IsMadeByEvents protocols policy past
+    → AreNumbered (begun_tids past)
+begun_numbered protocols policy [] made = tt
+begun_numbered protocols policy (x ∷ past) made = by_answer (begun_by x.answer) refl (begun_numbered protocols policy past made.3) where
+  by_answer : (o : Option Tid) → begun_by x.answer ≡ o → AreNumbered (begun_tids past) → AreNumbered (with_some o (begun_tids past))
+  by_answer None e n = n
+  by_answer (Some g) e n = (
+    begins_new protocols any_member g past made.0 x
+        (next_turn protocols policy any_member g past x made (past_sound protocols policy any_member g past made.3))
+        (begins_some g x.answer e),
+    n,
+  )
+
+pub begin_once : OfPasts BeginOnce
+begin_once protocols policy past made = numbered_distinct (begun_tids past) (begun_numbered protocols policy past made)
+
+pub begin_in_order : OfPasts BeginInOrder
+begin_in_order protocols policy past made g =
+    let n = begun_numbered protocols policy past made in
+    (numbered_below (begun_tids past) g n, below_listed (begun_tids past) g n)
+
+pub known_begun : OfPasts KnownAreBegun
+known_begun protocols policy past made g k = by_standing (standing protocols past g) refl k where
+  s : CoordSound protocols any_member g past
+  s = past_sound protocols policy any_member g past made
+
+  by_standing : (now : Standing) → standing protocols past g ≡ now → is_known now ≡ true → In g (begun_tids past)
+  by_standing Undecided e k = begun_in past g (s.undecided (ap is_undecided e))
+  by_standing (Decided d) e k = begun_in past g (s.decided d e).0
+  by_standing Gone e k = cc
+
+not_true : (b : Bool) → (b ≡ true → ⊥) → b ≡ false
+not_true b not_so = elim (bool_is b) [ inl e ↦ absurd (not_so e) | inr e ↦ e ]
+
+pub undecided_unmarked : OfPasts UndecidedAreUnmarked
+undecided_unmarked protocols policy past made g u =
+    let s = past_sound protocols policy any_member g past made in
+    let o = ap is_undecided u in (
+      uncommitted_of protocols any_member g past s o,
+      not_true (has_end (records past) g) (λ e. (s.marked (end_mark g (records past) (end_among g (records past) e))).1 o),
+    )
+
+pub decisions_outcomes : OfPasts DecisionsAreOutcomes
+decisions_outcomes protocols policy past made g d e = ((past_sound protocols policy any_member g past made).decided d e).1
+
+pub decided_awaited : OfPasts DecidedAreAwaited
+decided_awaited protocols policy past made g d e = (past_sound protocols policy any_member g past made).waits d e
+
+pub records_name : OfPasts RecordsNameParticipants
+records_name protocols policy past made g members e = ((past_sound protocols policy any_member g past made).names members e).1
+
+-- attempts that differ still do with one more, which is listed once
+one_more_differs : (t : Tid) (tids : List Tid) → Distinct tids → Distinct (with_attempt t tids)
+one_more_differs t tids d = by_test (some_of (same_tid t) tids) refl where
+  by_test : (b : Bool) → some_of (same_tid t) tids ≡ b → Distinct (cond b tids (t ∷ tids))
+  by_test true e = d
+  by_test false e = (
+    (λ i. let found = some_of_true (same_tid t) tids (is_among (λ u. same_tid t u ≡ true) t tids i (same_tid-refl t)) in
+        let no : true ≡ false = sym found ∙ e in cc),
+    d,
+  )
+
+recorded_differ : (rs : List CoordRecord) → Distinct (recorded rs)
+recorded_differ [] = tt
+recorded_differ (Rec.Initiation t ms ∷ rs) = one_more_differs t (recorded rs) (recorded_differ rs)
+recorded_differ (Rec.Commit t ks ∷ rs) = one_more_differs t (recorded rs) (recorded_differ rs)
+recorded_differ (Rec.Abort t ms ∷ rs) = one_more_differs t (recorded rs) (recorded_differ rs)
+recorded_differ (Rec.End t ∷ rs) = one_more_differs t (recorded rs) (recorded_differ rs)
+recorded_differ (Rec.Checkpoint sum ∷ rs) = recorded_differ rs
+
+one_more_from : (g t : Tid) (tids : List Tid) → In g (with_attempt t tids) → (t ≡ g) ⊎ In g tids
+one_more_from g t tids i = by_test (some_of (same_tid t) tids) i where
+  by_test : (b : Bool) → In g (cond b tids (t ∷ tids)) → (t ≡ g) ⊎ In g tids
+  by_test true i = inr i
+  by_test false i = i
+
+-- a record of the attempt names participants, or is a Commit or an End
+abbrev IsSpokenOf : List Participant → Tid → List CoordRecord → Type 0
+IsSpokenOf protocols g rs = (is_some (named protocols rs g) ≡ true) ⊎ Among (IsMark g) rs
+
+spoken_more : (protocols : List Participant) (g : Tid) (r : CoordRecord) (rs : List CoordRecord) → IsSpokenOf protocols g rs
+    → IsSpokenOf protocols g (r ∷ rs)
+spoken_more protocols g r rs (inl n) = inl (named_more protocols g (r ∷ []) rs n)
+spoken_more protocols g r rs (inr m) = inr (inr m)
+
+recorded_spoken : (protocols : List Participant) (g : Tid) (rs : List CoordRecord) → In g (recorded rs) → IsSpokenOf protocols g rs
+recorded_spoken protocols g [] i = absurd i
+recorded_spoken protocols g (Rec.Initiation t ms ∷ rs) i = elim (one_more_from g t (recorded rs) i) [
+  | inl own ↦ inl (ap (λ b. is_some (cond b (Some ms) (named protocols rs g))) (same_of t g own))
+  | inr old ↦ spoken_more protocols g (Rec.Initiation t ms) rs (recorded_spoken protocols g rs old)
+]
+recorded_spoken protocols g (Rec.Abort t ms ∷ rs) i = elim (one_more_from g t (recorded rs) i) [
+  | inl own ↦ inl (ap (λ b. is_some (cond b (Some (or_else (named protocols rs g) ms)) (named protocols rs g))) (same_of t g own))
+  | inr old ↦ spoken_more protocols g (Rec.Abort t ms) rs (recorded_spoken protocols g rs old)
+]
+recorded_spoken protocols g (Rec.Commit t ks ∷ rs) i = elim (one_more_from g t (recorded rs) i) [
+  | inl own ↦ inr (inl own)
+  | inr old ↦ spoken_more protocols g (Rec.Commit t ks) rs (recorded_spoken protocols g rs old)
+]
+recorded_spoken protocols g (Rec.End t ∷ rs) i = elim (one_more_from g t (recorded rs) i) [
+  | inl own ↦ inr (inl own)
+  | inr old ↦ spoken_more protocols g (Rec.End t) rs (recorded_spoken protocols g rs old)
+]
+recorded_spoken protocols g (Rec.Checkpoint sum ∷ rs) i = spoken_more protocols g (Rec.Checkpoint sum) rs (recorded_spoken protocols g rs i)
+
+pub recorded_begun : OfPasts RecordedAreBegun
+recorded_begun protocols policy past made =
+    (recorded_differ (records past), each_from (λ tid. In tid (begun_tids past)) (recorded (records past)) (λ g i. by_record g (recorded_spoken protocols g (records past) i)))
+  where
+    by_record : (g : Tid) → IsSpokenOf protocols g (records past) → In g (begun_tids past)
+    by_record g (inl n) =
+        let found = named_some (named protocols (records past) g) n in
+        begun_in past g ((past_sound protocols policy any_member g past made).names found.0 found.1).0
+    by_record g (inr m) = begun_in past g ((past_sound protocols policy any_member g past made).marked m).0
+
+pub participants_declared : OfPasts ParticipantsAreDeclared
+participants_declared protocols policy past made g =
+    each_filtered (λ member. In member protocols) (λ member. visits member.site (program past g)) protocols (each_self protocols)
+
+-- who is about to be committed has no Commit record
+new_commit : (protocols : List Participant) (policy : Policy) (past : CoordPast) (event : CoordEvent) (x : CoordHappening)
+    → IsMadeByEvents protocols policy past → IsMade protocols past event x → (g : Tid) → Among (AppendsCommit g) x.calls
+    → In g (tids_of (records past)) → ⊥
+new_commit protocols policy past event x before made g i old =
+    let v = (last_vote_of protocols past event g x.calls made.writes i).1 in
+    let undecided : is_open past g ≡ true = (and_parts _ _ v.is_counted).0 in
+    let none = uncommitted_of protocols any_member g past (past_sound protocols policy any_member g past before) (open_undecided protocols past g undecided) in
+    let some = committed_tid (records past) g old in
+    let no : true ≡ false = sym some ∙ none in cc
+
+-- what a line of such a past records, sends and counts
+pub past_made : (protocols : List Participant) (policy : Policy) (past : CoordPast) (x : CoordHappening)
+    → (made : IsMadeByEvents protocols policy (x ∷ past)) → IsMade protocols past made.0 x
+past_made protocols policy past x made =
+    subst (IsMade protocols past made.0) (sym made.1) (coord_made protocols policy past made.0)
+
+pub commits_once : OfPasts CommitOnce
+commits_once protocols policy [] made = tt
+commits_once protocols policy (x ∷ past) made =
+    accepted_distinct x.calls (disk past) (commits (records past)) (tids_of (records past)) (past_made protocols policy past x made).accepted
+    (new_commit protocols policy past made.0 x made.3 (past_made protocols policy past x made)) (λ t i. i)
+    (commits_once protocols policy past made.3)
+
+pub commits_free : OfPasts (λ protocols past. IsFree (commits (records past)))
+commits_free protocols policy [] made = nothing_free
+commits_free protocols policy (x ∷ past) made =
+    free_line past x (past_made protocols policy past x made).accepted (commits_free protocols policy past made.3)
+
+pub commits_close_none : OfPasts CommitsCloseNoCycle
+commits_close_none protocols policy past made =
+    acyclic_no_cycle (commits (records past)) (commits_once protocols policy past made) (commits_free protocols policy past made)

@@ -1,0 +1,15 @@
+//! What holds of a coordinator by itself: of every past that events make of it, whatever they are, with stops, trips and restarts, if only
+//! each `go` is of the next attempt of its transaction. No site and no session is spoken of, so that a coordinator's core can rest on it.
+//! Each law is the contract of a function with an empty body.
+#![tactic(auto)]
+
+mod attempts;
+mod records;
+
+pub use attempts::{
+    attempts_begin_in_order, decisions_are_outcomes, known_attempts_were_begun,
+    undecided_attempts_are_unmarked,
+};
+pub use records::{
+    commits_close_no_cycle, recorded_attempts_were_begun, records_name_the_participants,
+};
