@@ -25,8 +25,8 @@ use Rattle.fed_rules.specs.Story.{Story, AtSite, past_of, with_site, happens, st
 use Rattle.commit_laws.proofs.Links.{its-site, home-again}
 use Rattle.engine_laws.proofs.Runs.{tid_is, attempts_have}
 use Rattle.site_history.specs.Stories.{StoriesHaveRightLines}
-use Rattle.site_laws.proofs.OpenRuns.{in_open}
-use Rattle.site_laws.proofs.RisingLists.{rising_in}
+use Rattle.local_laws.proofs.OpenRuns.{in_open}
+use Rattle.rules_laws.proofs.RisingLists.{rising_in}
 use Rattle.federation_laws.proofs.SiteMoves.{live-run}
 use Rattle.federation_laws.proofs.Told.{local_home-declared}
 use Rattle.closing_laws.proofs.Calm.{aborts_here, drops, ended_run, abort_ends}

@@ -1,15 +1,13 @@
 -- The lines that the coordinator makes while a session is closed.
-use Rattle.std.proofs.Common.{◌≡◌, ℕ, Bool, true, false, cond, Option, Some, None, List, [], ◌∷◌, ◌++◌, inl, inr, refl, sym, ap, subst, ◌∙◌}
+use Rattle.std.proofs.Common.{◌≡◌, ℕ, Bool, true, false, cond, Some, None, List, [], ◌∷◌, ◌++◌, refl, sym, ap, subst, ◌∙◌}
 use Rattle.mdb_base.specs.declared.names.SiteId.{SiteId}
 use Rattle.mdb_base.specs.declared.names.Tid.{Tid}
 use Rattle.mdb_base.specs.Names.{same_tid}
-use Rattle.mdb_base.specs.Words.{when, pick, item_at, with_some, some_of}
-use Rattle.mdb_base.proofs.NameLaws.{same_tid-equal, same_tid-refl}
+use Rattle.mdb_base.specs.Words.{when, pick, item_at, some_of}
+use Rattle.mdb_base.proofs.NameLaws.{same_tid-refl}
 use Rattle.mdb_base.proofs.Words.{when-true}
 use Rattle.presumptions.specs.declared.Decision.TheVariants as Decided_as
-use Rattle.order_laws.specs.Chains.{In}
 use Rattle.order_laws.proofs.Lists.{some_of_true, is_among}
-use Rattle.fed_rules.specs.declared.answers.Answer.{Answer}
 use Rattle.fed_rules.specs.declared.answers.Answer.TheVariants as Say
 use Rattle.fed_rules.specs.declared.answers.Cause.TheVariants as For
 use Rattle.fed_rules.specs.declared.commands.Command.{Command}
@@ -20,7 +18,7 @@ use Rattle.fed_rules.specs.declared.messages.FromSite.{FromSite}
 use Rattle.fed_rules.specs.declared.messages.FromSite.TheVariants as From
 use Rattle.fed_rules.specs.declared.scenario.Scenario.{Scenario}
 use Rattle.fed_rules.specs.Coord.{coord_line, sends_dues, aborts, ack_counts, acked_while, of_ack, asked_while, of_inquiry, of_take, again_while, of_again, of_late, forgets_at_once, sends_all, abort_records, defers_some, defers_all}
-use Rattle.fed_rules.specs.CoordPast.{CoordHappening, CoordPast, Standing, Undecided, Decided, Gone, standing, begins, begun_by, begun_tids, trip_of, is_open, known_decision, standing_of, records}
+use Rattle.fed_rules.specs.CoordPast.{CoordHappening, CoordPast, Standing, Undecided, Decided, Gone, standing, begun_tids, trip_of, is_open, known_decision, standing_of, records}
 use Rattle.fed_rules.specs.Scenarios.{protocols, policy}
 use Rattle.fed_rules.specs.Story.{Story, AtCoordinator, Nowhere, coord_past, sent_from, at_coordinator, on_attempt, on_take, happens, story_of, coord_requested}
 use Rattle.commit_laws.proofs.Agreed.{coord-sound}

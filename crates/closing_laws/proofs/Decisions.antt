@@ -40,7 +40,7 @@ use Rattle.coord_laws.proofs.Lines.{coord_lines}
 use Rattle.coord_laws.proofs.Sound.{kept_stays, end_commit}
 use Rattle.commit_laws.proofs.Links.{Linked, linked}
 use Rattle.commit_laws.proofs.PreparedLaws.{nowhere}
-use Rattle.site_laws.proofs.Attempts.{same_tx-refl}
+use Rattle.order_laws.proofs.Alike.{same_tx_self}
 use Rattle.closing_laws.proofs.Calm.{takes}
 use Rattle.closing_laws.proofs.CoordTurns.{takes_there}
 use Rattle.closing_laws.proofs.Declared.{IsMemberHome}
@@ -83,7 +83,7 @@ commit_of g (Rec.Abort t ms ∷ rs) (inr m) = commit_of g rs m
 commit_of g (Rec.Checkpoint sum ∷ rs) (inl m) = absurd m
 commit_of g (Rec.Checkpoint sum ∷ rs) (inr m) = commit_of g rs m
 commit_of g (Rec.End t ∷ rs) (inr m) = commit_of g rs m
-commit_of g (Rec.Commit t ks ∷ rs) (inl m) = ap (λ b. is_some (cond b (Some t) (committed_of rs g.tx))) (ap (λ (z : Tid). same_tx z.tx g.tx) m ∙ same_tx-refl g.tx)
+commit_of g (Rec.Commit t ks ∷ rs) (inl m) = ap (λ b. is_some (cond b (Some t) (committed_of rs g.tx))) (ap (λ (z : Tid). same_tx z.tx g.tx) m ∙ same_tx_self g.tx)
 commit_of g (Rec.Commit t ks ∷ rs) (inr m) = by_test (same_tx t.tx g.tx) (commit_of g rs m)
   where
     by_test : (b : Bool) → is_some (committed_of rs g.tx) ≡ true → is_some (cond b (Some t) (committed_of rs g.tx)) ≡ true

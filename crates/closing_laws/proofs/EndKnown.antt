@@ -29,7 +29,7 @@ use Rattle.fed_rules.specs.Scenarios.{protocols, policy}
 use Rattle.fed_rules.specs.Story.{Story, AtCoordinator, coord_past, with_coordinator, sent_to, sends_to, on_attempt, happens, places_of, story_of, coord_requested}
 use Rattle.commit_laws.proofs.Agreed.{coord-sound}
 use Rattle.commit_laws.proofs.PreparedLaws.{nowhere}
-use Rattle.site_laws.proofs.RisingLists.{rising_in}
+use Rattle.rules_laws.proofs.RisingLists.{rising_in}
 use Rattle.closing_laws.proofs.Calm.{agains}
 use Rattle.closing_laws.proofs.CoordTurns.{gentle_again, hears_of}
 use Rattle.coord_laws.proofs.Begun.{begun_in}

@@ -11,7 +11,7 @@ use Rattle.fed_rules.specs.CoordPast.{standing, begun_tids, is_open, known_decis
 use Rattle.fed_rules.specs.Story.{Story, coord_past, happens, story_of}
 use Rattle.commit_laws.proofs.Agreed.{coord-sound}
 use Rattle.commit_laws.proofs.PreparedLaws.{nowhere}
-use Rattle.site_laws.proofs.RisingLists.{rising_in}
+use Rattle.rules_laws.proofs.RisingLists.{rising_in}
 use Rattle.closing_laws.proofs.CoordTurns.{gentle_late, late_decides}
 use Rattle.coord_laws.proofs.Begun.{begun_in}
 use Rattle.closing_laws.proofs.Onward.{IsCalm, Onward, onward_here, onward_on, onward_next}

@@ -32,7 +32,7 @@ use Rattle.fed_rules.specs.SitePast.{SiteHappening, SitePast, records, live}
 use Rattle.fed_rules.specs.SiteRecords.{Home, Held, doubt_of, prepared_tids, doubts, by_tid, held_before}
 use Rattle.fed_rules.specs.Story.{Story, AtSite, AtCoordinator, past_of, coord_past, with_site, sent_to, sends_to, sent_from, happens, places_of, story_of}
 use Rattle.commit_laws.proofs.Links.{its-site, home-again}
-use Rattle.site_laws.proofs.RisingLists.{rising_in}
+use Rattle.rules_laws.proofs.RisingLists.{rising_in}
 use Rattle.closing_laws.proofs.Calm.{asks, takes, settled_records}
 use Rattle.closing_laws.proofs.CoordTurns.{takes_there, gentle_inquiry}
 use Rattle.closing_laws.proofs.Declared.{listed}

@@ -36,7 +36,7 @@ use Rattle.engine_laws.proofs.Drawers.{IsDrawer, AllDrew, all_drew}
 use Rattle.site_history.specs.Lines.{Agrees}
 use Rattle.site_history.specs.SiteOrders.{HasEpochs}
 use Rattle.site_history.specs.Stories.{StoriesHaveRightLines, OfSites}
-use Rattle.site_laws.proofs.Attempts.{same_tx-refl}
+use Rattle.order_laws.proofs.Alike.{same_tx_self}
 use Rattle.federation_laws.proofs.Told.{local_home-declared}
 use Rattle.closing_laws.specs.Alone.{IsFinished, LocalsCommitAlone}
 use Rattle.closing_laws.proofs.AloneAt.{IsAlone, access_granted, seal_free, access_of, acts_alone, begins_alone, commits_alone}
@@ -335,7 +335,7 @@ module _ (rights : StoriesHaveRightLines) (epochs : OfSites HasEpochs) (scenario
       away = elsewhere_on home.site (story_of scenario first) story after u.elsewhere (line_elsewhere scenario commands (Cmd.Commit tid.tx) home x line)
 
       same_one : same_tx me.tid.tx tid.tx ≡ true
-      same_one = ap (λ (t : Tid). same_tx t.tx tid.tx) u.named ∙ same_tx-refl tid.tx
+      same_one = ap (λ (t : Tid). same_tx t.tx tid.tx) u.named ∙ same_tx_self tid.tx
 
       one : (other : Home) → home_of scenario other.site ≡ Some other → same_site home.site other.site ≡ true → home ≡ other
       one other d e = one_home scenario home other (local_home-declared scenario tid.tx home here) d (same_site_alike home.site other.site e)

@@ -29,14 +29,13 @@ use Rattle.fed_rules.specs.SiteRecords.{Home, site_frame}
 use Rattle.fed_rules.specs.Story.{Story, Happened, AtSite, AtCoordinator, Nowhere, past_of, with_site, happens, story_of}
 use Rattle.engine_laws.proofs.Runs.{tid_is, attempts_have}
 use Rattle.site_history.specs.Stories.{StoriesHaveRightLines}
-use Rattle.site_laws.proofs.Attempts.{same_tx-refl, same_tx-equal}
-use Rattle.site_laws.proofs.Lines.{act_begins-none, refusal_answer-is}
+use Rattle.order_laws.proofs.Alike.{same_tx_alike, same_tx_self, some_parts}
+use Rattle.local_laws.proofs.LineAnswers.{act_begins-none, refusal_answer-is}
 use Rattle.federation_laws.proofs.LocalLines.{local-made}
 use Rattle.federation_laws.proofs.LocalMoves.{LocalMove, Made, Opens, Rests, Gone, Opening, Granting, Closing}
 use Rattle.federation_laws.proofs.LocalStories.{not-asked}
 use Rattle.federation_laws.proofs.SiteMoves.{live-run}
 use Rattle.federation_laws.proofs.Told.{local_home-declared, SiteCause, IsSiteLine, IsLine, line_is}
-use Rattle.order_laws.proofs.Alike.{some_parts}
 
 -- what begins an attempt of the transaction is a `begin` of it
 abbrev IsBeginOf : Tx → SiteEvent → Type 0
@@ -155,7 +154,7 @@ module _ (tx : Tx) (home : Home) (past : SitePast) where
 
 -- what a site begins as a local attempt is at home there
 home_of_begun : (scenario : Scenario) (story : Story) (home : Home) (event : SiteEvent) (tx : Tx) → SiteCause scenario story home event → IsBeginOf tx event → local_home scenario tx ≡ Some home
-home_of_begun scenario story home (Ev.Begin tid) tx c b = sym (ap (local_home scenario) (same_tx-equal tid.tx tx b)) ∙ c.here
+home_of_begun scenario story home (Ev.Begin tid) tx c b = sym (ap (local_home scenario) (same_tx_alike tid.tx tx b)) ∙ c.here
 home_of_begun scenario story home (Ev.Act tid act) tx c b = absurd b
 home_of_begun scenario story home (Ev.Commit tid) tx c b = absurd b
 home_of_begun scenario story home (Ev.Abort tid) tx c b = absurd b
@@ -249,7 +248,7 @@ none_live home past tid run right e none =
     let i : In run (unended (epoch_start home past) (engine_lines past)) =
     found_in (run_at (epoch_start home past) (engine_lines past)) (attempts (epoch_start home past) (engine_lines past)) tid run (attempts_have (epoch_start home past) (engine_lines past) right tid run at.0) at.0 in
     let fails : is_live_one tid.tx run ≡ false = first_where_none (is_live_one tid.tx) (unended (epoch_start home past) (engine_lines past)) run (no_first _ none) i in
-    let passes : is_live_one tid.tx run ≡ true = ap₂ (λ (a b : Bool). a && not b) (ap (λ (t : Tid). same_tx t.tx tid.tx) own ∙ same_tx-refl tid.tx) (ap is_some at.1) in
+    let passes : is_live_one tid.tx run ≡ true = ap₂ (λ (a b : Bool). a && not b) (ap (λ (t : Tid). same_tx t.tx tid.tx) own ∙ same_tx_self tid.tx) (ap is_some at.1) in
     (let clash = sym fails ∙ passes in cc)
   where
     no_first : (o : Option Run) → map_some (λ (r : Run). r.tid) o ≡ None → o ≡ None
@@ -284,7 +283,7 @@ found_live home past tx tid right e = by_first (first_where (is_live_one tx) (un
         record {
           run = run;
           is_live = ap (live home past) (sym named ∙ own) ∙ (ap (λ o. live_here o) was ∙ open_one run run.sealed refl tests.1);
-          of_tx = ap (λ (t : Tid). t.tx) (sym named) ∙ same_tx-equal run.tid.tx tx tests.0;
+          of_tx = ap (λ (t : Tid). t.tx) (sym named) ∙ same_tx_alike run.tid.tx tx tests.0;
         }
       where
         live_here : Option Run → Option Run

@@ -18,7 +18,7 @@ use Rattle.commit_laws.proofs.Agreed.{coord-sound}
 use Rattle.commit_laws.proofs.Links.{home-again}
 use Rattle.commit_laws.proofs.PreparedLaws.{nowhere}
 use Rattle.site_history.specs.Stories.{StoriesHaveRightLines}
-use Rattle.site_laws.proofs.RisingLists.{rising_in}
+use Rattle.rules_laws.proofs.RisingLists.{rising_in}
 use Rattle.closing_laws.specs.AtRest.{IsAtRest}
 use Rattle.closing_laws.proofs.Clear.{live_listed}
 use Rattle.coord_laws.proofs.Begun.{begun_in}

@@ -21,10 +21,10 @@ use Rattle.fed_rules.specs.Story.{Story, Told, Happened, AtSite, AtCoordinator, 
 use Rattle.commit_laws.specs.Endings.{StoriesEndAlike, StoriesForgetExactly, StoriesAnswerInDoubt}
 use Rattle.commit_laws.specs.Forgetting.{IsNextOfCoordinator}
 use Rattle.commit_laws.proofs.Agreed.{agreed}
-use Rattle.commit_laws.proofs.CoordFacts.{is_undecided, IsOpen, Same, Starts, Decides, Forgets, Restarts}
-use Rattle.commit_laws.proofs.CoordLines.{Stood, Stopped, Through}
-use Rattle.commit_laws.proofs.CoordSound.{IsBegun, still-open}
-use Rattle.commit_laws.proofs.CoordTurn.{begun-answer, fresh, same-outcome}
+use Rattle.coord_laws.proofs.Facts.{is_undecided, IsOpen, Same, Starts, Decides, Forgets, Restarts}
+use Rattle.coord_laws.proofs.Lines.{Stood, Stopped, Through}
+use Rattle.coord_laws.proofs.Sound.{IsBegun, still_open}
+use Rattle.coord_laws.proofs.Turns.{begun_answer, fresh, same_outcome}
 use Rattle.commit_laws.proofs.ForgettingProofs.{next-turn, known-while-missing, forgotten-when-none-is-missing, restarts-count-anew, forgotten-are-acknowledged, inquiries-are-answered-the-outcome}
 use Rattle.commit_laws.proofs.Links.{home-again, its-site}
 use Rattle.commit_laws.proofs.OutcomeLaws.{settles-say-the-outcome}
@@ -56,7 +56,7 @@ known-from protocols past x tid (Through (Same e b u a) r) on gone = (
 ) where
   begins-own : x.answer ≡ Say.Begun tid → Coordinator.begins tid x.answer ≡ true
   begins-own begun = ap (Coordinator.begins tid) begun ∙ same_tid-refl tid
-known-from protocols past x tid (Through (Starts b e n steps v) r) on gone = ((λ known. begun-answer tid x.answer b), (λ begun. ap is_known e))
+known-from protocols past x tid (Through (Starts b e n steps v) r) on gone = ((λ known. begun_answer tid x.answer b), (λ begun. ap is_known e))
 known-from protocols past x tid (Through (Decides made f o b e n by a) r) on gone = absurd (open-known (standing protocols past tid) o gone)
 known-from protocols past x tid (Through (Forgets made k b e n ends a) r) on gone = let no : true ≡ false = sym (ap is_known k) ∙ gone in cc
 
@@ -124,12 +124,12 @@ line-stays scenario commands command tid f =
         let new = fresh scenario nowhere tid (coord_past story) event x t f.0 in (
           (
             inr f.0,
-            (λ o. elim (still-open (protocols scenario) tid (coord_past story) x t.line.stood o) [
+            (λ o. elim (still_open (protocols scenario) tid (coord_past story) x t.line.stood o) [
               | inl begins ↦ (let no : true ≡ false = sym begins ∙ new in cc)
               | inr before ↦ f.1 before
             ]),
           ),
-          same-outcome scenario nowhere tid (coord_past story) event x t f.1,
+          same_outcome scenario nowhere tid (coord_past story) event x t f.1,
         )
 
 -- so at each line the outcome of an attempt that is over is the outcome at the end

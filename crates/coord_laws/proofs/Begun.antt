@@ -1,11 +1,12 @@
 -- The attempts that were begun, as a list: each has the number of those of its transaction that were begun before it.
 use Rattle.std.proofs.Common.{◌≡◌, ◌⊎◌, ℕ, suc, ◌<◌, ◌≤◌, Bool, true, false, cond, Option, Some, None, List, [], ◌∷◌, inl, inr, refl, sym, ap, ap₂, subst, ◌∙◌, arith}
-use Rattle.std.proofs.lemmas.Bool.{eqb-true, eq-eqb, cases_lt}
+use Rattle.std.proofs.lemmas.Bool.{eqb-true, cases_lt}
 use Rattle.mdb_base.specs.declared.names.Tid.{Tid}
 use Rattle.mdb_base.specs.declared.names.Tx.{Tx}
 use Rattle.mdb_base.specs.Names.{same_tx}
 use Rattle.mdb_base.specs.Words.{Among, how_many, with_some}
 use Rattle.mdb_base.proofs.NameLaws.{same_tid-equal, same_tid-refl}
+use Rattle.order_laws.proofs.Alike.{same_tx_self, same_tx_alike}
 use Rattle.order_laws.specs.Chains.{In, Distinct}
 use Rattle.fed_rules.specs.declared.answers.Answer.{Answer}
 use Rattle.fed_rules.specs.declared.answers.Answer.TheVariants as Say
@@ -22,9 +23,6 @@ more_attempts tx (Some u) tids = by_test (same_tx u.tx tx) where
   by_test : (b : Bool) → of_tx tids tx ≤ cond b (suc (of_tx tids tx)) (of_tx tids tx)
   by_test true = omega arith
   by_test false = omega arith
-
-pub same_tx_self : (tx : Tx) → same_tx tx tx ≡ true
-same_tx_self tx = eq-eqb tx.0 tx.0 refl
 
 pub one_attempt : (g : Tid) (tids : List Tid) → of_tx (g ∷ tids) g.tx ≡ suc (of_tx tids g.tx)
 one_attempt g tids = ap (λ b. cond b (suc (of_tx tids g.tx)) (of_tx tids g.tx)) (same_tx_self g.tx)
@@ -76,7 +74,7 @@ pub below_listed : (tids : List Tid) (g : Tid) → AreNumbered tids → g.attemp
 below_listed [] g n less = absurd (omega (arith, less))
 below_listed (t ∷ tids) g n less = by_test (same_tx t.tx g.tx) refl less (cases_lt g.attempt (of_tx tids g.tx)) (below_listed tids g n.1) where
   number : same_tx t.tx g.tx ≡ true → t.attempt ≡ of_tx tids g.tx
-  number s = let tx_of : ℕ → Tx = λ k. record { 0 = k } in subst (λ u. t.attempt ≡ of_tx tids u) (ap tx_of (eqb-true t.tx.0 g.tx.0 s)) n.0
+  number s = subst (λ u. t.attempt ≡ of_tx tids u) (same_tx_alike t.tx g.tx s) n.0
 
   by_test : (b : Bool) → same_tx t.tx g.tx ≡ b → g.attempt < cond b (suc (of_tx tids g.tx)) (of_tx tids g.tx)
       → (g.attempt < of_tx tids g.tx) ⊎ (of_tx tids g.tx ≤ g.attempt) → (g.attempt < of_tx tids g.tx → In g tids) → In g (t ∷ tids)

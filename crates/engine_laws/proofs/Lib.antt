@@ -18,6 +18,7 @@ pub mod Refuted
 pub mod Relations
 pub mod Restored
 pub mod Rows
+pub mod RunLines
 pub mod Runs
 pub mod Sound
 pub mod Stops

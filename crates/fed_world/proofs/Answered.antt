@@ -21,8 +21,8 @@ use Rattle.fed_rules.specs.Story.{Story, Nowhere, story_of, happens, answer_of, 
 use Rattle.journal_disk.specs.Disk.{Image}
 use Rattle.local_laws.specs.Sound.{IsOwn}
 use Rattle.session_laws.specs.Closing.{IsAtSite}
-use Rattle.site_laws.proofs.StoryCommands.{abort_nowhere, begin_nowhere, commit_nowhere, step_nowhere}
-use Rattle.site_laws.proofs.SiteLines.{pick-none}
+use Rattle.local_laws.proofs.StoryCommands.{abort_nowhere, begin_nowhere, commit_nowhere, step_nowhere}
+use Rattle.local_laws.proofs.SiteLines.{pick-none}
 use Rattle.site_core.specs.Stands.{Stands as CoreStands}
 use Rattle.site_core.specs.declared.errors.StepErr.{StepErr}
 use Rattle.site_core.specs.declared.errors.StepErr.TheVariants as Step_err

@@ -18,12 +18,12 @@ use Rattle.fed_rules.specs.Site.{of_begin, of_act, of_commit, of_abort, of_fate,
 use Rattle.fed_rules.specs.SitePast.{SiteHappening, SitePast, disk, epoch_start, engine_lines, records, live, live_of_tx, attempts_of, begins_tx, trip}
 use Rattle.fed_rules.specs.SiteRecords.{Home, site_frame, local_of}
 use Rattle.fed_rules.specs.Story.{attempt}
-use Rattle.site_laws.specs.Led.{IsAsked, IsBegin, IsLed}
-use Rattle.site_laws.specs.Locals.{begun_here, IsCounted}
-use Rattle.site_laws.proofs.Attempts.{same_tx-refl}
-use Rattle.site_laws.proofs.Counted.{begun_next, counted_same, counted_more}
-use Rattle.site_laws.proofs.Lines.{acts_about, refused_about}
-use Rattle.site_laws.proofs.Orderly.{declared_of}
+use Rattle.local_laws.specs.Led.{IsAsked, IsBegin, IsLed}
+use Rattle.local_laws.specs.Locals.{begun_here, IsCounted}
+use Rattle.order_laws.proofs.Alike.{same_tx_self}
+use Rattle.local_laws.proofs.Counted.{begun_next, counted_same, counted_more}
+use Rattle.local_laws.proofs.LineAnswers.{acts_about, refused_about}
+use Rattle.session_laws.proofs.Orderly.{declared_of}
 use Rattle.local_laws.specs.Sound.{IsOwnEvent}
 use Rattle.local_laws.proofs.Stories.{led_keeps}
 use Rattle.fed_world.proofs.LineCases.{at_pick, at_when}
@@ -114,7 +114,7 @@ module _ (scenario : Scenario) (home : Home) (past : SitePast) where
   counted_line x undoubted (Stays goes stays same) c = counted_same scenario.transactions home past x (begun_next home past x goes stays ∙ same (epoch_start home past) (engine_lines past)) c
   counted_line x undoubted (Next tid asked goes stays is more) c =
       let line = declared_of scenario tid.tx home asked.homed in
-      let begins_it : begins_tx line.line.tx x.answer ≡ true = ap (λ a. begins_tx line.line.tx a) is ∙ (ap (λ t. same_tx tid.tx t) line.of ∙ same_tx-refl tid.tx) in
+      let begins_it : begins_tx line.line.tx x.answer ≡ true = ap (λ a. begins_tx line.line.tx a) is ∙ (ap (λ t. same_tx tid.tx t) line.of ∙ same_tx_self tid.tx) in
       let first : tid ≡ attempt line.line.tx (attempts_of past line.line.tx) = ap (λ m. attempt tid.tx m) asked.next ∙ ap (λ t. attempt t (attempts_of past t)) (sym line.of) in
       counted_more scenario.transactions home past x line.line line.listed (begun_next home past x goes stays ∙ (more (epoch_start home past) (engine_lines past) ∙ ap (λ t. t ∷ begun_here home past) first)) begins_it c
 

@@ -25,10 +25,10 @@ use Rattle.fed_rules.specs.SiteRecords.{Home}
 use Rattle.fed_rules.specs.CoordCommands.{fate_request}
 use Rattle.fed_rules.specs.Requests.{Declines}
 use Rattle.fed_rules.specs.SiteCommands.{Fate, request}
-use Rattle.site_laws.proofs.Commands.{local_at, local_nowhere}
+use Rattle.local_laws.proofs.Commands.{local_at, local_nowhere}
 use Rattle.fed_rules.specs.Story.{Story, Nowhere, coord_requested, happens, on_actor, on_fate, on_site, story_of, past_of, at_site}
-use Rattle.site_laws.proofs.OneSite.{one_home}
-use Rattle.site_laws.proofs.SiteLines.{pick-none, pick-some}
+use Rattle.session_laws.proofs.OneSite.{one_home}
+use Rattle.local_laws.proofs.SiteLines.{pick-none, pick-some}
 use Rattle.local_laws.specs.Kept.{State, resting, heard_up}
 use Rattle.local_laws.specs.Sound.{IsOwn, IsOwnEvent}
 use Rattle.site_core.specs.declared.errors.StepErr.{StepErr}

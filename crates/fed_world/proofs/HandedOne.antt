@@ -16,7 +16,7 @@ use Rattle.fed_rules.specs.Site.{site_line}
 use Rattle.fed_rules.specs.SitePast.{SiteHappening, SitePast, trip_of}
 use Rattle.fed_rules.specs.SiteRecords.{Home}
 use Rattle.fed_rules.specs.Story.{at_site, happens, past_of, story_of}
-use Rattle.site_laws.proofs.Attempts.{same_tx-equal, same_tx-refl}
+use Rattle.order_laws.proofs.Alike.{same_tx_alike, same_tx_self}
 use Rattle.local_laws.specs.Kept.{State, heard, heard_up, kept_of, resting}
 use Rattle.local_laws.specs.Sound.{IsOwn, IsOwnEvent}
 use Rattle.fed_world.specs.declared.local_site.LocalSite.{LocalSite}
@@ -84,12 +84,12 @@ set_rest_kept scenario line past x tx place p states state alone own others k i 
   where
     by_test : (b : Bool) → same_tx tx l.tx ≡ b → s ≡ heard l.tx x.event x.answer (kept_of l.tx past)
     by_test true is =
-        (let tx_is : tx ≡ l.tx = same_tx-equal tx l.tx is in
+        (let tx_is : tx ≡ l.tx = same_tx_alike tx l.tx is in
         let here : place ≡ i = distinct_at (λ (t : TxLine). t.tx) scenario.transactions place i p.line l alone.numbers p.at at (place_tx scenario tx place p ∙ tx_is) in
         sym (get_set (rest_all x.answer states) place state s (ap (λ j. slice_get (slice_set (rest_all x.answer states) place state) j) here ∙ got)) ∙ subst (λ t. state ≡ heard t x.event x.answer (kept_of t past)) tx_is own)
     by_test false is =
         (let apart : place ≡ i → ⊥ = λ h. (let lines_same : p.line ≡ l = one_at scenario.transactions place p.line l p.at (ap (λ j. slice_get scenario.transactions j) h ∙ at) in
-        let bad : same_tx tx l.tx ≡ true = subst (λ (t : TxLine). same_tx tx t.tx ≡ true) lines_same (subst (λ u. same_tx tx u ≡ true) (sym (place_tx scenario tx place p)) (same_tx-refl tx)) in cc) in
+        let bad : same_tx tx l.tx ≡ true = subst (λ (t : TxLine). same_tx tx t.tx ≡ true) lines_same (subst (λ u. same_tx tx u ≡ true) (sym (place_tx scenario tx place p)) (same_tx_self tx)) in cc) in
         rest_line scenario.transactions past x states i l s (others l.tx (kept_of l.tx past) is) k at (get_set_other (rest_all x.answer states) place i state s apart got))
 
 -- the site behind such a line
@@ -116,7 +116,7 @@ heard_own tx event hears answer state is = by_test (stops answer) refl
   where
     by_test : (b : Bool) → stops answer ≡ b → hears answer (cond b (resting state) state) ≡ cond b (resting state) (heard_up tx event answer state)
     by_test true stop = is.rests answer state stop
-    by_test false stop = sym (is.up tx answer state ∙ cond-true _ _ _ (same_tx-refl tx))
+    by_test false stop = sym (is.up tx answer state ∙ cond-true _ _ _ (same_tx_self tx))
 
 -- the line of a command whose event is about this transaction
 pub one_told : {E : Type 0} (core new_core : Home → SitePast → Type 0) (scenario : Scenario) (old new : LocalSite E) (tx : Tx) (place : ℕ) (state now : State) (hears : Answer → State → State) (answer : Answer) (commands : List Command) (command : Command) (event : SiteEvent)

@@ -6,7 +6,7 @@ use Rattle.mdb_base.specs.Words.{first_where}
 use Rattle.fed_rules.specs.declared.scenario.TxLine.{TxLine}
 use Rattle.fed_rules.specs.SitePast.{SitePast}
 use Rattle.local_laws.specs.Kept.{State, kept_of}
-use Rattle.site_laws.proofs.Attempts.{same_tx-equal}
+use Rattle.order_laws.proofs.Alike.{same_tx_alike}
 use Rattle.fed_world.specs.Reports.{kept_reads}
 use Rattle.fed_world.specs.Stands.{AllKept}
 
@@ -31,5 +31,5 @@ kept_found past tx (l ∷ ls) (s ∷ ss) line same kept e =
   where
     by_test : (b : Bool) → same_tx l.tx tx ≡ b → cond b (Some l) (first_where (λ (m : TxLine). same_tx m.tx tx) ls) ≡ Some line
         → (first_where (λ (m : TxLine). same_tx m.tx tx) ls ≡ Some line → kept_reads tx ls ss ≡ (kept_of tx past).reads) → cond b s.reads (kept_reads tx ls ss) ≡ (kept_of tx past).reads
-    by_test true is e k = ap (λ (x : State). x.reads) (kept 0 l s refl refl) ∙ ap (λ t. (kept_of t past).reads) (same_tx-equal l.tx tx is)
+    by_test true is e k = ap (λ (x : State). x.reads) (kept 0 l s refl refl) ∙ ap (λ t. (kept_of t past).reads) (same_tx_alike l.tx tx is)
     by_test false is e k = k e

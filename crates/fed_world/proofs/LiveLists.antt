@@ -12,9 +12,9 @@ use Rattle.fed_rules.specs.SitePast.{SitePast, epoch_start, engine_lines, run_of
 use Rattle.fed_rules.specs.SiteRecords.{Home}
 use Rattle.fed_rules.specs.Story.{attempt}
 use Rattle.engine_laws.proofs.Runs.{tid_is, attempts_have}
-use Rattle.site_laws.specs.Locals.{begun_here, IsCounted}
-use Rattle.site_laws.proofs.OpenRuns.{is_open, open_tids, open_in, in_open}
-use Rattle.site_laws.proofs.RisingLists.{rising_one}
+use Rattle.local_laws.specs.Locals.{begun_here, IsCounted}
+use Rattle.local_laws.proofs.OpenRuns.{is_open, open_tids, open_in, in_open}
+use Rattle.rules_laws.proofs.RisingLists.{rising_one}
 use Rattle.local_laws.specs.Kept.{State, kept_of}
 use Rattle.local_laws.specs.Sound.{IsLiveAs, Keeps}
 use Rattle.local_laws.proofs.LiveOnes.{own_live}

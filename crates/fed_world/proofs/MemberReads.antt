@@ -20,12 +20,12 @@ use Rattle.fed_rules.specs.SiteRecords.{Home}
 use Rattle.fed_rules.specs.Story.{past_of, story_of}
 use Rattle.local_laws.specs.Kept.{State, resting, after_access, heard, heard_up, kept_of}
 use Rattle.local_laws.specs.Sound.{IsOwnEvent, Keeps}
-use Rattle.site_laws.specs.Led.{IsAsked, IsLed}
-use Rattle.site_laws.specs.Locals.{installed_tids}
-use Rattle.site_laws.proofs.Attempts.{same_tx-equal}
-use Rattle.site_laws.proofs.ListMembers.{found_in}
-use Rattle.site_laws.proofs.LiveRuns.{first_where-passes}
-use Rattle.site_laws.proofs.OneSite.{declared_home}
+use Rattle.local_laws.specs.Led.{IsAsked, IsLed}
+use Rattle.local_laws.specs.Locals.{installed_tids}
+use Rattle.order_laws.proofs.Alike.{same_tx_alike}
+use Rattle.order_laws.proofs.Members.{found_in}
+use Rattle.local_laws.proofs.LiveRuns.{first_where-passes}
+use Rattle.session_laws.proofs.OneSite.{declared_home}
 use Rattle.fed_world.specs.Reports.{kept_reads}
 use Rattle.fed_world.specs.Stands.{home_from, SiteStands}
 use Rattle.fed_world.proofs.Installed.{installed_last}
@@ -51,7 +51,7 @@ asked_begun : (scenario : Scenario) (home : Home) (past : SitePast) (tx : Tx) (e
 asked_begun scenario home past tx (Ev.Begin tid) answer state none asked = by_test (same_tx tid.tx tx) refl
   where
     by_test : (b : Bool) → same_tx tid.tx tx ≡ b → (heard_up tx (Ev.Begin tid) answer state).begun ≡ state.begun
-    by_test true is = (let some = subst (λ t. local_home scenario t ≡ Some home) (same_tx-equal tid.tx tx is) asked.homed in cc)
+    by_test true is = (let some = subst (λ t. local_home scenario t ≡ Some home) (same_tx_alike tid.tx tx is) asked.homed in cc)
     by_test false is = cc
 asked_begun scenario home past tx (Ev.Act tid act) answer state none asked = either_begun (same_tx tid.tx tx) _ _ state.begun (access_begun answer state) refl
 asked_begun scenario home past tx (Ev.Commit tid) answer state none asked = either_begun (same_tx tid.tx tx) _ _ state.begun refl refl
@@ -96,7 +96,7 @@ member_read core scenario site states armed commands tid s i = by_line (transact
     by_line : (o : Option TxLine) → transaction scenario tid.tx ≡ o → kept_reads tid.tx scenario.transactions states ≡ reads_of scenario (story_of scenario commands) tid
     by_line None e = (let none = led_unbegun scenario home past tid.tx (no_home scenario tid.tx e) led in let some = last in absurd (omega arith))
     by_line (Some l) e =
-        (let tx_is : l.tx ≡ tid.tx = same_tx-equal l.tx tid.tx (first_where-passes (λ (m : TxLine). same_tx m.tx tid.tx) scenario.transactions l e) in
+        (let tx_is : l.tx ≡ tid.tx = same_tx_alike l.tx tid.tx (first_where-passes (λ (m : TxLine). same_tx m.tx tid.tx) scenario.transactions l e) in
         let here = declared_home scenario s.line tid.tx l s.alone (found_in (λ (m : TxLine). same_tx m.tx tid.tx) scenario.transactions l e) tx_is in
         kept_found past tid.tx scenario.transactions states l s.at.places s.at.kept e
         ∙ (sym ((keeps.agrees tid.tx).answered tid.attempt last) ∙ sym (ap (λ h. reads_at h (story_of scenario commands) tid) here)))

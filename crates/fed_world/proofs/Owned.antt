@@ -14,9 +14,9 @@ use Rattle.fed_rules.specs.Site.{done}
 use Rattle.fed_rules.specs.SitePast.{SitePast, engine_lines, epoch_start, live, live_of_tx}
 use Rattle.fed_rules.specs.SiteRecords.{Home}
 use Rattle.fed_rules.specs.Story.{attempt, past_of, story_of}
-use Rattle.site_laws.specs.Locals.{IsRunning}
-use Rattle.site_laws.proofs.Commands.{done_is}
-use Rattle.site_laws.proofs.LiveTx.{quiet_none, running_live, running_some}
+use Rattle.local_laws.specs.Locals.{IsRunning}
+use Rattle.local_laws.proofs.Commands.{done_is}
+use Rattle.local_laws.proofs.LiveTx.{quiet_none, running_live, running_some}
 use Rattle.local_laws.specs.Kept.{State, kept_of}
 use Rattle.local_laws.specs.Sound.{Agrees, IsLiveAs, IsOwn, Keeps}
 use Rattle.fed_world.specs.Places.{IsPlace}

@@ -5,7 +5,7 @@ use Rattle.fed_rules.specs.declared.scenario.Scenario.{Scenario}
 use Rattle.fed_rules.specs.Closing.{rising, live_at}
 use Rattle.fed_rules.specs.Runs.{Start, EngineLine}
 use Rattle.fed_rules.specs.Story.{story_of, past_of}
-use Rattle.site_laws.proofs.OneSite.{one_home}
+use Rattle.session_laws.proofs.OneSite.{one_home}
 use Rattle.fed_world.specs.declared.local_site.LocalSite.{LocalSite}
 use Rattle.fed_world.specs.Closings.{live_tids, live_at_first}
 use Rattle.fed_world.specs.Live.{live_ones}

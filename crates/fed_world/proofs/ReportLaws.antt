@@ -30,11 +30,11 @@ use Rattle.local_laws.proofs.Stops.{unprepared}
 use Rattle.session_laws.specs.Tables.{TablesOfRunningSites}
 use Rattle.site_history.specs.SiteOrders.{IsSerialPast}
 use Rattle.site_history.specs.Stories.{OfSites}
-use Rattle.site_laws.specs.Locals.{installed_tids}
-use Rattle.site_laws.proofs.LocalInstalls.{due_installed}
-use Rattle.site_laws.proofs.OneOrder.{least_merge-one}
-use Rattle.site_laws.proofs.OneSite.{one_site, one_home}
-use Rattle.site_laws.proofs.Reversed.{map_reverse, in_reverse, map_same}
+use Rattle.local_laws.specs.Locals.{installed_tids}
+use Rattle.local_laws.proofs.LocalInstalls.{due_installed}
+use Rattle.order_laws.proofs.OneOrder.{least_merge-one}
+use Rattle.session_laws.proofs.OneSite.{one_site, one_home}
+use Rattle.order_laws.proofs.Reversed.{map_reverse, in_reverse, map_same}
 use Rattle.fed_world.specs.Commits.{numbered}
 use Rattle.fed_world.specs.Reports.{member_tid, reads_of_member}
 use Rattle.fed_world.specs.Stands.{home_from, SiteStands}

@@ -10,9 +10,9 @@ use Rattle.fed_rules.specs.Scenarios.{program_of}
 use Rattle.fed_rules.specs.SitePast.{SitePast, records}
 use Rattle.fed_rules.specs.Story.{Happened, AtSite, AtCoordinator, Nowhere, happens, past_of, story_of, with_site}
 use Rattle.site_core.specs.Steps.{EpochFits, NumberFits}
-use Rattle.site_laws.specs.Led.{IsLed}
-use Rattle.site_laws.proofs.Led.{pasts_led}
-use Rattle.site_laws.proofs.OneSite.{one_home}
+use Rattle.local_laws.specs.Led.{IsLed}
+use Rattle.local_laws.proofs.Led.{pasts_led}
+use Rattle.session_laws.proofs.OneSite.{one_home}
 use Rattle.local_laws.specs.Sound.{IsOwn, IsOwnEvent, Keeps}
 use Rattle.local_laws.proofs.Served.{epoch_below}
 use Rattle.local_laws.proofs.Stories.{all_allow, led_keeps}

@@ -15,9 +15,9 @@ use Rattle.fed_rules.specs.Site.{site_line}
 use Rattle.fed_rules.specs.SitePast.{SitePast}
 use Rattle.fed_rules.specs.SiteRecords.{Home}
 use Rattle.fed_rules.specs.Story.{Story, Nowhere, at_site, attempt, happens, past_of, story_of}
-use Rattle.site_laws.proofs.StoryCommands.{abort_at, abort_idle}
-pub use Rattle.site_laws.proofs.StoryCommands.{abort_down}
-use Rattle.site_laws.proofs.SiteLines.{pick-some}
+use Rattle.local_laws.proofs.StoryCommands.{abort_at, abort_idle}
+pub use Rattle.local_laws.proofs.StoryCommands.{abort_down}
+use Rattle.local_laws.proofs.SiteLines.{pick-some}
 use Rattle.local_laws.specs.Kept.{State, resting}
 use Rattle.fed_world.specs.declared.local_site.LocalSite.{LocalSite}
 use Rattle.fed_world.specs.Stands.{home_from, SiteStands, Hands, IsTold}

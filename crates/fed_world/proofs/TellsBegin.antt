@@ -17,7 +17,7 @@ use Rattle.fed_rules.specs.Site.{site_line}
 use Rattle.fed_rules.specs.SitePast.{SitePast}
 use Rattle.fed_rules.specs.SiteRecords.{Home}
 use Rattle.fed_rules.specs.Story.{Nowhere, at_site, attempt, happens, most_attempts, past_of, story_of, unless_begun}
-use Rattle.site_laws.proofs.StoryCommands.{begin_at}
+use Rattle.local_laws.proofs.StoryCommands.{begin_at}
 use Rattle.local_laws.specs.Kept.{State, after_begin, resting}
 use Rattle.fed_world.specs.declared.local_site.LocalSite.{LocalSite}
 use Rattle.fed_world.specs.Stands.{home_from, Hands, IsTold, SiteStands}

@@ -22,10 +22,10 @@ use Rattle.fed_rules.specs.SitePast.{SitePast}
 use Rattle.fed_rules.specs.SiteRecords.{Home}
 use Rattle.fed_rules.specs.Story.{Story, Nowhere, at_site, attempt, happens, past_of, story_of}
 use Rattle.site_core.specs.Steps.{HasFewAccesses}
-use Rattle.site_laws.proofs.StoryCommands.{step_at, step_end, step_idle}
-pub use Rattle.site_laws.proofs.StoryCommands.{step_down}
-use Rattle.site_laws.proofs.ListMembers.{item_at-below}
-use Rattle.site_laws.proofs.SiteLines.{pick-some}
+use Rattle.local_laws.proofs.StoryCommands.{step_at, step_end, step_idle}
+pub use Rattle.local_laws.proofs.StoryCommands.{step_down}
+use Rattle.order_laws.proofs.Members.{item_at-below}
+use Rattle.local_laws.proofs.SiteLines.{pick-some}
 use Rattle.local_laws.specs.Kept.{State, after_access, resting}
 use Rattle.fed_world.specs.declared.local_site.LocalSite.{LocalSite}
 use Rattle.fed_world.specs.Stands.{home_from, Hands, IsTold, SiteStands}

@@ -17,10 +17,10 @@ use Rattle.fed_rules.specs.Scenarios.{home_at, home_of_line, local_home, program
 use Rattle.fed_rules.specs.SitePast.{SiteHappening, SitePast, trip, trip_of}
 use Rattle.fed_rules.specs.SiteRecords.{Home}
 use Rattle.fed_rules.specs.Story.{AtSite, Nowhere, story_of, happens, answer_of, place_from, sent_from, places_of, past_of, coord_past, with_site, with_coordinator}
-use Rattle.site_laws.proofs.Attempts.{same_tx-equal}
-use Rattle.site_laws.proofs.ListMembers.{found_in}
-use Rattle.site_laws.proofs.LiveRuns.{first_where-passes}
-use Rattle.site_laws.proofs.OneSite.{declared_home}
+use Rattle.order_laws.proofs.Alike.{same_tx_alike}
+use Rattle.order_laws.proofs.Members.{found_in}
+use Rattle.local_laws.proofs.LiveRuns.{first_where-passes}
+use Rattle.session_laws.proofs.OneSite.{declared_home}
 use Rattle.local_laws.specs.Kept.{State, resting, heard, heard_up, kept_of}
 use Rattle.local_laws.specs.Sound.{IsOwn}
 use Rattle.fed_world.specs.Places.{IsPlace}
@@ -62,7 +62,7 @@ pub one_at : {A : Type 0} (xs : List A) (place : ℕ) (a b : A) → slice_get xs
 one_at xs place a b at got = same_Some a b (sym at ∙ got)
 
 pub place_tx : (scenario : Scenario) (tx : Tx) (place : ℕ) → (p : IsPlace scenario.transactions tx place) → p.line.tx ≡ tx
-place_tx scenario tx place p = same_tx-equal p.line.tx tx (first_where-passes (λ (l : TxLine). same_tx l.tx tx) scenario.transactions p.line p.first)
+place_tx scenario tx place p = same_tx_alike p.line.tx tx (first_where-passes (λ (l : TxLine). same_tx l.tx tx) scenario.transactions p.line p.first)
 
 pub place_program : (scenario : Scenario) (tx : Tx) (place : ℕ) → (p : IsPlace scenario.transactions tx place) → program_of scenario tx ≡ p.line.program
 place_program scenario tx place p = ap program_of_line p.first

@@ -21,7 +21,7 @@ use Rattle.local_laws.specs.Sound.{IsOwn}
 use Rattle.site_core.specs.declared.errors.StepErr.{StepErr}
 use Rattle.site_core.specs.declared.errors.StepErr.TheVariants as Err_is
 use Rattle.site_core.specs.Stands.{Holds, Stands as CoreStands, cut_line}
-pub use Rattle.site_laws.specs.Sessions.{home_from, IsAlone}
+pub use Rattle.session_laws.specs.Sessions.{home_from, IsAlone}
 use Rattle.fed_world.specs.declared.local_site.LocalSite.{LocalSite}
 
 -- what is kept of each transaction is what the lines of the site make of it

@@ -30,10 +30,9 @@ use Rattle.fed_rules.specs.Story.{value_of}
 use Rattle.commit_laws.proofs.SiteShut.{restored-sealed, given-up}
 use Rattle.site_history.specs.Accesses.{seals}
 use Rattle.federation_laws.specs.Accesses.{act_of}
-use Rattle.federation_laws.proofs.SiteAbout.{IsAbout, act-plain}
+use Rattle.federation_laws.proofs.SiteAbout.{IsAbout, act-plain, refusal-plain, settling-tid}
 use Rattle.federation_laws.proofs.SiteMoves.{Fits, access-fits, others-run, live-next, live-run, unsealed-live}
 use Rattle.federation_laws.proofs.SiteSteps.{no-seals, own-line, settled-none}
-use Rattle.federation_laws.proofs.SiteAbout.{refusal-plain, settling-tid}
 
 -- the line reads nothing for the attempt, and doesn't seal it
 pub record Idle (t : Tid) (x : SiteHappening) : Type 0 where

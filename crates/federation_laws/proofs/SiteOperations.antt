@@ -1,6 +1,6 @@
 -- Operations at a site: what an act and the taking of the ticket make of the attempt's run.
 use Rattle.std.proofs.Common.{◌≡◌, ℕ, ◌+◌, ◌==◌, Bool, true, false, cond, not, ◌&&◌, ◌||◌, nat_lt, is_some, Option, Some, None, List, [], ◌∷◌, length, map, inl, inr, refl, sym, ap, subst, ◌∙◌, eqb-true, arith}
-use Rattle.std.proofs.lemmas.Bool.{or_left, or_right}
+use Rattle.std.proofs.lemmas.Bool.{or_left, or_right, and_parts}
 use Rattle.mdb_base.specs.declared.acts.PlainAct.{PlainAct}
 use Rattle.mdb_base.specs.declared.acts.PlainAct.TheVariants.{Read, Write}
 use Rattle.mdb_base.specs.declared.names.Tid.{Tid}
@@ -21,7 +21,6 @@ use Rattle.fed_rules.specs.SitePast.{SiteHappening, SitePast, records, epoch_sta
 use Rattle.fed_rules.specs.SiteRecords.{Home, doubt_of}
 use Rattle.federation_laws.proofs.CoordOps.{Matches}
 use Rattle.federation_laws.proofs.SiteMoves.{run_ops, ops_of, length-map, done-ops, IsNth, IsFrom, Move, Same, Going, Ending, finishes, Moves, Fits, access-fits, FitsTicket, ticket-fits, live-run, unsealed-live}
-use Rattle.std.proofs.lemmas.Bool.{and_parts}
 
 pub moves_when : (home : Home) (g : Tid) (past : SitePast) (event : SiteEvent) (t : Bool) (a b : SiteHappening) → (t ≡ true → Moves home g past event a) → (t ≡ false → Moves home g past event b) → Moves home g past event (when t a b)
 unfolding when

@@ -1,6 +1,6 @@
 -- Each line of a site, also one that a stop ends: what it makes of one attempt that isn't local there.
 use Rattle.std.proofs.Common.{◌≡◌, ℕ, ◌==◌, Bool, true, false, cond, ◌||◌, is_some, Option, Some, None, List, [], ◌∷◌, inl, inr, refl, sym, ap, subst, ◌∙◌, eqb-true}
-use Rattle.std.proofs.lemmas.Bool.{or_left, or_right}
+use Rattle.std.proofs.lemmas.Bool.{or_left, or_right, and_parts}
 use Rattle.mdb_base.specs.declared.names.Tid.{Tid}
 use Rattle.mdb_base.specs.declared.replies.Why.{Why}
 use Rattle.mdb_base.specs.Names.{same_tid}
@@ -26,11 +26,9 @@ use Rattle.fed_rules.specs.SiteRecords.{Home, Held, site_frame, epoch_of, doubt_
 use Rattle.commit_laws.proofs.SiteShut.{given-up}
 use Rattle.site_history.specs.Accesses.{seals}
 use Rattle.site_history.specs.Records.{IsPrepared}
-use Rattle.federation_laws.proofs.SiteAbout.{Speaks, SealsOnly, IsAbout, sync-records}
+use Rattle.federation_laws.proofs.SiteAbout.{Speaks, SealsOnly, IsAbout, sync-records, settling-tid}
 use Rattle.federation_laws.proofs.SiteMoves.{Same, Ending, Says, IsSealing, Moves, others-run, live-next, live-run}
 use Rattle.federation_laws.proofs.SiteOperations.{moves_when, moves_pick}
-use Rattle.std.proofs.lemmas.Bool.{and_parts}
-use Rattle.federation_laws.proofs.SiteAbout.{settling-tid}
 
 -- a record of another attempt doesn't seal this one
 pub no-seals : (tid g : Tid) (calls : List (Call SiteRecord)) → same_tid tid g ≡ false → Each (SealsOnly tid) calls → some_of (seals g) calls ≡ false

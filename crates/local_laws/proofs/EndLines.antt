@@ -21,16 +21,16 @@ use Rattle.fed_rules.specs.Site.{with_lines, refusal_answer, reply_to, stop_of, 
 use Rattle.fed_rules.specs.SitePast.{SiteHappening, SitePast, records, epoch_start, engine_lines, run_of, live, attempts_of, begins_tx}
 use Rattle.fed_rules.specs.SiteRecords.{Home}
 use Rattle.fed_rules.specs.Story.{attempt, run_reads}
-use Rattle.engine_contract.proofs.Follows.{run_at-own}
+use Rattle.engine_laws.proofs.RunLines.{run_at_own}
 use Rattle.engine_laws.proofs.Counted.{counted}
 use Rattle.local_laws.specs.Asked.{IsStep}
-use Rattle.site_laws.specs.Locals.{IsQuiet, IsRunning}
-use Rattle.site_laws.proofs.About.{IsAbout, unread_reads, unbegun_attempts}
-use Rattle.site_laws.proofs.Attempts.{same_tx-refl}
-use Rattle.site_laws.proofs.Commands.{done_is}
-use Rattle.site_laws.proofs.Lines.{acts_about, act_begins-none, sealed_about, refused_about, aborts_about, refusal_answer-is}
-use Rattle.site_laws.proofs.Own.{act_line, rests, sealed_commits}
-use Rattle.site_laws.proofs.OwnRuns.{live_has}
+use Rattle.local_laws.specs.Locals.{IsQuiet, IsRunning}
+use Rattle.local_laws.proofs.About.{IsAbout, unread_reads, unbegun_attempts}
+use Rattle.order_laws.proofs.Alike.{same_tx_self}
+use Rattle.local_laws.proofs.Commands.{done_is}
+use Rattle.local_laws.proofs.LineAnswers.{acts_about, act_begins-none, sealed_about, refused_about, aborts_about, refusal_answer-is}
+use Rattle.local_laws.proofs.Own.{act_line, rests, sealed_commits}
+use Rattle.local_laws.proofs.OwnRuns.{live_has}
 use Rattle.local_laws.specs.Kept.{State, resting, kept_of}
 use Rattle.local_laws.specs.Sound.{Agrees, Keeps}
 use Rattle.local_laws.proofs.Lines.{IsOwnLine, fit_same}
@@ -73,7 +73,7 @@ act_own programs home past tid act k here s = record {
     few = (let few = k.sound.few in omega arith);
     right = ((s.run, ((l.own, unsealed_run home past tid s.run state l), refl)), k.sound.right);
   };
-  own = subst (λ st. Agrees home (x ∷ past) tid.tx program st) (sym (cond-false _ _ _ about.stays ∙ cond-true _ _ _ (same_tx-refl tid.tx)))
+  own = subst (λ st. Agrees home (x ∷ past) tid.tx program st) (sym (cond-false _ _ _ about.stays ∙ cond-true _ _ _ (same_tx_self tid.tx)))
       (access_agrees home past tid.tx tid.attempt program state s.step (k.agrees tid.tx) l.one.live l.one.last r at (epoch_start home past) (engine_lines past) s.run act asks);
   others = λ tx st apart. cond-false _ _ _ about.stays ∙ cond-false _ _ _ apart;
 }
@@ -131,7 +131,7 @@ abort_own programs home past tid run k here e = record {
     few = (let few = k.sound.few in omega arith);
     right = ((run, l.own), k.sound.right);
   };
-  own = subst (λ st. Agrees home (x ∷ past) tid.tx (programs tid.tx) st) (sym (cond-true _ _ _ (same_tx-refl tid.tx)))
+  own = subst (λ st. Agrees home (x ∷ past) tid.tx (programs tid.tx) st) (sym (cond-true _ _ _ (same_tx_self tid.tx)))
       (rest_own home past tid.tx (programs tid.tx) state x (λ t. refl) refl (rests home past tid.tx tid.attempt state.done state.reads x (Aborts tid) l.one.running about refl refl refl refl).quiet (k.agrees tid.tx));
   others = λ tx st apart. cond-false _ _ _ apart;
 }
@@ -161,7 +161,7 @@ refused_own programs home past tid run why k here e stop = record {
     few = (let few = k.sound.few in omega arith);
     right = ((run, ((l.own, unsealed_run home past tid run state l), ap (λ kind. seal_stop kind (epoch_start home past) (engine_lines past) run) k.sound.kind ∙ stop)), k.sound.right);
   };
-  own = subst (λ st. Agrees home (x ∷ past) tid.tx (programs tid.tx) st) (sym (cond-false _ _ _ about.stays ∙ cond-true _ _ _ (same_tx-refl tid.tx)))
+  own = subst (λ st. Agrees home (x ∷ past) tid.tx (programs tid.tx) st) (sym (cond-false _ _ _ about.stays ∙ cond-true _ _ _ (same_tx_self tid.tx)))
       (rest_own home past tid.tx (programs tid.tx) state x (λ t. refl) (unbegun tid.tx) (rests home past tid.tx tid.attempt state.done state.reads x (Refuses tid why) l.one.running about refl refl refl refl).quiet (k.agrees tid.tx));
   others = λ tx st apart. cond-false _ _ _ about.stays ∙ cond-false _ _ _ apart;
 }
@@ -208,11 +208,11 @@ sealed_own programs home past tid run k here e stop = record {
     resting = λ down. cc;
     few = (let few = k.sound.few in let n = f.number in omega arith);
     right = (
-      (record run { sealed = Some number }, number, (run_at-own start (engine_lines past) (Seals tid number) (Some run) l.own, refl)),
+      (record run { sealed = Some number }, number, (run_at_own start (engine_lines past) (Seals tid number) (Some run) l.own, refl)),
       ((run, ((l.own, unsealed_run home past tid run state l), ap (λ kind. seal_stop kind start (engine_lines past) run) k.sound.kind ∙ stop, ap (λ kind. seal_number kind start (engine_lines past) run) (sym k.sound.kind))), k.sound.right),
     );
   };
-  own = subst (λ st. Agrees home (x ∷ past) tid.tx (programs tid.tx) st) (sym (cond-true _ _ _ (same_tx-refl tid.tx)))
+  own = subst (λ st. Agrees home (x ∷ past) tid.tx (programs tid.tx) st) (sym (cond-true _ _ _ (same_tx_self tid.tx)))
       (rest_own home past tid.tx (programs tid.tx) state x (λ t. refl) refl
       (subst (λ (u : Run). IsQuiet home (seals_local home past tid u ∷ past) tid.tx) l.one.same (sealed_commits home past tid.tx tid.attempt state.done state.reads l.one.running).quiet) (k.agrees tid.tx));
   others = λ tx st apart. cond-false _ _ _ apart;

@@ -14,9 +14,9 @@ use Rattle.fed_rules.specs.Runs.{run_at, counter}
 use Rattle.fed_rules.specs.SitePast.{SiteHappening, SitePast, disk, records, epoch_start, engine_lines, begins_tx}
 use Rattle.fed_rules.specs.SiteRecords.{Home, site_frame, local_of}
 use Rattle.fed_rules.specs.Story.{attempt}
-use Rattle.site_laws.proofs.About.{IsAbout, engine_lines-next, epoch_start-next, run_of-next, unread_reads, unbegun_attempts}
-use Rattle.site_laws.proofs.Attempts.{same_tx-equal}
-use Rattle.site_laws.proofs.Unmoved.{other_unmoved}
+use Rattle.local_laws.proofs.About.{IsAbout, engine_lines-next, epoch_start-next, run_of-next, unread_reads, unbegun_attempts}
+use Rattle.order_laws.proofs.Alike.{same_tx_alike}
+use Rattle.local_laws.proofs.Unmoved.{other_unmoved}
 use Rattle.local_laws.specs.Kept.{State, heard, kept_of}
 use Rattle.local_laws.specs.Sound.{Agrees, Fits, IsSound, Keeps}
 use Rattle.local_laws.proofs.Stops.{IsSilent, each_fits, agrees_unmoved}
@@ -111,7 +111,7 @@ pub own_keeps : (programs : Programs) (home : Home) (past : SitePast) (tid : Tid
 own_keeps programs home past tid x o k = record { sound = next_sound home past x k.sound o.next; agrees = λ tx. by_test tx (same_tx tid.tx tx) refl }
   where
     by_test : (tx : Tx) (b : Bool) → same_tx tid.tx tx ≡ b → Agrees home (x ∷ past) tx (programs tx) (heard tx x.event x.answer (kept_of tx past))
-    by_test tx true is = subst (λ t. Agrees home (x ∷ past) t (programs t) (heard t x.event x.answer (kept_of t past))) (same_tx-equal tid.tx tx is) o.own
+    by_test tx true is = subst (λ t. Agrees home (x ∷ past) t (programs t) (heard t x.event x.answer (kept_of t past))) (same_tx_alike tid.tx tx is) o.own
     by_test tx false is =
         subst (λ st. Agrees home (x ∷ past) tx (programs tx) st) (sym (o.others tx (kept_of tx past) is))
         (agrees_unmoved home past x tx (programs tx) (kept_of tx past) (other_unmoved home past x tid tx o.about is) (k.agrees tx))

@@ -23,12 +23,12 @@ use Rattle.fed_rules.specs.Site.{act_answer}
 use Rattle.fed_rules.specs.SitePast.{SitePast, run_of}
 use Rattle.fed_rules.specs.SiteRecords.{Home}
 use Rattle.fed_rules.specs.Story.{attempt}
-use Rattle.site_laws.specs.Locals.{IsRunning}
-use Rattle.site_laws.proofs.About.{unread_reads, about_reads, unbegun_attempts}
-use Rattle.site_laws.proofs.Attempts.{other_attempt}
-use Rattle.site_laws.proofs.Lines.{acts_about, act_begins-none}
-use Rattle.site_laws.proofs.ListMembers.{item_at-below}
-use Rattle.site_laws.proofs.Own.{act_line, rests, read_runs, write_runs, stays_runs}
+use Rattle.local_laws.specs.Locals.{IsRunning}
+use Rattle.local_laws.proofs.About.{unread_reads, about_reads, unbegun_attempts}
+use Rattle.local_laws.proofs.Attempts.{other_attempt}
+use Rattle.local_laws.proofs.LineAnswers.{acts_about, act_begins-none}
+use Rattle.order_laws.proofs.Members.{item_at-below}
+use Rattle.local_laws.proofs.Own.{act_line, rests, read_runs, write_runs, stays_runs}
 use Rattle.local_laws.specs.Kept.{State, after_access, resting}
 use Rattle.local_laws.specs.Sound.{IsLiveAs, Agrees}
 

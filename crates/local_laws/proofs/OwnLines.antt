@@ -17,12 +17,12 @@ use Rattle.fed_rules.specs.Site.{with_lines, next_number}
 use Rattle.fed_rules.specs.SitePast.{SiteHappening, SitePast, records, epoch_start, engine_lines, attempts_of}
 use Rattle.fed_rules.specs.SiteRecords.{Home, local_of}
 use Rattle.fed_rules.specs.Story.{attempt, most_attempts}
-use Rattle.engine_contract.proofs.Follows.{counter-begun}
-use Rattle.site_laws.specs.Locals.{IsIdle}
-use Rattle.site_laws.proofs.About.{IsAbout, unread_reads, about_attempts}
-use Rattle.site_laws.proofs.Attempts.{same_tx-refl, same_tx-equal}
-use Rattle.site_laws.proofs.Lines.{begins_about}
-use Rattle.site_laws.proofs.Own.{begun_runs}
+use Rattle.engine_laws.proofs.RunLines.{counter_begun}
+use Rattle.local_laws.specs.Locals.{IsIdle}
+use Rattle.local_laws.proofs.About.{IsAbout, unread_reads, about_attempts}
+use Rattle.order_laws.proofs.Alike.{same_tx_alike, same_tx_self}
+use Rattle.local_laws.proofs.LineAnswers.{begins_about}
+use Rattle.local_laws.proofs.Own.{begun_runs}
 use Rattle.local_laws.specs.Kept.{State, kept_of}
 use Rattle.local_laws.specs.Sound.{Agrees, Fits, Keeps}
 use Rattle.local_laws.proofs.Lines.{IsOwnLine}
@@ -36,7 +36,7 @@ pub unlike_back : (a b : Tx) → same_tx a b ≡ false → same_tx b a ≡ false
 unlike_back a b e = by_test (same_tx b a) refl
   where
     by_test : (t : Bool) → same_tx b a ≡ t → same_tx b a ≡ false
-    by_test true is = (let same = same_tx-equal b a is in let itself : same_tx a a ≡ false = subst (λ u. same_tx a u ≡ false) same e in let yes = same_tx-refl a in cc)
+    by_test true is = (let same = same_tx_alike b a is in let itself : same_tx a a ≡ false = subst (λ u. same_tx a u ≡ false) same e in let yes = same_tx_self a in cc)
     by_test false is = is
 
 -- records of which none commits the transaction fit behind a begin of it
@@ -65,11 +65,11 @@ begin_own programs home past tx k here idle few = record {
     up = refl;
     fits = fit_begun past x tid (length past) (records home past) (λ other e. about_attempts past tid other x about e) idle.uncommitted k.sound.records;
     resting = λ down. cc;
-    few = (let drawn = counter-begun start (engine_lines past) tid (next_number home past) right in let before = k.sound.few in omega arith);
+    few = (let drawn = counter_begun start (engine_lines past) tid (next_number home past) right in let before = k.sound.few in omega arith);
     right = right;
   };
-  own = subst (λ st. Agrees home (x ∷ past) tx (programs tx) st) (sym (cond-true _ _ _ (same_tx-refl tx))) (record {
-    begun = cond-true _ _ _ (same_tx-refl tx) ∙ (ap (λ n. suc n) a.begun ∙ sym (add-one state.begun));
+  own = subst (λ st. Agrees home (x ∷ past) tx (programs tx) st) (sym (cond-true _ _ _ (same_tx_self tx))) (record {
+    begun = cond-true _ _ _ (same_tx_self tx) ∙ (ap (λ n. suc n) a.begun ∙ sym (add-one state.begun));
     few = omega arith;
     within = omega arith;
     counted = refl;

@@ -24,13 +24,13 @@ use Rattle.fed_rules.specs.SitePast.{SiteHappening, SitePast, disk, epoch, recor
 use Rattle.fed_rules.specs.SiteRecords.{Home, epoch_of, local_of, site_frame, site_payload}
 use Rattle.fed_rules.specs.Story.{attempt, most_attempts}
 use Rattle.local_laws.specs.Asked.{IsAsked, IsBegin, IsStep, IsCommit, IsAbort}
-use Rattle.site_laws.specs.Locals.{IsQuiet}
-use Rattle.site_laws.proofs.About.{unbegun_attempts}
-use Rattle.site_laws.proofs.LiveTx.{quiet_none, running_some}
-use Rattle.site_laws.proofs.ListMembers.{take_each}
-use Rattle.site_laws.proofs.Own.{act_line}
-use Rattle.site_laws.proofs.OwnRuns.{live_has}
-use Rattle.site_laws.proofs.SiteLines.{begin_committed, begin_running, begin_begins, act_live, commit_sealed, commit_refused, abort_live}
+use Rattle.local_laws.specs.Locals.{IsQuiet}
+use Rattle.local_laws.proofs.About.{unbegun_attempts}
+use Rattle.local_laws.proofs.LiveTx.{quiet_none, running_some}
+use Rattle.order_laws.proofs.Members.{take_each}
+use Rattle.local_laws.proofs.Own.{act_line}
+use Rattle.local_laws.proofs.OwnRuns.{live_has}
+use Rattle.local_laws.proofs.SiteLines.{begin_committed, begin_running, begin_begins, act_live, commit_sealed, commit_refused, abort_live}
 use Rattle.local_laws.specs.Kept.{State, after_begin, heard_up, heard, kept_of}
 use Rattle.local_laws.specs.Sound.{IsLiveAs, Fits, Keeps, IsOwnEvent}
 use Rattle.local_laws.proofs.Appended.{Appends}

@@ -19,8 +19,8 @@ use Rattle.fed_rules.specs.Runs.{run_at, restored_at, counter}
 use Rattle.fed_rules.specs.SitePast.{SiteHappening, SitePast, disk, records, epoch_start, engine_lines, run_of, attempts_of, begins_tx}
 use Rattle.fed_rules.specs.SiteRecords.{Home, site_frame, kept_held, doubt_of, prepared_tids, last_number, start_of, by_tid}
 use Rattle.fed_rules.specs.Story.{attempt}
-use Rattle.site_laws.proofs.About.{unread_reads, unbegun_attempts}
-use Rattle.site_laws.proofs.Unmoved.{IsUnmoved, running_unmoved}
+use Rattle.local_laws.proofs.About.{unread_reads, unbegun_attempts}
+use Rattle.local_laws.proofs.Unmoved.{IsUnmoved, running_unmoved}
 use Rattle.local_laws.specs.Kept.{State, resting, heard, kept_of}
 use Rattle.local_laws.specs.Sound.{IsLiveAs, Agrees, Fits, IsSound, Keeps}
 use Rattle.local_laws.proofs.Appended.{Appends, calls_each}

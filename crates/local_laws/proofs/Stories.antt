@@ -17,9 +17,9 @@ use Rattle.fed_rules.specs.SiteRecords.{Home}
 use Rattle.fed_rules.specs.Story.{Story, story_of}
 use Rattle.rules_laws.specs.Lines.{Asks}
 use Rattle.rules_laws.proofs.SiteRequests.{asks}
-use Rattle.site_laws.specs.Led as Led
-use Rattle.site_laws.specs.Led.{IsLed, Allows, AllAllow}
-use Rattle.site_laws.proofs.Led.{live_is_of}
+use Rattle.local_laws.specs.Led as Led
+use Rattle.local_laws.specs.Led.{IsLed, Allows, AllAllow}
+use Rattle.local_laws.proofs.Led.{live_is_of}
 use Rattle.local_laws.specs.Asked.{IsAsked}
 use Rattle.local_laws.specs.Kept.{unbegun}
 use Rattle.local_laws.specs.Sound.{Agrees, Keeps, IsOwnEvent, IsOwn}

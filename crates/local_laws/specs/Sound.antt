@@ -21,7 +21,7 @@ use Rattle.fed_rules.specs.SiteCommands.{Programs}
 use Rattle.fed_rules.specs.SitePast.{SitePast, attempts_of, epoch_start, engine_lines, records}
 use Rattle.fed_rules.specs.SiteRecords.{Home}
 use Rattle.fed_rules.specs.Story.{attempt, most_attempts, past_of, story_of}
-use Rattle.site_laws.specs.Locals.{IsQuiet, IsRunning}
+use Rattle.local_laws.specs.Locals.{IsQuiet, IsRunning}
 use Rattle.local_laws.specs.Kept.{State, kept_of}
 
 -- no attempt is live, or this one is, the last one that began, with these steps and reads

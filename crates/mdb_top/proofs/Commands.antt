@@ -22,7 +22,7 @@ use Rattle.scenario_text.specs.Kept.{is_command}
 use Rattle.session_laws.specs.Closing.{IsAtSite, past_at, disarmed, brought_up, cleared, with_aborts}
 use Rattle.session_laws.proofs.Closed.{closed_none, closed_so}
 use Rattle.session_laws.proofs.Heard.{site_some}
-use Rattle.site_laws.specs.Sessions.{IsOneSite}
+use Rattle.session_laws.specs.Sessions.{IsOneSite}
 use Rattle.mdb_top.specs.Verdicts.{is_own_command}
 
 -- the site that the command stops, trips or starts is declared

@@ -26,8 +26,8 @@ use Rattle.site_core.specs.declared.store.Store.{Store}
 use Rattle.site_core.specs.Stands.{Stands as CoreStands}
 use Rattle.site_core.specs.Store.{HoldsBytes, IsInOrder, Keeps, is_up, seen, stopped_disk}
 use Rattle.site_journal.specs.Spelling.{spelling}
-use Rattle.site_laws.specs.Sessions.{home_from}
-use Rattle.site_laws.proofs.OneSite.{one_home}
+use Rattle.session_laws.specs.Sessions.{home_from}
+use Rattle.session_laws.proofs.OneSite.{one_home}
 use Rattle.mdb_top.specs.Disks.{HoldAll, HoldFrames, HoldNothing, HoldOthers, StopsWithin, disk_at, disk_of, frames_at}
 
 -- a list without items

@@ -14,7 +14,7 @@ use Rattle.fed_rules.specs.declared.scenario.Scenario.{Scenario}
 use Rattle.fed_rules.specs.declared.scenario.SiteLine.{SiteLine}
 use Rattle.fed_rules.specs.declared.scenario.TxLine.{TxLine}
 use Rattle.fed_rules.specs.Plans.{IsScenario, all_differ, one_transaction, is_declared, is_in_place, is_transaction}
-use Rattle.site_laws.specs.Sessions.{IsAlone}
+use Rattle.session_laws.specs.Sessions.{IsAlone}
 use Rattle.order_laws.proofs.Names.{same_site_alike}
 use Rattle.mdb_top.specs.Verdicts.{is_locking, is_one_site, is_local}
 

@@ -12,7 +12,7 @@ use Rattle.fed_rules.specs.declared.scenario.SiteLine.{SiteLine}
 use Rattle.fed_rules.specs.Plans.{IsScenario, has_site, is_between}
 use Rattle.fed_rules.specs.Scenarios.{items_of}
 use Rattle.record_fields.specs.Named.{IsSite}
-use Rattle.site_laws.proofs.ListMembers.{each_passes}
+use Rattle.order_laws.proofs.Members.{each_passes}
 
 one_more : (row : Put) (rows : List Put) → length (with_row row rows) ≤ suc (length rows)
 one_more row [] = omega arith

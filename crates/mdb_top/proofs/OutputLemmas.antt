@@ -23,7 +23,7 @@ use Rattle.scenario_text.specs.Kept.{AreCommands}
 use Rattle.session_laws.specs.Serial.{OwnSessionsAreSerial}
 use Rattle.session_laws.proofs.AllLocal.{IsAllLocal, alone_local, none_local}
 use Rattle.session_laws.proofs.Up.{closed_up}
-use Rattle.site_laws.specs.Sessions.{IsOneSite}
+use Rattle.session_laws.specs.Sessions.{IsOneSite}
 use Rattle.mdb_base.specs.declared.names.Memory.{Memory}
 use Rattle.mdb_top.specs.declared.output.Output.{Output}
 use Rattle.mdb_top.specs.declared.output.Output.TheVariants.{Whole, Broken}

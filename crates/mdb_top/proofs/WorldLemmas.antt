@@ -15,7 +15,7 @@ use Rattle.fed_world.specs.Worlds.{AllUp, AreEmpty, HasCause, IsBroken, NeverFal
 use Rattle.journal_disk.specs.Disk.{Image}
 use Rattle.local_laws.specs.Sound.{IsOwn}
 use Rattle.site_core.specs.Store.{is_up}
-use Rattle.site_laws.specs.Sessions.{IsOneSite, home_from}
+use Rattle.session_laws.specs.Sessions.{IsOneSite, home_from}
 use Rattle.mdb_top.specs.Disks.{BreaksAt, HoldAll, HoldFrames, HoldNothing, RoseAt}
 use Rattle.mdb_top.proofs.DiskLemmas.{OthersNothing, cut_stops, keeps_bytes, keeps_frames, none_hold_all, none_hold_frames, nothing, one_hold_all, one_hold_frames, others_hold, own_home}
 use Rattle.mdb_top.proofs.Progress.{risen-before}

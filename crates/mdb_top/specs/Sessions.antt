@@ -9,7 +9,7 @@ use Rattle.fed_rules.specs.Right.{IsRightStory}
 use Rattle.fed_rules.specs.Story.{Story, story_of, lines_of}
 use Rattle.report_text.specs.Spelling.{report_bytes}
 use Rattle.scenario_text.specs.declared.session.Session.{Session}
-use Rattle.site_laws.specs.Sessions.{IsSerialSession}
+use Rattle.session_laws.specs.Sessions.{IsSerialSession}
 use Rattle.trace_lines.specs.Spelling.{lines_bytes}
 
 -- the commands of a session with those that close it, the last one first

@@ -6,10 +6,13 @@ pub mod Joined
 pub mod Least
 pub mod LeastFound
 pub mod Lists
+pub mod Members
 pub mod Merge
 pub mod Names
+pub mod OneOrder
 pub mod Orders
 pub mod Placed
+pub mod Reversed
 pub mod Search
 pub mod Sites
 pub mod Source

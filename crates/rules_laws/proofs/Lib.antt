@@ -5,4 +5,5 @@ pub mod EachAttempt
 pub mod Heard
 pub mod Lines
 pub mod Pasts
+pub mod RisingLists
 pub mod SiteRequests

@@ -18,8 +18,8 @@ use Rattle.federation_laws.proofs.CoordHolds.{is_begun, begun-next, begins-answe
 use Rattle.coord_laws.proofs.Made.{Begins}
 use Rattle.federation_laws.proofs.StoryGlobals.{coord-made, story-holds}
 use Rattle.federation_laws.proofs.Told.{CoordCause, IsCoordLine, IsLine, line_is}
-use Rattle.site_laws.specs.Sessions.{IsAlone}
-use Rattle.site_laws.proofs.ListMembers.{found_in, in_each}
+use Rattle.session_laws.specs.Sessions.{IsAlone}
+use Rattle.order_laws.proofs.Members.{found_in, in_each}
 
 -- no transaction of the scenario is global
 abbrev pub IsAllLocal : Scenario → Type 0

@@ -25,13 +25,13 @@ use Rattle.local_laws.specs.Sound.{IsOwnEvent, IsOwn, Keeps}
 use Rattle.local_laws.proofs.LiveOnes.{own_live}
 use Rattle.local_laws.proofs.Stops.{unprepared}
 use Rattle.local_laws.proofs.Stories.{all_allow, led_keeps}
-use Rattle.site_laws.specs.Sessions.{home_from, IsAlone}
-use Rattle.site_laws.proofs.Counted.{counted_local}
-use Rattle.site_laws.proofs.Led.{pasts_led}
-use Rattle.site_laws.proofs.ListMembers.{each_in}
-use Rattle.site_laws.proofs.OneSite.{one_site, no_site, one_home}
-use Rattle.site_laws.proofs.OpenRuns.{open_in}
-use Rattle.site_laws.proofs.RisingLists.{in_rising}
+use Rattle.session_laws.specs.Sessions.{home_from, IsAlone}
+use Rattle.local_laws.proofs.Counted.{counted_local}
+use Rattle.local_laws.proofs.Led.{pasts_led}
+use Rattle.order_laws.proofs.Members.{each_in}
+use Rattle.session_laws.proofs.OneSite.{one_site, no_site, one_home}
+use Rattle.local_laws.proofs.OpenRuns.{open_in}
+use Rattle.rules_laws.proofs.RisingLists.{in_rising}
 use Rattle.session_laws.specs.Closing.{IsAtSite, past_at, disarmed, brought_up, with_aborts, cleared, OwnSessionsCloseSo, SessionsWithoutSitesAreClosed, OwnSessionsCloseAsOwn}
 use Rattle.session_laws.proofs.AllLocal.{alone_local, none_local}
 use Rattle.session_laws.proofs.Heard.{site_some}

@@ -13,20 +13,20 @@ use Rattle.fed_rules.specs.Runs as Runs
 use Rattle.fed_rules.specs.Runs.{Start, EngineLine, Commits, Seals, Run, run_at, restored_at, committed, puts_of, rows_of}
 use Rattle.fed_rules.specs.SitePast.{SiteHappening, SitePast, disk, epoch_start, engine_lines, records, run_of}
 use Rattle.fed_rules.specs.SiteRecords.{Home, Install, site_frame, by_number, installs, rows_after, start_of}
-use Rattle.engine_contract.proofs.Follows.{run_at-own}
+use Rattle.engine_laws.proofs.RunLines.{run_at_own}
 use Rattle.engine_laws.proofs.Origins.{IsFrom, origins}
 use Rattle.engine_laws.proofs.Runs.{tid_is}
 use Rattle.local_laws.specs.Sound.{IsOwnEvent, IsSound}
 use Rattle.local_laws.proofs.Stops.{unprepared}
 use Rattle.local_laws.proofs.Stories.{all_allow, led_keeps}
-use Rattle.site_laws.specs.Led.{IsLed}
-use Rattle.site_laws.specs.Locals.{install_of}
-use Rattle.site_laws.specs.Sessions.{home_from}
-use Rattle.site_laws.proofs.About.{engine_lines-next, epoch_start-next}
-use Rattle.site_laws.proofs.Installed.{committed_next}
-use Rattle.site_laws.proofs.Led.{pasts_led}
-use Rattle.site_laws.proofs.LocalInstalls.{installed_inserted}
-use Rattle.site_laws.proofs.OneSite.{one_home}
+use Rattle.local_laws.specs.Led.{IsLed}
+use Rattle.local_laws.specs.Locals.{install_of}
+use Rattle.session_laws.specs.Sessions.{home_from}
+use Rattle.local_laws.proofs.About.{engine_lines-next, epoch_start-next}
+use Rattle.session_laws.proofs.Installed.{committed_next}
+use Rattle.local_laws.proofs.Led.{pasts_led}
+use Rattle.local_laws.proofs.LocalInstalls.{installed_inserted}
+use Rattle.session_laws.proofs.OneSite.{one_home}
 use Rattle.session_laws.specs.Closing.{past_at}
 use Rattle.session_laws.specs.Tables.{TablesOfRunningSites}
 use Rattle.session_laws.proofs.InstallLists.{installs_below, by_number_before, rows_behind}
@@ -68,7 +68,7 @@ tabled_same home past x stays goes kept none t =
 
 -- the number of a run that was sealed in an epoch with nothing in doubt is greater than those of its start
 sealed_above : (start : Start) (lines : List EngineLine) (tid : Tid) (n : ℕ) (run : Run) → start.doubtful ≡ [] → IsRight start (Seals tid n ∷ lines) → run_at start lines tid ≡ Some run → start.counter < n
-sealed_above start lines tid n run undoubted right own = by_origin (origins start (Seals tid n ∷ lines) right tid sealed (run_at-own start lines (Seals tid n) (Some run) own))
+sealed_above start lines tid n run undoubted right own = by_origin (origins start (Seals tid n ∷ lines) right tid sealed (run_at_own start lines (Seals tid n) (Some run) own))
   where
     sealed : Run
     sealed = record run { sealed = Some n }
@@ -91,7 +91,7 @@ tabled_more home past x tid n run stays goes own calls lines s t =
     let right : IsRight start (Commits tid ∷ Seals tid n ∷ older) = subst (λ ls. IsRight start (ls ++ older)) lines (subst (λ ls. IsRight start ls) (engine_lines-next past x stays goes) (subst (λ st. IsRight st (engine_lines (x ∷ past))) next s.right)) in
     let above = sealed_above start older tid n run undoubted right.1 own in
     let same : install_of sealed ≡ install = ap (λ (u : Tid). let i : Install = record { tid = u; number = n; writes = puts_of run.acts } in i) (tid_is start older right.1.1 tid run own) in
-    let found = run_at-own start older (Seals tid n) (Some run) own in
+    let found = run_at_own start older (Seals tid n) (Some run) own in
     let now : committed (epoch_start home (x ∷ past)) (engine_lines (x ∷ past)) ≡ Runs.by_number (Some sealed) runs =
     committed_next home past x stays goes ∙ (ap (λ ls. committed start (ls ++ older)) lines ∙ ap (λ o. Runs.by_number o runs) found) in
     record {

@@ -12,10 +12,10 @@ use Rattle.fed_rules.specs.Scenarios.{home_of}
 use Rattle.fed_rules.specs.Site.{site_line}
 use Rattle.fed_rules.specs.Story.{Story, Nowhere, at_site, on_site, on_actor, with_site, past_of}
 use Rattle.fed_rules.specs.declared.answers.Answer.TheVariants as Say
-use Rattle.site_laws.specs.Sessions.{home_from, IsAlone}
-use Rattle.site_laws.proofs.ListMembers.{each_passes}
-use Rattle.site_laws.proofs.OneSite.{one_home}
-use Rattle.site_laws.proofs.SiteLines.{pick-some}
+use Rattle.session_laws.specs.Sessions.{home_from, IsAlone}
+use Rattle.order_laws.proofs.Members.{each_passes}
+use Rattle.session_laws.proofs.OneSite.{one_home}
+use Rattle.local_laws.proofs.SiteLines.{pick-some}
 
 -- the number of a declared site is greater than that of the coordinator
 pub site_some : (scenario : Scenario) (line : SiteLine) → IsScenario scenario → IsAlone scenario line → 0 < line.site.0

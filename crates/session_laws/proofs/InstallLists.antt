@@ -9,8 +9,8 @@ use Rattle.fed_rules.specs.declared.records.SiteRecord.{SiteRecord}
 use Rattle.fed_rules.specs.declared.records.SiteRecord.TheVariants as Rec
 use Rattle.fed_rules.specs.Runs.{Run, puts_of, rows_of}
 use Rattle.fed_rules.specs.SiteRecords.{Install, prepared_tids, last_number, by_number, install_held, installs, rows_after}
-use Rattle.site_laws.specs.Locals.{install_of}
-use Rattle.site_laws.proofs.LocalInstalls.{undoubted}
+use Rattle.local_laws.specs.Locals.{install_of}
+use Rattle.local_laws.proofs.LocalInstalls.{undoubted}
 
 -- no number is greater than the last one
 pub installs_below : (rs : List SiteRecord) → prepared_tids rs ≡ [] → Each (λ i. i.number ≤ last_number rs) (installs rs)

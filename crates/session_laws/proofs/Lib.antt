@@ -3,7 +3,10 @@ pub mod Closed
 pub mod EpochTables
 pub mod Heard
 pub mod InstallLists
+pub mod Installed
 pub mod LineDeeds
+pub mod OneSite
+pub mod Orderly
 pub mod SerialSessions
 pub mod Uncoordinated
 pub mod Up

@@ -18,8 +18,8 @@ use Rattle.fed_rules.specs.SiteRecords.{Home, site_frame, local_of, site_payload
 use Rattle.fed_rules.specs.SiteSums.{site_sum}
 use Rattle.fed_rules.specs.declared.sums.SiteSum.{SiteSum}
 use Rattle.local_laws.specs.Sound.{IsOwnEvent}
-use Rattle.site_laws.proofs.Lines.{acts_about, refused_about}
-use Rattle.site_laws.proofs.OwnRuns.{live_has}
+use Rattle.local_laws.proofs.LineAnswers.{acts_about, refused_about}
+use Rattle.local_laws.proofs.OwnRuns.{live_has}
 
 -- the line begins an epoch, or it leaves the records and the committed runs, or it commits a run, or it writes a Checkpoint
 pub data Does (home : Home) (past : SitePast) (x : SiteHappening) : Type 0 where

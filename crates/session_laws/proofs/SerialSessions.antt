@@ -28,11 +28,11 @@ use Rattle.federation_laws.proofs.Members.{IsLocal}
 use Rattle.federation_laws.proofs.Memberships.{Kind, AtHome, Roaming, kind-of}
 use Rattle.local_laws.specs.Sound.{IsOwn}
 use Rattle.local_laws.proofs.Stops.{unprepared}
-use Rattle.site_laws.specs.Sessions.{home_from, IsAlone, IsOneSite, CommittedAt, HasCommitted, IsSerialSession}
-use Rattle.site_laws.proofs.Attempts.{same_tx-refl, same_tx-equal}
-use Rattle.site_laws.proofs.LocalInstalls.{due_installed}
-use Rattle.site_laws.proofs.OneOrder.{least_merge-one}
-use Rattle.site_laws.proofs.OneSite.{one_site, no_site, one_home, only_home, only_local}
+use Rattle.session_laws.specs.Sessions.{home_from, IsAlone, IsOneSite, CommittedAt, HasCommitted, IsSerialSession}
+use Rattle.order_laws.proofs.Alike.{same_tx_alike, same_tx_self}
+use Rattle.local_laws.proofs.LocalInstalls.{due_installed}
+use Rattle.order_laws.proofs.OneOrder.{least_merge-one}
+use Rattle.session_laws.proofs.OneSite.{one_site, no_site, one_home, only_home, only_local}
 use Rattle.session_laws.proofs.AllLocal.{alone_local, none_local, none_committed}
 use Rattle.session_laws.proofs.Closed.{keeps}
 
@@ -57,7 +57,7 @@ committed_local (r ∷ rs) tx tid e = by_record r e (committed_local rs tx tid)
         by_test : (b : Bool) → same_tx t.tx tx ≡ b → cond b (Some t) (local_of rs tx) ≡ Some tid → IsLocal (Rec.Local t n writes ∷ rs) tid × (tid.tx ≡ tx)
         by_test true is e =
             (let same : t ≡ tid = cc in
-            (record { number = n; writes = writes; kept = inl (ap (λ (u : Tid). Rec.Local u n writes) same) }, ap (λ (u : Tid). u.tx) (sym same) ∙ same_tx-equal t.tx tx is))
+            (record { number = n; writes = writes; kept = inl (ap (λ (u : Tid). Rec.Local u n writes) same) }, ap (λ (u : Tid). u.tx) (sym same) ∙ same_tx_alike t.tx tx is))
         by_test false is e = behind (Rec.Local t n writes) (k e)
     by_record (Rec.Setup site engine protocol items) e k = behind (Rec.Setup site engine protocol items) (k e)
     by_record (Rec.Checkpoint sum) e k = behind (Rec.Checkpoint sum) (k e)
@@ -74,7 +74,7 @@ local_committed (Rec.Local t m puts ∷ rs) tid n writes i = by_test (same_tx t.
         → (u : Tid) × (cond b (Some t) (local_of rs tid.tx) ≡ Some u)
     by_test true is i k = (t, refl)
     by_test false is (inr j) k = k j
-    by_test false is (inl e) k = (let same : t ≡ tid = cc in let itself : same_tx tid.tx tid.tx ≡ false = subst (λ (u : Tid). same_tx u.tx tid.tx ≡ false) same is in let yes = same_tx-refl tid.tx in cc)
+    by_test false is (inl e) k = (let same : t ≡ tid = cc in let itself : same_tx tid.tx tid.tx ≡ false = subst (λ (u : Tid). same_tx u.tx tid.tx ≡ false) same is in let yes = same_tx_self tid.tx in cc)
 local_committed (Rec.Setup site engine protocol items ∷ rs) tid n writes (inr i) = local_committed rs tid n writes i
 local_committed (Rec.Checkpoint sum ∷ rs) tid n writes (inr i) = local_committed rs tid n writes i
 local_committed (Rec.Start epoch ∷ rs) tid n writes (inr i) = local_committed rs tid n writes i

@@ -27,7 +27,7 @@ use Rattle.fed_rules.specs.SiteRecords.{Home, site_frame}
 use Rattle.fed_rules.specs.Story.{Story, Happened, AtSite, AtCoordinator, Nowhere, happens, on_actor, past_of, story_of, with_site}
 use Rattle.rules_laws.specs.Lines.{IsLine}
 use Rattle.rules_laws.proofs.Lines.{line_is}
-use Rattle.site_laws.specs.Sessions.{home_from, IsAlone}
+use Rattle.session_laws.specs.Sessions.{home_from, IsAlone}
 use Rattle.session_laws.specs.Closing.{past_at, disarmed, brought_up, with_aborts, ClosedSessionsAreUp}
 use Rattle.session_laws.proofs.Closed.{closed_so}
 use Rattle.session_laws.proofs.Heard.{site_some, actor_hears, hears}

@@ -12,7 +12,7 @@ use Rattle.fed_rules.specs.Plans.{IsScenario}
 use Rattle.fed_rules.specs.SitePast.{SitePast, trip}
 use Rattle.fed_rules.specs.Story.{past_of, story_of}
 use Rattle.local_laws.specs.Sound.{IsOwn}
-use Rattle.site_laws.specs.Sessions.{IsAlone, IsOneSite}
+use Rattle.session_laws.specs.Sessions.{IsAlone, IsOneSite}
 
 -- what happened at the site of this line
 abbrev pub past_at : Scenario → SiteLine → List Command → SitePast

@@ -1,3 +1,4 @@
 pub mod Closing
 pub mod Serial
+pub mod Sessions
 pub mod Tables

@@ -6,7 +6,7 @@ use Rattle.fed_rules.specs.declared.scenario.Scenario.{Scenario}
 use Rattle.fed_rules.specs.Plans.{IsScenario}
 use Rattle.fed_rules.specs.Story.{story_of}
 use Rattle.local_laws.specs.Sound.{IsOwn}
-use Rattle.site_laws.specs.Sessions.{IsOneSite, IsSerialSession}
+use Rattle.session_laws.specs.Sessions.{IsOneSite, IsSerialSession}
 
 -- each session of own commands is serial, with all its stops and restarts
 abbrev pub OwnSessionsAreSerial : Type 0

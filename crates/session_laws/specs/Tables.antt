@@ -9,7 +9,7 @@ use Rattle.fed_rules.specs.Runs.{rows}
 use Rattle.fed_rules.specs.SitePast.{engine_lines, epoch_start, records}
 use Rattle.fed_rules.specs.SiteRecords.{site_rows}
 use Rattle.local_laws.specs.Sound.{IsOwn}
-use Rattle.site_laws.specs.Sessions.{IsAlone, home_from}
+use Rattle.session_laws.specs.Sessions.{IsAlone, home_from}
 use Rattle.session_laws.specs.Closing.{past_at}
 
 -- while a site is up, its engine's rows are those of its records

@@ -1,6 +1,6 @@
 -- In every story the events of a declared site are sorted: its messages come from the coordinator, which begins only global transactions.
 use Rattle.std.proofs.Common.{◌≡◌, ℕ, zero, suc, Bool, true, false, cond, not, ◌&&◌, Option, Some, None, List, [], ◌∷◌, map, refl, sym, ◌∙◌, ap, subst, eqb-true, inl, inr}
-use Rattle.std.specs.Prelude.{is_some}
+use Rattle.std.specs.Prelude.{is_some, ◌++◌}
 use Rattle.mdb_base.specs.declared.names.SiteId.{SiteId}
 use Rattle.mdb_base.specs.declared.names.Tid.{Tid}
 use Rattle.mdb_base.specs.declared.names.Tx.{Tx}
@@ -11,7 +11,6 @@ use Rattle.order_laws.specs.Chains.{In}
 use Rattle.fed_rules.specs.CoordPast.{CoordHappening, CoordPast}
 use Rattle.fed_rules.specs.declared.messages.ToSite.{ToSite}
 use Rattle.fed_rules.specs.declared.messages.ToSite.TheVariants as To
-use Rattle.std.specs.Prelude.{◌++◌}
 use Rattle.fed_rules.specs.declared.commands.Command.{Command}
 use Rattle.fed_rules.specs.declared.commands.Command.TheVariants as Cmd
 use Rattle.fed_rules.specs.declared.events.CoordEvent.{CoordEvent}

@@ -3,7 +3,7 @@ use Rattle.std.proofs.lemmas.Option.{slice_get-get_or}
 use Rattle.fed_rules.specs.declared.scenario.TxLine.{TxLine}
 use Rattle.mdb_base.specs.Names.{same_tx}
 use Rattle.mdb_base.specs.Words.{first_where}
-use Rattle.site_laws.proofs.Attempts.{unlike}
+use Rattle.local_laws.proofs.Attempts.{unlike}
 use Rattle.fed_world.proofs.PlaceLaws.{first_where-at, first_where-more}
 use Rattle.fed_world.proofs.places.place_of.Goals as goal
 

@@ -3,7 +3,7 @@ use Rattle.std.proofs.lemmas.Option.{slice_get_read}
 use Rattle.std.proofs.lemmas.Bool.{cond-true, cond-false}
 use Rattle.mdb_base.specs.Names.{same_tx}
 use Rattle.fed_rules.specs.declared.report.TxReads.{TxReads}
-use Rattle.site_laws.proofs.Attempts.{unlike}
+use Rattle.local_laws.proofs.Attempts.{unlike}
 use Rattle.local_laws.specs.Kept.{State}
 use Rattle.fed_world.specs.Reports.{kept_reads}
 use Rattle.fed_world.proofs.KeptReads.{kept_more}

@@ -7,7 +7,7 @@ use Rattle.fed_rules.specs.declared.events.SiteEvent.TheVariants as Ev
 use Rattle.fed_rules.specs.declared.scenario.TxLine.{TxLine}
 use Rattle.fed_rules.specs.Site.{site_line}
 use Rattle.fed_rules.specs.Story.{attempt, past_of, story_of}
-use Rattle.site_laws.proofs.StoryCommands.{abort_nowhere}
+use Rattle.local_laws.proofs.StoryCommands.{abort_nowhere}
 use Rattle.site_core.specs.Stands.{Stands as CoreStands}
 use Rattle.local_laws.specs.Kept.{State}
 use Rattle.fed_world.specs.Places.{IsPlace}

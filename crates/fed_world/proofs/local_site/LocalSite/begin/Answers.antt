@@ -10,7 +10,7 @@ use Rattle.fed_rules.specs.Site.{site_line}
 use Rattle.fed_rules.specs.Story.{attempt, past_of, story_of}
 use Rattle.local_laws.specs.Kept.{State, after_begin}
 use Rattle.site_core.specs.Stands.{Stands as CoreStands}
-use Rattle.site_laws.proofs.StoryCommands.{begin_nowhere}
+use Rattle.local_laws.proofs.StoryCommands.{begin_nowhere}
 use Rattle.fed_world.specs.Places.{IsPlace}
 use Rattle.fed_world.specs.Stands.{home_from, Hands, IsTold, SiteStands}
 use Rattle.fed_world.proofs.Handed.{untold}

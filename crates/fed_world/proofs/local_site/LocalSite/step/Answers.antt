@@ -13,7 +13,7 @@ use Rattle.fed_rules.specs.Site.{site_line}
 use Rattle.fed_rules.specs.Story.{attempt, past_of, story_of}
 use Rattle.local_laws.specs.Kept.{State}
 use Rattle.site_core.specs.Stands.{Stands as CoreStands}
-use Rattle.site_laws.proofs.StoryCommands.{step_nowhere}
+use Rattle.local_laws.proofs.StoryCommands.{step_nowhere}
 use Rattle.fed_world.specs.Places.{IsPlace}
 use Rattle.fed_world.specs.Stands.{home_from, IsTold, SiteStands}
 use Rattle.fed_world.proofs.Handed.{untold}

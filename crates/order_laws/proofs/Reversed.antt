@@ -1,0 +1,29 @@
+-- Lists turned round, and what is put into a list.
+use Rattle.std.proofs.Common.{◌≡◌, List, [], ◌∷◌, ◌++◌, map, reverse, inl, inr, refl, sym, ◌∙◌, ap, ap₂, subst}
+use Rattle.std.proofs.lemmas.List.{reverse-append}
+use Rattle.order_laws.specs.Chains.{In}
+
+pub reverse_more : {A : Type 0} (x : A) (xs : List A) → reverse (x ∷ xs) ≡ reverse xs ++ x ∷ []
+reverse_more x xs = reverse-append (x ∷ []) xs
+
+pub map_push : {A B : Type 0} (f : A → B) (xs : List A) (y : A) → map f (xs ++ y ∷ []) ≡ map f xs ++ f y ∷ []
+map_push f [] y = refl
+map_push f (x ∷ xs) y = ap (λ zs. f x ∷ zs) (map_push f xs y)
+
+pub map_reverse : {A B : Type 0} (f : A → B) (xs : List A) → map f (reverse xs) ≡ reverse (map f xs)
+map_reverse f [] = refl
+map_reverse f (x ∷ xs) = ap (λ zs. map f zs) (reverse_more x xs) ∙ (map_push f (reverse xs) x ∙ (ap (λ zs. zs ++ f x ∷ []) (map_reverse f xs) ∙ sym (reverse_more (f x) (map f xs))))
+
+pub in_push : {A : Type 0} (xs : List A) (y z : A) → In z (xs ++ y ∷ []) → In z (y ∷ xs)
+in_push [] y z i = i
+in_push (x ∷ xs) y z (inl e) = inr (inl e)
+in_push (x ∷ xs) y z (inr i) = elim (in_push xs y z i) [ inl e ↦ inl e | inr j ↦ inr (inr j) ]
+
+pub in_reverse : {A : Type 0} (xs : List A) (z : A) → In z (reverse xs) → In z xs
+in_reverse [] z i = i
+in_reverse (x ∷ xs) z i = elim (in_push (reverse xs) x z (subst (λ zs. In z zs) (reverse_more x xs) i)) [ inl e ↦ inl e | inr j ↦ inr (in_reverse xs z j) ]
+
+-- where two functions agree on each member, their lists are one
+pub map_same : {A B : Type 0} (f g : A → B) (xs : List A) → ((x : A) → In x xs → f x ≡ g x) → map f xs ≡ map g xs
+map_same f g [] h = refl
+map_same f g (x ∷ xs) h = ap₂ (λ y ys. y ∷ ys) (h x (inl refl)) (map_same f g xs (λ y i. h y (inr i)))
