@@ -1,8 +1,8 @@
 -- Items one behind the other.
-use Rattle.std.proofs.Common.{◌≡◌, ℕ, zero, suc, ◌+◌, ◌*◌, ◌<◌, ◌≤◌, Bool, true, false, ◌&&◌, ltb, List, [], ◌∷◌, ◌++◌, length, get_or, take, refl, sym, ap, ◌∙◌, append_assoc, arith}
+use Rattle.std.proofs.Common.{◌≡◌, ℕ, zero, suc, ◌+◌, ◌*◌, ◌≤◌, List, [], ◌∷◌, ◌++◌, length, take, sym, ap, ◌∙◌, append_assoc, arith}
 use Rattle.std.specs.List.{AllByRecursion}
-use Rattle.std.proofs.Math.Nat.{mul-suc, mul-le-mul_left}
-use Rattle.std.proofs.lemmas.List.{append-nil, length-append, length-take-le, take_more}
+use Rattle.std.proofs.Math.Nat.{mul-suc}
+use Rattle.std.proofs.lemmas.List.{append-nil, length-append}
 use Rattle.record_fields.specs.Items.{joined}
 
 module _ {A : Type 0} (spelling : A → List ℕ) where
@@ -16,12 +16,20 @@ module _ {A : Type 0} (spelling : A → List ℕ) where
       let more : width * length (x ∷ xs) ≡ width * length xs + width = mul-suc width (length xs) in
       omega (arith, more, length-append (spelling x) (joined spelling xs), has x, length-joined width has xs)
 
--- there is room for one more
-pub room_for : (width i count : ℕ) → i < count → width * i + width ≤ width * count
-room_for width i count below =
-    let more : width * suc i ≡ width * i + width = mul-suc width i in
-    let le : suc i ≤ count = omega arith in
-    omega (arith, more, mul-le-mul_left width le)
+  -- a front has at most the bytes of all
+  front-le : (n : ℕ) (xs : List A) → length (joined spelling (take n xs)) ≤ length (joined spelling xs)
+  front-le zero xs = omega arith
+  front-le (suc n) [] = omega arith
+  front-le (suc n) (x ∷ xs) =
+      omega (arith, length-append (spelling x) (joined spelling (take n xs)), length-append (spelling x) (joined spelling xs), front-le n xs)
+
+  -- one more item behind a front
+  pub length-one_more : (xs : List A) (i : ℕ) (x : A) → take (i + 1) xs ≡ take i xs ++ x ∷ [] → length (joined spelling (take (i + 1) xs)) ≡ length (joined spelling (take i xs)) + length (spelling x)
+  length-one_more xs i x more = rw (more, joined_push (take i xs) x) (length-append (joined spelling (take i xs)) (spelling x))
+
+  -- there is room for one more
+  pub room_for : (xs : List A) (i : ℕ) (x : A) → take (i + 1) xs ≡ take i xs ++ x ∷ [] → length (joined spelling (take i xs)) + length (spelling x) ≤ length (joined spelling xs)
+  room_for xs i x more = omega (arith, length-one_more xs i x more, front-le (i + 1) xs)
 
 pub all_push : {A : Type 0} (P : A → Type 0) (xs : List A) (x : A) → AllByRecursion P xs → P x → AllByRecursion P (xs ++ x ∷ [])
 all_push P [] x all here = (here, tt)

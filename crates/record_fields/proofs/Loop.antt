@@ -1,8 +1,10 @@
 -- Reading items one behind the other, as a loop does.
-use Rattle.std.proofs.Common.{◌≡◌, ℕ, zero, suc, ◌-◌, ◌+◌, ◌≤◌, ◌<◌, List, [], ◌∷◌, ◌++◌, Option, Some, None, refl, sym, ap, ◌∙◌, append_assoc, arith}
+use Rattle.std.proofs.Common.{◌≡◌, ℕ, suc, ◌-◌, ◌+◌, ◌≤◌, ◌<◌, List, [], ◌∷◌, ◌++◌, Option, Some, None, Err, refl, sym, ap, ◌∙◌, append_assoc, arith}
 use Rattle.std.proofs.lemmas.List.{append-nil}
 use Rattle.byte_numbers.specs.Numbers.{◌>>=◌}
-use Rattle.record_fields.specs.Items.{items_at}
+use Rattle.byte_numbers.specs.declared.DecodeErr.{DecodeErr}
+use Rattle.byte_numbers.specs.declared.DecodeErr.TheVariants.{NoValue, Memory}
+use Rattle.record_fields.specs.Items.{items_at, Reads}
 
 -- what was read before, and what is still read
 abbrev pub with_front : {A : Type 0} → List A → Option (List A × List ℕ) → Option (List A × List ℕ)
@@ -35,3 +37,9 @@ module _ {A : Type 0} (reading : List ℕ → Option (A × List ℕ)) where
       let k : count - i ≡ 0 = omega arith in
       let one : with_front front (items_at reading (count - i) bytes) ≡ Some (front, bytes) = rw k (ap (λ (xs : List A). Some (xs, bytes)) (append-nil front)) in
       sym so_far ∙ one
+
+  -- a reader that found nothing, and a walk that stops at it
+  pub fails_as : (front : List A) (count i : ℕ) (bytes : List ℕ) (total : Option (List A × List ℕ)) (why : DecodeErr) → i < count → Reads {X = A × List ℕ} (λ found. found) (Err why) (reading bytes)
+      → with_front front (items_at reading (count - i) bytes) ≡ total → Reads {X = List A × List ℕ} (λ found. found) (Err why) total
+  fails_as front count i bytes total NoValue lt none so_far = fails front count i bytes total lt none so_far
+  fails_as front count i bytes total Memory lt none so_far = tt

@@ -1,9 +1,7 @@
 -- Each field is exact: what is read is spelled so, and what is spelled is read again.
-use Rattle.std.specs.Prelude.{ℕ, zero, suc, ◌≡◌, ◌<◌, ◌^◌, ◌==◌, nat_le, ◌&&◌, Bool, true, false, cond, List, [], ◌∷◌, ◌++◌, length, Option, Some, None, refl}
-use Rattle.std.specs.List.{AllByRecursion}
-use Rattle.std.proofs.Common.{sym, ap, subst, ◌∙◌, append_assoc, arith}
-use Rattle.mdb_base.specs.Rising.{IsRising}
-use Rattle.byte_numbers.specs.Numbers.{IsBytes, Takes, number, number_at, ◌>>=◌}
+use Rattle.std.specs.Prelude.{ℕ, ◌≡◌, ◌<◌, ◌^◌, List, [], ◌∷◌, ◌++◌, Option, Some, None, refl}
+use Rattle.std.proofs.Common.{ap, subst, ◌∙◌, append_assoc}
+use Rattle.byte_numbers.specs.Numbers.{Takes, number, number_at, ◌>>=◌}
 use Rattle.byte_numbers.proofs.Numbers.{number_takes, number_again}
 use Rattle.field_bytes.proofs.Steps.{bind_some, takes_both}
 use Rattle.record_fields.specs.Field.{Field, IsExact, a_number, coded, with_rest, both, made, at_end}

@@ -1,25 +1,17 @@
 -- The named fields are exact.
-use Rattle.std.specs.Prelude.{ℕ, zero, suc, ◌≡◌, ◌<◌, ◌≤◌, ◌^◌, ◌⊎◌, ◌==◌, nat_le, nat_lt, ◌&&◌, Bool, true, false, cond, eqb, List, [], ◌∷◌, ◌++◌, length, Option, Some, None, refl}
-use Rattle.std.proofs.Common.{sym, ap, subst, ◌∙◌, append_assoc, arith, inl, inr, leb, ltb}
-use Rattle.std.proofs.lemmas.Bool.{and_parts, eqb-true, leb-true, ltb-true, le-leb, lt-ltb}
+use Rattle.std.specs.Prelude.{ℕ, ◌≡◌, ◌<◌, ◌⊎◌, ◌&&◌, Bool, true, false, cond, eqb, Option, Some, refl}
+use Rattle.std.proofs.Common.{sym, ap, subst, ◌∙◌, arith, inl, inr, leb}
+use Rattle.std.proofs.lemmas.Bool.{and_parts, eqb-true, leb-true, le-leb}
 use Rattle.mdb_base.specs.declared.names.SiteId.{SiteId}
-use Rattle.mdb_base.specs.declared.names.Tid.{Tid}
-use Rattle.mdb_base.specs.declared.names.SiteTicket.{SiteTicket}
 use Rattle.mdb_base.specs.declared.names.Engine.{Engine}
-use Rattle.mdb_base.specs.declared.names.Engine.TheVariants.{Locking, Timestamp, Validation}
-use Rattle.mdb_base.specs.declared.rows.Put.{Put}
+use Rattle.mdb_base.specs.declared.names.Engine.TheVariants.{Locking, Timestamp, Validation, Multiversion}
 use Rattle.presumptions.specs.declared.Protocol.{Protocol}
 use Rattle.presumptions.specs.declared.Protocol.TheVariants as By
-use Rattle.presumptions.specs.declared.Decision.{Decision}
-use Rattle.presumptions.specs.declared.Decision.TheVariants as Decided
-use Rattle.presumptions.specs.declared.Participant.{Participant}
-use Rattle.byte_numbers.specs.Numbers.{IsBytes, Takes, number, number_at, ◌>>=◌}
-use Rattle.byte_numbers.proofs.Numbers.{number_takes, number_again}
 use Rattle.field_bytes.proofs.Laws.{tid_takes, tid_again, decision_takes, decision_again}
-use Rattle.record_fields.specs.Field.{Field, IsExact, a_number, both}
+use Rattle.record_fields.specs.Field.{IsExact, a_number, both}
 use Rattle.record_fields.specs.Exact.{some_is, IsCode, exact_number, exact_both, exact_made, exact_coded}
-use Rattle.record_fields.specs.ExactItems.{guard_passed}
-use Rattle.record_fields.specs.Named.{IsSite, site_of, a_site, engine_code, engine_of, an_engine, protocol_code, protocol_of, a_protocol, a_tid, a_decision, a_put, a_participant, a_ticket}
+use Rattle.record_fields.specs.ExactItems.{guard_passed, exact_rising}
+use Rattle.record_fields.specs.Named.{IsSite, site_of, a_site, engine_code, engine_of, an_engine, protocol_code, protocol_of, a_protocol, a_tid, a_decision, a_put, a_participant, a_ticket, writes, participants, tickets}
 
 site_code : IsCode 1 (λ (site : SiteId). site.0) site_of IsSite
 site_code = record {
@@ -38,39 +30,40 @@ site_code = record {
 pub exact_site : IsExact a_site
 exact_site = exact_coded 1 (λ (site : SiteId). site.0) site_of IsSite site_code
 
--- a choice among three
-three : {A : Type 0} (k : ℕ) (a b c x : A) → cond (eqb k 1) (Some a) (cond (eqb k 2) (Some b) (cond (eqb k 3) (Some c) None)) ≡ Some x
-    → ((k ≡ 1) × (a ≡ x)) ⊎ (((k ≡ 2) × (b ≡ x)) ⊎ ((k ≡ 3) × (c ≡ x)))
-three k a b c x e = first (eqb k 1) refl e
+-- a choice is the first one of its code, or one of the rest
+choice : {A : Type 0} (k n : ℕ) (a x : A) (rest : Option A) → cond (eqb k n) (Some a) rest ≡ Some x → ((k ≡ n) × (a ≡ x)) ⊎ (rest ≡ Some x)
+choice k n a x rest e = by_test (eqb k n) refl e
   where
-    third : (t : Bool) → eqb k 3 ≡ t → cond t (Some c) None ≡ Some x → ((k ≡ 1) × (a ≡ x)) ⊎ (((k ≡ 2) × (b ≡ x)) ⊎ ((k ≡ 3) × (c ≡ x)))
-    third true is f = inr (inr (eqb-true k 3 is, some_is c x f))
-    third false is f = absurd cc
-
-    second : (t : Bool) → eqb k 2 ≡ t → cond t (Some b) (cond (eqb k 3) (Some c) None) ≡ Some x → ((k ≡ 1) × (a ≡ x)) ⊎ (((k ≡ 2) × (b ≡ x)) ⊎ ((k ≡ 3) × (c ≡ x)))
-    second true is f = inr (inl (eqb-true k 2 is, some_is b x f))
-    second false is f = third (eqb k 3) refl f
-
-    first : (t : Bool) → eqb k 1 ≡ t → cond t (Some a) (cond (eqb k 2) (Some b) (cond (eqb k 3) (Some c) None)) ≡ Some x → ((k ≡ 1) × (a ≡ x)) ⊎ (((k ≡ 2) × (b ≡ x)) ⊎ ((k ≡ 3) × (c ≡ x)))
-    first true is f = inl (eqb-true k 1 is, some_is a x f)
-    first false is f = second (eqb k 2) refl f
+    by_test : (t : Bool) → eqb k n ≡ t → cond t (Some a) rest ≡ Some x → ((k ≡ n) × (a ≡ x)) ⊎ (rest ≡ Some x)
+    by_test true is f = inl (eqb-true k n is, some_is a x f)
+    by_test false is f = inr f
 
 low_engine : (engine : Engine) → engine_code engine < 256
 low_engine Locking = omega arith
 low_engine Timestamp = omega arith
 low_engine Validation = omega arith
+low_engine Multiversion = omega arith
 
 there_engine : (engine : Engine) → engine_of (engine_code engine) ≡ Some engine
 there_engine Locking = refl
 there_engine Timestamp = refl
 there_engine Validation = refl
+there_engine Multiversion = refl
 
 back_engine : (k : ℕ) (engine : Engine) → engine_of k ≡ Some engine → engine_code engine ≡ k
 back_engine k engine e =
-    elim (three k Locking Timestamp Validation engine e) [
+    elim (choice k 1 Locking engine _ e) [
       | inl one ↦ ap engine_code (sym one.1) ∙ sym one.0
-      | inr (inl two) ↦ ap engine_code (sym two.1) ∙ sym two.0
-      | inr (inr three) ↦ ap engine_code (sym three.1) ∙ sym three.0
+      | inr e2 ↦ elim (choice k 2 Timestamp engine _ e2) [
+        | inl two ↦ ap engine_code (sym two.1) ∙ sym two.0
+        | inr e3 ↦ elim (choice k 3 Validation engine _ e3) [
+          | inl three ↦ ap engine_code (sym three.1) ∙ sym three.0
+          | inr e4 ↦ elim (choice k 4 Multiversion engine _ e4) [
+            | inl four ↦ ap engine_code (sym four.1) ∙ sym four.0
+            | inr e5 ↦ cc
+          ]
+        ]
+      ]
     ]
 
 pub exact_engine : IsExact an_engine
@@ -88,10 +81,15 @@ there_protocol By.Commit = refl
 
 back_protocol : (k : ℕ) (protocol : Protocol) → protocol_of k ≡ Some protocol → protocol_code protocol ≡ k
 back_protocol k protocol e =
-    elim (three k By.Nothing By.Abort By.Commit protocol e) [
+    elim (choice k 1 By.Nothing protocol _ e) [
       | inl one ↦ ap protocol_code (sym one.1) ∙ sym one.0
-      | inr (inl two) ↦ ap protocol_code (sym two.1) ∙ sym two.0
-      | inr (inr three) ↦ ap protocol_code (sym three.1) ∙ sym three.0
+      | inr e2 ↦ elim (choice k 2 By.Abort protocol _ e2) [
+        | inl two ↦ ap protocol_code (sym two.1) ∙ sym two.0
+        | inr e3 ↦ elim (choice k 3 By.Commit protocol _ e3) [
+          | inl three ↦ ap protocol_code (sym three.1) ∙ sym three.0
+          | inr e4 ↦ cc
+        ]
+      ]
     ]
 
 pub exact_protocol : IsExact a_protocol
@@ -111,3 +109,12 @@ exact_participant = exact_made _ _ (both a_site a_protocol) (λ x. refl) (λ p. 
 
 pub exact_ticket : IsExact a_ticket
 exact_ticket = exact_made _ _ (both a_site (a_number 8)) (λ x. refl) (λ p. refl) (exact_both a_site (a_number 8) exact_site (exact_number 8))
+
+pub exact_writes : IsExact writes
+exact_writes = exact_rising 2 (λ put. put.key.0) a_put exact_put
+
+pub exact_participants : IsExact participants
+exact_participants = exact_rising 1 (λ participant. participant.site.0) a_participant exact_participant
+
+pub exact_tickets : IsExact tickets
+exact_tickets = exact_rising 1 (λ ticket. ticket.site.0) a_ticket exact_ticket

@@ -1,5 +1,5 @@
 -- Rising lists as bytes: how many items there are, and then the items.
-use Rattle.std.specs.Prelude.{ℕ, ◌≡◌, zero, suc, ◌<◌, ◌^◌, nat_lt, List, [], ◌∷◌, ◌++◌, length, Option, Some, None, Result, Ok, Err, Bool, true, ◌&&◌, if◌then◌else◌}
+use Rattle.std.specs.Prelude.{ℕ, ◌≡◌, zero, suc, ◌<◌, ◌≤◌, ◌^◌, nat_lt, List, [], ◌∷◌, ◌++◌, length, Option, Some, None, Result, Ok, Err, Bool, true, ◌&&◌, if◌then◌else◌}
 use Rattle.std.specs.List.{AllByRecursion}
 use Rattle.mdb_base.specs.Rising.{IsRising}
 use Rattle.byte_numbers.specs.Numbers.{number, number_at, ◌>>=◌}
@@ -41,3 +41,8 @@ abbrev pub Reads : {X A : Type 0} → (X → A) → Result X DecodeErr → Optio
 Reads view (Ok found) read = read ≡ Some (view found)
 Reads view (Err NoValue) read = read ≡ None
 Reads view (Err Memory) read = Unit {0}
+
+-- the counted bytes, or none where they are more than a payload has at most
+abbrev pub Counts : Option ℕ → ℕ → Type 0
+Counts (Some counted) bytes = (counted ≡ bytes) × (bytes ≤ 65535)
+Counts None bytes = 65535 < bytes

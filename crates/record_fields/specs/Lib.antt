@@ -4,3 +4,5 @@ pub mod Field
 pub mod Items
 pub mod Named
 pub mod ExactNamed
+pub mod Sums
+pub mod ExactSums

@@ -1,10 +1,10 @@
 -- The fields of records by name: sites are 1 to 8, and the variants of an enum are numbered from 1 as they stand in it.
-use Rattle.std.specs.Prelude.{ℕ, ◌≤◌, ◌==◌, nat_le, ◌&&◌, Option, Some, None, if◌then◌else◌}
+use Rattle.std.specs.Prelude.{ℕ, ◌≤◌, ◌==◌, nat_le, ◌&&◌, List, Option, Some, None, if◌then◌else◌}
 use Rattle.mdb_base.specs.declared.names.SiteId.{SiteId}
 use Rattle.mdb_base.specs.declared.names.Tid.{Tid}
 use Rattle.mdb_base.specs.declared.names.SiteTicket.{SiteTicket}
 use Rattle.mdb_base.specs.declared.names.Engine.{Engine}
-use Rattle.mdb_base.specs.declared.names.Engine.TheVariants.{Locking, Timestamp, Validation}
+use Rattle.mdb_base.specs.declared.names.Engine.TheVariants.{Locking, Timestamp, Validation, Multiversion}
 use Rattle.mdb_base.specs.declared.rows.Put.{Put}
 use Rattle.presumptions.specs.declared.Protocol.{Protocol}
 use Rattle.presumptions.specs.declared.Protocol.TheVariants as By
@@ -12,6 +12,7 @@ use Rattle.presumptions.specs.declared.Decision.{Decision}
 use Rattle.presumptions.specs.declared.Participant.{Participant}
 use Rattle.field_bytes.specs.Fields.{IsTid, tid_bytes, tid_at, decision_bytes, decision_at}
 use Rattle.record_fields.specs.Field.{Field, a_number, coded, both, made}
+use Rattle.record_fields.specs.Items.{rising_list}
 
 -- sites are 1 to 8
 pub record IsSite (site : SiteId) : Type 0 where
@@ -28,9 +29,10 @@ abbrev pub engine_code : Engine → ℕ
 engine_code Locking = 1
 engine_code Timestamp = 2
 engine_code Validation = 3
+engine_code Multiversion = 4
 
 abbrev pub engine_of : ℕ → Option Engine
-engine_of n = if n == 1 then Some Locking else (if n == 2 then Some Timestamp else (if n == 3 then Some Validation else None))
+engine_of n = if n == 1 then Some Locking else (if n == 2 then Some Timestamp else (if n == 3 then Some Validation else (if n == 4 then Some Multiversion else None)))
 
 abbrev pub an_engine : Field Engine
 an_engine = coded 1 engine_code engine_of (λ _. Unit {0})
@@ -62,3 +64,15 @@ a_participant = made (λ p. record { site = p.0; protocol = p.1 }) (λ x. (x.sit
 -- a site with its ticket in eight bytes
 abbrev pub a_ticket : Field SiteTicket
 a_ticket = made (λ p. record { site = p.0; ticket = p.1 }) (λ x. (x.site, x.ticket)) (both a_site (a_number 8))
+
+-- rows by rising key, behind their number in two bytes
+abbrev pub writes : Field (List Put)
+writes = rising_list 2 (λ put. put.key.0) a_put
+
+-- sites with their protocols by rising site, behind their number in one byte
+abbrev pub participants : Field (List Participant)
+participants = rising_list 1 (λ participant. participant.site.0) a_participant
+
+-- sites with their tickets by rising site, behind their number in one byte
+abbrev pub tickets : Field (List SiteTicket)
+tickets = rising_list 1 (λ ticket. ticket.site.0) a_ticket

@@ -3,9 +3,11 @@ ghost use Rattle.std.specs.Prelude.{◌≡◌, ◌≤◌, ◌+◌, ◌++◌, len
 ghost use Rattle.std.specs.Vec.{vec_capacity};
 ghost use Rattle.byte_numbers.specs.Numbers.{Gives};
 ghost use Rattle.field_bytes.specs.Fields.{IsTid, tid_bytes, decision_bytes};
-ghost use Rattle.record_fields.specs.Named.{a_site, an_engine, a_protocol};
+ghost use Rattle.record_fields.specs.Named.{a_site, an_engine, a_protocol, a_tid};
+ghost use Rattle.record_fields.specs.Sums.{maybe};
 
 use byte_numbers::{put_u8, put_u32, u8_at};
+use field_bytes::tid_at;
 use mdb_base::{Engine, SiteId, Tid};
 use presumptions::{Decision, Protocol};
 
@@ -21,7 +23,7 @@ pub fn site_at(bytes: &[u8]) -> Option<(SiteId, &[u8])>
     }
 }
 
-/// The engine at the front, locking 1, timestamp 2 and validation 3, and the bytes behind it.
+/// The engine at the front, locking 1, timestamp 2, validation 3 and multiversion 4, and the bytes behind it.
 pub fn engine_at(bytes: &[u8]) -> Option<(Engine, &[u8])>
     ensures { Gives result (an_engine.reading bytes.now) }
 {
@@ -30,6 +32,7 @@ pub fn engine_at(bytes: &[u8]) -> Option<(Engine, &[u8])>
         1 => Some((Engine::Locking, rest)),
         2 => Some((Engine::Timestamp, rest)),
         3 => Some((Engine::Validation, rest)),
+        4 => Some((Engine::Multiversion, rest)),
         _ => None,
     }
 }
@@ -43,6 +46,21 @@ pub fn protocol_at(bytes: &[u8]) -> Option<(Protocol, &[u8])>
         1 => Some((Protocol::Nothing, rest)),
         2 => Some((Protocol::Abort, rest)),
         3 => Some((Protocol::Commit, rest)),
+        _ => None,
+    }
+}
+
+/// What may be an attempt at the front, 0 for none or 1 and the attempt, and the bytes behind it.
+pub fn maybe_tid_at(bytes: &[u8]) -> Option<(Option<Tid>, &[u8])>
+    ensures { Gives result ((maybe a_tid).reading bytes.now) }
+{
+    let (flag, rest) = u8_at(bytes)?;
+    match flag {
+        0 => Some((None, rest)),
+        1 => {
+            let (tid, rest) = tid_at(rest)?;
+            Some((Some(tid), rest))
+        }
         _ => None,
     }
 }
@@ -68,6 +86,7 @@ pub fn put_engine(out: &mut Vec<u8>, engine: Engine)
         Engine::Locking => put_u8(out, 1),
         Engine::Timestamp => put_u8(out, 2),
         Engine::Validation => put_u8(out, 3),
+        Engine::Multiversion => put_u8(out, 4),
     }
 }
 
@@ -106,5 +125,21 @@ pub fn put_decision(out: &mut Vec<u8>, decision: Decision)
     match decision {
         Decision::Commit => put_u8(out, 1),
         Decision::Abort => put_u8(out, 2),
+    }
+}
+
+/// Writes what may be an attempt: 0 for none, or 1 and the attempt.
+pub fn put_maybe_tid(out: &mut Vec<u8>, tid: Option<Tid>)
+    requires { length out.old.items + length ((maybe a_tid).spelling tid) ≤ vec_capacity out.old }
+    ensures bytes { out.new.items ≡ out.old.items ++ (maybe a_tid).spelling tid }
+    ensures size { length out.new.items ≡ length out.old.items + length ((maybe a_tid).spelling tid) }
+    ensures room { vec_capacity out.old ≤ vec_capacity out.new }
+{
+    match tid {
+        None => put_u8(out, 0),
+        Some(tid) => {
+            put_u8(out, 1);
+            put_tid(out, tid);
+        }
     }
 }

@@ -1,53 +1,87 @@
 //! Rising lists as bytes.
-ghost use Rattle.std.specs.Prelude.{◌≡◌, ◌≤◌, ◌+◌, ◌*◌, ◌++◌, ℕ, List, length, All};
+ghost use Rattle.std.specs.Prelude.{◌≡◌, ◌≤◌, ◌<◌, ◌+◌, ◌*◌, ◌^◌, ◌++◌, ℕ, List, length, All, IfOk};
 ghost use Rattle.std.specs.List.{AllByRecursion};
-ghost use Rattle.mdb_base.specs.Rising.{IsRising};
-ghost use Rattle.record_fields.specs.Items.{Reads, joined, items_at, rising_at, rises as rises_by};
 ghost use Rattle.std.specs.Vec.{vec_capacity};
-ghost use Rattle.byte_numbers.specs.Numbers.{Gives};
+ghost use Rattle.mdb_base.specs.Rising.{IsRising};
 ghost use Rattle.record_fields.specs.Field.{Field, IsExact};
+ghost use Rattle.record_fields.specs.Items.{Counts, Reads, joined, items_at, rising_at, rises as rises_by};
 
 use byte_numbers::DecodeErr;
-use mdb_base::{Keyed, Rising};
 use std::alloc::Global;
 
-/// An item of a rising list, which has the same number of bytes for each value.
-pub trait Item: Keyed + Copy {
+/// The most bytes that a payload has.
+const LONGEST: usize = 65_535;
+
+/// An item of a list that rises by a number of each item.
+pub trait Item: Drop {
+    /// The number by which the list rises.
+    ghost number_of: { Self → ℕ };
+
     /// How the item is spelled and read.
     ghost field: { Field Self };
 
-    /// The names in the item lie in their ranges. Whoever writes an item sees to it.
+    /// What whoever writes an item sees to: its names lie in their ranges, and its lists rise.
     ghost in_range: { Self → Type 0 };
-
-    /// How many bytes an item has.
-    ghost width: { ℕ };
 
     /// The number by which the list rises.
     fn number(&self) -> u64
-        ensures { result ≡ Self.key self.now };
+        ensures { result ≡ number_of self.now };
+
+    /// How many bytes the item has, or none where these are more than 65,535.
+    fn size(&self) -> Option<usize>
+        ensures { Counts result (length (field.spelling self.now)) };
 
     /// Writes the item behind the other bytes, for which there is room.
     fn put(&self, out: &mut Vec<u8>)
         requires in_range { in_range self.now }
-        requires room { length out.old.items + width ≤ vec_capacity out.old }
+        requires small { length (field.spelling self.now) < 2 ^ 16 }
+        requires room { length out.old.items + length (field.spelling self.now) ≤ vec_capacity out.old }
         ensures bytes { out.new.items ≡ out.old.items ++ field.spelling self.now }
         ensures room { vec_capacity out.old ≤ vec_capacity out.new }
         ensures fits { field.Fits self.now };
 
     /// The item at the front, and the bytes behind it.
-    fn take(bytes: &[u8]) -> Option<(Self, &[u8])>
-        ensures { Gives result (field.reading bytes.now) };
+    fn take(alloc: Global, bytes: &[u8]) -> Result<(Self, &[u8]), DecodeErr>
+        ensures { Reads (λ found. (found.0, found.1.now)) result (field.reading bytes.now) };
 
     /// What is read is spelled so, and what is spelled is read again.
     ghost exact: { IsExact field };
+}
 
-    /// Each item has so many bytes.
-    ghost has_width: { (item : Self) → length (field.spelling item) ≡ width };
+/// So many bytes, or none where these are more than 65,535.
+pub fn counted(bytes: usize) -> Option<usize>
+    ensures { Counts result bytes }
+{
+    if bytes <= LONGEST { Some(bytes) } else { None }
+}
+
+/// The bytes of so many items of the same width, or none where these are more than 65,535.
+pub fn counted_items(count: usize, width: usize) -> Option<usize>
+    ensures { Counts result (width * count) }
+{
+    counted(width.checked_mul(count)?)
+}
+
+/// The bytes of all these items, or none where these are more than 65,535.
+pub fn items_size<T: Item>(items: &[T]) -> Option<usize>
+    ensures { Counts result (length (joined T.field.spelling items.now)) }
+{
+    let mut total = 0;
+    for item in items {
+        let Some(size) = item.size() else {
+            return None;
+        };
+        total += size;
+        if total > LONGEST {
+            return None;
+        }
+    }
+    Some(total)
 }
 
 // Whether each item's number is less than the next one's.
 fn rises<T: Item>(items: &[T]) -> bool
-    ensures { result ≡ rises_by T.key items.now }
+    ensures { result ≡ rises_by T.number_of items.now }
 {
     let mut rest = items;
     while let [first, second, ..] = rest {
@@ -60,53 +94,51 @@ fn rises<T: Item>(items: &[T]) -> bool
 }
 
 // So many items from the front, and the bytes behind them.
-fn items_of<T: Item + Drop>(
-    alloc: Global,
-    count: usize,
-    bytes: &[u8],
-) -> Result<(Vec<T>, &[u8]), DecodeErr>
+fn taken<T: Item>(alloc: Global, count: usize, bytes: &[u8]) -> Result<(Vec<T>, &[u8]), DecodeErr>
     ensures { Reads (λ found. (found.0.items, found.1.now)) result (items_at T.field.reading count bytes.now) }
 {
     let mut items = Vec::new(alloc);
     let mut rest = bytes;
     for _ in 0..count {
-        let Some(found) = T::take(rest) else {
-            return Err(DecodeErr::NoValue);
+        let (item, after) = match T::take(alloc, rest) {
+            Ok(found) => found,
+            Err(why) => return Err(why),
         };
-        if items.push(found.0).is_err() {
+        if items.push(item).is_err() {
             return Err(DecodeErr::Memory);
         }
-        rest = found.1;
+        rest = after;
     }
     Ok((items, rest))
 }
 
 /// So many rising items from the front, and the bytes behind them.
-pub fn rising_of<T: Item + Drop>(
+pub fn items_of<T: Item>(
     alloc: Global,
     count: usize,
     bytes: &[u8],
-) -> Result<(Rising<T>, &[u8]), DecodeErr>
-    ensures { Reads (λ found. (found.0, found.1.now)) result (rising_at T.key T.field.reading count bytes.now) }
+) -> Result<(Vec<T>, &[u8]), DecodeErr>
+    ensures read { Reads (λ found. (found.0.items, found.1.now)) result (rising_at T.number_of T.field.reading count bytes.now) }
+    ensures rising { IfOk result (λ found. IsRising T.number_of found.0.items) }
 {
-    let (items, rest) = items_of(alloc, count, bytes)?;
+    let (items, rest) = taken(alloc, count, bytes)?;
     if !rises(&items) {
         return Err(DecodeErr::NoValue);
     }
-    Ok((Rising::of(items), rest))
+    Ok((items, rest))
 }
 
 /// Writes the items behind the other bytes, for which there is room.
-pub fn put_items<T: Item>(items: &Rising<T>, out: &mut Vec<u8>)
+pub fn put_items<T: Item>(items: &[T], out: &mut Vec<u8>)
     requires in_range { All T.in_range items.now }
-    requires room { length out.old.items + T.width * length items.now ≤ vec_capacity out.old }
+    requires small { length (joined T.field.spelling items.now) < 2 ^ 16 }
+    requires room { length out.old.items + length (joined T.field.spelling items.now) ≤ vec_capacity out.old }
     ensures bytes { out.new.items ≡ out.old.items ++ joined T.field.spelling items.now }
-    ensures size { length out.new.items ≡ length out.old.items + T.width * length items.now }
+    ensures size { length out.new.items ≡ length out.old.items + length (joined T.field.spelling items.now) }
     ensures room { vec_capacity out.old ≤ vec_capacity out.new }
     ensures fits { AllByRecursion T.field.Fits items.now }
-    ensures rising { IsRising T.key items.now }
 {
-    for item in items.as_slice() {
+    for item in items {
         item.put(out);
     }
 }

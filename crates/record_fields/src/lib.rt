@@ -4,9 +4,17 @@
 
 mod fields;
 mod items;
+mod lists;
 mod named;
+mod sums;
 
 pub use fields::{
-    engine_at, protocol_at, put_decision, put_engine, put_protocol, put_site, put_tid, site_at,
+    engine_at, maybe_tid_at, protocol_at, put_decision, put_engine, put_maybe_tid, put_protocol,
+    put_site, put_tid, site_at,
 };
-pub use items::{Item, put_items, rising_of};
+pub use items::{Item, counted, counted_items, items_size};
+pub use lists::{
+    list_at, participants_at, put_list, put_participants, put_tickets, put_writes, tickets_at,
+    writes_at,
+};
+pub use sums::put_prepared;

@@ -1,27 +1,32 @@
 //! The items of the rising lists in records.
-ghost use Rattle.std.specs.Prelude.{refl};
-ghost use Rattle.record_fields.specs.ExactNamed.{exact_put, exact_participant, exact_ticket};
-ghost use Rattle.record_fields.specs.Named.{IsSite, a_put, a_participant, a_ticket};
+ghost use Rattle.record_fields.specs.ExactNamed.{exact_put, exact_participant, exact_ticket, exact_tid};
+ghost use Rattle.record_fields.specs.Named.{IsSite, a_put, a_participant, a_ticket, a_tid};
+ghost use Rattle.record_fields.specs.Sums.{tid_number};
+ghost use Rattle.field_bytes.specs.Fields.{IsTid};
 
-use crate::fields::{protocol_at, put_protocol, put_site, site_at};
+use crate::fields::{protocol_at, put_protocol, put_site, put_tid, site_at};
 use crate::items::Item;
-use byte_numbers::{put_u16, put_u64, u16_at, u64_at};
-use mdb_base::{Key, Put, SiteTicket};
+use byte_numbers::{DecodeErr, put_u16, put_u64, u16_at, u64_at};
+use field_bytes::tid_at;
+use mdb_base::{Key, Put, SiteTicket, Tid};
 use presumptions::Participant;
+use std::alloc::Global;
 
 impl Item for Put {
+    ghost number_of = { λ put. put.key.0 };
+
     ghost field = { a_put };
 
     ghost in_range = { λ put. Unit {0} };
 
-    ghost width = { 10 };
-
     ghost exact = { exact_put };
-
-    ghost has_width = { λ put. refl };
 
     fn number(&self) -> u64 {
         u64::from(self.key.0)
+    }
+
+    fn size(&self) -> Option<usize> {
+        Some(10)
     }
 
     fn put(&self, out: &mut Vec<u8>) {
@@ -29,27 +34,29 @@ impl Item for Put {
         put_u64(out, self.value);
     }
 
-    fn take(bytes: &[u8]) -> Option<(Put, &[u8])> {
-        let (key, rest) = u16_at(bytes)?;
-        let (value, rest) = u64_at(rest)?;
+    fn take(_: Global, bytes: &[u8]) -> Result<(Put, &[u8]), DecodeErr> {
+        let (key, rest) = u16_at(bytes).ok_or(DecodeErr::NoValue)?;
+        let (value, rest) = u64_at(rest).ok_or(DecodeErr::NoValue)?;
         let key = Key(key);
-        Some((Put { key, value }, rest))
+        Ok((Put { key, value }, rest))
     }
 }
 
 impl Item for Participant {
+    ghost number_of = { λ participant. participant.site.0 };
+
     ghost field = { a_participant };
 
     ghost in_range = { λ participant. IsSite participant.site };
 
-    ghost width = { 2 };
-
     ghost exact = { exact_participant };
-
-    ghost has_width = { λ participant. refl };
 
     fn number(&self) -> u64 {
         u64::from(self.site.0)
+    }
+
+    fn size(&self) -> Option<usize> {
+        Some(2)
     }
 
     fn put(&self, out: &mut Vec<u8>) {
@@ -57,26 +64,28 @@ impl Item for Participant {
         put_protocol(out, self.protocol);
     }
 
-    fn take(bytes: &[u8]) -> Option<(Participant, &[u8])> {
-        let (site, rest) = site_at(bytes)?;
-        let (protocol, rest) = protocol_at(rest)?;
-        Some((Participant { site, protocol }, rest))
+    fn take(_: Global, bytes: &[u8]) -> Result<(Participant, &[u8]), DecodeErr> {
+        let (site, rest) = site_at(bytes).ok_or(DecodeErr::NoValue)?;
+        let (protocol, rest) = protocol_at(rest).ok_or(DecodeErr::NoValue)?;
+        Ok((Participant { site, protocol }, rest))
     }
 }
 
 impl Item for SiteTicket {
+    ghost number_of = { λ ticket. ticket.site.0 };
+
     ghost field = { a_ticket };
 
     ghost in_range = { λ ticket. IsSite ticket.site };
 
-    ghost width = { 9 };
-
     ghost exact = { exact_ticket };
-
-    ghost has_width = { λ ticket. refl };
 
     fn number(&self) -> u64 {
         u64::from(self.site.0)
+    }
+
+    fn size(&self) -> Option<usize> {
+        Some(9)
     }
 
     fn put(&self, out: &mut Vec<u8>) {
@@ -84,9 +93,37 @@ impl Item for SiteTicket {
         put_u64(out, self.ticket);
     }
 
-    fn take(bytes: &[u8]) -> Option<(SiteTicket, &[u8])> {
-        let (site, rest) = site_at(bytes)?;
-        let (ticket, rest) = u64_at(rest)?;
-        Some((SiteTicket { site, ticket }, rest))
+    fn take(_: Global, bytes: &[u8]) -> Result<(SiteTicket, &[u8]), DecodeErr> {
+        let (site, rest) = site_at(bytes).ok_or(DecodeErr::NoValue)?;
+        let (ticket, rest) = u64_at(rest).ok_or(DecodeErr::NoValue)?;
+        Ok((SiteTicket { site, ticket }, rest))
+    }
+}
+
+impl Item for Tid {
+    ghost number_of = { tid_number };
+
+    ghost field = { a_tid };
+
+    ghost in_range = { IsTid };
+
+    ghost exact = { exact_tid };
+
+    fn number(&self) -> u64 {
+        let transaction = self.tx.0;
+        let attempt = self.attempt;
+        256 * u64::from(transaction) + u64::from(attempt)
+    }
+
+    fn size(&self) -> Option<usize> {
+        Some(5)
+    }
+
+    fn put(&self, out: &mut Vec<u8>) {
+        put_tid(out, *self);
+    }
+
+    fn take(_: Global, bytes: &[u8]) -> Result<(Tid, &[u8]), DecodeErr> {
+        tid_at(bytes).ok_or(DecodeErr::NoValue)
     }
 }

@@ -1,21 +1,6 @@
-use Rattle.std.proofs.Common.{◌≡◌, ◌++◌, ◌∷◌, [], arith}
-use Rattle.std.proofs.lemmas.Grind.{common_steps}
-use Rattle.record_fields.specs.Items.{items_at}
-use Rattle.record_fields.proofs.Loop.{goes_on, fails, is_done}
+use Rattle.std.proofs.Common.{sym, ◌∙◌}
+use Rattle.record_fields.specs.ExactItems.{rising_passes}
 use Rattle.record_fields.proofs.items.items_of.Goals as goal
 
-pub returns-in_default : goal.returns-in_default
-returns-in_default g c =
-    let reading = g.T.Item.field.reading in
-    fails reading c.loop.items.items c.args.count c.loop.counter c.loop.rest.now (items_at reading c.args.count c.args.bytes.now) c.loop-test.true c.in_default.ensures c.loop.invariant
-
-pub loop-preserved : goal.loop-preserved
-loop-preserved g c =
-    let reading = g.T.Item.field.reading in
-    let pushed : c.push.new.self.items ≡ c.loop.items.items ++ c.in-Some.found.0 ∷ [] = grind (arith, common_steps) in
-    rw pushed (goes_on reading c.loop.items.items c.args.count c.loop.counter c.loop.rest.now c.in-Some.found.0 c.in-Some.found.1.now (items_at reading c.args.count c.args.bytes.now) c.loop-test.true c.in-Some.ensures c.loop.invariant)
-
-pub returns : goal.returns
-returns g c =
-    let reading = g.T.Item.field.reading in
-    is_done reading c.loop.items.items c.args.count c.loop.counter c.loop.rest.now (items_at reading c.args.count c.args.bytes.now) c.loop-test.false c.loop.invariant
+pub returns-clause-rising : goal.returns-clause-rising
+returns-clause-rising g c = rising_passes g.T.Item.number_of c.in_ok-items.items.items (rw (← c.deref.ensures.value) (sym c.rises.ensures ∙ c.if-not-rises.false))

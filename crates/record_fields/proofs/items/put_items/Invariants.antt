@@ -8,7 +8,7 @@ abbrev pub invariant-loop-item : goal.invariant-loop-item
 invariant-loop-item g l =
     let field = g.T.Item.field in
     record {
-      bytes : l.out.items ≡ l.fn.out.items ++ joined field.spelling (take l.item-index l.item-items);
+      bytes : l.out.items ≡ l.fn.out.items ++ joined field.spelling (take l.item-index l.items);
       room : vec_capacity l.fn.out ≤ vec_capacity l.out;
-      fits : AllByRecursion field.Fits (take l.item-index l.item-items);
+      fits : AllByRecursion field.Fits (take l.item-index l.items);
     }

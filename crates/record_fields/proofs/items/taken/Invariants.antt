@@ -1,7 +1,7 @@
 use Rattle.std.proofs.Common.{◌≡◌, ◌-◌}
 use Rattle.record_fields.specs.Items.{items_at}
 use Rattle.record_fields.proofs.Loop.{with_front}
-use Rattle.record_fields.proofs.items.items_of.Given as goal
+use Rattle.record_fields.proofs.items.taken.Given as goal
 
 abbrev pub invariant-loop : goal.invariant-loop
 invariant-loop g l =
