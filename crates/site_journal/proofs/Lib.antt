@@ -1,3 +1,2 @@
-pub mod FrameSizes
-pub mod Behind
 pub mod Found
+pub mod Sums

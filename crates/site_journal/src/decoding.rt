@@ -1,22 +1,13 @@
 //! Reading a site's records.
 ghost use Rattle.std.specs.Prelude.{◌≡◌, IfOk};
 ghost use Rattle.record_fields.specs.Items.{Reads};
-ghost use Rattle.site_journal.specs.Spelling.{writes, setup_at, start_at, prepared_at, ended_at, local_at, tagged_at, reading, spelling, IsRecord};
+ghost use Rattle.site_journal.specs.Spelling.{setup_at, start_at, prepared_at, ended_at, local_at, checkpoint_at, tagged_at, reading, spelling, IsRecord};
 
 use byte_numbers::{DecodeErr, u8_at, u16_at, u32_at, u64_at};
-use fed_rules::SiteRecord;
+use fed_rules::{SiteRecord, SiteSum};
 use field_bytes::{decision_at, tid_at};
-use mdb_base::Puts;
-use record_fields::{engine_at, protocol_at, rising_of, site_at};
+use record_fields::{engine_at, list_at, maybe_tid_at, protocol_at, site_at, writes_at};
 use std::alloc::Global;
-
-// Rows by rising key, behind their number in two bytes.
-fn writes_of(alloc: Global, bytes: &[u8]) -> Result<(Puts, &[u8]), DecodeErr>
-    ensures { Reads (λ found. (found.0, found.1.now)) result (writes.reading bytes.now) }
-{
-    let (count, rest) = u16_at(bytes).ok_or(DecodeErr::NoValue)?;
-    rising_of(alloc, count as usize, rest)
-}
 
 #[tactic(auto, unfolding(crate::specs::Spelling::setup_at))]
 fn setup_of(alloc: Global, bytes: &[u8]) -> Result<(SiteRecord, &[u8]), DecodeErr>
@@ -25,7 +16,7 @@ fn setup_of(alloc: Global, bytes: &[u8]) -> Result<(SiteRecord, &[u8]), DecodeEr
     let (site, rest) = site_at(bytes).ok_or(DecodeErr::NoValue)?;
     let (engine, rest) = engine_at(rest).ok_or(DecodeErr::NoValue)?;
     let (protocol, rest) = protocol_at(rest).ok_or(DecodeErr::NoValue)?;
-    let (items, rest) = writes_of(alloc, rest)?;
+    let (items, rest) = writes_at(alloc, rest)?;
     let entry = SiteRecord::Setup {
         site,
         engine,
@@ -51,7 +42,7 @@ fn prepared_of(alloc: Global, bytes: &[u8]) -> Result<(SiteRecord, &[u8]), Decod
     let (epoch, rest) = u32_at(rest).ok_or(DecodeErr::NoValue)?;
     let (number, rest) = u64_at(rest).ok_or(DecodeErr::NoValue)?;
     let (ticket, rest) = u64_at(rest).ok_or(DecodeErr::NoValue)?;
-    let (writes, rest) = writes_of(alloc, rest)?;
+    let (writes, rest) = writes_at(alloc, rest)?;
     let entry = SiteRecord::Prepared {
         tid,
         epoch,
@@ -77,13 +68,42 @@ fn local_of(alloc: Global, bytes: &[u8]) -> Result<(SiteRecord, &[u8]), DecodeEr
 {
     let (tid, rest) = tid_at(bytes).ok_or(DecodeErr::NoValue)?;
     let (number, rest) = u64_at(rest).ok_or(DecodeErr::NoValue)?;
-    let (writes, rest) = writes_of(alloc, rest)?;
+    let (writes, rest) = writes_at(alloc, rest)?;
     let entry = SiteRecord::Local {
         tid,
         number,
         writes,
     };
     Ok((entry, rest))
+}
+
+#[tactic(auto, unfolding(crate::specs::Spelling::checkpoint_at))]
+fn checkpoint_of(alloc: Global, bytes: &[u8]) -> Result<(SiteRecord, &[u8]), DecodeErr>
+    ensures { Reads (λ found. (found.0, found.1.now)) result (checkpoint_at bytes.now) }
+{
+    let (site, rest) = site_at(bytes).ok_or(DecodeErr::NoValue)?;
+    let (engine, rest) = engine_at(rest).ok_or(DecodeErr::NoValue)?;
+    let (protocol, rest) = protocol_at(rest).ok_or(DecodeErr::NoValue)?;
+    let (epoch, rest) = u32_at(rest).ok_or(DecodeErr::NoValue)?;
+    let (counter, rest) = u64_at(rest).ok_or(DecodeErr::NoValue)?;
+    let (published, rest) = u64_at(rest).ok_or(DecodeErr::NoValue)?;
+    let (owner, rest) = maybe_tid_at(rest).ok_or(DecodeErr::NoValue)?;
+    let (rows, rest) = writes_at(alloc, rest)?;
+    let (locals, rest) = list_at(alloc, rest)?;
+    let (doubtful, rest) = list_at(alloc, rest)?;
+    let sum = SiteSum {
+        site,
+        engine,
+        protocol,
+        epoch,
+        counter,
+        published,
+        owner,
+        rows,
+        locals,
+        doubtful,
+    };
+    Ok((SiteRecord::Checkpoint(sum), rest))
 }
 
 // The record behind a tag, and the bytes behind it.
@@ -96,6 +116,7 @@ fn tagged_of(alloc: Global, tag: u8, bytes: &[u8]) -> Result<(SiteRecord, &[u8])
         3 => prepared_of(alloc, bytes),
         4 => ended_of(bytes),
         5 => local_of(alloc, bytes),
+        6 => checkpoint_of(alloc, bytes),
         _ => Err(DecodeErr::NoValue),
     }
 }
