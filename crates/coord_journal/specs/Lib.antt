@@ -1,2 +1,3 @@
 pub mod Exact
+pub mod PayloadSizes
 pub mod Spelling
