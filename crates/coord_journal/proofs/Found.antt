@@ -1,5 +1,5 @@
 -- What was read is a record, spelled so.
-use Rattle.std.proofs.Common.{◌≡◌, ℕ, List, Result, Ok, Err, refl}
+use Rattle.std.proofs.Common.{◌≡◌, ℕ, List, Result, Ok, Err}
 use Rattle.std.specs.Prelude.{IfOk}
 use Rattle.byte_numbers.specs.Numbers.{IsBytes}
 use Rattle.byte_numbers.specs.declared.DecodeErr.{DecodeErr}

@@ -1,5 +1,5 @@
 -- How many bytes a Checkpoint has, and that its lists are short enough for their lengths.
-use Rattle.std.proofs.Common.{◌≡◌, ℕ, ◌+◌, ◌*◌, ◌≤◌, List, [], ◌∷◌, length, arith}
+use Rattle.std.proofs.Common.{◌≡◌, ◌+◌, ◌≤◌, List, [], ◌∷◌, length, arith}
 use Rattle.fed_rules.specs.declared.sums.CommittedAttempt.{CommittedAttempt}
 use Rattle.fed_rules.specs.declared.sums.CoordSum.{CoordSum}
 use Rattle.fed_rules.specs.declared.sums.OpenAttempt.{OpenAttempt}

@@ -1,7 +1,5 @@
 -- How many bytes a Checkpoint has, and that its lists are short enough for their lengths.
-use Rattle.std.proofs.Common.{◌≡◌, ℕ, ◌+◌, ◌*◌, ◌<◌, ◌≤◌, ◌^◌, List, [], ◌∷◌, length, refl, arith}
-use Rattle.std.proofs.lemmas.List.{length-append}
-use Rattle.fed_rules.specs.declared.records.SiteRecord.TheVariants.{Checkpoint}
+use Rattle.std.proofs.Common.{◌≡◌, ◌+◌, ◌*◌, ◌≤◌, List, [], ◌∷◌, length, arith}
 use Rattle.fed_rules.specs.declared.sums.DoubtfulSum.{DoubtfulSum}
 use Rattle.fed_rules.specs.declared.sums.SiteSum.{SiteSum}
 use Rattle.fed_rules.specs.SiteRecords.{doubtful_size}

@@ -1,25 +1,19 @@
 -- What is read is spelled so, and what is spelled is read again.
-use Rattle.std.specs.Prelude.{ℕ, ◌≡◌, ◌==◌, Bool, true, false, cond, List, [], ◌∷◌, ◌++◌, Option, Some, None, refl}
-use Rattle.std.proofs.Common.{sym, ap, subst, ◌∙◌, eqb, arith, append_assoc}
+use Rattle.std.specs.Prelude.{ℕ, ◌≡◌, Bool, true, false, cond, List, [], ◌++◌, Some, None, refl}
+use Rattle.std.proofs.Common.{sym, ap, subst, ◌∙◌, eqb, arith}
 use Rattle.std.proofs.lemmas.Bool.{eqb-true}
 use Rattle.std.proofs.lemmas.List.{append-nil}
-use Rattle.mdb_base.specs.declared.names.Engine.{Engine}
-use Rattle.mdb_base.specs.declared.names.SiteId.{SiteId}
-use Rattle.mdb_base.specs.declared.names.Tid.{Tid}
-use Rattle.mdb_base.specs.declared.rows.Put.{Put}
-use Rattle.presumptions.specs.declared.Protocol.{Protocol}
-use Rattle.presumptions.specs.declared.Decision.{Decision}
 use Rattle.fed_rules.specs.declared.records.SiteRecord.{SiteRecord}
 use Rattle.fed_rules.specs.declared.records.SiteRecord.TheVariants.{Setup, Start, Prepared, Ended, Local, Checkpoint}
 use Rattle.byte_numbers.specs.Numbers.{IsBytes, Takes, number, number_at, ◌>>=◌}
-use Rattle.byte_numbers.proofs.Numbers.{number_takes, number_again}
+use Rattle.byte_numbers.proofs.Numbers.{number_takes}
 use Rattle.field_bytes.proofs.Steps.{bind_some, number_then}
-use Rattle.record_fields.specs.Field.{Field, IsExact, a_number, both, at_end, whole_of}
-use Rattle.record_fields.specs.Exact.{some_is, exact_number, exact_both, exact_made, variant_takes, variant_again, ends_there}
+use Rattle.record_fields.specs.Field.{IsExact, a_number, both, at_end}
+use Rattle.record_fields.specs.Exact.{exact_number, exact_both, exact_made, variant_takes, variant_again, ends_there}
 use Rattle.record_fields.specs.ExactNamed.{exact_site, exact_engine, exact_protocol, exact_tid, exact_decision, exact_writes}
 use Rattle.record_fields.specs.ExactSums.{exact_maybe, exact_tids, exact_prepared, exact_doubtful}
 use Rattle.record_fields.specs.Named.{a_site, an_engine, a_protocol, a_tid, a_decision, writes}
-use Rattle.record_fields.specs.Sums.{maybe, tids, prepared, doubtful}
+use Rattle.record_fields.specs.Sums.{prepared}
 use Rattle.site_journal.specs.Spelling.{setup, start, ended, local, checkpoint, spelling, IsRecord, setup_at, start_at, prepared_at, ended_at, local_at, checkpoint_at, tagged_at, reading}
 
 exact_setup : IsExact setup
@@ -97,8 +91,8 @@ tagged_takes bytes tag rest found behind e = first (eqb tag 1) refl e
 
     first : (t : Bool) → eqb tag 1 ≡ t
         → cond t (setup_at rest)
-          (cond (eqb tag 2) (start_at rest) (cond (eqb tag 3) (prepared_at rest) (cond (eqb tag 4) (ended_at rest) (cond (eqb tag 5) (local_at rest) (cond (eqb tag 6) (checkpoint_at rest) None)))))
-          ≡ Some found → TakesRecord bytes found
+        (cond (eqb tag 2) (start_at rest) (cond (eqb tag 3) (prepared_at rest) (cond (eqb tag 4) (ended_at rest) (cond (eqb tag 5) (local_at rest) (cond (eqb tag 6) (checkpoint_at rest) None)))))
+        ≡ Some found → TakesRecord bytes found
     first true is f = setup_takes bytes rest found (at 1 is) f
     first false is f = second (eqb tag 2) refl f
 

@@ -1,5 +1,5 @@
 -- A record's payload has as many bytes as the rules count for it.
-use Rattle.std.proofs.Common.{◌≡◌, ℕ, ◌+◌, ◌*◌, List, [], ◌∷◌, ◌++◌, length, Option, Some, None, refl, arith}
+use Rattle.std.proofs.Common.{◌≡◌, ◌+◌, ◌*◌, List, [], ◌∷◌, ◌++◌, length, Option, Some, None, refl, arith}
 use Rattle.std.proofs.lemmas.List.{length-append}
 use Rattle.mdb_base.specs.declared.names.Tid.{Tid}
 use Rattle.mdb_base.specs.declared.rows.Put.{Put}
@@ -8,7 +8,7 @@ use Rattle.fed_rules.specs.declared.records.SiteRecord.{SiteRecord}
 use Rattle.fed_rules.specs.declared.records.SiteRecord.TheVariants.{Setup, Start, Prepared, Ended, Local, Checkpoint}
 use Rattle.fed_rules.specs.declared.sums.DoubtfulSum.{DoubtfulSum}
 use Rattle.fed_rules.specs.declared.sums.SiteSum.{SiteSum}
-use Rattle.fed_rules.specs.SiteRecords.{site_payload, sum_size, doubtful_size, owner_size}
+use Rattle.fed_rules.specs.SiteRecords.{site_payload, doubtful_size, owner_size}
 use Rattle.record_fields.specs.Items.{joined}
 use Rattle.record_fields.specs.Named.{a_put, a_tid, writes}
 use Rattle.record_fields.specs.Sums.{maybe, a_doubtful, tids, doubtful}
@@ -35,8 +35,16 @@ pub parts_size : (sum : SiteSum) → length (checkpoint.spelling sum) ≡ 23 + o
 parts_size sum =
     let lists = tids.spelling sum.locals ++ doubtful.spelling sum.doubtful in
     let tables = writes.spelling sum.rows ++ lists in
-    omega (arith, length-append ((maybe a_tid).spelling sum.owner) tables, length-append (writes.spelling sum.rows) lists,
-      length-append (tids.spelling sum.locals) (doubtful.spelling sum.doubtful), owner_sizes sum.owner, rows_size sum.rows, tids_size sum.locals, doubtful_sizes sum.doubtful)
+    omega (
+      arith,
+      length-append ((maybe a_tid).spelling sum.owner) tables,
+      length-append (writes.spelling sum.rows) lists,
+      length-append (tids.spelling sum.locals) (doubtful.spelling sum.doubtful),
+      owner_sizes sum.owner,
+      rows_size sum.rows,
+      tids_size sum.locals,
+      doubtful_sizes sum.doubtful,
+    )
 
 -- a record's payload has as many bytes as the rules count for it
 pub payload_has_size : (entry : SiteRecord) → length (spelling entry) ≡ site_payload entry

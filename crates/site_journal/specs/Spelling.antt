@@ -8,7 +8,6 @@ use Rattle.presumptions.specs.declared.Protocol.{Protocol}
 use Rattle.presumptions.specs.declared.Decision.{Decision}
 use Rattle.fed_rules.specs.declared.records.SiteRecord.{SiteRecord}
 use Rattle.fed_rules.specs.declared.records.SiteRecord.TheVariants.{Setup, Start, Prepared, Ended, Local, Checkpoint}
-use Rattle.fed_rules.specs.declared.sums.DoubtfulSum.{DoubtfulSum}
 use Rattle.fed_rules.specs.declared.sums.SiteSum.{SiteSum}
 use Rattle.byte_numbers.specs.Numbers.{number, number_at, ◌>>=◌}
 use Rattle.field_bytes.specs.Fields.{IsTid}
@@ -106,7 +105,7 @@ abbrev pub tagged_at : ℕ → List ℕ → Option (SiteRecord × List ℕ)
 tagged_at tag bytes =
     if tag == 1 then setup_at bytes
     else (if tag == 2 then start_at bytes
-          else (if tag == 3 then prepared_at bytes else (if tag == 4 then ended_at bytes else (if tag == 5 then local_at bytes else (if tag == 6 then checkpoint_at bytes else None)))))
+    else (if tag == 3 then prepared_at bytes else (if tag == 4 then ended_at bytes else (if tag == 5 then local_at bytes else (if tag == 6 then checkpoint_at bytes else None)))))
 
 -- the record that a payload spells, all of it
 unfoldable pub reading : List ℕ → Option SiteRecord
