@@ -1,10 +1,19 @@
--- What a disk holds: an append-only list of bytes of which a front is synced, and what each call and each stop leaves of it.
-use Rattle.std.specs.Prelude.{ℕ, ◌≡◌, ◌+◌, ◌≤◌, min, ◌⊎◌, List, [], ◌++◌, length, take, drop}
+-- What a disk holds: an append-only list of bytes of which a front is synced and may be trimmed, and what each call and each stop leaves
+-- of it.
+use Rattle.std.specs.Prelude.{ℕ, ◌≡◌, ◌+◌, ◌-◌, ◌≤◌, min, ◌⊎◌, List, [], ◌++◌, length, take, drop}
 
 -- the bytes in their order, and how many of them are synced
 pub record Image : Type 0 where
   pub bytes : List ℕ
   pub synced : ℕ
+
+-- what contracts see of a disk: its image, where its type tells it; how many bytes it has, and how many can be appended without memory;
+-- and how often it failed, which never falls
+pub record Seen : Type 0 where
+  pub image : Image
+  pub size : ℕ
+  pub spare : ℕ
+  pub faults : ℕ
 
 -- no byte
 abbrev pub no_bytes : Image
@@ -29,6 +38,10 @@ all_synced image = synced_bytes image.bytes
 -- the first n bytes, all of them synced
 abbrev pub cut_to : ℕ → Image → Image
 cut_to n image = synced_bytes (take n image.bytes)
+
+-- the bytes from this place on, which count from 0 now; the place is at most the synced length
+abbrev pub trimmed_to : ℕ → Image → Image
+trimmed_to place image = record { bytes = drop place image.bytes; synced = image.synced - place }
 
 -- how many bytes a stop with this cut keeps: the synced ones and so many more
 abbrev pub kept_bytes : ℕ → Image → ℕ

@@ -1,4 +1,6 @@
+pub mod Causes
 pub mod Disk
 pub mod Frames
 pub mod MemDisk
+pub mod Room
 pub mod Spans

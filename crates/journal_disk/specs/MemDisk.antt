@@ -1,5 +1,5 @@
 -- What contracts see of a disk in memory.
-use Rattle.std.specs.Prelude.{ℕ, ◌≡◌, ◌+◌, ◌-◌, ◌^◌, min, Bool, List, length, vec_len, Contains, Result, IsErr, ◌↔◌}
+use Rattle.std.specs.Prelude.{ℕ, ◌≡◌, ◌+◌, ◌-◌, ◌^◌, min, List, length, Contains, Result, IsErr, ◌↔◌}
 use Rattle.std.specs.Vec.{vec_capacity}
 use Rattle.journal_disk.specs.Disk.{Image}
 use Rattle.journal_disk.specs.declared.mem_disk.MemDisk.{MemDisk}
@@ -16,7 +16,7 @@ mem_size disk = length disk.bytes.items
 abbrev pub mem_spare : MemDisk → ℕ
 mem_spare disk = vec_capacity disk.bytes - mem_size disk
 
--- how many calls of append, sync, cut_back and read_at it has had
+-- how many calls of append, sync, cut_back, trim_front and read_at it has had
 abbrev pub mem_calls : MemDisk → ℕ
 mem_calls disk = disk.calls
 
@@ -37,3 +37,9 @@ pub record Calls {T E : Type 0} (old new : MemDisk) (outcome : Result T E) : Typ
   pub calls : mem_calls new ≡ one_more (mem_calls old)
   pub failing : mem_failing new ≡ mem_failing old
   pub fails : IsErr outcome ↔ Contains (mem_failing old) (mem_calls new)
+
+-- no call was made that can fail: its calls and faults stand as they were, and the same calls fail
+pub record KeepsCalls (old new : MemDisk) : Type 0 where
+  pub calls : mem_calls new ≡ mem_calls old
+  pub failing : mem_failing new ≡ mem_failing old
+  pub faults : mem_faults new ≡ mem_faults old

@@ -1,5 +1,5 @@
-//! A disk that may stop at any byte, and journals of frames on it: append-only bytes with a cut at their end, of which a stop leaves
-//! a prefix that has at least the synced ones. The disk model is this project's profile.
+//! A disk that may stop at any byte, and journals of frames on it: append-only bytes with a cut at their end and a trim at
+//! their front, of which a stop leaves a prefix that has at least the synced ones. The disk model is this project's profile.
 #![tactic(auto)]
 
 mod disk;
@@ -11,8 +11,8 @@ mod reading;
 
 pub use disk::Disk;
 pub use errors::{DiskErr, Failed, FrameErr, JournalErr};
-pub use frames::{LONGEST_PAYLOAD, append_frame};
-pub use laws::{frames_are_apart, what_a_stop_leaves, whole_frames_survive};
+pub use frames::{LONGEST_PAYLOAD, ROOM_BEFORE, ROOM_BEHIND, Version, append_frame};
+pub use laws::{damage_is_seen, frames_are_apart, what_a_stop_leaves, whole_frames_survive};
 pub use mem_disk::MemDisk;
 pub use reading::Frames;
 

@@ -32,7 +32,7 @@ impl MemDisk {
         MemDisk::failing(alloc, &[])
     }
 
-    /// An empty disk that fails at these calls, counted from 1 over append, sync, cut_back and read_at.
+    /// An empty disk that fails at these calls, counted from 1 over append, sync, cut_back, trim_front and read_at.
     pub fn failing(alloc: Global, calls: &[u32]) -> Result<MemDisk, Memory>
         ensures empty { IfOk result (λ disk. mem_image disk ≡ no_bytes) }
         ensures failing { IfOk result (λ disk. mem_failing disk ≡ calls.now) }
@@ -94,26 +94,25 @@ fn is_listed(failing: &[u32], call: u64) -> bool
 }
 
 impl Disk for MemDisk {
-    ghost use Rattle.journal_disk.specs.Disk.{appended, all_synced, cut_to, bytes_at, AppendsSome};
-    ghost use Rattle.journal_disk.specs.MemDisk.{mem_image, mem_size, mem_spare, mem_faults, Calls};
+    ghost use Rattle.journal_disk.specs.Disk.{appended, all_synced, cut_to, trimmed_to, stopped, bytes_at, AppendsSome};
+    ghost use Rattle.journal_disk.specs.MemDisk.{mem_image, mem_size, mem_spare, mem_faults, Calls, KeepsCalls};
     ghost use Rattle.std.specs.Prelude.{◌≡◌, ◌≤◌, ◌+◌, true, refl, length, OnOk, OnErr};
     ghost use Rattle.mdb_base.specs.Counts.{HasCause};
 
     ghost tells = { true };
 
-    ghost image = { λ disk. mem_image disk };
-
-    ghost size = { λ disk. mem_size disk };
-
-    ghost spare = { λ disk. mem_spare disk };
-
-    ghost faults = { λ disk. mem_faults disk };
+    ghost seen = { λ disk. record { image = mem_image disk; size = mem_size disk; spare = mem_spare disk; faults = mem_faults disk } };
 
     ghost told_size = { λ disk tells. refl };
 
     ghost is_sound = { λ disk tells. disk.synced_within };
 
-    fn reserve(&mut self, _alloc: Global, more: u64) -> Result<(), Memory> {
+    fn reserve(&mut self, _alloc: Global, more: u64) -> Result<(), Memory>
+        ensures room { OnOk result (more ≤ mem_spare self.new) }
+        ensures spare { mem_spare self.old ≤ mem_spare self.new }
+        ensures image { mem_image self.new ≡ mem_image self.old }
+        ensures calls { KeepsCalls self.old self.new }
+    {
         match self.bytes.reserve(more as usize) {
             Ok(()) => Ok(()),
             Err(_) => Err(Memory),
@@ -168,6 +167,25 @@ impl Disk for MemDisk {
         Ok(())
     }
 
+    // A failed one changes nothing.
+    fn trim_front(&mut self, place: u64) -> Result<(), Failed>
+        requires size { place ≤ mem_size self.old }
+        requires synced { place ≤ (mem_image self.old).synced }
+        ensures calls { Calls self.old self.new result }
+        ensures spare { mem_spare self.old ≤ mem_spare self.new }
+        ensures ok { OnOk result (mem_image self.new ≡ trimmed_to place (mem_image self.old)) }
+        ensures err { OnErr result (mem_image self.new ≡ mem_image self.old) }
+        ensures cause { HasCause (mem_faults self.old) (mem_faults self.new) result }
+    {
+        self.next_call()?;
+        let place = place as usize;
+        let left = self.bytes.len() - place;
+        self.bytes.rotate_left(place);
+        self.bytes.truncate(left);
+        self.synced -= place;
+        Ok(())
+    }
+
     fn len(&self) -> u64 {
         self.bytes.len() as u64
     }
@@ -186,7 +204,11 @@ impl Disk for MemDisk {
         Ok(())
     }
 
-    fn stop(&mut self, cut: u64) {
+    fn stop(&mut self, cut: u64)
+        ensures spare { mem_spare self.old ≤ mem_spare self.new }
+        ensures image { mem_image self.new ≡ stopped cut (mem_image self.old) }
+        ensures calls { KeepsCalls self.old self.new }
+    {
         let kept = (self.synced as u64).saturating_add(cut);
         if kept < self.bytes.len() as u64 {
             self.bytes.truncate(kept as usize);
