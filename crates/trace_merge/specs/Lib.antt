@@ -1,0 +1,4 @@
+pub mod Traces
+pub mod Next
+pub mod First
+pub mod Laws
