@@ -132,6 +132,8 @@ bare_found Key.Acked answer e = subst (IsAnswerOf _) (same_Some _ answer e) (ref
 bare_found Key.Forgets answer e = subst (IsAnswerOf _) (same_Some _ answer e) (refl, refl)
 bare_found Key.Undecided answer e = subst (IsAnswerOf _) (same_Some _ answer e) (refl, refl)
 bare_found Key.Initiates answer e = subst (IsAnswerOf _) (same_Some _ answer e) (refl, refl)
+bare_found Key.Large answer e = subst (IsAnswerOf _) (same_Some _ answer e) (refl, refl)
+bare_found Key.Checked answer e = subst (IsAnswerOf _) (same_Some _ answer e) (refl, refl)
 bare_found keyword answer e = absurd (none-some answer e)
 
 -- an answer of a word and an attempt

@@ -37,6 +37,7 @@ command_again (Ask.Trip actor calls cut) h =
     let s = both (is_actor actor) (is_count calls) t.0 in
     rw (s.0, s.1, t.1) refl
 command_again (Ask.Back actor) h = rw h refl
+command_again (Ask.Check actor) h = rw h refl
 
 -- the arrow behind the words of a command is the first one
 pub command_cut : (command : Command) (words : List Word) → cut_at Mark.Arrow (command_words command ++ Plain Key.Arrow ∷ words) ≡ Some (command_words command, words)
@@ -63,6 +64,7 @@ command_is_words (Ask.Trip actor calls cut) h =
     let s = both (is_actor actor) (is_count calls) t.0 in
     (refl, (actor_large actor s.0, (count_large calls s.1, (cut_large cut t.1, tt))))
 command_is_words (Ask.Back actor) h = (refl, (actor_large actor h, tt))
+command_is_words (Ask.Check actor) h = (refl, (actor_large actor h, tt))
 
 -- the command is spelled by these words, and its numbers are in range
 abbrev pub IsCommandOf : List Word → Command → Type 0
@@ -76,6 +78,7 @@ number_found Key.Abort n command e = from_guard (is_tx (record { 0 = n })) (reco
 number_found Key.Fate n command e = from_guard (is_tx (record { 0 = n })) (record { 0 = n }) Ask.Fate command (IsCommandOf _) e (λ h. (refl, h))
 number_found Key.Go n command e = from_guard (is_tx (record { 0 = n })) (record { 0 = n }) Ask.Go command (IsCommandOf _) e (λ h. (refl, h))
 number_found Key.Back n command e = from_guard (nat_le n 8) n Ask.Back command (IsCommandOf _) e (λ h. (refl, h))
+number_found Key.Check n command e = from_guard (nat_le n 8) n Ask.Check command (IsCommandOf _) e (λ h. (refl, h))
 number_found keyword n command e = absurd (none-some command e)
 
 attempt_found : (keyword : Keyword) (tid : Tid) (command : Command) → IsTrue (is_tid tid) → attempt_command keyword tid ≡ Some command → IsCommandOf (Plain keyword ∷ Attempt tid ∷ []) command

@@ -26,10 +26,10 @@ use Rattle.trace_lines.proofs.Pieces.{AreWords}
 keywords : List Keyword
 keywords =
     Key.Arrow ∷ Key.Sends ∷ Key.Begin ∷ Key.Step ∷ Key.Commit ∷ Key.Abort ∷ Key.Fate ∷ Key.Go ∷ Key.Again ∷
-    Key.Late ∷ Key.Give ∷ Key.Take ∷ Key.Ask ∷ Key.Drop ∷ Key.Halt ∷ Key.Trip ∷ Key.Back ∷ Key.None ∷
+    Key.Late ∷ Key.Give ∷ Key.Take ∷ Key.Ask ∷ Key.Drop ∷ Key.Halt ∷ Key.Trip ∷ Key.Back ∷ Key.Check ∷ Key.None ∷
     Key.Down ∷ Key.Idle ∷ Key.Spent ∷ Key.End ∷ Key.Unfinished ∷ Key.Unbegun ∷ Key.Aborted ∷ Key.Set ∷
     Key.Awake ∷ Key.Defers ∷ Key.Ignored ∷ Key.Waits ∷ Key.Voted ∷ Key.Acked ∷ Key.Forgets ∷ Key.Undecided ∷
-    Key.Initiates ∷ Key.Committed ∷ Key.Running ∷ Key.Begun ∷ Key.Unheld ∷ Key.Asks ∷ Key.Dropped ∷
+    Key.Initiates ∷ Key.Large ∷ Key.Checked ∷ Key.Committed ∷ Key.Running ∷ Key.Begun ∷ Key.Unheld ∷ Key.Asks ∷ Key.Dropped ∷
     Key.Read ∷ Key.Wrote ∷ Key.Dies ∷ Key.Invalid ∷ Key.Number ∷ Key.Stopped ∷ Key.Kept ∷ Key.Did ∷
     Key.Done ∷ Key.Value ∷ Key.Ticket ∷ Key.Unknown ∷ Key.Votes ∷ Key.Yes ∷ Key.No ∷ Key.Moved ∷
     Key.Settles ∷ Key.Answers ∷ Key.Presumes ∷ Key.Decides ∷ Key.Site ∷ Key.Cycle ∷ Key.Up ∷ Key.Epoch ∷

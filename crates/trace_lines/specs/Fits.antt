@@ -179,6 +179,14 @@ is_back_answer actor (Say.UpCoord known) = nat_eq actor 0
 is_back_answer actor (Say.UpSite epoch doubtful) = nat_lt 0 actor
 is_back_answer actor answer = false
 
+-- the answers of a Checkpoint
+abbrev pub is_check_answer : Answer → Bool
+is_check_answer Say.Down = true
+is_check_answer Say.Large = true
+is_check_answer (Say.Stopped kept) = true
+is_check_answer Say.Checked = true
+is_check_answer answer = false
+
 -- the answers that a command can have
 abbrev pub answer_fits : Command → Answer → Bool
 answer_fits (Ask.Begin tx) = is_begin_answer
@@ -196,6 +204,7 @@ answer_fits (Ask.Drop site tid) = is_drop_answer
 answer_fits (Ask.Halt actor cut) = is_halt_answer
 answer_fits (Ask.Trip actor calls cut) = is_trip_answer
 answer_fits (Ask.Back actor) = is_back_answer actor
+answer_fits (Ask.Check actor) = is_check_answer
 
 -- the answers of the coordinator that can send
 abbrev pub coordinator_sends : Command → Answer → Bool

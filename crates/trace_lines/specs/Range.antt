@@ -79,6 +79,7 @@ command_in_range (Ask.Drop site tid) = is_site site && is_tid tid
 command_in_range (Ask.Halt actor cut) = is_actor actor && is_cut cut
 command_in_range (Ask.Trip actor calls cut) = is_actor actor && is_count calls && is_cut cut
 command_in_range (Ask.Back actor) = is_actor actor
+command_in_range (Ask.Check actor) = is_actor actor
 
 -- of a refusal
 abbrev pub refusal_in_range : Why → Bool

@@ -73,6 +73,7 @@ number_command Key.Abort n = map_some Ask.Abort (tx_of n)
 number_command Key.Fate n = map_some Ask.Fate (tx_of n)
 number_command Key.Go n = map_some Ask.Go (tx_of n)
 number_command Key.Back n = map_some Ask.Back (at_most 8 n)
+number_command Key.Check n = map_some Ask.Check (at_most 8 n)
 number_command keyword n = None
 
 -- a command with one attempt
@@ -157,6 +158,8 @@ bare_answer Key.Acked = Some Say.Acked
 bare_answer Key.Forgets = Some Say.Forgets
 bare_answer Key.Undecided = Some Say.Undecided
 bare_answer Key.Initiates = Some Say.Initiates
+bare_answer Key.Large = Some Say.Large
+bare_answer Key.Checked = Some Say.Checked
 bare_answer keyword = None
 
 -- an answer of a word and an attempt

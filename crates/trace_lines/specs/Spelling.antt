@@ -38,6 +38,7 @@ command_words (Ask.Drop site tid) = Plain Key.Drop ∷ Number site.0 ∷ Attempt
 command_words (Ask.Halt actor cut) = Plain Key.Halt ∷ Number actor ∷ Number cut ∷ []
 command_words (Ask.Trip actor calls cut) = Plain Key.Trip ∷ Number actor ∷ Number calls ∷ Number cut ∷ []
 command_words (Ask.Back actor) = Plain Key.Back ∷ Number actor ∷ []
+command_words (Ask.Check actor) = Plain Key.Check ∷ Number actor ∷ []
 
 -- the words of a refusal, with the attempt that stood in the way
 abbrev pub refusal_words : Why → List Word
@@ -105,6 +106,8 @@ answer_words Say.Acked = Plain Key.Acked ∷ []
 answer_words Say.Forgets = Plain Key.Forgets ∷ []
 answer_words Say.Undecided = Plain Key.Undecided ∷ []
 answer_words Say.Initiates = Plain Key.Initiates ∷ []
+answer_words Say.Large = Plain Key.Large ∷ []
+answer_words Say.Checked = Plain Key.Checked ∷ []
 answer_words (Say.Committed tid) = Plain Key.Committed ∷ Attempt tid ∷ []
 answer_words (Say.Running tid) = Plain Key.Running ∷ Attempt tid ∷ []
 answer_words (Say.Begun tid) = Plain Key.Begun ∷ Attempt tid ∷ []
@@ -153,6 +156,8 @@ is_bare Say.Acked = true
 is_bare Say.Forgets = true
 is_bare Say.Undecided = true
 is_bare Say.Initiates = true
+is_bare Say.Large = true
+is_bare Say.Checked = true
 is_bare answer = false
 
 -- the place of a message: a site prints the number in its channel to the coordinator, and the coordinator `S/I`

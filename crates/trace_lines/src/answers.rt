@@ -82,6 +82,8 @@ fn bare_answer(keyword: Keyword) -> Option<Answer>
         Keyword::Forgets => Some(Answer::Forgets),
         Keyword::Undecided => Some(Answer::Undecided),
         Keyword::Initiates => Some(Answer::Initiates),
+        Keyword::Large => Some(Answer::Large),
+        Keyword::Checked => Some(Answer::Checked),
         _ => None,
     }
 }

@@ -21,6 +21,9 @@ fn number_command(keyword: Keyword, number: u64) -> Option<Command>
         Keyword::Back => Some(Command::Back {
             actor: actor_of(number)?,
         }),
+        Keyword::Check => Some(Command::Check {
+            actor: actor_of(number)?,
+        }),
         _ => None,
     }
 }

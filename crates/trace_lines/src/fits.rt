@@ -216,6 +216,15 @@ fn is_back_answer(actor: u8, answer: &Answer) -> bool
     }
 }
 
+fn is_check_answer(answer: &Answer) -> bool
+    ensures { result ≡ fits.is_check_answer answer.now }
+{
+    matches!(
+        answer,
+        Answer::Down | Answer::Large | Answer::Stopped(_) | Answer::Checked
+    )
+}
+
 fn answer_fits(command: &Command, answer: &Answer) -> bool
     ensures { result ≡ fits.answer_fits command.now answer.now }
 {
@@ -234,6 +243,7 @@ fn answer_fits(command: &Command, answer: &Answer) -> bool
         Command::Halt { .. } => is_halt_answer(answer),
         Command::Trip { .. } => matches!(answer, Answer::Set),
         Command::Back { actor } => is_back_answer(actor, answer),
+        Command::Check { .. } => is_check_answer(answer),
     }
 }
 

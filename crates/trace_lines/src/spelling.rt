@@ -107,6 +107,7 @@ fn push_command(words: &mut Vec<Word>, command: Command) -> Result<(), Memory>
             push(words, &[Number(cut)])
         }
         Command::Back { actor } => push_two(words, Keyword::Back, actor_word(actor)),
+        Command::Check { actor } => push_two(words, Keyword::Check, actor_word(actor)),
     }
 }
 
@@ -223,6 +224,8 @@ fn push_bare(words: &mut Vec<Word>, answer: &Answer) -> Result<(), Memory>
         Answer::Forgets => push_one(words, Keyword::Forgets),
         Answer::Undecided => push_one(words, Keyword::Undecided),
         Answer::Initiates => push_one(words, Keyword::Initiates),
+        Answer::Large => push_one(words, Keyword::Large),
+        Answer::Checked => push_one(words, Keyword::Checked),
         _ => Ok(()),
     }
 }
