@@ -91,6 +91,7 @@ command_more sites more grows (commands.Trip actor calls cut) h =
     let front = is_actor sites actor && nat_le calls 1000 in
     both _ _ (actor_and sites more grows actor (nat_le calls 1000) (first front _ h)) (second front _ h)
 command_more sites more grows (commands.Back actor) h = actor_more sites more grows actor h
+command_more sites more grows (commands.Check actor) h = actor_more sites more grows actor h
 
 -- ---- one more line of each kind
 
@@ -288,10 +289,10 @@ stop_added d line kept range =
       commands = kept.commands;
     }))
 
-setting_reads : (n : ℕ) (old : Option ℕ) → Reads (λ o. o ≡ Some n) (with_setting n old)
+setting_reads : {A : Type 0} (x : A) (old : Option A) → Reads (λ o. o ≡ Some x) (with_setting x old)
 unfolding with_setting
-setting_reads n None = reads_ok _ refl
-setting_reads n (Some m) = reads_err _
+setting_reads x None = reads_ok _ refl
+setting_reads x (Some y) = reads_err _
 
 set_is : (low high default n : ℕ) (o : Option ℕ) → o ≡ Some n → IsTrue (is_between low high n) → IsTrue (is_between low high (or_else o default))
 set_is low high default n o e h = ap (λ p. is_between low high (or_else p default)) e ∙ h
@@ -337,14 +338,22 @@ command_added d c kept good =
       commands = more;
     }))
 
-commands_begun : (d : Draft) → IsDraft d → Reads IsDraft (with_entry says.Commands d)
-unfolding with_entry
-commands_begun d kept =
+-- how tickets are taken, and whether the commands have begun, change nothing of what a draft keeps
+said : (d : Draft) (conservative : Option Bool) (in_commands : Bool) → IsDraft d → IsDraft (record d { conservative = conservative; in_commands = in_commands })
+said d conservative in_commands kept =
     let z = kept.scenario in
-    reads_ok _ (record {
+    record {
       scenario = record { sites = z.sites; items = z.items; transactions = z.transactions; clients = z.clients; turns = z.turns; tries = z.tries; links = z.links; stops = z.stops };
       commands = kept.commands;
-    })
+    }
+
+policy_added : (d : Draft) (conservative : Bool) → IsDraft d → Reads IsDraft (with_entry (says.Policy conservative) d)
+unfolding with_entry
+policy_added d conservative kept = reads_bind (with_setting conservative d.conservative) (reads_any _) (λ o p. reads_ok _ (said d o d.in_commands kept))
+
+commands_begun : (d : Draft) → IsDraft d → Reads IsDraft (with_entry says.Commands d)
+unfolding with_entry
+commands_begun d kept = reads_ok _ (said d d.conservative true kept)
 
 pub entry_added : (e : Entry) (d : Draft) → IsDraft d → IsEntry d.sites e → Reads IsDraft (with_entry e d)
 entry_added (says.Site line) d kept h = site_added d line kept h
@@ -353,6 +362,7 @@ entry_added (says.Transaction tx home steps) d kept h = transaction_added d tx h
 entry_added (says.Clients n) d kept h = clients_added d n kept h
 entry_added (says.Turns n) d kept h = turns_added d n kept h
 entry_added (says.Tries n) d kept h = tries_added d n kept h
+entry_added (says.Policy conservative) d kept h = policy_added d conservative kept
 entry_added (says.Link line) d kept h = link_added d line kept h
 entry_added (says.Stop line) d kept h = stop_added d line kept (second (leb line.actor 8) _ h)
 entry_added says.Commands d kept h = commands_begun d kept

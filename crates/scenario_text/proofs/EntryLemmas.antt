@@ -6,12 +6,12 @@ use Rattle.mdb_base.specs.declared.names.SiteId.{SiteId}
 use Rattle.mdb_base.specs.Words.{each_of}
 use Rattle.fed_rules.specs.declared.scenario.SiteLine.{SiteLine}
 use Rattle.fed_rules.specs.Plans.{is_between, is_declared, is_actor, is_in_place, is_fate}
-use Rattle.scenario_text.specs.CommandLines.{tx_argument, tid_argument, message_argument, attempt_argument, halt_line, trip_line, back_line, actor_command, command_line}
+use Rattle.scenario_text.specs.CommandLines.{tx_argument, tid_argument, message_argument, attempt_argument, actor_argument, halt_line, trip_line, actor_command, command_line}
 use Rattle.scenario_text.specs.Kept.{IsEntry, is_tx, is_tid, is_command}
-use Rattle.scenario_text.specs.Names.{is_number, decimal, number_in, key_of, value_of, tx_of, site_number, site_of, actor_of, tid_of, engine_of, protocol_of, hold_of, fate_of, way_of}
+use Rattle.scenario_text.specs.Names.{is_number, decimal, number_in, key_of, value_of, tx_of, site_number, site_of, actor_of, tid_of, engine_of, protocol_of, policy_of, hold_of, fate_of, way_of}
 use Rattle.scenario_text.specs.Pieces.{pieces, cut_at, only_two, only_three, only_four, only_five, first_and_more, first_word, dot, slash, colon}
 use Rattle.scenario_text.specs.Reads.{counted, spelled}
-use Rattle.scenario_text.specs.ScenarioLines.{site_line, item_line, local_line, global_line, clients_line, turns_line, tries_line, link_line, stop_line, scenario_line}
+use Rattle.scenario_text.specs.ScenarioLines.{site_line, item_line, local_line, global_line, clients_line, turns_line, tries_line, policy_line, link_line, stop_line, scenario_line}
 use Rattle.scenario_text.specs.Steps.{act_of, is_misspelled, global_step, step_of, steps_of}
 use Rattle.scenario_text.proofs.Readings.{Reads, reads_ok, reads_err, reads_bind, reads_any, reads_if, reads_unless, reads_either}
 
@@ -165,6 +165,11 @@ unfolding tries_line
 tries_line_reads sites words =
     reads_bind (counted (only_two words)) (reads_any _) (λ w p. reads_bind (number_in 1 16 w.1) (number_reads 1 16 w.1) (λ n range. reads_ok _ range))
 
+policy_line_reads : (sites : List SiteLine) (words : List (List ℕ)) → Reads (IsEntry sites) (policy_line words)
+unfolding policy_line
+policy_line_reads sites words =
+    reads_bind (counted (only_two words)) (reads_any _) (λ w p. reads_bind (policy_of w.1) (reads_any _) (λ conservative q. reads_ok _ tt))
+
 link_line_reads : (sites : List SiteLine) (words : List (List ℕ)) → Reads (IsEntry sites) (link_line sites words)
 unfolding link_line
 link_line_reads sites words =
@@ -198,8 +203,9 @@ scenario_line_reads sites words =
     (reads_either (bytes_eq first (codes "clients")) _ _ (clients_line_reads sites words)
     (reads_either (bytes_eq first (codes "turns")) _ _ (turns_line_reads sites words)
     (reads_either (bytes_eq first (codes "tries")) _ _ (tries_line_reads sites words)
+    (reads_either (bytes_eq first (codes "policy")) _ _ (policy_line_reads sites words)
     (reads_either (bytes_eq first (codes "link")) _ _ (link_line_reads sites words)
-    (reads_either (bytes_eq first (codes "stop")) _ _ (stop_line_reads sites words) (reads_err _)))))))))
+    (reads_either (bytes_eq first (codes "stop")) _ _ (stop_line_reads sites words) (reads_err _))))))))))
 
 -- ---- commands
 
@@ -225,6 +231,10 @@ attempt_argument_reads sites words =
     reads_bind (site_of sites w.1) (declared_reads sites w.1) (λ site there.
     reads_bind (tid_of w.2) (tid_reads w.2) (λ tid good. reads_ok _ (both _ _ there good))))
 
+actor_argument_reads : (sites : List SiteLine) (words : List (List ℕ)) → Reads (λ actor. IsTrue (is_actor sites actor)) (actor_argument sites words)
+unfolding actor_argument
+actor_argument_reads sites words = reads_bind (counted (only_two words)) (reads_any _) (λ w p. declared_actor sites w.1)
+
 halt_line_reads : (sites : List SiteLine) (words : List (List ℕ)) → Reads (λ c. IsTrue (is_command sites c)) (halt_line sites words)
 unfolding halt_line
 halt_line_reads sites words =
@@ -240,24 +250,21 @@ trip_line_reads sites words =
     reads_bind (number_in 0 1000 w.2) (number_upto 1000 w.2) (λ calls some.
     reads_bind (number_in 0 65535 w.3) (number_upto 65535 w.3) (λ cut few. reads_ok _ (both _ _ (both _ _ there some) few)))))
 
-back_line_reads : (sites : List SiteLine) (words : List (List ℕ)) → Reads (λ c. IsTrue (is_command sites c)) (back_line sites words)
-unfolding back_line
-back_line_reads sites words =
-    reads_bind (counted (only_two words)) (reads_any _) (λ w p. reads_bind (actor_of sites w.1) (declared_actor sites w.1) (λ actor there. reads_ok _ there))
-
 actor_command_reads : (sites : List SiteLine) (words : List (List ℕ)) → Reads (λ c. IsTrue (is_command sites c)) (actor_command sites words)
 unfolding actor_command
 actor_command_reads sites words =
     let first = first_word words in
     let messages = message_argument_reads sites words in
     let attempts = attempt_argument_reads sites words in
+    let actors = actor_argument_reads sites words in
     reads_either (bytes_eq first (codes "give")) _ _ (reads_bind (message_argument sites words) messages (λ m there. reads_ok _ there))
     (reads_either (bytes_eq first (codes "take")) _ _ (reads_bind (message_argument sites words) messages (λ m there. reads_ok _ there))
     (reads_either (bytes_eq first (codes "ask")) _ _ (reads_bind (attempt_argument sites words) attempts (λ a there. reads_ok _ there))
     (reads_either (bytes_eq first (codes "drop")) _ _ (reads_bind (attempt_argument sites words) attempts (λ a there. reads_ok _ there))
     (reads_either (bytes_eq first (codes "halt")) _ _ (halt_line_reads sites words)
     (reads_either (bytes_eq first (codes "trip")) _ _ (trip_line_reads sites words)
-    (reads_either (bytes_eq first (codes "back")) _ _ (back_line_reads sites words) (reads_err _)))))))
+    (reads_either (bytes_eq first (codes "back")) _ _ (reads_bind (actor_argument sites words) actors (λ actor there. reads_ok _ there))
+    (reads_either (bytes_eq first (codes "check")) _ _ (reads_bind (actor_argument sites words) actors (λ actor there. reads_ok _ there)) (reads_err _))))))))
 
 pub command_line_reads : (sites : List SiteLine) (words : List (List ℕ)) → Reads (λ c. IsTrue (is_command sites c)) (command_line sites words)
 unfolding command_line

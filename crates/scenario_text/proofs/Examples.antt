@@ -1,7 +1,7 @@
 -- Texts and what they spell, by evaluation.
-use Rattle.std.proofs.Common.{◌≡◌, ℕ, List, [], ◌∷◌, ◌++◌, Some, Ok, Err, refl}
+use Rattle.std.proofs.Common.{◌≡◌, ℕ, true, false, List, [], ◌∷◌, ◌++◌, Some, Ok, Err, refl}
 use Rattle.std.specs.Prelude.{codes}
-use Rattle.mdb_base.specs.declared.names.Engine.TheVariants.{Locking}
+use Rattle.mdb_base.specs.declared.names.Engine.TheVariants.{Locking, Multiversion}
 use Rattle.mdb_base.specs.declared.acts.Act.TheVariants.{Get, Add}
 use Rattle.presumptions.specs.declared.Protocol.TheVariants as protocols
 use Rattle.scenario_text.specs.declared.bad.BadWhy.{BadWhy}
@@ -34,6 +34,14 @@ register_before_its_read : bad_at (text_of (codes "site 1 locking abort" ∷ cod
 unfolding opened text_of bad_at
 register_before_its_read = refl
 
+unknown_policy : bad_at (text_of (codes "policy any" ∷ [])) 1 why.Spelling
+unfolding opened text_of bad_at
+unknown_policy = refl
+
+policy_twice : bad_at (text_of (codes "policy always" ∷ codes "policy conservative" ∷ [])) 2 why.Repeated
+unfolding opened text_of bad_at
+policy_twice = refl
+
 one_local : scenario_of (text_of (codes "site 1 locking nothing" ∷ codes "local 1 1 get:5 add:5:0:7" ∷ [])) ≡ Ok (record {
   sites = record { site = record { 0 = 1 }; engine = Locking; protocol = protocols.Nothing } ∷ [];
   items = [];
@@ -43,6 +51,21 @@ one_local : scenario_of (text_of (codes "site 1 locking nothing" ∷ codes "loca
   tries = 4;
   links = [];
   stops = [];
+  conservative = false;
 })
 unfolding opened text_of
 one_local = refl
+
+conservative_versions : scenario_of (text_of (codes "site 2 multiversion abort" ∷ codes "policy conservative" ∷ [])) ≡ Ok (record {
+  sites = record { site = record { 0 = 2 }; engine = Multiversion; protocol = protocols.Abort } ∷ [];
+  items = [];
+  transactions = [];
+  clients = 4;
+  turns = 1000;
+  tries = 4;
+  links = [];
+  stops = [];
+  conservative = true;
+})
+unfolding opened text_of
+conservative_versions = refl

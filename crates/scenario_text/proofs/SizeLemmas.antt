@@ -26,9 +26,9 @@ use Rattle.scenario_text.proofs.CountLemmas.{length_by_number, once_each}
 use Rattle.scenario_text.proofs.ListLemmas.{first, second, each_of-weaker}
 use Rattle.scenario_text.proofs.Readings.{Reads, reads_ok, reads_err, reads_bind, reads_any, reads_all, reads_by, reads_unless}
 
-abbrev of_setting : Option ℕ → ℕ
+abbrev of_setting : {A : Type 0} → Option A → ℕ
 of_setting None = 0
-of_setting (Some n) = 1
+of_setting (Some x) = 1
 
 abbrev of_flag : Bool → ℕ
 of_flag true = 1
@@ -37,7 +37,7 @@ of_flag false = 0
 -- how many lines a draft took
 abbrev pub size : Draft → ℕ
 size d =
-    length d.sites + length d.items + length d.transactions + of_setting d.clients + of_setting d.turns + of_setting d.tries + length d.links + length d.stops + of_flag d.in_commands + length d.commands
+    length d.sites + length d.items + length d.transactions + of_setting d.clients + of_setting d.turns + of_setting d.tries + of_setting d.conservative + length d.links + length d.stops + of_flag d.in_commands + length d.commands
 
 -- ---- one more for each line
 
@@ -74,10 +74,10 @@ command_sized : (c : Command) (cs : List Command) → Reads (λ more. length mor
 unfolding with_command
 command_sized c cs = reads_unless (leb most_commands (length cs)) _ _ (λ room. reads_ok _ (one_more cs c))
 
-setting_sized : (n : ℕ) (old : Option ℕ) → Reads (λ more. of_setting more ≡ suc (of_setting old)) (with_setting n old)
+setting_sized : {A : Type 0} (x : A) (old : Option A) → Reads (λ more. of_setting more ≡ suc (of_setting old)) (with_setting x old)
 unfolding with_setting
-setting_sized n None = reads_ok _ refl
-setting_sized n (Some m) = reads_err _
+setting_sized x None = reads_ok _ refl
+setting_sized x (Some y) = reads_err _
 
 -- where the commands have begun, the line isn't one that begins them
 abbrev Follows : Draft → Entry → Type 0
@@ -93,6 +93,7 @@ entry_sized (says.Transaction tx home steps) d f =
 entry_sized (says.Clients n) d f = reads_bind (with_setting n d.clients) (setting_sized n d.clients) (λ o h. reads_ok _ (omega (arith, h)))
 entry_sized (says.Turns n) d f = reads_bind (with_setting n d.turns) (setting_sized n d.turns) (λ o h. reads_ok _ (omega (arith, h)))
 entry_sized (says.Tries n) d f = reads_bind (with_setting n d.tries) (setting_sized n d.tries) (λ o h. reads_ok _ (omega (arith, h)))
+entry_sized (says.Policy c) d f = reads_bind (with_setting c d.conservative) (setting_sized c d.conservative) (λ o h. reads_ok _ (omega (arith, h)))
 entry_sized (says.Link line) d f = reads_bind (with_link line d.links) (link_sized line d.links) (λ lines h. reads_ok _ (omega (arith, h)))
 entry_sized (says.Stop line) d f = reads_bind (with_stop line d.stops) (stop_sized line d.stops) (λ lines h. reads_ok _ (omega (arith, h)))
 entry_sized says.Commands d f = reads_ok _ (let flag : of_flag d.in_commands ≡ 0 = ap of_flag f in omega (arith, flag))
@@ -105,6 +106,7 @@ before_commands d (says.Transaction tx home steps) h = tt
 before_commands d (says.Clients n) h = tt
 before_commands d (says.Turns n) h = tt
 before_commands d (says.Tries n) h = tt
+before_commands d (says.Policy conservative) h = tt
 before_commands d (says.Link line) h = tt
 before_commands d (says.Stop line) h = tt
 before_commands d says.Commands h = h
@@ -144,9 +146,9 @@ actor_low sites actor range there =
       | inr declared ↦ declared_low sites (record { 0 = actor }) range declared
     ]
 
-setting_few : (o : Option ℕ) → of_setting o ≤ 1
+setting_few : {A : Type 0} (o : Option A) → of_setting o ≤ 1
 setting_few None = omega arith
-setting_few (Some n) = omega arith
+setting_few (Some x) = omega arith
 
 flag_few : (b : Bool) → of_flag b ≤ 1
 flag_few true = omega arith
@@ -177,8 +179,8 @@ stops_few sites stops declared kept =
     actor_low sites line.actor declared.range (first (is_actor sites line.actor) _ (first (is_actor sites line.actor && is_between 1 1000 line.calls) _ h))) stops kept.range in
     length_by_number (λ line. line.actor) most_stops 9 stops low kept.few
 
--- no draft takes more than 108,110 lines
-pub size_few : (d : Draft) → IsDraft d → size d ≤ 108110
+-- no draft takes more than 108,111 lines
+pub size_few : (d : Draft) → IsDraft d → size d ≤ 108111
 size_few d kept =
     let z = kept.scenario in
-    omega (arith, sites_few d.sites z.sites, items_few d.sites d.items z.sites z.items, transactions_few d.sites d.transactions z.transactions, setting_few d.clients, setting_few d.turns, setting_few d.tries, z.links.few, stops_few d.sites d.stops z.sites z.stops, flag_few d.in_commands, kept.commands.few)
+    omega (arith, sites_few d.sites z.sites, items_few d.sites d.items z.sites z.items, transactions_few d.sites d.transactions z.transactions, setting_few d.clients, setting_few d.turns, setting_few d.tries, setting_few d.conservative, z.links.few, stops_few d.sites d.stops z.sites z.stops, flag_few d.in_commands, kept.commands.few)

@@ -41,6 +41,12 @@ attempt_argument sites words = do
   tid ← tid_of w.2
   Ok (site, tid)
 
+-- the actor of a line `WORD A`
+unfoldable pub actor_argument : List SiteLine → List (List ℕ) → Result ℕ BadWhy
+actor_argument sites words = do
+  w ← counted (only_two words)
+  actor_of sites w.1
+
 -- `halt A B`
 unfoldable pub halt_line : List SiteLine → List (List ℕ) → Result Command BadWhy
 halt_line sites words = do
@@ -58,13 +64,6 @@ trip_line sites words = do
   cut ← number_in 0 65535 w.3
   Ok (command.Trip actor calls cut)
 
--- `back A`
-unfoldable pub back_line : List SiteLine → List (List ℕ) → Result Command BadWhy
-back_line sites words = do
-  w ← counted (only_two words)
-  actor ← actor_of sites w.1
-  Ok (command.Back actor)
-
 -- what a command says about a site's messages or an actor, by its first word
 unfoldable pub actor_command : List SiteLine → List (List ℕ) → Result Command BadWhy
 actor_command sites words =
@@ -75,7 +74,8 @@ actor_command sites words =
     else if bytes_eq first (codes "drop") then (attempt_argument sites words >>= λ a. Ok (command.Drop a.0 a.1))
     else if bytes_eq first (codes "halt") then halt_line sites words
     else if bytes_eq first (codes "trip") then trip_line sites words
-    else if bytes_eq first (codes "back") then back_line sites words
+    else if bytes_eq first (codes "back") then (actor_argument sites words >>= λ actor. Ok (command.Back actor))
+    else if bytes_eq first (codes "check") then (actor_argument sites words >>= λ actor. Ok (command.Check actor))
     else Err Word
 
 -- what a command says, by its first word

@@ -37,7 +37,7 @@ default_tries = 4
 
 -- nothing was said yet
 abbrev pub no_draft : Draft
-no_draft = record { sites = []; items = []; transactions = []; clients = None; turns = None; tries = None; links = []; stops = []; in_commands = false; commands = [] }
+no_draft = record { sites = []; items = []; transactions = []; clients = None; turns = None; tries = None; conservative = None; links = []; stops = []; in_commands = false; commands = [] }
 
 -- a site once
 unfoldable pub with_site : SiteLine → List SiteLine → Result (List SiteLine) BadWhy
@@ -79,9 +79,9 @@ unfoldable pub with_command : Command → List Command → Result (List Command)
 with_command command commands = if nat_le most_commands (length commands) then Err Many else Ok (commands ++ command ∷ [])
 
 -- a setting once
-unfoldable pub with_setting : ℕ → Option ℕ → Result (Option ℕ) BadWhy
-with_setting n None = Ok (Some n)
-with_setting n (Some m) = Err Repeated
+unfoldable pub with_setting : {A : Type 0} → A → Option A → Result (Option A) BadWhy
+with_setting x None = Ok (Some x)
+with_setting x (Some y) = Err Repeated
 
 -- the draft with one line more
 unfoldable pub with_entry : Entry → Draft → Result Draft BadWhy
@@ -91,12 +91,13 @@ with_entry (says.Transaction tx home steps) d = with_transaction tx home steps d
 with_entry (says.Clients n) d = with_setting n d.clients >>= λ clients. Ok (record d { clients = clients })
 with_entry (says.Turns n) d = with_setting n d.turns >>= λ turns. Ok (record d { turns = turns })
 with_entry (says.Tries n) d = with_setting n d.tries >>= λ tries. Ok (record d { tries = tries })
+with_entry (says.Policy c) d = with_setting c d.conservative >>= λ conservative. Ok (record d { conservative = conservative })
 with_entry (says.Link line) d = with_link line d.links >>= λ lines. Ok (record d { links = lines })
 with_entry (says.Stop line) d = with_stop line d.stops >>= λ lines. Ok (record d { stops = lines })
 with_entry says.Commands d = Ok (record d { in_commands = true })
 with_entry (says.Command command) d = with_command command d.commands >>= λ commands. Ok (record d { commands = commands })
 
--- the scenario that a draft makes
+-- the scenario that a draft makes: tickets are taken by the conservative method exactly where a line says so
 abbrev pub plan_of : Draft → Plan
 plan_of d = record {
   sites = d.sites;
@@ -107,4 +108,5 @@ plan_of d = record {
   tries = or_else d.tries default_tries;
   links = d.links;
   stops = d.stops;
+  conservative = or_else d.conservative false;
 }

@@ -38,6 +38,7 @@ is_command sites (command.Drop site tid) = is_declared sites site && is_tid tid
 is_command sites (command.Halt actor cut) = is_actor sites actor && nat_le cut 65535
 is_command sites (command.Trip actor calls cut) = is_actor sites actor && nat_le calls 1000 && nat_le cut 65535
 is_command sites (command.Back actor) = is_actor sites actor
+is_command sites (command.Check actor) = is_actor sites actor
 
 -- a transaction's number is in its range, it has a step, and its steps stand where they may
 pub record IsTransaction (sites : List SiteLine) (tx : Tx) (home : Option SiteId) (steps : List Step) : Type 0 where
@@ -53,6 +54,7 @@ IsEntry sites (says.Transaction tx home steps) = IsTransaction sites tx home ste
 IsEntry sites (says.Clients n) = IsTrue (is_between 1 16 n)
 IsEntry sites (says.Turns n) = IsTrue (is_between 1 100000 n)
 IsEntry sites (says.Tries n) = IsTrue (is_between 1 16 n)
+IsEntry sites (says.Policy conservative) = Unit {0}
 IsEntry sites (says.Link line) = IsTrue (is_link sites line)
 IsEntry sites (says.Stop line) = IsTrue (nat_le line.actor 8 && is_stop sites line)
 IsEntry sites says.Commands = Unit {0}

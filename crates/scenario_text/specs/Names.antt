@@ -8,7 +8,7 @@ use Rattle.mdb_base.specs.declared.names.Key.{Key}
 use Rattle.mdb_base.specs.declared.names.Tx.{Tx}
 use Rattle.mdb_base.specs.declared.names.Tid.{Tid}
 use Rattle.mdb_base.specs.declared.names.Engine.{Engine}
-use Rattle.mdb_base.specs.declared.names.Engine.TheVariants.{Locking, Timestamp, Validation}
+use Rattle.mdb_base.specs.declared.names.Engine.TheVariants.{Locking, Timestamp, Validation, Multiversion}
 use Rattle.mdb_base.specs.declared.names.Fate.{Fate}
 use Rattle.mdb_base.specs.declared.names.Fate.TheVariants as fates
 use Rattle.presumptions.specs.declared.Protocol.{Protocol}
@@ -88,6 +88,7 @@ engine_of word =
     if bytes_eq word (codes "locking") then Ok Locking
     else if bytes_eq word (codes "timestamp") then Ok Timestamp
     else if bytes_eq word (codes "validation") then Ok Validation
+    else if bytes_eq word (codes "multiversion") then Ok Multiversion
     else Err why.Spelling
 
 -- a commit protocol by what it presumes
@@ -96,6 +97,13 @@ protocol_of word =
     if bytes_eq word (codes "nothing") then Ok protocols.Nothing
     else if bytes_eq word (codes "abort") then Ok protocols.Abort
     else if bytes_eq word (codes "commit") then Ok protocols.Commit
+    else Err why.Spelling
+
+-- when tickets may be taken, by the name of the policy: whether it is the conservative one
+unfoldable pub policy_of : List ℕ → Result Bool BadWhy
+policy_of word =
+    if bytes_eq word (codes "always") then Ok false
+    else if bytes_eq word (codes "conservative") then Ok true
     else Err why.Spelling
 
 -- `hold:N`, 1 to 64

@@ -7,7 +7,7 @@ use Rattle.scenario_text.specs.declared.bad.BadWhy.{BadWhy}
 use Rattle.scenario_text.specs.declared.bad.BadWhy.TheVariants.{Word}
 use Rattle.scenario_text.specs.declared.entry.Entry.{Entry}
 use Rattle.scenario_text.specs.declared.entry.Entry.TheVariants as says
-use Rattle.scenario_text.specs.Names.{number_in, key_of, value_of, tx_of, site_number, site_of, actor_of, engine_of, protocol_of, fate_of, way_of}
+use Rattle.scenario_text.specs.Names.{number_in, key_of, value_of, tx_of, site_number, site_of, actor_of, engine_of, protocol_of, policy_of, fate_of, way_of}
 use Rattle.scenario_text.specs.Pieces.{only_two, only_four, only_five, first_and_more, first_word}
 use Rattle.scenario_text.specs.Reads.{◌>>=◌, counted}
 use Rattle.scenario_text.specs.Steps.{steps_of}
@@ -69,6 +69,13 @@ tries_line words = do
   n ← number_in 1 16 w.1
   Ok (says.Tries n)
 
+-- `policy WORD`
+unfoldable pub policy_line : List (List ℕ) → Result Entry BadWhy
+policy_line words = do
+  w ← counted (only_two words)
+  conservative ← policy_of w.1
+  Ok (says.Policy conservative)
+
 -- `link to S I FATE` and `link from S I FATE`
 unfoldable pub link_line : List SiteLine → List (List ℕ) → Result Entry BadWhy
 link_line sites words = do
@@ -99,6 +106,7 @@ scenario_line sites words =
     else if bytes_eq first (codes "clients") then clients_line words
     else if bytes_eq first (codes "turns") then turns_line words
     else if bytes_eq first (codes "tries") then tries_line words
+    else if bytes_eq first (codes "policy") then policy_line words
     else if bytes_eq first (codes "link") then link_line sites words
     else if bytes_eq first (codes "stop") then stop_line sites words
     else Err Word

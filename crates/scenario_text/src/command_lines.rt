@@ -50,6 +50,15 @@ fn attempt_argument(sites: &SiteDraft, line: &[u8]) -> Result<(SiteId, Tid), Bad
     Ok((site, tid))
 }
 
+/// The actor of a line `WORD A`.
+#[tactic(auto, unfolding(crate::specs::CommandLines::actor_argument))]
+fn actor_argument(sites: &SiteDraft, line: &[u8]) -> Result<u8, BadWhy>
+    ensures { result ≡ spells.actor_argument sites.now (words_of line.now) }
+{
+    let (_, actor) = two_pieces(line, b' ').ok_or(BadWhy::Count)?;
+    sites.actor_of(actor)
+}
+
 /// `halt A B`.
 #[tactic(auto, unfolding(crate::specs::CommandLines::halt_line))]
 fn halt_line(sites: &SiteDraft, line: &[u8]) -> Result<Command, BadWhy>
@@ -71,16 +80,6 @@ fn trip_line(sites: &SiteDraft, line: &[u8]) -> Result<Command, BadWhy>
     let calls = number_in(0, 1_000, calls)? as u32;
     let cut = number_in(0, 65_535, cut)?;
     Ok(Command::Trip { actor, calls, cut })
-}
-
-/// `back A`.
-#[tactic(auto, unfolding(crate::specs::CommandLines::back_line))]
-fn back_line(sites: &SiteDraft, line: &[u8]) -> Result<Command, BadWhy>
-    ensures { result ≡ spells.back_line sites.now (words_of line.now) }
-{
-    let (_, actor) = two_pieces(line, b' ').ok_or(BadWhy::Count)?;
-    let actor = sites.actor_of(actor)?;
-    Ok(Command::Back { actor })
 }
 
 /// What a command says about a site's messages or an actor, by its first word.
@@ -106,7 +105,11 @@ fn actor_command(sites: &SiteDraft, line: &[u8]) -> Result<Command, BadWhy>
     } else if first == b"trip".as_slice() {
         trip_line(sites, line)
     } else if first == b"back".as_slice() {
-        back_line(sites, line)
+        let actor = actor_argument(sites, line)?;
+        Ok(Command::Back { actor })
+    } else if first == b"check".as_slice() {
+        let actor = actor_argument(sites, line)?;
+        Ok(Command::Check { actor })
     } else {
         Err(BadWhy::Word)
     }

@@ -40,6 +40,8 @@ pub struct Draft {
     pub clients: Option<u8>,
     pub turns: Option<u32>,
     pub tries: Option<u8>,
+    /// Whether tickets are taken by the conservative method, where a line says it.
+    pub conservative: Option<bool>,
     pub links: LinkDraft,
     pub stops: StopDraft,
     /// Whether the line `commands` was read.
@@ -59,6 +61,7 @@ impl Draft {
             clients: None,
             turns: None,
             tries: None,
+            conservative: None,
             links: LinkDraft::new(alloc),
             stops: StopDraft::new(alloc),
             in_commands: false,
@@ -116,6 +119,7 @@ impl Draft {
             Entry::Clients(clients) => set_once(&mut self.clients, clients),
             Entry::Turns(turns) => set_once(&mut self.turns, turns),
             Entry::Tries(tries) => set_once(&mut self.tries, tries),
+            Entry::Policy(conservative) => set_once(&mut self.conservative, conservative),
             Entry::Link(line) => self.links.add(line),
             Entry::Stop(line) => self.stops.add(line),
             Entry::Commands => {

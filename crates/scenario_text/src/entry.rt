@@ -19,6 +19,8 @@ pub enum Entry {
     Clients(u8),
     Turns(u32),
     Tries(u8),
+    /// Whether tickets are taken by the conservative method.
+    Policy(bool),
     Link(LinkLine),
     Stop(StopLine),
     /// All later lines are commands.

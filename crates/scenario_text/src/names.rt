@@ -123,6 +123,8 @@ pub fn engine_of(word: &[u8]) -> Result<Engine, BadWhy>
         Ok(Engine::Timestamp)
     } else if word == b"validation".as_slice() {
         Ok(Engine::Validation)
+    } else if word == b"multiversion".as_slice() {
+        Ok(Engine::Multiversion)
     } else {
         Err(BadWhy::Spelling)
     }
@@ -139,6 +141,20 @@ pub fn protocol_of(word: &[u8]) -> Result<Protocol, BadWhy>
         Ok(Protocol::Abort)
     } else if word == b"commit".as_slice() {
         Ok(Protocol::Commit)
+    } else {
+        Err(BadWhy::Spelling)
+    }
+}
+
+/// When tickets may be taken, by the name of the policy: whether it is the conservative one.
+#[tactic(auto, unfolding(crate::specs::Names::policy_of))]
+pub fn policy_of(word: &[u8]) -> Result<bool, BadWhy>
+    ensures { result ≡ names.policy_of word.now }
+{
+    if word == b"always".as_slice() {
+        Ok(false)
+    } else if word == b"conservative".as_slice() {
+        Ok(true)
     } else {
         Err(BadWhy::Spelling)
     }

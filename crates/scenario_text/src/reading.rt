@@ -71,6 +71,7 @@ fn finished(draft: Draft) -> (Scenario, Commands)
         clients,
         turns,
         tries,
+        conservative,
         links,
         stops,
         in_commands: _,
@@ -85,6 +86,7 @@ fn finished(draft: Draft) -> (Scenario, Commands)
         tries: tries.unwrap_or(4),
         links: links.into_lines(),
         stops: stops.into_lines(),
+        conservative: conservative.unwrap_or(false),
     };
     (scenario, commands.into_commands())
 }

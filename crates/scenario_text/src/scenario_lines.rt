@@ -9,7 +9,8 @@ use crate::draft::SiteDraft;
 use crate::entry::Entry;
 use crate::fault::Fault;
 use crate::names::{
-    engine_of, fate_of, key_of, number_in, protocol_of, site_number, tx_of, value_of, way_of,
+    engine_of, fate_of, key_of, number_in, policy_of, protocol_of, site_number, tx_of, value_of,
+    way_of,
 };
 use crate::pieces::{cut, first_word, five_pieces, four_pieces, two_pieces};
 use crate::steps::steps_of;
@@ -112,6 +113,16 @@ fn tries_line(line: &[u8]) -> Result<Entry, BadWhy>
     Ok(Entry::Tries(tries as u8))
 }
 
+/// `policy WORD`.
+#[tactic(auto, unfolding(crate::specs::ScenarioLines::policy_line))]
+fn policy_line(line: &[u8]) -> Result<Entry, BadWhy>
+    ensures { result ≡ spells.policy_line (words_of line.now) }
+{
+    let (_, word) = two_pieces(line, b' ').ok_or(BadWhy::Count)?;
+    let conservative = policy_of(word)?;
+    Ok(Entry::Policy(conservative))
+}
+
 /// `link to S I FATE` and `link from S I FATE`.
 #[tactic(auto, unfolding(crate::specs::ScenarioLines::link_line))]
 fn link_line(sites: &SiteDraft, line: &[u8]) -> Result<Entry, BadWhy>
@@ -162,6 +173,8 @@ pub fn scenario_line(alloc: Global, sites: &SiteDraft, line: &[u8]) -> Result<En
         Ok(turns_line(line)?)
     } else if first == b"tries".as_slice() {
         Ok(tries_line(line)?)
+    } else if first == b"policy".as_slice() {
+        Ok(policy_line(line)?)
     } else if first == b"link".as_slice() {
         Ok(link_line(sites, line)?)
     } else if first == b"stop".as_slice() {
