@@ -1,5 +1,6 @@
 pub mod CountLemmas
 pub mod DecimalLemmas
+pub mod MoreSites
 pub mod DraftLemmas
 pub mod EntryLemmas
 mod Examples

@@ -29,8 +29,10 @@ use mdb_base::Memory;
 use std::alloc::Global;
 use std::str;
 
-/// Appends the line, without a line feed (this project's profile). The answer and the places are some that the command can have.
-/// An `Err` changes nothing.
+/// Appends the line, without a line feed (this project's profile). The condition is that the line fits: its answer is one that its
+/// command can have; places stand only behind an answer that can send, those of the coordinator at rising sites, and of a site one place
+/// in its own channel; an answer of what is sent alone has a place. A number may have any value of its type: where one is out of its
+/// range, the line is printed but isn't read again. An `Err` changes nothing.
 pub fn print_line(alloc: Global, line: &Line, out: &mut Vec<u8>) -> Result<(), Memory>
     requires { IsTrue (line_fits line.now) }
     ensures ok { OnOk result (out.new.items ≡ out.old.items ++ line_bytes line.now) }

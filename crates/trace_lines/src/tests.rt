@@ -26,13 +26,13 @@ fn worked_lines_are_read_and_printed_again(rt: HostRuntime) -> Result<(), Fail> 
 
 #[test]
 fn every_answer_is_read_and_printed_again(rt: HostRuntime) -> Result<(), Fail> {
-    assert_eq!(rt; OTHERS.lines().count(), 44);
+    assert_eq!(rt; OTHERS.lines().count(), 49);
     reads_and_prints(&rt, rt.alloc(), OTHERS)
 }
 
 #[test]
 fn other_texts_are_no_lines(rt: HostRuntime) {
-    assert_eq!(rt; NO_LINES.lines().count(), 78);
+    assert_eq!(rt; NO_LINES.lines().count(), 84);
     for text in NO_LINES.lines() {
         let read = read_line(rt.alloc(), text.as_bytes());
         assert!(rt; matches!(read, Err(LineErr::NoLine)), "{text}");

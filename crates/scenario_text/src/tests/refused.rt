@@ -25,6 +25,8 @@ fn unknown_first_words(rt: HostRuntime) {
             (b"site 1 locking abort\ncommands\ncommands\n", 3),
             (b"site 1 locking abort\ncommands:\n", 2),
             (b"sites\n", 1),
+            (b"check 0\n", 1),
+            (b"site 1 locking abort\ncommands\npolicy always\n", 3),
             (b"site 1 locking abort\n\nx\n", 2),
         ],
     );
@@ -44,6 +46,8 @@ fn wrong_counts_of_words(rt: HostRuntime) {
             (b"site 1 locking abort\nlocal 1 1\n", 2),
             (b"site 1 locking abort\nglobal 1\n", 2),
             (b"clients\n", 1),
+            (b"policy always conservative\n", 1),
+            (b"site 1 locking abort\ncommands\ncheck 1 0\n", 3),
             (b"site 1 locking abort\nlink to 1 0\n", 2),
             (b"site 1 locking abort\ncommands\nbegin\n", 3),
             (b"site 1 locking abort\ncommands\ntrip 1 2\n", 3),
@@ -105,6 +109,7 @@ fn numbers_out_of_range(rt: HostRuntime) {
             (b"site 1 locking abort\ncommands\ngive 1 4294967296\n", 3),
             (b"site 1 locking abort\ncommands\ntrip 1 1001 0\n", 3),
             (b"site 1 locking abort\ncommands\nhalt 9 0\n", 3),
+            (b"site 1 locking abort\ncommands\ncheck 9\n", 3),
             (b"site 1 locking abort\nlocal 1 9 put:1\n", 2),
             (b"site 99999999999999999999999 lock abort\n", 1),
         ],
@@ -118,6 +123,7 @@ fn words_without_their_form(rt: HostRuntime) {
         BadWhy::Spelling,
         &[
             (b"site 1 lock abort\n", 1),
+            (b"policy any\n", 1),
             (b"site 1 locking Abort\n", 1),
             (b"site 1 locking abort\nlocal 1 1 put:1\n", 2),
             (b"site 1 locking abort\nlocal 1 1 get\n", 2),
@@ -152,6 +158,7 @@ fn undeclared_sites_and_actors(rt: HostRuntime) {
             (b"site 1 locking abort\ncommands\nask 2 x\n", 3),
             (b"site 1 locking abort\ncommands\nhalt 2 0\n", 3),
             (b"site 1 locking abort\ncommands\nback 8\n", 3),
+            (b"site 1 locking abort\ncommands\ncheck 2\n", 3),
         ],
     );
 }
@@ -179,6 +186,7 @@ fn lines_that_stand_twice(rt: HostRuntime) {
             (b"clients 4\nclients 4\n", 2),
             (b"turns 1\ntries 1\nturns 2\n", 3),
             (b"tries 2\ntries 2\n", 2),
+            (b"policy conservative\npolicy always\n", 2),
             (
                 b"site 1 locking abort\nlocal 1 1 get:1\nlocal 1 1 add:1:0:1\n",
                 3,

@@ -18,6 +18,7 @@ fn commands_stand_in_no_scenario_alone(rt: HostRuntime) {
 const SCRIPT: &str = "\
 site 1 locking abort\n\
 site 2 validation commit\n\
+site 7 multiversion abort\n\
 site 8 timestamp nothing\n\
 item 1 10 500\n\
 item 2 20 40\n\
@@ -29,6 +30,7 @@ local 1024 8 get:65535 add:65535:0:1\n\
 clients 16\n\
 turns 100000\n\
 tries 1\n\
+policy conservative\n\
 link to 1 0 drop\n\
 link from 2 65535 twice\n\
 link to 8 2 hold:64\n\
@@ -50,6 +52,8 @@ drop 2 1.0\n\
 halt 0 65535\n\
 trip 2 0 0\n\
 back 8\n\
+check 0\n\
+check 7\n\
 give 1 0\n\
 give 1 1\n\
 give 1 2\n\
@@ -158,7 +162,7 @@ fn a_script_with_every_kind_of_line(rt: HostRuntime) -> Result<(), Fail> {
             scenario.items.len(),
             scenario.transactions.len()
         ),
-        (3, 3, 4)
+        (4, 3, 4)
     );
     assert_eq!(rt;
         (
@@ -166,11 +170,16 @@ fn a_script_with_every_kind_of_line(rt: HostRuntime) -> Result<(), Fail> {
             scenario.stops.len(),
             session.commands.len()
         ),
-        (3, 2, 63)
+        (3, 2, 65)
     );
     assert_eq!(rt;
         (scenario.clients, scenario.turns, scenario.tries),
         (16, 100_000, 1)
+    );
+    assert!(rt; scenario.conservative);
+    assert_eq!(rt;
+        session.commands.as_slice().get(16),
+        Some(&Command::Check { actor: 7 })
     );
     let last = Some(&Command::Give {
         site: SiteId(1),
@@ -224,5 +233,6 @@ fn settings_that_no_line_gives(rt: HostRuntime) -> Result<(), Fail> {
         (scenario.clients, scenario.turns, scenario.tries),
         (4, 1_000, 4)
     );
+    assert!(rt; !scenario.conservative);
     Ok(())
 }
