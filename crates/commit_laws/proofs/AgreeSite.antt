@@ -46,7 +46,7 @@ pub record SiteTurn (scenario : Scenario) (home : Home) (g : Tid) (past : CoordP
   pub global : IsGlobal scenario g → NotBegun g event
 
 -- a Prepared record behind the line was there, or the line seals
-new-prepared : (home : Home) (g : Tid) (here : SitePast) (event : SiteEvent) (now : List SiteRecord) (e : ℕ)
+pub new-prepared : (home : Home) (g : Tid) (here : SitePast) (event : SiteEvent) (now : List SiteRecord) (e : ℕ)
     → Kept home g here event now → Among (IsPrepared g e) now
     → Among (IsPrepared g e) (records home here) ⊎ IsSealing home g here event e
 new-prepared home g here event now e (inr c) m = inl (cut_old (IsLooseEnded home.protocol) (IsPrepared g e) (records home here) now c m)

@@ -5,6 +5,7 @@ pub mod Agreed
 pub mod Declared
 pub mod EndingProofs
 pub mod ForgettingProofs
+pub mod LaterRunProofs
 pub mod Links
 pub mod OutcomeLaws
 pub mod PreparedLaws

@@ -18,7 +18,7 @@ use Rattle.fed_rules.specs.SiteRecords.{Home}
 use Rattle.fed_rules.specs.Story.{coord_past, past_of}
 use Rattle.fed_rules.proofs.Opened.{opened}
 use Rattle.fed_rules.proofs.Spelled.{at, tid, set, site, step_at, global, scenario_of, go, give, take, ask, late, again, halt, trip, back}
-use Rattle.commit_laws.specs.WrongRules.{Rules, story_by, aborts_acknowledged_early, commits_forgotten_at_once, abort_always_presumed, prepares_sent_early, epochs_ignored, torn_records_kept, BreaksTheOutcome, SealsElsewhere, BreaksTheEpoch}
+use Rattle.commit_laws.specs.WrongRules.{Rules, story_by, aborts_acknowledged_early, commits_forgotten_at_once, abort_always_presumed, prepares_sent_early, epochs_ignored, torn_records_kept, BreaksTheOutcome, SealsElsewhere, BreaksTheEpoch, SealsALaterRun}
 use Rattle.commit_laws.specs.Seals.{seals, IsPrepareOf}
 
 -- a global transaction that writes at one site of this protocol
@@ -239,4 +239,22 @@ epochs_ignored_refuted = record {
   declared = refl;
   tid = attempt;
   seals = elsewhere old_past old_seals old_named old_epoch;
+}
+
+-- an attempt is given up, and behind a restart its old operations begin a later run of it, which its old Prepare seals
+abbrev later_commands : List Command
+later_commands =
+    reverse
+    (go 1 ∷ give 1 0 ∷ take 1 0 ∷ give 1 1 ∷ take 1 1 ∷ late attempt ∷ give 1 3 ∷ halt 1 0 ∷ back 1 ∷ give 1 0 ∷ give 1 1 ∷ give 1 2 ∷ [])
+
+pub epochs_ignored_seals_later : SealsALaterRun epochs_ignored
+unfolding opened
+epochs_ignored_seals_later = record {
+  scenario = one_site By.Nothing;
+  commands = later_commands;
+  site = at 1;
+  home = home By.Nothing;
+  declared = refl;
+  tid = attempt;
+  seals = (refl, refl);
 }

@@ -31,6 +31,7 @@ use Rattle.commit_laws.proofs.Agreed.{agreed, at-site}
 use Rattle.commit_laws.proofs.Links.{IsNext, linked, linked-here, home-again, its-site}
 use Rattle.commit_laws.proofs.OutcomeLaws.{outcome-commits}
 use Rattle.commit_laws.proofs.PreparedLaws.{committed-prepared}
+use Rattle.commit_laws.proofs.SiteFacts.{IsSealing}
 use Rattle.commit_laws.proofs.SiteLists.{tidy-doubt, settled-ended, tidy-once}
 use Rattle.commit_laws.proofs.SiteWork.{held-prepared}
 use Rattle.order_laws.proofs.Names.{same_site_self}
@@ -41,7 +42,7 @@ Next scenario commands home tid event x = SiteTurn scenario home tid (coord_past
     (past_of home.site (story_of scenario commands)) (sent_to home.site (story_of scenario commands))
     (sent_from home.site (story_of scenario commands)) event x
 
-next-line : (scenario : Scenario) (commands : List Command) (home : Home) → home_of scenario home.site ≡ Some home
+pub next-line : (scenario : Scenario) (commands : List Command) (home : Home) → home_of scenario home.site ≡ Some home
     → (x : SiteHappening) → IsNextAt scenario commands home.site x → (tid : Tid)
     → (event : SiteEvent) × Next scenario commands home tid event x
 next-line scenario commands home declared x (command, e) tid =
@@ -81,6 +82,28 @@ over-free scenario commands home tid declared over = by_doubt
           tidy-doubt tid (records home (past_of home.site (story_of scenario commands))) held.epoch d
           (agreed scenario home tid commands declared).tidy p m
 
+-- a line that may seal is the first one that does
+pub sealed-twice : (scenario : Scenario) (commands : List Command) (home : Home) (x : SiteHappening) (tid : Tid) (event : SiteEvent) (e : ℕ)
+    → Next scenario commands home tid event x → IsSealing home tid (past_of home.site (story_of scenario commands)) event e
+    → Among (λ y. seals tid y ≡ true) (past_of home.site (story_of scenario commands)) → ⊥
+sealed-twice scenario commands home x tid event e t s m =
+    let here = past_of home.site (story_of scenario commands) in
+    let sealed = t.agree.sealed m in
+    elim sealed.left [
+      | inl o ↦ elim o [
+        | inl (k, p) ↦
+            let ended = settled-ended tid (records home here) k p s.doubt in
+            bars scenario home tid (coord_past (story_of scenario commands)) here (sent_to home.site (story_of scenario commands))
+            (sent_from home.site (story_of scenario commands)) event e t.agree t.comes s (t.agree.ended ended.0 ended.1).0
+        | inr down ↦ let up = s.up in let contra : true ≡ false = sym down ∙ up in cc
+      ]
+      | inr less ↦
+          let p = t.agree.preparing e s.n (t.comes (To.Prepare tid e s.n) s.taken) in
+          let named = p.epoch in
+          let here_is = s.epoch in
+          let no : ⊥ = omega (arith, less, named, here_is) in absurd no
+    ]
+
 sealed-once : (scenario : Scenario) (commands : List Command) (home : Home) → home_of scenario home.site ≡ Some home
     → (x : SiteHappening) → IsNextAt scenario commands home.site x → (tid : Tid) → seals tid x ≡ true
     → IsPrepareOf tid (epoch home (past_of home.site (story_of scenario commands))) x.event × Each (λ y. seals tid y ≡ false)
@@ -98,22 +121,9 @@ sealed-once scenario commands home declared x next tid e =
         → In y (past_of home.site (story_of scenario commands)) → (b : Bool) → seals tid y ≡ b → seals tid y ≡ false
     by_test event t y i false q = q
     by_test event t y i true q =
-        let sealed = t.agree.sealed (is_among (λ z. seals tid z ≡ true) y (past_of home.site (story_of scenario commands)) i q) in
-        let s = (t.line.seals e).1 in
-        elim sealed.left [
-          | inl o ↦ elim o [
-            | inl (k, p) ↦
-                let ended = settled-ended tid (records home (past_of home.site (story_of scenario commands))) k p s.doubt in
-                let no = no-seal scenario commands home x tid event t (t.agree.ended ended.0 ended.1).0 in
-                let contra : true ≡ false = sym e ∙ no in cc
-            | inr down ↦ let up = s.up in let contra : true ≡ false = sym down ∙ up in cc
-          ]
-          | inr less ↦
-              let p = t.agree.preparing (t.line.seals e).0 s.n (t.comes (To.Prepare tid (t.line.seals e).0 s.n) s.taken) in
-              let named = p.epoch in
-              let here = s.epoch in
-              let no : ⊥ = omega (arith, less, named, here) in absurd no
-        ]
+        let s = t.line.seals e in
+        absurd (sealed-twice scenario commands home x tid event s.0 t s.1
+        (is_among (λ z. seals tid z ≡ true) y (past_of home.site (story_of scenario commands)) i q))
 
 pub attempts-are-sealed-once : AttemptsAreSealedOnce
 attempts-are-sealed-once scenario commands site home declared =

@@ -1,5 +1,6 @@
 pub mod Endings
 pub mod Forgetting
+pub mod LaterRuns
 pub mod Outcomes
 pub mod Pasts
 pub mod Prepared

@@ -30,6 +30,7 @@ use Rattle.fed_rules.specs.SitePast.{SiteHappening, SitePast, epoch}
 use Rattle.fed_rules.specs.SiteRecords.{Home}
 use Rattle.fed_rules.specs.Story.{Story, Happened, AtSite, AtCoordinator, Nowhere, past_of, coord_past, happens}
 use Rattle.commit_laws.specs.Outcomes.{Settles}
+use Rattle.commit_laws.specs.LaterRuns.{is_finished}
 use Rattle.commit_laws.specs.Seals.{seals, IsPrepareOf}
 
 -- what makes the next line of a site, and of the coordinator
@@ -167,3 +168,18 @@ pub record BreaksTheEpoch (rules : Rules) : Type 0 where
   pub declared : home_of scenario site ≡ Some home
   pub tid : Tid
   pub seals : SealsElsewhere home tid (past_of site (story_by rules scenario commands))
+
+-- the last line of the site seals an attempt that was finished there before
+abbrev pub SealsAFinished : Tid → SitePast → Type 0
+SealsAFinished tid [] = ⊥
+SealsAFinished tid (x ∷ older) = (seals tid x ≡ true) × (is_finished older tid ≡ true)
+
+-- by these rules a site seals a later run of an attempt that is finished there
+pub record SealsALaterRun (rules : Rules) : Type 0 where
+  pub scenario : Scenario
+  pub commands : List Command  -- the last one first
+  pub site : SiteId
+  pub home : Home
+  pub declared : home_of scenario site ≡ Some home
+  pub tid : Tid
+  pub seals : SealsAFinished tid (past_of site (story_by rules scenario commands))

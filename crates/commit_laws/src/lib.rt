@@ -20,7 +20,7 @@ pub use past_laws::coordinators_are_made_by_events;
 pub use prepared_laws::commits_find_all_prepared;
 pub use seal_laws::{
     acknowledged_attempts_are_over, attempts_are_sealed_once, closed_attempts_have_no_live_run,
-    commits_meet_no_live_run,
+    commits_meet_no_live_run, later_runs_come_to_nothing,
 };
 pub use wrong_rules::{
     right_rules_in_this_form, wrong_acknowledgement, wrong_coordinators, wrong_epochs,

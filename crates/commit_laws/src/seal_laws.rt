@@ -1,5 +1,6 @@
 //! How often a subtransaction is sealed: a participant that has sent its acknowledgement never needs to ask about the transaction again
 //! (Mohan, Lindsay, Obermarck 1986), and epochs and closed attempts keep old messages from sealing it anew (this project's profile).
+ghost use Rattle.commit_laws.specs.LaterRuns.{FinishedAreNotSealed, LaterRunsLeaveNoRecord, LiveRunsAreUnheld};
 ghost use Rattle.commit_laws.specs.SealLaws.{AcknowledgedAreNotInDoubt, AcknowledgedAreNotSealed, AttemptsAreSealedOnce, ClosedHaveNoLiveRun, CommitsMeetNoLiveRun, DecidedAreNotSealed, OnePreparedIsKept, PreparedInTheKnownEpoch};
 
 /// At most one line of a site seals an attempt, lines that a stop ends included, and the Prepare that it takes names the site's epoch.
@@ -27,4 +28,13 @@ pub fn commits_meet_no_live_run()
 /// A global attempt that is closed at a site, or that the site is in doubt of, has no live run there.
 pub fn closed_attempts_have_no_live_run()
     ensures { ClosedHaveNoLiveRun }
+{}
+
+/// A later run of an attempt that is finished at a site, since a line of it took a decision on the attempt or sealed it, comes to nothing: a
+/// repeated old operation may begin it behind a restart. No line seals it. The Prepared records of the attempt that are kept are old ones,
+/// so it stands in no order. A decision on the attempt that meets it aborts it, is answered `unheld` and writes nothing.
+pub fn later_runs_come_to_nothing()
+    ensures not_sealed { FinishedAreNotSealed }
+    ensures no_record { LaterRunsLeaveNoRecord }
+    ensures unheld { LiveRunsAreUnheld }
 {}

@@ -1,6 +1,7 @@
 //! Rules that look right and aren't: by each of them some commands make a story in which a law of commitment breaks.
 ghost use Rattle.std.specs.Prelude.{◌≡◌, List};
-ghost use Rattle.commit_laws.specs.WrongRules.{BreaksTheEpoch, BreaksTheOutcome, abort_always_presumed, aborts_acknowledged_early, commits_forgotten_at_once, epochs_ignored, prepares_sent_early, right_rules, story_by, torn_records_kept};
+ghost use Rattle.commit_laws.specs.WrongRules.{BreaksTheEpoch, BreaksTheOutcome, SealsALaterRun, abort_always_presumed, aborts_acknowledged_early, commits_forgotten_at_once};
+ghost use Rattle.commit_laws.specs.WrongRules.{epochs_ignored, prepares_sent_early, right_rules, story_by, torn_records_kept};
 ghost use Rattle.presumptions.specs.declared.Protocol.TheVariants.{Abort as By_abort, Commit as By_commit, Nothing as By_nothing};
 ghost use Rattle.fed_rules.specs.Story.{story_of};
 ghost use Rattle.fed_rules.specs.declared.commands.Command.{Command};
@@ -31,7 +32,8 @@ pub fn wrong_coordinators()
     ensures torn_records { BreaksTheOutcome torn_records_kept By_nothing }
 {}
 
-/// A site that compares no epochs seals an attempt in another epoch than its Prepare names.
+/// A site that compares no epochs seals an attempt in another epoch than its Prepare names, and a later run of one that is finished there.
 pub fn wrong_epochs()
-    ensures { BreaksTheEpoch epochs_ignored }
+    ensures elsewhere { BreaksTheEpoch epochs_ignored }
+    ensures later { SealsALaterRun epochs_ignored }
 {}

@@ -11,6 +11,7 @@ pub mod Declared
 pub mod Dues
 pub mod Globals
 pub mod Headlines
+pub mod LaterRuns
 pub mod LocalLines
 pub mod LocalMoves
 pub mod LocalRuns

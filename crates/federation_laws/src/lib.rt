@@ -7,7 +7,9 @@ mod serial_laws;
 mod ticket_laws;
 mod wrong_rules;
 
-pub use program_laws::{commits_agree, members_follow_their_programs};
+pub use program_laws::{
+    commits_agree, later_runs_stand_in_no_order, members_follow_their_programs,
+};
 pub use serial_laws::{
     federation_is_serializable, parts_make_one_order, sites_are_serial_in_every_story,
 };

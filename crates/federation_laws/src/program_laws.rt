@@ -1,6 +1,9 @@
 //! What the members of the site orders did: the coordinator and the sites agree on it through losses, repeats and restarts.
+ghost use Rattle.federation_laws.specs.LaterRuns.{LaterRunsStandInNoOrder};
 ghost use Rattle.federation_laws.specs.OneOrder.{OfStories};
 ghost use Rattle.federation_laws.specs.Parts.{CommitsAgree, MembersFollowPrograms};
+
+use commit_laws::later_runs_come_to_nothing;
 
 /// The accesses of a committed attempt over all sites are the steps of its program, filled in with the values that it read, which are
 /// those that the coordinator counted, or of a local one those that its site answered: at each site of whose order it is a member its
@@ -14,3 +17,11 @@ pub fn members_follow_their_programs()
 pub fn commits_agree()
     ensures { OfStories CommitsAgree }
 {}
+
+/// A later run of a global attempt that is finished at a site stands in no order: behind the line that finished it, the attempt stands in the
+/// site's order only by a Prepared record that was kept then.
+pub fn later_runs_stand_in_no_order()
+    ensures { LaterRunsStandInNoOrder }
+{
+    later_runs_come_to_nothing();
+}
