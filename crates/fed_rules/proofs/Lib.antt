@@ -1,6 +1,7 @@
 pub mod Spelled
 pub mod Opened
 mod EmptySession
+mod FinishedAlone
 mod OneLocalTransaction
 mod YoungerDies
 mod OlderWaits
@@ -29,6 +30,7 @@ mod TicketsAreTakenConservatively
 mod LocalRecordIsKept
 mod LocalRecordIsLost
 mod CheckpointIsKept
+mod CheckpointIsTooLong
 mod CheckpointIsTorn
 mod CheckpointIsNotTrimmed
 mod CommitIsInACheckpoint
