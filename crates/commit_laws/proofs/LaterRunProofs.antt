@@ -31,10 +31,11 @@ use Rattle.commit_laws.specs.Seals.{seals}
 use Rattle.commit_laws.proofs.Agree.{IsGot}
 use Rattle.commit_laws.proofs.AgreeSite.{bars, new-prepared}
 use Rattle.commit_laws.proofs.Agreed.{agreed, at-site}
-use Rattle.commit_laws.proofs.Links.{IsNext, home-again, its-site, linked, linked-here}
-use Rattle.commit_laws.proofs.Names.{same-site, same-site-refl}
+use Rattle.commit_laws.proofs.Links.{IsNext, linked, linked-here}
+use Rattle.order_laws.proofs.Names.{same_site_self}
 use Rattle.commit_laws.proofs.SealProofs.{Next, next-line, sealed-twice}
 use Rattle.commit_laws.proofs.SiteFacts.{IsSealing, Shut}
+use Rattle.rules_laws.proofs.Declared.{home-again, its-site, same-site}
 
 -- the event is a decision on the attempt
 decision_of : (tid : Tid) (event : SiteEvent) → decides_on tid event ≡ true → (decision : Decision) × (event ≡ Ev.Give (To.Decide tid decision))
@@ -203,7 +204,7 @@ unheld_next scenario commands home declared x (command, e) tid program global ru
     let past = past_of home.site (story_of scenario commands) in
     let l : IsNext scenario (story_of scenario commands) (AtSite home.site x) = subst (IsNext scenario (story_of scenario commands)) e
     (linked scenario (story_of scenario commands) command).next in
-    let (event, made, came) = linked-here scenario home (story_of scenario commands) x home.site declared (same-site-refl home.site) l in
+    let (event, made, came) = linked-here scenario home (story_of scenario commands) x home.site declared (same_site_self home.site) l in
     let t = at-site scenario home tid (story_of scenario commands) event came (agreed scenario home tid commands declared) in
     let named : event ≡ Ev.Give (To.Decide tid decision) = sym t.line.is ∙ (ap (λ y. y.event) (sym made) ∙ is) in
     let line : x ≡ site_line home past (Ev.Give (To.Decide tid decision)) = made ∙ ap (site_line home past) named in

@@ -1,7 +1,6 @@
 //! Rules that look right and aren't: by each of them some commands make a story in which a law of commitment breaks.
 ghost use Rattle.std.specs.Prelude.{◌≡◌, List};
-ghost use Rattle.commit_laws.specs.WrongRules.{BreaksTheEpoch, BreaksTheOutcome, SealsALaterRun, abort_always_presumed, aborts_acknowledged_early, commits_forgotten_at_once};
-ghost use Rattle.commit_laws.specs.WrongRules.{epochs_ignored, prepares_sent_early, right_rules, story_by, torn_records_kept};
+ghost use Rattle.commit_laws.specs.WrongRules.{BreaksTheEpoch, BreaksTheOutcome, SealsALaterRun, abort_always_presumed, aborts_acknowledged_early, commits_forgotten_at_once, epochs_ignored, prepares_sent_early, right_rules, story_by, torn_records_kept};
 ghost use Rattle.presumptions.specs.declared.Protocol.TheVariants.{Abort as By_abort, Commit as By_commit, Nothing as By_nothing};
 ghost use Rattle.fed_rules.specs.Story.{story_of};
 ghost use Rattle.fed_rules.specs.declared.commands.Command.{Command};

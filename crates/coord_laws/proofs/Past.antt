@@ -16,7 +16,8 @@ use Rattle.fed_rules.specs.declared.events.CoordEvent.{CoordEvent}
 use Rattle.fed_rules.specs.declared.records.CoordRecord.{CoordRecord}
 use Rattle.fed_rules.specs.declared.records.CoordRecord.TheVariants as Rec
 use Rattle.fed_rules.specs.CoordPast.{CoordHappening, CoordPast, disk, records, Standing, Undecided, Decided, Gone, standing, is_known, is_open, begun_by, begun_tids, program, visits}
-use Rattle.fed_rules.specs.CoordRecords.{named, has_end, commits, with_attempt, recorded}
+use Rattle.fed_rules.specs.CoordRecords.{named, has_end, commits, recorded}
+use Rattle.fed_rules.specs.Attempts.{with_attempt}
 use Rattle.fed_rules.specs.Policies.{Policy}
 use Rattle.coord_laws.specs.Laws.{BeginOnce, BeginInOrder, KnownAreBegun, UndecidedAreUnmarked, DecisionsAreOutcomes, DecidedAreAwaited, RecordsNameParticipants, RecordedAreBegun, ParticipantsAreDeclared, CommitOnce, CommitsCloseNoCycle}
 use Rattle.coord_laws.specs.Pasts.{IsMadeByEvents, OfPasts}
