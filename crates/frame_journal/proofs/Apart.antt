@@ -1,9 +1,9 @@
 -- Records that are spelled alike are one record.
-use Rattle.std.proofs.Common.{◌≡◌, ℕ, List, [], ◌∷◌, ◌++◌, map, take, Option, Some, Result, Ok, Err, refl, sym, ap, ◌∙◌}
+use Rattle.std.proofs.Common.{◌≡◌, ℕ, List, ◌++◌, map, take, Option, Some, Result, Ok, sym, ap, ◌∙◌}
 use Rattle.std.specs.List.{AllByRecursion}
-use Rattle.journal_disk.specs.Frames.{IsPayload, frame, AreWhole}
-use Rattle.journal_disk.proofs.Whole.{one_frame, one_reading, whole_left}
-use Rattle.frame_journal.specs.Records.{AreRecordsOf, records_at, records_within}
+use Rattle.journal_disk.specs.Frames.{Frame, IsPayload, written, frame}
+use Rattle.journal_disk.proofs.Whole.{one_frame, one_reading, payload_is, whole_left, written_is_frame}
+use Rattle.frame_journal.specs.Records.{Entry, values, entry_frame, AreRecordsOf, entries_at, records_within}
 use Rattle.frame_journal.proofs.ReadOn.{records_again}
 use Rattle.frame_journal.proofs.Within.{map-within}
 
@@ -19,13 +19,13 @@ module _ {R : Type 0} (spelling : R → List ℕ) (reading : List ℕ → Option
 
   pub none_begins : (a b : R) (x y : List ℕ) → is_record a → is_record b → IsPayload (spelling a) → IsPayload (spelling b) → frame (spelling a) ++ x ≡ frame (spelling b) ++ y → (a ≡ b) × (x ≡ y)
   none_begins a b x y ra rb pa pb e =
-      let apart = one_frame (spelling a) (spelling b) x y pa pb e in
-      (one_spelling a b ra rb apart.0, apart.1)
+      let apart = one_frame (written (spelling a)) (written (spelling b)) x y (written_is_frame (spelling a) pa) (written_is_frame (spelling b) pb) e in
+      (one_spelling a b ra rb (payload_is (spelling a) (spelling b) apart.0), apart.1)
 
-  pub one_list : (bytes : List ℕ) (some others : List R) → AllByRecursion is_record some → AllByRecursion is_record others → AreRecordsOf spelling bytes some → AreRecordsOf spelling bytes others → some ≡ others
+  pub one_list : (bytes : List ℕ) (some others : List (Entry R)) → AllByRecursion is_record (values some) → AllByRecursion is_record (values others) → AreRecordsOf (entry_frame spelling) bytes some → AreRecordsOf (entry_frame spelling) bytes others → some ≡ others
   one_list bytes some others all_some all_others a b =
-      let same = one_reading bytes (map spelling some) (map spelling others) a b in
-      ok_is some others (sym (records_again spelling reading is_record again 0 some all_some) ∙ ap (records_at reading 0) same ∙ records_again spelling reading is_record again 0 others all_others)
+      let same = one_reading bytes (map (entry_frame spelling) some) (map (entry_frame spelling) others) a b in
+      ok_is some others (sym (records_again spelling reading is_record again 0 some all_some) ∙ ap (entries_at reading 0) same ∙ records_again spelling reading is_record again 0 others all_others)
 
-pub whole_records : {R : Type 0} (spelling : R → List ℕ) (n : ℕ) (bytes : List ℕ) (records : List R) → AreRecordsOf spelling bytes records → AreRecordsOf spelling (take n bytes) (records_within spelling n records)
-whole_records spelling n bytes records holds = rw map-within (whole_left n bytes (map spelling records) holds)
+pub whole_records : {A : Type 0} (shape : A → Frame) (n : ℕ) (bytes : List ℕ) (items : List A) → AreRecordsOf shape bytes items → AreRecordsOf shape (take n bytes) (records_within shape n items)
+whole_records shape n bytes items holds = rw map-within (whole_left n bytes (map shape items) holds)

@@ -1,5 +1,10 @@
-pub mod ReadOn
 pub mod Sizes
+pub mod Entries
+pub mod ReadOn
 pub mod Within
 pub mod Keeping
 pub mod Apart
+pub mod Noting
+pub mod Popped
+pub mod Fronts
+pub mod Trimmed

@@ -2,6 +2,7 @@
 ghost use Rattle.std.specs.Prelude.{◌≡◌, ◌≤◌, ◌+◌, ◌++◌, ℕ, List, length, Option, Some, None, IfOk, IsErrOf};
 ghost use Rattle.std.specs.Vec.{vec_capacity};
 ghost use Rattle.journal_disk.specs.Frames.{IsPayload};
+ghost use Rattle.frame_journal.specs.Journal.{written_size};
 
 use byte_numbers::DecodeErr;
 use std::alloc::Global;
@@ -19,6 +20,12 @@ pub trait Format<R>: Drop {
 
     /// What can be written and is read again.
     ghost is_record: { R → Type 0 };
+
+    /// A record that says all that those before it say, so that a journal may begin with it.
+    ghost is_checkpoint: { R → Type 0 };
+
+    /// How many bytes the frame of a record has, as the rules of its owner count them.
+    ghost frame_bytes: { R → ℕ };
 
     /// How many bytes the payload has.
     fn payload_len(entry: &R) -> usize
@@ -43,4 +50,7 @@ pub trait Format<R>: Drop {
 
     /// What is spelled is read again, so a record has one spelling.
     ghost spelled_is_read: { (entry : R) → is_record entry → reading (spelling entry) ≡ Some entry };
+
+    /// The rules count the frames as they are spelled.
+    ghost counts_frames: { (entry : R) → written_size spelling entry ≡ frame_bytes entry };
 }

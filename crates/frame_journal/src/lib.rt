@@ -9,7 +9,10 @@ mod journal;
 mod laws;
 mod loading;
 mod stopping;
+mod trimming;
 
 pub use format::Format;
 pub use journal::Journal;
-pub use laws::{a_stop_leaves_the_first_records, records_are_apart};
+pub use laws::{
+    a_new_journal_is_kept_on_an_empty_disk, a_stop_leaves_the_first_records, records_are_apart,
+};

@@ -1,3 +1,4 @@
+pub mod AttemptOrder
 pub mod Exact
 pub mod ExactItems
 pub mod Field

@@ -4,6 +4,7 @@
 
 mod fields;
 mod items;
+mod laws;
 mod lists;
 mod named;
 mod sums;
@@ -13,6 +14,7 @@ pub use fields::{
     put_site, put_tid, site_at,
 };
 pub use items::{Item, counted, counted_items, items_size};
+pub use laws::attempts_rise_by_their_numbers;
 pub use lists::{
     list_at, participants_at, put_list, put_participants, put_tickets, put_writes, tickets_at,
     writes_at,

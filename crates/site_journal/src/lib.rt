@@ -16,4 +16,6 @@ pub use laws::payloads_have_the_lengths_of_the_rules;
 pub type SiteJournal = Journal<SiteRecord, SiteFormat>;
 
 #[cfg(test)]
+mod payload_tests;
+#[cfg(test)]
 mod tests;

@@ -1,18 +1,20 @@
-use Rattle.std.proofs.Common.{◌≡◌, vec_len, map}
-use Rattle.std.specs.List.{AllByRecursion}
+use Rattle.std.proofs.Common.{◌≡◌, vec_len, length, map}
 use Rattle.std.specs.Vec.{vec_capacity}
-use Rattle.journal_disk.specs.Frames.{IsPayload}
-use Rattle.frame_journal.specs.Records.{records_within, spelled_size}
+use Rattle.journal_disk.specs.Frames.{AreRight}
+use Rattle.frame_journal.specs.Records.{entries_of, entry_frame, records_within, spelled_size}
 use Rattle.frame_journal.proofs.stopping.keep_within.Given as goal
 
 abbrev pub invariant-loop-whole : goal.invariant-loop-whole
 invariant-loop-whole g l =
-    let spelling = g.F.Format.spelling in
+    let shape = entry_frame g.F.Format.spelling in
+    let left = entries_of l.versions.items l.records.items in
     record {
-      same : records_within spelling l.left l.records.items ≡ records_within spelling l.left l.fn.records.items;
-      size : l.whole ≡ spelled_size spelling l.records.items;
-      are_payloads : AllByRecursion IsPayload (map spelling l.records.items);
+      same : records_within shape l.left left ≡ records_within shape l.left (entries_of l.fn.versions.items l.fn.records.items);
+      side_by_side : length l.versions.items ≡ length l.records.items;
+      size : l.whole ≡ spelled_size shape left;
+      right : AreRight (map shape left);
       room : vec_capacity l.records ≡ vec_capacity l.fn.records;
+      versions : vec_capacity l.versions ≡ vec_capacity l.fn.versions;
     }
 
 abbrev pub decreases-loop-whole : goal.decreases-loop-whole
