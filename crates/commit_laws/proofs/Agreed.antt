@@ -19,12 +19,13 @@ use Rattle.fed_rules.specs.Story.{Story, Happened, AtSite, AtCoordinator, Nowher
 use Rattle.rules_laws.specs.Durable.{IsFirm}
 use Rattle.commit_laws.specs.Records.{IsLooseEnded}
 use Rattle.commit_laws.proofs.Links.{story_made, numbered, member_of, IsGlobal, SiteCame, CoordCame, Linked, linked, linked-here, not-both}
-use Rattle.coord_laws.proofs.Past.{past_sound}
+use Rattle.coord_laws.proofs.Past.{past_sound, any_member}
+use Rattle.coord_laws.proofs.Sound.{IsBegun, begins_go, CoordSound}
+use Rattle.fed_rules.specs.CoordPast.{begins}
 use Rattle.commit_laws.proofs.Agree.{Agree, Agrees}
 use Rattle.commit_laws.proofs.AgreeCoord.{CoordNext, coord-next}
 use Rattle.commit_laws.proofs.AgreeSite.{SiteTurn, site-turn}
 use Rattle.coord_laws.proofs.Lines.{coord_lines}
-use Rattle.coord_laws.proofs.Sound.{CoordSound}
 use Rattle.coord_laws.proofs.Turns.{Turn}
 use Rattle.commit_laws.proofs.Declared.{is-declared}
 use Rattle.rules_laws.proofs.Disks.{firm_quiet}
@@ -171,3 +172,26 @@ pub coord-sound : (scenario : Scenario) (home : Home) (g : Tid) (commands : List
     → CoordSound (protocols scenario) (member_of home) g (coord_past (story_of scenario commands))
 coord-sound scenario home g commands =
     past_sound (protocols scenario) (policy scenario) (member_of home) g (coord_past (story_of scenario commands)) (story_made scenario commands)
+
+-- what was begun is an attempt of a global transaction
+pub begun_global : (scenario : Scenario) (g : Tid) (commands : List Command) → IsBegun (coord_past (story_of scenario commands)) g
+    → IsGlobal scenario g
+begun_global scenario g [] b = absurd b
+begun_global scenario g (command ∷ commands) b =
+    more (happens scenario story command) (linked scenario story command) (begun_global scenario g commands) b
+  where
+    story : Story
+    story = story_of scenario commands
+
+    more : (happened : Happened) → Linked scenario story happened → (IsBegun (coord_past story) g → IsGlobal scenario g)
+        → IsBegun (with_coordinator happened (coord_past story)) g → IsGlobal scenario g
+    more (Nowhere answer) l old b = old b
+    more (AtSite at x) l old b = old b
+    more (AtCoordinator x) l old (inr b) = old b
+    more (AtCoordinator x) l old (inl b) =
+        let (event, is, came) = l.next in
+        let firm = (past_sound (protocols scenario) (policy scenario) any_member g (coord_past story) (story_made scenario commands)).firm in
+        let line = coord_lines (protocols scenario) (policy scenario) g (coord_past story) event firm in
+        let go = begins_go (protocols scenario) g (coord_past story) (coord_line (protocols scenario) (policy scenario) (coord_past story) event) line.stood
+        (subst (λ y. begins g y.answer ≡ true) is b) in
+        (go.0, (subst (CoordCame scenario story) (sym line.is ∙ go.1) came).1)

@@ -21,12 +21,13 @@ use Rattle.fed_rules.specs.Story.{Story, Told, Happened, AtSite, AtCoordinator, 
 use Rattle.commit_laws.specs.Endings.{StoriesEndAlike, StoriesForgetExactly, StoriesAnswerInDoubt}
 use Rattle.commit_laws.specs.Forgetting.{IsNextOfCoordinator}
 use Rattle.commit_laws.proofs.Agreed.{agreed}
+use Rattle.commit_laws.proofs.Links.{member_of, home-again, its-site}
 use Rattle.coord_laws.proofs.Facts.{is_undecided, IsOpen, Same, Starts, Decides, Forgets, Restarts}
 use Rattle.coord_laws.proofs.Lines.{Stood, Stopped, Through}
 use Rattle.coord_laws.proofs.Sound.{IsBegun, still_open}
-use Rattle.coord_laws.proofs.Turns.{begun_answer, fresh, same_outcome}
+use Rattle.coord_laws.proofs.Turns.{fresh, same_outcome}
+use Rattle.coord_laws.proofs.Begun.{begun_answer}
 use Rattle.commit_laws.proofs.ForgettingProofs.{next-turn, known-while-missing, forgotten-when-none-is-missing, restarts-count-anew, forgotten-are-acknowledged, inquiries-are-answered-the-outcome}
-use Rattle.commit_laws.proofs.Links.{home-again, its-site}
 use Rattle.commit_laws.proofs.OutcomeLaws.{settles-say-the-outcome}
 use Rattle.commit_laws.proofs.PreparedLaws.{nowhere}
 use Rattle.commit_laws.proofs.SiteWork.{held-prepared}
@@ -121,7 +122,7 @@ line-stays scenario commands command tid f =
     more (AtSite at x) e = (f, refl)
     more (AtCoordinator x) e =
         let (event, t) = next-turn scenario commands x (command, e) tid in
-        let new = fresh scenario nowhere tid (coord_past story) event x t f.0 in (
+        let new = fresh (protocols scenario) (member_of nowhere) tid (coord_past story) event x t f.0 in (
           (
             inr f.0,
             (λ o. elim (still_open (protocols scenario) tid (coord_past story) x t.line.stood o) [
@@ -129,7 +130,7 @@ line-stays scenario commands command tid f =
               | inr before ↦ f.1 before
             ]),
           ),
-          same_outcome scenario nowhere tid (coord_past story) event x t f.1,
+          same_outcome (protocols scenario) (member_of nowhere) tid (coord_past story) event x t f.1,
         )
 
 -- so at each line the outcome of an attempt that is over is the outcome at the end

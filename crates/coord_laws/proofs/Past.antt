@@ -2,13 +2,11 @@
 use Rattle.std.proofs.Common.{◌≡◌, ◌⊎◌, Bool, true, false, cond, is_some, Option, Some, None, List, [], ◌∷◌, inl, inr, refl, sym, ap, subst, ◌∙◌, arith}
 use Rattle.std.proofs.lemmas.Bool.{and_parts}
 use Rattle.mdb_base.specs.declared.names.Tid.{Tid}
-use Rattle.mdb_base.specs.Names.{same_tid}
-use Rattle.mdb_base.specs.Words.{Among, some_of, with_some, or_else}
+use Rattle.mdb_base.specs.Words.{Among, with_some, or_else}
 use Rattle.mdb_base.proofs.ListLaws.{each_self, each_filtered}
-use Rattle.mdb_base.proofs.NameLaws.{same_tid-refl}
 use Rattle.order_laws.specs.Chains.{In, Distinct}
 use Rattle.order_laws.proofs.Alike.{same_of}
-use Rattle.order_laws.proofs.Lists.{bool_is, each_from, is_among, some_of_true}
+use Rattle.order_laws.proofs.Lists.{bool_is, each_from}
 use Rattle.order_laws.proofs.Tickets.{acyclic_no_cycle}
 use Rattle.presumptions.specs.declared.Participant.{Participant}
 use Rattle.presumptions.specs.declared.Protocol.TheVariants as By
@@ -17,8 +15,8 @@ use Rattle.fed_rules.specs.declared.records.CoordRecord.{CoordRecord}
 use Rattle.fed_rules.specs.declared.records.CoordRecord.TheVariants as Rec
 use Rattle.fed_rules.specs.CoordPast.{CoordHappening, CoordPast, disk, records, Standing, Undecided, Decided, Gone, standing, is_known, is_open, begun_by, begun_tids, program, visits}
 use Rattle.fed_rules.specs.CoordRecords.{named, has_end, commits, recorded}
-use Rattle.fed_rules.specs.Attempts.{with_attempt}
 use Rattle.fed_rules.specs.Policies.{Policy}
+use Rattle.rules_laws.proofs.EachAttempt.{with_in, with_distinct}
 use Rattle.coord_laws.specs.Laws.{BeginOnce, BeginInOrder, KnownAreBegun, UndecidedAreUnmarked, DecisionsAreOutcomes, DecidedAreAwaited, RecordsNameParticipants, RecordedAreBegun, ParticipantsAreDeclared, CommitOnce, CommitsCloseNoCycle}
 use Rattle.coord_laws.specs.Pasts.{IsMadeByEvents, OfPasts}
 use Rattle.coord_laws.proofs.Begun.{AreNumbered, begun_in, begins_some, numbered_below, below_listed, numbered_distinct}
@@ -120,30 +118,13 @@ decided_awaited protocols policy past made g d e = (past_sound protocols policy 
 pub records_name : OfPasts RecordsNameParticipants
 records_name protocols policy past made g members e = ((past_sound protocols policy any_member g past made).names members e).1
 
--- attempts that differ still do with one more, which is listed once
-one_more_differs : (t : Tid) (tids : List Tid) → Distinct tids → Distinct (with_attempt t tids)
-one_more_differs t tids d = by_test (some_of (same_tid t) tids) refl where
-  by_test : (b : Bool) → some_of (same_tid t) tids ≡ b → Distinct (cond b tids (t ∷ tids))
-  by_test true e = d
-  by_test false e = (
-    (λ i. let found = some_of_true (same_tid t) tids (is_among (λ u. same_tid t u ≡ true) t tids i (same_tid-refl t)) in
-        let no : true ≡ false = sym found ∙ e in cc),
-    d,
-  )
-
 recorded_differ : (rs : List CoordRecord) → Distinct (recorded rs)
 recorded_differ [] = tt
-recorded_differ (Rec.Initiation t ms ∷ rs) = one_more_differs t (recorded rs) (recorded_differ rs)
-recorded_differ (Rec.Commit t ks ∷ rs) = one_more_differs t (recorded rs) (recorded_differ rs)
-recorded_differ (Rec.Abort t ms ∷ rs) = one_more_differs t (recorded rs) (recorded_differ rs)
-recorded_differ (Rec.End t ∷ rs) = one_more_differs t (recorded rs) (recorded_differ rs)
+recorded_differ (Rec.Initiation t ms ∷ rs) = with_distinct t (recorded rs) (recorded_differ rs)
+recorded_differ (Rec.Commit t ks ∷ rs) = with_distinct t (recorded rs) (recorded_differ rs)
+recorded_differ (Rec.Abort t ms ∷ rs) = with_distinct t (recorded rs) (recorded_differ rs)
+recorded_differ (Rec.End t ∷ rs) = with_distinct t (recorded rs) (recorded_differ rs)
 recorded_differ (Rec.Checkpoint sum ∷ rs) = recorded_differ rs
-
-one_more_from : (g t : Tid) (tids : List Tid) → In g (with_attempt t tids) → (t ≡ g) ⊎ In g tids
-one_more_from g t tids i = by_test (some_of (same_tid t) tids) i where
-  by_test : (b : Bool) → In g (cond b tids (t ∷ tids)) → (t ≡ g) ⊎ In g tids
-  by_test true i = inr i
-  by_test false i = i
 
 -- a record of the attempt names participants, or is a Commit or an End
 abbrev IsSpokenOf : List Participant → Tid → List CoordRecord → Type 0
@@ -156,19 +137,19 @@ spoken_more protocols g r rs (inr m) = inr (inr m)
 
 recorded_spoken : (protocols : List Participant) (g : Tid) (rs : List CoordRecord) → In g (recorded rs) → IsSpokenOf protocols g rs
 recorded_spoken protocols g [] i = absurd i
-recorded_spoken protocols g (Rec.Initiation t ms ∷ rs) i = elim (one_more_from g t (recorded rs) i) [
+recorded_spoken protocols g (Rec.Initiation t ms ∷ rs) i = elim (with_in t g (recorded rs) i) [
   | inl own ↦ inl (ap (λ b. is_some (cond b (Some ms) (named protocols rs g))) (same_of t g own))
   | inr old ↦ spoken_more protocols g (Rec.Initiation t ms) rs (recorded_spoken protocols g rs old)
 ]
-recorded_spoken protocols g (Rec.Abort t ms ∷ rs) i = elim (one_more_from g t (recorded rs) i) [
+recorded_spoken protocols g (Rec.Abort t ms ∷ rs) i = elim (with_in t g (recorded rs) i) [
   | inl own ↦ inl (ap (λ b. is_some (cond b (Some (or_else (named protocols rs g) ms)) (named protocols rs g))) (same_of t g own))
   | inr old ↦ spoken_more protocols g (Rec.Abort t ms) rs (recorded_spoken protocols g rs old)
 ]
-recorded_spoken protocols g (Rec.Commit t ks ∷ rs) i = elim (one_more_from g t (recorded rs) i) [
+recorded_spoken protocols g (Rec.Commit t ks ∷ rs) i = elim (with_in t g (recorded rs) i) [
   | inl own ↦ inr (inl own)
   | inr old ↦ spoken_more protocols g (Rec.Commit t ks) rs (recorded_spoken protocols g rs old)
 ]
-recorded_spoken protocols g (Rec.End t ∷ rs) i = elim (one_more_from g t (recorded rs) i) [
+recorded_spoken protocols g (Rec.End t ∷ rs) i = elim (with_in t g (recorded rs) i) [
   | inl own ↦ inr (inl own)
   | inr old ↦ spoken_more protocols g (Rec.End t) rs (recorded_spoken protocols g rs old)
 ]

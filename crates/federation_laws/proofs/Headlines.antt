@@ -26,7 +26,7 @@ use Rattle.fed_rules.specs.Attempts.{each_attempt}
 use Rattle.fed_rules.specs.SiteRecords.{Home, Held, by_tid, doubt_of, doubts, held_before, prepared_tids, rows_after}
 use Rattle.fed_rules.specs.Story.{Story, coord_past, past_of, story_of}
 use Rattle.commit_laws.specs.Endings.{StoriesEndAlike, StoriesForgetExactly, StoriesAnswerInDoubt}
-use Rattle.commit_laws.proofs.Agreed.{coord-sound}
+use Rattle.commit_laws.proofs.Agreed.{coord-sound, begun_global}
 use Rattle.coord_laws.proofs.RecordLists.{commit_among}
 use Rattle.coord_laws.proofs.Sound.{commit_mark}
 use Rattle.commit_laws.proofs.PreparedLaws.{nowhere}
@@ -55,7 +55,7 @@ committed_step : (scenario : Scenario) → IsScenario scenario → (commands : L
 committed_step scenario good commands tid e =
     let s = coord-sound scenario nowhere tid commands in
     let kept = Coordinator.records (coord_past (story_of scenario commands)) in
-    let (steps, is) = s.global (s.marked (commit_mark tid kept (commit_among tid kept e))).0 in
+    let (steps, is) = begun_global scenario tid commands (s.marked (commit_mark tid kept (commit_among tid kept e))).0 in
     let (first, i) = some_step steps (program_fits scenario tid.tx steps good is).some in
     (first, subst (In first) (sym (global_program-is scenario tid.tx steps is).0) i)
   where

@@ -1,5 +1,5 @@
 -- The attempts of a list, each once: the same attempts, and apart from one another.
-use Rattle.std.proofs.Common.{◌≡◌, inl, inr, Bool, true, false, cond, ◌||◌, List, [], ◌∷◌, ◌++◌, refl, sym, ap, subst, ◌∙◌}
+use Rattle.std.proofs.Common.{◌≡◌, inl, inr, Bool, true, false, cond, ◌||◌, List, [], ◌∷◌, ◌++◌, refl, ap, subst, ◌∙◌}
 use Rattle.mdb_base.specs.declared.names.Tid.{Tid}
 use Rattle.mdb_base.specs.Names.{same_tid}
 use Rattle.mdb_base.specs.Words.{Each}
@@ -18,7 +18,8 @@ in_with tid g tids i = by_test (is_in same_tid tids tid) refl i
     by_test true e (inr more) = more
     by_test false e i = i
 
-with_in : (tid g : Tid) (tids : List Tid) → In g (with_attempt tid tids) → In g (tid ∷ tids)
+-- who stands there was added or stood there
+pub with_in : (tid g : Tid) (tids : List Tid) → In g (with_attempt tid tids) → In g (tid ∷ tids)
 with_in tid g tids i = by_test (is_in same_tid tids tid) i
   where
     by_test : (b : Bool) → In g (cond b tids (tid ∷ tids)) → In g (tid ∷ tids)
@@ -45,15 +46,18 @@ each_kept P (tid ∷ tids) h = by_test (is_in same_tid (each_attempt tids) tid) 
     by_test true rest = rest
     by_test false rest = (h.0, rest)
 
+-- attempts that differ still do with this one
+pub with_distinct : (tid : Tid) (tids : List Tid) → Distinct tids → Distinct (with_attempt tid tids)
+with_distinct tid tids once = by_test (is_in same_tid tids tid) refl
+  where
+    by_test : (b : Bool) → is_in same_tid tids tid ≡ b → Distinct (cond b tids (tid ∷ tids))
+    by_test true e = once
+    by_test false e = (is_in_false same_tid tells_tids tids tid e, once)
+
 -- each once
 pub each_distinct : (tids : List Tid) → Distinct (each_attempt tids)
 each_distinct [] = tt
-each_distinct (tid ∷ tids) = by_test (is_in same_tid (each_attempt tids) tid) refl (each_distinct tids)
-  where
-    by_test : (b : Bool) → is_in same_tid (each_attempt tids) tid ≡ b → Distinct (each_attempt tids)
-        → Distinct (cond b (each_attempt tids) (tid ∷ each_attempt tids))
-    by_test true e once = once
-    by_test false e once = (is_in_false same_tid tells_tids (each_attempt tids) tid e, once)
+each_distinct (tid ∷ tids) = with_distinct tid (each_attempt tids) (each_distinct tids)
 
 -- a new attempt is put before
 pub with_new : (tid : Tid) (tids : List Tid) → (In tid tids → ⊥) → with_attempt tid tids ≡ tid ∷ tids
