@@ -1,30 +1,68 @@
+-- The rules, in the order in which they are read. The plain types stand in src: scenario, commands, events, messages, records, answers, runs.
+
+-- Words.
+-- lists of attempts in which each stands once
 pub mod Attempts
-pub mod Closing
-pub mod Endings
-pub mod Headline
-pub mod Orders
-pub mod Plans
-pub mod Policies
-pub mod Reports
-pub mod Right
-pub mod Scenarios
-pub mod Serial
-pub mod Story
-pub mod Coord
-pub mod CoordCommands
-pub mod CoordPast
-pub mod CoordRecords
-pub mod CoordSums
-pub mod Disk
-pub mod EngineLines
-pub mod Happenings
-pub mod Replies
-pub mod Requests
-pub mod Runs
-pub mod SerialRuns
-pub mod Site
-pub mod SiteCommands
-pub mod SitePast
-pub mod SiteRecords
-pub mod SiteSums
+-- the site of an outstanding operation
 pub mod Site_of
+-- what a command to an actor comes to: an event, or an answer without a line
+pub mod Requests
+-- scenarios: their lines, the settings of a run, and what every scenario keeps
+pub mod Plans
+-- what a scenario says of its sites, participants, policy and transactions
+pub mod Scenarios
+-- An actor and its disk.
+-- a disk that may stop after any call, and may be trimmed at its front
+pub mod Disk
+-- the lines of one actor; when it is down, and which trip is in force
+pub mod Happenings
+-- An engine.
+-- the calls of one epoch and its runs: live or sealed, their numbers, accesses and tickets
+pub mod Runs
+-- the replies to an access, to the taking of a ticket and to a sealing: one rule for each engine
+pub mod Replies
+-- when a list of engine lines is right: each call may come there, and each answer is the rule's
+pub mod EngineLines
+-- runs one at a time
+pub mod SerialRuns
+-- A site.
+-- what its records say: who is in doubt, the numbers, the table, and what it is due
+pub mod SiteRecords
+-- what they say together, as a Checkpoint
+pub mod SiteSums
+-- what its past says: its disk, its epoch, its runs, and which attempts are closed
+pub mod SitePast
+-- its next line
+pub mod Site
+-- what it makes of the commands of its own local transactions
+pub mod SiteCommands
+-- The coordinator.
+-- what its records say: who was initiated, committed, aborted and ended, and what is required
+pub mod CoordRecords
+-- what they say together, as a Checkpoint
+pub mod CoordSums
+-- what its past says of an attempt, and what is outstanding at each participant
+pub mod CoordPast
+-- when tickets may be taken
+pub mod Policies
+-- its next line
+pub mod Coord
+-- what it makes of the commands of global transactions
+pub mod CoordCommands
+-- The federation.
+-- what each command makes happen, what was sent, and which line is printed
+pub mod Story
+-- when printed lines are right
+pub mod Right
+-- the order of each site, what its members read, its table and what it is due
+pub mod Orders
+-- programs run alone, one after another
+pub mod Serial
+-- the values of the report
+pub mod Reports
+-- the commands that close a session, and those that finish a transaction alone
+pub mod Closing
+-- how a global attempt ends
+pub mod Endings
+-- the headline
+pub mod Headline
