@@ -1,3 +1,4 @@
 pub mod Alone
 pub mod AtRest
+pub mod Bound
 pub mod Given

@@ -1,5 +1,6 @@
 //! How a transaction is finished alone.
 ghost use Rattle.closing_laws.specs.Alone.{GlobalsCommitAlone, LocalsCommitAlone};
+ghost use Rattle.closing_laws.specs.Bound.{FinishingIsShort};
 
 use rules_laws::pasts_are_made_by_events;
 use site_history::{each_site_of_a_story_is_serial, stories_have_right_lines};
@@ -22,3 +23,8 @@ pub fn globals_commit_alone()
     stories_have_right_lines();
     each_site_of_a_story_is_serial();
 }
+
+/// Finishing each transaction without a commit alone makes at most 263,168 commands: at most 257 for each of 1,024.
+pub fn finishing_is_bounded()
+    ensures { FinishingIsShort }
+{}

@@ -5,5 +5,5 @@
 mod alone;
 mod closing;
 
-pub use alone::{globals_commit_alone, locals_commit_alone};
-pub use closing::closed_sessions_rest;
+pub use alone::{finishing_is_bounded, globals_commit_alone, locals_commit_alone};
+pub use closing::{closed_sessions_rest, closing_is_bounded};
