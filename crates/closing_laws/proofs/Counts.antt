@@ -29,10 +29,9 @@ use Rattle.fed_rules.specs.SiteRecords.{Home, Held, by_tid, doubt_of, doubts, he
 use Rattle.fed_rules.specs.Story.{Story, Happened, AtSite, AtCoordinator, Nowhere, coord_past, happens, past_of, story_of, with_coordinator, with_site}
 use Rattle.rules_laws.specs.Lines.{CoordCause, IsLine, SiteCause}
 use Rattle.rules_laws.proofs.Lines.{line_is}
-use Rattle.commit_laws.proofs.CoordLines.{coord-lines}
-use Rattle.commit_laws.proofs.CoordSound.{begins-go}
+use Rattle.coord_laws.proofs.Lines.{coord_lines}
+use Rattle.coord_laws.proofs.Sound.{begins_go}
 use Rattle.commit_laws.proofs.ForgettingProofs.{next-turn}
-use Rattle.commit_laws.proofs.Names.{same-site}
 use Rattle.commit_laws.proofs.SealProofs.{next-line}
 use Rattle.commit_laws.proofs.SiteLines.{Kept}
 use Rattle.closing_laws.proofs.FewRuns.{MakesFew, lines_few}
@@ -119,8 +118,8 @@ begun_few scenario (command ∷ commands) =
         by_begun None q = let l = at_least (is_go command) in omega (arith, h, l)
         by_begun (Some t) q =
             let (event, turn) = next-turn scenario commands x (command, e) t in
-            let (steps, is) = begins-go (protocols scenario) t (coord_past story) x turn.line.stood (begun_is x.answer t q) in
-            let own = coord-lines (protocols scenario) (policy scenario) t (coord_past story) line.event turn.sound.firm in
+            let (steps, is) = begins_go (protocols scenario) t (coord_past story) x turn.line.stood (begun_is x.answer t q) in
+            let own = coord_lines (protocols scenario) (policy scenario) t (coord_past story) line.event turn.sound.firm in
             let named : line.event ≡ Coord_event.Go t steps = sym own.is ∙ ap (λ y. y.event) (sym line.is_next) ∙ is in
             let go = go_command scenario story command t steps (subst (CoordCause scenario story command) named line.cause) in
             subst (λ b. suc (length (begun_tids (coord_past story))) ≤ cond b (suc (how_many is_go commands)) (how_many is_go commands)) (sym go) (omega (arith, h))
@@ -304,7 +303,7 @@ site_has_few scenario home declared (command ∷ commands) =
         by_test : (b : Bool) → same_site at home.site ≡ b → HasFew home (cond b (x ∷ past) past)
         by_test false q = h
         by_test true q =
-            let here : happens scenario story command ≡ AtSite home.site x = e ∙ ap (λ s. AtSite s x) (same-site at home.site q) in
+            let here : happens scenario story command ≡ AtSite home.site x = e ∙ ap (λ s. AtSite s x) (same_site_alike at home.site q) in
             let (event, t) = next-line scenario commands home declared x (command, here) some in
             few_next home past x (kept_prepared home some past event (records home (x ∷ past)) t.line.kept)
             (subst MakesFew (sym line.is_next) (lines_few line.home (past_of line.home.site story) line.event)) h
