@@ -11,6 +11,7 @@ pub mod MadeLines
 pub mod OneEach
 pub mod Past
 pub mod RecordLists
+pub mod Refuted
 pub mod Restarts
 pub mod Rules
 pub mod Sound

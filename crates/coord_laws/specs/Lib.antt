@@ -1,3 +1,4 @@
 pub mod Laws
 pub mod Pasts
 pub mod Records
+pub mod WrongPasts

@@ -5,6 +5,7 @@
 
 mod attempts;
 mod records;
+mod wrong_pasts;
 
 pub use attempts::{
     attempts_begin_in_order, decisions_are_outcomes, known_attempts_were_begun,
@@ -13,3 +14,4 @@ pub use attempts::{
 pub use records::{
     commits_close_no_cycle, recorded_attempts_were_begun, records_name_the_participants,
 };
+pub use wrong_pasts::repeated_attempts_begin_twice;
