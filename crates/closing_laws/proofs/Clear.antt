@@ -27,7 +27,7 @@ use Rattle.engine_laws.proofs.Runs.{tid_is, attempts_have}
 use Rattle.site_history.specs.Stories.{StoriesHaveRightLines}
 use Rattle.local_laws.proofs.OpenRuns.{in_open}
 use Rattle.rules_laws.proofs.RisingLists.{rising_in}
-use Rattle.federation_laws.proofs.SiteMoves.{live-run}
+use Rattle.site_history.proofs.Agreement.{live_is}
 use Rattle.federation_laws.proofs.Told.{local_home-declared}
 use Rattle.closing_laws.proofs.Calm.{aborts_here, drops, ended_run, abort_ends}
 use Rattle.closing_laws.proofs.Declared.{listed}
@@ -150,7 +150,7 @@ module _ (rights : StoriesHaveRightLines) (scenario : Scenario) where
       right = (rights scenario commands home.site home d).right
 
       at : (run_at (epoch_start home past) (engine_lines past) tid ≡ Some run) × (run.sealed ≡ None)
-      at = live-run (run_at (epoch_start home past) (engine_lines past) tid) run e
+      at = live_is (run_at (epoch_start home past) (engine_lines past) tid) run e
 
   -- behind these commands nothing is live at these sites
   pub record AreClear (ss : List SiteId) (before now : Story) : Type 0 where

@@ -1,4 +1,5 @@
 -- What a line of the coordinator that takes a reply or a vote leaves of an undecided attempt, and what it sends.
+use Rattle.coord_laws.proofs.Rules.{cond_same, calm_standing}
 use Rattle.std.proofs.Common.{◌≡◌, ℕ, ◌⊎◌, Bool, true, false, cond, not, ◌&&◌, ◌||◌, is_none, Option, Some, None, List, [], ◌∷◌, map, drop, inl, inr, refl, sym, ap, ap₂, subst, ◌∙◌, nat_lt}
 use Rattle.std.proofs.lemmas.Bool.{and_parts}
 use Rattle.mdb_base.specs.declared.names.SiteId.{SiteId}
@@ -31,12 +32,8 @@ use Rattle.fed_rules.specs.Happenings.{quiet, stops}
 use Rattle.fed_rules.specs.Plans.{IsScenario, all_differ, one_site}
 use Rattle.fed_rules.specs.Scenarios.{protocols_in, protocols}
 use Rattle.fed_rules.specs.Site_of.{due_site}
-use Rattle.closing_laws.proofs.Dues.{steps_of, count_of, epoch_of, ticketed, work_of, prepare_of, due_of, due_is}
-use Rattle.coord_laws.proofs.Rules.{calm_standing}
-
-cond_same : {A : Type 0} (b : Bool) (x : A) → cond b x x ≡ x
-cond_same true x = refl
-cond_same false x = refl
+use Rattle.closing_laws.proofs.Dues.{count_of, epoch_of, ticketed, work_of, prepare_of, due_of, due_is}
+use Rattle.federation_laws.proofs.Dues.{steps_of}
 
 -- what is left: the program, these replies and votes; it is still undecided, and no other attempt is known
 pub record Views (g : Tid) (past : CoordPast) (x : CoordHappening) (replies : List Counted) (votes : SiteId → Option ℕ) : Type 0 where

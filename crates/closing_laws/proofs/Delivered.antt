@@ -1,4 +1,5 @@
 -- A decision that is sent to a site is given there, and its acknowledgement is taken.
+use Rattle.order_laws.proofs.Lists.{not_true, in_those, those_in, is_among, some_of_true}
 use Rattle.std.proofs.Common.{◌≡◌, ℕ, ◌⊎◌, Bool, true, false, cond, not, ◌&&◌, ◌||◌, Option, Some, None, List, [], ◌∷◌, ◌++◌, length, inl, inr, refl, sym, ap, subst, ◌∙◌}
 use Rattle.mdb_base.specs.declared.names.SiteId.{SiteId}
 use Rattle.mdb_base.specs.declared.names.Tid.{Tid}
@@ -10,7 +11,6 @@ use Rattle.presumptions.specs.declared.Decision.{Decision}
 use Rattle.presumptions.specs.declared.Participant.{Participant}
 use Rattle.presumptions.specs.Table.{acks}
 use Rattle.order_laws.specs.Chains.{In}
-use Rattle.order_laws.proofs.Lists.{in_those, those_in, is_among, some_of_true}
 use Rattle.order_laws.proofs.Names.{same_site_self}
 use Rattle.fed_rules.specs.declared.answers.Answer.TheVariants as Say
 use Rattle.fed_rules.specs.declared.commands.Command.{Command}
@@ -108,10 +108,6 @@ not_acked_here past tid site other = by_test (same_tid tid tid) (same_site site 
     by_test true true h = refl
     by_test true false h = refl
     by_test false c h = refl
-
-not_true : (b : Bool) → not b ≡ true → b ≡ false
-not_true true e = cc
-not_true false e = refl
 
 -- one acknowledgement less is waited for
 ack_taken : (protocols : List Participant) (past : CoordPast) (tid : Tid) (site : SiteId) (decision : Decision) (ss : List SiteId) → standing protocols past tid ≡ Decided decision

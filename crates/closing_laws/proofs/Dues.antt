@@ -1,4 +1,6 @@
 -- What is outstanding of an attempt, by its program, the replies that counted and the votes; and what one more reply changes.
+use Rattle.order_laws.proofs.Alike.{some_parts}
+use Rattle.federation_laws.proofs.Dues.{of_site, steps_of}
 use Rattle.std.proofs.Common.{◌≡◌, ℕ, zero, suc, Bool, true, false, cond, not, ◌&&◌, ◌||◌, is_none, Option, Some, None, List, [], ◌∷◌, drop, refl, sym, ap, ap₂, ◌∙◌}
 use Rattle.mdb_base.specs.declared.acts.Step.{Step}
 use Rattle.mdb_base.specs.declared.acts.PlainAct.{PlainAct}
@@ -15,23 +17,15 @@ use Rattle.fed_rules.specs.declared.messages.Due.TheVariants as Due_is
 use Rattle.fed_rules.specs.CoordPast.{CoordPast, Counted, counted, is_wait, is_ticket, last_epoch, value_in, oldest_first, program, vote_at, visits, outstanding, work_at, next_step}
 use Rattle.fed_rules.specs.Site_of.{due_site}
 
--- the replies of a site
-abbrev pub at_site : List Counted → SiteId → List Counted
-at_site replies site = those (λ reply. same_site reply.site site) replies
-
--- how many steps were answered
-abbrev pub steps_of : List Counted → ℕ
-steps_of replies = how_many (λ reply. not (is_wait reply.reply) && not (is_ticket reply.reply)) replies
-
 -- how many operations of a site were answered, in which epoch, and whether its ticket was
 abbrev pub count_of : List Counted → SiteId → ℕ
-count_of replies site = how_many (λ reply. not (is_wait reply.reply)) (at_site replies site)
+count_of replies site = how_many (λ reply. not (is_wait reply.reply)) (of_site replies site)
 
 abbrev pub epoch_of : List Counted → SiteId → ℕ
-epoch_of replies site = last_epoch (at_site replies site)
+epoch_of replies site = last_epoch (of_site replies site)
 
 abbrev pub ticketed : List Counted → SiteId → Bool
-ticketed replies site = some_of (λ reply. is_ticket reply.reply) (at_site replies site)
+ticketed replies site = some_of (λ reply. is_ticket reply.reply) (of_site replies site)
 
 abbrev pub act_of : List Counted → Step → PlainAct
 act_of replies step = plain_act (oldest_first (found value_in replies)) step.act
@@ -82,9 +76,6 @@ pub data IsDue (prog : List Step) (replies : List Counted) (vote : Option ℕ) (
   AtPrepare : visits site prog ≡ true → visits site (drop (steps_of replies) prog) ≡ false → ticketed replies site ≡ true → vote ≡ None
       → due ≡ Due_is.Prepare site (epoch_of replies site) (count_of replies site) → IsDue prog replies vote site due
 
-some_same : {A : Type 0} {x y : A} → Some x ≡ Some y → x ≡ y
-some_same e = cc
-
 pub due_kind : (prog : List Step) (replies : List Counted) (votes : SiteId → Option ℕ) (site : SiteId) (due : Due) → due_of prog replies votes site ≡ Some due → IsDue prog replies (votes site) site due
 due_kind prog replies votes site due e = by_visit (visits site prog) refl e
   where
@@ -98,17 +89,17 @@ due_kind prog replies votes site due e = by_visit (visits site prog) refl e
     later = cond (ticketed replies site) (prepare_of replies (votes site) site) (Some (Due_is.Take site (epoch_of replies site) (count_of replies site)))
 
     by_vote : (o : Option ℕ) → votes site ≡ o → visits site prog ≡ true → visits site left ≡ false → ticketed replies site ≡ true → prepare_of replies o site ≡ Some due → IsDue prog replies (votes site) site due
-    by_vote None q v l t f = AtPrepare v l t q (sym (some_same f))
+    by_vote None q v l t f = AtPrepare v l t q (sym (some_parts f))
     by_vote (Some n) q v l t f = cc
 
     by_ticket : (b : Bool) → ticketed replies site ≡ b → visits site prog ≡ true → visits site left ≡ false
         → cond b (prepare_of replies (votes site) site) (Some (Due_is.Take site (epoch_of replies site) (count_of replies site))) ≡ Some due → IsDue prog replies (votes site) site due
     by_ticket true t v l f = by_vote (votes site) refl v l t f
-    by_ticket false t v l f = AtTake v l t (sym (some_same f))
+    by_ticket false t v l f = AtTake v l t (sym (some_parts f))
 
     by_site : (step : Step) (b : Bool) → same_site step.site site ≡ b → item_at prog (steps_of replies) ≡ Some step → visits site prog ≡ true → visits site left ≡ true
         → cond b (Some (Due_is.Work site (epoch_of replies site) (count_of replies site) (act_of replies step))) None ≡ Some due → IsDue prog replies (votes site) site due
-    by_site step true q i v l f = AtWork step v l i q (sym (some_same f))
+    by_site step true q i v l f = AtWork step v l i q (sym (some_parts f))
     by_site step false q i v l f = cc
 
     by_step : (o : Option Step) → item_at prog (steps_of replies) ≡ o → visits site prog ≡ true → visits site left ≡ true → work_of replies site o ≡ Some due → IsDue prog replies (votes site) site due
@@ -138,7 +129,7 @@ due_there prog replies vote site due (AtPrepare v l t n e) = ap due_site e
 
 -- a reply of one site leaves what was counted of another
 module _ (reply : Counted) (replies : List Counted) (site : SiteId) (other : same_site reply.site site ≡ false) where
-  pub other_at : at_site (reply ∷ replies) site ≡ at_site replies site
+  pub other_at : of_site (reply ∷ replies) site ≡ of_site replies site
   other_at = cond-false _ _ _ other
 
   other_work : (step : Step) → act_of (reply ∷ replies) step ≡ act_of replies step → Due_is.Work site (epoch_of replies site) (count_of replies site) (act_of replies step)
@@ -177,7 +168,7 @@ step_keeps prog reply replies votes step site due answered next here other e = b
 
     by_kind : IsDue prog replies (votes site) site due → due_of prog (reply ∷ replies) votes site ≡ Some due
     by_kind (AtWork there v l i q f) =
-        let same : step ≡ there = some_same (sym next ∙ i) in
+        let same : step ≡ there = some_parts (sym next ∙ i) in
         let site_is : same_site reply.site site ≡ true = ap (λ s. same_site s site) (sym (same_site_alike step.site reply.site here)) ∙ (ap (λ (s : Step). same_site s.site site) same ∙ q) in
         let clash = sym other ∙ site_is in cc
     by_kind (AtTake v l t f) = kind_due prog (reply ∷ replies) votes site due
@@ -220,7 +211,7 @@ unvoted_due prog replies votes site v none = by_left (visits site (drop (steps_o
     item_visits : (steps : List Step) (d : ℕ) (step : Step) → item_at steps d ≡ Some step → (visits step.site (drop d steps) ≡ true) × (visits step.site steps ≡ true)
     item_visits [] d step e = cc
     item_visits (s ∷ steps) zero step e =
-        let same : s ≡ step = some_same e in
+        let same : s ≡ step = some_parts e in
         let own : same_site s.site step.site ≡ true = ap (λ (z : Step). same_site z.site step.site) same ∙ same_site_self step.site in
         (ap (λ b. b || visits step.site steps) own, ap (λ b. b || visits step.site steps) own)
     item_visits (s ∷ steps) (suc d) step e = ((item_visits steps d step e).0, or_true (same_site s.site step.site) (visits step.site steps) (item_visits steps d step e).1)

@@ -36,7 +36,8 @@ use Rattle.order_laws.proofs.Joined.{among_right, among_left}
 use Rattle.closing_laws.proofs.AloneSites.{Stage}
 use Rattle.closing_laws.proofs.CoordView.{Views, did_event, reply_of, only_views, SendsDues, due_now, Apart, apart_those, protocols_apart, found_where, found_apart, IsNew, new_from, new_to, first_due}
 use Rattle.closing_laws.proofs.Delivered.{item_behind}
-use Rattle.closing_laws.proofs.Dues.{at_site, steps_of, count_of, epoch_of, ticketed, due_of, due_is, IsDue, AtWork, AtTake, AtPrepare, due_kind, due_there, other_at, other_ticketed}
+use Rattle.closing_laws.proofs.Dues.{count_of, epoch_of, ticketed, due_of, due_is, IsDue, AtWork, AtTake, AtPrepare, due_kind, due_there, other_at, other_ticketed}
+use Rattle.federation_laws.proofs.Dues.{of_site, steps_of}
 use Rattle.closing_laws.proofs.Exchange.{IsExchange, given, both, past_given, other_given, coord_both, past_both, sent_given, sent_both, calm_both, goes_on}
 use Rattle.closing_laws.proofs.Locals.{found_in}
 use Rattle.closing_laws.proofs.Onward.{IsCalm, item_more, one_home}
@@ -367,7 +368,7 @@ module _ (scenario : Scenario) (whole : IsScenario scenario) (g : Tid) (prog : L
       by_kind k = by_old (visited k) (same_site site home.site) refl (outstanding past g site) refl
 
   -- what the coordinator counted of the site and of the others
-  own_at : at_site (answer ∷ replies) home.site ≡ answer ∷ at_site replies home.site
+  own_at : of_site (answer ∷ replies) home.site ≡ answer ∷ of_site replies home.site
   own_at = cond-true _ _ _ (same_site_self home.site)
 
   own_count : count_of (answer ∷ replies) home.site ≡ suc (count_of replies home.site)

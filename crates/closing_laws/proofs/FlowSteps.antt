@@ -40,7 +40,8 @@ use Rattle.fed_rules.specs.Story.{Story, past_of, coord_past, sent_to, story_of}
 use Rattle.closing_laws.proofs.AloneSites.{Stage, NotYet, Running, Sealed, Sends, first_line, first_is, first_stage, first_sends, next_line, next_is, next_stage, next_sends, ticket_line, ticket_is, ticket_stage, ticket_sends}
 use Rattle.closing_laws.proofs.CoordView.{did_event, reply_of, SendsDues, dues_sent}
 use Rattle.closing_laws.proofs.Declared.{member_home}
-use Rattle.closing_laws.proofs.Dues.{at_site, steps_of, count_of, epoch_of, ticketed, act_of, due_of, due_is, step_keeps, ticket_keeps, no_more}
+use Rattle.closing_laws.proofs.Dues.{count_of, epoch_of, ticketed, act_of, due_of, due_is, step_keeps, ticket_keeps, no_more}
+use Rattle.federation_laws.proofs.Dues.{of_site, steps_of}
 use Rattle.closing_laws.proofs.Exchange.{IsExchange}
 use Rattle.closing_laws.proofs.Flow.{Entry, site_of, place_of, members_of, Flow, Answered, member_there, answered, sent_entries, advance, advanced, counted_now, vote_now, alone_takes, news_alone}
 use Rattle.fed_rules.specs.Policies.{Policy}
@@ -122,8 +123,8 @@ few_counted (r ∷ replies) site t = by_site (same_site r.site site) t (few_coun
     by_reply false false e h = (let less = h e in omega (arith, less))
     by_reply false true e h = cc
 
-    by_site : (b : Bool) → some_of (λ (z : Counted). is_ticket z.reply) (cond b (r ∷ at_site replies site) (at_site replies site)) ≡ false → (ticketed replies site ≡ false → count_of replies site ≤ steps_of replies)
-        → how_many (λ (z : Counted). not (is_wait z.reply)) (cond b (r ∷ at_site replies site) (at_site replies site)) ≤ cond step (suc (steps_of replies)) (steps_of replies)
+    by_site : (b : Bool) → some_of (λ (z : Counted). is_ticket z.reply) (cond b (r ∷ of_site replies site) (of_site replies site)) ≡ false → (ticketed replies site ≡ false → count_of replies site ≤ steps_of replies)
+        → how_many (λ (z : Counted). not (is_wait z.reply)) (cond b (r ∷ of_site replies site) (of_site replies site)) ≤ cond step (suc (steps_of replies)) (steps_of replies)
     by_site false e h = (let less = h e in let big = more in omega (arith, less, big))
     by_site true e h = by_reply (is_wait r.reply) (is_ticket r.reply) e h
 
@@ -263,7 +264,7 @@ module _ (scenario : Scenario) (whole : IsScenario scenario) (g : Tid) (prog : L
       or_true true c k = refl
       or_true false c k = k
 
-      by_test : (b : Bool) → same_site r.site site ≡ b → some_of (λ (z : Counted). is_ticket z.reply) (cond b (r ∷ at_site replies site) (at_site replies site)) ≡ true
+      by_test : (b : Bool) → same_site r.site site ≡ b → some_of (λ (z : Counted). is_ticket z.reply) (cond b (r ∷ of_site replies site) (of_site replies site)) ≡ true
       by_test true q = or_true (is_ticket r.reply) (ticketed replies site) t
       by_test false q = t
 

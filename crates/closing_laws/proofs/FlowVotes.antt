@@ -48,7 +48,8 @@ use Rattle.closing_laws.specs.Given.{CommittedTicketsArePublished}
 use Rattle.closing_laws.proofs.AloneAt.{IsAlone}
 use Rattle.closing_laws.proofs.AloneSites.{Stage, prepare_stage}
 use Rattle.closing_laws.proofs.CoordView.{Views, voted, vote_views, due_now, found_where}
-use Rattle.closing_laws.proofs.Dues.{steps_of, count_of, epoch_of, ticketed, due_of, due_by, due_is, IsDue, AtWork, AtTake, AtPrepare, due_kind}
+use Rattle.closing_laws.proofs.Dues.{count_of, epoch_of, ticketed, due_of, due_by, due_is, IsDue, AtWork, AtTake, AtPrepare, due_kind}
+use Rattle.federation_laws.proofs.Dues.{steps_of}
 use Rattle.closing_laws.proofs.Exchange.{IsExchange, given, both, past_given, other_given, coord_both, past_both, sent_both, calm_both, goes_on}
 use Rattle.closing_laws.proofs.Flow.{Entry, site_of, place_of, IsQueued, members_of, Flow, member_there}
 use Rattle.closing_laws.proofs.FlowSteps.{weight, weight_of, Advances, one_more_passes}

@@ -51,7 +51,8 @@ use Rattle.closing_laws.proofs.Calm.{IsReady, ready_next}
 use Rattle.closing_laws.proofs.Clear.{pick_some}
 use Rattle.closing_laws.proofs.CoordView.{Apart, apart_those, protocols_apart, found_where, found_apart, first_due}
 use Rattle.closing_laws.proofs.Delivered.{item_behind}
-use Rattle.closing_laws.proofs.Dues.{steps_of, count_of, epoch_of, ticketed, due_is, IsDue, AtWork, AtTake, AtPrepare, due_kind, due_there}
+use Rattle.closing_laws.proofs.Dues.{count_of, epoch_of, ticketed, due_is, IsDue, AtWork, AtTake, AtPrepare, due_kind, due_there}
+use Rattle.federation_laws.proofs.Dues.{steps_of}
 use Rattle.closing_laws.proofs.Flow.{site_of, place_of, IsQueued, members_of, Flow, entry_for, places_for, apart_entries, in_entries, entry_among, member_there, gone_closed}
 use Rattle.closing_laws.proofs.GlobalFlow.{flows}
 use Rattle.closing_laws.proofs.LocalAlone.{pick_none}

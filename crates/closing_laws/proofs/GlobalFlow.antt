@@ -50,7 +50,8 @@ use Rattle.closing_laws.proofs.CoordView.{voted, vote_views}
 use Rattle.closing_laws.proofs.Declared.{IsMemberHome, member_home}
 use Rattle.closing_laws.proofs.Decisions.{commit_of, place_at, IsTold, all_told, told_quiet}
 use Rattle.closing_laws.proofs.Delivered.{item_behind, IsWaiting}
-use Rattle.closing_laws.proofs.Dues.{steps_of, count_of, epoch_of, ticketed, IsDue, AtWork, AtTake, AtPrepare, due_of, due_kind, unvoted_due, due_is}
+use Rattle.closing_laws.proofs.Dues.{count_of, epoch_of, ticketed, IsDue, AtWork, AtTake, AtPrepare, due_of, due_kind, unvoted_due, due_is}
+use Rattle.federation_laws.proofs.Dues.{steps_of}
 use Rattle.closing_laws.proofs.EndKnown.{first_sent}
 use Rattle.closing_laws.proofs.Exchange.{IsExchange, sent_both, calm_both, sent_given}
 use Rattle.closing_laws.proofs.Flow.{Entry, site_of, place_of, members_of, Flow, member_there}

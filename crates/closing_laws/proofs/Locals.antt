@@ -34,7 +34,7 @@ use Rattle.local_laws.proofs.LineAnswers.{act_begins-none, refusal_answer-is}
 use Rattle.federation_laws.proofs.LocalLines.{local-made}
 use Rattle.federation_laws.proofs.LocalMoves.{LocalMove, Made, Opens, Rests, Gone, Opening, Granting, Closing}
 use Rattle.federation_laws.proofs.LocalStories.{not-asked}
-use Rattle.federation_laws.proofs.SiteMoves.{live-run}
+use Rattle.site_history.proofs.Agreement.{live_is}
 use Rattle.federation_laws.proofs.Told.{local_home-declared, SiteCause, IsSiteLine, IsLine, line_is}
 
 -- what begins an attempt of the transaction is a `begin` of it
@@ -243,7 +243,7 @@ is_live_one tx run = same_tx run.tid.tx tx && not (is_sealed run)
 -- who is live is found
 none_live : (home : Home) (past : SitePast) (tid : Tid) (run : Run) → IsRight (epoch_start home past) (engine_lines past) → live home past tid ≡ Some run → live_of_tx home past tid.tx ≡ None → ⊥
 none_live home past tid run right e none =
-    let at = live-run (run_at (epoch_start home past) (engine_lines past) tid) run e in
+    let at = live_is (run_at (epoch_start home past) (engine_lines past) tid) run e in
     let own : run.tid ≡ tid = tid_is (epoch_start home past) (engine_lines past) right tid run at.0 in
     let i : In run (unended (epoch_start home past) (engine_lines past)) =
     found_in (run_at (epoch_start home past) (engine_lines past)) (attempts (epoch_start home past) (engine_lines past)) tid run (attempts_have (epoch_start home past) (engine_lines past) right tid run at.0) at.0 in

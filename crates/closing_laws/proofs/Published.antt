@@ -45,8 +45,8 @@ use Rattle.order_laws.proofs.Joined.{among_left}
 use Rattle.federation_laws.proofs.Agreement.{IsSaid}
 use Rattle.federation_laws.proofs.CommitOnce.{votes-sent}
 use Rattle.coord_laws.proofs.Made.{IsLastVote, Writes}
-use Rattle.federation_laws.proofs.SiteAbout.{act-plain, refusal-plain}
-use Rattle.federation_laws.proofs.SiteMoves.{live-run}
+use Rattle.site_history.proofs.LocalLines.{refusal_plain, act_plain}
+use Rattle.site_history.proofs.Agreement.{live_is}
 use Rattle.federation_laws.proofs.StoryGlobals.{story-holds, story-agrees, coord-made}
 use Rattle.coord_laws.proofs.Cycles.{commits_whole}
 use Rattle.federation_laws.proofs.Told.{CoordCause, IsLine, line_is}
@@ -114,7 +114,7 @@ module _ (home : Home) (past : SitePast) (h : IsPublished home past) where
   by_yes : (tid : Tid) (e n : ℕ) (run : Run) (ticket : ℕ) → live home past tid ≡ Some run → run.ticket ≡ Some ticket → IsPublished home (votes_yes home past tid e n run ticket ∷ past)
   unfolding votes_yes
   by_yes tid e n run ticket f t = plainly (votes_yes home past tid e n run ticket) refl
-      (let at = published_at (epoch_start home past) (engine_lines past) tid (number_of home past run) run (live-run (run_at (epoch_start home past) (engine_lines past) tid) run f).0 in
+      (let at = published_at (epoch_start home past) (engine_lines past) tid (number_of home past run) run (live_is (run_at (epoch_start home past) (engine_lines past) tid) run f).0 in
       let own : or_else run.ticket 0 ≡ ticket = ap (λ o. or_else o 0) t in
       let old = h.below in omega (arith, at, own, old))
 
@@ -141,8 +141,8 @@ module _ (home : Home) (past : SitePast) (h : IsPublished home past) where
   by_line : (event : SiteEvent) → IsPublished home (site_line home past event ∷ past)
   unfolding site_line answered of_begin of_act of_commit of_abort of_fate of_give of_ask of_drop of_back of_check seals_local stopped
   by_line (Ev.Begin tid) = below_up _ _ (below_pick _ _ _ (below_pick _ _ _ (unprepared _ refl refl) (λ z f. unprepared _ refl refl)) (λ z f. unprepared _ refl refl))
-  by_line (Ev.Act tid act) = below_up _ _ (below_pick (live home past tid) _ _ (unprepared _ refl refl) (λ run f. unprepared _ (act-plain tid (reply_to home past run act) act) refl))
-  by_line (Ev.Commit tid) = below_up _ _ (below_pick (live home past tid) _ _ (unprepared _ refl refl) (λ run f. below_pick (stop_of home past run) _ _ (unprepared _ refl refl) (λ why s. unprepared _ (refusal-plain why) refl)))
+  by_line (Ev.Act tid act) = below_up _ _ (below_pick (live home past tid) _ _ (unprepared _ refl refl) (λ run f. unprepared _ (act_plain tid (reply_to home past run act) act) refl))
+  by_line (Ev.Commit tid) = below_up _ _ (below_pick (live home past tid) _ _ (unprepared _ refl refl) (λ run f. below_pick (stop_of home past run) _ _ (unprepared _ refl refl) (λ why s. unprepared _ (refusal_plain why) refl)))
   by_line (Ev.Abort tid) = below_up _ _ (below_pick (live home past tid) _ _ (unprepared _ refl refl) (λ run f. unprepared _ refl refl))
   by_line (Ev.Fate tx) = below_up _ _ (below_pick (local_of (records home past) tx) _ _ (below_pick (live_of_tx home past tx) _ _ (by_count (attempts_of past tx == 0)) (λ z f. unprepared _ refl refl)) (λ z f. unprepared _ refl refl))
     where

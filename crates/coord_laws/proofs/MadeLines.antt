@@ -1,4 +1,5 @@
 -- Each line of the coordinator is made so, by whichever rule it goes.
+use Rattle.coord_laws.proofs.Rules.{all_sending, some_sending, IsSending}
 use Rattle.std.proofs.Common.{◌≡◌, ℕ, zero, suc, Bool, true, false, cond, not, ◌&&◌, ◌||◌, is_none, Option, Some, None, List, [], ◌∷◌, ◌++◌, take, map, refl, sym, ap, ◌∙◌}
 use Rattle.mdb_base.specs.declared.acts.Step.{Step}
 use Rattle.mdb_base.specs.declared.names.SiteId.{SiteId}
@@ -111,20 +112,6 @@ sends_due past tid (due ∷ dues) h = (asks past tid h.0.0 due h.0.1, sends_due 
 decides_each : (past : CoordPast) (tid : Tid) (decision : Decision) (members : List Participant) → Each (λ sent. IsAsked past sent.site sent.message) (decide_to tid decision members)
 decides_each past tid decision [] = tt
 decides_each past tid decision (member ∷ members) = (tt, decides_each past tid decision members)
-
--- an answer with which operations are sent
-abbrev IsSending : Answer → Type 0
-IsSending Say.Only = Unit {0}
-IsSending Say.Defers = Unit {0}
-IsSending answer = ⊥
-
-some_sending : (held : List Due) → IsSending (defers_some held)
-some_sending [] = tt
-some_sending (due ∷ held) = tt
-
-all_sending : (held sent : List Due) → IsSending (defers_all held sent)
-all_sending held [] = some_sending held
-all_sending held (due ∷ sent) = tt
 
 -- operations and Prepares are sent
 sent_made : (protocols : List Participant) (past : CoordPast) (event : CoordEvent) (tid : Tid) (answer : Answer) (dues : List Due) → IsSending answer → AreDue (quiet event Say.Only ∷ past) tid dues → ((answer : Answer) → decides answer ≡ false → Decides event answer) → ((answer : Answer) → Counts past event answer)

@@ -67,17 +67,17 @@ after_puts (Wrote k value ∷ acts) items key =
     ∙ ap (cond (same_key k key) value) (after_puts acts items key)
 
 -- rows are what they write on a table of zeros
-look_up_written : (puts : List Put) (key : Key) → look_up puts key ≡ after (written puts) (λ k. 0) key
+pub look_up_written : (puts : List Put) (key : Key) → look_up puts key ≡ after (written puts) (λ k. 0) key
 look_up_written [] key = refl
 look_up_written (put ∷ puts) key = ap (cond (same_key put.key key) put.value) (look_up_written puts key)
 
-look_up_with_row : (row : Put) (puts : List Put) (key : Key)
+pub look_up_with_row : (row : Put) (puts : List Put) (key : Key)
     → look_up (with_row row puts) key ≡ cond (same_key row.key key) row.value (look_up puts key)
 look_up_with_row row puts key =
     look_up_written (with_row row puts) key ∙ after_with_row row puts (λ k. 0) key
     ∙ ap (cond (same_key row.key key) row.value) (sym (look_up_written puts key))
 
-look_up_with_rows : (puts others : List Put) (key : Key)
+pub look_up_with_rows : (puts others : List Put) (key : Key)
     → look_up (with_rows puts others) key ≡ after (written puts) (look_up others) key
 look_up_with_rows [] others key = refl
 look_up_with_rows (put ∷ puts) others key =

@@ -30,8 +30,10 @@ use Rattle.fed_rules.specs.Story.{value_of}
 use Rattle.commit_laws.proofs.SiteShut.{restored-sealed, given-up}
 use Rattle.site_history.specs.Accesses.{seals}
 use Rattle.federation_laws.specs.Accesses.{act_of}
-use Rattle.federation_laws.proofs.SiteAbout.{IsAbout, act-plain, refusal-plain, settling-tid}
-use Rattle.federation_laws.proofs.SiteMoves.{Fits, access-fits, others-run, live-next, live-run, unsealed-live}
+use Rattle.federation_laws.proofs.SiteAbout.{IsAbout, settling-tid}
+use Rattle.site_history.proofs.LocalLines.{refusal_plain, act_plain}
+use Rattle.federation_laws.proofs.SiteMoves.{Fits, access-fits, others-run, live-next, unsealed-live}
+use Rattle.site_history.proofs.Agreement.{live_is}
 use Rattle.federation_laws.proofs.SiteSteps.{no-seals, own-line, settled-none}
 
 -- the line reads nothing for the attempt, and doesn't seal it
@@ -150,15 +152,15 @@ begin-made home past t =
 
 act-line : (home : Home) (past : SitePast) (t : Tid) (act : PlainAct) (reply : Reply) (run : Run) → run_of home past t ≡ Some run → live home (with_lines (Ev.Act t act) (act_answer t reply act) (Acts t act reply ∷ []) ∷ past) t ≡ live_one (acted reply act run)
 act-line home past t act reply run e =
-    live-next home past (with_lines (Ev.Act t act) (act_answer t reply act) (Acts t act reply ∷ [])) t (act-plain t reply act)
+    live-next home past (with_lines (Ev.Act t act) (act_answer t reply act) (Acts t act reply ∷ [])) t (act_plain t reply act)
     ∙ (own-line t (Acts t act reply) (run_of home past t) refl ∙ ap (λ o. live_one (changed (Acts t act reply) o)) e)
 
 acts-made : (home : Home) (past : SitePast) (t : Tid) (act : PlainAct) (reply : Reply) (run : Run) → Fits act reply → live home past t ≡ Some run → Made home past t (Ev.Act t act) (with_lines (Ev.Act t act) (act_answer t reply act) (Acts t act reply ∷ []))
 acts-made home past t act (Reply_is.Wait by) run f alive =
-    let at = live-run (run_of home past t) run alive in
+    let at = live_is (run_of home past t) run alive in
     record { heard = refl; move = Rests (record { reads = refl; unsealed = refl }) (act-line home past t act (Reply_is.Wait by) run at.0 ∙ (unsealed-live run at.1 ∙ sym alive)) }
 acts-made home past t act (Reply_is.Refused why) run f alive =
-    let at = live-run (run_of home past t) run alive in
+    let at = live_is (run_of home past t) run alive in
     record { heard = refl; move = Gone (record { reads = refused-read why; unsealed = refl }) (act-line home past t act (Reply_is.Refused why) run at.0) }
   where
     refused-read : (why : Why) → read_by t (Ev.Act t act) (act_answer t (Reply_is.Refused why) act) ≡ None
@@ -167,7 +169,7 @@ acts-made home past t act (Reply_is.Refused why) run f alive =
     refused-read (Because.Invalid by key) = refl
     refused-read (Because.TicketMoved by) = refl
 acts-made home past t (Read key) (Reply_is.Value value) run f alive =
-    let at = live-run (run_of home past t) run alive in
+    let at = live_is (run_of home past t) run alive in
     record {
       heard = refl;
       move = Granting (record {
@@ -183,7 +185,7 @@ acts-made home past t (Read key) (Reply_is.Value value) run f alive =
       });
     }
 acts-made home past t (Write key v) Reply_is.Done run f alive =
-    let at = live-run (run_of home past t) run alive in
+    let at = live_is (run_of home past t) run alive in
     record {
       heard = refl;
       move = Granting (record {
@@ -238,7 +240,7 @@ commit-made home past t =
         reads = refl;
       });
     })
-    (λ why stop. ends-made home past t _ _ (Refuses t why) (refusal-plain why) refl refl (given-up (Refuses t why) (run_of home past t) refl)))
+    (λ why stop. ends-made home past t _ _ (Refuses t why) (refusal_plain why) refl refl (given-up (Refuses t why) (run_of home past t) refl)))
   where
     committed-none : (o : Option Run) → live_one (changed (Commits t) o) ≡ None
     committed-none None = refl

@@ -1,4 +1,6 @@
 -- Who is a member of a site's order: it has a Local record there, or a Prepared one, and its outcome is commit.
+use Rattle.site_history.proofs.Installs.{install_before}
+use Rattle.order_laws.proofs.Reversed.{reverse_more}
 use Rattle.std.proofs.Common.{◌≡◌, ◌⊎◌, ℕ, Bool, true, false, cond, ◌||◌, nat_le, nat_lt, List, [], ◌∷◌, ◌++◌, map, reverse, inl, inr, refl, sym, ap, subst, ◌∙◌}
 use Rattle.std.proofs.lemmas.List.{reverse-append}
 use Rattle.mdb_base.specs.declared.names.Tid.{Tid}
@@ -47,14 +49,10 @@ in-inserted {A} before x y (z ∷ zs) i = by_test (before z x) i (in-inserted be
     by_test false (inl e) h = inl e
     by_test false (inr j) h = inr j
 
--- the greater number stands first
-abbrev above : Install → Install → Bool
-above a b = nat_lt b.number a.number
-
 install-member : (commits : Tid → Bool) (rs : List SiteRecord) (install : Install) → In install (due_installs commits rs) → IsMember commits rs install.tid
 install-member commits [] install i = absurd i
 install-member commits (Rec.Local tid number writes ∷ rs) install i =
-    elim (in-inserted above (record { tid = tid; number = number; writes = writes }) install (due_installs commits rs) i) [
+    elim (in-inserted install_before (record { tid = tid; number = number; writes = writes }) install (due_installs commits rs) i) [
       | inl e ↦ subst (λ (x : Install). IsMember commits (Rec.Local tid number writes ∷ rs) x.tid) e (AsLocal (record { number = number; writes = writes; kept = inl refl }))
       | inr j ↦ member-behind commits _ rs install.tid (install-member commits rs install j)
     ]
@@ -63,7 +61,7 @@ install-member commits (Rec.Prepared tid epoch number ticket writes ∷ rs) inst
     by_test : (t : Bool) → commits tid ≡ t → In install (cond t (by_number (record { tid = tid; number = number; writes = writes }) (due_installs commits rs)) (due_installs commits rs))
         → (In install (due_installs commits rs) → IsMember commits rs install.tid) → IsMember commits (Rec.Prepared tid epoch number ticket writes ∷ rs) install.tid
     by_test true q i h =
-        elim (in-inserted above (record { tid = tid; number = number; writes = writes }) install (due_installs commits rs) i) [
+        elim (in-inserted install_before (record { tid = tid; number = number; writes = writes }) install (due_installs commits rs) i) [
           | inl e ↦ subst (λ (x : Install). IsMember commits (Rec.Prepared tid epoch number ticket writes ∷ rs) x.tid) e
               (AsGlobal (record { ticket = ticket; prepared = record { epoch = epoch; number = number; writes = writes; kept = inl refl }; commit = q }))
           | inr j ↦ member-behind commits (Rec.Prepared tid epoch number ticket writes) rs install.tid (h j)
@@ -86,12 +84,9 @@ append-in x (y ∷ xs) ys (inl (inl e)) = inl e
 append-in x (y ∷ xs) ys (inl (inr i)) = inr (append-in x xs ys (inl i))
 append-in x (y ∷ xs) ys (inr i) = inr (append-in x xs ys (inr i))
 
-reverse-more : {A : Type 0} (x : A) (xs : List A) → reverse (x ∷ xs) ≡ reverse xs ++ x ∷ []
-reverse-more x xs = reverse-append (x ∷ []) xs
-
 in-reverse : {A : Type 0} (x : A) (xs : List A) → In x (reverse xs) → In x xs
 in-reverse x [] i = i
-in-reverse {A} x (y ∷ xs) i = by_place (in-append x (reverse xs) (y ∷ []) (subst (In x) (reverse-more y xs) i)) (in-reverse x xs)
+in-reverse {A} x (y ∷ xs) i = by_place (in-append x (reverse xs) (y ∷ []) (subst (In x) (reverse_more y xs) i)) (in-reverse x xs)
   where
     by_place : In x (reverse xs) ⊎ In x (y ∷ []) → (In x (reverse xs) → In x xs) → In x (y ∷ xs)
     by_place (inl j) h = inr (h j)
@@ -100,8 +95,8 @@ in-reverse {A} x (y ∷ xs) i = by_place (in-append x (reverse xs) (y ∷ []) (s
 
 reverse-in : {A : Type 0} (x : A) (xs : List A) → In x xs → In x (reverse xs)
 reverse-in x [] i = i
-reverse-in x (y ∷ xs) (inl e) = subst (In x) (sym (reverse-more y xs)) (append-in x (reverse xs) (y ∷ []) (inr (inl e)))
-reverse-in x (y ∷ xs) (inr i) = subst (In x) (sym (reverse-more y xs)) (append-in x (reverse xs) (y ∷ []) (inl (reverse-in x xs i)))
+reverse-in x (y ∷ xs) (inl e) = subst (In x) (sym (reverse_more y xs)) (append-in x (reverse xs) (y ∷ []) (inr (inl e)))
+reverse-in x (y ∷ xs) (inr i) = subst (In x) (sym (reverse_more y xs)) (append-in x (reverse xs) (y ∷ []) (inl (reverse-in x xs i)))
 
 -- a member of the order has its record
 pub member-of : (commits : Tid → Bool) (rs : List SiteRecord) (tid : Tid) → In tid (order_of commits rs) → IsMember commits rs tid
@@ -129,16 +124,16 @@ tid-inserted before x (z ∷ zs) tid i = by_test (before z x) i (tid-inserted be
 due-tid : (commits : Tid → Bool) (rs : List SiteRecord) (tid : Tid) (epoch number ticket : ℕ) (writes : List Put) → commits tid ≡ true → In (Rec.Prepared tid epoch number ticket writes) rs → In tid (map (λ install. install.tid) (due_installs commits rs))
 due-tid commits [] tid epoch number ticket writes c i = absurd i
 due-tid commits (Rec.Local t n w ∷ rs) tid epoch number ticket writes c (inl e) = cc
-due-tid commits (Rec.Local t n w ∷ rs) tid epoch number ticket writes c (inr i) = tid-inserted above (record { tid = t; number = n; writes = w }) (due_installs commits rs) tid (inr (due-tid commits rs tid epoch number ticket writes c i))
+due-tid commits (Rec.Local t n w ∷ rs) tid epoch number ticket writes c (inr i) = tid-inserted install_before (record { tid = t; number = n; writes = w }) (due_installs commits rs) tid (inr (due-tid commits rs tid epoch number ticket writes c i))
 due-tid commits (Rec.Prepared t p n k w ∷ rs) tid epoch number ticket writes c (inl e) = first (let own : t ≡ tid = cc in own) (commits t) refl
   where
     first : t ≡ tid → (b : Bool) → commits t ≡ b → In tid (map (λ install. install.tid) (cond b (by_number (record { tid = t; number = n; writes = w }) (due_installs commits rs)) (due_installs commits rs)))
-    first own true q = tid-inserted above (record { tid = t; number = n; writes = w }) (due_installs commits rs) tid (inl own)
+    first own true q = tid-inserted install_before (record { tid = t; number = n; writes = w }) (due_installs commits rs) tid (inl own)
     first own false q = (let yes : commits t ≡ true = ap commits own ∙ c in let clash = sym yes ∙ q in cc)
 due-tid commits (Rec.Prepared t p n k w ∷ rs) tid epoch number ticket writes c (inr i) = later (commits t) (due-tid commits rs tid epoch number ticket writes c i)
   where
     later : (b : Bool) → In tid (map (λ install. install.tid) (due_installs commits rs)) → In tid (map (λ install. install.tid) (cond b (by_number (record { tid = t; number = n; writes = w }) (due_installs commits rs)) (due_installs commits rs)))
-    later true j = tid-inserted above (record { tid = t; number = n; writes = w }) (due_installs commits rs) tid (inr j)
+    later true j = tid-inserted install_before (record { tid = t; number = n; writes = w }) (due_installs commits rs) tid (inr j)
     later false j = j
 due-tid commits (Rec.Setup site engine protocol items ∷ rs) tid epoch number ticket writes c (inl e) = cc
 due-tid commits (Rec.Checkpoint sum ∷ rs) tid epoch number ticket writes c (inl e) = cc
@@ -151,13 +146,13 @@ due-tid commits (Rec.Ended t decision ∷ rs) tid epoch number ticket writes c (
 
 due-local : (commits : Tid → Bool) (rs : List SiteRecord) (tid : Tid) (number : ℕ) (writes : List Put) → In (Rec.Local tid number writes) rs → In tid (map (λ install. install.tid) (due_installs commits rs))
 due-local commits [] tid number writes i = absurd i
-due-local commits (Rec.Local t n w ∷ rs) tid number writes (inl e) = tid-inserted above (record { tid = t; number = n; writes = w }) (due_installs commits rs) tid (inl (let own : t ≡ tid = cc in own))
-due-local commits (Rec.Local t n w ∷ rs) tid number writes (inr i) = tid-inserted above (record { tid = t; number = n; writes = w }) (due_installs commits rs) tid (inr (due-local commits rs tid number writes i))
+due-local commits (Rec.Local t n w ∷ rs) tid number writes (inl e) = tid-inserted install_before (record { tid = t; number = n; writes = w }) (due_installs commits rs) tid (inl (let own : t ≡ tid = cc in own))
+due-local commits (Rec.Local t n w ∷ rs) tid number writes (inr i) = tid-inserted install_before (record { tid = t; number = n; writes = w }) (due_installs commits rs) tid (inr (due-local commits rs tid number writes i))
 due-local commits (Rec.Prepared t p n k w ∷ rs) tid number writes (inl e) = cc
 due-local commits (Rec.Prepared t p n k w ∷ rs) tid number writes (inr i) = later (commits t) (due-local commits rs tid number writes i)
   where
     later : (b : Bool) → In tid (map (λ install. install.tid) (due_installs commits rs)) → In tid (map (λ install. install.tid) (cond b (by_number (record { tid = t; number = n; writes = w }) (due_installs commits rs)) (due_installs commits rs)))
-    later true j = tid-inserted above (record { tid = t; number = n; writes = w }) (due_installs commits rs) tid (inr j)
+    later true j = tid-inserted install_before (record { tid = t; number = n; writes = w }) (due_installs commits rs) tid (inr j)
     later false j = j
 due-local commits (Rec.Setup site engine protocol items ∷ rs) tid number writes (inl e) = cc
 due-local commits (Rec.Checkpoint sum ∷ rs) tid number writes (inl e) = cc

@@ -31,7 +31,7 @@ use Rattle.federation_laws.proofs.LocalMoves.{Opens, LocalMove, Rests, Gone, Ope
 use Rattle.federation_laws.proofs.LocalStories.{not-asked}
 use Rattle.federation_laws.proofs.Members.{IsLocal, record-from, sealing-call}
 use Rattle.federation_laws.proofs.OnceGlobal.{same_tx-true}
-use Rattle.federation_laws.proofs.SiteMoves.{live-run}
+use Rattle.site_history.proofs.Agreement.{live_is}
 use Rattle.federation_laws.proofs.Told.{SiteCause, IsSiteLine, IsLine, line_is}
 use Rattle.order_laws.proofs.Alike.{some_parts}
 
@@ -96,7 +96,7 @@ none-live home past tx t run right none s alive = (let clash = sym passes ∙ fa
     unfound = first-none (first_where (λ r. same_tx r.tid.tx tx && not (is_sealed r)) (unended (epoch_start home past) (engine_lines past))) none
 
     at : (run_of home past t ≡ Some run) × (run.sealed ≡ None)
-    at = live-run (run_of home past t) run alive
+    at = live_is (run_of home past t) run alive
 
     fails : (same_tx run.tid.tx tx && not (is_sealed run)) ≡ false
     fails =

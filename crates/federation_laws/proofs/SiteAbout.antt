@@ -1,4 +1,5 @@
 -- A line of a site is about one attempt: its engine lines, operations and records name no other one.
+use Rattle.site_history.proofs.LocalLines.{refusal_plain, act_plain}
 use Rattle.std.proofs.Common.{◌≡◌, ℕ, Bool, true, false, cond, ◌||◌, Option, Some, None, List, [], ◌∷◌, refl, ap}
 use Rattle.mdb_base.specs.declared.acts.PlainAct.{PlainAct}
 use Rattle.mdb_base.specs.declared.acts.PlainAct.TheVariants.{Read, Write}
@@ -67,25 +68,6 @@ unfolding pick
 about_pick home past tid None none some p q = p
 about_pick home past tid (Some x) none some p q = q x
 
-pub act-plain : (tid : Tid) (reply : Reply) (act : PlainAct) → (stops (act_answer tid reply act) || comes_up (act_answer tid reply act)) ≡ false
-act-plain tid (Reply_is.Wait by) act = refl
-act-plain tid (Reply_is.Refused (Because.Die by)) act = refl
-act-plain tid (Reply_is.Refused (Because.Late by)) act = refl
-act-plain tid (Reply_is.Refused (Because.Invalid by key)) act = refl
-act-plain tid (Reply_is.Refused (Because.TicketMoved by)) act = refl
-act-plain tid (Reply_is.Value value) (Read key) = refl
-act-plain tid (Reply_is.Value value) (Write key v) = refl
-act-plain tid Reply_is.Done (Read key) = refl
-act-plain tid Reply_is.Done (Write key value) = refl
-act-plain tid (Reply_is.Ticket n) act = refl
-act-plain tid Reply_is.Unknown act = refl
-
-pub refusal-plain : (why : Why) → (stops (refusal_answer why) || comes_up (refusal_answer why)) ≡ false
-refusal-plain (Because.Invalid by key) = refl
-refusal-plain (Because.Die by) = refl
-refusal-plain (Because.Late by) = refl
-refusal-plain (Because.TicketMoved by) = refl
-
 -- a line of engine lines alone
 lines_about : (home : Home) (past : SitePast) (tid : Tid) (event : SiteEvent) (answer : Answer) (lines : List EngineLine) → (stops answer || comes_up answer) ≡ false → Each (λ line. tid_of line ≡ tid) lines → IsAbout home past tid (with_lines event answer lines)
 lines_about home past tid event answer lines p l = record { plain = p; lines = l; sends = tt; calls = tt; calm = refl; locals = tt }
@@ -101,14 +83,14 @@ pub act_about : (home : Home) (past : SitePast) (tid : Tid) (act : PlainAct) →
 unfolding of_act
 act_about home past tid act =
     about_pick home past tid _ _ _ (lines_about home past tid _ _ [] refl tt)
-    (λ run. lines_about home past tid _ _ _ (act-plain tid _ act) (refl, tt))
+    (λ run. lines_about home past tid _ _ _ (act_plain tid _ act) (refl, tt))
 
 pub commit_about : (home : Home) (past : SitePast) (tid : Tid) → IsAbout home past tid (of_commit home past tid)
 unfolding of_commit seals_local
 commit_about home past tid =
     about_pick home past tid _ _ _ (lines_about home past tid _ _ [] refl tt) (λ run.
     about_pick home past tid _ _ _ (record { plain = refl; lines = (refl, (refl, tt)); sends = tt; calls = (refl, (tt, tt)); calm = refl; locals = (tt, (tt, tt)) })
-    (λ why. lines_about home past tid _ _ _ (refusal-plain why) (refl, tt)))
+    (λ why. lines_about home past tid _ _ _ (refusal_plain why) (refl, tt)))
 
 pub abort_about : (home : Home) (past : SitePast) (tid : Tid) → IsAbout home past tid (of_abort home past tid)
 unfolding of_abort

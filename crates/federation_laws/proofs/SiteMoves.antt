@@ -155,15 +155,6 @@ ticket-fits start lines me = by_stop ((rule start.kind).ticket start lines me) (
     by_stop (Some (Reply_is.Ticket ticket)) s = absurd s
     by_stop (Some Reply_is.Unknown) s = absurd s
 
--- a live run is the attempt's run, and isn't sealed
-pub live-run : (o : Option Run) (run : Run) → live_one o ≡ Some run → (o ≡ Some run) × (run.sealed ≡ None)
-live-run None run e = cc
-live-run (Some r) run e = by_sealed r.sealed refl e
-  where
-    by_sealed : (s : Option ℕ) → r.sealed ≡ s → cond (is_some s) None (Some r) ≡ Some run → (Some r ≡ Some run) × (run.sealed ≡ None)
-    by_sealed None is e = let same : r ≡ run = cc in (e, ap (λ x. x.sealed) (sym same) ∙ is)
-    by_sealed (Some n) is e = cc
-
 pub unsealed-live : (run : Run) → run.sealed ≡ None → live_one (Some run) ≡ Some run
 unsealed-live run e = ap (λ s. cond (is_some s) None (Some run)) e
 

@@ -1,4 +1,5 @@
 -- Operations at a site: what an act and the taking of the ticket make of the attempt's run.
+use Rattle.site_history.proofs.ShutLines.{plain_parts}
 use Rattle.std.proofs.Common.{◌≡◌, ℕ, ◌+◌, ◌==◌, Bool, true, false, cond, not, ◌&&◌, ◌||◌, nat_lt, is_some, Option, Some, None, List, [], ◌∷◌, length, map, inl, inr, refl, sym, ap, subst, ◌∙◌, eqb-true, arith}
 use Rattle.std.proofs.lemmas.Bool.{or_left, or_right, and_parts}
 use Rattle.mdb_base.specs.declared.acts.PlainAct.{PlainAct}
@@ -20,7 +21,8 @@ use Rattle.fed_rules.specs.Site.{done, is_over, is_of_epoch, kept_reply_of, kept
 use Rattle.fed_rules.specs.SitePast.{SiteHappening, SitePast, records, epoch_start, engine_lines, run_of, live, live_one, ends, decides_on, is_closed}
 use Rattle.fed_rules.specs.SiteRecords.{Home, doubt_of}
 use Rattle.federation_laws.proofs.CoordOps.{Matches}
-use Rattle.federation_laws.proofs.SiteMoves.{run_ops, ops_of, length-map, done-ops, IsNth, IsFrom, Move, Same, Going, Ending, finishes, Moves, Fits, access-fits, FitsTicket, ticket-fits, live-run, unsealed-live}
+use Rattle.federation_laws.proofs.SiteMoves.{run_ops, ops_of, length-map, done-ops, IsNth, IsFrom, Move, Same, Going, Ending, finishes, Moves, Fits, access-fits, FitsTicket, ticket-fits, unsealed-live}
+use Rattle.site_history.proofs.Agreement.{live_is}
 
 pub moves_when : (home : Home) (g : Tid) (past : SitePast) (event : SiteEvent) (t : Bool) (a b : SiteHappening) → (t ≡ true → Moves home g past event a) → (t ≡ false → Moves home g past event b) → Moves home g past event (when t a b)
 unfolding when
@@ -159,7 +161,7 @@ two-lines home g past message n number reply act =
 -- an act of a live run
 doing-run : (home : Home) (g : Tid) (past : SitePast) (n : ℕ) (run : Run) → live home past g ≡ Some run → has_ticket run ≡ false → n ≡ done run → Doing home g past n run
 doing-run home g past n run alive t e =
-    let at = live-run (run_of home past g) run alive in
+    let at = live_is (run_of home past g) run alive in
     record {
       unsealed = at.1;
       ticketless = t;
@@ -189,7 +191,7 @@ next_moves : (home : Home) (g : Tid) (past : SitePast) (e n : ℕ) (act : PlainA
 unfolding next_work
 next_moves home g past e n act run alive t q =
     let reply = reply_to home past run act in
-    let at = live-run (run_of home past g) run alive in
+    let at = live_is (run_of home past g) run alive in
     let fit = access-fits (epoch_start home past) (engine_lines past) run act in
     acts_moves home g past e n act reply (Acts g act reply ∷ []) run fit (doing-run home g past n run alive t q)
     (one-line home g past (To.Work g e n act) n reply (Acts g act reply) (Some run) refl at.0) (act-ends g act reply run [] fit)
@@ -204,10 +206,6 @@ first_moves home g past e n act none over up q =
     (record { unsealed = refl; ticketless = refl; before = ap ops_of none; opens = λ k. (over, up); next = q })
     (two-lines home g past (To.Work g e n act) n number reply act) (act-ends g act reply (begun g number) (Begins g number ∷ []) fit)
 
-or-none : (a b : Bool) → (a || b) ≡ false → (a ≡ false) × (b ≡ false)
-or-none true b e = cc
-or-none false b e = (refl, e)
-
 -- an act of the attempt
 pub work_moves : (home : Home) (g : Tid) (past : SitePast) (e n : ℕ) (act : PlainAct) → is_down past ≡ false → Moves home g past (Ev.Give (To.Work g e n act)) (of_work home past g e n act)
 unfolding of_work work_live
@@ -218,14 +216,14 @@ work_moves home g past e n act up =
     (λ none. moves_when home g past _ _ _ _ (λ t. first_moves home g past e n act none over up (eqb-true n 0 (and_parts (e == 0) (n == 0) t).1)) (λ t. unknown_moves home g past message n))
     (λ run alive. moves_when home g past _ _ _ _ (λ t. unknown_moves home g past message n) (λ may.
     moves_when home g past _ _ _ _
-    (λ t. next_moves home g past e n act run alive (or-none (not (is_of_epoch home past e n)) (has_ticket run) (or-none (not (is_of_epoch home past e n) || has_ticket run) (nat_lt 31 n) may).0).1 (eqb-true n (done run) t))
+    (λ t. next_moves home g past e n act run alive (plain_parts (not (is_of_epoch home past e n)) (has_ticket run) (plain_parts (not (is_of_epoch home past e n) || has_ticket run) (nat_lt 31 n) may).0).1 (eqb-true n (done run) t))
     (λ t. repeated_moves home g past message n run alive))))
 
 take-next_moves : (home : Home) (g : Tid) (past : SitePast) (e n : ℕ) (run : Run) → live home past g ≡ Some run → has_ticket run ≡ false → n ≡ done run → Moves home g past (Ev.Give (To.Take g e n)) (next_take home past (To.Take g e n) g n run)
 unfolding next_take
 take-next_moves home g past e n run alive t q =
     let reply = ticket_reply_to home past run in
-    let at = live-run (run_of home past g) run alive in
+    let at = live_is (run_of home past g) run alive in
     let fit = ticket-fits (epoch_start home past) (engine_lines past) run in
     takes_moves home g past e n reply (Takes g reply ∷ []) run fit (doing-run home g past n run alive t q)
     (one-line home g past (To.Take g e n) n reply (Takes g reply) (Some run) refl at.0) (take-ends g reply run fit)

@@ -126,10 +126,6 @@ live-plain home past x g run e = by_test (stops x.answer || comes_up x.answer) r
     by_test true q e = (let none = restored-sealed (start_of home (records home (x ∷ past))).doubtful g in let clash = sym none ∙ e in cc)
     by_test false q e = q
 
-plain-parts : (a b : Bool) → (a || b) ≡ false → (a ≡ false) × (b ≡ false)
-plain-parts true b e = cc
-plain-parts false b e = (refl, e)
-
 -- of another epoch nothing changes
 ops-elsewhere : (home : Home) (past : SitePast) (x : SiteHappening) (g : Tid) (e : ℕ) → (e == epoch home (x ∷ past)) ≡ false → site_ops home (x ∷ past) g e ≡ site_ops home past g e
 ops-elsewhere home past x g e q = ap (λ t. cond t (ops_or (live home (x ∷ past) g) (site_ops home past g e)) (site_ops home past g e)) q

@@ -27,7 +27,8 @@ use Rattle.commit_laws.proofs.SiteShut.{given-up}
 use Rattle.site_history.specs.Accesses.{seals}
 use Rattle.site_history.specs.Records.{IsPrepared}
 use Rattle.federation_laws.proofs.SiteAbout.{Speaks, SealsOnly, IsAbout, sync-records, settling-tid}
-use Rattle.federation_laws.proofs.SiteMoves.{Same, Ending, Says, IsSealing, Moves, others-run, live-next, live-run}
+use Rattle.federation_laws.proofs.SiteMoves.{Same, Ending, Says, IsSealing, Moves, others-run, live-next}
+use Rattle.site_history.proofs.Agreement.{live_is}
 use Rattle.federation_laws.proofs.SiteOperations.{moves_when, moves_pick}
 
 -- a record of another attempt doesn't seal this one
@@ -115,7 +116,7 @@ yes_moves home g past e n run ticket alive known all =
     record {
       heard = refl;
       move = Ending (record {
-        none = own-line g (Seals g (number_of home past run)) (run_of home past g) refl ∙ ap (λ o. live_one (changed (Seals g (number_of home past run)) o)) (live-run (run_of home past g) run alive).0;
+        none = own-line g (Seals g (number_of home past run)) (run_of home past g) refl ∙ ap (λ o. live_one (changed (Seals g (number_of home past run)) o)) (live_is (run_of home past g) run alive).0;
         shut = inl (or_right (is_closed (votes_yes home past g e n run ticket ∷ past) g) _ (ap (λ t. is_some (cond t (Some held) (doubt_of (records home past) g))) (same_tid_self g)));
       });
       says = ((λ own. record { epoch = epoch home past; number = number_of home past run; writes = _; kept = inl refl }), tt);

@@ -25,7 +25,8 @@ use Rattle.fed_rules.specs.SitePast.{SiteHappening, SitePast, live, live_of_tx, 
 use Rattle.fed_rules.specs.SiteRecords.{Home}
 use Rattle.fed_rules.specs.Story.{Story, Happened, AtSite, AtCoordinator, Nowhere, past_of, coord_past, sent_to, sent_from, happens, run_reads}
 use Rattle.rules_laws.specs.Lines as Lines
-pub use Rattle.rules_laws.proofs.Declared.{some-parts, home-again, its-site as home_is-site, local-declared as local_home-declared}
+pub use Rattle.rules_laws.proofs.Declared.{home-again, its-site as home_is-site, local-declared as local_home-declared}
+pub use Rattle.order_laws.proofs.Alike.{some_parts}
 use Rattle.rules_laws.proofs.Lines as Asked
 
 -- what makes an event of the coordinator come
@@ -100,7 +101,7 @@ IsLine scenario story (Nowhere answer) = Unit {0}
 -- an item at a place stands in the list
 pub item-in : {A : Type 0} (xs : List A) (n : ℕ) (x : A) → item_at xs n ≡ Some x → In x xs
 item-in [] n x e = cc
-item-in (y ∷ ys) zero x e = inl (some-parts e)
+item-in (y ∷ ys) zero x e = inl (some_parts e)
 item-in (y ∷ ys) (suc n) x e = inr (item-in ys n x e)
 
 module _ (scenario : Scenario) (story : Story) where

@@ -16,11 +16,10 @@ use Rattle.fed_rules.specs.SitePast.{SitePast, epoch_start, engine_lines, live_o
 use Rattle.fed_rules.specs.SiteRecords.{Home}
 use Rattle.fed_rules.specs.Story.{Story, Happened, AtSite, AtCoordinator, Nowhere, past_of, story_of, with_site, happens, sent_to}
 use Rattle.rules_laws.specs.Lines.{SiteCause, IsLine}
-use Rattle.rules_laws.proofs.Declared.{some-parts}
+use Rattle.order_laws.proofs.Alike.{some_parts, same_tx_alike}
 pub use Rattle.rules_laws.proofs.Declared.{home-again as home_again}
 use Rattle.rules_laws.proofs.Lines.{line_is}
 use Rattle.local_laws.specs.Led.{IsAsked, IsLedLine, IsLed, Allows, AllAllow}
-use Rattle.order_laws.proofs.Alike.{same_tx_alike}
 use Rattle.local_laws.proofs.LiveRuns.{first_where-passes, is_live_of}
 
 -- the live attempt of a transaction is one of its attempts
@@ -85,7 +84,7 @@ asked_by P scenario home story event command = by_command command
 led_at : (P : SiteEvent → Type 0) (scenario : Scenario) (home : Home) (story : Story) (command : Command) (happened : Happened) → home_of scenario home.site ≡ Some home → Allows P story command
     → IsLine scenario story command happened → IsLedAt P scenario home story happened
 led_at P scenario home story command (AtSite at x) d p line = λ same.
-    let is : line.home ≡ home = some-parts (sym line.declared ∙ (ap (home_of scenario) (sym line.here ∙ same_site_alike at home.site same) ∙ d)) in
+    let is : line.home ≡ home = some_parts (sym line.declared ∙ (ap (home_of scenario) (sym line.here ∙ same_site_alike at home.site same) ∙ d)) in
     let both = asked_by P scenario line.home story line.event command p line.cause in
     subst (λ h. IsLedLine P scenario h (past_of h.site story) x) is (record { event = line.event; holds = both.0; asked = both.1; line = line.is_next })
 led_at P scenario home story command (AtCoordinator x) d p line = tt

@@ -4,11 +4,6 @@ use Rattle.std.proofs.lemmas.Bool.{and_parts}
 use Rattle.mdb_base.specs.Words.{Each, each_of, first_where, item_at}
 use Rattle.order_laws.specs.Chains.{In}
 
--- what holds of each member holds of each item
-pub each_in : {A : Type 0} (P : A → Type 0) (xs : List A) → ((x : A) → In x xs → P x) → Each P xs
-each_in P [] f = tt
-each_in P (x ∷ xs) f = (f x (inl refl), each_in P xs (λ y i. f y (inr i)))
-
 pub in_each : {A : Type 0} (P : A → Type 0) (xs : List A) (x : A) → Each P xs → In x xs → P x
 in_each P [] x h i = absurd i
 in_each P (y ∷ ys) x h (inl e) = subst P e h.0

@@ -10,7 +10,8 @@ use Rattle.fed_rules.specs.SiteRecords.{Home}
 use Rattle.fed_rules.specs.Story.{Story, Happened, AtSite, AtCoordinator, Nowhere, past_of, story_of, with_site, happens}
 use Rattle.rules_laws.specs.Lines.{IsLine}
 use Rattle.rules_laws.specs.Pasts.{PastsAreMadeByEvents}
-use Rattle.rules_laws.proofs.Declared.{some-parts, same-site, home-again}
+use Rattle.rules_laws.proofs.Declared.{same-site, home-again}
+use Rattle.order_laws.proofs.Alike.{some_parts}
 use Rattle.rules_laws.proofs.Lines.{line_is}
 
 -- the past of a site with what happens next
@@ -18,7 +19,7 @@ past-more : (scenario : Scenario) (home : Home) (story : Story) (command : Comma
     → past_of home.site story ≡ site_past home events → (more : List SiteEvent) × (with_site home.site happened (past_of home.site story) ≡ site_past home more)
 past-more scenario home story command (AtSite at x) events d line e = by_test (same_site at home.site) refl where
   same_home : same_site at home.site ≡ true → line.home ≡ home
-  same_home q = some-parts (sym line.declared ∙ ap (home_of scenario) (sym line.here ∙ same-site at home.site q) ∙ d)
+  same_home q = some_parts (sym line.declared ∙ ap (home_of scenario) (sym line.here ∙ same-site at home.site q) ∙ d)
 
   by_test : (t : Bool) → same_site at home.site ≡ t → (more : List SiteEvent) × (cond t (x ∷ past_of home.site story) (past_of home.site story) ≡ site_past home more)
   by_test true q = (line.event ∷ events, ap (λ y. y ∷ past_of home.site story) (line.is_next ∙ ap (λ h. site_line h (past_of h.site story) line.event) (same_home q)) ∙ ap (λ past. site_line home past line.event ∷ past) e)

@@ -28,7 +28,7 @@ use Rattle.local_laws.proofs.Stories.{all_allow, led_keeps}
 use Rattle.session_laws.specs.Sessions.{home_from, IsAlone}
 use Rattle.local_laws.proofs.Counted.{counted_local}
 use Rattle.local_laws.proofs.Led.{pasts_led}
-use Rattle.order_laws.proofs.Members.{each_in}
+use Rattle.order_laws.proofs.Lists.{each_from}
 use Rattle.session_laws.proofs.OneSite.{one_site, no_site, one_home}
 use Rattle.local_laws.proofs.OpenRuns.{open_in}
 use Rattle.rules_laws.proofs.RisingLists.{in_rising}
@@ -126,7 +126,7 @@ live_local : (scenario : Scenario) (line : SiteLine) (commands : List Command) �
     → Each (λ tid. is_local (past_at scenario line commands) tid ≡ true) (live scenario (story_of scenario commands) line.site)
 live_local scenario line commands alone own =
     subst (λ h. Each (λ tid. is_local past tid ≡ true) (live_at h story)) (sym (one_home scenario line alone.sites))
-    (each_in (λ tid. is_local past tid ≡ true) (live_at (Some (home_from scenario line)) story) listed)
+    (each_from (λ tid. is_local past tid ≡ true) (live_at (Some (home_from scenario line)) story) listed)
   where
     story : Story
     story = story_of scenario commands

@@ -95,7 +95,7 @@ pub record IsLiveHere (home : Home) (past : SitePast) (tid : Tid) (run : Run) : 
   pub live : IsLive (epoch_start home past) (engine_lines past) tid run
   pub doubt : doubt_of (records home past) tid ≡ None
 
-live_is : (o : Option Run) (run : Run) → live_one o ≡ Some run → (o ≡ Some run) × (run.sealed ≡ None)
+pub live_is : (o : Option Run) (run : Run) → live_one o ≡ Some run → (o ≡ Some run) × (run.sealed ≡ None)
 live_is None run e = cc
 live_is (Some r) run e = by_sealed r.sealed refl e
   where

@@ -1,5 +1,6 @@
 -- Each line of the coordinator: it is at its event, begins only at a `go`, counts only what may count, and asks for a vote only where all
 -- operations of a site are done.
+use Rattle.coord_laws.proofs.Rules.{all_sending, some_sending, IsSending}
 use Rattle.std.proofs.Common.{◌≡◌, ℕ, Bool, true, false, cond, ◌&&◌, ◌||◌, Option, Some, None, List, [], ◌∷◌, ◌++◌, drop, map, take, refl, sym, ◌∙◌, subst}
 use Rattle.std.specs.Prelude.{is_none, not, nat_le, length, nat_lt}
 use Rattle.mdb_base.specs.declared.acts.Step.{Step}
@@ -146,20 +147,6 @@ step_pick : {A : Type 0} (past : CoordPast) (event : CoordEvent) (o : Option A) 
 unfolding pick
 step_pick past event None none some p q = p
 step_pick past event (Some a) none some p q = q a
-
--- an answer with which operations are sent
-abbrev pub IsSending : Answer → Type 0
-IsSending Say.Only = Unit {0}
-IsSending Say.Defers = Unit {0}
-IsSending answer = ⊥
-
-some_sending : (held : List Due) → IsSending (defers_some held)
-some_sending [] = tt
-some_sending (due ∷ held) = tt
-
-all_sending : (held sent : List Due) → IsSending (defers_all held sent)
-all_sending held [] = some_sending held
-all_sending held (due ∷ sent) = tt
 
 step_sent : (past : CoordPast) (event : CoordEvent) (tid : Tid) (answer : Answer) (dues : List Due)
     → IsSending answer → MayCount past event

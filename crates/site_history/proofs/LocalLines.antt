@@ -79,7 +79,7 @@ good_begin home past tid k fresh =
     (λ running e. still home past (Ev.Begin tid) (Say.Running running) [] k refl))
     (λ committed e. still home past (Ev.Begin tid) (Say.Committed committed) [] k refl)
 
-act_plain : (tid : Tid) (reply : Reply) (act : PlainAct) → (stops (act_answer tid reply act) || comes_up (act_answer tid reply act)) ≡ false
+pub act_plain : (tid : Tid) (reply : Reply) (act : PlainAct) → (stops (act_answer tid reply act) || comes_up (act_answer tid reply act)) ≡ false
 act_plain tid (Reply_is.Wait by) act = refl
 act_plain tid (Reply_is.Refused (Because.Die by)) act = refl
 act_plain tid (Reply_is.Refused (Because.Late by)) act = refl
@@ -102,7 +102,7 @@ good_act home past tid act k =
     one_live home past (Ev.Act tid act) (act_answer tid reply act) [] (Acts tid act reply) run k (act_plain tid reply act) here
     (run, (here.live, refl)) (acted_open reply act run here.live.1))
 
-refusal_plain : (why : Why) → (stops (refusal_answer why) || comes_up (refusal_answer why)) ≡ false
+pub refusal_plain : (why : Why) → (stops (refusal_answer why) || comes_up (refusal_answer why)) ≡ false
 refusal_plain (Because.Invalid by key) = refl
 refusal_plain (Because.Die by) = refl
 refusal_plain (Because.Late by) = refl

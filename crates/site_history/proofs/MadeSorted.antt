@@ -17,7 +17,8 @@ use Rattle.fed_rules.specs.Story.{Story, Happened, AtSite, AtCoordinator, Nowher
 use Rattle.site_history.specs.Events.{AreSorted}
 use Rattle.site_history.specs.Stories.{EventsAreSorted, IsGiven, is_local}
 use Rattle.site_history.proofs.AsSealed.{append_in}
-use Rattle.rules_laws.proofs.Declared.{home-again, same-site, some-parts}
+use Rattle.rules_laws.proofs.Declared.{home-again, same-site}
+use Rattle.order_laws.proofs.Alike.{some_parts}
 use Rattle.site_history.proofs.SortedStories.{IsGood, IsVoteAsked, good_happens, sorted_story}
 
 -- the events that make the past of a site so far
@@ -61,7 +62,7 @@ past_more scenario home story (AtSite at x) declared g m = by_test (same_site at
     by_test true q =
         let (other, event, found, is, sorted, given) = g.sorted in
         let same : at ≡ home.site = same-site at home.site q in
-        let one : other ≡ home = some-parts (sym found ∙ ap (home_of scenario) same ∙ declared) in
+        let one : other ≡ home = some_parts (sym found ∙ ap (home_of scenario) same ∙ declared) in
         let line : x ≡ site_line home (past_of home.site story) event =
         is ∙ ap (λ h. site_line h (past_of at story) event) one ∙ ap (λ s. site_line home (past_of s story) event) same in
         record {

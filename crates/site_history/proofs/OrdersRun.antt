@@ -1,4 +1,5 @@
 -- Runs that are serial, the last one first, as attempts one after another, the first one first.
+use Rattle.order_laws.proofs.Reversed.{reverse_more}
 use Rattle.std.proofs.Common.{◌≡◌, ℕ, ◌<◌, ◌⊎◌, Some, List, [], ◌∷◌, ◌++◌, map, reverse, refl, sym, ap, ◌∙◌, subst, inl, inr}
 use Rattle.std.proofs.lemmas.List.{reverse-append}
 use Rattle.mdb_base.specs.declared.names.Tid.{Tid}
@@ -13,9 +14,6 @@ use Rattle.fed_rules.specs.SerialRuns.{HasLowerTicket, IsSerial, ReadsAlone, Tic
 use Rattle.site_history.specs.Records.{IsPrepared}
 use Rattle.site_history.specs.SiteOrders.{SiteSerial, table_after}
 use Rattle.site_history.proofs.AsSealed.{in_append, in_map}
-
-pub reverse_more : {A : Type 0} (x : A) (xs : List A) → reverse (x ∷ xs) ≡ reverse xs ++ x ∷ []
-reverse_more x xs = reverse-append (x ∷ []) xs
 
 pub in_reverse : {A : Type 0} (a : A) (xs : List A) → In a (reverse xs) → In a xs
 in_reverse a [] i = i

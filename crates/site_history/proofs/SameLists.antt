@@ -1,4 +1,5 @@
 -- Runs of falling numbers and installs of falling numbers that are the same, whichever way they were listed, are one list.
+use Rattle.engine_laws.proofs.Rows.{look_up_with_rows, look_up_with_row, after_puts, after_with_row}
 use Rattle.std.proofs.Common.{◌≡◌, ◌<◌, ◌≤◌, ◌⊎◌, Bool, true, false, cond, Option, Some, None, List, [], ◌∷◌, map, refl, sym, ap, ap₂, ◌∙◌, inl, inr, arith, ltb-true, ltb-false}
 use Rattle.std.specs.Prelude.{nat_lt}
 use Rattle.mdb_base.specs.declared.names.Key.{Key}
@@ -15,7 +16,6 @@ use Rattle.fed_rules.specs.declared.records.SiteRecord.TheVariants.{Setup, Start
 use Rattle.fed_rules.specs.Runs.{Run, after, number, puts_of, table_of, written}
 use Rattle.fed_rules.specs.SerialRuns.{NumbersFall}
 use Rattle.fed_rules.specs.SiteRecords.{Held, Install, by_number, doubt_of, due_installs, install_held, installs, rows_after}
-use Rattle.engine_laws.proofs.Rows.{after_puts, after_with_row}
 use Rattle.engine_laws.proofs.Tables.{after_same}
 use Rattle.site_history.proofs.AsSealed.{HasImage}
 use Rattle.site_history.proofs.Installs.{tids_of}
@@ -163,24 +163,6 @@ same_strict (r ∷ rs) (x ∷ xs) falls strict to from =
 pub same_list : (runs : List Run) (xs : List Install) → NumbersFall runs → InstallsFall xs → Distinct (tids_of xs)
     → ((run : Run) → In run runs → In (install_of run) xs) → ((i : Install) → In i xs → HasRun runs i) → map install_of runs ≡ xs
 same_list runs xs falls most apart to from = same_strict runs xs falls (strictly runs xs falls from most apart) to from
-
--- rows are what they write on a table of zeros
-look_up_written : (puts : List Put) (key : Key) → look_up puts key ≡ after (written puts) (λ k. 0) key
-look_up_written [] key = refl
-look_up_written (put ∷ puts) key = ap (cond (same_key put.key key) put.value) (look_up_written puts key)
-
-look_up_with_row : (row : Put) (puts : List Put) (key : Key)
-    → look_up (with_row row puts) key ≡ cond (same_key row.key key) row.value (look_up puts key)
-look_up_with_row row puts key =
-    look_up_written (with_row row puts) key ∙ after_with_row row puts (λ k. 0) key
-    ∙ ap (cond (same_key row.key key) row.value) (sym (look_up_written puts key))
-
-look_up_with_rows : (puts others : List Put) (key : Key)
-    → look_up (with_rows puts others) key ≡ after (written puts) (look_up others) key
-look_up_with_rows [] others key = refl
-look_up_with_rows (put ∷ puts) others key =
-    look_up_with_row put (with_rows puts others) key
-    ∙ ap (cond (same_key put.key key) put.value) (look_up_with_rows puts others key)
 
 -- the rows that the installs of runs leave give the table that the runs leave
 pub rows_of_runs : (items : List Put) (runs : List Run) (key : Key)

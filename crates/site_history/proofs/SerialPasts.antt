@@ -1,4 +1,5 @@
 -- The committed attempts of a site are in a serial order, over all its stops and restarts.
+use Rattle.order_laws.proofs.Lists.{each_from}
 use Rattle.std.proofs.Common.{◌≡◌, ℕ, ◌<◌, ◌⊎◌, Bool, true, false, cond, ◌&&◌, Option, Some, None, List, [], ◌∷◌, map, reverse, refl, sym, ap, ◌∙◌, subst, inl, inr}
 use Rattle.std.specs.Prelude.{is_some}
 use Rattle.std.proofs.lemmas.Bool.{and_from, and_parts}
@@ -59,10 +60,6 @@ tids_of_runs : (runs : List Run) → tids_of (map install_of runs) ≡ map (λ r
 tids_of_runs [] = refl
 tids_of_runs (run ∷ runs) = ap (λ tids. run.tid ∷ tids) (tids_of_runs runs)
 
-each_in : {A : Type 0} (P : A → Type 0) (xs : List A) → ((x : A) → In x xs → P x) → Each P xs
-each_in P [] f = tt
-each_in P (x ∷ xs) f = (f x (inl refl), each_in P xs (λ y i. f y (inr i)))
-
 -- serial runs that are these installs give a serial order
 serial_order : (home : Home) (past : SitePast) (runs : List Run) (xs : List Install) → BindOnce (records home past)
     → map install_of runs ≡ xs → Distinct (tids_of xs) → IsSerial (look_up home.items) runs → TicketsFall runs
@@ -70,13 +67,13 @@ serial_order : (home : Home) (past : SitePast) (runs : List Run) (xs : List Inst
     → IsSerialOrder home past (reverse (tids_of xs)) (rows_after home.items xs)
 serial_order home past runs xs once same distinct serial falls member =
     let order : reverse (tids_of xs) ≡ reverse (map (λ run. run.tid) runs) = ap reverse (ap tids_of (sym same) ∙ tids_of_runs runs) in
-    let had = each_in (λ run. run.acts ≡ acts_at home past run.tid) runs (λ run i. (member run i).had) in
+    let had = each_from (λ run. run.acts ≡ acts_at home past run.tid) runs (λ run i. (member run i).had) in
     record {
       distinct = distinct_reverse (tids_of xs) distinct;
       rising = subst (λ tids. (a b : Tid) (j k : ℕ) → Before tids a b → IsPrepared (records home past) a j
           → IsPrepared (records home past) b k → j < k) (sym order)
           (order_rising (records home past) runs falls
-          (each_in (HasTicketOf (records home past)) runs
+          (each_from (HasTicketOf (records home past)) runs
           (λ run i. member_ticket (acts_at home past) (records home past) run once (member run i))));
       alone = subst (SiteSerial (acts_at home past) (look_up home.items)) (sym order)
           (order_serial (acts_at home past) (look_up home.items) runs had serial);

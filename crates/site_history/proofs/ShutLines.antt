@@ -135,7 +135,7 @@ new_shut home past local event calls lines tid e number ticket writes (settles_h
     none_new (Stops cut ∷ cs) s i = s
 
 -- a line that neither stops the site nor brings it up, as the answer tells
-plain_parts : (a b : Bool) → (a || b) ≡ false → (a ≡ false) × (b ≡ false)
+pub plain_parts : (a b : Bool) → (a || b) ≡ false → (a ≡ false) × (b ≡ false)
 plain_parts true b e = cc
 plain_parts false b e = (refl, e)
 

@@ -1,4 +1,5 @@
 -- What newer records say behind older ones, and behind a Checkpoint of these.
+use Rattle.site_history.proofs.Restarts.{each_by_tid}
 use Rattle.std.proofs.Common.{◌≡◌, ℕ, ◌⊎◌, max, Bool, true, false, cond, Option, Some, None, List, [], ◌∷◌, ◌++◌, refl, sym, ap, ap₂, ◌∙◌, subst, inl, inr, arith, ltb-true, ltb-false, lt-ltb, le-ltb}
 use Rattle.std.specs.Prelude.{nat_lt}
 use Rattle.mdb_base.specs.declared.names.Tid.{Tid}
@@ -131,10 +132,6 @@ found_doubts older (t ∷ tids) = by_held (doubt_of older t) refl (found_doubts 
     by_held : (o : Option Held) → doubt_of older t ≡ o → AreDoubts older (found (doubt_of older) tids) → AreDoubts older (with_some o (found (doubt_of older) tids))
     by_held None e rest = rest
     by_held (Some held) e rest = (ap (doubt_of older) (doubt_tid older t held e) ∙ e, rest)
-
-pub each_by_tid : (P : Held → Type 0) (helds : List Held) → Each P helds → Each P (by_tid helds)
-each_by_tid P [] h = tt
-each_by_tid P (held ∷ helds) h = each_inserted P held_before held (by_tid helds) h.0 (each_by_tid P helds h.1)
 
 pub among_inserted : (P : Held → Type 0) (held : Held) (helds : List Held) → P held ⊎ Among P helds → Among P (inserted held_before held helds)
 among_inserted P held [] (inl p) = inl p

@@ -15,10 +15,10 @@ use Rattle.fed_rules.specs.SiteRecords.{Held, doubt_of, prepared_tids, doubts, b
 use Rattle.fed_rules.specs.SiteSums.{carried}
 use Rattle.engine_laws.specs.Laws.{EachOnce}
 use Rattle.rules_laws.proofs.EachAttempt.{each_append, each_kept, each_of_distinct}
-use Rattle.site_history.proofs.Restarts.{once_doubts}
+use Rattle.site_history.proofs.Restarts.{once_doubts, each_by_tid}
 use Rattle.site_history.proofs.Starts.{doubt_tid, doubt_among}
 use Rattle.sum_laws.specs.Sums.{PreparesNoneAgain}
-use Rattle.sum_laws.proofs.Behind.{AreDoubts, carried_same, doubt_behind, each_by_tid, found_doubts}
+use Rattle.sum_laws.proofs.Behind.{AreDoubts, carried_same, doubt_behind, found_doubts}
 
 -- none behind stands before
 abbrev pub AreSorted : List Held → Type 0

@@ -1,4 +1,5 @@
 -- At a site installs come in order: whichever is installed has a greater number than those before that wrote one of its keys.
+use Rattle.engine_laws.proofs.Runs.{number_is, committed_is}
 use Rattle.std.proofs.Common.{◌≡◌, ℕ, ◌<◌, ◌≤◌, ◌⊎◌, Bool, true, false, cond, Option, Some, None, List, [], ◌∷◌, ◌++◌, refl, sym, ap, ◌∙◌, subst, inl, inr, arith}
 use Rattle.std.specs.Prelude.{nat_lt}
 use Rattle.mdb_base.specs.declared.names.Tid.{Tid}
@@ -22,7 +23,6 @@ use Rattle.fed_rules.specs.SiteRecords.{Home, Held, Install, by_number, doubt_of
 use Rattle.engine_laws.proofs.ByNumber.{StaysClear, is_later}
 use Rattle.engine_laws.proofs.EachRule.{sound, placed}
 use Rattle.engine_laws.proofs.Restored.{rows_apart}
-use Rattle.engine_laws.proofs.Runs.{committed_is}
 use Rattle.engine_laws.proofs.Sound.{IsApart}
 use Rattle.engine_laws.proofs.Stops.{puts_clear}
 use Rattle.site_history.specs.Lines.{Agrees}
@@ -101,9 +101,6 @@ held_here : (start : Runs.Start) (lines : List EngineLine) (rs : List SiteRecord
     → ((t : Tid) → Agrees (doubt_of rs t) (run_at start lines t)) → doubt_of rs tid ≡ Some held → IsHeldAt start lines tid held
 held_here start lines rs tid held agrees e =
     held_at start lines tid held (run_at start lines tid) refl (subst (λ o. Agrees o (run_at start lines tid)) e (agrees tid))
-
-run_number : (run : Run) (n : ℕ) → run.sealed ≡ Some n → number run ≡ n
-run_number run n e = ap (λ o. or_else o 0) e
 
 -- more committed runs
 since_more : (start : Runs.Start) (lines more : List EngineLine) (is : List Install)
@@ -222,7 +219,7 @@ commit_orderly rs start lines tid mine w o doubt = record {
   };
   since = subst (λ h. Each (IsSince start more) (install_held h (installs rs))) (sym doubt)
       (each_inserted (IsSince start more) (λ (a b : Install). nat_lt b.number a.number) (due_install mine) (installs rs)
-      (inr (h.run, subst (In h.run) (sym is) (inserted_in is_later h.run h.run (committed start lines) (inl refl)), run_number h.run mine.number h.sealed, sym h.writes))
+      (inr (h.run, subst (In h.run) (sym is) (inserted_in is_later h.run h.run (committed start lines) (inl refl)), number_is h.run mine.number h.sealed, sym h.writes))
       (since_more start lines more (installs rs)
       (λ r j. subst (In r) (sym is) (inserted_in is_later h.run r (committed start lines) (inr j))) o.since));
 }
