@@ -1,5 +1,5 @@
 -- Declared sites and participants: each stands among the others once, with its home, under a number greater than the coordinator's.
-use Rattle.std.proofs.Common.{◌≡◌, ℕ, zero, suc, ◌<◌, ◌⊎◌, ◌||◌, Bool, true, false, cond, not, nat_lt, Some, None, List, [], ◌∷◌, inl, inr, refl, sym, ap, subst, ◌∙◌, arith, eq-eqb, leb-true}
+use Rattle.std.proofs.Common.{◌≡◌, ℕ, zero, suc, ◌<◌, ◌⊎◌, ◌||◌, Bool, true, false, cond, not, nat_lt, Some, List, [], ◌∷◌, inl, inr, refl, sym, ap, subst, ◌∙◌, arith, eq-eqb, leb-true}
 use Rattle.std.proofs.lemmas.Bool.{and_parts}
 use Rattle.mdb_base.specs.declared.names.SiteId.{SiteId}
 use Rattle.mdb_base.specs.Names.{same_site}
@@ -9,7 +9,6 @@ use Rattle.order_laws.specs.Chains.{In}
 use Rattle.order_laws.proofs.Lists.{among_weaker, map_among}
 use Rattle.order_laws.proofs.Names.{same_site_alike, same_site_self}
 use Rattle.fed_rules.specs.declared.answers.Answer.TheVariants as Say
-use Rattle.fed_rules.specs.declared.commands.Command.{Command}
 use Rattle.fed_rules.specs.declared.events.CoordEvent.{CoordEvent}
 use Rattle.fed_rules.specs.declared.events.SiteEvent.{SiteEvent}
 use Rattle.fed_rules.specs.declared.scenario.ItemLine.{ItemLine}
@@ -18,9 +17,8 @@ use Rattle.fed_rules.specs.declared.scenario.SiteLine.{SiteLine}
 use Rattle.fed_rules.specs.Plans.{IsScenario, is_between, all_differ, one_site}
 use Rattle.fed_rules.specs.Scenarios.{home_in, home_of, items_of, protocols_in, protocols, sites}
 use Rattle.fed_rules.specs.SiteRecords.{Home}
-use Rattle.fed_rules.specs.Story.{Story, Happened, AtSite, AtCoordinator, Nowhere, past_of, with_site, at_site, on_site, on_actor, happens, story_of}
+use Rattle.fed_rules.specs.Story.{Story, Nowhere, at_site, on_site, on_actor}
 use Rattle.commit_laws.proofs.Declared.{is-declared}
-use Rattle.commit_laws.proofs.Links.{Linked, linked}
 
 -- a declared site is listed
 pub listed : (scenario : Scenario) (home : Home) → home_of scenario home.site ≡ Some home → In home.site (sites scenario)

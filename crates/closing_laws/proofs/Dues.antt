@@ -9,7 +9,7 @@ use Rattle.mdb_base.specs.declared.names.Tid.{Tid}
 use Rattle.mdb_base.specs.declared.replies.Reply.TheVariants as Reply_is
 use Rattle.mdb_base.specs.Names.{same_site}
 use Rattle.mdb_base.specs.Programs.{plain_act}
-use Rattle.mdb_base.specs.Words.{those, found, how_many, some_of, item_at}
+use Rattle.mdb_base.specs.Words.{found, how_many, some_of, item_at}
 use Rattle.mdb_base.proofs.Words.{cond-true, cond-false}
 use Rattle.order_laws.proofs.Names.{same_site_alike, same_site_self}
 use Rattle.fed_rules.specs.declared.messages.Due.{Due}

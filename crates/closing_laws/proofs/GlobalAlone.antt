@@ -4,16 +4,15 @@ use Rattle.std.proofs.lemmas.Bool.{lt-leb}
 use Rattle.mdb_base.specs.declared.acts.Step.{Step}
 use Rattle.mdb_base.specs.declared.names.SiteId.{SiteId}
 use Rattle.mdb_base.specs.declared.names.Tid.{Tid}
-use Rattle.mdb_base.specs.declared.names.Tx.{Tx}
 use Rattle.mdb_base.specs.Names.{same_site, same_tx}
 use Rattle.mdb_base.specs.Programs.{IsProgram}
-use Rattle.mdb_base.specs.Words.{Each, Among, those, first_where, item_at, map_some}
+use Rattle.mdb_base.specs.Words.{Each, Among, those, first_where, item_at}
 use Rattle.mdb_base.proofs.ListLaws.{each_map}
 use Rattle.mdb_base.proofs.NameLaws.{same_tid-refl}
 use Rattle.mdb_base.proofs.Words.{when-false, cond-true, cond-false}
 use Rattle.presumptions.specs.declared.Participant.{Participant}
 use Rattle.order_laws.specs.Chains.{In}
-use Rattle.order_laws.proofs.Lists.{each_at, each_from, those_in, is_among, first_where_some}
+use Rattle.order_laws.proofs.Lists.{each_at, each_from, those_in, is_among}
 use Rattle.order_laws.proofs.Names.{same_site_alike, same_site_self}
 use Rattle.fed_rules.specs.declared.answers.Answer.TheVariants as Say
 use Rattle.fed_rules.specs.declared.commands.Command.{Command}
@@ -22,7 +21,6 @@ use Rattle.fed_rules.specs.declared.events.CoordEvent.{CoordEvent}
 use Rattle.fed_rules.specs.declared.events.CoordEvent.TheVariants as Ev
 use Rattle.fed_rules.specs.declared.messages.Due.{Due}
 use Rattle.fed_rules.specs.declared.scenario.Scenario.{Scenario}
-use Rattle.fed_rules.specs.declared.scenario.TxLine.{TxLine}
 use Rattle.fed_rules.specs.Closing.{last_sends, deliver_all, is_done_at}
 use Rattle.fed_rules.specs.Coord.{coord_line, answered, message_of, send_due, all_outstanding, of_go}
 use Rattle.fed_rules.specs.CoordPast as Coordinator
@@ -30,9 +28,8 @@ use Rattle.fed_rules.specs.CoordPast.{CoordHappening, CoordPast, Undecided, Gone
 use Rattle.fed_rules.specs.CoordRecords.{coord_frame, committed_of}
 use Rattle.fed_rules.specs.EngineLines.{IsRight}
 use Rattle.fed_rules.specs.Happenings.{quiet, tripped}
-use Rattle.fed_rules.specs.Plans.{IsScenario}
 use Rattle.fed_rules.specs.Runs.{Start, EngineLine, Run, run_at, committed, aborted}
-use Rattle.fed_rules.specs.Scenarios.{home_of, home_at, local_home, protocols, program_of_line, program_of, transaction, global_line, global_program, policy}
+use Rattle.fed_rules.specs.Scenarios.{home_of, home_at, local_home, protocols, global_program, policy}
 use Rattle.fed_rules.specs.Site.{next_number, is_over}
 use Rattle.fed_rules.specs.SitePast.{SitePast, records, epoch_start, engine_lines, live_one, live, is_closed}
 use Rattle.fed_rules.specs.SitePast as Site_past

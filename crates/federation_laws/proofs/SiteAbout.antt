@@ -2,13 +2,10 @@
 use Rattle.site_history.proofs.LocalLines.{refusal_plain, act_plain}
 use Rattle.std.proofs.Common.{◌≡◌, ℕ, Bool, true, false, cond, ◌||◌, Option, Some, None, List, [], ◌∷◌, refl, ap}
 use Rattle.mdb_base.specs.declared.acts.PlainAct.{PlainAct}
-use Rattle.mdb_base.specs.declared.acts.PlainAct.TheVariants.{Read, Write}
 use Rattle.mdb_base.specs.declared.names.Tid.{Tid}
 use Rattle.mdb_base.specs.declared.names.Tx.{Tx}
 use Rattle.mdb_base.specs.declared.replies.Reply.{Reply}
-use Rattle.mdb_base.specs.declared.replies.Reply.TheVariants as Reply_is
 use Rattle.mdb_base.specs.declared.replies.Why.{Why}
-use Rattle.mdb_base.specs.declared.replies.Why.TheVariants as Because
 use Rattle.mdb_base.specs.Words.{Each, when, pick}
 use Rattle.presumptions.specs.declared.Decision.{Decision}
 use Rattle.presumptions.specs.declared.Decision.TheVariants as Decided
@@ -26,7 +23,7 @@ use Rattle.fed_rules.specs.declared.records.SiteRecord.TheVariants as Rec
 use Rattle.fed_rules.specs.Disk.{Disk, Call, Append, Sync, after_call, after_calls}
 use Rattle.fed_rules.specs.Happenings.{stops, comes_up}
 use Rattle.fed_rules.specs.Runs.{EngineLine, Run, tid_of}
-use Rattle.fed_rules.specs.Site.{with_lines, of_begin, act_answer, of_act, refusal_answer, seals_local, of_commit, of_abort, of_fate, did, unknown, first_work, next_work, next_take, repeated, work_live, of_work, take_live, of_take, votes_again, votes_no, votes_yes, seals_global, prepare_live, of_prepare, ack_of, settling_line, settles, unheld, of_decide, of_ask, of_drop}
+use Rattle.fed_rules.specs.Site.{with_lines, of_begin, of_act, seals_local, of_commit, of_abort, of_fate, did, unknown, first_work, next_work, next_take, repeated, work_live, of_work, take_live, of_take, votes_again, votes_no, votes_yes, seals_global, prepare_live, of_prepare, ack_of, settling_line, settles, unheld, of_decide, of_ask, of_drop}
 use Rattle.fed_rules.specs.SitePast.{SiteHappening, SitePast, disk, epoch}
 use Rattle.fed_rules.specs.SiteRecords.{Home, site_frame, epoch_of}
 

@@ -26,7 +26,7 @@ use Rattle.site_history.proofs.AsSealed.{IsRunOf, all_in, as_sealed, as_was, in_
 use Rattle.site_history.proofs.Backing.{IsBacked, IsKeptAs, IsKeptRun}
 use Rattle.site_history.proofs.EpochLines.{epoch_of_lines}
 use Rattle.site_history.proofs.Installs.{installs_distinct}
-use Rattle.site_history.proofs.Records.{HasNumber, doubt_number, number_most, prepared_once}
+use Rattle.site_history.proofs.Records.{HasNumber, doubt_number, number_most}
 use Rattle.site_history.proofs.SameLists.{install_of, installs_fall, rows_of_runs, same_list}
 use Rattle.site_history.proofs.Starts.{HasRisingWrites, doubt_tid, restored_doubt, restored_held, start_agrees}
 use Rattle.mdb_base.proofs.ListLaws.{each_inserted}

@@ -1,19 +1,18 @@
 -- Runs of falling numbers and installs of falling numbers that are the same, whichever way they were listed, are one list.
-use Rattle.engine_laws.proofs.Rows.{look_up_with_rows, look_up_with_row, after_puts, after_with_row}
+use Rattle.engine_laws.proofs.Rows.{look_up_with_rows, after_puts}
 use Rattle.std.proofs.Common.{◌≡◌, ◌<◌, ◌≤◌, ◌⊎◌, Bool, true, false, cond, Option, Some, None, List, [], ◌∷◌, map, refl, sym, ap, ap₂, ◌∙◌, inl, inr, arith, ltb-true, ltb-false}
 use Rattle.std.specs.Prelude.{nat_lt}
 use Rattle.mdb_base.specs.declared.names.Key.{Key}
 use Rattle.mdb_base.specs.declared.names.Tid.{Tid}
 use Rattle.mdb_base.specs.declared.rows.Put.{Put}
-use Rattle.mdb_base.specs.Names.{same_key}
-use Rattle.mdb_base.specs.Rows.{look_up, with_row, with_rows}
+use Rattle.mdb_base.specs.Rows.{look_up}
 use Rattle.mdb_base.specs.Words.{Each}
 use Rattle.mdb_base.proofs.ListLaws.{each_among, each_inserted, each_map}
 use Rattle.order_laws.specs.Chains.{In, Distinct}
 use Rattle.presumptions.specs.declared.Decision.TheVariants as Decided
 use Rattle.fed_rules.specs.declared.records.SiteRecord.{SiteRecord}
 use Rattle.fed_rules.specs.declared.records.SiteRecord.TheVariants.{Setup, Start, Prepared, Ended, Local, Checkpoint}
-use Rattle.fed_rules.specs.Runs.{Run, after, number, puts_of, table_of, written}
+use Rattle.fed_rules.specs.Runs.{Run, number, puts_of, table_of}
 use Rattle.fed_rules.specs.SerialRuns.{NumbersFall}
 use Rattle.fed_rules.specs.SiteRecords.{Held, Install, by_number, doubt_of, due_installs, install_held, installs, rows_after}
 use Rattle.engine_laws.proofs.Tables.{after_same}

@@ -5,7 +5,7 @@ use Rattle.std.specs.Prelude.{nat_lt}
 use Rattle.mdb_base.specs.declared.names.Tid.{Tid}
 use Rattle.mdb_base.specs.declared.names.Tx.{Tx}
 use Rattle.mdb_base.specs.Names.{same_tid}
-use Rattle.mdb_base.specs.Words.{Each, or_else, inserted}
+use Rattle.mdb_base.specs.Words.{Each, inserted}
 use Rattle.mdb_base.proofs.ListLaws.{each_inserted, each_map}
 use Rattle.mdb_base.proofs.NameLaws.{same_tid-refl, same_tid-sym}
 use Rattle.order_laws.specs.Chains.{In}
