@@ -17,7 +17,7 @@ use Rattle.fed_rules.specs.Closing.{by_number, deliver_all, is_done, last_sends,
 use Rattle.fed_rules.specs.Plans.{is_between, is_in_place, is_transaction, one_transaction}
 use Rattle.fed_rules.specs.Story.{story_of}
 use Rattle.closing_laws.specs.Bound.{FinishingIsShort}
-use Rattle.closing_laws.proofs.Bound.{give_places, taken_many}
+use Rattle.closing_laws.proofs.SentPlaces.{give_places, taken_many}
 use Rattle.closing_laws.proofs.Lengths.{adds_over, few_numbers, length_inserted, length_map, length_those, numbers_differ, sum_alone}
 
 steps_many : (tx : Tx) (steps : List Step) (commands : List Command) → length (steps_alone tx steps commands) ≡ length steps + length commands

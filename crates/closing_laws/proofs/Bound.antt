@@ -1,161 +1,34 @@
 -- Closing makes at most 20 commands for each one before it, and 252 more: a `go` may leave an attempt that is given up and ended, and another
 -- command at a site a run that is cleared and a doubt that is asked about.
-use Rattle.std.proofs.Common.{◌≡◌, ℕ, suc, ◌+◌, ◌*◌, ◌<◌, ◌≤◌, ◌⊎◌, Bool, true, false, cond, not, is_some, Option, Some, None, List, [], ◌∷◌, map, length, inl, inr, refl, sym, ap, subst, ◌∙◌, arith, nat_lt, eq-eqb}
-use Rattle.std.proofs.lemmas.Bool.{and_parts, leb-true}
-use Rattle.std.specs.Prelude.{nat_le}
+use Rattle.std.proofs.Common.{◌≡◌, ℕ, suc, ◌+◌, ◌*◌, ◌≤◌, Bool, true, false, cond, not, is_some, Option, Some, None, List, [], ◌∷◌, map, length, refl, sym, ap, subst, ◌∙◌, arith}
 use Rattle.mdb_base.specs.declared.names.SiteId.{SiteId}
 use Rattle.mdb_base.specs.declared.names.Tid.{Tid}
-use Rattle.mdb_base.specs.Words.{Among, found, how_many, inserted, those}
+use Rattle.mdb_base.specs.Words.{found, how_many, those}
 use Rattle.presumptions.specs.declared.Participant.{Participant}
 use Rattle.order_laws.specs.Chains.{Distinct, In}
-use Rattle.order_laws.proofs.Lists.{among_is, among_map, each_of_at}
 use Rattle.fed_rules.specs.declared.commands.Command.{Command}
 use Rattle.fed_rules.specs.declared.commands.Command.TheVariants as Cmd
 use Rattle.fed_rules.specs.declared.commands.Place.{Place}
-use Rattle.fed_rules.specs.declared.events.CoordEvent.{CoordEvent}
-use Rattle.fed_rules.specs.declared.events.CoordEvent.TheVariants as Coord_event
-use Rattle.fed_rules.specs.declared.messages.FromSite.{FromSite}
-use Rattle.fed_rules.specs.declared.messages.Sent.{Sent}
 use Rattle.fed_rules.specs.declared.scenario.Scenario.{Scenario}
-use Rattle.fed_rules.specs.declared.scenario.SiteLine.{SiteLine}
 use Rattle.fed_rules.specs.Attempts.{each_attempt}
 use Rattle.fed_rules.specs.Closing.{actors, ask_site, bring_up, clear, clear_site, closed, deliver, disarm, end_known, for_each, give_up, in_doubt_at, inquire, known, last_sends, live, live_at, one, send_again, take_answers, taken, undecided}
-use Rattle.fed_rules.specs.Coord.{coord_line}
 use Rattle.fed_rules.specs.CoordPast as Coordinator
 use Rattle.fed_rules.specs.CoordPast.{CoordPast, begun_tids, is_known, is_open, participants, standing}
-use Rattle.fed_rules.specs.CoordRecords.{named}
 use Rattle.fed_rules.specs.Happenings.{is_down}
-use Rattle.fed_rules.specs.Plans.{IsScenario, is_between, one_site}
+use Rattle.fed_rules.specs.Plans.{IsScenario}
 use Rattle.fed_rules.specs.Runs.{Run, attempts, is_sealed, run_at, unended}
-use Rattle.fed_rules.specs.Scenarios.{home_of, policy, protocols, protocols_in, sites}
+use Rattle.fed_rules.specs.Scenarios.{home_of, protocols, sites}
 use Rattle.fed_rules.specs.SitePast.{SitePast, engine_lines, epoch_start, is_local, records, trip}
 use Rattle.fed_rules.specs.SiteRecords.{Home, Held, doubt_of, doubts, prepared_tids}
-use Rattle.fed_rules.specs.Story.{Story, Happened, AtSite, AtCoordinator, Nowhere, coord_past, happens, past_of, place_from, places_of, sent_from, sent_to, story_of}
-use Rattle.rules_laws.specs.Lines.{CoordCause, IsLine}
+use Rattle.fed_rules.specs.Story.{Story, coord_past, past_of, story_of}
 use Rattle.rules_laws.proofs.EachAttempt.{each_distinct}
-use Rattle.rules_laws.proofs.Lines.{line_is}
-use Rattle.commit_laws.proofs.Agreed.{coord-sound}
 use Rattle.commit_laws.proofs.Links.{home-again, its-site}
-use Rattle.commit_laws.proofs.PreparedLaws.{nowhere}
 use Rattle.closing_laws.proofs.Counts.{begun_few, doubts_few, is_at_site, is_go, length_sorted, lines_at_sites, one_or_other, site_has_few}
-use Rattle.closing_laws.proofs.FewSends.{SendsFew, agains_few, takes_few}
 use Rattle.closing_laws.proofs.Inquire.{doubt_listed}
-use Rattle.closing_laws.proofs.Lengths.{adds_none, adds_over, few_numbers, found_in_others, length_found, length_inserted, length_map, length_parts, length_rising, length_those, numbers_differ, sum_elevenfold, sum_elevens, sum_most, sum_nineteens, sum_ones, sum_twofold}
+use Rattle.closing_laws.proofs.Lengths.{adds_none, adds_over, found_in_others, length_found, length_map, length_parts, length_rising, length_those, sum_elevenfold, sum_elevens, sum_most, sum_nineteens, sum_ones, sum_twofold}
 use Rattle.closing_laws.proofs.Onward.{Onward}
-
--- the declared sites are at most eight, and apart
-in_map_inserted : {A B : Type 0} (before : A → A → Bool) (f : A → B) (x : A) (z : B) (ys : List A) → In z (map f (inserted before x ys)) → (f x ≡ z) ⊎ In z (map f ys)
-in_map_inserted before f x z [] (inl e) = inl e
-in_map_inserted before f x z [] (inr i) = absurd i
-in_map_inserted {A = A} {B = B} before f x z (y ∷ ys) i = by_test (before y x) i (in_map_inserted before f x z ys)
-  where
-    by_test : (b : Bool) → In z (map f (cond b (y ∷ inserted before x ys) (x ∷ y ∷ ys))) → (In z (map f (inserted before x ys)) → (f x ≡ z) ⊎ In z (map f ys))
-        → (f x ≡ z) ⊎ In z (map f (y ∷ ys))
-    by_test true (inl e) k = inr (inl e)
-    by_test true (inr j) k = elim (k j) [ inl e ↦ inl e | inr m ↦ inr (inr m) ]
-    by_test false (inl e) k = inl e
-    by_test false (inr j) k = inr j
-
-apart_inserted : {A B : Type 0} (before : A → A → Bool) (f : A → B) (x : A) (ys : List A) → (In (f x) (map f ys) → ⊥) → Distinct (map f ys) → Distinct (map f (inserted before x ys))
-apart_inserted before f x [] new apart = ((λ i. absurd i), tt)
-apart_inserted {A = A} {B = B} before f x (y ∷ ys) new apart = by_test (before y x) (apart_inserted before f x ys (λ i. new (inr i)) apart.1)
-  where
-    by_test : (b : Bool) → Distinct (map f (inserted before x ys)) → Distinct (map f (cond b (y ∷ inserted before x ys) (x ∷ y ∷ ys)))
-    by_test true rest = ((λ i. elim (in_map_inserted before f x (f y) ys i) [ inl e ↦ new (inl (sym e)) | inr j ↦ apart.0 j ]), rest)
-    by_test false rest = (new, apart)
-
-abbrev by_site : Participant → Participant → Bool
-by_site a b = nat_lt a.site.0 b.site.0
-
-abbrev site_of : Participant → SiteId
-site_of member = member.site
-
-listed_line : (lines : List SiteLine) (s : SiteId) → In s (map site_of (protocols_in lines)) → In s.0 (map (λ (l : SiteLine). l.site.0) lines)
-listed_line [] s i = absurd i
-listed_line (line ∷ lines) s i =
-    elim (in_map_inserted by_site site_of (record { site = line.site; protocol = line.protocol }) s (protocols_in lines) i) [
-      | inl e ↦ inl (ap (λ (z : SiteId). z.0) e)
-      | inr j ↦ inr (listed_line lines s j)
-    ]
-
-sites_apart : (lines : List SiteLine) → Distinct (map (λ (l : SiteLine). l.site.0) lines) → Distinct (map site_of (protocols_in lines))
-sites_apart [] apart = tt
-sites_apart (line ∷ lines) apart =
-    apart_inserted by_site site_of (record { site = line.site; protocol = line.protocol }) (protocols_in lines)
-    (λ i. apart.0 (listed_line lines line.site i)) (sites_apart lines apart.1)
-
-protocols_many : (lines : List SiteLine) → length (protocols_in lines) ≡ length lines
-protocols_many [] = refl
-protocols_many (line ∷ lines) = length_inserted by_site (record { site = line.site; protocol = line.protocol }) (protocols_in lines) ∙ ap suc (protocols_many lines)
-
--- the places of what a line of a site sends are one at most
-place_few : (site : SiteId) (sent : ℕ) (messages : List FromSite) → length (place_from site sent messages) ≤ 1
-place_few site sent [] = omega arith
-place_few site sent (message ∷ messages) = omega arith
-
-site_places : (scenario : Scenario) (commands : List Command) (command : Command)
-    → ((x : CoordEvent) → CoordCause scenario (story_of scenario commands) command x → ⊥) → length (last_sends scenario (command ∷ commands)) ≤ 1
-site_places scenario commands command none = by_line (happens scenario story command) (line_is scenario story command)
-  where
-    story : Story
-    story = story_of scenario commands
-
-    by_line : (happened : Happened) → IsLine scenario story command happened → length (places_of story happened) ≤ 1
-    by_line (Nowhere answer) line = omega arith
-    by_line (AtSite site x) line = place_few site (length (sent_from site story)) x.sends
-    by_line (AtCoordinator x) line = absurd (none line.event line.cause)
-
-pub give_places : (scenario : Scenario) (commands : List Command) (place : Place) → length (last_sends scenario (Cmd.Give place.site place.place ∷ commands)) ≤ 1
-give_places scenario commands place = site_places scenario commands (Cmd.Give place.site place.place) (λ x c. c)
-
-ask_places : (scenario : Scenario) (commands : List Command) (site : SiteId) (tid : Tid) → length (last_sends scenario (Cmd.Ask site tid ∷ commands)) ≤ 1
-ask_places scenario commands site tid = site_places scenario commands (Cmd.Ask site tid) (λ x c. c)
-
-abbrev place_of : Story → Sent → Place
-place_of story sent = record { site = sent.site; place = length (sent_to sent.site story) }
-
-coord_places : (story : Story) (sends : List Sent) → length (map (place_of story) sends) ≡ length sends
-coord_places story [] = refl
-coord_places story (sent ∷ sends) = ap suc (coord_places story sends)
-
-take_places : (scenario : Scenario) (commands : List Command) (site : SiteId) (place : ℕ) → length (last_sends scenario (Cmd.Take site place ∷ commands)) ≤ suc (length (protocols scenario))
-take_places scenario commands site place = by_line (happens scenario story (Cmd.Take site place)) (line_is scenario story (Cmd.Take site place))
-  where
-    story : Story
-    story = story_of scenario commands
-
-    by_line : (happened : Happened) → IsLine scenario story (Cmd.Take site place) happened → length (places_of story happened) ≤ suc (length (protocols scenario))
-    by_line (Nowhere answer) line = omega arith
-    by_line (AtSite s x) line = absurd line.cause
-    by_line (AtCoordinator x) line =
-        let is : x ≡ coord_line (protocols scenario) (policy scenario) (coord_past story) (Coord_event.Take site line.cause.message) =
-        line.is_next ∙ ap (coord_line (protocols scenario) (policy scenario) (coord_past story)) line.cause.is in
-        let few = (subst (SendsFew (protocols scenario)) (sym is) (takes_few (protocols scenario) (policy scenario) (coord_past story) site line.cause.message)).few in
-        let same = coord_places story x.sends in omega (arith, few, same)
-
-again_places : (scenario : Scenario) (commands : List Command) (tid : Tid) → length (last_sends scenario (Cmd.Again tid ∷ commands)) ≤ suc (length (protocols scenario))
-again_places scenario commands tid = by_line (happens scenario story (Cmd.Again tid)) (line_is scenario story (Cmd.Again tid))
-  where
-    story : Story
-    story = story_of scenario commands
-
-    names : (ms : List Participant) → named (protocols scenario) (Coordinator.records (coord_past story)) tid ≡ Some ms → length ms ≤ length (protocols scenario)
-    names ms e =
-        let s = (coord-sound scenario nowhere tid commands).names ms e in
-        subst (λ ks. length ks ≤ length (protocols scenario)) (sym s.1) (length_those _ (protocols scenario))
-
-    by_line : (happened : Happened) → IsLine scenario story (Cmd.Again tid) happened → length (places_of story happened) ≤ suc (length (protocols scenario))
-    by_line (Nowhere answer) line = omega arith
-    by_line (AtSite s x) line = absurd line.cause
-    by_line (AtCoordinator x) line =
-        let is : x ≡ coord_line (protocols scenario) (policy scenario) (coord_past story) (Coord_event.Again tid) =
-        line.is_next ∙ ap (coord_line (protocols scenario) (policy scenario) (coord_past story)) line.cause in
-        let few = (subst (SendsFew (protocols scenario)) (sym is) (agains_few (protocols scenario) (policy scenario) (coord_past story) tid names)).few in
-        let same = coord_places story x.sends in omega (arith, few, same)
-
-pub taken_many : (places : List Place) (commands : List Command) → length (take_answers places commands) ≡ length places + length commands
-taken_many [] commands = omega arith
-taken_many (place ∷ places) commands = let rest = taken_many places (Cmd.Take place.site place.place ∷ commands) in omega (arith, rest)
+use Rattle.closing_laws.proofs.FewSites.{at_most_eight, declared_apart}
+use Rattle.closing_laws.proofs.SentPlaces.{again_places, ask_places, give_places, take_places, taken_many}
 
 -- what each part of closing adds
 deliver_adds : (scenario : Scenario) (place : Place) (commands : List Command) → length (deliver scenario place commands) ≤ 2 * 1 + length commands
@@ -396,27 +269,11 @@ closing_short scenario whole commands onward =
     fallen : List ℕ
     fallen = actors (λ past. is_down past) (λ past. is_down past) scenario (story_of scenario (disarm scenario commands))
 
-    numbers : Distinct (map (λ (l : SiteLine). l.site.0) scenario.sites)
-    numbers = numbers_differ one_site (λ (l : SiteLine). l.site.0) (λ a b e. eq-eqb a.site.0 b.site.0 e) scenario.sites whole.sites.differ
-
     apart : Distinct (sites scenario)
-    apart = sites_apart scenario.sites numbers
-
-    in_range : (k : ℕ) → In k (map (λ (l : SiteLine). l.site.0) scenario.sites) → (0 < k) × (k ≤ 8)
-    in_range k i = of_line (among_map (λ n. n ≡ k) (λ (l : SiteLine). l.site.0) scenario.sites i)
-      where
-        of_line : Among (λ (l : SiteLine). l.site.0 ≡ k) scenario.sites → (0 < k) × (k ≤ 8)
-        of_line m =
-            let (line, listed, is) = among_is (λ (l : SiteLine). l.site.0 ≡ k) scenario.sites m in
-            let parts = and_parts (nat_le 1 line.site.0) (nat_le line.site.0 8) (each_of_at (λ (l : SiteLine). is_between 1 8 l.site.0) scenario.sites line whole.sites.range listed) in
-            let low = leb-true 1 line.site.0 parts.0 in
-            let high = leb-true line.site.0 8 parts.1 in (omega (arith, low, is), omega (arith, high, is))
+    apart = declared_apart scenario whole
 
     eight : length (protocols scenario) ≤ 8
-    eight =
-        let few = few_numbers (map (λ (l : SiteLine). l.site.0) scenario.sites) 8 numbers in_range in
-        let all = length_map (λ (l : SiteLine). l.site.0) scenario.sites in
-        let same = protocols_many scenario.sites in omega (arith, few, all, same)
+    eight = at_most_eight scenario whole
 
     ask_adds : (site : SiteId) (cs : List Command)
         → length (ask_site scenario (story_of scenario (end_known scenario (clear scenario (give_up scenario (bring_up scenario (disarm scenario commands)))))) site cs)

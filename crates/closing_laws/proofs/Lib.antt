@@ -16,6 +16,7 @@ pub mod EndKnown
 pub mod Exchange
 pub mod FewRuns
 pub mod FewSends
+pub mod FewSites
 pub mod Flow
 pub mod FlowSteps
 pub mod FlowVotes
@@ -31,3 +32,4 @@ pub mod Published
 pub mod Quiet
 pub mod Ready
 pub mod Unbegun
+pub mod SentPlaces

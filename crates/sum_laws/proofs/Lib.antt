@@ -7,6 +7,11 @@ pub mod InOrder
 pub mod InOrderPasts
 pub mod Journals
 pub mod SummedPasts
+pub mod CoordCalls
 pub mod CoordJournals
 pub mod CoordPasts
+pub mod CoordRestarts
+pub mod CoordTold
+pub mod CoordTrims
 pub mod Plain
+pub mod Refuted

@@ -1,1 +1,3 @@
+pub mod CoordRestarts
 pub mod Sums
+pub mod WrongReading

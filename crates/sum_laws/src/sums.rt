@@ -9,7 +9,12 @@ ghost use Rattle.fed_rules.specs.SiteRecords.{Home};
 ghost use Rattle.fed_rules.specs.SiteSums.{site_sum};
 ghost use Rattle.fed_rules.specs.declared.records.SiteRecord.{SiteRecord};
 ghost use Rattle.presumptions.specs.declared.Participant.{Participant};
+ghost use Rattle.coord_laws.specs.Pasts.{OfPasts};
+ghost use Rattle.sum_laws.specs.CoordRestarts.{CoordJournalSaysAll, JournalTellsRestart, JournalsTellRestarts};
+ghost use Rattle.sum_laws.specs.WrongReading.{ForgetsACommit};
 ghost use Rattle.sum_laws.specs.Sums.{plain, AreCoordSums, CheckpointsAreCoordSums, OfCoordinators, ComeInOrder, JournalSaysAll, JournalTellsStart, SumGoesOnBehind, SumsGoOn};
+
+use commit_laws::coordinators_are_made_by_events;
 
 /// A Sum with newer records says what all the records together say, where each install comes in the order of the numbers of those
 /// that write one of its keys.
@@ -43,7 +48,28 @@ pub fn coordinators_checkpoints_are_sums()
     ensures { OfCoordinators CheckpointsAreCoordSums }
 {}
 
+/// In every past of the coordinator, over all its stops, restarts and Checkpoints, the journal that stands on its disk says what all its records
+/// say, those that were trimmed included.
+pub fn coordinators_disks_say_all()
+    ensures { OfCoordinators CoordJournalSaysAll }
+{}
+
+/// So a restart of the coordinator reads from that journal what all its records say: each attempt's outcome, which attempts are known then, with
+/// the participants that their records name, and the committed attempts with their tickets. That is so in every past in which each `go` is of
+/// the next attempt of its transaction, and so in every story.
+pub fn coordinators_disks_tell_restarts()
+    ensures pasts { OfPasts JournalTellsRestart }
+    ensures stories { JournalsTellRestarts }
+{
+    coordinators_are_made_by_events();
+}
+
 /// A Checkpoint among the records says nothing new.
 pub fn checkpoints_say_nothing_new()
     ensures { (home : Home) (records : List SiteRecord) → site_sum home (plain records) ≡ site_sum home records }
+{}
+
+/// A restart of the coordinator that reads the records that stand on its disk, and not the Checkpoint among them, forgets a commit of some story.
+pub fn wrong_reading()
+    ensures { ForgetsACommit }
 {}
