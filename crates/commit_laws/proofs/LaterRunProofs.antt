@@ -1,10 +1,10 @@
 -- A later run of an attempt that is finished at a site comes to nothing.
-use Rattle.std.proofs.Common.{◌≡◌, ℕ, inl, inr, ◌⊎◌, Bool, true, false, cond, ◌||◌, is_some, nat_le, Option, Some, None, List, [], ◌∷◌, ◌++◌, length, take, refl, sym, ap, subst, ◌∙◌}
+use Rattle.std.proofs.Common.{◌≡◌, ℕ, inl, inr, ◌⊎◌, Bool, true, false, cond, ◌||◌, is_some, Option, Some, None, List, [], ◌∷◌, ◌++◌, refl, sym, ap, subst, ◌∙◌}
 use Rattle.std.proofs.lemmas.Bool.{or_right}
 use Rattle.mdb_base.specs.declared.acts.Step.{Step}
 use Rattle.mdb_base.specs.declared.names.Tid.{Tid}
 use Rattle.mdb_base.specs.Names.{same_site}
-use Rattle.mdb_base.specs.Words.{Among, pick, when}
+use Rattle.mdb_base.specs.Words.{Among, pick}
 use Rattle.mdb_base.proofs.NameLaws.{same_tid-equal}
 use Rattle.mdb_base.proofs.Words.{when-false}
 use Rattle.presumptions.specs.declared.Decision.{Decision}
@@ -14,10 +14,8 @@ use Rattle.fed_rules.specs.declared.commands.Command.{Command}
 use Rattle.fed_rules.specs.declared.events.SiteEvent.{SiteEvent}
 use Rattle.fed_rules.specs.declared.events.SiteEvent.TheVariants as Ev
 use Rattle.fed_rules.specs.declared.messages.ToSite.TheVariants as To
-use Rattle.fed_rules.specs.declared.records.SiteRecord.{SiteRecord}
 use Rattle.fed_rules.specs.declared.scenario.Scenario.{Scenario}
-use Rattle.fed_rules.specs.Disk.{Disk, Stops}
-use Rattle.fed_rules.specs.Happenings.{Trip, stops, is_down, quiet, stopped, tripped}
+use Rattle.fed_rules.specs.Happenings.{is_down, quiet, tripped}
 use Rattle.fed_rules.specs.Runs.{Run, Aborts}
 use Rattle.fed_rules.specs.Scenarios.{home_of, global_program}
 use Rattle.fed_rules.specs.Site.{answered, is_over, of_decide, of_give, settles, site_line, unheld}
@@ -36,6 +34,7 @@ use Rattle.order_laws.proofs.Names.{same_site_self}
 use Rattle.commit_laws.proofs.SealProofs.{Next, next-line, sealed-twice}
 use Rattle.commit_laws.proofs.SiteFacts.{IsSealing, Shut}
 use Rattle.rules_laws.proofs.Declared.{home-again, its-site, same-site}
+use Rattle.commit_laws.proofs.Trips.{HasCalls, trips_have_calls, uncalled}
 
 -- the event is a decision on the attempt
 decision_of : (tid : Tid) (event : SiteEvent) → decides_on tid event ≡ true → (decision : Decision) × (event ≡ Ev.Give (To.Decide tid decision))
@@ -165,18 +164,6 @@ later-runs-leave-no-record scenario commands site home declared =
     old_records scenario commands home (home-again scenario site home declared) tid newer older is finished e
     (subst (λ p. Among (IsPrepared tid e) (records home p)) (sym is) kept))
 
--- a line with no disk calls that no stop ends is the rule's
-no_stop : (d : Disk SiteRecord) (t : Option Trip) (y : SiteHappening) → stops (tripped site_frame d t y).answer ≡ false
-    → tripped site_frame d t y ≡ y
-unfolding tripped stopped when
-no_stop d None y s = refl
-no_stop d (Some t) y s = by_test (nat_le t.calls (length y.calls)) s where
-  by_test : (b : Bool)
-      → stops (when b (stopped site_frame d y.event (take t.calls y.calls ++ Stops t.cut ∷ [])) y).answer ≡ false
-      → when b (stopped site_frame d y.event (take t.calls y.calls ++ Stops t.cut ∷ [])) y ≡ y
-  by_test true s = cc
-  by_test false s = refl
-
 -- the rule of a decision on a live run
 live_decide : (home : Home) (past : SitePast) (tid : Tid) (decision : Decision) (run : Run) → doubt_of (records home past) tid ≡ None
     → live home past tid ≡ Some run → of_decide home past tid decision ≡ unheld home tid decision (Aborts tid ∷ [])
@@ -185,22 +172,26 @@ live_decide home past tid decision run free alive =
     ap (λ o. pick o (pick (live home past tid) (unheld home tid decision []) (λ r. unheld home tid decision (Aborts tid ∷ []))) (λ held. settles home tid decision)) free
     ∙ ap (λ o. pick o (unheld home tid decision []) (λ r. unheld home tid decision (Aborts tid ∷ []))) alive
 
+unheld_calls : (home : Home) (tid : Tid) (decision : Decision) → (unheld home tid decision (Aborts tid ∷ [])).calls ≡ []
+unfolding unheld
+unheld_calls home tid decision = refl
+
 -- the line of a decision at a site that is up
-decide_line : (home : Home) (past : SitePast) (tid : Tid) (decision : Decision) → is_down past ≡ false
-    → stops (site_line home past (Ev.Give (To.Decide tid decision))).answer ≡ false
-    → site_line home past (Ev.Give (To.Decide tid decision)) ≡ of_decide home past tid decision
+decide_line : (home : Home) (past : SitePast) (tid : Tid) (decision : Decision) → is_down past ≡ false → HasCalls (trip past)
+    → of_decide home past tid decision ≡ unheld home tid decision (Aborts tid ∷ [])
+    → site_line home past (Ev.Give (To.Decide tid decision)) ≡ unheld home tid decision (Aborts tid ∷ [])
 unfolding site_line answered of_give
-decide_line home past tid decision up on =
-    let is : site_line home past (Ev.Give (To.Decide tid decision)) ≡ tripped site_frame (disk home past) (trip past) (of_decide home past tid decision) =
+decide_line home past tid decision up armed is =
     when-false (is_down past) (quiet (Ev.Give (To.Decide tid decision)) Say.Down)
-    (tripped site_frame (disk home past) (trip past) (of_decide home past tid decision)) up in
-    is ∙ no_stop (disk home past) (trip past) (of_decide home past tid decision) (ap (λ y. stops y.answer) (sym is) ∙ on)
+    (tripped site_frame (disk home past) (trip past) (of_decide home past tid decision)) up
+    ∙ ap (tripped site_frame (disk home past) (trip past)) is
+    ∙ uncalled home past (unheld home tid decision (Aborts tid ∷ [])) armed (unheld_calls home tid decision)
 
 unheld_next : (scenario : Scenario) (commands : List Command) (home : Home) → home_of scenario home.site ≡ Some home
     → (x : SiteHappening) → IsNextAt scenario commands home.site x → (tid : Tid) (program : List Step) → global_program scenario tid.tx ≡ Some program
     → (run : Run) → live home (past_of home.site (story_of scenario commands)) tid ≡ Some run → (decision : Decision)
-    → x.event ≡ Ev.Give (To.Decide tid decision) → stops x.answer ≡ false → x ≡ unheld home tid decision (Aborts tid ∷ [])
-unheld_next scenario commands home declared x (command, e) tid program global run alive decision is on =
+    → x.event ≡ Ev.Give (To.Decide tid decision) → x ≡ unheld home tid decision (Aborts tid ∷ [])
+unheld_next scenario commands home declared x (command, e) tid program global run alive decision is =
     let past = past_of home.site (story_of scenario commands) in
     let l : IsNext scenario (story_of scenario commands) (AtSite home.site x) = subst (IsNext scenario (story_of scenario commands)) e
     (linked scenario (story_of scenario commands) command).next in
@@ -209,8 +200,8 @@ unheld_next scenario commands home declared x (command, e) tid program global ru
     let named : event ≡ Ev.Give (To.Decide tid decision) = sym t.line.is ∙ (ap (λ y. y.event) (sym made) ∙ is) in
     let line : x ≡ site_line home past (Ev.Give (To.Decide tid decision)) = made ∙ ap (site_line home past) named in
     let shut = t.agree.shut (program, global) in
-    line ∙ decide_line home past tid decision (up shut (is_down past) refl) (ap (λ y. stops y.answer) (sym line) ∙ on)
-    ∙ live_decide home past tid decision run (free shut (doubt_of (records home past) tid) refl) alive
+    line ∙ decide_line home past tid decision (up shut (is_down past) refl) (trips_have_calls scenario home commands)
+    (live_decide home past tid decision run (free shut (doubt_of (records home past) tid) refl) alive)
   where
     past : SitePast
     past = past_of home.site (story_of scenario commands)
@@ -229,5 +220,5 @@ pub live-runs-are-unheld : LiveRunsAreUnheld
 live-runs-are-unheld scenario commands site home declared =
     subst (λ s. (x : SiteHappening) → IsNextAt scenario commands s x → (tid : Tid) (program : List Step) → global_program scenario tid.tx ≡ Some program
     → (run : Run) → live home (past_of s (story_of scenario commands)) tid ≡ Some run → (decision : Decision)
-    → x.event ≡ Ev.Give (To.Decide tid decision) → stops x.answer ≡ false → x ≡ unheld home tid decision (Aborts tid ∷ []))
+    → x.event ≡ Ev.Give (To.Decide tid decision) → x ≡ unheld home tid decision (Aborts tid ∷ []))
     (its-site scenario site home declared) (unheld_next scenario commands home (home-again scenario site home declared))

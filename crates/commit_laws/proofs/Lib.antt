@@ -19,4 +19,5 @@ pub mod SiteLists
 pub mod SiteRules
 pub mod SiteShut
 pub mod SiteWork
+pub mod Trips
 pub mod Walks

@@ -9,7 +9,6 @@ use Rattle.fed_rules.specs.declared.commands.Command.{Command}
 use Rattle.fed_rules.specs.declared.events.SiteEvent.TheVariants as Ev
 use Rattle.fed_rules.specs.declared.messages.ToSite.TheVariants as To
 use Rattle.fed_rules.specs.declared.scenario.Scenario.{Scenario}
-use Rattle.fed_rules.specs.Happenings.{stops}
 use Rattle.fed_rules.specs.Runs.{Run, Aborts}
 use Rattle.fed_rules.specs.Scenarios.{home_of, global_program}
 use Rattle.fed_rules.specs.Site.{unheld}
@@ -39,12 +38,11 @@ LaterRunsLeaveNoRecord =
     is_finished older tid ≡ true → (e : ℕ) → Among (IsPrepared tid e) (records home (newer ++ older)) →
     Among (IsPrepared tid e) (records home older)
 
--- a decision on a global attempt that meets a live run of it, so of a later run too, aborts the run, is answered `unheld` and writes nothing,
--- unless a stop ends the line
+-- a decision on a global attempt that meets a live run of it, so of a later run too, aborts the run, is answered `unheld` and writes nothing
 abbrev pub LiveRunsAreUnheld : Type 0
 LiveRunsAreUnheld =
     (scenario : Scenario) (commands : List Command) (site : SiteId) (home : Home) → home_of scenario site ≡ Some home →
     (x : SiteHappening) → IsNextAt scenario commands site x → (tid : Tid) (program : List Step) → global_program scenario tid.tx ≡ Some program →
     (run : Run) → live home (past_of site (story_of scenario commands)) tid ≡ Some run →
-    (decision : Decision) → x.event ≡ Ev.Give (To.Decide tid decision) → stops x.answer ≡ false →
+    (decision : Decision) → x.event ≡ Ev.Give (To.Decide tid decision) →
     x ≡ unheld home tid decision (Aborts tid ∷ [])
