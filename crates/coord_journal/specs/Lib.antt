@@ -1,3 +1,4 @@
 pub mod Exact
 pub mod PayloadSizes
 pub mod Spelling
+pub mod Frames

@@ -10,7 +10,7 @@ pub use encoding::is_large;
 pub use fed_rules::CoordRecord;
 pub use format::CoordFormat;
 use frame_journal::Journal;
-pub use laws::payloads_have_the_lengths_of_the_rules;
+pub use laws::{frames_have_the_lengths_of_the_rules, payloads_have_the_lengths_of_the_rules};
 
 /// The records of the coordinator on its disk.
 pub type CoordJournal = Journal<CoordRecord, CoordFormat>;

@@ -13,12 +13,22 @@ const FIRST: Tid = Tid {
     attempt: 0,
 };
 
-// An initiation at three sites in 15 bytes, and the commit with their tickets in 36.
-const INITIATION: [u8; 15] = [0, 13, 1, 0, 0, 0, 1, 0, 3, 1, 1, 2, 2, 3, 3];
+// An initiation at three sites in 49 bytes, the commit with their tickets in 70, and the end. The digests were made by another program.
+const INITIATION: [u8; 49] = [
+    0, 0, 0, 13, 1, 0, 0, 0, 1, 0, 3, 1, 1, 2, 2, 3, 3, 190, 232, 17, 205, 11, 67, 84, 84, 109, 61,
+    89, 128, 201, 184, 34, 35, 151, 122, 172, 78, 75, 238, 122, 100, 20, 105, 70, 39, 3, 99, 69,
+    154,
+];
 
-const COMMIT: [u8; 36] = [
-    0, 34, 2, 0, 0, 0, 1, 0, 3, 1, 0, 0, 0, 0, 0, 0, 0, 1, 2, 0, 0, 0, 0, 0, 0, 0, 1, 3, 0, 0, 0,
-    0, 0, 0, 0, 1,
+const COMMIT: [u8; 70] = [
+    0, 0, 0, 34, 2, 0, 0, 0, 1, 0, 3, 1, 0, 0, 0, 0, 0, 0, 0, 1, 2, 0, 0, 0, 0, 0, 0, 0, 1, 3, 0,
+    0, 0, 0, 0, 0, 0, 1, 218, 179, 117, 237, 208, 155, 98, 231, 239, 203, 28, 80, 204, 153, 29, 67,
+    78, 236, 141, 91, 183, 137, 153, 187, 204, 25, 35, 41, 212, 177, 193, 75,
+];
+
+const END: [u8; 42] = [
+    0, 0, 0, 6, 3, 0, 0, 0, 1, 0, 151, 126, 91, 229, 224, 168, 1, 233, 195, 10, 14, 201, 176, 201,
+    147, 174, 94, 122, 205, 178, 251, 103, 194, 41, 170, 71, 21, 6, 123, 252, 224, 200,
 ];
 
 // Whether the disk has exactly these bytes.
@@ -111,7 +121,7 @@ fn the_records_of_a_commit_have_these_bytes(rt: HostRuntime) -> Result<(), Fail>
     assert!(rt; holds(alloc, &mut disk, &COMMIT));
     let mut disk = MemDisk::new(alloc).ok().ok_or("no memory")?;
     assert!(rt; noted(alloc, &mut disk, CoordRecord::End { tid: FIRST }));
-    assert!(rt; holds(alloc, &mut disk, &[0, 6, 3, 0, 0, 0, 1, 0]));
+    assert!(rt; holds(alloc, &mut disk, &END));
     Ok(())
 }
 
@@ -135,7 +145,7 @@ fn stopped(alloc: Global, cut: u64) -> Option<(usize, usize, bool)> {
 fn a_stop_before_the_sync_keeps_a_commit_or_tears_it(rt: HostRuntime) -> Result<(), Fail> {
     let alloc = rt.alloc();
     assert_eq!(rt; stopped(alloc, 65_535), Some((2, 2, false)));
-    assert_eq!(rt; stopped(alloc, 35), Some((1, 1, true)));
+    assert_eq!(rt; stopped(alloc, 69), Some((1, 1, true)));
     assert_eq!(rt; stopped(alloc, 0), Some((1, 1, false)));
     Ok(())
 }

@@ -1,16 +1,16 @@
 -- A journal of which the last entry alone is left, on its disk and in its fields.
-use Rattle.std.proofs.Common.{◌≡◌, ℕ, ◌+◌, ◌≤◌, Bool, ltb, List, length, IsTrue, refl, sym, ◌∙◌, arith, inl, inr}
+use Rattle.std.proofs.Common.{◌≡◌, ℕ, ◌+◌, ◌≤◌, Bool, ltb, List, [], ◌∷◌, ◌++◌, length, IsTrue, refl, sym, ◌∙◌, arith, inl, inr}
 use Rattle.std.proofs.lemmas.Bool.{cases_lt, le-ltb, lt-ltb}
 use Rattle.journal_disk.specs.Disk.{Seen, trimmed_to}
 use Rattle.journal_disk.specs.declared.frames.Version.{Version}
-use Rattle.frame_journal.specs.Records.{Entry, before_last, entries_of, entry_frame, last_alone, spelled_size}
-use Rattle.frame_journal.specs.Journal.{Kept, IsKeptOn}
+use Rattle.frame_journal.specs.Records.{Entry, as_written, before_last, entries_of, entry_frame, last_alone, spelled_size, values}
+use Rattle.frame_journal.specs.Journal.{EndsWith, IsKeptOn, Kept}
 use Rattle.frame_journal.proofs.Entries.{last_entries}
 use Rattle.frame_journal.proofs.Keeping.{trim_keeps}
 use Rattle.frame_journal.proofs.Sizes.{size_split}
 
 -- a test is that of what is left on both sides
-lt_shift : (k a b : ℕ) → ltb (k + a) (k + b) ≡ ltb a b
+pub lt_shift : (k a b : ℕ) → ltb (k + a) (k + b) ≡ ltb a b
 lt_shift k a b =
     elim (cases_lt a b) [
       | inl less ↦ lt-ltb _ _ (omega (arith, less)) ∙ sym (lt-ltb _ _ less)
@@ -42,3 +42,9 @@ trimmed_entries versions versions2 records records2 same v r = rw (v, r) (sym (l
 pub trimmed_view : {R : Type 0} (entries entries2 : List (Entry R)) (is_torn : Bool) (places room : ℕ) → entries2 ≡ entries
     → ◌≡◌ {A = Kept R} (record { entries = entries2; is_torn = is_torn; places = places; room = room }) (record { entries = entries; is_torn = is_torn; places = places; room = room })
 trimmed_view entries entries2 is_torn places room e = rw e refl
+
+-- a journal ends with the record that was written last
+pub ends_with_last : {R : Type 0} (P : R → Type 0) (entries : List (Entry R)) (entry : R) → P entry → EndsWith P (values (entries ++ as_written entry ∷ []))
+ends_with_last P [] entry holds = holds
+ends_with_last P (a ∷ []) entry holds = holds
+ends_with_last P (a ∷ b ∷ entries) entry holds = ends_with_last P (b ∷ entries) entry holds

@@ -1,6 +1,8 @@
 //! The format of a site's records.
 ghost use Rattle.std.specs.Prelude.{◌≡◌, ◌≤◌, ◌+◌, ◌++◌, List, length, Some, None, IfOk, IsErrOf};
+ghost use Rattle.fed_rules.specs.SiteRecords.{site_frame};
 ghost use Rattle.site_journal.specs.Exact.{spelled_is_read};
+ghost use Rattle.site_journal.specs.Frames.{IsCheckpoint, frame_has_size};
 ghost use Rattle.site_journal.specs.Spelling.{spelling, reading, IsRecord, InRange};
 
 use crate::decoding::record_of;
@@ -23,7 +25,13 @@ impl Format<SiteRecord> for SiteFormat {
 
     ghost is_record = { IsRecord };
 
+    ghost is_checkpoint = { IsCheckpoint };
+
+    ghost frame_bytes = { site_frame };
+
     ghost spelled_is_read = { spelled_is_read };
+
+    ghost counts_frames = { frame_has_size };
 
     fn payload_len(entry: &SiteRecord) -> usize {
         payload_len(entry)

@@ -10,7 +10,7 @@ pub use encoding::is_large;
 pub use fed_rules::SiteRecord;
 pub use format::SiteFormat;
 use frame_journal::Journal;
-pub use laws::payloads_have_the_lengths_of_the_rules;
+pub use laws::{frames_have_the_lengths_of_the_rules, payloads_have_the_lengths_of_the_rules};
 
 /// The records of a site on its disk.
 pub type SiteJournal = Journal<SiteRecord, SiteFormat>;

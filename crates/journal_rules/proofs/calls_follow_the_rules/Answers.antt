@@ -1,4 +1,4 @@
-use Rattle.journal_rules.proofs.Keeps.{call_stands, within_agrees}
+use Rattle.journal_rules.proofs.Keeps.{call_stands, journal_stands, within_agrees}
 use Rattle.journal_rules.proofs.calls_follow_the_rules.Goals as goal
 
 pub returns-clause-call : goal.returns-clause-call
@@ -6,3 +6,6 @@ returns-clause-call g c = call_stands g.F.Format.spelling
 
 pub returns-clause-kept : goal.returns-clause-kept
 returns-clause-kept g c = within_agrees g.F.Format.spelling
+
+pub returns-clause-journal : goal.returns-clause-journal
+returns-clause-journal g c = journal_stands g.F.Format.spelling

@@ -1,0 +1,3 @@
+pub mod StoreLaws
+pub mod CutLaws
+pub mod EndsLaws

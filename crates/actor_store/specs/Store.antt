@@ -1,0 +1,118 @@
+-- What an actor's store stands for: the disk of the rules, and the trip in force.
+use Rattle.std.specs.Prelude.{ℕ, ◌≡◌, ◌==◌, ◌+◌, ◌<◌, ◌≤◌, Bool, true, false, cond, Option, Some, None, Result, Ok, Err, List, [], ◌∷◌, ◌++◌, length, map, take, reverse}
+use Rattle.std.specs.List.{AllByRecursion}
+use Rattle.mdb_base.specs.Words.{map_some}
+use Rattle.fed_rules.specs.Disk.{Call, CutBack, Stops, Disk, after_call, after_calls, is_torn, journal as journal_of}
+use Rattle.fed_rules.specs.Happenings.{Trip, used}
+use Rattle.journal_disk.specs.Disk.{Image, Seen, all_synced}
+use Rattle.frame_journal.specs.Journal.{Kept, IsKeptOn}
+use Rattle.frame_journal.specs.Records.{AreRecordsOf, as_written, values}
+use Rattle.journal_rules.specs.Stands.{StandsFor, record_frame}
+use Rattle.actor_store.specs.declared.store.SetTrip.{SetTrip}
+use Rattle.actor_store.specs.declared.store.Standing.{Standing}
+use Rattle.actor_store.specs.declared.store.Standing.TheVariants.{Up, Down, Failing}
+use Rattle.actor_store.specs.declared.store.Break.{Break}
+use Rattle.actor_store.specs.declared.store.Break.TheVariants.{Stopped, Failed}
+use Rattle.actor_store.specs.declared.store.Store.{Store}
+
+-- what contracts see of a store: its journal, the trip that is set, and whether the actor is up
+pub record Stored (R : Type 0) : Type 0 where
+  pub journal : Kept R
+  pub trip : Option SetTrip
+  pub standing : Standing
+
+abbrev pub stored : {R F : Type 0} → Store R F → Stored R
+stored store = record { journal = store.journal; trip = store.trip; standing = store.standing }
+
+abbrev pub is_up : Standing → Bool
+is_up Up = true
+is_up Down = false
+is_up Failing = false
+
+abbrev pub is_failing : Standing → Bool
+is_failing Up = false
+is_failing Down = false
+is_failing Failing = true
+
+-- where a call failed, what is on the disk is taken as synced: the next start syncs it before all else
+abbrev pub taken_as : Standing → Image → Image
+taken_as Up image = image
+taken_as Down image = image
+taken_as Failing image = all_synced image
+
+-- the trip as the rules speak of it
+abbrev pub trip_of_rules : SetTrip → Trip
+trip_of_rules trip = record { calls = trip.calls; cut = trip.cut }
+
+-- what a trip of so many calls sets; one of none disarms
+abbrev pub trip_to : ℕ → ℕ → Option SetTrip
+trip_to calls cut = cond (calls == 0) None (Some (record { calls = calls; cut = cut }))
+
+-- a trip that is set has calls left
+abbrev pub IsArmed : Option SetTrip → Type 0
+IsArmed None = Unit {0}
+IsArmed (Some trip) = 0 < trip.calls
+
+-- while a site is up nothing stands behind the whole frames, and while it is down all that it holds is synced
+abbrev pub IsInOrder : {R : Type 0} → Standing → Kept R → Disk R → Type 0
+IsInOrder Up journal rules = journal.is_torn ≡ false
+IsInOrder Down journal rules = rules.synced ≡ rules.length
+IsInOrder Failing journal rules = rules.synced ≡ rules.length
+
+-- on this disk the store stands for the disk of the rules with this trip in force
+pub record Keeps {R : Type 0} (spelling : R → List ℕ) (is_record : R → Type 0) (frame_bytes : R → ℕ) (tells : Bool) (seen : Seen) (store : Stored R) (rules : Disk R) (in_force : Option Trip) : Type 0 where
+  pub kept_on : IsKeptOn spelling tells seen store.journal
+  pub stands : StandsFor spelling frame_bytes (taken_as store.standing seen.image) rules
+  pub records : store.journal.entries ≡ map as_written (reverse (journal_of frame_bytes rules))
+  pub are_records : AllByRecursion is_record (values store.journal.entries)
+  pub written : AllByRecursion is_record rules.records
+  pub front : rules.trimmed ≤ rules.synced
+  pub trip : map_some trip_of_rules store.trip ≡ in_force
+  pub armed : IsArmed store.trip
+  pub in_order : IsInOrder store.standing store.journal rules
+
+-- it stands for some disk
+abbrev pub SomeKept : {R : Type 0} → (Disk R → Option Trip → Type 0) → Type 0
+SomeKept {R} K = (rules : Disk R) × (trip : Option Trip) × K rules trip
+
+-- a disk after the first of these calls and a stop
+abbrev pub stopped_disk : {R : Type 0} → (R → ℕ) → ℕ → ℕ → Disk R → List (Call R) → Disk R
+stopped_disk frame_bytes n cut rules calls = after_calls frame_bytes rules (take n calls ++ Stops cut ∷ [])
+
+-- the bytes on the disk are those of the rules, synced or not
+pub record HoldsBytes {R : Type 0} (spelling : R → List ℕ) (frame_bytes : R → ℕ) (image : Image) (rules : Disk R) : Type 0 where
+  pub records : AreRecordsOf (record_frame spelling) image.bytes (reverse (journal_of frame_bytes rules))
+  pub bytes : length image.bytes + rules.trimmed ≡ rules.length
+
+-- the disk holds what some stop within these calls leaves
+abbrev pub SomeStop : {R : Type 0} → (R → List ℕ) → (R → ℕ) → Image → Disk R → List (Call R) → Type 0
+SomeStop spelling frame_bytes image rules calls = (n : ℕ) × (cut : ℕ) × HoldsBytes spelling frame_bytes image (stopped_disk frame_bytes n cut rules calls)
+
+-- a stop with this cut, which keeps so many records
+abbrev pub StopsWith : {R : Type 0} → (R → ℕ) → (Disk R → Option Trip → Type 0) → Disk R → ℕ → ℕ → Type 0
+StopsWith frame_bytes K rules cut kept =
+    K (after_call frame_bytes rules (Stops cut)) None × (kept ≡ length (journal_of frame_bytes (after_call frame_bytes rules (Stops cut))))
+
+-- so many calls don't use a trip up
+abbrev pub Passes : Option Trip → ℕ → Type 0
+Passes None n = Unit {0}
+Passes (Some trip) n = n < trip.calls
+
+-- how disk calls end: all are done; or the trip in force comes within them; or one fails, which leaves what some stop leaves
+abbrev pub Ends : {A R : Type 0} → (R → ℕ) → (Disk R → Option Trip → Type 0) → Disk R → Option Trip → List (Call R) → Result A Break → Type 0
+Ends frame_bytes K rules trip calls (Ok done) = Passes trip (length calls) × K (after_calls frame_bytes rules calls) (used (length calls) trip)
+Ends frame_bytes K rules trip calls (Err (Stopped kept)) =
+    (set : Trip) × (trip ≡ Some set) × (set.calls ≤ length calls) × K (stopped_disk frame_bytes set.calls set.cut rules calls) None
+    × (kept ≡ length (journal_of frame_bytes (stopped_disk frame_bytes set.calls set.cut rules calls)))
+Ends frame_bytes K rules trip calls (Err Failed) = (n : ℕ) × (cut : ℕ) × K (stopped_disk frame_bytes n cut rules calls) None
+
+-- how the counting of one call that was made ends
+abbrev pub Counts : {A R : Type 0} → (R → ℕ) → (Disk R → Option Trip → Type 0) → Disk R → Option Trip → Result A Break → Type 0
+Counts frame_bytes K rules trip (Ok done) = Passes trip 1 × K rules (used 1 trip)
+Counts frame_bytes K rules trip (Err (Stopped kept)) =
+    (set : Trip) × (trip ≡ Some set) × (set.calls ≡ 1) × StopsWith frame_bytes K rules set.cut kept
+Counts frame_bytes K rules trip (Err Failed) = ⊥
+
+-- the calls by which a start cuts a torn rest back
+abbrev pub cut_calls : {R : Type 0} → (R → ℕ) → Disk R → List (Call R)
+cut_calls frame_bytes rules = cond (is_torn frame_bytes rules) (CutBack ∷ []) []

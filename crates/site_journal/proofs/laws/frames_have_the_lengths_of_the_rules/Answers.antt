@@ -1,0 +1,5 @@
+use Rattle.site_journal.specs.Frames.{frame_has_size}
+use Rattle.site_journal.proofs.laws.frames_have_the_lengths_of_the_rules.Goals as goal
+
+pub returns : goal.returns
+returns c = frame_has_size
