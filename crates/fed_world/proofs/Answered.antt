@@ -71,10 +71,10 @@ others_set size new disks number disk same nine empty = record {
 others_empty : {E D : Type 0} (size : D → ℕ) (site new : LocalSite E) (disks : List D) (disk : D) → new.site ≡ site.site → OthersEmpty size (Some site) disks → OthersEmpty size (Some new) (slice_set disks site.site.0 disk)
 others_empty size site new disks disk same s = others_set size new disks site.site.0 disk (ap (λ (n : SiteId). n.0) same) s.nine s.empty
 
-module _ {E D : Type 0} (stands : E → Start → List EngineLine → Type 0) (tells : Bool) (image : D → Image) (size spare : D → ℕ) where
+module _ {E D : Type 0} (stands : E → Start → List EngineLine → Type 0) (tells : Bool) (seen : D → Seen) where
   -- the answer without a site
-  pub answered_none : (disks : List D) (command : Command) (scenario : Scenario) (commands : List Command) → IsOwn command → IsAtSite command → PartStands stands tells image size spare None disks scenario commands → OthersEmpty {E = E} size None disks
-      → IsAnswered {E = E} stands tells image size spare None disks command Say.None scenario commands
+  pub answered_none : (disks : List D) (command : Command) (scenario : Scenario) (commands : List Command) → IsOwn command → IsAtSite command → PartStands stands tells seen None disks scenario commands → OthersEmpty {E = E} size None disks
+      → IsAnswered {E = E} stands tells seen None disks command Say.None scenario commands
   answered_none disks command scenario commands own at s others =
       let h = none_hears scenario (story_of scenario commands) command own at s.0 s.1 in
       record {
@@ -86,15 +86,15 @@ module _ {E D : Type 0} (stands : E → Start → List EngineLine → Type 0) (t
       }
 
   -- the site's disk is the one that was read at its number
-  pub own_read : (site : LocalSite E) (disks : List D) (disk : D) (scenario : Scenario) (commands : List Command) → SitePart stands tells image size spare site disks scenario commands → OthersEmpty size (Some site) disks → disk ≡ get_or disks site.site.0 disk → slice_get disks site.site.0 ≡ Some disk
+  pub own_read : (site : LocalSite E) (disks : List D) (disk : D) (scenario : Scenario) (commands : List Command) → SitePart stands tells seen site disks scenario commands → OthersEmpty size (Some site) disks → disk ≡ get_or disks site.site.0 disk → slice_get disks site.site.0 ≡ Some disk
   own_read site disks disk scenario commands s others is = slice_get_read disks (length disks) site.site.0 disk refl (let nine = others.nine in let most = s.in_range.greatest in omega arith) is
 
-  own_stood : (site : LocalSite E) (disks : List D) (disk : D) (scenario : Scenario) (commands : List Command) → slice_get disks site.site.0 ≡ Some disk → SitePart stands tells image size spare site disks scenario commands → LocalStands stands tells image size spare site disk scenario commands
-  own_stood site disks disk scenario commands own s = subst (λ d. LocalStands stands tells image size spare site d scenario commands) (one_at disks site.site.0 s.disk disk s.own own) s.stood
+  own_stood : (site : LocalSite E) (disks : List D) (disk : D) (scenario : Scenario) (commands : List Command) → slice_get disks site.site.0 ≡ Some disk → SitePart stands tells seen site disks scenario commands → LocalStands stands tells seen site disk scenario commands
+  own_stood site disks disk scenario commands own s = subst (λ d. LocalStands stands tells seen site d scenario commands) (one_at disks site.site.0 s.disk disk s.own own) s.stood
 
   -- the site with its changed disk
   part_after : (site new : LocalSite E) (disks : List D) (old disk : D) (scenario : Scenario) (commands : List Command) → new.site ≡ site.site → IsSite site.site → slice_get disks site.site.0 ≡ Some old
-      → LocalStands stands tells image size spare new disk scenario commands → SitePart stands tells image size spare new (slice_set disks site.site.0 disk) scenario commands
+      → LocalStands stands tells seen new disk scenario commands → SitePart stands tells seen new (slice_set disks site.site.0 disk) scenario commands
   part_after site new disks old disk scenario commands same in_range own s = record {
     in_range = subst IsSite (sym same) in_range;
     disk = disk;
@@ -104,9 +104,9 @@ module _ {E D : Type 0} (stands : E → Start → List EngineLine → Type 0) (t
 
   -- the answer of the site
   pub answered_site : (site new : LocalSite E) (disks : List D) (old disk : D) (command : Command) (answer : Answer) (scenario : Scenario) (commands : List Command) → new.site ≡ site.site → slice_get disks site.site.0 ≡ Some old
-      → SitePart stands tells image size spare site disks scenario commands → OthersEmpty size (Some site) disks
-      → ((cs : List Command) → LocalStands stands tells image size spare site old scenario cs → IsTold (LocalStands stands tells image size spare new disk scenario) scenario cs command answer)
-      → IsAnswered stands tells image size spare (Some new) (slice_set disks site.site.0 disk) command answer scenario commands
+      → SitePart stands tells seen site disks scenario commands → OthersEmpty size (Some site) disks
+      → ((cs : List Command) → LocalStands stands tells seen site old scenario cs → IsTold (LocalStands stands tells seen new disk scenario) scenario cs command answer)
+      → IsAnswered stands tells seen (Some new) (slice_set disks site.site.0 disk) command answer scenario commands
   answered_site site new disks old disk command answer scenario commands same own s others tell =
       let told = tell commands (own_stood site disks old scenario commands own s) in
       record {
@@ -119,9 +119,9 @@ module _ {E D : Type 0} (stands : E → Start → List EngineLine → Type 0) (t
 
   -- no answer of the site
   pub unanswered_site : (why : StepErr) (site new : LocalSite E) (disks : List D) (old disk : D) (scenario : Scenario) (commands : List Command) → new.site ≡ site.site → slice_get disks site.site.0 ≡ Some old
-      → SitePart stands tells image size spare site disks scenario commands → OthersEmpty size (Some site) disks
-      → ((cs : List Command) → LocalStands stands tells image size spare site old scenario cs → IsUntold (LocalStands stands tells image size spare new disk scenario) (CoreStands stands tells image size spare new.core disk) scenario why cs)
-      → IsUnanswered stands tells image size spare (error_of site.site.0 why) (Some new) (slice_set disks site.site.0 disk) scenario commands
+      → SitePart stands tells seen site disks scenario commands → OthersEmpty size (Some site) disks
+      → ((cs : List Command) → LocalStands stands tells seen site old scenario cs → IsUntold (LocalStands stands tells seen new disk scenario) (CoreStands stands tells seen new.core disk) scenario why cs)
+      → IsUnanswered stands tells seen (error_of site.site.0 why) (Some new) (slice_set disks site.site.0 disk) scenario commands
   unanswered_site Step_err.Memory site new disks old disk scenario commands same own s others tell =
       (part_after site new disks old disk scenario commands same s.in_range own (tell commands (own_stood site disks old scenario commands own s)), others_empty size site new disks disk same others)
   unanswered_site Step_err.Disk site new disks old disk scenario commands same own s others tell =

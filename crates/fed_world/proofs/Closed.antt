@@ -53,12 +53,12 @@ cleared_none : (scenario : Scenario) (commands : List Command) → scenario.site
 cleared_none scenario commands none = ap (λ sites. with_aborts (live_at_first sites scenario (story_of scenario commands)) commands) none
 
 -- the closed session, part by part
-pub closed_is : {E D : Type 0} (stands : E → Start → List EngineLine → Type 0) (tells : Bool) (image : D → Image) (size spare : D → ℕ) (site : Option (LocalSite E)) (disks : List D) (scenario : Scenario) (commands : List Command) → ClosesSo scenario
-    → PartStands stands tells image size spare site disks scenario commands → Each IsAtSite commands → closed scenario commands ≡ all_cleared scenario (all_up scenario (all_disarmed scenario commands))
-closed_is stands tells image size spare None disks scenario commands law part at =
+pub closed_is : {E D : Type 0} (stands : E → Start → List EngineLine → Type 0) (tells : Bool) (seen : D → Seen) (site : Option (LocalSite E)) (disks : List D) (scenario : Scenario) (commands : List Command) → ClosesSo scenario
+    → PartStands stands tells seen site disks scenario commands → Each IsAtSite commands → closed scenario commands ≡ all_cleared scenario (all_up scenario (all_disarmed scenario commands))
+closed_is stands tells seen None disks scenario commands law part at =
     let first = all_disarmed scenario commands in
     law.none commands part.0 part.1 part.2 at ∙ sym (cleared_none scenario (all_up scenario first) part.0 ∙ (up_none scenario first part.0 ∙ disarmed_none scenario commands part.0))
-closed_is stands tells image size spare (Some site) disks scenario commands law part at =
+closed_is stands tells seen (Some site) disks scenario commands law part at =
     let s = part.stood in
     let sites = s.alone.sites in
     let digit = ap (λ (n : SiteId). n.0) s.at.number in

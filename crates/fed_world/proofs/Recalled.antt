@@ -8,8 +8,8 @@ use Rattle.fed_world.specs.declared.local_site.LocalSite.{LocalSite}
 use Rattle.fed_world.specs.declared.world.World.{World}
 use Rattle.fed_world.specs.Worlds.{PartHolds, PartStands, Recalls, Stands}
 
-module _ {E D : Type 0} (stands : E → Start → List EngineLine → Type 0) (tells : Bool) (image : D → Image) (size spare : D → ℕ) where
-  part_holds : (site : Option (LocalSite E)) (disks : List D) (scenario : Scenario) (commands : List Command) → PartStands stands tells image size spare site disks scenario commands → PartHolds stands site scenario commands
+module _ {E D : Type 0} (stands : E → Start → List EngineLine → Type 0) (tells : Bool) (seen : D → Seen) where
+  part_holds : (site : Option (LocalSite E)) (disks : List D) (scenario : Scenario) (commands : List Command) → PartStands stands tells seen site disks scenario commands → PartHolds stands site scenario commands
   part_holds None disks scenario commands p = p
   part_holds (Some site) disks scenario commands p =
       let s = p.stood in
@@ -21,5 +21,5 @@ module _ {E D : Type 0} (stands : E → Start → List EngineLine → Type 0) (t
       }
 
   -- the world recalls what it stands for
-  pub recalls : (world : World E) (disks : List D) (scenario : Scenario) (commands : List Command) → Stands stands tells image size spare world disks scenario commands → Recalls stands world scenario commands
+  pub recalls : (world : World E) (disks : List D) (scenario : Scenario) (commands : List Command) → Stands stands tells seen world disks scenario commands → Recalls stands world scenario commands
   recalls world disks scenario commands s = record { has = s.has; site = part_holds world.site disks scenario commands s.site; uncoordinated = s.uncoordinated }

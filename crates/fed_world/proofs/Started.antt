@@ -35,14 +35,14 @@ made_at stands scenario o local lines first can is same at =
 pub read_at : {D : Type 0} (size : D → ℕ) (disks : List D) (site : SiteId) (disk : D) → IsSite site → AreEmpty size disks → disk ≡ get_or disks site.0 disk → slice_get disks site.0 ≡ Some disk
 read_at size disks site disk range empty is = slice_get_read disks (length disks) site.0 disk refl (let nine = empty.nine in let most = range.greatest in omega arith) is
 
-module _ {E D : Type 0} (stands : E → Start → List EngineLine → Type 0) (tells : Bool) (image : D → Image) (size spare : D → ℕ) where
+module _ {E D : Type 0} (stands : E → Start → List EngineLine → Type 0) (tells : Bool) (seen : D → Seen) where
   -- without a site
   pub started_none : (world : World E) (disks : List D) (scenario : Scenario) → world.scenario ≡ scenario → world.lines.items ≡ [] → world.broken ≡ false → world.site ≡ None → scenario.sites ≡ [] → scenario.transactions ≡ [] → AreEmpty size disks
-      → Stands stands tells image size spare world disks scenario []
+      → Stands stands tells seen world disks scenario []
   started_none world disks scenario same lines whole is none no_tx empty = record {
     has = record { scenario_is = same; lines = lines };
     whole = whole;
-    site = subst (λ site. PartStands stands tells image size spare site disks scenario []) (sym is) (none, no_tx, tt);
+    site = subst (λ site. PartStands stands tells seen site disks scenario []) (sym is) (none, no_tx, tt);
     others = subst (λ (site : Option (LocalSite E)). OthersEmpty size site disks) (sym is) (record { nine = empty.nine; empty = λ place other got apart. empty.empty place other got });
     at_sites = tt;
     uncoordinated = refl;
@@ -50,7 +50,7 @@ module _ {E D : Type 0} (stands : E → Start → List EngineLine → Type 0) (t
 
   -- with a site on its disk
   pub started_site : (world : World E) (site : LocalSite E) (disks : List D) (old disk : D) (scenario : Scenario) (line : SiteLine) → world.scenario ≡ scenario → world.lines.items ≡ [] → world.broken ≡ false → world.site ≡ Some site → IsAlone scenario line → IsSite line.site
-      → AreEmpty size disks → slice_get disks line.site.0 ≡ Some old → LocalStands stands tells image size spare site disk scenario [] → Stands stands tells image size spare world (slice_set disks line.site.0 disk) scenario []
+      → AreEmpty size disks → slice_get disks line.site.0 ≡ Some old → LocalStands stands tells seen site disk scenario [] → Stands stands tells seen world (slice_set disks line.site.0 disk) scenario []
   started_site world site disks old disk scenario line same lines whole is alone range empty own s =
       let lists : s.line ∷ [] ≡ line ∷ [] = sym s.alone.sites ∙ alone.sites in
       let one : s.line ≡ line = cc in
@@ -60,7 +60,7 @@ module _ {E D : Type 0} (stands : E → Start → List EngineLine → Type 0) (t
       record {
         has = record { scenario_is = same; lines = lines };
         whole = whole;
-        site = subst (λ part. PartStands stands tells image size spare part disks_after scenario []) (sym is) (record {
+        site = subst (λ part. PartStands stands tells seen part disks_after scenario []) (sym is) (record {
           in_range = subst IsSite (sym number) range;
           disk = disk;
           own = ap (λ k. slice_get disks_after k) digit ∙ own_after disks line.site.0 old disk own;

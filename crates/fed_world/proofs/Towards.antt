@@ -48,24 +48,24 @@ aborts_more tids i d commands lt = subst (λ k. with_aborts (take k tids) comman
     by_place (x ∷ xs) zero cs lt = refl
     by_place (x ∷ xs) (suc k) cs lt = by_place xs k (Cmd.Abort x.tx ∷ cs) (omega arith)
 
-module _ {E D : Type 0} (stands : E → Start → List EngineLine → Type 0) (tells : Bool) (image : D → Image) (size spare : D → ℕ) (why : WorldErr) (world : World E) (disks : List D) (scenario : Scenario) where
+module _ {E D : Type 0} (stands : E → Start → List EngineLine → Type 0) (tells : Bool) (seen : D → Seen) (why : WorldErr) (world : World E) (disks : List D) (scenario : Scenario) where
   -- the first command fails
-  pub fails_here : (whole commands : List Command) → Extends whole commands → Fails stands tells image size spare why world disks scenario commands → FailsToward stands tells image size spare why world disks whole scenario commands
+  pub fails_here : (whole commands : List Command) → Extends whole commands → Fails stands tells seen why world disks scenario commands → FailsToward stands tells seen why world disks whole scenario commands
   fails_here whole commands x f = record { done = []; left = x.front; of_closing = x.is ∙ ap (λ cs. cs ++ commands) (sym (append-nil x.front)); fails = f }
 
   -- one behind others fails
-  pub fails_behind : (whole mid commands : List Command) → Extends mid commands → FailsToward stands tells image size spare why world disks whole scenario mid → FailsToward stands tells image size spare why world disks whole scenario commands
+  pub fails_behind : (whole mid commands : List Command) → Extends mid commands → FailsToward stands tells seen why world disks whole scenario mid → FailsToward stands tells seen why world disks whole scenario commands
   fails_behind whole mid commands x f =
       let same : f.done ++ mid ≡ (f.done ++ x.front) ++ commands = ap (λ cs. f.done ++ cs) x.is ∙ sym (append_assoc f.done x.front commands) in
       record {
         done = f.done ++ x.front;
         left = f.left;
         of_closing = f.of_closing ∙ (ap (λ cs. (f.left ++ f.done) ++ cs) x.is ∙ (sym (append_assoc (f.left ++ f.done) x.front commands) ∙ ap (λ cs. cs ++ commands) (append_assoc f.left f.done x.front)));
-        fails = subst (λ cs. Fails stands tells image size spare why world disks scenario cs) same f.fails;
+        fails = subst (λ cs. Fails stands tells seen why world disks scenario cs) same f.fails;
       }
 
   -- what leads further fails as well
-  pub fails_before : (longer whole commands : List Command) → Extends longer whole → FailsToward stands tells image size spare why world disks whole scenario commands → FailsToward stands tells image size spare why world disks longer scenario commands
+  pub fails_before : (longer whole commands : List Command) → Extends longer whole → FailsToward stands tells seen why world disks whole scenario commands → FailsToward stands tells seen why world disks longer scenario commands
   fails_before longer whole commands x f = record {
     done = f.done;
     left = x.front ++ f.left;

@@ -19,16 +19,16 @@ error_of number Step_err.Disk = Err_is.Disk number
 error_of number Step_err.Memory = Err_is.Memory
 
 -- what a command is answered, and that the site with its disk stands for it too
-pub record IsAnswered {E D : Type 0} (stands : E → Start → List EngineLine → Type 0) (tells : Bool) (image : D → Image) (size spare : D → ℕ) (site : Option (LocalSite E)) (disks : List D) (command : Command) (answer : Answer) (scenario : Scenario) (commands : List Command) : Type 0 where
+pub record IsAnswered {E D : Type 0} (stands : E → Start → List EngineLine → Type 0) (tells : Bool) (seen : D → Seen) (site : Option (LocalSite E)) (disks : List D) (command : Command) (answer : Answer) (scenario : Scenario) (commands : List Command) : Type 0 where
   pub told : answer ≡ answer_of (happens scenario (story_of scenario commands) command)
   pub sends : places_of (story_of scenario commands) (happens scenario (story_of scenario commands) command) ≡ []
   pub uncoordinated : coord_past (story_of scenario (command ∷ commands)) ≡ coord_past (story_of scenario commands)
-  pub part : PartStands stands tells image size spare site disks scenario (command ∷ commands)
+  pub part : PartStands stands tells seen site disks scenario (command ∷ commands)
   pub others : OthersEmpty size site disks
 
 -- a command without an answer: want of memory changes nothing, and behind a failed disk call the disk holds some stop
-abbrev pub IsUnanswered : {E D : Type 0} → (E → Start → List EngineLine → Type 0) → Bool → (D → Image) → (D → ℕ) → (D → ℕ) → WorldErr → Option (LocalSite E) → List D → Scenario → List Command → Type 0
-IsUnanswered stands tells image size spare Err_is.Memory site disks scenario commands =
-    PartStands stands tells image size spare site disks scenario commands × OthersEmpty size site disks
-IsUnanswered stands tells image size spare (Err_is.Disk number) site disks scenario commands =
-    PartBroke stands tells image size spare number site disks scenario commands × OthersEmpty size site disks
+abbrev pub IsUnanswered : {E D : Type 0} → (E → Start → List EngineLine → Type 0) → Bool → (D → Seen) → WorldErr → Option (LocalSite E) → List D → Scenario → List Command → Type 0
+IsUnanswered stands tells seen Err_is.Memory site disks scenario commands =
+    PartStands stands tells seen site disks scenario commands × OthersEmpty size site disks
+IsUnanswered stands tells seen (Err_is.Disk number) site disks scenario commands =
+    PartBroke stands tells seen number site disks scenario commands × OthersEmpty size site disks

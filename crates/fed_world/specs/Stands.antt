@@ -49,9 +49,9 @@ pub record SiteStands (core : Home → SitePast → Type 0) (scenario : Scenario
   pub at : SiteAt core scenario line site states armed (past_of line.site (story_of scenario commands))
 
 -- so does a site with its disk
-abbrev pub LocalStands : {E D : Type 0} → (E → Start → List EngineLine → Type 0) → Bool → (D → Image) → (D → ℕ) → (D → ℕ) → LocalSite E → D → Scenario → List Command → Type 0
-LocalStands stands tells image size spare site disk scenario commands =
-    SiteStands (CoreStands stands tells image size spare site.core disk) scenario site.site site.locals.items site.armed commands
+abbrev pub LocalStands : {E D : Type 0} → (E → Start → List EngineLine → Type 0) → Bool → (D → Seen) → LocalSite E → D → Scenario → List Command → Type 0
+LocalStands stands tells seen site disk scenario commands =
+    SiteStands (CoreStands stands tells seen site.core disk) scenario site.site site.locals.items site.armed commands
 
 -- and a site whatever is on its disk
 abbrev pub LocalHolds : {E : Type 0} → (E → Start → List EngineLine → Type 0) → LocalSite E → Scenario → List Command → Type 0

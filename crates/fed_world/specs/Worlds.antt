@@ -77,22 +77,22 @@ pub record HasLines {E : Type 0} (world : World E) (scenario : Scenario) (comman
   pub lines : world.lines.items ≡ oldest_first (lines_of (story_of scenario commands))
 
 -- a site with its disk, which has its number among 1 to 8, stands for the commands
-pub record SitePart {E D : Type 0} (stands : E → Start → List EngineLine → Type 0) (tells : Bool) (image : D → Image) (size spare : D → ℕ) (site : LocalSite E) (disks : List D) (scenario : Scenario) (commands : List Command) : Type 0 where
+pub record SitePart {E D : Type 0} (stands : E → Start → List EngineLine → Type 0) (tells : Bool) (seen : D → Seen) (site : LocalSite E) (disks : List D) (scenario : Scenario) (commands : List Command) : Type 0 where
   pub in_range : IsSite site.site
   pub disk : D
   pub own : slice_get disks site.site.0 ≡ Some disk
-  pub stood : LocalStands stands tells image size spare site disk scenario commands
+  pub stood : LocalStands stands tells seen site disk scenario commands
 
 -- without a site there are no transactions
-abbrev pub PartStands : {E D : Type 0} → (E → Start → List EngineLine → Type 0) → Bool → (D → Image) → (D → ℕ) → (D → ℕ) → Option (LocalSite E) → List D → Scenario → List Command → Type 0
-PartStands stands tells image size spare None disks scenario commands = (scenario.sites ≡ []) × (scenario.transactions ≡ []) × Each IsOwn commands
-PartStands stands tells image size spare (Some site) disks scenario commands = SitePart stands tells image size spare site disks scenario commands
+abbrev pub PartStands : {E D : Type 0} → (E → Start → List EngineLine → Type 0) → Bool → (D → Seen) → Option (LocalSite E) → List D → Scenario → List Command → Type 0
+PartStands stands tells seen None disks scenario commands = (scenario.sites ≡ []) × (scenario.transactions ≡ []) × Each IsOwn commands
+PartStands stands tells seen (Some site) disks scenario commands = SitePart stands tells seen site disks scenario commands
 
 -- the world, with these disks, stands for this scenario and these commands, which are own ones and name no coordinator
-pub record Stands {E D : Type 0} (stands : E → Start → List EngineLine → Type 0) (tells : Bool) (image : D → Image) (size spare : D → ℕ) (world : World E) (disks : List D) (scenario : Scenario) (commands : List Command) : Type 0 where
+pub record Stands {E D : Type 0} (stands : E → Start → List EngineLine → Type 0) (tells : Bool) (seen : D → Seen) (world : World E) (disks : List D) (scenario : Scenario) (commands : List Command) : Type 0 where
   pub has : HasLines world scenario commands
   pub whole : world.broken ≡ false
-  pub site : PartStands stands tells image size spare world.site disks scenario commands
+  pub site : PartStands stands tells seen world.site disks scenario commands
   pub others : OthersEmpty size world.site disks
   pub at_sites : Each IsAtSite commands
   pub uncoordinated : coord_past (story_of scenario commands) ≡ []
@@ -138,41 +138,41 @@ abbrev pub AllUp : Scenario → List Command → Type 0
 AllUp scenario commands = (line : SiteLine) → IsAlone scenario line → is_down (past_of line.site (story_of scenario commands)) ≡ false
 
 -- a call of this site's disk failed: the disk holds what some stop within the next event of the site leaves
-pub record SiteBroke {E D : Type 0} (stands : E → Start → List EngineLine → Type 0) (tells : Bool) (image : D → Image) (size spare : D → ℕ) (number : ℕ) (site : LocalSite E) (disks : List D) (scenario : Scenario) (commands : List Command) : Type 0 where
+pub record SiteBroke {E D : Type 0} (stands : E → Start → List EngineLine → Type 0) (tells : Bool) (seen : D → Seen) (number : ℕ) (site : LocalSite E) (disks : List D) (scenario : Scenario) (commands : List Command) : Type 0 where
   pub line : SiteLine
   pub alone : IsAlone scenario line
   pub number_is : number ≡ line.site.0
   pub site_is : site.site ≡ line.site
   pub disk : D
   pub own : slice_get disks number ≡ Some disk
-  pub cut : IsCut (CoreStands stands tells image size spare site.core disk) (home_from scenario line) (past_of line.site (story_of scenario commands))
+  pub cut : IsCut (CoreStands stands tells seen site.core disk) (home_from scenario line) (past_of line.site (story_of scenario commands))
 
-abbrev pub PartBroke : {E D : Type 0} → (E → Start → List EngineLine → Type 0) → Bool → (D → Image) → (D → ℕ) → (D → ℕ) → ℕ → Option (LocalSite E) → List D → Scenario → List Command → Type 0
-PartBroke stands tells image size spare number None disks scenario commands = ⊥
-PartBroke stands tells image size spare number (Some site) disks scenario commands = SiteBroke stands tells image size spare number site disks scenario commands
+abbrev pub PartBroke : {E D : Type 0} → (E → Start → List EngineLine → Type 0) → Bool → (D → Seen) → ℕ → Option (LocalSite E) → List D → Scenario → List Command → Type 0
+PartBroke stands tells seen number None disks scenario commands = ⊥
+PartBroke stands tells seen number (Some site) disks scenario commands = SiteBroke stands tells seen number site disks scenario commands
 
 -- the world of which this disk failed has the lines of the commands before
-pub record IsBroken {E D : Type 0} (stands : E → Start → List EngineLine → Type 0) (tells : Bool) (image : D → Image) (size spare : D → ℕ) (number : ℕ) (world : World E) (disks : List D) (scenario : Scenario) (commands : List Command) : Type 0 where
+pub record IsBroken {E D : Type 0} (stands : E → Start → List EngineLine → Type 0) (tells : Bool) (seen : D → Seen) (number : ℕ) (world : World E) (disks : List D) (scenario : Scenario) (commands : List Command) : Type 0 where
   pub has : HasLines world scenario commands
   pub broken : world.broken ≡ true
-  pub site : PartBroke stands tells image size spare number world.site disks scenario commands
+  pub site : PartBroke stands tells seen number world.site disks scenario commands
   pub others : OthersEmpty size world.site disks
 
 -- a command without a line: want of memory changes nothing, and a failed disk call breaks the world
-abbrev pub Fails : {E D : Type 0} → (E → Start → List EngineLine → Type 0) → Bool → (D → Image) → (D → ℕ) → (D → ℕ) → WorldErr → World E → List D → Scenario → List Command → Type 0
-Fails stands tells image size spare Err_is.Memory world disks scenario commands = Stands stands tells image size spare world disks scenario commands
-Fails stands tells image size spare (Err_is.Disk number) world disks scenario commands = IsBroken stands tells image size spare number world disks scenario commands
+abbrev pub Fails : {E D : Type 0} → (E → Start → List EngineLine → Type 0) → Bool → (D → Seen) → WorldErr → World E → List D → Scenario → List Command → Type 0
+Fails stands tells seen Err_is.Memory world disks scenario commands = Stands stands tells seen world disks scenario commands
+Fails stands tells seen (Err_is.Disk number) world disks scenario commands = IsBroken stands tells seen number world disks scenario commands
 
 -- what leads to all these commands fails at some command: those before it were carried out
-pub record FailsToward {E D : Type 0} (stands : E → Start → List EngineLine → Type 0) (tells : Bool) (image : D → Image) (size spare : D → ℕ) (why : WorldErr) (world : World E) (disks : List D) (whole : List Command) (scenario : Scenario) (commands : List Command) : Type 0 where
+pub record FailsToward {E D : Type 0} (stands : E → Start → List EngineLine → Type 0) (tells : Bool) (seen : D → Seen) (why : WorldErr) (world : World E) (disks : List D) (whole : List Command) (scenario : Scenario) (commands : List Command) : Type 0 where
   pub done : List Command
   pub left : List Command
   pub of_closing : whole ≡ left ++ done ++ commands
-  pub fails : Fails stands tells image size spare why world disks scenario (done ++ commands)
+  pub fails : Fails stands tells seen why world disks scenario (done ++ commands)
 
 -- closing fails at some command: those before it were carried out
-abbrev pub FailsToClose : {E D : Type 0} → (E → Start → List EngineLine → Type 0) → Bool → (D → Image) → (D → ℕ) → (D → ℕ) → WorldErr → World E → List D → Scenario → List Command → Type 0
-FailsToClose stands tells image size spare why world disks scenario commands = FailsToward stands tells image size spare why world disks (closed scenario commands) scenario commands
+abbrev pub FailsToClose : {E D : Type 0} → (E → Start → List EngineLine → Type 0) → Bool → (D → Seen) → WorldErr → World E → List D → Scenario → List Command → Type 0
+FailsToClose stands tells seen why world disks scenario commands = FailsToward stands tells seen why world disks (closed scenario commands) scenario commands
 
 -- the count of faults of this disk rose
 abbrev pub RisesAt : {D : Type 0} → (D → ℕ) → ℕ → List D → List D → Type 0

@@ -62,12 +62,12 @@ impl<E: LocalEngine> LocalSite<E> {
         requires items { items ≡ items_of scenario.now.items line.site }
         requires few { length items ≤ 4096 }
         requires fresh { E.stands engine (fresh_start line.engine items) [] }
-        requires empty { D.size disk.old ≡ 0 }
-        ensures stands { IfOk result (λ site. LocalStands E.stands D.tells D.image D.size D.spare site disk.new scenario.now []) }
-        ensures memory { IsErrOf result StepErr.Memory → D.size disk.new ≡ 0 }
-        ensures broken { IsErrOf result StepErr.Disk → SomeStop (D.image disk.new) empty_disk (set_up_calls (home_from scenario.now line)) }
-        ensures cause { IsErrOf result StepErr.Disk → HasRisen (D.faults disk.old) (D.faults disk.new) }
-        ensures faults { D.faults disk.old ≤ D.faults disk.new }
+        requires empty { (D.seen disk.old).size ≡ 0 }
+        ensures stands { IfOk result (λ site. LocalStands E.stands D.tells D.seen site disk.new scenario.now []) }
+        ensures memory { IsErrOf result StepErr.Memory → (D.seen disk.new).size ≡ 0 }
+        ensures broken { IsErrOf result StepErr.Disk → SomeStop ((D.seen disk.new).image) empty_disk (set_up_calls (home_from scenario.now line)) }
+        ensures cause { IsErrOf result StepErr.Disk → HasRisen ((D.seen disk.old).faults) ((D.seen disk.new).faults) }
+        ensures faults { (D.seen disk.old).faults ≤ (D.seen disk.new).faults }
     {
         let Ok(locals) = unbegun_locals(alloc, transactions(scenario).len()) else {
             return Err(StepErr::Memory);
@@ -125,13 +125,13 @@ impl<E: LocalEngine> LocalSite<E> {
         event: SiteEvent,
     ) -> Result<Answer, StepErr>
         requires told { IsTrue D.tells }
-        requires may { SomePast (CoreStands E.stands D.tells D.image D.size D.spare self.old.core disk.old) (CanStep event) }
-        ensures answered { IfOk result (λ answer. EachPast (CoreStands E.stands D.tells D.image D.size D.spare self.old.core disk.old)
-            (λ home past. Hands (CoreStands E.stands D.tells D.image D.size D.spare self.new.core disk.new) self.old self.new answer home past (site_line home past event))) }
-        ensures failed { IfErr result (λ why. EachPast (CoreStands E.stands D.tells D.image D.size D.spare self.old.core disk.old)
-            (λ home past. Fails (CoreStands E.stands D.tells D.image D.size D.spare self.new.core disk.new) why self.old self.new home past)) }
-        ensures cause { IsErrOf result StepErr.Disk → HasRisen (D.faults disk.old) (D.faults disk.new) }
-        ensures faults { D.faults disk.old ≤ D.faults disk.new }
+        requires may { SomePast (CoreStands E.stands D.tells D.seen self.old.core disk.old) (CanStep event) }
+        ensures answered { IfOk result (λ answer. EachPast (CoreStands E.stands D.tells D.seen self.old.core disk.old)
+            (λ home past. Hands (CoreStands E.stands D.tells D.seen self.new.core disk.new) self.old self.new answer home past (site_line home past event))) }
+        ensures failed { IfErr result (λ why. EachPast (CoreStands E.stands D.tells D.seen self.old.core disk.old)
+            (λ home past. Fails (CoreStands E.stands D.tells D.seen self.new.core disk.new) why self.old self.new home past)) }
+        ensures cause { IsErrOf result StepErr.Disk → HasRisen ((D.seen disk.old).faults) ((D.seen disk.new).faults) }
+        ensures faults { (D.seen disk.old).faults ≤ (D.seen disk.new).faults }
         ensures site { self.new.site ≡ self.old.site }
     {
         match self.core.step(alloc, disk, event) {
@@ -158,13 +158,13 @@ impl<E: LocalEngine> LocalSite<E> {
         requires told { IsTrue D.tells }
         requires own { IsOwn command }
         requires at_site { IsAtSite command }
-        requires stood { SomeCommands (LocalStands E.stands D.tells D.image D.size D.spare self.old disk.old scenario.now) (NumbersFit command) }
-        ensures told { IfOk result (λ answer. EachCommands (LocalStands E.stands D.tells D.image D.size D.spare self.old disk.old scenario.now)
-            (λ commands. IsTold (LocalStands E.stands D.tells D.image D.size D.spare self.new disk.new scenario.now) scenario.now commands command answer)) }
-        ensures failed { IfErr result (λ why. EachCommands (LocalStands E.stands D.tells D.image D.size D.spare self.old disk.old scenario.now)
-            (IsUntold (LocalStands E.stands D.tells D.image D.size D.spare self.new disk.new scenario.now) (CoreStands E.stands D.tells D.image D.size D.spare self.new.core disk.new) scenario.now why)) }
-        ensures cause { IsErrOf result StepErr.Disk → HasRisen (D.faults disk.old) (D.faults disk.new) }
-        ensures faults { D.faults disk.old ≤ D.faults disk.new }
+        requires stood { SomeCommands (LocalStands E.stands D.tells D.seen self.old disk.old scenario.now) (NumbersFit command) }
+        ensures told { IfOk result (λ answer. EachCommands (LocalStands E.stands D.tells D.seen self.old disk.old scenario.now)
+            (λ commands. IsTold (LocalStands E.stands D.tells D.seen self.new disk.new scenario.now) scenario.now commands command answer)) }
+        ensures failed { IfErr result (λ why. EachCommands (LocalStands E.stands D.tells D.seen self.old disk.old scenario.now)
+            (IsUntold (LocalStands E.stands D.tells D.seen self.new disk.new scenario.now) (CoreStands E.stands D.tells D.seen self.new.core disk.new) scenario.now why)) }
+        ensures cause { IsErrOf result StepErr.Disk → HasRisen ((D.seen disk.old).faults) ((D.seen disk.new).faults) }
+        ensures faults { (D.seen disk.old).faults ≤ (D.seen disk.new).faults }
         ensures site { self.new.site ≡ self.old.site }
     {
         match command {

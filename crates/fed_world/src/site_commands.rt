@@ -24,13 +24,13 @@ impl<E: LocalEngine> LocalSite<E> {
     ) -> Result<Answer, StepErr>
         requires told { IsTrue D.tells }
         requires actor { 0 < actor }
-        requires stood { SomeCommands (LocalStands E.stands D.tells D.image D.size D.spare self.old disk.old scenario.now) AnyCommands }
-        ensures told { IfOk result (λ answer. EachCommands (LocalStands E.stands D.tells D.image D.size D.spare self.old disk.old scenario.now)
-            (λ commands. IsTold (LocalStands E.stands D.tells D.image D.size D.spare self.new disk.new scenario.now) scenario.now commands (Cmd.Halt actor cut) answer)) }
-        ensures failed { IfErr result (λ why. EachCommands (LocalStands E.stands D.tells D.image D.size D.spare self.old disk.old scenario.now)
-            (IsUntold (LocalStands E.stands D.tells D.image D.size D.spare self.new disk.new scenario.now) (CoreStands E.stands D.tells D.image D.size D.spare self.new.core disk.new) scenario.now why)) }
-        ensures cause { IsErrOf result StepErr.Disk → HasRisen (D.faults disk.old) (D.faults disk.new) }
-        ensures faults { D.faults disk.old ≤ D.faults disk.new }
+        requires stood { SomeCommands (LocalStands E.stands D.tells D.seen self.old disk.old scenario.now) AnyCommands }
+        ensures told { IfOk result (λ answer. EachCommands (LocalStands E.stands D.tells D.seen self.old disk.old scenario.now)
+            (λ commands. IsTold (LocalStands E.stands D.tells D.seen self.new disk.new scenario.now) scenario.now commands (Cmd.Halt actor cut) answer)) }
+        ensures failed { IfErr result (λ why. EachCommands (LocalStands E.stands D.tells D.seen self.old disk.old scenario.now)
+            (IsUntold (LocalStands E.stands D.tells D.seen self.new disk.new scenario.now) (CoreStands E.stands D.tells D.seen self.new.core disk.new) scenario.now why)) }
+        ensures cause { IsErrOf result StepErr.Disk → HasRisen ((D.seen disk.old).faults) ((D.seen disk.new).faults) }
+        ensures faults { (D.seen disk.old).faults ≤ (D.seen disk.new).faults }
         ensures site { self.new.site ≡ self.old.site }
     {
         if actor != self.site.0 {
@@ -49,13 +49,13 @@ impl<E: LocalEngine> LocalSite<E> {
     ) -> Result<Answer, StepErr>
         requires told { IsTrue D.tells }
         requires actor { 0 < actor }
-        requires stood { SomeCommands (LocalStands E.stands D.tells D.image D.size D.spare self.old disk.old scenario.now) IsShort }
-        ensures told { IfOk result (λ answer. EachCommands (LocalStands E.stands D.tells D.image D.size D.spare self.old disk.old scenario.now)
-            (λ commands. IsTold (LocalStands E.stands D.tells D.image D.size D.spare self.new disk.new scenario.now) scenario.now commands (Cmd.Back actor) answer)) }
-        ensures failed { IfErr result (λ why. EachCommands (LocalStands E.stands D.tells D.image D.size D.spare self.old disk.old scenario.now)
-            (IsUntold (LocalStands E.stands D.tells D.image D.size D.spare self.new disk.new scenario.now) (CoreStands E.stands D.tells D.image D.size D.spare self.new.core disk.new) scenario.now why)) }
-        ensures cause { IsErrOf result StepErr.Disk → HasRisen (D.faults disk.old) (D.faults disk.new) }
-        ensures faults { D.faults disk.old ≤ D.faults disk.new }
+        requires stood { SomeCommands (LocalStands E.stands D.tells D.seen self.old disk.old scenario.now) IsShort }
+        ensures told { IfOk result (λ answer. EachCommands (LocalStands E.stands D.tells D.seen self.old disk.old scenario.now)
+            (λ commands. IsTold (LocalStands E.stands D.tells D.seen self.new disk.new scenario.now) scenario.now commands (Cmd.Back actor) answer)) }
+        ensures failed { IfErr result (λ why. EachCommands (LocalStands E.stands D.tells D.seen self.old disk.old scenario.now)
+            (IsUntold (LocalStands E.stands D.tells D.seen self.new disk.new scenario.now) (CoreStands E.stands D.tells D.seen self.new.core disk.new) scenario.now why)) }
+        ensures cause { IsErrOf result StepErr.Disk → HasRisen ((D.seen disk.old).faults) ((D.seen disk.new).faults) }
+        ensures faults { (D.seen disk.old).faults ≤ (D.seen disk.new).faults }
         ensures site { self.new.site ≡ self.old.site }
     {
         if actor != self.site.0 {
@@ -76,13 +76,13 @@ impl<E: LocalEngine> LocalSite<E> {
     ) -> Result<Answer, StepErr>
         requires told { IsTrue D.tells }
         requires actor { 0 < actor }
-        requires stood { SomeCommands (LocalStands E.stands D.tells D.image D.size D.spare self.old disk.old scenario.now) AnyCommands }
-        ensures told { IfOk result (λ answer. EachCommands (LocalStands E.stands D.tells D.image D.size D.spare self.old disk.old scenario.now)
-            (λ commands. IsTold (LocalStands E.stands D.tells D.image D.size D.spare self.new disk.new scenario.now) scenario.now commands (Cmd.Trip actor calls cut) answer)) }
-        ensures failed { IfErr result (λ why. EachCommands (LocalStands E.stands D.tells D.image D.size D.spare self.old disk.old scenario.now)
-            (IsUntold (LocalStands E.stands D.tells D.image D.size D.spare self.new disk.new scenario.now) (CoreStands E.stands D.tells D.image D.size D.spare self.new.core disk.new) scenario.now why)) }
-        ensures cause { IsErrOf result StepErr.Disk → HasRisen (D.faults disk.old) (D.faults disk.new) }
-        ensures faults { D.faults disk.old ≤ D.faults disk.new }
+        requires stood { SomeCommands (LocalStands E.stands D.tells D.seen self.old disk.old scenario.now) AnyCommands }
+        ensures told { IfOk result (λ answer. EachCommands (LocalStands E.stands D.tells D.seen self.old disk.old scenario.now)
+            (λ commands. IsTold (LocalStands E.stands D.tells D.seen self.new disk.new scenario.now) scenario.now commands (Cmd.Trip actor calls cut) answer)) }
+        ensures failed { IfErr result (λ why. EachCommands (LocalStands E.stands D.tells D.seen self.old disk.old scenario.now)
+            (IsUntold (LocalStands E.stands D.tells D.seen self.new disk.new scenario.now) (CoreStands E.stands D.tells D.seen self.new.core disk.new) scenario.now why)) }
+        ensures cause { IsErrOf result StepErr.Disk → HasRisen ((D.seen disk.old).faults) ((D.seen disk.new).faults) }
+        ensures faults { (D.seen disk.old).faults ≤ (D.seen disk.new).faults }
         ensures site { self.new.site ≡ self.old.site }
     {
         if actor != self.site.0 {

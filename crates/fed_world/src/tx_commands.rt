@@ -52,13 +52,13 @@ impl<E: LocalEngine> LocalSite<E> {
         tx: Tx,
     ) -> Result<Answer, StepErr>
         requires told { IsTrue D.tells }
-        requires stood { SomeCommands (LocalStands E.stands D.tells D.image D.size D.spare self.old disk.old scenario.now) IsShort }
-        ensures told { IfOk result (λ answer. EachCommands (LocalStands E.stands D.tells D.image D.size D.spare self.old disk.old scenario.now)
-            (λ commands. IsTold (LocalStands E.stands D.tells D.image D.size D.spare self.new disk.new scenario.now) scenario.now commands (Cmd.Begin tx) answer)) }
-        ensures failed { IfErr result (λ why. EachCommands (LocalStands E.stands D.tells D.image D.size D.spare self.old disk.old scenario.now)
-            (IsUntold (LocalStands E.stands D.tells D.image D.size D.spare self.new disk.new scenario.now) (CoreStands E.stands D.tells D.image D.size D.spare self.new.core disk.new) scenario.now why)) }
-        ensures cause { IsErrOf result StepErr.Disk → HasRisen (D.faults disk.old) (D.faults disk.new) }
-        ensures faults { D.faults disk.old ≤ D.faults disk.new }
+        requires stood { SomeCommands (LocalStands E.stands D.tells D.seen self.old disk.old scenario.now) IsShort }
+        ensures told { IfOk result (λ answer. EachCommands (LocalStands E.stands D.tells D.seen self.old disk.old scenario.now)
+            (λ commands. IsTold (LocalStands E.stands D.tells D.seen self.new disk.new scenario.now) scenario.now commands (Cmd.Begin tx) answer)) }
+        ensures failed { IfErr result (λ why. EachCommands (LocalStands E.stands D.tells D.seen self.old disk.old scenario.now)
+            (IsUntold (LocalStands E.stands D.tells D.seen self.new disk.new scenario.now) (CoreStands E.stands D.tells D.seen self.new.core disk.new) scenario.now why)) }
+        ensures cause { IsErrOf result StepErr.Disk → HasRisen ((D.seen disk.old).faults) ((D.seen disk.new).faults) }
+        ensures faults { (D.seen disk.old).faults ≤ (D.seen disk.new).faults }
         ensures site { self.new.site ≡ self.old.site }
     {
         let lines = transactions(scenario);
@@ -87,13 +87,13 @@ impl<E: LocalEngine> LocalSite<E> {
         tx: Tx,
     ) -> Result<Answer, StepErr>
         requires told { IsTrue D.tells }
-        requires stood { SomeCommands (LocalStands E.stands D.tells D.image D.size D.spare self.old disk.old scenario.now) IsShort }
-        ensures told { IfOk result (λ answer. EachCommands (LocalStands E.stands D.tells D.image D.size D.spare self.old disk.old scenario.now)
-            (λ commands. IsTold (LocalStands E.stands D.tells D.image D.size D.spare self.new disk.new scenario.now) scenario.now commands (Cmd.Step tx) answer)) }
-        ensures failed { IfErr result (λ why. EachCommands (LocalStands E.stands D.tells D.image D.size D.spare self.old disk.old scenario.now)
-            (IsUntold (LocalStands E.stands D.tells D.image D.size D.spare self.new disk.new scenario.now) (CoreStands E.stands D.tells D.image D.size D.spare self.new.core disk.new) scenario.now why)) }
-        ensures cause { IsErrOf result StepErr.Disk → HasRisen (D.faults disk.old) (D.faults disk.new) }
-        ensures faults { D.faults disk.old ≤ D.faults disk.new }
+        requires stood { SomeCommands (LocalStands E.stands D.tells D.seen self.old disk.old scenario.now) IsShort }
+        ensures told { IfOk result (λ answer. EachCommands (LocalStands E.stands D.tells D.seen self.old disk.old scenario.now)
+            (λ commands. IsTold (LocalStands E.stands D.tells D.seen self.new disk.new scenario.now) scenario.now commands (Cmd.Step tx) answer)) }
+        ensures failed { IfErr result (λ why. EachCommands (LocalStands E.stands D.tells D.seen self.old disk.old scenario.now)
+            (IsUntold (LocalStands E.stands D.tells D.seen self.new disk.new scenario.now) (CoreStands E.stands D.tells D.seen self.new.core disk.new) scenario.now why)) }
+        ensures cause { IsErrOf result StepErr.Disk → HasRisen ((D.seen disk.old).faults) ((D.seen disk.new).faults) }
+        ensures faults { (D.seen disk.old).faults ≤ (D.seen disk.new).faults }
         ensures site { self.new.site ≡ self.old.site }
     {
         let Some(place) = place_of(transactions(scenario).as_slice(), tx) else {
@@ -128,13 +128,13 @@ impl<E: LocalEngine> LocalSite<E> {
         tx: Tx,
     ) -> Result<Answer, StepErr>
         requires told { IsTrue D.tells }
-        requires stood { SomeCommands (LocalStands E.stands D.tells D.image D.size D.spare self.old disk.old scenario.now) IsShort }
-        ensures told { IfOk result (λ answer. EachCommands (LocalStands E.stands D.tells D.image D.size D.spare self.old disk.old scenario.now)
-            (λ commands. IsTold (LocalStands E.stands D.tells D.image D.size D.spare self.new disk.new scenario.now) scenario.now commands (Cmd.Commit tx) answer)) }
-        ensures failed { IfErr result (λ why. EachCommands (LocalStands E.stands D.tells D.image D.size D.spare self.old disk.old scenario.now)
-            (IsUntold (LocalStands E.stands D.tells D.image D.size D.spare self.new disk.new scenario.now) (CoreStands E.stands D.tells D.image D.size D.spare self.new.core disk.new) scenario.now why)) }
-        ensures cause { IsErrOf result StepErr.Disk → HasRisen (D.faults disk.old) (D.faults disk.new) }
-        ensures faults { D.faults disk.old ≤ D.faults disk.new }
+        requires stood { SomeCommands (LocalStands E.stands D.tells D.seen self.old disk.old scenario.now) IsShort }
+        ensures told { IfOk result (λ answer. EachCommands (LocalStands E.stands D.tells D.seen self.old disk.old scenario.now)
+            (λ commands. IsTold (LocalStands E.stands D.tells D.seen self.new disk.new scenario.now) scenario.now commands (Cmd.Commit tx) answer)) }
+        ensures failed { IfErr result (λ why. EachCommands (LocalStands E.stands D.tells D.seen self.old disk.old scenario.now)
+            (IsUntold (LocalStands E.stands D.tells D.seen self.new disk.new scenario.now) (CoreStands E.stands D.tells D.seen self.new.core disk.new) scenario.now why)) }
+        ensures cause { IsErrOf result StepErr.Disk → HasRisen ((D.seen disk.old).faults) ((D.seen disk.new).faults) }
+        ensures faults { (D.seen disk.old).faults ≤ (D.seen disk.new).faults }
         ensures site { self.new.site ≡ self.old.site }
     {
         // Every scenario keeps the numbers of its transactions in their range, which a commit's record asks.
@@ -166,13 +166,13 @@ impl<E: LocalEngine> LocalSite<E> {
         tx: Tx,
     ) -> Result<Answer, StepErr>
         requires told { IsTrue D.tells }
-        requires stood { SomeCommands (LocalStands E.stands D.tells D.image D.size D.spare self.old disk.old scenario.now) AnyCommands }
-        ensures told { IfOk result (λ answer. EachCommands (LocalStands E.stands D.tells D.image D.size D.spare self.old disk.old scenario.now)
-            (λ commands. IsTold (LocalStands E.stands D.tells D.image D.size D.spare self.new disk.new scenario.now) scenario.now commands (Cmd.Abort tx) answer)) }
-        ensures failed { IfErr result (λ why. EachCommands (LocalStands E.stands D.tells D.image D.size D.spare self.old disk.old scenario.now)
-            (IsUntold (LocalStands E.stands D.tells D.image D.size D.spare self.new disk.new scenario.now) (CoreStands E.stands D.tells D.image D.size D.spare self.new.core disk.new) scenario.now why)) }
-        ensures cause { IsErrOf result StepErr.Disk → HasRisen (D.faults disk.old) (D.faults disk.new) }
-        ensures faults { D.faults disk.old ≤ D.faults disk.new }
+        requires stood { SomeCommands (LocalStands E.stands D.tells D.seen self.old disk.old scenario.now) AnyCommands }
+        ensures told { IfOk result (λ answer. EachCommands (LocalStands E.stands D.tells D.seen self.old disk.old scenario.now)
+            (λ commands. IsTold (LocalStands E.stands D.tells D.seen self.new disk.new scenario.now) scenario.now commands (Cmd.Abort tx) answer)) }
+        ensures failed { IfErr result (λ why. EachCommands (LocalStands E.stands D.tells D.seen self.old disk.old scenario.now)
+            (IsUntold (LocalStands E.stands D.tells D.seen self.new disk.new scenario.now) (CoreStands E.stands D.tells D.seen self.new.core disk.new) scenario.now why)) }
+        ensures cause { IsErrOf result StepErr.Disk → HasRisen ((D.seen disk.old).faults) ((D.seen disk.new).faults) }
+        ensures faults { (D.seen disk.old).faults ≤ (D.seen disk.new).faults }
         ensures site { self.new.site ≡ self.old.site }
     {
         let lines = transactions(scenario);
@@ -200,13 +200,13 @@ impl<E: LocalEngine> LocalSite<E> {
         tx: Tx,
     ) -> Result<Answer, StepErr>
         requires told { IsTrue D.tells }
-        requires stood { SomeCommands (LocalStands E.stands D.tells D.image D.size D.spare self.old disk.old scenario.now) AnyCommands }
-        ensures told { IfOk result (λ answer. EachCommands (LocalStands E.stands D.tells D.image D.size D.spare self.old disk.old scenario.now)
-            (λ commands. IsTold (LocalStands E.stands D.tells D.image D.size D.spare self.new disk.new scenario.now) scenario.now commands (Cmd.Fate tx) answer)) }
-        ensures failed { IfErr result (λ why. EachCommands (LocalStands E.stands D.tells D.image D.size D.spare self.old disk.old scenario.now)
-            (IsUntold (LocalStands E.stands D.tells D.image D.size D.spare self.new disk.new scenario.now) (CoreStands E.stands D.tells D.image D.size D.spare self.new.core disk.new) scenario.now why)) }
-        ensures cause { IsErrOf result StepErr.Disk → HasRisen (D.faults disk.old) (D.faults disk.new) }
-        ensures faults { D.faults disk.old ≤ D.faults disk.new }
+        requires stood { SomeCommands (LocalStands E.stands D.tells D.seen self.old disk.old scenario.now) AnyCommands }
+        ensures told { IfOk result (λ answer. EachCommands (LocalStands E.stands D.tells D.seen self.old disk.old scenario.now)
+            (λ commands. IsTold (LocalStands E.stands D.tells D.seen self.new disk.new scenario.now) scenario.now commands (Cmd.Fate tx) answer)) }
+        ensures failed { IfErr result (λ why. EachCommands (LocalStands E.stands D.tells D.seen self.old disk.old scenario.now)
+            (IsUntold (LocalStands E.stands D.tells D.seen self.new disk.new scenario.now) (CoreStands E.stands D.tells D.seen self.new.core disk.new) scenario.now why)) }
+        ensures cause { IsErrOf result StepErr.Disk → HasRisen ((D.seen disk.old).faults) ((D.seen disk.new).faults) }
+        ensures faults { (D.seen disk.old).faults ≤ (D.seen disk.new).faults }
         ensures site { self.new.site ≡ self.old.site }
     {
         match place_of(transactions(scenario).as_slice(), tx) {

@@ -56,11 +56,11 @@ impl<E: LocalEngine> World<E> {
     ) -> Result<World<E>, WorldErr>
         requires told { IsTrue D.tells }
         requires start { CanStart E.stands scenario local }
-        requires empty { AreEmpty D.size disks.old.items }
-        ensures stands { IfOk result (λ world. Stands E.stands D.tells D.image D.size D.spare world disks.new.items scenario []) }
-        ensures failed { IfErr result (λ why. FailsToStart D.image D.size why disks.new.items scenario) }
-        ensures cause { IfErr result (λ why. HasCause D.faults why disks.old.items disks.new.items) }
-        ensures faults { NeverFalls D.faults disks.old.items disks.new.items }
+        requires empty { AreEmpty (size_of D.seen) disks.old.items }
+        ensures stands { IfOk result (λ world. Stands E.stands D.tells D.seen world disks.new.items scenario []) }
+        ensures failed { IfErr result (λ why. FailsToStart (image_of D.seen) (size_of D.seen) why disks.new.items scenario) }
+        ensures cause { IfErr result (λ why. HasCause (faults_of D.seen) why disks.old.items disks.new.items) }
+        ensures faults { NeverFalls (faults_of D.seen) disks.old.items disks.new.items }
     {
         let site = match local {
             None => None,
@@ -90,16 +90,16 @@ impl<E: LocalEngine> World<E> {
         command: Command,
     ) -> Result<Answer, WorldErr>
         requires told { IsTrue D.tells }
-        requires stood { SomeStory (Stands E.stands D.tells D.image D.size D.spare self.old disks.old.items) (CanApply command) }
-        ensures answered { IfOk result (λ answer. EachStory (Stands E.stands D.tells D.image D.size D.spare self.old disks.old.items)
-            (IsAnswered E.stands D.tells D.image D.size D.spare self.new.site disks.new.items command answer)) }
-        ensures failed { IfErr result (λ why. EachStory (Stands E.stands D.tells D.image D.size D.spare self.old disks.old.items)
-            (IsUnanswered E.stands D.tells D.image D.size D.spare why self.new.site disks.new.items)) }
+        requires stood { SomeStory (Stands E.stands D.tells D.seen self.old disks.old.items) (CanApply command) }
+        ensures answered { IfOk result (λ answer. EachStory (Stands E.stands D.tells D.seen self.old disks.old.items)
+            (IsAnswered E.stands D.tells D.seen self.new.site disks.new.items command answer)) }
+        ensures failed { IfErr result (λ why. EachStory (Stands E.stands D.tells D.seen self.old disks.old.items)
+            (IsUnanswered E.stands D.tells D.seen why self.new.site disks.new.items)) }
         ensures scenario { self.new.scenario ≡ self.old.scenario }
         ensures lines { self.new.lines ≡ self.old.lines }
         ensures broken { self.new.broken ≡ self.old.broken }
-        ensures cause { IfErr result (λ why. HasCause D.faults why disks.old.items disks.new.items) }
-        ensures faults { NeverFalls D.faults disks.old.items disks.new.items }
+        ensures cause { IfErr result (λ why. HasCause (faults_of D.seen) why disks.old.items disks.new.items) }
+        ensures faults { NeverFalls (faults_of D.seen) disks.old.items disks.new.items }
     {
         match &mut self.site {
             None => Ok(Answer::None),
@@ -122,13 +122,13 @@ impl<E: LocalEngine> World<E> {
         command: Command,
     ) -> Result<(), WorldErr>
         requires told { IsTrue D.tells }
-        requires stood { SomeStory (Stands E.stands D.tells D.image D.size D.spare self.old disks.old.items) (CanApply command) }
-        ensures applied { OnOk result (EachStory (Stands E.stands D.tells D.image D.size D.spare self.old disks.old.items)
-            (λ scenario commands. Stands E.stands D.tells D.image D.size D.spare self.new disks.new.items scenario (command ∷ commands))) }
-        ensures failed { IfErr result (λ why. EachStory (Stands E.stands D.tells D.image D.size D.spare self.old disks.old.items)
-            (Fails E.stands D.tells D.image D.size D.spare why self.new disks.new.items)) }
-        ensures cause { IfErr result (λ why. HasCause D.faults why disks.old.items disks.new.items) }
-        ensures faults { NeverFalls D.faults disks.old.items disks.new.items }
+        requires stood { SomeStory (Stands E.stands D.tells D.seen self.old disks.old.items) (CanApply command) }
+        ensures applied { OnOk result (EachStory (Stands E.stands D.tells D.seen self.old disks.old.items)
+            (λ scenario commands. Stands E.stands D.tells D.seen self.new disks.new.items scenario (command ∷ commands))) }
+        ensures failed { IfErr result (λ why. EachStory (Stands E.stands D.tells D.seen self.old disks.old.items)
+            (Fails E.stands D.tells D.seen why self.new disks.new.items)) }
+        ensures cause { IfErr result (λ why. HasCause (faults_of D.seen) why disks.old.items disks.new.items) }
+        ensures faults { NeverFalls (faults_of D.seen) disks.old.items disks.new.items }
     {
         let Ok(()) = self.lines.reserve(1) else {
             return Err(WorldErr::Memory);
@@ -197,13 +197,13 @@ impl<E: LocalEngine> World<E> {
     /// A trip that is armed is disarmed.
     fn disarm<D: Disk>(&mut self, alloc: Global, disks: &mut Vec<D>) -> Result<(), WorldErr>
         requires told { IsTrue D.tells }
-        requires stood { SomeStory (Stands E.stands D.tells D.image D.size D.spare self.old disks.old.items) HasRoom }
-        ensures done { OnOk result (EachStory (Stands E.stands D.tells D.image D.size D.spare self.old disks.old.items)
-            (λ scenario commands. Stands E.stands D.tells D.image D.size D.spare self.new disks.new.items scenario (all_disarmed scenario commands))) }
-        ensures failed { IfErr result (λ why. EachStory (Stands E.stands D.tells D.image D.size D.spare self.old disks.old.items)
-            (λ scenario commands. FailsToward E.stands D.tells D.image D.size D.spare why self.new disks.new.items (all_disarmed scenario commands) scenario commands)) }
-        ensures cause { IfErr result (λ why. HasCause D.faults why disks.old.items disks.new.items) }
-        ensures faults { NeverFalls D.faults disks.old.items disks.new.items }
+        requires stood { SomeStory (Stands E.stands D.tells D.seen self.old disks.old.items) HasRoom }
+        ensures done { OnOk result (EachStory (Stands E.stands D.tells D.seen self.old disks.old.items)
+            (λ scenario commands. Stands E.stands D.tells D.seen self.new disks.new.items scenario (all_disarmed scenario commands))) }
+        ensures failed { IfErr result (λ why. EachStory (Stands E.stands D.tells D.seen self.old disks.old.items)
+            (λ scenario commands. FailsToward E.stands D.tells D.seen why self.new disks.new.items (all_disarmed scenario commands) scenario commands)) }
+        ensures cause { IfErr result (λ why. HasCause (faults_of D.seen) why disks.old.items disks.new.items) }
+        ensures faults { NeverFalls (faults_of D.seen) disks.old.items disks.new.items }
     {
         match self.armed_site() {
             None => Ok(()),
@@ -222,13 +222,13 @@ impl<E: LocalEngine> World<E> {
     /// A site that is down comes back.
     fn bring_up<D: Disk>(&mut self, alloc: Global, disks: &mut Vec<D>) -> Result<(), WorldErr>
         requires told { IsTrue D.tells }
-        requires stood { SomeStory (Stands E.stands D.tells D.image D.size D.spare self.old disks.old.items) HasRoom }
-        ensures done { OnOk result (EachStory (Stands E.stands D.tells D.image D.size D.spare self.old disks.old.items)
-            (λ scenario commands. Stands E.stands D.tells D.image D.size D.spare self.new disks.new.items scenario (all_up scenario commands))) }
-        ensures failed { IfErr result (λ why. EachStory (Stands E.stands D.tells D.image D.size D.spare self.old disks.old.items)
-            (λ scenario commands. FailsToward E.stands D.tells D.image D.size D.spare why self.new disks.new.items (all_up scenario commands) scenario commands)) }
-        ensures cause { IfErr result (λ why. HasCause D.faults why disks.old.items disks.new.items) }
-        ensures faults { NeverFalls D.faults disks.old.items disks.new.items }
+        requires stood { SomeStory (Stands E.stands D.tells D.seen self.old disks.old.items) HasRoom }
+        ensures done { OnOk result (EachStory (Stands E.stands D.tells D.seen self.old disks.old.items)
+            (λ scenario commands. Stands E.stands D.tells D.seen self.new disks.new.items scenario (all_up scenario commands))) }
+        ensures failed { IfErr result (λ why. EachStory (Stands E.stands D.tells D.seen self.old disks.old.items)
+            (λ scenario commands. FailsToward E.stands D.tells D.seen why self.new disks.new.items (all_up scenario commands) scenario commands)) }
+        ensures cause { IfErr result (λ why. HasCause (faults_of D.seen) why disks.old.items disks.new.items) }
+        ensures faults { NeverFalls (faults_of D.seen) disks.old.items disks.new.items }
     {
         match self.down_site() {
             None => Ok(()),
@@ -239,13 +239,13 @@ impl<E: LocalEngine> World<E> {
     /// Each live attempt is aborted, by rising transaction.
     fn clear<D: Disk>(&mut self, alloc: Global, disks: &mut Vec<D>) -> Result<(), WorldErr>
         requires told { IsTrue D.tells }
-        requires stood { SomeStory (Stands E.stands D.tells D.image D.size D.spare self.old disks.old.items) AnyStory }
-        ensures done { OnOk result (EachStory (Stands E.stands D.tells D.image D.size D.spare self.old disks.old.items)
-            (λ scenario commands. Stands E.stands D.tells D.image D.size D.spare self.new disks.new.items scenario (all_cleared scenario commands))) }
-        ensures failed { IfErr result (λ why. EachStory (Stands E.stands D.tells D.image D.size D.spare self.old disks.old.items)
-            (λ scenario commands. FailsToward E.stands D.tells D.image D.size D.spare why self.new disks.new.items (all_cleared scenario commands) scenario commands)) }
-        ensures cause { IfErr result (λ why. HasCause D.faults why disks.old.items disks.new.items) }
-        ensures faults { NeverFalls D.faults disks.old.items disks.new.items }
+        requires stood { SomeStory (Stands E.stands D.tells D.seen self.old disks.old.items) AnyStory }
+        ensures done { OnOk result (EachStory (Stands E.stands D.tells D.seen self.old disks.old.items)
+            (λ scenario commands. Stands E.stands D.tells D.seen self.new disks.new.items scenario (all_cleared scenario commands))) }
+        ensures failed { IfErr result (λ why. EachStory (Stands E.stands D.tells D.seen self.old disks.old.items)
+            (λ scenario commands. FailsToward E.stands D.tells D.seen why self.new disks.new.items (all_cleared scenario commands) scenario commands)) }
+        ensures cause { IfErr result (λ why. HasCause (faults_of D.seen) why disks.old.items disks.new.items) }
+        ensures faults { NeverFalls (faults_of D.seen) disks.old.items disks.new.items }
     {
         let Ok(live) = self.live(alloc) else {
             return Err(WorldErr::Memory);
@@ -260,13 +260,13 @@ impl<E: LocalEngine> World<E> {
     /// transaction. After a refusal the lines made until then stand.
     pub fn close<D: Disk>(&mut self, alloc: Global, disks: &mut Vec<D>) -> Result<(), WorldErr>
         requires told { IsTrue D.tells }
-        requires stood { SomeStory (Stands E.stands D.tells D.image D.size D.spare self.old disks.old.items) CanClose }
-        ensures closed { OnOk result (EachStory (Stands E.stands D.tells D.image D.size D.spare self.old disks.old.items)
-            (λ scenario commands. Stands E.stands D.tells D.image D.size D.spare self.new disks.new.items scenario (closed scenario commands))) }
-        ensures failed { IfErr result (λ why. EachStory (Stands E.stands D.tells D.image D.size D.spare self.old disks.old.items)
-            (FailsToClose E.stands D.tells D.image D.size D.spare why self.new disks.new.items)) }
-        ensures cause { IfErr result (λ why. HasCause D.faults why disks.old.items disks.new.items) }
-        ensures faults { NeverFalls D.faults disks.old.items disks.new.items }
+        requires stood { SomeStory (Stands E.stands D.tells D.seen self.old disks.old.items) CanClose }
+        ensures closed { OnOk result (EachStory (Stands E.stands D.tells D.seen self.old disks.old.items)
+            (λ scenario commands. Stands E.stands D.tells D.seen self.new disks.new.items scenario (closed scenario commands))) }
+        ensures failed { IfErr result (λ why. EachStory (Stands E.stands D.tells D.seen self.old disks.old.items)
+            (FailsToClose E.stands D.tells D.seen why self.new disks.new.items)) }
+        ensures cause { IfErr result (λ why. HasCause (faults_of D.seen) why disks.old.items disks.new.items) }
+        ensures faults { NeverFalls (faults_of D.seen) disks.old.items disks.new.items }
     {
         self.disarm(alloc, disks)?;
         self.bring_up(alloc, disks)?;

@@ -67,18 +67,18 @@ seen_bytes Down image = refl
 seen_bytes Failing image = refl
 
 -- a disk on which a store stands for that of the rules holds its bytes
-pub keeps_bytes : {D : Type 0} (tells : Bool) (image : D → Image) (size spare : D → ℕ) (one : D) (store : Store) (rules : Disk SiteRecord) (in_force : Option Trip)
-    → Keeps tells image size spare one store rules in_force → HoldsBytes (image one) rules
-keeps_bytes tells image size spare one store rules in_force k = record {
+pub keeps_bytes : {D : Type 0} (tells : Bool) (seen : D → Seen) (one : D) (store : Store) (rules : Disk SiteRecord) (in_force : Option Trip)
+    → Keeps tells seen one store rules in_force → HoldsBytes (image one) rules
+keeps_bytes tells seen one store rules in_force k = record {
   records = subst (λ bytes. AreRecordsOf spelling bytes (reverse rules.records)) (seen_bytes store.standing (image one)) k.stands.records;
   bytes = ap length (sym (seen_bytes store.standing (image one))) ∙ k.stands.bytes;
 }
 
 -- while its site is up they are the frames of its records
-pub keeps_frames : {D : Type 0} (tells : Bool) (image : D → Image) (size spare : D → ℕ) (one : D) (store : Store) (rules : Disk SiteRecord) (in_force : Option Trip)
-    → IsTrue tells → length (image one).bytes ≡ size one → is_up store.standing ≡ true → Keeps tells image size spare one store rules in_force
+pub keeps_frames : {D : Type 0} (tells : Bool) (seen : D → Seen) (one : D) (store : Store) (rules : Disk SiteRecord) (in_force : Option Trip)
+    → IsTrue tells → length (image one).bytes ≡ size one → is_up store.standing ≡ true → Keeps tells seen one store rules in_force
     → (image one).bytes ≡ spelled spelling (reverse rules.records)
-keeps_frames tells image size spare one store rules in_force told sized up k =
+keeps_frames tells seen one store rules in_force told sized up k =
     let payloads = map spelling store.journal.records in
     let are = k.kept_on.records told in
     let whole : store.journal.is_torn ≡ false = untorn store.standing up k.in_order in
@@ -93,11 +93,11 @@ keeps_frames tells image size spare one store rules in_force told sized up k =
     untorn Failing e o = absurd cc
 
 -- what a cut event leaves is some stop within it
-pub cut_stops : {E D : Type 0} (stands : E → Start → List EngineLine → Type 0) (tells : Bool) (image : D → Image) (size spare : D → ℕ) (core : SiteCore E) (one : D) (home : Home) (past : SitePast)
-    → IsCut (CoreStands stands tells image size spare core one) home past → StopsWithin (image one) home past
+pub cut_stops : {E D : Type 0} (stands : E → Start → List EngineLine → Type 0) (tells : Bool) (seen : D → Seen) (core : SiteCore E) (one : D) (home : Home) (past : SitePast)
+    → IsCut (CoreStands stands tells seen core one) home past → StopsWithin (image one) home past
 unfolding stopped
-cut_stops stands tells image size spare core one home past (event, n, cut, stood) =
-    (event, (n, cut, keeps_bytes tells image size spare one core.store (stopped_disk n cut (disk home past) (answered home past event).calls) _ stood.stored))
+cut_stops stands tells seen core one home past (event, n, cut, stood) =
+    (event, (n, cut, keeps_bytes tells seen one core.store (stopped_disk n cut (disk home past) (answered home past event).calls) _ stood.stored))
 
 -- each disk but this one has no byte
 abbrev pub OthersNothing : {D : Type 0} → (D → Image) → ℕ → List D → Type 0

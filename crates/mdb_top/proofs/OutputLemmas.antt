@@ -131,9 +131,9 @@ pub session_commands : (session : Session) (commands : List Command) → command
 session_commands session commands e = ap (λ cs. closed session.scenario cs) (append-nil (reverse commands) ∙ ap reverse e)
 
 -- where a world fails some first ones were carried out
-pub plays_front : {E D : Type 0} (stands : E → Start → List EngineLine → Type 0) (tells : Bool) (image : D → Image) (size spare : D → ℕ) (why : WorldErr) (world : World E) (disks : List D) (session : Session) (commands : List Command)
-    → commands ≡ session.commands → (f : FailsToPlay stands tells image size spare why world disks commands session.scenario []) → IsFront f.done session
-plays_front stands tells image size spare why world disks session commands e f = (f.left, sym (session_commands session commands e) ∙ f.of_session)
+pub plays_front : {E D : Type 0} (stands : E → Start → List EngineLine → Type 0) (tells : Bool) (seen : D → Seen) (why : WorldErr) (world : World E) (disks : List D) (session : Session) (commands : List Command)
+    → commands ≡ session.commands → (f : FailsToPlay stands tells seen why world disks commands session.scenario []) → IsFront f.done session
+plays_front stands tells seen why world disks session commands e f = (f.left, sym (session_commands session commands e) ∙ f.of_session)
 
 -- what an output says of a whole one follows from more
 pub whole_weaker : (r : Result Output Memory) (P Q : List ℕ → Type 0) → ((bytes : List ℕ) → P bytes → Q bytes) → IfWhole r P → IfWhole r Q

@@ -56,29 +56,29 @@ fewer all place before =
     let b = length-append (reverse (drop place all)) (with_commands (take place all) before) in omega (arith, a, b)
 
 -- what a world stands for: a closed session with these commands, which ends with the first of them
-pub closed_front : {E D : Type 0} (stands : E → Start → List EngineLine → Type 0) (tells : Bool) (image : D → Image) (size spare : D → ℕ) (world : World E) (disks : List D) (all : List Command) (scenario : Scenario) (before : List Command)
-    → SomeStory (Stands stands tells image size spare world disks) (CanPlay all) → Stands stands tells image size spare world disks scenario before
+pub closed_front : {E D : Type 0} (stands : E → Start → List EngineLine → Type 0) (tells : Bool) (seen : D → Seen) (world : World E) (disks : List D) (all : List Command) (scenario : Scenario) (before : List Command)
+    → SomeStory (Stands stands tells seen world disks) (CanPlay all) → Stands stands tells seen world disks scenario before
     → (left : List Command) × (closed scenario (with_commands all before) ≡ left ++ with_commands all before)
-closed_front stands tells image size spare world disks all scenario before some stood =
+closed_front stands tells seen world disks all scenario before some stood =
     let same : some.scenario ≡ scenario = sym some.stood.has.scenario_is ∙ stood.has.scenario_is in
     let whole : IsScenario scenario = subst (λ (s : Scenario). IsScenario s) same some.holds.scenario_is in
-    let one = stands_one stands tells image size spare world disks scenario before stood in
+    let one = stands_one stands tells seen world disks scenario before stood in
     let own = own_all all some.holds.own in
     closed_ends scenario (with_commands all before) whole one.0
     (each_append IsOwn (reverse all) before (each_reverse IsOwn all own.0) one.1)
     (each_append IsAtSite (reverse all) before (each_reverse IsAtSite all own.1) stood.at_sites)
 
 -- the world stands for the first commands behind those before
-abbrev pub HasPlayed : {E D : Type 0} → (E → Start → List EngineLine → Type 0) → Bool → (D → Image) → (D → ℕ) → (D → ℕ) → World E → List D → World E → List D → List Command → Type 0
-HasPlayed stands tells image size spare old old_disks new new_disks commands =
-    EachStory (Stands stands tells image size spare old old_disks) (λ scenario before. Stands stands tells image size spare new new_disks scenario (with_commands commands before))
+abbrev pub HasPlayed : {E D : Type 0} → (E → Start → List EngineLine → Type 0) → Bool → (D → Seen) → World E → List D → World E → List D → List Command → Type 0
+HasPlayed stands tells seen old old_disks new new_disks commands =
+    EachStory (Stands stands tells seen old old_disks) (λ scenario before. Stands stands tells seen new new_disks scenario (with_commands commands before))
 
-pub played_more : {E D : Type 0} (stands : E → Start → List EngineLine → Type 0) (tells : Bool) (image : D → Image) (size spare : D → ℕ) (old : World E) (old_disks : List D) (now : World E) (now_disks : List D) (new : World E) (new_disks : List D) (all : List Command) (place : ℕ) (command : Command)
-    → place < length all → HasPlayed stands tells image size spare old old_disks now now_disks (take place all)
-    → EachStory (Stands stands tells image size spare now now_disks) (λ scenario commands. Stands stands tells image size spare new new_disks scenario (get_or all place command ∷ commands))
-    → HasPlayed stands tells image size spare old old_disks new new_disks (take (place + 1) all)
-played_more stands tells image size spare old old_disks now now_disks new new_disks all place command within so_far applied scenario before stood =
-    subst (λ (cs : List Command). Stands stands tells image size spare new new_disks scenario cs) (sym (one_more all place command before within))
+pub played_more : {E D : Type 0} (stands : E → Start → List EngineLine → Type 0) (tells : Bool) (seen : D → Seen) (old : World E) (old_disks : List D) (now : World E) (now_disks : List D) (new : World E) (new_disks : List D) (all : List Command) (place : ℕ) (command : Command)
+    → place < length all → HasPlayed stands tells seen old old_disks now now_disks (take place all)
+    → EachStory (Stands stands tells seen now now_disks) (λ scenario commands. Stands stands tells seen new new_disks scenario (get_or all place command ∷ commands))
+    → HasPlayed stands tells seen old old_disks new new_disks (take (place + 1) all)
+played_more stands tells seen old old_disks now now_disks new new_disks all place command within so_far applied scenario before stood =
+    subst (λ (cs : List Command). Stands stands tells seen new new_disks scenario cs) (sym (one_more all place command before within))
     (applied scenario (with_commands (take place all) before) (so_far scenario before stood))
 
 -- where few commands stand before it, the numbers of a command fit
@@ -100,10 +100,10 @@ numbers_fit (Cmd.Trip actor calls cut) commands few = few
 numbers_fit (Cmd.Back actor) commands few = few
 
 -- the next command may be carried out
-pub can_apply : {E D : Type 0} (stands : E → Start → List EngineLine → Type 0) (tells : Bool) (image : D → Image) (size spare : D → ℕ) (old : World E) (old_disks : List D) (now : World E) (now_disks : List D) (all : List Command) (place : ℕ) (command : Command)
-    → SomeStory (Stands stands tells image size spare old old_disks) (CanPlay all) → HasPlayed stands tells image size spare old old_disks now now_disks (take place all) → slice_get all place ≡ Some command
-    → SomeStory (Stands stands tells image size spare now now_disks) (CanApply command)
-can_apply stands tells image size spare old old_disks now now_disks all place command some so_far at =
+pub can_apply : {E D : Type 0} (stands : E → Start → List EngineLine → Type 0) (tells : Bool) (seen : D → Seen) (old : World E) (old_disks : List D) (now : World E) (now_disks : List D) (all : List Command) (place : ℕ) (command : Command)
+    → SomeStory (Stands stands tells seen old old_disks) (CanPlay all) → HasPlayed stands tells seen old old_disks now now_disks (take place all) → slice_get all place ≡ Some command
+    → SomeStory (Stands stands tells seen now now_disks) (CanApply command)
+can_apply stands tells seen old old_disks now now_disks all place command some so_far at =
     let own = own_at all place command some.holds.own at in
     let less = fewer all place some.commands in
     let few = some.holds.few in
@@ -115,12 +115,12 @@ can_apply stands tells image size spare old old_disks now now_disks all place co
     }
 
 -- at the next command the world fails
-pub fails_at : {E D : Type 0} (stands : E → Start → List EngineLine → Type 0) (tells : Bool) (image : D → Image) (size spare : D → ℕ) (old : World E) (old_disks : List D) (now : World E) (now_disks : List D) (new : World E) (new_disks : List D) (why : WorldErr) (all : List Command) (place : ℕ)
-    → SomeStory (Stands stands tells image size spare old old_disks) (CanPlay all) → HasPlayed stands tells image size spare old old_disks now now_disks (take place all)
-    → EachStory (Stands stands tells image size spare now now_disks) (Fails stands tells image size spare why new new_disks)
-    → EachStory (Stands stands tells image size spare old old_disks) (FailsToPlay stands tells image size spare why new new_disks all)
-fails_at stands tells image size spare old old_disks now now_disks new new_disks why all place some so_far fails scenario before stood =
-    let front = closed_front stands tells image size spare old old_disks all scenario before some stood in
+pub fails_at : {E D : Type 0} (stands : E → Start → List EngineLine → Type 0) (tells : Bool) (seen : D → Seen) (old : World E) (old_disks : List D) (now : World E) (now_disks : List D) (new : World E) (new_disks : List D) (why : WorldErr) (all : List Command) (place : ℕ)
+    → SomeStory (Stands stands tells seen old old_disks) (CanPlay all) → HasPlayed stands tells seen old old_disks now now_disks (take place all)
+    → EachStory (Stands stands tells seen now now_disks) (Fails stands tells seen why new new_disks)
+    → EachStory (Stands stands tells seen old old_disks) (FailsToPlay stands tells seen why new new_disks all)
+fails_at stands tells seen old old_disks now now_disks new new_disks why all place some so_far fails scenario before stood =
+    let front = closed_front stands tells seen old old_disks all scenario before some stood in
     let done = with_commands (take place all) before in
     record {
       done = done;
@@ -130,15 +130,15 @@ fails_at stands tells image size spare old old_disks now now_disks new new_disks
     }
 
 -- behind the last command the session may be closed
-pub played_all : {E D : Type 0} (stands : E → Start → List EngineLine → Type 0) (tells : Bool) (image : D → Image) (size spare : D → ℕ) (old : World E) (old_disks : List D) (now : World E) (now_disks : List D) (all : List Command) (place : ℕ)
-    → length all ≤ place → HasPlayed stands tells image size spare old old_disks now now_disks (take place all) → HasPlayed stands tells image size spare old old_disks now now_disks all
-played_all stands tells image size spare old old_disks now now_disks all place end so_far =
-    subst (λ (cs : List Command). HasPlayed stands tells image size spare old old_disks now now_disks cs) (take_all place all end) so_far
+pub played_all : {E D : Type 0} (stands : E → Start → List EngineLine → Type 0) (tells : Bool) (seen : D → Seen) (old : World E) (old_disks : List D) (now : World E) (now_disks : List D) (all : List Command) (place : ℕ)
+    → length all ≤ place → HasPlayed stands tells seen old old_disks now now_disks (take place all) → HasPlayed stands tells seen old old_disks now now_disks all
+played_all stands tells seen old old_disks now now_disks all place end so_far =
+    subst (λ (cs : List Command). HasPlayed stands tells seen old old_disks now now_disks cs) (take_all place all end) so_far
 
-pub can_close : {E D : Type 0} (stands : E → Start → List EngineLine → Type 0) (tells : Bool) (image : D → Image) (size spare : D → ℕ) (old : World E) (old_disks : List D) (now : World E) (now_disks : List D) (all : List Command)
-    → SomeStory (Stands stands tells image size spare old old_disks) (CanPlay all) → HasPlayed stands tells image size spare old old_disks now now_disks all
-    → SomeStory (Stands stands tells image size spare now now_disks) CanClose
-can_close stands tells image size spare old old_disks now now_disks all some so_far = record {
+pub can_close : {E D : Type 0} (stands : E → Start → List EngineLine → Type 0) (tells : Bool) (seen : D → Seen) (old : World E) (old_disks : List D) (now : World E) (now_disks : List D) (all : List Command)
+    → SomeStory (Stands stands tells seen old old_disks) (CanPlay all) → HasPlayed stands tells seen old old_disks now now_disks all
+    → SomeStory (Stands stands tells seen now now_disks) CanClose
+can_close stands tells seen old old_disks now now_disks all some so_far = record {
   scenario = some.scenario;
   commands = with_commands all some.commands;
   stood = so_far some.scenario some.commands some.stood;
@@ -146,15 +146,15 @@ can_close stands tells image size spare old old_disks now now_disks all some so_
 }
 
 -- where closing fails, the commands of the session were carried out and some of those that close it
-pub fails_closing : {E D : Type 0} (stands : E → Start → List EngineLine → Type 0) (tells : Bool) (image : D → Image) (size spare : D → ℕ) (old : World E) (old_disks : List D) (now : World E) (now_disks : List D) (new : World E) (new_disks : List D) (why : WorldErr) (all : List Command)
-    → HasPlayed stands tells image size spare old old_disks now now_disks all
-    → EachStory (Stands stands tells image size spare now now_disks) (FailsToClose stands tells image size spare why new new_disks)
-    → EachStory (Stands stands tells image size spare old old_disks) (FailsToPlay stands tells image size spare why new new_disks all)
-fails_closing stands tells image size spare old old_disks now now_disks new new_disks why all so_far fails scenario before stood =
+pub fails_closing : {E D : Type 0} (stands : E → Start → List EngineLine → Type 0) (tells : Bool) (seen : D → Seen) (old : World E) (old_disks : List D) (now : World E) (now_disks : List D) (new : World E) (new_disks : List D) (why : WorldErr) (all : List Command)
+    → HasPlayed stands tells seen old old_disks now now_disks all
+    → EachStory (Stands stands tells seen now now_disks) (FailsToClose stands tells seen why new new_disks)
+    → EachStory (Stands stands tells seen old old_disks) (FailsToPlay stands tells seen why new new_disks all)
+fails_closing stands tells seen old old_disks now now_disks new new_disks why all so_far fails scenario before stood =
     let f = fails scenario (with_commands all before) (so_far scenario before stood) in
     record { done = f.done ++ with_commands all before; left = f.left; of_session = f.of_closing ∙ append_assoc f.left f.done (with_commands all before); fails = f.fails }
 
 -- as many disks as before
-pub as_many : {E D : Type 0} (stands : E → Start → List EngineLine → Type 0) (tells : Bool) (image : D → Image) (size spare : D → ℕ) (old : World E) (old_disks : List D) (now : World E) (now_disks : List D) (all some : List Command)
-    → SomeStory (Stands stands tells image size spare old old_disks) (CanPlay all) → HasPlayed stands tells image size spare old old_disks now now_disks some → length now_disks ≡ length old_disks
-as_many stands tells image size spare old old_disks now now_disks all some story so_far = (so_far story.scenario story.commands story.stood).others.nine ∙ sym story.stood.others.nine
+pub as_many : {E D : Type 0} (stands : E → Start → List EngineLine → Type 0) (tells : Bool) (seen : D → Seen) (old : World E) (old_disks : List D) (now : World E) (now_disks : List D) (all some : List Command)
+    → SomeStory (Stands stands tells seen old old_disks) (CanPlay all) → HasPlayed stands tells seen old old_disks now now_disks some → length now_disks ≡ length old_disks
+as_many stands tells seen old old_disks now now_disks all some story so_far = (so_far story.scenario story.commands story.stood).others.nine ∙ sym story.stood.others.nine

@@ -25,31 +25,31 @@ abbrev pub AreSized : {D : Type 0} → (D → Image) → (D → ℕ) → Type 0
 AreSized {D} image size = (one : D) → length (image one).bytes ≡ size one
 
 -- a world has one site at most, and carries out own commands
-one_part : {E D : Type 0} (stands : E → Start → List EngineLine → Type 0) (tells : Bool) (image : D → Image) (size spare : D → ℕ) (site : Option (LocalSite E)) (disks : List D) (scenario : Scenario) (commands : List Command)
-    → PartStands stands tells image size spare site disks scenario commands → IsOneSite scenario × Each IsOwn commands
-one_part stands tells image size spare None disks scenario commands p = (inl (p.0, p.1), p.2)
-one_part stands tells image size spare (Some site) disks scenario commands p = (inr (p.stood.line, p.stood.alone), p.stood.own)
+one_part : {E D : Type 0} (stands : E → Start → List EngineLine → Type 0) (tells : Bool) (seen : D → Seen) (site : Option (LocalSite E)) (disks : List D) (scenario : Scenario) (commands : List Command)
+    → PartStands stands tells seen site disks scenario commands → IsOneSite scenario × Each IsOwn commands
+one_part stands tells seen None disks scenario commands p = (inl (p.0, p.1), p.2)
+one_part stands tells seen (Some site) disks scenario commands p = (inr (p.stood.line, p.stood.alone), p.stood.own)
 
-pub stands_one : {E D : Type 0} (stands : E → Start → List EngineLine → Type 0) (tells : Bool) (image : D → Image) (size spare : D → ℕ) (world : World E) (disks : List D) (scenario : Scenario) (commands : List Command)
-    → Stands stands tells image size spare world disks scenario commands → IsOneSite scenario × Each IsOwn commands
-stands_one stands tells image size spare world disks scenario commands stood = one_part stands tells image size spare world.site disks scenario commands stood.site
+pub stands_one : {E D : Type 0} (stands : E → Start → List EngineLine → Type 0) (tells : Bool) (seen : D → Seen) (world : World E) (disks : List D) (scenario : Scenario) (commands : List Command)
+    → Stands stands tells seen world disks scenario commands → IsOneSite scenario × Each IsOwn commands
+stands_one stands tells seen world disks scenario commands stood = one_part stands tells seen world.site disks scenario commands stood.site
 
 -- what a world stands for it recalls, whatever is on its disks
-recalls_part : {E D : Type 0} (stands : E → Start → List EngineLine → Type 0) (tells : Bool) (image : D → Image) (size spare : D → ℕ) (site : Option (LocalSite E)) (disks : List D) (scenario : Scenario) (commands : List Command)
-    → PartStands stands tells image size spare site disks scenario commands → PartHolds stands site scenario commands
-recalls_part stands tells image size spare None disks scenario commands p = p
-recalls_part stands tells image size spare (Some site) disks scenario commands p = record {
+recalls_part : {E D : Type 0} (stands : E → Start → List EngineLine → Type 0) (tells : Bool) (seen : D → Seen) (site : Option (LocalSite E)) (disks : List D) (scenario : Scenario) (commands : List Command)
+    → PartStands stands tells seen site disks scenario commands → PartHolds stands site scenario commands
+recalls_part stands tells seen None disks scenario commands p = p
+recalls_part stands tells seen (Some site) disks scenario commands p = record {
   line = p.stood.line;
   alone = p.stood.alone;
   own = p.stood.own;
   at = record { stood = p.stood.at.stood.holds; number = p.stood.at.number; places = p.stood.at.places; kept = p.stood.at.kept; tripped = p.stood.at.tripped };
 }
 
-pub stands_recalls : {E D : Type 0} (stands : E → Start → List EngineLine → Type 0) (tells : Bool) (image : D → Image) (size spare : D → ℕ) (world : World E) (disks : List D) (scenario : Scenario) (commands : List Command)
-    → Stands stands tells image size spare world disks scenario commands → Recalls stands world scenario commands
-stands_recalls stands tells image size spare world disks scenario commands stood = record {
+pub stands_recalls : {E D : Type 0} (stands : E → Start → List EngineLine → Type 0) (tells : Bool) (seen : D → Seen) (world : World E) (disks : List D) (scenario : Scenario) (commands : List Command)
+    → Stands stands tells seen world disks scenario commands → Recalls stands world scenario commands
+stands_recalls stands tells seen world disks scenario commands stood = record {
   has = stood.has;
-  site = recalls_part stands tells image size spare world.site disks scenario commands stood.site;
+  site = recalls_part stands tells seen world.site disks scenario commands stood.site;
   uncoordinated = stood.uncoordinated;
 }
 
@@ -62,38 +62,38 @@ pub empty_nothing : {D : Type 0} (image : D → Image) (size : D → ℕ) (disks
 empty_nothing image size disks sized empty place one at = nothing (image one).bytes (sized one ∙ empty.empty place one at)
 
 -- each disk holds what the rules say
-part_holds_all : {E D : Type 0} (stands : E → Start → List EngineLine → Type 0) (tells : Bool) (image : D → Image) (size spare : D → ℕ) (site : Option (LocalSite E)) (disks : List D) (scenario : Scenario) (commands : List Command)
-    → AreSized image size → PartStands stands tells image size spare site disks scenario commands → OthersEmpty size site disks → HoldAll image disks scenario (story_of scenario commands)
-part_holds_all stands tells image size spare None disks scenario commands sized p o =
+part_holds_all : {E D : Type 0} (stands : E → Start → List EngineLine → Type 0) (tells : Bool) (seen : D → Seen) (site : Option (LocalSite E)) (disks : List D) (scenario : Scenario) (commands : List Command)
+    → AreSized image size → PartStands stands tells seen site disks scenario commands → OthersEmpty size site disks → HoldAll image disks scenario (story_of scenario commands)
+part_holds_all stands tells seen None disks scenario commands sized p o =
     none_hold_all image disks scenario (story_of scenario commands) p.0 (λ place one at. nothing (image one).bytes (sized one ∙ o.empty place one at tt))
-part_holds_all {E} {D} stands tells image size spare (Some site) disks scenario commands sized p o =
+part_holds_all {E} {D} stands tells seen (Some site) disks scenario commands sized p o =
     let s = p.stood in
     let number : site.site.0 ≡ s.line.site.0 = ap (λ n. n.0) s.at.number in
     one_hold_all image disks scenario s.line (story_of scenario commands) p.disk s.alone.sites (subst (λ n. slice_get disks n ≡ Some p.disk) number p.own)
-    (keeps_bytes tells image size spare p.disk site.core.store _ _ s.at.stood.stored)
+    (keeps_bytes tells seen p.disk site.core.store _ _ s.at.stood.stored)
     (others_nothing image size s.line.site.0 disks sized (λ place one at apart. o.empty place one at (λ same. apart (same ∙ number))))
 
-pub stands_hold_all : {E D : Type 0} (stands : E → Start → List EngineLine → Type 0) (tells : Bool) (image : D → Image) (size spare : D → ℕ) (world : World E) (disks : List D) (scenario : Scenario) (commands : List Command)
-    → AreSized image size → Stands stands tells image size spare world disks scenario commands → HoldAll image disks scenario (story_of scenario commands)
-stands_hold_all stands tells image size spare world disks scenario commands sized stood = part_holds_all stands tells image size spare world.site disks scenario commands sized stood.site stood.others
+pub stands_hold_all : {E D : Type 0} (stands : E → Start → List EngineLine → Type 0) (tells : Bool) (seen : D → Seen) (world : World E) (disks : List D) (scenario : Scenario) (commands : List Command)
+    → AreSized image size → Stands stands tells seen world disks scenario commands → HoldAll image disks scenario (story_of scenario commands)
+stands_hold_all stands tells seen world disks scenario commands sized stood = part_holds_all stands tells seen world.site disks scenario commands sized stood.site stood.others
 
 -- and while the site is up it holds the frames of its records alone
-part_holds_frames : {E D : Type 0} (stands : E → Start → List EngineLine → Type 0) (tells : Bool) (image : D → Image) (size spare : D → ℕ) (site : Option (LocalSite E)) (disks : List D) (scenario : Scenario) (commands : List Command)
-    → IsTrue tells → AreSized image size → AllUp scenario commands → PartStands stands tells image size spare site disks scenario commands → OthersEmpty size site disks → HoldFrames image disks scenario (story_of scenario commands)
-part_holds_frames stands tells image size spare None disks scenario commands told sized up p o =
+part_holds_frames : {E D : Type 0} (stands : E → Start → List EngineLine → Type 0) (tells : Bool) (seen : D → Seen) (site : Option (LocalSite E)) (disks : List D) (scenario : Scenario) (commands : List Command)
+    → IsTrue tells → AreSized image size → AllUp scenario commands → PartStands stands tells seen site disks scenario commands → OthersEmpty size site disks → HoldFrames image disks scenario (story_of scenario commands)
+part_holds_frames stands tells seen None disks scenario commands told sized up p o =
     none_hold_frames image disks scenario (story_of scenario commands) p.0 (λ place one at. nothing (image one).bytes (sized one ∙ o.empty place one at tt))
-part_holds_frames {E} {D} stands tells image size spare (Some site) disks scenario commands told sized up p o =
+part_holds_frames {E} {D} stands tells seen (Some site) disks scenario commands told sized up p o =
     let s = p.stood in
     let number : site.site.0 ≡ s.line.site.0 = ap (λ n. n.0) s.at.number in
     let runs = not-false (is_up site.core.store.standing) (sym s.at.stood.holds.standing ∙ up s.line s.alone) in
     one_hold_frames image disks scenario s.line (story_of scenario commands) p.disk s.alone.sites (subst (λ n. slice_get disks n ≡ Some p.disk) number p.own)
-    (keeps_frames tells image size spare p.disk site.core.store _ _ told (sized p.disk) runs s.at.stood.stored)
+    (keeps_frames tells seen p.disk site.core.store _ _ told (sized p.disk) runs s.at.stood.stored)
     (others_nothing image size s.line.site.0 disks sized (λ place one at apart. o.empty place one at (λ same. apart (same ∙ number))))
 
-pub stands_hold_frames : {E D : Type 0} (stands : E → Start → List EngineLine → Type 0) (tells : Bool) (image : D → Image) (size spare : D → ℕ) (world : World E) (disks : List D) (scenario : Scenario) (commands : List Command)
-    → IsTrue tells → AreSized image size → AllUp scenario commands → Stands stands tells image size spare world disks scenario commands → HoldFrames image disks scenario (story_of scenario commands)
-stands_hold_frames stands tells image size spare world disks scenario commands told sized up stood =
-    part_holds_frames stands tells image size spare world.site disks scenario commands told sized up stood.site stood.others
+pub stands_hold_frames : {E D : Type 0} (stands : E → Start → List EngineLine → Type 0) (tells : Bool) (seen : D → Seen) (world : World E) (disks : List D) (scenario : Scenario) (commands : List Command)
+    → IsTrue tells → AreSized image size → AllUp scenario commands → Stands stands tells seen world disks scenario commands → HoldFrames image disks scenario (story_of scenario commands)
+stands_hold_frames stands tells seen world disks scenario commands told sized up stood =
+    part_holds_frames stands tells seen world.site disks scenario commands told sized up stood.site stood.others
 
 -- a disk call that failed within the set-up
 pub set_up_breaks : {D : Type 0} (image : D → Image) (size faults : D → ℕ) (number : ℕ) (old new : List D) (scenario : Scenario)
@@ -106,9 +106,9 @@ set_up_breaks image size faults number old new scenario sized b rose = record {
 
 -- and within the event of a command
 part_breaks : {E D : Type 0} (stands : E → Start → List EngineLine → Type 0) (tells : Bool) (image : D → Image) (size spare faults : D → ℕ) (number : ℕ) (site : Option (LocalSite E)) (old new : List D) (scenario : Scenario) (commands : List Command)
-    → AreSized image size → PartBroke stands tells image size spare number site new scenario commands → OthersEmpty size site new → RoseAt faults number old new → BreaksAt image faults number old new scenario commands
-part_breaks stands tells image size spare faults number None old new scenario commands sized b o rose = absurd b
-part_breaks stands tells image size spare faults number (Some site) old new scenario commands sized b o rose =
+    → AreSized image size → PartBroke stands tells seen number site new scenario commands → OthersEmpty size site new → RoseAt faults number old new → BreaksAt image faults number old new scenario commands
+part_breaks stands tells seen faults number None old new scenario commands sized b o rose = absurd b
+part_breaks stands tells seen faults number (Some site) old new scenario commands sized b o rose =
     let same : site.site.0 ≡ number = ap (λ n. n.0) b.site_is ∙ sym b.number_is in
     record {
       rose = rose;
@@ -117,16 +117,16 @@ part_breaks stands tells image size spare faults number (Some site) old new scen
         declared = own_home scenario b.line number b.alone.sites b.number_is;
         one = b.disk;
         own = b.own;
-        stop = inl (cut_stops stands tells image size spare site.core b.disk (home_from scenario b.line) (past_of b.line.site (story_of scenario commands)) b.cut);
+        stop = inl (cut_stops stands tells seen site.core b.disk (home_from scenario b.line) (past_of b.line.site (story_of scenario commands)) b.cut);
       };
       others = others_hold image new scenario b.line (story_of scenario commands) number b.alone.sites b.number_is
           (others_nothing image size number new sized (λ place one at apart. o.empty place one at (λ e. apart (e ∙ same))));
     }
 
 pub world_breaks : {E D : Type 0} (stands : E → Start → List EngineLine → Type 0) (tells : Bool) (image : D → Image) (size spare faults : D → ℕ) (number : ℕ) (world : World E) (old new : List D) (scenario : Scenario) (commands : List Command)
-    → AreSized image size → IsBroken stands tells image size spare number world new scenario commands → RoseAt faults number old new → BreaksAt image faults number old new scenario commands
-world_breaks stands tells image size spare faults number world old new scenario commands sized b rose =
-    part_breaks stands tells image size spare faults number world.site old new scenario commands sized b.site b.others rose
+    → AreSized image size → IsBroken stands tells seen number world new scenario commands → RoseAt faults number old new → BreaksAt image faults number old new scenario commands
+world_breaks stands tells seen faults number world old new scenario commands sized b rose =
+    part_breaks stands tells seen faults number world.site old new scenario commands sized b.site b.others rose
 
 -- counts of faults over two calls, between which there were as many disks
 mid_disk : {D : Type 0} (old mid : List D) (place : ℕ) (a : D) → length mid ≡ length old → slice_get old place ≡ Some a → slice_get mid place ≡ Some (get_or mid place a)

@@ -26,11 +26,11 @@ pub record CanPlay (commands : List Command) (scenario : Scenario) (before : Lis
   pub scenario_is : IsScenario scenario
 
 -- of the commands and those that close the session some are carried out, and at the next one the world fails
-pub record FailsToPlay {E D : Type 0} (stands : E → Start → List EngineLine → Type 0) (tells : Bool) (image : D → Image) (size spare : D → ℕ) (why : WorldErr) (world : World E) (disks : List D) (commands : List Command) (scenario : Scenario) (before : List Command) : Type 0 where
+pub record FailsToPlay {E D : Type 0} (stands : E → Start → List EngineLine → Type 0) (tells : Bool) (seen : D → Seen) (why : WorldErr) (world : World E) (disks : List D) (commands : List Command) (scenario : Scenario) (before : List Command) : Type 0 where
   pub done : List Command
   pub left : List Command
   pub of_session : closed scenario (with_commands commands before) ≡ left ++ done
-  pub fails : Fails stands tells image size spare why world disks scenario done
+  pub fails : Fails stands tells seen why world disks scenario done
 
 -- each line of these commands is one that its command can have
 abbrev pub AreLines : Scenario → List Command → Type 0

@@ -9,7 +9,7 @@ use std::alloc::Global;
 
 /// The least disk with bytes on it.
 pub(crate) fn first_used<D: Disk>(disks: &[D]) -> Option<usize>
-    ensures { result ≡ disks_of.first_used (map D.size disks.now) }
+    ensures { result ≡ disks_of.first_used (map (D.seen disks.now).size) }
 {
     disks.iter().position(|disk| disk.len() > 0)
 }

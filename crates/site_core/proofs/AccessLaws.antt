@@ -11,8 +11,8 @@ use Rattle.fed_rules.specs.Runs.{EngineLine, Run, is_sealed, restored_at, run_at
 use Rattle.fed_rules.specs.SitePast.{SitePast, engine_lines, epoch_start, live, live_one, records}
 use Rattle.fed_rules.specs.SiteRecords.{Held, Home, doubt_of, doubts, kept_held, prepared_tids, start_of}
 use Rattle.site_core.specs.declared.site.SiteCore.{SiteCore}
-use Rattle.site_core.specs.declared.store.Standing.{Standing}
-use Rattle.site_core.specs.declared.store.Standing.TheVariants.{Up, Down, Failing}
+use Rattle.actor_store.specs.declared.store.Standing.{Standing}
+use Rattle.actor_store.specs.declared.store.Standing.TheVariants.{Up, Down, Failing}
 use Rattle.site_core.specs.Attempts.{finished}
 use Rattle.site_core.specs.Runs.{accesses}
 use Rattle.site_core.specs.Stands.{Holds, IsStopped, RunsStand}

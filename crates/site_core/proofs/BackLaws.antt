@@ -17,25 +17,31 @@ use Rattle.fed_rules.specs.Runs.{EngineLine}
 use Rattle.fed_rules.specs.Site.{answered, of_back, site_line, unless_tripped}
 use Rattle.fed_rules.specs.SitePast.{SiteHappening, SitePast, attempts_of, engine_lines, epoch, epoch_start}
 use Rattle.fed_rules.specs.SitePast as Past
-use Rattle.fed_rules.specs.SiteRecords.{Held, Home, doubt_of, doubts, kept_held, last_number, last_ticket, prepared_tids, site_frame, site_rows, start_of, ticket_owner}
+use Rattle.fed_rules.specs.SiteRecords.{by_tid, Held, Home, doubt_of, doubts, kept_held, last_number, last_ticket, prepared_tids, site_frame, site_rows, start_of, ticket_owner}
 use Rattle.engine_contract.specs.Calls.{start_from}
-use Rattle.journal_disk.specs.Disk.{Image}
-use Rattle.site_core.specs.declared.errors.StepErr.TheVariants as Err_is
+use Rattle.journal_disk.specs.Disk.{Seen}
+use Rattle.actor_store.specs.declared.errors.StepErr.TheVariants as Err_is
+use Rattle.site_journal.specs.Exact.{spelled_is_read}
+use Rattle.site_journal.specs.Frames.{frame_has_size}
+use Rattle.site_journal.specs.Spelling.{spelling, reading, IsRecord}
 use Rattle.site_core.specs.declared.site.SiteCore.{SiteCore}
 use Rattle.site_core.specs.declared.runs.Runs.{Runs}
-use Rattle.site_core.specs.declared.store.Break.TheVariants.{Stopped, Failed}
-use Rattle.site_core.specs.declared.store.Standing.{Standing}
-use Rattle.site_core.specs.declared.store.Standing.TheVariants.{Up, Down, Failing}
-use Rattle.site_core.specs.declared.store.Store.{Store}
+use Rattle.actor_store.specs.declared.store.Break.TheVariants.{Stopped, Failed}
+use Rattle.actor_store.specs.declared.store.Standing.{Standing}
+use Rattle.actor_store.specs.declared.store.Standing.TheVariants.{Up, Down, Failing}
+use Rattle.site_core.specs.Store.{Store}
 use Rattle.site_core.specs.Attempts.{finished, noted}
 use Rattle.site_core.specs.Recovered.{IsFounded, IsRecoverable}
 use Rattle.site_core.specs.Runs.{IsRunning}
 use Rattle.site_core.specs.Stands.{Answers, Fails, Holds, IsOfKind, IsStopped, RunsStand, Stands}
-use Rattle.site_core.specs.Store.{Ends, Keeps, Passes, cut_calls, is_up}
+use Rattle.site_core.specs.Store.{Ends, Keeps, cut_calls}
+use Rattle.actor_store.specs.Store.{Passes, is_up}
 use Rattle.site_core.proofs.Founded.{all_within, founded, whole-all}
 use Rattle.site_core.proofs.ServeLaws.{down_is}
-use Rattle.site_core.proofs.StopLaws.{IsPlainCall, answers_as, fails_as, passes_is, plain_stop, prepared-calls, stands_stop, stop_line, stopped_is, trips_is}
-use Rattle.site_core.proofs.StoreLaws.{settled}
+use Rattle.site_core.proofs.StopLaws.{kept_records, untrimmed_calls, IsPlainCall, answers_as, fails_as, passes_is, plain_stop, prepared-calls, stands_stop, stop_line, stopped_is, trips_is}
+use Rattle.actor_store.proofs.StoreLaws.{settled}
+use Rattle.frame_journal.specs.Journal.{records}
+use Rattle.fed_rules.specs.Attempts.{each_attempt}
 
 -- the disk calls of a start
 abbrev pub back_calls : ℕ → Disk SiteRecord → List (Call SiteRecord)
@@ -60,7 +66,7 @@ back_plain n rules = by_test (is_torn site_frame rules) where
 
 -- who has prepared nothing is in doubt of nothing, and has published no ticket
 no_doubts : (records : List SiteRecord) → prepared_tids records ≡ [] → doubts records ≡ []
-no_doubts records none = ap (λ (tids : List Tid). found (doubt_of records) tids) none
+no_doubts records none = ap (λ (tids : List Tid). by_tid (found (doubt_of records) (each_attempt tids))) none
 
 no_ticket : (records : List SiteRecord) → prepared_tids records ≡ [] → (last_ticket records ≡ 0) × (ticket_owner records ≡ None)
 no_ticket [] none = (refl, refl)
@@ -69,6 +75,7 @@ no_ticket (Rec.Start n ∷ records) none = no_ticket records none
 no_ticket (Rec.Prepared tid n number ticket writes ∷ records) none = cc
 no_ticket (Rec.Ended tid decision ∷ records) none = no_ticket records none
 no_ticket (Rec.Local tid number writes ∷ records) none = no_ticket records none
+no_ticket (Rec.Checkpoint sum ∷ records) none = no_ticket records none
 
 -- what the engine starts from behind the Start record
 start_is : (home : Home) (n : ℕ) (records : List SiteRecord) → prepared_tids records ≡ []
@@ -98,10 +105,10 @@ back_down home past d = rw d refl
 stop_same : (rules : Disk SiteRecord) (cut : ℕ) → rules.synced ≡ rules.length → bytes_of site_frame rules.records ≤ rules.length → after_call site_frame rules (Stops cut) ≡ rules
 stop_same rules cut synced within =
     let n : min rules.length (rules.synced + cut) ≡ rules.length = omega (arith, synced) in
-    ap (λ (m : ℕ). record { records = whole site_frame m rules.records; length = m; synced = m }) n
-    ∙ ap₂ (λ (rs : List SiteRecord) (m : ℕ). record { records = rs; length = rules.length; synced = m }) (whole-all rules.length rules.records within) (sym synced)
+    ap (λ (m : ℕ). record { records = whole site_frame m rules.records; length = m; synced = m; trimmed = rules.trimmed }) n
+    ∙ ap₂ (λ (rs : List SiteRecord) (m : ℕ). record { records = rs; length = rules.length; synced = m; trimmed = rules.trimmed }) (whole-all rules.length rules.records within) (sym synced)
 
-module _ {E D : Type 0} (stands : E → Lines.Start → List EngineLine → Type 0) (tells : Bool) (image : D → Image) (size spare : D → ℕ) where
+module _ {E : Type 0} (stands : E → Lines.Start → List EngineLine → Type 0) (tells : Bool) where
   -- the engine of a site that is down
   pub down_kind : (core : SiteCore E) (home : Home) (past : SitePast) → Holds stands core home past → is_up core.store.standing ≡ false → IsStopped stands core.runs home past
   down_kind core home past h down = from core.store.standing down h.runs where
@@ -111,11 +118,11 @@ module _ {E D : Type 0} (stands : E → Lines.Start → List EngineLine → Type
     from Failing e r = r
 
   -- a site that stays down
-  pub stays_down : (old new : SiteCore E) (disk disk' : D) (home : Home) (past : SitePast) → Stands stands tells image size spare old disk home past → is_up old.store.standing ≡ false
-      → Keeps tells image size spare disk' new.store (Past.disk home past) (Past.trip past)
+  pub stays_down : (old new : SiteCore E) (disk disk' : Seen) (home : Home) (past : SitePast) → Stands stands tells old disk home past → is_up old.store.standing ≡ false
+      → Keeps tells disk' new.store (Past.disk home past) (Past.trip past)
       → new.store.standing ≡ old.store.standing → new.doubts ≡ old.doubts
       → IsOfKind stands new.runs.engine home.engine → new.runs.attempts ≡ old.runs.attempts
-      → Stands stands tells image size spare new disk' home past
+      → Stands stands tells new disk' home past
   stays_down old new disk disk' home past k down kept standing doubts engine attempts =
       let stopped = down_kind old home past k.holds down in
       let still : IsStopped stands new.runs home past = record {
@@ -126,7 +133,8 @@ module _ {E D : Type 0} (stands : E → Lines.Start → List EngineLine → Type
       } in
       record {
         holds = record {
-          records = kept.records;
+          records = kept_records tells disk' new.store _ _ kept k.holds.untrimmed;
+          untrimmed = k.holds.untrimmed;
           trip = kept.trip;
           armed = kept.armed;
           standing = k.holds.standing ∙ ap (λ s. not (is_up s)) (sym standing);
@@ -143,38 +151,40 @@ module _ {E D : Type 0} (stands : E → Lines.Start → List EngineLine → Type
         runs_stopped Failing e r = r
 
   -- a site that is down, where only its store changed
-  pub stored_anew : (old new : SiteCore E) (disk disk' : D) (home : Home) (past : SitePast) → Stands stands tells image size spare old disk home past → is_up old.store.standing ≡ false
-      → Keeps tells image size spare disk' new.store (Past.disk home past) (Past.trip past)
+  pub stored_anew : (old new : SiteCore E) (disk disk' : Seen) (home : Home) (past : SitePast) → Stands stands tells old disk home past → is_up old.store.standing ≡ false
+      → Keeps tells disk' new.store (Past.disk home past) (Past.trip past)
       → new.store.standing ≡ old.store.standing → new.doubts ≡ old.doubts → new.runs ≡ old.runs
-      → Stands stands tells image size spare new disk' home past
+      → Stands stands tells new disk' home past
   stored_anew old new disk disk' home past k down kept standing doubts runs =
       let K : Runs E → Type 0 = λ r. IsOfKind stands r.engine home.engine in
       stays_down old new disk disk' home past k down kept standing doubts (subst K (sym runs) (down_kind old home past k.holds down).engine) (ap (λ r. r.attempts) runs)
 
   -- the records that are read are those of the past, so they can be recovered from
-  pub read_records : (core : SiteCore E) (home : Home) (past : SitePast) (slice : List SiteRecord) → Holds stands core home past → slice ≡ core.store.journal.records → reverse slice ≡ Past.records home past
+  pub read_records : (core : SiteCore E) (home : Home) (past : SitePast) (slice : List SiteRecord) → Holds stands core home past → slice ≡ records core.store.journal → reverse slice ≡ Past.records home past
   read_records core home past slice h is = ap reverse (is ∙ h.records) ∙ reverse-reverse (Past.records home past)
 
-  pub recoverable : (core : SiteCore E) (home : Home) (past : SitePast) (slice : List SiteRecord) → Holds stands core home past → slice ≡ core.store.journal.records → IsRecoverable (reverse slice)
+  pub recoverable : (core : SiteCore E) (home : Home) (past : SitePast) (slice : List SiteRecord) → Holds stands core home past → slice ≡ records core.store.journal → IsRecoverable (reverse slice)
   recoverable core home past slice h is =
       let same = sym (read_records core home past slice h is) in
       subst (λ (rs : List SiteRecord). IsRecoverable rs) same (record { home = home; founded = founded home past; unprepared = h.unprepared })
 
   -- a start that came through
-  pub stands_up : (core : SiteCore E) (disk : D) (home : Home) (past : SitePast) (n : ℕ)
-      → Keeps tells image size spare disk core.store (after_calls site_frame (Past.disk home past) (back_calls n (Past.disk home past))) (used (length (back_calls n (Past.disk home past))) (Past.trip past))
+  pub stands_up : (core : SiteCore E) (disk : Seen) (home : Home) (past : SitePast) (n : ℕ)
+      → Keeps tells disk core.store (after_calls site_frame (Past.disk home past) (back_calls n (Past.disk home past))) (used (length (back_calls n (Past.disk home past))) (Past.trip past))
       → core.store.standing ≡ Up
       → IsRunning stands core.runs (start_from home.engine (site_rows home (Past.records home past)) [] (last_number (Past.records home past)) 0 None) []
       → ((tx : Tx) → is_some (noted core.runs.attempts.begun tx) ≡ not (attempts_of past tx == 0))
-      → prepared_tids (Past.records home past) ≡ [] → core.doubts.doubts ≡ []
-      → Stands stands tells image size spare core disk home (up_line n home past ∷ past)
-  stands_up core disk home past n kept up running begun unprepared undoubted =
+      → (Past.disk home past).trimmed ≡ 0 → prepared_tids (Past.records home past) ≡ [] → core.doubts.doubts ≡ []
+      → Stands stands tells core disk home (up_line n home past ∷ past)
+  stands_up core disk home past n kept up running begun untrimmed unprepared undoubted =
+      let untrimmed_now : (Past.disk home (up_line n home past ∷ past)).trimmed ≡ 0 = untrimmed_calls (Past.disk home past) (back_calls n (Past.disk home past)) (back_plain n (Past.disk home past)) ∙ untrimmed in
       let start : epoch_start home (up_line n home past ∷ past) ≡ start_from home.engine (site_rows home (Past.records home past)) [] (last_number (Past.records home past)) 0 None =
       ap (start_of home) (back_records n (Past.disk home past)) ∙ start_is home n (Past.records home past) unprepared in
       let P : Standing → Type 0 = λ s. RunsStand stands core.runs s home (up_line n home past ∷ past) in
       record {
         holds = record {
-          records = kept.records;
+          records = kept_records tells disk core.store _ _ kept untrimmed_now;
+          untrimmed = untrimmed_now;
           trip = kept.trip;
           armed = kept.armed;
           standing = sym (ap (λ s. not (is_up s)) up);
@@ -186,87 +196,87 @@ module _ {E D : Type 0} (stands : E → Lines.Start → List EngineLine → Type
         stored = kept;
       }
 
-  pub back_done : (old new : SiteCore E) (disk disk' : D) (home : Home) (past : SitePast) (n : ℕ)
-      → Stands stands tells image size spare old disk home past → is_up old.store.standing ≡ false → n ≡ epoch home past + 1
+  pub back_done : (old new : SiteCore E) (disk disk' : Seen) (home : Home) (past : SitePast) (n : ℕ)
+      → Stands stands tells old disk home past → is_up old.store.standing ≡ false → n ≡ epoch home past + 1
       → Passes (Past.trip past) (length (back_calls n (Past.disk home past)))
-      × Keeps tells image size spare disk' new.store (after_calls site_frame (Past.disk home past) (back_calls n (Past.disk home past))) (used (length (back_calls n (Past.disk home past))) (Past.trip past))
+      × Keeps tells disk' new.store (after_calls site_frame (Past.disk home past) (back_calls n (Past.disk home past))) (used (length (back_calls n (Past.disk home past))) (Past.trip past))
       → new.store.standing ≡ Up → new.doubts ≡ old.doubts → new.runs.attempts ≡ old.runs.attempts
       → IsRunning stands new.runs (start_from home.engine (site_rows home (Past.records home past)) [] (last_number (Past.records home past)) 0 None) []
-      → Answers stands tells image size spare (Say.UpSite n 0) new disk' home past (site_line home past Ev.Back)
+      → Answers stands tells (Say.UpSite n 0) new disk' home past (site_line home past Ev.Back)
   back_done old new disk disk' home past n k down next ends up doubts attempts running =
       let line = back_down home past (down_is stands old home past k.holds down) ∙ ap (unless_tripped home past) (back_is home past n k.holds.unprepared next) in
-      answers_as stands tells image size spare (Say.UpSite n 0) new disk' home past _ _ (line ∙ passes_is home past (up_line n home past) ends.0)
+      answers_as stands tells (Say.UpSite n 0) new disk' home past _ _ (line ∙ passes_is home past (up_line n home past) ends.0)
       (record {
         said = refl;
         silent = refl;
-        stood = stands_up new disk' home past n ends.1 up running (λ tx. ap (λ a. is_some (noted a.begun tx)) attempts ∙ k.holds.begun tx) k.holds.unprepared (ap (λ b. b.doubts) doubts ∙ k.holds.undoubted);
+        stood = stands_up new disk' home past n ends.1 up running (λ tx. ap (λ a. is_some (noted a.begun tx)) attempts ∙ k.holds.begun tx) k.holds.untrimmed k.holds.unprepared (ap (λ b. b.doubts) doubts ∙ k.holds.undoubted);
       })
 
   -- a start that a trip stopped
-  pub back_stopped : (old new : SiteCore E) (disk disk' : D) (home : Home) (past : SitePast) (n kept : ℕ)
-      → Stands stands tells image size spare old disk home past → is_up old.store.standing ≡ false → n ≡ epoch home past + 1
-      → Ends {A = ℕ} (Keeps tells image size spare disk' new.store) (Past.disk home past) (Past.trip past) (back_calls n (Past.disk home past)) (Err (Stopped kept))
+  pub back_stopped : (old new : SiteCore E) (disk disk' : Seen) (home : Home) (past : SitePast) (n kept : ℕ)
+      → Stands stands tells old disk home past → is_up old.store.standing ≡ false → n ≡ epoch home past + 1
+      → Ends {A = ℕ} (Keeps tells disk' new.store) (Past.disk home past) (Past.trip past) (back_calls n (Past.disk home past)) (Err (Stopped kept))
       → is_up new.store.standing ≡ false → new.doubts ≡ old.doubts → new.runs.attempts ≡ old.runs.attempts
       → IsOfKind stands new.runs.engine home.engine
-      → Answers stands tells image size spare (Say.Stopped kept) new disk' home past (site_line home past Ev.Back)
+      → Answers stands tells (Say.Stopped kept) new disk' home past (site_line home past Ev.Back)
   back_stopped old new disk disk' home past n kept k down next ends still doubts attempts engine =
       let line = back_down home past (down_is stands old home past k.holds down) ∙ ap (unless_tripped home past) (back_is home past n k.holds.unprepared next) in
       let (set, trip, within, keeps, count) = ends in
       let all = back_calls n (Past.disk home past) in
       let calls : List (Call SiteRecord) = take set.calls all ++ Stops set.cut ∷ [] in
       let none = (down_kind old home past k.holds down).none_live in
-      answers_as stands tells image size spare (Say.Stopped kept) new disk' home past _ (stop_line home past Ev.Back calls) (line ∙ trips_is home past (up_line n home past) set trip within)
+      answers_as stands tells (Say.Stopped kept) new disk' home past _ (stop_line home past Ev.Back calls) (line ∙ trips_is home past (up_line n home past) set trip within)
       (record {
         said = ap (λ m. Say.Stopped m) count;
         silent = refl;
-        stood = stands_stop stands tells image size spare new disk' home past Ev.Back calls keeps still engine (λ tid. ap (λ a. finished a.begun tid) attempts ∙ none tid)
-            (λ tx. ap (λ a. is_some (noted a.begun tx)) attempts ∙ k.holds.begun tx) (plain_stop set.calls set.cut all (back_plain n (Past.disk home past))) k.holds.unprepared (ap (λ b. b.doubts) doubts ∙ k.holds.undoubted);
+        stood = stands_stop stands tells new disk' home past Ev.Back calls keeps still engine (λ tid. ap (λ a. finished a.begun tid) attempts ∙ none tid)
+            (λ tx. ap (λ a. is_some (noted a.begun tx)) attempts ∙ k.holds.begun tx) (plain_stop set.calls set.cut all (back_plain n (Past.disk home past))) k.holds.untrimmed k.holds.unprepared (ap (λ b. b.doubts) doubts ∙ k.holds.undoubted);
       })
 
   -- a start whose disk call failed
-  pub back_failed : (old new : SiteCore E) (disk disk' : D) (home : Home) (past : SitePast) (n : ℕ)
-      → Stands stands tells image size spare old disk home past → is_up old.store.standing ≡ false → n ≡ epoch home past + 1
-      → Ends {A = ℕ} (Keeps tells image size spare disk' new.store) (Past.disk home past) (Past.trip past) (back_calls n (Past.disk home past)) (Err Failed)
+  pub back_failed : (old new : SiteCore E) (disk disk' : Seen) (home : Home) (past : SitePast) (n : ℕ)
+      → Stands stands tells old disk home past → is_up old.store.standing ≡ false → n ≡ epoch home past + 1
+      → Ends {A = ℕ} (Keeps tells disk' new.store) (Past.disk home past) (Past.trip past) (back_calls n (Past.disk home past)) (Err Failed)
       → is_up new.store.standing ≡ false → new.doubts ≡ old.doubts → new.runs.attempts ≡ old.runs.attempts
       → IsOfKind stands new.runs.engine home.engine
-      → Fails stands tells image size spare Err_is.Disk new disk' home past (of_back home past)
+      → Fails stands tells Err_is.Disk new disk' home past (of_back home past)
   back_failed old new disk disk' home past n k down next ends still doubts attempts engine =
       let (m, cut, keeps) = ends in
       let all = back_calls n (Past.disk home past) in
       let calls : List (Call SiteRecord) = take m all ++ Stops cut ∷ [] in
       let none = (down_kind old home past k.holds down).none_live in
-      let P : SiteHappening → Type 0 = λ x. Stands stands tells image size spare new disk' home (x ∷ past) in
-      fails_as stands tells image size spare Err_is.Disk new disk' home past (of_back home past) (up_line n home past) (back_is home past n k.holds.unprepared next) (
+      let P : SiteHappening → Type 0 = λ x. Stands stands tells new disk' home (x ∷ past) in
+      fails_as stands tells Err_is.Disk new disk' home past (of_back home past) (up_line n home past) (back_is home past n k.holds.unprepared next) (
         m,
         cut,
         subst P (sym (stopped_is home past Ev.Back calls))
-            (stands_stop stands tells image size spare new disk' home past Ev.Back calls keeps still engine (λ tid. ap (λ a. finished a.begun tid) attempts ∙ none tid)
-            (λ tx. ap (λ a. is_some (noted a.begun tx)) attempts ∙ k.holds.begun tx) (plain_stop m cut all (back_plain n (Past.disk home past))) k.holds.unprepared (ap (λ b. b.doubts) doubts ∙ k.holds.undoubted)),
+            (stands_stop stands tells new disk' home past Ev.Back calls keeps still engine (λ tid. ap (λ a. finished a.begun tid) attempts ∙ none tid)
+            (λ tx. ap (λ a. is_some (noted a.begun tx)) attempts ∙ k.holds.begun tx) (plain_stop m cut all (back_plain n (Past.disk home past))) k.holds.untrimmed k.holds.unprepared (ap (λ b. b.doubts) doubts ∙ k.holds.undoubted)),
       )
 
   -- a read of the records that failed: it leaves what a stop leaves, and the trip is disarmed
-  pub read_failed : (old new : SiteCore E) (store : Store) (disk disk' : D) (home : Home) (past : SitePast)
-      → Stands stands tells image size spare old disk home past → is_up old.store.standing ≡ false
-      → Keeps tells image size spare disk' store (Past.disk home past) (Past.trip past)
+  pub read_failed : (old new : SiteCore E) (store : Store) (disk disk' : Seen) (home : Home) (past : SitePast)
+      → Stands stands tells old disk home past → is_up old.store.standing ≡ false
+      → Keeps tells disk' store (Past.disk home past) (Past.trip past)
       → store.standing ≡ old.store.standing → new.store ≡ record store { trip = None } → new.doubts ≡ old.doubts → new.runs ≡ old.runs
-      → Fails stands tells image size spare Err_is.Disk new disk' home past (of_back home past)
+      → Fails stands tells Err_is.Disk new disk' home past (of_back home past)
   read_failed old new store disk disk' home past k down kept standing is doubts runs =
       let rules = Past.disk home past in
       let stopped = down_kind old home past k.holds down in
-      let same = stop_same rules 0 (settled old.store.standing old.store.journal rules down k.stored.in_order) (all_within home past) in
-      let disarmed : Keeps tells image size spare disk' (record store { trip = None }) rules None =
-      record { kept_on = kept.kept_on; stands = kept.stands; records = kept.records; are_records = kept.are_records; trip = refl; armed = tt; in_order = kept.in_order } in
-      let S : Store → Type 0 = λ s. Keeps tells image size spare disk' s rules None in
-      let R : Disk SiteRecord → Type 0 = λ d. Keeps tells image size spare disk' new.store d None in
+      let same = stop_same rules 0 (settled spelling reading IsRecord site_frame frame_has_size spelled_is_read old.store.standing old.store.journal rules down k.stored.in_order) (all_within home past) in
+      let disarmed : Keeps tells disk' (record store { trip = None }) rules None =
+      record { kept_on = kept.kept_on; stands = kept.stands; records = kept.records; are_records = kept.are_records; written = kept.written; front = kept.front; trip = refl; armed = tt; in_order = kept.in_order } in
+      let S : Store → Type 0 = λ s. Keeps tells disk' s rules None in
+      let R : Disk SiteRecord → Type 0 = λ d. Keeps tells disk' new.store d None in
       let keeps = subst R (sym same) (subst S (sym is) disarmed) in
       let K : Runs E → Type 0 = λ r. IsOfKind stands r.engine home.engine in
-      let P : SiteHappening → Type 0 = λ x. Stands stands tells image size spare new disk' home (x ∷ past) in
-      fails_as stands tells image size spare Err_is.Disk new disk' home past (of_back home past) (up_line (epoch home past + 1) home past) (back_is home past (epoch home past + 1) k.holds.unprepared refl) (
+      let P : SiteHappening → Type 0 = λ x. Stands stands tells new disk' home (x ∷ past) in
+      fails_as stands tells Err_is.Disk new disk' home past (of_back home past) (up_line (epoch home past + 1) home past) (back_is home past (epoch home past + 1) k.holds.unprepared refl) (
         0,
         0,
         subst P (sym (stopped_is home past Ev.Back (Stops 0 ∷ [])))
-            (stands_stop stands tells image size spare new disk' home past Ev.Back (Stops 0 ∷ []) keeps (ap (λ s. is_up s.standing) is ∙ ap is_up standing ∙ down) (subst K (sym runs) stopped.engine)
-            (λ tid. ap (λ r. finished r.attempts.begun tid) runs ∙ stopped.none_live tid) (λ tx. ap (λ r. is_some (noted r.attempts.begun tx)) runs ∙ k.holds.begun tx) (tt, tt) k.holds.unprepared (ap (λ b. b.doubts) doubts ∙ k.holds.undoubted)),
+            (stands_stop stands tells new disk' home past Ev.Back (Stops 0 ∷ []) keeps (ap (λ s. is_up s.standing) is ∙ ap is_up standing ∙ down) (subst K (sym runs) stopped.engine)
+            (λ tid. ap (λ r. finished r.attempts.begun tid) runs ∙ stopped.none_live tid) (λ tx. ap (λ r. is_some (noted r.attempts.begun tx)) runs ∙ k.holds.begun tx) (tt, tt) k.holds.untrimmed k.holds.unprepared (ap (λ b. b.doubts) doubts ∙ k.holds.undoubted)),
       )
 
   -- what was recovered from the records is what they say of the past

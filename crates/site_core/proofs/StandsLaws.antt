@@ -26,15 +26,16 @@ use Rattle.fed_rules.specs.Site.{act_answer, of_fate, with_lines}
 use Rattle.fed_rules.specs.SiteRecords.{Home, local_of}
 use Rattle.fed_rules.specs.declared.records.SiteRecord.{SiteRecord}
 use Rattle.site_core.specs.declared.site.SiteCore.{SiteCore}
-use Rattle.site_core.specs.declared.store.Standing.{Standing}
-use Rattle.site_core.specs.declared.store.Standing.TheVariants.{Up}
+use Rattle.actor_store.specs.declared.store.Standing.{Standing}
+use Rattle.actor_store.specs.declared.store.Standing.TheVariants.{Up}
 use Rattle.site_core.specs.Attempts.{SameBegun, noted, started, with_note}
 use Rattle.site_core.specs.Runs.{IsRunning}
 use Rattle.site_core.specs.Stands.{Adds, Holds, RunsStand}
-use Rattle.site_core.specs.Store.{is_up, trip_of_rules}
+use Rattle.actor_store.specs.Store.{is_up, trip_of_rules}
 use Rattle.site_core.proofs.LineLaws.{fate_ended, fate_unbegun}
 use Rattle.site_core.proofs.RunsLaws.{noted-with_note}
-use Rattle.site_core.proofs.EndsLaws.{used_none}
+use Rattle.actor_store.proofs.EndsLaws.{used_none}
+use Rattle.frame_journal.specs.Journal.{records}
 
 -- a line without disk calls
 abbrev without_calls : SiteEvent → Answer → List FromSite → List EngineLine → SiteHappening
@@ -70,7 +71,8 @@ module _ {E : Type 0} (stands : E → Lines.Start → List EngineLine → Type 0
       → ((tx : Tx) → is_some (noted new.runs.attempts.begun tx) ≡ not (attempts_of (record { event = event; answer = answer; sends = sends; calls = []; lines = lines } ∷ past) tx == 0))
       → Holds stands new home (record { event = event; answer = answer; sends = sends; calls = []; lines = lines } ∷ past)
   holds_line old new home past event answer sends lines h up store doubts goes stays sets running begun = record {
-    records = ap (λ s. s.journal.records) store ∙ h.records;
+    records = ap (λ s. records s.journal) store ∙ h.records;
+    untrimmed = h.untrimmed;
     trip = ap (λ s. map_some trip_of_rules s.trip) store ∙ h.trip ∙ sym (used_none (Past.trip past)) ∙ sym (ap (λ o. set o (used 0 (Past.trip past))) sets) ∙ sym (cond-false _ _ _ goes);
     armed = rw store h.armed;
     standing = cond-false _ _ _ goes ∙ cond-false _ _ _ stays ∙ h.standing ∙ ap (λ s. not (is_up s.standing)) (sym store);
@@ -104,7 +106,7 @@ module _ {E : Type 0} (stands : E → Lines.Start → List EngineLine → Type 0
   adds_as answer core home past x y e a = let P : SiteHappening → Type 0 = Adds stands answer core home past in subst P (sym e) a
 
   -- what the records in memory say of a local transaction
-  pub committed_is : (core : SiteCore E) (home : Home) (past : SitePast) (tx : Tx) (slice : List SiteRecord) (r : Option Tid) → Holds stands core home past → slice ≡ core.store.journal.records → r ≡ local_of (reverse slice) tx
+  pub committed_is : (core : SiteCore E) (home : Home) (past : SitePast) (tx : Tx) (slice : List SiteRecord) (r : Option Tid) → Holds stands core home past → slice ≡ records core.store.journal → r ≡ local_of (reverse slice) tx
       → local_of (Past.records home past) tx ≡ r
   committed_is core home past tx slice r h is found =
       sym (found ∙ ap (λ (xs : List SiteRecord). local_of (reverse xs) tx) (is ∙ h.records) ∙ ap (λ (xs : List SiteRecord). local_of xs tx) (reverse-reverse (Past.records home past)))

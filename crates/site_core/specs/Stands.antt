@@ -14,16 +14,18 @@ use Rattle.fed_rules.specs.Runs.{EngineLine}
 use Rattle.fed_rules.specs.SitePast.{SiteHappening, SitePast, epoch_start, engine_lines, attempts_of}
 use Rattle.fed_rules.specs.SitePast as Past
 use Rattle.fed_rules.specs.SiteRecords.{Home, prepared_tids, site_frame, start_of}
-use Rattle.journal_disk.specs.Disk.{Image}
+use Rattle.journal_disk.specs.Disk.{Seen}
+use Rattle.frame_journal.specs.Journal.{records}
 use Rattle.site_core.specs.declared.site.SiteCore.{SiteCore}
 use Rattle.site_core.specs.declared.runs.Runs.{Runs}
-use Rattle.site_core.specs.declared.errors.StepErr.{StepErr}
-use Rattle.site_core.specs.declared.errors.StepErr.TheVariants as Err_is
-use Rattle.site_core.specs.declared.store.Standing.{Standing}
-use Rattle.site_core.specs.declared.store.Standing.TheVariants.{Up, Down, Failing}
+use Rattle.actor_store.specs.declared.errors.StepErr.{StepErr}
+use Rattle.actor_store.specs.declared.errors.StepErr.TheVariants as Err_is
+use Rattle.actor_store.specs.declared.store.Standing.{Standing}
+use Rattle.actor_store.specs.declared.store.Standing.TheVariants.{Up, Down, Failing}
 use Rattle.site_core.specs.Attempts.{finished, noted}
 use Rattle.site_core.specs.Runs.{IsRunning, IsSealing, SealsBy}
-use Rattle.site_core.specs.Store.{IsArmed, Keeps, is_up, trip_of_rules}
+use Rattle.site_core.specs.Store.{Keeps}
+use Rattle.actor_store.specs.Store.{IsArmed, is_up, trip_of_rules}
 
 -- the engine stands for lines of some epoch, by this rule
 pub record IsOfKind {E : Type 0} (stands : E → Lines.Start → List EngineLine → Type 0) (engine : E) (kind : Engine) : Type 0 where
@@ -47,7 +49,8 @@ RunsStand stands runs Failing home past = IsStopped stands runs home past
 
 -- what a core holds beside its disk
 pub record Holds {E : Type 0} (stands : E → Lines.Start → List EngineLine → Type 0) (core : SiteCore E) (home : Home) (past : SitePast) : Type 0 where
-  pub records : core.store.journal.records ≡ reverse (Past.records home past)
+  pub records : records core.store.journal ≡ reverse (Past.records home past)
+  pub untrimmed : (Past.disk home past).trimmed ≡ 0
   pub trip : map_some trip_of_rules core.store.trip ≡ Past.trip past
   pub armed : IsArmed core.store.trip
   pub standing : is_down past ≡ not (is_up core.store.standing)
@@ -57,9 +60,9 @@ pub record Holds {E : Type 0} (stands : E → Lines.Start → List EngineLine �
   pub undoubted : core.doubts.doubts ≡ []
 
 -- the core, with this disk, stands for this past of this home
-pub record Stands {E D : Type 0} (stands : E → Lines.Start → List EngineLine → Type 0) (tells : Bool) (image : D → Image) (size spare : D → ℕ) (core : SiteCore E) (disk : D) (home : Home) (past : SitePast) : Type 0 where
+pub record Stands {E : Type 0} (stands : E → Lines.Start → List EngineLine → Type 0) (tells : Bool) (core : SiteCore E) (disk : Seen) (home : Home) (past : SitePast) : Type 0 where
   pub holds : Holds stands core home past
-  pub stored : Keeps tells image size spare disk core.store (Past.disk home past) (Past.trip past)
+  pub stored : Keeps tells disk core.store (Past.disk home past) (Past.trip past)
 
 -- the answer is that of the line, and the core stands for the line added
 pub record Adds {E : Type 0} (stands : E → Lines.Start → List EngineLine → Type 0) (answer : Answer) (core : SiteCore E) (home : Home) (past : SitePast) (x : SiteHappening) : Type 0 where
@@ -67,33 +70,34 @@ pub record Adds {E : Type 0} (stands : E → Lines.Start → List EngineLine →
   pub holds : Holds stands core home (x ∷ past)
 
 -- the answer is that of the line, which sends nothing, and the core with this disk stands for the line added
-pub record Answers {E D : Type 0} (stands : E → Lines.Start → List EngineLine → Type 0) (tells : Bool) (image : D → Image) (size spare : D → ℕ) (answer : Answer) (core : SiteCore E) (disk : D) (home : Home) (past : SitePast) (x : SiteHappening) : Type 0 where
+pub record Answers {E : Type 0} (stands : E → Lines.Start → List EngineLine → Type 0) (tells : Bool) (answer : Answer) (core : SiteCore E) (disk : Seen) (home : Home) (past : SitePast) (x : SiteHappening) : Type 0 where
   pub said : answer ≡ x.answer
   pub silent : x.sends ≡ []
-  pub stood : Stands stands tells image size spare core disk home (x ∷ past)
+  pub stood : Stands stands tells core disk home (x ∷ past)
 
 -- the line that a stop after so many of the disk calls ends
 abbrev pub cut_line : ℕ → ℕ → Home → SitePast → SiteHappening → SiteHappening
 cut_line n cut home past x = stopped site_frame (Past.disk home past) x.event (take n x.calls ++ Stops cut ∷ [])
 
 -- a line that isn't answered: want of memory changes nothing, and a failed disk call leaves what some stop within its calls leaves
-abbrev pub Fails : {E D : Type 0} → (E → Lines.Start → List EngineLine → Type 0) → Bool → (D → Image) → (D → ℕ) → (D → ℕ) → StepErr → SiteCore E → D → Home → SitePast → SiteHappening → Type 0
-Fails stands tells image size spare Err_is.Memory core disk home past x = Stands stands tells image size spare core disk home past
-Fails stands tells image size spare Err_is.Disk core disk home past x =
-    (n : ℕ) × (cut : ℕ) × Stands stands tells image size spare core disk home (cut_line n cut home past x ∷ past)
+abbrev pub Fails : {E : Type 0} → (E → Lines.Start → List EngineLine → Type 0) → Bool → StepErr → SiteCore E → Seen → Home → SitePast → SiteHappening → Type 0
+Fails stands tells Err_is.Memory core disk home past x = Stands stands tells core disk home past
+Fails stands tells Err_is.Disk core disk home past x =
+    (n : ℕ) × (cut : ℕ) × Stands stands tells core disk home (cut_line n cut home past x ∷ past)
 
 -- an attempt is sealed in the engine, and nothing of it is on the disk yet
-pub record StandsSealing {E D : Type 0} (stands : E → Lines.Start → List EngineLine → Type 0) (tells : Bool) (image : D → Image) (size spare : D → ℕ) (tid : Tid) (sealed : Sealed) (core : SiteCore E) (disk : D) (home : Home) (past : SitePast) : Type 0 where
-  pub stored : Keeps tells image size spare disk core.store (Past.disk home past) (Past.trip past)
+pub record StandsSealing {E : Type 0} (stands : E → Lines.Start → List EngineLine → Type 0) (tells : Bool) (tid : Tid) (sealed : Sealed) (core : SiteCore E) (disk : Seen) (home : Home) (past : SitePast) : Type 0 where
+  pub stored : Keeps tells disk core.store (Past.disk home past) (Past.trip past)
   pub up : is_down past ≡ false
   pub sealing : IsSealing stands tid sealed.number core.runs (epoch_start home past) (engine_lines past)
   pub by : SealsBy tid sealed (epoch_start home past) (engine_lines past)
   pub begun : (tx : Tx) → is_some (noted core.runs.attempts.begun tx) ≡ not (attempts_of past tx == 0)
+  pub untrimmed : (Past.disk home past).trimmed ≡ 0
   pub unprepared : prepared_tids (Past.records home past) ≡ []
   pub undoubted : core.doubts.doubts ≡ []
 
 -- the step says and sends what the line does, and the core with this disk stands for the line added
-pub record Steps {E D : Type 0} (stands : E → Lines.Start → List EngineLine → Type 0) (tells : Bool) (image : D → Image) (size spare : D → ℕ) (step : SiteStep) (core : SiteCore E) (disk : D) (home : Home) (past : SitePast) (x : SiteHappening) : Type 0 where
+pub record Steps {E : Type 0} (stands : E → Lines.Start → List EngineLine → Type 0) (tells : Bool) (step : SiteStep) (core : SiteCore E) (disk : Seen) (home : Home) (past : SitePast) (x : SiteHappening) : Type 0 where
   pub answer : step.answer ≡ x.answer
   pub sends : option_to_list step.sends ≡ x.sends
-  pub stood : Stands stands tells image size spare core disk home (x ∷ past)
+  pub stood : Stands stands tells core disk home (x ∷ past)

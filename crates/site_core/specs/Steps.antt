@@ -36,7 +36,7 @@ pub record CanCommit (tid : Tid) (home : Home) (past : SitePast) : Type 0 where
 abbrev pub EpochFits : Home → SitePast → Type 0
 EpochFits home past = epoch home past + 1 < 2 ^ 32
 
--- what an event asks of the past; the messages of a coordinator aren't among the events yet
+-- what an event asks of the past; the messages of a coordinator and Checkpoints aren't among the events yet
 abbrev pub CanStep : SiteEvent → Home → SitePast → Type 0
 CanStep (Ev.Begin tid) home past = NumberFits home past
 CanStep (Ev.Act tid act) home past = HasFewAccesses tid home past
@@ -49,3 +49,4 @@ CanStep (Ev.Drop tid) home past = ⊥
 CanStep (Ev.Halt cut) home past = Unit {0}
 CanStep (Ev.Trip calls cut) home past = Unit {0}
 CanStep Ev.Back home past = EpochFits home past
+CanStep Ev.Check home past = ⊥

@@ -8,14 +8,13 @@
 mod answers;
 mod attempts;
 mod committed;
-mod errors;
 mod recovered;
 mod runs;
 mod site;
 mod starting;
 mod store;
 
-pub use errors::StepErr;
+pub use actor_store::StepErr;
 pub use fed_rules::{SiteEvent, SiteRecord, SiteStep};
 pub use site::SiteCore;
 

@@ -14,28 +14,30 @@ ghost use Rattle.engine_contract.specs.Calls.{fresh_start};
 ghost use Rattle.prepared_state.specs.Book.{doubt_about};
 ghost use Rattle.site_core.specs.Attempts.{finished, noted};
 ghost use Rattle.site_core.specs.Stands.{Adds, Answers, Fails, Holds, Stands, StandsSealing, Steps};
-ghost use Rattle.site_core.specs.Store.{SomeStop, is_up, trip_to};
+ghost use Rattle.site_core.specs.Store.{SomeStop};
+ghost use Rattle.actor_store.specs.Store.{is_up, trip_to};
 ghost use Rattle.site_core.specs.Steps.{CanCommit, CanStep, EachPast, HasFewAccesses, NumberFits, SomePast};
 
 use crate::answers::{act_answer, refusal_answer};
 use crate::attempts::Attempts;
 use crate::committed::committed_local;
-use crate::errors::StepErr;
 use crate::runs::Runs;
-use crate::store::{Break, SetTrip, Standing, Store};
+use crate::store::{SiteStore, set_up_store};
+use actor_store::{Break, Standing, StepErr};
 use engine_contract::{LocalEngine, SealErr, Sealed};
 use fed_rules::{Answer, SiteEvent, SiteRecord, SiteStep};
 use journal_disk::Disk;
 use mdb_base::{Engine, Memory, PlainAct, Puts, SiteId, Tid, Tx};
 use prepared_state::PreparedBook;
 use presumptions::Protocol;
+use site_journal::SiteJournal;
 use std::alloc::Global;
 
 /// The core of one site: its local engine with the live attempts, its journal, and the prepared transactions that it is in doubt of.
 #[derive(Drop)]
 pub struct SiteCore<E: LocalEngine> {
     pub(crate) runs: Runs<E>,
-    pub(crate) store: Store,
+    pub(crate) store: SiteStore,
     doubts: PreparedBook,
 }
 
@@ -53,23 +55,23 @@ impl<E: LocalEngine> SiteCore<E> {
         local: E,
     ) -> Result<SiteCore<E>, StepErr>
         requires told { IsTrue D.tells }
-        requires empty { D.size disk.old ≡ 0 }
+        requires empty { (D.seen disk.old).size ≡ 0 }
         requires site { IsSite site }
         requires few { length items ≤ 4096 }
         requires fresh { E.stands local (fresh_start engine items) [] }
-        ensures stands { IfOk result (λ core. Stands E.stands D.tells D.image D.size D.spare core disk.new
+        ensures stands { IfOk result (λ core. Stands E.stands D.tells core (D.seen disk.new)
             (record { site = site; engine = engine; protocol = protocol; items = items }) []) }
-        ensures memory { IsErrOf result StepErr.Memory → D.image disk.new ≡ D.image disk.old }
-        ensures untouched { IsErrOf result StepErr.Memory → D.size disk.new ≡ 0 }
-        ensures broken { IsErrOf result StepErr.Disk → SomeStop (D.image disk.new) empty_disk
+        ensures memory { IsErrOf result StepErr.Memory → (D.seen disk.new).image ≡ (D.seen disk.old).image }
+        ensures untouched { IsErrOf result StepErr.Memory → (D.seen disk.new).size ≡ 0 }
+        ensures broken { IsErrOf result StepErr.Disk → SomeStop (D.seen disk.new).image empty_disk
             (set_up_calls (record { site = site; engine = engine; protocol = protocol; items = items })) }
-        ensures cause { IsErrOf result StepErr.Disk → HasRisen (D.faults disk.old) (D.faults disk.new) }
-        ensures faults { D.faults disk.old ≤ D.faults disk.new }
+        ensures cause { IsErrOf result StepErr.Disk → HasRisen (D.seen disk.old).faults (D.seen disk.new).faults }
+        ensures faults { (D.seen disk.old).faults ≤ (D.seen disk.new).faults }
     {
         let Ok(doubts) = PreparedBook::new(alloc) else {
             return Err(StepErr::Memory);
         };
-        match Store::set_up(alloc, disk, site, engine, items, protocol) {
+        match set_up_store(alloc, disk, site, engine, items, protocol) {
             Ok(store) => Ok(SiteCore {
                 runs: Runs {
                     engine: local,
@@ -91,13 +93,13 @@ impl<E: LocalEngine> SiteCore<E> {
         event: SiteEvent,
     ) -> Result<SiteStep, StepErr>
         requires told { IsTrue D.tells }
-        requires may { SomePast (Stands E.stands D.tells D.image D.size D.spare self.old disk.old) (CanStep event) }
-        ensures answered { IfOk result (λ step. EachPast (Stands E.stands D.tells D.image D.size D.spare self.old disk.old)
-            (λ home past. Steps E.stands D.tells D.image D.size D.spare step self.new disk.new home past (site_line home past event))) }
-        ensures failed { IfErr result (λ why. EachPast (Stands E.stands D.tells D.image D.size D.spare self.old disk.old)
-            (λ home past. Fails E.stands D.tells D.image D.size D.spare why self.new disk.new home past (answered home past event))) }
-        ensures cause { IsErrOf result StepErr.Disk → HasRisen (D.faults disk.old) (D.faults disk.new) }
-        ensures faults { D.faults disk.old ≤ D.faults disk.new }
+        requires may { SomePast (Stands E.stands D.tells self.old (D.seen disk.old)) (CanStep event) }
+        ensures answered { IfOk result (λ step. EachPast (Stands E.stands D.tells self.old (D.seen disk.old))
+            (λ home past. Steps E.stands D.tells step self.new (D.seen disk.new) home past (site_line home past event))) }
+        ensures failed { IfErr result (λ why. EachPast (Stands E.stands D.tells self.old (D.seen disk.old))
+            (λ home past. Fails E.stands D.tells why self.new (D.seen disk.new) home past (answered home past event))) }
+        ensures cause { IsErrOf result StepErr.Disk → HasRisen (D.seen disk.old).faults (D.seen disk.new).faults }
+        ensures faults { (D.seen disk.old).faults ≤ (D.seen disk.new).faults }
     {
         match self.answer(alloc, disk, event) {
             Ok(answer) => Ok(SiteStep {
@@ -112,7 +114,7 @@ impl<E: LocalEngine> SiteCore<E> {
     pub fn records(&self) -> &[SiteRecord]
         ensures { EachPast (Holds E.stands self.now) (λ home past. result.now ≡ reverse (records home past)) }
     {
-        self.store.journal.records()
+        self.store.records()
     }
 
     /// The prepared transactions that the site is in doubt of.
@@ -157,13 +159,13 @@ impl<E: LocalEngine> SiteCore<E> {
         event: SiteEvent,
     ) -> Result<Answer, StepErr>
         requires told { IsTrue D.tells }
-        requires may { SomePast (Stands E.stands D.tells D.image D.size D.spare self.old disk.old) (CanStep event) }
-        ensures answered { IfOk result (λ answer. EachPast (Stands E.stands D.tells D.image D.size D.spare self.old disk.old)
-            (λ home past. Answers E.stands D.tells D.image D.size D.spare answer self.new disk.new home past (site_line home past event))) }
-        ensures failed { IfErr result (λ why. EachPast (Stands E.stands D.tells D.image D.size D.spare self.old disk.old)
-            (λ home past. Fails E.stands D.tells D.image D.size D.spare why self.new disk.new home past (answered home past event))) }
-        ensures cause { IsErrOf result StepErr.Disk → HasRisen (D.faults disk.old) (D.faults disk.new) }
-        ensures faults { D.faults disk.old ≤ D.faults disk.new }
+        requires may { SomePast (Stands E.stands D.tells self.old (D.seen disk.old)) (CanStep event) }
+        ensures answered { IfOk result (λ answer. EachPast (Stands E.stands D.tells self.old (D.seen disk.old))
+            (λ home past. Answers E.stands D.tells answer self.new (D.seen disk.new) home past (site_line home past event))) }
+        ensures failed { IfErr result (λ why. EachPast (Stands E.stands D.tells self.old (D.seen disk.old))
+            (λ home past. Fails E.stands D.tells why self.new (D.seen disk.new) home past (answered home past event))) }
+        ensures cause { IsErrOf result StepErr.Disk → HasRisen (D.seen disk.old).faults (D.seen disk.new).faults }
+        ensures faults { (D.seen disk.old).faults ≤ (D.seen disk.new).faults }
     {
         match self.store.standing {
             Standing::Up => self.serve(alloc, disk, event),
@@ -181,7 +183,7 @@ impl<E: LocalEngine> SiteCore<E> {
         ensures memory { OnErr result (EachPast (Holds E.stands self.old) (Holds E.stands self.new)) }
         ensures store { self.new.store ≡ self.old.store }
     {
-        match committed_local(self.store.journal.records(), tid.tx) {
+        match committed_local(self.store.records(), tid.tx) {
             Some(committed) => Ok(Answer::Committed(committed)),
             None => match self.runs.attempts.running(tid.tx) {
                 Some(running) => Ok(Answer::Running(running)),
@@ -232,14 +234,14 @@ impl<E: LocalEngine> SiteCore<E> {
     fn commit<D: Disk>(&mut self, alloc: Global, disk: &mut D, tid: Tid) -> Result<Answer, StepErr>
         requires told { IsTrue D.tells }
         requires up { self.old.store.standing ≡ Standing.Up }
-        requires may { SomePast (Stands E.stands D.tells D.image D.size D.spare self.old disk.old) (CanCommit tid) }
-        ensures answered { IfOk result (λ answer. EachPast (Stands E.stands D.tells D.image D.size D.spare self.old disk.old)
-            (λ home past. Answers E.stands D.tells D.image D.size D.spare answer self.new disk.new home past
+        requires may { SomePast (Stands E.stands D.tells self.old (D.seen disk.old)) (CanCommit tid) }
+        ensures answered { IfOk result (λ answer. EachPast (Stands E.stands D.tells self.old (D.seen disk.old))
+            (λ home past. Answers E.stands D.tells answer self.new (D.seen disk.new) home past
             (unless_tripped home past (of_commit home past tid)))) }
-        ensures failed { IfErr result (λ why. EachPast (Stands E.stands D.tells D.image D.size D.spare self.old disk.old)
-            (λ home past. Fails E.stands D.tells D.image D.size D.spare why self.new disk.new home past (of_commit home past tid))) }
-        ensures cause { IsErrOf result StepErr.Disk → HasRisen (D.faults disk.old) (D.faults disk.new) }
-        ensures faults { D.faults disk.old ≤ D.faults disk.new }
+        ensures failed { IfErr result (λ why. EachPast (Stands E.stands D.tells self.old (D.seen disk.old))
+            (λ home past. Fails E.stands D.tells why self.new (D.seen disk.new) home past (of_commit home past tid))) }
+        ensures cause { IsErrOf result StepErr.Disk → HasRisen (D.seen disk.old).faults (D.seen disk.new).faults }
+        ensures faults { (D.seen disk.old).faults ≤ (D.seen disk.new).faults }
     {
         match self.runs.attempts.finished(tid) {
             None => Ok(Answer::Idle),
@@ -264,14 +266,14 @@ impl<E: LocalEngine> SiteCore<E> {
         requires up { self.old.store.standing ≡ Standing.Up }
         requires live { IsSome (finished self.old.runs.attempts.begun tid) }
         requires in_range { IsTid tid }
-        requires may { SomePast (StandsSealing E.stands D.tells D.image D.size D.spare tid sealed self.old disk.old) (λ home past. Unit {0}) }
-        ensures answered { IfOk result (λ answer. EachPast (StandsSealing E.stands D.tells D.image D.size D.spare tid sealed self.old disk.old)
-            (λ home past. Answers E.stands D.tells D.image D.size D.spare answer self.new disk.new home past
+        requires may { SomePast (StandsSealing E.stands D.tells tid sealed self.old (D.seen disk.old)) (λ home past. Unit {0}) }
+        ensures answered { IfOk result (λ answer. EachPast (StandsSealing E.stands D.tells tid sealed self.old (D.seen disk.old))
+            (λ home past. Answers E.stands D.tells answer self.new (D.seen disk.new) home past
             (unless_tripped home past (of_commit home past tid)))) }
-        ensures failed { IfErr result (λ why. EachPast (StandsSealing E.stands D.tells D.image D.size D.spare tid sealed self.old disk.old)
-            (λ home past. Fails E.stands D.tells D.image D.size D.spare why self.new disk.new home past (of_commit home past tid))) }
-        ensures cause { IsErrOf result StepErr.Disk → HasRisen (D.faults disk.old) (D.faults disk.new) }
-        ensures faults { D.faults disk.old ≤ D.faults disk.new }
+        ensures failed { IfErr result (λ why. EachPast (StandsSealing E.stands D.tells tid sealed self.old (D.seen disk.old))
+            (λ home past. Fails E.stands D.tells why self.new (D.seen disk.new) home past (of_commit home past tid))) }
+        ensures cause { IsErrOf result StepErr.Disk → HasRisen (D.seen disk.old).faults (D.seen disk.new).faults }
+        ensures faults { (D.seen disk.old).faults ≤ (D.seen disk.new).faults }
     {
         let Sealed {
             number,
@@ -283,7 +285,8 @@ impl<E: LocalEngine> SiteCore<E> {
             number,
             writes,
         };
-        let Ok(()) = self.store.reserve(alloc, disk, &entry) else {
+        let bytes = SiteJournal::frame_len(&entry);
+        let Ok(()) = self.store.make_room(alloc, disk, 1, bytes) else {
             self.runs.unseal(tid);
             return Err(StepErr::Memory);
         };
@@ -307,10 +310,10 @@ impl<E: LocalEngine> SiteCore<E> {
     fn halt<D: Disk>(&mut self, disk: &mut D, cut: u64) -> Answer
         requires told { IsTrue D.tells }
         requires up { self.old.store.standing ≡ Standing.Up }
-        requires may { SomePast (Stands E.stands D.tells D.image D.size D.spare self.old disk.old) (λ home past. Unit {0}) }
-        ensures answered { EachPast (Stands E.stands D.tells D.image D.size D.spare self.old disk.old)
-            (λ home past. Answers E.stands D.tells D.image D.size D.spare result self.new disk.new home past (site_line home past (SiteEvent.Halt cut))) }
-        ensures faults { D.faults disk.old ≤ D.faults disk.new }
+        requires may { SomePast (Stands E.stands D.tells self.old (D.seen disk.old)) (λ home past. Unit {0}) }
+        ensures answered { EachPast (Stands E.stands D.tells self.old (D.seen disk.old))
+            (λ home past. Answers E.stands D.tells result self.new (D.seen disk.new) home past (site_line home past (SiteEvent.Halt cut))) }
+        ensures faults { (D.seen disk.old).faults ≤ (D.seen disk.new).faults }
     {
         let kept = self.store.stop(disk, cut);
         self.runs.stop();
@@ -324,11 +327,7 @@ impl<E: LocalEngine> SiteCore<E> {
         ensures doubts { self.new.doubts ≡ self.old.doubts }
         ensures store { self.new.store ≡ record self.old.store { trip = trip_to calls cut } }
     {
-        self.store.trip = if calls == 0 {
-            None
-        } else {
-            Some(SetTrip { calls, cut })
-        };
+        self.store.set_trip(calls, cut);
         Answer::Set
     }
 
@@ -341,13 +340,13 @@ impl<E: LocalEngine> SiteCore<E> {
     ) -> Result<Answer, StepErr>
         requires told { IsTrue D.tells }
         requires up { self.old.store.standing ≡ Standing.Up }
-        requires may { SomePast (Stands E.stands D.tells D.image D.size D.spare self.old disk.old) (CanStep event) }
-        ensures answered { IfOk result (λ answer. EachPast (Stands E.stands D.tells D.image D.size D.spare self.old disk.old)
-            (λ home past. Answers E.stands D.tells D.image D.size D.spare answer self.new disk.new home past (site_line home past event))) }
-        ensures failed { IfErr result (λ why. EachPast (Stands E.stands D.tells D.image D.size D.spare self.old disk.old)
-            (λ home past. Fails E.stands D.tells D.image D.size D.spare why self.new disk.new home past (answered home past event))) }
-        ensures cause { IsErrOf result StepErr.Disk → HasRisen (D.faults disk.old) (D.faults disk.new) }
-        ensures faults { D.faults disk.old ≤ D.faults disk.new }
+        requires may { SomePast (Stands E.stands D.tells self.old (D.seen disk.old)) (CanStep event) }
+        ensures answered { IfOk result (λ answer. EachPast (Stands E.stands D.tells self.old (D.seen disk.old))
+            (λ home past. Answers E.stands D.tells answer self.new (D.seen disk.new) home past (site_line home past event))) }
+        ensures failed { IfErr result (λ why. EachPast (Stands E.stands D.tells self.old (D.seen disk.old))
+            (λ home past. Fails E.stands D.tells why self.new (D.seen disk.new) home past (answered home past event))) }
+        ensures cause { IsErrOf result StepErr.Disk → HasRisen (D.seen disk.old).faults (D.seen disk.new).faults }
+        ensures faults { (D.seen disk.old).faults ≤ (D.seen disk.new).faults }
     {
         match event {
             SiteEvent::Begin(tid) => match self.begin(alloc, tid) {
@@ -365,6 +364,7 @@ impl<E: LocalEngine> SiteCore<E> {
             SiteEvent::Give(_) => unreachable!(),
             SiteEvent::Ask(_) => unreachable!(),
             SiteEvent::Drop(_) => unreachable!(),
+            SiteEvent::Check => unreachable!(),
             SiteEvent::Trip { calls, cut } => Ok(self.set_trip(calls, cut)),
             SiteEvent::Back => Ok(Answer::Awake),
         }
@@ -379,13 +379,13 @@ impl<E: LocalEngine> SiteCore<E> {
     ) -> Result<Answer, StepErr>
         requires told { IsTrue D.tells }
         requires down { is_up self.old.store.standing ≡ false }
-        requires may { SomePast (Stands E.stands D.tells D.image D.size D.spare self.old disk.old) (CanStep event) }
-        ensures answered { IfOk result (λ answer. EachPast (Stands E.stands D.tells D.image D.size D.spare self.old disk.old)
-            (λ home past. Answers E.stands D.tells D.image D.size D.spare answer self.new disk.new home past (site_line home past event))) }
-        ensures failed { IfErr result (λ why. EachPast (Stands E.stands D.tells D.image D.size D.spare self.old disk.old)
-            (λ home past. Fails E.stands D.tells D.image D.size D.spare why self.new disk.new home past (answered home past event))) }
-        ensures cause { IsErrOf result StepErr.Disk → HasRisen (D.faults disk.old) (D.faults disk.new) }
-        ensures faults { D.faults disk.old ≤ D.faults disk.new }
+        requires may { SomePast (Stands E.stands D.tells self.old (D.seen disk.old)) (CanStep event) }
+        ensures answered { IfOk result (λ answer. EachPast (Stands E.stands D.tells self.old (D.seen disk.old))
+            (λ home past. Answers E.stands D.tells answer self.new (D.seen disk.new) home past (site_line home past event))) }
+        ensures failed { IfErr result (λ why. EachPast (Stands E.stands D.tells self.old (D.seen disk.old))
+            (λ home past. Fails E.stands D.tells why self.new (D.seen disk.new) home past (answered home past event))) }
+        ensures cause { IsErrOf result StepErr.Disk → HasRisen (D.seen disk.old).faults (D.seen disk.new).faults }
+        ensures faults { (D.seen disk.old).faults ≤ (D.seen disk.new).faults }
     {
         match event {
             SiteEvent::Trip { calls, cut } => Ok(self.set_trip(calls, cut)),
@@ -400,7 +400,7 @@ impl<E: LocalEngine> SiteCore<E> {
         ensures { EachPast (Holds E.stands self.now)
             (λ home past. Adds E.stands result self.now home past (of_fate home past tx)) }
     {
-        match committed_local(self.store.journal.records(), tx) {
+        match committed_local(self.store.records(), tx) {
             Some(committed) => Answer::Committed(committed),
             None => match self.runs.attempts.running(tx) {
                 Some(running) => Answer::Running(running),

@@ -11,14 +11,14 @@ pub returns-in-Some-clause-done : goal.returns-in-Some-clause-done
 returns-in-Some-clause-done g c =
     on_success c.apply.result
     (λ applied scenario commands s.
-    let now = c.armed_site.ensures scenario commands (recalls g.E.LocalEngine.stands g.D.Disk.tells g.D.Disk.image g.D.Disk.size g.D.Disk.spare c.args.self.now c.args.disks.now.items scenario commands s) in
+    let now = c.armed_site.ensures scenario commands (recalls g.E.LocalEngine.stands g.D.Disk.tells g.D.Disk.seen c.args.self.now c.args.disks.now.items scenario commands s) in
     let whole : all_disarmed scenario commands ≡ Cmd.Trip c.in-Some.actor 0 0 ∷ commands = ap (λ o. with_command (λ actor. Cmd.Trip actor 0 0) o commands) (sym now ∙ c.in-Some.is) in
-    subst (λ cs. Stands g.E.LocalEngine.stands g.D.Disk.tells g.D.Disk.image g.D.Disk.size g.D.Disk.spare c.apply.new.self c.apply.new.disks.items scenario cs) (sym whole) (applied scenario commands s))
+    subst (λ cs. Stands g.E.LocalEngine.stands g.D.Disk.tells g.D.Disk.seen c.apply.new.self c.apply.new.disks.items scenario cs) (sym whole) (applied scenario commands s))
     c.apply.ensures.applied
 
 pub returns-in-Some-clause-failed : goal.returns-in-Some-clause-failed
 returns-in-Some-clause-failed g c =
     on_failure _ _ c.apply.result
-    (λ why failed scenario commands s. fails_here g.E.LocalEngine.stands g.D.Disk.tells g.D.Disk.image g.D.Disk.size g.D.Disk.spare why c.apply.new.self c.apply.new.disks.items scenario (all_disarmed scenario commands) commands
+    (λ why failed scenario commands s. fails_here g.E.LocalEngine.stands g.D.Disk.tells g.D.Disk.seen why c.apply.new.self c.apply.new.disks.items scenario (all_disarmed scenario commands) commands
     (with_extends (λ actor. Cmd.Trip actor 0 0) (armed_number scenario commands) commands) (failed scenario commands s))
     c.apply.ensures.failed

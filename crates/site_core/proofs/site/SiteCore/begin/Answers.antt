@@ -13,7 +13,7 @@ pub returns-in-Some-clause-answered : goal.returns-in-Some-clause-answered
 returns-in-Some-clause-answered g c = λ home past h.
     let core = c.args.self.now in
     let tid = c.args.tid in
-    let is = committed_is g.E.LocalEngine.stands core home past tid.tx c.records.result.now (Some c.in-Some.committed) h c.records.ensures.records (sym c.in-Some.is ∙ c.committed_local.ensures) in
+    let is = committed_is g.E.LocalEngine.stands core home past tid.tx c.records.result.now (Some c.in-Some.committed) h c.records.ensures (sym c.in-Some.is ∙ c.committed_local.ensures) in
     adds_as g.E.LocalEngine.stands _ core home past _ _ (begin_committed home past tid c.in-Some.committed is)
     (record { said = refl; holds = holds_quiet g.E.LocalEngine.stands core home past (Ev.Begin tid) (Say.Committed c.in-Some.committed) h c.requires.up refl refl refl (λ tx. refl) })
 
@@ -22,7 +22,7 @@ returns-in-Some-running-clause-answered g c = λ home past h.
     let core = c.args.self.now in
     let tid = c.args.tid in
     let runs = up_runs g.E.LocalEngine.stands core home past h c.requires.up in
-    let none = committed_is g.E.LocalEngine.stands core home past tid.tx c.records.result.now None h c.records.ensures.records (sym c.in-None.is ∙ c.committed_local.ensures) in
+    let none = committed_is g.E.LocalEngine.stands core home past tid.tx c.records.result.now None h c.records.ensures (sym c.in-None.is ∙ c.committed_local.ensures) in
     let is = running_is core.runs.attempts.begun home past runs.listed (g.met.E.LocalEngine.right _ _ _ runs.stood) tid.tx ∙ sym c.running.ensures in
     adds_as g.E.LocalEngine.stands _ core home past _ _ (begin_running home past tid c.in-Some-running.running none (is ∙ c.in-Some-running.is))
     (record { said = refl; holds = holds_quiet g.E.LocalEngine.stands core home past (Ev.Begin tid) (Say.Running c.in-Some-running.running) h c.requires.up refl refl refl (λ tx. refl) })
@@ -32,7 +32,7 @@ returns-in_ok-begin-in-None-running-clause-answered g c = λ home past h.
     let core = c.args.self.now in
     let tid = c.args.tid in
     let runs = up_runs g.E.LocalEngine.stands core home past h c.requires.up in
-    let none = committed_is g.E.LocalEngine.stands core home past tid.tx c.records.result.now None h c.records.ensures.records (sym c.in-None.is ∙ c.committed_local.ensures) in
+    let none = committed_is g.E.LocalEngine.stands core home past tid.tx c.records.result.now None h c.records.ensures (sym c.in-None.is ∙ c.committed_local.ensures) in
     let is = running_is core.runs.attempts.begun home past runs.listed (g.met.E.LocalEngine.right _ _ _ runs.stood) tid.tx ∙ sym c.running.ensures in
     let lines = Begins tid (next_number home past) ∷ [] in
     adds_as g.E.LocalEngine.stands _ _ home past _ _ (begin_begun home past tid none (is ∙ c.in-None-running.is))

@@ -5,5 +5,5 @@ use Rattle.site_core.proofs.site.SiteCore.halt.Goals as goal
 
 pub returns-clause-answered : goal.returns-clause-answered
 returns-clause-answered g c = λ home past k.
-    halt_stops g.E.LocalEngine.stands g.D.Disk.tells g.D.Disk.image g.D.Disk.size g.D.Disk.spare c.args.self.now _ c.args.disk.now c.stop-kept.new.disk home past c.args.cut c.stop-kept.result
+    halt_stops g.E.LocalEngine.stands g.D.Disk.tells c.args.self.now _ (g.D.Disk.seen c.args.disk.now) (g.D.Disk.seen c.stop-kept.new.disk) home past c.args.cut c.stop-kept.result
     k c.requires.up (c.stop-kept.ensures.stops (disk home past) (trip past) k.stored) c.stop-kept.ensures.down refl c.stop.ensures.engine c.stop.ensures.none_live c.stop.ensures.begun

@@ -1,0 +1,25 @@
+use Rattle.std.proofs.Common.{None, arith}
+use Rattle.fed_rules.specs.Disk.{empty_disk}
+use Rattle.site_core.proofs.NewStore.{keeps_new}
+use Rattle.site_core.proofs.SetUpLaws.{setup_fits}
+use Rattle.site_core.proofs.store.set_up_store.Goals as goal
+
+pub frame_len-requires : goal.frame_len-requires
+frame_len-requires g c = setup_fits c.args.site c.args.engine c.args.protocol c.args.items c.requires.few
+
+pub overflow_add-bytes : goal.overflow_add-bytes
+overflow_add-bytes g c =
+    let fits = setup_fits c.args.site c.args.engine c.args.protocol c.args.items c.requires.few in
+    omega (arith, c.frame_len.ensures, c.frame_len-2.ensures, fits)
+
+pub make_room-requires-clause-kept : goal.make_room-requires-clause-kept
+make_room-requires-clause-kept g c =
+    (empty_disk, None, keeps_new g.D.Disk.tells (g.D.Disk.seen c.args.disk.now) c.create.result c.requires.empty (g.met.D.Disk.told_size c.args.disk.now c.requires.told) (g.met.D.Disk.is_sound c.args.disk.now c.requires.told) c.create.ensures)
+
+pub begin_journal-requires-clause-kept : goal.begin_journal-requires-clause-kept
+begin_journal-requires-clause-kept g c =
+    c.make_room.ensures.keeps empty_disk None
+    (keeps_new g.D.Disk.tells (g.D.Disk.seen c.args.disk.now) c.create.result c.requires.empty (g.met.D.Disk.told_size c.args.disk.now c.requires.told) (g.met.D.Disk.is_sound c.args.disk.now c.requires.told) c.create.ensures)
+
+pub begin_journal-requires-clause-setup_fits : goal.begin_journal-requires-clause-setup_fits
+begin_journal-requires-clause-setup_fits g c = setup_fits c.args.site c.args.engine c.args.protocol c.args.items c.requires.few
