@@ -18,7 +18,7 @@ use Rattle.actor_store.proofs.StoreLaws.{built, failing_keeps, kept_taken, settl
 
 module _ {R : Type 0} (spelling : R → List ℕ) (reading : List ℕ → Option R) (is_record : R → Type 0) (frame_bytes : R → ℕ) (counts : CountsFrames spelling frame_bytes) (again : (entry : R) → is_record entry → reading (spelling entry) ≡ Some entry) (tells : Bool) (told : IsTrue tells) where
   -- the bytes of all records' frames, and of those that stand
-  whole_is : (seen : Seen) (store : Stored R) (rules : Disk R) (trip : Option Trip) → Keeps spelling is_record frame_bytes tells seen store rules trip → bytes_of frame_bytes rules.records ≡ rules.trimmed + spelled_size (entry_frame spelling) store.journal.entries
+  pub whole_is : (seen : Seen) (store : Stored R) (rules : Disk R) (trip : Option Trip) → Keeps spelling is_record frame_bytes tells seen store rules trip → bytes_of frame_bytes rules.records ≡ rules.trimmed + spelled_size (entry_frame spelling) store.journal.entries
   whole_is seen store rules trip k =
       whole_follows spelling reading is_record frame_bytes counts again tells (taken store.standing seen) store.journal rules told (kept_taken spelling tells store.standing seen store.journal k.kept_on) k.stands k.are_records k.written
 

@@ -1,3 +1,5 @@
 pub mod StoreLaws
 pub mod CutLaws
 pub mod EndsLaws
+pub mod TrimLaws
+pub mod NewLaws

@@ -3,7 +3,9 @@
 #![tactic(auto)]
 
 mod errors;
+mod laws;
 mod store;
 
 pub use errors::StepErr;
+pub use laws::a_new_store_is_that_of_an_empty_disk;
 pub use store::{Break, SetTrip, Standing, Store};

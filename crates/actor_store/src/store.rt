@@ -1,9 +1,9 @@
 //! An actor's journal on its disk, with the trip that is set: each disk call may be the last one before a stop.
 ghost use Rattle.std.specs.Prelude.{◌≡◌, ◌≤◌, ◌<◌, ◌+◌, [], ◌∷◌, ◌++◌, false, true, Option, None, IfOk, IsErrOf, OnOk, OnErr, IsTrue, length};
 ghost use Rattle.mdb_base.specs.Counts.{HasCauseOf};
-ghost use Rattle.fed_rules.specs.Disk.{Append, CutBack, Sync, Disk as RulesDisk, after_calls, empty_disk};
+ghost use Rattle.fed_rules.specs.Disk.{Append, CutBack, Sync, TrimFront, Disk as RulesDisk, after_calls, empty_disk};
 ghost use Rattle.fed_rules.specs.Happenings.{Trip as RulesTrip};
-ghost use Rattle.frame_journal.specs.Journal.{HasRoom, new_journal, records, with_entry, with_room_for, written_size};
+ghost use Rattle.frame_journal.specs.Journal.{EndsWith, HasRoom, new_journal, records, with_entry, with_room_for, written_size};
 ghost use Rattle.journal_disk.specs.Frames.{IsPayload};
 ghost use Rattle.actor_store.specs.Store.{Counts, Ends, Keeps, SomeKept, StopsWith, cut_calls, is_failing, is_up, stored, trip_to};
 
@@ -303,12 +303,56 @@ impl<R: Drop, F: Format<R>> Store<R, F> {
         requires payload { IsPayload (F.spelling entry) }
         ensures ends { (rules : RulesDisk R) (trip : Option RulesTrip) → Keeps F.spelling F.is_record F.frame_bytes D.tells (D.seen disk.old) (stored self.old) rules trip
             → Ends F.frame_bytes (Keeps F.spelling F.is_record F.frame_bytes D.tells (D.seen disk.new) (stored self.new)) rules trip (Append entry ∷ Sync ∷ []) result }
+        ensures journal { OnOk result (self.new.journal ≡ with_entry F.spelling entry self.old.journal) }
         ensures standing { OnOk result (self.new.standing ≡ Standing.Up) }
         ensures down { OnErr result (is_up self.new.standing ≡ false) }
         ensures cause { HasCauseOf Break.Failed (D.seen disk.old).faults (D.seen disk.new).faults result }
     {
         match self.append(disk, entry) {
             Ok(()) => self.sync(disk),
+            Err(why) => Err(why),
+        }
+    }
+
+    /// Trims the disk up to the last record, a checkpoint, where all is synced.
+    fn trim<D: Disk>(&mut self, disk: &mut D) -> Result<(), Break>
+        requires told { IsTrue D.tells }
+        requires kept { SomeKept (λ rules trip. Keeps F.spelling F.is_record F.frame_bytes D.tells (D.seen disk.old) (stored self.old) rules trip × (rules.synced ≡ rules.length)) }
+        requires up { self.old.standing ≡ Standing.Up }
+        requires checkpoint { EndsWith F.is_checkpoint (records self.old.journal) }
+        ensures ends { (rules : RulesDisk R) (trip : Option RulesTrip) → Keeps F.spelling F.is_record F.frame_bytes D.tells (D.seen disk.old) (stored self.old) rules trip
+            → rules.synced ≡ rules.length → Ends F.frame_bytes (Keeps F.spelling F.is_record F.frame_bytes D.tells (D.seen disk.new) (stored self.new)) rules trip (TrimFront ∷ []) result }
+        ensures standing { OnOk result (self.new.standing ≡ Standing.Up) }
+        ensures down { OnErr result (is_up self.new.standing ≡ false) }
+        ensures cause { HasCauseOf Break.Failed (D.seen disk.old).faults (D.seen disk.new).faults result }
+    {
+        match self.journal.trim(disk) {
+            Ok(()) => self.counted(disk),
+            Err(Failed) => {
+                self.trip = None;
+                self.standing = Standing::Failing;
+                Err(Break::Failed)
+            }
+        }
+    }
+
+    /// Forces a checkpoint, and then trims what stands before it.
+    pub fn check<D: Disk>(&mut self, disk: &mut D, entry: R) -> Result<(), Break>
+        requires told { IsTrue D.tells }
+        requires kept { SomeKept (Keeps F.spelling F.is_record F.frame_bytes D.tells (D.seen disk.old) (stored self.old)) }
+        requires up { self.old.standing ≡ Standing.Up }
+        requires reserved { HasRoom (written_size F.spelling entry) self.old.journal }
+        requires in_range { F.in_range entry }
+        requires payload { IsPayload (F.spelling entry) }
+        requires checkpoint { F.is_checkpoint entry }
+        ensures ends { (rules : RulesDisk R) (trip : Option RulesTrip) → Keeps F.spelling F.is_record F.frame_bytes D.tells (D.seen disk.old) (stored self.old) rules trip
+            → Ends F.frame_bytes (Keeps F.spelling F.is_record F.frame_bytes D.tells (D.seen disk.new) (stored self.new)) rules trip (Append entry ∷ Sync ∷ TrimFront ∷ []) result }
+        ensures standing { OnOk result (self.new.standing ≡ Standing.Up) }
+        ensures down { OnErr result (is_up self.new.standing ≡ false) }
+        ensures cause { HasCauseOf Break.Failed (D.seen disk.old).faults (D.seen disk.new).faults result }
+    {
+        match self.force(disk, entry) {
+            Ok(()) => self.trim(disk),
             Err(why) => Err(why),
         }
     }

@@ -341,7 +341,8 @@ fn checked(alloc: Global, disk: &mut MemDisk, sum: SiteSum) -> Result<usize, Jou
     let mut journal = SiteJournal::load(alloc, disk)?;
     journal.cut(disk)?;
     let entry = SiteRecord::Checkpoint(sum);
-    journal.reserve(alloc, disk, &entry)?;
+    let bytes = SiteJournal::frame_len(&entry);
+    journal.make_room(alloc, disk, 1, bytes)?;
     journal.force(disk, entry)?;
     journal.trim(disk)?;
     Ok(journal.records().len())
