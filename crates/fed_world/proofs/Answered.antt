@@ -18,14 +18,14 @@ use Rattle.fed_rules.specs.declared.scenario.TxLine.{TxLine}
 use Rattle.fed_rules.specs.Runs.{Start, EngineLine}
 use Rattle.fed_rules.specs.Scenarios.{home_in}
 use Rattle.fed_rules.specs.Story.{Story, Nowhere, story_of, happens, answer_of, places_of, coord_past, with_coordinator, on_actor, on_site}
-use Rattle.journal_disk.specs.Disk.{Image}
+use Rattle.journal_disk.specs.Disk.{Image, Seen}
 use Rattle.local_laws.specs.Sound.{IsOwn}
 use Rattle.session_laws.specs.Closing.{IsAtSite}
 use Rattle.local_laws.proofs.StoryCommands.{abort_nowhere, begin_nowhere, commit_nowhere, step_nowhere}
 use Rattle.local_laws.proofs.SiteLines.{pick-none}
 use Rattle.site_core.specs.Stands.{Stands as CoreStands}
-use Rattle.site_core.specs.declared.errors.StepErr.{StepErr}
-use Rattle.site_core.specs.declared.errors.StepErr.TheVariants as Step_err
+use Rattle.actor_store.specs.declared.errors.StepErr.{StepErr}
+use Rattle.actor_store.specs.declared.errors.StepErr.TheVariants as Step_err
 use Rattle.fed_world.specs.declared.local_site.LocalSite.{LocalSite}
 use Rattle.fed_world.specs.Calls.{IsAnswered, IsUnanswered, error_of}
 use Rattle.fed_world.specs.Stands.{IsTold, IsUntold, LocalStands}
@@ -59,21 +59,21 @@ none_hears scenario story (Cmd.Ask site tid) own at none e = absurd own
 none_hears scenario story (Cmd.Drop site tid) own at none e = absurd own
 
 -- the disks but the site's stay empty, while that one changes
-pub others_set : {E D : Type 0} (size : D → ℕ) (new : LocalSite E) (disks : List D) (number : ℕ) (disk : D) → new.site.0 ≡ number → length disks ≡ 9 → ((place : ℕ) (other : D) → slice_get disks place ≡ Some other → (place ≡ number → ⊥) → size other ≡ 0)
-    → OthersEmpty size (Some new) (slice_set disks number disk)
-others_set size new disks number disk same nine empty = record {
+pub others_set : {E D : Type 0} (seen : D → Seen) (new : LocalSite E) (disks : List D) (number : ℕ) (disk : D) → new.site.0 ≡ number → length disks ≡ 9 → ((place : ℕ) (other : D) → slice_get disks place ≡ Some other → (place ≡ number → ⊥) → (seen other).size ≡ 0)
+    → OthersEmpty seen (Some new) (slice_set disks number disk)
+others_set seen new disks number disk same nine empty = record {
   nine = length-set disks number disk ∙ nine;
   empty = λ place other got apart.
       let there : place ≡ number → ⊥ = λ h. apart (h ∙ sym same) in
       empty place other (get_set_other disks number place disk other (λ h. there (sym h)) got) there;
 }
 
-others_empty : {E D : Type 0} (size : D → ℕ) (site new : LocalSite E) (disks : List D) (disk : D) → new.site ≡ site.site → OthersEmpty size (Some site) disks → OthersEmpty size (Some new) (slice_set disks site.site.0 disk)
-others_empty size site new disks disk same s = others_set size new disks site.site.0 disk (ap (λ (n : SiteId). n.0) same) s.nine s.empty
+others_empty : {E D : Type 0} (seen : D → Seen) (site new : LocalSite E) (disks : List D) (disk : D) → new.site ≡ site.site → OthersEmpty seen (Some site) disks → OthersEmpty seen (Some new) (slice_set disks site.site.0 disk)
+others_empty seen site new disks disk same s = others_set seen new disks site.site.0 disk (ap (λ (n : SiteId). n.0) same) s.nine s.empty
 
 module _ {E D : Type 0} (stands : E → Start → List EngineLine → Type 0) (tells : Bool) (seen : D → Seen) where
   -- the answer without a site
-  pub answered_none : (disks : List D) (command : Command) (scenario : Scenario) (commands : List Command) → IsOwn command → IsAtSite command → PartStands stands tells seen None disks scenario commands → OthersEmpty {E = E} size None disks
+  pub answered_none : (disks : List D) (command : Command) (scenario : Scenario) (commands : List Command) → IsOwn command → IsAtSite command → PartStands stands tells seen None disks scenario commands → OthersEmpty {E = E} seen None disks
       → IsAnswered {E = E} stands tells seen None disks command Say.None scenario commands
   answered_none disks command scenario commands own at s others =
       let h = none_hears scenario (story_of scenario commands) command own at s.0 s.1 in
@@ -86,7 +86,7 @@ module _ {E D : Type 0} (stands : E → Start → List EngineLine → Type 0) (t
       }
 
   -- the site's disk is the one that was read at its number
-  pub own_read : (site : LocalSite E) (disks : List D) (disk : D) (scenario : Scenario) (commands : List Command) → SitePart stands tells seen site disks scenario commands → OthersEmpty size (Some site) disks → disk ≡ get_or disks site.site.0 disk → slice_get disks site.site.0 ≡ Some disk
+  pub own_read : (site : LocalSite E) (disks : List D) (disk : D) (scenario : Scenario) (commands : List Command) → SitePart stands tells seen site disks scenario commands → OthersEmpty seen (Some site) disks → disk ≡ get_or disks site.site.0 disk → slice_get disks site.site.0 ≡ Some disk
   own_read site disks disk scenario commands s others is = slice_get_read disks (length disks) site.site.0 disk refl (let nine = others.nine in let most = s.in_range.greatest in omega arith) is
 
   own_stood : (site : LocalSite E) (disks : List D) (disk : D) (scenario : Scenario) (commands : List Command) → slice_get disks site.site.0 ≡ Some disk → SitePart stands tells seen site disks scenario commands → LocalStands stands tells seen site disk scenario commands
@@ -104,7 +104,7 @@ module _ {E D : Type 0} (stands : E → Start → List EngineLine → Type 0) (t
 
   -- the answer of the site
   pub answered_site : (site new : LocalSite E) (disks : List D) (old disk : D) (command : Command) (answer : Answer) (scenario : Scenario) (commands : List Command) → new.site ≡ site.site → slice_get disks site.site.0 ≡ Some old
-      → SitePart stands tells seen site disks scenario commands → OthersEmpty size (Some site) disks
+      → SitePart stands tells seen site disks scenario commands → OthersEmpty seen (Some site) disks
       → ((cs : List Command) → LocalStands stands tells seen site old scenario cs → IsTold (LocalStands stands tells seen new disk scenario) scenario cs command answer)
       → IsAnswered stands tells seen (Some new) (slice_set disks site.site.0 disk) command answer scenario commands
   answered_site site new disks old disk command answer scenario commands same own s others tell =
@@ -114,16 +114,16 @@ module _ {E D : Type 0} (stands : E → Start → List EngineLine → Type 0) (t
         sends = told.sends;
         uncoordinated = told.uncoordinated;
         part = part_after site new disks old disk scenario (command ∷ commands) same s.in_range own told.next;
-        others = others_empty size site new disks disk same others;
+        others = others_empty seen site new disks disk same others;
       }
 
   -- no answer of the site
   pub unanswered_site : (why : StepErr) (site new : LocalSite E) (disks : List D) (old disk : D) (scenario : Scenario) (commands : List Command) → new.site ≡ site.site → slice_get disks site.site.0 ≡ Some old
-      → SitePart stands tells seen site disks scenario commands → OthersEmpty size (Some site) disks
-      → ((cs : List Command) → LocalStands stands tells seen site old scenario cs → IsUntold (LocalStands stands tells seen new disk scenario) (CoreStands stands tells seen new.core disk) scenario why cs)
+      → SitePart stands tells seen site disks scenario commands → OthersEmpty seen (Some site) disks
+      → ((cs : List Command) → LocalStands stands tells seen site old scenario cs → IsUntold (LocalStands stands tells seen new disk scenario) (CoreStands stands tells new.core (seen disk)) scenario why cs)
       → IsUnanswered stands tells seen (error_of site.site.0 why) (Some new) (slice_set disks site.site.0 disk) scenario commands
   unanswered_site Step_err.Memory site new disks old disk scenario commands same own s others tell =
-      (part_after site new disks old disk scenario commands same s.in_range own (tell commands (own_stood site disks old scenario commands own s)), others_empty size site new disks disk same others)
+      (part_after site new disks old disk scenario commands same s.in_range own (tell commands (own_stood site disks old scenario commands own s)), others_empty seen site new disks disk same others)
   unanswered_site Step_err.Disk site new disks old disk scenario commands same own s others tell =
       let stood = own_stood site disks old scenario commands own s in
       let (line, alone, cut) = tell commands stood in
@@ -139,10 +139,10 @@ module _ {E D : Type 0} (stands : E → Start → List EngineLine → Type 0) (t
           own = own_after disks site.site.0 old disk own;
           cut = cut;
         },
-        others_empty size site new disks disk same others,
+        others_empty seen site new disks disk same others,
       )
 
 -- a failed disk call has its cause
-pub answer_cause : {D : Type 0} (faults : D → ℕ) (why : StepErr) (disks : List D) (number : ℕ) (old new : D) → slice_get disks number ≡ Some old → (why ≡ Step_err.Disk → HasRisen (faults old) (faults new)) → HasCause faults (error_of number why) disks (slice_set disks number new)
-answer_cause faults Step_err.Memory disks number old new own rose = tt
-answer_cause faults Step_err.Disk disks number old new own rose = set_rises faults disks number old new own (rose refl)
+pub answer_cause : {D : Type 0} (seen : D → Seen) (why : StepErr) (disks : List D) (number : ℕ) (old new : D) → slice_get disks number ≡ Some old → (why ≡ Step_err.Disk → HasRisen ((seen old).faults) ((seen new).faults)) → HasCause seen (error_of number why) disks (slice_set disks number new)
+answer_cause seen Step_err.Memory disks number old new own rose = tt
+answer_cause seen Step_err.Disk disks number old new own rose = set_rises seen disks number old new own (rose refl)

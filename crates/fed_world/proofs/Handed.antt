@@ -31,8 +31,8 @@ use Rattle.session_laws.proofs.OneSite.{one_home}
 use Rattle.local_laws.proofs.SiteLines.{pick-none, pick-some}
 use Rattle.local_laws.specs.Kept.{State, resting, heard_up}
 use Rattle.local_laws.specs.Sound.{IsOwn, IsOwnEvent}
-use Rattle.site_core.specs.declared.errors.StepErr.{StepErr}
-use Rattle.site_core.specs.declared.errors.StepErr.TheVariants as Err_is
+use Rattle.actor_store.specs.declared.errors.StepErr.{StepErr}
+use Rattle.actor_store.specs.declared.errors.StepErr.TheVariants as Err_is
 use Rattle.fed_world.specs.declared.local_site.LocalSite.{LocalSite}
 use Rattle.fed_world.specs.Places.{IsPlace}
 use Rattle.fed_world.specs.Stands.{home_from, IsAlone, AllKept, SiteAt, SiteStands, Hands, Fails, IsTold, IsUntold, rest_all}

@@ -5,9 +5,9 @@ use Rattle.fed_rules.specs.declared.commands.Command.{Command}
 use Rattle.fed_rules.specs.declared.scenario.Scenario.{Scenario}
 use Rattle.fed_rules.specs.Runs.{Start, EngineLine}
 use Rattle.fed_rules.specs.Story.{story_of, happens, answer_of, places_of, coord_past}
-use Rattle.journal_disk.specs.Disk.{Image}
-use Rattle.site_core.specs.declared.errors.StepErr.{StepErr}
-use Rattle.site_core.specs.declared.errors.StepErr.TheVariants as Step_err
+use Rattle.journal_disk.specs.Disk.{Image, Seen}
+use Rattle.actor_store.specs.declared.errors.StepErr.{StepErr}
+use Rattle.actor_store.specs.declared.errors.StepErr.TheVariants as Step_err
 use Rattle.fed_world.specs.declared.errors.WorldErr.{WorldErr}
 use Rattle.fed_world.specs.declared.errors.WorldErr.TheVariants as Err_is
 use Rattle.fed_world.specs.declared.local_site.LocalSite.{LocalSite}
@@ -24,11 +24,11 @@ pub record IsAnswered {E D : Type 0} (stands : E → Start → List EngineLine �
   pub sends : places_of (story_of scenario commands) (happens scenario (story_of scenario commands) command) ≡ []
   pub uncoordinated : coord_past (story_of scenario (command ∷ commands)) ≡ coord_past (story_of scenario commands)
   pub part : PartStands stands tells seen site disks scenario (command ∷ commands)
-  pub others : OthersEmpty size site disks
+  pub others : OthersEmpty seen site disks
 
 -- a command without an answer: want of memory changes nothing, and behind a failed disk call the disk holds some stop
 abbrev pub IsUnanswered : {E D : Type 0} → (E → Start → List EngineLine → Type 0) → Bool → (D → Seen) → WorldErr → Option (LocalSite E) → List D → Scenario → List Command → Type 0
 IsUnanswered stands tells seen Err_is.Memory site disks scenario commands =
-    PartStands stands tells seen site disks scenario commands × OthersEmpty size site disks
+    PartStands stands tells seen site disks scenario commands × OthersEmpty seen site disks
 IsUnanswered stands tells seen (Err_is.Disk number) site disks scenario commands =
-    PartBroke stands tells seen number site disks scenario commands × OthersEmpty size site disks
+    PartBroke stands tells seen number site disks scenario commands × OthersEmpty seen site disks

@@ -15,11 +15,11 @@ use Rattle.fed_rules.specs.Site.{answered}
 use Rattle.fed_rules.specs.SitePast.{SiteHappening, SitePast, trip}
 use Rattle.fed_rules.specs.SiteRecords.{Home}
 use Rattle.fed_rules.specs.Story.{story_of, happens, answer_of, places_of, past_of, coord_past}
-use Rattle.journal_disk.specs.Disk.{Image}
+use Rattle.journal_disk.specs.Disk.{Image, Seen}
 use Rattle.local_laws.specs.Kept.{State, resting, unbegun, kept_of}
 use Rattle.local_laws.specs.Sound.{IsOwn}
-use Rattle.site_core.specs.declared.errors.StepErr.{StepErr}
-use Rattle.site_core.specs.declared.errors.StepErr.TheVariants as Err_is
+use Rattle.actor_store.specs.declared.errors.StepErr.{StepErr}
+use Rattle.actor_store.specs.declared.errors.StepErr.TheVariants as Err_is
 use Rattle.site_core.specs.Stands.{Holds, Stands as CoreStands, cut_line}
 pub use Rattle.session_laws.specs.Sessions.{home_from, IsAlone}
 use Rattle.fed_world.specs.declared.local_site.LocalSite.{LocalSite}
@@ -51,7 +51,7 @@ pub record SiteStands (core : Home → SitePast → Type 0) (scenario : Scenario
 -- so does a site with its disk
 abbrev pub LocalStands : {E D : Type 0} → (E → Start → List EngineLine → Type 0) → Bool → (D → Seen) → LocalSite E → D → Scenario → List Command → Type 0
 LocalStands stands tells seen site disk scenario commands =
-    SiteStands (CoreStands stands tells seen site.core disk) scenario site.site site.locals.items site.armed commands
+    SiteStands (CoreStands stands tells site.core (seen disk)) scenario site.site site.locals.items site.armed commands
 
 -- and a site whatever is on its disk
 abbrev pub LocalHolds : {E : Type 0} → (E → Start → List EngineLine → Type 0) → LocalSite E → Scenario → List Command → Type 0

@@ -15,7 +15,7 @@ use Rattle.fed_rules.specs.Scenarios.{items_of}
 use Rattle.fed_rules.specs.SitePast.{set_up_calls}
 use Rattle.fed_rules.specs.Story.{story_of, lines_of, past_of, coord_past}
 use Rattle.engine_contract.specs.Calls.{fresh_start}
-use Rattle.journal_disk.specs.Disk.{Image}
+use Rattle.journal_disk.specs.Disk.{Image, Seen}
 use Rattle.local_laws.specs.Sound.{IsOwn}
 use Rattle.session_laws.specs.Closing.{IsAtSite}
 use Rattle.site_core.specs.Stands.{Stands as CoreStands}
@@ -41,9 +41,9 @@ CanStart stands scenario None = (scenario.sites ≡ []) × (scenario.transaction
 CanStart stands scenario (Some local) = (line : SiteLine) × IsNewSite stands scenario line local
 
 -- there are nine disks, and none has a byte
-pub record AreEmpty {D : Type 0} (size : D → ℕ) (disks : List D) : Type 0 where
+pub record AreEmpty {D : Type 0} (seen : D → Seen) (disks : List D) : Type 0 where
   pub nine : length disks ≡ 9
-  pub empty : (place : ℕ) (disk : D) → slice_get disks place ≡ Some disk → size disk ≡ 0
+  pub empty : (place : ℕ) (disk : D) → slice_get disks place ≡ Some disk → (seen disk).size ≡ 0
 
 -- the place isn't that of the site's disk
 abbrev pub IsOther : {E : Type 0} → Option (LocalSite E) → ℕ → Type 0
@@ -51,25 +51,25 @@ IsOther None place = Unit {0}
 IsOther (Some site) place = place ≡ site.site.0 → ⊥
 
 -- there are nine disks, and none but the site's has a byte
-pub record OthersEmpty {E D : Type 0} (size : D → ℕ) (site : Option (LocalSite E)) (disks : List D) : Type 0 where
+pub record OthersEmpty {E D : Type 0} (seen : D → Seen) (site : Option (LocalSite E)) (disks : List D) : Type 0 where
   pub nine : length disks ≡ 9
-  pub empty : (place : ℕ) (disk : D) → slice_get disks place ≡ Some disk → IsOther site place → size disk ≡ 0
+  pub empty : (place : ℕ) (disk : D) → slice_get disks place ≡ Some disk → IsOther site place → (seen disk).size ≡ 0
 
 -- a call of the disk failed while its site was set up: it holds what some stop within the set-up leaves
-pub record SetUpBroke {D : Type 0} (image : D → Image) (size : D → ℕ) (number : ℕ) (disks : List D) (scenario : Scenario) : Type 0 where
+pub record SetUpBroke {D : Type 0} (seen : D → Seen) (number : ℕ) (disks : List D) (scenario : Scenario) : Type 0 where
   pub line : SiteLine
   pub alone : IsAlone scenario line
   pub number_is : number ≡ line.site.0
   pub disk : D
   pub own : slice_get disks number ≡ Some disk
-  pub stop : SomeStop (image disk) empty_disk (set_up_calls (home_from scenario line))
+  pub stop : SomeStop ((seen disk).image) empty_disk (set_up_calls (home_from scenario line))
   pub nine : length disks ≡ 9
-  pub others : (place : ℕ) (other : D) → slice_get disks place ≡ Some other → (place ≡ number → ⊥) → size other ≡ 0
+  pub others : (place : ℕ) (other : D) → slice_get disks place ≡ Some other → (place ≡ number → ⊥) → (seen other).size ≡ 0
 
 -- a world that isn't made: without memory every disk stays empty
-abbrev pub FailsToStart : {D : Type 0} → (D → Image) → (D → ℕ) → WorldErr → List D → Scenario → Type 0
-FailsToStart image size Err_is.Memory disks scenario = AreEmpty size disks
-FailsToStart image size (Err_is.Disk number) disks scenario = SetUpBroke image size number disks scenario
+abbrev pub FailsToStart : {D : Type 0} → (D → Seen) → WorldErr → List D → Scenario → Type 0
+FailsToStart seen Err_is.Memory disks scenario = AreEmpty seen disks
+FailsToStart seen (Err_is.Disk number) disks scenario = SetUpBroke seen number disks scenario
 
 -- the world has this scenario, and its lines are those of the story of these commands
 pub record HasLines {E : Type 0} (world : World E) (scenario : Scenario) (commands : List Command) : Type 0 where
@@ -93,7 +93,7 @@ pub record Stands {E D : Type 0} (stands : E → Start → List EngineLine → T
   pub has : HasLines world scenario commands
   pub whole : world.broken ≡ false
   pub site : PartStands stands tells seen world.site disks scenario commands
-  pub others : OthersEmpty size world.site disks
+  pub others : OthersEmpty seen world.site disks
   pub at_sites : Each IsAtSite commands
   pub uncoordinated : coord_past (story_of scenario commands) ≡ []
 
@@ -145,7 +145,7 @@ pub record SiteBroke {E D : Type 0} (stands : E → Start → List EngineLine �
   pub site_is : site.site ≡ line.site
   pub disk : D
   pub own : slice_get disks number ≡ Some disk
-  pub cut : IsCut (CoreStands stands tells seen site.core disk) (home_from scenario line) (past_of line.site (story_of scenario commands))
+  pub cut : IsCut (CoreStands stands tells site.core (seen disk)) (home_from scenario line) (past_of line.site (story_of scenario commands))
 
 abbrev pub PartBroke : {E D : Type 0} → (E → Start → List EngineLine → Type 0) → Bool → (D → Seen) → ℕ → Option (LocalSite E) → List D → Scenario → List Command → Type 0
 PartBroke stands tells seen number None disks scenario commands = ⊥
@@ -156,7 +156,7 @@ pub record IsBroken {E D : Type 0} (stands : E → Start → List EngineLine →
   pub has : HasLines world scenario commands
   pub broken : world.broken ≡ true
   pub site : PartBroke stands tells seen number world.site disks scenario commands
-  pub others : OthersEmpty size world.site disks
+  pub others : OthersEmpty seen world.site disks
 
 -- a command without a line: want of memory changes nothing, and a failed disk call breaks the world
 abbrev pub Fails : {E D : Type 0} → (E → Start → List EngineLine → Type 0) → Bool → (D → Seen) → WorldErr → World E → List D → Scenario → List Command → Type 0
@@ -175,14 +175,14 @@ abbrev pub FailsToClose : {E D : Type 0} → (E → Start → List EngineLine �
 FailsToClose stands tells seen why world disks scenario commands = FailsToward stands tells seen why world disks (closed scenario commands) scenario commands
 
 -- the count of faults of this disk rose
-abbrev pub RisesAt : {D : Type 0} → (D → ℕ) → ℕ → List D → List D → Type 0
-RisesAt {D} faults number old new = (a b : D) → slice_get old number ≡ Some a → slice_get new number ≡ Some b → HasRisen (faults a) (faults b)
+abbrev pub RisesAt : {D : Type 0} → (D → Seen) → ℕ → List D → List D → Type 0
+RisesAt {D} seen number old new = (a b : D) → slice_get old number ≡ Some a → slice_get new number ≡ Some b → HasRisen ((seen a).faults) ((seen b).faults)
 
 -- where a disk failed, its count of faults rose
-abbrev pub HasCause : {D : Type 0} → (D → ℕ) → WorldErr → List D → List D → Type 0
-HasCause faults Err_is.Memory old new = Unit {0}
-HasCause faults (Err_is.Disk number) old new = RisesAt faults number old new
+abbrev pub HasCause : {D : Type 0} → (D → Seen) → WorldErr → List D → List D → Type 0
+HasCause seen Err_is.Memory old new = Unit {0}
+HasCause seen (Err_is.Disk number) old new = RisesAt seen number old new
 
 -- no count of faults falls
-abbrev pub NeverFalls : {D : Type 0} → (D → ℕ) → List D → List D → Type 0
-NeverFalls {D} faults old new = (place : ℕ) (a b : D) → slice_get old place ≡ Some a → slice_get new place ≡ Some b → faults a ≤ faults b
+abbrev pub NeverFalls : {D : Type 0} → (D → Seen) → List D → List D → Type 0
+NeverFalls {D} seen old new = (place : ℕ) (a b : D) → slice_get old place ≡ Some a → slice_get new place ≡ Some b → (seen a).faults ≤ (seen b).faults

@@ -125,11 +125,11 @@ impl<E: LocalEngine> LocalSite<E> {
         event: SiteEvent,
     ) -> Result<Answer, StepErr>
         requires told { IsTrue D.tells }
-        requires may { SomePast (CoreStands E.stands D.tells D.seen self.old.core disk.old) (CanStep event) }
-        ensures answered { IfOk result (λ answer. EachPast (CoreStands E.stands D.tells D.seen self.old.core disk.old)
-            (λ home past. Hands (CoreStands E.stands D.tells D.seen self.new.core disk.new) self.old self.new answer home past (site_line home past event))) }
-        ensures failed { IfErr result (λ why. EachPast (CoreStands E.stands D.tells D.seen self.old.core disk.old)
-            (λ home past. Fails (CoreStands E.stands D.tells D.seen self.new.core disk.new) why self.old self.new home past)) }
+        requires may { SomePast (CoreStands E.stands D.tells self.old.core (D.seen disk.old)) (CanStep event) }
+        ensures answered { IfOk result (λ answer. EachPast (CoreStands E.stands D.tells self.old.core (D.seen disk.old))
+            (λ home past. Hands (CoreStands E.stands D.tells self.new.core (D.seen disk.new)) self.old self.new answer home past (site_line home past event))) }
+        ensures failed { IfErr result (λ why. EachPast (CoreStands E.stands D.tells self.old.core (D.seen disk.old))
+            (λ home past. Fails (CoreStands E.stands D.tells self.new.core (D.seen disk.new)) why self.old self.new home past)) }
         ensures cause { IsErrOf result StepErr.Disk → HasRisen ((D.seen disk.old).faults) ((D.seen disk.new).faults) }
         ensures faults { (D.seen disk.old).faults ≤ (D.seen disk.new).faults }
         ensures site { self.new.site ≡ self.old.site }
@@ -162,7 +162,7 @@ impl<E: LocalEngine> LocalSite<E> {
         ensures told { IfOk result (λ answer. EachCommands (LocalStands E.stands D.tells D.seen self.old disk.old scenario.now)
             (λ commands. IsTold (LocalStands E.stands D.tells D.seen self.new disk.new scenario.now) scenario.now commands command answer)) }
         ensures failed { IfErr result (λ why. EachCommands (LocalStands E.stands D.tells D.seen self.old disk.old scenario.now)
-            (IsUntold (LocalStands E.stands D.tells D.seen self.new disk.new scenario.now) (CoreStands E.stands D.tells D.seen self.new.core disk.new) scenario.now why)) }
+            (IsUntold (LocalStands E.stands D.tells D.seen self.new disk.new scenario.now) (CoreStands E.stands D.tells self.new.core (D.seen disk.new)) scenario.now why)) }
         ensures cause { IsErrOf result StepErr.Disk → HasRisen ((D.seen disk.old).faults) ((D.seen disk.new).faults) }
         ensures faults { (D.seen disk.old).faults ≤ (D.seen disk.new).faults }
         ensures site { self.new.site ≡ self.old.site }

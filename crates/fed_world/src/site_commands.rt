@@ -28,7 +28,7 @@ impl<E: LocalEngine> LocalSite<E> {
         ensures told { IfOk result (λ answer. EachCommands (LocalStands E.stands D.tells D.seen self.old disk.old scenario.now)
             (λ commands. IsTold (LocalStands E.stands D.tells D.seen self.new disk.new scenario.now) scenario.now commands (Cmd.Halt actor cut) answer)) }
         ensures failed { IfErr result (λ why. EachCommands (LocalStands E.stands D.tells D.seen self.old disk.old scenario.now)
-            (IsUntold (LocalStands E.stands D.tells D.seen self.new disk.new scenario.now) (CoreStands E.stands D.tells D.seen self.new.core disk.new) scenario.now why)) }
+            (IsUntold (LocalStands E.stands D.tells D.seen self.new disk.new scenario.now) (CoreStands E.stands D.tells self.new.core (D.seen disk.new)) scenario.now why)) }
         ensures cause { IsErrOf result StepErr.Disk → HasRisen ((D.seen disk.old).faults) ((D.seen disk.new).faults) }
         ensures faults { (D.seen disk.old).faults ≤ (D.seen disk.new).faults }
         ensures site { self.new.site ≡ self.old.site }
@@ -53,7 +53,7 @@ impl<E: LocalEngine> LocalSite<E> {
         ensures told { IfOk result (λ answer. EachCommands (LocalStands E.stands D.tells D.seen self.old disk.old scenario.now)
             (λ commands. IsTold (LocalStands E.stands D.tells D.seen self.new disk.new scenario.now) scenario.now commands (Cmd.Back actor) answer)) }
         ensures failed { IfErr result (λ why. EachCommands (LocalStands E.stands D.tells D.seen self.old disk.old scenario.now)
-            (IsUntold (LocalStands E.stands D.tells D.seen self.new disk.new scenario.now) (CoreStands E.stands D.tells D.seen self.new.core disk.new) scenario.now why)) }
+            (IsUntold (LocalStands E.stands D.tells D.seen self.new disk.new scenario.now) (CoreStands E.stands D.tells self.new.core (D.seen disk.new)) scenario.now why)) }
         ensures cause { IsErrOf result StepErr.Disk → HasRisen ((D.seen disk.old).faults) ((D.seen disk.new).faults) }
         ensures faults { (D.seen disk.old).faults ≤ (D.seen disk.new).faults }
         ensures site { self.new.site ≡ self.old.site }
@@ -80,7 +80,7 @@ impl<E: LocalEngine> LocalSite<E> {
         ensures told { IfOk result (λ answer. EachCommands (LocalStands E.stands D.tells D.seen self.old disk.old scenario.now)
             (λ commands. IsTold (LocalStands E.stands D.tells D.seen self.new disk.new scenario.now) scenario.now commands (Cmd.Trip actor calls cut) answer)) }
         ensures failed { IfErr result (λ why. EachCommands (LocalStands E.stands D.tells D.seen self.old disk.old scenario.now)
-            (IsUntold (LocalStands E.stands D.tells D.seen self.new disk.new scenario.now) (CoreStands E.stands D.tells D.seen self.new.core disk.new) scenario.now why)) }
+            (IsUntold (LocalStands E.stands D.tells D.seen self.new disk.new scenario.now) (CoreStands E.stands D.tells self.new.core (D.seen disk.new)) scenario.now why)) }
         ensures cause { IsErrOf result StepErr.Disk → HasRisen ((D.seen disk.old).faults) ((D.seen disk.new).faults) }
         ensures faults { (D.seen disk.old).faults ≤ (D.seen disk.new).faults }
         ensures site { self.new.site ≡ self.old.site }

@@ -56,11 +56,11 @@ impl<E: LocalEngine> World<E> {
     ) -> Result<World<E>, WorldErr>
         requires told { IsTrue D.tells }
         requires start { CanStart E.stands scenario local }
-        requires empty { AreEmpty (size_of D.seen) disks.old.items }
+        requires empty { AreEmpty D.seen disks.old.items }
         ensures stands { IfOk result (λ world. Stands E.stands D.tells D.seen world disks.new.items scenario []) }
-        ensures failed { IfErr result (λ why. FailsToStart (image_of D.seen) (size_of D.seen) why disks.new.items scenario) }
-        ensures cause { IfErr result (λ why. HasCause (faults_of D.seen) why disks.old.items disks.new.items) }
-        ensures faults { NeverFalls (faults_of D.seen) disks.old.items disks.new.items }
+        ensures failed { IfErr result (λ why. FailsToStart D.seen why disks.new.items scenario) }
+        ensures cause { IfErr result (λ why. HasCause D.seen why disks.old.items disks.new.items) }
+        ensures faults { NeverFalls D.seen disks.old.items disks.new.items }
     {
         let site = match local {
             None => None,
@@ -98,8 +98,8 @@ impl<E: LocalEngine> World<E> {
         ensures scenario { self.new.scenario ≡ self.old.scenario }
         ensures lines { self.new.lines ≡ self.old.lines }
         ensures broken { self.new.broken ≡ self.old.broken }
-        ensures cause { IfErr result (λ why. HasCause (faults_of D.seen) why disks.old.items disks.new.items) }
-        ensures faults { NeverFalls (faults_of D.seen) disks.old.items disks.new.items }
+        ensures cause { IfErr result (λ why. HasCause D.seen why disks.old.items disks.new.items) }
+        ensures faults { NeverFalls D.seen disks.old.items disks.new.items }
     {
         match &mut self.site {
             None => Ok(Answer::None),
@@ -127,8 +127,8 @@ impl<E: LocalEngine> World<E> {
             (λ scenario commands. Stands E.stands D.tells D.seen self.new disks.new.items scenario (command ∷ commands))) }
         ensures failed { IfErr result (λ why. EachStory (Stands E.stands D.tells D.seen self.old disks.old.items)
             (Fails E.stands D.tells D.seen why self.new disks.new.items)) }
-        ensures cause { IfErr result (λ why. HasCause (faults_of D.seen) why disks.old.items disks.new.items) }
-        ensures faults { NeverFalls (faults_of D.seen) disks.old.items disks.new.items }
+        ensures cause { IfErr result (λ why. HasCause D.seen why disks.old.items disks.new.items) }
+        ensures faults { NeverFalls D.seen disks.old.items disks.new.items }
     {
         let Ok(()) = self.lines.reserve(1) else {
             return Err(WorldErr::Memory);
@@ -202,8 +202,8 @@ impl<E: LocalEngine> World<E> {
             (λ scenario commands. Stands E.stands D.tells D.seen self.new disks.new.items scenario (all_disarmed scenario commands))) }
         ensures failed { IfErr result (λ why. EachStory (Stands E.stands D.tells D.seen self.old disks.old.items)
             (λ scenario commands. FailsToward E.stands D.tells D.seen why self.new disks.new.items (all_disarmed scenario commands) scenario commands)) }
-        ensures cause { IfErr result (λ why. HasCause (faults_of D.seen) why disks.old.items disks.new.items) }
-        ensures faults { NeverFalls (faults_of D.seen) disks.old.items disks.new.items }
+        ensures cause { IfErr result (λ why. HasCause D.seen why disks.old.items disks.new.items) }
+        ensures faults { NeverFalls D.seen disks.old.items disks.new.items }
     {
         match self.armed_site() {
             None => Ok(()),
@@ -227,8 +227,8 @@ impl<E: LocalEngine> World<E> {
             (λ scenario commands. Stands E.stands D.tells D.seen self.new disks.new.items scenario (all_up scenario commands))) }
         ensures failed { IfErr result (λ why. EachStory (Stands E.stands D.tells D.seen self.old disks.old.items)
             (λ scenario commands. FailsToward E.stands D.tells D.seen why self.new disks.new.items (all_up scenario commands) scenario commands)) }
-        ensures cause { IfErr result (λ why. HasCause (faults_of D.seen) why disks.old.items disks.new.items) }
-        ensures faults { NeverFalls (faults_of D.seen) disks.old.items disks.new.items }
+        ensures cause { IfErr result (λ why. HasCause D.seen why disks.old.items disks.new.items) }
+        ensures faults { NeverFalls D.seen disks.old.items disks.new.items }
     {
         match self.down_site() {
             None => Ok(()),
@@ -244,8 +244,8 @@ impl<E: LocalEngine> World<E> {
             (λ scenario commands. Stands E.stands D.tells D.seen self.new disks.new.items scenario (all_cleared scenario commands))) }
         ensures failed { IfErr result (λ why. EachStory (Stands E.stands D.tells D.seen self.old disks.old.items)
             (λ scenario commands. FailsToward E.stands D.tells D.seen why self.new disks.new.items (all_cleared scenario commands) scenario commands)) }
-        ensures cause { IfErr result (λ why. HasCause (faults_of D.seen) why disks.old.items disks.new.items) }
-        ensures faults { NeverFalls (faults_of D.seen) disks.old.items disks.new.items }
+        ensures cause { IfErr result (λ why. HasCause D.seen why disks.old.items disks.new.items) }
+        ensures faults { NeverFalls D.seen disks.old.items disks.new.items }
     {
         let Ok(live) = self.live(alloc) else {
             return Err(WorldErr::Memory);
@@ -265,8 +265,8 @@ impl<E: LocalEngine> World<E> {
             (λ scenario commands. Stands E.stands D.tells D.seen self.new disks.new.items scenario (closed scenario commands))) }
         ensures failed { IfErr result (λ why. EachStory (Stands E.stands D.tells D.seen self.old disks.old.items)
             (FailsToClose E.stands D.tells D.seen why self.new disks.new.items)) }
-        ensures cause { IfErr result (λ why. HasCause (faults_of D.seen) why disks.old.items disks.new.items) }
-        ensures faults { NeverFalls (faults_of D.seen) disks.old.items disks.new.items }
+        ensures cause { IfErr result (λ why. HasCause D.seen why disks.old.items disks.new.items) }
+        ensures faults { NeverFalls D.seen disks.old.items disks.new.items }
     {
         self.disarm(alloc, disks)?;
         self.bring_up(alloc, disks)?;

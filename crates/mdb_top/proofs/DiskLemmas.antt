@@ -17,12 +17,12 @@ use Rattle.fed_rules.specs.Story.{Story, past_of}
 use Rattle.fed_world.specs.Stands.{IsCut}
 use Rattle.frame_journal.specs.Records.{AreRecordsOf, spelled}
 use Rattle.frame_journal.proofs.Keeping.{length-frames, none_is_part, not_torn}
-use Rattle.journal_disk.specs.Disk.{Image}
+use Rattle.journal_disk.specs.Disk.{Image, Seen}
 use Rattle.journal_disk.specs.Frames.{frames, frames_size}
 use Rattle.site_core.specs.declared.site.SiteCore.{SiteCore}
-use Rattle.site_core.specs.declared.store.Standing.{Standing}
-use Rattle.site_core.specs.declared.store.Standing.TheVariants.{Up, Down, Failing}
-use Rattle.site_core.specs.declared.store.Store.{Store}
+use Rattle.actor_store.specs.declared.store.Standing.{Standing}
+use Rattle.actor_store.specs.declared.store.Standing.TheVariants.{Up, Down, Failing}
+use Rattle.actor_store.specs.declared.store.Store.{Store}
 use Rattle.site_core.specs.Stands.{Stands as CoreStands}
 use Rattle.site_core.specs.Store.{HoldsBytes, IsInOrder, Keeps, is_up, seen, stopped_disk}
 use Rattle.site_journal.specs.Spelling.{spelling}
@@ -54,36 +54,36 @@ own_home scenario line number e same =
     ap (home_of scenario) (sym (same_site_alike line.site (record { 0 = number }) (eq-eqb line.site.0 number (sym same)))) ∙ one_home scenario line e
 
 -- a disk without bytes holds what the rules say where nothing was written
-pub empty_holds : (image : Image) → image.bytes ≡ [] → HoldsBytes image empty_disk
-empty_holds image e = record {
+pub empty_holds : (image : Image) → image.bytes ≡ [] → HoldsBytes seen empty_disk
+empty_holds seen e = record {
   records = subst (λ bytes. AreRecordsOf spelling bytes []) (sym e) (record { are_payloads = tt; rest = []; parts = refl; is_torn = none_is_part });
   bytes = ap length e;
 }
 
 -- the bytes that a store takes for synced are those on the disk
-seen_bytes : (standing : Standing) (image : Image) → (seen standing image).bytes ≡ image.bytes
-seen_bytes Up image = refl
-seen_bytes Down image = refl
-seen_bytes Failing image = refl
+seen_bytes : (standing : Standing) (image : Image) → (seen standing seen).bytes ≡ image.bytes
+seen_bytes Up seen = refl
+seen_bytes Down seen = refl
+seen_bytes Failing seen = refl
 
 -- a disk on which a store stands for that of the rules holds its bytes
 pub keeps_bytes : {D : Type 0} (tells : Bool) (seen : D → Seen) (one : D) (store : Store) (rules : Disk SiteRecord) (in_force : Option Trip)
-    → Keeps tells seen one store rules in_force → HoldsBytes (image one) rules
+    → Keeps tells seen one store rules in_force → HoldsBytes ((seen one).image) rules
 keeps_bytes tells seen one store rules in_force k = record {
-  records = subst (λ bytes. AreRecordsOf spelling bytes (reverse rules.records)) (seen_bytes store.standing (image one)) k.stands.records;
-  bytes = ap length (sym (seen_bytes store.standing (image one))) ∙ k.stands.bytes;
+  records = subst (λ bytes. AreRecordsOf spelling bytes (reverse rules.records)) (seen_bytes store.standing ((seen one).image)) k.stands.records;
+  bytes = ap length (sym (seen_bytes store.standing ((seen one).image))) ∙ k.stands.bytes;
 }
 
 -- while its site is up they are the frames of its records
 pub keeps_frames : {D : Type 0} (tells : Bool) (seen : D → Seen) (one : D) (store : Store) (rules : Disk SiteRecord) (in_force : Option Trip)
-    → IsTrue tells → length (image one).bytes ≡ size one → is_up store.standing ≡ true → Keeps tells seen one store rules in_force
-    → (image one).bytes ≡ spelled spelling (reverse rules.records)
+    → IsTrue tells → length ((seen one).image).bytes ≡ (seen one).size → is_up store.standing ≡ true → Keeps tells seen one store rules in_force
+    → ((seen one).image).bytes ≡ spelled spelling (reverse rules.records)
 keeps_frames tells seen one store rules in_force told sized up k =
     let payloads = map spelling store.journal.records in
     let are = k.kept_on.records told in
     let whole : store.journal.is_torn ≡ false = untorn store.standing up k.in_order in
-    let most = not_torn store.journal.is_torn (frames_size payloads) (size one) k.kept_on.is_torn whole in
-    let parts : length (image one).bytes ≡ length (frames payloads ++ are.rest) = ap length are.parts in
+    let most = not_torn store.journal.is_torn (frames_size payloads) ((seen one).size) k.kept_on.is_torn whole in
+    let parts : length ((seen one).image).bytes ≡ length (frames payloads ++ are.rest) = ap length are.parts in
     let none : are.rest ≡ [] = nothing are.rest (omega (arith, most, parts, sized, length-append (frames payloads) are.rest, length-frames payloads)) in
     are.parts ∙ ap (λ rest. frames payloads ++ rest) none ∙ append-nil (frames payloads) ∙ ap (λ records. spelled spelling records) k.records
   where
@@ -94,58 +94,58 @@ keeps_frames tells seen one store rules in_force told sized up k =
 
 -- what a cut event leaves is some stop within it
 pub cut_stops : {E D : Type 0} (stands : E → Start → List EngineLine → Type 0) (tells : Bool) (seen : D → Seen) (core : SiteCore E) (one : D) (home : Home) (past : SitePast)
-    → IsCut (CoreStands stands tells seen core one) home past → StopsWithin (image one) home past
+    → IsCut (CoreStands stands tells core (seen one)) home past → StopsWithin ((seen one).image) home past
 unfolding stopped
 cut_stops stands tells seen core one home past (event, n, cut, stood) =
     (event, (n, cut, keeps_bytes tells seen one core.store (stopped_disk n cut (disk home past) (answered home past event).calls) _ stood.stored))
 
 -- each disk but this one has no byte
-abbrev pub OthersNothing : {D : Type 0} → (D → Image) → ℕ → List D → Type 0
-OthersNothing {D} image number disks = (place : ℕ) (one : D) → slice_get disks place ≡ Some one → (place ≡ number → ⊥) → (image one).bytes ≡ []
+abbrev pub OthersNothing : {D : Type 0} → (D → Seen) → ℕ → List D → Type 0
+OthersNothing {D} seen number disks = (place : ℕ) (one : D) → slice_get disks place ≡ Some one → (place ≡ number → ⊥) → ((seen one).image).bytes ≡ []
 
 -- without sites disks without bytes hold all
-pub none_hold_all : {D : Type 0} (image : D → Image) (disks : List D) (scenario : Scenario) (story : Story) → scenario.sites ≡ [] → HoldNothing image disks → HoldAll image disks scenario story
-none_hold_all image disks scenario story e held number one at =
-    subst (λ h. HoldsBytes (image one) (disk_of h story)) (sym (no_home scenario number e)) (empty_holds (image one) (held number one at))
+pub none_hold_all : {D : Type 0} (seen : D → Seen) (disks : List D) (scenario : Scenario) (story : Story) → scenario.sites ≡ [] → HoldNothing seen disks → HoldAll seen disks scenario story
+none_hold_all seen disks scenario story e held number one at =
+    subst (λ h. HoldsBytes ((seen one).image) (disk_of h story)) (sym (no_home scenario number e)) (empty_holds ((seen one).image) (held number one at))
 
-pub none_hold_frames : {D : Type 0} (image : D → Image) (disks : List D) (scenario : Scenario) (story : Story) → scenario.sites ≡ [] → HoldNothing image disks → HoldFrames image disks scenario story
-none_hold_frames image disks scenario story e held number one at =
+pub none_hold_frames : {D : Type 0} (seen : D → Seen) (disks : List D) (scenario : Scenario) (story : Story) → scenario.sites ≡ [] → HoldNothing seen disks → HoldFrames seen disks scenario story
+none_hold_frames seen disks scenario story e held number one at =
     held number one at ∙ sym (ap (λ h. spelled spelling (reverse (disk_of h story).records)) (no_home scenario number e))
 
 -- a disk that isn't the site's, without a byte
-pub other_holds : {D : Type 0} (image : D → Image) (one : D) (scenario : Scenario) (line : SiteLine) (story : Story) (number : ℕ) → scenario.sites ≡ line ∷ [] → (number ≡ line.site.0 → ⊥) → (image one).bytes ≡ []
-    → HoldsBytes (image one) (disk_at scenario story number)
-other_holds image one scenario line story number e apart held =
-    subst (λ h. HoldsBytes (image one) (disk_of h story)) (sym (other_home scenario line number e apart)) (empty_holds (image one) held)
+pub other_holds : {D : Type 0} (seen : D → Seen) (one : D) (scenario : Scenario) (line : SiteLine) (story : Story) (number : ℕ) → scenario.sites ≡ line ∷ [] → (number ≡ line.site.0 → ⊥) → ((seen one).image).bytes ≡ []
+    → HoldsBytes ((seen one).image) (disk_at scenario story number)
+other_holds seen one scenario line story number e apart held =
+    subst (λ h. HoldsBytes ((seen one).image) (disk_of h story)) (sym (other_home scenario line number e apart)) (empty_holds ((seen one).image) held)
 
 -- the site's disk and the others hold all
-pub one_hold_all : {D : Type 0} (image : D → Image) (disks : List D) (scenario : Scenario) (line : SiteLine) (story : Story) (own : D) → scenario.sites ≡ line ∷ [] → slice_get disks line.site.0 ≡ Some own
-    → HoldsBytes (image own) (disk (home_from scenario line) (past_of line.site story)) → OthersNothing image line.site.0 disks → HoldAll image disks scenario story
-one_hold_all {D} image disks scenario line story own e at held others number one is = by_test (number == line.site.0) refl
+pub one_hold_all : {D : Type 0} (seen : D → Seen) (disks : List D) (scenario : Scenario) (line : SiteLine) (story : Story) (own : D) → scenario.sites ≡ line ∷ [] → slice_get disks line.site.0 ≡ Some own
+    → HoldsBytes ((seen own).image) (disk (home_from scenario line) (past_of line.site story)) → OthersNothing seen line.site.0 disks → HoldAll seen disks scenario story
+one_hold_all {D} seen disks scenario line story own e at held others number one is = by_test (number == line.site.0) refl
   where
-    by_test : (b : Bool) → (number == line.site.0) ≡ b → HoldsBytes (image one) (disk_at scenario story number)
+    by_test : (b : Bool) → (number == line.site.0) ≡ b → HoldsBytes ((seen one).image) (disk_at scenario story number)
     by_test true t =
         let same = eqb-true number line.site.0 t in
         let one_is : one ≡ own = one_at disks line.site.0 own one at (subst (λ n. slice_get disks n ≡ Some one) same is) in
-        subst (λ h. HoldsBytes (image one) (disk_of h story)) (sym (own_home scenario line number e same))
-        (subst (λ (d : D). HoldsBytes (image d) (disk (home_from scenario line) (past_of line.site story))) (sym one_is) held)
-    by_test false t = let apart = eqb-false number line.site.0 t in other_holds image one scenario line story number e apart (others number one is apart)
+        subst (λ h. HoldsBytes ((seen one).image) (disk_of h story)) (sym (own_home scenario line number e same))
+        (subst (λ (d : D). HoldsBytes ((seen d).image) (disk (home_from scenario line) (past_of line.site story))) (sym one_is) held)
+    by_test false t = let apart = eqb-false number line.site.0 t in other_holds seen one scenario line story number e apart (others number one is apart)
 
-pub one_hold_frames : {D : Type 0} (image : D → Image) (disks : List D) (scenario : Scenario) (line : SiteLine) (story : Story) (own : D) → scenario.sites ≡ line ∷ [] → slice_get disks line.site.0 ≡ Some own
-    → (image own).bytes ≡ spelled spelling (reverse (disk (home_from scenario line) (past_of line.site story)).records) → OthersNothing image line.site.0 disks → HoldFrames image disks scenario story
-one_hold_frames {D} image disks scenario line story own e at held others number one is = by_test (number == line.site.0) refl
+pub one_hold_frames : {D : Type 0} (seen : D → Seen) (disks : List D) (scenario : Scenario) (line : SiteLine) (story : Story) (own : D) → scenario.sites ≡ line ∷ [] → slice_get disks line.site.0 ≡ Some own
+    → ((seen own).image).bytes ≡ spelled spelling (reverse (disk (home_from scenario line) (past_of line.site story)).records) → OthersNothing seen line.site.0 disks → HoldFrames seen disks scenario story
+one_hold_frames {D} seen disks scenario line story own e at held others number one is = by_test (number == line.site.0) refl
   where
-    by_test : (b : Bool) → (number == line.site.0) ≡ b → (image one).bytes ≡ frames_at scenario story number
+    by_test : (b : Bool) → (number == line.site.0) ≡ b → ((seen one).image).bytes ≡ frames_at scenario story number
     by_test true t =
         let same = eqb-true number line.site.0 t in
         let one_is : one ≡ own = one_at disks line.site.0 own one at (subst (λ n. slice_get disks n ≡ Some one) same is) in
-        ap (λ (d : D). (image d).bytes) one_is ∙ held ∙ sym (ap (λ h. spelled spelling (reverse (disk_of h story).records)) (own_home scenario line number e same))
+        ap (λ (d : D). ((seen d).image).bytes) one_is ∙ held ∙ sym (ap (λ h. spelled spelling (reverse (disk_of h story).records)) (own_home scenario line number e same))
     by_test false t =
         let apart = eqb-false number line.site.0 t in
         others number one is apart ∙ sym (ap (λ h. spelled spelling (reverse (disk_of h story).records)) (other_home scenario line number e apart))
 
 -- the others alone
-pub others_hold : {D : Type 0} (image : D → Image) (disks : List D) (scenario : Scenario) (line : SiteLine) (story : Story) (number : ℕ) → scenario.sites ≡ line ∷ [] → number ≡ line.site.0 → OthersNothing image number disks
-    → HoldOthers image number disks scenario story
-others_hold image disks scenario line story number e same others place one is apart =
-    other_holds image one scenario line story place e (λ f. apart (f ∙ sym same)) (others place one is apart)
+pub others_hold : {D : Type 0} (seen : D → Seen) (disks : List D) (scenario : Scenario) (line : SiteLine) (story : Story) (number : ℕ) → scenario.sites ≡ line ∷ [] → number ≡ line.site.0 → OthersNothing seen number disks
+    → HoldOthers seen number disks scenario story
+others_hold seen disks scenario line story number e same others place one is apart =
+    other_holds seen one scenario line story place e (λ f. apart (f ∙ sym same)) (others place one is apart)

@@ -17,7 +17,7 @@ use Rattle.fed_rules.specs.Story.{story_of, lines_of}
 use Rattle.fed_world.specs.declared.world.World.{World}
 use Rattle.fed_world.specs.declared.errors.WorldErr.{WorldErr}
 use Rattle.fed_world.specs.Worlds.{AllUp}
-use Rattle.journal_disk.specs.Disk.{Image}
+use Rattle.journal_disk.specs.Disk.{Image, Seen}
 use Rattle.scenario_text.specs.declared.session.Session.{Session}
 use Rattle.scenario_text.specs.Kept.{AreCommands}
 use Rattle.session_laws.specs.Serial.{OwnSessionsAreSerial}
@@ -147,16 +147,16 @@ broken_weaker (Ok (Broken bytes)) P Q f p = f bytes.items p
 broken_weaker (Err why) P Q f p = p
 
 -- the whole output of a session that was carried out
-pub whole_output : {D : Type 0} (image : D → Image) (faults : D → ℕ) (r : Result Output Memory) (old new : List D) (session : Session) → IsRight session → HoldFrames image new session.scenario (story session)
-    → HoldAll image new session.scenario (story session) → IfWhole r (λ bytes. bytes ≡ output_of session) → IsOutput image faults r old new session
-whole_output image faults (Ok (Whole bytes)) old new session right frames all p = record { output_is = p; right = right; kept = frames }
-whole_output image faults (Ok (Broken bytes)) old new session right frames all p = absurd p
-whole_output image faults (Err why) old new session right frames all p = inr (inl (record { done = commands_of session; front = whole_front session; kept = all }))
+pub whole_output : {D : Type 0} (seen : D → Seen) (r : Result Output Memory) (old new : List D) (session : Session) → IsRight session → HoldFrames seen new session.scenario (story session)
+    → HoldAll seen new session.scenario (story session) → IfWhole r (λ bytes. bytes ≡ output_of session) → IsOutput seen r old new session
+whole_output seen (Ok (Whole bytes)) old new session right frames all p = record { output_is = p; right = right; kept = frames }
+whole_output seen (Ok (Broken bytes)) old new session right frames all p = absurd p
+whole_output seen (Err why) old new session right frames all p = inr (inl (record { done = commands_of session; front = whole_front session; kept = all }))
 
 -- the output of one in which a disk failed
-pub broken_output : {D : Type 0} (image : D → Image) (faults : D → ℕ) (r : Result Output Memory) (old new : List D) (session : Session) (done : List Command) (number : ℕ) → IsPlain session → IsFront done session
-    → BreaksAt image faults number old new session.scenario done → IfBroken r (λ bytes. bytes ≡ lines_text session.scenario done ++ disk_failed_text number) → IsOutput image faults r old new session
-broken_output image faults (Ok (Whole bytes)) old new session done number plain front breaks p = absurd p
-broken_output image faults (Ok (Broken bytes)) old new session done number plain front breaks p =
+pub broken_output : {D : Type 0} (seen : D → Seen) (r : Result Output Memory) (old new : List D) (session : Session) (done : List Command) (number : ℕ) → IsPlain session → IsFront done session
+    → BreaksAt seen number old new session.scenario done → IfBroken r (λ bytes. bytes ≡ lines_text session.scenario done ++ disk_failed_text number) → IsOutput seen r old new session
+broken_output seen (Ok (Whole bytes)) old new session done number plain front breaks p = absurd p
+broken_output seen (Ok (Broken bytes)) old new session done number plain front breaks p =
     record { done = done; number = number; output_is = p; front = front; right = front_right session done plain front; breaks = breaks }
-broken_output image faults (Err why) old new session done number plain front breaks p = inr (inr (record { done = done; number = number; front = front; breaks = breaks }))
+broken_output seen (Err why) old new session done number plain front breaks p = inr (inr (record { done = done; number = number; front = front; breaks = breaks }))

@@ -36,7 +36,7 @@ fewer-left bytes place n l t =
 
 -- what a source gives goes behind the text
 pub reads-on : (tells : Bool) (count room : ℕ) (before now old new into : List ℕ) → 0 < room → count ≤ room → length into ≡ room → (IsTrue tells → Gives count before now room into) → new ≡ old ++ take count into → ReadsOn tells count room before now old new
-reads-on tells count room before now old new into some le size gives e = record {
+reads-on tells count room before now old new into some le seen gives e = record {
   longer = (let a : length new ≡ length (old ++ take count into) = ap length e in let b = length-append old (take count into) in
       let c : count ≤ length into = omega arith in let d = length-take-le count into c in omega arith);
   within = le;

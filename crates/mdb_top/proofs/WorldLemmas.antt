@@ -12,7 +12,7 @@ use Rattle.fed_world.specs.declared.errors.WorldErr.TheVariants as Err_is
 use Rattle.fed_world.specs.declared.local_site.LocalSite.{LocalSite}
 use Rattle.fed_world.specs.declared.world.World.{World}
 use Rattle.fed_world.specs.Worlds.{AllUp, AreEmpty, HasCause, IsBroken, NeverFalls, OthersEmpty, PartBroke, PartHolds, PartStands, Recalls, SetUpBroke, Stands}
-use Rattle.journal_disk.specs.Disk.{Image}
+use Rattle.journal_disk.specs.Disk.{Image, Seen}
 use Rattle.local_laws.specs.Sound.{IsOwn}
 use Rattle.site_core.specs.Store.{is_up}
 use Rattle.session_laws.specs.Sessions.{IsOneSite, home_from}
@@ -21,8 +21,8 @@ use Rattle.mdb_top.proofs.DiskLemmas.{OthersNothing, cut_stops, keeps_bytes, kee
 use Rattle.mdb_top.proofs.Progress.{risen-before}
 
 -- the disks of this type tell as many bytes as they have
-abbrev pub AreSized : {D : Type 0} → (D → Image) → (D → ℕ) → Type 0
-AreSized {D} image size = (one : D) → length (image one).bytes ≡ size one
+abbrev pub AreSized : {D : Type 0} → (D → Seen) → Type 0
+AreSized {D} seen = (one : D) → length ((seen one).image).bytes ≡ (seen one).size
 
 -- a world has one site at most, and carries out own commands
 one_part : {E D : Type 0} (stands : E → Start → List EngineLine → Type 0) (tells : Bool) (seen : D → Seen) (site : Option (LocalSite E)) (disks : List D) (scenario : Scenario) (commands : List Command)
@@ -54,61 +54,61 @@ stands_recalls stands tells seen world disks scenario commands stood = record {
 }
 
 -- disks of no size have no byte
-others_nothing : {D : Type 0} (image : D → Image) (size : D → ℕ) (number : ℕ) (disks : List D) → AreSized image size
-    → ((place : ℕ) (one : D) → slice_get disks place ≡ Some one → (place ≡ number → ⊥) → size one ≡ 0) → OthersNothing image number disks
-others_nothing image size number disks sized empty place one at apart = nothing (image one).bytes (sized one ∙ empty place one at apart)
+others_nothing : {D : Type 0} (seen : D → Seen) (number : ℕ) (disks : List D) → AreSized seen
+    → ((place : ℕ) (one : D) → slice_get disks place ≡ Some one → (place ≡ number → ⊥) → (seen one).size ≡ 0) → OthersNothing seen number disks
+others_nothing seen number disks sized empty place one at apart = nothing ((seen one).image).bytes (sized one ∙ empty place one at apart)
 
-pub empty_nothing : {D : Type 0} (image : D → Image) (size : D → ℕ) (disks : List D) → AreSized image size → AreEmpty size disks → HoldNothing image disks
-empty_nothing image size disks sized empty place one at = nothing (image one).bytes (sized one ∙ empty.empty place one at)
+pub empty_nothing : {D : Type 0} (seen : D → Seen) (disks : List D) → AreSized seen → AreEmpty seen disks → HoldNothing seen disks
+empty_nothing seen disks sized empty place one at = nothing ((seen one).image).bytes (sized one ∙ empty.empty place one at)
 
 -- each disk holds what the rules say
 part_holds_all : {E D : Type 0} (stands : E → Start → List EngineLine → Type 0) (tells : Bool) (seen : D → Seen) (site : Option (LocalSite E)) (disks : List D) (scenario : Scenario) (commands : List Command)
-    → AreSized image size → PartStands stands tells seen site disks scenario commands → OthersEmpty size site disks → HoldAll image disks scenario (story_of scenario commands)
+    → AreSized seen → PartStands stands tells seen site disks scenario commands → OthersEmpty seen site disks → HoldAll seen disks scenario (story_of scenario commands)
 part_holds_all stands tells seen None disks scenario commands sized p o =
-    none_hold_all image disks scenario (story_of scenario commands) p.0 (λ place one at. nothing (image one).bytes (sized one ∙ o.empty place one at tt))
+    none_hold_all seen disks scenario (story_of scenario commands) p.0 (λ place one at. nothing ((seen one).image).bytes (sized one ∙ o.empty place one at tt))
 part_holds_all {E} {D} stands tells seen (Some site) disks scenario commands sized p o =
     let s = p.stood in
     let number : site.site.0 ≡ s.line.site.0 = ap (λ n. n.0) s.at.number in
-    one_hold_all image disks scenario s.line (story_of scenario commands) p.disk s.alone.sites (subst (λ n. slice_get disks n ≡ Some p.disk) number p.own)
+    one_hold_all seen disks scenario s.line (story_of scenario commands) p.disk s.alone.sites (subst (λ n. slice_get disks n ≡ Some p.disk) number p.own)
     (keeps_bytes tells seen p.disk site.core.store _ _ s.at.stood.stored)
-    (others_nothing image size s.line.site.0 disks sized (λ place one at apart. o.empty place one at (λ same. apart (same ∙ number))))
+    (others_nothing seen s.line.site.0 disks sized (λ place one at apart. o.empty place one at (λ same. apart (same ∙ number))))
 
 pub stands_hold_all : {E D : Type 0} (stands : E → Start → List EngineLine → Type 0) (tells : Bool) (seen : D → Seen) (world : World E) (disks : List D) (scenario : Scenario) (commands : List Command)
-    → AreSized image size → Stands stands tells seen world disks scenario commands → HoldAll image disks scenario (story_of scenario commands)
+    → AreSized seen → Stands stands tells seen world disks scenario commands → HoldAll seen disks scenario (story_of scenario commands)
 stands_hold_all stands tells seen world disks scenario commands sized stood = part_holds_all stands tells seen world.site disks scenario commands sized stood.site stood.others
 
 -- and while the site is up it holds the frames of its records alone
 part_holds_frames : {E D : Type 0} (stands : E → Start → List EngineLine → Type 0) (tells : Bool) (seen : D → Seen) (site : Option (LocalSite E)) (disks : List D) (scenario : Scenario) (commands : List Command)
-    → IsTrue tells → AreSized image size → AllUp scenario commands → PartStands stands tells seen site disks scenario commands → OthersEmpty size site disks → HoldFrames image disks scenario (story_of scenario commands)
+    → IsTrue tells → AreSized seen → AllUp scenario commands → PartStands stands tells seen site disks scenario commands → OthersEmpty seen site disks → HoldFrames seen disks scenario (story_of scenario commands)
 part_holds_frames stands tells seen None disks scenario commands told sized up p o =
-    none_hold_frames image disks scenario (story_of scenario commands) p.0 (λ place one at. nothing (image one).bytes (sized one ∙ o.empty place one at tt))
+    none_hold_frames seen disks scenario (story_of scenario commands) p.0 (λ place one at. nothing ((seen one).image).bytes (sized one ∙ o.empty place one at tt))
 part_holds_frames {E} {D} stands tells seen (Some site) disks scenario commands told sized up p o =
     let s = p.stood in
     let number : site.site.0 ≡ s.line.site.0 = ap (λ n. n.0) s.at.number in
     let runs = not-false (is_up site.core.store.standing) (sym s.at.stood.holds.standing ∙ up s.line s.alone) in
-    one_hold_frames image disks scenario s.line (story_of scenario commands) p.disk s.alone.sites (subst (λ n. slice_get disks n ≡ Some p.disk) number p.own)
+    one_hold_frames seen disks scenario s.line (story_of scenario commands) p.disk s.alone.sites (subst (λ n. slice_get disks n ≡ Some p.disk) number p.own)
     (keeps_frames tells seen p.disk site.core.store _ _ told (sized p.disk) runs s.at.stood.stored)
-    (others_nothing image size s.line.site.0 disks sized (λ place one at apart. o.empty place one at (λ same. apart (same ∙ number))))
+    (others_nothing seen s.line.site.0 disks sized (λ place one at apart. o.empty place one at (λ same. apart (same ∙ number))))
 
 pub stands_hold_frames : {E D : Type 0} (stands : E → Start → List EngineLine → Type 0) (tells : Bool) (seen : D → Seen) (world : World E) (disks : List D) (scenario : Scenario) (commands : List Command)
-    → IsTrue tells → AreSized image size → AllUp scenario commands → Stands stands tells seen world disks scenario commands → HoldFrames image disks scenario (story_of scenario commands)
+    → IsTrue tells → AreSized seen → AllUp scenario commands → Stands stands tells seen world disks scenario commands → HoldFrames seen disks scenario (story_of scenario commands)
 stands_hold_frames stands tells seen world disks scenario commands told sized up stood =
     part_holds_frames stands tells seen world.site disks scenario commands told sized up stood.site stood.others
 
 -- a disk call that failed within the set-up
-pub set_up_breaks : {D : Type 0} (image : D → Image) (size faults : D → ℕ) (number : ℕ) (old new : List D) (scenario : Scenario)
-    → AreSized image size → SetUpBroke image size number new scenario → RoseAt faults number old new → BreaksAt image faults number old new scenario []
-set_up_breaks image size faults number old new scenario sized b rose = record {
+pub set_up_breaks : {D : Type 0} (seen : D → Seen) ((seen).size : D → ℕ) (number : ℕ) (old new : List D) (scenario : Scenario)
+    → AreSized seen → SetUpBroke seen number new scenario → RoseAt seen number old new → BreaksAt seen number old new scenario []
+set_up_breaks seen number old new scenario sized b rose = record {
   rose = rose;
   stop = record { home = home_from scenario b.line; declared = own_home scenario b.line number b.alone.sites b.number_is; one = b.disk; own = b.own; stop = inr (refl, b.stop) };
-  others = others_hold image new scenario b.line (story_of scenario []) number b.alone.sites b.number_is (others_nothing image size number new sized b.others);
+  others = others_hold seen new scenario b.line (story_of scenario []) number b.alone.sites b.number_is (others_nothing seen number new sized b.others);
 }
 
 -- and within the event of a command
-part_breaks : {E D : Type 0} (stands : E → Start → List EngineLine → Type 0) (tells : Bool) (image : D → Image) (size spare faults : D → ℕ) (number : ℕ) (site : Option (LocalSite E)) (old new : List D) (scenario : Scenario) (commands : List Command)
-    → AreSized image size → PartBroke stands tells seen number site new scenario commands → OthersEmpty size site new → RoseAt faults number old new → BreaksAt image faults number old new scenario commands
-part_breaks stands tells seen faults number None old new scenario commands sized b o rose = absurd b
-part_breaks stands tells seen faults number (Some site) old new scenario commands sized b o rose =
+part_breaks : {E D : Type 0} (stands : E → Start → List EngineLine → Type 0) (tells : Bool) (seen : D → Seen) ((seen).size : D → ℕ) (number : ℕ) (site : Option (LocalSite E)) (old new : List D) (scenario : Scenario) (commands : List Command)
+    → AreSized seen → PartBroke stands tells seen number site new scenario commands → OthersEmpty seen site new → RoseAt seen number old new → BreaksAt seen number old new scenario commands
+part_breaks stands tells seen number None old new scenario commands sized b o rose = absurd b
+part_breaks stands tells seen number (Some site) old new scenario commands sized b o rose =
     let same : site.site.0 ≡ number = ap (λ n. n.0) b.site_is ∙ sym b.number_is in
     record {
       rose = rose;
@@ -119,27 +119,27 @@ part_breaks stands tells seen faults number (Some site) old new scenario command
         own = b.own;
         stop = inl (cut_stops stands tells seen site.core b.disk (home_from scenario b.line) (past_of b.line.site (story_of scenario commands)) b.cut);
       };
-      others = others_hold image new scenario b.line (story_of scenario commands) number b.alone.sites b.number_is
-          (others_nothing image size number new sized (λ place one at apart. o.empty place one at (λ e. apart (e ∙ same))));
+      others = others_hold seen new scenario b.line (story_of scenario commands) number b.alone.sites b.number_is
+          (others_nothing seen number new sized (λ place one at apart. o.empty place one at (λ e. apart (e ∙ same))));
     }
 
-pub world_breaks : {E D : Type 0} (stands : E → Start → List EngineLine → Type 0) (tells : Bool) (image : D → Image) (size spare faults : D → ℕ) (number : ℕ) (world : World E) (old new : List D) (scenario : Scenario) (commands : List Command)
-    → AreSized image size → IsBroken stands tells seen number world new scenario commands → RoseAt faults number old new → BreaksAt image faults number old new scenario commands
-world_breaks stands tells seen faults number world old new scenario commands sized b rose =
-    part_breaks stands tells seen faults number world.site old new scenario commands sized b.site b.others rose
+pub world_breaks : {E D : Type 0} (stands : E → Start → List EngineLine → Type 0) (tells : Bool) (seen : D → Seen) ((seen).size : D → ℕ) (number : ℕ) (world : World E) (old new : List D) (scenario : Scenario) (commands : List Command)
+    → AreSized seen → IsBroken stands tells seen number world new scenario commands → RoseAt seen number old new → BreaksAt seen number old new scenario commands
+world_breaks stands tells seen number world old new scenario commands sized b rose =
+    part_breaks stands tells seen number world.site old new scenario commands sized b.site b.others rose
 
 -- counts of faults over two calls, between which there were as many disks
 mid_disk : {D : Type 0} (old mid : List D) (place : ℕ) (a : D) → length mid ≡ length old → slice_get old place ≡ Some a → slice_get mid place ≡ Some (get_or mid place a)
 mid_disk old mid place a same at = let within = slice_get_within old place a at in slice_get-get_or mid place a (omega (arith, same, within))
 
-pub never_falls_on : {D : Type 0} (faults : D → ℕ) (old mid new : List D) → length mid ≡ length old → NeverFalls faults old mid → NeverFalls faults mid new → NeverFalls faults old new
-never_falls_on faults old mid new same first second place a b at_a at_b =
+pub never_falls_on : {D : Type 0} (seen : D → Seen) (old mid new : List D) → length mid ≡ length old → NeverFalls seen old mid → NeverFalls seen mid new → NeverFalls seen old new
+never_falls_on seen old mid new same first second place a b at_a at_b =
     let at = mid_disk old mid place a same at_a in
     let le = first place a (get_or mid place a) at_a at in
     let more = second place (get_or mid place a) b at at_b in omega (arith, le, more)
 
-pub cause_on : {D : Type 0} (faults : D → ℕ) (why : WorldErr) (old mid new : List D) → length mid ≡ length old → NeverFalls faults old mid → HasCause faults why mid new → HasCause faults why old new
-cause_on faults Err_is.Memory old mid new same first second = tt
-cause_on faults (Err_is.Disk number) old mid new same first second = λ a b at_a at_b.
+pub cause_on : {D : Type 0} (seen : D → Seen) (why : WorldErr) (old mid new : List D) → length mid ≡ length old → NeverFalls seen old mid → HasCause seen why mid new → HasCause seen why old new
+cause_on seen Err_is.Memory old mid new same first second = tt
+cause_on seen (Err_is.Disk number) old mid new same first second = λ a b at_a at_b.
     let at = mid_disk old mid number a same at_a in
-    risen-before (faults a) (faults (get_or mid number a)) (faults b) (first number a (get_or mid number a) at_a at) (second (get_or mid number a) b at at_b)
+    risen-before ((seen a).faults) (faults (get_or mid number a)) ((seen b).faults) (first number a (get_or mid number a) at_a at) (second (get_or mid number a) b at at_b)

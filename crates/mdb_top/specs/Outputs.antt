@@ -4,7 +4,7 @@ use Rattle.mdb_base.specs.declared.names.Memory.{Memory}
 use Rattle.fed_rules.specs.declared.commands.Command.{Command}
 use Rattle.fed_rules.specs.Right.{IsRightStory}
 use Rattle.fed_rules.specs.Story.{story_of, lines_of}
-use Rattle.journal_disk.specs.Disk.{Image}
+use Rattle.journal_disk.specs.Disk.{Image, Seen}
 use Rattle.scenario_text.specs.declared.session.Session.{Session}
 use Rattle.mdb_top.specs.declared.output.Output.{Output}
 use Rattle.mdb_top.specs.declared.output.Output.TheVariants.{Whole, Broken}
@@ -26,22 +26,22 @@ IfBroken (Ok (Broken bytes)) P = P bytes.items
 IfBroken (Err why) P = Unit {0}
 
 -- the output is that of the session, which is right, and each disk holds the records of its actor
-pub record PlaysWhole {D : Type 0} (output : List ℕ) (image : D → Image) (disks : List D) (session : Session) : Type 0 where
+pub record PlaysWhole {D : Type 0} (output : List ℕ) (seen : D → Seen) (disks : List D) (session : Session) : Type 0 where
   pub output_is : output ≡ output_of session
   pub right : IsRight session
-  pub kept : HoldFrames image disks session.scenario (story session)
+  pub kept : HoldFrames seen disks session.scenario (story session)
 
 -- the output is that of the first commands of the session, the lines of which are right, and behind them names the disk that failed
-pub record PlaysBroken {D : Type 0} (output : List ℕ) (image : D → Image) (faults : D → ℕ) (old new : List D) (session : Session) : Type 0 where
+pub record PlaysBroken {D : Type 0} (output : List ℕ) (seen : D → Seen) (old new : List D) (session : Session) : Type 0 where
   pub done : List Command
   pub number : ℕ
   pub output_is : output ≡ lines_text session.scenario done ++ disk_failed_text number
   pub front : IsFront done session
   pub right : IsRightStory session.scenario (lines_of (story_of session.scenario done))
-  pub breaks : BreaksAt image faults number old new session.scenario done
+  pub breaks : BreaksAt seen number old new session.scenario done
 
 -- the output is that of a session on these disks
-abbrev pub IsOutput : {D : Type 0} → (D → Image) → (D → ℕ) → Result Output Memory → List D → List D → Session → Type 0
-IsOutput image faults (Ok (Whole bytes)) old new session = PlaysWhole bytes.items image new session
-IsOutput image faults (Ok (Broken bytes)) old new session = PlaysBroken bytes.items image faults old new session
-IsOutput image faults (Err why) old new session = IsShort image faults old new session
+abbrev pub IsOutput : {D : Type 0} → (D → Seen) → Result Output Memory → List D → List D → Session → Type 0
+IsOutput seen (Ok (Whole bytes)) old new session = PlaysWhole bytes.items seen new session
+IsOutput seen (Ok (Broken bytes)) old new session = PlaysBroken bytes.items seen old new session
+IsOutput seen (Err why) old new session = IsShort seen old new session

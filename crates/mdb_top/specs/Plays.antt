@@ -11,7 +11,7 @@ use Rattle.fed_rules.specs.Story.{story_of, lines_of}
 use Rattle.fed_world.specs.declared.errors.WorldErr.{WorldErr}
 use Rattle.fed_world.specs.declared.world.World.{World}
 use Rattle.fed_world.specs.Worlds.{AllUp, Fails}
-use Rattle.journal_disk.specs.Disk.{Image}
+use Rattle.journal_disk.specs.Disk.{Image, Seen}
 use Rattle.trace_lines.specs.Fits.{line_fits}
 use Rattle.mdb_top.specs.Verdicts.{is_own_command}
 

@@ -5,7 +5,7 @@ use Rattle.std.specs.Prelude.{ℕ, ◌≡◌, ◌+◌, ◌≤◌, Bool, true, Is
 pub record HasPut (tells : Bool) (before now : List ℕ) (faults_before faults_now : ℕ) (bytes : List ℕ) (place : ℕ) : Type 0 where
   pub within : place ≤ length bytes
   pub written : IsTrue tells → now ≡ before ++ take place bytes
-  pub faults : faults_before ≤ faults_now
+  pub seen : faults_before ≤ faults_now
 
 -- so many bytes came behind the text, at most as many as asked for, and none at the end alone
 pub record ReadsOn (tells : Bool) (count most : ℕ) (before now old new : List ℕ) : Type 0 where

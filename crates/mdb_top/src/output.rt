@@ -66,8 +66,8 @@ fn play<E: LocalEngine, D: Disk>(
         (λ scenario before. Stands E.stands D.tells D.seen world.new disks.new.items scenario (closed scenario (with_commands commands.now before)))) }
     ensures failed { IfErr result (λ why. EachStory (Stands E.stands D.tells D.seen world.old disks.old.items)
         (FailsToPlay E.stands D.tells D.seen why world.new disks.new.items commands.now)) }
-    ensures cause { IfErr result (λ why. HasCause (faults_of D.seen) why disks.old.items disks.new.items) }
-    ensures faults { NeverFalls (faults_of D.seen) disks.old.items disks.new.items }
+    ensures cause { IfErr result (λ why. HasCause D.seen why disks.old.items disks.new.items) }
+    ensures faults { NeverFalls D.seen disks.old.items disks.new.items }
 {
     for command in commands {
         world.apply(alloc, disks, *command)?;
@@ -123,8 +123,8 @@ pub(crate) fn output_of<D: Disk>(
     requires runs { IsTrue (verdicts.runs_here session) }
     requires commands { AreCommands session.scenario.sites session.commands }
     requires nine { length disks.old.items ≡ 9 }
-    requires unused { is_used (map (size_of D.seen) disks.old.items) ≡ false }
-    ensures output { IsOutput (image_of D.seen) (faults_of D.seen) result disks.old.items disks.new.items session }
+    requires unused { is_used (map D.seen disks.old.items) ≡ false }
+    ensures output { IsOutput D.seen result disks.old.items disks.new.items session }
     ensures nine { length disks.new.items ≡ 9 }
 {
     own_sessions_are_serial();

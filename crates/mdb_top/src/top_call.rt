@@ -51,9 +51,9 @@ fn played<K: Sink, D: Disk>(alloc: Global, sink: &mut K, session: Session, disks
     requires runs { IsTrue (verdicts.runs_here session) }
     requires commands { AreCommands session.scenario.sites session.commands }
     requires nine { length disks.old.items ≡ 9 }
-    requires unused { is_used (map (size_of D.seen) disks.old.items) ≡ false }
+    requires unused { is_used (map D.seen disks.old.items) ≡ false }
     ensures any { In result (0 ∷ 4 ∷ 5 ∷ 6 ∷ []) }
-    ensures ends { Ends (image_of D.seen) (size_of D.seen) (faults_of D.seen) disks.old.items disks.new.items (Runs session) result K.tells (K.faults sink.old) (K.faults sink.new) (K.written sink.old) (K.written sink.new) }
+    ensures ends { Ends D.seen disks.old.items disks.new.items (Runs session) result K.tells (K.faults sink.old) (K.faults sink.new) (K.written sink.old) (K.written sink.new) }
     ensures nine { length disks.new.items ≡ 9 }
 {
     match output_of(alloc, session, disks) {
@@ -90,7 +90,7 @@ fn played_on_empty<K: Sink, D: Disk>(
     requires commands { AreCommands session.scenario.sites session.commands }
     requires nine { length disks.old.items ≡ 9 }
     ensures any { In result (0 ∷ 4 ∷ 5 ∷ 6 ∷ 8 ∷ []) }
-    ensures ends { Ends (image_of D.seen) (size_of D.seen) (faults_of D.seen) disks.old.items disks.new.items (Runs session) result K.tells (K.faults sink.old) (K.faults sink.new) (K.written sink.old) (K.written sink.new) }
+    ensures ends { Ends D.seen disks.old.items disks.new.items (Runs session) result K.tells (K.faults sink.old) (K.faults sink.new) (K.written sink.old) (K.written sink.new) }
     ensures nine { length disks.new.items ≡ 9 }
     ensures untouched { result ≡ 8 → disks.new ≡ disks.old }
 {
@@ -109,7 +109,7 @@ fn replay<S: Source, K: Sink, D: Disk>(
 ) -> u8
     requires told { IsTrue D.tells }
     requires nine { length disks.old.items ≡ 9 }
-    ensures ends { SomeInput S.tells (S.left source.old) (λ input. Ends (image_of D.seen) (size_of D.seen) (faults_of D.seen) disks.old.items disks.new.items (verdict input) result K.tells (K.faults sink.old) (K.faults sink.new) (K.written sink.old) (K.written sink.new)) }
+    ensures ends { SomeInput S.tells (S.left source.old) (λ input. Ends D.seen disks.old.items disks.new.items (verdict input) result K.tells (K.faults sink.old) (K.faults sink.new) (K.written sink.old) (K.written sink.new)) }
     ensures read_failed { result ≡ 3 → HasRisen (S.faults source.old) (S.faults source.new) }
     ensures end { result ≡ 0 → IsTrue S.tells → S.left source.new ≡ [] }
     ensures untouched { In result (2 ∷ 3 ∷ 7 ∷ 8 ∷ []) → disks.new ≡ disks.old }
@@ -143,7 +143,7 @@ pub fn federate<S: Source, K: Sink, D: Disk>(
     // Which status comes when. Want of memory alone is free.
     ensures usage { (result ≡ 1) ↔ (verdicts.is_replay (map string_bytes words.now) ≡ false) }
     ensures status { IsTrue (verdicts.is_replay (map string_bytes words.now)) →
-        SomeInput S.tells (S.left source.old) (λ input. IsLedTo result (is_used (map (size_of D.seen) disks.old.items)) (verdict input)) }
+        SomeInput S.tells (S.left source.old) (λ input. IsLedTo result (is_used (map D.seen disks.old.items)) (verdict input)) }
     ensures read_failed { result ≡ 3 → HasRisen (S.faults source.old) (S.faults source.new) }
     ensures write_failed { result ≡ 4 → HasRisen (K.faults sink.old) (K.faults sink.new) }
 
@@ -152,7 +152,7 @@ pub fn federate<S: Source, K: Sink, D: Disk>(
 
     // What the sink has got then, and what the disks hold.
     ensures replayed { result ≡ 0 → SomeInput S.tells (S.left source.old) (λ input.
-        SomeSession (verdict input) (IsReplayed K.tells (K.written sink.old) (K.written sink.new) (image_of D.seen) disks.new.items)) }
+        SomeSession (verdict input) (IsReplayed K.tells (K.written sink.old) (K.written sink.new) D.seen disks.new.items)) }
     ensures usage_text { result ≡ 1 →
         Gets K.tells (K.faults sink.old) (K.faults sink.new) (K.written sink.old) (K.written sink.new) texts.usage_text }
     ensures refused { result ≡ 2 → SomeInput S.tells (S.left source.old) (λ input.
@@ -160,16 +160,16 @@ pub fn federate<S: Source, K: Sink, D: Disk>(
     ensures unread { result ≡ 3 →
         Gets K.tells (K.faults sink.old) (K.faults sink.new) (K.written sink.old) (K.written sink.new) texts.read_failed_text }
     ensures cut_off { result ≡ 4 → SomeInput S.tells (S.left source.old) (λ input.
-        SomeSession (verdict input) (IsCutOff K.tells (K.written sink.old) (K.written sink.new) (image_of D.seen) disks.new.items)) }
+        SomeSession (verdict input) (IsCutOff K.tells (K.written sink.old) (K.written sink.new) D.seen disks.new.items)) }
     ensures broken { result ≡ 5 → SomeInput S.tells (S.left source.old) (λ input.
-        SomeSession (verdict input) (IsBroken K.tells (K.faults sink.old) (K.faults sink.new) (K.written sink.old) (K.written sink.new) (image_of D.seen) (faults_of D.seen) disks.old.items disks.new.items)) }
+        SomeSession (verdict input) (IsBroken K.tells (K.faults sink.old) (K.faults sink.new) (K.written sink.old) (K.written sink.new) D.seen disks.old.items disks.new.items)) }
     ensures no_memory { result ≡ 6 →
         Gets K.tells (K.faults sink.old) (K.faults sink.new) (K.written sink.old) (K.written sink.new) texts.no_memory_text }
     ensures short { result ≡ 6 → SomeInput S.tells (S.left source.old) (λ input.
-        AreShort (image_of D.seen) (faults_of D.seen) disks.old.items disks.new.items (verdict input)) }
+        AreShort D.seen disks.old.items disks.new.items (verdict input)) }
     ensures too_long { result ≡ 7 →
         Gets K.tells (K.faults sink.old) (K.faults sink.new) (K.written sink.old) (K.written sink.new) texts.too_long_text }
-    ensures used { result ≡ 8 → IfSome (first_used_of (map (size_of D.seen) disks.old.items)) (λ number.
+    ensures used { result ≡ 8 → IfSome (first_used_of (map D.seen disks.old.items)) (λ number.
         Gets K.tells (K.faults sink.old) (K.faults sink.new) (K.written sink.old) (K.written sink.new) (texts.disk_used_text number)) }
     ensures untouched { In result (1 ∷ 2 ∷ 3 ∷ 7 ∷ 8 ∷ []) → disks.new ≡ disks.old }
     ensures still_nine { length disks.new.items ≡ 9 }

@@ -18,13 +18,13 @@ use Rattle.mdb_top.proofs.WorldLemmas.{cause_on, empty_nothing, set_up_breaks, s
 use Rattle.mdb_top.proofs.output.output_of.Goals as goal
 
 pub new-requires-clause-empty : goal.new-requires-clause-empty
-new-requires-clause-empty g c = are_empty (size_of g.D.Disk.seen) c.args.disks.now.items c.requires.nine c.requires.unused
+new-requires-clause-empty g c = are_empty g.D.Disk.seen c.args.disks.now.items c.requires.nine c.requires.unused
 
 pub returns-in_err-local-clause-output : goal.returns-in_err-local-clause-output
 returns-in_err-local-clause-output g c =
     let p = err_from_is_err_and c.from_residual.result c.from_residual.ensures.1 in
     let sized = λ (one : g.row.D.Denot). g.met.D.Disk.told_size one c.requires.told in
-    rw p.1 (inl (empty_nothing (image_of g.D.Disk.seen) (size_of g.D.Disk.seen) c.args.disks.now.items sized (are_empty (size_of g.D.Disk.seen) c.args.disks.now.items c.requires.nine c.requires.unused)))
+    rw p.1 (inl (empty_nothing g.D.Disk.seen c.args.disks.now.items sized (are_empty g.D.Disk.seen c.args.disks.now.items c.requires.nine c.requires.unused)))
 
 pub returns-in-Err-Disk-clause-output : goal.returns-in-Err-Disk-clause-output
 returns-in-Err-Disk-clause-output g c =

@@ -32,14 +32,14 @@ pub index-local-requires : goal.index-local-requires
 index-local-requires g c =
     let r = c.requires.stood in
     let found : IsPlace c.args.scenario.now.transactions c.args.tx c.in-Some.place = subst (λ xs. IsPlace xs c.args.tx c.in-Some.place) (c.as_slice.ensures ∙ c.transactions-lines.ensures) c.in-Some.ensures in
-    let below = place_below (CoreStands g.E.LocalEngine.stands g.D.Disk.tells g.D.Disk.seen c.args.self.now.core c.args.disk.now) c.args.scenario.now c.args.self.now.site c.args.self.now.locals.items c.args.self.now.armed r.commands c.args.tx c.in-Some.place r.stood found in
+    let below = place_below (CoreStands g.E.LocalEngine.stands g.D.Disk.tells c.args.self.now.core (g.D.Disk.seen c.args.disk.now)) c.args.scenario.now c.args.self.now.site c.args.self.now.locals.items c.args.self.now.armed r.commands c.args.tx c.in-Some.place r.stood found in
     let len = c.args.self.now.locals.ok.0 in omega arith
 
 pub returns-then-begun-eq-MOST_ATTEMPTS-clause-told : goal.returns-then-begun-eq-MOST_ATTEMPTS-clause-told
 returns-then-begun-eq-MOST_ATTEMPTS-clause-told g c commands s =
     let found : IsPlace c.args.scenario.now.transactions c.args.tx c.in-Some.place = subst (λ xs. IsPlace xs c.args.tx c.in-Some.place) (c.as_slice.ensures ∙ c.transactions-lines.ensures) c.in-Some.ensures in
     let state : State = c.index-local.result.now in
-    let o = owned (CoreStands g.E.LocalEngine.stands g.D.Disk.tells g.D.Disk.seen c.args.self.now.core c.args.disk.now) c.args.scenario.now c.args.self.now.site c.args.self.now.locals.items c.args.self.now.armed commands c.args.tx c.in-Some.place s found state c.index-local.ensures in
+    let o = owned (CoreStands g.E.LocalEngine.stands g.D.Disk.tells c.args.self.now.core (g.D.Disk.seen c.args.disk.now)) c.args.scenario.now c.args.self.now.site c.args.self.now.locals.items c.args.self.now.armed commands c.args.tx c.in-Some.place s found state c.index-local.ensures in
     let live = own_live c.args.scenario.now s.line commands c.args.tx c.in-Some.place state o ∙ ap (map_some (attempt c.args.tx)) (sym c.live.ensures) in
     told_nowhere _ c.args.scenario.now _ _ _ commands (Cmd.Begin c.args.tx) c.spent.result s tt
     (begin_spent c.args.scenario.now s.line commands c.args.tx c.in-Some.place state o c.spent.result (sym c.begun-begun.ensures ∙ c.if-begun-eq-MOST_ATTEMPTS.true)
@@ -58,7 +58,7 @@ hand-requires-clause-may g c =
 pub returns-in_err-answer-clause-failed : goal.returns-in_err-answer-clause-failed
 returns-in_err-answer-clause-failed g c =
     let p = err_from_is_err_and c.from_residual.result c.from_residual.ensures.1 in
-    rw (p.1, p.2) (λ commands s. untold (CoreStands g.E.LocalEngine.stands g.D.Disk.tells g.D.Disk.seen c.args.self.now.core c.args.disk.now) (CoreStands g.E.LocalEngine.stands g.D.Disk.tells g.D.Disk.seen c.hand.new.self.core c.hand.new.disk) c.args.scenario.now c.args.self.now c.hand.new.self c.in_err-answer.field-0.0 commands s
+    rw (p.1, p.2) (λ commands s. untold (CoreStands g.E.LocalEngine.stands g.D.Disk.tells c.args.self.now.core (g.D.Disk.seen c.args.disk.now)) (CoreStands g.E.LocalEngine.stands g.D.Disk.tells c.hand.new.self.core (g.D.Disk.seen c.hand.new.disk)) c.args.scenario.now c.args.self.now c.hand.new.self c.in_err-answer.field-0.0 commands s
     (c.in_err-answer.ensures.failed (home_from c.args.scenario.now s.line) (past_of s.line.site (story_of c.args.scenario.now commands)) s.at.stood))
 
 pub index_mut-requires : goal.index_mut-requires
@@ -68,8 +68,8 @@ index_mut-requires g c =
     let home = home_from c.args.scenario.now r.stood.line in
     let past = past_of r.stood.line.site (story_of c.args.scenario.now r.commands) in
     let hands = c.in_ok-answer.ensures.answered home past r.stood.at.stood in
-    let below = place_below (CoreStands g.E.LocalEngine.stands g.D.Disk.tells g.D.Disk.seen c.args.self.now.core c.args.disk.now) c.args.scenario.now c.args.self.now.site c.args.self.now.locals.items c.args.self.now.armed r.commands c.args.tx c.in-Some.place r.stood found in
-    let below_now = handed_below (CoreStands g.E.LocalEngine.stands g.D.Disk.tells g.D.Disk.seen c.hand.new.self.core c.hand.new.disk) c.args.self.now c.hand.new.self c.in_ok-answer.answer home past (site_line home past (Ev.Begin (attempt c.args.tx c.begun-begun.result))) hands c.in-Some.place below in
+    let below = place_below (CoreStands g.E.LocalEngine.stands g.D.Disk.tells c.args.self.now.core (g.D.Disk.seen c.args.disk.now)) c.args.scenario.now c.args.self.now.site c.args.self.now.locals.items c.args.self.now.armed r.commands c.args.tx c.in-Some.place r.stood found in
+    let below_now = handed_below (CoreStands g.E.LocalEngine.stands g.D.Disk.tells c.hand.new.self.core (g.D.Disk.seen c.hand.new.disk)) c.args.self.now c.hand.new.self c.in_ok-answer.answer home past (site_line home past (Ev.Begin (attempt c.args.tx c.begun-begun.result))) hands c.in-Some.place below in
     let len = c.hand.new.self.locals.ok.0 in omega arith
 
 pub begins-requires : goal.begins-requires
@@ -77,16 +77,16 @@ begins-requires g c =
     let r = c.requires.stood in
     let found : IsPlace c.args.scenario.now.transactions c.args.tx c.in-Some.place = subst (λ xs. IsPlace xs c.args.tx c.in-Some.place) (c.as_slice.ensures ∙ c.transactions-lines.ensures) c.in-Some.ensures in
     let state : State = c.index-local.result.now in
-    let o = owned (CoreStands g.E.LocalEngine.stands g.D.Disk.tells g.D.Disk.seen c.args.self.now.core c.args.disk.now) c.args.scenario.now c.args.self.now.site c.args.self.now.locals.items c.args.self.now.armed r.commands c.args.tx c.in-Some.place r.stood found state c.index-local.ensures in
+    let o = owned (CoreStands g.E.LocalEngine.stands g.D.Disk.tells c.args.self.now.core (g.D.Disk.seen c.args.disk.now)) c.args.scenario.now c.args.self.now.site c.args.self.now.locals.items c.args.self.now.armed r.commands c.args.tx c.in-Some.place r.stood found state c.index-local.ensures in
     let home = home_from c.args.scenario.now r.stood.line in
     let past = past_of r.stood.line.site (story_of c.args.scenario.now r.commands) in
     let hands = c.in_ok-answer.ensures.answered home past r.stood.at.stood in
-    let below = place_below (CoreStands g.E.LocalEngine.stands g.D.Disk.tells g.D.Disk.seen c.args.self.now.core c.args.disk.now) c.args.scenario.now c.args.self.now.site c.args.self.now.locals.items c.args.self.now.armed r.commands c.args.tx c.in-Some.place r.stood found in
+    let below = place_below (CoreStands g.E.LocalEngine.stands g.D.Disk.tells c.args.self.now.core (g.D.Disk.seen c.args.disk.now)) c.args.scenario.now c.args.self.now.site c.args.self.now.locals.items c.args.self.now.armed r.commands c.args.tx c.in-Some.place r.stood found in
     let x = site_line home past (Ev.Begin (attempt c.args.tx c.begun-begun.result)) in
     let now : State = c.index_mut.result.now in
-    let got_state = got (CoreStands g.E.LocalEngine.stands g.D.Disk.tells g.D.Disk.seen c.args.self.now.core c.args.disk.now) c.args.scenario.now c.args.self.now.site c.args.self.now.locals.items c.args.self.now.armed r.commands c.args.tx c.in-Some.place r.stood found state c.index-local.ensures in
-    let got_now = handed_got (CoreStands g.E.LocalEngine.stands g.D.Disk.tells g.D.Disk.seen c.hand.new.self.core c.hand.new.disk) c.args.self.now c.hand.new.self c.in_ok-answer.answer home past x hands c.in-Some.place now below c.index_mut.ensures.value in
-    let same = handed_begun (CoreStands g.E.LocalEngine.stands g.D.Disk.tells g.D.Disk.seen c.hand.new.self.core c.hand.new.disk) c.args.self.now c.hand.new.self c.in_ok-answer.answer home past x hands c.in-Some.place state now got_state got_now in
+    let got_state = got (CoreStands g.E.LocalEngine.stands g.D.Disk.tells c.args.self.now.core (g.D.Disk.seen c.args.disk.now)) c.args.scenario.now c.args.self.now.site c.args.self.now.locals.items c.args.self.now.armed r.commands c.args.tx c.in-Some.place r.stood found state c.index-local.ensures in
+    let got_now = handed_got (CoreStands g.E.LocalEngine.stands g.D.Disk.tells c.hand.new.self.core (g.D.Disk.seen c.hand.new.disk)) c.args.self.now c.hand.new.self c.in_ok-answer.answer home past x hands c.in-Some.place now below c.index_mut.ensures.value in
+    let same = handed_begun (CoreStands g.E.LocalEngine.stands g.D.Disk.tells c.hand.new.self.core (g.D.Disk.seen c.hand.new.disk)) c.args.self.now c.hand.new.self c.in_ok-answer.answer home past x hands c.in-Some.place state now got_state got_now in
     let few = (own_agrees c.args.scenario.now r.stood.line r.commands c.args.tx c.in-Some.place state o).few in
     let read = c.begun-begun.ensures in
     let other = c.if-begun-eq-MOST_ATTEMPTS.false in
@@ -96,13 +96,13 @@ pub returns-clause-told : goal.returns-clause-told
 returns-clause-told g c commands s =
     let found : IsPlace c.args.scenario.now.transactions c.args.tx c.in-Some.place = subst (λ xs. IsPlace xs c.args.tx c.in-Some.place) (c.as_slice.ensures ∙ c.transactions-lines.ensures) c.in-Some.ensures in
     let state : State = c.index-local.result.now in
-    let o = owned (CoreStands g.E.LocalEngine.stands g.D.Disk.tells g.D.Disk.seen c.args.self.now.core c.args.disk.now) c.args.scenario.now c.args.self.now.site c.args.self.now.locals.items c.args.self.now.armed commands c.args.tx c.in-Some.place s found state c.index-local.ensures in
+    let o = owned (CoreStands g.E.LocalEngine.stands g.D.Disk.tells c.args.self.now.core (g.D.Disk.seen c.args.disk.now)) c.args.scenario.now c.args.self.now.site c.args.self.now.locals.items c.args.self.now.armed commands c.args.tx c.in-Some.place s found state c.index-local.ensures in
     let home = home_from c.args.scenario.now s.line in
     let past = past_of s.line.site (story_of c.args.scenario.now commands) in
     let answer = c.in_ok-answer.answer in
-    let hands = subst (λ n. Hands (CoreStands g.E.LocalEngine.stands g.D.Disk.tells g.D.Disk.seen c.hand.new.self.core c.hand.new.disk) c.args.self.now c.hand.new.self answer home past (site_line home past (Ev.Begin (attempt c.args.tx n)))) c.begun-begun.ensures
+    let hands = subst (λ n. Hands (CoreStands g.E.LocalEngine.stands g.D.Disk.tells c.hand.new.self.core (g.D.Disk.seen c.hand.new.disk)) c.args.self.now c.hand.new.self answer home past (site_line home past (Ev.Begin (attempt c.args.tx n)))) c.begun-begun.ensures
     (c.in_ok-answer.ensures.answered home past s.at.stood) in
-    let got_state = got (CoreStands g.E.LocalEngine.stands g.D.Disk.tells g.D.Disk.seen c.args.self.now.core c.args.disk.now) c.args.scenario.now c.args.self.now.site c.args.self.now.locals.items c.args.self.now.armed commands c.args.tx c.in-Some.place s found state c.index-local.ensures in
+    let got_state = got (CoreStands g.E.LocalEngine.stands g.D.Disk.tells c.args.self.now.core (g.D.Disk.seen c.args.disk.now)) c.args.scenario.now c.args.self.now.site c.args.self.now.locals.items c.args.self.now.armed commands c.args.tx c.in-Some.place s found state c.index-local.ensures in
     let few = (own_agrees c.args.scenario.now s.line commands c.args.tx c.in-Some.place state o).few in
     let read = c.begun-begun.ensures in
     let other = c.if-begun-eq-MOST_ATTEMPTS.false in
@@ -110,13 +110,13 @@ returns-clause-told g c commands s =
     elim c.match-answer.branch [
       | in-Begun w ↦
           (let now : State = w.index_mut.result.now in
-          let below = place_below (CoreStands g.E.LocalEngine.stands g.D.Disk.tells g.D.Disk.seen c.args.self.now.core c.args.disk.now) c.args.scenario.now c.args.self.now.site c.args.self.now.locals.items c.args.self.now.armed commands c.args.tx c.in-Some.place s found in
-          let got_now = handed_got (CoreStands g.E.LocalEngine.stands g.D.Disk.tells g.D.Disk.seen c.hand.new.self.core c.hand.new.disk) c.args.self.now c.hand.new.self answer home past (site_line home past (Ev.Begin (attempt c.args.tx state.begun))) hands c.in-Some.place now below w.index_mut.ensures.value in
+          let below = place_below (CoreStands g.E.LocalEngine.stands g.D.Disk.tells c.args.self.now.core (g.D.Disk.seen c.args.disk.now)) c.args.scenario.now c.args.self.now.site c.args.self.now.locals.items c.args.self.now.armed commands c.args.tx c.in-Some.place s found in
+          let got_now = handed_got (CoreStands g.E.LocalEngine.stands g.D.Disk.tells c.hand.new.self.core (g.D.Disk.seen c.hand.new.disk)) c.args.self.now c.hand.new.self answer home past (site_line home past (Ev.Begin (attempt c.args.tx state.begun))) hands c.in-Some.place now below w.index_mut.ensures.value in
           rw w.self-is
-          (subst (λ st. IsTold (SiteStands (CoreStands g.E.LocalEngine.stands g.D.Disk.tells g.D.Disk.seen c.hand.new.self.core c.hand.new.disk) c.args.scenario.now c.hand.new.self.site (slice_set c.hand.new.self.locals.items c.in-Some.place st) c.hand.new.self.armed) c.args.scenario.now commands (Cmd.Begin c.args.tx) answer)
+          (subst (λ st. IsTold (SiteStands (CoreStands g.E.LocalEngine.stands g.D.Disk.tells c.hand.new.self.core (g.D.Disk.seen c.hand.new.disk)) c.args.scenario.now c.hand.new.self.site (slice_set c.hand.new.self.locals.items c.in-Some.place st) c.hand.new.self.armed) c.args.scenario.now commands (Cmd.Begin c.args.tx) answer)
           (ap (λ a. after_begin a now) w.in-Begun.is ∙ sym w.begins.ensures)
-          (begin_told (CoreStands g.E.LocalEngine.stands g.D.Disk.tells g.D.Disk.seen c.args.self.now.core c.args.disk.now) (CoreStands g.E.LocalEngine.stands g.D.Disk.tells g.D.Disk.seen c.hand.new.self.core c.hand.new.disk) c.args.scenario.now c.args.self.now c.hand.new.self c.args.tx c.in-Some.place state now answer commands s o more hands got_state got_now)))
+          (begin_told (CoreStands g.E.LocalEngine.stands g.D.Disk.tells c.args.self.now.core (g.D.Disk.seen c.args.disk.now)) (CoreStands g.E.LocalEngine.stands g.D.Disk.tells c.hand.new.self.core (g.D.Disk.seen c.hand.new.disk)) c.args.scenario.now c.args.self.now c.hand.new.self c.args.tx c.in-Some.place state now answer commands s o more hands got_state got_now)))
       | in_default-answer w ↦
           rw w.self-is
-          (begin_told_other (CoreStands g.E.LocalEngine.stands g.D.Disk.tells g.D.Disk.seen c.args.self.now.core c.args.disk.now) (CoreStands g.E.LocalEngine.stands g.D.Disk.tells g.D.Disk.seen c.hand.new.self.core c.hand.new.disk) c.args.scenario.now c.args.self.now c.hand.new.self c.args.tx c.in-Some.place state answer commands s o more hands got_state w.in_default-answer.not-Begun)
+          (begin_told_other (CoreStands g.E.LocalEngine.stands g.D.Disk.tells c.args.self.now.core (g.D.Disk.seen c.args.disk.now)) (CoreStands g.E.LocalEngine.stands g.D.Disk.tells c.hand.new.self.core (g.D.Disk.seen c.hand.new.disk)) c.args.scenario.now c.args.self.now c.hand.new.self c.args.tx c.in-Some.place state answer commands s o more hands got_state w.in_default-answer.not-Begun)
     ]

@@ -46,7 +46,7 @@ index-local-requires g c =
     let s = c.requires.stood.stood in
     let lines_are = ap (λ (z : Scenario). z.transactions) c.scenario.view_is in
     let found : IsPlace c.args.scenario.now.transactions c.args.tx c.in-Some.place = subst (λ xs. IsPlace xs c.args.tx c.in-Some.place) (c.as_slice.ensures ∙ lines_are) c.in-Some.ensures in
-    let below = place_below (CoreStands g.E.LocalEngine.stands g.D.Disk.tells g.D.Disk.seen c.args.self.now.core c.args.disk.now) c.args.scenario.now c.args.self.now.site c.args.self.now.locals.items c.args.self.now.armed commands c.args.tx c.in-Some.place s found in
+    let below = place_below (CoreStands g.E.LocalEngine.stands g.D.Disk.tells c.args.self.now.core (g.D.Disk.seen c.args.disk.now)) c.args.scenario.now c.args.self.now.site c.args.self.now.locals.items c.args.self.now.armed commands c.args.tx c.in-Some.place s found in
     let len = c.args.self.now.locals.ok.0 in
     omega arith
 
@@ -55,7 +55,7 @@ returns-in_default-live-clause-told g c commands s =
     let lines_are = ap (λ (z : Scenario). z.transactions) c.scenario.view_is in
     let found : IsPlace c.args.scenario.now.transactions c.args.tx c.in-Some.place = subst (λ xs. IsPlace xs c.args.tx c.in-Some.place) (c.as_slice.ensures ∙ lines_are) c.in-Some.ensures in
     let state : State = c.index-local.result.now in
-    let o = owned (CoreStands g.E.LocalEngine.stands g.D.Disk.tells g.D.Disk.seen c.args.self.now.core c.args.disk.now) c.args.scenario.now c.args.self.now.site c.args.self.now.locals.items c.args.self.now.armed commands c.args.tx c.in-Some.place s found state c.index-local.ensures in
+    let o = owned (CoreStands g.E.LocalEngine.stands g.D.Disk.tells c.args.self.now.core (g.D.Disk.seen c.args.disk.now)) c.args.scenario.now c.args.self.now.site c.args.self.now.locals.items c.args.self.now.armed commands c.args.tx c.in-Some.place s found state c.index-local.ensures in
     let home = home_from c.args.scenario.now s.line in
     let past = past_of s.line.site (story_of c.args.scenario.now commands) in
     told_nowhere _ c.args.scenario.now _ _ _ commands (Cmd.Commit c.args.tx) Say.Idle s tt
@@ -74,7 +74,7 @@ returns-then-done-len-clause-told g c commands s =
     let found : IsPlace c.args.scenario.now.transactions c.args.tx c.in-Some.place = subst (λ xs. IsPlace xs c.args.tx c.in-Some.place) (c.as_slice.ensures ∙ lines_are) c.in-Some.ensures in
     let at = subst (λ xs. slice_get xs c.in-Some.place ≡ Some c.at.result.now) lines_are c.at.ensures in
     let state : State = c.index-local.result.now in
-    let o = owned (CoreStands g.E.LocalEngine.stands g.D.Disk.tells g.D.Disk.seen c.args.self.now.core c.args.disk.now) c.args.scenario.now c.args.self.now.site c.args.self.now.locals.items c.args.self.now.armed commands c.args.tx c.in-Some.place s found state c.index-local.ensures in
+    let o = owned (CoreStands g.E.LocalEngine.stands g.D.Disk.tells c.args.self.now.core (g.D.Disk.seen c.args.disk.now)) c.args.scenario.now c.args.self.now.site c.args.self.now.locals.items c.args.self.now.armed commands c.args.tx c.in-Some.place s found state c.index-local.ensures in
     let home = home_from c.args.scenario.now s.line in
     let past = past_of s.line.site (story_of c.args.scenario.now commands) in
     let left : state.done < length c.at.result.now.program = (let a = c.done.ensures in let b = c.len.ensures.count in let e = c.if-done-len.true in omega arith) in
@@ -90,7 +90,7 @@ hand-requires-clause-may g c =
     let found : IsPlace c.args.scenario.now.transactions c.args.tx c.in-Some.place = subst (λ xs. IsPlace xs c.args.tx c.in-Some.place) (c.as_slice.ensures ∙ lines_are) c.in-Some.ensures in
     let whole : IsScenario c.args.scenario.now = subst (λ (z : Scenario). IsScenario z) c.scenario.view_is c.scenario.invariant in
     let state : State = c.index-local.result.now in
-    let o = owned (CoreStands g.E.LocalEngine.stands g.D.Disk.tells g.D.Disk.seen c.args.self.now.core c.args.disk.now) c.args.scenario.now c.args.self.now.site c.args.self.now.locals.items c.args.self.now.armed commands c.args.tx c.in-Some.place s found state c.index-local.ensures in
+    let o = owned (CoreStands g.E.LocalEngine.stands g.D.Disk.tells c.args.self.now.core (g.D.Disk.seen c.args.disk.now)) c.args.scenario.now c.args.self.now.site c.args.self.now.locals.items c.args.self.now.armed commands c.args.tx c.in-Some.place s found state c.index-local.ensures in
     record {
       home = home_from c.args.scenario.now s.line;
       past = past_of s.line.site (story_of c.args.scenario.now commands);
@@ -101,7 +101,7 @@ hand-requires-clause-may g c =
 pub returns-in_err-answer-clause-failed : goal.returns-in_err-answer-clause-failed
 returns-in_err-answer-clause-failed g c =
     passed_on _ c.from_residual.result c.in_err-answer.field-0.0 c.from_residual.ensures.1
-    (λ commands s. untold (CoreStands g.E.LocalEngine.stands g.D.Disk.tells g.D.Disk.seen c.args.self.now.core c.args.disk.now) (CoreStands g.E.LocalEngine.stands g.D.Disk.tells g.D.Disk.seen c.hand.new.self.core c.hand.new.disk) c.args.scenario.now c.args.self.now c.hand.new.self c.in_err-answer.field-0.0 commands s
+    (λ commands s. untold (CoreStands g.E.LocalEngine.stands g.D.Disk.tells c.args.self.now.core (g.D.Disk.seen c.args.disk.now)) (CoreStands g.E.LocalEngine.stands g.D.Disk.tells c.hand.new.self.core (g.D.Disk.seen c.hand.new.disk)) c.args.scenario.now c.args.self.now c.hand.new.self c.in_err-answer.field-0.0 commands s
     (c.in_err-answer.ensures.failed (home_from c.args.scenario.now s.line) (past_of s.line.site (story_of c.args.scenario.now commands)) s.at.stood))
 
 pub index_mut-requires : goal.index_mut-requires
@@ -112,9 +112,9 @@ index_mut-requires g c =
     let found : IsPlace c.args.scenario.now.transactions c.args.tx c.in-Some.place = subst (λ xs. IsPlace xs c.args.tx c.in-Some.place) (c.as_slice.ensures ∙ lines_are) c.in-Some.ensures in
     let home = home_from c.args.scenario.now s.line in
     let past = past_of s.line.site (story_of c.args.scenario.now commands) in
-    let below = place_below (CoreStands g.E.LocalEngine.stands g.D.Disk.tells g.D.Disk.seen c.args.self.now.core c.args.disk.now) c.args.scenario.now c.args.self.now.site c.args.self.now.locals.items c.args.self.now.armed commands c.args.tx c.in-Some.place s found in
+    let below = place_below (CoreStands g.E.LocalEngine.stands g.D.Disk.tells c.args.self.now.core (g.D.Disk.seen c.args.disk.now)) c.args.scenario.now c.args.self.now.site c.args.self.now.locals.items c.args.self.now.armed commands c.args.tx c.in-Some.place s found in
     let hands = c.in_ok-answer.ensures.answered home past s.at.stood in
-    let below_now = handed_below (CoreStands g.E.LocalEngine.stands g.D.Disk.tells g.D.Disk.seen c.hand.new.self.core c.hand.new.disk) c.args.self.now c.hand.new.self c.in_ok-answer.answer home past (site_line home past (Ev.Commit (attempt c.args.tx c.in-Some-live.attempt))) hands c.in-Some.place below in
+    let below_now = handed_below (CoreStands g.E.LocalEngine.stands g.D.Disk.tells c.hand.new.self.core (g.D.Disk.seen c.hand.new.disk)) c.args.self.now c.hand.new.self c.in_ok-answer.answer home past (site_line home past (Ev.Commit (attempt c.args.tx c.in-Some-live.attempt))) hands c.in-Some.place below in
     let len = c.hand.new.self.locals.ok.0 in
     omega arith
 
@@ -124,16 +124,16 @@ returns-clause-told g c commands s =
     let found : IsPlace c.args.scenario.now.transactions c.args.tx c.in-Some.place = subst (λ xs. IsPlace xs c.args.tx c.in-Some.place) (c.as_slice.ensures ∙ lines_are) c.in-Some.ensures in
     let state : State = c.index-local.result.now in
     let now : State = c.index_mut.result.now in
-    let o = owned (CoreStands g.E.LocalEngine.stands g.D.Disk.tells g.D.Disk.seen c.args.self.now.core c.args.disk.now) c.args.scenario.now c.args.self.now.site c.args.self.now.locals.items c.args.self.now.armed commands c.args.tx c.in-Some.place s found state c.index-local.ensures in
+    let o = owned (CoreStands g.E.LocalEngine.stands g.D.Disk.tells c.args.self.now.core (g.D.Disk.seen c.args.disk.now)) c.args.scenario.now c.args.self.now.site c.args.self.now.locals.items c.args.self.now.armed commands c.args.tx c.in-Some.place s found state c.index-local.ensures in
     let home = home_from c.args.scenario.now s.line in
     let past = past_of s.line.site (story_of c.args.scenario.now commands) in
-    let below = place_below (CoreStands g.E.LocalEngine.stands g.D.Disk.tells g.D.Disk.seen c.args.self.now.core c.args.disk.now) c.args.scenario.now c.args.self.now.site c.args.self.now.locals.items c.args.self.now.armed commands c.args.tx c.in-Some.place s found in
+    let below = place_below (CoreStands g.E.LocalEngine.stands g.D.Disk.tells c.args.self.now.core (g.D.Disk.seen c.args.disk.now)) c.args.scenario.now c.args.self.now.site c.args.self.now.locals.items c.args.self.now.armed commands c.args.tx c.in-Some.place s found in
     let hands = c.in_ok-answer.ensures.answered home past s.at.stood in
     let at = subst (λ xs. slice_get xs c.in-Some.place ≡ Some c.at.result.now) lines_are c.at.ensures in
     let finished : length c.at.result.now.program ≤ state.done = (let a = c.done.ensures in let b = c.len.ensures.count in let e = c.if-done-len.false in omega arith) in
-    let got_state = got (CoreStands g.E.LocalEngine.stands g.D.Disk.tells g.D.Disk.seen c.args.self.now.core c.args.disk.now) c.args.scenario.now c.args.self.now.site c.args.self.now.locals.items c.args.self.now.armed commands c.args.tx c.in-Some.place s found state c.index-local.ensures in
-    let got_now = handed_got (CoreStands g.E.LocalEngine.stands g.D.Disk.tells g.D.Disk.seen c.hand.new.self.core c.hand.new.disk) c.args.self.now c.hand.new.self c.in_ok-answer.answer home past (site_line home past (Ev.Commit (attempt c.args.tx c.in-Some-live.attempt))) hands c.in-Some.place now below c.index_mut.ensures.value in
-    subst (λ (st : State). IsTold (SiteStands (CoreStands g.E.LocalEngine.stands g.D.Disk.tells g.D.Disk.seen c.hand.new.self.core c.hand.new.disk) c.args.scenario.now c.hand.new.self.site (slice_set c.hand.new.self.locals.items c.in-Some.place st) c.hand.new.self.armed) c.args.scenario.now commands (Cmd.Commit c.args.tx) c.in_ok-answer.answer)
+    let got_state = got (CoreStands g.E.LocalEngine.stands g.D.Disk.tells c.args.self.now.core (g.D.Disk.seen c.args.disk.now)) c.args.scenario.now c.args.self.now.site c.args.self.now.locals.items c.args.self.now.armed commands c.args.tx c.in-Some.place s found state c.index-local.ensures in
+    let got_now = handed_got (CoreStands g.E.LocalEngine.stands g.D.Disk.tells c.hand.new.self.core (g.D.Disk.seen c.hand.new.disk)) c.args.self.now c.hand.new.self c.in_ok-answer.answer home past (site_line home past (Ev.Commit (attempt c.args.tx c.in-Some-live.attempt))) hands c.in-Some.place now below c.index_mut.ensures.value in
+    subst (λ (st : State). IsTold (SiteStands (CoreStands g.E.LocalEngine.stands g.D.Disk.tells c.hand.new.self.core (g.D.Disk.seen c.hand.new.disk)) c.args.scenario.now c.hand.new.self.site (slice_set c.hand.new.self.locals.items c.in-Some.place st) c.hand.new.self.armed) c.args.scenario.now commands (Cmd.Commit c.args.tx) c.in_ok-answer.answer)
     (sym c.rests.ensures)
-    (commit_told (CoreStands g.E.LocalEngine.stands g.D.Disk.tells g.D.Disk.seen c.args.self.now.core c.args.disk.now) (CoreStands g.E.LocalEngine.stands g.D.Disk.tells g.D.Disk.seen c.hand.new.self.core c.hand.new.disk) c.args.scenario.now c.args.self.now c.hand.new.self c.args.tx c.in-Some.place state now c.in-Some-live.attempt c.in_ok-answer.answer commands s o
+    (commit_told (CoreStands g.E.LocalEngine.stands g.D.Disk.tells c.args.self.now.core (g.D.Disk.seen c.args.disk.now)) (CoreStands g.E.LocalEngine.stands g.D.Disk.tells c.hand.new.self.core (g.D.Disk.seen c.hand.new.disk)) c.args.scenario.now c.args.self.now c.hand.new.self c.args.tx c.in-Some.place state now c.in-Some-live.attempt c.in_ok-answer.answer commands s o
     (commit_next c.args.scenario.now s.line commands c.args.tx c.in-Some.place state o c.in-Some-live.attempt (sym c.live.ensures ∙ c.in-Some-live.is) c.at.result.now (sym (c.is_down.ensures home past s.at.stood.holds) ∙ c.if-is_down.false) at finished) hands got_state got_now)

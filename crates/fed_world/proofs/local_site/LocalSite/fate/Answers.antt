@@ -21,7 +21,7 @@ returns-in-None-clause-told g c commands s =
 pub returns-in-Some-clause-told : goal.returns-in-Some-clause-told
 returns-in-Some-clause-told g c =
     on_answer _ _ c.hand.result
-    (λ answer handed commands s. fate_told (CoreStands g.E.LocalEngine.stands g.D.Disk.tells g.D.Disk.seen c.args.self.now.core c.args.disk.now) (CoreStands g.E.LocalEngine.stands g.D.Disk.tells g.D.Disk.seen c.hand.new.self.core c.hand.new.disk) c.args.scenario.now c.args.self.now c.hand.new.self c.args.tx c.in-Some.field-0 answer commands
+    (λ answer handed commands s. fate_told (CoreStands g.E.LocalEngine.stands g.D.Disk.tells c.args.self.now.core (g.D.Disk.seen c.args.disk.now)) (CoreStands g.E.LocalEngine.stands g.D.Disk.tells c.hand.new.self.core (g.D.Disk.seen c.hand.new.disk)) c.args.scenario.now c.args.self.now c.hand.new.self c.args.tx c.in-Some.field-0 answer commands
     (subst (λ xs. IsPlace xs c.args.tx c.in-Some.field-0) (c.as_slice.ensures ∙ c.transactions.ensures) c.in-Some.ensures) s
     (handed (home_from c.args.scenario.now s.line) (past_of s.line.site (story_of c.args.scenario.now commands)) s.at.stood))
     c.hand.ensures.answered
@@ -29,6 +29,6 @@ returns-in-Some-clause-told g c =
 pub returns-in-Some-clause-failed : goal.returns-in-Some-clause-failed
 returns-in-Some-clause-failed g c =
     on_failure _ _ c.hand.result
-    (λ why failed commands s. untold (CoreStands g.E.LocalEngine.stands g.D.Disk.tells g.D.Disk.seen c.args.self.now.core c.args.disk.now) (CoreStands g.E.LocalEngine.stands g.D.Disk.tells g.D.Disk.seen c.hand.new.self.core c.hand.new.disk) c.args.scenario.now c.args.self.now c.hand.new.self why commands s
+    (λ why failed commands s. untold (CoreStands g.E.LocalEngine.stands g.D.Disk.tells c.args.self.now.core (g.D.Disk.seen c.args.disk.now)) (CoreStands g.E.LocalEngine.stands g.D.Disk.tells c.hand.new.self.core (g.D.Disk.seen c.hand.new.disk)) c.args.scenario.now c.args.self.now c.hand.new.self why commands s
     (failed (home_from c.args.scenario.now s.line) (past_of s.line.site (story_of c.args.scenario.now commands)) s.at.stood))
     c.hand.ensures.failed

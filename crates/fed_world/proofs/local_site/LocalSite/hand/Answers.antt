@@ -14,7 +14,7 @@ returns-in-Ok-clause-answered g c home past k =
     record {
       said = s.answer;
       silent = (silent_line home past c.args.event (can_own c.args.event may.home may.past may.holds)).sends;
-      stood = subst (λ core. CoreStands g.E.LocalEngine.stands g.D.Disk.tells g.D.Disk.seen core c.step.new.disk home (site_line home past c.args.event ∷ past)) (sym c.heeds.ensures.core) s.stood;
+      stood = subst (λ core. CoreStands g.E.LocalEngine.stands g.D.Disk.tells core (g.D.Disk.seen c.step.new.disk) home (site_line home past c.args.event ∷ past)) (sym c.heeds.ensures.core) s.stood;
       site = c.heeds.ensures.site;
       locals = c.heeds.ensures.locals ∙ ap (λ (a : Answer). rest_all a c.args.self.now.locals.items) s.answer;
       armed = c.heeds.ensures.armed ∙ ap (λ (a : Answer). cond (stops a) false c.args.self.now.armed) s.answer;

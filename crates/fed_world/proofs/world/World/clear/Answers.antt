@@ -15,7 +15,7 @@ returns-in_default-clause-failed g c scenario commands s =
     fails_here g.E.LocalEngine.stands g.D.Disk.tells g.D.Disk.seen Err_is.Memory c.args.self.now c.args.disks.now.items scenario (all_cleared scenario commands) commands (aborts_extend (live_tids scenario commands) commands) s
 
 pub loop-tid-init : goal.loop-tid-init
-loop-tid-init g c = record { stands = λ scenario commands s. s; faults = same_never_falls (faults_of g.D.Disk.seen) c.args.disks.now.items }
+loop-tid-init g c = record { stands = λ scenario commands s. s; faults = same_never_falls g.D.Disk.seen c.args.disks.now.items }
 
 pub apply-requires-clause-stood : goal.apply-requires-clause-stood
 apply-requires-clause-stood g c =
@@ -46,13 +46,13 @@ returns-in_err-apply-clause-cause g c =
     let p = err_from_is_err_and c.from_residual.result c.from_residual.ensures.1 in
     let r = c.requires.stood in
     let same = r.stood.others.nine ∙ sym (c.loop-tid.invariant.stands r.scenario r.commands r.stood).others.nine in
-    rw (p.1, p.2) (cause_later (faults_of g.D.Disk.seen) c.in_err-apply.field-0.0 c.args.disks.now.items c.loop-tid.disks.items c.apply.new.disks.items same c.loop-tid.invariant.faults c.in_err-apply.ensures.cause)
+    rw (p.1, p.2) (cause_later g.D.Disk.seen c.in_err-apply.field-0.0 c.args.disks.now.items c.loop-tid.disks.items c.apply.new.disks.items same c.loop-tid.invariant.faults c.in_err-apply.ensures.cause)
 
 pub returns-in_err-apply-clause-faults : goal.returns-in_err-apply-clause-faults
 returns-in_err-apply-clause-faults g c =
     let r = c.requires.stood in
     let same = r.stood.others.nine ∙ sym (c.loop-tid.invariant.stands r.scenario r.commands r.stood).others.nine in
-    never_falls_twice (faults_of g.D.Disk.seen) c.args.disks.now.items c.loop-tid.disks.items c.apply.new.disks.items same c.loop-tid.invariant.faults c.apply.ensures.faults
+    never_falls_twice g.D.Disk.seen c.args.disks.now.items c.loop-tid.disks.items c.apply.new.disks.items same c.loop-tid.invariant.faults c.apply.ensures.faults
 
 pub loop-tid-preserved : goal.loop-tid-preserved
 loop-tid-preserved g c =
@@ -64,7 +64,7 @@ loop-tid-preserved g c =
       stands = λ scenario commands s.
           subst (λ more. Stands g.E.LocalEngine.stands g.D.Disk.tells g.D.Disk.seen c.apply.new.self c.apply.new.disks.items scenario more) (sym (aborts_more items i (record { tx = record { 0 = 0 }; attempt = 0 }) commands c.loop-tid-test.true))
           (c.in_ok-apply.ensures.applied scenario (with_aborts (take i items) commands) (c.loop-tid.invariant.stands scenario commands s));
-      faults = never_falls_twice (faults_of g.D.Disk.seen) c.args.disks.now.items c.loop-tid.disks.items c.apply.new.disks.items same c.loop-tid.invariant.faults c.apply.ensures.faults;
+      faults = never_falls_twice g.D.Disk.seen c.args.disks.now.items c.loop-tid.disks.items c.apply.new.disks.items same c.loop-tid.invariant.faults c.apply.ensures.faults;
     }
 
 pub returns-clause-done : goal.returns-clause-done

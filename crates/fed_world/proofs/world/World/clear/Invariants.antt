@@ -9,5 +9,5 @@ abbrev pub invariant-loop-tid : goal.invariant-loop-tid
 invariant-loop-tid g l = record {
   stands : (scenario : Scenario) (commands : List Command) → Stands g.E.LocalEngine.stands g.D.Disk.tells g.D.Disk.seen l.fn.self l.fn.disks.items scenario commands
       → Stands g.E.LocalEngine.stands g.D.Disk.tells g.D.Disk.seen l.self l.disks.items scenario (with_aborts (take l.tid-index l.tid-items) commands);
-  faults : NeverFalls (faults_of g.D.Disk.seen) l.fn.disks.items l.disks.items;
+  faults : NeverFalls g.D.Disk.seen l.fn.disks.items l.disks.items;
 }

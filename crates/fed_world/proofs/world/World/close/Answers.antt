@@ -39,13 +39,13 @@ returns-in_err-bring_up-clause-cause g c =
     let p = err_from_is_err_and c.from_residual-in_err-bring_up.result c.from_residual-in_err-bring_up.ensures.1 in
     let r = c.requires.stood in
     let same = r.stood.others.nine ∙ sym (c.in_ok-disarm.ensures.done r.scenario r.commands r.stood).others.nine in
-    rw (p.1, p.2) (cause_later (faults_of g.D.Disk.seen) c.in_err-bring_up.field-0.0 c.args.disks.now.items c.disarm.new.disks.items c.bring_up.new.disks.items same c.disarm.ensures.faults c.in_err-bring_up.ensures.cause)
+    rw (p.1, p.2) (cause_later g.D.Disk.seen c.in_err-bring_up.field-0.0 c.args.disks.now.items c.disarm.new.disks.items c.bring_up.new.disks.items same c.disarm.ensures.faults c.in_err-bring_up.ensures.cause)
 
 pub returns-in_err-bring_up-clause-faults : goal.returns-in_err-bring_up-clause-faults
 returns-in_err-bring_up-clause-faults g c =
     let r = c.requires.stood in
     let same = r.stood.others.nine ∙ sym (c.in_ok-disarm.ensures.done r.scenario r.commands r.stood).others.nine in
-    never_falls_twice (faults_of g.D.Disk.seen) c.args.disks.now.items c.disarm.new.disks.items c.bring_up.new.disks.items same c.disarm.ensures.faults c.bring_up.ensures.faults
+    never_falls_twice g.D.Disk.seen c.args.disks.now.items c.disarm.new.disks.items c.bring_up.new.disks.items same c.disarm.ensures.faults c.bring_up.ensures.faults
 
 pub clear-requires-clause-stood : goal.clear-requires-clause-stood
 clear-requires-clause-stood g c =
@@ -86,9 +86,9 @@ returns-clause-cause g c =
     let first = all_disarmed r.scenario r.commands in
     let one = c.in_ok-disarm.ensures.done r.scenario r.commands r.stood in
     let two = c.in_ok-bring_up.ensures.done r.scenario first one in
-    let up = never_falls_twice (faults_of g.D.Disk.seen) c.args.disks.now.items c.disarm.new.disks.items c.bring_up.new.disks.items (r.stood.others.nine ∙ sym one.others.nine) c.disarm.ensures.faults c.bring_up.ensures.faults in
+    let up = never_falls_twice g.D.Disk.seen c.args.disks.now.items c.disarm.new.disks.items c.bring_up.new.disks.items (r.stood.others.nine ∙ sym one.others.nine) c.disarm.ensures.faults c.bring_up.ensures.faults in
     on_failure _ _ c.clear.result
-    (λ why cause. cause_later (faults_of g.D.Disk.seen) why c.args.disks.now.items c.bring_up.new.disks.items c.clear.new.disks.items (r.stood.others.nine ∙ sym two.others.nine) up cause)
+    (λ why cause. cause_later g.D.Disk.seen why c.args.disks.now.items c.bring_up.new.disks.items c.clear.new.disks.items (r.stood.others.nine ∙ sym two.others.nine) up cause)
     c.clear.ensures.cause
 
 pub returns-clause-faults : goal.returns-clause-faults
@@ -97,5 +97,5 @@ returns-clause-faults g c =
     let first = all_disarmed r.scenario r.commands in
     let one = c.in_ok-disarm.ensures.done r.scenario r.commands r.stood in
     let two = c.in_ok-bring_up.ensures.done r.scenario first one in
-    let up = never_falls_twice (faults_of g.D.Disk.seen) c.args.disks.now.items c.disarm.new.disks.items c.bring_up.new.disks.items (r.stood.others.nine ∙ sym one.others.nine) c.disarm.ensures.faults c.bring_up.ensures.faults in
-    never_falls_twice (faults_of g.D.Disk.seen) c.args.disks.now.items c.bring_up.new.disks.items c.clear.new.disks.items (r.stood.others.nine ∙ sym two.others.nine) up c.clear.ensures.faults
+    let up = never_falls_twice g.D.Disk.seen c.args.disks.now.items c.disarm.new.disks.items c.bring_up.new.disks.items (r.stood.others.nine ∙ sym one.others.nine) c.disarm.ensures.faults c.bring_up.ensures.faults in
+    never_falls_twice g.D.Disk.seen c.args.disks.now.items c.bring_up.new.disks.items c.clear.new.disks.items (r.stood.others.nine ∙ sym two.others.nine) up c.clear.ensures.faults
