@@ -55,6 +55,7 @@ down_line home past (Ev.Drop tid) not_trip not_back d = (rw d refl, refl)
 down_line home past (Ev.Halt cut) not_trip not_back d = (rw d refl, refl)
 down_line home past (Ev.Trip calls cut) not_trip not_back d = absurd (not_trip calls cut refl)
 down_line home past Ev.Back not_trip not_back d = absurd (not_back refl)
+down_line home past Ev.Check not_trip not_back d = (rw d refl, refl)
 
 -- what a trip sets, as the rules speak of it
 trip_to-rules : (calls cut : ℕ) (old : Option Trip) → map_some trip_of_rules (trip_to calls cut) ≡ set (Some (record { calls = calls; cut = cut })) old

@@ -1,5 +1,5 @@
 -- What a core stands for after a line with disk calls, and after a stop within them.
-use Rattle.std.proofs.Common.{◌≡◌, ℕ, zero, suc, ◌≤◌, ◌==◌, leb, Bool, true, false, cond, not, ◌||◌, is_some, Option, Some, None, List, [], ◌∷◌, ◌++◌, length, take, refl, sym, ap, ◌∙◌, subst}
+use Rattle.std.proofs.Common.{◌≡◌, ℕ, zero, suc, ◌≤◌, ◌==◌, arith, leb, Bool, true, false, cond, not, ◌||◌, is_some, Option, Some, None, List, [], ◌∷◌, ◌++◌, length, map, reverse, take, refl, sym, ap, ◌∙◌, subst}
 use Rattle.std.proofs.lemmas.Bool.{cond-true, cond-false, le-leb, lt-leb}
 use Rattle.mdb_base.specs.declared.names.Tid.{Tid}
 use Rattle.mdb_base.specs.declared.names.Tx.{Tx}
@@ -93,7 +93,7 @@ untrimmed_calls rules (call ∷ calls) plain = untrimmed_calls (after_call site_
 -- a disk of which nothing was trimmed holds all its records
 all_stand : (records : List SiteRecord) → standing site_frame 0 records ≡ records
 all_stand [] = refl
-all_stand (newest ∷ records) = ap (λ rs. newest ∷ rs) (all_stand records)
+all_stand (newest ∷ records) = cond-true _ _ _ (le-leb 0 (bytes_of site_frame records) (omega arith)) ∙ ap (λ rs. newest ∷ rs) (all_stand records)
 
 pub untrimmed_journal : (rules : Disk SiteRecord) → rules.trimmed ≡ 0 → journal site_frame rules ≡ rules.records
 untrimmed_journal rules none = ap (λ t. standing site_frame t rules.records) none ∙ all_stand rules.records
