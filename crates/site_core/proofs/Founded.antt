@@ -2,7 +2,7 @@
 use Rattle.std.proofs.Common.{◌≡◌, ℕ, ◌+◌, ◌≤◌, min, leb, Bool, true, false, cond, List, [], ◌∷◌, ◌++◌, refl, sym, ap, subst, arith}
 use Rattle.std.proofs.lemmas.Bool.{cond-true, leb-true, le-leb}
 use Rattle.fed_rules.specs.declared.records.SiteRecord.{SiteRecord}
-use Rattle.fed_rules.specs.Disk.{Call, Append, Sync, CutBack, Stops, Disk, after_call, after_calls, bytes_of, whole}
+use Rattle.fed_rules.specs.Disk.{Call, Append, Sync, CutBack, TrimFront, Stops, Disk, after_call, after_calls, bytes_of, whole}
 use Rattle.fed_rules.specs.SitePast.{SitePast, disk, records}
 use Rattle.fed_rules.specs.SiteRecords.{Home, site_frame}
 use Rattle.site_core.specs.Recovered.{IsFounded, foundation}
@@ -53,6 +53,7 @@ call_founded home rules Sync f =
     let within = f.within in
     record { founded = f.founded; synced = omega arith; within = within }
 call_founded home rules CutBack f = record { founded = f.founded; synced = bytes-founded home rules.records f.founded; within = omega arith }
+call_founded home rules TrimFront f = record { founded = f.founded; synced = f.synced; within = f.within }
 call_founded home rules (Stops cut) f =
     let least = bytes-founded home rules.records f.founded in
     let within = f.within in

@@ -12,7 +12,7 @@ use Rattle.mdb_base.specs.Rows.{value_in}
 use Rattle.mdb_base.proofs.RowLaws.{same_rows}
 use Rattle.presumptions.specs.declared.Decision.TheVariants as Decided
 use Rattle.fed_rules.specs.declared.records.SiteRecord.{SiteRecord}
-use Rattle.fed_rules.specs.declared.records.SiteRecord.TheVariants.{Setup, Start, Prepared, Ended, Local}
+use Rattle.fed_rules.specs.declared.records.SiteRecord.TheVariants.{Setup, Start, Prepared, Ended, Local, Checkpoint}
 use Rattle.fed_rules.specs.SiteRecords.{Held, Home, Install, doubt_of, install_held, installs, prepared_tids, site_rows}
 use Rattle.site_tables.specs.declared.versions.Version.{Version}
 use Rattle.site_tables.specs.Tables.{row_of}
@@ -39,6 +39,7 @@ no_doubt (Ended ended decision ∷ records) tid unprepared = by_test (same_tid e
     by_test true rest = refl
     by_test false rest = rest
 no_doubt (Local t number writes ∷ records) tid unprepared = no_doubt records tid unprepared
+no_doubt (Checkpoint sum ∷ records) tid unprepared = no_doubt records tid unprepared
 
 falls-install_held : (held : Option Held) (before : List Install) → NumbersFall before → NumbersFall (install_held held before)
 falls-install_held None before falls = falls
@@ -53,6 +54,7 @@ falls-installs (Prepared tid epoch number ticket writes ∷ records) = falls-ins
 falls-installs (Ended tid Decided.Commit ∷ records) = falls-install_held (doubt_of records tid) (installs records) (falls-installs records)
 falls-installs (Ended tid Decided.Abort ∷ records) = falls-installs records
 falls-installs (Local tid number writes ∷ records) = falls-by_number _ (installs records) (falls-installs records)
+falls-installs (Checkpoint sum ∷ records) = falls-installs records
 
 -- what they keep of a key is the last write of the local records
 kept-last_write : (records : List SiteRecord) (key : Key) → prepared_tids records ≡ [] → kept_by (installs records) key ≡ last_write records key
@@ -63,6 +65,7 @@ kept-last_write (Prepared tid epoch number ticket writes ∷ records) key unprep
 kept-last_write (Ended tid Decided.Commit ∷ records) key unprepared =
     ap (λ held. kept_by (install_held held (installs records)) key) (no_doubt records tid unprepared) ∙ kept-last_write records key unprepared
 kept-last_write (Ended tid Decided.Abort ∷ records) key unprepared = kept-last_write records key unprepared
+kept-last_write (Checkpoint sum ∷ records) key unprepared = kept-last_write records key unprepared
 kept-last_write (Local tid number writes ∷ records) key unprepared =
     kept-by_number (record { tid = tid; number = number; writes = writes }) (installs records) key
     ∙ ap (later (version_of number (value_in writes key))) (kept-last_write records key unprepared)

@@ -11,15 +11,20 @@ use Rattle.fed_rules.specs.Site.{site_past}
 use Rattle.fed_rules.specs.SitePast.{SitePast}
 use Rattle.fed_rules.specs.SiteRecords.{Home}
 use Rattle.journal_disk.specs.declared.mem_disk.MemDisk.{MemDisk}
-use Rattle.journal_disk.specs.MemDisk.{mem_image, mem_size, mem_spare}
+use Rattle.journal_disk.specs.Disk.{Seen}
+use Rattle.journal_disk.specs.MemDisk.{mem_faults, mem_image, mem_size, mem_spare}
 use Rattle.locking_engine.specs.declared.engine.LockingEngine.{LockingEngine}
 use Rattle.locking_engine.specs.Stands as Locks
 use Rattle.site_core.specs.declared.site.SiteCore.{SiteCore}
 use Rattle.site_core.specs.Stands.{Stands}
 
+-- what is seen of a disk in memory
+abbrev pub mem_seen : MemDisk → Seen
+mem_seen disk = record { image = mem_image disk; size = mem_size disk; spare = mem_spare disk; faults = mem_faults disk }
+
 -- a core with the locking engine, on a disk in memory, stands for this past of this home
 abbrev pub TestStands : SiteCore LockingEngine → MemDisk → Home → SitePast → Type 0
-TestStands core disk home past = Stands Locks.Stands true mem_image mem_size mem_spare core disk home past
+TestStands core disk home past = Stands Locks.Stands true core (mem_seen disk) home past
 
 -- a locking site 1 with no rows
 abbrev pub locking_home : Protocol → Home

@@ -9,7 +9,7 @@ use Rattle.site_core.specs.Stands.{Answers, Fails, Stands}
 use Rattle.site_core.specs.Steps.{EachPast}
 use Rattle.site_core.proofs.BackLaws.{read_failed, stored_anew}
 use Rattle.site_core.proofs.Outcomes.{map_err, map_ok}
-use Rattle.actor_store.proofs.SetUpLaws.{risen_from}
+use Rattle.site_core.proofs.NewStore.{risen_from}
 use Rattle.site_core.proofs.site.SiteCore.back.Goals as goal
 
 pub reload-requires-clause-kept : goal.reload-requires-clause-kept
