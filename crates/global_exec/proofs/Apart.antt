@@ -1,11 +1,11 @@
 -- The attempts of the table have names of their own.
-use Rattle.std.proofs.Common.{ℕ, ◌≡◌, Bool, true, false, cond, Option, Some, None, List, [], ◌∷◌, ◌++◌, map, refl, sym, ap, subst}
+use Rattle.std.proofs.Common.{ℕ, ◌≡◌, Bool, true, false, cond, Some, None, List, [], ◌∷◌, ◌++◌, map, refl, sym, ap, subst}
 use Rattle.mdb_base.specs.declared.names.SiteId.{SiteId}
 use Rattle.mdb_base.specs.declared.names.Tid.{Tid}
 use Rattle.mdb_base.specs.declared.replies.Reply.{Reply}
 use Rattle.mdb_base.specs.declared.replies.Reply.TheVariants as Reply_is
 use Rattle.mdb_base.specs.Names.{same_tid}
-use Rattle.mdb_base.specs.Words.{Each, first_where}
+use Rattle.mdb_base.specs.Words.{Each}
 use Rattle.global_exec.specs.Counted.{after_did, after_reply, counts}
 use Rattle.global_exec.specs.Firsts.{replaced, taken_out}
 use Rattle.global_exec.specs.Live.{AreApart, Live, is_of, live_of}
@@ -54,6 +54,7 @@ did_same site epoch n reply live = by_test (counts site epoch n reply live) (by_
     by_reply Reply_is.Done = refl
     by_reply (Reply_is.Value value) = refl
     by_reply (Reply_is.Ticket ticket) = refl
+
     by_test : (b : Bool) → (after_reply site epoch reply live).tid ≡ live.tid → (cond b (after_reply site epoch reply live) live).tid ≡ live.tid
     by_test true e = e
     by_test false e = refl

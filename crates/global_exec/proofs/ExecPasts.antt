@@ -1,28 +1,25 @@
 -- What a line makes of an attempt that is carried out: the table's attempt goes with the past.
-use Rattle.std.proofs.Common.{◌≡◌, ℕ, suc, ◌+◌, ◌==◌, Bool, true, false, cond, not, ◌&&◌, ◌||◌, is_some, is_none, Option, Some, None, List, [], ◌∷◌, ◌++◌, map, refl, sym, ap, ap₂, subst, ◌∙◌, arith, eqb-true, eq-eqb}
+use Rattle.std.proofs.Common.{◌≡◌, ℕ, suc, ◌+◌, Bool, true, false, cond, not, ◌&&◌, ◌||◌, is_some, Option, Some, None, List, [], ◌∷◌, ◌++◌, map, refl, sym, ap, ap₂, ◌∙◌, arith, eqb-true, eq-eqb}
 use Rattle.std.proofs.lemmas.Bool.{cond-true, cond-false, false≢true}
 use Rattle.std.proofs.lemmas.List.{append-nil}
 use Rattle.mdb_base.specs.declared.names.SiteId.{SiteId}
 use Rattle.mdb_base.specs.declared.names.Tid.{Tid}
 use Rattle.mdb_base.specs.declared.replies.Reply.{Reply}
 use Rattle.mdb_base.specs.declared.replies.Reply.TheVariants as Reply_is
-use Rattle.mdb_base.specs.Names.{same_site, same_tid}
-use Rattle.mdb_base.specs.Words.{Each, found, those, how_many, some_of, first_where, holds_of, with_some}
+use Rattle.mdb_base.specs.Names.{same_site}
+use Rattle.mdb_base.specs.Words.{Each, found, those, how_many, some_of, with_some}
 use Rattle.mdb_base.proofs.NameLaws.{same_tid-refl, tests_agree}
 use Rattle.presumptions.specs.declared.Participant.{Participant}
-use Rattle.fed_rules.specs.declared.messages.Due.{Due}
 use Rattle.fed_rules.specs.declared.messages.FromSite.TheVariants as From
 use Rattle.fed_rules.specs.declared.events.CoordEvent.TheVariants as Ev
-use Rattle.fed_rules.specs.Coord.{fits}
 use Rattle.fed_rules.specs.CoordPast.{CoordHappening, CoordPast, Counted, begins, counts, counted, counted_at, did_in, vote_in, vote_at, is_wait, is_ticket, last_epoch, epoch_at, oldest_first, outstanding, outstanding_at, participants_of, program, program_in, or_steps, reads, steps_done, value_in, visits}
 use Rattle.fed_rules.specs.CoordPast as rules
 use Rattle.global_exec.specs.declared.progress.Progress.{Progress}
 use Rattle.global_exec.specs.Agreement.{IsOfPast, progress_in}
 use Rattle.global_exec.specs.Counted as exec
 use Rattle.global_exec.specs.Firsts.{replaced}
-use Rattle.global_exec.specs.Live.{Live, due_in, is_at, progress_at, voted, with_vote}
+use Rattle.global_exec.specs.Live.{Live, is_at, voted, with_vote}
 use Rattle.global_exec.specs.Pasts.{IsOnly}
-use Rattle.global_exec.proofs.Agrees.{due-at}
 
 pub map-same : {A B : Type 0} (f g : A → B) → ((x : A) → f x ≡ g x) → (xs : List A) → map f xs ≡ map g xs
 map-same f g same [] = refl

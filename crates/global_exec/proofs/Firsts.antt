@@ -1,5 +1,5 @@
 -- The first item that a test holds of: where it stands, and what a write or a removal there comes to.
-use Rattle.std.proofs.Common.{◌≡◌, ℕ, zero, suc, ◌<◌, Bool, true, false, cond, Option, Some, None, List, [], ◌∷◌, length, get_or, slice_set, take, refl, sym, ap, subst, ◌∙◌, ◌+◌, ◌++◌, ◌≤◌, arith, add-one, map}
+use Rattle.std.proofs.Common.{◌≡◌, ℕ, zero, suc, ◌<◌, Bool, true, false, cond, Option, Some, None, List, [], ◌∷◌, length, get_or, slice_set, take, refl, sym, ap, subst, ◌∙◌, ◌+◌, ◌++◌, arith, add-one, map}
 use Rattle.std.specs.Prelude.{reverse}
 use Rattle.std.proofs.lemmas.List.{map-append, reverse-append}
 use Rattle.std.specs.List.{remove}

@@ -1,21 +1,21 @@
 -- What is true of each attempt stays true.
-use Rattle.std.proofs.Common.{◌≡◌, ℕ, suc, ◌+◌, ◌<◌, ◌≤◌, ◌⊎◌, Bool, true, false, cond, ◌&&◌, ◌||◌, Option, Some, None, List, [], ◌∷◌, ◌++◌, length, take, IsTrue, refl, sym, ap, ◌∙◌, subst, inl, inr, arith, add-one, length-append}
+use Rattle.std.proofs.Common.{◌≡◌, ℕ, suc, ◌+◌, ◌<◌, ◌≤◌, ◌⊎◌, Bool, true, false, cond, ◌||◌, Option, Some, None, List, [], ◌∷◌, ◌++◌, length, take, refl, sym, ap, ◌∙◌, subst, inl, inr, arith, add-one, length-append}
 use Rattle.std.proofs.lemmas.Bool.{and_parts, false≢true}
 use Rattle.mdb_base.specs.declared.acts.Step.{Step}
 use Rattle.mdb_base.specs.declared.names.SiteId.{SiteId}
 use Rattle.mdb_base.specs.declared.names.Tid.{Tid}
 use Rattle.mdb_base.specs.declared.replies.Reply.{Reply}
 use Rattle.mdb_base.specs.declared.replies.Reply.TheVariants as Reply_is
-use Rattle.mdb_base.specs.Programs.{IsProgram, is_get, most_steps, reads_of}
+use Rattle.mdb_base.specs.Programs.{IsProgram, is_get, reads_of}
 use Rattle.mdb_base.specs.Words.{Each, first_where, found, holds_of, how_many, with_some}
 use Rattle.std.proofs.lemmas.List.{length-take}
 use Rattle.mdb_base.proofs.ListLaws.{each_map}
-use Rattle.fed_rules.specs.CoordPast.{visits, is_ticket}
+use Rattle.fed_rules.specs.CoordPast.{visits}
 use Rattle.global_exec.specs.declared.progress.Progress.{Progress}
 use Rattle.global_exec.specs.Counted.{HasRoom, advanced, answered, counts, counts_at, is_answer, knows, steps_of, value_of, waited, with_epoch}
-use Rattle.global_exec.specs.Due.{due, fresh}
+use Rattle.global_exec.specs.Due.{fresh}
 use Rattle.global_exec.specs.Firsts.{replaced}
-use Rattle.global_exec.specs.Live.{IsLive, Live, all_sites, due_in, fresh_at, is_at, most, progress_at, site_number, submitted, voted, with_vote}
+use Rattle.global_exec.specs.Live.{IsLive, Live, all_sites, fresh_at, is_at, most, progress_at, site_number, submitted, voted, with_vote}
 use Rattle.global_exec.proofs.Rises.{found_rises, rising_replaced}
 use Rattle.global_exec.proofs.Steps.{FitsStep, FitsTake, due_fits, value_of_get, done_of_write, no_ticket_of_act, more_within, how_many-more}
 

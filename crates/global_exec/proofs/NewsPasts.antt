@@ -1,19 +1,16 @@
 -- What became outstanding by an answer: in the table what the past says.
-use Rattle.std.proofs.Common.{◌≡◌, ℕ, Bool, true, false, cond, not, ◌&&◌, ◌||◌, is_none, Option, Some, None, List, [], ◌∷◌, map, drop, refl, sym, ap, ap₂, subst, ◌∙◌}
-use Rattle.std.proofs.lemmas.Bool.{cond-true, cond-false, false≢true}
+use Rattle.std.proofs.Common.{◌≡◌, ℕ, Bool, true, false, cond, not, ◌&&◌, ◌||◌, is_none, Option, Some, None, List, [], ◌∷◌, map, drop, refl, sym, ap, ap₂, ◌∙◌}
+use Rattle.std.proofs.lemmas.Bool.{cond-true, cond-false}
 use Rattle.mdb_base.specs.declared.acts.Step.{Step}
 use Rattle.mdb_base.specs.declared.names.SiteId.{SiteId}
 use Rattle.mdb_base.specs.declared.names.Tid.{Tid}
-use Rattle.mdb_base.specs.declared.program.Next.{Next}
-use Rattle.mdb_base.specs.declared.replies.Reply.{Reply}
 use Rattle.mdb_base.specs.Names.{same_site}
 use Rattle.mdb_base.specs.Programs.{next_of}
 use Rattle.mdb_base.specs.Words.{found, holds_of, item_at, with_some}
 use Rattle.presumptions.specs.declared.Participant.{Participant}
 use Rattle.fed_rules.specs.declared.messages.Due.{Due}
 use Rattle.fed_rules.specs.Coord as coord
-use Rattle.fed_rules.specs.CoordPast.{CoordPast, outstanding, outstanding_at, participants_of, visits}
-use Rattle.fed_rules.specs.CoordPast as rules
+use Rattle.fed_rules.specs.CoordPast.{CoordPast, outstanding, participants_of, visits}
 use Rattle.global_exec.specs.declared.progress.Progress.{Progress}
 use Rattle.global_exec.specs.Agreement.{IsOfPast, progress_in}
 use Rattle.global_exec.specs.Counted.{news, news_at}
@@ -59,7 +56,7 @@ module _ (protocols : List Participant) (past now : CoordPast) (tid : Tid) (befo
         ∙ sym (cond-true _ _ _ (ap (λ b. b || is_none (outstanding past tid p.site)) e))
     by_site false e =
         let idle : is_idle after.program before.done (progress_in now tid p) ≡ is_none (outstanding past tid p.site) =
-            ap₂ (λ (steps : List Step) (q : Progress). is_idle steps before.done q) program_same (elsewhere p e) ∙ idle_due before.program before.done before.reads (progress_in past tid p) ∙ ap is_none (was_due p v) in
+        ap₂ (λ (steps : List Step) (q : Progress). is_idle steps before.done q) program_same (elsewhere p e) ∙ idle_due before.program before.done before.reads (progress_in past tid p) ∙ ap is_none (was_due p v) in
         ap₂ (λ (b : Bool) (d : Option Due). cond (same_site p.site site || b) d None) idle (is_due p v)
 
   at_all : (members : List Participant) → found (news_at site before.done after) (map (progress_in now tid) (participants_of members before.program))

@@ -1,5 +1,5 @@
 -- A set of sites with one more.
-use Rattle.std.proofs.Common.{ℕ, zero, suc, ◌≡◌, ◌≢◌, ◌+◌, ◌-◌, ◌*◌, ◌%◌, ◌<◌, ◌≤◌, ◌==◌, ◌||◌, max, nat_eq, Bool, true, false, refl, sym, ap, ◌∙◌, subst, arith}
+use Rattle.std.proofs.Common.{ℕ, zero, suc, ◌≡◌, ◌≢◌, ◌-◌, ◌*◌, ◌%◌, ◌<◌, ◌≤◌, ◌==◌, ◌||◌, max, Bool, true, false, refl, sym, ap, ◌∙◌, arith}
 use Rattle.std.specs.Prelude.{◌^◌}
 use Rattle.std.specs.Int.{bit_at}
 use Rattle.std.specs.Int.RustNames.{bit_or}
@@ -34,8 +34,10 @@ with_site a s o p q u v =
     one zero h = refl
     one (suc zero) h = refl
     one (suc (suc x)) h = absurd (omega arith)
+
     none : (x : ℕ) → max x 0 ≡ x
     none x = omega arith
+
     by_test : (b : Bool) → (s == o) ≡ b → (max (bit_at a (o - 1)) (bit_at (2 ^ (s - 1)) (o - 1)) == 1) ≡ ((bit_at a (o - 1) == 1) || b)
     by_test true e =
         let same : s - 1 ≡ o - 1 = grind arith in

@@ -1,5 +1,5 @@
 -- A set of sites as a rising list.
-use Rattle.std.proofs.Common.{ℕ, zero, suc, ◌≡◌, ◌+◌, ◌-◌, ◌<◌, ◌≤◌, ◌==◌, Bool, true, false, cond, nat_lt, ◌||◌, List, [], ◌∷◌, refl, sym, ap, ◌∙◌, subst, arith}
+use Rattle.std.proofs.Common.{ℕ, zero, suc, ◌≡◌, ◌+◌, ◌<◌, ◌≤◌, Bool, true, false, cond, nat_lt, ◌||◌, List, [], ◌∷◌, refl, sym, ap, ◌∙◌, arith}
 use Rattle.mdb_base.specs.declared.names.SiteId.{SiteId}
 use Rattle.mdb_base.specs.Names.{same_site}
 use Rattle.mdb_base.specs.Rising.{IsRising}
@@ -82,6 +82,7 @@ members_of (suc k) n (x ∷ xs) h = by_order (order n x.0 h.low.0) (members_of k
   where
     above : Each (λ s. x.0 < s.0) xs
     above = each_above number x xs h.rising
+
     by_order : Order n x.0 → (AreFrom k (n + 1) xs → those (member xs) (sites_from k (n + 1)) ≡ xs) →
         (AreFrom k (n + 1) (x ∷ xs) → those (member (x ∷ xs)) (sites_from k (n + 1)) ≡ x ∷ xs) →
         those (member (x ∷ xs)) (sites_from (suc k) n) ≡ x ∷ xs
@@ -114,9 +115,19 @@ one : (n : ℕ) → 1 ≤ n → n ≤ 8 → IsSite (record { 0 = n })
 one n a b = record { first = a; last = b }
 
 eight : Each IsSite all_sites
-eight =
-    (one 1 (omega arith) (omega arith), (one 2 (omega arith) (omega arith), (one 3 (omega arith) (omega arith), (one 4 (omega arith) (omega arith),
-    (one 5 (omega arith) (omega arith), (one 6 (omega arith) (omega arith), (one 7 (omega arith) (omega arith), (one 8 (omega arith) (omega arith), tt))))))))
+eight = (
+  one 1 (omega arith) (omega arith),
+  (
+    one 2 (omega arith) (omega arith),
+    (
+      one 3 (omega arith) (omega arith),
+      (
+        one 4 (omega arith) (omega arith),
+        (one 5 (omega arith) (omega arith), (one 6 (omega arith) (omega arith), (one 7 (omega arith) (omega arith), (one 8 (omega arith) (omega arith), tt)))),
+      ),
+    ),
+  ),
+)
 
 pub sets_are_lists : (set : SiteSet) (sites : List SiteId) → IsRising (λ site. site.0) sites → Each IsSite sites →
     ((site : SiteId) → 1 ≤ site.0 → site.0 ≤ 8 → has_site set site ≡ some_of (λ other. same_site other site) sites) → sites_in set ≡ sites

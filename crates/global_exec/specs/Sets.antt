@@ -1,5 +1,5 @@
 -- Sets of sites as numbers of eight bits: bit s - 1 stands for site s.
-use Rattle.std.specs.Prelude.{ℕ, ◌≡◌, ◌==◌, ◌-◌, ◌≤◌, Bool, List}
+use Rattle.std.specs.Prelude.{◌≡◌, ◌==◌, ◌-◌, ◌≤◌, Bool, List}
 use Rattle.std.specs.Int.{bit_at}
 use Rattle.mdb_base.specs.declared.names.SiteId.{SiteId}
 use Rattle.mdb_base.specs.Names.{same_site}

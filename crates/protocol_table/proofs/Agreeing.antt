@@ -1,24 +1,22 @@
 -- What the table and the coordinator's past say alike.
-use Rattle.std.proofs.Common.{ℕ, ◌≡◌, Bool, true, false, cond, not, is_some, is_none, ◌&&◌, ◌||◌, Option, Some, None, List, [], ◌∷◌, map, refl, sym, ap, ◌∙◌, subst}
+use Rattle.std.proofs.Common.{◌≡◌, Bool, true, false, cond, not, is_some, is_none, ◌&&◌, ◌||◌, Option, Some, None, List, [], ◌∷◌, map, refl, ap, ◌∙◌}
 use Rattle.mdb_base.specs.declared.names.SiteId.{SiteId}
 use Rattle.mdb_base.specs.declared.names.Tid.{Tid}
 use Rattle.mdb_base.specs.Names.{same_site}
-use Rattle.mdb_base.specs.Words.{Each, some_of, each_of, found, holds_of, those, with_some}
+use Rattle.mdb_base.specs.Words.{Each, some_of, found, holds_of, those, with_some}
 use Rattle.presumptions.specs.declared.Decision.{Decision}
 use Rattle.presumptions.specs.declared.Participant.{Participant}
 use Rattle.presumptions.specs.declared.Protocol.{Protocol}
 use Rattle.presumptions.specs.Table.{acks}
-use Rattle.fed_rules.specs.CoordRecords.{acking, class_of, has_abort, has_initiation, is_nobody, named, required as required_past, required_of}
+use Rattle.fed_rules.specs.CoordRecords.{acking, class_of, has_abort, has_initiation, is_nobody, named, required_of}
 use Rattle.fed_rules.specs.CoordPast.{CoordPast, Standing, participants, records, has_acked, vote_at}
 use Rattle.fed_rules.specs.CoordPast.Standing.{Undecided, Decided, Gone}
 use Rattle.fed_rules.specs.Coord.{all_voted as all_voted_past, is_member, missing as missing_past, vote_ticket, vote_tickets}
 use Rattle.protocol_table.specs.declared.members.Member.{Member}
 use Rattle.protocol_table.specs.declared.known.Known.{Known}
-use Rattle.protocol_table.specs.declared.ends.Said.{Said}
-use Rattle.protocol_table.specs.declared.ends.Said.TheVariants as Say
 use Rattle.protocol_table.specs.Agreement.{IsDecidedAs, IsKnownAs, IsUndecidedAs, member_ticket, told, voter}
-use Rattle.protocol_table.specs.Attempts.{all_voted, has_voted, lacks_ack, missing, named as named_in, participant_of, required}
-use Rattle.protocol_table.specs.Ends.{ack_counts, is_missing, lacks_ack_of, said, said_of}
+use Rattle.protocol_table.specs.Attempts.{all_voted, lacks_ack, missing, participant_of}
+use Rattle.protocol_table.specs.Ends.{lacks_ack_of, said, said_of}
 use Rattle.protocol_table.specs.Pasts.{AcksAgreeAt, ClassAgreesAt, VotesAgreeAt}
 
 -- ---- inquiries
@@ -69,9 +67,9 @@ classes_agree protocols past tid known h =
     ap (map participant_of) h.members ∙ voters_are past tid (participants protocols past tid) in
     record {
       initiation =
-        lacks_step (map participant_of known.members) known.initiated (has_initiation (class_of (map participant_of known.members)))
-        ∙ (ap (λ qs. has_initiation (class_of (map participant_of known.members)) && is_none qs) h.named
-        ∙ ap (λ ps. has_initiation (class_of ps) && is_none (named protocols (records past) tid)) same);
+          lacks_step (map participant_of known.members) known.initiated (has_initiation (class_of (map participant_of known.members)))
+          ∙ (ap (λ qs. has_initiation (class_of (map participant_of known.members)) && is_none qs) h.named
+          ∙ ap (λ ps. has_initiation (class_of ps) && is_none (named protocols (records past) tid)) same);
       abort = ap (λ ps. has_abort (class_of ps)) same;
     }
 
@@ -149,6 +147,6 @@ acks_agree protocols past tid decision known h =
           ap (holds_of (λ d. some_of (lacks_ack_of site d known.initiated) known.members)) h.decided
           ∙ (some_of_those site (lacks_ack decision known.initiated) known.members ∙ ap (is_member site) left);
       left =
-        ap (holds_of (λ d. some_of (lacks_ack d known.initiated) known.members)) h.decided
-        ∙ (nobody_left (lacks_ack decision known.initiated) known.members ∙ ap (λ ps. not (is_nobody ps)) left);
+          ap (holds_of (λ d. some_of (lacks_ack d known.initiated) known.members)) h.decided
+          ∙ (nobody_left (lacks_ack decision known.initiated) known.members ∙ ap (λ ps. not (is_nobody ps)) left);
     }

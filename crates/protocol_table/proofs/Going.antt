@@ -1,5 +1,5 @@
 -- What a line of the coordinator makes of a known attempt.
-use Rattle.std.proofs.Common.{ℕ, ◌≡◌, Bool, true, false, cond, not, ◌&&◌, ◌||◌, Option, Some, None, List, [], ◌∷◌, map, refl, sym, ap, ◌∙◌, subst, arith}
+use Rattle.std.proofs.Common.{ℕ, ◌≡◌, Bool, true, false, cond, ◌&&◌, ◌||◌, Some, None, List, [], ◌∷◌, map, refl, sym, ap, ◌∙◌, subst, arith}
 use Rattle.mdb_base.specs.declared.names.SiteId.{SiteId}
 use Rattle.mdb_base.specs.declared.names.Tid.{Tid}
 use Rattle.mdb_base.specs.Names.{same_site, same_tid}
@@ -10,12 +10,12 @@ use Rattle.fed_rules.specs.declared.events.CoordEvent.TheVariants as Ev
 use Rattle.fed_rules.specs.declared.messages.FromSite.TheVariants as From
 use Rattle.fed_rules.specs.Happenings.{stops, comes_up}
 use Rattle.fed_rules.specs.CoordRecords.{named}
-use Rattle.fed_rules.specs.CoordPast.{CoordHappening, CoordPast, begins, counts, decides, is_about, participants, program, records, has_acked, vote_at, vote_in, or_vote, acks_in}
+use Rattle.fed_rules.specs.CoordPast.{CoordHappening, CoordPast, begins, counts, decides, is_about, participants, records, has_acked, vote_at, vote_in, or_vote, acks_in}
 use Rattle.protocol_table.specs.declared.members.Member.{Member}
 use Rattle.protocol_table.specs.declared.known.Known.{Known}
 use Rattle.protocol_table.specs.declared.known.Restored.{Restored}
 use Rattle.protocol_table.specs.Agreement.{IsDecidedAs, IsNamedAs, IsUndecidedAs, voter}
-use Rattle.protocol_table.specs.Attempts.{decision_of, member_of, named as named_in, participant_of, restored, submitted, with_ack, with_vote}
+use Rattle.protocol_table.specs.Attempts.{decision_of, member_of, participant_of, restored, submitted, with_ack, with_vote}
 use Rattle.protocol_table.specs.Ends.{acked, decide, initiate, voted}
 use Rattle.protocol_table.specs.Pasts.{GoesOn, NamesAsBefore, VotesAsBefore}
 
@@ -103,9 +103,9 @@ votes_go protocols past tid known h site ticket x event old new names =
       name = h.name;
       undecided = h.undecided;
       members =
-        ap (map (with_vote site ticket)) h.members
-        ∙ (new_votes past tid x site ticket event old new (participants protocols past tid)
-        ∙ ap (map (voter (x ∷ past) tid)) (sym (same_participants protocols past tid x old)));
+          ap (map (with_vote site ticket)) h.members
+          ∙ (new_votes past tid x site ticket event old new (participants protocols past tid)
+          ∙ ap (map (voter (x ∷ past) tid)) (sym (same_participants protocols past tid x old)));
       named = ap (λ ps. cond known.initiated (Some ps) None) (with_votes_are site ticket known.members) ∙ (h.named ∙ sym names);
     }
 
@@ -180,7 +180,7 @@ decisions_go protocols past tid known h decision true x about new names =
       name = h.name;
       decided = refl;
       acks = none_acked (x ∷ past) tid known.members (decided_anew past tid x about new)
-        (subst (Each (λ m. m.acked ≡ false)) (sym h.members) (voters_silent past tid (participants protocols past tid)));
+          (subst (Each (λ m. m.acked ≡ false)) (sym h.members) (voters_silent past tid (participants protocols past tid)));
       named = names;
     }
 decisions_go protocols past tid known h decision false x about new names =
@@ -188,7 +188,7 @@ decisions_go protocols past tid known h decision false x about new names =
       name = h.name;
       decided = refl;
       acks = none_acked (x ∷ past) tid known.members (decided_anew past tid x about new)
-        (subst (Each (λ m. m.acked ≡ false)) (sym h.members) (voters_silent past tid (participants protocols past tid)));
+          (subst (Each (λ m. m.acked ≡ false)) (sym h.members) (voters_silent past tid (participants protocols past tid)));
       named = names;
     }
 
@@ -212,22 +212,27 @@ one_ack past tid x site event on still new m h = by_site (same_site m.site site)
     and_true : (b : Bool) → (b && true) ≡ b
     and_true true = refl
     and_true false = refl
+
     goes : (b d e f : Bool) → (b || d) ≡ false → e ≡ false → cond (b || d || e) false f ≡ f
     goes true d e f p q = cc
     goes false true e f p q = cc
     goes false false true f p q = cc
     goes false false false f p q = refl
+
     no_decision : (b d : Bool) → d ≡ false → (b && d) ≡ false
     no_decision true d e = e
     no_decision false d e = refl
+
     off : has_acked (x ∷ past) tid m.site ≡ (acks_in tid m.site x || has_acked past tid m.site)
     off = goes (stops x.answer) (comes_up x.answer) (is_about tid x.event && decides x.answer) (acks_in tid m.site x || has_acked past tid m.site) on.stays
         (no_decision (is_about tid x.event) (decides x.answer) still)
+
     acks : acks_in tid m.site x ≡ same_site m.site site
     acks =
         ap (λ e. acks_in tid m.site (record x { event = e })) event
         ∙ (ap (λ b. (b && same_site site m.site) && counts x.answer) (same_tid_self tid)
         ∙ (ap (λ b. same_site site m.site && b) new ∙ (and_true (same_site site m.site) ∙ same_site_turned site m.site)))
+
     by_site : (b : Bool) → has_acked (x ∷ past) tid m.site ≡ (b || has_acked past tid m.site) →
         (cond b (record m { acked = true }) m).acked ≡ has_acked (x ∷ past) tid (cond b (record m { acked = true }) m).site
     by_site true e = sym e

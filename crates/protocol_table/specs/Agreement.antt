@@ -1,5 +1,5 @@
 -- When an attempt of the table is what the coordinator's past says of it.
-use Rattle.std.specs.Prelude.{ℕ, ◌≡◌, false, Option, Some, None, List, map}
+use Rattle.std.specs.Prelude.{◌≡◌, false, Option, Some, None, List, map}
 use Rattle.mdb_base.specs.declared.names.SiteTicket.{SiteTicket}
 use Rattle.mdb_base.specs.declared.names.Tid.{Tid}
 use Rattle.mdb_base.specs.Words.{Each}

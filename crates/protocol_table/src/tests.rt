@@ -152,7 +152,9 @@ fn classes_have_their_records(rt: HostRuntime) -> Result<(), Fail> {
     assert!(rt; !initiated.at(0).lacks_initiation());
     let mut table = ProtocolTable::new(alloc)?;
     table.submit(alloc, FIRST, &Participants::of(vec![in alloc; NOTHING]?))?;
-    assert!(rt; matches!(table.known(FIRST), Some(known) if known.has_abort() && !known.lacks_initiation()));
+    assert!(rt;
+        matches!(table.known(FIRST), Some(known) if known.has_abort() && !known.lacks_initiation())
+    );
     assert!(rt; table.known(SECOND).is_none());
     Ok(())
 }

@@ -1,7 +1,6 @@
-use Rattle.std.proofs.Common.{◌≡◌, ℕ, Bool, Option, Some, None, List, sym, ap, ◌∙◌}
+use Rattle.std.proofs.Common.{◌≡◌, ℕ, Option, Some, None, List, sym, ap, ◌∙◌}
 use Rattle.mdb_base.specs.Words.{holds_of}
 use Rattle.fed_rules.specs.Coord.{is_due_vote}
-use Rattle.fed_rules.specs.declared.messages.Due.{Due}
 use Rattle.global_exec.specs.declared.progress.Progress.{Progress}
 use Rattle.global_exec.specs.Due.{due}
 use Rattle.global_exec.specs.Firsts.{place_where}

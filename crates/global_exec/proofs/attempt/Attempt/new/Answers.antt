@@ -1,4 +1,4 @@
-use Rattle.std.proofs.Common.{◌≤◌, length, arith}
+use Rattle.std.proofs.Common.{arith}
 use Rattle.global_exec.proofs.Lives.{live_submitted}
 use Rattle.global_exec.proofs.attempt.Attempt.new.Goals as goal
 

@@ -1,13 +1,10 @@
-use Rattle.std.proofs.Common.{◌≡◌, ◌≤◌, ℕ, ◌+◌, ◌++◌, List, length, take, sym, ap, subst, ◌∙◌, arith}
+use Rattle.std.proofs.Common.{◌≡◌, ℕ, ◌+◌, ◌++◌, List, length, take, sym, ap, subst, ◌∙◌}
 use Rattle.mdb_base.specs.Programs.{reads_of}
 use Rattle.mdb_base.specs.Rising.{IsRising}
-use Rattle.mdb_base.specs.Words.{Each, found}
-use Rattle.fed_rules.specs.declared.messages.Due.{Due}
-use Rattle.global_exec.specs.declared.progress.Progress.{Progress}
-use Rattle.global_exec.specs.Counted.{HasRoom, advanced, answered, counts, news, news_in, steps_of, value_of}
+use Rattle.global_exec.specs.Counted.{advanced, answered, counts, value_of}
 use Rattle.global_exec.specs.Firsts.{replaced}
 use Rattle.global_exec.specs.Live.{IsLive, Live, is_at, site_number}
-use Rattle.global_exec.proofs.Lives.{live_advanced, rooms}
+use Rattle.global_exec.proofs.Lives.{live_advanced}
 use Rattle.global_exec.proofs.attempt.Attempt.news.Goals as goal
 
 pub news-requires-clause-read : goal.news-requires-clause-read

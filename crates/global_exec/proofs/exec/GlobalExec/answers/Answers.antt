@@ -1,4 +1,4 @@
-use Rattle.std.proofs.Common.{◌≡◌, Option, Some, None, List, [], sym, ap, subst, ◌∙◌}
+use Rattle.std.proofs.Common.{◌≡◌, Option, sym, ap, subst, ◌∙◌}
 use Rattle.mdb_base.specs.Words.{map_some, or_else}
 use Rattle.std.proofs.Common.{IfOk}
 use Rattle.global_exec.specs.declared.ends.DidEnd.{DidEnd}

@@ -1,4 +1,4 @@
-use Rattle.std.proofs.Common.{◌≡◌, Option, Some, None, sym, ap, ◌∙◌}
+use Rattle.std.proofs.Common.{sym, ap, ◌∙◌}
 use Rattle.mdb_base.specs.Words.{holds_of}
 use Rattle.global_exec.specs.Firsts.{place_where}
 use Rattle.global_exec.specs.Live.{is_of, live_of}

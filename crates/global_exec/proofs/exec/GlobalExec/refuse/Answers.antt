@@ -1,9 +1,8 @@
-use Rattle.std.proofs.Common.{◌≡◌, Option, Some, None, List, [], sym, ap, subst, ◌∙◌}
-use Rattle.mdb_base.specs.Words.{map_some, or_else}
-use Rattle.global_exec.specs.Live.{AreApart, Live, is_of, live_of}
-use Rattle.global_exec.specs.Firsts.{place_where, replaced, taken_out}
+use Rattle.std.proofs.Common.{List, sym, ap, subst, ◌∙◌}
+use Rattle.global_exec.specs.Live.{AreApart, Live, is_of}
+use Rattle.global_exec.specs.Firsts.{place_where, taken_out}
 use Rattle.global_exec.proofs.Apart.{apart_out, tids_of}
-use Rattle.global_exec.proofs.Firsts.{first-read, missing, set-replaced, stands}
+use Rattle.global_exec.proofs.Firsts.{missing, stands}
 use Rattle.global_exec.proofs.exec.GlobalExec.refuse.Goals as goal
 
 pub returns-in-None : goal.returns-in-None

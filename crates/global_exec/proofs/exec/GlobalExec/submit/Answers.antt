@@ -1,4 +1,4 @@
-use Rattle.std.proofs.Common.{◌≡◌, Option, None, List, sym, ap, subst, ◌∙◌}
+use Rattle.std.proofs.Common.{◌≡◌, None, List, sym, ap, subst, ◌∙◌}
 use Rattle.global_exec.specs.Live.{AreApart, Live, live_of}
 use Rattle.global_exec.proofs.Apart.{apart_push, tids_of}
 use Rattle.global_exec.proofs.exec.GlobalExec.submit.Goals as goal

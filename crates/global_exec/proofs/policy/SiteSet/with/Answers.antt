@@ -1,4 +1,4 @@
-use Rattle.std.proofs.Common.{◌≤◌, arith}
+use Rattle.std.proofs.Common.{arith}
 use Rattle.global_exec.proofs.SetBits.{with_site}
 use Rattle.global_exec.proofs.policy.SiteSet.with.Goals as goal
 
