@@ -1,19 +1,14 @@
 -- What the table has outstanding for an attempt is what the coordinator's past says.
-use Rattle.std.proofs.Common.{◌≡◌, ℕ, Bool, true, false, cond, is_some, is_none, Option, Some, None, List, [], ◌∷◌, map, drop, refl, sym, ap, subst, ◌∙◌}
+use Rattle.std.proofs.Common.{◌≡◌, ℕ, Bool, true, false, cond, is_some, is_none, Option, Some, None, List, [], ◌∷◌, map, refl, sym, ap, ◌∙◌}
 use Rattle.mdb_base.specs.declared.acts.Step.{Step}
-use Rattle.mdb_base.specs.declared.names.SiteId.{SiteId}
 use Rattle.mdb_base.specs.declared.names.Tid.{Tid}
-use Rattle.mdb_base.specs.declared.program.Next.{Next}
-use Rattle.mdb_base.specs.Names.{same_site}
-use Rattle.mdb_base.specs.Programs.{plain_act}
-use Rattle.mdb_base.specs.Words.{found, those, with_some, item_at}
+use Rattle.mdb_base.specs.Words.{found, with_some}
 use Rattle.presumptions.specs.declared.Participant.{Participant}
 use Rattle.fed_rules.specs.declared.messages.Due.{Due}
 use Rattle.fed_rules.specs.declared.messages.Due.TheVariants as Due_is
 use Rattle.fed_rules.specs.Coord.{all_outstanding}
 use Rattle.fed_rules.specs.CoordPast.{CoordPast, participants_of, visits, outstanding, outstanding_at, next_step, work_at, prepare_at, take_at, epoch_at, count_at, has_ticket_at, has_step_left, vote_at}
 use Rattle.fed_rules.specs.CoordPast as past_words
-use Rattle.global_exec.specs.declared.progress.Progress.{Progress}
 use Rattle.global_exec.specs.Agreement.{IsOfPast, progress_in}
 use Rattle.global_exec.specs.Due.{due, work, prepare, take as take_due}
 use Rattle.global_exec.specs.Live.{Live, all_due, due_in}

@@ -1,5 +1,7 @@
 -- The first item that a test holds of: where it stands, and what a write or a removal there comes to.
-use Rattle.std.proofs.Common.{◌≡◌, ℕ, zero, suc, ◌<◌, Bool, true, false, cond, Option, Some, None, List, [], ◌∷◌, length, get_or, slice_set, take, refl, sym, ap, subst, ◌∙◌, ◌+◌, ◌++◌, ◌≤◌, arith, add-one}
+use Rattle.std.proofs.Common.{◌≡◌, ℕ, zero, suc, ◌<◌, Bool, true, false, cond, Option, Some, None, List, [], ◌∷◌, length, get_or, slice_set, take, refl, sym, ap, subst, ◌∙◌, ◌+◌, ◌++◌, arith, add-one, map}
+use Rattle.std.specs.Prelude.{reverse}
+use Rattle.std.proofs.lemmas.List.{map-append, reverse-append}
 use Rattle.std.specs.List.{remove}
 use Rattle.mdb_base.specs.Words.{Each, first_where, map_some}
 use Rattle.global_exec.specs.Firsts.{place_where, replaced, taken_out}
@@ -126,3 +128,18 @@ set-replaced test xs i change x new s read made = ap (slice_set xs i) (made ∙ 
 -- what is read there
 pub first-read : {A : Type 0} (test : A → Bool) (xs : List A) (i : ℕ) (x : A) → Stands test xs i → x ≡ get_or xs i x → first_where test xs ≡ Some x
 first-read test xs i x s read = s.first x ∙ ap (λ y. Some y) (sym read)
+
+-- the last of some items and one more
+pub last_more : {A B : Type 0} (test : B → Bool) (f : A → B) (xs : List A) (i : ℕ) (d : A) → i < length xs
+    → first_where test (reverse (map f (take (i + 1) xs))) ≡ cond (test (f (get_or xs i d))) (Some (f (get_or xs i d))) (first_where test (reverse (map f (take i xs))))
+last_more test f xs i d lt =
+    ap (λ (ys : List _). first_where test (reverse (map f ys))) (more xs i lt)
+    ∙ ap (λ (ys : List _). first_where test (reverse ys)) (map-append f (take i xs) (get_or xs i d ∷ []))
+    ∙ ap (first_where test) (reverse-append (map f (take i xs)) (f (get_or xs i d) ∷ []))
+  where
+    more : (ys : List _) (j : ℕ) → j < length ys → take (j + 1) ys ≡ take j ys ++ get_or ys j d ∷ []
+    more ys j l = ap (λ (m : ℕ). take m ys) (add-one j) ∙ inner ys j l where
+      inner : (zs : List _) (k : ℕ) → k < length zs → take (suc k) zs ≡ take k zs ++ get_or zs k d ∷ []
+      inner [] k m = absurd (omega arith)
+      inner (z ∷ zs) zero m = ap (λ ws. z ∷ ws) (take_none zs)
+      inner (z ∷ zs) (suc k) m = ap (λ ws. z ∷ ws) (inner zs k (omega arith))

@@ -1,8 +1,14 @@
 pub mod Agrees
+pub mod Apart
 pub mod DueSites
 pub mod Finds
 pub mod Firsts
 pub mod Rises
+pub mod SetBits
+pub mod SetLists
 pub mod Steps
 pub mod Lives
 pub mod Words
+pub mod ExecPasts
+pub mod CountPasts
+pub mod NewsPasts

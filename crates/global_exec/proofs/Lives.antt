@@ -1,20 +1,21 @@
 -- What is true of each attempt stays true.
-use Rattle.std.proofs.Common.{◌≡◌, ℕ, suc, ◌+◌, ◌<◌, ◌≤◌, ◌⊎◌, Bool, true, false, cond, ◌&&◌, ◌||◌, Option, Some, None, List, [], ◌∷◌, ◌++◌, length, take, IsTrue, refl, sym, ap, ◌∙◌, subst, inl, inr, arith, add-one, length-append}
+use Rattle.std.proofs.Common.{◌≡◌, ℕ, suc, ◌+◌, ◌<◌, ◌≤◌, ◌⊎◌, Bool, true, false, cond, ◌||◌, Option, Some, None, List, [], ◌∷◌, ◌++◌, length, take, refl, sym, ap, ◌∙◌, subst, inl, inr, arith, add-one, length-append}
 use Rattle.std.proofs.lemmas.Bool.{and_parts, false≢true}
 use Rattle.mdb_base.specs.declared.acts.Step.{Step}
 use Rattle.mdb_base.specs.declared.names.SiteId.{SiteId}
 use Rattle.mdb_base.specs.declared.names.Tid.{Tid}
 use Rattle.mdb_base.specs.declared.replies.Reply.{Reply}
 use Rattle.mdb_base.specs.declared.replies.Reply.TheVariants as Reply_is
-use Rattle.mdb_base.specs.Programs.{IsProgram, is_get, most_steps, reads_of}
-use Rattle.mdb_base.specs.Words.{Each, first_where, found, holds_of, with_some}
+use Rattle.mdb_base.specs.Programs.{IsProgram, is_get, reads_of}
+use Rattle.mdb_base.specs.Words.{Each, first_where, found, holds_of, how_many, with_some}
+use Rattle.std.proofs.lemmas.List.{length-take}
 use Rattle.mdb_base.proofs.ListLaws.{each_map}
-use Rattle.fed_rules.specs.CoordPast.{visits, is_ticket}
+use Rattle.fed_rules.specs.CoordPast.{visits}
 use Rattle.global_exec.specs.declared.progress.Progress.{Progress}
 use Rattle.global_exec.specs.Counted.{HasRoom, advanced, answered, counts, counts_at, is_answer, knows, steps_of, value_of, waited, with_epoch}
-use Rattle.global_exec.specs.Due.{due, fresh}
+use Rattle.global_exec.specs.Due.{fresh}
 use Rattle.global_exec.specs.Firsts.{replaced}
-use Rattle.global_exec.specs.Live.{IsLive, Live, all_sites, due_in, fresh_at, is_at, most, progress_at, site_number, submitted, voted, with_vote}
+use Rattle.global_exec.specs.Live.{IsLive, Live, all_sites, fresh_at, is_at, most, progress_at, site_number, submitted, voted, with_vote}
 use Rattle.global_exec.proofs.Rises.{found_rises, rising_replaced}
 use Rattle.global_exec.proofs.Steps.{FitsStep, FitsTake, due_fits, value_of_get, done_of_write, no_ticket_of_act, more_within, how_many-more}
 
@@ -182,3 +183,27 @@ live_submitted tid program is = record {
     no_reads : (steps : List Step) → 0 ≡ reads_of (take 0 steps)
     no_reads [] = refl
     no_reads (s ∷ ss) = refl
+
+-- ---- room for what is read
+
+how_many_at_most : {A : Type 0} (test : A → Bool) (xs : List A) → how_many test xs ≤ length xs
+how_many_at_most test [] = omega arith
+how_many_at_most test (x ∷ xs) = by_test (test x) (how_many_at_most test xs)
+  where
+    by_test : (b : Bool) → how_many test xs ≤ length xs → cond b (suc (how_many test xs)) (how_many test xs) ≤ suc (length xs)
+    by_test true h = omega arith
+    by_test false h = omega arith
+
+take_at_most : {A : Type 0} (n : ℕ) (xs : List A) → length (take n xs) ≤ length xs
+take_at_most n xs = rw (length-take n xs) (omega arith)
+
+-- what is read fits into as much room as the program is long
+pub reads_fit : (site : SiteId) (epoch n : ℕ) (reply : Reply) (live : Live) → counts site epoch n reply live ≡ true → is_answer reply ≡ true → IsLive live →
+    length live.reads + length (value_of reply) ≤ length live.program
+reads_fit site epoch n reply live c a l =
+    let after = live_advanced site epoch n reply live c a l in
+    let whole : length (live.reads ++ value_of reply) ≡ length live.reads + length (value_of reply) = length-append live.reads (value_of reply) in
+    let read : length (live.reads ++ value_of reply) ≡ reads_of (take (live.done + steps_of reply) live.program) = after.reads in
+    let few : reads_of (take (live.done + steps_of reply) live.program) ≤ length (take (live.done + steps_of reply) live.program) = how_many_at_most (λ (step : Step). is_get step.act) (take (live.done + steps_of reply) live.program) in
+    let short = take_at_most (live.done + steps_of reply) live.program in
+    omega arith

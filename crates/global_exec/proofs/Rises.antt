@@ -1,5 +1,5 @@
 -- Rising lists: they rise by their numbers alone, and what a look-up finds in one rises with it.
-use Rattle.std.proofs.Common.{◌≡◌, ℕ, ◌<◌, Bool, true, false, cond, Option, Some, None, List, [], ◌∷◌, map, refl, sym, ap, subst, ◌∙◌, arith}
+use Rattle.std.proofs.Common.{◌≡◌, ℕ, ◌<◌, Bool, true, false, cond, Option, Some, None, List, [], ◌∷◌, map, refl, sym, ap, subst, arith}
 use Rattle.mdb_base.specs.Rising.{IsRising}
 use Rattle.mdb_base.specs.Words.{Each, found, with_some}
 use Rattle.mdb_base.proofs.ListLaws.{each_map}
@@ -34,12 +34,12 @@ abbrev Above : {B : Type 0} → (B → ℕ) → ℕ → List B → Type 0
 Above key n [] = Unit {0}
 Above key n (y ∷ ys) = n < key y
 
-each_above : {A : Type 0} (number : A → ℕ) (x : A) (xs : List A) → IsRising number (x ∷ xs) → Each (λ y. number x < number y) xs
+pub each_above : {A : Type 0} (number : A → ℕ) (x : A) (xs : List A) → IsRising number (x ∷ xs) → Each (λ y. number x < number y) xs
 each_above number x [] h = tt
 each_above number x (y ∷ ys) h =
     (h.0, each_map (λ z. number y < number z) (λ z. number x < number z) (λ z less. omega (arith, h.0)) ys (each_above number y ys h.1))
 
-tail_rises : {A : Type 0} (number : A → ℕ) (x : A) (xs : List A) → IsRising number (x ∷ xs) → IsRising number xs
+pub tail_rises : {A : Type 0} (number : A → ℕ) (x : A) (xs : List A) → IsRising number (x ∷ xs) → IsRising number xs
 tail_rises number x [] h = tt
 tail_rises number x (y ∷ ys) h = h.1
 

@@ -1,5 +1,5 @@
 -- What a reply that counts says of the operation that is outstanding.
-use Rattle.std.proofs.Common.{◌≡◌, ℕ, zero, suc, ◌+◌, ◌<◌, ◌==◌, ◌⊎◌, Bool, true, false, cond, ◌&&◌, Option, Some, None, List, [], ◌∷◌, ◌++◌, length, take, drop, refl, sym, ap, ◌∙◌, inl, inr, arith, add-one}
+use Rattle.std.proofs.Common.{◌≡◌, ℕ, zero, suc, ◌+◌, ◌<◌, ◌==◌, ◌⊎◌, Bool, true, false, cond, Option, Some, None, List, [], ◌∷◌, length, take, drop, refl, sym, ap, ◌∙◌, inl, inr, arith}
 use Rattle.std.proofs.lemmas.Bool.{and_parts, false≢true}
 use Rattle.mdb_base.specs.declared.acts.Act.{Act}
 use Rattle.mdb_base.specs.declared.acts.Act.TheVariants.{Get, Set, Add}
@@ -10,7 +10,6 @@ use Rattle.mdb_base.specs.declared.replies.Reply.TheVariants as Reply_is
 use Rattle.mdb_base.specs.Names.{same_site}
 use Rattle.mdb_base.specs.Programs.{is_get, next_of, plain_act}
 use Rattle.mdb_base.specs.Words.{pick, how_many, item_at}
-use Rattle.fed_rules.specs.declared.messages.Due.{Due}
 use Rattle.fed_rules.specs.declared.messages.Due.TheVariants as Due_is
 use Rattle.fed_rules.specs.Coord.{fits, fits_act, fits_take}
 use Rattle.fed_rules.specs.CoordPast.{visits}

@@ -1,5 +1,5 @@
 -- Which replies count, and what a reply that counts leads to.
-use Rattle.std.specs.Prelude.{ℕ, suc, ◌+◌, ◌<◌, ◌==◌, Bool, true, false, cond, ◌&&◌, ◌||◌, Option, Some, None, List, [], ◌∷◌, ◌++◌}
+use Rattle.std.specs.Prelude.{ℕ, ◌+◌, ◌<◌, ◌==◌, Bool, true, false, cond, ◌&&◌, ◌||◌, Option, None, List, [], ◌∷◌, ◌++◌}
 use Rattle.mdb_base.specs.declared.acts.Step.{Step}
 use Rattle.mdb_base.specs.declared.names.SiteId.{SiteId}
 use Rattle.mdb_base.specs.declared.replies.Reply.{Reply}
@@ -12,7 +12,7 @@ use Rattle.fed_rules.specs.CoordPast.{is_ticket}
 use Rattle.global_exec.specs.declared.progress.Progress.{Progress}
 use Rattle.global_exec.specs.declared.ends.DidEnd.{DidEnd}
 use Rattle.global_exec.specs.declared.ends.DidEnd.TheVariants as Did
-use Rattle.global_exec.specs.Due.{is_idle}
+use Rattle.global_exec.specs.Due.{due, is_idle}
 use Rattle.global_exec.specs.Firsts.{replaced}
 use Rattle.global_exec.specs.Live.{Live, due_in, is_at, progress_at}
 
@@ -69,6 +69,10 @@ advanced site epoch reply live = record live {
 -- whether what is outstanding became so: at this site, or where nothing was
 abbrev pub is_news : SiteId → List Step → ℕ → Progress → Bool
 is_news site program before progress = same_site progress.site site || is_idle program before progress
+
+-- what became outstanding at a participant, once so many steps of the program gave these reads
+abbrev pub news_in : List Step → ℕ → List ℕ → SiteId → ℕ → Progress → Option Due
+news_in program done reads site before progress = cond (is_news site program before progress) (due program done reads progress) None
 
 -- what became outstanding: at this site what is outstanding now, elsewhere what is outstanding where nothing was
 abbrev pub news_at : SiteId → ℕ → Live → Progress → Option Due

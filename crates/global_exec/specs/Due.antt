@@ -1,5 +1,5 @@
 -- What is outstanding at a participant of an undecided attempt.
-use Rattle.std.specs.Prelude.{ℕ, Bool, true, false, cond, not, ◌&&◌, Option, Some, None, List, [], ◌∷◌, drop}
+use Rattle.std.specs.Prelude.{ℕ, Bool, false, cond, not, ◌&&◌, Option, Some, None, List, drop}
 use Rattle.mdb_base.specs.declared.acts.Step.{Step}
 use Rattle.mdb_base.specs.declared.names.SiteId.{SiteId}
 use Rattle.mdb_base.specs.declared.program.Next.{Next}

@@ -3,3 +3,5 @@ pub mod Counted
 pub mod Due
 pub mod Firsts
 pub mod Live
+pub mod Pasts
+pub mod Sets

@@ -6,8 +6,9 @@ use Rattle.mdb_base.specs.declared.names.Tid.{Tid}
 use Rattle.mdb_base.specs.Names.{same_site, same_tid}
 use Rattle.mdb_base.specs.Programs.{IsProgram, reads_of}
 use Rattle.mdb_base.specs.Rising.{IsRising}
-use Rattle.mdb_base.specs.Words.{Each, first_where, found}
+use Rattle.mdb_base.specs.Words.{Each, first_where, found, holds_of}
 use Rattle.fed_rules.specs.declared.messages.Due.{Due}
+use Rattle.fed_rules.specs.Coord.{is_due_vote}
 use Rattle.fed_rules.specs.CoordPast.{visits}
 use Rattle.global_exec.specs.declared.progress.Progress.{Progress}
 use Rattle.global_exec.specs.Due.{due, fresh}
@@ -54,6 +55,10 @@ progress_at site live = first_where (is_at site) live.sites
 abbrev pub due_in : Live → Progress → Option Due
 due_in live progress = due live.program live.done live.reads progress
 
+-- whether a Prepare is outstanding at the site
+abbrev pub awaits_vote : SiteId → Live → Bool
+awaits_vote site live = holds_of (λ progress. is_due_vote (due_in live progress)) (progress_at site live)
+
 -- all that is outstanding, by rising site
 abbrev pub all_due : Live → List Due
 all_due live = found (due_in live) live.sites
@@ -79,3 +84,8 @@ pub record IsLive (live : Live) : Type 0 where
   pub reads : length live.reads ≡ reads_of (take live.done live.program)
   pub rising : IsRising site_number live.sites
   pub few : Each (λ progress. progress.n ≤ most live.done progress) live.sites
+
+-- no two of these attempts have one name
+abbrev pub AreApart : List Tid → Type 0
+AreApart [] = Unit {0}
+AreApart (tid ∷ tids) = Each (λ other. same_tid tid other ≡ false) tids × AreApart tids

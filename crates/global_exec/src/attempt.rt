@@ -1,15 +1,19 @@
 //! An undecided attempt.
 ghost use Rattle.std.specs.Prelude.{◌≡◌, ◌<◌, ◌≤◌, ◌++◌, [], length, IsTrue, IfOk, IfSome, OnOk, OnErr, vec_len, ◌+◌, option_to_list};
 ghost use Rattle.std.specs.Vec.{vec_capacity};
-ghost use Rattle.mdb_base.specs.Words.{Each, found};
+ghost use Rattle.mdb_base.specs.declared.names.SiteId.{SiteId as TheSite};
+ghost use Rattle.mdb_base.specs.Words.{Each, found, some_of};
+ghost use Rattle.global_exec.specs.Sets.{has_site};
 ghost use Rattle.global_exec.specs.Counted as counted;
 ghost use Rattle.global_exec.specs.Firsts.{place_where, replaced};
 ghost use Rattle.global_exec.specs.Live as spec;
 ghost use Rattle.global_exec.specs.declared.ends.DidEnd.TheVariants as Did;
 
 use crate::ends::DidEnd;
-use crate::progress::{Progress, fits, steps_of, visits};
-use fed_rules::{Due, Dues};
+use crate::news::{news, put_some};
+use crate::policy::SiteSet;
+use crate::progress::{Progress, fits, is_due_vote, steps_of, visits};
+use fed_rules::Dues;
 use mdb_base::{Memory, Program, Reply, SiteId, Step, Tid};
 use std::alloc::Global;
 use std::marker::Model;
@@ -37,13 +41,15 @@ pub struct Attempt {
 }
 
 impl Model for Attempt {
+    ghost use Rattle.std.specs.Prelude.{◌≤◌, length};
+    ghost use Rattle.std.specs.Vec.{vec_capacity};
     ghost use Rattle.global_exec.specs.Live.{IsLive, Live};
 
     ghost Value = { Live };
 
     ghost view = { λ a. record { tid = a.tid; program = a.program; reads = a.reads.items; done = a.done; sites = a.sites.items } };
 
-    ghost invariant = { λ a. IsLive (record { tid = a.tid; program = a.program; reads = a.reads.items; done = a.done; sites = a.sites.items }) };
+    ghost invariant = { λ a. IsLive (record { tid = a.tid; program = a.program; reads = a.reads.items; done = a.done; sites = a.sites.items }) × (length a.program ≤ vec_capacity a.reads) };
 }
 
 /// The participants of a program, by rising site, before their first replies.
@@ -107,39 +113,42 @@ fn answer_at(sites: &mut [Progress], site: SiteId, epoch: u32, reply: Reply)
     sites[place] = sites[place].answered(epoch, reply);
 }
 
-/// Whether what is outstanding at a participant became so by an answer of the site: it is at this site, or nothing was outstanding.
-fn is_news(progress: &Progress, steps: &[Step], site: SiteId, before: usize) -> bool
-    requires { before ≤ length steps.now }
-    ensures { result ≡ counted.is_news site steps.now before progress.now }
-{
-    if progress.site == site {
-        return true;
-    }
-    progress.is_idle(steps, before)
-}
-
-/// Adds what is outstanding, if it is something, where there is room.
-fn put_some(dues: &mut Vec<Due>, due: Option<Due>)
-    requires { vec_len dues.old < vec_capacity dues.old }
-    ensures items { dues.new.items ≡ dues.old.items ++ option_to_list due }
-    ensures count { vec_len dues.new ≤ vec_len dues.old + 1 }
-    ensures room { vec_capacity dues.new ≡ vec_capacity dues.old }
-{
-    match due {
-        Some(due) => dues.push_reserved(due),
-        None => {}
-    }
-}
-
-/// Adds the value that was read.
-fn put_value(reads: &mut Vec<u64>, reply: Reply) -> Result<(), Memory>
-    ensures ok { OnOk result (reads.new.items ≡ reads.old.items ++ counted.value_of reply) }
-    ensures err { OnErr result (reads.new.items ≡ reads.old.items) }
+/// Adds the value that was read, where there is room.
+fn put_value(reads: &mut Vec<u64>, reply: Reply)
+    requires { vec_len reads.old + length (counted.value_of reply) ≤ vec_capacity reads.old }
+    ensures items { reads.new.items ≡ reads.old.items ++ counted.value_of reply }
+    ensures room { vec_capacity reads.new ≡ vec_capacity reads.old }
 {
     if let Reply::Value(value) = reply {
-        reads.push(value)?;
+        reads.push_reserved(value);
     }
-    Ok(())
+}
+
+/// The values with the one that was read.
+fn with_value(alloc: Global, reads: &[u64], reply: Reply) -> Result<Vec<u64>, Memory>
+    ensures { IfOk result (λ all. all.items ≡ reads.now ++ counted.value_of reply) }
+{
+    let mut all = Vec::from_slice(alloc, reads)?;
+    if let Reply::Value(value) = reply {
+        all.push(value)?;
+    }
+    Ok(all)
+}
+
+/// The participants with one more reply of the site, with this epoch.
+fn with_answer(
+    alloc: Global,
+    sites: &[Progress],
+    site: SiteId,
+    epoch: u32,
+    reply: Reply,
+) -> Result<Vec<Progress>, Memory>
+    requires { Each counted.HasRoom sites.now }
+    ensures { IfOk result (λ all. all.items ≡ replaced (spec.is_at site) (counted.answered epoch reply) sites.now) }
+{
+    let mut all = Vec::from_slice(alloc, sites)?;
+    answer_at(all.as_mut_slice(), site, epoch, reply);
+    Ok(all)
 }
 
 impl Attempt {
@@ -148,10 +157,11 @@ impl Attempt {
         ensures { IfOk result (λ attempt. attempt ≡ spec.submitted tid program) }
     {
         let sites = sites_of(alloc, program.steps())?;
+        let reads = Vec::with_capacity(alloc, program.len())?;
         Ok(Attempt {
             tid,
             program,
-            reads: Vec::new(alloc),
+            reads,
             done: 0,
             sites,
         })
@@ -183,6 +193,17 @@ impl Attempt {
         Ok(Dues::of(dues))
     }
 
+    /// The sites of its participants, of 1 to 8.
+    pub fn sites(&self) -> SiteSet
+        ensures { (site : TheSite) → 1 ≤ site.0 → site.0 ≤ 8 → has_site result site ≡ some_of (spec.is_at site) self.now.sites }
+    {
+        let mut set = SiteSet::none();
+        for progress in &self.sites {
+            set = set.with(progress.site);
+        }
+        set
+    }
+
     /// Notes the site's yes vote.
     pub(crate) fn vote(&mut self, site: SiteId)
         ensures { self.new ≡ spec.voted site self.old }
@@ -191,7 +212,7 @@ impl Attempt {
     }
 
     /// Whether a reply of the site counts.
-    fn counts(&self, site: SiteId, epoch: u32, n: u8, reply: Reply) -> bool
+    pub(crate) fn counts(&self, site: SiteId, epoch: u32, n: u8, reply: Reply) -> bool
         ensures { result ≡ counted.counts site epoch n reply self.now }
     {
         let place = match place_of(self.sites.as_slice(), site) {
@@ -206,6 +227,18 @@ impl Attempt {
         progress.knows(epoch)
     }
 
+    /// Whether a Prepare is outstanding at the site.
+    pub(crate) fn awaits_vote(&self, site: SiteId) -> bool
+        ensures { result ≡ spec.awaits_vote site self.now }
+    {
+        let place = match place_of(self.sites.as_slice(), site) {
+            Some(place) => place,
+            None => return false,
+        };
+        let progress = self.sites[place];
+        is_due_vote(progress.due(&self.program, self.done, self.reads.as_slice()))
+    }
+
     /// Notes the epoch of the site's wait.
     fn wait(&mut self, site: SiteId, epoch: u32)
         ensures { self.new ≡ counted.waited site epoch self.old }
@@ -214,104 +247,77 @@ impl Attempt {
     }
 
     /// Counts an answer of the site other than a wait and a refusal, which counts by its epoch and count.
-    fn advance(&mut self, site: SiteId, epoch: u32, n: u8, reply: Reply) -> Result<(), Memory>
+    fn advance(&mut self, site: SiteId, epoch: u32, n: u8, reply: Reply)
         requires counts { IsTrue (counted.counts site epoch n reply self.old) }
         requires answers { IsTrue (counted.is_answer reply) }
-        ensures ok { OnOk result (self.new ≡ counted.advanced site epoch reply self.old) }
-        ensures err { OnErr result (self.new ≡ self.old) }
+        ensures { self.new ≡ counted.advanced site epoch reply self.old }
     {
-        put_value(&mut self.reads, reply)?;
+        put_value(&mut self.reads, reply);
         answer_at(&mut self.sites, site, epoch, reply);
         self.done += steps_of(reply);
-        Ok(())
     }
 
-    /// How many participants there are.
-    fn count(&self) -> usize
-        ensures { result ≡ length self.now.sites }
+    /// What becomes outstanding by an answer of the site other than a wait and a refusal, which counts by its epoch and count.
+    fn news(
+        &self,
+        alloc: Global,
+        site: SiteId,
+        epoch: u32,
+        n: u8,
+        reply: Reply,
+    ) -> Result<Dues, Memory>
+        requires counts { IsTrue (counted.counts site epoch n reply self.now) }
+        requires answers { IsTrue (counted.is_answer reply) }
+        ensures { IfOk result (λ dues. dues ≡ counted.news site self.now.done (counted.advanced site epoch reply self.now)) }
     {
-        self.sites.len()
+        let reads = with_value(alloc, self.reads.as_slice(), reply)?;
+        let sites = with_answer(alloc, self.sites.as_slice(), site, epoch, reply)?;
+        let done = self.done + steps_of(reply);
+        news(
+            alloc,
+            &self.program,
+            done,
+            reads.as_slice(),
+            sites.as_slice(),
+            site,
+            self.done,
+        )
     }
 
-    /// How many steps were answered.
-    fn done(&self) -> usize
-        ensures done { result ≡ self.now.done }
-        ensures within { result ≤ length self.now.program }
-    {
-        let _ = &self.sites;
-        self.done
-    }
-
-    /// What became outstanding by an answer of the site, before which so many steps were answered.
-    fn news(&self, mut dues: Vec<Due>, site: SiteId, before: usize) -> Dues
-        requires empty { dues.items ≡ [] }
-        requires room { length self.now.sites ≤ vec_capacity dues }
-        requires within { before ≤ length self.now.program }
-        ensures { result ≡ counted.news site before self.now }
-    {
-        for progress in &self.sites {
-            put_some(&mut dues, self.news_at(progress, site, before));
-        }
-        Dues::of(dues)
-    }
-
-    /// What became outstanding at a participant.
-    fn news_at(&self, progress: &Progress, site: SiteId, before: usize) -> Option<Due>
-        requires { before ≤ length self.now.program }
-        ensures { result ≡ counted.news_at site before self.now progress.now }
-    {
-        if !is_news(progress, self.program.steps(), site, before) {
-            return None;
-        }
-        progress.due(&self.program, self.done, self.reads.as_slice())
-    }
-
-    /// Takes a site's reply.
-    pub(crate) fn did(
-        &mut self,
+    /// What a site's reply comes to.
+    pub(crate) fn answers(
+        &self,
         alloc: Global,
         site: SiteId,
         epoch: u32,
         n: u8,
         reply: Reply,
     ) -> Result<DidEnd, Memory>
-        ensures end { IfOk result (λ end. end ≡ counted.did_end site epoch n reply self.old) }
-        ensures attempt { OnOk result (self.new ≡ counted.after_did site epoch n reply self.old) }
-        ensures kept { OnErr result (self.new ≡ self.old) }
+        ensures { IfOk result (λ end. end ≡ counted.did_end site epoch n reply self.now) }
     {
         if !self.counts(site, epoch, n, reply) {
             return Ok(DidEnd::Ignored);
         }
         match reply {
-            Reply::Wait { .. } => {
-                self.wait(site, epoch);
-                Ok(DidEnd::Waits)
-            }
+            Reply::Wait { .. } => Ok(DidEnd::Waits),
             Reply::Refused(_) | Reply::Unknown => Ok(DidEnd::Refused),
             Reply::Done | Reply::Value(_) | Reply::Ticket(_) => {
-                self.go_on(alloc, site, epoch, n, reply)
+                Ok(DidEnd::Next(self.news(alloc, site, epoch, n, reply)?))
             }
         }
     }
 
-    /// Counts an answer of the site other than a wait and a refusal, and gives what became outstanding by it.
-    fn go_on(
-        &mut self,
-        alloc: Global,
-        site: SiteId,
-        epoch: u32,
-        n: u8,
-        reply: Reply,
-    ) -> Result<DidEnd, Memory>
-        requires counts { IsTrue (counted.counts site epoch n reply self.old) }
-        requires answers { IsTrue (counted.is_answer reply) }
-        ensures end { IfOk result (λ end. end ≡ Did.Next (counted.news site self.old.done (counted.advanced site epoch reply self.old))) }
-        ensures attempt { OnOk result (self.new ≡ counted.advanced site epoch reply self.old) }
-        ensures kept { OnErr result (self.new ≡ self.old) }
+    /// Takes a site's reply, if it counts.
+    pub(crate) fn take(&mut self, site: SiteId, epoch: u32, n: u8, reply: Reply)
+        ensures { self.new ≡ counted.after_did site epoch n reply self.old }
     {
-        let dues = Vec::with_capacity(alloc, self.count())?;
-        let before = self.done();
-        self.advance(site, epoch, n, reply)?;
-        Ok(DidEnd::Next(self.news(dues, site, before)))
+        if !self.counts(site, epoch, n, reply) {
+            return;
+        }
+        match reply {
+            Reply::Wait { .. } => self.wait(site, epoch),
+            Reply::Refused(_) | Reply::Unknown => {}
+            Reply::Done | Reply::Value(_) | Reply::Ticket(_) => self.advance(site, epoch, n, reply),
+        }
     }
 }

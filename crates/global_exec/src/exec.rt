@@ -1,6 +1,7 @@
 //! The table and its calls.
-ghost use Rattle.std.specs.Prelude.{◌≡◌, ◌<◌, length, IfSome, None, [], ◌∷◌, ◌++◌, IfOk, OnOk, OnErr};
-ghost use Rattle.mdb_base.specs.Words.{map_some, or_else};
+ghost use Rattle.std.specs.Prelude.{◌≡◌, ◌<◌, map, reverse, length, slice_get, IfSome, Some, None, [], ◌∷◌, ◌++◌, IfOk, OnOk, OnErr};
+ghost use Rattle.mdb_base.specs.Words.{first_where, holds_of, map_some, or_else};
+ghost use Rattle.mdb_base.specs.Names.{same_tx};
 ghost use Rattle.global_exec.specs.Counted as counted;
 ghost use Rattle.global_exec.specs.Firsts.{place_where, replaced, taken_out};
 ghost use Rattle.global_exec.specs.Live as spec;
@@ -9,7 +10,7 @@ ghost use Rattle.global_exec.specs.declared.ends.DidEnd.TheVariants as Did;
 use crate::attempt::Attempt;
 use crate::ends::DidEnd;
 use fed_rules::Dues;
-use mdb_base::{Memory, Program, Reply, SiteId, Tid};
+use mdb_base::{Memory, Program, Reply, SiteId, Tid, Tx};
 use std::alloc::Global;
 use std::marker::Model;
 
@@ -20,12 +21,14 @@ pub struct GlobalExec {
 }
 
 impl Model for GlobalExec {
-    ghost use Rattle.std.specs.Prelude.{List};
-    ghost use Rattle.global_exec.specs.Live.{Live};
+    ghost use Rattle.std.specs.Prelude.{List, map};
+    ghost use Rattle.global_exec.specs.Live.{AreApart, Live};
 
     ghost Value = { List Live };
 
     ghost view = { λ e. e.attempts.items };
+
+    ghost invariant = { λ e. AreApart (map (λ live. live.tid) e.attempts.items) };
 }
 
 /// The place of the attempt of this name.
@@ -41,6 +44,20 @@ fn place_of(attempts: &[Attempt], tid: Tid) -> Option<usize>
     None
 }
 
+/// The last attempt of the transaction.
+fn last_of(attempts: &[Attempt], tx: Tx) -> Option<Tid>
+    ensures { result ≡ first_where (λ tid. same_tx tid.tx tx) (reverse (map (λ live. live.tid) attempts.now)) }
+{
+    let mut last = None;
+    for (place, attempt) in attempts.iter().enumerate() {
+        if attempt.tid().tx == tx {
+            last = Some(attempt.tid());
+            let _ = place;
+        }
+    }
+    last
+}
+
 impl GlobalExec {
     /// A table without attempts.
     pub fn new(alloc: Global) -> Result<GlobalExec, Memory>
@@ -49,6 +66,29 @@ impl GlobalExec {
         Ok(GlobalExec {
             attempts: Vec::new(alloc),
         })
+    }
+
+    /// How many attempts there are. No two have one name.
+    pub fn len(&self) -> usize
+        ensures count { result ≡ length self.now }
+        ensures apart { spec.AreApart (map (λ live. live.tid) self.now) }
+    {
+        self.attempts.len()
+    }
+
+    /// The attempt at this place, counted from 0 in order of submission.
+    pub fn at(&self, place: usize) -> &Attempt
+        requires { place < length self.now }
+        ensures { slice_get self.now place ≡ Some result.now }
+    {
+        &self.attempts[place]
+    }
+
+    /// Takes all attempts out.
+    pub fn clear(&mut self)
+        ensures { self.new ≡ [] }
+    {
+        self.attempts.clear();
     }
 
     /// Adds an attempt that isn't in the table, and gives what is outstanding for it: the work of its first step. Without memory the
@@ -75,9 +115,39 @@ impl GlobalExec {
         }
     }
 
-    /// Takes a site's reply. It counts where an operation with its count is outstanding at its site, the operation can have the reply,
-    /// and its epoch is the attempt's there, or that one is 0. A wait that counts fixes the epoch; a refusal and Unknown change
-    /// nothing here; another reply gives what became outstanding by it. Without memory the table stays as it was.
+    /// What a site's reply comes to. It counts where an operation with its count is outstanding at its site, the operation can have the
+    /// reply, and its epoch is the attempt's there, or that one is 0. A reply that counts and is no wait and no refusal gives what becomes
+    /// outstanding by it. Without memory nothing is answered.
+    pub fn answers(
+        &self,
+        alloc: Global,
+        tid: Tid,
+        site: SiteId,
+        epoch: u32,
+        n: u8,
+        reply: Reply,
+    ) -> Result<DidEnd, Memory>
+        ensures { IfOk result (λ end. end ≡ or_else (map_some (counted.did_end site epoch n reply) (spec.live_of tid self.now)) Did.Ignored) }
+    {
+        match place_of(self.attempts.as_slice(), tid) {
+            Some(place) => self.attempts[place].answers(alloc, site, epoch, n, reply),
+            None => Ok(DidEnd::Ignored),
+        }
+    }
+
+    /// Takes a site's reply, as `answers` counts it, without memory: a wait fixes the epoch, a refusal and Unknown change nothing here,
+    /// and another reply is answered.
+    pub fn take(&mut self, tid: Tid, site: SiteId, epoch: u32, n: u8, reply: Reply)
+        ensures { self.new ≡ replaced (spec.is_of tid) (counted.after_did site epoch n reply) self.old }
+    {
+        let place = match place_of(self.attempts.as_slice(), tid) {
+            Some(place) => place,
+            None => return,
+        };
+        self.attempts[place].take(site, epoch, n, reply);
+    }
+
+    /// Takes a site's reply, and answers what it comes to: `answers` and then `take`. Without memory the table stays as it was.
     pub fn did(
         &mut self,
         alloc: Global,
@@ -91,10 +161,36 @@ impl GlobalExec {
         ensures table { OnOk result (self.new ≡ replaced (spec.is_of tid) (counted.after_did site epoch n reply) self.old) }
         ensures kept { OnErr result (self.new ≡ self.old) }
     {
+        let end = self.answers(alloc, tid, site, epoch, n, reply)?;
+        self.take(tid, site, epoch, n, reply);
+        Ok(end)
+    }
+
+    /// Whether a site's reply counts, as `did` takes it.
+    pub fn counts(&self, tid: Tid, site: SiteId, epoch: u32, n: u8, reply: Reply) -> bool
+        ensures { result ≡ holds_of (counted.counts site epoch n reply) (spec.live_of tid self.now) }
+    {
         match place_of(self.attempts.as_slice(), tid) {
-            Some(place) => self.attempts[place].did(alloc, site, epoch, n, reply),
-            None => Ok(DidEnd::Ignored),
+            Some(place) => self.attempts[place].counts(site, epoch, n, reply),
+            None => false,
         }
+    }
+
+    /// Whether a Prepare is outstanding at the site.
+    pub fn awaits_vote(&self, tid: Tid, site: SiteId) -> bool
+        ensures { result ≡ holds_of (spec.awaits_vote site) (spec.live_of tid self.now) }
+    {
+        match place_of(self.attempts.as_slice(), tid) {
+            Some(place) => self.attempts[place].awaits_vote(site),
+            None => false,
+        }
+    }
+
+    /// The last submitted attempt of the transaction.
+    pub fn running(&self, tx: Tx) -> Option<Tid>
+        ensures { result ≡ first_where (λ tid. same_tx tid.tx tx) (reverse (map (λ live. live.tid) self.now)) }
+    {
+        last_of(self.attempts.as_slice(), tx)
     }
 
     /// The values that the attempt read, in program order; none where it isn't listed.

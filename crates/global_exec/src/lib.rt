@@ -7,6 +7,8 @@
 mod attempt;
 mod ends;
 mod exec;
+mod laws;
+mod news;
 mod policy;
 mod progress;
 #[cfg(test)]
@@ -16,5 +18,6 @@ pub use attempt::Attempt;
 pub use ends::DidEnd;
 pub use exec::GlobalExec;
 pub use fed_rules::{Due, Dues};
+pub use laws::{attempts_count_as_the_past, attempts_go_with_the_past, sets_are_rising_lists};
 pub use policy::{Always, SiteSet, TakePolicy};
 pub use progress::Progress;

@@ -62,6 +62,13 @@ pub fn fits(due: Option<Due>, n: u8, reply: Reply) -> bool
     }
 }
 
+/// Whether a Prepare is outstanding.
+pub fn is_due_vote(due: Option<Due>) -> bool
+    ensures { result ≡ coord.is_due_vote due }
+{
+    matches!(due, Some(Due::Prepare { .. }))
+}
+
 /// How many steps a reply answers: a ticket none, and a value or a write one.
 pub fn steps_of(reply: Reply) -> usize
     ensures { result ≡ counted.steps_of reply }

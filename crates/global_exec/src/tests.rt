@@ -170,6 +170,48 @@ fn a_refused_attempt_is_taken_out(rt: HostRuntime) -> Result<(), Fail> {
 }
 
 #[test]
+fn an_answer_changes_nothing_until_it_is_taken(rt: HostRuntime) -> Result<(), Fail> {
+    let alloc = rt.alloc();
+    let mut exec = GlobalExec::new(alloc)?;
+    exec.submit(alloc, FIRST, Program::new(alloc, STEPS.as_slice())?)?;
+    let reply = Reply::Value(7);
+    assert!(rt; exec.counts(FIRST, TWO, 1, 0, reply));
+    let first = exec.answers(alloc, FIRST, TWO, 1, 0, reply)?;
+    let again = exec.answers(alloc, FIRST, TWO, 1, 0, reply)?;
+    let work = Due::Work {
+        site: ONE,
+        epoch: 0,
+        n: 0,
+        act: PlainAct::Write(Key(6), 10),
+    };
+    assert_eq!(rt; next_of(&first, 0), Some(work));
+    assert_eq!(rt; next_of(&again, 0), Some(work));
+    assert_eq!(rt; exec.reads(FIRST).len(), 0);
+    exec.take(FIRST, TWO, 1, 0, reply);
+    assert_eq!(rt; exec.reads(FIRST), [7].as_slice());
+    assert!(rt; !exec.counts(FIRST, TWO, 1, 0, reply));
+    assert!(rt; !exec.awaits_vote(FIRST, TWO));
+    exec.take(FIRST, TWO, 1, 1, Reply::Ticket(4));
+    assert!(rt; exec.awaits_vote(FIRST, TWO));
+    Ok(())
+}
+
+#[test]
+fn a_restart_takes_all_attempts_out(rt: HostRuntime) -> Result<(), Fail> {
+    let alloc = rt.alloc();
+    let mut exec = GlobalExec::new(alloc)?;
+    exec.submit(alloc, FIRST, Program::new(alloc, STEPS.as_slice())?)?;
+    assert_eq!(rt; exec.running(Tx(1)), Some(FIRST));
+    assert_eq!(rt; exec.running(Tx(2)), None);
+    assert_eq!(rt; exec.len(), 1);
+    assert_eq!(rt; exec.at(0).tid(), FIRST);
+    exec.clear();
+    assert_eq!(rt; exec.len(), 0);
+    assert_eq!(rt; exec.running(Tx(1)), None);
+    Ok(())
+}
+
+#[test]
 fn tickets_may_always_be_taken(rt: HostRuntime) {
     assert!(rt; Always.may_take(SiteSet(3), &[SiteSet(1), SiteSet(2)]));
 }

@@ -1,3 +1,5 @@
+pub mod Agreeing
+pub mod Going
 pub mod Keeps
 pub mod Named
 pub mod Required

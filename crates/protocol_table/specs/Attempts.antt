@@ -10,7 +10,9 @@ use Rattle.presumptions.specs.declared.Decision.{Decision}
 use Rattle.presumptions.specs.declared.Decision.TheVariants as Decided
 use Rattle.presumptions.specs.declared.Participant.{Participant}
 use Rattle.presumptions.specs.Table.{acks}
-use Rattle.fed_rules.specs.CoordRecords.{required_of}
+use Rattle.presumptions.specs.declared.Protocol.{Protocol}
+use Rattle.fed_rules.specs.CoordRecords.{Class, class_of, has_abort, has_initiation, required_of}
+use Rattle.fed_rules.specs.CoordRecords.Class.{Uniform, Mixed}
 use Rattle.protocol_table.specs.declared.members.Member.{Member}
 use Rattle.protocol_table.specs.declared.known.Known.{Known}
 use Rattle.protocol_table.specs.declared.known.Restored.{Restored}
@@ -30,7 +32,7 @@ submitted tid participants = record { tid = tid; initiated = false; members = ma
 abbrev pub decision_of : Bool → Decision
 decision_of committed = cond committed Decided.Commit Decided.Abort
 
--- an attempt as a restart knows it: initiated and decided, without votes and acknowledgements
+-- an attempt as a restart knows it: with a record and decided, without votes and acknowledgements
 abbrev pub restored : Restored → Known
 restored kept = record {
   tid = kept.tid;
@@ -94,14 +96,14 @@ all_voted members = each_of has_voted members
 abbrev pub member_acks : Decision → Member → Bool
 member_acks decision member = acks member.protocol decision
 
--- the participants that the attempt's Initiation names, where it was initiated
-abbrev pub initiation : Known → Option (List Participant)
-initiation known = cond known.initiated (Some (map participant_of known.members)) None
+-- the participants that the attempt's records name, where it has any
+abbrev pub named : Known → Option (List Participant)
+named known = cond known.initiated (Some (map participant_of known.members)) None
 
--- the participants whose acknowledgement of the decision is required: none before an Initiation, on commit those of presumed nothing and
+-- the participants whose acknowledgement of the decision is required: none without a record, on commit those of presumed nothing and
 -- presumed abort, on abort those of presumed nothing and presumed commit
 abbrev pub required : Decision → Known → List Participant
-required decision known = required_of decision (initiation known)
+required decision known = required_of decision (named known)
 
 -- whether a member's acknowledgement of the decision is required and missing
 abbrev pub lacks_ack : Decision → Bool → Member → Bool
@@ -110,3 +112,20 @@ lacks_ack decision initiated member = initiated && (acks member.protocol decisio
 -- the members whose required acknowledgement is missing
 abbrev pub missing : Decision → Known → List Member
 missing decision known = those (lacks_ack decision known.initiated) known.members
+
+-- the protocol of a uniform class
+abbrev pub uniform_of : Class → Option Protocol
+uniform_of (Uniform protocol) = Some protocol
+uniform_of Mixed = None
+
+-- the class of an attempt, by its members
+abbrev pub class_in : Known → Class
+class_in known = class_of (map participant_of known.members)
+
+-- whether its Initiation has to stand on the disk before its first Prepare is sent, and it has no record yet
+abbrev pub lacks_initiation : Known → Bool
+lacks_initiation known = not known.initiated && has_initiation (class_in known)
+
+-- whether its abort is recorded once a Prepare was sent
+abbrev pub has_abort_record : Known → Bool
+has_abort_record known = has_abort (class_in known)

@@ -1,3 +1,5 @@
 pub mod Attempts
 pub mod Ends
 pub mod Entries
+pub mod Agreement
+pub mod Pasts

@@ -1,14 +1,16 @@
 //! An attempt that the coordinator knows.
 ghost use Rattle.std.specs.Prelude.{◌≡◌, IfOk};
+ghost use Rattle.protocol_table.specs.Attempts as attempts;
 ghost use Rattle.protocol_table.specs.Ends as spec;
 
+use crate::classes::uniform;
 use crate::ends::{AckEnd, VoteEnd};
 use crate::members::{Members, all_voted, lacks_ack, lacks_ack_of, lacks_vote, some_acks};
 use mdb_base::{Memory, SiteId, Tid};
-use presumptions::{Decision, Participants};
+use presumptions::{Decision, Participants, Protocol};
 use std::alloc::Global;
 
-/// A known attempt: whether its Initiation was written, its members, and its decision.
+/// A known attempt: whether it has a record, its members, and its decision.
 #[derive(Drop)]
 pub struct Known {
     pub tid: Tid,
@@ -17,7 +19,7 @@ pub struct Known {
     pub decision: Option<Decision>,
 }
 
-/// An attempt that a restart finds initiated and not ended, and whether a Commit record of it is kept.
+/// An attempt that a restart finds with a record and not ended, and whether a Commit record of it is kept.
 #[derive(Drop)]
 pub struct Restored {
     pub tid: Tid,
@@ -44,6 +46,27 @@ impl Known {
             members,
             decision: Some(decision),
         })
+    }
+
+    /// Whether its Initiation has to stand on the disk before its first Prepare is sent, and no record of it was written: presumed commit
+    /// alone, and mixed participants have one.
+    pub fn lacks_initiation(&self) -> bool
+        ensures { result ≡ attempts.lacks_initiation self.now }
+    {
+        if self.initiated {
+            return false;
+        }
+        match uniform(self.members.as_slice()) {
+            Some(Protocol::Nothing | Protocol::Abort) => false,
+            Some(Protocol::Commit) | None => true,
+        }
+    }
+
+    /// Whether its abort is recorded once a Prepare was sent: that of presumed nothing alone.
+    pub fn has_abort(&self) -> bool
+        ensures { result ≡ attempts.has_abort_record self.now }
+    {
+        matches!(uniform(self.members.as_slice()), Some(Protocol::Nothing))
     }
 
     /// Counts the site's yes vote, unless the attempt is decided, the site is no member or its vote was counted.

@@ -4,9 +4,11 @@
 //! coordinator of Al-Houmaily and Chrysanthis (PODS 1999) with this project's profile of records and acknowledgements.
 #![tactic(auto)]
 
+mod classes;
 mod ends;
 mod entries;
 mod known;
+mod laws;
 mod members;
 mod table;
 #[cfg(test)]
@@ -14,5 +16,6 @@ mod tests;
 
 pub use ends::{AckEnd, Said, VoteEnd};
 pub use known::{Known, Restored};
+pub use laws::{known_attempts_are_as_the_past, known_attempts_go_with_the_past};
 pub use members::{Member, Members};
 pub use table::ProtocolTable;

@@ -1,5 +1,5 @@
 //! The table and its calls.
-ghost use Rattle.std.specs.Prelude.{◌≡◌, ◌<◌, None, Some, [], ◌∷◌, ◌++◌, map, length, slice_get, cond, false, IfOk, OnOk, OnErr};
+ghost use Rattle.std.specs.Prelude.{◌≡◌, ◌<◌, None, Some, [], ◌∷◌, ◌++◌, map, length, slice_get, cond, false, IfOk, OnOk, OnErr, option_copied};
 ghost use Rattle.mdb_base.specs.Words.{map_some, or_else};
 ghost use Rattle.protocol_table.specs.Attempts.{AreApart, IsUndecided, changed, known_of, restored, submitted, without};
 ghost use Rattle.protocol_table.specs.Ends as spec;
@@ -53,7 +53,18 @@ impl ProtocolTable {
         self.entries.len()
     }
 
-    /// Adds an attempt that isn't listed, undecided and without an Initiation. Without memory the table stays as it was.
+    /// The known attempt at this place, counted from 0 in order of submission.
+    pub fn at(&self, place: usize) -> &Known
+        requires { place < length self.now }
+        ensures { slice_get self.now place ≡ Some result.now }
+    {
+        match self.entries.get_index(place) {
+            Some((_, known)) => known,
+            None => unreachable!(),
+        }
+    }
+
+    /// Adds an attempt that isn't listed, undecided and without a record. Without memory the table stays as it was.
     pub fn submit(
         &mut self,
         alloc: Global,
@@ -75,7 +86,7 @@ impl ProtocolTable {
         Ok(())
     }
 
-    /// Makes these attempts the whole table, as a restart finds them: initiated, decided commit where a Commit record is kept and
+    /// Makes these attempts the whole table, as a restart finds them: with a record, decided commit where a Commit record is kept and
     /// else abort, without votes and acknowledgements. Without memory the table stays as it was.
     pub fn restore(&mut self, alloc: Global, attempts: &[Restored]) -> Result<(), Memory>
         requires { AreApart (map (λ kept. kept.tid) attempts.now) }
@@ -91,7 +102,7 @@ impl ProtocolTable {
         Ok(())
     }
 
-    /// Notes that the Initiation of a known, undecided attempt was written.
+    /// Notes that the first record of a known, undecided attempt was written, its Initiation or that of its decision.
     pub fn initiate(&mut self, tid: Tid)
         requires { IsUndecided tid self.old }
         ensures { self.new ≡ changed tid spec.initiate self.old }
@@ -152,6 +163,13 @@ impl ProtocolTable {
                 AckEnd::Forgets
             }
         }
+    }
+
+    /// The known attempt of this name.
+    pub fn known(&self, tid: Tid) -> Option<&Known>
+        ensures { option_copied result ≡ known_of tid self.now }
+    {
+        find(&self.entries, tid)
     }
 
     /// The answer to an inquiry of a site with this protocol: nothing while undecided, the decision while known, and else the

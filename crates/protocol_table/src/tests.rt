@@ -141,3 +141,32 @@ fn a_restart_knows_no_vote_and_no_acknowledgement(rt: HostRuntime) -> Result<(),
     assert_eq!(rt; table.len(), 0);
     Ok(())
 }
+
+#[test]
+fn classes_have_their_records(rt: HostRuntime) -> Result<(), Fail> {
+    let alloc = rt.alloc();
+    let mixed = submitted(alloc)?;
+    assert!(rt; mixed.at(0).lacks_initiation());
+    assert!(rt; !mixed.at(0).has_abort());
+    let initiated = initiated(alloc)?;
+    assert!(rt; !initiated.at(0).lacks_initiation());
+    let mut table = ProtocolTable::new(alloc)?;
+    table.submit(alloc, FIRST, &Participants::of(vec![in alloc; NOTHING]?))?;
+    assert!(rt;
+        matches!(table.known(FIRST), Some(known) if known.has_abort() && !known.lacks_initiation())
+    );
+    assert!(rt; table.known(SECOND).is_none());
+    Ok(())
+}
+
+/// All participants presume abort: a commit is its first record, and waits for all; an abort has no record, and is forgotten at once.
+#[test]
+fn a_first_record_is_noted_before_the_decision(rt: HostRuntime) -> Result<(), Fail> {
+    let alloc = rt.alloc();
+    let mut table = ProtocolTable::new(alloc)?;
+    table.submit(alloc, FIRST, &Participants::of(vec![in alloc; ABORT]?))?;
+    table.initiate(FIRST);
+    assert!(rt; !table.decide(FIRST, Decision::Commit));
+    assert_eq!(rt; table.ack(FIRST, SiteId(2)), AckEnd::Forgets);
+    Ok(())
+}

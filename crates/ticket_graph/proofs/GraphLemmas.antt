@@ -1,43 +1,25 @@
--- The graph with one more attempt, and its order.
-use Rattle.std.proofs.Common.{ℕ, suc, ◌+◌, ◌<◌, ◌≤◌, ◌≡◌, ◌⊎◌, Bool, true, false, not, cond, Option, Some, None, List, [], ◌∷◌, ◌++◌, length, take, get_or, reverse, map, refl, sym, ap, ◌∙◌, subst, inl, inr, arith, append_assoc}
-use Rattle.std.proofs.lemmas.List.{reverse-append, take_more}
-use Rattle.std.specs.Bool.{beq}
+-- Attempts of a graph, and where there is no cycle through an added one.
+use Rattle.std.proofs.Common.{◌<◌, ◌≡◌, true, List, [], ◌∷◌, refl, sym, ap, ◌∙◌, subst, inl, inr, arith}
 use Rattle.std.specs.BTreeSet.{BTreeSet, contains}
 use Rattle.mdb_base.specs.declared.names.SiteId.{SiteId}
 use Rattle.mdb_base.specs.declared.names.SiteTicket.{SiteTicket}
 use Rattle.mdb_base.specs.declared.names.Tid.{Tid}
 use Rattle.mdb_base.specs.declared.replies.Edge.{Edge}
 use Rattle.mdb_base.specs.Rising.{IsRising}
-use Rattle.mdb_base.specs.Words.{Each, Among, those}
-use Rattle.order_laws.specs.Chains.{In, Distinct, Chain, Way}
-use Rattle.order_laws.specs.Orders.{Before}
+use Rattle.mdb_base.specs.Words.{Each}
+use Rattle.order_laws.specs.Chains.{In, Chain}
 use Rattle.order_laws.specs.Search.{Linked}
 use Rattle.order_laws.specs.Tickets.{Ticketed, Precedes, IsEdge, IsCycle, OneEach, edge_between}
-use Rattle.order_laws.proofs.Lists.{map_among, among_map, is_among, among_is, in_front, in_last, in_either, those_in, in_those, those-append, those_same, bool_is, one_image}
-use Rattle.order_laws.proofs.Orders.{before_in, those_before, before_those}
-use Rattle.order_laws.proofs.Tickets.{EdgeOf, edge_some, cycle_way}
+use Rattle.order_laws.proofs.Lists.{map_among, among_map, is_among, among_is}
+use Rattle.order_laws.proofs.Tickets.{edge_some, cycle_way}
 use Rattle.order_laws.specs.Ranked.{tid_cmp}
-use Rattle.ticket_graph.specs.Graph.{tids_of, IsTopological}
-use Rattle.ticket_graph.specs.Trail.{IsClosed}
+use Rattle.ticket_graph.specs.Graph.{tids_of, IsVerdict}
+use Rattle.ticket_graph.specs.Trail.{IsClosed, IsFinding}
+use Rattle.ticket_graph.specs.declared.find.Finding.TheVariants.{Reached}
+use Rattle.ticket_graph.specs.declared.verdict.Verdict.TheVariants.{Added}
 use Rattle.ticket_graph.proofs.StepLemmas.{each_weaker}
 
--- ---- the graph as its attempts in the order of adding
-
-reverse-cons : {A : Type 0} (x : A) (xs : List A) → reverse (x ∷ xs) ≡ reverse xs ++ x ∷ []
-reverse-cons x xs = reverse-append (x ∷ []) xs
-
-pub reverse-push : {A : Type 0} (xs : List A) (y : A) → reverse (xs ++ y ∷ []) ≡ y ∷ reverse xs
-reverse-push xs y = reverse-append xs (y ∷ [])
-
-pub in_reverse : {A : Type 0} (xs : List A) (x : A) → In x xs → In x (reverse xs)
-in_reverse [] x i = absurd i
-in_reverse (y ∷ xs) x (inl e) = subst (In x) (sym (reverse-cons y xs)) (subst (λ z. In z (reverse xs ++ y ∷ [])) e (in_last y (reverse xs)))
-in_reverse (y ∷ xs) x (inr i) = subst (In x) (sym (reverse-cons y xs)) (in_front x y (reverse xs) (in_reverse xs x i))
-
-pub reverse_in : {A : Type 0} (xs : List A) (x : A) → In x (reverse xs) → In x xs
-reverse_in [] x i = i
-reverse_in (y ∷ xs) x i =
-    elim (in_either x y (reverse xs) (subst (In x) (reverse-cons y xs) i)) [ inl j ↦ inr (reverse_in xs x j) | inr e ↦ inl e ]
+-- ---- attempts and their names
 
 pub tid_in : (ns : List Ticketed) (tid : Tid) → In tid (tids_of ns) → (a : Ticketed) × In a ns × (a.tid ≡ tid)
 tid_in ns tid i = among_is (λ (a : Ticketed). a.tid ≡ tid) ns (among_map (λ (t : Tid). t ≡ tid) (λ (a : Ticketed). a.tid) ns i)
@@ -56,44 +38,6 @@ edge_more ns ms h e k =
 -- a cycle of attempts is one of more attempts
 pub cycle_more : (ns ms : List Ticketed) (tid : Tid) (es : List Edge) → ((a : Ticketed) → In a ns → In a ms) → IsCycle ns tid es → IsCycle ms tid es
 cycle_more ns ms tid es h k = record { some = k.some; edges = each_weaker (IsEdge ns) (IsEdge ms) (edge_more ns ms h) es k.edges; round = k.round }
-
--- the same attempts have the same order
-pub order_same : (ns ms : List Ticketed) (order : List Tid) → ((a : Ticketed) → In a ns → In a ms) → ((a : Ticketed) → In a ms → In a ns) →
-    IsTopological ns order → IsTopological ms order
-order_same ns ms order h k o =
-    record {
-      once = o.once;
-      all = λ tid i. o.all tid (tids_more ms ns k tid i);
-      alone = λ tid i. tids_more ns ms h tid (o.alone tid i);
-      forwards = λ e i. o.forwards e (edge_more ms ns k e i);
-    }
-
-pub cycle_reversed : (g : Ticketed) (ns : List Ticketed) (tid : Tid) (es : List Edge) → IsCycle (g ∷ ns) tid es → IsCycle (g ∷ reverse ns) tid es
-cycle_reversed g ns tid es k =
-    cycle_more (g ∷ ns) (g ∷ reverse ns) tid es (λ a i. elim i [ inl e ↦ inl e | inr j ↦ inr (in_reverse ns a j) ]) k
-
-pub cycle_turned : (g : Ticketed) (ns : List Ticketed) (tid : Tid) (es : List Edge) → IsCycle (g ∷ reverse ns) tid es → IsCycle (g ∷ ns) tid es
-cycle_turned g ns tid es k =
-    cycle_more (g ∷ reverse ns) (g ∷ ns) tid es (λ a i. elim i [ inl e ↦ inl e | inr j ↦ inr (reverse_in ns a j) ]) k
-
-pub order_reversed : (ns : List Ticketed) (order : List Tid) → IsTopological ns order → IsTopological (reverse ns) order
-order_reversed ns order o = order_same ns (reverse ns) order (in_reverse ns) (reverse_in ns) o
-
-pub not_named : (ns : List Ticketed) (tid : Tid) → (In tid (tids_of (reverse ns)) → ⊥) → In tid (tids_of ns) → ⊥
-not_named ns tid h i = h (tids_more ns (reverse ns) (in_reverse ns) tid i)
-
-distinct_push : {A : Type 0} (xs : List A) (y : A) → Distinct xs → (In y xs → ⊥) → Distinct (xs ++ y ∷ [])
-distinct_push [] y d h = (λ i. i, tt)
-distinct_push (x ∷ xs) y d h =
-    (λ i. elim (in_either x y xs i) [ inl j ↦ d.0 j | inr e ↦ h (inl (sym e)) ], distinct_push xs y d.1 (λ i. h (inr i)))
-
-pub map-push : (ns : List Ticketed) (g : Ticketed) → tids_of (ns ++ g ∷ []) ≡ tids_of ns ++ g.tid ∷ []
-map-push [] g = refl
-map-push (a ∷ ns) g = ap (λ ts. a.tid ∷ ts) (map-push ns g)
-
--- the attempts still differ
-pub one_more_each : (ns : List Ticketed) (g : Ticketed) → OneEach ns → (In g.tid (tids_of ns) → ⊥) → OneEach (ns ++ g ∷ [])
-one_more_each ns g one h = subst Distinct (sym (map-push ns g)) (distinct_push (tids_of ns) g.tid one h)
 
 -- ---- where the reached attempts are closed there is no cycle through the added one
 
@@ -145,3 +89,9 @@ one_ticket_at (k ∷ ts) h t u (inr i) (inr j) e l = one_ticket_at ts (rising_re
 -- so no attempt precedes itself
 pub no_loop : (g : Ticketed) → IsRising (λ (k : SiteTicket). k.site.0) g.tickets → (s : SiteId) → Precedes g g s → ⊥
 no_loop g h s p = one_ticket_at g.tickets h p.smaller p.greater p.first p.second (p.there ∙ sym p.here) p.less
+
+-- where the search reaches the closed attempts, no cycle leads through the added one
+pub no_cycle_found : (ns kept : List Ticketed) (g : Ticketed) (tid : Tid) (r : BTreeSet Tid) → IsFinding ns g (Reached r) → OneEach kept → ns ≡ kept → g.tid ≡ tid →
+    IsRising (λ (k : SiteTicket). k.site.0) g.tickets → (In tid (tids_of kept) → ⊥) → IsVerdict kept g Added
+no_cycle_found ns kept g tid r closed one same named rising new =
+    closed_no_cycle kept g r (subst (λ xs. IsClosed xs g r) same closed) (no_loop g rising) (λ i. new (subst (λ t. In t (tids_of kept)) named i), one)

@@ -4,6 +4,15 @@ pub mod StepLemmas
 pub mod TrailLemmas
 pub mod Searching
 pub mod EdgeSites
+pub mod Parts
+pub mod Tables
+pub mod Meeting
+pub mod Keeping
 pub mod GraphLemmas
-pub mod OrderLemmas
+pub mod Reaching
+pub mod Forwards
+pub mod Heights
+pub mod Pruning
+pub mod Standing
+pub mod Restoring
 pub mod TestLemmas

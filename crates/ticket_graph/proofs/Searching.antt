@@ -8,14 +8,14 @@ use Rattle.mdb_base.specs.declared.names.SiteTicket.{SiteTicket}
 use Rattle.mdb_base.specs.declared.names.Tid.{Tid}
 use Rattle.mdb_base.specs.Names.{same_tid, same_site}
 use Rattle.mdb_base.specs.Words.{Each, Among, some_of, holds_of}
-use Rattle.order_laws.specs.Chains.{In, Distinct}
+use Rattle.order_laws.specs.Chains.{In}
 use Rattle.order_laws.specs.Tickets.{Ticketed, Precedes, OneEach}
 use Rattle.order_laws.proofs.Lists.{among_is, bool_is, and_cases, some_of_is, some_of_true, is_among, each_at, one_image}
 use Rattle.order_laws.proofs.Names.{is_eq-tid_cmp, same_tid_alike, same_tid_self, same_site_alike, same_site_self}
 use Rattle.ticket_graph.specs.declared.entries.Entry.{Entry}
 use Rattle.ticket_graph.specs.declared.steps.Step.{Step}
 use Rattle.ticket_graph.specs.Entries.{entry_cmp, is_ticket, is_entry}
-use Rattle.ticket_graph.specs.Steps.{is_reached, IsStepTo, IsAbove, IsStepAbove, Follows, IsDone}
+use Rattle.ticket_graph.specs.Steps.{is_reached, IsAbove, IsStepAbove, Follows, IsDone}
 use Rattle.order_laws.specs.Ranked.{tid_cmp}
 use Rattle.ticket_graph.specs.Trail.{IsAt, IsSource, IsEdgeStep, IsTrail, is_reached_tid, IsClosed}
 use Rattle.ticket_graph.proofs.EntryLemmas.{some_of-push}

@@ -1,10 +1,10 @@
 -- Reaching attempts and meeting their entries, one by one.
-use Rattle.std.proofs.Common.{ℕ, zero, suc, ◌+◌, ◌<◌, ◌≤◌, ◌≡◌, ◌==◌, ◌⊎◌, Bool, true, false, cond, ◌||◌, ◌&&◌, Option, Some, None, List, [], ◌∷◌, ◌++◌, length, get_or, slice_get, slice_set, refl, sym, ap, ◌∙◌, subst, inl, inr, arith, append_assoc, length-append}
+use Rattle.std.proofs.Common.{ℕ, zero, suc, ◌+◌, ◌<◌, ◌≡◌, ◌==◌, Bool, true, false, cond, Option, Some, List, [], ◌∷◌, ◌++◌, length, get_or, slice_get, slice_set, refl, sym, ap, ◌∙◌, subst, inl, inr, arith, append_assoc, length-append}
 use Rattle.std.proofs.lemmas.Bool.Decides.{nat_tests}
 use Rattle.std.specs.Ordering.{is_eq}
 use Rattle.std.specs.BTreeSet.{BTreeSet, contains, btree_set_len}
 use Rattle.mdb_base.specs.declared.names.SiteTicket.{SiteTicket}
-use Rattle.mdb_base.specs.Words.{Each, Among, some_of}
+use Rattle.mdb_base.specs.Words.{Each, Among}
 use Rattle.order_laws.proofs.Chains.{each_append}
 use Rattle.order_laws.proofs.Lists.{among_weaker, bool_is, or_first, or_second}
 use Rattle.ticket_graph.specs.declared.entries.Entry.{Entry}

@@ -1,14 +1,18 @@
 -- Tickets by rising site, and a graph of attempts with rising numbers.
-use Rattle.std.proofs.Common.{ℕ, ◌≡◌, ◌+◌, ◌<◌, ◌⊎◌, List, [], ◌∷◌, ◌++◌, refl, sym, ap, subst, inl, inr, arith}
+use Rattle.std.proofs.Common.{ℕ, ◌≡◌, ◌+◌, ◌<◌, List, [], ◌∷◌, ◌++◌, refl, sym, ap, ◌∙◌, subst, inl, inr, arith}
+use Rattle.mdb_base.specs.declared.names.SiteId.{SiteId}
+use Rattle.mdb_base.specs.declared.replies.Edge.{Edge}
 use Rattle.mdb_base.specs.declared.names.SiteTicket.{SiteTicket}
 use Rattle.mdb_base.specs.declared.names.Tid.{Tid}
 use Rattle.mdb_base.specs.Rising.{IsRising}
 use Rattle.order_laws.specs.Chains.{In}
-use Rattle.order_laws.specs.Tickets.{Ticketed}
+use Rattle.order_laws.specs.Tickets.{Ticketed, Precedes, IsCycle, HasNoCycle, OneEach}
 use Rattle.order_laws.proofs.Lists.{in_either}
 use Rattle.ticket_graph.specs.declared.verdict.Verdict.{Verdict}
 use Rattle.ticket_graph.specs.declared.verdict.Verdict.TheVariants.{Added, Cycle}
-use Rattle.ticket_graph.specs.Graph.{graph_after, tids_of}
+use Rattle.ticket_graph.specs.Graph.{Graph, floor_of, tids_of, AreAbove, IsAfter}
+use Rattle.ticket_graph.specs.Reach.{floor_in}
+use Rattle.ticket_graph.proofs.GraphLemmas.{tid_in, in_tids, no_loop}
 
 abbrev pub site_of : SiteTicket → ℕ
 site_of ticket = ticket.site.0
@@ -38,11 +42,40 @@ no_more xs ys n h f =
     subst (λ zs. IsRisingBelow zs (n + 1)) (sym f) (record { rising = h.rising; below = λ t i. let k = h.below t i in omega arith })
 
 -- what an attempt with a greater number leaves has smaller numbers than the next one
-pub numbers_after : (old new : List Ticketed) (g : Ticketed) (n : ℕ) (v : Verdict) → new ≡ graph_after old g v → g.tid.tx.0 ≡ n →
-    ((t : Tid) → In t (tids_of old) → t.tx.0 < n) → (t : Tid) → In t (tids_of new) → t.tx.0 < n + 1
-numbers_after old new g n Added e f h t i = by_place (subst (λ ns. In t (tids_of ns)) e i)
+pub numbers_after : (old new : Graph) (g : Ticketed) (n : ℕ) (v : Verdict) → IsAfter old g v new → g.tid.tx.0 ≡ n →
+    ((t : Tid) → In t (tids_of old.kept) → t.tx.0 < n) → (t : Tid) → In t (tids_of new.kept) → t.tx.0 < n + 1
+numbers_after old new g n Added e f h t i = let a = tid_in new.kept t i in by_place a.0 a.2 (e.alone a.0 a.1)
   where
-    by_place : In t (tids_of (g ∷ old)) → t.tx.0 < n + 1
-    by_place (inl p) = let k : t.tx.0 ≡ n = subst (λ (u : Tid). u.tx.0 ≡ n) p f in omega arith
-    by_place (inr j) = let k = h t j in omega arith
-numbers_after old new g n (Cycle es) e f h t i = let k = h t (subst (λ ns. In t (tids_of ns)) e i) in omega arith
+    by_place : (a : Ticketed) → a.tid ≡ t → In a (g ∷ old.kept) → t.tx.0 < n + 1
+    by_place a q (inl p) = let k : t.tx.0 ≡ n = subst (λ (u : Tid). u.tx.0 ≡ n) (ap (λ (x : Ticketed). x.tid) p ∙ q) f in omega arith
+    by_place a q (inr j) = let k = h t (subst (λ u. In u (tids_of old.kept)) q (in_tids old.kept a j)) in omega arith
+numbers_after old new g n (Cycle es) e f h t i = let k = h t (subst (λ (x : Graph). In t (tids_of x.kept)) e i) in omega arith
+
+-- tickets are above floors of 0
+pub above_ground : (floor : SiteId → ℕ) (ks : List SiteTicket) → ((site : SiteId) → floor site ≡ 0) → AreAbove floor ks
+above_ground floor [] h = tt
+above_ground floor (k ∷ ks) h = let e = h k.site in (omega arith, above_ground floor ks h)
+
+-- adding leaves the floors
+pub ground_after : (old new : Graph) (g : Ticketed) (v : Verdict) → IsAfter old g v new → ((site : SiteId) → floor_of old site ≡ 0) →
+    (site : SiteId) → floor_of new site ≡ 0
+ground_after old new g Added w h site = ap (λ fs. floor_in fs site) w.floors ∙ h site
+ground_after old new g (Cycle es) e h site = ap (λ (x : Graph). floor_of x site) e ∙ h site
+
+-- one attempt has no cycle
+pub one_has_no_cycle : (all : List Ticketed) (g : Ticketed) → all ≡ g ∷ [] → IsRising site_of g.tickets → HasNoCycle all
+one_has_no_cycle all g whole rising = subst HasNoCycle (sym whole) none
+  where
+    at : (a : Ticketed) → In a (g ∷ []) → g ≡ a
+    at a (inl e) = e
+    at a (inr i) = absurd i
+
+    none : (t : Tid) (es : List Edge) → IsCycle (g ∷ []) t es → ⊥
+    none t [] c = c.some refl
+    none t (e ∷ es) c =
+        let k = c.edges.0 in
+        no_loop g rising e.site
+        (subst (λ x. Precedes x g e.site) (sym (at k.from k.has_from)) (subst (λ x. Precedes k.from x e.site) (sym (at k.to k.has_to)) k.precedes))
+
+pub one_is_apart : (all : List Ticketed) (g : Ticketed) → all ≡ g ∷ [] → OneEach all
+one_is_apart all g whole = subst OneEach (sym whole) ((λ i. i), tt)

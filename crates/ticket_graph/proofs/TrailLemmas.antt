@@ -1,5 +1,5 @@
 -- Going back along the steps of the search, edge by edge.
-use Rattle.std.proofs.Common.{ℕ, zero, suc, ◌+◌, ◌<◌, ◌≤◌, ◌≡◌, ◌⊎◌, Option, Some, None, List, [], ◌∷◌, ◌++◌, length, reverse, slice_get, get_or, refl, sym, ap, ◌∙◌, subst, inl, inr, arith}
+use Rattle.std.proofs.Common.{ℕ, zero, suc, ◌<◌, ◌≤◌, ◌≡◌, Option, Some, None, List, [], ◌∷◌, ◌++◌, length, reverse, slice_get, refl, sym, ap, ◌∙◌, subst, inl, inr, arith}
 use Rattle.std.proofs.lemmas.List.{reverse-append}
 use Rattle.mdb_base.specs.declared.names.SiteId.{SiteId}
 use Rattle.mdb_base.specs.declared.names.Tid.{Tid}
@@ -8,7 +8,7 @@ use Rattle.mdb_base.specs.Words.{Each}
 use Rattle.order_laws.specs.Chains.{In}
 use Rattle.order_laws.specs.Tickets.{Ticketed, Precedes, IsEdge, Leads, IsCycle}
 use Rattle.ticket_graph.specs.declared.steps.Step.{Step}
-use Rattle.ticket_graph.specs.Trail.{IsAt, IsSource, IsEdgeStep, IsTrail, IsBack}
+use Rattle.ticket_graph.specs.Trail.{IsSource, IsTrail, IsBack}
 
 -- from the target edges lead to the added attempt, and an edge leads to it from the attempt that the place stands for
 pub record IsGoingBack (attempts : List Ticketed) (added : Ticketed) (steps : List Step) (place : Option ℕ) (to : Tid) (site : SiteId) (edges : List Edge) : Type 0 where

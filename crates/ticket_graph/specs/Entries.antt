@@ -1,5 +1,5 @@
 -- The tickets of all attempts, each with the place of its attempt.
-use Rattle.std.specs.Prelude.{ℕ, Bool, ◌==◌, ◌&&◌, List, slice_get}
+use Rattle.std.specs.Prelude.{Bool, ◌==◌, ◌&&◌, List, slice_get}
 use Rattle.std.specs.Ordering.{nat_cmp, ordering_then}
 use Rattle.std.specs.declared.cmp.Ordering.{Ordering}
 use Rattle.mdb_base.specs.declared.names.SiteTicket.{SiteTicket}

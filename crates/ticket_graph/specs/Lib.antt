@@ -1,4 +1,5 @@
 pub mod Entries
 pub mod Steps
 pub mod Trail
+pub mod Reach
 pub mod Graph

@@ -1,18 +1,15 @@
 -- Where the steps of the search come from, and what the search finds.
-use Rattle.std.specs.Prelude.{ℕ, ◌≡◌, ◌<◌, ◌≤◌, Bool, true, false, Option, Some, None, List, ◌∷◌, length, slice_get}
+use Rattle.std.specs.Prelude.{ℕ, ◌≡◌, ◌<◌, Bool, true, Option, Some, None, List, ◌∷◌, slice_get}
 use Rattle.std.specs.BTreeSet.{BTreeSet, contains}
 use Rattle.mdb_base.specs.declared.names.SiteId.{SiteId}
 use Rattle.mdb_base.specs.declared.names.Tid.{Tid}
 use Rattle.mdb_base.specs.Names.{same_tid}
-use Rattle.mdb_base.specs.Words.{Each, some_of, holds_of}
+use Rattle.mdb_base.specs.Words.{some_of, holds_of}
 use Rattle.order_laws.specs.Chains.{In}
 use Rattle.order_laws.specs.Tickets.{Ticketed, Precedes, IsCycle}
-use Rattle.ticket_graph.specs.declared.entries.Entry.{Entry}
 use Rattle.ticket_graph.specs.declared.steps.Step.{Step}
 use Rattle.ticket_graph.specs.declared.find.Finding.{Finding}
 use Rattle.ticket_graph.specs.declared.find.Finding.TheVariants.{Cycle, Reached}
-use Rattle.ticket_graph.specs.Entries.{entry_cmp, is_entry}
-use Rattle.ticket_graph.specs.Steps.{is_reached, IsDone}
 use Rattle.order_laws.specs.Ranked.{tid_cmp}
 
 -- the step at this place goes to the attempt

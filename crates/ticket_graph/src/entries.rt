@@ -5,7 +5,7 @@ ghost use Rattle.mdb_base.specs.Words.{some_of};
 ghost use Rattle.ticket_graph.specs.declared.entries.Entry.{Entry as TheEntry};
 ghost use Rattle.ticket_graph.specs.Entries.{entry_cmp, is_entry, is_ticket};
 
-use crate::attempt::Attempt;
+use crate::added::Added;
 use mdb_base::{Memory, SiteId, SiteTicket};
 use std::alloc::Global;
 use std::collections::BTreeSet;
@@ -19,7 +19,7 @@ pub struct Entry {
 }
 
 /// The tickets of all attempts.
-pub fn entries_of(alloc: Global, attempts: &[Attempt]) -> Result<BTreeSet<Entry>, Memory>
+pub fn entries_of(alloc: Global, attempts: &[Added]) -> Result<BTreeSet<Entry>, Memory>
     ensures { IfOk result (λ entries. (e : TheEntry) → contains entry_cmp entries e ≡ is_entry attempts.now e) }
 {
     let mut entries = BTreeSet::new(alloc);

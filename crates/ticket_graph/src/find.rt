@@ -7,7 +7,7 @@ ghost use Rattle.ticket_graph.specs.declared.steps.Step.{Step as TheStep};
 ghost use Rattle.order_laws.specs.Ranked.{tid_cmp};
 ghost use Rattle.ticket_graph.specs.Trail.{is_reached_tid, IsAt, IsTrail, IsBack, IsFinding};
 
-use crate::attempt::{Attempt, edge_site};
+use crate::added::{Added, edge_site};
 use crate::search::Search;
 use crate::steps::Step;
 use mdb_base::{Edge, Edges, Memory, SiteId, Tid};
@@ -22,7 +22,7 @@ pub enum Finding {
 }
 
 /// Searches along the edges from the added attempt, attempt by attempt in the order of reaching, so that the cycle is a shortest one.
-pub fn find(alloc: Global, attempts: &[Attempt], added: &Attempt) -> Result<Finding, Memory>
+pub fn find(alloc: Global, attempts: &[Added], added: &Added) -> Result<Finding, Memory>
     requires { OneEach attempts.now }
     ensures { IfOk result (IsFinding attempts.now added.now) }
 {
@@ -43,7 +43,7 @@ pub fn find(alloc: Global, attempts: &[Attempt], added: &Attempt) -> Result<Find
 }
 
 /// The attempt that the step at this place goes to.
-fn attempt_at<'a>(attempts: &'a [Attempt], steps: &[Step], place: usize) -> &'a Attempt
+fn attempt_at<'a>(attempts: &'a [Added], steps: &[Step], place: usize) -> &'a Added
     requires place { place < length steps.now }
     requires steps { (place : ℕ) (step : TheStep) → slice_get steps.now place ≡ Some step → step.attempt < length attempts.now }
     ensures { IsAt attempts.now steps.now place result.now }
@@ -52,11 +52,7 @@ fn attempt_at<'a>(attempts: &'a [Attempt], steps: &[Step], place: usize) -> &'a 
 }
 
 /// The attempts that the steps go to.
-fn reached_tids(
-    alloc: Global,
-    attempts: &[Attempt],
-    steps: &[Step],
-) -> Result<BTreeSet<Tid>, Memory>
+fn reached_tids(alloc: Global, attempts: &[Added], steps: &[Step]) -> Result<BTreeSet<Tid>, Memory>
     requires { (place : ℕ) (step : TheStep) → slice_get steps.now place ≡ Some step → step.attempt < length attempts.now }
     ensures { IfOk result (λ tids. (t : TheTid) → contains tid_cmp tids t ≡ is_reached_tid attempts.now steps.now t) }
 {
@@ -70,8 +66,8 @@ fn reached_tids(
 /// The cycle that goes from the added attempt by the steps up to this place, and by an edge at the site back to it.
 fn cycle_of(
     alloc: Global,
-    attempts: &[Attempt],
-    added: &Attempt,
+    attempts: &[Added],
+    added: &Added,
     steps: &[Step],
     last: usize,
     back: SiteId,

@@ -1,112 +1,155 @@
 //! The graph of the tickets of the added attempts.
-ghost use Rattle.std.specs.Prelude.{◌≡◌, [], ◌∷◌, ◌++◌, not, ◌==◌, IfOk, OnOk, OnErr};
-ghost use Rattle.std.specs.Bool.{beq};
-ghost use Rattle.std.specs.BTreeSet.{contains};
-ghost use Rattle.mdb_base.specs.Words.{those};
+ghost use Rattle.std.specs.Prelude.{List, ◌≡◌, ◌↔◌, [], ◌∷◌, ◌<◌, IfOk, OnOk, OnErr};
+ghost use Rattle.mdb_base.specs.declared.names.SiteId.{SiteId as TheSite};
+ghost use Rattle.mdb_base.specs.declared.names.Tid.{Tid as TheTid};
 ghost use Rattle.order_laws.specs.Chains.{In};
-ghost use Rattle.order_laws.specs.Ranked.{tid_cmp};
-ghost use Rattle.ticket_graph.specs.Graph.{graph_after, tids_of, IsTopological, IsVerdict};
+ghost use Rattle.order_laws.specs.Tickets.{Ticketed, HasNoCycle, OneEach};
+ghost use Rattle.ticket_graph.specs.declared.verdict.Verdict.TheVariants as Verdicts;
+ghost use Rattle.ticket_graph.specs.Graph.{attempts_after, floor_of, tids_of, AreAbove, IsAfter, IsForwards, IsPruned, IsTopological, IsVerdict, IsWith, StandsFor};
+ghost use Rattle.ticket_graph.specs.Reach.{highest};
 
-use crate::attempt::Attempt;
+use crate::added::Added;
 use crate::find::{Finding, find};
+use crate::floors::raise;
+use crate::lowest::Lowest;
+use crate::ordered::{insert, keep_reached};
 use crate::verdict::Verdict;
-use mdb_base::{Memory, Tickets, Tid, Tids};
+use mdb_base::{Memory, SiteId, Tickets, Tid, Tids};
 use std::alloc::Global;
-use std::collections::BTreeSet;
 use std::marker::Model;
 
-/// The added attempts with their tickets, which contracts see as their list, the last one first. An edge leads from one to another
+/// The kept attempts with their tickets, so that no edge leads backwards, and the floor of each site. An edge leads from one to another
 /// where at some site both have a ticket and the first one's is smaller. There is no cycle.
 #[derive(Drop)]
 pub struct TicketGraph {
-    /// In the order of adding.
-    attempts: Vec<Attempt>,
-    /// The same attempts, so that no edge leads backwards.
-    order: Vec<Tid>,
+    attempts: Vec<Added>,
+    /// By the number of the site.
+    floors: [u64; 256],
 }
 
 impl Model for TicketGraph {
-    ghost use Rattle.std.specs.Prelude.{List, reverse};
-    ghost use Rattle.order_laws.specs.Tickets.{Ticketed, OneEach};
-    ghost use Rattle.ticket_graph.specs.Graph.{IsTopological};
+    ghost use Rattle.order_laws.specs.Tickets.{OneEach};
+    ghost use Rattle.ticket_graph.specs.Graph.{Graph, IsForwards};
 
-    ghost Value = { List Ticketed };
+    ghost Value = { Graph };
 
-    ghost view = { λ g. reverse g.attempts.items };
+    ghost view = { λ g. record { kept = g.attempts.items; floors = g.floors } };
 
-    ghost invariant = { λ g. OneEach g.attempts.items × IsTopological g.attempts.items g.order.items };
+    ghost invariant = { λ g. OneEach g.attempts.items × IsForwards g.attempts.items };
 }
 
 impl TicketGraph {
     /// The graph of no attempt.
     pub fn new(alloc: Global) -> Result<TicketGraph, Memory>
-        ensures { IfOk result (λ graph. graph ≡ []) }
+        ensures kept { IfOk result (λ graph. graph.kept ≡ []) }
+        ensures floor { IfOk result (λ graph. (site : TheSite) → floor_of graph site ≡ 0) }
     {
         Ok(TicketGraph {
             attempts: Vec::new(alloc),
-            order: Vec::new(alloc),
+            floors: [0; 256],
         })
     }
 
-    /// Adds an attempt that isn't there yet, unless this closes a cycle. Then a shortest cycle through it is named, found from it with
-    /// sites and then tickets rising, and the graph stays as it was. With n attempts at k sites this takes about n times k steps, each of
-    /// them logarithmic. Without memory the graph stays as it was.
+    /// The kept attempts in an order in which no edge leads backwards.
+    pub fn kept(&self) -> &[Added]
+        ensures kept { result.now ≡ self.now.kept }
+        ensures apart { OneEach self.now.kept }
+        ensures forwards { IsForwards self.now.kept }
+    {
+        self.attempts.as_slice()
+    }
+
+    /// The greatest ticket of a dropped attempt at the site, or 0.
+    pub fn floor(&self, site: SiteId) -> u64
+        ensures { result ≡ floor_of self.now site }
+    {
+        self.floors[usize::from(site.0)]
+    }
+
+    /// Adds an attempt that isn't kept yet and whose tickets are at least the floors, unless this closes a cycle. Then a shortest cycle
+    /// through it is named, found from it with sites and then tickets rising, and the graph stays as it was. The answer is the one for
+    /// each list of attempts that the graph stands for. With n kept attempts at k sites this takes about n times k steps, each of them
+    /// logarithmic. Without memory the graph stays as it was.
     pub fn try_add(&mut self, alloc: Global, tid: Tid, tickets: &Tickets) -> Result<Verdict, Memory>
-        requires { In tid (tids_of self.old) → ⊥ }
-        ensures verdict { IfOk result (IsVerdict self.old (record { tid = tid; tickets = tickets.now })) }
-        ensures graph { IfOk result (λ verdict. self.new ≡ graph_after self.old (record { tid = tid; tickets = tickets.now }) verdict) }
+        requires new { In tid (tids_of self.old.kept) → ⊥ }
+        requires above { AreAbove (floor_of self.old) tickets.now }
+        ensures verdict { IfOk result (IsVerdict self.old.kept (record { tid = tid; tickets = tickets.now })) }
+        ensures over_all { IfOk result (λ verdict. (all : List Ticketed) → StandsFor all self.old → OneEach (record { tid = tid; tickets = tickets.now } ∷ all) → IsVerdict all (record { tid = tid; tickets = tickets.now }) verdict) }
+        ensures graph { IfOk result (λ verdict. IsAfter self.old (record { tid = tid; tickets = tickets.now }) verdict self.new) }
+        ensures stands { IfOk result (λ verdict. (all : List Ticketed) → StandsFor all self.old → StandsFor (attempts_after all (record { tid = tid; tickets = tickets.now }) verdict) self.new) }
+        ensures apart { IfOk result (λ verdict. OneEach self.new.kept) }
         ensures memory { OnErr result (self.new ≡ self.old) }
     {
-        let attempt = Attempt::of(alloc, tid, tickets)?;
+        let attempt = Added::of(alloc, tid, tickets)?;
         match find(alloc, self.attempts.as_slice(), &attempt)? {
             Finding::Cycle(edges) => Ok(Verdict::Cycle(edges)),
-            Finding::Reached(reached) => {
-                let order = order_with(alloc, self.order.as_slice(), tid, &reached)?;
-                self.attempts.push(attempt)?;
-                self.order = order;
+            Finding::Reached(_) => {
+                self.keep(alloc, attempt)?;
                 Ok(Verdict::Added)
             }
         }
     }
 
-    /// The attempts in an order in which no edge leads backwards.
-    pub fn order(&self, alloc: Global) -> Result<Tids, Memory>
-        ensures { IfOk result (IsTopological self.now) }
+    /// Keeps an attempt through which no cycle leads. Without memory the graph stays as it was.
+    fn keep(&mut self, alloc: Global, attempt: Added) -> Result<(), Memory>
+        requires new { In attempt.tid (tids_of self.old.kept) → ⊥ }
+        requires no_cycle { IsVerdict self.old.kept attempt Verdicts.Added }
+        ensures kept { OnOk result (IsWith attempt self.old self.new) }
+        ensures apart { OnOk result (OneEach self.new.kept) }
+        ensures memory { OnErr result (self.new ≡ self.old) }
     {
-        let order = Vec::from_slice(alloc, self.order.as_slice())?;
+        insert(alloc, &mut self.attempts, attempt)?;
+        Ok(())
+    }
+
+    /// Drops, until none is left, a kept attempt into which no other kept one has an edge and than which no waiting one has a smaller
+    /// ticket at a common site: it can lie on no cycle to come. What the graph stands for stays. With n kept attempts and w waiting ones
+    /// at k sites this takes about n + w times k steps.
+    pub fn prune(&mut self, waiting: &[Tickets])
+        ensures pruned { IsPruned waiting.now self.old self.new }
+        ensures stands { (all : List Ticketed) → StandsFor all self.old → StandsFor all self.new }
+    {
+        let mut lowest = Lowest::new();
+        lowest.meet_all(waiting);
+        keep_reached(&mut self.attempts, &mut self.floors, lowest);
+    }
+
+    /// Makes the graph anew from attempts that have no cycle: it keeps each of them, and the floors are 0. With n attempts at k sites this
+    /// takes about n times n times k steps. Without memory the graph stays as it was.
+    pub fn restore(&mut self, alloc: Global, commits: Vec<Added>) -> Result<(), Memory>
+        requires apart { OneEach commits.items }
+        requires no_cycle { HasNoCycle commits.items }
+        ensures kept { OnOk result ((a : Ticketed) → In a self.new.kept ↔ In a commits.items) }
+        ensures floor { OnOk result ((site : TheSite) → floor_of self.new site ≡ 0) }
+        ensures stands { OnOk result (StandsFor commits.items self.new) }
+        ensures memory { OnErr result (self.new ≡ self.old) }
+    {
+        let mut graph = TicketGraph::new(alloc)?;
+        for commit in commits {
+            graph.keep(alloc, commit)?;
+        }
+        *self = graph;
+        Ok(())
+    }
+
+    /// Makes a graph that keeps no attempt stand for one more, which is dropped at once: as at a restart, when nobody waits.
+    pub fn forget(&mut self, tickets: &Tickets)
+        requires { self.old.kept ≡ [] }
+        ensures kept { self.new.kept ≡ [] }
+        ensures floor { (site : TheSite) → floor_of self.new site ≡ highest site (floor_of self.old site) tickets.now }
+        ensures stands { (all : List Ticketed) (tid : TheTid) → StandsFor all self.old → StandsFor (record { tid = tid; tickets = tickets.now } ∷ all) self.new }
+    {
+        raise(&mut self.floors, tickets.as_slice());
+    }
+
+    /// The kept attempts in an order in which no edge leads backwards.
+    pub fn order(&self, alloc: Global) -> Result<Tids, Memory>
+        ensures { IfOk result (IsTopological self.now.kept) }
+    {
+        let mut order = Vec::new(alloc);
+        for attempt in &self.attempts {
+            order.push(attempt.tid())?;
+        }
         Ok(Tids::of(order))
     }
-}
-
-/// The order with one more attempt: those that it reaches go behind it.
-fn order_with(
-    alloc: Global,
-    order: &[Tid],
-    tid: Tid,
-    reached: &BTreeSet<Tid>,
-) -> Result<Vec<Tid>, Memory>
-    ensures { IfOk result (λ all. all.items ≡ those (λ t. not (contains tid_cmp reached.now t)) order.now ++ tid ∷ those (contains tid_cmp reached.now) order.now) }
-{
-    let mut all = Vec::with_capacity(alloc, order.len())?;
-    push_those(&mut all, order, reached, false)?;
-    all.push(tid)?;
-    push_those(&mut all, order, reached, true)?;
-    Ok(all)
-}
-
-/// Pushes those of the order that are reached, or those that aren't.
-fn push_those(
-    all: &mut Vec<Tid>,
-    order: &[Tid],
-    reached: &BTreeSet<Tid>,
-    wanted: bool,
-) -> Result<(), Memory>
-    ensures { OnOk result (all.new.items ≡ all.old.items ++ those (λ t. beq (contains tid_cmp reached.now t) wanted) order.now) }
-{
-    for tid in order {
-        if reached.contains(tid) == wanted {
-            all.push(*tid)?;
-        }
-    }
-    Ok(())
 }

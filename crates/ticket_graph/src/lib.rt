@@ -1,15 +1,20 @@
-//! The graph of the tickets of committed attempts, which refuses an attempt that would close a cycle
-//! (Georgakopoulos, Rusinkiewicz, Sheth, TKDE 1994).
+//! The graph of the tickets of committed attempts, which refuses an attempt that would close a cycle and forgets those that can lie
+//! on no cycle to come (tickets and their graph are of Georgakopoulos, Rusinkiewicz, Sheth, TKDE 1994; what is forgotten is this
+//! project's profile).
 #![tactic(auto)]
 
-mod attempt;
+mod added;
 mod entries;
 mod find;
+mod floors;
 mod graph;
+mod lowest;
+mod ordered;
 mod search;
 mod steps;
 mod verdict;
 
+pub use added::Added;
 pub use graph::TicketGraph;
 pub use verdict::Verdict;
 

@@ -6,7 +6,7 @@ ghost use Rattle.ticket_graph.specs.declared.entries.Entry.{Entry as TheEntry};
 ghost use Rattle.ticket_graph.specs.Entries.{entry_cmp, is_entry};
 ghost use Rattle.ticket_graph.specs.Steps.{is_reached, IsAbove, IsDone, Follows, Meets, Reaches};
 
-use crate::attempt::Attempt;
+use crate::added::Added;
 use crate::entries::{Entry, entries_of};
 use crate::steps::Step;
 use mdb_base::{Memory, SiteTicket};
@@ -29,7 +29,7 @@ pub struct Search {
 
 impl Search {
     /// A search that has reached nothing.
-    pub fn new(alloc: Global, attempts: &[Attempt]) -> Result<Search, Memory>
+    pub fn new(alloc: Global, attempts: &[Added]) -> Result<Search, Memory>
         ensures unmet { IfOk result (λ search. (e : TheEntry) → contains entry_cmp search.unmet e ≡ is_entry attempts.now e) }
         ensures steps { IfOk result (λ search. search.steps.items ≡ []) }
     {

@@ -1,10 +1,12 @@
 //! The ticket graph against a plain computation of the definition.
 ghost use Rattle.std.specs.Prelude.{◌≡◌, ◌+◌, ◌<◌, OnOk};
+ghost use Rattle.mdb_base.specs.declared.names.SiteId.{SiteId as TheSite};
 ghost use Rattle.mdb_base.specs.declared.names.Tid.{Tid as TheTid};
 ghost use Rattle.order_laws.specs.Chains.{In};
-ghost use Rattle.ticket_graph.specs.Graph.{tids_of};
+ghost use Rattle.order_laws.specs.Tickets.{HasNoCycle, OneEach};
+ghost use Rattle.ticket_graph.specs.Graph.{floor_of, tids_of};
 
-use crate::{TicketGraph, Verdict};
+use crate::{Added, TicketGraph, Verdict};
 use mdb_base::{Edge, Edges, Memory, SiteId, SiteTicket, Tickets, Tid, Tids, Tx};
 use std::alloc::Global;
 use std::process::Abort;
@@ -26,8 +28,10 @@ fn add(
     number: u32,
     tickets: &Tickets,
 ) -> Result<Verdict, Memory>
-    requires { (t : TheTid) → In t (tids_of graph.old) → t.tx.0 < number }
-    ensures { OnOk result ((t : TheTid) → In t (tids_of graph.new) → t.tx.0 < number + 1) }
+    requires numbers { (t : TheTid) → In t (tids_of graph.old.kept) → t.tx.0 < number }
+    requires floors { (site : TheSite) → floor_of graph.old site ≡ 0 }
+    ensures numbers { OnOk result ((t : TheTid) → In t (tids_of graph.new.kept) → t.tx.0 < number + 1) }
+    ensures floors { OnOk result ((site : TheSite) → floor_of graph.new site ≡ 0) }
 {
     let verdict = graph.try_add(alloc, tid(number), tickets)?;
     Ok(verdict)
@@ -200,5 +204,68 @@ fn opposite_tickets_at_two_sites(rt: HostRuntime) -> Result<(), Fail> {
         site: SiteId(1),
     };
     assert_eq!(rt; edges.as_slice(), [there, back].as_slice());
+    Ok(())
+}
+
+#[test]
+fn where_nobody_waits_nothing_is_kept(rt: HostRuntime) -> Result<(), Fail> {
+    let mut graph = TicketGraph::new(rt.alloc())?;
+    let first = add(&mut graph, rt.alloc(), 1, &tickets_of(rt.alloc(), 2)?)?;
+    let second = add(&mut graph, rt.alloc(), 2, &tickets_of(rt.alloc(), 4)?)?;
+    assert!(rt; matches!(first, Verdict::Added));
+    assert!(rt; matches!(second, Verdict::Added));
+    assert_eq!(rt; graph.kept().len(), 2);
+    graph.prune(&[]);
+    assert!(rt; graph.kept().is_empty());
+    assert_eq!(rt; graph.floor(SiteId(1)), 2);
+    assert_eq!(rt; graph.floor(SiteId(2)), 1);
+    assert_eq!(rt; graph.floor(SiteId(3)), 0);
+    Ok(())
+}
+
+/// The first one has a greater ticket than the waiting one at site 1. Its edge leads to the second one at site 2, so both are kept.
+#[test]
+fn what_waits_holds_those_behind_it(rt: HostRuntime) -> Result<(), Fail> {
+    let mut graph = TicketGraph::new(rt.alloc())?;
+    add(&mut graph, rt.alloc(), 1, &tickets_of(rt.alloc(), 5)?)?;
+    add(&mut graph, rt.alloc(), 2, &tickets_of(rt.alloc(), 6)?)?;
+    add(&mut graph, rt.alloc(), 3, &tickets_of(rt.alloc(), 9)?)?;
+    let waiting = vec![in rt.alloc(); tickets_of(rt.alloc(), 1)?]?;
+    graph.prune(waiting.as_slice());
+    let order = graph.order(rt.alloc())?;
+    assert_eq!(rt; order.as_slice(), [tid(1), tid(2)].as_slice());
+    assert_eq!(rt; graph.floor(SiteId(3)), 1);
+    assert_eq!(rt; graph.floor(SiteId(1)), 0);
+    Ok(())
+}
+
+#[test]
+fn a_restart_keeps_nothing(rt: HostRuntime) -> Result<(), Fail> {
+    let mut graph = TicketGraph::new(rt.alloc())?;
+    graph.forget(&tickets_of(rt.alloc(), 7)?);
+    graph.forget(&tickets_of(rt.alloc(), 5)?);
+    assert!(rt; graph.kept().is_empty());
+    assert_eq!(rt; graph.floor(SiteId(1)), 2);
+    assert_eq!(rt; graph.floor(SiteId(2)), 2);
+    Ok(())
+}
+
+/// The graph of these attempts, which have no cycle.
+fn restored(alloc: Global, commits: Vec<Added>) -> Result<TicketGraph, Memory>
+    requires apart { OneEach commits.items }
+    requires no_cycle { HasNoCycle commits.items }
+{
+    let mut graph = TicketGraph::new(alloc)?;
+    graph.restore(alloc, commits)?;
+    Ok(graph)
+}
+
+#[test]
+fn a_graph_is_made_anew(rt: HostRuntime) -> Result<(), Fail> {
+    let alone = Added::of(rt.alloc(), tid(1), &tickets_of(rt.alloc(), 5)?)?;
+    let graph = restored(rt.alloc(), vec![in rt.alloc(); alone]?)?;
+    assert_eq!(rt; graph.kept().len(), 1);
+    let order = graph.order(rt.alloc())?;
+    assert_eq!(rt; order.as_slice(), [tid(1)].as_slice());
     Ok(())
 }

@@ -1,4 +1,4 @@
-use Rattle.std.proofs.Common.{◌≡◌, false, slice_set, sym, ap, ◌∙◌}
+use Rattle.std.proofs.Common.{false, slice_set, sym, ap, ◌∙◌}
 use Rattle.global_exec.specs.declared.progress.Progress.{Progress}
 use Rattle.global_exec.specs.Counted.{HasRoom, answered}
 use Rattle.global_exec.specs.Live.{is_at}

@@ -1,4 +1,4 @@
-use Rattle.std.proofs.Common.{◌<◌, length, arith}
+use Rattle.std.proofs.Common.{arith}
 use Rattle.std.specs.BTreeSet.{contains}
 use Rattle.ticket_graph.specs.Entries.{entry_cmp}
 use Rattle.ticket_graph.proofs.EntryLemmas.{one_ticket}

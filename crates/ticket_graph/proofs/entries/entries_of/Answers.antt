@@ -1,4 +1,4 @@
-use Rattle.std.proofs.Common.{◌≡◌, ◌==◌, ◌&&◌, ◌||◌, ◌<◌, List, length, sym, subst, arith}
+use Rattle.std.proofs.Common.{◌≡◌, ◌==◌, ◌&&◌, ◌||◌, List, sym, subst, arith}
 use Rattle.std.specs.BTreeSet.{contains}
 use Rattle.mdb_base.specs.declared.names.SiteTicket.{SiteTicket}
 use Rattle.mdb_base.specs.Words.{some_of}
@@ -12,5 +12,5 @@ loop-place-preserved c = λ e.
     let old = contains entry_cmp c.loop-place.entries e in
     let new = contains entry_cmp c.add_entries.new.entries e in
     one_attempt c.args.attempts.now i c.index-attempts-place.result e new old (omega arith) (sym c.index-attempts-place.is)
-    (subst (λ (ts : List SiteTicket). new ≡ (old || ((e.attempt == i) && some_of (is_ticket e) ts))) c.tickets.ensures (c.in_ok-add_entries.ensures e))
+    (subst (λ (ts : List SiteTicket). new ≡ (old || ((e.attempt == i) && some_of (is_ticket e) ts))) c.tickets.ensures.items (c.in_ok-add_entries.ensures e))
     (c.loop-place.invariant e)

@@ -1,7 +1,6 @@
-use Rattle.std.proofs.Common.{ℕ, ◌≡◌, ◌+◌, ◌<◌, suc, Option, Some, None, List, [], ◌∷◌, ◌++◌, length, reverse, get_or, slice_get, refl, sym, ap, ◌∙◌, subst, arith}
+use Rattle.std.proofs.Common.{ℕ, ◌≡◌, ◌<◌, Option, Some, None, [], ◌∷◌, ◌++◌, get_or, slice_get, sym, ap, ◌∙◌, subst}
 use Rattle.mdb_base.specs.declared.names.Tid.{Tid}
-use Rattle.mdb_base.specs.declared.replies.Edge.{Edge}
-use Rattle.order_laws.specs.Tickets.{Ticketed, IsCycle}
+use Rattle.order_laws.specs.Tickets.{IsCycle}
 use Rattle.ticket_graph.specs.declared.steps.Step.{Step}
 use Rattle.ticket_graph.proofs.StepLemmas.{read, here}
 use Rattle.ticket_graph.proofs.TrailLemmas.{IsGoingBack, steps_left, got_within, goes_back, fewer_left, back_ends}

@@ -1,13 +1,11 @@
-use Rattle.std.proofs.Common.{ℕ, ◌≡◌, ◌+◌, ◌<◌, ◌≤◌, Option, Some, None, List, length, slice_get, sym, ap, ◌∙◌, subst, arith}
-use Rattle.mdb_base.specs.declared.names.SiteId.{SiteId}
+use Rattle.std.proofs.Common.{◌≡◌, Some, None, List, sym, ap, ◌∙◌, subst, arith}
 use Rattle.mdb_base.specs.declared.names.SiteTicket.{SiteTicket}
 use Rattle.mdb_base.specs.Words.{Each}
-use Rattle.order_laws.specs.Tickets.{Ticketed, Precedes}
 use Rattle.ticket_graph.specs.declared.steps.Step.{Step}
 use Rattle.ticket_graph.specs.Steps.{IsDone, Follows}
-use Rattle.ticket_graph.specs.Trail.{is_reached_tid, IsAt, IsBack, IsTrail}
+use Rattle.ticket_graph.specs.Trail.{is_reached_tid, IsAt, IsTrail}
 use Rattle.ticket_graph.proofs.EdgeSites.{first_site, site_some, site_none}
-use Rattle.ticket_graph.proofs.Searching.{IsSearching, search_starts, search_goes_on, search_ends, trail_within}
+use Rattle.ticket_graph.proofs.Searching.{search_starts, search_goes_on, search_ends, trail_within}
 use Rattle.ticket_graph.proofs.find.find.Goals as goal
 
 pub loop-next-init : goal.loop-next-init
@@ -17,8 +15,8 @@ loop-next-init c =
     let left = c.follow.new.self.unmet in
     let longer = c.follow.new.self.steps.items in
     search_starts c.args.attempts.now c.args.added.now unmet left steps longer c.in_ok-search.ensures.unmet c.in_ok-search.ensures.steps
-    (subst (λ (ts : List SiteTicket). Follows None ts unmet steps left longer) c.tickets.ensures c.in_ok-follow.ensures.follows)
-    (subst (λ (ts : List SiteTicket). Each (IsDone left) ts) c.tickets.ensures c.in_ok-follow.ensures.done)
+    (subst (λ (ts : List SiteTicket). Follows None ts unmet steps left longer) c.tickets.ensures.items c.in_ok-follow.ensures.follows)
+    (subst (λ (ts : List SiteTicket). Each (IsDone left) ts) c.tickets.ensures.items c.in_ok-follow.ensures.done)
 
 pub attempt_at-attempt-requires-clause-steps : goal.attempt_at-attempt-requires-clause-steps
 attempt_at-attempt-requires-clause-steps c =
@@ -30,8 +28,8 @@ cycle_of-requires-clause-back c =
     let a = c.attempt_at-attempt.result.now in
     let added = c.args.added.now in
     let site : first_site a.tickets added.tickets ≡ Some c.in-Some.back =
-    sym (ap (λ (ts : List SiteTicket). first_site ts c.tickets-in-loop-next-2.result.now) c.tickets-in-loop-next.ensures
-    ∙ ap (λ (ts : List SiteTicket). first_site a.tickets ts) c.tickets-in-loop-next-2.ensures)
+    sym (ap (λ (ts : List SiteTicket). first_site ts c.tickets-in-loop-next-2.result.now) c.tickets-in-loop-next.ensures.items
+    ∙ ap (λ (ts : List SiteTicket). first_site a.tickets ts) c.tickets-in-loop-next-2.ensures.items)
     ∙ (sym c.edge_site.ensures ∙ c.in-Some.is) in
     record {
       attempt = a;
@@ -48,15 +46,15 @@ loop-next-preserved c =
     let left = c.follow-in-loop-next.new.self.unmet in
     let longer = c.follow-in-loop-next.new.self.steps.items in
     let site : first_site a.tickets added.tickets ≡ None =
-    sym (ap (λ (ts : List SiteTicket). first_site ts c.tickets-in-loop-next-2.result.now) c.tickets-in-loop-next.ensures
-    ∙ ap (λ (ts : List SiteTicket). first_site a.tickets ts) c.tickets-in-loop-next-2.ensures)
+    sym (ap (λ (ts : List SiteTicket). first_site ts c.tickets-in-loop-next-2.result.now) c.tickets-in-loop-next.ensures.items
+    ∙ ap (λ (ts : List SiteTicket). first_site a.tickets ts) c.tickets-in-loop-next-2.ensures.items)
     ∙ (sym c.edge_site.ensures ∙ c.in_default.is) in
     let at : IsAt c.args.attempts.now steps c.loop-next.next a =
     subst (λ (ss : List Step). IsAt c.args.attempts.now ss c.loop-next.next a) c.as_slice.ensures.value c.attempt_at-attempt.ensures in
     search_goes_on c.args.attempts.now added unmet left steps longer c.loop-next.next at.step a c.loop-next.invariant at.is_step at.is_attempt
     (site_none a added site)
-    (subst (λ (ts : List SiteTicket). Follows (Some c.loop-next.next) ts unmet steps left longer) c.tickets-in-loop-next-3.ensures c.in_ok-follow-2.ensures.follows)
-    (subst (λ (ts : List SiteTicket). Each (IsDone left) ts) c.tickets-in-loop-next-3.ensures c.in_ok-follow-2.ensures.done)
+    (subst (λ (ts : List SiteTicket). Follows (Some c.loop-next.next) ts unmet steps left longer) c.tickets-in-loop-next-3.ensures.items c.in_ok-follow-2.ensures.follows)
+    (subst (λ (ts : List SiteTicket). Each (IsDone left) ts) c.tickets-in-loop-next-3.ensures.items c.in_ok-follow-2.ensures.done)
 
 pub reached_tids-requires : goal.reached_tids-requires
 reached_tids-requires c =

@@ -1,4 +1,4 @@
-use Rattle.std.proofs.Common.{◌≡◌, ℕ, Bool, false, ◌&&◌, Option, Some, None, List, sym, ap, ◌∙◌}
+use Rattle.std.proofs.Common.{◌≡◌, ℕ, Bool, ◌&&◌, Option, Some, None, List, sym, ap, ◌∙◌}
 use Rattle.mdb_base.specs.Words.{holds_of}
 use Rattle.fed_rules.specs.Coord.{fits}
 use Rattle.fed_rules.specs.declared.messages.Due.{Due}

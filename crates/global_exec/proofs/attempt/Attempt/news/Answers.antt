@@ -1,36 +1,24 @@
-use Rattle.std.proofs.Common.{◌≡◌, ℕ, ◌++◌, false, Option, List, get_or, take, option_to_list, sym, ap, subst, ◌∙◌, arith}
-use Rattle.std.proofs.lemmas.List.{take_all}
+use Rattle.std.proofs.Common.{◌≡◌, ℕ, ◌+◌, ◌++◌, List, length, take, sym, ap, subst, ◌∙◌}
+use Rattle.mdb_base.specs.Programs.{reads_of}
 use Rattle.mdb_base.specs.Rising.{IsRising}
-use Rattle.mdb_base.specs.Words.{found}
-use Rattle.fed_rules.specs.Site_of.{due_site}
-use Rattle.fed_rules.specs.declared.messages.Due.{Due}
-use Rattle.global_exec.specs.declared.progress.Progress.{Progress}
-use Rattle.global_exec.specs.Counted.{news_at}
-use Rattle.global_exec.specs.Live.{site_number}
-use Rattle.global_exec.proofs.DueSites.{news_at_site}
-use Rattle.global_exec.proofs.Finds.{found_more}
-use Rattle.global_exec.proofs.Rises.{found_rises}
+use Rattle.global_exec.specs.Counted.{advanced, answered, counts, value_of}
+use Rattle.global_exec.specs.Firsts.{replaced}
+use Rattle.global_exec.specs.Live.{IsLive, Live, is_at, site_number}
+use Rattle.global_exec.proofs.Lives.{live_advanced}
 use Rattle.global_exec.proofs.attempt.Attempt.news.Goals as goal
 
-abbrev nothing : Progress
-nothing = record { site = record { 0 = 0 }; epoch = 0; n = 0; ticket = false; voted = false }
+pub news-requires-clause-read : goal.news-requires-clause-read
+news-requires-clause-read c =
+    let live : Live = record { tid = c.self.inside.tid; program = c.self.inside.program; reads = c.self.inside.reads.items; done = c.self.inside.done; sites = c.self.inside.sites.items } in
+    let counted = subst (λ (l : Live). counts c.args.site c.args.epoch c.args.n c.args.reply l ≡ _) (sym c.self.view_is) c.requires.counts in
+    let after : IsLive (advanced c.args.site c.args.epoch c.args.reply live) = live_advanced c.args.site c.args.epoch c.args.n c.args.reply live counted c.requires.answers c.self.invariant.0 in
+    ap length (c.as_slice-3.ensures.value ∙ (c.in_ok-reads.ensures ∙ ap (λ (vs : List ℕ). vs ++ value_of c.args.reply) c.as_slice.ensures.value))
+    ∙ (after.reads ∙ ap (λ n. reads_of (take (live.done + n) live.program)) (sym c.steps_of.ensures))
 
-pub loop-progress-preserved : goal.loop-progress-preserved
-loop-progress-preserved c =
-    let items = c.deref-progress-items.result.now in
-    let i = c.loop-progress.progress-index in
-    record {
-      dues =
-          c.put_some.ensures.items ∙ ap (λ (o : Option Due). c.loop-progress.dues.items ++ option_to_list o) (c.news_at.ensures)
-          ∙ ap (λ (ds : List Due). ds ++ option_to_list (news_at c.args.site c.args.before c.args.self.now (get_or items i nothing))) c.loop-progress.invariant.dues
-          ∙ found_more (news_at c.args.site c.args.before c.args.self.now) items i nothing c.loop-progress-test.true;
-      count = omega arith;
-      room = omega arith;
-    }
-
-pub of-requires : goal.of-requires
-of-requires c =
-    let items = c.deref-progress-items.result.now in
-    subst (IsRising (λ (b : Due). (due_site b).0))
-    (sym (c.loop-progress.invariant.dues ∙ ap (found (news_at c.args.site c.args.before c.args.self.now)) (take_all c.loop-progress.progress-index items c.loop-progress-test.false ∙ c.deref-progress-items.ensures.value)))
-    (found_rises site_number (λ (b : Due). (due_site b).0) (news_at c.args.site c.args.before c.args.self.now) (λ p b e. news_at_site p b c.args.site c.args.before c.args.self.now e) c.self.inside.sites.items c.self.invariant.rising)
+pub news-requires-clause-rising : goal.news-requires-clause-rising
+news-requires-clause-rising c =
+    let live : Live = record { tid = c.self.inside.tid; program = c.self.inside.program; reads = c.self.inside.reads.items; done = c.self.inside.done; sites = c.self.inside.sites.items } in
+    let counted = subst (λ (l : Live). counts c.args.site c.args.epoch c.args.n c.args.reply l ≡ _) (sym c.self.view_is) c.requires.counts in
+    let after : IsLive (advanced c.args.site c.args.epoch c.args.reply live) = live_advanced c.args.site c.args.epoch c.args.n c.args.reply live counted c.requires.answers c.self.invariant.0 in
+    subst (IsRising site_number)
+    (sym (c.as_slice-4.ensures.value ∙ (c.in_ok-sites.ensures ∙ ap (replaced (is_at c.args.site) (answered c.args.epoch c.args.reply)) c.as_slice-2.ensures.value))) after.rising

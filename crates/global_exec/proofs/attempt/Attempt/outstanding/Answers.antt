@@ -1,4 +1,4 @@
-use Rattle.std.proofs.Common.{◌≡◌, ℕ, ◌++◌, false, Option, List, get_or, take, option_to_list, sym, ap, subst, ◌∙◌, arith}
+use Rattle.std.proofs.Common.{ℕ, ◌++◌, false, Option, List, get_or, option_to_list, sym, ap, subst, ◌∙◌, arith}
 use Rattle.std.proofs.lemmas.List.{take_all}
 use Rattle.mdb_base.specs.Rising.{IsRising}
 use Rattle.mdb_base.specs.Words.{found}
@@ -33,4 +33,4 @@ of-requires c =
     let items = c.deref-progress-items.result.now in
     subst (IsRising (λ (b : Due). (due_site b).0))
     (sym (c.loop-progress.invariant.dues ∙ ap (found (due c.self.inside.program c.self.inside.done c.self.inside.reads.items)) (take_all c.loop-progress.progress-index items c.loop-progress-test.false ∙ c.deref-progress-items.ensures.value)))
-    (found_rises site_number (λ (b : Due). (due_site b).0) (due c.self.inside.program c.self.inside.done c.self.inside.reads.items) (λ p b e. due_at_site p b c.self.inside.program c.self.inside.done c.self.inside.reads.items e) c.self.inside.sites.items c.self.invariant.rising)
+    (found_rises site_number (λ (b : Due). (due_site b).0) (due c.self.inside.program c.self.inside.done c.self.inside.reads.items) (λ p b e. due_at_site p b c.self.inside.program c.self.inside.done c.self.inside.reads.items e) c.self.inside.sites.items c.self.invariant.0.rising)

@@ -1,10 +1,10 @@
-use Rattle.std.proofs.Common.{◌≡◌, Option, Some, None, List, [], sym, ap, subst, ◌∙◌}
+use Rattle.std.proofs.Common.{◌≡◌, Option, List, [], sym, ap, subst, ◌∙◌}
 use Rattle.mdb_base.specs.Words.{map_some, or_else}
 use Rattle.std.proofs.Common.{IfOk}
 use Rattle.fed_rules.specs.declared.messages.Due.{Due}
 use Rattle.global_exec.specs.Live.{Live, all_due, is_of, live_of}
-use Rattle.global_exec.specs.Firsts.{place_where, replaced, taken_out}
-use Rattle.global_exec.proofs.Firsts.{first-read, missing, set-replaced, stands}
+use Rattle.global_exec.specs.Firsts.{place_where}
+use Rattle.global_exec.proofs.Firsts.{first-read, missing, stands}
 use Rattle.global_exec.proofs.exec.GlobalExec.outstanding.Goals as goal
 
 pub returns-in-None : goal.returns-in-None

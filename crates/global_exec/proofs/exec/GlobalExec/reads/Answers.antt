@@ -1,8 +1,8 @@
-use Rattle.std.proofs.Common.{◌≡◌, Option, Some, None, List, [], sym, ap, subst, ◌∙◌}
+use Rattle.std.proofs.Common.{Option, [], sym, ap, ◌∙◌}
 use Rattle.mdb_base.specs.Words.{map_some, or_else}
 use Rattle.global_exec.specs.Live.{Live, is_of, live_of, reads_of_live}
-use Rattle.global_exec.specs.Firsts.{place_where, replaced, taken_out}
-use Rattle.global_exec.proofs.Firsts.{first-read, missing, set-replaced, stands}
+use Rattle.global_exec.specs.Firsts.{place_where}
+use Rattle.global_exec.proofs.Firsts.{first-read, missing, stands}
 use Rattle.global_exec.proofs.exec.GlobalExec.reads.Goals as goal
 
 pub returns-in-None : goal.returns-in-None

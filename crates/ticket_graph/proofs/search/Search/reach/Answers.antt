@@ -1,5 +1,4 @@
-use Rattle.std.proofs.Common.{◌≡◌, ◌<◌, true, Some, slice_get, length, length-set, subst, refl, sym, ◌∙◌, ap}
-use Rattle.ticket_graph.specs.declared.steps.Step.{Step}
+use Rattle.std.proofs.Common.{◌≡◌, ◌<◌, true, Some, slice_get, length-set, subst, sym, ◌∙◌, ap}
 use Rattle.ticket_graph.proofs.StepLemmas.{already, read, seen_reached}
 use Rattle.ticket_graph.proofs.search.Search.reach.Goals as goal
 
