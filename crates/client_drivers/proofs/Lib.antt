@@ -1,0 +1,4 @@
+pub mod Driving
+pub mod LocalSteps
+pub mod GlobalSteps
+pub mod TapeSteps
