@@ -12,8 +12,8 @@ use fed_rules::Answer;
 use mdb_base::{Tid, Tx};
 
 /// Calls the door until the transaction is committed, the attempts are spent, or `turns` calls were made. After each answer
-/// the next call is that of the table in `docs/RULES.md`: an attempt that runs is asked again, and given up after `tries` agains
-/// of it. A door's error is answered at once.
+/// the next call is that of the crate's table: an attempt that runs is asked again, and given up after `tries` agains of it. A
+/// door's error is answered at once.
 pub fn drive_global<C: CoordDoor>(
     door: &mut C,
     tx: Tx,

@@ -11,8 +11,8 @@ use fed_rules::Answer;
 use mdb_base::Tx;
 
 /// Calls the door until the transaction is committed, the attempts are spent, or `turns` calls were made. After each answer
-/// the next call is that of the table in `docs/RULES.md`: an attempt that is refused is begun again, and one that waits `tries`
-/// times in a row is aborted. A door's error is answered at once.
+/// the next call is that of the crate's table: an attempt that is refused is begun again, and one that waits `tries` times in a
+/// row is aborted. A door's error is answered at once.
 pub fn drive_local<S: SiteDoor>(
     door: &mut S,
     tx: Tx,

@@ -1,11 +1,11 @@
 -- Where lines stand in a trace.
-use Rattle.std.proofs.Common.{◌≡◌, ℕ, ◌<◌, inl, inr, List, [], ◌∷◌, ◌++◌, ap, sym, ◌∙◌, subst, arith}
+use Rattle.std.proofs.Common.{◌≡◌, ℕ, ◌<◌, inl, inr, List, [], ◌∷◌, ◌++◌, refl, ap, sym, ◌∙◌, subst, arith}
 use Rattle.std.proofs.lemmas.Bool.Decides.{eqb_tells}
 use Rattle.mdb_base.proofs.Words.{cond-true, cond-false}
 use Rattle.mdb_base.specs.Words.{Each, Among}
 use Rattle.fed_rules.specs.declared.commands.Stamped.{Stamped}
 use Rattle.trace_merge.specs.Traces.{Entry, IsOrdered, ComesBefore, list_of, lines_of}
-use Rattle.trace_merge.specs.Laws.{EarlierStandsBefore, DeliveriesFollow, HasSent}
+use Rattle.trace_merge.specs.Laws.{EarlierStandsBefore, EachListSplits, DeliveriesFollow, HasSent}
 
 -- none behind the entry has a lesser stamp
 not_behind : (Q : Entry → Type 0) (x : Entry) (es : List Entry) → ((y : Entry) → Q y → y.line.stamp < x.line.stamp) → Each (ComesBefore x) es → Among Q es → ⊥
@@ -64,3 +64,21 @@ deliveries_follow P lists merged trace sends stamp_of sender before behind x pac
     (λ e h. let same = bears stamp_of e.line.stamp packet (sends e.line) h.1.0 h.1.1 in omega arith)
     (subst IsOrdered split trace.ordered) (subst (Among Sending) split (of_actor Marked sender trace.entries found)) in
     among_map Sending (λ e. (e.actor ≡ sender) × HasSent sends packet e.line) before (λ e h. (h.0, h.1.1)) entry
+
+split_lines : (actor : ℕ) (before behind : List Entry) → lines_of actor (before ++ behind) ≡ lines_of actor before ++ lines_of actor behind
+split_lines actor [] behind = refl
+split_lines actor (e ∷ es) behind =
+    let rest = split_lines actor es behind in
+    elim (eqb_tells e.actor actor) [
+      | inl (is, same) ↦
+          cond-true _ (e.line ∷ lines_of actor (es ++ behind)) (lines_of actor (es ++ behind)) is
+          ∙ (ap (λ (xs : List Stamped). e.line ∷ xs) rest
+          ∙ sym (ap (λ (xs : List Stamped). xs ++ lines_of actor behind) (cond-true _ (e.line ∷ lines_of actor es) (lines_of actor es) is)))
+      | inr (isnt, ne) ↦
+          cond-false _ (e.line ∷ lines_of actor (es ++ behind)) (lines_of actor (es ++ behind)) isnt
+          ∙ (rest ∙ sym (ap (λ (xs : List Stamped). xs ++ lines_of actor behind) (cond-false _ (e.line ∷ lines_of actor es) (lines_of actor es) isnt)))
+    ]
+
+pub list_splits : EachListSplits
+list_splits lists merged trace before behind actor split =
+    sym (trace.each_list actor) ∙ (ap (lines_of actor) split ∙ split_lines actor before behind)

@@ -2,7 +2,7 @@
 use Rattle.std.specs.Prelude.{◌≡◌, ℕ, ◌<◌, List, ◌∷◌, ◌++◌}
 use Rattle.mdb_base.specs.Words.{Each, Among}
 use Rattle.fed_rules.specs.declared.commands.Stamped.{Stamped}
-use Rattle.trace_merge.specs.Traces.{Entry, IsTrace, list_of}
+use Rattle.trace_merge.specs.Traces.{Entry, IsTrace, list_of, lines_of}
 
 -- whatever line is looked at, a line of a lesser stamp stands before it
 abbrev pub EarlierStandsBefore : Type 0
@@ -28,3 +28,8 @@ DeliveriesFollow P = (lists : List (List Stamped)) (merged : List Stamped) (trac
 -- no two lists of lines are a trace of the same lists
 abbrev pub OneTrace : Type 0
 OneTrace = (lists : List (List Stamped)) (one other : List Stamped) → IsTrace lists one → IsTrace lists other → one ≡ other
+
+-- what stands before some place in the trace and what stands behind it hold, of each actor, what stands before and behind in its list
+abbrev pub EachListSplits : Type 0
+EachListSplits = (lists : List (List Stamped)) (merged : List Stamped) (trace : IsTrace lists merged) (before behind : List Entry) (actor : ℕ) →
+    trace.entries ≡ before ++ behind → list_of lists actor ≡ lines_of actor before ++ lines_of actor behind

@@ -8,7 +8,8 @@ mod rest;
 
 pub use fed_rules::{Line, Stamped, StampedLines};
 pub use laws::{
-    deliveries_stand_behind_their_sendings, earlier_lines_stand_before, lists_have_one_trace,
+    deliveries_stand_behind_their_sendings, each_list_splits, earlier_lines_stand_before,
+    lists_have_one_trace,
 };
 pub use merge::merge_traces;
 
