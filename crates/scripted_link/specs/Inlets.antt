@@ -1,5 +1,5 @@
 -- What contracts see of an inlet.
-use Rattle.std.specs.Prelude.{List, ◌++◌}
+use Rattle.std.specs.Prelude.{ℕ, List, ◌++◌, Option}
 use Rattle.std.specs.Option.{option_to_list}
 use Rattle.rtrb.specs.Ring.{received, known_items}
 use Rattle.fed_messages.specs.declared.Packet.{Packet}
@@ -18,3 +18,11 @@ taken i = without (received i.consumer) i.back
 -- the packet that was put back, and the others that it knows of: the next ones to be taken
 abbrev pub ahead : Inlet → List Packet
 ahead i = option_to_list i.back ++ known_items i.consumer
+
+-- the packet that was put back
+abbrev pub returned : Inlet → Option Packet
+returned i = i.back
+
+-- how often it gave nothing
+abbrev pub empty_count : Inlet → ℕ
+empty_count i = i.empties

@@ -22,7 +22,7 @@ impl Inlet {
     ghost use mathlib.Core.List.{IsPrefix};
     ghost use Rattle.rtrb.specs.Ring.{received, known_items};
     ghost use Rattle.fed_messages.specs.declared.Packet.{Packet as ThePacket};
-    ghost use Rattle.scripted_link.specs.Inlets.{inlet_ring, taken, ahead};
+    ghost use Rattle.scripted_link.specs.Inlets.{inlet_ring, taken, ahead, returned, empty_count};
     ghost use Rattle.scripted_link.specs.Rings.{popped_ring};
 
     /// The end of a new ring.
@@ -32,8 +32,8 @@ impl Inlet {
         ensures ring { inlet_ring result ≡ popped_ring consumer }
         ensures taken { taken result ≡ [] }
         ensures ahead { ahead result ≡ [] }
-        ensures back { result.back ≡ None }
-        ensures empties { result.empties ≡ 0 }
+        ensures back { returned result ≡ None }
+        ensures empties { empty_count result ≡ 0 }
     {
         Inlet {
             consumer,
@@ -51,8 +51,8 @@ impl Inlet {
         ensures none { IfNone result (taken self.new ≡ taken self.old) }
         ensures none_known { IfNone result ((ahead self.old ≡ []) × (ahead self.new ≡ [])) }
         ensures more { IsPrefix (taken self.old) (taken self.new) }
-        ensures back { self.new.back ≡ None }
-        ensures empties { MatchOption result (self.new.empties ≡ min (self.old.empties + 1) (2 ^ 64 - 1)) (λ _. self.new.empties ≡ self.old.empties) }
+        ensures back { returned self.new ≡ None }
+        ensures empties { MatchOption result (empty_count self.new ≡ min (empty_count self.old + 1) (2 ^ 64 - 1)) (λ _. empty_count self.new ≡ empty_count self.old) }
     {
         if let Some(packet) = self.back.take() {
             return Some(packet);
@@ -68,7 +68,7 @@ impl Inlet {
 
     /// How often `next` gave nothing. At the type's last value the count stands still.
     pub fn empties(&self) -> u64
-        ensures { result ≡ self.now.empties }
+        ensures { result ≡ empty_count self.now }
     {
         self.empties
     }
@@ -76,12 +76,12 @@ impl Inlet {
     /// Makes the packet the next one again, and not taken. The call before was the `next` that gave it. It takes no memory.
     pub fn put_back(&mut self, packet: Packet)
         requires last { (before : List ThePacket) × (taken self.old ≡ before ++ packet ∷ []) }
-        requires back { self.old.back ≡ None }
+        requires back { returned self.old ≡ None }
         ensures ring { inlet_ring self.new ≡ inlet_ring self.old }
         ensures taken { taken self.old ≡ taken self.new ++ packet ∷ [] }
         ensures ahead { ahead self.new ≡ packet ∷ ahead self.old }
-        ensures back { self.new.back ≡ Some packet }
-        ensures empties { self.new.empties ≡ self.old.empties }
+        ensures back { returned self.new ≡ Some packet }
+        ensures empties { empty_count self.new ≡ empty_count self.old }
     {
         self.back = Some(packet);
     }

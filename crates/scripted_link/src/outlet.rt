@@ -24,7 +24,7 @@ pub struct Outlet {
 
 impl Outlet {
     ghost use Rattle.std.specs.Prelude.{◌≡◌, [], ◌∷◌, ◌++◌, OnOk};
-    ghost use Rattle.rtrb.specs.Ring.{sent};
+    ghost use Rattle.rtrb.specs.Ring.{sent, known_free};
     ghost use Rattle.scripted_link.specs.Outlets.{outlet_wire, offered, moved, queued, free_slots, IsReserved};
     ghost use Rattle.scripted_link.specs.Moves.{Moves};
     ghost use Rattle.scripted_link.specs.Rings.{pushed_ring};
@@ -37,6 +37,7 @@ impl Outlet {
         ensures offered { offered result ≡ [] }
         ensures moved { moved result ≡ [] }
         ensures queued { queued result ≡ [] }
+        ensures room { free_slots result ≡ known_free producer }
     {
         Outlet {
             producer,

@@ -1,8 +1,8 @@
 //! A ring with its two ends.
 ghost use Rattle.std.specs.Prelude.{◌≡◌, [], ◌++◌, IfOk};
 ghost use mathlib.Core.List.{IsPrefix};
-ghost use Rattle.scripted_link.specs.Inlets.{inlet_ring, taken, ahead};
-ghost use Rattle.scripted_link.specs.Outlets.{outlet_wire, offered, moved, queued};
+ghost use Rattle.scripted_link.specs.Inlets.{inlet_ring, taken, ahead, empty_count};
+ghost use Rattle.scripted_link.specs.Outlets.{outlet_wire, offered, moved, queued, free_slots};
 ghost use Rattle.scripted_link.specs.Script.{let_through};
 
 use crate::inlet::Inlet;
@@ -24,7 +24,12 @@ pub fn channel(alloc: Global, script: LinkScript) -> Result<Ends, Memory>
     ensures pair { IfOk result (λ ends. inlet_ring ends.inlet ≡ (outlet_wire ends.outlet).ring) }
     ensures script { IfOk result (λ ends. (outlet_wire ends.outlet).script ≡ script) }
     ensures offered { IfOk result (λ ends. offered ends.outlet ≡ []) }
+    ensures moved { IfOk result (λ ends. moved ends.outlet ≡ []) }
+    ensures queued { IfOk result (λ ends. queued ends.outlet ≡ []) }
+    ensures room { IfOk result (λ ends. free_slots ends.outlet ≡ 64) }
     ensures taken { IfOk result (λ ends. taken ends.inlet ≡ []) }
+    ensures ahead { IfOk result (λ ends. ahead ends.inlet ≡ []) }
+    ensures empties { IfOk result (λ ends. empty_count ends.inlet ≡ 0) }
 {
     let (producer, consumer) = RingBuffer::new(alloc, 64)?;
     Ok(Ends {
