@@ -24,9 +24,8 @@ use Rattle.fed_rules.specs.SitePast.{SiteHappening, SitePast, attempts_of, begin
 use Rattle.fed_rules.specs.SitePast as Past
 use Rattle.fed_rules.specs.SiteRecords.{Home, site_frame}
 use Rattle.journal_disk.specs.Disk.{Seen}
-use Rattle.journal_disk.specs.Frames.{IsPayload, frame_size}
+use Rattle.journal_disk.specs.Frames.{IsPayload}
 use Rattle.site_journal.specs.Spelling.{spelling}
-use Rattle.site_journal.specs.Frames.{frame_has_size}
 use Rattle.actor_store.specs.declared.errors.StepErr.TheVariants as Err_is
 use Rattle.site_core.specs.declared.site.SiteCore.{SiteCore}
 use Rattle.actor_store.specs.declared.store.Break.TheVariants.{Stopped, Failed}
@@ -39,6 +38,7 @@ use Rattle.site_core.specs.Store.{Ends, Keeps}
 use Rattle.actor_store.specs.Store.{Passes, is_up}
 use Rattle.site_core.proofs.LineLaws.{commit_refused, commit_seals, live_run}
 use Rattle.site_core.proofs.RunsLaws.{listed_lives}
+use Rattle.site_core.proofs.SetUpLaws.{payload_of}
 use Rattle.site_core.proofs.StandsLaws.{holds_line, up_runs}
 use Rattle.site_core.proofs.StopLaws.{kept_records, answers_as, answers_quiet, epoch_kind, fails_as, passes_is, plain_stop, stands_line, stands_stop, stop_line, stopped_is, trips_is}
 
@@ -61,13 +61,9 @@ puts_of-length (Wrote key value ∷ acts) =
 -- so its record fits a frame
 pub local_fits : (tid : Tid) (number : ℕ) (writes : List Put) (acts : List Access) → writes ≡ puts_of acts → length acts ≤ 32 → IsPayload (spelling (Rec.Local tid number writes))
 local_fits tid number writes acts e few =
-    let size = frame_has_size (Rec.Local tid number writes) in
     let short = puts_of-length acts in
     let same : length writes ≡ length (puts_of acts) = ap length e in
-    payload_of (Rec.Local tid number writes) (site_frame (Rec.Local tid number writes)) size (omega arith)
-  where
-    payload_of : (entry : SiteRecord) (n : ℕ) → frame_size (spelling entry) ≡ n → n < 2 ^ 16 → IsPayload (spelling entry)
-    payload_of entry n e few = omega arith
+    payload_of (Rec.Local tid number writes) (omega arith)
 
 -- the answer to a refused commit is a plain one
 pub refusal_plain : (why : Why) → (stops (refusal_answer why) ≡ false) × (comes_up (refusal_answer why) ≡ false) × ((tx : Tx) → begins_tx tx (refusal_answer why) ≡ false)
