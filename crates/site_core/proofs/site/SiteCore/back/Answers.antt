@@ -46,7 +46,7 @@ returns-in-Ok-clause-failed g c =
     p home past (stored_anew g.E.LocalEngine.stands g.D.Disk.tells c.args.self.now _ (g.D.Disk.seen c.args.disk.now) (g.D.Disk.seen c.reload.new.disk) home past k c.requires.down (c.reload.ensures.keeps _ _ k.stored) c.reload.ensures.standing refl refl))
 
 pub returns-in-Ok-clause-cause : goal.returns-in-Ok-clause-cause
-returns-in-Ok-clause-cause g c = λ e. risen_from _ _ _ c.reload.ensures.faults (c.start_epoch.ensures.cause e)
+returns-in-Ok-clause-cause g c = λ e. risen_from _ _ _ c.reload.ensures.cause.later (c.start_epoch.ensures.cause e)
 
 pub returns-in-Err-Memory-clause-failed : goal.returns-in-Err-Memory-clause-failed
 returns-in-Err-Memory-clause-failed g c = λ home past k.
