@@ -41,7 +41,7 @@ nothing_stands image none synced =
       all = record {
         records = subst (λ (bytes : List ℕ). AreRecordsOf (record_frame spelling) bytes []) (sym none) no_records;
         bytes = ap length none;
-        synced = synced;
+        synced = omega (arith, synced);
       };
       newer = [];
       older = [];
