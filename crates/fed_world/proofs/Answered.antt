@@ -31,7 +31,7 @@ use Rattle.fed_world.specs.Calls.{IsAnswered, IsUnanswered, error_of}
 use Rattle.fed_world.specs.Stands.{IsTold, IsUntold, LocalStands}
 use Rattle.fed_world.specs.Worlds.{HasCause, OthersEmpty, PartStands, SitePart}
 use Rattle.fed_world.proofs.Disks.{own_after, set_rises}
-use Rattle.fed_world.proofs.Handed.{fate_nowhere, back_happens, halt_happens, trip_happens}
+use Rattle.fed_world.proofs.Handed.{fate_nowhere, back_happens, check_happens, halt_happens, trip_happens}
 use Rattle.fed_world.proofs.Told.{get_set_other, no_home, one_at}
 
 -- without a site no actor hears
@@ -50,6 +50,7 @@ none_hears scenario story (Cmd.Fate tx) own at none e = fate_nowhere scenario st
 none_hears scenario story (Cmd.Halt actor cut) own at none e = halt_happens scenario story actor cut ∙ site_nowhere scenario story actor _ _ none at
 none_hears scenario story (Cmd.Trip actor calls cut) own at none e = trip_happens scenario story actor calls cut ∙ site_nowhere scenario story actor _ _ none at
 none_hears scenario story (Cmd.Back actor) own at none e = back_happens scenario story actor ∙ site_nowhere scenario story actor _ _ none at
+none_hears scenario story (Cmd.Check actor) own at none e = check_happens scenario story actor ∙ site_nowhere scenario story actor _ _ none at
 none_hears scenario story (Cmd.Go tx) own at none e = absurd own
 none_hears scenario story (Cmd.Again tid) own at none e = absurd own
 none_hears scenario story (Cmd.Late tid) own at none e = absurd own

@@ -14,7 +14,7 @@ use Rattle.fed_rules.specs.declared.events.SiteEvent.TheVariants as Ev
 use Rattle.fed_rules.specs.declared.scenario.Scenario.{Scenario}
 use Rattle.fed_rules.specs.Happenings.{Trip, is_down, stops, comes_up, stopped, tripped, quiet}
 use Rattle.fed_rules.specs.Runs.{Start, EngineLine, attempts}
-use Rattle.fed_rules.specs.Site.{of_begin, of_act, of_commit, of_abort, of_fate, of_back, answered, reply_to, stop_of, seals_local, unless_tripped, site_line}
+use Rattle.fed_rules.specs.Site.{of_begin, of_act, of_commit, of_abort, of_fate, of_back, of_check, answered, reply_to, stop_of, seals_local, unless_tripped, site_line}
 use Rattle.fed_rules.specs.SitePast.{SiteHappening, SitePast, disk, epoch_start, engine_lines, records, live, live_of_tx, attempts_of, begins_tx, trip}
 use Rattle.fed_rules.specs.SiteRecords.{Home, site_frame, local_of}
 use Rattle.fed_rules.specs.Story.{attempt}
@@ -80,6 +80,10 @@ module _ (scenario : Scenario) (home : Home) (past : SitePast) where
       by_count true = by_quiet _ _ refl refl
       by_count false = by_quiet _ _ refl refl
 
+  by_check : BeginsBy scenario home past (of_check home past)
+  unfolding of_check
+  by_check = at_when (BeginsBy scenario home past) _ _ _ (by_quiet _ _ refl refl) (Stays refl refl (λ start older. refl))
+
   -- the event of a site that is down, or the line of one that is up
   by_here : (event : SiteEvent) (x : SiteHappening) → BeginsBy scenario home past x → BeginsBy scenario home past (when (is_down past) (quiet event Say.Down) (unless_tripped home past x))
   by_here event x d = at_when (BeginsBy scenario home past) (is_down past) _ _ (by_quiet _ _ refl refl) (by_trip x (trip past) d)
@@ -95,6 +99,7 @@ module _ (scenario : Scenario) (home : Home) (past : SitePast) where
   by_line (Ev.Halt cut) own asked = at_when (BeginsBy scenario home past) (is_down past) _ _ (by_quiet _ _ refl refl) (Renews refl)
   by_line (Ev.Trip calls cut) own asked = by_quiet _ _ refl refl
   by_line Ev.Back own asked = at_when (BeginsBy scenario home past) (is_down past) _ _ (by_trip (of_back home past) (trip past) (Renews refl)) (by_quiet _ _ refl refl)
+  by_line Ev.Check own asked = by_here Ev.Check (of_check home past) by_check
   by_line (Ev.Give message) own asked = absurd own
   by_line (Ev.Ask tid) own asked = absurd own
   by_line (Ev.Drop tid) own asked = absurd own

@@ -24,7 +24,7 @@ by_place P place number here there = by_test (place == number) refl
 
 -- no count of faults falls, where that of the changed disk doesn't
 pub set_never_falls : {D : Type 0} (seen : D → Seen) (disks : List D) (number : ℕ) (old new : D) → slice_get disks number ≡ Some old → (seen old).faults ≤ (seen new).faults → NeverFalls seen disks (slice_set disks number new)
-set_never_falls seen disks number old new own later place a b at got =
+set_never_falls {D = D} seen disks number old new own later place a b at got =
     by_place ((seen a).faults ≤ (seen b).faults) place number
     (λ here.
     let first : a ≡ old = one_at disks number a old (subst (λ p. slice_get disks p ≡ Some a) here at) own in
@@ -42,7 +42,7 @@ set_rises seen disks number old new own rose a b at got =
 
 -- the disks themselves
 pub same_never_falls : {D : Type 0} (seen : D → Seen) (disks : List D) → NeverFalls seen disks disks
-same_never_falls seen disks place a b at got = let equal = ap (λ (d : D). (seen d).faults) (one_at disks place a b at got) in omega arith
+same_never_falls {D = D} seen disks place a b at got = let equal = ap (λ (d : D). (seen d).faults) (one_at disks place a b at got) in omega arith
 
 -- one change after another
 pub never_falls_twice : {D : Type 0} (seen : D → Seen) (old mid new : List D) → length old ≡ length mid → NeverFalls seen old mid → NeverFalls seen mid new → NeverFalls seen old new

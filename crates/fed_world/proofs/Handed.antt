@@ -166,3 +166,7 @@ trip_happens scenario story actor calls cut = refl
 pub back_happens : (scenario : Scenario) (story : Story) (actor : ℕ) → happens scenario story (Cmd.Back actor) ≡ on_actor scenario story actor Coord.Back Ev.Back
 unfolding happens
 back_happens scenario story actor = refl
+
+pub check_happens : (scenario : Scenario) (story : Story) (actor : ℕ) → happens scenario story (Cmd.Check actor) ≡ on_actor scenario story actor Coord.Check Ev.Check
+unfolding happens
+check_happens scenario story actor = refl

@@ -24,6 +24,7 @@ pub installed_last : (past : SitePast) (n : ℕ) (rs : List SiteRecord) (tid : T
 installed_last past n [] tid f i = absurd i
 installed_last past n (Rec.Setup site engine protocol items ∷ rs) tid f i = installed_last past n rs tid f.1 i
 installed_last past n (Rec.Start epoch ∷ rs) tid f i = installed_last past n rs tid f.1 i
+installed_last past n (Rec.Checkpoint sum ∷ rs) tid f i = installed_last past n rs tid f.1 i
 installed_last past n (Rec.Prepared t epoch number ticket writes ∷ rs) tid f i = absurd f.0
 installed_last past n (Rec.Ended t decision ∷ rs) tid f i = absurd f.0
 installed_last past n (Rec.Local t number writes ∷ rs) tid f i =

@@ -63,6 +63,7 @@ asked_begun scenario home past tx (Ev.Drop tid) answer state none asked = refl
 asked_begun scenario home past tx (Ev.Halt cut) answer state none asked = refl
 asked_begun scenario home past tx (Ev.Trip calls cut) answer state none asked = refl
 asked_begun scenario home past tx Ev.Back answer state none asked = refl
+asked_begun scenario home past tx Ev.Check answer state none asked = refl
 
 -- so none of its attempts begins
 led_unbegun : (scenario : Scenario) (home : Home) (past : SitePast) (tx : Tx) → local_home scenario tx ≡ None → IsLed IsOwnEvent scenario home past → (kept_of tx past).begun ≡ 0

@@ -10,7 +10,7 @@ use Rattle.fed_rules.specs.declared.events.SiteEvent.TheVariants as Ev
 use Rattle.fed_rules.specs.declared.records.SiteRecord.{SiteRecord}
 use Rattle.fed_rules.specs.Disk.{Disk}
 use Rattle.fed_rules.specs.Happenings.{Trip, is_down, stopped, tripped}
-use Rattle.fed_rules.specs.Site.{of_begin, of_act, of_commit, of_abort, of_fate, of_back, seals_local, answered, unless_tripped, site_line}
+use Rattle.fed_rules.specs.Site.{of_begin, of_act, of_commit, of_abort, of_fate, of_back, of_check, seals_local, answered, unless_tripped, site_line}
 use Rattle.fed_rules.specs.SitePast.{SiteHappening, SitePast, disk, trip}
 use Rattle.fed_rules.specs.SiteRecords.{Home, site_frame}
 use Rattle.local_laws.specs.Sound.{IsOwnEvent}
@@ -47,6 +47,10 @@ silent_fate : (home : Home) (past : SitePast) (tx : Tx) → IsSilent (Ev.Fate tx
 unfolding of_fate
 silent_fate home past tx = at_pick (IsSilent _) _ _ _ (at_pick (IsSilent _) _ _ _ (record { is = refl; sends = refl }) (λ r e. record { is = refl; sends = refl })) (λ t e. record { is = refl; sends = refl })
 
+silent_check : (home : Home) (past : SitePast) → IsSilent Ev.Check (of_check home past)
+unfolding of_check
+silent_check home past = at_when (IsSilent _) _ _ _ (record { is = refl; sends = refl }) (record { is = refl; sends = refl })
+
 silent_up : (home : Home) (past : SitePast) (event : SiteEvent) (x : SiteHappening) → IsSilent event x
     → IsSilent event (when (is_down past) (record { event = event; answer = Say.Down; sends = []; calls = []; lines = [] }) (unless_tripped home past x))
 silent_up home past event x s = at_when (IsSilent event) _ _ _ (record { is = refl; sends = refl }) (silent_tripped (disk home past) (trip past) event x s)
@@ -64,6 +68,7 @@ silent_line home past (Ev.Ask tid) own = absurd own
 silent_line home past (Ev.Drop tid) own = absurd own
 silent_line home past (Ev.Halt cut) own = at_when (IsSilent _) _ _ _ (record { is = refl; sends = refl }) (record { is = refl; sends = refl })
 silent_line home past (Ev.Trip calls cut) own = record { is = refl; sends = refl }
+silent_line home past Ev.Check own = silent_up home past _ _ (silent_check home past)
 silent_line home past Ev.Back own = at_when (IsSilent _) _ _ _ (silent_tripped (disk home past) (trip past) _ _ (record { is = refl; sends = refl })) (record { is = refl; sends = refl })
 
 -- what a core may be handed is an event of its own
@@ -79,3 +84,4 @@ can_own (Ev.Drop tid) home past can = absurd can
 can_own (Ev.Halt cut) home past can = tt
 can_own (Ev.Trip calls cut) home past can = tt
 can_own Ev.Back home past can = tt
+can_own Ev.Check home past can = absurd can

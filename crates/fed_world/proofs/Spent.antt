@@ -14,10 +14,10 @@ use Rattle.fed_rules.specs.Site.{of_begin, site_line}
 use Rattle.fed_rules.specs.SitePast.{SiteHappening, SitePast, live_of_tx, records, trip}
 use Rattle.fed_rules.specs.SiteRecords.{Home, local_of}
 use Rattle.fed_rules.specs.Story.{unless_begun}
+use Rattle.actor_store.specs.Store.{Passes}
+use Rattle.actor_store.proofs.EndsLaws.{passes_none}
 use Rattle.site_core.specs.declared.site.SiteCore.{SiteCore}
 use Rattle.site_core.specs.Stands.{Holds}
-use Rattle.site_core.specs.Store.{Passes}
-use Rattle.site_core.proofs.EndsLaws.{passes_none}
 use Rattle.site_core.proofs.LineLaws.{begin_begun, begin_committed, begin_quiet, begin_running, begin_up}
 use Rattle.site_core.proofs.StopLaws.{passes_is}
 

@@ -74,13 +74,13 @@ module _ {E D : Type 0} (stands : E → Start → List EngineLine → Type 0) (t
 -- no world
 pub unstarted : {D : Type 0} (seen : D → Seen) (why : StepErr) (disks : List D) (old disk : D) (scenario : Scenario) (line : SiteLine) → IsAlone scenario line → AreEmpty seen disks → slice_get disks line.site.0 ≡ Some old
     → (why ≡ Step_err.Memory → (seen disk).size ≡ 0) → (why ≡ Step_err.Disk → SomeStop ((seen disk).image) empty_disk (set_up_calls (home_from scenario line))) → FailsToStart seen (error_of line.site.0 why) (slice_set disks line.site.0 disk) scenario
-unstarted seen Step_err.Memory disks old disk scenario line alone empty own memory broken = record {
+unstarted {D = D} seen Step_err.Memory disks old disk scenario line alone empty own memory broken = record {
   nine = length-set disks line.site.0 disk ∙ empty.nine;
   empty = λ place other got. by_place ((seen other).size ≡ 0) place line.site.0
       (λ here. sym (ap (λ (d : D). (seen d).size) (get_set disks line.site.0 disk other (subst (λ k. slice_get (slice_set disks line.site.0 disk) k ≡ Some other) here got))) ∙ memory refl)
       (λ there. empty.empty place other (get_set_other disks line.site.0 place disk other (λ h. there (sym h)) got));
 }
-unstarted seen Step_err.Disk disks old disk scenario line alone empty own memory broken = record {
+unstarted {D = D} seen Step_err.Disk disks old disk scenario line alone empty own memory broken = record {
   line = line;
   alone = alone;
   number_is = refl;

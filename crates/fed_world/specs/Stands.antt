@@ -80,9 +80,10 @@ AnyCommands commands = Unit {0}
 abbrev pub IsShort : List Command → Type 0
 IsShort commands = length commands < 2 ^ 30
 
--- the numbers that the command may draw fit; an abort draws none
+-- the numbers that the command may draw fit; an abort draws none. Checkpoints aren't among the commands of a world yet
 abbrev pub NumbersFit : Command → List Command → Type 0
 NumbersFit (Cmd.Abort tx) commands = Unit {0}
+NumbersFit (Cmd.Check actor) commands = ⊥
 NumbersFit command commands = IsShort commands
 
 -- what is kept of the transactions behind an answer that may stop the site

@@ -96,7 +96,7 @@ stands_hold_frames stands tells seen world disks scenario commands told sized up
     part_holds_frames stands tells seen world.site disks scenario commands told sized up stood.site stood.others
 
 -- a disk call that failed within the set-up
-pub set_up_breaks : {D : Type 0} (seen : D → Seen) ((seen).size : D → ℕ) (number : ℕ) (old new : List D) (scenario : Scenario)
+pub set_up_breaks : {D : Type 0} (seen : D → Seen) (number : ℕ) (old new : List D) (scenario : Scenario)
     → AreSized seen → SetUpBroke seen number new scenario → RoseAt seen number old new → BreaksAt seen number old new scenario []
 set_up_breaks seen number old new scenario sized b rose = record {
   rose = rose;
@@ -105,7 +105,7 @@ set_up_breaks seen number old new scenario sized b rose = record {
 }
 
 -- and within the event of a command
-part_breaks : {E D : Type 0} (stands : E → Start → List EngineLine → Type 0) (tells : Bool) (seen : D → Seen) ((seen).size : D → ℕ) (number : ℕ) (site : Option (LocalSite E)) (old new : List D) (scenario : Scenario) (commands : List Command)
+part_breaks : {E D : Type 0} (stands : E → Start → List EngineLine → Type 0) (tells : Bool) (seen : D → Seen) (number : ℕ) (site : Option (LocalSite E)) (old new : List D) (scenario : Scenario) (commands : List Command)
     → AreSized seen → PartBroke stands tells seen number site new scenario commands → OthersEmpty seen site new → RoseAt seen number old new → BreaksAt seen number old new scenario commands
 part_breaks stands tells seen number None old new scenario commands sized b o rose = absurd b
 part_breaks stands tells seen number (Some site) old new scenario commands sized b o rose =
@@ -123,7 +123,7 @@ part_breaks stands tells seen number (Some site) old new scenario commands sized
           (others_nothing seen number new sized (λ place one at apart. o.empty place one at (λ e. apart (e ∙ same))));
     }
 
-pub world_breaks : {E D : Type 0} (stands : E → Start → List EngineLine → Type 0) (tells : Bool) (seen : D → Seen) ((seen).size : D → ℕ) (number : ℕ) (world : World E) (old new : List D) (scenario : Scenario) (commands : List Command)
+pub world_breaks : {E D : Type 0} (stands : E → Start → List EngineLine → Type 0) (tells : Bool) (seen : D → Seen) (number : ℕ) (world : World E) (old new : List D) (scenario : Scenario) (commands : List Command)
     → AreSized seen → IsBroken stands tells seen number world new scenario commands → RoseAt seen number old new → BreaksAt seen number old new scenario commands
 world_breaks stands tells seen number world old new scenario commands sized b rose =
     part_breaks stands tells seen number world.site old new scenario commands sized b.site b.others rose

@@ -1,26 +1,32 @@
 -- The nine disks of a session: which one is used, and what they hold in the end. Disk a is that of actor a; actor 0 is the coordinator.
-use Rattle.std.specs.Prelude.{ℕ, suc, nat_lt, ◌≡◌, ◌⊎◌, Bool, cond, is_some, Option, Some, None, List, [], ◌∷◌, reverse, slice_get}
+use Rattle.std.specs.Prelude.{ℕ, suc, nat_lt, ◌≡◌, ◌⊎◌, Bool, cond, is_some, Option, Some, None, List, [], ◌∷◌, map, reverse, slice_get}
 use Rattle.mdb_base.specs.Counts.{HasRisen}
 use Rattle.mdb_base.specs.Words.{map_some}
 use Rattle.fed_rules.specs.declared.commands.Command.{Command}
 use Rattle.fed_rules.specs.declared.events.SiteEvent.{SiteEvent}
 use Rattle.fed_rules.specs.declared.records.SiteRecord.{SiteRecord}
 use Rattle.fed_rules.specs.declared.scenario.Scenario.{Scenario}
-use Rattle.fed_rules.specs.Disk.{Disk, empty_disk}
+use Rattle.fed_rules.specs.Disk.{Disk, empty_disk, journal}
 use Rattle.fed_rules.specs.Scenarios.{home_of}
 use Rattle.fed_rules.specs.Site.{answered}
 use Rattle.fed_rules.specs.SitePast.{SitePast, disk, set_up_calls}
-use Rattle.fed_rules.specs.SiteRecords.{Home}
+use Rattle.fed_rules.specs.SiteRecords.{Home, site_frame}
 use Rattle.fed_rules.specs.Story.{Story, past_of, story_of}
 use Rattle.frame_journal.specs.Records.{spelled}
+use Rattle.journal_rules.specs.Stands.{record_frame}
+use Rattle.actor_store.specs.Store as actor
 use Rattle.journal_disk.specs.Disk.{Image, Seen}
-use Rattle.site_core.specs.Store.{HoldsBytes, SomeStop}
+use Rattle.site_core.specs.Store.{SomeStop}
 use Rattle.site_journal.specs.Spelling.{spelling}
+
+-- how many bytes each disk has
+abbrev pub sizes_of : {D : Type 0} → (D → Seen) → List D → List ℕ
+sizes_of seen disks = map (λ one. (seen one).size) disks
 
 -- the first disk with bytes on it, by their lengths
 abbrev pub first_used : List ℕ → Option ℕ
 first_used [] = None
-first_used (size ∷ sizes) = cond (nat_lt 0 seen) (Some 0) (map_some suc (first_used sizes))
+first_used (size ∷ sizes) = cond (nat_lt 0 size) (Some 0) (map_some suc (first_used sizes))
 
 -- whether some disk has bytes on it
 abbrev pub is_used : List ℕ → Bool
@@ -34,9 +40,17 @@ disk_of (Some home) story = disk home (past_of home.site story)
 abbrev pub disk_at : Scenario → Story → ℕ → Disk SiteRecord
 disk_at scenario story number = disk_of (home_of scenario (record { 0 = number })) story
 
--- the frames of an actor's records, the oldest first
+-- the bytes on a site's disk are those of the rules, synced or not
+abbrev pub HoldsBytes : Image → Disk SiteRecord → Type 0
+HoldsBytes image rules = actor.HoldsBytes spelling site_frame image rules
+
+-- the frames of these records, the newest first
+abbrev pub frames_of : List SiteRecord → List ℕ
+frames_of records = spelled (record_frame spelling) (reverse records)
+
+-- the frames of an actor's records that stand on its disk, the oldest first
 abbrev pub frames_at : Scenario → Story → ℕ → List ℕ
-frames_at scenario story number = spelled spelling (reverse (disk_at scenario story number).records)
+frames_at scenario story number = frames_of (journal site_frame (disk_at scenario story number))
 
 -- each disk holds the frames of its actor's records, and nothing else
 abbrev pub HoldFrames : {D : Type 0} → (D → Seen) → List D → Scenario → Story → Type 0
@@ -55,12 +69,12 @@ HoldOthers {D} seen broken disks scenario story =
 
 -- the bytes are what some stop within the disk calls of one further event of the site leaves
 abbrev pub StopsWithin : Image → Home → SitePast → Type 0
-StopsWithin seen home past = (event : SiteEvent) × SomeStop seen (disk home past) (answered home past event).calls
+StopsWithin image home past = (event : SiteEvent) × SomeStop image (disk home past) (answered home past event).calls
 
 -- or before any event, within its set-up
 abbrev pub Unfinished : Image → Home → List Command → Story → Type 0
-Unfinished seen home done story =
-    StopsWithin seen home (past_of home.site story) ⊎ ((done ≡ []) × SomeStop seen empty_disk (set_up_calls home))
+Unfinished image home done story =
+    StopsWithin image home (past_of home.site story) ⊎ ((done ≡ []) × SomeStop image empty_disk (set_up_calls home))
 
 -- this disk is that of a declared site, and holds what some stop within its next event leaves
 pub record StopAt {D : Type 0} (seen : D → Seen) (number : ℕ) (disks : List D) (scenario : Scenario) (done : List Command) : Type 0 where

@@ -1,5 +1,5 @@
 -- How the top call may end: which status an input leads to, and what the sink has got then.
-use Rattle.std.specs.Prelude.{ℕ, ◌≡◌, ◌⊎◌, Bool, true, false, IsTrue, IfSome, List, [], ◌∷◌, ◌++◌, map}
+use Rattle.std.specs.Prelude.{ℕ, ◌≡◌, ◌⊎◌, Bool, true, false, IsTrue, IfSome, List, [], ◌∷◌, ◌++◌}
 use Rattle.order_laws.specs.Chains.{In}
 use Rattle.mdb_base.specs.Counts.{HasRisen}
 use Rattle.fed_rules.specs.declared.commands.Command.{Command}
@@ -10,7 +10,7 @@ use Rattle.fed_rules.specs.Story.{story_of, lines_of}
 use Rattle.journal_disk.specs.Disk.{Image, Seen}
 use Rattle.scenario_text.specs.declared.session.Session.{Session}
 use Rattle.trace_lines.specs.Spelling.{lines_bytes}
-use Rattle.mdb_top.specs.Disks.{BreaksAt, HoldAll, HoldFrames, HoldNothing, first_used, is_used}
+use Rattle.mdb_top.specs.Disks.{BreaksAt, HoldAll, HoldFrames, HoldNothing, first_used, is_used, sizes_of}
 use Rattle.mdb_top.specs.Sessions.{commands_of, output_of, story, IsRight}
 use Rattle.mdb_top.specs.Streams.{WritesFront}
 use Rattle.mdb_top.specs.Texts.{read_failed_text, too_long_text, no_memory_text, bad_input_text, bad_line_text, disk_failed_text, disk_used_text}
@@ -97,8 +97,8 @@ abbrev pub AreShort : {D : Type 0} → (D → Seen) → List D → List D → Ve
 AreShort seen old new verdict = (new ≡ old) ⊎ SomeSession verdict (IsShort seen old new)
 
 -- the status, what the sink has got and what the disks hold are such as the input leads to
-pub record Ends {D : Type 0} (seen : D → Seen) ((seen).size : D → ℕ) (old new : List D) (verdict : Verdict) (status : ℕ) (tells : Bool) (faults_before faults_after : ℕ) (before after : List ℕ) : Type 0 where
-  pub led : IsLedTo status (is_used (map seen old)) verdict
+pub record Ends {D : Type 0} (seen : D → Seen) (old new : List D) (verdict : Verdict) (status : ℕ) (tells : Bool) (faults_before faults_after : ℕ) (before after : List ℕ) : Type 0 where
+  pub led : IsLedTo status (is_used (sizes_of seen old)) verdict
   pub replayed : status ≡ 0 → SomeSession verdict (IsReplayed tells before after seen new)
   pub refused : status ≡ 2 → Gets tells faults_before faults_after before after (refusal_text verdict)
   pub unread : status ≡ 3 → Gets tells faults_before faults_after before after read_failed_text
@@ -108,4 +108,4 @@ pub record Ends {D : Type 0} (seen : D → Seen) ((seen).size : D → ℕ) (old 
   pub wanting : status ≡ 6 → Gets tells faults_before faults_after before after no_memory_text
   pub short : status ≡ 6 → AreShort seen old new verdict
   pub long : status ≡ 7 → Gets tells faults_before faults_after before after too_long_text
-  pub used : status ≡ 8 → IfSome (first_used (map size old)) (λ number. Gets tells faults_before faults_after before after (disk_used_text number))
+  pub used : status ≡ 8 → IfSome (first_used (sizes_of seen old)) (λ number. Gets tells faults_before faults_after before after (disk_used_text number))

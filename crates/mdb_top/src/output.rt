@@ -9,7 +9,7 @@ ghost use Rattle.locking_engine.specs.Stands.{Stands as EngineStands};
 ghost use Rattle.scenario_text.specs.Kept.{AreCommands};
 ghost use Rattle.trace_lines.specs.Fits.{line_fits};
 ghost use Rattle.trace_lines.specs.Spelling.{lines_bytes};
-ghost use Rattle.mdb_top.specs.Disks.{is_used};
+ghost use Rattle.mdb_top.specs.Disks.{is_used, sizes_of};
 ghost use Rattle.mdb_top.specs.Outputs.{IfBroken, IfWhole, IsOutput};
 ghost use Rattle.mdb_top.specs.Plays.{CanPlay, FailsToPlay, IsPrintable, with_commands};
 ghost use Rattle.mdb_top.specs.Sessions.{printed as printed_bytes};
@@ -123,7 +123,7 @@ pub(crate) fn output_of<D: Disk>(
     requires runs { IsTrue (verdicts.runs_here session) }
     requires commands { AreCommands session.scenario.sites session.commands }
     requires nine { length disks.old.items ≡ 9 }
-    requires unused { is_used (map D.seen disks.old.items) ≡ false }
+    requires unused { is_used (sizes_of D.seen disks.old.items) ≡ false }
     ensures output { IsOutput D.seen result disks.old.items disks.new.items session }
     ensures nine { length disks.new.items ≡ 9 }
 {

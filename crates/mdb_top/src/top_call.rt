@@ -3,7 +3,7 @@ ghost use Rattle.std.specs.Prelude.{◌≡◌, ◌≢◌, ◌↔◌, [], ◌∷�
 ghost use Rattle.mdb_base.specs.Counts.{HasRisen};
 ghost use Rattle.order_laws.specs.Chains.{In};
 ghost use Rattle.scenario_text.specs.Kept.{AreCommands};
-ghost use Rattle.mdb_top.specs.Disks.{first_used as first_used_of, is_used};
+ghost use Rattle.mdb_top.specs.Disks.{first_used as first_used_of, is_used, sizes_of};
 ghost use Rattle.mdb_top.specs.Endings.{AreShort, Ends, Gets, IsBroken, IsCutOff, IsLedTo, IsReplayed, SomeSession};
 ghost use Rattle.mdb_top.specs.Inputs.{SomeInput};
 ghost use Rattle.mdb_top.specs.Texts as texts;
@@ -51,7 +51,7 @@ fn played<K: Sink, D: Disk>(alloc: Global, sink: &mut K, session: Session, disks
     requires runs { IsTrue (verdicts.runs_here session) }
     requires commands { AreCommands session.scenario.sites session.commands }
     requires nine { length disks.old.items ≡ 9 }
-    requires unused { is_used (map D.seen disks.old.items) ≡ false }
+    requires unused { is_used (sizes_of D.seen disks.old.items) ≡ false }
     ensures any { In result (0 ∷ 4 ∷ 5 ∷ 6 ∷ []) }
     ensures ends { Ends D.seen disks.old.items disks.new.items (Runs session) result K.tells (K.faults sink.old) (K.faults sink.new) (K.written sink.old) (K.written sink.new) }
     ensures nine { length disks.new.items ≡ 9 }
@@ -143,7 +143,7 @@ pub fn federate<S: Source, K: Sink, D: Disk>(
     // Which status comes when. Want of memory alone is free.
     ensures usage { (result ≡ 1) ↔ (verdicts.is_replay (map string_bytes words.now) ≡ false) }
     ensures status { IsTrue (verdicts.is_replay (map string_bytes words.now)) →
-        SomeInput S.tells (S.left source.old) (λ input. IsLedTo result (is_used (map D.seen disks.old.items)) (verdict input)) }
+        SomeInput S.tells (S.left source.old) (λ input. IsLedTo result (is_used (sizes_of D.seen disks.old.items)) (verdict input)) }
     ensures read_failed { result ≡ 3 → HasRisen (S.faults source.old) (S.faults source.new) }
     ensures write_failed { result ≡ 4 → HasRisen (K.faults sink.old) (K.faults sink.new) }
 
@@ -169,7 +169,7 @@ pub fn federate<S: Source, K: Sink, D: Disk>(
         AreShort D.seen disks.old.items disks.new.items (verdict input)) }
     ensures too_long { result ≡ 7 →
         Gets K.tells (K.faults sink.old) (K.faults sink.new) (K.written sink.old) (K.written sink.new) texts.too_long_text }
-    ensures used { result ≡ 8 → IfSome (first_used_of (map D.seen disks.old.items)) (λ number.
+    ensures used { result ≡ 8 → IfSome (first_used_of (sizes_of D.seen disks.old.items)) (λ number.
         Gets K.tells (K.faults sink.old) (K.faults sink.new) (K.written sink.old) (K.written sink.new) (texts.disk_used_text number)) }
     ensures untouched { In result (1 ∷ 2 ∷ 3 ∷ 7 ∷ 8 ∷ []) → disks.new ≡ disks.old }
     ensures still_nine { length disks.new.items ≡ 9 }
