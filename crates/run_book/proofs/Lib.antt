@@ -1,0 +1,17 @@
+pub mod Ages
+pub mod Calls
+pub mod Carried
+pub mod Commits
+pub mod HeldBy
+pub mod Installs
+pub mod Kept
+pub mod KeptRows
+pub mod Numbers
+pub mod Promises
+pub mod RowLemmas
+pub mod RunMaps
+pub mod Starts
+pub mod Steps
+pub mod Tables
+pub mod ValueLemmas
+pub mod Words
