@@ -1,8 +1,10 @@
 pub mod Ages
+pub mod BookLemmas
 pub mod Calls
 pub mod Carried
 pub mod Commits
 pub mod HeldBy
+pub mod InOrder
 pub mod Installs
 pub mod Kept
 pub mod KeptRows
