@@ -1,4 +1,5 @@
 pub mod Ages
+pub mod Best
 pub mod BookLemmas
 pub mod Calls
 pub mod Carried
@@ -8,6 +9,7 @@ pub mod InOrder
 pub mod Installs
 pub mod Kept
 pub mod KeptRows
+pub mod Members
 pub mod Numbers
 pub mod Promises
 pub mod RowLemmas
@@ -15,5 +17,6 @@ pub mod RunMaps
 pub mod Starts
 pub mod Steps
 pub mod Tables
+pub mod Unended
 pub mod ValueLemmas
 pub mod Words
