@@ -15,7 +15,7 @@ use Rattle.run_book.specs.Rivals.{IsOldest}
 use Rattle.locking_engine.specs.declared.holders.Place.{Place}
 use Rattle.locking_engine.specs.Holders.{Holders, place_of, held_by, is_touched, IsOldestOther}
 use Rattle.locking_engine.specs.Stands.{HasDone, AreHolders}
-use Rattle.locking_engine.proofs.Places.{same_place, holder-put}
+use Rattle.locking_engine.proofs.Places.{same_place, place-equal, holder-put}
 
 -- no two runs are of one age
 abbrev pub AgesDiffer : (Tid → Option Run) → Type 0
@@ -100,17 +100,6 @@ or_right : (x y : Bool) → y ≡ true → (x || y) ≡ true
 or_right true y e = refl
 or_right false y e = e
 
-parts_same : (x y : Bool) → (x && y) ≡ true → (x ≡ true) × (y ≡ true)
-parts_same true true e = (refl, refl)
-parts_same true false e = cc
-parts_same false y e = cc
-
-pub same_place-equal : (a b : Place) → same_place a b ≡ true → a ≡ b
-same_place-equal a b e =
-    let both = parts_same (nat_eq a.key b.key) (nat_eq a.age b.age) e in
-    ap (λ (n : ℕ). let q : Place = record { key = n; age = a.age } in q) (eqb-true a.key b.key both.0)
-    ∙ ap (λ (n : ℕ). let q : Place = record { key = b.key; age = n } in q) (eqb-true a.age b.age both.1)
-
 elsewhere : (m : Holders) (p q : Place) (t : Tid) (b : Bool) → same_place q p ≡ false → get (cond b m (insert m p t)) q ≡ get m q
 elsewhere m p q t true e = refl
 elsewhere m p q t false e = holder-put m p q t ∙ cond-false _ _ _ e
@@ -147,7 +136,7 @@ holders_hold does m runs now t key was is apart h before after age adds others =
     put k a = by_test (same_place (place_of k a) p) refl
       where
         by_test : (b : Bool) → same_place (place_of k a) p ≡ b → get (held_by p t m) (place_of k a) ≡ cond b (Some t) (get m (place_of k a))
-        by_test true e = ap (λ (q : Place). get (held_by p t m) q) (same_place-equal (place_of k a) p e) ∙ stands (get m p) refl
+        by_test true e = ap (λ (q : Place). get (held_by p t m) q) (place-equal (place_of k a) p e) ∙ stands (get m p) refl
         by_test false e = elsewhere m p (place_of k a) t (is_some (get m p)) e
 
     goes : (k : Key) (a : ℕ) (u : Tid) → HasDone does runs u k a → HasDone does now u k a
@@ -168,7 +157,7 @@ holders_hold does m runs now t key was is apart h before after age adds others =
     by_place : (k : Key) (a : ℕ) (u : Tid) (b : Bool) → same_place (place_of k a) p ≡ b → cond b (Some t) (get m (place_of k a)) ≡ Some u → HasDone does now u k a
     by_place k a u true e at =
         let here : t ≡ u = cc in
-        let place = same_place-equal (place_of k a) p e in
+        let place = place-equal (place_of k a) p e in
         let same : same_key key k ≡ true = eq-eqb key.0 k.0 (sym (ap (λ (q : Place). q.key) place)) in
         record {
           run = is;
@@ -200,7 +189,7 @@ holders_hold does m runs now t key was is apart h before after age adds others =
         not_there : (u : Tid) (run : Run) (k : Key) (b : Bool) → same_place (place_of k run.age) p ≡ b → runs u ≡ Some run → same_tid t u ≡ false → get m (place_of k run.age) ≡ Some u →
             cond b (Some t) (get m (place_of k run.age)) ≡ Some u
         not_there u run k true f at apart_tids stood =
-            let one = apart u t run was at before (ap (λ (q : Place). q.age) (same_place-equal (place_of k run.age) p f)) in
+            let one = apart u t run was at before (ap (λ (q : Place). q.age) (place-equal (place_of k run.age) p f)) in
             let bad : same_tid t u ≡ true = ap (λ (x : Tid). same_tid t x) one ∙ same_tid-refl t in cc
         not_there u run k false f at apart_tids stood = stood
 

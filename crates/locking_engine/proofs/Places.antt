@@ -1,5 +1,5 @@
 -- Keys and ages, by key and then by age.
-use Rattle.std.proofs.Common.{◌≡◌, ℕ, ◌<◌, ◌≤◌, ◌⊎◌, Bool, true, false, ◌&&◌, cond, nat_eq, nat_lt, is_some, Option, Some, None, List, [], ◌∷◌, inl, inr, refl, sym, ap, ◌∙◌, arith}
+use Rattle.std.proofs.Common.{◌≡◌, ℕ, ◌<◌, ◌≤◌, ◌⊎◌, Bool, true, false, not, ◌&&◌, cond, nat_eq, nat_lt, is_some, Option, Some, None, List, [], ◌∷◌, inl, inr, refl, sym, ap, ◌∙◌, arith}
 use Rattle.std.specs.declared.cmp.Ordering.{Ordering}
 use Rattle.std.specs.declared.cmp.Ordering.TheVariants.{Less, Equal, Greater}
 use Rattle.std.specs.Cmp.{IsTotalOrder, nat_cmp_total, ranked}
@@ -39,6 +39,17 @@ ties a b =
     both_eq (nat_cmp a.key b.key) (nat_cmp a.age b.age)
     ∙ ap (λ (x : Bool). x && is_eq (nat_cmp a.age b.age)) (ties_nat a.key b.key)
     ∙ ap (λ (y : Bool). nat_eq a.key b.key && y) (ties_nat a.age b.age)
+
+parts_same : (x y : Bool) → (x && y) ≡ true → (x ≡ true) × (y ≡ true)
+parts_same true true e = (refl, refl)
+parts_same true false e = cc
+parts_same false y e = cc
+
+pub place-equal : (a b : Place) → same_place a b ≡ true → a ≡ b
+place-equal a b e =
+    let both = parts_same (nat_eq a.key b.key) (nat_eq a.age b.age) e in
+    ap (λ (n : ℕ). let q : Place = record { key = n; age = a.age } in q) (eqb-true a.key b.key both.0)
+    ∙ ap (λ (n : ℕ). let q : Place = record { key = b.key; age = n } in q) (eqb-true a.age b.age both.1)
 
 -- what a map of holders has at a place after one is put in or taken out
 pub holder-put : (m : Holders) (p q : Place) (t : Tid) → get (insert m p t) q ≡ cond (same_place q p) (Some t) (get m q)
@@ -130,3 +141,16 @@ held_there m p t e = sym (cond-true _ _ _ e)
 
 pub held_new : (m : Holders) (p : Place) (t : Tid) → is_some (get m p) ≡ false → insert m p t ≡ held_by p t m
 held_new m p t e = sym (cond-false _ _ _ e)
+
+-- who was put in where nobody stood is taken out again
+pub undone : (m : Holders) (p : Place) (t : Tid) → not (is_some (get m p)) ≡ true → remove (held_by p t m) p ≡ m
+undone m p t fresh = by_there (get m p) refl fresh
+  where
+    none_at : (q : Place) (b : Bool) → same_place q p ≡ b → get m p ≡ None → cond b None (cond b (Some t) (get m q)) ≡ get m q
+    none_at q true e none = sym (ap (λ (x : Place). get m x) (place-equal q p e) ∙ none)
+    none_at q false e none = refl
+
+    by_there : (o : Option Tid) → get m p ≡ o → not (is_some o) ≡ true → remove (cond (is_some o) m (insert m p t)) p ≡ m
+    by_there None none e =
+        same_holders_map _ _ (λ q. holder-gone (insert m p t) p q ∙ (ap (λ (o : Option Tid). cond (same_place q p) None o) (holder-put m p q t) ∙ none_at q (same_place q p) refl none))
+    by_there (Some u) is e = cc

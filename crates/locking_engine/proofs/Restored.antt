@@ -15,8 +15,8 @@ use Rattle.fed_rules.specs.EngineLines.{AreApart, AllApart, has_row}
 use Rattle.locking_engine.specs.declared.holders.Place.{Place}
 use Rattle.locking_engine.specs.Holders.{Holders, place_cmp, place_of, held_by, with_rows_held, with_restored}
 use Rattle.locking_engine.specs.Stands.{HasDone, AreHolders}
-use Rattle.locking_engine.proofs.Holding.{same_place-equal, self_place, some_is}
-use Rattle.locking_engine.proofs.Places.{same_place, holder-put}
+use Rattle.locking_engine.proofs.Holding.{self_place, some_is}
+use Rattle.locking_engine.proofs.Places.{same_place, place-equal, holder-put}
 
 -- the writes of a restored run are the rows of its record
 written_rows : (key : Key) (puts : List Put) → some_of (writes key) (written puts) ≡ has_row key puts
@@ -48,7 +48,7 @@ rows-other t age (row ∷ rows) m q apart =
     ∙ held-other m (place_of row.key age) q t (by_test (same_place q (place_of row.key age)) refl)
   where
     by_test : (b : Bool) → same_place q (place_of row.key age) ≡ b → b ≡ false
-    by_test true e = absurd (apart (ap (λ (p : Place). p.age) (same_place-equal q (place_of row.key age) e)))
+    by_test true e = absurd (apart (ap (λ (p : Place). p.age) (place-equal q (place_of row.key age) e)))
     by_test false e = refl
 
 -- nobody else stands at this age
@@ -58,7 +58,7 @@ IsFor m age t = (key : Key) → (get m (place_of key age) ≡ None) ⊎ (get m (
 is_for-held : (m : Holders) (age : ℕ) (t : Tid) (key : Key) → IsFor m age t → IsFor (held_by (place_of key age) t m) age t
 is_for-held m age t key free k =
     elim (cases_Bool (same_place (place_of k age) (place_of key age))) [
-      | inl e ↦ inr (ap (λ (q : Place). get (held_by (place_of key age) t m) q) (same_place-equal (place_of k age) (place_of key age) e) ∙ held-own m (place_of key age) t (free key))
+      | inl e ↦ inr (ap (λ (q : Place). get (held_by (place_of key age) t m) q) (place-equal (place_of k age) (place_of key age) e) ∙ held-own m (place_of key age) t (free key))
       | inr e ↦ elim (free k) [
         | inl none ↦ inl (held-other m (place_of key age) (place_of k age) t e ∙ none)
         | inr here ↦ inr (held-other m (place_of key age) (place_of k age) t e ∙ here)
@@ -70,7 +70,7 @@ other_place key other age e = by_test (same_place (place_of key age) (place_of o
   where
     by_test : (b : Bool) → same_place (place_of key age) (place_of other age) ≡ b → b ≡ false
     by_test true f =
-        let same = ap (λ (q : Place). q.key) (same_place-equal (place_of key age) (place_of other age) f) in
+        let same = ap (λ (q : Place). q.key) (place-equal (place_of key age) (place_of other age) f) in
         let bad : same_key other key ≡ true = eq-eqb other.0 key.0 (sym same) in cc
     by_test false f = refl
 

@@ -52,7 +52,7 @@ fn grant(
 }
 
 impl LockingEngine {
-    ghost use Rattle.std.specs.Prelude.{◌≡◌, [], IfOk, IsSome, IfSome};
+    ghost use Rattle.std.specs.Prelude.{◌≡◌, [], None, IfOk, IsSome, IfSome, is_some, cond};
     ghost use Rattle.mdb_base.specs.declared.names.Engine.TheVariants.{Locking};
     ghost use Rattle.engine_contract.specs.Calls.{fresh_start};
     ghost use Rattle.run_book.specs.Held.{held_in};
@@ -118,6 +118,15 @@ impl LockingEngine {
         self.readers.release(run);
         self.writers.release(run);
         if run.ticket().is_some() && run.sealed().is_none() {
+            self.taker = None;
+        }
+    }
+
+    /// A ticket that is published is held no longer.
+    fn publish(&mut self, ticket: Option<u64>)
+        ensures { self.new ≡ record self.old { taker = cond (is_some ticket) None self.old.taker } }
+    {
+        if ticket.is_some() {
             self.taker = None;
         }
     }
@@ -196,9 +205,7 @@ impl LocalEngine for LockingEngine {
         let ticket = run.ticket();
         let number = self.book.marks().counter + 1;
         self.book.seal(alloc, tid, number)?;
-        if ticket.is_some() {
-            self.taker = None;
-        }
+        self.publish(ticket);
         Ok(Sealed {
             number,
             ticket,

@@ -27,6 +27,10 @@ pub of_found : (P : Held → Type 0) (o : Option Held) (held : Held) → o ≡ S
 of_found P None held is h = cc
 of_found P (Some other) held is h = let same : other ≡ held = cc in subst P same h
 
+pub if_found : (P : Held → Type 0) (o : Option Held) (held : Held) → o ≡ Some held → P held → IfSome o P
+if_found P None held is h = cc
+if_found P (Some other) held is h = let same : held ≡ other = cc in subst P same h
+
 pub of_ticket : (o : Option ℕ) (ticket next : ℕ) → o ≡ Some ticket → IfSome o (λ t. t ≡ next) → ticket ≡ next
 of_ticket None ticket next is h = cc
 of_ticket (Some other) ticket next is h = let same : other ≡ ticket = cc in sym same ∙ h
