@@ -13,6 +13,8 @@ use run_book::{Granted, HeldRun, Marks, Rival, RunBook};
 use std::alloc::Global;
 
 #[cfg(test)]
+mod table_tests;
+#[cfg(test)]
 mod tests;
 
 /// A local engine that locks what its runs read and write. It keeps its runs in a book, and beside it for each key who has read it
