@@ -1,19 +1,16 @@
 -- Who holds the keys and the ticket, through each line.
-use Rattle.std.proofs.Common.{◌≡◌, ℕ, ◌<◌, ◌≤◌, ◌⊎◌, Bool, true, false, ◌&&◌, ◌||◌, cond, is_some, nat_eq, nat_lt, Option, Some, None, List, [], ◌∷◌, inl, inr, refl, sym, ap, ◌∙◌, subst, arith}
+use Rattle.std.proofs.Common.{◌≡◌, ℕ, Bool, true, false, ◌&&◌, ◌||◌, cond, is_some, nat_eq, Option, Some, None, List, ◌∷◌, inl, inr, refl, sym, ap, ◌∙◌, subst}
 use Rattle.std.specs.FinMap.{get, insert}
-use Rattle.std.proofs.lemmas.Bool.{cond-true, cond-false, cases_Bool, eqb-true, eq-eqb, ltb-true, ltb-false}
+use Rattle.std.proofs.lemmas.Bool.{cond-true, cond-false, cases_Bool, eqb-true, eq-eqb}
 use Rattle.mdb_base.specs.declared.names.Key.{Key}
 use Rattle.mdb_base.specs.declared.names.Tid.{Tid}
 use Rattle.mdb_base.specs.Names.{same_tid, same_key}
 use Rattle.mdb_base.proofs.NameLaws.{same_tid-equal, same_tid-refl}
 use Rattle.mdb_base.specs.Words.{some_of}
-use Rattle.fed_rules.specs.Runs.{Start, EngineLine, Access, Run, tid_of, changed, run_at}
+use Rattle.fed_rules.specs.Runs.{Start, EngineLine, Run, tid_of, changed, run_at}
 use Rattle.fed_rules.specs.Replies.{access_key}
-use Rattle.engine_contract.proofs.Follows.{run_at-own, run_at-other}
-use Rattle.run_book.specs.declared.rival.Rival.{Rival}
-use Rattle.run_book.specs.Rivals.{IsOldest}
 use Rattle.locking_engine.specs.declared.holders.Place.{Place}
-use Rattle.locking_engine.specs.Holders.{Holders, place_of, held_by, is_touched, IsOldestOther}
+use Rattle.locking_engine.specs.Holders.{Holders, place_of, held_by, is_touched}
 use Rattle.locking_engine.specs.Stands.{HasDone, AreHolders}
 use Rattle.locking_engine.proofs.Places.{same_place, place-equal, holder-put}
 

@@ -1,43 +1,33 @@
 -- A locking engine through each line: its book, its holders and the ticket's taker.
-use Rattle.std.proofs.Common.{◌≡◌, ℕ, ◌+◌, ◌<◌, ◌≤◌, Bool, true, false, not, ◌&&◌, ◌||◌, cond, is_some, Option, Some, None, IfSome, List, [], ◌∷◌, inl, inr, refl, sym, ap, ◌∙◌, subst, arith}
-use Rattle.std.specs.FinMap.{empty, get}
-use Rattle.std.proofs.lemmas.Bool.{cond-true, cond-false, cases_Bool}
-use Rattle.mdb_base.specs.declared.names.Engine.{Engine}
+use Rattle.std.proofs.Common.{◌≡◌, ℕ, Bool, true, false, not, ◌&&◌, ◌||◌, cond, is_some, Option, Some, None, List, [], ◌∷◌, inl, inr, refl, sym, ap, ◌∙◌, subst, arith}
+use Rattle.std.proofs.lemmas.Bool.{cases_Bool}
 use Rattle.mdb_base.specs.declared.names.Engine.TheVariants.{Locking}
 use Rattle.mdb_base.specs.declared.names.Key.{Key}
 use Rattle.mdb_base.specs.declared.names.Tid.{Tid}
-use Rattle.mdb_base.specs.declared.acts.PlainAct.{PlainAct}
 use Rattle.mdb_base.specs.declared.acts.PlainAct.TheVariants.{Read, Write}
-use Rattle.mdb_base.specs.declared.replies.Reply.{Reply}
 use Rattle.mdb_base.specs.declared.replies.Reply.TheVariants.{Done, Value, Ticket, Wait, Refused, Unknown}
-use Rattle.mdb_base.specs.declared.replies.Why.{Why}
 use Rattle.mdb_base.specs.Names.{same_tid, same_key}
 use Rattle.mdb_base.proofs.NameLaws.{same_tid-equal}
 use Rattle.mdb_base.specs.Words.{some_of}
-use Rattle.fed_rules.specs.Runs.{Start, EngineLine, Begins, Acts, Takes, Seals, Refuses, Commits, Aborts, Access, Got, Wrote, Run, tid_of, begun, changed, gives_up, run_at, is_sealed, has_ticket, counter, published, after}
-use Rattle.fed_rules.specs.Replies.{access_key, reads, writes, has_read, has_written, access_stop, ticket_stop, seal_stop, seal_number, granted, granted_by, rule, or_reply}
-use Rattle.fed_rules.specs.EngineLines.{IsRightLine, IsFree}
+use Rattle.fed_rules.specs.Runs.{Start, EngineLine, Begins, Acts, Takes, Seals, Refuses, Commits, Aborts, Access, Got, Wrote, Run, tid_of, begun, changed, gives_up, run_at}
+use Rattle.fed_rules.specs.Replies.{access_key, reads, writes, has_read, has_written}
+use Rattle.fed_rules.specs.EngineLines.{IsRightLine}
 use Rattle.engine_contract.proofs.Follows.{run_at-own, run_at-other}
 use Rattle.engine_laws.proofs.LockingTickets.{locking_one_taker}
 use Rattle.engine_laws.proofs.Takers.{IsTaker, HasOneTaker}
-use Rattle.run_book.specs.declared.marks.Marks.{Marks}
 use Rattle.run_book.specs.declared.rival.Rival.{Rival}
 use Rattle.run_book.specs.Held.{Held, held_in}
-use Rattle.run_book.specs.Book.{Book, RoomyBook, begins, grants, tickets, seals, drops, commits, table_in}
-use Rattle.run_book.specs.Keeps.{Keeps, KeepsRoomy}
+use Rattle.run_book.specs.Book.{RoomyBook, grants, drops}
+use Rattle.run_book.specs.Keeps.{KeepsRoomy}
 use Rattle.run_book.specs.Laws.{IsCalled}
-use Rattle.run_book.specs.Rivals.{rival_by, IsOldest}
+use Rattle.run_book.specs.Rivals.{IsOldest}
 use Rattle.run_book.proofs.Ages.{ages-differ}
-use Rattle.run_book.proofs.Calls.{is_held, run_at-held}
+use Rattle.run_book.proofs.Calls.{run_at-held}
 use Rattle.run_book.proofs.Carried.{calls_well}
-use Rattle.run_book.proofs.Tables.{after-table}
 use Rattle.locking_engine.specs.declared.engine.LockingEngine.{LockingEngine}
-use Rattle.locking_engine.specs.declared.holders.Place.{Place}
-use Rattle.locking_engine.specs.Holders.{Holders, place_of, held_by, is_touched, IsStop}
-use Rattle.locking_engine.specs.Rule.{stop_by}
-use Rattle.locking_engine.specs.Stands.{AreHolders, Stands, IsReleased, EndsBy, EndsRun, takes_ticket}
+use Rattle.locking_engine.specs.Holders.{Holders, place_of, held_by}
+use Rattle.locking_engine.specs.Stands.{AreHolders, Stands, IsReleased, EndsRun, takes_ticket}
 use Rattle.locking_engine.proofs.Holding.{AgesDiffer, DoesSame, does_same, does_as, comes_idle, turn, each_same, holders_same, holders_hold, holders_release, some_is}
-use Rattle.locking_engine.proofs.Way.{stop_is, ticket_stop_is}
 
 -- the oldest that counts stays where each run counts as before
 pub oldest_same : (runs now : Tid → Option Run) (counts : Run → Bool) (o : Option Rival) → ((u : Tid) → DoesSame (λ key run. counts run) (runs u) (now u)) → IsOldest runs counts o → IsOldest now counts o
@@ -68,9 +58,6 @@ idle_begun tid n = record {
   takes_same = comes_idle (λ key run. takes_ticket run) (begun tid n) (λ key. refl);
 }
 
-pub idle_back : {was now : Option Run} → IsIdle was now → IsIdle now was
-idle_back s = record { reads_same = turn s.reads_same; writes_same = turn s.writes_same; takes_same = turn s.takes_same }
-
 pub stands_idle : (old new : LockingEngine) (start : Start) (older : List EngineLine) (line : EngineLine) (was now : Option Run) → Stands old start older → run_at start older (tid_of line) ≡ was → changed line was ≡ now → IsIdle was now →
     KeepsRoomy Locking new.book start (line ∷ older) → new.readers ≡ old.readers → new.writers ≡ old.writers → new.taker ≡ old.taker → Stands new start (line ∷ older)
 stands_idle old new start older line was now s at is idle keeps rs ws ts = record {
@@ -81,10 +68,6 @@ stands_idle old new start older line was now s at is idle keeps rs ws ts = recor
 }
 
 -- an access that is granted
-pub record IsGranted (old new : LockingEngine) (held : Held) (tid : Tid) (access : Access) : Type 0 where
-  pub book : new.book.book ≡ grants tid access old.book.book
-  pub taker : new.taker ≡ old.taker
-
 grown : (start : Start) (older : List EngineLine) (line : EngineLine) (was now : Run) → run_at start older (tid_of line) ≡ Some was → changed line (Some was) ≡ Some now → run_at start (line ∷ older) (tid_of line) ≡ Some now
 grown start older line was now at is = run_at-own start older line (Some was) at ∙ is
 

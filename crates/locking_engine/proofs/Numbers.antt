@@ -8,16 +8,16 @@ use Rattle.mdb_base.specs.declared.names.Key.{Key}
 use Rattle.mdb_base.specs.declared.names.Tid.{Tid}
 use Rattle.mdb_base.specs.declared.rows.Put.{Put}
 use Rattle.mdb_base.specs.declared.acts.PlainAct.{PlainAct}
-use Rattle.mdb_base.specs.declared.acts.PlainAct.TheVariants.{Read, Write}
+use Rattle.mdb_base.specs.declared.acts.PlainAct.TheVariants.{Read}
 use Rattle.mdb_base.specs.declared.replies.Reply.{Reply}
-use Rattle.mdb_base.specs.declared.replies.Reply.TheVariants.{Done, Value, Ticket, Wait, Refused}
+use Rattle.mdb_base.specs.declared.replies.Reply.TheVariants.{Value, Ticket, Wait, Refused}
 use Rattle.mdb_base.specs.declared.replies.Why.TheVariants.{Die}
 use Rattle.mdb_base.specs.Names.{same_tid}
 use Rattle.mdb_base.specs.Rising.{IsRising}
 use Rattle.mdb_base.proofs.NameLaws.{same_tid-equal}
 use Rattle.fed_rules.specs.declared.runs.Kept.{Kept}
-use Rattle.fed_rules.specs.Runs.{Start, EngineLine, Begins, Acts, Takes, Seals, Run, begun, run_at, has_ticket, is_sealed, counter, published, after, table}
-use Rattle.fed_rules.specs.Replies.{age_of, has_read, has_written, access_stop, ticket_stop, seal_stop, seal_number, granted, granted_by, rule, or_reply}
+use Rattle.fed_rules.specs.Runs.{Start, EngineLine, Begins, Acts, Takes, Seals, Run, begun, run_at, has_ticket, is_sealed, counter, published, after}
+use Rattle.fed_rules.specs.Replies.{has_read, has_written, seal_stop, seal_number, granted, granted_by, rule, or_reply}
 use Rattle.fed_rules.specs.EngineLines.{IsRightLine, IsFree, IsStart}
 use Rattle.engine_contract.specs.Calls.{start_from}
 use Rattle.engine_contract.proofs.Follows.{run_at-own, run_at-other}
@@ -26,9 +26,8 @@ use Rattle.engine_laws.proofs.Takers.{HasOneTaker}
 use Rattle.run_book.specs.declared.marks.Marks.{Marks}
 use Rattle.run_book.specs.declared.rival.Rival.{Rival}
 use Rattle.run_book.specs.Held.{Held, held_in}
-use Rattle.run_book.specs.Book.{Book, RoomyBook, started, begins, unbegins, tickets, seals, unseals, table_in, taken_by}
-use Rattle.run_book.specs.Keeps.{Keeps, KeepsRoomy}
-use Rattle.run_book.specs.Rivals.{rival_by, IsOldest}
+use Rattle.run_book.specs.Book.{started, begins, unbegins, tickets, seals, unseals, table_in, taken_by}
+use Rattle.run_book.specs.Rivals.{IsOldest}
 use Rattle.run_book.proofs.Calls.{run_at-held}
 use Rattle.run_book.proofs.Carried.{starts_well, calls_well, unbegins_well, unseals_well}
 use Rattle.run_book.proofs.Tables.{after-table}
@@ -36,7 +35,7 @@ use Rattle.locking_engine.specs.declared.engine.LockingEngine.{LockingEngine}
 use Rattle.locking_engine.specs.Holders.{Holders, IsStop, with_restored}
 use Rattle.locking_engine.specs.Rule.{stop_by}
 use Rattle.locking_engine.specs.Stands.{AreHolders, Stands, StopsRun, takes_ticket}
-use Rattle.locking_engine.proofs.Holding.{DoesSame, does_as, comes_idle, turn, each_same, holders_same, some_is}
+use Rattle.locking_engine.proofs.Holding.{does_as, turn, each_same, holders_same, some_is}
 use Rattle.locking_engine.proofs.Lines.{idle_same, idle_begun, stands_idle, oldest_same, taker_leaves, taker_is}
 use Rattle.locking_engine.proofs.Restored.{restored_writers, restored_readers, restored_takers}
 use Rattle.locking_engine.proofs.Way.{stop_is, ticket_stop_is}

@@ -1,11 +1,9 @@
 -- The first holder in a part of the tree, and a walk along accesses.
-use Rattle.std.proofs.Common.{◌≡◌, ℕ, ◌<◌, ◌≤◌, ◌⊎◌, Bool, true, false, ◌&&◌, ◌||◌, cond, nat_eq, nat_lt, Option, Some, None, IsSome, List, [], ◌∷◌, inl, inr, refl, sym, ap, ◌∙◌, subst, arith}
-use Rattle.std.specs.declared.cmp.Ordering.TheVariants.{Less}
+use Rattle.std.proofs.Common.{◌≡◌, ℕ, ◌<◌, ◌⊎◌, Bool, true, false, ◌&&◌, ◌||◌, cond, nat_eq, nat_lt, Option, Some, None, IsSome, List, [], ◌∷◌, inl, inr, refl, sym, ap, ◌∙◌, subst, arith}
 use Rattle.std.specs.declared.ops.Bound.{Bound}
 use Rattle.std.specs.declared.ops.Bound.TheVariants.{Included, Excluded, Unbounded}
 use Rattle.std.specs.BTreeMap.{BTreeMap}
 use Rattle.std.specs.BTreeMap.Range.{IsRangeOf, IsEntryInRange, IsInRange, IsLeBy}
-use Rattle.std.specs.Ordering.{is_gt}
 use Rattle.std.specs.FinMap.{from_entries, get}
 use Rattle.std.proofs.lemmas.Bool.{eq-eqb, ltb-true, ltb-false}
 use Rattle.std.proofs.lemmas.Bool.Decides.{nat_tests}
@@ -53,9 +51,11 @@ pub first_below : (key : Key) (age : ℕ) (m : BTreeMap Place Tid) (r rest : Lis
     IsOldestBelow (from_entries m.entries) key age (Some (record { tid = t; rank = e.age }))
 first_below key age m r rest e t h is =
     let first = first_of (Included (place_of key 0)) (Excluded (place_of key age)) m r rest (e, t) h is in
-    let place = in_below key age e first.0.0 in
-    (here_is m e t key place.0 first.0.1, place.1,
-    λ a lt. let up = place.1 in nothing_before m e key a place.0 lt (λ there. first.1 (place_of key a) (below_in key age a (omega arith)) there))
+    let place = in_below key age e first.0.0 in (
+      here_is m e t key place.0 first.0.1,
+      place.1,
+      λ a lt. let up = place.1 in nothing_before m e key a place.0 lt (λ there. first.1 (place_of key a) (below_in key age a (omega arith)) there),
+    )
 
 pub none_below : (key : Key) (age : ℕ) (m : BTreeMap Place Tid) (r : List (Place × Tid)) →
     IsRangeOf place_cmp (Included (place_of key 0)) (Excluded (place_of key age)) m r → r ≡ [] → IsOldestBelow (from_entries m.entries) key age None
@@ -71,9 +71,11 @@ pub first_above : (key : Key) (age : ℕ) (m : BTreeMap Place Tid) (r rest : Lis
     IsRangeOf place_cmp (Excluded (place_of key age)) Unbounded m r → r ≡ (e, t) ∷ rest → e.key ≡ key.0 →
     IsOldestAbove (from_entries m.entries) key age (Some (record { tid = t; rank = e.age }))
 first_above key age m r rest e t h is same =
-    let first = first_of (Excluded (place_of key age)) Unbounded m r rest (e, t) h is in
-    (here_is m e t key same first.0.1, elim (in_above key age e first.0.0) [ inl lt ↦ absurd (omega arith) | inr place ↦ place.1 ],
-    λ a more lt. nothing_before m e key a same lt (λ there. first.1 (place_of key a) (above_in key age a more) there))
+    let first = first_of (Excluded (place_of key age)) Unbounded m r rest (e, t) h is in (
+      here_is m e t key same first.0.1,
+      elim (in_above key age e first.0.0) [ inl lt ↦ absurd (omega arith) | inr place ↦ place.1 ],
+      λ a more lt. nothing_before m e key a same lt (λ there. first.1 (place_of key a) (above_in key age a more) there),
+    )
 
 -- where the first one is of another key
 pub other_above : (key : Key) (age : ℕ) (m : BTreeMap Place Tid) (r rest : List (Place × Tid)) (e : Place) (t : Tid) →

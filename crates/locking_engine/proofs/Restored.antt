@@ -1,12 +1,12 @@
 -- After a restart the holders are the transactions in doubt, at the keys that they wrote.
-use Rattle.std.proofs.Common.{◌≡◌, ℕ, ◌<◌, ◌⊎◌, Bool, true, false, ◌||◌, ◌&&◌, not, cond, is_some, nat_eq, Option, Some, None, List, [], ◌∷◌, inl, inr, refl, sym, ap, ◌∙◌, subst, arith}
+use Rattle.std.proofs.Common.{◌≡◌, ℕ, ◌⊎◌, Bool, true, false, ◌||◌, ◌&&◌, not, cond, is_some, nat_eq, Option, Some, None, List, [], ◌∷◌, inl, inr, refl, sym, ap, ◌∙◌, subst, arith}
 use Rattle.std.specs.FinMap.{empty, get, insert, get-empty}
 use Rattle.std.proofs.lemmas.Bool.{cond-true, cond-false, cases_Bool, eqb-true, eq-eqb}
 use Rattle.mdb_base.specs.declared.names.Key.{Key}
 use Rattle.mdb_base.specs.declared.names.Tid.{Tid}
 use Rattle.mdb_base.specs.declared.rows.Put.{Put}
 use Rattle.mdb_base.specs.Names.{same_tid, same_key}
-use Rattle.mdb_base.specs.Words.{Each, Among, some_of}
+use Rattle.mdb_base.specs.Words.{Each, some_of}
 use Rattle.mdb_base.proofs.NameLaws.{same_tid-equal, same_tid-refl, same_tid-sym}
 use Rattle.fed_rules.specs.declared.runs.Kept.{Kept}
 use Rattle.fed_rules.specs.Runs.{Run, restored, restored_at, written, has_ticket, is_sealed}

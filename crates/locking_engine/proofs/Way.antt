@@ -1,7 +1,6 @@
 -- Who stands in the way of a run is who the rule looks for.
-use Rattle.std.proofs.Common.{◌≡◌, ℕ, ◌<◌, ◌≤◌, ◌⊎◌, Bool, true, false, not, ◌&&◌, ◌||◌, cond, nat_eq, nat_lt, Option, Some, None, List, [], ◌∷◌, inl, inr, refl, sym, ap, ◌∙◌, subst, arith}
-use Rattle.std.specs.FinMap.{get}
-use Rattle.std.proofs.lemmas.Bool.{cond-true, cond-false, cases_Bool, eqb-true, eq-eqb, ltb-true, ltb-false}
+use Rattle.std.proofs.Common.{◌≡◌, ℕ, ◌≤◌, ◌⊎◌, Bool, true, false, not, ◌&&◌, ◌||◌, cond, nat_eq, nat_lt, Option, Some, None, List, [], ◌∷◌, inl, inr, refl, sym, ap, ◌∙◌, subst, arith}
+use Rattle.std.proofs.lemmas.Bool.{eqb-true, eq-eqb, ltb-true, ltb-false}
 use Rattle.mdb_base.specs.declared.names.Engine.{Engine}
 use Rattle.mdb_base.specs.declared.names.Engine.TheVariants.{Locking}
 use Rattle.mdb_base.specs.declared.names.Key.{Key}
@@ -20,7 +19,7 @@ use Rattle.run_book.specs.declared.rival.Rival.{Rival}
 use Rattle.run_book.specs.Rivals.{rival_by, IsOldest, IsOldestRun}
 use Rattle.run_book.proofs.Ages.{ages-differ}
 use Rattle.run_book.proofs.Unended.{oldest-least}
-use Rattle.locking_engine.specs.Holders.{Holders, place_of, IsOldestOther, IsFirstInTheWay, IsStop}
+use Rattle.locking_engine.specs.Holders.{Holders, IsOldestOther, IsFirstInTheWay, IsStop}
 use Rattle.locking_engine.specs.Rule.{stop_by, older_of_two}
 use Rattle.locking_engine.specs.Stands.{AreHolders, takes_ticket}
 use Rattle.locking_engine.proofs.Holding.{AgesDiffer, and_both, some_is}

@@ -9,7 +9,6 @@ use Rattle.mdb_base.specs.declared.replies.Reply.TheVariants.{Refused}
 use Rattle.fed_rules.specs.Runs.{Start, EngineLine, Run, tid_of, run_at, gives_up, is_sealed, has_ticket}
 use Rattle.fed_rules.specs.EngineLines.{IsRightLine}
 use Rattle.fed_rules.specs.Replies.{has_read, has_written}
-use Rattle.run_book.specs.declared.rival.Rival.{Rival}
 use Rattle.run_book.specs.Keeps.{KeepsRoomy}
 use Rattle.run_book.specs.Rivals.{IsOldest}
 use Rattle.locking_engine.specs.Holders.{Holders, place_of, is_touched}

@@ -13,6 +13,8 @@ use run_book::{Granted, HeldRun, Marks, Rival, RunBook};
 use std::alloc::Global;
 
 #[cfg(test)]
+mod plain;
+#[cfg(test)]
 mod table_tests;
 #[cfg(test)]
 mod tests;
@@ -28,12 +30,7 @@ pub struct LockingEngine {
 }
 
 /// Grants an access to a live run, who is then a holder of its key. Without memory nothing changes.
-fn grant(
-    book: &mut RunBook,
-    holders: &mut Holders,
-    tid: Tid,
-    access: Granted,
-) -> Result<(), Memory>
+fn grant(book: &mut RunBook, holders: &mut Holders, tid: Tid, access: Granted) -> Result<(), Memory>
     requires held { IsSome (held_in book.old.book.runs tid) }
     requires live { IfSome (held_in book.old.book.runs tid) (λ held. held.run.sealed ≡ None) }
     ensures granted { OnOk result (book.new.book ≡ grants tid access book.old.book) }

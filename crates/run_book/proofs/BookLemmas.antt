@@ -1,12 +1,11 @@
 -- What the calls of a book write is what its words say.
-use Rattle.std.proofs.Common.{◌≡◌, ℕ, max, nat_lt, cond, Option, Some, None, refl, sym, ap, ◌∙◌}
+use Rattle.std.proofs.Common.{◌≡◌, ℕ, max, nat_lt, cond, Option, Some, sym, ap, ◌∙◌}
 use Rattle.mdb_base.specs.declared.names.Tid.{Tid}
 use Rattle.mdb_base.specs.Words.{or_else, map_some}
-use Rattle.fed_rules.specs.Runs.{has_ticket}
 use Rattle.site_tables.specs.Tables.{Versions}
 use Rattle.run_book.specs.declared.marks.Marks.{Marks}
 use Rattle.run_book.specs.Held.{Held, Runs, held_in, changed_in}
-use Rattle.run_book.specs.Book.{Book, RoomyBook, tickets, with_ticket, sealed_with, sealed_marks, ticket_in, seals, not_sealed, marks_without, unseals}
+use Rattle.run_book.specs.Book.{Book, sealed_with, ticket_in, seals, not_sealed, marks_without, unseals}
 
 -- a book of these parts
 abbrev pub book_of : Versions → Runs → ℕ → ℕ → Option Tid → Book

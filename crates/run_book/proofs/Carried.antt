@@ -1,18 +1,17 @@
 -- The book of each call holds what the lines say with that call's line.
-use Rattle.std.proofs.Common.{◌≡◌, ℕ, ◌+◌, ◌≤◌, cond, Option, Some, List, [], ◌∷◌, refl, sym, ap, ◌∙◌, subst, arith}
+use Rattle.std.proofs.Common.{◌≡◌, ℕ, ◌+◌, ◌≤◌, cond, Option, Some, List, [], ◌∷◌, sym, ap, ◌∙◌, subst, arith}
 use Rattle.mdb_base.specs.declared.names.Engine.{Engine}
 use Rattle.mdb_base.specs.declared.names.Tid.{Tid}
 use Rattle.mdb_base.specs.declared.acts.PlainAct.TheVariants.{Read, Write}
 use Rattle.mdb_base.specs.declared.replies.Reply.TheVariants.{Done, Value, Ticket, Wait, Refused, Unknown}
 use Rattle.mdb_base.specs.Words.{map_some, or_else}
-use Rattle.fed_rules.specs.Runs.{Start, EngineLine, Begins, Acts, Takes, Seals, Refuses, Commits, Aborts, Run, run_at, has_ticket, counter}
-use Rattle.fed_rules.specs.EngineLines.{IsRightLine}
+use Rattle.fed_rules.specs.Runs.{Start, EngineLine, Begins, Acts, Takes, Seals, Refuses, Commits, Aborts, Run, run_at, has_ticket}
 use Rattle.engine_contract.proofs.Follows.{run_at-own}
 use Rattle.run_book.specs.declared.marks.Marks.{Marks}
 use Rattle.run_book.specs.Held.{Held, held_in}
-use Rattle.run_book.specs.Book.{Book, RoomyBook, begins, seals, taken_by}
+use Rattle.run_book.specs.Book.{Book, RoomyBook, begins, taken_by}
 use Rattle.run_book.specs.Keeps.{Keeps, KeepsRoomy, taken_back}
-use Rattle.run_book.specs.Laws.{StartsWell, CallsWell, UnbeginsWell, UnsealsWell, IsCalled}
+use Rattle.run_book.specs.Laws.{StartsWell, CallsWell, UnbeginsWell, UnsealsWell}
 use Rattle.run_book.proofs.Calls.{is_held, keeps_read, keeps_wrote, keeps_waits, keeps_refused, keeps_took, keeps_waits_for_ticket, keeps_ticket_refused, keeps_seal_refused, keeps_aborts}
 use Rattle.run_book.proofs.Commits.{keeps_commits}
 use Rattle.run_book.proofs.Numbers.{keeps_begins, keeps_unbegins, keeps_seals, keeps_unseals}

@@ -1,7 +1,6 @@
 -- The parts of a book hang together through each change of one run.
-use Rattle.std.proofs.Common.{◌≡◌, ℕ, ◌+◌, ◌≤◌, Bool, true, false, not, ◌&&◌, ◌||◌, cond, is_some, Option, Some, None, IsSome, IfSome, List, [], ◌∷◌, Result, Ok, Err, OnOk, OnErr, inl, inr, refl, sym, ap, ◌∙◌, subst, arith}
+use Rattle.std.proofs.Common.{◌≡◌, ℕ, ◌+◌, ◌≤◌, Bool, true, false, not, ◌&&◌, ◌||◌, cond, is_some, Option, Some, None, IsSome, IfSome, List, [], ◌∷◌, Result, Ok, Err, OnOk, OnErr, refl, sym, ap, ◌∙◌, subst, arith}
 use Rattle.std.specs.FinMap.{empty, from_entries, get-empty}
-use Rattle.std.proofs.lemmas.Bool.{cond-true, cond-false, cases_Bool}
 use Rattle.mdb_base.specs.declared.names.Tid.{Tid}
 use Rattle.mdb_base.specs.Names.{same_tid}
 use Rattle.mdb_base.specs.Words.{map_some}
@@ -10,7 +9,7 @@ use Rattle.fed_rules.specs.declared.runs.Kept.{Kept}
 use Rattle.fed_rules.specs.Runs.{Access, restored, is_sealed}
 use Rattle.ticket_item.specs.Item.{Item, is_holder}
 use Rattle.run_book.specs.declared.marks.Marks.{Marks}
-use Rattle.run_book.specs.Held.{Held, Runs, tid_cmp, held_in, with_run, changed_in, without, is_taker}
+use Rattle.run_book.specs.Held.{Held, Runs, tid_cmp, held_in, with_run, without, is_taker}
 use Rattle.run_book.specs.Book.{with_restored, granted_to}
 use Rattle.run_book.specs.Changes.{changed_entries}
 use Rattle.run_book.specs.Fields.{IsInOrder}

@@ -1,5 +1,5 @@
 -- The book of each call that draws a number.
-use Rattle.std.proofs.Common.{◌≡◌, ℕ, ◌+◌, ◌-◌, ◌≤◌, Bool, true, false, cond, is_some, nat_lt, max, Option, Some, None, List, [], ◌∷◌, inl, inr, refl, sym, ap, ◌∙◌, subst, arith}
+use Rattle.std.proofs.Common.{◌≡◌, ℕ, ◌+◌, ◌-◌, Bool, true, false, cond, is_some, nat_lt, max, Option, Some, None, List, ◌∷◌, inl, inr, refl, sym, ap, ◌∙◌, subst, arith}
 use Rattle.std.proofs.lemmas.Bool.{cond-true, cond-false, cases_Bool, le-ltb}
 use Rattle.mdb_base.specs.declared.names.Engine.{Engine}
 use Rattle.mdb_base.specs.declared.names.Tid.{Tid}
@@ -138,9 +138,10 @@ nothing_published : (start : Start) (older : List EngineLine) (tid : Tid) (n : �
 nothing_published start older tid n run at none =
     let zero : ticket_of (run_at start older tid) ≡ 0 = ap (λ (o : Option Run). ticket_of o) at ∙ no_ticket run.ticket none in
     let p = published start older in
-    let same : max 0 p ≡ p = omega arith in
-    (ap (λ (t : ℕ). max t p) zero ∙ same,
-    ap (λ (t : ℕ). cond (nat_lt p t) (Some tid) (owner start older)) zero ∙ cond-false _ _ _ (le-ltb p 0 (omega arith)))
+    let same : max 0 p ≡ p = omega arith in (
+      ap (λ (t : ℕ). max t p) zero ∙ same,
+      ap (λ (t : ℕ). cond (nat_lt p t) (Some tid) (owner start older)) zero ∙ cond-false _ _ _ (le-ltb p 0 (omega arith)),
+    )
 
 -- the marks before a sealing, from those after it
 marks_back : (after before : Marks) (held : Held) → held.marks ≡ before → (has_ticket held.run ≡ false → (after.published ≡ before.published) × (after.owner ≡ before.owner)) →

@@ -1,9 +1,8 @@
 -- How many writes a run may install.
-use Rattle.std.proofs.Common.{◌≡◌, ℕ, ◌≤◌, Bool, cond, is_some, Option, None, List, [], ◌∷◌, length, reverse, Result, Ok, Err, OnOk, OnErr, IsSome, ap, ◌∙◌, arith}
+use Rattle.std.proofs.Common.{◌≡◌, ℕ, ◌≤◌, Bool, cond, is_some, Option, None, List, [], ◌∷◌, length, reverse, IsSome, ap, arith}
 use Rattle.std.proofs.lemmas.List.{length-reverse}
 use Rattle.fed_rules.specs.Runs.{Access, Got, Wrote}
 use Rattle.run_book.specs.Held.{Held}
-use Rattle.run_book.specs.Book.{granted_to}
 use Rattle.run_book.specs.Tables.{writes_in, promised_by}
 
 pub writes_in-le : (acts : List Access) → writes_in acts ≤ length acts
@@ -22,8 +21,3 @@ writes_in-turned accesses = let h = writes_in-le (reverse accesses) in omega (ar
 -- who is sealed may install all its writes
 pub sealed-promises : (held : Held) → IsSome held.run.sealed → promised_by held ≡ writes_in held.run.acts
 sealed-promises held sealed = ap (λ (b : Bool). cond b (writes_in held.run.acts) 0) sealed
-
--- an access of a run that isn't sealed promises nothing, whether there was memory for it or not
-pub granted-promises : {X Y : Type 0} (r : Result X Y) (held new : Held) (access : Access) → held.run.sealed ≡ None → OnOk r (new ≡ granted_to access held) → OnErr r (new ≡ held) → promised_by new ≡ 0
-granted-promises (Ok x) held new access live granted memory = ap promised_by granted ∙ live-promises (granted_to access held) live
-granted-promises (Err e) held new access live granted memory = ap promised_by memory ∙ live-promises held live

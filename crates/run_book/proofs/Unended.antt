@@ -1,7 +1,7 @@
 -- The unended runs after the lines, and the one that stands first of those that a test holds of.
-use Rattle.std.proofs.Common.{◌≡◌, ℕ, ◌≤◌, ◌⊎◌, Bool, true, Option, Some, None, List, [], ◌∷◌, inl, inr, sym, ap, ◌∙◌, arith}
+use Rattle.std.proofs.Common.{◌≡◌, ℕ, ◌⊎◌, Bool, Option, Some, None, List, [], ◌∷◌, inl, inr, sym, ap, ◌∙◌, arith}
 use Rattle.mdb_base.specs.declared.names.Tid.{Tid}
-use Rattle.mdb_base.specs.Words.{map_some, with_some, found, those, least, greatest}
+use Rattle.mdb_base.specs.Words.{map_some, with_some, found, those, least}
 use Rattle.fed_rules.specs.Runs.{Start, EngineLine, Run, run_at, attempts, unended}
 use Rattle.fed_rules.specs.Replies.{age_of}
 use Rattle.fed_rules.specs.EngineLines.{IsRight, IsStart}

@@ -1,5 +1,5 @@
 -- Runs as an engine holds them, by attempt.
-use Rattle.std.specs.Prelude.{ℕ, ◌≡◌, Bool, false, not, ◌&&◌, cond, Option, Some, None, List, [], ◌∷◌, refl}
+use Rattle.std.specs.Prelude.{ℕ, Bool, false, not, ◌&&◌, cond, Option, Some, None, List, [], ◌∷◌, refl}
 use Rattle.std.specs.declared.cmp.Ordering.{Ordering}
 use Rattle.std.specs.Ordering.{nat_cmp, ordering_then}
 use Rattle.std.specs.FinMap.{FinMap, code, get, insert, remove}

@@ -1,20 +1,17 @@
 -- The book of each call holds what the lines say with that call's line.
 use Rattle.std.specs.Prelude.{ℕ, ◌≡◌, ◌+◌, ◌≤◌, Option, List, [], ◌∷◌}
 use Rattle.mdb_base.specs.declared.names.Engine.{Engine}
-use Rattle.mdb_base.specs.declared.names.Key.{Key}
 use Rattle.mdb_base.specs.declared.names.Tid.{Tid}
 use Rattle.mdb_base.specs.declared.rows.Put.{Put}
-use Rattle.mdb_base.specs.declared.acts.PlainAct.{PlainAct}
 use Rattle.mdb_base.specs.declared.acts.PlainAct.TheVariants.{Read, Write}
 use Rattle.mdb_base.specs.declared.replies.Reply.TheVariants.{Done, Value, Ticket, Wait, Refused}
-use Rattle.mdb_base.specs.declared.replies.Why.{Why}
 use Rattle.mdb_base.specs.Rising.{IsRising}
 use Rattle.fed_rules.specs.declared.runs.Kept.{Kept}
 use Rattle.fed_rules.specs.Runs.{Start, EngineLine, Begins, Acts, Takes, Seals, Refuses, Commits, Aborts, Got, Wrote}
-use Rattle.fed_rules.specs.EngineLines.{IsStart, IsFree, IsRightLine}
+use Rattle.fed_rules.specs.EngineLines.{IsStart, IsRightLine}
 use Rattle.engine_contract.specs.Calls.{start_from}
 use Rattle.run_book.specs.Held.{held_in}
-use Rattle.run_book.specs.Book.{Book, RoomyBook, started, begins, unbegins, grants, tickets, seals, unseals, drops, commits, taken_by}
+use Rattle.run_book.specs.Book.{RoomyBook, started, begins, unbegins, grants, tickets, seals, unseals, drops, commits, taken_by}
 use Rattle.run_book.specs.Keeps.{KeepsRoomy}
 
 -- an epoch starts

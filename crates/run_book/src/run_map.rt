@@ -25,11 +25,7 @@ pub(crate) fn find(runs: &BTreeMap<Tid, HeldRun>, tid: Tid) -> Option<&HeldRun>
 }
 
 /// Puts a run under its attempt.
-pub(crate) fn put(
-    runs: &mut BTreeMap<Tid, HeldRun>,
-    tid: Tid,
-    run: HeldRun,
-) -> Result<(), Memory>
+pub(crate) fn put(runs: &mut BTreeMap<Tid, HeldRun>, tid: Tid, run: HeldRun) -> Result<(), Memory>
     ensures put { OnOk result (from_entries runs.new.entries ≡ with_run tid run (from_entries runs.old.entries)) }
     ensures promised { OnOk result (held_in (from_entries runs.old.entries) tid ≡ None
         → promised_of_all runs.new.entries ≡ promised_of_all runs.old.entries + promised_by run) }

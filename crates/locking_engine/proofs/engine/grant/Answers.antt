@@ -1,7 +1,6 @@
-use Rattle.std.proofs.Common.{◌≡◌, not, is_some, Result, Ok, Err, OnErr, Option, sym, ap, ◌∙◌}
-use Rattle.std.specs.FinMap.{get, remove}
-use Rattle.mdb_base.specs.declared.names.Tid.{Tid}
-use Rattle.locking_engine.specs.Holders.{Holders, place_of, held_by}
+use Rattle.std.proofs.Common.{Result, Ok, Err, OnErr, sym, ap, ◌∙◌}
+use Rattle.std.specs.FinMap.{remove}
+use Rattle.locking_engine.specs.Holders.{Holders, place_of}
 use Rattle.locking_engine.proofs.Places.{undone}
 use Rattle.locking_engine.proofs.engine.grant.Goals as goal
 

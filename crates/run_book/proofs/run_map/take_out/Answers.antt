@@ -1,6 +1,5 @@
-use Rattle.std.proofs.Common.{◌+◌, sym, ap, ◌∙◌, Option}
-use Rattle.run_book.specs.Held.{Held}
-use Rattle.run_book.proofs.RunMaps.{get_run, entries_gone, promised-gone, promise_of}
+use Rattle.std.proofs.Common.{sym, ◌∙◌}
+use Rattle.run_book.proofs.RunMaps.{get_run, entries_gone, promised-gone}
 use Rattle.run_book.proofs.run_map.take_out.Goals as goal
 
 pub returns-clause-run : goal.returns-clause-run

@@ -1,9 +1,8 @@
-use Rattle.std.proofs.Common.{◌≡◌, ℕ, ◌+◌, ◌∷◌, Bool, is_some, cond, Some, None, IfSome, Option, refl, sym, ap, ◌∙◌, subst}
+use Rattle.std.proofs.Common.{◌≡◌, ℕ, ◌+◌, ◌∷◌, Bool, is_some, cond, None, IfSome, Option, refl, sym, ap, ◌∙◌, subst}
 use Rattle.mdb_base.specs.declared.names.Engine.TheVariants.{Locking}
-use Rattle.fed_rules.specs.Runs.{Seals, has_ticket}
+use Rattle.fed_rules.specs.Runs.{Seals}
 use Rattle.run_book.specs.declared.marks.Marks.{Marks}
-use Rattle.run_book.specs.declared.rival.Rival.{Rival}
-use Rattle.run_book.specs.Held.{Held, held_in}
+use Rattle.run_book.specs.Held.{Held}
 use Rattle.run_book.proofs.Ages.{some_inj}
 use Rattle.run_book.proofs.HeldBy.{sealable_held}
 use Rattle.run_book.proofs.InOrder.{if_found}

@@ -1,15 +1,13 @@
-use Rattle.std.proofs.Common.{◌≡◌, ℕ, Bool, true, false, is_some, cond, Some, Option, refl, sym, ap, ◌∙◌}
+use Rattle.std.proofs.Common.{◌≡◌, ℕ, true, false, is_some, Some, Option, refl, sym, ap, ◌∙◌}
 use Rattle.std.proofs.lemmas.Bool.{cond-true, cond-false}
 use Rattle.mdb_base.specs.declared.names.Engine.TheVariants.{Locking}
 use Rattle.mdb_base.specs.declared.names.Tid.{Tid}
 use Rattle.mdb_base.specs.Words.{map_some}
 use Rattle.fed_rules.specs.Runs.{has_ticket}
-use Rattle.fed_rules.specs.Replies.{age_of}
 use Rattle.engine_laws.proofs.Runs.{tid_is}
 use Rattle.run_book.specs.declared.rival.Rival.{Rival}
 use Rattle.run_book.specs.Held.{Held, held_in}
 use Rattle.run_book.specs.Book.{Book, not_sealed}
-use Rattle.run_book.specs.Rivals.{rival_by}
 use Rattle.run_book.proofs.Calls.{run_at-held}
 use Rattle.run_book.proofs.Carried.{unseals_well}
 use Rattle.run_book.proofs.HeldBy.{just_sealed_held, some-found}

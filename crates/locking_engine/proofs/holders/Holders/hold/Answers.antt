@@ -1,8 +1,7 @@
-use Rattle.std.proofs.Common.{◌≡◌, Bool, true, false, not, is_some, Option, sym, ap, ◌∙◌}
+use Rattle.std.proofs.Common.{not, is_some, Option, sym, ap, ◌∙◌}
 use Rattle.std.specs.FinMap.{get, insert}
 use Rattle.mdb_base.specs.declared.names.Tid.{Tid}
-use Rattle.locking_engine.specs.declared.holders.Place.{Place}
-use Rattle.locking_engine.specs.Holders.{Holders, place_of, held_by}
+use Rattle.locking_engine.specs.Holders.{Holders, place_of}
 use Rattle.locking_engine.proofs.Places.{entries_put, get_holder, held_there, held_new}
 use Rattle.locking_engine.proofs.holders.Holders.hold.Goals as goal
 

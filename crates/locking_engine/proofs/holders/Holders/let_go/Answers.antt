@@ -1,4 +1,4 @@
-use Rattle.std.proofs.Common.{sym, ap, ◌∙◌}
+use Rattle.std.proofs.Common.{ap, ◌∙◌}
 use Rattle.std.specs.FinMap.{remove}
 use Rattle.locking_engine.specs.Holders.{Holders, place_of}
 use Rattle.locking_engine.proofs.Places.{entries_gone}

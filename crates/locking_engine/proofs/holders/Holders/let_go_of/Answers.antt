@@ -1,4 +1,4 @@
-use Rattle.std.proofs.Common.{◌≡◌, cond, None, take, reverse, sym, ap, ◌∙◌, arith, List, Option}
+use Rattle.std.proofs.Common.{cond, None, take, reverse, sym, ap, ◌∙◌, arith, List, Option}
 use Rattle.std.specs.FinMap.{get}
 use Rattle.mdb_base.specs.declared.names.Key.{Key}
 use Rattle.mdb_base.specs.declared.names.Tid.{Tid}

@@ -1,4 +1,4 @@
-use Rattle.std.proofs.Common.{None, Some, subst, ap, ◌∙◌}
+use Rattle.std.proofs.Common.{None, Some, subst}
 use Rattle.locking_engine.specs.Holders.{Holders, IsOldestAbove}
 use Rattle.locking_engine.proofs.Ranges.{first_above, other_above, none_above}
 use Rattle.locking_engine.proofs.holders.Holders.oldest_above.Goals as goal

@@ -1,4 +1,4 @@
-use Rattle.std.proofs.Common.{None, Some, subst, ap, ◌∙◌}
+use Rattle.std.proofs.Common.{None, Some, subst}
 use Rattle.locking_engine.specs.Holders.{Holders, IsOldestBelow}
 use Rattle.locking_engine.proofs.Ranges.{first_below, none_below}
 use Rattle.locking_engine.proofs.holders.Holders.oldest_below.Goals as goal

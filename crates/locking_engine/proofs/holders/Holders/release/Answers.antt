@@ -1,4 +1,4 @@
-use Rattle.std.proofs.Common.{ℕ, cond, None, reverse, ap, ◌∙◌, List}
+use Rattle.std.proofs.Common.{ℕ, cond, None, ap, ◌∙◌, List}
 use Rattle.std.specs.FinMap.{get}
 use Rattle.fed_rules.specs.Runs.{Access}
 use Rattle.locking_engine.specs.Holders.{touches}

@@ -1,4 +1,4 @@
-use Rattle.std.proofs.Common.{Some, refl, sym, ap, ◌∙◌}
+use Rattle.std.proofs.Common.{Some, ap, ◌∙◌}
 use Rattle.run_book.specs.Held.{Held, held_in, is_taker}
 use Rattle.run_book.specs.Book.{RoomyBook}
 use Rattle.run_book.specs.Tables.{promised_by}

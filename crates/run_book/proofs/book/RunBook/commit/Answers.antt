@@ -1,6 +1,5 @@
-use Rattle.std.proofs.Common.{◌≡◌, Some, IsSome, Option, refl, sym, ap, ◌∙◌, arith}
-use Rattle.mdb_base.specs.declared.names.Tid.{Tid}
-use Rattle.run_book.specs.Held.{Held, held_in, is_taker}
+use Rattle.std.proofs.Common.{◌≡◌, Some, IsSome, Option, sym, ap, ◌∙◌, arith}
+use Rattle.run_book.specs.Held.{Held, held_in}
 use Rattle.run_book.specs.Book.{RoomyBook}
 use Rattle.run_book.proofs.InOrder.{of_found, order_gone, holds_none, sealed_takes_none}
 use Rattle.run_book.proofs.Promises.{sealed-promises}

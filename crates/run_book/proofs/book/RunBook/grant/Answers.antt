@@ -1,13 +1,11 @@
-use Rattle.std.proofs.Common.{◌≡◌, Result, Ok, Err, OnOk, OnErr, Some, None, List, refl, sym, ap, ◌∙◌, subst}
+use Rattle.std.proofs.Common.{◌≡◌, None, List, ap, ◌∙◌}
 use Rattle.std.specs.FinMap.{from_entries}
 use Rattle.std.proofs.lemmas.Result.{on_ok_weaker}
 use Rattle.mdb_base.specs.declared.names.Tid.{Tid}
 use Rattle.run_book.specs.Held.{Held, Runs, tid_cmp, held_in}
 use Rattle.run_book.specs.Book.{RoomyBook, granted_to, grants}
-use Rattle.run_book.specs.Changes.{changed_entries}
-use Rattle.run_book.specs.Fields.{IsInOrder}
 use Rattle.run_book.proofs.BookLemmas.{book_of}
-use Rattle.run_book.proofs.InOrder.{some_held, of_found, order_kept, order_granted}
+use Rattle.run_book.proofs.InOrder.{some_held, of_found, order_granted}
 use Rattle.run_book.proofs.RunMaps.{entries_changed}
 use Rattle.run_book.proofs.book.RunBook.grant.Goals as goal
 

@@ -1,12 +1,11 @@
-use Rattle.std.proofs.Common.{◌≡◌, ℕ, ◌+◌, ◌<◌, ◌≤◌, Bool, max, nat_lt, cond, Some, None, IfSome, Option, List, refl, sym, ap, ◌∙◌, arith, rules}
+use Rattle.std.proofs.Common.{◌≡◌, ℕ, ◌+◌, ◌<◌, max, Some, None, IfSome, Option, List, sym, ap, ◌∙◌, arith, rules}
 use Rattle.std.specs.FinMap.{from_entries}
 use Rattle.std.proofs.lemmas.Bool.{cond-true, cond-false, lt-ltb, le-ltb}
 use Rattle.mdb_base.specs.declared.names.Tid.{Tid}
 use Rattle.mdb_base.specs.Words.{or_else, map_some}
 use Rattle.run_book.specs.declared.marks.Marks.{Marks}
-use Rattle.run_book.specs.Held.{Held, Runs, tid_cmp, held_in, changed_in, is_taker}
+use Rattle.run_book.specs.Held.{Held, tid_cmp, held_in, changed_in}
 use Rattle.run_book.specs.Book.{RoomyBook, sealed_with}
-use Rattle.run_book.specs.Tables.{writes_in, promised_by}
 use Rattle.run_book.proofs.BookLemmas.{seals-made}
 use Rattle.run_book.proofs.InOrder.{of_found, of_ticket, order_changed, held_less, holds_none, untaken}
 use Rattle.run_book.proofs.Promises.{live-promises}

@@ -1,4 +1,4 @@
-use Rattle.std.proofs.Common.{sym, ap, ◌∙◌, refl}
+use Rattle.std.proofs.Common.{◌∙◌, refl}
 use Rattle.run_book.proofs.BookLemmas.{same_parts}
 use Rattle.run_book.proofs.InOrder.{order_restored}
 use Rattle.run_book.proofs.Kept.{versions-first}

@@ -1,9 +1,9 @@
-use Rattle.std.proofs.Common.{◌≡◌, ℕ, ◌+◌, Bool, true, ◌||◌, cond, Some, None, Option, List, refl, sym, ap, ◌∙◌}
+use Rattle.std.proofs.Common.{◌≡◌, ℕ, ◌+◌, Bool, ◌||◌, cond, None, List, refl, sym, ap, ◌∙◌}
 use Rattle.std.specs.FinMap.{from_entries}
 use Rattle.mdb_base.specs.declared.names.Tid.{Tid}
 use Rattle.mdb_base.specs.Names.{same_tid}
 use Rattle.ticket_item.specs.Item.{is_among, is_holder}
-use Rattle.run_book.specs.Held.{Held, Runs, tid_cmp, held_in, is_taker}
+use Rattle.run_book.specs.Held.{Held, tid_cmp, held_in}
 use Rattle.run_book.specs.Book.{RoomyBook, with_ticket, tickets}
 use Rattle.run_book.proofs.BookLemmas.{same_parts}
 use Rattle.run_book.proofs.InOrder.{some_held, of_found, order_changed, held_more, live_takes}

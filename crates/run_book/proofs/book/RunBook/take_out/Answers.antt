@@ -1,4 +1,4 @@
-use Rattle.std.proofs.Common.{◌≡◌, Some, Option, refl, sym, ap, ◌∙◌, arith}
+use Rattle.std.proofs.Common.{◌≡◌, Some, Option, sym, ap, ◌∙◌, arith}
 use Rattle.run_book.specs.Held.{Held, held_in}
 use Rattle.run_book.proofs.InOrder.{order_gone, held_less}
 use Rattle.run_book.proofs.RunMaps.{promise_of}

@@ -1,4 +1,4 @@
-use Rattle.std.proofs.Common.{◌≡◌, ℕ, ◌+◌, ◌-◌, Bool, true, false, cond, is_some, Some, None, IsSome, Option, List, refl, sym, ap, ◌∙◌, arith}
+use Rattle.std.proofs.Common.{◌≡◌, ℕ, Bool, true, false, cond, is_some, IsSome, Option, List, sym, ap, ◌∙◌, arith}
 use Rattle.std.specs.FinMap.{from_entries}
 use Rattle.std.proofs.lemmas.Bool.{cond-true, cond-false}
 use Rattle.mdb_base.specs.declared.names.Tid.{Tid}
@@ -6,8 +6,8 @@ use Rattle.mdb_base.specs.Names.{same_tid}
 use Rattle.ticket_item.specs.Item.{is_holder}
 use Rattle.fed_rules.specs.Runs.{has_ticket}
 use Rattle.run_book.specs.declared.marks.Marks.{Marks}
-use Rattle.run_book.specs.Held.{Held, Runs, tid_cmp, held_in, changed_in, is_taker}
-use Rattle.run_book.specs.Book.{RoomyBook, not_sealed, marks_without}
+use Rattle.run_book.specs.Held.{Held, tid_cmp, held_in, changed_in}
+use Rattle.run_book.specs.Book.{RoomyBook, not_sealed}
 use Rattle.run_book.proofs.BookLemmas.{unseals-made}
 use Rattle.run_book.proofs.InOrder.{of_found, order_changed, held_more, holds_none, sealed_takes_none, promise-le}
 use Rattle.run_book.proofs.RunMaps.{entries_changed}
