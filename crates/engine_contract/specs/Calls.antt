@@ -6,11 +6,11 @@ use Rattle.mdb_base.specs.declared.rows.Put.{Put}
 use Rattle.fed_rules.specs.declared.runs.Kept.{Kept}
 use Rattle.fed_rules.specs.declared.runs.Sealed.{Sealed}
 use Rattle.fed_rules.specs.Runs.{Start, EngineLine, Begins, Seals, Refuses, Run, run_at, counter, published, puts_of}
-use Rattle.fed_rules.specs.Replies.{Drawn, AtBegin, AtSealing, rule}
+use Rattle.fed_rules.specs.Replies.{Drawn, AtBegin, AtSealing, rule, seal_stop}
 use Rattle.fed_rules.specs.EngineLines.{IsFree, IsLive, IsTicketless, IsSealed}
 use Rattle.engine_contract.specs.declared.seal_err.SealErr.{SealErr}
 use Rattle.engine_contract.specs.declared.seal_err.SealErr.TheVariants as Err_is
-use Rattle.engine_contract.specs.Past.{AddsLine, KeepsPast}
+use Rattle.engine_contract.specs.Past.{AddsLine, KeepsPast, EachPast}
 
 -- the attempt has no unended run, and the next number fits
 pub record CanBegin (tid : Tid) (start : Start) (lines : List EngineLine) : Type 0 where
@@ -75,6 +75,15 @@ SealsRun tid sealed start lines = (run : Run) → run_at start lines tid ≡ Som
 abbrev pub FailsToSeal : {A : Type 0} → (A → Start → List EngineLine → Type 0) → A → Tid → SealErr → A → Type 0
 FailsToSeal stands old tid (Err_is.Refused why) new = AddsLine stands old (Refuses tid why) new
 FailsToSeal stands old tid Err_is.Memory new = KeepsPast stands old new
+
+-- the rule doesn't refuse the sealing of the attempt's run
+abbrev pub PassesRule : Tid → Start → List EngineLine → Type 0
+PassesRule tid start lines = (run : Run) → run_at start lines tid ≡ Some run → seal_stop start.kind start lines run ≡ None
+
+-- want of memory hides no refusal: the rule lets the run pass
+abbrev pub HidesNone : {A : Type 0} → (A → Start → List EngineLine → Type 0) → A → Tid → SealErr → Type 0
+HidesNone stands old tid (Err_is.Refused why) = Unit {0}
+HidesNone stands old tid Err_is.Memory = EachPast stands old (PassesRule tid)
 
 -- what an epoch starts from
 abbrev pub start_from : Engine → List Put → List Kept → (counter published : ℕ) → Option Tid → Start

@@ -19,7 +19,7 @@ pub trait LocalEngine: Drop {
     ghost use Rattle.fed_rules.specs.EngineLines.{IsStart, IsRight};
     ghost use Rattle.engine_contract.specs.Past.{SomePast, AddsLine, KeepsPast, DropsLine, EachPast};
     ghost use Rattle.engine_contract.specs.Calls.{CanBegin, CanAct, CanTake, CanSeal, CanCommit, CanAbort};
-    ghost use Rattle.engine_contract.specs.Calls.{HasJustBegun, HasJustSealed, SealsRun, FailsToSeal, start_from};
+    ghost use Rattle.engine_contract.specs.Calls.{HasJustBegun, HasJustSealed, SealsRun, FailsToSeal, HidesNone, start_from};
 
     /// The rule that it follows.
     ghost kind: { Self → Engine };
@@ -53,12 +53,14 @@ pub trait LocalEngine: Drop {
         ensures answered { IfOk result (λ reply. AddsLine stands self.old (Takes tid reply) self.new) }
         ensures memory { OnErr result (KeepsPast stands self.old self.new) };
 
-    /// Seals a live run: from now on it can always be committed or aborted. A refused one is aborted.
+    /// Seals a live run: from now on it can always be committed or aborted. A refused one is aborted. Want of memory hides no
+    /// refusal: it is the answer only where the rule lets the run pass.
     fn seal(&mut self, alloc: Global, tid: Tid) -> Result<Sealed, SealErr>
         requires { SomePast stands self.old (CanSeal tid) }
         ensures sealed { IfOk result (λ s. AddsLine stands self.old (Seals tid s.number) self.new) }
         ensures given { IfOk result (λ s. EachPast stands self.old (SealsRun tid s)) }
-        ensures failed { IfErr result (λ e. FailsToSeal stands self.old tid e self.new) };
+        ensures failed { IfErr result (λ e. FailsToSeal stands self.old tid e self.new) }
+        ensures unhidden { IfErr result (λ e. HidesNone stands self.old tid e) };
 
     /// Takes back the begin of the attempt, which is the newest line, with its number.
     fn unbegin(&mut self, tid: Tid)

@@ -1,123 +1,233 @@
--- Each answer of the locking engine is the rule's after the lines, and its book then holds them with the call added.
-use Rattle.std.proofs.Common.{◌≡◌, ℕ, ◌+◌, ◌⊎◌, cond, nat_lt, Option, Some, None, List, ◌∷◌, inl, inr, refl, sym, ap, ◌∙◌, subst}
-use Rattle.std.proofs.lemmas.Bool.{cond-true, cond-false, cases_Bool}
-use Rattle.mdb_base.specs.declared.names.Engine.{Engine}
+-- A locking engine through each line: its book, its holders and the ticket's taker.
+use Rattle.std.proofs.Common.{◌≡◌, ℕ, Bool, true, false, not, ◌&&◌, ◌||◌, cond, is_some, Option, Some, None, List, [], ◌∷◌, inl, inr, refl, sym, ap, ◌∙◌, subst, arith}
+use Rattle.std.proofs.lemmas.Bool.{cases_Bool}
 use Rattle.mdb_base.specs.declared.names.Engine.TheVariants.{Locking}
 use Rattle.mdb_base.specs.declared.names.Key.{Key}
 use Rattle.mdb_base.specs.declared.names.Tid.{Tid}
-use Rattle.mdb_base.specs.declared.acts.PlainAct.{PlainAct}
 use Rattle.mdb_base.specs.declared.acts.PlainAct.TheVariants.{Read, Write}
-use Rattle.mdb_base.specs.declared.replies.Reply.{Reply}
-use Rattle.mdb_base.specs.declared.replies.Reply.TheVariants.{Done, Value, Ticket, Wait, Refused}
-use Rattle.mdb_base.specs.declared.replies.Why.TheVariants.{Die}
-use Rattle.mdb_base.specs.Words.{map_some, those, least}
-use Rattle.fed_rules.specs.Runs.{Start, EngineLine, Acts, Takes, Seals, Got, Wrote, Run, run_at, unended, counter, published, after}
-use Rattle.fed_rules.specs.Replies.{age_of, wait_die, access_stop, ticket_stop, seal_stop, seal_number, granted, granted_by, rule, or_reply}
+use Rattle.mdb_base.specs.declared.replies.Reply.TheVariants.{Done, Value, Ticket, Wait, Refused, Unknown}
+use Rattle.mdb_base.specs.Names.{same_tid, same_key}
+use Rattle.mdb_base.proofs.NameLaws.{same_tid-equal}
+use Rattle.mdb_base.specs.Words.{some_of}
+use Rattle.fed_rules.specs.Runs.{Start, EngineLine, Begins, Acts, Takes, Seals, Refuses, Commits, Aborts, Access, Got, Wrote, Run, tid_of, begun, changed, gives_up, run_at}
+use Rattle.fed_rules.specs.Replies.{access_key, reads, writes, has_read, has_written}
 use Rattle.fed_rules.specs.EngineLines.{IsRightLine}
-use Rattle.run_lists.specs.declared.marks.Marks.{Marks}
-use Rattle.run_lists.specs.declared.rival.Rival.{Rival}
-use Rattle.run_lists.specs.Held.{Held, held_in}
-use Rattle.run_lists.specs.Book.{Book, grants, tickets, seals, table_in}
-use Rattle.run_lists.specs.Keeps.{Keeps}
-use Rattle.run_lists.specs.Rivals.{rival_by, least_rival}
-use Rattle.run_lists.proofs.Calls.{run_at-held, keeps_read, keeps_wrote, keeps_waits, keeps_refused, keeps_took, keeps_waits_for_ticket, keeps_ticket_refused}
-use Rattle.run_lists.proofs.Distinct.{held_in-tid}
-use Rattle.run_lists.proofs.Numbers.{keeps_seals}
-use Rattle.run_lists.proofs.Tables.{after-table}
-use Rattle.run_lists.proofs.Unended.{oldest-unended}
-use Rattle.locking_engine.specs.Rule.{is_holder, is_ticket_holder, stop_by, access_stop_in, ticket_stop_in}
-use Rattle.locking_engine.specs.Stands.{stopped_book}
+use Rattle.engine_contract.proofs.Follows.{run_at-own, run_at-other}
+use Rattle.engine_laws.proofs.LockingTickets.{locking_one_taker}
+use Rattle.engine_laws.proofs.Takers.{IsTaker, HasOneTaker}
+use Rattle.run_book.specs.declared.rival.Rival.{Rival}
+use Rattle.run_book.specs.Held.{Held, held_in}
+use Rattle.run_book.specs.Book.{RoomyBook, grants, drops}
+use Rattle.run_book.specs.Keeps.{KeepsRoomy}
+use Rattle.run_book.specs.Laws.{IsCalled}
+use Rattle.run_book.specs.Rivals.{IsOldest}
+use Rattle.run_book.proofs.Ages.{ages-differ}
+use Rattle.run_book.proofs.Calls.{run_at-held}
+use Rattle.run_book.proofs.Carried.{calls_well}
+use Rattle.locking_engine.specs.declared.engine.LockingEngine.{LockingEngine}
+use Rattle.locking_engine.specs.Holders.{Holders, place_of, held_by}
+use Rattle.locking_engine.specs.Stands.{AreHolders, Stands, IsReleased, EndsRun, takes_ticket}
+use Rattle.locking_engine.proofs.Holding.{AgesDiffer, DoesSame, does_same, does_as, comes_idle, turn, each_same, holders_same, holders_hold, holders_release, some_is}
 
--- wait-die by the rival is wait-die by the run
-stop_by-wait_die : (me : Run) (o : Option Run) → stop_by me.age (map_some (rival_by age_of) o) ≡ wait_die me o
-stop_by-wait_die me None = refl
-stop_by-wait_die me (Some oldest) = refl
+-- the oldest that counts stays where each run counts as before
+pub oldest_same : (runs now : Tid → Option Run) (counts : Run → Bool) (o : Option Rival) → ((u : Tid) → DoesSame (λ key run. counts run) (runs u) (now u)) → IsOldest runs counts o → IsOldest now counts o
+oldest_same runs now counts None same none = λ u run at done. let was = (same u).back.on (record { 0 = 0 }) run at done in none u was.0 was.1 was.2
+oldest_same runs now counts (Some r) same h =
+    let goes = (same r.tid).on.on (record { 0 = 0 }) h.run h.at h.counts_here in
+    record {
+      run = goes.0;
+      at = goes.1;
+      counts_here = goes.2;
+      rank = h.rank ∙ sym goes.3;
+      below = λ u run at done. let was = (same u).back.on (record { 0 = 0 }) run at done in let le = h.below u was.0 was.1 was.2 in let age = was.3 in omega arith;
+    }
 
-module _ (book : Book) (start : Start) (lines : List EngineLine) (k : Keeps Locking book start lines) (tid : Tid) (held : Held) (found : held_in book.unended tid ≡ Some held) where
-  named : held.run.tid ≡ tid
-  named = held_in-tid book.unended tid held found
+-- a line that changes neither accesses nor the taking of the ticket
+pub record IsIdle (was now : Option Run) : Type 0 where
+  pub reads_same : DoesSame has_read was now
+  pub writes_same : DoesSame has_written was now
+  pub takes_same : DoesSame (λ key run. takes_ticket run) was now
 
-  at : run_at start lines tid ≡ Some held.run
-  at = run_at-held Locking book start lines tid held k found
+pub idle_same : (o : Option Run) → IsIdle o o
+idle_same o = record { reads_same = does_same has_read o o refl; writes_same = does_same has_written o o refl; takes_same = does_same (λ key run. takes_ticket run) o o refl }
 
-  -- what the scan says is what the rule says
-  pub access_stop_in-rule : (act : PlainAct) → access_stop_in book tid held.run.age act ≡ access_stop start.kind start lines held.run act
-  access_stop_in-rule act =
-      ap (λ (o : Option Rival). stop_by held.run.age o) (oldest-unended Locking book start lines (is_holder tid act) k)
-      ∙ (stop_by-wait_die held.run (least age_of (those (is_holder tid act) (unended start lines)))
-      ∙ (ap (λ (t : Tid). wait_die held.run (least age_of (those (is_holder t act) (unended start lines)))) (sym named)
-      ∙ sym (ap (λ (kind : Engine). access_stop kind start lines held.run act) k.of_kind)))
+pub idle_begun : (tid : Tid) (n : ℕ) → IsIdle None (Some (begun tid n))
+idle_begun tid n = record {
+  reads_same = comes_idle has_read (begun tid n) (λ key. refl);
+  writes_same = comes_idle has_written (begun tid n) (λ key. refl);
+  takes_same = comes_idle (λ key run. takes_ticket run) (begun tid n) (λ key. refl);
+}
 
-  pub ticket_stop_in-rule : ticket_stop_in book tid held.run.age ≡ ticket_stop start.kind start lines held.run
-  ticket_stop_in-rule =
-      ap (λ (o : Option Rival). stop_by held.run.age o) (oldest-unended Locking book start lines (is_ticket_holder tid) k)
-      ∙ (stop_by-wait_die held.run (least age_of (those (is_ticket_holder tid) (unended start lines)))
-      ∙ (ap (λ (t : Tid). wait_die held.run (least age_of (those (is_ticket_holder t) (unended start lines)))) (sym named)
-      ∙ sym (ap (λ (kind : Engine). ticket_stop kind start lines held.run) k.of_kind)))
+pub stands_idle : (old new : LockingEngine) (start : Start) (older : List EngineLine) (line : EngineLine) (was now : Option Run) → Stands old start older → run_at start older (tid_of line) ≡ was → changed line was ≡ now → IsIdle was now →
+    KeepsRoomy Locking new.book start (line ∷ older) → new.readers ≡ old.readers → new.writers ≡ old.writers → new.taker ≡ old.taker → Stands new start (line ∷ older)
+stands_idle old new start older line was now s at is idle keeps rs ws ts = record {
+  keeps = keeps;
+  readers = subst (λ (m : Holders). AreHolders has_read m (run_at start (line ∷ older))) (sym rs) (holders_same has_read old.readers (run_at start older) _ (each_same has_read start older line was now at is idle.reads_same) s.readers);
+  writers = subst (λ (m : Holders). AreHolders has_written m (run_at start (line ∷ older))) (sym ws) (holders_same has_written old.writers (run_at start older) _ (each_same has_written start older line was now at is idle.writes_same) s.writers);
+  taker = subst (λ (o : Option Rival). IsOldest (run_at start (line ∷ older)) takes_ticket o) (sym ts) (oldest_same (run_at start older) _ takes_ticket old.taker (each_same (λ key run. takes_ticket run) start older line was now at is idle.takes_same) s.taker);
+}
 
-  -- an access, stopped or granted, is answered by the rule
-  pub right_access : (act : PlainAct) (reply : Reply) (stop : Option Reply) → held.run.sealed ≡ None → access_stop_in book tid held.run.age act ≡ stop → reply ≡ or_reply stop (granted start lines held.run act) → IsRightLine start lines (Acts tid act reply)
-  right_access act reply stop live is answered =
-      (held.run, ((at, live), answered ∙ ap (λ (o : Option Reply). or_reply o (granted start lines held.run act)) (sym is ∙ access_stop_in-rule act)))
+-- an access that is granted
+grown : (start : Start) (older : List EngineLine) (line : EngineLine) (was now : Run) → run_at start older (tid_of line) ≡ Some was → changed line (Some was) ≡ Some now → run_at start (line ∷ older) (tid_of line) ≡ Some now
+grown start older line was now at is = run_at-own start older line (Some was) at ∙ is
 
-  pub right_take : (reply : Reply) (stop : Option Reply) → held.run.sealed ≡ None → held.run.ticket ≡ None → ticket_stop_in book tid held.run.age ≡ stop → reply ≡ or_reply stop (Ticket (published start lines + 1)) → IsRightLine start lines (Takes tid reply)
-  right_take reply stop live ticketless is answered =
-      (held.run, ((at, live, ticketless), answered ∙ ap (λ (o : Option Reply). or_reply o (Ticket (published start lines + 1))) (sym is ∙ ticket_stop_in-rule)))
+pub stands_read : (old new : LockingEngine) (start : Start) (older : List EngineLine) (tid : Tid) (held : Held) (key : Key) (value : ℕ) → Stands old start older → held_in old.book.book.runs tid ≡ Some held →
+    IsRightLine start older (Acts tid (Read key) (Value value)) → new.book.book ≡ grants tid (Got key value) old.book.book → new.readers ≡ held_by (place_of key held.run.age) tid old.readers → new.writers ≡ old.writers → new.taker ≡ old.taker →
+    Stands new start (Acts tid (Read key) (Value value) ∷ older)
+stands_read old new start older tid held key value s found right book rs ws ts =
+    let line = Acts tid (Read key) (Value value) in
+    let k = s.keeps.keeps in
+    let was = held.run in
+    let now : Run = record was { acts = Got key value ∷ was.acts } in
+    let at = run_at-held Locking old.book.book start older tid held k found in
+    record {
+      keeps = calls_well Locking old.book new.book start older line s.keeps right book;
+      readers = subst (λ (m : Holders). AreHolders has_read m (run_at start (line ∷ older))) (sym rs)
+          (holders_hold has_read old.readers (run_at start older) (run_at start (line ∷ older)) tid key was now (λ u v a b h g e. ages-differ start older u v a b k.starts k.right h g e) s.readers
+          at (grown start older line was now at refl) refl (λ q. refl) (λ u e. run_at-other start older line u e));
+      writers = subst (λ (m : Holders). AreHolders has_written m (run_at start (line ∷ older))) (sym ws)
+          (holders_same has_written old.writers (run_at start older) _ (each_same has_written start older line (Some was) (Some now) at refl (does_as has_written was now (λ q. refl) refl)) s.writers);
+      taker = subst (λ (o : Option Rival). IsOldest (run_at start (line ∷ older)) takes_ticket o) (sym ts)
+          (oldest_same (run_at start older) _ takes_ticket old.taker (each_same (λ q run. takes_ticket run) start older line (Some was) (Some now) at refl (does_as (λ q run. takes_ticket run) was now (λ q. refl) refl)) s.taker);
+    }
 
-  -- a granted read
-  pub keeps_value : (key : Key) (value : ℕ) → held.run.sealed ≡ None → access_stop_in book tid held.run.age (Read key) ≡ None → value ≡ after held.run.acts (table_in book) key → Keeps Locking (grants tid (Got key value) book) start (Acts tid (Read key) (Value value) ∷ lines)
-  keeps_value key value live free is =
-      keeps_read Locking book start lines tid key value k
-      (right_access (Read key) (Value value) None live free (ap (λ (n : ℕ). Value n) (is ∙ after-table Locking book start lines held.run.acts key k)
-      ∙ sym (ap (λ (kind : Engine). granted_by (rule kind) start lines held.run (Read key)) k.of_kind)))
+pub stands_wrote : (old new : LockingEngine) (start : Start) (older : List EngineLine) (tid : Tid) (held : Held) (key : Key) (value : ℕ) → Stands old start older → held_in old.book.book.runs tid ≡ Some held →
+    IsRightLine start older (Acts tid (Write key value) Done) → new.book.book ≡ grants tid (Wrote key value) old.book.book → new.readers ≡ old.readers → new.writers ≡ held_by (place_of key held.run.age) tid old.writers → new.taker ≡ old.taker →
+    Stands new start (Acts tid (Write key value) Done ∷ older)
+stands_wrote old new start older tid held key value s found right book rs ws ts =
+    let line = Acts tid (Write key value) Done in
+    let k = s.keeps.keeps in
+    let was = held.run in
+    let now : Run = record was { acts = Wrote key value ∷ was.acts } in
+    let at = run_at-held Locking old.book.book start older tid held k found in
+    record {
+      keeps = calls_well Locking old.book new.book start older line s.keeps right book;
+      readers = subst (λ (m : Holders). AreHolders has_read m (run_at start (line ∷ older))) (sym rs)
+          (holders_same has_read old.readers (run_at start older) _ (each_same has_read start older line (Some was) (Some now) at refl (does_as has_read was now (λ q. refl) refl)) s.readers);
+      writers = subst (λ (m : Holders). AreHolders has_written m (run_at start (line ∷ older))) (sym ws)
+          (holders_hold has_written old.writers (run_at start older) (run_at start (line ∷ older)) tid key was now (λ u v a b h g e. ages-differ start older u v a b k.starts k.right h g e) s.writers
+          at (grown start older line was now at refl) refl (λ q. refl) (λ u e. run_at-other start older line u e));
+      taker = subst (λ (o : Option Rival). IsOldest (run_at start (line ∷ older)) takes_ticket o) (sym ts)
+          (oldest_same (run_at start older) _ takes_ticket old.taker (each_same (λ q run. takes_ticket run) start older line (Some was) (Some now) at refl (does_as (λ q run. takes_ticket run) was now (λ q. refl) refl)) s.taker);
+    }
 
-  -- a granted write
-  pub keeps_done : (key : Key) (value : ℕ) → held.run.sealed ≡ None → access_stop_in book tid held.run.age (Write key value) ≡ None → Keeps Locking (grants tid (Wrote key value) book) start (Acts tid (Write key value) Done ∷ lines)
-  keeps_done key value live free = keeps_wrote Locking book start lines tid key value k (right_access (Write key value) Done None live free refl)
+-- a live run with a ticket is the one that takes it
+pub taker_is : (run : Run) → takes_ticket run ≡ true → IsTaker run
+taker_is run takes = by_parts run.ticket run.sealed refl refl takes
+  where
+    by_parts : (t s : Option ℕ) → run.ticket ≡ t → run.sealed ≡ s → (is_some t && not (is_some s)) ≡ true → IsTaker run
+    by_parts None s e f h = cc
+    by_parts (Some n) None e f h = record { open_run = f; ticket = n; taken = e }
+    by_parts (Some n) (Some m) e f h = cc
 
-  -- a ticket taken
-  pub keeps_ticket : (ticket : ℕ) → held.run.sealed ≡ None → held.run.ticket ≡ None → ticket_stop_in book tid held.run.age ≡ None → ticket ≡ book.marks.published + 1 → Keeps Locking (tickets tid ticket book) start (Takes tid (Ticket ticket) ∷ lines)
-  keeps_ticket ticket live ticketless free is =
-      keeps_took Locking book start lines tid ticket k
-      (right_take (Ticket ticket) None live ticketless free (ap (λ (n : ℕ). Ticket n) (is ∙ ap (λ (m : Marks). m.published + 1) k.marks)))
+-- the taker leaves, or another run does
+pub taker_leaves : (start : Start) (older : List EngineLine) (line : EngineLine) (was : Run) (now : Option Run) (o : Option Rival) → HasOneTaker start older → run_at start older (tid_of line) ≡ Some was → changed line (Some was) ≡ now →
+    ((run : Run) → now ≡ Some run → takes_ticket run ≡ false) → IsOldest (run_at start older) takes_ticket o → IsOldest (run_at start (line ∷ older)) takes_ticket (cond (takes_ticket was) None o)
+taker_leaves start older line was now o one at is idle taker = by_takes (takes_ticket was) refl
+  where
+    goes : (x : Option Run) → now ≡ x → takes_ticket was ≡ false → DoesSame (λ q run. takes_ticket run) (Some was) x
+    goes None e takes = turn (comes_idle (λ q run. takes_ticket run) was (λ q. takes))
+    goes (Some run) e takes = record {
+      on = record { on = λ q r h done. let bad : false ≡ true = sym takes ∙ (ap (λ (x : Run). takes_ticket x) (some_is was r h) ∙ done) in cc };
+      back = record { on = λ q r h done. let bad : false ≡ true = sym (idle run e) ∙ (ap (λ (x : Run). takes_ticket x) (some_is run r h) ∙ done) in cc };
+    }
 
-  -- a sealing
-  pub keeps_sealing : (n : ℕ) → held.run.sealed ≡ None → n ≡ book.marks.counter + 1 → Keeps Locking (seals tid n book) start (Seals tid n ∷ lines)
-  keeps_sealing n live is =
-      let stop : seal_stop start.kind start lines held.run ≡ None = ap (λ (kind : Engine). seal_stop kind start lines held.run) k.of_kind in
-      let number : counter start lines + 1 ≡ seal_number start.kind start lines held.run = sym (ap (λ (kind : Engine). seal_number kind start lines held.run) k.of_kind) in
-      keeps_seals Locking book start lines tid n k (held.run, ((at, live), stop, is ∙ (ap (λ (m : Marks). m.counter + 1) k.marks ∙ number)))
+    by_takes : (b : Bool) → takes_ticket was ≡ b → IsOldest (run_at start (line ∷ older)) takes_ticket (cond b None o)
+    by_takes true takes = λ u run here done.
+        elim (cases_Bool (same_tid (tid_of line) u)) [
+          | inl e ↦
+              let mine : now ≡ Some run = sym is ∙ (sym (run_at-own start older line (Some was) at) ∙ (ap (λ (t : Tid). run_at start (line ∷ older) t) (same_tid-equal (tid_of line) u e) ∙ here)) in
+              let bad : false ≡ true = sym (idle run mine) ∙ done in cc
+          | inr e ↦ one.one (tid_of line) u was run e at (sym (run_at-other start older line u e) ∙ here) (taker_is was takes) (taker_is run done)
+        ]
+    by_takes false takes =
+        oldest_same (run_at start older) (run_at start (line ∷ older)) takes_ticket o (each_same (λ q run. takes_ticket run) start older line (Some was) now at is (goes now refl takes)) taker
 
--- an answer that stops a run is a wait or a death
-stop_shape : (age : ℕ) (o : Option Rival) (stop : Reply) → stop_by age o ≡ Some stop → (by : Tid) × ((stop ≡ Wait by) ⊎ (stop ≡ Refused (Die by)))
-stop_shape age None stop e = cc
-stop_shape age (Some oldest) stop e =
-    let is : cond (nat_lt age oldest.rank) (Wait oldest.tid) (Refused (Die oldest.tid)) ≡ stop = cc in
-    elim (cases_Bool (nat_lt age oldest.rank)) [
-      | inl t ↦ (oldest.tid, inl (sym is ∙ cond-true _ _ _ t))
-      | inr f ↦ (oldest.tid, inr (sym is ∙ cond-false _ _ _ f))
-    ]
+-- a run that ends has held no key that it didn't access
+read_touched : (key : Key) (acts : List Access) → some_of (reads key) acts ≡ true → some_of (λ access. same_key (access_key access) key) acts ≡ true
+read_touched key [] h = cc
+read_touched key (Got k value ∷ acts) h = by_test (same_key k key) h (read_touched key acts)
+  where
+    by_test : (b : Bool) → (b || some_of (reads key) acts) ≡ true → (some_of (reads key) acts ≡ true → some_of (λ access. same_key (access_key access) key) acts ≡ true) → (b || some_of (λ access. same_key (access_key access) key) acts) ≡ true
+    by_test true h rest = refl
+    by_test false h rest = rest h
+read_touched key (Wrote k value ∷ acts) h = later (same_key k key) _ (read_touched key acts h)
+  where
+    later : (x y : Bool) → y ≡ true → (x || y) ≡ true
+    later true y e = refl
+    later false y e = e
 
--- an access that is stopped
-pub keeps_stopped : (book : Book) (start : Start) (lines : List EngineLine) (tid : Tid) (held : Held) (act : PlainAct) (stop : Reply) → Keeps Locking book start lines →
-    held_in book.unended tid ≡ Some held → held.run.sealed ≡ None → access_stop_in book tid held.run.age act ≡ Some stop → Keeps Locking (stopped_book stop tid book) start (Acts tid act stop ∷ lines)
-keeps_stopped book start lines tid held act stop k found live is =
-    let right = right_access book start lines k tid held found act stop (Some stop) live is refl in
-    let shape = stop_shape held.run.age (least_rival age_of (is_holder tid act) book.unended) stop is in
-    let Goal : Reply → Type 0 = λ reply. IsRightLine start lines (Acts tid act reply) → Keeps Locking (stopped_book reply tid book) start (Acts tid act reply ∷ lines) in
-    elim shape.1 [
-      | inl waits ↦ subst Goal (sym waits) (keeps_waits Locking book start lines tid act shape.0 k) right
-      | inr dies ↦ subst Goal (sym dies) (keeps_refused Locking book start lines tid act (Die shape.0) k) right
-    ]
+write_touched : (key : Key) (acts : List Access) → some_of (writes key) acts ≡ true → some_of (λ access. same_key (access_key access) key) acts ≡ true
+write_touched key [] h = cc
+write_touched key (Wrote k value ∷ acts) h = by_test (same_key k key) h (write_touched key acts)
+  where
+    by_test : (b : Bool) → (b || some_of (writes key) acts) ≡ true → (some_of (writes key) acts ≡ true → some_of (λ access. same_key (access_key access) key) acts ≡ true) → (b || some_of (λ access. same_key (access_key access) key) acts) ≡ true
+    by_test true h rest = refl
+    by_test false h rest = rest h
+write_touched key (Got k value ∷ acts) h = later (same_key k key) _ (write_touched key acts h)
+  where
+    later : (x y : Bool) → y ≡ true → (x || y) ≡ true
+    later true y e = refl
+    later false y e = e
 
--- the taking of a ticket that is stopped
-pub keeps_ticket_stopped : (book : Book) (start : Start) (lines : List EngineLine) (tid : Tid) (held : Held) (stop : Reply) → Keeps Locking book start lines →
-    held_in book.unended tid ≡ Some held → held.run.sealed ≡ None → held.run.ticket ≡ None → ticket_stop_in book tid held.run.age ≡ Some stop → Keeps Locking (stopped_book stop tid book) start (Takes tid stop ∷ lines)
-keeps_ticket_stopped book start lines tid held stop k found live ticketless is =
-    let right = right_take book start lines k tid held found stop (Some stop) live ticketless is refl in
-    let shape = stop_shape held.run.age (least_rival age_of (is_ticket_holder tid) book.unended) stop is in
-    let Goal : Reply → Type 0 = λ reply. IsRightLine start lines (Takes tid reply) → Keeps Locking (stopped_book reply tid book) start (Takes tid reply ∷ lines) in
-    elim shape.1 [
-      | inl waits ↦ subst Goal (sym waits) (keeps_waits_for_ticket Locking book start lines tid shape.0 k) right
-      | inr dies ↦ subst Goal (sym dies) (keeps_ticket_refused Locking book start lines tid (Die shape.0) k) right
-    ]
+-- a run ends, by commit or otherwise
+pub stands_released : (old new : LockingEngine) (start : Start) (older : List EngineLine) (line : EngineLine) (run : Run) → Stands old start older → run_at start older (tid_of line) ≡ Some run → changed line (Some run) ≡ None →
+    KeepsRoomy Locking new.book start (line ∷ older) → IsReleased old run new → Stands new start (line ∷ older)
+stands_released old new start older line run s at ends keeps released =
+    let k = s.keeps.keeps in
+    let runs = run_at start older in
+    let apart : AgesDiffer runs = λ u v a b h g e. ages-differ start older u v a b k.starts k.right h g e in
+    let gone = run_at-own start older line (Some run) at ∙ ends in
+    record {
+      keeps = keeps;
+      readers = holders_release has_read old.readers new.readers runs (run_at start (line ∷ older)) (tid_of line) run apart s.readers at gone (λ u e. run_at-other start older line u e) (λ key h. read_touched key run.acts h) released.readers;
+      writers = holders_release has_written old.writers new.writers runs (run_at start (line ∷ older)) (tid_of line) run apart s.writers at gone (λ u e. run_at-other start older line u e) (λ key h. write_touched key run.acts h) released.writers;
+      taker = subst (λ (o : Option Rival). IsOldest (run_at start (line ∷ older)) takes_ticket o) (sym released.taker)
+          (taker_leaves start older line run None old.taker (locking_one_taker start older k.of_kind k.right) at ends (λ r h. cc) s.taker);
+    }
+
+-- the lines that give up a run
+gives_none : (line : EngineLine) (run : Run) → gives_up line ≡ true → changed line (Some run) ≡ None
+gives_none (Begins tid n) run h = cc
+gives_none (Acts tid act (Refused why)) run h = refl
+gives_none (Acts tid act (Wait by)) run h = cc
+gives_none (Acts tid act (Ticket n)) run h = cc
+gives_none (Acts tid act (Value v)) run h = cc
+gives_none (Acts tid act Done) run h = cc
+gives_none (Acts tid act Unknown) run h = cc
+gives_none (Takes tid (Refused why)) run h = refl
+gives_none (Takes tid (Wait by)) run h = cc
+gives_none (Takes tid (Ticket n)) run h = cc
+gives_none (Takes tid (Value v)) run h = cc
+gives_none (Takes tid Done) run h = cc
+gives_none (Takes tid Unknown) run h = cc
+gives_none (Seals tid n) run h = cc
+gives_none (Refuses tid why) run h = refl
+gives_none (Commits tid) run h = cc
+gives_none (Aborts tid) run h = refl
+
+called_ends : (old new : RoomyBook) (line : EngineLine) → gives_up line ≡ true → new.book ≡ drops (tid_of line) old.book → IsCalled old line new
+called_ends old new (Begins tid n) h is = cc
+called_ends old new (Acts tid act (Refused why)) h is = is
+called_ends old new (Acts tid act (Wait by)) h is = cc
+called_ends old new (Acts tid act (Ticket n)) h is = cc
+called_ends old new (Acts tid act (Value v)) h is = cc
+called_ends old new (Acts tid act Done) h is = cc
+called_ends old new (Acts tid act Unknown) h is = cc
+called_ends old new (Takes tid (Refused why)) h is = is
+called_ends old new (Takes tid (Wait by)) h is = cc
+called_ends old new (Takes tid (Ticket n)) h is = cc
+called_ends old new (Takes tid (Value v)) h is = cc
+called_ends old new (Takes tid Done) h is = cc
+called_ends old new (Takes tid Unknown) h is = cc
+called_ends old new (Seals tid n) h is = cc
+called_ends old new (Refuses tid why) h is = is
+called_ends old new (Commits tid) h is = cc
+called_ends old new (Aborts tid) h is = is
+
+pub ends_run : (old new : LockingEngine) (tid : Tid) (held : Held) → held_in old.book.book.runs tid ≡ Some held → new.book.book ≡ drops tid old.book.book → IsReleased old held.run new → EndsRun old tid new
+ends_run old new tid held found book released start older line s right ends =
+    let k = s.keeps.keeps in
+    let at = ap (λ (t : Tid). run_at start older t) ends.0 ∙ run_at-held Locking old.book.book start older tid held k found in
+    let called = called_ends old.book new.book line ends.1 (book ∙ ap (λ (t : Tid). drops t old.book.book) (sym ends.0)) in
+    stands_released old new start older line held.run s at (gives_none line held.run ends.1) (calls_well Locking old.book new.book start older line s.keeps right called) released

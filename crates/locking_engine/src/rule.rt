@@ -1,30 +1,19 @@
-//! Who stands in the way of a run, and what it is answered.
+//! What a run is answered by who stands in its way.
 ghost use Rattle.std.specs.Prelude.{◌≡◌};
-ghost use Rattle.fed_rules.specs.Replies.{age_of};
-ghost use Rattle.run_lists.specs.Rivals.{least_rival};
-ghost use Rattle.locking_engine.specs.Rule.{is_holder, is_ticket_holder, stop_by};
+ghost use Rattle.locking_engine.specs.Rule.{stop_by, older_of_two as older_of};
 
-use mdb_base::{PlainAct, Reply, Tid, Why};
-use run_lists::{HeldRun, Rival, oldest, same_attempt};
+use mdb_base::{Reply, Why};
+use run_book::Rival;
 
-/// The oldest of the other unended runs with a granted conflicting access.
-pub(crate) fn oldest_holder(runs: &[HeldRun], tid: Tid, act: PlainAct) -> Option<Rival>
-    ensures { result ≡ least_rival age_of (is_holder tid act) runs.now }
+/// The older one of two, where both are there.
+pub(crate) fn older_of_two(first: Option<Rival>, other: Option<Rival>) -> Option<Rival>
+    ensures { result ≡ older_of first other }
 {
-    let holds = |run: &HeldRun| -> bool
-        ensures { result ≡ is_holder tid act run.now.run }
-    { !same_attempt(run.tid(), tid) && run.is_in_the_way(act) };
-    oldest(runs, holds)
-}
-
-/// The oldest of the other live runs that have taken the ticket.
-pub(crate) fn oldest_ticket_holder(runs: &[HeldRun], tid: Tid) -> Option<Rival>
-    ensures { result ≡ least_rival age_of (is_ticket_holder tid) runs.now }
-{
-    let took = |run: &HeldRun| -> bool
-        ensures { result ≡ is_ticket_holder tid run.now.run }
-    { !same_attempt(run.tid(), tid) && run.ticket().is_some() && run.sealed().is_none() };
-    oldest(runs, took)
+    match (first, other) {
+        (Some(first), Some(other)) if other.rank < first.rank => Some(other),
+        (Some(first), _) => Some(first),
+        (None, other) => other,
+    }
 }
 
 /// Wait-die: a run of this age waits for the oldest in its way if it is older, and else dies by it.

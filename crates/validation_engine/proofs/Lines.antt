@@ -1,5 +1,5 @@
 -- Each answer of the validating engine is the rule's after the lines, and its book then holds them with the call added.
-use Rattle.std.proofs.Common.{◌≡◌, ℕ, ◌+◌, Option, Some, None, List, ◌∷◌, refl, sym, ap, ◌∙◌}
+use Rattle.std.proofs.Common.{◌≡◌, ℕ, ◌+◌, Option, Some, None, List, ◌∷◌, refl, sym, ap, ◌∙◌, Result, Ok, Err, IfErr}
 use Rattle.mdb_base.specs.declared.names.Engine.{Engine}
 use Rattle.mdb_base.specs.declared.names.Engine.TheVariants.{Validation}
 use Rattle.mdb_base.specs.declared.names.Key.{Key}
@@ -12,6 +12,12 @@ use Rattle.mdb_base.specs.declared.replies.Why.{Why}
 use Rattle.fed_rules.specs.Runs.{Start, EngineLine, Acts, Takes, Seals, Refuses, Got, Wrote, run_at, counter, published, after}
 use Rattle.fed_rules.specs.Replies.{access_stop, ticket_stop, seal_stop, seal_number, granted, granted_by, rule, or_reply}
 use Rattle.fed_rules.specs.EngineLines.{IsRightLine}
+use Rattle.engine_contract.specs.declared.seal_err.SealErr.{SealErr}
+use Rattle.engine_contract.specs.declared.seal_err.SealErr.TheVariants as Err_is
+use Rattle.engine_contract.specs.Calls.{HidesNone, PassesRule}
+use Rattle.engine_contract.specs.Past.{EachPast}
+use Rattle.validation_engine.specs.declared.engine.ValidationEngine.{ValidationEngine}
+use Rattle.validation_engine.specs.Stands.{Stands}
 use Rattle.run_lists.specs.declared.marks.Marks.{Marks}
 use Rattle.run_lists.specs.Held.{Held, held_in}
 use Rattle.run_lists.specs.Book.{Book, grants, tickets, seals, drops, table_in}
@@ -52,7 +58,7 @@ module _ (book : Book) (start : Start) (lines : List EngineLine) (k : Keeps Vali
       (held.run, ((at, live, ticketless), next ∙ sym (ap (λ (kind : Engine). or_reply (ticket_stop kind start lines held.run) grant) k.of_kind)))
 
   -- what refuses the sealing by the book
-  stops : (stop : Option Why) → seal_stop_in book held.run ≡ stop → seal_stop start.kind start lines held.run ≡ stop
+  pub stops : (stop : Option Why) → seal_stop_in book held.run ≡ stop → seal_stop start.kind start lines held.run ≡ stop
   stops stop is =
       let own : run_at start lines held.run.tid ≡ Some held.run = ap (λ (t : Tid). run_at start lines t) (held_in-tid book.unended tid held found) ∙ at in
       sym (seal_stop_in-rule book start lines k held.run own) ∙ is
@@ -66,3 +72,9 @@ module _ (book : Book) (start : Start) (lines : List EngineLine) (k : Keeps Vali
   -- a sealing that is refused
   pub keeps_refusal : (why : Why) → held.run.sealed ≡ None → seal_stop_in book held.run ≡ Some why → Keeps Validation (drops tid book) start (Refuses tid why ∷ lines)
   keeps_refusal why live refused = keeps_seal_refused Validation book start lines tid why k (held.run, ((at, live), stops (Some why) refused))
+
+-- where the rule lets the run pass, no failure hides a refusal
+pub hides_none : {X : Type 0} (r : Result X SealErr) (engine : ValidationEngine) (tid : Tid) → EachPast Stands engine (PassesRule tid) → IfErr r (λ e. HidesNone Stands engine tid e)
+hides_none (Ok x) engine tid passes = tt
+hides_none (Err (Err_is.Refused why)) engine tid passes = tt
+hides_none (Err Err_is.Memory) engine tid passes = passes

@@ -1,9 +1,14 @@
+use Rattle.std.proofs.Common.{refl}
 use Rattle.mdb_base.specs.declared.names.Engine.TheVariants.{Locking}
-use Rattle.run_lists.proofs.Calls.{run_at-held, keeps_aborts}
+use Rattle.fed_rules.specs.Runs.{Aborts}
+use Rattle.run_book.proofs.Calls.{run_at-held}
+use Rattle.run_book.proofs.HeldBy.{unended_held}
+use Rattle.run_book.proofs.InOrder.{some_held}
 use Rattle.locking_engine.proofs.engine.LockingEngineLocalEngine.abort.Goals as goal
 
 pub returns : goal.returns
 returns c =
-    let book = c.args.self.now.book in
-    λ start lines k. rw c.take_out-run.ensures.book
-    (keeps_aborts Locking book start lines c.args.tid k (_, run_at-held Locking book start lines c.args.tid _ k c.take_out-run.ensures.run))
+    let book = c.args.self.now.book.book in
+    let there = some_held _ (unended_held Locking book c.requires.start c.requires.lines c.args.tid c.requires.stood.keeps.keeps c.requires.holds) in
+    λ start lines s.
+    c.end.ensures start lines (Aborts c.args.tid) s (there.0.run, run_at-held Locking book start lines c.args.tid there.0 s.keeps.keeps there.1) (refl, refl)

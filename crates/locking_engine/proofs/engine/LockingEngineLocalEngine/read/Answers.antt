@@ -1,22 +1,34 @@
-use Rattle.std.proofs.Common.{◌∙◌, sym}
+use Rattle.std.proofs.Common.{◌≡◌, Some, None, refl, ap, ◌∙◌}
 use Rattle.mdb_base.specs.declared.names.Engine.TheVariants.{Locking}
-use Rattle.run_lists.proofs.HeldBy.{live_held}
-use Rattle.locking_engine.proofs.Lines.{keeps_value, keeps_stopped}
+use Rattle.mdb_base.specs.declared.acts.PlainAct.TheVariants.{Read}
+use Rattle.fed_rules.specs.Runs.{Access, after}
+use Rattle.fed_rules.specs.Replies.{access_key}
+use Rattle.run_book.specs.Book.{grants, table_in}
+use Rattle.run_book.proofs.HeldBy.{live_held}
+use Rattle.run_book.proofs.InOrder.{of_found}
+use Rattle.locking_engine.specs.Holders.{IsStop, held_by, place_of}
+use Rattle.locking_engine.proofs.Lines.{stands_read}
+use Rattle.locking_engine.proofs.Numbers.{right_value, stands_stopped}
 use Rattle.locking_engine.proofs.engine.LockingEngineLocalEngine.read.Goals as goal
 
 pub returns-in-Some-clause-answered : goal.returns-in-Some-clause-answered
 returns-in-Some-clause-answered c =
-    let book = c.args.self.now.book in
-    let here = live_held Locking book c.requires.start c.requires.lines c.args.tid c.requires.stood c.requires.holds in
-    let stopped = rw here.found at c.access_stop.ensures in
-    λ start lines k. rw (c.stop.ensures.book, c.stop.ensures.answer)
-    (keeps_stopped book start lines c.args.tid here.held _ c.in-Some.stop k here.found here.live (sym stopped ∙ c.in-Some.is))
+    let old = c.args.self.now in
+    let here = live_held Locking old.book.book c.requires.start c.requires.lines c.args.tid c.requires.stood.keeps.keeps c.requires.holds in
+    let is = of_found (λ h. IsStop old.readers old.writers h.run.age (Read c.args.key) (Some c.in-Some.stop)) _ here.held here.found c.in-Some.ensures in
+    λ start lines s. rw c.stop.ensures.answer
+    (stands_stopped old c.stop.new.self start lines c.args.tid here.held (Read c.args.key) c.in-Some.stop s here.found here.live is c.stop.ensures.stopped)
 
 pub returns-clause-answered : goal.returns-clause-answered
 returns-clause-answered c =
-    let book = c.args.self.now.book in
-    let here = live_held Locking book c.requires.start c.requires.lines c.args.tid c.requires.stood c.requires.holds in
-    let free = rw here.found at c.access_stop.ensures in
-    let value = rw here.found at c.value_for-value.ensures in
-    λ start lines k. rw (c.in_ok-grant.ensures.granted, c.read.ensures)
-    (keeps_value book start lines k c.args.tid here.held here.found c.args.key c.value_for-value.result here.live (sym free ∙ c.in_default.is) value)
+    let old = c.args.self.now in
+    let book = old.book.book in
+    let here = live_held Locking book c.requires.start c.requires.lines c.args.tid c.requires.stood.keeps.keeps c.requires.holds in
+    let free = of_found (λ h. IsStop old.readers old.writers h.run.age (Read c.args.key) None) _ here.held here.found c.in_default.ensures in
+    let value = of_found (λ h. c.value_for-value.result ≡ after h.run.acts (table_in book) c.args.key) _ here.held here.found c.value_for-value.ensures in
+    let held = of_found (λ h. c.grant.new.holders ≡ held_by (place_of (access_key c.read-access.result) h.run.age) c.args.tid old.readers) _ here.held here.found c.in_ok-grant.ensures.held in
+    λ start lines s.
+    stands_read old _ start lines c.args.tid here.held c.args.key c.value_for-value.result s here.found
+    (right_value old start lines s c.args.tid here.held here.found c.args.key c.value_for-value.result here.live free value)
+    (c.in_ok-grant.ensures.granted ∙ ap (λ (a : Access). grants c.args.tid a book) c.read-access.ensures)
+    (held ∙ ap (λ (a : Access). held_by (place_of (access_key a) here.held.run.age) c.args.tid old.readers) c.read-access.ensures) refl refl

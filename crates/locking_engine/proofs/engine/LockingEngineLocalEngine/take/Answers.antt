@@ -1,23 +1,52 @@
-use Rattle.std.proofs.Common.{◌+◌, ◌∙◌, sym, ap}
+use Rattle.std.proofs.Common.{◌≡◌, ℕ, ◌+◌, Some, None, Option, refl, sym, ap, ◌∙◌}
 use Rattle.mdb_base.specs.declared.names.Engine.TheVariants.{Locking}
-use Rattle.run_lists.specs.declared.marks.Marks.{Marks}
-use Rattle.run_lists.proofs.HeldBy.{ticketless_held}
-use Rattle.locking_engine.proofs.Lines.{keeps_ticket, keeps_ticket_stopped}
+use Rattle.mdb_base.specs.declared.names.Tid.{Tid}
+use Rattle.mdb_base.specs.Words.{map_some}
+use Rattle.fed_rules.specs.Replies.{age_of}
+use Rattle.run_book.specs.declared.rival.Rival.{Rival}
+use Rattle.run_book.specs.Held.{Held, held_in}
+use Rattle.run_book.specs.Book.{Book, tickets, with_ticket}
+use Rattle.run_book.specs.Rivals.{rival_by}
+use Rattle.run_book.proofs.Ages.{some_inj}
+use Rattle.run_book.proofs.HeldBy.{ticketless_held, some-found}
+use Rattle.run_book.proofs.InOrder.{of_found}
+use Rattle.run_book.proofs.RunMaps.{held_in-changed_own}
+use Rattle.engine_laws.proofs.Runs.{tid_is}
+use Rattle.run_book.proofs.Calls.{run_at-held}
+use Rattle.locking_engine.specs.Rule.{stop_by}
+use Rattle.locking_engine.proofs.Numbers.{stands_ticket_stopped, stands_took}
 use Rattle.locking_engine.proofs.engine.LockingEngineLocalEngine.take.Goals as goal
 
 pub returns-in-Some-clause-answered : goal.returns-in-Some-clause-answered
 returns-in-Some-clause-answered c =
-    let book = c.args.self.now.book in
-    let here = ticketless_held Locking book c.requires.start c.requires.lines c.args.tid c.requires.stood c.requires.holds in
-    let stopped = rw here.found at c.ticket_stop.ensures in
-    λ start lines k. rw (c.stop.ensures.book, c.stop.ensures.answer)
-    (keeps_ticket_stopped book start lines c.args.tid here.held c.in-Some.stop k here.found here.live here.ticketless (sym stopped ∙ c.in-Some.is))
+    let old = c.args.self.now in
+    let here = ticketless_held Locking old.book.book c.requires.start c.requires.lines c.args.tid c.requires.stood.keeps.keeps c.requires.holds in
+    let is = of_found (λ h. Some c.in-Some.stop ≡ stop_by h.run.age old.taker) _ here.held here.found c.in-Some.ensures in
+    λ start lines s. rw c.stop.ensures.answer
+    (stands_ticket_stopped old c.stop.new.self start lines c.args.tid here.held c.in-Some.stop s here.found here.live here.ticketless (sym is) c.stop.ensures.stopped)
+
+pub run-requires : goal.run-requires
+run-requires c =
+    let book = c.args.self.now.book.book in
+    let here = ticketless_held Locking book c.requires.start c.requires.lines c.args.tid c.requires.stood.keeps.keeps c.requires.holds in
+    let change = with_ticket (book.marks.published + 1) in
+    some-found _ (change here.held)
+    (ap (λ (b : Book). held_in b.runs c.args.tid) c.in_ok-ticket.ensures.taken
+    ∙ (held_in-changed_own book.runs c.args.tid change ∙ ap (λ (o : Option Held). map_some change o) here.found))
 
 pub returns-clause-answered : goal.returns-clause-answered
 returns-clause-answered c =
-    let book = c.args.self.now.book in
-    let here = ticketless_held Locking book c.requires.start c.requires.lines c.args.tid c.requires.stood c.requires.holds in
-    let free = rw here.found at c.ticket_stop.ensures in
-    λ start lines k. rw c.hold_ticket.ensures
-    (keeps_ticket book start lines k c.args.tid here.held here.found _ here.live here.ticketless (sym free ∙ c.in_default.is)
-    (ap (λ (marks : Marks). marks.published + 1) c.marks-ticket.ensures))
+    let old = c.args.self.now in
+    let book = old.book.book in
+    let here = ticketless_held Locking book c.requires.start c.requires.lines c.args.tid c.requires.stood.keeps.keeps c.requires.holds in
+    let free = of_found (λ h. None ≡ stop_by h.run.age old.taker) _ here.held here.found c.in_default.ensures in
+    let change = with_ticket (book.marks.published + 1) in
+    let then : held_in c.take.new.self.book.runs c.args.tid ≡ Some (change here.held) =
+    ap (λ (b : Book). held_in b.runs c.args.tid) c.in_ok-ticket.ensures.taken
+    ∙ (held_in-changed_own book.runs c.args.tid change ∙ ap (λ (o : Option Held). map_some change o) here.found) in
+    let same = some_inj c.run.result.now (change here.held) (sym c.run.ensures ∙ then) in
+    λ start lines s.
+    let named = tid_is start lines s.keeps.keeps.right c.args.tid here.held.run (run_at-held Locking book start lines c.args.tid here.held s.keeps.keeps here.found) in
+    stands_took old _ start lines c.args.tid here.held c.in_ok-ticket.ticket s here.found here.live here.ticketless (sym free) c.in_ok-ticket.ensures.ticket
+    (c.in_ok-ticket.ensures.taken ∙ ap (λ (n : ℕ). tickets c.args.tid n book) (sym c.in_ok-ticket.ensures.ticket)) refl refl
+    (ap (λ (r : Rival). Some r) (c.by_age.ensures ∙ (ap (λ (h : Held). rival_by age_of h.run) same ∙ ap (λ (t : Tid). let r : Rival = record { tid = t; rank = here.held.run.age } in r) named)))

@@ -1,21 +1,36 @@
-use Rattle.std.proofs.Common.{◌∙◌, sym}
+use Rattle.std.proofs.Common.{◌≡◌, Some, None, refl, ap, ◌∙◌}
 use Rattle.mdb_base.specs.declared.names.Engine.TheVariants.{Locking}
-use Rattle.run_lists.proofs.HeldBy.{live_held}
-use Rattle.locking_engine.proofs.Lines.{keeps_done, keeps_stopped}
+use Rattle.mdb_base.specs.declared.acts.PlainAct.TheVariants.{Write}
+use Rattle.mdb_base.specs.declared.replies.Reply.TheVariants.{Done}
+use Rattle.fed_rules.specs.Runs.{Access}
+use Rattle.fed_rules.specs.Replies.{access_key}
+use Rattle.run_book.specs.Book.{grants}
+use Rattle.run_book.proofs.HeldBy.{live_held}
+use Rattle.run_book.proofs.InOrder.{of_found}
+use Rattle.locking_engine.specs.Holders.{IsStop, held_by, place_of}
+use Rattle.locking_engine.proofs.Lines.{stands_wrote}
+use Rattle.locking_engine.proofs.Numbers.{right_access, stands_stopped}
 use Rattle.locking_engine.proofs.engine.LockingEngineLocalEngine.write.Goals as goal
 
 pub returns-in-Some-clause-answered : goal.returns-in-Some-clause-answered
 returns-in-Some-clause-answered c =
-    let book = c.args.self.now.book in
-    let here = live_held Locking book c.requires.start c.requires.lines c.args.tid c.requires.stood c.requires.holds in
-    let stopped = rw here.found at c.access_stop.ensures in
-    λ start lines k. rw (c.stop.ensures.book, c.stop.ensures.answer)
-    (keeps_stopped book start lines c.args.tid here.held _ c.in-Some.stop k here.found here.live (sym stopped ∙ c.in-Some.is))
+    let old = c.args.self.now in
+    let act = Write c.args.key c.args.value in
+    let here = live_held Locking old.book.book c.requires.start c.requires.lines c.args.tid c.requires.stood.keeps.keeps c.requires.holds in
+    let is = of_found (λ h. IsStop old.readers old.writers h.run.age act (Some c.in-Some.stop)) _ here.held here.found c.in-Some.ensures in
+    λ start lines s. rw c.stop.ensures.answer
+    (stands_stopped old c.stop.new.self start lines c.args.tid here.held act c.in-Some.stop s here.found here.live is c.stop.ensures.stopped)
 
 pub returns-clause-answered : goal.returns-clause-answered
 returns-clause-answered c =
-    let book = c.args.self.now.book in
-    let here = live_held Locking book c.requires.start c.requires.lines c.args.tid c.requires.stood c.requires.holds in
-    let free = rw here.found at c.access_stop.ensures in
-    λ start lines k. rw (c.in_ok-grant.ensures.granted, c.write.ensures)
-    (keeps_done book start lines k c.args.tid here.held here.found c.args.key c.args.value here.live (sym free ∙ c.in_default.is))
+    let old = c.args.self.now in
+    let book = old.book.book in
+    let act = Write c.args.key c.args.value in
+    let here = live_held Locking book c.requires.start c.requires.lines c.args.tid c.requires.stood.keeps.keeps c.requires.holds in
+    let free = of_found (λ h. IsStop old.readers old.writers h.run.age act None) _ here.held here.found c.in_default.ensures in
+    let held = of_found (λ h. c.grant.new.holders ≡ held_by (place_of (access_key c.write-access.result) h.run.age) c.args.tid old.writers) _ here.held here.found c.in_ok-grant.ensures.held in
+    λ start lines s.
+    stands_wrote old _ start lines c.args.tid here.held c.args.key c.args.value s here.found
+    (right_access old start lines s c.args.tid here.held here.found act Done None here.live free refl)
+    (c.in_ok-grant.ensures.granted ∙ ap (λ (a : Access). grants c.args.tid a book) c.write-access.ensures) refl
+    (held ∙ ap (λ (a : Access). held_by (place_of (access_key a) here.held.run.age) c.args.tid old.writers) c.write-access.ensures) refl

@@ -1,0 +1,156 @@
+-- Keys and ages, by key and then by age.
+use Rattle.std.proofs.Common.{◌≡◌, ℕ, ◌<◌, ◌≤◌, ◌⊎◌, Bool, true, false, not, ◌&&◌, cond, nat_eq, is_some, Option, Some, None, List, [], ◌∷◌, inl, inr, refl, sym, ap, ◌∙◌, arith}
+use Rattle.std.specs.declared.cmp.Ordering.{Ordering}
+use Rattle.std.specs.declared.cmp.Ordering.TheVariants.{Less, Equal, Greater}
+use Rattle.std.specs.Cmp.{IsTotalOrder, nat_cmp_total, ranked}
+use Rattle.std.specs.Ordering.{nat_cmp, ordering_then, is_eq, is_gt}
+use Rattle.std.specs.FinMap.{from_entries, find, get, get-insert, get-remove, get-from_entries, insert, remove, same_map}
+use Rattle.std.specs.Map.{lookup}
+use Rattle.std.specs.BTreeMap.{is_at}
+use Rattle.std.proofs.lemmas.Bool.{cond-true, cond-false, eqb-true, lt-ltb}
+use Rattle.std.proofs.lemmas.Bool.Decides.{nat_tests}
+use Rattle.std.proofs.lemmas.Cmp.{on_total, then_total}
+use Rattle.std.proofs.lemmas.Map.Lookups.{CmpEqualImpliesEq, exact_pairs, exact_unsigned}
+use Rattle.mdb_base.specs.declared.names.Tid.{Tid}
+use Rattle.locking_engine.specs.declared.holders.Place.{Place}
+use Rattle.locking_engine.specs.Holders.{Holders, place_cmp, held_by}
+
+exact_places : CmpEqualImpliesEq place_cmp
+exact_places a b h =
+    ap (λ (p : ℕ × ℕ). let q : Place = record { key = p.0; age = p.1 } in q)
+    (exact_pairs nat_cmp nat_cmp exact_unsigned exact_unsigned (a.key, a.age) (b.key, b.age) h)
+
+places_total : IsTotalOrder place_cmp
+places_total = then_total (on_total (λ p. p.key) nat_cmp_total) (on_total (λ p. p.age) nat_cmp_total)
+
+abbrev pub same_place : Place → Place → Bool
+same_place a b = nat_eq a.key b.key && nat_eq a.age b.age
+
+ties_nat : (x y : ℕ) → is_eq (nat_cmp x y) ≡ nat_eq x y
+ties_nat x y = grind (arith, nat_tests)
+
+both_eq : (o p : Ordering) → is_eq (ordering_then o p) ≡ (is_eq o && is_eq p)
+both_eq Less p = refl
+both_eq Equal p = refl
+both_eq Greater p = refl
+
+ties : (a b : Place) → is_eq (place_cmp a b) ≡ same_place a b
+ties a b =
+    both_eq (nat_cmp a.key b.key) (nat_cmp a.age b.age)
+    ∙ ap (λ (x : Bool). x && is_eq (nat_cmp a.age b.age)) (ties_nat a.key b.key)
+    ∙ ap (λ (y : Bool). nat_eq a.key b.key && y) (ties_nat a.age b.age)
+
+parts_same : (x y : Bool) → (x && y) ≡ true → (x ≡ true) × (y ≡ true)
+parts_same true true e = (refl, refl)
+parts_same true false e = cc
+parts_same false y e = cc
+
+pub place-equal : (a b : Place) → same_place a b ≡ true → a ≡ b
+place-equal a b e =
+    let both = parts_same (nat_eq a.key b.key) (nat_eq a.age b.age) e in
+    ap (λ (n : ℕ). let q : Place = record { key = n; age = a.age } in q) (eqb-true a.key b.key both.0)
+    ∙ ap (λ (n : ℕ). let q : Place = record { key = b.key; age = n } in q) (eqb-true a.age b.age both.1)
+
+-- what a map of holders has at a place after one is put in or taken out
+pub holder-put : (m : Holders) (p q : Place) (t : Tid) → get (insert m p t) q ≡ cond (same_place q p) (Some t) (get m q)
+holder-put m p q t = get-insert places_total m p t q ∙ ap (λ (b : Bool). cond b (Some t) (get m q)) (ties q p)
+
+pub holder-gone : (m : Holders) (p q : Place) → get (remove m p) q ≡ cond (same_place q p) None (get m q)
+holder-gone m p q = get-remove places_total m p q ∙ ap (λ (b : Bool). cond b None (get m q)) (ties q p)
+
+pub same_holders_map : (m n : Holders) → ((q : Place) → get m q ≡ get n q) → m ≡ n
+same_holders_map m n h = same_map places_total exact_places m n h
+
+-- the tree that keeps them
+abbrev pub look : List (Place × Tid) → Place → Option Tid
+look es q = lookup (is_at (place_cmp q)) es
+
+find_holder : (es : List (Place × Tid)) (q : Place) → find place_cmp q es ≡ look es q
+find_holder [] q = refl
+find_holder (e ∷ es) q = ap (cond (is_at (place_cmp q) e.0) (Some e.1)) (find_holder es q)
+
+pub get_holder : (es : List (Place × Tid)) (q : Place) → get (from_entries {R = place_cmp} es) q ≡ look es q
+get_holder es q = get-from_entries places_total es q ∙ find_holder es q
+
+turned : (a b : Place) → is_eq (place_cmp a b) ≡ same_place b a
+turned a b = ties a b ∙ same_turned a b
+  where
+    same_turned : (x y : Place) → same_place x y ≡ same_place y x
+    same_turned x y = grind (arith, nat_tests)
+
+pub entries_put : (es fs : List (Place × Tid)) (p : Place) (t : Tid) → ((q : Place) → look fs q ≡ cond (is_at (place_cmp p) q) (Some t) (look es q)) → from_entries {R = place_cmp} fs ≡ insert (from_entries es) p t
+entries_put es fs p t h =
+    same_holders_map _ _ (λ q. get_holder fs q ∙ h q ∙ ap (λ (b : Bool). cond b (Some t) (look es q)) (turned p q)
+    ∙ sym (holder-put (from_entries es) p q t ∙ ap (cond (same_place q p) (Some t)) (get_holder es q)))
+
+pub entries_gone : (es fs : List (Place × Tid)) (p : Place) → ((q : Place) → look fs q ≡ cond (is_at (place_cmp p) q) None (look es q)) → from_entries {R = place_cmp} fs ≡ remove (from_entries es) p
+entries_gone es fs p h =
+    same_holders_map _ _ (λ q. get_holder fs q ∙ h q ∙ ap (λ (b : Bool). cond b None (look es q)) (turned p q)
+    ∙ sym (holder-gone (from_entries es) p q ∙ ap (cond (same_place q p) None) (get_holder es q)))
+
+-- comparisons of numbers
+less_of : (x y : ℕ) → nat_cmp x y ≡ Less → x < y
+less_of x y h = ranked x y Less (sym h)
+
+equal_of : (x y : ℕ) → nat_cmp x y ≡ Equal → x ≡ y
+equal_of x y h = ranked x y Equal (sym h)
+
+of_less : (x y : ℕ) → x < y → nat_cmp x y ≡ Less
+of_less x y h = cond-true _ _ _ (lt-ltb x y h)
+
+of_same : (x : ℕ) → nat_cmp x x ≡ Equal
+of_same x = grind (arith, nat_tests)
+
+of_le : (x y : ℕ) → x ≤ y → is_gt (nat_cmp x y) ≡ false
+of_le x y h = grind (arith, nat_tests, h)
+
+le_of : (x y : ℕ) → is_gt (nat_cmp x y) ≡ false → x ≤ y
+le_of x y h = by_order (nat_cmp x y) refl h
+  where
+    by_order : (o : Ordering) → nat_cmp x y ≡ o → is_gt o ≡ false → x ≤ y
+    by_order Less e h = let lt = less_of x y e in omega arith
+    by_order Equal e h = let is = equal_of x y e in omega arith
+    by_order Greater e h = cc
+
+-- comparisons of places
+pub below_of : (a b : Place) → place_cmp a b ≡ Less → (a.key < b.key) ⊎ ((a.key ≡ b.key) × (a.age < b.age))
+below_of a b h = by_order (nat_cmp a.key b.key) refl h
+  where
+    by_order : (o : Ordering) → nat_cmp a.key b.key ≡ o → ordering_then o (nat_cmp a.age b.age) ≡ Less → (a.key < b.key) ⊎ ((a.key ≡ b.key) × (a.age < b.age))
+    by_order Less e h = inl (less_of _ _ e)
+    by_order Equal e h = inr (equal_of _ _ e, less_of _ _ h)
+    by_order Greater e h = cc
+
+pub up_to_of : (a b : Place) → is_gt (place_cmp a b) ≡ false → (a.key < b.key) ⊎ ((a.key ≡ b.key) × (a.age ≤ b.age))
+up_to_of a b h = by_order (nat_cmp a.key b.key) refl h
+  where
+    by_order : (o : Ordering) → nat_cmp a.key b.key ≡ o → is_gt (ordering_then o (nat_cmp a.age b.age)) ≡ false → (a.key < b.key) ⊎ ((a.key ≡ b.key) × (a.age ≤ b.age))
+    by_order Less e h = inl (less_of _ _ e)
+    by_order Equal e h = inr (equal_of _ _ e, le_of _ _ h)
+    by_order Greater e h = cc
+
+pub below_here : (key x y : ℕ) → x < y → place_cmp (record { key = key; age = x }) (record { key = key; age = y }) ≡ Less
+below_here key x y h = ap (λ (o : Ordering). ordering_then o (nat_cmp x y)) (of_same key) ∙ of_less x y h
+
+pub up_to_here : (key x y : ℕ) → x ≤ y → is_gt (place_cmp (record { key = key; age = x }) (record { key = key; age = y })) ≡ false
+up_to_here key x y h = ap (λ (o : Ordering). is_gt (ordering_then o (nat_cmp x y))) (of_same key) ∙ of_le x y h
+
+-- who is put in where nobody stands, and nobody is where one does
+pub held_there : (m : Holders) (p : Place) (t : Tid) → is_some (get m p) ≡ true → m ≡ held_by p t m
+held_there m p t e = sym (cond-true _ _ _ e)
+
+pub held_new : (m : Holders) (p : Place) (t : Tid) → is_some (get m p) ≡ false → insert m p t ≡ held_by p t m
+held_new m p t e = sym (cond-false _ _ _ e)
+
+-- who was put in where nobody stood is taken out again
+pub undone : (m : Holders) (p : Place) (t : Tid) → not (is_some (get m p)) ≡ true → remove (held_by p t m) p ≡ m
+undone m p t fresh = by_there (get m p) refl fresh
+  where
+    none_at : (q : Place) (b : Bool) → same_place q p ≡ b → get m p ≡ None → cond b None (cond b (Some t) (get m q)) ≡ get m q
+    none_at q true e none = sym (ap (λ (x : Place). get m x) (place-equal q p e) ∙ none)
+    none_at q false e none = refl
+
+    by_there : (o : Option Tid) → get m p ≡ o → not (is_some o) ≡ true → remove (cond (is_some o) m (insert m p t)) p ≡ m
+    by_there None none e =
+        same_holders_map _ _ (λ q. holder-gone (insert m p t) p q ∙ (ap (λ (o : Option Tid). cond (same_place q p) None o) (holder-put m p q t) ∙ none_at q (same_place q p) refl none))
+    by_there (Some u) is e = cc

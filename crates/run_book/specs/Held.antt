@@ -1,0 +1,72 @@
+-- Runs as an engine holds them, by attempt.
+use Rattle.std.specs.Prelude.{ℕ, Bool, false, not, ◌&&◌, cond, Option, Some, None, List, [], ◌∷◌, refl}
+use Rattle.std.specs.declared.cmp.Ordering.{Ordering}
+use Rattle.std.specs.Ordering.{nat_cmp, ordering_then}
+use Rattle.std.specs.FinMap.{FinMap, code, get, insert, remove}
+use Rattle.std.specs.Coded.{Coded, codes, code_by, coded×, coded_ℕ}
+use Rattle.mdb_base.specs.declared.names.Key.{Key}
+use Rattle.mdb_base.specs.declared.names.Tid.{Tid}
+use Rattle.mdb_base.specs.declared.rows.Put.{Put}
+use Rattle.mdb_base.specs.Names.{same_key}
+use Rattle.mdb_base.specs.Words.{or_else, map_some}
+use Rattle.fed_rules.specs.Runs.{Access, Got, Wrote, Run, is_sealed, has_ticket}
+use Rattle.run_book.specs.declared.marks.Marks.{Marks}
+
+-- a run with the marks that were noted at it: of a sealed one those before its sealing
+pub record Held : Type 0 where
+  pub run : Run
+  pub marks : Marks
+
+-- by transaction, and then by attempt
+abbrev pub tid_cmp : Tid → Tid → Ordering
+tid_cmp a b = ordering_then (nat_cmp a.tx.0 b.tx.0) (nat_cmp a.attempt b.attempt)
+
+-- at most one run of each attempt
+abbrev pub Runs : Type 0
+Runs = FinMap tid_cmp Held
+
+abbrev pub tid_code : Coded Tid
+tid_code = code_by (ℕ × ℕ) (coded× coded_ℕ coded_ℕ) (λ t. (t.tx.0, t.attempt)) (λ p. record { tx = record { 0 = p.0 }; attempt = p.1 }) (λ _. refl)
+
+abbrev pub held_code : Coded Held
+held_code = Prim.hlevel (codes)
+
+abbrev pub runs_code : Coded Runs
+runs_code = code tid_code held_code
+
+-- the run of this attempt
+abbrev pub held_in : Runs → Tid → Option Held
+held_in runs tid = get runs tid
+
+-- this run is the one of this attempt
+abbrev pub with_run : Tid → Held → Runs → Runs
+with_run tid held runs = insert runs tid held
+
+-- this is done to the run of the attempt
+abbrev pub changed_in : Tid → (Held → Held) → Runs → Runs
+changed_in tid change runs = or_else (map_some (λ held. insert runs tid (change held)) (get runs tid)) runs
+
+-- the attempt has no run
+abbrev pub without : Tid → Runs → Runs
+without tid runs = remove runs tid
+
+-- whether it is a live run that has taken the ticket
+abbrev pub is_taker : Option Held → Bool
+is_taker None = false
+is_taker (Some held) = not (is_sealed held.run) && has_ticket held.run
+
+-- the value that was read or written
+abbrev pub access_value : Access → ℕ
+access_value (Got key value) = value
+access_value (Wrote key value) = value
+
+-- the row that a write leaves
+abbrev pub written_row : Access → Option Put
+written_row (Got key value) = None
+written_row (Wrote key value) = Some (record { key = key; value = value })
+
+-- the last write of the key among these accesses
+abbrev pub own_write : Key → List Access → Option ℕ
+own_write key [] = None
+own_write key (Got k value ∷ acts) = own_write key acts
+own_write key (Wrote k value ∷ acts) = cond (same_key k key) (Some value) (own_write key acts)

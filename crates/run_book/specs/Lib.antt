@@ -1,0 +1,9 @@
+pub mod Book
+pub mod Changes
+pub mod Fields
+pub mod Held
+pub mod Keeps
+pub mod Laws
+pub mod Rivals
+pub mod Rows
+pub mod Tables
