@@ -25,11 +25,12 @@ use Rattle.session_laws.proofs.Heard.{site_some}
 use Rattle.session_laws.specs.Sessions.{IsOneSite}
 use Rattle.mdb_top.specs.Verdicts.{is_own_command}
 
--- the site that the command stops, trips or starts is declared
+-- the site that the command stops, trips or starts, or has write a Checkpoint, is declared
 abbrev pub IsHeard : List SiteLine → Command → Type 0
 IsHeard sites (Cmd.Halt actor cut) = is_declared sites (record { 0 = actor }) ≡ true
 IsHeard sites (Cmd.Trip actor calls cut) = is_declared sites (record { 0 = actor }) ≡ true
 IsHeard sites (Cmd.Back actor) = is_declared sites (record { 0 = actor }) ≡ true
+IsHeard sites (Cmd.Check actor) = is_declared sites (record { 0 = actor }) ≡ true
 IsHeard sites command = Unit {0}
 
 -- the command runs here
@@ -55,6 +56,7 @@ own_command (Cmd.Fate tx) e = (tt, tt)
 own_command (Cmd.Halt actor cut) e = (tt, ltb-true 0 actor e)
 own_command (Cmd.Trip actor calls cut) e = (tt, ltb-true 0 actor e)
 own_command (Cmd.Back actor) e = (tt, ltb-true 0 actor e)
+own_command (Cmd.Check actor) e = absurd cc
 own_command (Cmd.Go tx) e = absurd cc
 own_command (Cmd.Again tid) e = absurd cc
 own_command (Cmd.Late tid) e = absurd cc
@@ -63,7 +65,7 @@ own_command (Cmd.Take site place) e = absurd cc
 own_command (Cmd.Ask site tid) e = absurd cc
 own_command (Cmd.Drop site tid) e = absurd cc
 
--- and the actor that it stops, trips or starts is declared
+-- and the actor that it stops, trips or starts, or has write a Checkpoint, is declared
 heard_command : (sites : List SiteLine) (command : Command) → IsAtSite command → is_command sites command ≡ true → IsHeard sites command
 heard_command sites (Cmd.Halt actor cut) some c = declared_actor sites actor some (and_parts (is_actor sites actor) _ c).0
 heard_command sites (Cmd.Trip actor calls cut) some c = declared_actor sites actor some (and_parts (is_actor sites actor) (nat_le calls 1000) (and_parts _ (nat_le cut 65535) c).0).0
@@ -73,6 +75,7 @@ heard_command sites (Cmd.Step tx) some c = tt
 heard_command sites (Cmd.Commit tx) some c = tt
 heard_command sites (Cmd.Abort tx) some c = tt
 heard_command sites (Cmd.Fate tx) some c = tt
+heard_command sites (Cmd.Check actor) some c = declared_actor sites actor some c
 heard_command sites (Cmd.Go tx) some c = tt
 heard_command sites (Cmd.Again tid) some c = tt
 heard_command sites (Cmd.Late tid) some c = tt

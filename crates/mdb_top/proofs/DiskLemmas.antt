@@ -6,29 +6,31 @@ use Rattle.order_laws.proofs.Names.{same_site_alike}
 use Rattle.fed_rules.specs.declared.records.SiteRecord.{SiteRecord}
 use Rattle.fed_rules.specs.declared.scenario.Scenario.{Scenario}
 use Rattle.fed_rules.specs.declared.scenario.SiteLine.{SiteLine}
-use Rattle.fed_rules.specs.Disk.{Disk, empty_disk}
+use Rattle.fed_rules.specs.Disk.{Disk, empty_disk, journal}
 use Rattle.fed_rules.specs.Happenings.{Trip, stopped}
 use Rattle.fed_rules.specs.Runs.{Start, EngineLine}
 use Rattle.fed_rules.specs.Scenarios.{home_in, home_of}
 use Rattle.fed_rules.specs.Site.{answered}
 use Rattle.fed_rules.specs.SitePast.{SitePast, disk}
-use Rattle.fed_rules.specs.SiteRecords.{Home}
+use Rattle.fed_rules.specs.SiteRecords.{Home, site_frame}
 use Rattle.fed_rules.specs.Story.{Story, past_of}
 use Rattle.fed_world.specs.Stands.{IsCut}
-use Rattle.frame_journal.specs.Records.{AreRecordsOf, spelled}
+use Rattle.frame_journal.specs.Records.{AreRecordsOf, as_written, entry_frame, spelled, spelled_size}
 use Rattle.frame_journal.proofs.Keeping.{length-frames, none_is_part, not_torn}
 use Rattle.journal_disk.specs.Disk.{Image, Seen}
-use Rattle.journal_disk.specs.Frames.{frames, frames_size}
+use Rattle.journal_disk.specs.Frames.{Frame, frames}
+use Rattle.journal_rules.specs.Stands.{record_frame}
 use Rattle.site_core.specs.declared.site.SiteCore.{SiteCore}
 use Rattle.actor_store.specs.declared.store.Standing.{Standing}
 use Rattle.actor_store.specs.declared.store.Standing.TheVariants.{Up, Down, Failing}
-use Rattle.actor_store.specs.declared.store.Store.{Store}
 use Rattle.site_core.specs.Stands.{Stands as CoreStands}
-use Rattle.site_core.specs.Store.{HoldsBytes, IsInOrder, Keeps, is_up, seen, stopped_disk}
+use Rattle.site_core.specs.Store.{Keeps, Store, stopped_disk}
+use Rattle.site_core.proofs.NewStore.{keeps_bytes}
+use Rattle.actor_store.specs.Store.{IsInOrder, is_up, stored}
 use Rattle.site_journal.specs.Spelling.{spelling}
 use Rattle.session_laws.specs.Sessions.{home_from}
 use Rattle.session_laws.proofs.OneSite.{one_home}
-use Rattle.mdb_top.specs.Disks.{HoldAll, HoldFrames, HoldNothing, HoldOthers, StopsWithin, disk_at, disk_of, frames_at}
+use Rattle.mdb_top.specs.Disks.{HoldAll, HoldFrames, HoldNothing, HoldOthers, HoldsBytes, StopsWithin, disk_at, disk_of, frames_at, frames_of}
 
 -- a list without items
 pub nothing : {A : Type 0} (xs : List A) → length xs ≡ 0 → xs ≡ []
@@ -54,40 +56,36 @@ own_home scenario line number e same =
     ap (home_of scenario) (sym (same_site_alike line.site (record { 0 = number }) (eq-eqb line.site.0 number (sym same)))) ∙ one_home scenario line e
 
 -- a disk without bytes holds what the rules say where nothing was written
-pub empty_holds : (image : Image) → image.bytes ≡ [] → HoldsBytes seen empty_disk
-empty_holds seen e = record {
-  records = subst (λ bytes. AreRecordsOf spelling bytes []) (sym e) (record { are_payloads = tt; rest = []; parts = refl; is_torn = none_is_part });
-  bytes = ap length e;
+pub empty_holds : (image : Image) → image.bytes ≡ [] → HoldsBytes image empty_disk
+empty_holds image e = record {
+  records = subst (λ (bytes : List ℕ). AreRecordsOf (record_frame spelling) bytes []) (sym e)
+      (record { right = record { are_frames = tt; are_right = tt }; rest = []; parts = refl; is_torn = none_is_part });
+  bytes = omega (arith, ap length e);
 }
 
--- the bytes that a store takes for synced are those on the disk
-seen_bytes : (standing : Standing) (image : Image) → (seen standing seen).bytes ≡ image.bytes
-seen_bytes Up seen = refl
-seen_bytes Down seen = refl
-seen_bytes Failing seen = refl
+-- the frames of entries as they are written are those of their records
+written_frames : (rs : List SiteRecord) → spelled (entry_frame spelling) (map as_written rs) ≡ spelled (record_frame spelling) rs
+written_frames rs = ap frames (map-map rs)
+  where
+    map-map : (rs : List SiteRecord) → map (entry_frame spelling) (map as_written rs) ≡ map (record_frame spelling) rs
+    map-map [] = refl
+    map-map (r ∷ rs) = ap (λ (fs : List Frame). record_frame spelling r ∷ fs) (map-map rs)
 
--- a disk on which a store stands for that of the rules holds its bytes
-pub keeps_bytes : {D : Type 0} (tells : Bool) (seen : D → Seen) (one : D) (store : Store) (rules : Disk SiteRecord) (in_force : Option Trip)
-    → Keeps tells seen one store rules in_force → HoldsBytes ((seen one).image) rules
-keeps_bytes tells seen one store rules in_force k = record {
-  records = subst (λ bytes. AreRecordsOf spelling bytes (reverse rules.records)) (seen_bytes store.standing ((seen one).image)) k.stands.records;
-  bytes = ap length (sym (seen_bytes store.standing ((seen one).image))) ∙ k.stands.bytes;
-}
-
--- while its site is up they are the frames of its records
-pub keeps_frames : {D : Type 0} (tells : Bool) (seen : D → Seen) (one : D) (store : Store) (rules : Disk SiteRecord) (in_force : Option Trip)
-    → IsTrue tells → length ((seen one).image).bytes ≡ (seen one).size → is_up store.standing ≡ true → Keeps tells seen one store rules in_force
-    → ((seen one).image).bytes ≡ spelled spelling (reverse rules.records)
-keeps_frames tells seen one store rules in_force told sized up k =
-    let payloads = map spelling store.journal.records in
+-- while its site is up the bytes on a store's disk are the frames of its records
+pub keeps_frames : (tells : Bool) (seen : Seen) (store : Store) (rules : Disk SiteRecord) (in_force : Option Trip)
+    → IsTrue tells → length seen.image.bytes ≡ seen.size → is_up store.standing ≡ true → Keeps tells seen store rules in_force
+    → seen.image.bytes ≡ frames_of (journal site_frame rules)
+keeps_frames tells seen store rules in_force told sized up k =
+    let entries = store.journal.entries in
     let are = k.kept_on.records told in
     let whole : store.journal.is_torn ≡ false = untorn store.standing up k.in_order in
-    let most = not_torn store.journal.is_torn (frames_size payloads) ((seen one).size) k.kept_on.is_torn whole in
-    let parts : length ((seen one).image).bytes ≡ length (frames payloads ++ are.rest) = ap length are.parts in
-    let none : are.rest ≡ [] = nothing are.rest (omega (arith, most, parts, sized, length-append (frames payloads) are.rest, length-frames payloads)) in
-    are.parts ∙ ap (λ rest. frames payloads ++ rest) none ∙ append-nil (frames payloads) ∙ ap (λ records. spelled spelling records) k.records
+    let most = not_torn store.journal.is_torn (spelled_size (entry_frame spelling) entries) seen.size k.kept_on.is_torn whole in
+    let parts : length seen.image.bytes ≡ length (spelled (entry_frame spelling) entries ++ are.rest) = ap length are.parts in
+    let none : are.rest ≡ [] = nothing are.rest (omega (arith, most, parts, sized, length-append (spelled (entry_frame spelling) entries) are.rest, length-frames (map (entry_frame spelling) entries))) in
+    are.parts ∙ ap (λ rest. spelled (entry_frame spelling) entries ++ rest) none ∙ append-nil (spelled (entry_frame spelling) entries)
+    ∙ ap (λ es. spelled (entry_frame spelling) es) k.records ∙ written_frames (reverse (journal site_frame rules))
   where
-    untorn : (standing : Standing) → is_up standing ≡ true → IsInOrder standing store.journal rules → store.journal.is_torn ≡ false
+    untorn : (standing : Standing) → is_up standing ≡ true → IsInOrder standing (stored store).journal rules → store.journal.is_torn ≡ false
     untorn Up e o = o
     untorn Down e o = absurd cc
     untorn Failing e o = absurd cc
@@ -97,7 +95,7 @@ pub cut_stops : {E D : Type 0} (stands : E → Start → List EngineLine → Typ
     → IsCut (CoreStands stands tells core (seen one)) home past → StopsWithin ((seen one).image) home past
 unfolding stopped
 cut_stops stands tells seen core one home past (event, n, cut, stood) =
-    (event, (n, cut, keeps_bytes tells seen one core.store (stopped_disk n cut (disk home past) (answered home past event).calls) _ stood.stored))
+    (event, (n, cut, keeps_bytes tells (seen one) core.store (stopped_disk n cut (disk home past) (answered home past event).calls) _ stood.stored))
 
 -- each disk but this one has no byte
 abbrev pub OthersNothing : {D : Type 0} → (D → Seen) → ℕ → List D → Type 0
@@ -110,7 +108,7 @@ none_hold_all seen disks scenario story e held number one at =
 
 pub none_hold_frames : {D : Type 0} (seen : D → Seen) (disks : List D) (scenario : Scenario) (story : Story) → scenario.sites ≡ [] → HoldNothing seen disks → HoldFrames seen disks scenario story
 none_hold_frames seen disks scenario story e held number one at =
-    held number one at ∙ sym (ap (λ h. spelled spelling (reverse (disk_of h story).records)) (no_home scenario number e))
+    held number one at ∙ sym (ap (λ h. frames_of (journal site_frame (disk_of h story))) (no_home scenario number e))
 
 -- a disk that isn't the site's, without a byte
 pub other_holds : {D : Type 0} (seen : D → Seen) (one : D) (scenario : Scenario) (line : SiteLine) (story : Story) (number : ℕ) → scenario.sites ≡ line ∷ [] → (number ≡ line.site.0 → ⊥) → ((seen one).image).bytes ≡ []
@@ -132,17 +130,17 @@ one_hold_all {D} seen disks scenario line story own e at held others number one 
     by_test false t = let apart = eqb-false number line.site.0 t in other_holds seen one scenario line story number e apart (others number one is apart)
 
 pub one_hold_frames : {D : Type 0} (seen : D → Seen) (disks : List D) (scenario : Scenario) (line : SiteLine) (story : Story) (own : D) → scenario.sites ≡ line ∷ [] → slice_get disks line.site.0 ≡ Some own
-    → ((seen own).image).bytes ≡ spelled spelling (reverse (disk (home_from scenario line) (past_of line.site story)).records) → OthersNothing seen line.site.0 disks → HoldFrames seen disks scenario story
+    → ((seen own).image).bytes ≡ frames_of (journal site_frame (disk (home_from scenario line) (past_of line.site story))) → OthersNothing seen line.site.0 disks → HoldFrames seen disks scenario story
 one_hold_frames {D} seen disks scenario line story own e at held others number one is = by_test (number == line.site.0) refl
   where
     by_test : (b : Bool) → (number == line.site.0) ≡ b → ((seen one).image).bytes ≡ frames_at scenario story number
     by_test true t =
         let same = eqb-true number line.site.0 t in
         let one_is : one ≡ own = one_at disks line.site.0 own one at (subst (λ n. slice_get disks n ≡ Some one) same is) in
-        ap (λ (d : D). ((seen d).image).bytes) one_is ∙ held ∙ sym (ap (λ h. spelled spelling (reverse (disk_of h story).records)) (own_home scenario line number e same))
+        ap (λ (d : D). ((seen d).image).bytes) one_is ∙ held ∙ sym (ap (λ h. frames_of (journal site_frame (disk_of h story))) (own_home scenario line number e same))
     by_test false t =
         let apart = eqb-false number line.site.0 t in
-        others number one is apart ∙ sym (ap (λ h. spelled spelling (reverse (disk_of h story).records)) (other_home scenario line number e apart))
+        others number one is apart ∙ sym (ap (λ h. frames_of (journal site_frame (disk_of h story))) (other_home scenario line number e apart))
 
 -- the others alone
 pub others_hold : {D : Type 0} (seen : D → Seen) (disks : List D) (scenario : Scenario) (line : SiteLine) (story : Story) (number : ℕ) → scenario.sites ≡ line ∷ [] → number ≡ line.site.0 → OthersNothing seen number disks

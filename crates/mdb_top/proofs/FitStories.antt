@@ -30,7 +30,7 @@ use Rattle.order_laws.proofs.Names.{same_site_alike}
 use Rattle.session_laws.proofs.AllLocal.{IsAllLocal}
 use Rattle.trace_lines.specs.Fits.{is_begin_answer, is_only, line_fits}
 use Rattle.mdb_top.proofs.Commands.{IsHere}
-use Rattle.mdb_top.proofs.Fits.{IsNowhere, IsFit, IsQuietly, begin_line, act_line, commit_line, abort_line, fate_line, halt_line, trip_line, back_line, quiet_fits}
+use Rattle.mdb_top.proofs.Fits.{IsNowhere, IsFit, IsQuietly, begin_line, act_line, commit_line, abort_line, fate_line, halt_line, trip_line, back_line, check_line, quiet_fits}
 use Rattle.mdb_top.proofs.Trips.{IsPrimed, by_when, by_pick, primed_line}
 
 -- what a command made happen fits it
@@ -137,6 +137,8 @@ fits scenario story (Cmd.Trip actor calls cut) local here primed =
     actor_fits scenario story (Cmd.Trip actor calls cut) actor _ _ here.at_site here.heard primed (λ home. trip_line home (past_of home.site story) actor calls cut)
 fits scenario story (Cmd.Back actor) local here primed =
     actor_fits scenario story (Cmd.Back actor) actor _ _ here.at_site here.heard primed (λ home. back_line home (past_of home.site story) actor here.at_site)
+fits scenario story (Cmd.Check actor) local here primed =
+    actor_fits scenario story (Cmd.Check actor) actor _ _ here.at_site here.heard primed (λ home. check_line home (past_of home.site story) actor)
 fits scenario story (Cmd.Go tx) local here primed = absurd here.own
 fits scenario story (Cmd.Again tid) local here primed = absurd here.own
 fits scenario story (Cmd.Late tid) local here primed = absurd here.own

@@ -16,7 +16,7 @@ use Rattle.fed_rules.specs.declared.commands.Command.{Command}
 use Rattle.fed_rules.specs.declared.commands.Command.TheVariants as Cmd
 use Rattle.fed_rules.specs.declared.events.SiteEvent.TheVariants as Ev
 use Rattle.fed_rules.specs.Happenings.{Trip, quiet, stopped, tripped}
-use Rattle.fed_rules.specs.Site.{answered, site_line, unless_tripped, act_answer, refusal_answer, reply_to, seals_local, of_begin, of_act, of_commit, of_abort, of_fate, of_back}
+use Rattle.fed_rules.specs.Site.{answered, site_line, unless_tripped, act_answer, refusal_answer, reply_to, seals_local, of_begin, of_act, of_commit, of_abort, of_fate, of_back, of_check}
 use Rattle.fed_rules.specs.SitePast.{SiteHappening, SitePast, attempts_of, disk, trip}
 use Rattle.fed_rules.specs.SiteRecords.{Home, site_frame}
 use Rattle.fed_rules.specs.Story.{Happened, AtSite, AtCoordinator, Nowhere, Story, past_of, place_from, sent_from, places_of}
@@ -175,6 +175,18 @@ back_line home past actor some =
     by_when (IsQuietly (Cmd.Back actor)) _ _ _
     (stopped_fits (Cmd.Back actor) home past (of_back home past) (λ kept. refl) (record { answer = lt-ltb 0 actor some; other = refl; sends = refl }))
     (record { answer = refl; other = refl; sends = refl })
+
+-- a Checkpoint
+check_quietly : (home : Home) (past : SitePast) (actor : ℕ) → IsQuietly (Cmd.Check actor) (of_check home past)
+unfolding of_check
+check_quietly home past actor =
+    by_when (IsQuietly (Cmd.Check actor)) _ _ _ (record { answer = refl; other = refl; sends = refl }) (record { answer = refl; other = refl; sends = refl })
+
+pub check_line : (home : Home) (past : SitePast) (actor : ℕ) → IsQuietly (Cmd.Check actor) (site_line home past Ev.Check)
+unfolding site_line answered
+check_line home past actor =
+    by_when (IsQuietly (Cmd.Check actor)) _ _ _ (record { answer = refl; other = refl; sends = refl })
+    (stopped_fits (Cmd.Check actor) home past (of_check home past) (λ kept. refl) (check_quietly home past actor))
 
 -- a line that sends nothing fits wherever it stands
 pub quiet_fits : (story : Story) (command : Command) (at : SiteId) (x : SiteHappening) → IsQuietly command x → IsPrimed (trip (x ∷ past_of at story)) → IsLineAt story command at x

@@ -22,12 +22,12 @@ use Rattle.mdb_top.specs.Verdicts.{is_own_command}
 use Rattle.mdb_top.proofs.Commands.{closed_ends, each_append, each_reverse, own_command}
 use Rattle.mdb_top.proofs.WorldLemmas.{stands_one}
 
--- so is one of a list that passes it
-own_at : (commands : List Command) (place : ℕ) (command : Command) → list_all is_own_command commands ≡ true → slice_get commands place ≡ Some command → IsOwn command × IsAtSite command
-own_at [] place command all e = absurd cc
-own_at (first ∷ commands) zero command all e =
-    let same : first ≡ command = cc in own_command command (ap is_own_command (sym same) ∙ (and_parts (is_own_command first) (list_all is_own_command commands) all).0)
-own_at (first ∷ commands) (suc place) command all e = own_at commands place command (and_parts (is_own_command first) (list_all is_own_command commands) all).1 e
+-- each of a list that passes it runs here
+here_at : (commands : List Command) (place : ℕ) (command : Command) → list_all is_own_command commands ≡ true → slice_get commands place ≡ Some command → is_own_command command ≡ true
+here_at [] place command all e = absurd cc
+here_at (first ∷ commands) zero command all e =
+    let same : first ≡ command = cc in ap is_own_command (sym same) ∙ (and_parts (is_own_command first) (list_all is_own_command commands) all).0
+here_at (first ∷ commands) (suc place) command all e = here_at commands place command (and_parts (is_own_command first) (list_all is_own_command commands) all).1 e
 
 own_all : (commands : List Command) → list_all is_own_command commands ≡ true → Each IsOwn commands × Each IsAtSite commands
 own_all [] all = (tt, tt)
@@ -81,37 +81,39 @@ played_more stands tells seen old old_disks now now_disks new new_disks all plac
     subst (λ (cs : List Command). Stands stands tells seen new new_disks scenario cs) (sym (one_more all place command before within))
     (applied scenario (with_commands (take place all) before) (so_far scenario before stood))
 
--- where few commands stand before it, the numbers of a command fit
-numbers_fit : (command : Command) (commands : List Command) → length commands < 2 ^ 30 → NumbersFit command commands
-numbers_fit (Cmd.Begin tx) commands few = few
-numbers_fit (Cmd.Step tx) commands few = few
-numbers_fit (Cmd.Commit tx) commands few = few
-numbers_fit (Cmd.Abort tx) commands few = tt
-numbers_fit (Cmd.Fate tx) commands few = few
-numbers_fit (Cmd.Go tx) commands few = few
-numbers_fit (Cmd.Again tid) commands few = few
-numbers_fit (Cmd.Late tid) commands few = few
-numbers_fit (Cmd.Give site place) commands few = few
-numbers_fit (Cmd.Take site place) commands few = few
-numbers_fit (Cmd.Ask site tid) commands few = few
-numbers_fit (Cmd.Drop site tid) commands few = few
-numbers_fit (Cmd.Halt actor cut) commands few = few
-numbers_fit (Cmd.Trip actor calls cut) commands few = few
-numbers_fit (Cmd.Back actor) commands few = few
+-- where few commands stand before it, the numbers of a command that runs here fit
+numbers_fit : (command : Command) (commands : List Command) → is_own_command command ≡ true → length commands < 2 ^ 30 → NumbersFit command commands
+numbers_fit (Cmd.Begin tx) commands here few = few
+numbers_fit (Cmd.Step tx) commands here few = few
+numbers_fit (Cmd.Commit tx) commands here few = few
+numbers_fit (Cmd.Abort tx) commands here few = tt
+numbers_fit (Cmd.Fate tx) commands here few = few
+numbers_fit (Cmd.Go tx) commands here few = few
+numbers_fit (Cmd.Again tid) commands here few = few
+numbers_fit (Cmd.Late tid) commands here few = few
+numbers_fit (Cmd.Give site place) commands here few = few
+numbers_fit (Cmd.Take site place) commands here few = few
+numbers_fit (Cmd.Ask site tid) commands here few = few
+numbers_fit (Cmd.Drop site tid) commands here few = few
+numbers_fit (Cmd.Halt actor cut) commands here few = few
+numbers_fit (Cmd.Trip actor calls cut) commands here few = few
+numbers_fit (Cmd.Back actor) commands here few = few
+numbers_fit (Cmd.Check actor) commands here few = absurd cc
 
 -- the next command may be carried out
 pub can_apply : {E D : Type 0} (stands : E → Start → List EngineLine → Type 0) (tells : Bool) (seen : D → Seen) (old : World E) (old_disks : List D) (now : World E) (now_disks : List D) (all : List Command) (place : ℕ) (command : Command)
     → SomeStory (Stands stands tells seen old old_disks) (CanPlay all) → HasPlayed stands tells seen old old_disks now now_disks (take place all) → slice_get all place ≡ Some command
     → SomeStory (Stands stands tells seen now now_disks) (CanApply command)
 can_apply stands tells seen old old_disks now now_disks all place command some so_far at =
-    let own = own_at all place command some.holds.own at in
+    let here = here_at all place command some.holds.own at in
+    let own = own_command command here in
     let less = fewer all place some.commands in
     let few = some.holds.few in
     record {
       scenario = some.scenario;
       commands = with_commands (take place all) some.commands;
       stood = so_far some.scenario some.commands some.stood;
-      holds = record { own = own.0; at_site = own.1; fits = numbers_fit command (with_commands (take place all) some.commands) (omega (arith, less, few)) };
+      holds = record { own = own.0; at_site = own.1; fits = numbers_fit command (with_commands (take place all) some.commands) here (omega (arith, less, few)) };
     }
 
 -- at the next command the world fails

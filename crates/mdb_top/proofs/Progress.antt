@@ -17,14 +17,14 @@ pub rest-of : (bytes : List ℕ) (place : ℕ) → take (length bytes - place) (
 rest-of bytes place = let e = length-drop place bytes in take_all (length bytes - place) (drop place bytes) (omega (arith, e))
 
 -- a front of the rest is put behind what was put
-pub put-more : (tells : Bool) (before now new : List ℕ) (f g h : ℕ) (bytes : List ℕ) (place n : ℕ) → HasPut tells before now f g bytes place → Takes n (length (take (length bytes - place) (drop place bytes))) → (IsTrue tells → new ≡ now ++ take n (take (length bytes - place) (drop place bytes))) → g ≤ h → HasPut tells before new f h bytes (place + n)
+pub put-more : (tells : Bool) (before now new : List ℕ) (f g h : ℕ) (bytes : List ℕ) (place n : ℕ) → HasPut tells before now f g bytes place → Takes n (length (take (length bytes - place) (drop place bytes))) → (IsTrue tells → new ≡ now ++ take n (take (length bytes - place) (drop place bytes))) → h ≡ g → HasPut tells before new f h bytes (place + n)
 put-more tells before now new f g h bytes place n p le w gh =
     let rest = rest-of bytes place in
     record {
       within = (let a = p.within in let b = length-drop place bytes in let c = ap length rest in let d = le.within in omega arith);
       written = (λ t. w t ∙ ap (λ xs. now ++ take n xs) rest ∙ ap (λ xs. xs ++ take n (drop place bytes)) (p.written t)
           ∙ append_assoc before (take place bytes) (take n (drop place bytes)) ∙ ap (λ xs. before ++ xs) (sym (take-add place n bytes)));
-      faults = (let a = p.faults in omega arith);
+      faults = gh ∙ p.faults;
     }
 
 -- each turn leaves fewer bytes

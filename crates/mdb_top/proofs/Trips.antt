@@ -86,6 +86,7 @@ unfolding site_line stopped
 primed_line home past (Ev.Trip calls cut) p = primed_still (quiet (Ev.Trip calls cut) Say.Set) past refl p
 primed_line home past (Ev.Halt cut) p = by_when (λ (x : SiteHappening). IsPrimed (trip (x ∷ past))) _ _ _ (primed_still (quiet (Ev.Halt cut) Say.Down) past refl p) tt
 primed_line home past Ev.Back p = by_when (λ (x : SiteHappening). IsPrimed (trip (x ∷ past))) _ _ _ (primed_unless home past (of_back home past) p) (primed_still (quiet Ev.Back Say.Awake) past refl p)
+primed_line home past Ev.Check p = primed_other home past Ev.Check p
 primed_line home past (Ev.Begin tid) p = primed_other home past (Ev.Begin tid) p
 primed_line home past (Ev.Act tid act) p = primed_other home past (Ev.Act tid act) p
 primed_line home past (Ev.Commit tid) p = primed_other home past (Ev.Commit tid) p

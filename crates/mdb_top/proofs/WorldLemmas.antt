@@ -14,10 +14,11 @@ use Rattle.fed_world.specs.declared.world.World.{World}
 use Rattle.fed_world.specs.Worlds.{AllUp, AreEmpty, HasCause, IsBroken, NeverFalls, OthersEmpty, PartBroke, PartHolds, PartStands, Recalls, SetUpBroke, Stands}
 use Rattle.journal_disk.specs.Disk.{Image, Seen}
 use Rattle.local_laws.specs.Sound.{IsOwn}
-use Rattle.site_core.specs.Store.{is_up}
+use Rattle.actor_store.specs.Store.{is_up}
+use Rattle.site_core.proofs.NewStore.{keeps_bytes}
 use Rattle.session_laws.specs.Sessions.{IsOneSite, home_from}
 use Rattle.mdb_top.specs.Disks.{BreaksAt, HoldAll, HoldFrames, HoldNothing, RoseAt}
-use Rattle.mdb_top.proofs.DiskLemmas.{OthersNothing, cut_stops, keeps_bytes, keeps_frames, none_hold_all, none_hold_frames, nothing, one_hold_all, one_hold_frames, others_hold, own_home}
+use Rattle.mdb_top.proofs.DiskLemmas.{OthersNothing, cut_stops, keeps_frames, none_hold_all, none_hold_frames, nothing, one_hold_all, one_hold_frames, others_hold, own_home}
 use Rattle.mdb_top.proofs.Progress.{risen-before}
 
 -- the disks of this type tell as many bytes as they have
@@ -70,7 +71,7 @@ part_holds_all {E} {D} stands tells seen (Some site) disks scenario commands siz
     let s = p.stood in
     let number : site.site.0 ≡ s.line.site.0 = ap (λ n. n.0) s.at.number in
     one_hold_all seen disks scenario s.line (story_of scenario commands) p.disk s.alone.sites (subst (λ n. slice_get disks n ≡ Some p.disk) number p.own)
-    (keeps_bytes tells seen p.disk site.core.store _ _ s.at.stood.stored)
+    (keeps_bytes tells (seen p.disk) site.core.store _ _ s.at.stood.stored)
     (others_nothing seen s.line.site.0 disks sized (λ place one at apart. o.empty place one at (λ same. apart (same ∙ number))))
 
 pub stands_hold_all : {E D : Type 0} (stands : E → Start → List EngineLine → Type 0) (tells : Bool) (seen : D → Seen) (world : World E) (disks : List D) (scenario : Scenario) (commands : List Command)
@@ -87,7 +88,7 @@ part_holds_frames {E} {D} stands tells seen (Some site) disks scenario commands 
     let number : site.site.0 ≡ s.line.site.0 = ap (λ n. n.0) s.at.number in
     let runs = not-false (is_up site.core.store.standing) (sym s.at.stood.holds.standing ∙ up s.line s.alone) in
     one_hold_frames seen disks scenario s.line (story_of scenario commands) p.disk s.alone.sites (subst (λ n. slice_get disks n ≡ Some p.disk) number p.own)
-    (keeps_frames tells seen p.disk site.core.store _ _ told (sized p.disk) runs s.at.stood.stored)
+    (keeps_frames tells (seen p.disk) site.core.store _ _ told (sized p.disk) runs s.at.stood.stored)
     (others_nothing seen s.line.site.0 disks sized (λ place one at apart. o.empty place one at (λ same. apart (same ∙ number))))
 
 pub stands_hold_frames : {E D : Type 0} (stands : E → Start → List EngineLine → Type 0) (tells : Bool) (seen : D → Seen) (world : World E) (disks : List D) (scenario : Scenario) (commands : List Command)
@@ -142,4 +143,4 @@ pub cause_on : {D : Type 0} (seen : D → Seen) (why : WorldErr) (old mid new : 
 cause_on seen Err_is.Memory old mid new same first second = tt
 cause_on seen (Err_is.Disk number) old mid new same first second = λ a b at_a at_b.
     let at = mid_disk old mid number a same at_a in
-    risen-before ((seen a).faults) (faults (get_or mid number a)) ((seen b).faults) (first number a (get_or mid number a) at_a at) (second (get_or mid number a) b at at_b)
+    risen-before ((seen a).faults) ((seen (get_or mid number a)).faults) ((seen b).faults) (first number a (get_or mid number a) at_a at) (second (get_or mid number a) b at at_b)

@@ -1,11 +1,11 @@
 -- How far a text has been written, and how far an input has been read.
 use Rattle.std.specs.Prelude.{ℕ, ◌≡◌, ◌+◌, ◌≤◌, Bool, true, IsTrue, List, [], ◌++◌, length, take}
 
--- so many bytes of the text were written behind the others, and the count of faults didn't fall
+-- so many bytes of the text were written behind the others, and no fault was counted
 pub record HasPut (tells : Bool) (before now : List ℕ) (faults_before faults_now : ℕ) (bytes : List ℕ) (place : ℕ) : Type 0 where
   pub within : place ≤ length bytes
   pub written : IsTrue tells → now ≡ before ++ take place bytes
-  pub seen : faults_before ≤ faults_now
+  pub faults : faults_now ≡ faults_before
 
 -- so many bytes came behind the text, at most as many as asked for, and none at the end alone
 pub record ReadsOn (tells : Bool) (count most : ℕ) (before now old new : List ℕ) : Type 0 where

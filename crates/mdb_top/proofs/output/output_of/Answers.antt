@@ -33,10 +33,10 @@ returns-in-Err-Disk-clause-output g c =
     let whole : IsScenario session.scenario = subst (λ (s : Scenario). IsScenario s) c.scenario.view_is c.scenario.invariant in
     let plain = is_plain session whole c.requires.runs c.requires.commands in
     let sized = λ (one : g.row.D.Denot). g.met.D.Disk.told_size one c.requires.told in
-    let breaks = set_up_breaks disk.image disk.size disk.faults c.in-Err-Disk.number c.args.disks.now.items c.new.new.disks.items session.scenario sized
-    (subst (λ (why : WorldErr). FailsToStart disk.image disk.size why c.new.new.disks.items session.scenario) c.in-Err-Disk.field-0-is c.in-Err-Disk.ensures.failed)
-    (subst (λ (why : WorldErr). HasCause disk.faults why c.args.disks.now.items c.new.new.disks.items) c.in-Err-Disk.field-0-is c.in-Err-Disk.ensures.cause) in
-    broken_output disk.image disk.faults c.broken.result c.args.disks.now.items c.new.new.disks.items session [] c.in-Err-Disk.number plain (no_front session) breaks c.broken.ensures
+    let breaks = set_up_breaks disk.seen c.in-Err-Disk.number c.args.disks.now.items c.new.new.disks.items session.scenario sized
+    (subst (λ (why : WorldErr). FailsToStart disk.seen why c.new.new.disks.items session.scenario) c.in-Err-Disk.field-0-is c.in-Err-Disk.ensures.failed)
+    (subst (λ (why : WorldErr). HasCause disk.seen why c.args.disks.now.items c.new.new.disks.items) c.in-Err-Disk.field-0-is c.in-Err-Disk.ensures.cause) in
+    broken_output disk.seen c.broken.result c.args.disks.now.items c.new.new.disks.items session [] c.in-Err-Disk.number plain (no_front session) breaks c.broken.ensures
 
 pub printed-requires : goal.printed-requires
 printed-requires g c =
@@ -44,12 +44,12 @@ printed-requires g c =
     let session = c.args.session in
     let whole : IsScenario session.scenario = subst (λ (s : Scenario). IsScenario s) c.scenario.view_is c.scenario.invariant in
     let plain = is_plain session whole c.requires.runs c.requires.commands in
-    let stood = subst (λ (cs : List Command). Stands EngineStands disk.tells disk.image disk.size disk.spare c.play.new.world c.play.new.disks.items session.scenario cs)
+    let stood = subst (λ (cs : List Command). Stands EngineStands disk.tells disk.seen c.play.new.world c.play.new.disks.items session.scenario cs)
     (session_commands session c.as_slice.result.now c.as_slice.ensures) (c.in-Ok-play.ensures.played session.scenario [] c.in-Ok.ensures.stands) in
     record {
       scenario = session.scenario;
       commands = commands_of session;
-      stood = stands_recalls EngineStands disk.tells disk.image disk.size disk.spare c.play.new.world c.play.new.disks.items session.scenario (commands_of session) stood;
+      stood = stands_recalls EngineStands disk.tells disk.seen c.play.new.world c.play.new.disks.items session.scenario (commands_of session) stood;
       holds = session_printable session plain;
     }
 
@@ -60,13 +60,13 @@ returns-in-Ok-play-clause-output g c =
     let whole : IsScenario session.scenario = subst (λ (s : Scenario). IsScenario s) c.scenario.view_is c.scenario.invariant in
     let plain = is_plain session whole c.requires.runs c.requires.commands in
     let sized = λ (one : g.row.D.Denot). g.met.D.Disk.told_size one c.requires.told in
-    let stood = subst (λ (cs : List Command). Stands EngineStands disk.tells disk.image disk.size disk.spare c.play.new.world c.play.new.disks.items session.scenario cs)
+    let stood = subst (λ (cs : List Command). Stands EngineStands disk.tells disk.seen c.play.new.world c.play.new.disks.items session.scenario cs)
     (session_commands session c.as_slice.result.now c.as_slice.ensures) (c.in-Ok-play.ensures.played session.scenario [] c.in-Ok.ensures.stands) in
-    let recalls = stands_recalls EngineStands disk.tells disk.image disk.size disk.spare c.play.new.world c.play.new.disks.items session.scenario (commands_of session) stood in
-    whole_output disk.image disk.faults c.printed.result c.args.disks.now.items c.play.new.disks.items session
+    let recalls = stands_recalls EngineStands disk.tells disk.seen c.play.new.world c.play.new.disks.items session.scenario (commands_of session) stood in
+    whole_output disk.seen c.printed.result c.args.disks.now.items c.play.new.disks.items session
     (session_right session c.own_sessions_are_serial.ensures plain)
-    (stands_hold_frames EngineStands disk.tells disk.image disk.size disk.spare c.play.new.world c.play.new.disks.items session.scenario (commands_of session) c.requires.told sized (session_up session plain) stood)
-    (stands_hold_all EngineStands disk.tells disk.image disk.size disk.spare c.play.new.world c.play.new.disks.items session.scenario (commands_of session) sized stood)
+    (stands_hold_frames EngineStands disk.tells disk.seen c.play.new.world c.play.new.disks.items session.scenario (commands_of session) c.requires.told sized (session_up session plain) stood)
+    (stands_hold_all EngineStands disk.tells disk.seen c.play.new.world c.play.new.disks.items session.scenario (commands_of session) sized stood)
     (whole_weaker c.printed.result _ _ (λ bytes each. each session.scenario (commands_of session) recalls) c.printed.ensures)
 
 pub broken-requires-in-Err-Disk-play : goal.broken-requires-in-Err-Disk-play
@@ -76,8 +76,8 @@ broken-requires-in-Err-Disk-play g c =
     let whole : IsScenario session.scenario = subst (λ (s : Scenario). IsScenario s) c.scenario.view_is c.scenario.invariant in
     let plain = is_plain session whole c.requires.runs c.requires.commands in
     let f = c.in-Err-Disk-play.ensures.failed session.scenario [] c.in-Ok.ensures.stands in
-    let fails = subst (λ (why : WorldErr). Fails EngineStands disk.tells disk.image disk.size disk.spare why c.play.new.world c.play.new.disks.items session.scenario f.done) c.in-Err-Disk-play.field-0-is f.fails in
-    let front = plays_front EngineStands disk.tells disk.image disk.size disk.spare _ c.play.new.world c.play.new.disks.items session c.as_slice.result.now c.as_slice.ensures f in
+    let fails = subst (λ (why : WorldErr). Fails EngineStands disk.tells disk.seen why c.play.new.world c.play.new.disks.items session.scenario f.done) c.in-Err-Disk-play.field-0-is f.fails in
+    let front = plays_front EngineStands disk.tells disk.seen _ c.play.new.world c.play.new.disks.items session c.as_slice.result.now c.as_slice.ensures f in
     subst (Each (λ line. IsTrue (line_fits line))) (sym (c.lines.ensures session.scenario f.done fails.has))
     (each_oldest_first (λ line. IsTrue (line_fits line)) (lines_of (story_of session.scenario f.done)) (front_fits session f.done plain front))
 
@@ -89,13 +89,13 @@ returns-in-Err-Disk-play-clause-output g c =
     let plain = is_plain session whole c.requires.runs c.requires.commands in
     let sized = λ (one : g.row.D.Denot). g.met.D.Disk.told_size one c.requires.told in
     let f = c.in-Err-Disk-play.ensures.failed session.scenario [] c.in-Ok.ensures.stands in
-    let fails = subst (λ (why : WorldErr). Fails EngineStands disk.tells disk.image disk.size disk.spare why c.play.new.world c.play.new.disks.items session.scenario f.done) c.in-Err-Disk-play.field-0-is f.fails in
-    let front = plays_front EngineStands disk.tells disk.image disk.size disk.spare _ c.play.new.world c.play.new.disks.items session c.as_slice.result.now c.as_slice.ensures f in
+    let fails = subst (λ (why : WorldErr). Fails EngineStands disk.tells disk.seen why c.play.new.world c.play.new.disks.items session.scenario f.done) c.in-Err-Disk-play.field-0-is f.fails in
+    let front = plays_front EngineStands disk.tells disk.seen _ c.play.new.world c.play.new.disks.items session c.as_slice.result.now c.as_slice.ensures f in
     let as_many = c.in-Ok.ensures.stands.others.nine ∙ sym c.requires.nine in
-    let rose = subst (λ (why : WorldErr). HasCause disk.faults why c.args.disks.now.items c.play.new.disks.items) c.in-Err-Disk-play.field-0-is
-    (cause_on disk.faults c.in-Err-Disk-play.field-0 c.args.disks.now.items c.new.new.disks.items c.play.new.disks.items as_many c.in-Ok.ensures.faults c.in-Err-Disk-play.ensures.cause) in
-    let breaks = world_breaks EngineStands disk.tells disk.image disk.size disk.spare disk.faults c.in-Err-Disk-play.number c.play.new.world c.args.disks.now.items c.play.new.disks.items session.scenario f.done sized fails rose in
-    broken_output disk.image disk.faults c.broken-in-Err-Disk-play.result c.args.disks.now.items c.play.new.disks.items session f.done c.in-Err-Disk-play.number plain front breaks
+    let rose = subst (λ (why : WorldErr). HasCause disk.seen why c.args.disks.now.items c.play.new.disks.items) c.in-Err-Disk-play.field-0-is
+    (cause_on disk.seen c.in-Err-Disk-play.field-0 c.args.disks.now.items c.new.new.disks.items c.play.new.disks.items as_many c.in-Ok.ensures.faults c.in-Err-Disk-play.ensures.cause) in
+    let breaks = world_breaks EngineStands disk.tells disk.seen c.in-Err-Disk-play.number c.play.new.world c.args.disks.now.items c.play.new.disks.items session.scenario f.done sized fails rose in
+    broken_output disk.seen c.broken-in-Err-Disk-play.result c.args.disks.now.items c.play.new.disks.items session f.done c.in-Err-Disk-play.number plain front breaks
     (broken_weaker c.broken-in-Err-Disk-play.result _ _ (λ bytes e. e ∙ ap (λ lines. lines_bytes lines ++ disk_failed_text c.in-Err-Disk-play.number) (c.lines.ensures session.scenario f.done fails.has)) c.broken-in-Err-Disk-play.ensures)
 
 pub returns-clause-output : goal.returns-clause-output
@@ -104,19 +104,19 @@ returns-clause-output g c =
     let session = c.args.session in
     let sized = λ (one : g.row.D.Denot). g.met.D.Disk.told_size one c.requires.told in
     let f = c.in-Err-Memory-play.ensures.failed session.scenario [] c.in-Ok.ensures.stands in
-    let fails = subst (λ (why : WorldErr). Fails EngineStands disk.tells disk.image disk.size disk.spare why c.play.new.world c.play.new.disks.items session.scenario f.done) c.in-Err-Memory-play.field-0-is f.fails in
-    let front = plays_front EngineStands disk.tells disk.image disk.size disk.spare _ c.play.new.world c.play.new.disks.items session c.as_slice.result.now c.as_slice.ensures f in
+    let fails = subst (λ (why : WorldErr). Fails EngineStands disk.tells disk.seen why c.play.new.world c.play.new.disks.items session.scenario f.done) c.in-Err-Memory-play.field-0-is f.fails in
+    let front = plays_front EngineStands disk.tells disk.seen _ c.play.new.world c.play.new.disks.items session c.as_slice.result.now c.as_slice.ensures f in
     inr (inl (record {
       done = f.done;
       front = front;
-      kept = stands_hold_all EngineStands disk.tells disk.image disk.size disk.spare c.play.new.world c.play.new.disks.items session.scenario f.done sized fails;
+      kept = stands_hold_all EngineStands disk.tells disk.seen c.play.new.world c.play.new.disks.items session.scenario f.done sized fails;
     }))
 
 -- there are nine disks as before
 pub returns-in-Err-Disk-clause-nine : goal.returns-in-Err-Disk-clause-nine
 returns-in-Err-Disk-clause-nine g c =
     let disk = g.D.Disk in
-    (subst (λ (why : WorldErr). FailsToStart disk.image disk.size why c.new.new.disks.items c.args.session.scenario) c.in-Err-Disk.field-0-is c.in-Err-Disk.ensures.failed).nine
+    (subst (λ (why : WorldErr). FailsToStart disk.seen why c.new.new.disks.items c.args.session.scenario) c.in-Err-Disk.field-0-is c.in-Err-Disk.ensures.failed).nine
 
 pub returns-in-Ok-play-clause-nine : goal.returns-in-Ok-play-clause-nine
 returns-in-Ok-play-clause-nine g c = (c.in-Ok-play.ensures.played c.args.session.scenario [] c.in-Ok.ensures.stands).others.nine
@@ -125,10 +125,10 @@ pub returns-in-Err-Disk-play-clause-nine : goal.returns-in-Err-Disk-play-clause-
 returns-in-Err-Disk-play-clause-nine g c =
     let disk = g.D.Disk in
     let f = c.in-Err-Disk-play.ensures.failed c.args.session.scenario [] c.in-Ok.ensures.stands in
-    (subst (λ (why : WorldErr). Fails EngineStands disk.tells disk.image disk.size disk.spare why c.play.new.world c.play.new.disks.items c.args.session.scenario f.done) c.in-Err-Disk-play.field-0-is f.fails).others.nine
+    (subst (λ (why : WorldErr). Fails EngineStands disk.tells disk.seen why c.play.new.world c.play.new.disks.items c.args.session.scenario f.done) c.in-Err-Disk-play.field-0-is f.fails).others.nine
 
 pub returns-clause-nine : goal.returns-clause-nine
 returns-clause-nine g c =
     let disk = g.D.Disk in
     let f = c.in-Err-Memory-play.ensures.failed c.args.session.scenario [] c.in-Ok.ensures.stands in
-    (subst (λ (why : WorldErr). Fails EngineStands disk.tells disk.image disk.size disk.spare why c.play.new.world c.play.new.disks.items c.args.session.scenario f.done) c.in-Err-Memory-play.field-0-is f.fails).others.nine
+    (subst (λ (why : WorldErr). Fails EngineStands disk.tells disk.seen why c.play.new.world c.play.new.disks.items c.args.session.scenario f.done) c.in-Err-Memory-play.field-0-is f.fails).others.nine

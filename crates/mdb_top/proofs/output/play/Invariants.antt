@@ -7,5 +7,5 @@ use Rattle.mdb_top.proofs.output.play.Given as goal
 abbrev pub invariant-loop-command : goal.invariant-loop-command
 invariant-loop-command g l =
     let disk = g.D.Disk in
-    HasPlayed g.E.LocalEngine.stands disk.tells disk.image disk.size disk.spare l.fn.world l.fn.disks.items l.world l.disks.items (take l.command-index l.commands)
-    × NeverFalls disk.faults l.fn.disks.items l.disks.items
+    HasPlayed g.E.LocalEngine.stands disk.tells disk.seen l.fn.world l.fn.disks.items l.world l.disks.items (take l.command-index l.commands)
+    × NeverFalls disk.seen l.fn.disks.items l.disks.items

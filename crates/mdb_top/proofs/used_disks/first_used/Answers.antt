@@ -7,5 +7,5 @@ use Rattle.mdb_top.proofs.used_disks.first_used.Goals as goal
 
 pub returns : goal.returns
 returns g c =
-    position_from_yields_List (λ (disk : g.row.D.Denot). nat_lt 0 (g.D.Disk.seen disk)) _ _ _ c.position.ensures.ran (YieldsList-from_slice c.args.disks.now cc) (λ x b q k. search (rules, tests))
-    ∙ position_from-zero (λ (disk : g.row.D.Denot). nat_lt 0 (g.D.Disk.seen disk)) c.args.disks.now ∙ used_place g.D.Disk.seen c.args.disks.now
+    position_from_yields_List (λ (disk : g.row.D.Denot). nat_lt 0 ((g.D.Disk.seen disk).size)) _ _ _ c.position.ensures.ran (YieldsList-from_slice c.args.disks.now cc) (λ x b q k. search (rules, tests))
+    ∙ position_from-zero (λ (disk : g.row.D.Denot). nat_lt 0 ((g.D.Disk.seen disk).size)) c.args.disks.now ∙ used_place g.D.Disk.seen c.args.disks.now
