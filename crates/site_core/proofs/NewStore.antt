@@ -1,5 +1,5 @@
 -- What the store of a new site stands for.
-use Rattle.std.proofs.Common.{◌≡◌, ℕ, ◌≤◌, Bool, Option, Some, None, Err, List, [], length, refl, sym, ap, subst, ◌∙◌, arith, inl, inr}
+use Rattle.std.proofs.Common.{◌≡◌, ℕ, ◌≤◌, Bool, Option, None, Err, List, [], length, refl, sym, ap, subst, arith, inl, inr}
 use Rattle.std.specs.Prelude.{reverse}
 use Rattle.std.proofs.lemmas.List.{nil_from_length}
 use Rattle.mdb_base.specs.Counts.{HasRisen}
@@ -16,7 +16,6 @@ use Rattle.journal_rules.proofs.Keeps.{journal_stands}
 use Rattle.site_journal.specs.Exact.{spelled_is_read}
 use Rattle.site_journal.specs.Frames.{frame_has_size}
 use Rattle.site_journal.specs.Spelling.{spelling, reading, IsRecord}
-use Rattle.actor_store.specs.declared.store.Break.{Break}
 use Rattle.actor_store.specs.declared.store.Break.TheVariants.{Failed, Stopped}
 use Rattle.actor_store.specs.declared.store.Standing.TheVariants.{Up}
 use Rattle.actor_store.specs.Store as actor

@@ -1,4 +1,4 @@
-use Rattle.std.proofs.Common.{ℕ, None, Err, [], ◌∷◌, arith}
+use Rattle.std.proofs.Common.{ℕ, None, Err, [], ◌∷◌}
 use Rattle.fed_rules.specs.Disk.{Append, Sync, after_call, empty_disk}
 use Rattle.fed_rules.specs.SiteRecords.{site_frame}
 use Rattle.actor_store.specs.declared.store.Break.TheVariants.{Failed}
