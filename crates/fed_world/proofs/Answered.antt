@@ -18,7 +18,7 @@ use Rattle.fed_rules.specs.declared.scenario.TxLine.{TxLine}
 use Rattle.fed_rules.specs.Runs.{Start, EngineLine}
 use Rattle.fed_rules.specs.Scenarios.{home_in}
 use Rattle.fed_rules.specs.Story.{Story, Nowhere, story_of, happens, answer_of, places_of, coord_past, with_coordinator, on_actor, on_site}
-use Rattle.journal_disk.specs.Disk.{Image, Seen}
+use Rattle.journal_disk.specs.Disk.{Seen}
 use Rattle.local_laws.specs.Sound.{IsOwn}
 use Rattle.session_laws.specs.Closing.{IsAtSite}
 use Rattle.local_laws.proofs.StoryCommands.{abort_nowhere, begin_nowhere, commit_nowhere, step_nowhere}

@@ -11,7 +11,7 @@ use Rattle.fed_rules.specs.Happenings.{is_down}
 use Rattle.fed_rules.specs.Runs.{Start, EngineLine}
 use Rattle.fed_rules.specs.SitePast.{trip}
 use Rattle.fed_rules.specs.Story.{story_of}
-use Rattle.journal_disk.specs.Disk.{Image, Seen}
+use Rattle.journal_disk.specs.Disk.{Seen}
 use Rattle.local_laws.specs.Sound.{IsOwn}
 use Rattle.session_laws.specs.Closing.{IsAtSite, brought_up, cleared, disarmed, past_at, with_aborts}
 use Rattle.fed_world.specs.declared.local_site.LocalSite.{LocalSite}

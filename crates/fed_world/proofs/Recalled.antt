@@ -1,9 +1,9 @@
 -- What a world stands for with its disks it recalls without them.
-use Rattle.std.proofs.Common.{ℕ, Bool, Option, Some, None, List}
+use Rattle.std.proofs.Common.{Bool, Option, Some, None, List}
 use Rattle.fed_rules.specs.declared.commands.Command.{Command}
 use Rattle.fed_rules.specs.declared.scenario.Scenario.{Scenario}
 use Rattle.fed_rules.specs.Runs.{Start, EngineLine}
-use Rattle.journal_disk.specs.Disk.{Image, Seen}
+use Rattle.journal_disk.specs.Disk.{Seen}
 use Rattle.fed_world.specs.declared.local_site.LocalSite.{LocalSite}
 use Rattle.fed_world.specs.declared.world.World.{World}
 use Rattle.fed_world.specs.Worlds.{PartHolds, PartStands, Recalls, Stands}

@@ -1,5 +1,5 @@
 -- A new world over its disks, and one that isn't made.
-use Rattle.std.proofs.Common.{◌≡◌, ℕ, Bool, false, Option, Some, None, List, [], ◌∷◌, length, get_or, slice_get, slice_set, refl, sym, ◌∙◌, ap, subst, length-set, arith}
+use Rattle.std.proofs.Common.{◌≡◌, Bool, false, Option, Some, None, List, [], ◌∷◌, length, get_or, slice_get, slice_set, refl, sym, ◌∙◌, ap, subst, length-set, arith}
 use Rattle.std.proofs.lemmas.Option.{slice_get_read}
 use Rattle.mdb_base.specs.declared.names.SiteId.{SiteId}
 use Rattle.record_fields.specs.Named.{IsSite}
@@ -8,7 +8,7 @@ use Rattle.fed_rules.specs.declared.scenario.SiteLine.{SiteLine}
 use Rattle.fed_rules.specs.Disk.{empty_disk}
 use Rattle.fed_rules.specs.Runs.{Start, EngineLine}
 use Rattle.fed_rules.specs.SitePast.{set_up_calls}
-use Rattle.journal_disk.specs.Disk.{Image, Seen}
+use Rattle.journal_disk.specs.Disk.{Seen}
 use Rattle.actor_store.specs.declared.errors.StepErr.{StepErr}
 use Rattle.actor_store.specs.declared.errors.StepErr.TheVariants as Step_err
 use Rattle.site_core.specs.Store.{SomeStop}

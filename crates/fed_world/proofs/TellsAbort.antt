@@ -1,7 +1,6 @@
 -- The lines of `abort`.
-use Rattle.std.proofs.Common.{◌≡◌, ℕ, true, false, Some, None, List, slice_get, slice_set, refl, ◌∙◌}
+use Rattle.std.proofs.Common.{◌≡◌, ℕ, false, Some, None, List, slice_get, slice_set, refl}
 use Rattle.mdb_base.specs.declared.names.Tx.{Tx}
-use Rattle.mdb_base.proofs.Words.{when-true}
 use Rattle.fed_rules.specs.declared.answers.Answer.{Answer}
 use Rattle.fed_rules.specs.declared.answers.Answer.TheVariants as Say
 use Rattle.fed_rules.specs.declared.commands.Command.{Command}
@@ -10,14 +9,12 @@ use Rattle.fed_rules.specs.declared.events.SiteEvent.TheVariants as Ev
 use Rattle.fed_rules.specs.declared.scenario.Scenario.{Scenario}
 use Rattle.fed_rules.specs.declared.scenario.SiteLine.{SiteLine}
 use Rattle.fed_rules.specs.Happenings.{is_down}
-use Rattle.fed_rules.specs.Scenarios.{local_home}
 use Rattle.fed_rules.specs.Site.{site_line}
 use Rattle.fed_rules.specs.SitePast.{SitePast}
 use Rattle.fed_rules.specs.SiteRecords.{Home}
-use Rattle.fed_rules.specs.Story.{Story, Nowhere, at_site, attempt, happens, past_of, story_of}
+use Rattle.fed_rules.specs.Story.{Nowhere, at_site, attempt, happens, past_of, story_of}
 use Rattle.local_laws.proofs.StoryCommands.{abort_at, abort_idle}
 pub use Rattle.local_laws.proofs.StoryCommands.{abort_down}
-use Rattle.local_laws.proofs.SiteLines.{pick-some}
 use Rattle.local_laws.specs.Kept.{State, resting}
 use Rattle.fed_world.specs.declared.local_site.LocalSite.{LocalSite}
 use Rattle.fed_world.specs.Stands.{home_from, SiteStands, Hands, IsTold}

@@ -4,7 +4,6 @@ use Rattle.std.proofs.lemmas.Bool.{and_parts, le-ltb, lt-ltb}
 use Rattle.mdb_base.specs.declared.names.Tx.{Tx}
 use Rattle.mdb_base.specs.Names.{same_tx}
 use Rattle.mdb_base.specs.Words.{each_of}
-use Rattle.mdb_base.proofs.Words.{when-true}
 use Rattle.order_laws.proofs.Lists.{each_of_at, first_where_some}
 use Rattle.fed_rules.specs.declared.answers.Answer.{Answer}
 use Rattle.fed_rules.specs.declared.answers.Answer.TheVariants as Say
@@ -16,14 +15,13 @@ use Rattle.fed_rules.specs.declared.scenario.SiteLine.{SiteLine}
 use Rattle.fed_rules.specs.declared.scenario.TxLine.{TxLine}
 use Rattle.fed_rules.specs.Happenings.{is_down}
 use Rattle.fed_rules.specs.Plans.{IsScenario, is_between, is_in_place, is_transaction}
-use Rattle.fed_rules.specs.Scenarios.{local_home, program_of}
+use Rattle.fed_rules.specs.Scenarios.{program_of}
 use Rattle.fed_rules.specs.Site.{done, site_line}
 use Rattle.fed_rules.specs.SitePast.{SitePast}
 use Rattle.fed_rules.specs.SiteRecords.{Home}
-use Rattle.fed_rules.specs.Story.{Story, Nowhere, at_site, attempt, happens, past_of, story_of}
+use Rattle.fed_rules.specs.Story.{Nowhere, at_site, attempt, happens, past_of, story_of}
 use Rattle.local_laws.proofs.StoryCommands.{commit_at, commit_idle, commit_unfinished}
 pub use Rattle.local_laws.proofs.StoryCommands.{commit_down}
-use Rattle.local_laws.proofs.SiteLines.{pick-some}
 use Rattle.site_core.specs.Steps.{CanCommit}
 use Rattle.local_laws.specs.Kept.{State, resting}
 use Rattle.fed_world.specs.declared.local_site.LocalSite.{LocalSite}

@@ -6,7 +6,6 @@ use Rattle.mdb_base.specs.declared.names.Tx.{Tx}
 use Rattle.mdb_base.specs.declared.program.Next.{Next}
 use Rattle.mdb_base.specs.Programs.{is_get, next_of, plain_act, reads_of}
 use Rattle.mdb_base.specs.Words.{item_at, pick}
-use Rattle.mdb_base.proofs.Words.{when-true}
 use Rattle.fed_rules.specs.declared.answers.Answer.{Answer}
 use Rattle.fed_rules.specs.declared.answers.Answer.TheVariants as Say
 use Rattle.fed_rules.specs.declared.commands.Command.{Command}
@@ -16,16 +15,15 @@ use Rattle.fed_rules.specs.declared.scenario.Scenario.{Scenario}
 use Rattle.fed_rules.specs.declared.scenario.SiteLine.{SiteLine}
 use Rattle.fed_rules.specs.Happenings.{is_down, stops}
 use Rattle.fed_rules.specs.Runs.{Run}
-use Rattle.fed_rules.specs.Scenarios.{local_home, program_of}
+use Rattle.fed_rules.specs.Scenarios.{program_of}
 use Rattle.fed_rules.specs.Site.{done, site_line}
 use Rattle.fed_rules.specs.SitePast.{SitePast}
 use Rattle.fed_rules.specs.SiteRecords.{Home}
-use Rattle.fed_rules.specs.Story.{Story, Nowhere, at_site, attempt, happens, past_of, story_of}
+use Rattle.fed_rules.specs.Story.{Nowhere, at_site, attempt, happens, past_of, story_of}
 use Rattle.site_core.specs.Steps.{HasFewAccesses}
 use Rattle.local_laws.proofs.StoryCommands.{step_at, step_end, step_idle}
 pub use Rattle.local_laws.proofs.StoryCommands.{step_down}
 use Rattle.order_laws.proofs.Members.{item_at-below}
-use Rattle.local_laws.proofs.SiteLines.{pick-some}
 use Rattle.local_laws.specs.Kept.{State, after_access, resting}
 use Rattle.fed_world.specs.declared.local_site.LocalSite.{LocalSite}
 use Rattle.fed_world.specs.Stands.{home_from, Hands, IsTold, SiteStands}

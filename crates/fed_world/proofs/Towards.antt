@@ -5,7 +5,7 @@ use Rattle.fed_rules.specs.declared.commands.Command.{Command}
 use Rattle.fed_rules.specs.declared.commands.Command.TheVariants as Cmd
 use Rattle.fed_rules.specs.declared.scenario.Scenario.{Scenario}
 use Rattle.fed_rules.specs.Runs.{Start, EngineLine}
-use Rattle.journal_disk.specs.Disk.{Image, Seen}
+use Rattle.journal_disk.specs.Disk.{Seen}
 use Rattle.session_laws.specs.Closing.{with_aborts}
 use Rattle.fed_world.specs.declared.errors.WorldErr.{WorldErr}
 use Rattle.fed_world.specs.declared.world.World.{World}

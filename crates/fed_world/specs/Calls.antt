@@ -5,7 +5,7 @@ use Rattle.fed_rules.specs.declared.commands.Command.{Command}
 use Rattle.fed_rules.specs.declared.scenario.Scenario.{Scenario}
 use Rattle.fed_rules.specs.Runs.{Start, EngineLine}
 use Rattle.fed_rules.specs.Story.{story_of, happens, answer_of, places_of, coord_past}
-use Rattle.journal_disk.specs.Disk.{Image, Seen}
+use Rattle.journal_disk.specs.Disk.{Seen}
 use Rattle.actor_store.specs.declared.errors.StepErr.{StepErr}
 use Rattle.actor_store.specs.declared.errors.StepErr.TheVariants as Step_err
 use Rattle.fed_world.specs.declared.errors.WorldErr.{WorldErr}

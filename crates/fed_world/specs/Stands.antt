@@ -15,7 +15,7 @@ use Rattle.fed_rules.specs.Site.{answered}
 use Rattle.fed_rules.specs.SitePast.{SiteHappening, SitePast, trip}
 use Rattle.fed_rules.specs.SiteRecords.{Home}
 use Rattle.fed_rules.specs.Story.{story_of, happens, answer_of, places_of, past_of, coord_past}
-use Rattle.journal_disk.specs.Disk.{Image, Seen}
+use Rattle.journal_disk.specs.Disk.{Seen}
 use Rattle.local_laws.specs.Kept.{State, resting, unbegun, kept_of}
 use Rattle.local_laws.specs.Sound.{IsOwn}
 use Rattle.actor_store.specs.declared.errors.StepErr.{StepErr}

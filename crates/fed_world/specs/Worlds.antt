@@ -15,7 +15,7 @@ use Rattle.fed_rules.specs.Scenarios.{items_of}
 use Rattle.fed_rules.specs.SitePast.{set_up_calls}
 use Rattle.fed_rules.specs.Story.{story_of, lines_of, past_of, coord_past}
 use Rattle.engine_contract.specs.Calls.{fresh_start}
-use Rattle.journal_disk.specs.Disk.{Image, Seen}
+use Rattle.journal_disk.specs.Disk.{Seen}
 use Rattle.local_laws.specs.Sound.{IsOwn}
 use Rattle.session_laws.specs.Closing.{IsAtSite}
 use Rattle.site_core.specs.Stands.{Stands as CoreStands}

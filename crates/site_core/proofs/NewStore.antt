@@ -72,11 +72,14 @@ keeps_new tells seen store empty told sound is =
 -- an empty disk holds what a stop before the first call leaves
 pub stops_at_once : (seen : Seen) (calls : List (Call SiteRecord)) → seen.size ≡ 0 → length seen.image.bytes ≡ seen.size → SomeStop seen.image empty_disk calls
 stops_at_once seen calls empty told =
-    let none = no_bytes_there seen empty told in
-    (0, 0, record {
-      records = subst (λ (bytes : List ℕ). AreRecordsOf (record_frame spelling) bytes []) (sym none) no_records;
-      bytes = omega (arith, told, empty);
-    })
+    let none = no_bytes_there seen empty told in (
+      0,
+      0,
+      record {
+        records = subst (λ (bytes : List ℕ). AreRecordsOf (record_frame spelling) bytes []) (sym none) no_records;
+        bytes = omega (arith, told, empty);
+      },
+    )
 
 -- a store's disk holds the bytes of the rules, synced or not
 pub keeps_bytes : (tells : Bool) (seen : Seen) (store : Store) (rules : Disk SiteRecord) (trip : Option Trip) → Keeps tells seen store rules trip

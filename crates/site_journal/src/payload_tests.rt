@@ -11,7 +11,7 @@ use presumptions::Protocol;
 use std::alloc::Global;
 use std::test::Fail;
 
-// Site 2 with multiversion timestamps and presumed commit: epoch 3, number 4, ticket 5 of 7.1, the row 5=7, the locals 1.0 and 1.1, and
+// Site 2 with multiversion timestamps and presumed commit: epoch 3, number 4, ticket 5 of 7.1, 7 at key 5, the locals 1.0 and 1.1, and
 // 2.0 in doubt, which writes 9 to key 6.
 const CHECKPOINT: [u8; 93] = [
     6, 2, 4, 3, 0, 0, 0, 3, 0, 0, 0, 0, 0, 0, 0, 4, 0, 0, 0, 0, 0, 0, 0, 5, 1, 0, 0, 0, 7, 1, 0, 1,
