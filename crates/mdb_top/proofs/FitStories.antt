@@ -23,7 +23,7 @@ use Rattle.fed_rules.specs.Site.{site_line}
 use Rattle.fed_rules.specs.SitePast.{trip}
 use Rattle.fed_rules.specs.SiteRecords.{Home}
 use Rattle.fed_rules.specs.CoordCommands.{fate_request}
-use Rattle.fed_rules.specs.Requests.{Request, Submits, Declines}
+use Rattle.fed_rules.specs.Requests.{Request, Declines}
 use Rattle.fed_rules.specs.SiteCommands.{Verb, Begin, Step_on, Commit, Abort, Fate, request, begin_next, with_live, next_step, when_done}
 use Rattle.fed_rules.specs.Story.{Happened, AtSite, AtCoordinator, Nowhere, Story, past_of, with_site, attempt, at_site, unless_begun, requested, coord_requested, on_local, on_fate, on_site, on_actor, happens, tell, story_of, answer_of, places_of, line_of, lines_of}
 use Rattle.order_laws.proofs.Names.{same_site_alike}

@@ -17,7 +17,7 @@ use Rattle.fed_rules.specs.Story.{story_of, lines_of}
 use Rattle.fed_world.specs.declared.world.World.{World}
 use Rattle.fed_world.specs.declared.errors.WorldErr.{WorldErr}
 use Rattle.fed_world.specs.Worlds.{AllUp}
-use Rattle.journal_disk.specs.Disk.{Image, Seen}
+use Rattle.journal_disk.specs.Disk.{Seen}
 use Rattle.scenario_text.specs.declared.session.Session.{Session}
 use Rattle.scenario_text.specs.Kept.{AreCommands}
 use Rattle.session_laws.specs.Serial.{OwnSessionsAreSerial}

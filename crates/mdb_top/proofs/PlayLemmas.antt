@@ -14,7 +14,7 @@ use Rattle.fed_world.specs.declared.errors.WorldErr.{WorldErr}
 use Rattle.fed_world.specs.declared.world.World.{World}
 use Rattle.fed_world.specs.Worlds.{CanApply, CanClose, EachStory, Fails, FailsToClose, SomeStory, Stands}
 use Rattle.fed_world.specs.Stands.{NumbersFit}
-use Rattle.journal_disk.specs.Disk.{Image, Seen}
+use Rattle.journal_disk.specs.Disk.{Seen}
 use Rattle.local_laws.specs.Sound.{IsOwn}
 use Rattle.session_laws.specs.Closing.{IsAtSite}
 use Rattle.mdb_top.specs.Plays.{CanPlay, FailsToPlay, with_commands}

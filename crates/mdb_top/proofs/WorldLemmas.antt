@@ -12,7 +12,7 @@ use Rattle.fed_world.specs.declared.errors.WorldErr.TheVariants as Err_is
 use Rattle.fed_world.specs.declared.local_site.LocalSite.{LocalSite}
 use Rattle.fed_world.specs.declared.world.World.{World}
 use Rattle.fed_world.specs.Worlds.{AllUp, AreEmpty, HasCause, IsBroken, NeverFalls, OthersEmpty, PartBroke, PartHolds, PartStands, Recalls, SetUpBroke, Stands}
-use Rattle.journal_disk.specs.Disk.{Image, Seen}
+use Rattle.journal_disk.specs.Disk.{Seen}
 use Rattle.local_laws.specs.Sound.{IsOwn}
 use Rattle.actor_store.specs.Store.{is_up}
 use Rattle.site_core.proofs.NewStore.{keeps_bytes}

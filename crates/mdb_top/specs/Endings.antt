@@ -7,7 +7,7 @@ use Rattle.fed_rules.specs.declared.scenario.Scenario.{Scenario}
 use Rattle.fed_rules.specs.CoordPast.{oldest_first}
 use Rattle.fed_rules.specs.Right.{IsRightStory}
 use Rattle.fed_rules.specs.Story.{story_of, lines_of}
-use Rattle.journal_disk.specs.Disk.{Image, Seen}
+use Rattle.journal_disk.specs.Disk.{Seen}
 use Rattle.scenario_text.specs.declared.session.Session.{Session}
 use Rattle.trace_lines.specs.Spelling.{lines_bytes}
 use Rattle.mdb_top.specs.Disks.{BreaksAt, HoldAll, HoldFrames, HoldNothing, first_used, is_used, sizes_of}

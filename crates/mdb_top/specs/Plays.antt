@@ -1,5 +1,5 @@
 -- How the commands of a session are carried out: what a world stands for before and behind them.
-use Rattle.std.specs.Prelude.{ℕ, ◌≡◌, ◌<◌, ◌^◌, Bool, IsTrue, List, ◌++◌, length, reverse}
+use Rattle.std.specs.Prelude.{◌≡◌, ◌<◌, ◌^◌, Bool, IsTrue, List, ◌++◌, length, reverse}
 use Rattle.std.specs.List.{list_all}
 use Rattle.mdb_base.specs.Words.{Each}
 use Rattle.fed_rules.specs.declared.commands.Command.{Command}
@@ -11,7 +11,7 @@ use Rattle.fed_rules.specs.Story.{story_of, lines_of}
 use Rattle.fed_world.specs.declared.errors.WorldErr.{WorldErr}
 use Rattle.fed_world.specs.declared.world.World.{World}
 use Rattle.fed_world.specs.Worlds.{AllUp, Fails}
-use Rattle.journal_disk.specs.Disk.{Image, Seen}
+use Rattle.journal_disk.specs.Disk.{Seen}
 use Rattle.trace_lines.specs.Fits.{line_fits}
 use Rattle.mdb_top.specs.Verdicts.{is_own_command}
 

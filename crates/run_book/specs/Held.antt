@@ -1,9 +1,10 @@
 -- Runs as an engine holds them, by attempt.
-use Rattle.std.specs.Prelude.{ℕ, Bool, false, not, ◌&&◌, cond, Option, Some, None, List, [], ◌∷◌, refl}
+use Rattle.std.specs.Prelude.{ℕ, ◌≡◌, ◌⊎◌, Bool, false, not, ◌&&◌, cond, Option, Some, None, List, [], ◌∷◌, refl}
+use mathlib.Core.Logic.{inl, inr}
 use Rattle.std.specs.declared.cmp.Ordering.{Ordering}
 use Rattle.std.specs.Ordering.{nat_cmp, ordering_then}
 use Rattle.std.specs.FinMap.{FinMap, code, get, insert, remove}
-use Rattle.std.specs.Coded.{Coded, codes, code_by, coded×, coded_ℕ}
+use Rattle.std.specs.Coded.{Coded, code_by, coded×, coded⊎, coded_list, coded_option, coded_ℕ}
 use Rattle.mdb_base.specs.declared.names.Key.{Key}
 use Rattle.mdb_base.specs.declared.names.Tid.{Tid}
 use Rattle.mdb_base.specs.declared.rows.Put.{Put}
@@ -25,11 +26,40 @@ tid_cmp a b = ordering_then (nat_cmp a.tx.0 b.tx.0) (nat_cmp a.attempt b.attempt
 abbrev pub Runs : Type 0
 Runs = FinMap tid_cmp Held
 
+-- attempts, runs and marks as codes, which the map of runs asks for
 abbrev pub tid_code : Coded Tid
 tid_code = code_by (ℕ × ℕ) (coded× coded_ℕ coded_ℕ) (λ t. (t.tx.0, t.attempt)) (λ p. record { tx = record { 0 = p.0 }; attempt = p.1 }) (λ _. refl)
 
+abbrev parts_of_access : Access → (ℕ × ℕ) ⊎ (ℕ × ℕ)
+parts_of_access (Got key value) = inl (key.0, value)
+parts_of_access (Wrote key value) = inr (key.0, value)
+
+abbrev access_of_parts : (ℕ × ℕ) ⊎ (ℕ × ℕ) → Access
+access_of_parts (inl p) = Got (record { 0 = p.0 }) p.1
+access_of_parts (inr p) = Wrote (record { 0 = p.0 }) p.1
+
+pub access_is_its_parts : (access : Access) → access_of_parts (parts_of_access access) ≡ access
+access_is_its_parts (Got key value) = refl
+access_is_its_parts (Wrote key value) = refl
+
+abbrev pub access_code : Coded Access
+access_code =
+    code_by ((ℕ × ℕ) ⊎ (ℕ × ℕ)) (coded⊎ (coded× coded_ℕ coded_ℕ) (coded× coded_ℕ coded_ℕ)) parts_of_access access_of_parts access_is_its_parts
+
+abbrev pub run_code : Coded Run
+run_code =
+    code_by (Tid × (ℕ × (Option ℕ × (Option ℕ × List Access))))
+    (coded× tid_code (coded× coded_ℕ (coded× (coded_option coded_ℕ) (coded× (coded_option coded_ℕ) (coded_list access_code)))))
+    (λ run. (run.tid, (run.age, (run.sealed, (run.ticket, run.acts)))))
+    (λ p. record { tid = p.0; age = p.1.0; sealed = p.1.1.0; ticket = p.1.1.1.0; acts = p.1.1.1.1 }) (λ _. refl)
+
+abbrev pub marks_code : Coded Marks
+marks_code =
+    code_by (ℕ × (ℕ × Option Tid)) (coded× coded_ℕ (coded× coded_ℕ (coded_option tid_code)))
+    (λ marks. (marks.counter, (marks.published, marks.owner))) (λ p. record { counter = p.0; published = p.1.0; owner = p.1.1 }) (λ _. refl)
+
 abbrev pub held_code : Coded Held
-held_code = Prim.hlevel (codes)
+held_code = code_by (Run × Marks) (coded× run_code marks_code) (λ held. (held.run, held.marks)) (λ p. record { run = p.0; marks = p.1 }) (λ _. refl)
 
 abbrev pub runs_code : Coded Runs
 runs_code = code tid_code held_code
