@@ -1,23 +1,28 @@
 #!/usr/bin/env python3
-"""Times the built program at a quarter, half and the whole of its limits. It is no part of the gate.
+"""Measures the built program at a quarter, half and the whole of its limits. It is no part of the gate.
 
-usage: bench/replay.py [PROGRAM]
+usage: bench/replay.py [--instructions] [PROGRAM]
 
 PROGRAM is the built `mdbfed`, by default the one that `rt run` leaves in crates/mdbfed/out. Each input is made here, the same at each
-run. Three kinds are timed, each the best of three runs, with what one byte of input costs:
+run. Each is timed, the best of three runs, with what one byte of input costs; with --instructions they are counted in place of timed, by
+valgrind's callgrind, which gives the same number at each run. There are four kinds:
 
   examples   the files of examples/
   read       a text of every kind of line at its limits (8 sites of 4,096 items, 1,024 transactions of 32 steps, 4,096 link lines,
              65,536 commands; some 3.5 MB), whose last line is bad, so that it is read to its end and refused
   replay     one locking site with 4,096 items and 1,024 local transactions of 32 steps, begun and carried out one after another
+  ENGINE     one site of each engine, and 1,000 local transactions of 8 steps over 4,000 keys that contend: 65,000 commands in random order
 """
 import pathlib
+import random
+import re
 import subprocess
 import sys
 import time
 
 TOP = pathlib.Path(__file__).resolve().parent.parent
 LIMIT = 4_194_304
+ENGINES = ("locking", "timestamp", "validation", "multiversion")
 
 
 def read_input(part):
@@ -56,7 +61,33 @@ def replay_input(part):
     return ("\n".join(lines) + "\n").encode()
 
 
+def contended_input(engine, part):
+    """One site, and transactions that contend: each command is of a random one."""
+    draw = random.Random(20_250)
+    count = int(1000 * part)
+    lines = [f"site 1 {engine} abort"]
+    for tx in range(1, count + 1):
+        steps = [f"{'get' if draw.random() < 0.5 else 'set'}:{draw.randrange(int(4000 * part))}" for _ in range(8)]
+        lines.append(f"local {tx} 1 " + " ".join(step if step.startswith("get") else f"{step}:{tx}" for step in steps))
+    lines.append("commands")
+    words = ["begin"] + ["step"] * 8 + ["commit"]
+    lines += [f"{draw.choice(words)} {draw.randint(1, count)}" for _ in range(int(65_000 * part))]
+    return ("\n".join(lines) + "\n").encode()
+
+
+def instructions(program, text, want):
+    """How many instructions one run takes."""
+    ran = subprocess.run(
+        ["valgrind", "--tool=callgrind", "--callgrind-out-file=/dev/null", program, "replay"],
+        input=text, stdout=subprocess.PIPE, stderr=subprocess.PIPE, timeout=3600, check=False,
+    )
+    if ran.returncode != want:
+        sys.exit(f"status {ran.returncode} in place of {want}: {ran.stdout[:80]!r}")
+    return int(re.search(rb"Collected : (\d+)", ran.stderr).group(1))
+
+
 def best(program, text, want):
+    """The seconds of the best of three runs."""
     times = []
     for _ in range(3):
         start = time.perf_counter()
@@ -67,18 +98,33 @@ def best(program, text, want):
     return min(times)
 
 
+def inputs():
+    """The kind, the part, the text and the status of each input."""
+    for path in sorted((TOP / "examples").glob("*.fed")):
+        yield "examples", path.name, path.read_bytes(), 0
+    for label, part in (("1/4", 0.25), ("1/2", 0.5), ("whole", 1.0)):
+        yield "read", label, read_input(part), 2
+    for label, part in (("1/4", 0.25), ("1/2", 0.5), ("whole", 1.0)):
+        yield "replay", label, replay_input(part), 0
+    for engine in ENGINES:
+        for label, part in (("1/4", 0.25), ("whole", 1.0)):
+            yield engine, label, contended_input(engine, part), 0
+
+
 def main():
-    program = pathlib.Path(sys.argv[1]) if len(sys.argv) > 1 else TOP / "crates/mdbfed/out/mdbfed"
+    words = sys.argv[1:]
+    counted = "--instructions" in words
+    words = [word for word in words if word != "--instructions"]
+    program = pathlib.Path(words[0]) if words else TOP / "crates/mdbfed/out/mdbfed"
     if not program.exists():
         sys.exit(f"no program at {program}: build it with `rt run` in crates/mdbfed, or name it")
-    for path in sorted((TOP / "examples").glob("*.fed")):
-        text = path.read_bytes()
-        print(f"examples  {path.name:24} {len(text):9} bytes  {best(str(program), text, 0) * 1000:9.1f} ms")
-    for name, make, want in (("read", read_input, 2), ("replay", replay_input, 0)):
-        for label, part in (("1/4", 0.25), ("1/2", 0.5), ("whole", 1.0)):
-            text = make(part)
+    for kind, label, text, want in inputs():
+        head = f"{kind:13} {label:24} {len(text):9} bytes"
+        if counted:
+            print(f"{head}  {instructions(str(program), text, want):14,} instructions", flush=True)
+        else:
             taken = best(str(program), text, want)
-            print(f"{name:9} {label:24} {len(text):9} bytes  {taken * 1000:9.1f} ms  {taken / len(text) * 1e9:9.1f} ns a byte")
+            print(f"{head}  {taken * 1000:9.1f} ms  {taken / len(text) * 1e9:9.1f} ns a byte", flush=True)
 
 
 main()
