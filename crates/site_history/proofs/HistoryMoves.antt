@@ -73,7 +73,7 @@ calm_committed local start lines (Begins tid n) c = elim c [ ]
 calm_committed local start lines (Seals tid n) c = elim c [ ]
 calm_committed local start lines (Commits tid) c = elim c [ ]
 
-calm_published : (local : Tx → Bool) (start : Runs.Start) (lines : List EngineLine) (line : EngineLine) → IsCalm local line
+pub calm_published : (local : Tx → Bool) (start : Runs.Start) (lines : List EngineLine) (line : EngineLine) → IsCalm local line
     → published start (line ∷ lines) ≡ published start lines
 calm_published local start lines (Acts tid act reply) c = refl
 calm_published local start lines (Takes tid reply) c = refl
@@ -206,7 +206,7 @@ acted_ticket Reply_is.Done (Read key) run now e = let same : run ≡ now = cc in
 acted_ticket Reply_is.Done (Write key value) run now e =
     let same : record run { acts = Runs.Wrote key value ∷ run.acts } ≡ now = cc in ap (λ r. r.ticket) (sym same)
 
-calm_ticket : (local : Tx → Bool) (line : EngineLine) (run now : Run) → IsCalm local line → local (tid_of line).tx ≡ true
+pub calm_ticket : (local : Tx → Bool) (line : EngineLine) (run now : Run) → IsCalm local line → local (tid_of line).tx ≡ true
     → changed line (Some run) ≡ Some now → now.ticket ≡ run.ticket
 calm_ticket local (Acts tid act reply) run now c mine e = acted_ticket reply act run now e
 calm_ticket local (Takes tid reply) run now c mine e = let clash = sym mine ∙ c in cc

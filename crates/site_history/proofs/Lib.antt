@@ -6,6 +6,7 @@ pub mod Backing
 pub mod CoordAsked
 pub mod CoordSteps
 pub mod EpochLines
+pub mod Fronts
 pub mod GlobalSends
 pub mod Histories
 pub mod HistoryLines
@@ -31,3 +32,4 @@ pub mod SortedPasts
 pub mod SortedStories
 pub mod Starts
 pub mod TicketLines
+pub mod WellKept

@@ -114,7 +114,7 @@ once_found records (u ∷ us) apart = by_held (doubt_of records u) refl (once_fo
         by_test v other i e false same = refl
 
 -- what is in doubt was left sealed
-left_sealed : (start : Runs.Start) (lines : List EngineLine) (tid : Tid) (held : Held) (o : Option Run) → held.tid ≡ tid
+pub left_sealed : (start : Runs.Start) (lines : List EngineLine) (tid : Tid) (held : Held) (o : Option Run) → held.tid ≡ tid
     → run_at start lines tid ≡ o → Agrees (Some held) o → IsLeft start lines (kept_held held)
 left_sealed start lines tid held None of_tid at a = elim a [ ]
 left_sealed start lines tid held (Some run) of_tid at a = record {

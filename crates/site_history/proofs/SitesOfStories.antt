@@ -4,7 +4,7 @@ use Rattle.fed_rules.specs.SitePast.{SitePast}
 use Rattle.fed_rules.specs.SiteRecords.{Home}
 use Rattle.site_history.specs.Events.{PreparesOnce}
 use Rattle.site_history.specs.Lines.{HasRightLines}
-use Rattle.site_history.specs.SiteOrders.{HasEpochs, IsSerialPast, OfSortedPasts}
+use Rattle.site_history.specs.SiteOrders.{HasEpochs, IsSerialPast, OfSortedEvents, OfSortedPasts}
 use Rattle.site_history.specs.Stories.{OfSites, OfSitesPreparedOnce, StoriesHaveRightLines, StoriesPrepareOnce, is_local}
 use Rattle.site_history.specs.Tickets.{TicketsRise}
 use Rattle.site_history.proofs.RightLines.{lines_right}
@@ -28,6 +28,11 @@ pub of_stories : (P : Home → SitePast → Type 0) → OfSortedPasts P → OfSi
 of_stories P always scenario commands site home declared once =
     let m = events_sorted scenario commands site home declared in
     subst (P home) (sym m.made) (always home (is_local scenario) m.events m.sorted (subst (PreparesOnce home) m.made once))
+
+pub of_events : (P : Home → SitePast → Type 0) → OfSortedEvents P → OfSites P
+of_events P always scenario commands site home declared =
+    let m = events_sorted scenario commands site home declared in
+    subst (P home) (sym m.made) (always home (is_local scenario) m.events m.sorted)
 
 pub stories_epochs : OfSitesPreparedOnce HasEpochs
 stories_epochs = of_stories HasEpochs pasts_epochs

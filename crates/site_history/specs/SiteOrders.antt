@@ -43,13 +43,22 @@ pub record IsSerialOrder (home : Home) (past : SitePast) (order : List Tid) (row
 abbrev pub settled_order : List SiteRecord → List Tid
 settled_order records = reverse (map (λ install. install.tid) (installs records))
 
+-- whatever a stop may leave of the records makes a good start
+abbrev pub RestartsWell : Home → SitePast → Type 0
+RestartsWell home past = (kept : List SiteRecord) → IsFrontOf (records home past) kept → IsStart (start_of home kept)
+
 -- the epochs of a site: each starts from what the stop before it left, and whatever a stop may leave of the records makes a good start
 pub record HasEpochs (home : Home) (past : SitePast) : Type 0 where
   pub earlier : List Epoch
   pub epochs : AreEpochs (record { start = epoch_start home past; lines = engine_lines past }) earlier
   pub first : first_rows (record { start = epoch_start home past; lines = engine_lines past }) earlier ≡ home.items
   pub start : IsStart (epoch_start home past)
-  pub restart : (kept : List SiteRecord) → IsFrontOf (records home past) kept → IsStart (start_of home kept)
+  pub restart : RestartsWell home past
+
+-- the epoch starts well, and so would the next one
+pub record HasGoodStarts (home : Home) (past : SitePast) : Type 0 where
+  pub start : IsStart (epoch_start home past)
+  pub restart : RestartsWell home past
 
 -- no attempt is bound twice; the committed attempts are in a serial order, which gives the rows of the site; and so are they with all prepared
 -- ones whose outcome is commit, which give what the site is due; where none of these is in doubt, they are the committed ones
@@ -67,3 +76,7 @@ abbrev pub OfSortedPasts : (Home → SitePast → Type 0) → Type 0
 OfSortedPasts P =
     (home : Home) (local : Tx → Bool) (events : List SiteEvent) → AreSorted local events → PreparesOnce home (site_past home events)
     → P home (site_past home events)
+
+-- the fact holds of every past that sorted events make, whether or not an attempt is prepared twice
+abbrev pub OfSortedEvents : (Home → SitePast → Type 0) → Type 0
+OfSortedEvents P = (home : Home) (local : Tx → Bool) (events : List SiteEvent) → AreSorted local events → P home (site_past home events)

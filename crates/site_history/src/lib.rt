@@ -7,7 +7,9 @@ mod serial_pasts;
 mod stories;
 
 pub use right_lines::engine_lines_are_right;
-pub use serial_pasts::{restarts_keep_sealed_runs, sites_are_serial, sites_prepare_once};
+pub use serial_pasts::{
+    epochs_start_well, restarts_keep_sealed_runs, sites_are_serial, sites_prepare_once,
+};
 pub use stories::{
     each_site_of_a_story_is_serial, events_are_sorted, stories_have_right_lines,
     stories_have_serial_sites, stories_prepare_once, tickets_rise,

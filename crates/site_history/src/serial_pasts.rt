@@ -1,6 +1,12 @@
 //! That what a restart restores was sealed before it, and that a site over all its stops is serial.
 ghost use Rattle.site_history.specs.Events.{PreparedOncePerEpoch};
-ghost use Rattle.site_history.specs.SiteOrders.{HasEpochs, IsSerialPast, OfSortedPasts};
+ghost use Rattle.site_history.specs.SiteOrders.{HasEpochs, HasGoodStarts, IsSerialPast, OfSortedEvents, OfSortedPasts};
+
+/// Whatever sorted events come to a site, also where an attempt is prepared again behind its end, each epoch starts well, and so would one
+/// from whatever a stop may leave of the records.
+pub fn epochs_start_well()
+    ensures { OfSortedEvents HasGoodStarts }
+{}
 
 /// Each epoch of a site starts after the one before it: from the rows of its table, with some of its sealed runs in doubt, which are apart
 /// from one another. The events are sorted: what begins and commits as a local attempt is of a local transaction, and what operations are

@@ -1,24 +1,22 @@
--- Those in doubt by rising attempt, behind a Checkpoint and behind the records that it stands for.
-use Rattle.std.proofs.Common.{◌≡◌, ◌⊎◌, Bool, true, false, cond, Option, Some, None, List, [], ◌∷◌, ◌++◌, map, refl, sym, subst, ap, ap₂, ◌∙◌, inl, inr, arith}
-use Rattle.std.specs.Prelude.{is_some}
+-- Those in doubt by rising attempt: they are told by who is in doubt of what alone, and so they are the same behind a Checkpoint and behind the
+-- records that it stands for.
+use Rattle.std.proofs.Common.{◌≡◌, ◌⊎◌, Bool, true, false, cond, Option, Some, None, List, [], ◌∷◌, ◌++◌, map, refl, sym, subst, ap, ◌∙◌, inl, inr, arith}
 use Rattle.mdb_base.specs.declared.names.Tid.{Tid}
 use Rattle.mdb_base.specs.Names.{same_tid, tid_before}
-use Rattle.mdb_base.specs.Words.{Each, found, with_some, inserted, those}
-use Rattle.mdb_base.proofs.ListLaws.{each_among, each_inserted, each_map, each_filtered}
-use Rattle.mdb_base.proofs.NameLaws.{same_tid-equal, same_tid-refl}
-use Rattle.order_laws.specs.Chains.{In, Distinct}
+use Rattle.mdb_base.specs.Words.{Each, found, with_some, inserted}
+use Rattle.mdb_base.proofs.ListLaws.{each_among, each_inserted, each_map}
+use Rattle.order_laws.specs.Chains.{In}
 use Rattle.order_laws.proofs.Names.{ranks_tids}
 use Rattle.fed_rules.specs.declared.records.SiteRecord.{SiteRecord}
-use Rattle.fed_rules.specs.declared.records.SiteRecord.TheVariants.{Setup, Start, Prepared, Ended, Local, Checkpoint}
 use Rattle.fed_rules.specs.Attempts.{each_attempt}
 use Rattle.fed_rules.specs.SiteRecords.{Held, doubt_of, prepared_tids, doubts, by_tid, held_before, kept_held}
 use Rattle.fed_rules.specs.SiteSums.{carried}
 use Rattle.engine_laws.specs.Laws.{EachOnce}
-use Rattle.rules_laws.proofs.EachAttempt.{each_append, each_kept, each_of_distinct}
-use Rattle.site_history.proofs.Restarts.{once_doubts, each_by_tid}
+use Rattle.rules_laws.proofs.EachAttempt.{in_each}
+use Rattle.site_history.proofs.AsSealed.{in_inserted, inserted_in}
+use Rattle.site_history.proofs.Restarts.{once_doubts}
 use Rattle.site_history.proofs.Starts.{doubt_tid, doubt_among}
-use Rattle.sum_laws.specs.Sums.{PreparesNoneAgain}
-use Rattle.sum_laws.proofs.Behind.{AreDoubts, carried_same, doubt_behind, found_doubts}
+use Rattle.sum_laws.proofs.Behind.{carried_same, doubt_behind}
 
 -- none behind stands before
 abbrev pub AreSorted : List Held → Type 0
@@ -51,230 +49,110 @@ sorted_by_tid : (helds : List Held) → AreSorted (by_tid helds)
 sorted_by_tid [] = tt
 sorted_by_tid (held ∷ helds) = sorted_inserted held (by_tid helds) (sorted_by_tid helds)
 
-inserted_first : (held : Held) (helds : List Held) → Each (λ later. held_before later held ≡ false) helds → inserted held_before held helds ≡ held ∷ helds
-inserted_first held [] h = refl
-inserted_first held (y ∷ helds) h = ap (λ b. cond b (y ∷ inserted held_before held helds) (held ∷ y ∷ helds)) h.0
+-- each stands before all behind it
+abbrev AreRising : List Held → Type 0
+AreRising [] = Unit {0}
+AreRising (held ∷ helds) = Each (λ later. held_before held later ≡ true) helds × AreRising helds
 
-by_tid_sorted : (helds : List Held) → AreSorted helds → by_tid helds ≡ helds
-by_tid_sorted [] s = refl
-by_tid_sorted (held ∷ helds) s = ap (inserted held_before held) (by_tid_sorted helds s.1) ∙ inserted_first held helds s.0
+before_other : (a b : Tid) → tid_before b a ≡ false → same_tid a b ≡ false → tid_before a b ≡ true
+before_other a b e f = grind arith
 
-those_of_inserted : (p : Held → Bool) (held : Held) (helds : List Held) → AreSorted helds
-    → those p (inserted held_before held helds) ≡ cond (p held) (inserted held_before held (those p helds)) (those p helds)
-those_of_inserted p held [] s = refl
-those_of_inserted p held (y ∷ helds) s = by_before (held_before y held) refl (those_of_inserted p held helds s.1)
+rising : (helds : List Held) → AreSorted helds → EachOnce (map kept_held helds) → AreRising helds
+rising [] s once = tt
+rising (held ∷ helds) s once = (all helds s.0 once.0, rising helds s.1 once.1)
   where
-    goes_behind : (q r : Bool) → held_before y held ≡ true
-        → those p (inserted held_before held helds) ≡ cond r (inserted held_before held (those p helds)) (those p helds)
-        → cond q (y ∷ those p (inserted held_before held helds)) (those p (inserted held_before held helds))
-        ≡ cond r (inserted held_before held (cond q (y ∷ those p helds) (those p helds))) (cond q (y ∷ those p helds) (those p helds))
-    goes_behind true true e rest = ap (λ xs. y ∷ xs) rest ∙ sym (ap (λ b. cond b (y ∷ inserted held_before held (those p helds)) (held ∷ y ∷ those p helds)) e)
-    goes_behind true false e rest = ap (λ xs. y ∷ xs) rest
-    goes_behind false r e rest = rest
+    all : (more : List Held) → Each (λ later. held_before later held ≡ false) more → Each (λ other. same_tid held.tid other.tid ≡ false) (map kept_held more)
+        → Each (λ later. held_before held later ≡ true) more
+    all [] none apart = tt
+    all (later ∷ more) none apart = (before_other held.tid later.tid none.0 apart.0, all more none.1 apart.1)
 
-    goes_first : (r : Bool) (zs : List Held) → Each (λ later. held_before later held ≡ false) zs
-        → cond r (held ∷ zs) zs ≡ cond r (inserted held_before held zs) zs
-    goes_first true zs h = sym (inserted_first held zs h)
-    goes_first false zs h = refl
-
-    by_before : (b : Bool) → held_before y held ≡ b
-        → those p (inserted held_before held helds) ≡ cond (p held) (inserted held_before held (those p helds)) (those p helds)
-        → those p (cond b (y ∷ inserted held_before held helds) (held ∷ y ∷ helds))
-        ≡ cond (p held) (inserted held_before held (those p (y ∷ helds))) (those p (y ∷ helds))
-    by_before true e rest = goes_behind (p y) (p held) e rest
-    by_before false e rest =
-        goes_first (p held) (those p (y ∷ helds))
-        (each_filtered (λ later. held_before later held ≡ false) p (y ∷ helds) (
-          e,
-          each_map (λ later. held_before later y ≡ false) (λ later. held_before later held ≡ false)
-              (λ later f. not_before later.tid y.tid held.tid f e) helds s.0,
-        ))
-
-those_by_tid : (p : Held → Bool) (helds : List Held) → those p (by_tid helds) ≡ by_tid (those p helds)
-those_by_tid p [] = refl
-those_by_tid p (held ∷ helds) = those_of_inserted p held (by_tid helds) (sorted_by_tid helds) ∙ by_test (p held) (those_by_tid p helds)
+-- two such lists with the same members are the same
+same_rising : (xs ys : List Held) → AreRising xs → AreRising ys → ((h : Held) → In h xs → In h ys) → ((h : Held) → In h ys → In h xs) → xs ≡ ys
+same_rising [] [] r q to back = refl
+same_rising [] (y ∷ ys) r q to back = absurd (back y (inl refl))
+same_rising (x ∷ xs) [] r q to back = absurd (to x (inl refl))
+same_rising (x ∷ xs) (y ∷ ys) r q to back =
+    by_first (to x (inl refl)) (back y (inl refl)) (λ to back. same_rising xs ys r.1 q.1 to back)
   where
-    by_test : (b : Bool) → those p (by_tid helds) ≡ by_tid (those p helds)
-        → cond b (inserted held_before held (those p (by_tid helds))) (those p (by_tid helds)) ≡ by_tid (cond b (held ∷ those p helds) (those p helds))
-    by_test true e = ap (inserted held_before held) e
-    by_test false e = e
+    never : (h : Held) → held_before h h ≡ true → ⊥
+    never h e = let clash = ranks_tids.one_way h.tid h.tid e in cc
 
-pub tids_append : (newer older : List SiteRecord) → prepared_tids (newer ++ older) ≡ prepared_tids newer ++ prepared_tids older
-tids_append [] older = refl
-tids_append (Prepared t e n ticket writes ∷ newer) older = ap (λ ts. t ∷ ts) (tids_append newer older)
-tids_append (Local t n writes ∷ newer) older = tids_append newer older
-tids_append (Ended t d ∷ newer) older = tids_append newer older
-tids_append (Start n ∷ newer) older = tids_append newer older
-tids_append (Setup site engine protocol items ∷ newer) older = tids_append newer older
-tids_append (Checkpoint sum ∷ newer) older = tids_append newer older
+    onto : (u v : Held) (us vs : List Held) → u ≡ v → Each (λ later. held_before u later ≡ true) us → ((h : Held) → In h (u ∷ us) → In h (v ∷ vs))
+        → (h : Held) → In h us → In h vs
+    onto u v us vs e all f h i = elim (f h (inr i)) [
+      | inl same ↦ absurd (never h (subst (λ w. held_before w h ≡ true) (e ∙ same) (each_among (λ later. held_before u later ≡ true) h us all i)))
+      | inr j ↦ j
+    ]
 
-carried_tids : (helds : List Held) → prepared_tids (carried helds) ≡ map (λ held. held.tid) helds
-carried_tids [] = refl
-carried_tids (held ∷ helds) = ap (λ ts. held.tid ∷ ts) (carried_tids helds)
+    same_first : x ≡ y → (((h : Held) → In h xs → In h ys) → ((h : Held) → In h ys → In h xs) → xs ≡ ys) → x ∷ xs ≡ y ∷ ys
+    same_first e rest =
+        subst (λ z. x ∷ xs ≡ z ∷ ys) e (ap (λ zs. x ∷ zs) (rest (onto x y xs ys e r.0 to) (onto y x ys xs (sym e) q.0 back)))
 
-found_append : (f : Tid → Option Held) (xs ys : List Tid) → found f (xs ++ ys) ≡ found f xs ++ found f ys
-found_append f [] ys = refl
-found_append f (x ∷ xs) ys = by_held (f x) (found_append f xs ys)
+    by_first : (y ≡ x) ⊎ In x ys → (x ≡ y) ⊎ In y xs → (((h : Held) → In h xs → In h ys) → ((h : Held) → In h ys → In h xs) → xs ≡ ys)
+        → x ∷ xs ≡ y ∷ ys
+    by_first (inl e) j rest = same_first (sym e) rest
+    by_first (inr i) (inl e) rest = same_first e rest
+    by_first (inr i) (inr j) rest =
+        let later : held_before y x ≡ true = each_among (λ later. held_before y later ≡ true) x ys q.0 i in
+        let first : held_before x y ≡ true = each_among (λ later. held_before x later ≡ true) y xs r.0 j in
+        let clash = ranks_tids.one_way x.tid y.tid first in cc
+
+in_by_tid : (helds : List Held) (h : Held) → In h (by_tid helds) → In h helds
+in_by_tid [] h i = i
+in_by_tid (held ∷ helds) h i = elim (in_inserted held_before held h (by_tid helds) i) [
+  | inl e ↦ inl e
+  | inr j ↦ inr (in_by_tid helds h j)
+]
+
+by_tid_in : (helds : List Held) (h : Held) → In h helds → In h (by_tid helds)
+by_tid_in [] h i = i
+by_tid_in (held ∷ helds) h (inl e) = inserted_in held_before held h (by_tid helds) (inl e)
+by_tid_in (held ∷ helds) h (inr i) = inserted_in held_before held h (by_tid helds) (inr (by_tid_in helds h i))
+
+in_found : (rs : List SiteRecord) (tids : List Tid) (h : Held) → In h (found (doubt_of rs) tids) → doubt_of rs h.tid ≡ Some h
+in_found rs [] h i = absurd i
+in_found rs (t ∷ tids) h i = by_held (doubt_of rs t) refl i (in_found rs tids h)
   where
-    by_held : (o : Option Held) → found f (xs ++ ys) ≡ found f xs ++ found f ys → with_some o (found f (xs ++ ys)) ≡ with_some o (found f xs) ++ found f ys
-    by_held None e = e
-    by_held (Some held) e = ap (λ hs. held ∷ hs) e
+    by_held : (o : Option Held) → doubt_of rs t ≡ o → In h (with_some o (found (doubt_of rs) tids))
+        → (In h (found (doubt_of rs) tids) → doubt_of rs h.tid ≡ Some h) → doubt_of rs h.tid ≡ Some h
+    by_held None e i rest = rest i
+    by_held (Some held) e (inr i) rest = rest i
+    by_held (Some held) e (inl same) rest =
+        subst (λ (g : Held). doubt_of rs g.tid ≡ Some g) same (ap (doubt_of rs) (doubt_tid rs t held e) ∙ e)
 
-pub found_alike : (f g : Tid → Option Held) → ((tid : Tid) → f tid ≡ g tid) → (xs : List Tid) → found f xs ≡ found g xs
-found_alike f g same [] = refl
-found_alike f g same (x ∷ xs) = ap₂ with_some (same x) (found_alike f g same xs)
-
-by_tid_append : (xs ys zs : List Held) → by_tid ys ≡ by_tid zs → by_tid (xs ++ ys) ≡ by_tid (xs ++ zs)
-by_tid_append [] ys zs e = e
-by_tid_append (x ∷ xs) ys zs e = ap (inserted held_before x) (by_tid_append xs ys zs e)
-
--- of an attempt that isn't prepared again the newer records say that it ended, or nothing
-abbrev pub StaysOrEnds : (f g : Tid → Option Held) → Tid → Type 0
-StaysOrEnds f g tid = (f tid ≡ g tid) ⊎ (f tid ≡ None)
-
-stays_or_ends : (newer older : List SiteRecord) (tid : Tid) → (In tid (prepared_tids newer) → ⊥)
-    → StaysOrEnds (doubt_of (newer ++ older)) (doubt_of older) tid
-stays_or_ends [] older tid never = inl refl
-stays_or_ends (Prepared t e n ticket writes ∷ newer) older tid never =
-    by_test (same_tid t tid) refl (stays_or_ends newer older tid (λ i. never (inr i)))
+found_in : (rs : List SiteRecord) (tids : List Tid) (t : Tid) (h : Held) → In t tids → doubt_of rs t ≡ Some h → In h (found (doubt_of rs) tids)
+found_in rs [] t h i e = absurd i
+found_in rs (u ∷ tids) t h (inl same) e = subst (λ o. In h (with_some o (found (doubt_of rs) tids))) (sym (ap (doubt_of rs) same ∙ e)) (inl refl)
+found_in rs (u ∷ tids) t h (inr i) e = by_held (doubt_of rs u) (found_in rs tids t h i e)
   where
-    by_test : (b : Bool) → same_tid t tid ≡ b → StaysOrEnds (doubt_of (newer ++ older)) (doubt_of older) tid
-        → (cond b (Some (record { tid = t; epoch = e; number = n; ticket = ticket; writes = writes })) (doubt_of (newer ++ older) tid) ≡ doubt_of older tid)
-        ⊎ (cond b (Some (record { tid = t; epoch = e; number = n; ticket = ticket; writes = writes })) (doubt_of (newer ++ older) tid) ≡ None)
-    by_test true is rest = absurd (never (inl (same_tid-equal t tid is)))
-    by_test false is rest = rest
-stays_or_ends (Ended t d ∷ newer) older tid never = by_test (same_tid t tid) (stays_or_ends newer older tid never)
+    by_held : (o : Option Held) → In h (found (doubt_of rs) tids) → In h (with_some o (found (doubt_of rs) tids))
+    by_held None j = j
+    by_held (Some other) j = inr j
+
+-- who is listed is who is in doubt
+doubts_are : (rs : List SiteRecord) (h : Held) → In h (doubts rs) → doubt_of rs h.tid ≡ Some h
+doubts_are rs h i =
+    in_found rs (each_attempt (prepared_tids rs)) h (in_by_tid (found (doubt_of rs) (each_attempt (prepared_tids rs))) h i)
+
+are_doubts : (rs : List SiteRecord) (h : Held) → doubt_of rs h.tid ≡ Some h → In h (doubts rs)
+are_doubts rs h e =
+    by_tid_in (found (doubt_of rs) (each_attempt (prepared_tids rs))) h
+    (found_in rs (each_attempt (prepared_tids rs)) h.tid h (in_each (prepared_tids rs) h.tid (by_record (doubt_among rs h.tid))) e)
   where
-    by_test : (b : Bool) → StaysOrEnds (doubt_of (newer ++ older)) (doubt_of older) tid
-        → (cond b None (doubt_of (newer ++ older) tid) ≡ doubt_of older tid) ⊎ (cond b None (doubt_of (newer ++ older) tid) ≡ None)
-    by_test true rest = inr refl
-    by_test false rest = rest
-stays_or_ends (Local t n writes ∷ newer) older tid never = stays_or_ends newer older tid never
-stays_or_ends (Start n ∷ newer) older tid never = stays_or_ends newer older tid never
-stays_or_ends (Setup site engine protocol items ∷ newer) older tid never = stays_or_ends newer older tid never
-stays_or_ends (Checkpoint sum ∷ newer) older tid never = stays_or_ends newer older tid never
-
-abbrev is_left : (Tid → Option Held) → Held → Bool
-is_left f held = is_some (f held.tid)
-
--- those found are those left of the older ones
-found_left : (f : Tid → Option Held) (older : List SiteRecord) (tids : List Tid) → Each (StaysOrEnds f (doubt_of older)) tids
-    → found f tids ≡ those (is_left f) (found (doubt_of older) tids)
-found_left f older [] h = refl
-found_left f older (t ∷ tids) h = by_held (doubt_of older t) refl (f t) refl h.0 (found_left f older tids h.1)
-  where
-    by_held : (o : Option Held) → doubt_of older t ≡ o → (q : Option Held) → f t ≡ q → (f t ≡ doubt_of older t) ⊎ (f t ≡ None)
-        → found f tids ≡ those (is_left f) (found (doubt_of older) tids)
-        → with_some q (found f tids) ≡ those (is_left f) (with_some o (found (doubt_of older) tids))
-    by_held None e None g a rest = rest
-    by_held None e (Some held) g (inl same) rest = (let clash = sym g ∙ same ∙ e in cc)
-    by_held None e (Some held) g (inr none) rest = (let clash = sym g ∙ none in cc)
-    by_held (Some held) e None g a rest =
-        let gone : is_left f held ≡ false = ap is_some (ap f (doubt_tid older t held e) ∙ g) in
-        rest ∙ sym (ap (λ b. cond b (held ∷ those (is_left f) (found (doubt_of older) tids)) (those (is_left f) (found (doubt_of older) tids))) gone)
-    by_held (Some held) e (Some other) g (inl same) rest =
-        let left : is_left f held ≡ true = ap is_some (ap f (doubt_tid older t held e) ∙ g) in
-        let one : other ≡ held = some_parts (sym g ∙ same ∙ e) in
-        ap₂ (λ (h : Held) hs. h ∷ hs) one rest
-        ∙ sym (ap (λ b. cond b (held ∷ those (is_left f) (found (doubt_of older) tids)) (those (is_left f) (found (doubt_of older) tids))) left)
-      where
-        some_parts : {x y : Held} → Some x ≡ Some y → x ≡ y
-        some_parts e = cc
-    by_held (Some held) e (Some other) g (inr none) rest = (let clash = sym g ∙ none in cc)
-
--- looked up again by their attempts
-abbrev pub StaysItself : (Tid → Option Held) → Held → Type 0
-StaysItself f held = (f held.tid ≡ Some held) ⊎ (f held.tid ≡ None)
-
-found_again : (f : Tid → Option Held) (helds : List Held) → Each (StaysItself f) helds → found f (map (λ held. held.tid) helds) ≡ those (is_left f) helds
-found_again f [] h = refl
-found_again f (held ∷ helds) h = by_left h.0 (found_again f helds h.1)
-  where
-    by_left : StaysItself f held → found f (map (λ h. h.tid) helds) ≡ those (is_left f) helds
-        → with_some (f held.tid) (found f (map (λ h. h.tid) helds)) ≡ cond (is_some (f held.tid)) (held ∷ those (is_left f) helds) (those (is_left f) helds)
-    by_left (inl e) rest =
-        ap (λ o. with_some o (found f (map (λ h. h.tid) helds))) e ∙ ap (λ hs. held ∷ hs) rest
-        ∙ sym (ap (λ o. cond (is_some o) (held ∷ those (is_left f) helds) (those (is_left f) helds)) e)
-    by_left (inr e) rest =
-        ap (λ o. with_some o (found f (map (λ h. h.tid) helds))) e ∙ rest
-        ∙ sym (ap (λ o. cond (is_some o) (held ∷ those (is_left f) helds) (those (is_left f) helds)) e)
-
-found_itself : (f : Tid → Option Held) (older : List SiteRecord) (tids : List Tid) → Each (StaysOrEnds f (doubt_of older)) tids
-    → Each (StaysItself f) (found (doubt_of older) tids)
-found_itself f older [] h = tt
-found_itself f older (t ∷ tids) h = by_held (doubt_of older t) refl (found_itself f older tids h.1)
-  where
-    by_held : (o : Option Held) → doubt_of older t ≡ o → Each (StaysItself f) (found (doubt_of older) tids)
-        → Each (StaysItself f) (with_some o (found (doubt_of older) tids))
-    by_held None e rest = rest
-    by_held (Some held) e rest =
-        let is = doubt_tid older t held e in
-        (elim h.0 [ inl same ↦ inl (ap f is ∙ same ∙ e) | inr none ↦ inr (ap f is ∙ none) ], rest)
-
--- no attempt stands twice among those of which none is in doubt twice
-distinct_held : (helds : List Held) → EachOnce (map kept_held helds) → Distinct (map (λ held. held.tid) helds)
-distinct_held [] once = tt
-distinct_held (held ∷ helds) once = (out helds once.0, distinct_held helds once.1)
-  where
-    out : (more : List Held) → Each (λ other. same_tid held.tid other.tid ≡ false) (map kept_held more) → In held.tid (map (λ h. h.tid) more) → ⊥
-    out [] h i = i
-    out (next ∷ more) h (inl e) =
-        let same : same_tid held.tid next.tid ≡ true = subst (λ t. same_tid held.tid t ≡ true) (sym e) (same_tid-refl held.tid) in
-        let apart = h.0 in cc
-    out (next ∷ more) h (inr i) = out more h.1 i
-
--- the attempts of those in doubt have Prepared records
-doubt_prepared : (older : List SiteRecord) (helds : List Held) → AreDoubts older helds → (tid : Tid)
-    → In tid (map (λ held. held.tid) helds) → In tid (prepared_tids older)
-doubt_prepared older [] h tid i = absurd i
-doubt_prepared older (held ∷ helds) h tid (inr i) = doubt_prepared older helds h.1 tid i
-doubt_prepared older (held ∷ helds) h tid (inl e) = by_record (doubt_among older tid)
-  where
-    by_record : (In tid (prepared_tids older)) ⊎ (doubt_of older tid ≡ None) → In tid (prepared_tids older)
+    by_record : In h.tid (prepared_tids rs) ⊎ (doubt_of rs h.tid ≡ None) → In h.tid (prepared_tids rs)
     by_record (inl among) = among
-    by_record (inr none) = (let is : doubt_of older tid ≡ Some held = subst (λ t. doubt_of older t ≡ Some held) e h.0 in cc)
+    by_record (inr none) = cc
+
+-- records by which the same ones are in doubt list the same ones
+pub doubts_alike : (rs others : List SiteRecord) → ((tid : Tid) → doubt_of rs tid ≡ doubt_of others tid) → doubts rs ≡ doubts others
+doubts_alike rs others same =
+    same_rising (doubts rs) (doubts others)
+    (rising (doubts rs) (sorted_by_tid (found (doubt_of rs) (each_attempt (prepared_tids rs)))) (once_doubts rs))
+    (rising (doubts others) (sorted_by_tid (found (doubt_of others) (each_attempt (prepared_tids others)))) (once_doubts others))
+    (λ h i. are_doubts others h (sym (same h.tid) ∙ doubts_are rs h i))
+    (λ h i. are_doubts rs h (same h.tid ∙ doubts_are others h i))
 
 -- those in doubt behind a Checkpoint are those of all
-pub doubts_behind : (newer older : List SiteRecord) → PreparesNoneAgain newer older → doubts (newer ++ carried (doubts older)) ≡ doubts (newer ++ older)
-doubts_behind newer older none =
-    ap by_tid (found_alike now f (doubt_behind newer older (carried sums) (carried_same older)) (each_attempt (prepared_tids (newer ++ carried sums)))
-    ∙ ap (λ tids. found f (each_attempt tids)) (tids_append newer (carried sums) ∙ ap (λ ts. news ++ ts) (carried_tids sums))
-    ∙ ap (found f) (each_append news (map (λ held. held.tid) sums) (λ g i j. again g i (doubt_prepared older sums are g j))
-    ∙ ap (λ ts. each_attempt news ++ ts) (each_of_distinct (map (λ held. held.tid) sums) (distinct_held sums (once_doubts older))))
-    ∙ found_append f (each_attempt news) (map (λ held. held.tid) sums))
-    ∙ by_tid_append (found f (each_attempt news)) (found f (map (λ held. held.tid) sums)) (found f olds) same
-    ∙ sym (ap by_tid (ap (λ tids. found f (each_attempt tids)) (tids_append newer older)
-    ∙ ap (found f) (each_append news (prepared_tids older) again) ∙ found_append f (each_attempt news) olds))
-  where
-    sums : List Held
-    sums = doubts older
-
-    news : List Tid
-    news = prepared_tids newer
-
-    olds : List Tid
-    olds = each_attempt (prepared_tids older)
-
-    now : Tid → Option Held
-    now = doubt_of (newer ++ carried sums)
-
-    f : Tid → Option Held
-    f = doubt_of (newer ++ older)
-
-    again : (g : Tid) → In g news → In g (prepared_tids older) → ⊥
-    again g i j = each_among (λ tid. In tid news → ⊥) g (prepared_tids older) none j i
-
-    are : AreDoubts older sums
-    are = each_by_tid _ _ (found_doubts older olds)
-
-    stays : Each (StaysOrEnds f (doubt_of older)) olds
-    stays =
-        each_kept (StaysOrEnds f (doubt_of older)) (prepared_tids older)
-        (each_map (λ tid. In tid news → ⊥) (StaysOrEnds f (doubt_of older)) (λ tid no. stays_or_ends newer older tid no) (prepared_tids older) none)
-
-    same : by_tid (found f (map (λ held. held.tid) sums)) ≡ by_tid (found f olds)
-    same =
-        ap by_tid (found_again f sums (each_by_tid (StaysItself f) (found (doubt_of older) olds) (found_itself f older olds stays))
-        ∙ those_by_tid (is_left f) (found (doubt_of older) olds))
-        ∙ by_tid_sorted (by_tid (those (is_left f) (found (doubt_of older) olds))) (sorted_by_tid (those (is_left f) (found (doubt_of older) olds)))
-        ∙ sym (ap by_tid (found_left f older olds stays))
+pub doubts_behind : (newer older : List SiteRecord) → doubts (newer ++ carried (doubts older)) ≡ doubts (newer ++ older)
+doubts_behind newer older =
+    doubts_alike (newer ++ carried (doubts older)) (newer ++ older) (doubt_behind newer older (carried (doubts older)) (carried_same older))

@@ -1,5 +1,5 @@
--- In every past that sorted events make, in which no attempt is prepared twice, installs come in order.
-use Rattle.std.proofs.Common.{◌≡◌, ℕ, ◌≤◌, Bool, true, false, cond, ◌||◌, Option, Some, None, List, [], ◌∷◌, ◌++◌, take, zero, suc, refl, sym, subst, inl, arith}
+-- In every past that sorted events make installs come in order.
+use Rattle.std.proofs.Common.{◌≡◌, ℕ, ◌≤◌, Bool, true, false, cond, ◌||◌, Option, Some, None, List, [], ◌∷◌, ◌++◌, take, refl, sym, subst, inl, arith}
 use Rattle.std.specs.Prelude.{nat_lt, nat_le, length, ◌+◌}
 use Rattle.mdb_base.specs.declared.names.Tx.{Tx}
 use Rattle.mdb_base.specs.Words.{Each, when}
@@ -10,23 +10,23 @@ use Rattle.fed_rules.specs.declared.events.SiteEvent.{SiteEvent}
 use Rattle.fed_rules.specs.declared.events.SiteEvent.TheVariants as Ev
 use Rattle.fed_rules.specs.declared.records.SiteRecord.{SiteRecord}
 use Rattle.fed_rules.specs.declared.records.SiteRecord.TheVariants.{Setup, Start, Prepared, Ended, Local, Checkpoint}
-use Rattle.fed_rules.specs.Disk.{Append, Call, CutBack, TrimFront, Stops, Sync, after_calls, is_torn}
+use Rattle.fed_rules.specs.Disk.{Append, Call, CutBack, Stops, Sync, after_calls, is_torn}
 use Rattle.fed_rules.specs.Happenings.{Trip, is_down, stopped, tripped, stops, comes_up}
-use Rattle.fed_rules.specs.Runs as Runs
 use Rattle.fed_rules.specs.Site.{answered, of_back, site_line, site_past, unless_tripped}
 use Rattle.fed_rules.specs.SitePast.{SiteHappening, SitePast, disk, epoch, epoch_start, engine_lines, records, trip}
 use Rattle.fed_rules.specs.SiteRecords.{Home, Held, Install, doubt_of, install_held, installs, last_number, site_frame, start_of}
 use Rattle.rules_laws.specs.Durable.{IsFrontOf}
-use Rattle.site_history.specs.Events.{AreSorted, IsFresh, IsSorted, PreparesOnce}
-use Rattle.site_history.specs.SiteOrders.{OfSortedPasts}
+use Rattle.site_history.specs.Events.{AreSorted, IsFresh, IsSorted}
+use Rattle.site_history.specs.SiteOrders.{OfSortedEvents}
 use Rattle.site_history.proofs.Agreement.{IsGoodLine, still}
-use Rattle.site_history.proofs.Backed.{StopsLast, appended, front_after, front_more}
-use Rattle.site_history.proofs.Histories.{IsHistory, no_local_doubt}
-use Rattle.site_history.proofs.HistoryPasts.{history_past, move_records}
-use Rattle.site_history.proofs.Moves.{IsMove, Moves, OnlySyncs, move_answered, rests, begins_local, begins_work, goes_on, commits_local, prepares_run, settles_held, checks_sum}
+use Rattle.site_history.proofs.Backed.{appended, front_after}
+use Rattle.site_history.proofs.Fronts.{HasNoStop, move_no_stop, stop_last, taken_front}
+use Rattle.site_history.proofs.Histories.{no_local_doubt}
+use Rattle.site_history.proofs.HistoryPasts.{move_records}
+use Rattle.site_history.proofs.Moves.{IsMove, move_answered, rests}
 use Rattle.site_history.proofs.Records.{doubt_number}
-use Rattle.site_history.proofs.Restarts.{good_newest}
 use Rattle.site_history.proofs.RightLines.{good_answered, is_back}
+use Rattle.site_history.proofs.WellKept.{IsWellKept, well_past}
 use Rattle.sum_laws.specs.Sums.{ComeInOrder}
 use Rattle.sum_laws.proofs.InOrder.{IsInOrder, IsOrderly, IsSince, IsWell, move_orderly}
 
@@ -82,58 +82,6 @@ anew home past x new o =
           (record { all = o; since = each_map (λ (i : Install). i.number ≤ last_number rs) (IsSince (start_of home rs) []) (λ i le. inl le) (installs rs) (installs_most rs) });
     }
 
--- no stop is among the calls
-abbrev HasNoStop : List (Call SiteRecord) → Type 0
-HasNoStop [] = Unit {0}
-HasNoStop (Stops cut ∷ calls) = ⊥
-HasNoStop (call ∷ calls) = HasNoStop calls
-
-stop_last : (n cut : ℕ) (calls : List (Call SiteRecord)) → HasNoStop calls → StopsLast (take n calls ++ Stops cut ∷ [])
-stop_last zero cut calls h = tt
-stop_last (suc n) cut [] h = tt
-stop_last (suc n) cut (Append r ∷ calls) h = stop_last n cut calls h
-stop_last (suc n) cut (Sync ∷ calls) h = stop_last n cut calls h
-stop_last (suc n) cut (CutBack ∷ calls) h = stop_last n cut calls h
-stop_last (suc n) cut (TrimFront ∷ calls) h = stop_last n cut calls h
-stop_last (suc n) cut (Stops c ∷ calls) h = elim h [ ]
-
-grows : (calls : List (Call SiteRecord)) (rs : List SiteRecord) → IsFrontOf (appended calls rs) rs
-grows [] rs = ([], refl)
-grows (Append r ∷ calls) rs = front_more (appended calls (r ∷ rs)) (r ∷ rs) rs (grows calls (r ∷ rs)) (r ∷ [], refl)
-grows (Sync ∷ calls) rs = grows calls rs
-grows (CutBack ∷ calls) rs = grows calls rs
-grows (TrimFront ∷ calls) rs = grows calls rs
-grows (Stops c ∷ calls) rs = grows calls rs
-
-taken_front : (n cut : ℕ) (calls : List (Call SiteRecord)) (rs : List SiteRecord)
-    → IsFrontOf (appended calls rs) (appended (take n calls ++ Stops cut ∷ []) rs)
-taken_front zero cut calls rs = grows calls rs
-taken_front (suc n) cut [] rs = ([], refl)
-taken_front (suc n) cut (Append r ∷ calls) rs = taken_front n cut calls (r ∷ rs)
-taken_front (suc n) cut (Sync ∷ calls) rs = taken_front n cut calls rs
-taken_front (suc n) cut (CutBack ∷ calls) rs = taken_front n cut calls rs
-taken_front (suc n) cut (TrimFront ∷ calls) rs = taken_front n cut calls rs
-taken_front (suc n) cut (Stops c ∷ calls) rs = taken_front n cut calls rs
-
-syncs_no_stop : (calls : List (Call SiteRecord)) → OnlySyncs calls → HasNoStop calls
-syncs_no_stop [] s = tt
-syncs_no_stop (Sync ∷ calls) s = syncs_no_stop calls s
-syncs_no_stop (TrimFront ∷ calls) s = syncs_no_stop calls s
-syncs_no_stop (Append r ∷ calls) s = elim s [ ]
-syncs_no_stop (CutBack ∷ calls) s = elim s [ ]
-syncs_no_stop (Stops c ∷ calls) s = elim s [ ]
-
-move_no_stop : (home : Home) (past : SitePast) (local : Tx → Bool) (event : SiteEvent) (calls : List (Call SiteRecord)) (lines : List Runs.EngineLine)
-    → Moves home past local event calls lines → HasNoStop calls
-move_no_stop home past local event calls lines rests = tt
-move_no_stop home past local event calls lines (begins_local mine free none) = tt
-move_no_stop home past local event calls lines (begins_work others none fresh) = tt
-move_no_stop home past local event calls lines (goes_on run here calm) = tt
-move_no_stop home past local event calls lines (commits_local run mine here) = tt
-move_no_stop home past local event calls lines (prepares_run n run asked others here took) = tt
-move_no_stop home past local event calls lines (settles_held {rest = rest} held doubt synced just) = syncs_no_stop rest synced
-move_no_stop home past local event calls lines (checks_sum is) = tt
-
 -- a line that a stop ends in the midst of calls
 torn : (home : Home) (past : SitePast) (event : SiteEvent) (calls : List (Call SiteRecord)) (n cut : ℕ) → HasNoStop calls
     → IsInOrder (appended calls (records home past))
@@ -163,12 +111,12 @@ orders_tripped home past (Some t) x whole plain o =
 
 -- what is known of a past and of its orders
 record Knows (home : Home) (local : Tx → Bool) (past : SitePast) : Type 0 where
-  history : IsHistory home local past
+  history : IsWellKept home local past
   orders : OrdersPast home past
 
-well : (home : Home) (local : Tx → Bool) (past : SitePast) → IsHistory home local past → IsWell (records home past) (epoch_start home past) (engine_lines past)
+well : (home : Home) (local : Tx → Bool) (past : SitePast) → IsWellKept home local past → IsWell (records home past) (epoch_start home past) (engine_lines past)
 well home local past h = record {
-  begun = good_newest (record { start = epoch_start home past; lines = engine_lines past }) h.earlier h.now.epochs;
+  begun = h.started;
   right = h.kept.right;
   agrees = h.kept.agrees;
 }
@@ -263,12 +211,11 @@ first home = record {
   orderly = record { all = record { order = tt; fit = (λ tid held e. cc, (λ tid held e. cc, tt)) }; since = tt };
 }
 
-orders_past : (home : Home) (local : Tx → Bool) (events : List SiteEvent) → AreSorted local events → PreparesOnce home (site_past home events)
-    → OrdersPast home (site_past home events)
-orders_past home local [] sorted once = first home
-orders_past home local (event ∷ events) (now, before) (new, once) =
+orders_past : (home : Home) (local : Tx → Bool) (events : List SiteEvent) → AreSorted local events → OrdersPast home (site_past home events)
+orders_past home local [] sorted = first home
+orders_past home local (event ∷ events) (now, before) =
     next_line home local (site_past home events) event
-    (record { history = history_past home local events before once; orders = orders_past home local events before once }) now
+    (record { history = well_past home local events before; orders = orders_past home local events before }) now
 
-pub comes_in_order : OfSortedPasts (λ home past. ComeInOrder (records home past))
-comes_in_order home local events sorted once = (orders_past home local events sorted once).orderly.all.order
+pub comes_in_order : OfSortedEvents (λ home past. ComeInOrder (records home past))
+comes_in_order home local events sorted = (orders_past home local events sorted).orderly.all.order

@@ -1,21 +1,15 @@
 -- What stands on a site's disk: all records, or a Checkpoint of what was trimmed with the records behind it.
 use Rattle.std.proofs.Common.{◌≡◌, ℕ, ◌+◌, ◌≤◌, ◌⊎◌, min, Bool, true, false, cond, nat_le, Option, Some, None, List, [], ◌∷◌, ◌++◌, take, zero, suc, refl, sym, ap, ◌∙◌, subst, inl, inr, arith}
 use Rattle.std.proofs.lemmas.Bool.{leb-true, le-leb}
-use Rattle.mdb_base.specs.Words.{Each}
-use Rattle.mdb_base.specs.declared.names.Tid.{Tid}
-use Rattle.order_laws.specs.Chains.{In}
 use Rattle.fed_rules.specs.declared.records.SiteRecord.{SiteRecord}
 use Rattle.fed_rules.specs.declared.records.SiteRecord.TheVariants.{Setup, Start, Prepared, Ended, Local, Checkpoint}
 use Rattle.fed_rules.specs.declared.sums.SiteSum.{SiteSum}
 use Rattle.fed_rules.specs.Disk.{Append, Call, CutBack, TrimFront, Stops, Sync, Disk, after_call, after_calls, bytes_of, standing, whole}
-use Rattle.fed_rules.specs.SiteRecords.{Home, prepared_tids, site_frame}
+use Rattle.fed_rules.specs.SiteRecords.{Home, site_frame}
 use Rattle.fed_rules.specs.SiteSums.{behind_sum, journal_sum, last_sum, site_sum, sum_behind, sum_with}
 use Rattle.rules_laws.specs.Durable.{IsSound}
 use Rattle.rules_laws.proofs.Durable.{sound_call, whole_all, whole_front}
-use Rattle.site_history.specs.Records.{BindOnce}
-use Rattle.site_history.proofs.Records.{prepared_once}
-use Rattle.sum_laws.specs.Sums.{AreSums, ComeInOrder, PreparesNoneAgain}
-use Rattle.sum_laws.proofs.Doubtful.{tids_append}
+use Rattle.sum_laws.specs.Sums.{AreSums, ComeInOrder}
 use Rattle.sum_laws.proofs.Whole.{goes_on}
 
 sums_behind : (home : Home) (newest : SiteRecord) (rs : List SiteRecord) → AreSums home (newest ∷ rs) → AreSums home rs
@@ -209,29 +203,9 @@ has_last (Prepared t n number ticket writes ∷ rs) sum e = let h = has_last rs 
 has_last (Ended t d ∷ rs) sum e = let h = has_last rs sum e in record { older = h.older; all = ap (λ xs. Ended t d ∷ xs) h.all }
 has_last (Local t n writes ∷ rs) sum e = let h = has_last rs sum e in record { older = h.older; all = ap (λ xs. Local t n writes ∷ xs) h.all }
 
--- what is prepared once isn't prepared again
-prepares_none : (newer older : List SiteRecord) → BindOnce (newer ++ older) → PreparesNoneAgain newer older
-prepares_none newer older once = each_out (prepared_tids newer) (prepared_tids older) (subst Rattle.order_laws.specs.Chains.Distinct (tids_append newer older) (prepared_once (newer ++ older) once))
-  where
-    in_both : (xs ys : List Tid) (t : Tid) → Rattle.order_laws.specs.Chains.Distinct (xs ++ ys) → In t xs → In t ys → ⊥
-    in_both [] ys t d i j = i
-    in_both (x ∷ xs) ys t d (inl e) j = d.0 (subst (λ u. In u (xs ++ ys)) (sym e) (behind xs j))
-      where
-        behind : (zs : List Tid) → In t ys → In t (zs ++ ys)
-        behind [] j = j
-        behind (z ∷ zs) j = inr (behind zs j)
-    in_both (x ∷ xs) ys t d (inr i) j = in_both xs ys t d.1 i j
-
-    each_in : (xs ys : List Tid) (zs : List Tid) → Rattle.order_laws.specs.Chains.Distinct (xs ++ ys) → ((t : Tid) → In t zs → In t ys) → Each (λ t. In t xs → ⊥) zs
-    each_in xs ys [] d sub = tt
-    each_in xs ys (z ∷ zs) d sub = (λ i. in_both xs ys z d i (sub z (inl refl)), each_in xs ys zs d (λ t j. sub t (inr j)))
-
-    each_out : (xs ys : List Tid) → Rattle.order_laws.specs.Chains.Distinct (xs ++ ys) → Each (λ t. In t xs → ⊥) ys
-    each_out xs ys d = each_in xs ys ys d (λ t j. j)
-
 -- a list in which each Checkpoint is the Sum of what stands before says what all its records say
-pub whole_sum : (home : Home) (rs : List SiteRecord) → AreSums home rs → ComeInOrder rs → BindOnce rs → journal_sum home rs ≡ site_sum home rs
-whole_sum home rs sums order once = by_last (last_sum rs) refl
+pub whole_sum : (home : Home) (rs : List SiteRecord) → AreSums home rs → ComeInOrder rs → journal_sum home rs ≡ site_sum home rs
+whole_sum home rs sums order = by_last (last_sum rs) refl
   where
     by_last : (o : Option SiteSum) → last_sum rs ≡ o → sum_behind home rs o ≡ site_sum home rs
     by_last None e = refl
@@ -240,7 +214,7 @@ whole_sum home rs sums order once = by_last (last_sum rs) refl
         let older : List SiteRecord = Checkpoint sum ∷ h.older in
         let is : sum ≡ site_sum home h.older = (sums_front home (behind_sum rs) older (subst (AreSums home) h.all sums)).0 in
         ap (λ (s : SiteSum). sum_with s (behind_sum rs)) is
-        ∙ goes_on home (behind_sum rs) older (subst ComeInOrder h.all order) (prepares_none (behind_sum rs) older (subst BindOnce h.all once))
+        ∙ goes_on home (behind_sum rs) older (subst ComeInOrder h.all order)
         ∙ ap (site_sum home) (sym h.all)
 
 -- the last Checkpoint stands on the disk
@@ -273,9 +247,9 @@ last_stands home newer sum before = by_both (last_same newer) (behind_same newer
         ap (sum_behind home (newer ++ Checkpoint sum ∷ [])) e ∙ ap (sum_with s) b ∙ sym (ap (sum_behind home (newer ++ Checkpoint sum ∷ before)) f)
 
 -- what the journal on a disk says is what all records say
-pub journal_says_all : (home : Home) (d : Disk SiteRecord) → IsSummed home d → ComeInOrder d.records → BindOnce d.records
+pub journal_says_all : (home : Home) (d : Disk SiteRecord) → IsSummed home d → ComeInOrder d.records
     → journal_sum home (standing site_frame d.trimmed d.records) ≡ site_sum home d.records
-journal_says_all home d s order once = by_front s.front ∙ whole_sum home d.records s.sums order once
+journal_says_all home d s order = by_front s.front ∙ whole_sum home d.records s.sums order
   where
     by_front : (d.trimmed ≡ 0) ⊎ IsTrimmed d.records d.synced d.trimmed
         → journal_sum home (standing site_frame d.trimmed d.records) ≡ journal_sum home d.records

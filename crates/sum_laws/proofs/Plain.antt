@@ -1,18 +1,17 @@
 -- A Checkpoint among the records says nothing new: every word passes over it.
-use Rattle.std.proofs.Common.{◌≡◌, max, cond, Some, None, List, [], ◌∷◌, refl, ap, ap₂, ◌∙◌}
+use Rattle.std.proofs.Common.{◌≡◌, max, cond, Some, None, List, [], ◌∷◌, refl, ap, ap₂}
 use Rattle.std.specs.Prelude.{nat_lt}
 use Rattle.mdb_base.specs.declared.names.Tid.{Tid}
 use Rattle.mdb_base.specs.Names.{same_tid, tid_before}
-use Rattle.mdb_base.specs.Words.{found, inserted}
+use Rattle.mdb_base.specs.Words.{inserted}
 use Rattle.presumptions.specs.declared.Decision.TheVariants as Decided
 use Rattle.fed_rules.specs.declared.records.SiteRecord.{SiteRecord}
 use Rattle.fed_rules.specs.declared.records.SiteRecord.TheVariants.{Setup, Start, Prepared, Ended, Local, Checkpoint}
-use Rattle.fed_rules.specs.SiteRecords.{Home, by_number, by_tid, doubt_of, install_held, installs, last_number, last_ticket, prepared_tids, rows_after, ticket_owner}
+use Rattle.fed_rules.specs.SiteRecords.{Home, by_number, doubt_of, install_held, installs, last_number, last_ticket, rows_after, ticket_owner}
 use Rattle.fed_rules.specs.SiteSums.{epoch_with, locals_with, site_sum}
 use Rattle.sum_laws.specs.Sums.{plain}
-use Rattle.sum_laws.proofs.Doubtful.{found_alike}
+use Rattle.sum_laws.proofs.Doubtful.{doubts_alike}
 use Rattle.sum_laws.proofs.Whole.{same_parts}
-use Rattle.fed_rules.specs.Attempts.{each_attempt}
 
 pub epoch_plain : (rs : List SiteRecord) → epoch_with 0 (plain rs) ≡ epoch_with 0 rs
 epoch_plain [] = refl
@@ -50,15 +49,6 @@ owner_plain (Prepared t e n ticket writes ∷ rs) = ap₂ (λ k o. cond (nat_lt 
 owner_plain (Ended t d ∷ rs) = owner_plain rs
 owner_plain (Local t n writes ∷ rs) = owner_plain rs
 
-pub tids_plain : (rs : List SiteRecord) → prepared_tids (plain rs) ≡ prepared_tids rs
-tids_plain [] = refl
-tids_plain (Checkpoint sum ∷ rs) = tids_plain rs
-tids_plain (Setup site engine protocol items ∷ rs) = tids_plain rs
-tids_plain (Start n ∷ rs) = tids_plain rs
-tids_plain (Prepared t e n ticket writes ∷ rs) = ap (λ ts. t ∷ ts) (tids_plain rs)
-tids_plain (Ended t d ∷ rs) = tids_plain rs
-tids_plain (Local t n writes ∷ rs) = tids_plain rs
-
 pub locals_plain : (rs : List SiteRecord) → locals_with [] (plain rs) ≡ locals_with [] rs
 locals_plain [] = refl
 locals_plain (Checkpoint sum ∷ rs) = locals_plain rs
@@ -91,5 +81,4 @@ installs_plain (Local t n writes ∷ rs) = ap (by_number (record { tid = t; numb
 pub sum_plain : (home : Home) (rs : List SiteRecord) → site_sum home (plain rs) ≡ site_sum home rs
 sum_plain home rs =
     same_parts home (epoch_plain rs) (number_plain rs) (ticket_plain rs) (owner_plain rs) (ap (rows_after home.items) (installs_plain rs)) (locals_plain rs)
-    (ap by_tid (found_alike (doubt_of (plain rs)) (doubt_of rs) (doubt_plain rs) (each_attempt (prepared_tids (plain rs)))
-    ∙ ap (λ tids. found (doubt_of rs) (each_attempt tids)) (tids_plain rs)))
+    (doubts_alike (plain rs) rs (doubt_plain rs))

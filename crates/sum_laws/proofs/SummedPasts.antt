@@ -1,4 +1,4 @@
--- In every past that sorted events make, in which no attempt is prepared twice, the journal on the disk says what all records say.
+-- In every past that sorted events make the journal on the disk says what all records say.
 use Rattle.std.proofs.Common.{◌≡◌, Bool, true, false, cond, Option, Some, None, List, [], ◌∷◌, ◌++◌, take, refl, sym, ap, inl, arith}
 use Rattle.std.specs.Prelude.{nat_le, length, ◌+◌}
 use Rattle.mdb_base.specs.declared.names.Tx.{Tx}
@@ -16,12 +16,12 @@ use Rattle.fed_rules.specs.SitePast.{SiteHappening, SitePast, disk, epoch, journ
 use Rattle.fed_rules.specs.SiteRecords.{Home, site_frame, start_of}
 use Rattle.fed_rules.specs.SiteSums.{journal_sum, site_sum, start_from}
 use Rattle.rules_laws.specs.Durable.{IsSound}
-use Rattle.site_history.specs.Events.{AreSorted, IsFresh, IsSorted, PreparesOnce}
-use Rattle.site_history.specs.SiteOrders.{OfSortedPasts}
-use Rattle.site_history.proofs.Histories.{IsHistory, no_local_doubt}
-use Rattle.site_history.proofs.HistoryPasts.{history_past}
+use Rattle.site_history.specs.Events.{AreSorted, IsFresh, IsSorted}
+use Rattle.site_history.specs.SiteOrders.{OfSortedEvents}
+use Rattle.site_history.proofs.Histories.{no_local_doubt}
 use Rattle.site_history.proofs.Moves.{Moves, JustSyncs, move_answered, rests, begins_local, begins_work, goes_on, commits_local, prepares_run, settles_held, checks_sum}
 use Rattle.site_history.proofs.RightLines.{is_back}
+use Rattle.site_history.proofs.WellKept.{IsWellKept, well_past}
 use Rattle.sum_laws.proofs.InOrderPasts.{comes_in_order}
 use Rattle.sum_laws.proofs.Journals.{Fits, IsSummed, fits_stopped, journal_says_all, summed_calls}
 
@@ -75,7 +75,7 @@ quiet_line : (home : Home) (past : SitePast) (event : SiteEvent) → SummedPast 
     → SummedPast home (record { event = event; answer = Say.Down; sends = []; calls = []; lines = [] } ∷ past)
 quiet_line home past event s = summed_whole home past (record { event = event; answer = Say.Down; sends = []; calls = []; lines = [] }) s tt
 
-up : (home : Home) (local : Tx → Bool) (past : SitePast) (event : SiteEvent) → IsHistory home local past → SummedPast home past → IsSorted local event
+up : (home : Home) (local : Tx → Bool) (past : SitePast) (event : SiteEvent) → IsWellKept home local past → SummedPast home past → IsSorted local event
     → IsFresh home past event → is_back event ≡ false
     → SummedPast home (when (is_down past) (record { event = event; answer = Say.Down; sends = []; calls = []; lines = [] })
     (unless_tripped home past (answered home past event)) ∷ past)
@@ -94,7 +94,7 @@ back_line home past s = summed_tripped home past (trip past) (of_back home past)
     by_torn true = tt
     by_torn false = tt
 
-next_line : (home : Home) (local : Tx → Bool) (past : SitePast) (event : SiteEvent) → IsHistory home local past → SummedPast home past → IsSorted local event
+next_line : (home : Home) (local : Tx → Bool) (past : SitePast) (event : SiteEvent) → IsWellKept home local past → SummedPast home past → IsSorted local event
     → SummedPast home (site_line home past event ∷ past)
 unfolding site_line
 next_line home local past (Ev.Trip calls cut) h s sorted = summed_whole home past _ s tt
@@ -112,21 +112,19 @@ next_line home local past (Ev.Ask tid) h s sorted = up home local past (Ev.Ask t
 next_line home local past (Ev.Drop tid) h s sorted = up home local past (Ev.Drop tid) h s sorted tt refl
 next_line home local past Ev.Check h s sorted = up home local past Ev.Check h s sorted tt refl
 
-summed_past : (home : Home) (local : Tx → Bool) (events : List SiteEvent) → AreSorted local events → PreparesOnce home (site_past home events)
-    → SummedPast home (site_past home events)
-summed_past home local [] sorted once = record {
+summed_past : (home : Home) (local : Tx → Bool) (events : List SiteEvent) → AreSorted local events → SummedPast home (site_past home events)
+summed_past home local [] sorted = record {
   summed = record { sound = record { frames = omega arith; synced = omega arith }; sums = tt; front = inl refl };
 }
-summed_past home local (event ∷ events) (now, before) (new, once) =
-    next_line home local (site_past home events) event (history_past home local events before once) (summed_past home local events before once) now
+summed_past home local (event ∷ events) (now, before) =
+    next_line home local (site_past home events) event (well_past home local events before) (summed_past home local events before) now
 
 -- the journal says what all records say
-pub journals_say_all : OfSortedPasts (λ home past. journal_sum home (journal home past) ≡ site_sum home (records home past))
-journals_say_all home local events sorted once =
+pub journals_say_all : OfSortedEvents (λ home past. journal_sum home (journal home past) ≡ site_sum home (records home past))
+journals_say_all home local events sorted =
     let past = site_past home events in
-    journal_says_all home (disk home past) (summed_past home local events sorted once).summed (comes_in_order home local events sorted once)
-    (history_past home local events sorted once).once
+    journal_says_all home (disk home past) (summed_past home local events sorted).summed (comes_in_order home local events sorted)
 
 -- so a start of the site is told by its journal alone
-pub journals_tell_starts : OfSortedPasts (λ home past. start_of home (records home past) ≡ start_from (journal_sum home (journal home past)))
-journals_tell_starts home local events sorted once = ap start_from (sym (journals_say_all home local events sorted once))
+pub journals_tell_starts : OfSortedEvents (λ home past. start_of home (records home past) ≡ start_from (journal_sum home (journal home past)))
+journals_tell_starts home local events sorted = ap start_from (sym (journals_say_all home local events sorted))

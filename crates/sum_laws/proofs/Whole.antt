@@ -30,11 +30,11 @@ pub same_parts : (home : Home) {e f c d p q : ℕ} {o w : Option Tid} {r s : Lis
 same_parts home a b c d e f g = cc
 
 pub goes_on : SumsGoOn
-goes_on home newer older order again =
+goes_on home newer older order =
     same_parts home (epoch_behind 0 newer older) (number_behind newer older) (ticket_behind newer older) (owner_behind newer older)
-    (rows_behind home.items newer older order) (locals_behind (let none : List Tid = [] in none) newer older) (doubts_behind newer older again)
+    (rows_behind home.items newer older order) (locals_behind (let none : List Tid = [] in none) newer older) (doubts_behind newer older)
 
 pub goes_on_behind : SumGoesOnBehind
-goes_on_behind home newer older none again =
+goes_on_behind home newer older none =
     same_parts home (epoch_behind 0 newer older) (number_behind newer older) (ticket_behind newer older) (owner_behind newer older)
-    (rows_behind_any home.items newer older none) (locals_behind (let none : List Tid = [] in none) newer older) (doubts_behind newer older again)
+    (rows_behind_any home.items newer older none) (locals_behind (let none : List Tid = [] in none) newer older) (doubts_behind newer older)

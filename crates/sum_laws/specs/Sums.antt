@@ -2,13 +2,12 @@
 use Rattle.std.specs.Prelude.{◌≡◌, ◌<◌, ◌⊎◌, false, Option, Some, None, List, [], ◌∷◌, ◌++◌}
 use Rattle.mdb_base.specs.declared.rows.Put.{Put}
 use Rattle.mdb_base.specs.Words.{Each}
-use Rattle.order_laws.specs.Chains.{In}
 use Rattle.presumptions.specs.declared.Decision.TheVariants as Decided
 use Rattle.fed_rules.specs.declared.records.SiteRecord.{SiteRecord}
 use Rattle.fed_rules.specs.declared.records.SiteRecord.TheVariants.{Ended, Local, Checkpoint}
 use Rattle.fed_rules.specs.EngineLines.{has_row}
 use Rattle.fed_rules.specs.SitePast.{SitePast, records, journal}
-use Rattle.fed_rules.specs.SiteRecords.{Home, Held, Install, doubt_of, installs, prepared_tids, start_of, doubts}
+use Rattle.fed_rules.specs.SiteRecords.{Home, Held, Install, doubt_of, installs, start_of, doubts}
 use Rattle.fed_rules.specs.SiteSums.{site_sum, sum_with, journal_sum, start_from, carried}
 use Rattle.fed_rules.specs.declared.records.CoordRecord.{CoordRecord}
 use Rattle.fed_rules.specs.declared.records.CoordRecord.TheVariants as Coord_rec
@@ -40,10 +39,6 @@ ComeInOrder (Local tid number writes ∷ records) =
 ComeInOrder (Ended tid Decided.Commit ∷ records) = HeldComes (doubt_of records tid) (installs records) × ComeInOrder records
 ComeInOrder (newest ∷ records) = ComeInOrder records
 
--- no attempt of the older records is prepared again among the newer ones
-abbrev pub PreparesNoneAgain : (newer older : List SiteRecord) → Type 0
-PreparesNoneAgain newer older = Each (λ tid. In tid (prepared_tids newer) → ⊥) (prepared_tids older)
-
 -- each Checkpoint is the Sum of what stands before it
 abbrev pub AreSums : Home → List SiteRecord → Type 0
 AreSums home [] = Unit {0}
@@ -53,7 +48,7 @@ AreSums home (newest ∷ records) = AreSums home records
 -- a Checkpoint with what the older records say, and the newer ones, say what all of them say
 abbrev pub SumsGoOn : Type 0
 SumsGoOn =
-    (home : Home) (newer older : List SiteRecord) → ComeInOrder (newer ++ older) → PreparesNoneAgain newer older
+    (home : Home) (newer older : List SiteRecord) → ComeInOrder (newer ++ older)
     → sum_with (site_sum home older) newer ≡ site_sum home (newer ++ older)
 
 -- the journal on the disk says what all records say, those that were trimmed included
@@ -77,7 +72,7 @@ NoneIsOvertaken newer older = Each (λ i. Each (StaysBelow i) (installs older)) 
 -- so a Sum goes on at one Checkpoint, in whatever order the older ones came, and the newer ones
 abbrev pub SumGoesOnBehind : Type 0
 SumGoesOnBehind =
-    (home : Home) (newer older : List SiteRecord) → NoneIsOvertaken newer older → PreparesNoneAgain newer older
+    (home : Home) (newer older : List SiteRecord) → NoneIsOvertaken newer older
     → sum_with (site_sum home older) newer ≡ site_sum home (newer ++ older)
 
 -- the fact holds of every past of the coordinator that events make

@@ -1,6 +1,6 @@
 //! Sums of records.
 ghost use Rattle.fed_rules.specs.SitePast.{records};
-ghost use Rattle.site_history.specs.SiteOrders.{OfSortedPasts};
+ghost use Rattle.site_history.specs.SiteOrders.{OfSortedEvents};
 ghost use Rattle.site_history.specs.Stories.{OfSites};
 ghost use Rattle.std.specs.Prelude.{◌≡◌, List};
 ghost use Rattle.fed_rules.specs.declared.records.CoordRecord.{CoordRecord};
@@ -24,11 +24,11 @@ pub fn sums_go_on()
 {}
 
 /// In every past of a site, over all its stops, restarts and Checkpoints, the journal on its disk says what all its records say, and
-/// so what its engine starts from, if no attempt is prepared twice, and local and global transactions are told apart.
+/// so what its engine starts from, if local and global transactions are told apart.
 pub fn journals_say_all()
-    ensures order { OfSortedPasts (λ home past. ComeInOrder (records home past)) }
-    ensures all { OfSortedPasts JournalSaysAll }
-    ensures start { OfSortedPasts JournalTellsStart }
+    ensures order { OfSortedEvents (λ home past. ComeInOrder (records home past)) }
+    ensures all { OfSortedEvents JournalSaysAll }
+    ensures start { OfSortedEvents JournalTellsStart }
 {}
 
 /// So it is at each declared site of every story.
