@@ -1,4 +1,5 @@
 //! Why a step of an actor has no answer.
+use mdb_base::Memory;
 use thiserror::Error;
 
 /// Why a step isn't answered.
@@ -10,4 +11,15 @@ pub enum StepErr {
     /// There is no memory, and nothing changed.
     #[error("no memory")]
     Memory,
+}
+
+impl From<Memory> for StepErr {
+    ghost use Rattle.std.specs.Prelude.{◌≡◌};
+    ghost use Rattle.actor_store.specs.declared.errors.StepErr.TheVariants as Err_is;
+
+    ghost from_gives = { λ _ e. e ≡ Err_is.Memory };
+
+    fn from(_: Memory) -> StepErr {
+        StepErr::Memory
+    }
 }
