@@ -1,0 +1,9 @@
+pub mod Bounds
+pub mod Closings
+pub mod Coordinators
+pub mod Disks
+pub mod Graphs
+pub mod Orders
+pub mod Rows
+pub mod Sites
+pub mod Unmade

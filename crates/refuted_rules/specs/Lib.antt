@@ -1,0 +1,7 @@
+pub mod Bounds
+pub mod Closings
+pub mod Coordinators
+pub mod Disks
+pub mod Orders
+pub mod Rows
+pub mod Sites
