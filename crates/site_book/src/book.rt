@@ -25,12 +25,12 @@ pub struct SiteBook {
 
 impl Model for SiteBook {
     ghost use Rattle.std.specs.Coded.{codes};
-    ghost use Rattle.std.specs.FinMap.{from_entries};
+    ghost use Rattle.std.specs.FinMap.{code, from_entries};
     ghost use Rattle.site_book.specs.Book.{Book};
 
     ghost Value = { Book };
 
-    ghost coded = { Prim.hlevel codes };
+    ghost coded = { Prim.hlevel (codes, code) };
 
     ghost view = { λ b. record {
       attempts = from_entries b.attempts.entries;
