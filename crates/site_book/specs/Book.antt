@@ -1,5 +1,5 @@
 -- What a site's book holds, and what each of its calls makes of it.
-use Rattle.std.specs.Prelude.{ℕ, ◌+◌, ◌-◌, ◌==◌, Bool, true, false, cond, Option, Some, None, List, [], ◌∷◌}
+use Rattle.std.specs.Prelude.{ℕ, zero, suc, Bool, true, false, cond, Option, Some, None, List, [], ◌∷◌}
 use Rattle.std.specs.declared.cmp.Ordering.{Ordering}
 use Rattle.std.specs.Ordering.{nat_cmp, ordering_then}
 use Rattle.std.specs.FinMap.{FinMap, empty, get, insert, remove}
@@ -101,7 +101,7 @@ committed_in book tx = committed_part (standing_of book tx)
 
 abbrev pub count_of : Option ℕ → ℕ
 count_of None = 0
-count_of (Some again) = again + 1
+count_of (Some again) = suc again
 
 -- how many attempts of the local transaction were begun
 abbrev pub begun_in : Book → Tx → ℕ
@@ -160,9 +160,14 @@ not_running tid locals = cond (runs tid (get locals tid.tx)) (remove locals tid.
 abbrev pub counted : Tx → Counts → Counts
 counted tx again = insert again tx (count_of (get again tx))
 
+abbrev pub uncounted_from : Option ℕ → Tx → Counts → Counts
+uncounted_from None tx again = again
+uncounted_from (Some zero) tx again = remove again tx
+uncounted_from (Some (suc n)) tx again = insert again tx n
+
 -- the last attempt isn't counted
 abbrev pub uncounted : Tx → Counts → Counts
-uncounted tx again = cond (count_of (get again tx) == 1) (remove again tx) (insert again tx (count_of (get again tx) - 2))
+uncounted tx again = uncounted_from (get again tx) tx again
 
 -- the attempt has this entry
 abbrev pub enters : Tid → Progress → Book → Book
@@ -176,14 +181,13 @@ forgets tid book = record book { attempts = remove book.attempts tid }
 abbrev pub begins_global : Tid → Book → Book
 begins_global tid book = enters tid (Is.Live fresh) book
 
+-- the local transaction of the attempt runs in it, and the attempt is counted
+abbrev pub runs_local : Tid → Book → Book
+runs_local tid book = record book { locals = insert book.locals tid.tx (Has.Running tid); again = counted tid.tx book.again }
+
 -- an attempt of a local transaction begins
 abbrev pub begins_local : Tid → Book → Book
-begins_local tid book =
-    record {
-      attempts = insert book.attempts tid (Is.Live fresh);
-      locals = insert book.locals tid.tx (Has.Running tid);
-      again = counted tid.tx book.again;
-    }
+begins_local tid book = runs_local tid (begins_global tid book)
 
 -- that begin is taken back
 abbrev pub unbegins_local : Tid → Book → Book

@@ -2,7 +2,7 @@
 ghost use Rattle.std.specs.Prelude.{◌≡◌, ◌<◌, None, Some, IfSome, IsSome, OnOk, OnErr, is_some};
 ghost use Rattle.std.specs.Option.{option_copied};
 ghost use Rattle.site_book.specs.declared.progress.Progress.TheVariants as Is;
-ghost use Rattle.site_book.specs.Book.{begins_global, begins_local, begun_in, blank, closes, commits_local, committed_in, enters, forgets, is_closed_in, is_sealed_in, live_in, notes_reply, notes_take, progress_of, restarted, running_in, seals, standing_of, stopped, unbegins_local};
+ghost use Rattle.site_book.specs.Book.{begins_global, begins_local, begun_in, blank, closes, commits_local, committed_in, enters, forgets, is_closed_in, is_sealed_in, live_in, notes_reply, notes_take, progress_of, restarted, running_in, runs_local, seals, standing_of, stopped, unbegins_local};
 
 use crate::attempt_map;
 use crate::live_run::LiveRun;
@@ -151,13 +151,23 @@ impl SiteBook {
         ensures memory { OnErr result (self.new ≡ self.old) }
     {
         self.begin_global(alloc, tid)?;
-        if local_map::put(&mut self.locals, tid.tx, Standing::Running(tid)).is_err() {
+        if self.run_local(tid).is_err() {
             self.forget(tid);
             return Err(Memory);
         }
+        Ok(())
+    }
+
+    /// The local transaction of the attempt runs in it, and the attempt is counted.
+    fn run_local(&mut self, tid: Tid) -> Result<(), Memory>
+        requires idle { standing_of self.old tid.tx ≡ None }
+        requires few { begun_in self.old tid.tx < 32 }
+        ensures running { OnOk result (self.new ≡ runs_local tid self.old) }
+        ensures memory { OnErr result (self.new ≡ self.old) }
+    {
+        local_map::put(&mut self.locals, tid.tx, Standing::Running(tid))?;
         if local_map::count(&mut self.again, tid.tx).is_err() {
             local_map::take_out(&mut self.locals, tid.tx);
-            self.forget(tid);
             return Err(Memory);
         }
         Ok(())
@@ -165,7 +175,6 @@ impl SiteBook {
 
     /// Takes `begin_local` back.
     pub fn unbegin_local(&mut self, tid: Tid)
-        requires { 0 < begun_in self.old tid.tx }
         ensures { self.new ≡ unbegins_local tid self.old }
     {
         self.forget(tid);

@@ -51,12 +51,19 @@ pub(crate) fn committed(alloc: Global, committed: &[Tid]) -> Result<BTreeMap<Tx,
     Ok(locals)
 }
 
+/// How many attempts of the transaction were begun behind the first.
+fn find_again(again: &BTreeMap<Tx, u8>, tx: Tx) -> Option<u8>
+    ensures { result ≡ get {R = tx_cmp} (from_entries again.now.entries) tx }
+{
+    again.get(&tx).copied()
+}
+
 /// How many attempts of the transaction were begun.
 pub(crate) fn begun(again: &BTreeMap<Tx, u8>, tx: Tx) -> u32
     ensures { result ≡ count_of (get {R = tx_cmp} (from_entries again.now.entries) tx) }
 {
-    match again.get(&tx) {
-        Some(again) => u32::from(*again) + 1,
+    match find_again(again, tx) {
+        Some(n) => u32::from(n) + 1,
         None => 0,
     }
 }
@@ -67,26 +74,36 @@ pub(crate) fn count(again: &mut BTreeMap<Tx, u8>, tx: Tx) -> Result<(), Memory>
     ensures counted { OnOk result (from_entries again.new.entries ≡ counted tx (from_entries again.old.entries)) }
     ensures memory { OnErr result (again.new.entries ≡ again.old.entries) }
 {
-    match again.get(&tx).copied() {
+    match find_again(again, tx) {
         Some(n) => set_count(again, tx, n + 1),
-        None => {
-            again.insert(tx, 0)?;
-        }
+        None => put_count(again, tx)?,
     }
     Ok(())
 }
 
 /// Doesn't count the last attempt.
 pub(crate) fn uncount(again: &mut BTreeMap<Tx, u8>, tx: Tx)
-    requires { IsSome (get {R = tx_cmp} (from_entries again.old.entries) tx) }
     ensures { from_entries again.new.entries ≡ uncounted tx (from_entries again.old.entries) }
 {
-    match again.get(&tx).copied() {
-        Some(n) if n > 0 => set_count(again, tx, n - 1),
-        _ => {
-            again.remove(&tx);
-        }
+    match find_again(again, tx) {
+        Some(0) => remove_count(again, tx),
+        Some(n) => set_count(again, tx, n - 1),
+        None => {}
     }
+}
+
+fn put_count(again: &mut BTreeMap<Tx, u8>, tx: Tx) -> Result<(), Memory>
+    ensures put { OnOk result (from_entries {R = tx_cmp} again.new.entries ≡ insert (from_entries again.old.entries) tx 0) }
+    ensures memory { OnErr result (again.new.entries ≡ again.old.entries) }
+{
+    again.insert(tx, 0)?;
+    Ok(())
+}
+
+fn remove_count(again: &mut BTreeMap<Tx, u8>, tx: Tx)
+    ensures { from_entries {R = tx_cmp} again.new.entries ≡ remove (from_entries again.old.entries) tx }
+{
+    again.remove(&tx);
 }
 
 fn set_count(again: &mut BTreeMap<Tx, u8>, tx: Tx, n: u8)

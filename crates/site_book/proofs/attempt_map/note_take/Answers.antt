@@ -12,7 +12,7 @@ use Rattle.site_book.proofs.attempt_map.note_take.Goals as goal
 pub returns-in-Some : goal.returns-in-Some
 returns-in-Some c =
     ap (λ (es : List (Tid × Progress)). from_entries {R = tid_cmp} es) (c.get_mut.follows.holds c.note_take.new.self).0
-    ∙ entries_changed tids_total tids_exact c.args.attempts.now.entries c.args.tid (on_live (taken c.args.reply)) c.in-Some.progress'.now _
+    ∙ entries_changed tids_total tids_exact c.args.attempts.now.entries c.args.tid (on_live (taken c.args.reply)) c.in-Some.progress.now _
     (sym c.get_mut.ensures.value ∙ ap option_copied_mut c.in-Some.is) c.note_take.ensures
 
 pub returns-in_default : goal.returns-in_default
