@@ -1,2 +1,4 @@
-pub mod Noted
 pub mod Book
+pub mod Follows
+pub mod Laws
+pub mod Noted

@@ -5,10 +5,12 @@
 
 mod attempt_map;
 mod book;
+mod laws;
 mod live_run;
 mod local_map;
 mod progress;
 
 pub use book::SiteBook;
+pub use laws::{the_book_follows_the_lines, the_book_says_what_the_lines_say};
 pub use live_run::LiveRun;
 pub use progress::{Progress, Standing};

@@ -1,0 +1,18 @@
+//! That a book follows the lines of an engine: laws on the definitions alone, each the contract of a function with an empty body.
+ghost use Rattle.site_book.specs.Laws.{AnswersWell, CallsWell, DecidesWell, NotesWell, StartsWell, UndoesWell};
+
+/// What is noted of a run are its finished operations, its kept reply and its reads by the rules. A book that follows the lines says
+/// which attempts are live.
+pub fn the_book_says_what_the_lines_say()
+    ensures notes { NotesWell }
+    ensures answers { AnswersWell }
+{}
+
+/// The book of an epoch that starts follows no lines. A book that follows some lines follows them with one more, once the call of that
+/// line has left it so; also a decision on an attempt without a run leaves it following. What is taken back was never there.
+pub fn the_book_follows_the_lines()
+    ensures starts { StartsWell }
+    ensures calls { CallsWell }
+    ensures decides { DecidesWell }
+    ensures undoes { UndoesWell }
+{}
