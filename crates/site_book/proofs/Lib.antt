@@ -1,3 +1,5 @@
+pub mod Followed
 pub mod Keys
 pub mod Maps
+pub mod Starts
 pub mod Undone

@@ -33,13 +33,13 @@ ClosesBy line old new = (u : Tid) → new u ≡ (ends u line || old u)
 
 -- how a call leaves the book, by its line
 abbrev pub IsCalled : Book → EngineLine → Book → Type 0
-IsCalled old (Begins tid n) new = (progress_of old tid ≡ None) × (new.attempts ≡ (begins_global tid old).attempts)
+IsCalled old (Begins tid n) new = new.attempts ≡ (begins_global tid old).attempts
 IsCalled old (Acts tid act reply) new = IsSome (live_in old tid) × (new ≡ notes_reply tid act reply old)
 IsCalled old (Takes tid reply) new = IsSome (live_in old tid) × (new ≡ notes_take tid reply old)
 IsCalled old (Seals tid n) new = IsSome (live_in old tid) × (new ≡ seals tid old)
-IsCalled old (Refuses tid why) new = new ≡ closes tid old
+IsCalled old (Refuses tid why) new = new.attempts ≡ (closes tid old).attempts
 IsCalled old (Commits tid) new = new.attempts ≡ (closes tid old).attempts
-IsCalled old (Aborts tid) new = new ≡ closes tid old
+IsCalled old (Aborts tid) new = new.attempts ≡ (closes tid old).attempts
 
 -- a line behind which the book is left so
 abbrev pub CallsWell : Type 0
@@ -47,11 +47,18 @@ CallsWell =
     (old new : Book) (start : Start) (older : List EngineLine) (line : EngineLine) (before behind : Tid → Bool) → Follows old start older before
     → ClosesBy line before behind → IsCalled old line new → Follows new start (line ∷ older) behind
 
+-- the commit of a local attempt seals it and commits it
+abbrev pub CommitsWell : Type 0
+CommitsWell =
+    (old new : Book) (start : Start) (older : List EngineLine) (tid : Tid) (n : ℕ) (before behind : Tid → Bool) → Follows old start older before
+    → IsSome (live_in old tid) → ClosesBy (Commits tid) before behind → new.attempts ≡ (commits_local tid old).attempts
+    → Follows new start (Commits tid ∷ Seals tid n ∷ older) behind
+
 -- a decision on an attempt that has no unended run closes it, with no line
 abbrev pub DecidesWell : Type 0
 DecidesWell =
     (old new : Book) (start : Start) (lines : List EngineLine) (tid : Tid) (before behind : Tid → Bool) → Follows old start lines before
-    → run_at start lines tid ≡ None → ((u : Tid) → behind u ≡ (ends u (Aborts tid) || before u)) → new.attempts ≡ (enters tid Is.Closed old).attempts
+    → run_at start lines tid ≡ None → ClosesBy (Aborts tid) before behind → new.attempts ≡ (enters tid Is.Closed old).attempts
     → Follows new start lines behind
 
 -- a begin that is taken back leaves the book as it was, and so does an entry

@@ -1,5 +1,5 @@
 //! That a book follows the lines of an engine: laws on the definitions alone, each the contract of a function with an empty body.
-ghost use Rattle.site_book.specs.Laws.{AnswersWell, CallsWell, DecidesWell, NotesWell, StartsWell, UndoesWell};
+ghost use Rattle.site_book.specs.Laws.{AnswersWell, CallsWell, CommitsWell, DecidesWell, NotesWell, StartsWell, UndoesWell};
 
 /// What is noted of a run are its finished operations, its kept reply and its reads by the rules. A book that follows the lines says
 /// which attempts are live.
@@ -13,6 +13,7 @@ pub fn the_book_says_what_the_lines_say()
 pub fn the_book_follows_the_lines()
     ensures starts { StartsWell }
     ensures calls { CallsWell }
+    ensures commits { CommitsWell }
     ensures decides { DecidesWell }
     ensures undoes { UndoesWell }
 {}
