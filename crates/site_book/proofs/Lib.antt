@@ -1,5 +1,6 @@
 pub mod Followed
 pub mod Keys
 pub mod Maps
+pub mod Ordered
 pub mod Starts
 pub mod Undone

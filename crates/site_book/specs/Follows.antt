@@ -1,13 +1,12 @@
 -- When a book follows the engine lines of an epoch, and when its parts are in order.
-use Rattle.std.specs.Prelude.{ℕ, ◌≡◌, Bool, true, false, cond, IsSome, is_some, Option, Some, None, List}
-use Rattle.std.specs.FinMap.{get}
+use Rattle.std.specs.Prelude.{◌≡◌, Bool, true, cond, is_some, Option, Some, None, List}
 use Rattle.mdb_base.specs.declared.names.Tid.{Tid}
 use Rattle.mdb_base.specs.declared.names.Tx.{Tx}
 use Rattle.fed_rules.specs.Runs.{Start, EngineLine, Run, run_at, is_sealed}
 use Rattle.site_book.specs.declared.progress.Progress.{Progress}
 use Rattle.site_book.specs.declared.progress.Progress.TheVariants as Is
 use Rattle.site_book.specs.Noted.{noted_of}
-use Rattle.site_book.specs.Book.{Book, progress_of, live_in, running_in, begun_in}
+use Rattle.site_book.specs.Book.{Book, progress_of, live_in, running_in, runs, standing_of}
 
 -- how far an attempt with this unended run is; one with none is closed, or has no entry
 abbrev pub progress_by : Option Run → Bool → Option Progress
@@ -18,8 +17,7 @@ progress_by (Some run) closed = Some (cond (is_sealed run) Is.Sealed (Is.Live (n
 pub record Follows (book : Book) (start : Start) (lines : List EngineLine) (closed : Tid → Bool) : Type 0 where
   pub attempts : (u : Tid) → progress_of book u ≡ progress_by (run_at start lines u) (closed u)
 
--- a running attempt is live and its transaction's own, and a live attempt of a transaction that was begun as a local one is running
-pub record IsInOrder (book : Book) : Type 0 where
+-- a running attempt is its transaction's own, and of the transactions that are local here the live attempts are those that are running
+pub record IsInOrder (local : Tx → Bool) (book : Book) : Type 0 where
   pub own : (tx : Tx) (tid : Tid) → running_in book tx ≡ Some tid → tid.tx ≡ tx
-  pub live : (tx : Tx) (tid : Tid) → running_in book tx ≡ Some tid → IsSome (live_in book tid)
-  pub running : (u : Tid) → IsSome (live_in book u) → IsSome (get book.again u.tx) → running_in book u.tx ≡ Some u
+  pub live : (u : Tid) → local u.tx ≡ true → is_some (live_in book u) ≡ runs u (standing_of book u.tx)

@@ -1,21 +1,17 @@
 -- The book of each call follows the lines with that call's line.
 use Rattle.std.specs.Prelude.{ℕ, ◌≡◌, ◌||◌, Bool, false, IsSome, Option, Some, None, List, [], ◌∷◌, map}
 use Rattle.mdb_base.specs.declared.names.Tid.{Tid}
-use Rattle.mdb_base.specs.declared.names.Tx.{Tx}
-use Rattle.mdb_base.specs.declared.acts.PlainAct.{PlainAct}
-use Rattle.mdb_base.specs.declared.replies.Reply.{Reply}
-use Rattle.mdb_base.specs.declared.replies.Why.{Why}
 use Rattle.fed_rules.specs.declared.runs.Kept.{Kept}
-use Rattle.fed_rules.specs.Runs.{Start, EngineLine, Begins, Acts, Takes, Seals, Refuses, Commits, Aborts, Run, run_at, is_sealed}
+use Rattle.fed_rules.specs.Runs.{Start, EngineLine, Begins, Acts, Takes, Seals, Refuses, Commits, Aborts, Run, run_at}
 use Rattle.fed_rules.specs.Site.{done, kept_reply}
 use Rattle.fed_rules.specs.SitePast.{ends, live_one}
 use Rattle.fed_rules.specs.SiteCommands.{run_reads}
 use Rattle.mdb_base.specs.Words.{map_some}
-use Rattle.site_book.specs.Noted.{Noted, noted_of, done_in, reply_in}
+use Rattle.site_book.specs.Noted.{noted_of, done_in, reply_in}
 use Rattle.site_book.specs.declared.progress.Progress.{Progress}
 use Rattle.site_book.specs.declared.progress.Progress.TheVariants as Is
-use Rattle.site_book.specs.Book.{Book, progress_of, standing_of, live_in, is_sealed_in, is_closed_in, running_in, committed_in, begun_in, begins_global, begins_local, unbegins_local, forgets, enters, closes, commits_local, notes_reply, notes_take, seals, stopped, restarted}
-use Rattle.site_book.specs.Follows.{Follows, IsInOrder}
+use Rattle.site_book.specs.Book.{Book, progress_of, standing_of, live_in, begins_global, begins_local, unbegins_local, forgets, enters, closes, commits_local, notes_reply, notes_take, seals, restarted}
+use Rattle.site_book.specs.Follows.{Follows}
 
 -- what is noted of a run says how many of its operations are finished, the reply to the last one, and what it read
 abbrev pub NotesWell : Type 0

@@ -1,4 +1,5 @@
 //! That a book follows the lines of an engine: laws on the definitions alone, each the contract of a function with an empty body.
+ghost use Rattle.site_book.specs.Calls.{CountsWell, RemembersWell};
 ghost use Rattle.site_book.specs.Laws.{AnswersWell, CallsWell, CommitsWell, DecidesWell, NotesWell, StartsWell, UndoesWell};
 
 /// What is noted of a run are its finished operations, its kept reply and its reads by the rules. A book that follows the lines says
@@ -16,4 +17,10 @@ pub fn the_book_follows_the_lines()
     ensures commits { CommitsWell }
     ensures decides { DecidesWell }
     ensures undoes { UndoesWell }
+{}
+
+/// Each call counts the begins of local attempts and remembers the commits, as the rules look them up.
+pub fn the_book_knows_the_local_transactions()
+    ensures counts { CountsWell }
+    ensures remembers { RemembersWell }
 {}

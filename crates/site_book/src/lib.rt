@@ -11,6 +11,9 @@ mod local_map;
 mod progress;
 
 pub use book::SiteBook;
-pub use laws::{the_book_follows_the_lines, the_book_says_what_the_lines_say};
+pub use laws::{
+    the_book_follows_the_lines, the_book_knows_the_local_transactions,
+    the_book_says_what_the_lines_say,
+};
 pub use live_run::LiveRun;
 pub use progress::{Progress, Standing};
