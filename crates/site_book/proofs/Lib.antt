@@ -1,4 +1,5 @@
 pub mod Followed
+pub mod InOrder
 pub mod Keys
 pub mod Maps
 pub mod Ordered

@@ -28,7 +28,7 @@ pub same_tx-refl : (a : Tx) → same_tx a a ≡ true
 same_tx-refl a = eq-eqb a.0 a.0 refl
 
 -- what stands at a transaction after something is put in or taken out
-get-put_tx : {X : Type 0} (m : FinMap tx_cmp X) (t u : Tx) (x : X) → get (insert m t x) u ≡ cond (same_tx t u) (Some x) (get m u)
+pub get-put_tx : {X : Type 0} (m : FinMap tx_cmp X) (t u : Tx) (x : X) → get (insert m t x) u ≡ cond (same_tx t u) (Some x) (get m u)
 get-put_tx m t u x = get-put txs_total txs_exact m t u x ∙ ap (λ (b : Bool). cond b (Some x) (get m u)) (tx_ties t u)
 
 get-gone_tx : {X : Type 0} (m : FinMap tx_cmp X) (t u : Tx) → get (remove m t) u ≡ cond (same_tx t u) None (get m u)
@@ -38,7 +38,7 @@ get-gone_tx m t u = get-gone txs_total txs_exact m t u ∙ ap (λ (b : Bool). co
 apart : (t u : Tid) → same_tx t.tx u.tx ≡ false → same_tid t u ≡ false
 apart t u e = ap (λ (b : Bool). b && (t.attempt == u.attempt)) e
 
-of_other : (local : Tx → Bool) (t u : Tid) → local t.tx ≡ false → local u.tx ≡ true → same_tid t u ≡ false
+pub of_other : (local : Tx → Bool) (t u : Tid) → local t.tx ≡ false → local u.tx ≡ true → same_tid t u ≡ false
 of_other local t u foreign own = by_test (same_tid t u) refl
   where
     by_test : (b : Bool) → same_tid t u ≡ b → same_tid t u ≡ false
@@ -72,7 +72,7 @@ counts_well book Stop tx = refl
 counts_well book (Restart committed doubtful) tx = refl
 
 -- a transaction that doesn't run in the attempt any more
-standing-not_running : (locals : Standings) (t : Tid) (tx : Tx) → get (not_running t locals) tx ≡ cond (runs t (get locals t.tx) && same_tx t.tx tx) None (get locals tx)
+pub standing-not_running : (locals : Standings) (t : Tid) (tx : Tx) → get (not_running t locals) tx ≡ cond (runs t (get locals t.tx) && same_tx t.tx tx) None (get locals tx)
 standing-not_running locals t tx = by_test (runs t (get locals t.tx))
   where
     by_test : (b : Bool) → get (cond b (remove locals t.tx) locals) tx ≡ cond (b && same_tx t.tx tx) None (get locals tx)

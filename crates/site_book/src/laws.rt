@@ -1,5 +1,5 @@
 //! That a book follows the lines of an engine: laws on the definitions alone, each the contract of a function with an empty body.
-ghost use Rattle.site_book.specs.Calls.{CountsWell, RemembersWell};
+ghost use Rattle.site_book.specs.Calls.{CountsWell, NoneRunning, OrdersWell, RemembersWell, RunsWell};
 ghost use Rattle.site_book.specs.Laws.{AnswersWell, CallsWell, CommitsWell, DecidesWell, NotesWell, StartsWell, UndoesWell};
 
 /// What is noted of a run are its finished operations, its kept reply and its reads by the rules. A book that follows the lines says
@@ -19,8 +19,12 @@ pub fn the_book_follows_the_lines()
     ensures undoes { UndoesWell }
 {}
 
-/// Each call counts the begins of local attempts and remembers the commits, as the rules look them up.
+/// Each call counts the begins of local attempts and remembers the commits. Where it may come, it keeps the running attempts of the
+/// local transactions those that are live, which are the ones that the rules look up.
 pub fn the_book_knows_the_local_transactions()
     ensures counts { CountsWell }
     ensures remembers { RemembersWell }
+    ensures orders { OrdersWell }
+    ensures none_running { NoneRunning }
+    ensures runs { RunsWell }
 {}
