@@ -1,5 +1,5 @@
 -- The book of each call follows the lines with that call's line.
-use Rattle.std.proofs.Common.{◌≡◌, ℕ, zero, suc, ◌+◌, Bool, true, false, ◌||◌, ◌&&◌, cond, is_some, IsSome, Option, Some, None, List, [], ◌∷◌, length, refl, sym, ap, ◌∙◌, subst, arith}
+use Rattle.std.proofs.Common.{◌≡◌, ℕ, zero, suc, ◌+◌, Bool, true, false, ◌||◌, ◌&&◌, cond, not, is_some, IsSome, Option, Some, None, List, [], ◌∷◌, length, refl, sym, ap, ◌∙◌, subst, arith}
 use Rattle.std.specs.FinMap.{FinMap, empty, get, insert, get-empty}
 use Rattle.std.proofs.lemmas.Bool.{cond-true, cond-false}
 use Rattle.mdb_base.specs.declared.acts.PlainAct.{PlainAct}
@@ -9,16 +9,16 @@ use Rattle.mdb_base.specs.declared.names.Tid.{Tid}
 use Rattle.mdb_base.specs.declared.replies.Reply.{Reply}
 use Rattle.mdb_base.specs.declared.replies.Reply.TheVariants as Reply_is
 use Rattle.mdb_base.specs.Names.{same_tid}
-use Rattle.mdb_base.specs.Words.{map_some, or_else}
+use Rattle.mdb_base.specs.Words.{holds_of, map_some, or_else}
 use Rattle.mdb_base.proofs.NameLaws.{same_tid-refl, same_tid-equal}
 use Rattle.fed_rules.specs.Runs.{Start, EngineLine, Begins, Acts, Takes, Seals, Refuses, Commits, Aborts, Access, Got, Wrote, Run, run_at, changed, acted, took, tid_of, gives_up, is_sealed, begun}
-use Rattle.fed_rules.specs.SitePast.{ends}
+use Rattle.fed_rules.specs.SitePast.{ends, live_one}
 use Rattle.site_book.specs.declared.progress.Progress.{Progress}
 use Rattle.site_book.specs.declared.progress.Progress.TheVariants as Is
 use Rattle.site_book.specs.Noted.{Noted, noted_of, fresh, with_read, with_write, with_ticket}
-use Rattle.site_book.specs.Book.{Book, Attempts, progress_of, live_part, live_in, changed_in, on_live, replied, taken, enters, closes, notes_reply, notes_take, tid_cmp}
+use Rattle.site_book.specs.Book.{Book, Attempts, progress_of, live_part, live_in, sealed_part, closed_part, is_closed_in, changed_in, on_live, replied, taken, enters, closes, notes_reply, notes_take, tid_cmp}
 use Rattle.site_book.specs.Follows.{Follows, progress_by}
-use Rattle.site_book.specs.Laws.{ClosesBy, IsCalled, CallsWell, CommitsWell, DecidesWell}
+use Rattle.site_book.specs.Laws.{AnswersBy, AnswersWell, ClosesBy, IsCalled, CallsWell, CommitsWell, DecidesWell, StaysClosed}
 use Rattle.site_book.proofs.Keys.{tids_exact, tids_total, tid_ties}
 use Rattle.site_book.proofs.Maps.{get-put, put-put}
 
@@ -258,3 +258,65 @@ decides_well old new start lines tid before behind follows none closing made =
         ∙ ap (λ (o : Option Run). progress_by o true) (ap (λ (t : Tid). run_at start lines t) (sym same) ∙ none))
     by_test u false e =
         follows.attempts u ∙ sym (ap (λ (c : Bool). progress_by (run_at start lines u) c) (closing u ∙ ap (λ (b : Bool). b || before u) e))
+
+-- a decision on a closed attempt
+pub stays_closed : StaysClosed
+stays_closed book start lines tid before behind follows closed closing = record { attempts = λ u. follows.attempts u ∙ by_test u (same_tid tid u) refl }
+  where
+    by_run : (o : Option Run) (c : Bool) → closed_part (progress_by o c) ≡ true → progress_by o c ≡ progress_by o true
+    by_run None true e = refl
+    by_run None false e = cc
+    by_run (Some run) c e = refl
+
+    by_test : (u : Tid) (b : Bool) → same_tid tid u ≡ b → progress_by (run_at start lines u) (before u) ≡ progress_by (run_at start lines u) (behind u)
+    by_test u true e =
+        let here : closed_part (progress_by (run_at start lines u) (before u)) ≡ true =
+          sym (ap closed_part (follows.attempts u)) ∙ (ap (λ (x : Tid). is_closed_in book x) (sym (same_tid-equal tid u e)) ∙ closed) in
+        by_run (run_at start lines u) (before u) here
+        ∙ sym (ap (λ (c : Bool). progress_by (run_at start lines u) c) (closing u ∙ ap (λ (b : Bool). b || before u) e))
+    by_test u false e = sym (ap (λ (c : Bool). progress_by (run_at start lines u) c) (closing u ∙ ap (λ (b : Bool). b || before u) e))
+
+-- what the book answers
+answers_by : (book : Book) (u : Tid) (run : Option Run) (closed : Bool) → progress_of book u ≡ progress_by run closed → AnswersBy book u run closed
+answers_by book u run closed is =
+    record {
+      live = ap live_part is ∙ live run closed;
+      sealed = ap sealed_part is ∙ sealed run closed;
+      closed_is = ap closed_part is ∙ closed_is run closed;
+      entered = ap (λ (o : Option Progress). is_some o) is ∙ entered run closed;
+    }
+  where
+    live : (o : Option Run) (c : Bool) → live_part (progress_by o c) ≡ map_some noted_of (live_one o)
+    live None true = refl
+    live None false = refl
+    live (Some run) c = by_test (is_sealed run)
+      where
+        by_test : (b : Bool) → live_part (Some (cond b Is.Sealed (Is.Live (noted_of run)))) ≡ map_some noted_of (cond b None (Some run))
+        by_test true = refl
+        by_test false = refl
+
+    sealed : (o : Option Run) (c : Bool) → sealed_part (progress_by o c) ≡ holds_of is_sealed o
+    sealed None true = refl
+    sealed None false = refl
+    sealed (Some run) c = by_test (is_sealed run)
+      where
+        by_test : (b : Bool) → sealed_part (Some (cond b Is.Sealed (Is.Live (noted_of run)))) ≡ b
+        by_test true = refl
+        by_test false = refl
+
+    closed_is : (o : Option Run) (c : Bool) → closed_part (progress_by o c) ≡ (not (is_some o) && c)
+    closed_is None true = refl
+    closed_is None false = refl
+    closed_is (Some run) c = by_test (is_sealed run)
+      where
+        by_test : (b : Bool) → closed_part (Some (cond b Is.Sealed (Is.Live (noted_of run)))) ≡ false
+        by_test true = refl
+        by_test false = refl
+
+    entered : (o : Option Run) (c : Bool) → is_some (progress_by o c) ≡ (is_some o || c)
+    entered None true = refl
+    entered None false = refl
+    entered (Some run) c = refl
+
+pub answers_well : AnswersWell
+answers_well book start lines closed follows u = answers_by book u (run_at start lines u) (closed u) (follows.attempts u)

@@ -1,6 +1,6 @@
 //! That a book follows the lines of an engine: laws on the definitions alone, each the contract of a function with an empty body.
 ghost use Rattle.site_book.specs.Calls.{CountsWell, NoneRunning, OrdersWell, RemembersWell, RunsWell};
-ghost use Rattle.site_book.specs.Laws.{AnswersWell, CallsWell, CommitsWell, DecidesWell, NotesWell, StartsWell, UndoesWell};
+ghost use Rattle.site_book.specs.Laws.{AnswersWell, CallsWell, CommitsWell, DecidesWell, NotesWell, StartsWell, StaysClosed, UndoesWell};
 
 /// What is noted of a run are its finished operations, its kept reply and its reads by the rules. A book that follows the lines says
 /// which attempts are live.
@@ -16,6 +16,7 @@ pub fn the_book_follows_the_lines()
     ensures calls { CallsWell }
     ensures commits { CommitsWell }
     ensures decides { DecidesWell }
+    ensures stays { StaysClosed }
     ensures undoes { UndoesWell }
 {}
 

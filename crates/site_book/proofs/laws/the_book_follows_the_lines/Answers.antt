@@ -1,4 +1,4 @@
-use Rattle.site_book.proofs.Followed.{calls_well, commits_well, decides_well}
+use Rattle.site_book.proofs.Followed.{calls_well, commits_well, decides_well, stays_closed}
 use Rattle.site_book.proofs.Starts.{starts_well}
 use Rattle.site_book.proofs.Undone.{forgets-enters, unbegins-begins}
 use Rattle.site_book.proofs.laws.the_book_follows_the_lines.Goals as goal
@@ -14,6 +14,9 @@ returns-clause-commits c = commits_well
 
 pub returns-clause-decides : goal.returns-clause-decides
 returns-clause-decides c = decides_well
+
+pub returns-clause-stays : goal.returns-clause-stays
+returns-clause-stays c = stays_closed
 
 pub returns-clause-undoes : goal.returns-clause-undoes
 returns-clause-undoes c = λ book tid free. (λ progress. forgets-enters tid progress book free, unbegins-begins tid book free)
