@@ -97,11 +97,11 @@ keeps_committed : (b : Bool) (one two : Book) (tx : Tx) (o : Option Tid) → com
 keeps_committed true one two tx o e f = e
 keeps_committed false one two tx o e f = f
 
-committed-begins : (book : Book) (t : Tid) (tx : Tx) → standing_of book t.tx ≡ None → committed_in (book_after (Begin_local t) book) tx ≡ committed_in book tx
+committed-begins : (book : Book) (t : Tid) (tx : Tx) → committed_in book t.tx ≡ None → committed_in (book_after (Begin_local t) book) tx ≡ committed_in book tx
 committed-begins book t tx idle = ap committed_part (get-put_tx book.locals t.tx tx (Has.Running t)) ∙ by_test (same_tx t.tx tx) refl
   where
     by_test : (b : Bool) → same_tx t.tx tx ≡ b → committed_part (cond b (Some (Has.Running t)) (get book.locals tx)) ≡ committed_part (get book.locals tx)
-    by_test true e = sym (ap committed_part (ap (λ (x : Tx). get book.locals x) (sym (same_tx-equal t.tx tx e)) ∙ idle))
+    by_test true e = sym (ap (λ (x : Tx). committed_in book x) (sym (same_tx-equal t.tx tx e)) ∙ idle)
     by_test false e = refl
 
 committed-commits : (book : Book) (t : Tid) (tx : Tx) → committed_in (book_after (Commit_local t) book) tx ≡ cond (same_tx t.tx tx) (Some t) (committed_in book tx)

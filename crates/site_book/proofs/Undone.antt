@@ -7,9 +7,10 @@ use Rattle.mdb_base.specs.declared.names.Tid.{Tid}
 use Rattle.mdb_base.specs.declared.names.Tx.{Tx}
 use Rattle.site_book.specs.declared.progress.Progress.{Progress}
 use Rattle.site_book.specs.declared.progress.Progress.TheVariants as Is
+use Rattle.site_book.specs.declared.progress.Standing.{Standing}
 use Rattle.site_book.specs.declared.progress.Standing.TheVariants as Has
 use Rattle.site_book.specs.Noted.{fresh}
-use Rattle.site_book.specs.Book.{Book, Attempts, Standings, Counts, progress_of, standing_of, count_of, counted, uncounted, uncounted_from, enters, forgets, begins_local, unbegins_local, runs_local}
+use Rattle.site_book.specs.Book.{Book, Attempts, Standings, Counts, progress_of, standing_of, running_part, running_in, committed_part, committed_in, count_of, counted, uncounted, uncounted_from, enters, forgets, begins_local, unbegins_local, runs_local}
 use Rattle.site_book.proofs.Keys.{tids_exact, tids_total, txs_exact, txs_total}
 use Rattle.site_book.proofs.Maps.{get-put, gone-put, put-put, put-same}
 
@@ -36,7 +37,13 @@ uncounted-counted tx again = by_found (get again tx) refl
         ap (λ (o : Option ℕ). uncounted_from o tx (insert again tx (suc n))) (own (suc n))
         ∙ (put-put txs_total txs_exact again tx (suc n) n ∙ put-same txs_total txs_exact again tx n is)
 
-pub unbegins-begins : (tid : Tid) (book : Book) → progress_of book tid ≡ None → standing_of book tid.tx ≡ None → unbegins_local tid (begins_local tid book) ≡ book
-unbegins-begins tid book free idle =
+-- a transaction that neither runs nor is committed has no standing
+pub nothing_stands : (o : Option Standing) → running_part o ≡ None → committed_part o ≡ None → o ≡ None
+nothing_stands None e f = refl
+nothing_stands (Some (Has.Running t)) e f = cc
+nothing_stands (Some (Has.Committed t)) e f = cc
+
+pub unbegins-begins : (tid : Tid) (book : Book) → progress_of book tid ≡ None → running_in book tid.tx ≡ None → committed_in book tid.tx ≡ None → unbegins_local tid (begins_local tid book) ≡ book
+unbegins-begins tid book free idle uncommitted =
     same_book _ _ _ _ _ _ (gone-put tids_total tids_exact book.attempts tid (Is.Live fresh) free)
-    (gone-put txs_total txs_exact book.locals tid.tx (Has.Running tid) idle) (uncounted-counted tid.tx book.again)
+    (gone-put txs_total txs_exact book.locals tid.tx (Has.Running tid) (nothing_stands (standing_of book tid.tx) idle uncommitted)) (uncounted-counted tid.tx book.again)

@@ -9,7 +9,7 @@ use Rattle.mdb_base.specs.Words.{first_where, map_some}
 use Rattle.fed_rules.specs.EngineLines.{IsRight}
 use Rattle.fed_rules.specs.Runs.{Start, EngineLine, is_sealed, unended}
 use Rattle.site_book.specs.declared.progress.Progress.TheVariants as Is
-use Rattle.site_book.specs.Book.{Book, progress_of, standing_of, live_in, running_in, committed_in, begun_in, enters, begins_global, begins_local, notes_reply, notes_take, seals, closes, commits_local, stopped, restarted}
+use Rattle.site_book.specs.Book.{Book, progress_of, live_in, running_in, committed_in, begun_in, enters, begins_global, begins_local, notes_reply, notes_take, seals, closes, commits_local, stopped, restarted}
 use Rattle.site_book.specs.Follows.{Follows, IsInOrder}
 
 -- a call that changes a book
@@ -58,7 +58,7 @@ NoneLives book tx = (u : Tid) → same_tx tx u.tx ≡ true → live_in book u �
 -- where a call may come: a local attempt begins where none of its transaction is live or committed, and only those of global transactions are begun or sealed as such
 abbrev pub MayCome : (Tx → Bool) → Book → Call → Type 0
 MayCome local book (Begin_global tid) = local tid.tx ≡ false
-MayCome local book (Begin_local tid) = (standing_of book tid.tx ≡ None) × NoneLives book tid.tx
+MayCome local book (Begin_local tid) = (committed_in book tid.tx ≡ None) × NoneLives book tid.tx
 MayCome local book (Note_reply tid act reply) = Unit {0}
 MayCome local book (Note_take tid reply) = Unit {0}
 MayCome local book (Seal tid) = local tid.tx ≡ false

@@ -10,7 +10,7 @@ use Rattle.mdb_base.specs.Words.{holds_of, map_some}
 use Rattle.site_book.specs.Noted.{noted_of, done_in, reply_in}
 use Rattle.site_book.specs.declared.progress.Progress.{Progress}
 use Rattle.site_book.specs.declared.progress.Progress.TheVariants as Is
-use Rattle.site_book.specs.Book.{Book, progress_of, standing_of, live_in, is_sealed_in, is_closed_in, begins_global, begins_local, unbegins_local, forgets, enters, closes, commits_local, notes_reply, notes_take, seals, restarted}
+use Rattle.site_book.specs.Book.{Book, progress_of, live_in, is_sealed_in, is_closed_in, running_in, committed_in, begins_global, begins_local, unbegins_local, forgets, enters, closes, commits_local, notes_reply, notes_take, seals, restarted}
 use Rattle.site_book.specs.Follows.{Follows}
 
 -- what is noted of a run says how many of its operations are finished, the reply to the last one, and what it read
@@ -74,7 +74,7 @@ StaysClosed =
 abbrev pub UndoesWell : Type 0
 UndoesWell =
     (book : Book) (tid : Tid) → progress_of book tid ≡ None
-    → ((progress : Progress) → forgets tid (enters tid progress book) ≡ book) × (standing_of book tid.tx ≡ None → unbegins_local tid (begins_local tid book) ≡ book)
+    → ((progress : Progress) → forgets tid (enters tid progress book) ≡ book) × (running_in book tid.tx ≡ None → committed_in book tid.tx ≡ None → unbegins_local tid (begins_local tid book) ≡ book)
 
 -- an epoch starts with those that are in doubt, each attempt once
 abbrev pub StartsWell : Type 0

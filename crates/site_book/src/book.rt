@@ -1,8 +1,9 @@
 //! The book of a site's transactions.
-ghost use Rattle.std.specs.Prelude.{◌≡◌, ◌<◌, None, Some, IfSome, IsSome, OnOk, OnErr, is_some};
+ghost use Rattle.std.specs.Prelude.{◌≡◌, ◌<◌, None, Some, IfSome, IsSome, IsTrue, OnOk, OnErr, is_some, nat_lt};
 ghost use Rattle.std.specs.Option.{option_copied};
+ghost use Rattle.mdb_base.specs.Words.{holds_of};
 ghost use Rattle.site_book.specs.declared.progress.Progress.TheVariants as Is;
-ghost use Rattle.site_book.specs.Book.{begins_global, begins_local, begun_in, blank, closes, commits_local, committed_in, enters, forgets, is_closed_in, is_sealed_in, live_in, notes_reply, notes_take, progress_of, restarted, running_in, runs_local, seals, standing_of, stopped, unbegins_local};
+ghost use Rattle.site_book.specs.Book.{begins_global, begins_local, begun_in, blank, closes, commits_local, committed_in, enters, forgets, is_closed_in, is_sealed_in, live_in, notes_reply, notes_take, progress_of, restarted, running_in, runs_local, seals, stopped, unbegins_local};
 
 use crate::attempt_map;
 use crate::live_run::LiveRun;
@@ -66,6 +67,18 @@ impl SiteBook {
         ensures { result ≡ is_some (progress_of self.now tid) }
     {
         attempt_map::find(&self.attempts, tid).is_some()
+    }
+
+    /// Whether the attempt is live with fewer than 32 granted accesses, so that the reply to a further one can be noted.
+    pub fn takes_access(&self, tid: Tid) -> bool
+        ensures live { IsTrue result → IsSome (live_in self.now tid) }
+        ensures few { IsTrue result → IfSome (live_in self.now tid) (λ noted. noted.accesses < 32) }
+        ensures full { result ≡ holds_of (λ noted. nat_lt noted.accesses 32) (live_in self.now tid) }
+    {
+        match self.live(tid) {
+            Some(run) => run.accesses() < 32,
+            None => false,
+        }
     }
 
     /// Whether the attempt is sealed.
@@ -145,7 +158,8 @@ impl SiteBook {
     /// them.
     pub fn begin_local(&mut self, alloc: Global, tid: Tid) -> Result<(), Memory>
         requires free { progress_of self.old tid ≡ None }
-        requires idle { standing_of self.old tid.tx ≡ None }
+        requires idle { running_in self.old tid.tx ≡ None }
+        requires uncommitted { committed_in self.old tid.tx ≡ None }
         requires few { begun_in self.old tid.tx < 32 }
         ensures begun { OnOk result (self.new ≡ begins_local tid self.old) }
         ensures memory { OnErr result (self.new ≡ self.old) }
@@ -160,7 +174,8 @@ impl SiteBook {
 
     /// The local transaction of the attempt runs in it, and the attempt is counted.
     fn run_local(&mut self, tid: Tid) -> Result<(), Memory>
-        requires idle { standing_of self.old tid.tx ≡ None }
+        requires idle { running_in self.old tid.tx ≡ None }
+        requires uncommitted { committed_in self.old tid.tx ≡ None }
         requires few { begun_in self.old tid.tx < 32 }
         ensures running { OnOk result (self.new ≡ runs_local tid self.old) }
         ensures memory { OnErr result (self.new ≡ self.old) }
@@ -263,6 +278,106 @@ impl SiteBook {
         let locals = local_map::committed(alloc, committed)?;
         self.attempts = attempts;
         self.locals = locals;
+        Ok(())
+    }
+}
+
+#[cfg(test)]
+mod tests {
+    use super::SiteBook;
+    use mdb_base::{Key, Memory, PlainAct, Reply, Tid, Tx, Why};
+    use std::alloc::Global;
+    use std::test::Fail;
+
+    const FIRST: Tid = Tid {
+        tx: Tx(1),
+        attempt: 0,
+    };
+
+    const SECOND: Tid = Tid {
+        tx: Tx(1),
+        attempt: 1,
+    };
+
+    const OTHER: Tid = Tid {
+        tx: Tx(9),
+        attempt: 0,
+    };
+
+    /// Begins an attempt of a local transaction, and says whether it may begin.
+    fn begins(book: &mut SiteBook, alloc: Global, tid: Tid) -> Result<bool, Memory> {
+        let is_free = !book.has_entry(tid) && book.running(tid.tx).is_none();
+        if is_free && book.committed(tid.tx).is_none() && book.begun(tid.tx) < 32 {
+            book.begin_local(alloc, tid)?;
+            return Ok(true);
+        }
+        Ok(false)
+    }
+
+    /// Notes the reply to an access, and says whether the attempt may have one.
+    fn notes(book: &mut SiteBook, tid: Tid, act: PlainAct, reply: Reply) -> bool {
+        if book.takes_access(tid) {
+            book.note_reply(tid, act, reply);
+            return true;
+        }
+        false
+    }
+
+    #[test]
+    fn an_attempt_dies_and_the_next_one_begins(rt: HostRuntime) -> Result<(), Fail> {
+        let mut book = SiteBook::new(rt.alloc());
+        let (read, write) = (PlainAct::Read(Key(5)), PlainAct::Write(Key(6), 8));
+        assert!(rt; begins(&mut book, rt.alloc(), FIRST)?);
+        assert_eq!(rt; book.running(FIRST.tx), Some(FIRST));
+        assert!(rt; notes(&mut book, FIRST, read, Reply::Value(7)));
+        assert!(rt; notes(&mut book, FIRST, write, Reply::Wait { by: OTHER }));
+        assert!(rt; notes(&mut book, FIRST, write, Reply::Done));
+        assert!(rt; notes(&mut book, FIRST, read, Reply::Value(3)));
+        let run = book.live(FIRST).expect(&rt, "it is live");
+        assert_eq!(rt; run.done(), 3);
+        assert_eq!(rt; run.reply(), Reply::Value(3));
+        assert_eq!(rt; run.reads(), [7, 3].as_slice());
+        let dies = Reply::Refused(Why::Die { by: OTHER });
+        assert!(rt; notes(&mut book, FIRST, read, dies));
+        assert!(rt; book.is_closed(FIRST));
+        assert_eq!(rt; book.running(FIRST.tx), None);
+        assert!(rt; begins(&mut book, rt.alloc(), SECOND)?);
+        assert_eq!(rt; book.begun(FIRST.tx), 2);
+        book.unbegin_local(SECOND);
+        assert_eq!(rt; book.begun(FIRST.tx), 1);
+        Ok(())
+    }
+
+    #[test]
+    fn a_restart_says_who_committed_and_who_is_in_doubt(rt: HostRuntime) -> Result<(), Fail> {
+        let mut book = SiteBook::new(rt.alloc());
+        assert!(rt; begins(&mut book, rt.alloc(), FIRST)?);
+        book.stop(rt.alloc());
+        assert_eq!(rt; book.running(FIRST.tx), None);
+        assert_eq!(rt; book.begun(FIRST.tx), 1);
+        book.restart(rt.alloc(), &[FIRST, SECOND], &[OTHER])?;
+        assert_eq!(rt; book.committed(FIRST.tx), Some(SECOND));
+        assert!(rt; book.is_sealed(OTHER));
+        Ok(())
+    }
+
+    #[test]
+    fn a_subtransaction_takes_its_ticket_and_is_sealed(rt: HostRuntime) -> Result<(), Fail> {
+        let mut book = SiteBook::new(rt.alloc());
+        assert!(rt; !book.has_entry(OTHER));
+        book.begin_global(rt.alloc(), OTHER)?;
+        assert!(rt; book.live(OTHER).is_some());
+        book.note_take(OTHER, Reply::Ticket(4));
+        let run = book.live(OTHER).expect(&rt, "it is live");
+        assert_eq!(rt; run.done(), 1);
+        assert_eq!(rt; run.reply(), Reply::Ticket(4));
+        assert!(rt; book.has_entry(OTHER));
+        book.seal(OTHER);
+        assert!(rt; book.is_sealed(OTHER));
+        book.forget(OTHER);
+        assert!(rt; !book.has_entry(OTHER));
+        book.close_unheld(OTHER)?;
+        assert!(rt; book.is_closed(OTHER));
         Ok(())
     }
 }

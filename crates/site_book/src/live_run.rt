@@ -48,6 +48,13 @@ impl LiveRun {
         u32::from(self.accesses) + if self.has_ticket() { 1 } else { 0 }
     }
 
+    /// How many accesses of it are granted.
+    pub fn accesses(&self) -> u8
+        ensures { result ≡ self.now.accesses }
+    {
+        self.accesses
+    }
+
     /// Whether it has taken its ticket.
     pub fn has_ticket(&self) -> bool
         ensures { result ≡ is_some self.now.ticket }
