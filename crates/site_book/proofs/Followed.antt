@@ -1,7 +1,6 @@
 -- The book of each call follows the lines with that call's line.
-use Rattle.std.proofs.Common.{◌≡◌, ℕ, zero, suc, ◌+◌, Bool, true, false, ◌||◌, ◌&&◌, cond, not, is_some, IsSome, Option, Some, None, List, [], ◌∷◌, length, refl, sym, ap, ◌∙◌, subst, arith}
-use Rattle.std.specs.FinMap.{FinMap, empty, get, insert, get-empty}
-use Rattle.std.proofs.lemmas.Bool.{cond-true, cond-false}
+use Rattle.std.proofs.Common.{◌≡◌, ℕ, suc, ◌+◌, Bool, true, false, ◌||◌, ◌&&◌, cond, not, is_some, IsSome, Option, Some, None, List, ◌∷◌, length, refl, sym, ap, ◌∙◌, subst, arith}
+use Rattle.std.specs.FinMap.{get, insert}
 use Rattle.mdb_base.specs.declared.acts.PlainAct.{PlainAct}
 use Rattle.mdb_base.specs.declared.acts.PlainAct.TheVariants.{Read, Write}
 use Rattle.mdb_base.specs.declared.names.Key.{Key}
@@ -10,15 +9,15 @@ use Rattle.mdb_base.specs.declared.replies.Reply.{Reply}
 use Rattle.mdb_base.specs.declared.replies.Reply.TheVariants as Reply_is
 use Rattle.mdb_base.specs.Names.{same_tid}
 use Rattle.mdb_base.specs.Words.{holds_of, map_some, or_else}
-use Rattle.mdb_base.proofs.NameLaws.{same_tid-refl, same_tid-equal}
-use Rattle.fed_rules.specs.Runs.{Start, EngineLine, Begins, Acts, Takes, Seals, Refuses, Commits, Aborts, Access, Got, Wrote, Run, run_at, changed, acted, took, tid_of, gives_up, is_sealed, begun}
+use Rattle.mdb_base.proofs.NameLaws.{same_tid-equal}
+use Rattle.fed_rules.specs.Runs.{Start, EngineLine, Begins, Acts, Takes, Seals, Refuses, Commits, Aborts, Got, Wrote, Run, run_at, changed, acted, took, tid_of, gives_up, is_sealed}
 use Rattle.fed_rules.specs.SitePast.{ends, live_one}
 use Rattle.site_book.specs.declared.progress.Progress.{Progress}
 use Rattle.site_book.specs.declared.progress.Progress.TheVariants as Is
-use Rattle.site_book.specs.Noted.{Noted, noted_of, fresh, with_read, with_write, with_ticket}
-use Rattle.site_book.specs.Book.{Book, Attempts, progress_of, live_part, live_in, sealed_part, closed_part, is_closed_in, changed_in, on_live, replied, taken, enters, closes, notes_reply, notes_take, tid_cmp}
+use Rattle.site_book.specs.Noted.{Noted, noted_of, fresh, with_read, with_write}
+use Rattle.site_book.specs.Book.{Book, Attempts, progress_of, live_part, live_in, sealed_part, closed_part, is_closed_in, changed_in, on_live, replied, taken, enters, notes_reply, notes_take}
 use Rattle.site_book.specs.Follows.{Follows, progress_by}
-use Rattle.site_book.specs.Laws.{AnswersBy, AnswersWell, ClosesBy, IsCalled, CallsWell, CommitsWell, DecidesWell, StaysClosed}
+use Rattle.site_book.specs.Laws.{AnswersBy, AnswersWell, ClosesBy, CallsWell, CommitsWell, DecidesWell, StaysClosed}
 use Rattle.site_book.proofs.Keys.{tids_exact, tids_total, tid_ties}
 use Rattle.site_book.proofs.Maps.{get-put, put-put}
 
@@ -271,7 +270,7 @@ stays_closed book start lines tid before behind follows closed closing = record 
     by_test : (u : Tid) (b : Bool) → same_tid tid u ≡ b → progress_by (run_at start lines u) (before u) ≡ progress_by (run_at start lines u) (behind u)
     by_test u true e =
         let here : closed_part (progress_by (run_at start lines u) (before u)) ≡ true =
-          sym (ap closed_part (follows.attempts u)) ∙ (ap (λ (x : Tid). is_closed_in book x) (sym (same_tid-equal tid u e)) ∙ closed) in
+        sym (ap closed_part (follows.attempts u)) ∙ (ap (λ (x : Tid). is_closed_in book x) (sym (same_tid-equal tid u e)) ∙ closed) in
         by_run (run_at start lines u) (before u) here
         ∙ sym (ap (λ (c : Bool). progress_by (run_at start lines u) c) (closing u ∙ ap (λ (b : Bool). b || before u) e))
     by_test u false e = sym (ap (λ (c : Bool). progress_by (run_at start lines u) c) (closing u ∙ ap (λ (b : Bool). b || before u) e))

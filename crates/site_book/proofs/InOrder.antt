@@ -1,13 +1,13 @@
 -- Each call that may come keeps the running attempts those that are live, and the rules find the same ones.
-use Rattle.std.proofs.Common.{◌≡◌, Bool, true, false, ◌||◌, ◌&&◌, cond, not, is_some, IsSome, Option, Some, None, List, [], ◌∷◌, refl, sym, ap, ◌∙◌, subst, inl, inr}
+use Rattle.std.proofs.Common.{◌≡◌, Bool, true, false, ◌||◌, ◌&&◌, cond, not, is_some, IsSome, Option, Some, None, List, [], ◌∷◌, refl, sym, ap, ◌∙◌, inl, inr}
 use Rattle.std.specs.FinMap.{empty, get, insert, get-empty}
-use Rattle.std.proofs.lemmas.Bool.{cond-true, cond-false, and_parts, and_from}
+use Rattle.std.proofs.lemmas.Bool.{cond-false, and_parts, and_from}
 use Rattle.mdb_base.specs.declared.names.Tid.{Tid}
 use Rattle.mdb_base.specs.declared.names.Tx.{Tx}
 use Rattle.mdb_base.specs.Names.{same_tid, same_tx}
 use Rattle.mdb_base.specs.Words.{Among, found, first_where, map_some, with_some}
 use Rattle.mdb_base.proofs.NameLaws.{same_tid-refl, same_tid-equal}
-use Rattle.fed_rules.specs.Runs.{Start, EngineLine, Run, attempts, is_sealed, run_at, unended}
+use Rattle.fed_rules.specs.Runs.{Run, attempts, is_sealed, run_at, unended}
 use Rattle.engine_laws.proofs.Runs.{attempts_have, tid_is}
 use Rattle.site_book.specs.declared.progress.Progress.{Progress}
 use Rattle.site_book.specs.declared.progress.Progress.TheVariants as Is
@@ -15,8 +15,8 @@ use Rattle.site_book.specs.declared.progress.Standing.{Standing}
 use Rattle.site_book.specs.declared.progress.Standing.TheVariants as Has
 use Rattle.site_book.specs.Noted.{Noted, fresh, noted_of}
 use Rattle.site_book.specs.Book.{Book, Attempts, Standings, progress_of, live_part, live_in, standing_of, running_part, running_in, on_live, replied, taken, refuses, runs, enters, closes, changes_live, begins_local, commits_local, stopped, restarted, with_doubtful, with_committed, tid_cmp, tx_cmp}
-use Rattle.site_book.specs.Follows.{Follows, IsInOrder, progress_by}
-use Rattle.site_book.specs.Calls.{Call, Begin_global, Begin_local, Note_reply, Note_take, Seal, Close, Close_unheld, Commit_local, Stop, Restart, NoneLives, OrdersWell, NoneRunning, RunsWell}
+use Rattle.site_book.specs.Follows.{IsInOrder, progress_by}
+use Rattle.site_book.specs.Calls.{Begin_global, Begin_local, Note_reply, Note_take, Seal, Close, Close_unheld, Commit_local, Stop, Restart, NoneLives, OrdersWell, NoneRunning, RunsWell}
 use Rattle.site_book.proofs.Followed.{get-put_tid, get-changed_tid, live_of, progress_live}
 use Rattle.site_book.proofs.Ordered.{same_tx-equal, same_tx-refl, get-put_tx, of_other, standing-not_running}
 
@@ -81,8 +81,8 @@ order_closes local book t order =
     record {
       own = λ tx tid is. kept tx tid (runs t (standing_of book t.tx) && same_tx t.tx tx) (sym (ap running_part (standing-not_running book.locals t tx)) ∙ is);
       live = λ u l. ap (λ (o : Option Noted). is_some o) (live-put book t u Is.Closed)
-        ∙ (by_tests u (order.live u l) (same_tid t u) (runs t (standing_of book t.tx)) (same_tx t.tx u.tx) refl refl refl
-        ∙ sym (ap (runs u) (standing-not_running book.locals t u.tx)));
+          ∙ (by_tests u (order.live u l) (same_tid t u) (runs t (standing_of book t.tx)) (same_tx t.tx u.tx) refl refl refl
+          ∙ sym (ap (runs u) (standing-not_running book.locals t u.tx)));
     }
   where
     kept : (tx : Tx) (tid : Tid) (b : Bool) → running_part (cond b None (standing_of book tx)) ≡ Some tid → tid.tx ≡ tx
@@ -104,7 +104,7 @@ order_commits local book t order running =
     record {
       own = λ tx tid is. kept tx tid (same_tx t.tx tx) (sym (ap running_part (get-put_tx book.locals t.tx tx (Has.Committed t))) ∙ is);
       live = λ u l. ap (λ (o : Option Noted). is_some o) (live-put book t u Is.Closed)
-        ∙ (by_tests u (order.live u l) (same_tid t u) (same_tx t.tx u.tx) refl refl ∙ sym (ap (runs u) (get-put_tx book.locals t.tx u.tx (Has.Committed t))));
+          ∙ (by_tests u (order.live u l) (same_tid t u) (same_tx t.tx u.tx) refl refl ∙ sym (ap (runs u) (get-put_tx book.locals t.tx u.tx (Has.Committed t))));
     }
   where
     kept : (tx : Tx) (tid : Tid) (b : Bool) → running_part (cond b (Some (Has.Committed t)) (standing_of book tx)) ≡ Some tid → tid.tx ≡ tx
@@ -124,7 +124,7 @@ order_begins local book t order none =
     record {
       own = λ tx tid is. kept tx tid (same_tx t.tx tx) refl (sym (ap running_part (get-put_tx book.locals t.tx tx (Has.Running t))) ∙ is);
       live = λ u l. ap (λ (o : Option Noted). is_some o) (live-put book t u (Is.Live fresh))
-        ∙ (by_tests u l (same_tid t u) (same_tx t.tx u.tx) refl refl ∙ sym (ap (runs u) (get-put_tx book.locals t.tx u.tx (Has.Running t))));
+          ∙ (by_tests u l (same_tid t u) (same_tx t.tx u.tx) refl refl ∙ sym (ap (runs u) (get-put_tx book.locals t.tx u.tx (Has.Running t))));
     }
   where
     kept : (tx : Tx) (tid : Tid) (b : Bool) → same_tx t.tx tx ≡ b → running_part (cond b (Some (Has.Running t)) (standing_of book tx)) ≡ Some tid → tid.tx ≡ tx
@@ -253,7 +253,7 @@ runs_well local book start lines closed order follows right tx own = sym (by_run
         let parts = and_parts (same_tx run.tid.tx tx) (not (is_sealed run)) passes in
         let at : x.tx ≡ tx = ap (λ (u : Tid). u.tx) (sym (tid_is start lines right x run is)) ∙ same_tx-equal run.tid.tx tx parts.0 in
         let progress : progress_of book x ≡ Some (Is.Live (noted_of run)) =
-          follows.attempts x ∙ (ap (λ (o : Option Run). progress_by o (closed x)) is ∙ progress_live run (closed x) (unsealed (is_sealed run) parts.1)) in
+        follows.attempts x ∙ (ap (λ (o : Option Run). progress_by o (closed x)) is ∙ progress_live run (closed x) (unsealed (is_sealed run) parts.1)) in
         let lives : is_some (live_in book x) ≡ true = ap (λ (o : Option Progress). is_some (live_part o)) progress in
         (at, ap (λ (y : Tx). runs x (standing_of book y)) (sym at) ∙ (sym (order.live x (ap local at ∙ own)) ∙ lives))
 
@@ -269,7 +269,7 @@ runs_well local book start lines closed order follows right tx own = sym (by_run
         let stands = running_is t (standing_of book tx) running in
         let at = order.own tx t running in
         let lives : is_some (live_in book t) ≡ true =
-          order.live t (ap local at ∙ own) ∙ (ap (λ (y : Tx). runs t (standing_of book y)) at ∙ (ap (runs t) stands ∙ same_tid-refl t)) in
+        order.live t (ap local at ∙ own) ∙ (ap (λ (y : Tx). runs t (standing_of book y)) at ∙ (ap (runs t) stands ∙ same_tid-refl t)) in
         let has = live_of book start lines closed t follows (something_is (live_in book t) lives) in
         let tid = tid_is start lines right t has.run has.is in
         first-one (run_at start lines) (λ (run : Run). same_tx run.tid.tx tx && not (is_sealed run)) t has.run (attempts start lines) has.is

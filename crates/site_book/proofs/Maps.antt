@@ -8,7 +8,7 @@ use Rattle.std.specs.Option.{option_copied_mut}
 use Rattle.std.specs.FinMap.{FinMap, from_entries, find, get, get-insert, get-remove, get-from_entries, insert, remove, same_map}
 use Rattle.std.specs.Map.{lookup, set_value}
 use Rattle.std.specs.BTreeMap.{is_at}
-use Rattle.std.proofs.lemmas.Bool.{cond-true, cond-false}
+use Rattle.std.proofs.lemmas.Bool.{cond-false}
 use Rattle.std.proofs.lemmas.Map.{lookup-set_value}
 use Rattle.std.proofs.lemmas.Map.Lookups.{CmpEqualImpliesEq}
 use Rattle.mdb_base.specs.Words.{map_some, or_else}

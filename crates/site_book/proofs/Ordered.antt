@@ -1,25 +1,16 @@
 -- Each call keeps the running attempts those that are live, counts the begins, and remembers the commits.
-use Rattle.std.proofs.Common.{◌≡◌, ℕ, suc, Bool, true, false, ◌||◌, ◌&&◌, ◌==◌, cond, not, is_some, Option, Some, None, List, [], ◌∷◌, refl, sym, ap, ap₂, ◌∙◌, subst, eqb-true, eq-eqb}
+use Rattle.std.proofs.Common.{◌≡◌, ℕ, suc, Bool, true, false, ◌&&◌, ◌==◌, cond, is_some, Option, Some, None, List, [], ◌∷◌, refl, sym, ap, ◌∙◌, subst, eqb-true, eq-eqb}
 use Rattle.std.specs.FinMap.{FinMap, empty, get, insert, remove, get-empty}
-use Rattle.std.proofs.lemmas.Bool.{cond-true, cond-false, and_parts, and_from}
-use Rattle.mdb_base.specs.declared.acts.PlainAct.{PlainAct}
 use Rattle.mdb_base.specs.declared.names.Tid.{Tid}
 use Rattle.mdb_base.specs.declared.names.Tx.{Tx}
-use Rattle.mdb_base.specs.declared.replies.Reply.{Reply}
 use Rattle.mdb_base.specs.Names.{same_tid, same_tx}
-use Rattle.mdb_base.specs.Words.{map_some}
-use Rattle.mdb_base.proofs.NameLaws.{same_tid-refl, same_tid-equal}
-use Rattle.site_book.specs.declared.progress.Progress.{Progress}
-use Rattle.site_book.specs.declared.progress.Progress.TheVariants as Is
+use Rattle.mdb_base.proofs.NameLaws.{same_tid-equal}
 use Rattle.site_book.specs.declared.progress.Standing.{Standing}
 use Rattle.site_book.specs.declared.progress.Standing.TheVariants as Has
-use Rattle.site_book.specs.Noted.{Noted, fresh}
-use Rattle.site_book.specs.Book.{Book, Attempts, Standings, Counts, progress_of, live_part, live_in, standing_of, running_part, running_in, committed_part, committed_in, begun_in, count_of, counted, changed_in, on_live, replied, taken, refuses, runs, not_running, enters, closes, changes_live, notes_reply, notes_take, with_doubtful, with_committed, tid_cmp, tx_cmp}
-use Rattle.site_book.specs.Follows.{IsInOrder}
-use Rattle.site_book.specs.Calls.{Call, Begin_global, Begin_local, Note_reply, Note_take, Seal, Close, Close_unheld, Commit_local, Stop, Restart, book_after, local_after, NoneLives, MayCome, OrdersWell, NoneRunning, CountsWell, RemembersWell, count_after, committed_after, last_of}
+use Rattle.site_book.specs.Book.{Book, Standings, Counts, committed_part, committed_in, count_of, counted, replied, taken, refuses, runs, not_running, closes, changes_live, with_committed, tx_cmp}
+use Rattle.site_book.specs.Calls.{Begin_global, Begin_local, Note_reply, Note_take, Seal, Close, Close_unheld, Commit_local, Stop, Restart, book_after, CountsWell, RemembersWell, last_of}
 use Rattle.site_book.proofs.Keys.{txs_exact, txs_total, tx_ties}
 use Rattle.site_book.proofs.Maps.{get-put, get-gone}
-use Rattle.site_book.proofs.Followed.{get-put_tid, get-changed_tid}
 
 pub same_tx-equal : (a b : Tx) → same_tx a b ≡ true → a ≡ b
 same_tx-equal a b e = ap {A = ℕ} (λ n. record { 0 = n }) (eqb-true a.0 b.0 e)

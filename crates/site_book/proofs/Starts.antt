@@ -1,12 +1,10 @@
 -- A book that starts follows no lines, and knows who committed.
 use Rattle.std.proofs.Common.{◌≡◌, Bool, true, false, cond, is_some, Option, Some, None, List, [], ◌∷◌, map, refl, sym, ap, ◌∙◌}
-use Rattle.std.specs.Ordering.{eq_by_cmp}
 use Rattle.std.specs.FinMap.{empty, get, insert, get-empty}
 use Rattle.mdb_base.specs.declared.names.Tid.{Tid}
 use Rattle.mdb_base.specs.Names.{same_tid}
 use Rattle.fed_rules.specs.declared.runs.Kept.{Kept}
 use Rattle.fed_rules.specs.Runs.{Run, restored, restored_at}
-use Rattle.site_book.specs.declared.progress.Progress.{Progress}
 use Rattle.site_book.specs.declared.progress.Progress.TheVariants as Is
 use Rattle.site_book.specs.Book.{Attempts, with_doubtful, tid_cmp}
 use Rattle.site_book.specs.Follows.{progress_by}
@@ -41,6 +39,6 @@ pub starts_well : StartsWell
 starts_well old new start committed doubtful made listed =
     record {
       attempts = λ u. ap (λ (m : Attempts). get m u) (ap (λ b. b.attempts) made ∙ ap (λ (ds : List Tid). with_doubtful ds empty) listed)
-      ∙ (doubtful-found start.doubtful empty u
-      ∙ (ap (cond (is_some (restored_at start.doubtful u)) (Some Is.Sealed)) (get-empty tid_cmp u) ∙ sym (restored_sealed start.doubtful u)));
+          ∙ (doubtful-found start.doubtful empty u
+          ∙ (ap (cond (is_some (restored_at start.doubtful u)) (Some Is.Sealed)) (get-empty tid_cmp u) ∙ sym (restored_sealed start.doubtful u)));
     }

@@ -1,6 +1,6 @@
 -- A begin that is taken back leaves the book as it was.
-use Rattle.std.proofs.Common.{◌≡◌, ℕ, zero, suc, ◌+◌, Option, Some, None, refl, sym, ap, ◌∙◌}
-use Rattle.std.specs.FinMap.{get, insert, remove}
+use Rattle.std.proofs.Common.{◌≡◌, ℕ, suc, Option, Some, None, refl, ap, ◌∙◌}
+use Rattle.std.specs.FinMap.{get, insert}
 use Rattle.std.proofs.lemmas.Bool.{cond-true}
 use Rattle.std.specs.Cmp.{eq_by_cmp_equiv}
 use Rattle.mdb_base.specs.declared.names.Tid.{Tid}
@@ -10,7 +10,7 @@ use Rattle.site_book.specs.declared.progress.Progress.TheVariants as Is
 use Rattle.site_book.specs.declared.progress.Standing.{Standing}
 use Rattle.site_book.specs.declared.progress.Standing.TheVariants as Has
 use Rattle.site_book.specs.Noted.{fresh}
-use Rattle.site_book.specs.Book.{Book, Attempts, Standings, Counts, progress_of, standing_of, running_part, running_in, committed_part, committed_in, count_of, counted, uncounted, uncounted_from, enters, forgets, begins_local, unbegins_local, runs_local}
+use Rattle.site_book.specs.Book.{Book, Attempts, Standings, Counts, progress_of, standing_of, running_part, running_in, committed_part, committed_in, count_of, counted, uncounted, uncounted_from, enters, forgets, begins_local, unbegins_local}
 use Rattle.site_book.proofs.Keys.{tids_exact, tids_total, txs_exact, txs_total}
 use Rattle.site_book.proofs.Maps.{get-put, gone-put, put-put, put-same}
 

@@ -5,10 +5,9 @@ ghost use Rattle.mdb_base.specs.Words.{holds_of};
 ghost use Rattle.site_book.specs.declared.progress.Progress.TheVariants as Is;
 ghost use Rattle.site_book.specs.Book.{begins_global, begins_local, begun_in, blank, closes, commits_local, committed_in, enters, forgets, is_closed_in, is_sealed_in, live_in, notes_reply, notes_take, progress_of, restarted, running_in, runs_local, seals, stopped, unbegins_local};
 
-use crate::attempt_map;
 use crate::live_run::LiveRun;
-use crate::local_map;
 use crate::progress::{Progress, Standing};
+use crate::{attempt_map, local_map};
 use mdb_base::{Memory, PlainAct, Reply, Tid, Tx};
 use std::alloc::Global;
 use std::collections::BTreeMap;
@@ -217,10 +216,9 @@ impl SiteBook {
         requires live { IsSome (live_in self.old tid) }
         ensures { self.new ≡ notes_take tid reply self.old }
     {
-        if let Reply::Refused(_) = reply {
-            self.close(tid);
-        } else {
-            attempt_map::note_take(&mut self.attempts, tid, reply);
+        match reply {
+            Reply::Refused(_) => self.close(tid),
+            _ => attempt_map::note_take(&mut self.attempts, tid, reply),
         }
     }
 
@@ -352,7 +350,13 @@ mod tests {
     fn a_restart_says_who_committed_and_who_is_in_doubt(rt: HostRuntime) -> Result<(), Fail> {
         let mut book = SiteBook::new(rt.alloc());
         assert!(rt; begins(&mut book, rt.alloc(), FIRST)?);
+        assert!(rt; book.has_entry(FIRST));
+        assert!(rt; book.running(FIRST.tx) == Some(FIRST));
+        book.commit_local(FIRST);
+        assert!(rt; book.is_closed(FIRST));
+        assert_eq!(rt; book.committed(FIRST.tx), Some(FIRST));
         book.stop(rt.alloc());
+        assert!(rt; !book.has_entry(FIRST));
         assert_eq!(rt; book.running(FIRST.tx), None);
         assert_eq!(rt; book.begun(FIRST.tx), 1);
         book.restart(rt.alloc(), &[FIRST, SECOND], &[OTHER])?;

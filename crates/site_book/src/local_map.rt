@@ -17,7 +17,11 @@ pub(crate) fn find(locals: &BTreeMap<Tx, Standing>, tx: Tx) -> Option<Standing>
 }
 
 /// Notes how the transaction stands.
-pub(crate) fn put(locals: &mut BTreeMap<Tx, Standing>, tx: Tx, standing: Standing) -> Result<(), Memory>
+pub(crate) fn put(
+    locals: &mut BTreeMap<Tx, Standing>,
+    tx: Tx,
+    standing: Standing,
+) -> Result<(), Memory>
     ensures put { OnOk result (from_entries {R = tx_cmp} locals.new.entries ≡ insert (from_entries locals.old.entries) tx standing) }
     ensures memory { OnErr result (locals.new.entries ≡ locals.old.entries) }
 {

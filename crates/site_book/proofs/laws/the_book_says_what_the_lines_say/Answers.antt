@@ -1,4 +1,3 @@
-use Rattle.std.proofs.Common.{rules}
 use Rattle.site_book.proofs.Followed.{answers_well}
 use Rattle.site_book.proofs.laws.the_book_says_what_the_lines_say.Goals as goal
 

@@ -2,7 +2,7 @@ use Rattle.std.proofs.Common.{rules, ap, ◌∙◌}
 use Rattle.site_book.specs.declared.progress.Progress.TheVariants as Is
 use Rattle.site_book.specs.Noted.{fresh}
 use Rattle.site_book.specs.Book.{Book, forgets}
-use Rattle.site_book.proofs.Undone.{forgets-enters, unbegins-begins}
+use Rattle.site_book.proofs.Undone.{forgets-enters}
 use Rattle.site_book.proofs.book.SiteBook.begin_local.Goals as goal
 
 pub returns-then-is_err-clause-memory : goal.returns-then-is_err-clause-memory
