@@ -3,14 +3,15 @@ ghost use Rattle.site_book.specs.Calls.{CountsWell, NoneRunning, OrdersWell, Rem
 ghost use Rattle.site_book.specs.Laws.{AnswersWell, CallsWell, CommitsWell, DecidesWell, NotesWell, StartsWell, StaysClosed, UndoesWell};
 
 /// What is noted of a run are its finished operations, its kept reply and its reads by the rules. A book that follows the lines says
-/// which attempts are live.
+/// of each attempt whether it is live, sealed or closed.
 pub fn the_book_says_what_the_lines_say()
     ensures notes { NotesWell }
     ensures answers { AnswersWell }
 {}
 
-/// The book of an epoch that starts follows no lines. A book that follows some lines follows them with one more, once the call of that
-/// line has left it so; also a decision on an attempt without a run leaves it following. What is taken back was never there.
+/// The book of an epoch that starts follows the empty list of lines. A book that follows some lines follows them with one more, once
+/// the call of that line has left it so; a local commit adds two, and a decision on an attempt without a run none. What is taken back
+/// leaves the book as it was.
 pub fn the_book_follows_the_lines()
     ensures starts { StartsWell }
     ensures calls { CallsWell }
