@@ -1,0 +1,7 @@
+pub mod Followed
+pub mod InOrder
+pub mod Keys
+pub mod Maps
+pub mod Ordered
+pub mod Starts
+pub mod Undone

@@ -1,0 +1,7 @@
+use Rattle.std.proofs.Common.{sym, ◌∙◌}
+use Rattle.site_book.proofs.Keys.{tids_exact, tids_total}
+use Rattle.site_book.proofs.Maps.{get_look}
+use Rattle.site_book.proofs.attempt_map.find.Goals as goal
+
+pub returns : goal.returns
+returns c = c.get.ensures.value ∙ sym (get_look tids_total tids_exact _ c.args.tid)

@@ -1,0 +1,21 @@
+use Rattle.std.proofs.Common.{List, sym, ap, ◌∙◌}
+use Rattle.std.specs.BTreeMap.{BTreeMap}
+use Rattle.std.specs.FinMap.{from_entries}
+use Rattle.std.specs.Option.{option_copied_mut}
+use Rattle.mdb_base.specs.declared.names.Tid.{Tid}
+use Rattle.site_book.specs.declared.progress.Progress.{Progress}
+use Rattle.site_book.specs.Book.{on_live, taken, tid_cmp}
+use Rattle.site_book.proofs.Keys.{tids_exact, tids_total}
+use Rattle.site_book.proofs.Maps.{entries_changed, entries_kept}
+use Rattle.site_book.proofs.attempt_map.note_take.Goals as goal
+
+pub returns-in-Some : goal.returns-in-Some
+returns-in-Some c =
+    ap (λ (es : List (Tid × Progress)). from_entries {R = tid_cmp} es) (c.get_mut.follows.holds c.note_take.new.self).0
+    ∙ entries_changed tids_total tids_exact c.args.attempts.now.entries c.args.tid (on_live (taken c.args.reply)) c.in-Some.progress.now _
+    (sym c.get_mut.ensures.value ∙ ap option_copied_mut c.in-Some.is) c.note_take.ensures
+
+pub returns-in_default : goal.returns-in_default
+returns-in_default c =
+    ap (λ (m : BTreeMap Tid Progress). from_entries {R = tid_cmp} m.entries) c.get_mut.follows.holds-at-none
+    ∙ entries_kept tids_total tids_exact c.args.attempts.now.entries c.args.tid (on_live (taken c.args.reply)) (sym c.get_mut.ensures.value ∙ ap option_copied_mut c.in_default.is)

@@ -1,0 +1,7 @@
+use Rattle.std.proofs.Common.{◌≡◌, drop}
+use Rattle.std.specs.FinMap.{empty, from_entries}
+use Rattle.site_book.specs.Book.{with_doubtful}
+use Rattle.site_book.proofs.attempt_map.sealed.Given as goal
+
+abbrev pub invariant-loop-tid : goal.invariant-loop-tid
+invariant-loop-tid l = with_doubtful (drop l.tid-index l.doubtful) (from_entries l.attempts.entries) ≡ with_doubtful l.doubtful empty

@@ -1,0 +1,5 @@
+pub mod Book
+pub mod Calls
+pub mod Follows
+pub mod Laws
+pub mod Noted
