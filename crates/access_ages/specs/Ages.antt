@@ -10,6 +10,8 @@ use Rattle.fed_rules.specs.declared.runs.Kept.{Kept}
 use Rattle.fed_rules.specs.EngineLines.{has_row}
 use Rattle.run_book.specs.Held.{tid_code}
 use Rattle.run_book.specs.declared.rival.Rival.{Rival}
+use Rattle.access_ages.specs.declared.key_ages.End.{End}
+use Rattle.access_ages.specs.declared.key_ages.End.TheVariants.{Commit, Abort}
 use Rattle.access_ages.specs.declared.key_ages.KeyAges.{KeyAges}
 
 -- the ages of each key that was accessed
@@ -56,6 +58,11 @@ settled ages = record { read = ages.read; last = younger_of ages.last ages.write
 -- the writer ends otherwise
 abbrev pub unwritten : KeyAges → KeyAges
 unwritten ages = record ages { writer = None }
+
+-- the writer ends so
+abbrev pub ended : End → KeyAges → KeyAges
+ended Commit ages = settled ages
+ended Abort ages = unwritten ages
 
 -- a transaction in doubt by its serial number
 abbrev pub rival_of : Kept → Rival

@@ -1,14 +1,14 @@
 //! Who accessed each key.
-ghost use Rattle.std.specs.Prelude.{◌≡◌, cond, reverse, OnOk, IfOk, IsSome};
+ghost use Rattle.std.specs.Prelude.{◌≡◌, ◌&&◌, cond, is_some, reverse, None, OnOk, IfOk, IsSome};
 ghost use Rattle.std.specs.FinMap.{empty, get};
 ghost use Rattle.mdb_base.specs.declared.names.Key.{Key};
 ghost use Rattle.mdb_base.specs.Names.{same_key};
 ghost use Rattle.mdb_base.specs.Words.{some_of};
 ghost use Rattle.fed_rules.specs.Replies.{has_written, writes};
 ghost use Rattle.fed_rules.specs.EngineLines.{has_row};
-ghost use Rattle.access_ages.specs.Ages.{ages_of, no_ages, with_reader, with_writer, settled, unwritten, restored_writer};
+ghost use Rattle.access_ages.specs.Ages.{ages_of, no_ages, with_reader, with_writer, settled, unwritten, ended, restored_writer};
 
-use crate::key_ages::KeyAges;
+use crate::key_ages::{End, KeyAges};
 use fed_rules::Kept;
 use mdb_base::{Key, Memory, Put};
 use run_book::{Granted, HeldRun, Rival};
@@ -92,13 +92,23 @@ impl AccessAges {
         Ok(())
     }
 
+    /// Sets the ages of a key, where there is room for them.
+    fn set(&mut self, key: Key, ages: KeyAges)
+        ensures { (q : Key) → ages_of self.new q ≡ cond (is_some (get self.old key.0) && same_key key q) ages (ages_of self.old q) }
+    {
+        let Some(place) = self.keys.get_mut(&key.0) else {
+            return;
+        };
+        *place = ages;
+    }
+
     /// Notes that a run was granted a read of the key, for which there is room.
     pub fn read(&mut self, key: Key, run: Rival)
         requires { IsSome (get self.old key.0) }
         ensures { (q : Key) → ages_of self.new q ≡ cond (same_key key q) (with_reader run (ages_of self.old q)) (ages_of self.old q) }
     {
-        let ages = self.keys.get_mut(&key.0).unwrap();
-        *ages = ages.with_reader(run);
+        let ages = self.of(key).with_reader(run);
+        self.set(key, ages);
     }
 
     /// Notes that a run was granted a write of the key, for which there is room.
@@ -106,63 +116,41 @@ impl AccessAges {
         requires { IsSome (get self.old key.0) }
         ensures { (q : Key) → ages_of self.new q ≡ cond (same_key key q) (with_writer run (ages_of self.old q)) (ages_of self.old q) }
     {
-        let ages = self.keys.get_mut(&key.0).unwrap();
-        *ages = ages.with_writer(run);
+        let ages = self.of(key).with_writer(run);
+        self.set(key, ages);
     }
 
     /// Notes that a run committed: it is the last writer of its keys.
     pub fn commit(&mut self, run: &HeldRun)
         ensures { (q : Key) → ages_of self.new q ≡ cond (has_written q run.now.run) (settled (ages_of self.old q)) (ages_of self.old q) }
     {
-        self.settle_all(run.accesses());
+        self.end_all(run.accesses(), End::Commit);
     }
 
     /// Notes that a run ended otherwise: its writes count no longer, its reads go on counting.
     pub fn abort(&mut self, run: &HeldRun)
         ensures { (q : Key) → ages_of self.new q ≡ cond (has_written q run.now.run) (unwritten (ages_of self.old q)) (ages_of self.old q) }
     {
-        self.unwrite_all(run.accesses());
+        self.end_all(run.accesses(), End::Abort);
     }
 
-    /// The writer of each key that these accesses write commits.
-    fn settle_all(&mut self, accesses: &[Granted])
-        ensures { (q : Key) → ages_of self.new q
-            ≡ cond (some_of (writes q) (reverse accesses.now)) (settled (ages_of self.old q)) (ages_of self.old q) }
+    /// The writer of each key that these accesses write ends so.
+    fn end_all(&mut self, accesses: &[Granted], end: End)
+        ensures { (q : Key) → ages_of self.new q ≡ cond (some_of (writes q) (reverse accesses.now)) (ended end (ages_of self.old q)) (ages_of self.old q) }
     {
         for access in accesses {
-            if let Some(row) = access.written_row() {
-                self.settle(row.key);
-            }
+            self.end_one(access, end);
         }
     }
 
-    /// The writer of each key that these accesses write ends otherwise.
-    fn unwrite_all(&mut self, accesses: &[Granted])
-        ensures { (q : Key) → ages_of self.new q
-            ≡ cond (some_of (writes q) (reverse accesses.now)) (unwritten (ages_of self.old q)) (ages_of self.old q) }
+    /// The writer of a key ends so, where the access is a write of it.
+    fn end_one(&mut self, access: &Granted, end: End)
+        ensures { (q : Key) → ages_of self.new q ≡ cond (writes q access.now) (ended end (ages_of self.old q)) (ages_of self.old q) }
     {
-        for access in accesses {
-            if let Some(row) = access.written_row() {
-                self.unwrite(row.key);
-            }
-        }
-    }
-
-    /// The writer of a key commits.
-    fn settle(&mut self, key: Key)
-        ensures { (q : Key) → ages_of self.new q ≡ cond (same_key key q) (settled (ages_of self.old q)) (ages_of self.old q) }
-    {
-        if let Some(ages) = self.keys.get_mut(&key.0) {
-            *ages = ages.settled();
-        }
-    }
-
-    /// The writer of a key ends otherwise.
-    fn unwrite(&mut self, key: Key)
-        ensures { (q : Key) → ages_of self.new q ≡ cond (same_key key q) (unwritten (ages_of self.old q)) (ages_of self.old q) }
-    {
-        if let Some(ages) = self.keys.get_mut(&key.0) {
-            *ages = ages.unwritten();
-        }
+        let Some(row) = access.written_row() else {
+            return;
+        };
+        let ages = self.of(row.key).ended(end);
+        self.set(row.key, ages);
     }
 }

@@ -1,12 +1,19 @@
 //! Who accessed one key.
 ghost use Rattle.std.specs.Prelude.{◌≡◌};
-ghost use Rattle.access_ages.specs.Ages.{no_ages, with_reader, with_writer, settled, unwritten};
+ghost use Rattle.access_ages.specs.Ages.{no_ages, with_reader, with_writer, ended};
 ghost use Rattle.access_ages.specs.Ages.{younger_of as younger};
 ghost use Rattle.access_ages.specs.Stops.{key_stop, writer_stop, youngest_against};
 ghost use Rattle.access_ages.specs.Stops.{above as younger_than, below as older_than, stop_by};
 
 use mdb_base::{PlainAct, Reply, Why};
 use run_book::Rival;
+
+/// How a run ends.
+#[derive(Clone, Copy)]
+pub(crate) enum End {
+    Commit,
+    Abort,
+}
 
 /// Who accessed a key in this epoch, each run by its age.
 #[derive(Clone, Copy, Debug, PartialEq, Eq)]
@@ -77,24 +84,18 @@ impl KeyAges {
         }
     }
 
-    /// These ages once the writer commits.
-    pub(crate) fn settled(self) -> Self
-        ensures { result ≡ settled self }
+    /// These ages once the writer ends so.
+    pub(crate) fn ended(self, end: End) -> Self
+        ensures { result ≡ ended end self }
     {
+        let last = match end {
+            End::Commit => younger_of(self.last, self.writer),
+            End::Abort => self.last,
+        };
         KeyAges {
             read: self.read,
-            last: younger_of(self.last, self.writer),
+            last,
             writer: None,
-        }
-    }
-
-    /// These ages once the writer ends otherwise.
-    pub(crate) fn unwritten(self) -> Self
-        ensures { result ≡ unwritten self }
-    {
-        KeyAges {
-            writer: None,
-            ..self
         }
     }
 }
