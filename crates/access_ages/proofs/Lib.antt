@@ -1,1 +1,7 @@
+pub mod Commits
+pub mod Outcomes
+pub mod Readers
+pub mod Rules
 pub mod Trees
+pub mod Writers
+pub mod Youngest

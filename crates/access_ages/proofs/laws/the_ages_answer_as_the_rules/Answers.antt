@@ -1,0 +1,14 @@
+use Rattle.mdb_base.specs.declared.names.Engine.TheVariants.{Timestamp, Multiversion}
+use Rattle.engine_laws.proofs.TimestampRuns.{timestamp_by_age}
+use Rattle.engine_laws.proofs.MultiversionRuns.{multiversion_by_age}
+use Rattle.access_ages.proofs.Rules.{stops_access, stops_reader}
+use Rattle.access_ages.proofs.laws.the_ages_answer_as_the_rules.Goals as goal
+
+pub returns-clause-access : goal.returns-clause-access
+returns-clause-access c = stops_access Timestamp timestamp_by_age
+
+pub returns-clause-write : goal.returns-clause-write
+returns-clause-write c = stops_access Multiversion multiversion_by_age
+
+pub returns-clause-reader : goal.returns-clause-reader
+returns-clause-reader c = stops_reader Multiversion multiversion_by_age
