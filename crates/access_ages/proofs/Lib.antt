@@ -1,7 +1,11 @@
 pub mod Commits
+pub mod Listed
+pub mod Live
 pub mod Outcomes
 pub mod Readers
 pub mod Rules
+pub mod TicketRules
+pub mod Tickets
 pub mod Trees
 pub mod Writers
 pub mod Youngest

@@ -20,11 +20,16 @@ pub record GoesOnAs (run now : Run) : Type 0 where
   pub writes : (key : Key) → has_written key run ≡ true → has_written key now ≡ true
   pub takes : has_ticket run ≡ true → has_ticket now ≡ true
 
+abbrev pub is_sealing : EngineLine → Bool
+is_sealing (Seals tid n) = true
+is_sealing line = false
+
 -- the line's run goes on
 pub record Continues (line : EngineLine) (run : Run) : Type 0 where
   pub now : Run
   pub is : changed line (Some run) ≡ Some now
   pub going : ends line ≡ false
+  pub open_still : is_sealing line ≡ false → now.sealed ≡ run.sealed
   pub as_it_was : GoesOnAs run now
 
 abbrev pub Outcome : EngineLine → Run → Type 0
@@ -38,7 +43,7 @@ later true y e = refl
 later false y e = e
 
 stays : (line : EngineLine) (run : Run) → changed line (Some run) ≡ Some run → ends line ≡ false → Outcome line run
-stays line run is going = inl (record { now = run; is = is; going = going; as_it_was = same_run run })
+stays line run is going = inl (record { now = run; is = is; going = going; open_still = λ e. refl; as_it_was = same_run run })
 
 acted_out : (tid : Tid) (reply : Reply) (act : PlainAct) (run : Run) → Outcome (Acts tid act reply) run
 acted_out tid (Reply_is.Refused why) act run = inr (inr refl)
@@ -50,6 +55,7 @@ acted_out tid (Reply_is.Value value) (Read key) run =
       now = record run { acts = Got key value ∷ run.acts };
       is = refl;
       going = refl;
+      open_still = λ e. refl;
       as_it_was = record { tid = refl; age = refl; reads = λ q h. later (same_key key q) (has_read q run) h; writes = λ q h. h; takes = λ h. h };
     })
 acted_out tid (Reply_is.Value value) (Write key v) run = stays _ run refl refl
@@ -59,6 +65,7 @@ acted_out tid Reply_is.Done (Write key value) run =
       now = record run { acts = Wrote key value ∷ run.acts };
       is = refl;
       going = refl;
+      open_still = λ e. refl;
       as_it_was = record { tid = refl; age = refl; reads = λ q h. h; writes = λ q h. later (same_key key q) (has_written q run) h; takes = λ h. h };
     })
 
@@ -70,6 +77,7 @@ took_out tid (Reply_is.Ticket n) run =
       now = record run { ticket = Some n };
       is = refl;
       going = refl;
+      open_still = λ e. refl;
       as_it_was = record { tid = refl; age = refl; reads = λ q h. h; writes = λ q h. h; takes = λ h. refl };
     })
 took_out tid Reply_is.Unknown run = stays _ run refl refl
@@ -85,6 +93,7 @@ outcome start older (Seals tid n) run right at =
       now = record run { sealed = Some n };
       is = refl;
       going = refl;
+      open_still = λ e. cc;
       as_it_was = record { tid = refl; age = refl; reads = λ q h. h; writes = λ q h. h; takes = λ h. h };
     })
 outcome start older (Refuses tid why) run right at = inr (inr refl)

@@ -30,55 +30,10 @@ use Rattle.access_ages.specs.Stops.{above, below, stop_by, youngest_against, key
 use Rattle.access_ages.specs.Lines.{reader, writer, youngest_committed, ages_after, KeepsAges}
 use Rattle.access_ages.specs.Laws.{StopsAccess, StopsReader}
 use Rattle.access_ages.proofs.Youngest.{IsUpTo, up_left, up_right, one_of}
+use Rattle.access_ages.proofs.Listed.{youngest_listed, youngest_above, youngest_below, stop_by-late_or_wait}
 use Rattle.access_ages.proofs.Commits.{IsCommitted, committed_up_to, committed_is_one}
 use Rattle.access_ages.proofs.Readers.{ReadersUpTo, readers_up_to, Counts, IsReader, reader_is}
 use Rattle.access_ages.proofs.Writers.{IsWriter, writer_is, writer_of}
-
--- the youngest run of which a fact holds, by its name and age
-abbrev pub IsYoungest : (Run → Type 0) → Option Rival → Type 0
-IsYoungest P None = (run : Run) → P run → ⊥
-IsYoungest P (Some rival) = (run : Run) × P run × (run.tid ≡ rival.tid) × (run.age ≡ rival.rank) × ((other : Run) → P other → other.age ≤ rival.rank)
-
--- it is the one that the rules look for
-pub youngest_listed : (P : Run → Type 0) (runs : List Run) (o : Option Rival) → Lists runs P → OfOneAge P → IsYoungest P o → o ≡ map_some (rival_by age_of) (greatest age_of runs)
-youngest_listed P runs o listed one_age h = by_greatest (greatest age_of runs) refl o h
-  where
-    by_greatest : (m : Option Run) → greatest age_of runs ≡ m → (o : Option Rival) → IsYoungest P o → o ≡ map_some (rival_by age_of) m
-    by_greatest None e None h = refl
-    by_greatest None e (Some rival) (run, holds, tid, age, above) = absurd (greatest-none age_of runs e run (listed.all run holds))
-    by_greatest (Some m) e None h = let best = greatest-is age_of runs m e in absurd (h m (each_among P m runs listed.only best.is))
-    by_greatest (Some m) e (Some rival) (run, holds, tid, age, above) =
-        let best = greatest-is age_of runs m e in
-        let m_holds = each_among P m runs listed.only best.is in
-        let up = above m m_holds in
-        let down = best.above run (listed.all run holds) in
-        let same : m.age ≡ run.age = omega arith in
-        let names : m.tid ≡ run.tid = one_age m run m_holds holds same in
-        ap (λ (t : Tid). let r : Rival = record rival { tid = t } in Some r) (sym tid ∙ sym names)
-        ∙ ap (λ (n : ℕ). let r : Rival = record { tid = m.tid; rank = n } in Some r) (sym age ∙ sym same)
-
-pub stop_by-late_or_wait : (youngest older : Option Run) → stop_by (map_some (rival_by age_of) youngest) (map_some (rival_by age_of) older) ≡ late_or_wait youngest older
-stop_by-late_or_wait (Some youngest) older = refl
-stop_by-late_or_wait None (Some older) = refl
-stop_by-late_or_wait None None = refl
-
--- the part of a rival that is younger than this age
-pub youngest_above : (P Q : Run → Type 0) (age : ℕ) (o : Option Rival) → ((run : Run) → P run → (age < run.age) × Q run) → ((run : Run) → age < run.age → Q run → P run) →
-    ((run : Run) → Q run → IsUpTo run.age o) → ((rival : Rival) → o ≡ Some rival → (run : Run) × Q run × (run.tid ≡ rival.tid) × (run.age ≡ rival.rank)) → IsYoungest P (above age o)
-youngest_above P Q age None split join up is = λ run p. up run (split run p).1
-youngest_above P Q age (Some rival) split join up is = by_test (nat_lt age rival.rank) refl
-  where
-    by_test : (b : Bool) → nat_lt age rival.rank ≡ b → IsYoungest P (cond b (Some rival) None)
-    by_test true e =
-        let it = is rival refl in
-        let lt = ltb-true age rival.rank e in
-        let aged = it.3 in
-        (it.0, join it.0 (omega arith) it.1, it.2, it.3, λ other p. up other (split other p).1)
-    by_test false e = λ run p.
-        let ge = ltb-false age rival.rank e in
-        let le = up run (split run p).1 in
-        let lt = (split run p).0 in
-        omega arith
 
 -- an access that conflicts with a read is a write of the key, and one that conflicts with a write any access of it
 read_conflicts : (key : Key) (acts : List Access) → some_of (conflicts (Read key)) acts ≡ some_of (writes key) acts
@@ -234,31 +189,13 @@ module _ (kind : Engine) (by : IsByAge kind) (start : Start) (lines : List Engin
       let sound = age_sound kind start lines by is_kind begun right in
       youngest_listed Older (older_writers start lines me act) _ (lists_older start lines me act right)
       (λ a b h g same. one_writer start lines key a b sound h.unended g.unended h.wrote g.wrote)
-      (by_writer key (writer start lines key) refl)
-    where
-      is_it : (run : Run) → IsOlderWriter start lines me act run → writer start lines (key_of act) ≡ Some (record { tid = run.tid; rank = run.age })
-      is_it run h = writer_of kind start lines (key_of act) run.tid run by is_kind begun right h.unended (among_some (writes (key_of act)) run.acts h.wrote)
-
-      by_writer : (key : Key) (o : Option Rival) → writer start lines (key_of act) ≡ o → IsYoungest (IsOlderWriter start lines me act) (below me.age o)
-      by_writer key None is = λ run h. let bad = sym is ∙ is_it run h in cc
-      by_writer key (Some rival) is = by_age (nat_lt rival.rank me.age) refl
-        where
-          same_rank : (run : Run) → IsOlderWriter start lines me act run → rival.rank ≡ run.age
-          same_rank run h = ap (λ (r : Rival). r.rank) (some_inj _ _ (sym is ∙ is_it run h))
-
-          by_age : (b : Bool) → nat_lt rival.rank me.age ≡ b → IsYoungest (IsOlderWriter start lines me act) (cond b (Some rival) None)
-          by_age true e =
-              let h = writer_is start lines (key_of act) rival begun right is in
-              let named = tid_is start lines right rival.tid h.run h.at in
-              let lt = ltb-true rival.rank me.age e in
-              let aged = h.age in
-              let it : IsOlderWriter start lines me act h.run = record { unended = ap (λ (t : Tid). run_at start lines t) named ∙ h.at; older = omega arith; wrote = some_among (writes (key_of act)) h.run.acts h.wrote } in
-              (h.run, it, named, h.age, λ other g. let rank = same_rank other g in omega arith)
-          by_age false e = λ run h.
-              let ge = ltb-false rival.rank me.age e in
-              let rank = same_rank run h in
-              let less = h.older in
-              omega arith
+      (youngest_below Older (λ run. IsUnended start lines run × HasWritten key run) me.age (writer start lines key) (λ run h. (h.older, (h.unended, h.wrote)))
+      (λ run less q. record { unended = q.0; older = less; wrote = q.1 })
+      (λ run q. writer_of kind start lines key run.tid run by is_kind begun right q.0 (among_some (writes key) run.acts q.1))
+      (λ rival is.
+      let h = writer_is start lines key rival begun right is in
+      let named = tid_is start lines right rival.tid h.run h.at in
+      (h.run, (ap (λ (t : Tid). run_at start lines t) named ∙ h.at, some_among (writes key) h.run.acts h.wrote), named, h.age)))
 
   key_stop_is : (me : Run) (act : PlainAct) → key_stop (ages (key_of act)) me.age act ≡ age_stop start lines me act
   key_stop_is me act =

@@ -42,14 +42,14 @@ written_rows key [] = refl
 written_rows key (put ∷ puts) = ap (λ (b : Bool). same_key put.key key || b) (written_rows key puts)
 
 -- a transaction in doubt is the restored run of its attempt
-restored_first : (kept : Kept) (more : List Kept) → restored_at (kept ∷ more) kept.tid ≡ Some (restored kept)
+pub restored_first : (kept : Kept) (more : List Kept) → restored_at (kept ∷ more) kept.tid ≡ Some (restored kept)
 restored_first kept more = cond-true _ _ _ (same_tid-refl kept.tid)
 
-restored_after : (kept : Kept) (more : List Kept) (t : Tid) → same_tid kept.tid t ≡ false → restored_at (kept ∷ more) t ≡ restored_at more t
+pub restored_after : (kept : Kept) (more : List Kept) (t : Tid) → same_tid kept.tid t ≡ false → restored_at (kept ∷ more) t ≡ restored_at more t
 restored_after kept more t e = cond-false _ _ _ e
 
 -- an attempt of the list is none that is apart from it
-restored_apart : (kept : Kept) (more : List Kept) (t : Tid) (run : Run) → Each (AreApart kept) more → restored_at more t ≡ Some run → same_tid kept.tid t ≡ false
+pub restored_apart : (kept : Kept) (more : List Kept) (t : Tid) (run : Run) → Each (AreApart kept) more → restored_at more t ≡ Some run → same_tid kept.tid t ≡ false
 restored_apart kept [] t run apart at = cc
 restored_apart kept (other ∷ more) t run apart at = by_test (same_tid other.tid t) refl at (restored_apart kept more t run apart.1)
   where
