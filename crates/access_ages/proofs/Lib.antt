@@ -4,6 +4,7 @@ pub mod Live
 pub mod Outcomes
 pub mod Readers
 pub mod Rules
+pub mod Steps
 pub mod TicketRules
 pub mod Tickets
 pub mod Trees

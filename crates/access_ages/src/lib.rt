@@ -9,5 +9,5 @@ mod takers;
 
 pub use accesses::AccessAges;
 pub use key_ages::KeyAges;
-pub use laws::the_ages_answer_as_the_rules;
+pub use laws::{the_ages_answer_as_the_rules, the_ages_follow_the_lines};
 pub use takers::TicketAges;
