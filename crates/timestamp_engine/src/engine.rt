@@ -6,6 +6,10 @@ use run_book::{Granted, Marks, RunBook};
 use std::alloc::Global;
 
 #[cfg(test)]
+mod plain;
+#[cfg(test)]
+mod table_tests;
+#[cfg(test)]
 mod tests;
 
 /// A local engine that keeps its runs in the order of their begins. It keeps them in a book, and beside it for each key who accessed
