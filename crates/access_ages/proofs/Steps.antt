@@ -1,10 +1,9 @@
 -- The ages and the takers through each line.
-use Rattle.std.proofs.Common.{◌≡◌, ℕ, ◌⊎◌, inl, inr, Bool, true, false, not, ◌&&◌, cond, is_some, Option, Some, None, List, [], ◌∷◌, refl, sym, ap, ◌∙◌, subst}
+use Rattle.std.proofs.Common.{◌≡◌, ℕ, ◌⊎◌, inl, inr, Bool, true, false, not, ◌&&◌, cond, is_some, Option, Some, None, List, ◌∷◌, refl, sym, ap, ◌∙◌}
 use Rattle.std.specs.FinMap.{remove}
 use Rattle.mdb_base.specs.declared.names.Engine.{Engine}
 use Rattle.mdb_base.specs.declared.names.Key.{Key}
 use Rattle.mdb_base.specs.declared.names.Tid.{Tid}
-use Rattle.mdb_base.specs.declared.acts.PlainAct.{PlainAct}
 use Rattle.mdb_base.specs.declared.acts.PlainAct.TheVariants.{Read, Write}
 use Rattle.mdb_base.specs.declared.replies.Reply.{Reply}
 use Rattle.mdb_base.specs.declared.replies.Reply.TheVariants.{Done, Value, Ticket, Wait, Refused, Unknown}
@@ -13,7 +12,7 @@ use Rattle.mdb_base.specs.Names.{same_key}
 use Rattle.mdb_base.specs.Words.{map_some, holds_of}
 use Rattle.fed_rules.specs.Runs.{Start, EngineLine, Begins, Acts, Takes, Seals, Refuses, Commits, Aborts, Run, tid_of, run_at, gives_up, has_ticket, is_sealed}
 use Rattle.fed_rules.specs.Replies.{age_of, has_written}
-use Rattle.fed_rules.specs.EngineLines.{IsStart, IsRightLine, IsRight}
+use Rattle.fed_rules.specs.EngineLines.{IsStart, IsRight}
 use Rattle.engine_laws.proofs.AgeRuns.{IsByAge}
 use Rattle.run_book.specs.declared.rival.Rival.{Rival}
 use Rattle.run_book.specs.Rivals.{rival_by}
@@ -23,7 +22,7 @@ use Rattle.access_ages.specs.declared.key_ages.KeyAges.{KeyAges}
 use Rattle.access_ages.specs.Ages.{Ages, ages_of, younger_of, with_reader, with_writer, settled, unwritten}
 use Rattle.access_ages.specs.Takers.{ByAge, Takers, with_taker, takes_ticket, without_taker, with_committed, committed_taker}
 use Rattle.access_ages.specs.Stops.{stop_by}
-use Rattle.access_ages.specs.Lines.{rival_at, reader, writer, committed_by, youngest_committed, ages_after, taken_by, left_by, unended_takers, live_taker, KeepsAges}
+use Rattle.access_ages.specs.Lines.{reader, writer, committed_by, youngest_committed, ages_after, taken_by, left_by, unended_takers, live_taker, KeepsAges}
 use Rattle.access_ages.specs.Laws.{FollowsBegins, FollowsCalls, FollowsStarts, FollowsUnseals, AreNow, IsNoted, where_written, at_key}
 use Rattle.access_ages.proofs.Writers.{writer_of}
 use Rattle.access_ages.proofs.Live.{live_of}
