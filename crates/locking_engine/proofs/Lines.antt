@@ -17,13 +17,13 @@ use Rattle.engine_laws.proofs.LockingTickets.{locking_one_taker}
 use Rattle.engine_laws.proofs.Takers.{IsTaker, HasOneTaker}
 use Rattle.run_book.specs.declared.rival.Rival.{Rival}
 use Rattle.run_book.specs.Held.{Held, held_in}
-use Rattle.run_book.specs.Book.{RoomyBook, grants, drops}
+use Rattle.run_book.specs.Book.{grants, drops}
 use Rattle.run_book.specs.Keeps.{KeepsRoomy}
-use Rattle.run_book.specs.Laws.{IsCalled}
 use Rattle.run_book.specs.Rivals.{IsOldest}
 use Rattle.run_book.proofs.Ages.{ages-differ}
 use Rattle.run_book.proofs.Calls.{run_at-held}
 use Rattle.run_book.proofs.Carried.{calls_well}
+use Rattle.run_book.proofs.Ends.{called_ends}
 use Rattle.locking_engine.specs.declared.engine.LockingEngine.{LockingEngine}
 use Rattle.locking_engine.specs.Holders.{Holders, place_of, held_by}
 use Rattle.locking_engine.specs.Stands.{AreHolders, Stands, IsReleased, EndsRun, takes_ticket}
@@ -205,25 +205,6 @@ gives_none (Seals tid n) run h = cc
 gives_none (Refuses tid why) run h = refl
 gives_none (Commits tid) run h = cc
 gives_none (Aborts tid) run h = refl
-
-called_ends : (old new : RoomyBook) (line : EngineLine) → gives_up line ≡ true → new.book ≡ drops (tid_of line) old.book → IsCalled old line new
-called_ends old new (Begins tid n) h is = cc
-called_ends old new (Acts tid act (Refused why)) h is = is
-called_ends old new (Acts tid act (Wait by)) h is = cc
-called_ends old new (Acts tid act (Ticket n)) h is = cc
-called_ends old new (Acts tid act (Value v)) h is = cc
-called_ends old new (Acts tid act Done) h is = cc
-called_ends old new (Acts tid act Unknown) h is = cc
-called_ends old new (Takes tid (Refused why)) h is = is
-called_ends old new (Takes tid (Wait by)) h is = cc
-called_ends old new (Takes tid (Ticket n)) h is = cc
-called_ends old new (Takes tid (Value v)) h is = cc
-called_ends old new (Takes tid Done) h is = cc
-called_ends old new (Takes tid Unknown) h is = cc
-called_ends old new (Seals tid n) h is = cc
-called_ends old new (Refuses tid why) h is = is
-called_ends old new (Commits tid) h is = cc
-called_ends old new (Aborts tid) h is = is
 
 pub ends_run : (old new : LockingEngine) (tid : Tid) (held : Held) → held_in old.book.book.runs tid ≡ Some held → new.book.book ≡ drops tid old.book.book → IsReleased old held.run new → EndsRun old tid new
 ends_run old new tid held found book released start older line s right ends =
