@@ -1,4 +1,1 @@
-pub mod Bad
-pub mod Last
-pub mod Lines
-pub mod Spoilers
+pub mod Entries
