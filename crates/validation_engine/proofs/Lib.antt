@@ -1,2 +1,4 @@
 pub mod Entries
 pub mod Past
+pub mod Spoilers
+pub mod Bad
