@@ -2,3 +2,4 @@ pub mod Entries
 pub mod Past
 pub mod Spoilers
 pub mod Bad
+pub mod Indexed
