@@ -3,3 +3,4 @@ pub mod Past
 pub mod Spoilers
 pub mod Bad
 pub mod Indexed
+pub mod Lines
