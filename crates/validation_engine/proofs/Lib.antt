@@ -4,3 +4,4 @@ pub mod Spoilers
 pub mod Bad
 pub mod Indexed
 pub mod Lines
+pub mod Restored
