@@ -1,5 +1,5 @@
 -- A validating engine through each line: its book, and its index of writers.
-use Rattle.std.proofs.Common.{◌≡◌, ℕ, ◌+◌, ◌≤◌, Bool, true, false, ◌||◌, cond, Option, Some, None, IfSome, List, ◌∷◌, Result, Ok, Err, IfErr, refl, sym, ap, ◌∙◌, subst, arith}
+use Rattle.std.proofs.Common.{◌≡◌, ℕ, ◌+◌, ◌≤◌, Bool, true, false, ◌||◌, cond, is_some, Option, Some, None, IfSome, List, ◌∷◌, Result, Ok, Err, IfErr, refl, sym, ap, ◌∙◌, subst, arith}
 use Rattle.std.proofs.lemmas.Bool.{cases_Bool, eqb-true}
 use Rattle.mdb_base.specs.declared.names.Engine.{Engine}
 use Rattle.mdb_base.specs.declared.names.Engine.TheVariants.{Validation}
@@ -248,6 +248,15 @@ module _ (old : ValidationEngine) (start : Start) (older : List EngineLine) (s :
       let line = Aborts tid in
       stands_dropped new line refl live (calls_well Validation old.book new.book start older line s.keeps (held.run, at) book) refl kept (λ key. refl)
 
+-- whether a run is sealed
+pub some_number : (o : Option ℕ) → is_some o ≡ true → (n : ℕ) × (o ≡ Some n)
+some_number None e = cc
+some_number (Some n) e = (n, refl)
+
+pub no_number : (o : Option ℕ) → is_some o ≡ false → o ≡ None
+no_number None e = refl
+no_number (Some n) e = cc
+
 -- a sealing is taken back
 pub stands_unsealed : (old new : ValidationEngine) (start : Start) (older : List EngineLine) (tid : Tid) (n : ℕ) (open_run : Run) → Stands old start (Seals tid n ∷ older) → new.book.book ≡ unseals tid old.book.book →
     old.book.room ≤ new.book.room + taken_by (held_in old.book.book.runs tid) → run_at start older tid ≡ Some open_run → IsChanged Withdrawn open_run.acts old.index new.index → Stands new start older
@@ -268,7 +277,20 @@ stands_unsealed old new start older tid n open_run s book room here changed =
           (λ run key there done. entries-changed Withdrawn open_run.acts old.index new.index key changed (has key (ap (λ (r : Run). has_written key r) (some_inj open_run run (sym here ∙ there)) ∙ done)));
     }
 
--- where the rule lets the run pass, no failure hides a refusal
+-- what the engine found to refuse a sealing, by the run that its book holds
+pub stop_found : (index : Index) (book : Book) (tid : Tid) (held other : Held) (marks : Marks) (stop : Option Why) → held_in book.runs tid ≡ Some held → held_in book.runs tid ≡ Some other → marks ≡ book.marks →
+    seal_stop_by index marks other.run ≡ stop → seal_stop_by index book.marks held.run ≡ stop
+stop_found index book tid held other marks stop found also is stopped =
+    ap (λ (h : Held). seal_stop_by index book.marks h.run) (some_inj held other (sym found ∙ also)) ∙ (ap (λ (m : Marks). seal_stop_by index m other.run) (sym is) ∙ stopped)
+
+-- where the index lets the run pass, the rule does
+pub passes_rule : (engine : ValidationEngine) (tid : Tid) (held : Held) → held_in engine.book.book.runs tid ≡ Some held → held.run.sealed ≡ None → seal_stop_by engine.index engine.book.book.marks held.run ≡ None →
+    EachPast Stands engine (PassesRule tid)
+passes_rule engine tid held found live passed start lines s run there =
+    let is = some_inj held.run run (sym (at engine start lines s tid held found) ∙ there) in
+    ap (λ (r : Run). seal_stop start.kind start lines r) (sym is) ∙ (sym (stop_is engine start lines s tid held found live) ∙ passed)
+
+-- and then no failure hides a refusal
 pub hides_none : {X : Type 0} (r : Result X SealErr) (engine : ValidationEngine) (tid : Tid) → EachPast Stands engine (PassesRule tid) → IfErr r (λ e. HidesNone Stands engine tid e)
 hides_none (Ok x) engine tid passes = tt
 hides_none (Err (Err_is.Refused why)) engine tid passes = tt
