@@ -7,6 +7,10 @@ use run_book::{Granted, Marks, Rival, RunBook};
 use std::alloc::Global;
 
 #[cfg(test)]
+mod plain;
+#[cfg(test)]
+mod table_tests;
+#[cfg(test)]
 mod tests;
 
 /// A local engine that grants every access, and tests a run when it is sealed. It keeps its runs in a book, and beside it for each
