@@ -1,6 +1,6 @@
 -- What refuses a sealing by the index is what refuses it by the rule.
 use Rattle.std.proofs.Common.{◌≡◌, ℕ, ◌+◌, ◌≤◌, nat_lt, Bool, true, false, not, ◌||◌, ◌==◌, cond, is_some, Option, Some, None, IsSome, IfSome, List, [], ◌∷◌, map, inl, inr, refl, sym, ap, ◌∙◌, subst, arith}
-use Rattle.std.proofs.lemmas.Bool.{cond-true, cond-false, cases_Bool, eqb-true, eq-eqb, ltb-true, ltb-false}
+use Rattle.std.proofs.lemmas.Bool.{cond-true, cond-false, or_left, or_right, cases_Bool, eqb-true, eq-eqb, ltb-true, ltb-false}
 use Rattle.mdb_base.specs.declared.names.Engine.{Engine}
 use Rattle.mdb_base.specs.declared.names.Engine.TheVariants.{Validation}
 use Rattle.mdb_base.specs.declared.names.Key.{Key}
@@ -111,21 +111,13 @@ least_bad-some spoils (first ∷ acts) bad e = by_first (spoils first) refl e (�
     by_first (Some by) is e rest = by_rest by (least_bad_of spoils acts) is refl rest e
 
 -- a read among the accesses
-or_later : (x y : Bool) → y ≡ true → (x || y) ≡ true
-or_later true y e = refl
-or_later false y e = e
-
 read_there : (key : Key) (value : ℕ) (acts : List Access) → Is (Got key value) acts → some_of (reads key) acts ≡ true
 read_there key value [] member = absurd member
 read_there key value (access ∷ acts) member =
     elim member [
-      | inl same ↦ ap (λ (a : Access). some_of (reads key) (a ∷ acts)) same ∙ first (same_key key key) (some_of (reads key) acts) (same_key-refl key)
-      | inr more ↦ or_later (reads key access) (some_of (reads key) acts) (read_there key value acts more)
+      | inl same ↦ ap (λ (a : Access). some_of (reads key) (a ∷ acts)) same ∙ or_left (same_key key key) (some_of (reads key) acts) (same_key-refl key)
+      | inr more ↦ or_right (reads key access) (some_of (reads key) acts) (read_there key value acts more)
     ]
-  where
-    first : (x y : Bool) → x ≡ true → (x || y) ≡ true
-    first true y e = refl
-    first false y e = cc
 
 there_read : (key : Key) (acts : List Access) → some_of (reads key) acts ≡ true → (value : ℕ) × Is (Got key value) acts
 there_read key [] h = cc

@@ -76,24 +76,3 @@ change_none m key k f none = by_key (same_key key k) refl
         let here : get m k.0 ≡ None = ap (λ (q : ℕ). get m q) (sym (eqb-true key.0 k.0 e)) ∙ none in
         here ∙ sym (ap (λ (o : Option Writers). map_some f o) here)
     by_key false e = refl
-
--- a change made twice is made once
-twice : (change : Change) (w : Writers) → changed_by change (changed_by change w) ≡ changed_by change w
-twice (Sealed writer) w = refl
-twice Withdrawn w = refl
-twice (Committed ended) w = refl
-
-twice_some : (change : Change) (o : Option Writers) → map_some (changed_by change) (map_some (changed_by change) o) ≡ map_some (changed_by change) o
-twice_some change None = refl
-twice_some change (Some w) = ap (λ (x : Writers). Some x) (twice change w)
-
--- one access more: a write changes its key, and a read none
-pub change_more : (change : Change) (access : Access) (acts : List Access) (k : Key) (o : Option Writers) (b : Bool) → b ≡ some_of (writes k) acts →
-    let f = map_some (changed_by change) in
-    cond (writes k access) (f (cond b (f o) o)) (cond b (f o) o) ≡ cond (some_of (writes k) (access ∷ acts)) (f o) o
-change_more change access acts k o b is = by_write (writes k access) b ∙ ap (λ (x : Bool). cond (writes k access || x) (map_some (changed_by change) o) o) is
-  where
-    by_write : (w b : Bool) → cond w (map_some (changed_by change) (cond b (map_some (changed_by change) o) o)) (cond b (map_some (changed_by change) o) o) ≡ cond (w || b) (map_some (changed_by change) o) o
-    by_write true true = twice_some change o
-    by_write true false = refl
-    by_write false b = refl

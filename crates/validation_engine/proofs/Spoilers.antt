@@ -1,6 +1,6 @@
 -- Who makes a key bad by the index is who makes it bad by the rule.
 use Rattle.std.proofs.Common.{◌≡◌, ℕ, ◌≤◌, nat_lt, Bool, true, false, not, ◌&&◌, cond, is_some, Option, Some, None, List, [], ◌∷◌, inl, inr, refl, sym, ap, ◌∙◌, arith}
-use Rattle.std.proofs.lemmas.Bool.{and_parts, cond-true, cond-false, ltb-true, ltb-false}
+use Rattle.std.proofs.lemmas.Bool.{and_parts, and_from, cond-true, cond-false, ltb-true, ltb-false}
 use Rattle.mdb_base.specs.declared.names.Engine.TheVariants.{Validation}
 use Rattle.mdb_base.specs.declared.names.Key.{Key}
 use Rattle.mdb_base.specs.declared.names.Tid.{Tid}
@@ -59,17 +59,6 @@ number-some : (run : Run) (o : Option ℕ) → run.sealed ≡ o → is_some o �
 number-some run None e f = cc
 number-some run (Some n) e f = e ∙ ap (λ (m : ℕ). Some m) (sym (number_is run n e))
 
-and_all : (x y z : Bool) → x ≡ true → y ≡ true → z ≡ true → (x && y && z) ≡ true
-and_all true true true e f g = refl
-and_all true true false e f g = cc
-and_all true false z e f g = cc
-and_all false y z e f g = cc
-
-and_both : (x y : Bool) → x ≡ true → y ≡ true → (x && y) ≡ true
-and_both true true e f = refl
-and_both true false e f = cc
-and_both false y e f = cc
-
 -- who makes a key bad for a live run
 abbrev pub key_spoiler : Index → Run → Key → Option Rival
 key_spoiler index me key = or_rival (sealed_at index key) (cond (has_read key me) (ended_since me.age (last_at index key)) None)
@@ -117,7 +106,7 @@ module _ (index : Index) (start : Start) (lines : List EngineLine) (kind : start
         run = w.run;
         is = is-append_right w.run past prepared
             (is-those (λ run. is_other me run && is_sealed run && has_written key run) (unended start lines) w.run (is-unended start lines tid w.run right w.at)
-            (and_all (is_other me w.run) (is_sealed w.run) (has_written key w.run) (other_run tid w.run n w.at w.sealed) (ap (λ (o : Option ℕ). is_some o) w.sealed) w.wrote));
+            (and_from (is_other me w.run && is_sealed w.run) (has_written key w.run) (and_from (is_other me w.run) (is_sealed w.run) (other_run tid w.run n w.at w.sealed) (ap (λ (o : Option ℕ). is_some o) w.sealed)) w.wrote));
         named = tid_is start lines right tid w.run w.at;
         numbered = numbered;
         above = λ y member. elim (is-append y past prepared member) [
@@ -163,7 +152,7 @@ module _ (index : Index) (start : Start) (lines : List EngineLine) (kind : start
           record {
             run = t.0;
             is = is-append_left t.0 _ (those (λ run. is_other me run && is_sealed run && has_written key run) (unended start lines))
-                (is-those (λ run. has_read key me && has_written key run) (committed_since start lines me.tid) t.0 t.1 (and_both (has_read key me) (has_written key t.0) read t.2));
+                (is-those (λ run. has_read key me && has_written key run) (committed_since start lines me.tid) t.0 t.1 (and_from (has_read key me) (has_written key t.0) read t.2));
             named = t.3;
             numbered = t.4;
             above = λ y member. let s = same_ended y member in (s.1, s.2);
