@@ -1,6 +1,6 @@
 -- What refuses a sealing by the index is what refuses it by the rule.
-use Rattle.std.proofs.Common.{◌≡◌, ℕ, ◌+◌, ◌≤◌, nat_lt, Bool, true, false, not, ◌||◌, ◌==◌, cond, is_some, Option, Some, None, IsSome, IfSome, List, [], ◌∷◌, map, inl, inr, refl, sym, ap, ◌∙◌, subst, arith}
-use Rattle.std.proofs.lemmas.Bool.{cond-true, cond-false, or_left, or_right, cases_Bool, eqb-true, eq-eqb, ltb-true, ltb-false}
+use Rattle.std.proofs.Common.{◌≡◌, ℕ, ◌+◌, ◌≤◌, nat_lt, Bool, true, false, not, ◌||◌, ◌==◌, cond, is_some, Option, Some, None, IfSome, List, [], ◌∷◌, map, inl, inr, refl, sym, ap, ◌∙◌, subst, arith}
+use Rattle.std.proofs.lemmas.Bool.{cond-true, cond-false, or_left, or_right, cases_Bool, eqb-true, ltb-true, ltb-false}
 use Rattle.mdb_base.specs.declared.names.Engine.{Engine}
 use Rattle.mdb_base.specs.declared.names.Engine.TheVariants.{Validation}
 use Rattle.mdb_base.specs.declared.names.Key.{Key}
@@ -8,8 +8,8 @@ use Rattle.mdb_base.specs.declared.names.Tid.{Tid}
 use Rattle.mdb_base.specs.declared.replies.Why.{Why}
 use Rattle.mdb_base.specs.declared.replies.Why.TheVariants.{Invalid}
 use Rattle.mdb_base.specs.Names.{same_key}
-use Rattle.mdb_base.specs.Words.{map_some, some_of, those, least, greatest}
-use Rattle.fed_rules.specs.Runs.{Start, EngineLine, Access, Got, Wrote, Run, run_at, number, published}
+use Rattle.mdb_base.specs.Words.{map_some, some_of, least, greatest}
+use Rattle.fed_rules.specs.Runs.{Start, EngineLine, Access, Got, Wrote, Run, run_at, number}
 use Rattle.fed_rules.specs.Replies.{access_key, reads, has_read, spoilers, is_empty, bad_keys, invalid, invalid_at, invalid_by, moved, moved_by, or_why, seal_stop}
 use Rattle.fed_rules.specs.EngineLines.{IsRight, IsStart}
 use Rattle.engine_laws.proofs.ValidationRuns.{or_why_none}
@@ -22,7 +22,6 @@ use Rattle.run_book.specs.Rivals.{rival_by}
 use Rattle.run_book.proofs.Ages.{some_inj}
 use Rattle.run_book.proofs.Best.{TellsApart, least-found, least-empty}
 use Rattle.run_book.proofs.Members.{Is, is-those, those-is}
-use Rattle.validation_engine.specs.declared.index.Ended.{Ended}
 use Rattle.validation_engine.specs.declared.rule.Bad.{Bad}
 use Rattle.validation_engine.specs.Index.{Index, sealed_at, last_at}
 use Rattle.validation_engine.specs.Rule.{ended_since, or_rival, spoiler_of, lower_of, or_lower, least_bad_of, invalid_by_bad, moved_in, seal_stop_by}

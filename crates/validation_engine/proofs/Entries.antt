@@ -1,5 +1,5 @@
 -- The writers of each key, as a map and as the entries of the tree that keeps them.
-use Rattle.std.proofs.Common.{◌≡◌, ℕ, Bool, true, false, ◌||◌, cond, is_some, nat_eq, Option, Some, None, List, [], ◌∷◌, refl, sym, ap, ◌∙◌, arith}
+use Rattle.std.proofs.Common.{◌≡◌, ℕ, Bool, true, false, cond, nat_eq, Option, Some, None, List, [], ◌∷◌, refl, sym, ap, ◌∙◌, arith}
 use Rattle.std.specs.Cmp.{nat_cmp_total}
 use Rattle.std.specs.Ordering.{nat_cmp, is_eq}
 use Rattle.std.specs.FinMap.{from_entries, find, get, get-insert, get-from_entries, insert, same_map, nat_cmp-IsAntisymmetric}
@@ -9,13 +9,9 @@ use Rattle.std.proofs.lemmas.Bool.{cond-true, cond-false, eqb-true}
 use Rattle.std.proofs.lemmas.Bool.Decides.{nat_tests}
 use Rattle.mdb_base.specs.declared.names.Key.{Key}
 use Rattle.mdb_base.specs.Names.{same_key}
-use Rattle.mdb_base.specs.Words.{map_some, some_of}
-use Rattle.fed_rules.specs.Runs.{Access, Got, Wrote}
-use Rattle.fed_rules.specs.Replies.{writes}
+use Rattle.mdb_base.specs.Words.{map_some}
 use Rattle.validation_engine.specs.declared.index.Writers.{Writers}
-use Rattle.validation_engine.specs.declared.index.Change.{Change}
-use Rattle.validation_engine.specs.declared.index.Change.TheVariants.{Sealed, Withdrawn, Committed}
-use Rattle.validation_engine.specs.Index.{Index, nobody, has_entry, with_key, changed_by}
+use Rattle.validation_engine.specs.Index.{Index, nobody, has_entry, with_key}
 
 pub ties : (p q : ℕ) → is_eq (nat_cmp p q) ≡ nat_eq p q
 ties p q = grind (arith, nat_tests)

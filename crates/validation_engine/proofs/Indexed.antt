@@ -1,5 +1,5 @@
 -- The index of writers through a line: who is the sealed writer of each key, and which keys have an entry.
-use Rattle.std.proofs.Common.{◌≡◌, ℕ, ◌⊎◌, Bool, true, false, ◌||◌, cond, is_some, Option, Some, None, List, [], ◌∷◌, inl, inr, refl, sym, ap, ◌∙◌, subst}
+use Rattle.std.proofs.Common.{◌≡◌, ℕ, ◌⊎◌, Bool, true, false, cond, is_some, Option, Some, None, List, inl, inr, refl, sym, ap, ◌∙◌, subst}
 use Rattle.std.specs.FinMap.{get, insert}
 use Rattle.std.proofs.lemmas.Bool.{cond-true, cond-false, cases_Bool, eqb-true}
 use Rattle.mdb_base.specs.declared.names.Key.{Key}
@@ -11,10 +11,8 @@ use Rattle.fed_rules.specs.Runs.{Access, Run}
 use Rattle.fed_rules.specs.Replies.{writes, has_written}
 use Rattle.run_book.specs.declared.rival.Rival.{Rival}
 use Rattle.run_book.proofs.Ages.{some_inj}
-use Rattle.validation_engine.specs.declared.index.Ended.{Ended}
 use Rattle.validation_engine.specs.declared.index.Writers.{Writers}
 use Rattle.validation_engine.specs.declared.index.Change.{Change}
-use Rattle.validation_engine.specs.declared.index.Change.TheVariants.{Sealed, Withdrawn, Committed}
 use Rattle.validation_engine.specs.Index.{Index, nobody, writers_at, sealed_at, last_at, has_entry, with_key, changed_by, IsChanged}
 use Rattle.validation_engine.specs.Stands.{IsSealedWriter, AreSealed, HaveEntries}
 use Rattle.validation_engine.proofs.Entries.{entry-put}

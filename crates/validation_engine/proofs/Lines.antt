@@ -1,6 +1,5 @@
 -- A validating engine through each line: its book, and its index of writers.
 use Rattle.std.proofs.Common.{◌≡◌, ℕ, ◌+◌, ◌≤◌, Bool, true, false, ◌||◌, cond, is_some, Option, Some, None, IfSome, List, ◌∷◌, Result, Ok, Err, IfErr, refl, sym, ap, ◌∙◌, subst, arith}
-use Rattle.std.proofs.lemmas.Bool.{cases_Bool, eqb-true}
 use Rattle.mdb_base.specs.declared.names.Engine.{Engine}
 use Rattle.mdb_base.specs.declared.names.Engine.TheVariants.{Validation}
 use Rattle.mdb_base.specs.declared.names.Key.{Key}
@@ -10,11 +9,10 @@ use Rattle.mdb_base.specs.declared.acts.PlainAct.TheVariants.{Read, Write}
 use Rattle.mdb_base.specs.declared.replies.Reply.{Reply}
 use Rattle.mdb_base.specs.declared.replies.Reply.TheVariants.{Done, Value, Ticket}
 use Rattle.mdb_base.specs.declared.replies.Why.{Why}
-use Rattle.mdb_base.specs.Names.{same_tid, same_key}
-use Rattle.mdb_base.specs.Words.{some_of}
+use Rattle.mdb_base.specs.Names.{same_key}
 use Rattle.mdb_base.proofs.NameLaws.{same_key-equal}
 use Rattle.fed_rules.specs.Runs.{Start, EngineLine, Begins, Acts, Takes, Seals, Refuses, Commits, Aborts, Access, Got, Wrote, Run, tid_of, begun, changed, run_at, counter, number, published, after}
-use Rattle.fed_rules.specs.Replies.{writes, has_written, access_stop, ticket_stop, seal_stop, seal_number, granted, granted_by, rule, or_reply}
+use Rattle.fed_rules.specs.Replies.{has_written, access_stop, ticket_stop, seal_stop, seal_number, granted, granted_by, rule, or_reply}
 use Rattle.fed_rules.specs.EngineLines.{IsFree, IsRightLine}
 use Rattle.engine_contract.specs.declared.seal_err.SealErr.{SealErr}
 use Rattle.engine_contract.specs.declared.seal_err.SealErr.TheVariants as Err_is
@@ -31,14 +29,13 @@ use Rattle.run_book.proofs.Calls.{run_at-held}
 use Rattle.run_book.proofs.Carried.{calls_well, unbegins_well, unseals_well}
 use Rattle.run_book.proofs.Tables.{after-table}
 use Rattle.validation_engine.specs.declared.index.Ended.{Ended}
-use Rattle.validation_engine.specs.declared.index.Change.{Change}
 use Rattle.validation_engine.specs.declared.index.Change.TheVariants.{Sealed, Withdrawn, Committed}
 use Rattle.validation_engine.specs.declared.engine.ValidationEngine.{ValidationEngine}
 use Rattle.validation_engine.specs.Index.{Index, sealed_at, last_at, has_entry, with_key, IsChanged}
 use Rattle.validation_engine.specs.Rule.{seal_stop_by}
-use Rattle.validation_engine.specs.Stands.{IsSealedWriter, last_writer, Stands}
+use Rattle.validation_engine.specs.Stands.{last_writer, Stands}
 use Rattle.validation_engine.proofs.Bad.{seal_stop-rule, passed_ticket}
-use Rattle.validation_engine.proofs.Indexed.{IsUnsealed, IsKept, unsealed_live, unsealed_none, kept_same, kept_added, added_has, sealed-changed, last-changed, cond_same, entries-changed, sealed_idle, sealed_withdrawn, sealed_on, entries_on}
+use Rattle.validation_engine.proofs.Indexed.{IsUnsealed, IsKept, unsealed_live, unsealed_none, kept_added, added_has, sealed-changed, last-changed, cond_same, entries-changed, sealed_idle, sealed_withdrawn, sealed_on, entries_on}
 use Rattle.validation_engine.proofs.Past.{one_writer, last_committed}
 
 -- an index that is kept, where the book is

@@ -1,21 +1,21 @@
 -- The last writer of a key that ended by commit: below every sealed one, and the last of those that ended since a run began.
-use Rattle.std.proofs.Common.{◌≡◌, ℕ, ◌+◌, ◌<◌, ◌≤◌, ◌⊎◌, Bool, true, false, ◌||◌, cond, Option, Some, None, List, [], ◌∷◌, inl, inr, refl, sym, ap, ◌∙◌, subst, arith}
+use Rattle.std.proofs.Common.{◌≡◌, ℕ, ◌+◌, ◌<◌, ◌≤◌, Bool, true, false, ◌||◌, cond, Option, Some, List, [], ◌∷◌, inl, inr, refl, sym, ap, ◌∙◌, subst, arith}
 use Rattle.std.proofs.lemmas.Bool.{cond-true, cond-false, cases_Bool, eqb-true}
 use Rattle.mdb_base.specs.declared.names.Engine.{Engine}
 use Rattle.mdb_base.specs.declared.names.Engine.TheVariants.{Validation}
 use Rattle.mdb_base.specs.declared.names.Key.{Key}
 use Rattle.mdb_base.specs.declared.names.Tid.{Tid}
 use Rattle.mdb_base.specs.Names.{same_tid, same_key}
-use Rattle.mdb_base.specs.Words.{some_of, with_some}
+use Rattle.mdb_base.specs.Words.{with_some}
 use Rattle.mdb_base.proofs.NameLaws.{same_tid-equal, same_tid-refl}
-use Rattle.fed_rules.specs.Runs.{Start, EngineLine, Begins, Acts, Takes, Seals, Refuses, Commits, Aborts, Access, Got, Wrote, Run, tid_of, changed, run_at, counter, number, committed_since}
-use Rattle.fed_rules.specs.Replies.{AtSealing, writes, has_written, seal_number}
+use Rattle.fed_rules.specs.Runs.{Start, EngineLine, Begins, Acts, Takes, Seals, Refuses, Commits, Aborts, Access, Got, Wrote, Run, tid_of, run_at, counter, number, committed_since}
+use Rattle.fed_rules.specs.Replies.{has_written, seal_number}
 use Rattle.fed_rules.specs.EngineLines.{IsRight, IsRightLine, IsStart, IsSealed}
 use Rattle.engine_laws.specs.Unended.{IsClear, has_write}
 use Rattle.engine_laws.proofs.Counted.{counted, counter_grows}
 use Rattle.engine_laws.proofs.Runs.{Own, begins, stays, got, wrote, takes, seals, own, at_line, number_is}
 use Rattle.engine_laws.proofs.ValidationRuns.{validation_sound}
-use Rattle.run_book.proofs.Ages.{BeginsAt, GoesOn, own_or_other, through_line, age-le, some_inj}
+use Rattle.run_book.proofs.Ages.{own_or_other, through_line, age-le, some_inj}
 use Rattle.run_book.proofs.Members.{Is}
 use Rattle.validation_engine.specs.declared.index.Ended.{Ended}
 use Rattle.validation_engine.specs.Stands.{IsSealedWriter, ended_last, last_writer}

@@ -22,7 +22,7 @@ use Rattle.run_book.proofs.Ages.{some_inj}
 use Rattle.run_book.proofs.Carried.{starts_well}
 use Rattle.validation_engine.specs.declared.index.Writers.{Writers}
 use Rattle.validation_engine.specs.declared.engine.ValidationEngine.{ValidationEngine}
-use Rattle.validation_engine.specs.Index.{Index, nobody, sealed_at, last_at, has_entry, with_rows_sealed, with_restored}
+use Rattle.validation_engine.specs.Index.{Index, nobody, sealed_at, last_at, with_rows_sealed, with_restored}
 use Rattle.validation_engine.specs.Stands.{IsSealedWriter, AreSealed, HaveEntries, Stands}
 use Rattle.validation_engine.proofs.Entries.{entry-put}
 

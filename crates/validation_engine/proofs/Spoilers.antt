@@ -1,6 +1,6 @@
 -- Who makes a key bad by the index is who makes it bad by the rule.
-use Rattle.std.proofs.Common.{◌≡◌, ℕ, ◌≤◌, nat_lt, Bool, true, false, not, ◌&&◌, cond, is_some, Option, Some, None, List, [], ◌∷◌, inl, inr, refl, sym, ap, ◌∙◌, arith}
-use Rattle.std.proofs.lemmas.Bool.{and_parts, and_from, cond-true, cond-false, ltb-true, ltb-false}
+use Rattle.std.proofs.Common.{◌≡◌, ℕ, ◌≤◌, nat_lt, Bool, true, false, not, ◌&&◌, cond, is_some, Option, Some, None, List, inl, inr, refl, sym, ap, ◌∙◌, arith}
+use Rattle.std.proofs.lemmas.Bool.{and_parts, and_from, ltb-true, ltb-false}
 use Rattle.mdb_base.specs.declared.names.Engine.TheVariants.{Validation}
 use Rattle.mdb_base.specs.declared.names.Key.{Key}
 use Rattle.mdb_base.specs.declared.names.Tid.{Tid}
@@ -20,7 +20,7 @@ use Rattle.run_book.proofs.Unended.{unended-is, is-unended}
 use Rattle.validation_engine.specs.declared.index.Ended.{Ended}
 use Rattle.validation_engine.specs.Index.{Index, sealed_at, last_at}
 use Rattle.validation_engine.specs.Rule.{ended_since, or_rival}
-use Rattle.validation_engine.specs.Stands.{IsSealedWriter, AreSealed, last_writer}
+use Rattle.validation_engine.specs.Stands.{AreSealed, last_writer}
 use Rattle.validation_engine.proofs.Past.{last_past, last_since}
 
 -- the run of the list with the greatest number, by its attempt

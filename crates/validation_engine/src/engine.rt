@@ -91,7 +91,8 @@ impl LocalEngine for ValidationEngine {
         let number = marks.counter + 1;
         self.book.seal(alloc, tid, number)?;
         let writer = Rival { tid, rank: number };
-        self.index.change(self.book.run(tid), Change::Sealed(writer));
+        self.index
+            .change(self.book.run(tid), Change::Sealed(writer));
         Ok(Sealed {
             number,
             ticket,

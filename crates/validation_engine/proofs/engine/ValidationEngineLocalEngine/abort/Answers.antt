@@ -1,4 +1,4 @@
-use Rattle.std.proofs.Common.{is_some, false, Option, Some, None, ℕ, sym, ap, ◌∙◌, ◌≡◌}
+use Rattle.std.proofs.Common.{is_some, Option, ℕ, sym, ap, ◌∙◌}
 use Rattle.validation_engine.proofs.Indexed.{kept_same}
 use Rattle.validation_engine.proofs.Lines.{stands_aborted, stands_given_up, some_number, no_number}
 use Rattle.validation_engine.proofs.engine.ValidationEngineLocalEngine.abort.Goals as goal
