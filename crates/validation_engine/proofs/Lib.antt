@@ -1,4 +1,7 @@
-pub mod Bad
-pub mod Last
-pub mod Lines
+pub mod Entries
+pub mod Past
 pub mod Spoilers
+pub mod Bad
+pub mod Indexed
+pub mod Lines
+pub mod Restored

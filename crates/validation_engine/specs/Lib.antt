@@ -1,2 +1,3 @@
+pub mod Index
 pub mod Rule
 pub mod Stands

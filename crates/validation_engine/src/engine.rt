@@ -1,17 +1,24 @@
 //! The validating engine.
+use crate::index::{Change, Ended, Index, writers_in_doubt};
 use crate::rule::seal_stop;
 use engine_contract::{Kept, LocalEngine, SealErr, Sealed};
 use mdb_base::{Key, Memory, Puts, Reply, Tid};
-use run_lists::{Granted, Marks, RunBook};
+use run_book::{Granted, Marks, Rival, RunBook};
 use std::alloc::Global;
 
 #[cfg(test)]
+mod plain;
+#[cfg(test)]
+mod table_tests;
+#[cfg(test)]
 mod tests;
 
-/// A local engine that grants every access, and tests a run when it is sealed. It keeps its runs in a book and scans them.
+/// A local engine that grants every access, and tests a run when it is sealed. It keeps its runs in a book, and beside it for each
+/// key who wrote it.
 #[derive(Drop)]
 pub struct ValidationEngine {
     book: RunBook,
+    index: Index,
 }
 
 impl ValidationEngine {
@@ -30,7 +37,10 @@ impl ValidationEngine {
             owner: None,
         };
         let book = RunBook::start(alloc, rows, &[], marks)?;
-        Ok(ValidationEngine { book })
+        Ok(ValidationEngine {
+            book,
+            index: Index::new(alloc),
+        })
     }
 }
 
@@ -42,11 +52,11 @@ impl LocalEngine for ValidationEngine {
 
     ghost stands = { Stands };
 
-    ghost of_kind = { λ engine start lines stood. stood.of_kind };
+    ghost of_kind = { λ engine start lines stood. stood.keeps.keeps.of_kind };
 
-    ghost starts = { λ engine start lines stood. stood.starts };
+    ghost starts = { λ engine start lines stood. stood.keeps.keeps.starts };
 
-    ghost right = { λ engine start lines stood. stood.right };
+    ghost right = { λ engine start lines stood. stood.keeps.keeps.right };
 
     fn begin(&mut self, alloc: Global, tid: Tid) -> Result<u64, Memory> {
         self.book.begin(alloc, tid)
@@ -59,26 +69,30 @@ impl LocalEngine for ValidationEngine {
     }
 
     fn write(&mut self, _alloc: Global, tid: Tid, key: Key, value: u64) -> Result<Reply, Memory> {
+        self.index.add(key)?;
         self.book.grant(tid, Granted::write(key, value))?;
         Ok(Reply::Done)
     }
 
-    fn take(&mut self, _alloc: Global, tid: Tid) -> Result<Reply, Memory> {
-        let ticket = self.book.marks().published + 1;
-        self.book.hold_ticket(tid, ticket);
+    fn take(&mut self, alloc: Global, tid: Tid) -> Result<Reply, Memory> {
+        let ticket = self.book.take(alloc, tid)?;
         Ok(Reply::Ticket(ticket))
     }
 
     fn seal(&mut self, alloc: Global, tid: Tid) -> Result<Sealed, SealErr> {
+        let marks = self.book.marks();
         let run = self.book.run(tid);
-        if let Some(why) = seal_stop(&self.book, run) {
+        if let Some(why) = seal_stop(&self.index, marks, run) {
             let _refused = self.book.take_out(tid);
             return Err(SealErr::Refused(why));
         }
         let writes = run.puts(alloc)?;
         let ticket = run.ticket();
-        let number = self.book.marks().counter + 1;
+        let number = marks.counter + 1;
         self.book.seal(alloc, tid, number)?;
+        let writer = Rival { tid, rank: number };
+        self.index
+            .change(self.book.run(tid), Change::Sealed(writer));
         Ok(Sealed {
             number,
             ticket,
@@ -92,14 +106,24 @@ impl LocalEngine for ValidationEngine {
 
     fn unseal(&mut self, tid: Tid) {
         self.book.unseal(tid);
+        self.index.change(self.book.run(tid), Change::Withdrawn);
     }
 
     fn commit(&mut self, tid: Tid) {
-        self.book.commit(tid);
+        let run = self.book.commit(tid);
+        let ended = Ended {
+            tid: run.tid(),
+            number: run.number(),
+            moment: self.book.marks().counter,
+        };
+        self.index.change(&run, Change::Committed(ended));
     }
 
     fn abort(&mut self, tid: Tid) {
-        let _aborted = self.book.take_out(tid);
+        let run = self.book.take_out(tid);
+        if run.sealed().is_some() {
+            self.index.change(&run, Change::Withdrawn);
+        }
     }
 
     fn restart(
@@ -116,7 +140,9 @@ impl LocalEngine for ValidationEngine {
             published,
             owner,
         };
+        let index = writers_in_doubt(alloc, doubtful)?;
         self.book = RunBook::start(alloc, rows, doubtful, marks)?;
+        self.index = index;
         Ok(())
     }
 

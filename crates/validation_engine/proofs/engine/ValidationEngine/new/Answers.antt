@@ -1,6 +1,6 @@
-use Rattle.mdb_base.specs.declared.names.Engine.TheVariants.{Validation}
-use Rattle.run_lists.proofs.Starts.{keeps_fresh}
+use Rattle.std.proofs.Common.{None, []}
+use Rattle.validation_engine.proofs.Restored.{stands_started}
 use Rattle.validation_engine.proofs.engine.ValidationEngine.new.Goals as goal
 
 pub returns : goal.returns
-returns c = rw c.in_ok-book.ensures.book (keeps_fresh Validation c.args.rows.now c.in_ok-book.ensures.rising)
+returns c = stands_started _ c.args.rows.now [] 0 0 None c.in_ok-book.ensures.rising (record { numbered = tt; apart = tt }) c.in_ok-book.ensures.book c.new.ensures

@@ -1,12 +1,26 @@
+use Rattle.std.proofs.Common.{ℕ, sym, ap, ◌∙◌, subst}
 use Rattle.mdb_base.specs.declared.names.Engine.TheVariants.{Validation}
-use Rattle.run_lists.proofs.Calls.{run_at-held}
-use Rattle.run_lists.proofs.Commits.{keeps_commits}
-use Rattle.run_lists.proofs.HeldBy.{sealed_held}
+use Rattle.mdb_base.specs.declared.names.Tid.{Tid}
+use Rattle.run_book.specs.declared.marks.Marks.{Marks}
+use Rattle.run_book.specs.Held.{Held}
+use Rattle.run_book.specs.Book.{Book}
+use Rattle.run_book.proofs.Ages.{some_inj}
+use Rattle.run_book.proofs.HeldBy.{sealed_held}
+use Rattle.validation_engine.specs.declared.index.Change.TheVariants.{Committed}
+use Rattle.validation_engine.specs.Index.{Index, IsChanged}
+use Rattle.validation_engine.proofs.Lines.{stands_committed}
 use Rattle.validation_engine.proofs.engine.ValidationEngineLocalEngine.commit.Goals as goal
 
 pub returns : goal.returns
 returns c =
-    let book = c.args.self.now.book in
-    let here = sealed_held Validation book c.requires.start c.requires.lines c.args.tid c.requires.stood c.requires.holds in
-    λ start lines k. rw c.commit.ensures
-    (keeps_commits Validation book start lines c.args.tid k (here.held.run, here.number, (run_at-held Validation book start lines c.args.tid here.held k here.found, here.sealed)))
+    let old = c.args.self.now in
+    let book = old.book.book in
+    let here = sealed_held Validation book c.requires.start c.requires.lines c.args.tid c.requires.stood.keeps.keeps c.requires.holds in
+    let held = c.commit-run.result in
+    let same = some_inj held here.held (sym c.commit-run.ensures.run ∙ here.found) in
+    let moment = ap (λ (m : Marks). m.counter) c.marks.ensures ∙ ap (λ (b : Book). b.marks.counter) c.commit-run.ensures.book in
+    let new : Index = c.change.new.self in
+    let named = subst (λ (t : Tid). IsChanged (Committed (record { tid = t; number = c.number.result; moment = c.marks.result.counter })) held.run.acts old.index new) c.tid.ensures c.change.ensures in
+    let changed = subst (λ (n : ℕ). IsChanged (Committed (record { tid = held.run.tid; number = n; moment = c.marks.result.counter })) held.run.acts old.index new) c.number.ensures named in
+    λ start lines s.
+    stands_committed old start lines s c.args.tid held c.commit-run.ensures.run _ here.number c.marks.result.counter (ap (λ (h : Held). h.run.sealed) same ∙ here.sealed) moment c.commit-run.ensures.book changed

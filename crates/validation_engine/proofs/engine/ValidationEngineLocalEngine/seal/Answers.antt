@@ -1,50 +1,67 @@
-use Rattle.std.proofs.Common.{◌+◌, None, ◌∙◌, sym, ap}
+use Rattle.std.proofs.Common.{◌≡◌, ◌+◌, Some, IfSome, Option, sym, ap, ◌∙◌}
 use Rattle.mdb_base.specs.declared.names.Engine.TheVariants.{Validation}
-use Rattle.fed_rules.specs.Runs.{Run}
-use Rattle.fed_rules.specs.Replies.{seal_stop}
-use Rattle.run_lists.specs.declared.marks.Marks.{Marks}
-use Rattle.run_lists.specs.Held.{Held}
-use Rattle.run_lists.proofs.Ages.{some_inj}
-use Rattle.run_lists.proofs.Calls.{run_at-held}
-use Rattle.run_lists.proofs.HeldBy.{sealable_held}
-use Rattle.validation_engine.specs.Rule.{seal_stop_in}
-use Rattle.validation_engine.proofs.Lines.{keeps_sealing, keeps_refusal, stops, hides_none}
+use Rattle.mdb_base.specs.Words.{map_some}
+use Rattle.run_book.specs.declared.marks.Marks.{Marks}
+use Rattle.run_book.specs.Held.{Held, held_in}
+use Rattle.run_book.specs.Book.{Book, sealed_with}
+use Rattle.run_book.proofs.Ages.{some_inj}
+use Rattle.run_book.proofs.HeldBy.{sealable_held, some-found}
+use Rattle.run_book.proofs.InOrder.{if_found}
+use Rattle.run_book.proofs.RunMaps.{held_in-changed_own}
+use Rattle.validation_engine.proofs.Indexed.{kept_same}
+use Rattle.validation_engine.proofs.Lines.{next_ticket, stands_refused, stands_sealed, stop_found, passes_rule, hides_none}
 use Rattle.validation_engine.proofs.engine.ValidationEngineLocalEngine.seal.Goals as goal
-
-pub returns-clause-sealed : goal.returns-clause-sealed
-returns-clause-sealed c =
-    let book = c.args.self.now.book in
-    let here = sealable_held Validation book c.requires.start c.requires.lines c.args.tid c.requires.stood c.requires.holds in
-    let one = some_inj here.held c.run-run.result.now (sym here.found ∙ c.run-run.ensures) in
-    let free = ap (λ (held : Held). seal_stop_in book held.run) one ∙ (sym c.seal_stop.ensures ∙ c.in_default.is) in
-    λ start lines k. rw c.in_ok-seal.ensures.sealed
-    (keeps_sealing book start lines k c.args.tid here.held here.found _ here.live free (ap (λ (marks : Marks). marks.counter + 1) c.marks-number.ensures))
 
 pub returns-in-Some-clause-failed : goal.returns-in-Some-clause-failed
 returns-in-Some-clause-failed c =
-    let book = c.args.self.now.book in
-    let here = sealable_held Validation book c.requires.start c.requires.lines c.args.tid c.requires.stood c.requires.holds in
-    let one = some_inj here.held c.run-run.result.now (sym here.found ∙ c.run-run.ensures) in
-    let refused = ap (λ (held : Held). seal_stop_in book held.run) one ∙ (sym c.seal_stop.ensures ∙ c.in-Some.is) in
-    λ start lines k. rw c.take_out-refused.ensures.book
-    (keeps_refusal book start lines k c.args.tid here.held here.found c.in-Some.why here.live refused)
+    let old = c.args.self.now in
+    let here = sealable_held Validation old.book.book c.requires.start c.requires.lines c.args.tid c.requires.stood.keeps.keeps c.requires.holds in
+    let refused = stop_found old.index old.book.book c.args.tid here.held c.run-run.result.now c.marks-marks.result _ here.found c.run-run.ensures c.marks-marks.ensures (sym c.seal_stop.ensures ∙ c.in-Some.is) in
+    λ start lines s. stands_refused old start lines s c.args.tid here.held here.found _ c.in-Some.why here.live refused c.take_out-refused.ensures.book (kept_same old.index)
 
 pub returns-in_err-writes-clause-unhidden : goal.returns-in_err-writes-clause-unhidden
 returns-in_err-writes-clause-unhidden c =
-    let book = c.args.self.now.book in
-    let here = sealable_held Validation book c.requires.start c.requires.lines c.args.tid c.requires.stood c.requires.holds in
-    let one = some_inj here.held c.run-run.result.now (sym here.found ∙ c.run-run.ensures) in
-    let free = ap (λ (held : Held). seal_stop_in book held.run) one ∙ (sym c.seal_stop.ensures ∙ c.in_default.is) in
-    hides_none _ c.args.self.now c.args.tid (λ start lines k run at.
-    let is = some_inj here.held.run run (sym (run_at-held Validation book start lines c.args.tid here.held k here.found) ∙ at) in
-    ap (λ (r : Run). seal_stop start.kind start lines r) (sym is) ∙ stops book start lines k c.args.tid here.held here.found None free)
+    let old = c.args.self.now in
+    let here = sealable_held Validation old.book.book c.requires.start c.requires.lines c.args.tid c.requires.stood.keeps.keeps c.requires.holds in
+    let passed = stop_found old.index old.book.book c.args.tid here.held c.run-run.result.now c.marks-marks.result _ here.found c.run-run.ensures c.marks-marks.ensures (sym c.seal_stop.ensures ∙ c.in_default.is) in
+    hides_none _ old c.args.tid (passes_rule old c.args.tid here.held here.found here.live passed)
+
+pub seal-requires-clause-next : goal.seal-requires-clause-next
+seal-requires-clause-next c =
+    let old = c.args.self.now in
+    let here = sealable_held Validation old.book.book c.requires.start c.requires.lines c.args.tid c.requires.stood.keeps.keeps c.requires.holds in
+    let passed = stop_found old.index old.book.book c.args.tid here.held c.run-run.result.now c.marks-marks.result _ here.found c.run-run.ensures c.marks-marks.ensures (sym c.seal_stop.ensures ∙ c.in_default.is) in
+    if_found (λ h. IfSome h.run.ticket (λ t. t ≡ old.book.book.marks.published + 1)) _ here.held here.found
+    (next_ticket old c.requires.start c.requires.lines c.requires.stood c.args.tid here.held here.found here.live passed)
 
 pub returns-in_err-seal-clause-unhidden : goal.returns-in_err-seal-clause-unhidden
 returns-in_err-seal-clause-unhidden c =
-    let book = c.args.self.now.book in
-    let here = sealable_held Validation book c.requires.start c.requires.lines c.args.tid c.requires.stood c.requires.holds in
-    let one = some_inj here.held c.run-run.result.now (sym here.found ∙ c.run-run.ensures) in
-    let free = ap (λ (held : Held). seal_stop_in book held.run) one ∙ (sym c.seal_stop.ensures ∙ c.in_default.is) in
-    hides_none _ c.args.self.now c.args.tid (λ start lines k run at.
-    let is = some_inj here.held.run run (sym (run_at-held Validation book start lines c.args.tid here.held k here.found) ∙ at) in
-    ap (λ (r : Run). seal_stop start.kind start lines r) (sym is) ∙ stops book start lines k c.args.tid here.held here.found None free)
+    let old = c.args.self.now in
+    let here = sealable_held Validation old.book.book c.requires.start c.requires.lines c.args.tid c.requires.stood.keeps.keeps c.requires.holds in
+    let passed = stop_found old.index old.book.book c.args.tid here.held c.run-run.result.now c.marks-marks.result _ here.found c.run-run.ensures c.marks-marks.ensures (sym c.seal_stop.ensures ∙ c.in_default.is) in
+    hides_none _ old c.args.tid (passes_rule old c.args.tid here.held here.found here.live passed)
+
+pub run-requires : goal.run-requires
+run-requires c =
+    let book = c.args.self.now.book.book in
+    let here = sealable_held Validation book c.requires.start c.requires.lines c.args.tid c.requires.stood.keeps.keeps c.requires.holds in
+    let change = sealed_with (c.marks-marks.result.counter + 1) book.marks in
+    some-found _ (change here.held)
+    (ap (λ (b : Book). held_in b.runs c.args.tid) c.in_ok-seal.ensures.sealed
+    ∙ (held_in-changed_own book.runs c.args.tid change ∙ ap (λ (o : Option Held). map_some change o) here.found))
+
+pub returns-clause-sealed : goal.returns-clause-sealed
+returns-clause-sealed c =
+    let old = c.args.self.now in
+    let book = old.book.book in
+    let n = c.marks-marks.result.counter + 1 in
+    let here = sealable_held Validation book c.requires.start c.requires.lines c.args.tid c.requires.stood.keeps.keeps c.requires.holds in
+    let passed = stop_found old.index book c.args.tid here.held c.run-run.result.now c.marks-marks.result _ here.found c.run-run.ensures c.marks-marks.ensures (sym c.seal_stop.ensures ∙ c.in_default.is) in
+    let change = sealed_with n book.marks in
+    let then : held_in c.seal.new.self.book.runs c.args.tid ≡ Some (change here.held) =
+    ap (λ (b : Book). held_in b.runs c.args.tid) c.in_ok-seal.ensures.sealed
+    ∙ (held_in-changed_own book.runs c.args.tid change ∙ ap (λ (o : Option Held). map_some change o) here.found) in
+    let same = some_inj c.run.result.now (change here.held) (sym c.run.ensures ∙ then) in
+    λ start lines s.
+    stands_sealed old start lines s c.args.tid here.held here.found _ n c.run.result.now.run.acts here.live passed (ap (λ (m : Marks). m.counter + 1) c.marks-marks.ensures)
+    c.in_ok-seal.ensures.sealed c.in_ok-seal.ensures.room (ap (λ (h : Held). h.run.acts) same) c.change.ensures
