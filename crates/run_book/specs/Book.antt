@@ -7,6 +7,7 @@ use Rattle.mdb_base.specs.Rows.{Table}
 use Rattle.mdb_base.specs.Words.{or_else, map_some}
 use Rattle.fed_rules.specs.declared.runs.Kept.{Kept}
 use Rattle.fed_rules.specs.Runs.{Access, restored, begun, number, has_ticket}
+use Rattle.site_tables.specs.Numbers.{number_of}
 use Rattle.site_tables.specs.Tables.{Versions, value_of}
 use Rattle.run_book.specs.declared.marks.Marks.{Marks}
 use Rattle.run_book.specs.Held.{Held, Runs, held_in, with_run, changed_in, without}
@@ -105,3 +106,7 @@ commits tid book =
 -- the value of each key in the table
 abbrev pub table_in : Book → Table
 table_in book key = value_of (get book.versions key.0)
+
+-- the number of each key's last writer in the table
+abbrev pub number_in : Book → Key → ℕ
+number_in book key = number_of (get book.versions key.0)
