@@ -1,6 +1,7 @@
 -- What a run book holds, and what each of its calls makes of it.
 use Rattle.std.specs.Prelude.{ℕ, ◌+◌, ◌-◌, max, nat_lt, cond, Option, Some, None, List, [], ◌∷◌}
 use Rattle.std.specs.FinMap.{empty, get}
+use Rattle.mdb_base.specs.declared.names.Key.{Key}
 use Rattle.mdb_base.specs.declared.names.Tid.{Tid}
 use Rattle.mdb_base.specs.declared.rows.Put.{Put}
 use Rattle.mdb_base.specs.Rows.{Table}
