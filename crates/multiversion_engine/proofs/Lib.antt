@@ -1,0 +1,4 @@
+pub mod ByAge
+pub mod Places
+pub mod Pruned
+pub mod Ranges

@@ -1,0 +1,2 @@
+pub mod OldVersions
+pub mod Unended
