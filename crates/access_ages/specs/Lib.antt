@@ -1,0 +1,5 @@
+pub mod Ages
+pub mod Laws
+pub mod Lines
+pub mod Stops
+pub mod Takers
