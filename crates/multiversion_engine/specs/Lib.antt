@@ -1,2 +1,4 @@
+pub mod Laws
 pub mod OldVersions
 pub mod Unended
+pub mod Versions

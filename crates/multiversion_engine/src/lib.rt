@@ -1,6 +1,7 @@
 //! Multiversion timestamp order with strict writes (Bernstein, Hadzilacos, Goodman 1987).
 #![tactic(auto)]
 
+mod laws;
 mod old_versions;
 mod unended;
 
