@@ -1,3 +1,4 @@
+pub mod Ages
 pub mod ByAge
 pub mod Commits
 pub mod KeptBelow

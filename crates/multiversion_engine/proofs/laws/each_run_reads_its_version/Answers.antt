@@ -1,3 +1,4 @@
+use Rattle.multiversion_engine.proofs.Ages.{no_age}
 use Rattle.multiversion_engine.proofs.Commits.{grows}
 use Rattle.multiversion_engine.proofs.TakenBack.{versions_unseal}
 use Rattle.multiversion_engine.proofs.Versions.{gives_table}
