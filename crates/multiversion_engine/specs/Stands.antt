@@ -1,9 +1,11 @@
 -- What a multiversion engine stands for.
 use Rattle.std.specs.Prelude.{ℕ, ◌≡◌, true, cond, Option, None, List, ◌∷◌}
+use Rattle.std.specs.FinMap.{get}
 use Rattle.mdb_base.specs.declared.names.Engine.TheVariants.{Multiversion}
 use Rattle.mdb_base.specs.declared.names.Key.{Key}
 use Rattle.mdb_base.specs.declared.names.Tid.{Tid}
 use Rattle.mdb_base.specs.declared.acts.PlainAct.TheVariants.{Write}
+use Rattle.mdb_base.specs.Words.{or_else}
 use Rattle.mdb_base.specs.declared.replies.Reply.{Reply}
 use Rattle.mdb_base.specs.declared.replies.Reply.TheVariants.{Refused}
 
@@ -13,9 +15,12 @@ use Rattle.fed_rules.specs.Replies.{has_written}
 use Rattle.access_ages.specs.Ages.{Ages, ages_of}
 use Rattle.access_ages.specs.Stops.{key_stop, writer_stop}
 use Rattle.access_ages.specs.Lines.{KeepsAges}
+use Rattle.run_book.specs.Held.{own_write}
+use Rattle.run_book.specs.Book.{Book}
 use Rattle.run_book.specs.Keeps.{KeepsRoomy}
 use Rattle.multiversion_engine.specs.Unended.{AreUnended}
-use Rattle.multiversion_engine.specs.Versions.{AreVersions}
+use Rattle.multiversion_engine.specs.OldVersions.{Olds}
+use Rattle.multiversion_engine.specs.Versions.{AreVersions, IsValueAt}
 use Rattle.multiversion_engine.specs.declared.engine.MultiversionEngine.{MultiversionEngine}
 
 -- the book holds what the lines say by the multiversion rule, and beside it stand who accessed each key and who has taken the ticket, the
@@ -33,6 +38,10 @@ read_stop accesses run key = cond (has_written key run) None (writer_stop (ages_
 -- what stops a write
 abbrev pub write_stop : Ages → Run → Key → ℕ → Option Reply
 write_stop accesses run key value = key_stop (ages_of accesses key) run.age (Write key value)
+
+-- what a run reads of a key: its own last write, and else the version of its age
+abbrev pub IsValueFor : Book → Olds → Run → Key → ℕ → Type 0
+IsValueFor book olds run key value = (old : ℕ) × IsValueAt (get book.versions key.0) olds run.age key old × (value ≡ or_else (own_write key run.acts) old)
 
 -- whether a line ends its run otherwise than by commit
 abbrev pub EndsBy : Tid → EngineLine → Type 0
