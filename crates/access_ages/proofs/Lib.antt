@@ -1,1 +1,12 @@
+pub mod Commits
+pub mod Listed
+pub mod Live
+pub mod Outcomes
+pub mod Readers
+pub mod Rules
+pub mod Steps
+pub mod TicketRules
+pub mod Tickets
 pub mod Trees
+pub mod Writers
+pub mod Youngest

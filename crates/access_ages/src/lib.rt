@@ -4,8 +4,10 @@
 
 mod accesses;
 mod key_ages;
+mod laws;
 mod takers;
 
 pub use accesses::AccessAges;
 pub use key_ages::KeyAges;
+pub use laws::{the_ages_answer_as_the_rules, the_ages_follow_the_lines};
 pub use takers::TicketAges;

@@ -112,7 +112,7 @@ lists_older start lines me act right =
     (lists_those (unended start lines) (IsUnended start lines) (λ run. is_older me run && has_written (key_of act) run)
     (lists_unended start lines right))
 
-lists_younger_takers : (start : Start) (lines : List EngineLine) (me : Run) → IsRight start lines
+pub lists_younger_takers : (start : Start) (lines : List EngineLine) (me : Run) → IsRight start lines
     → Lists (younger_takers start lines me) (IsYoungerTaker start lines me)
 lists_younger_takers start lines me right =
     lists_as (younger_takers start lines me)
@@ -127,7 +127,7 @@ lists_younger_takers start lines me right =
     (lists_append (unended start lines) (committed start lines) (IsUnended start lines)
     (λ run. IsAmong run (committed start lines)) (lists_unended start lines right) (lists_self (committed start lines))))
 
-lists_older_takers : (start : Start) (lines : List EngineLine) (me : Run) → IsRight start lines
+pub lists_older_takers : (start : Start) (lines : List EngineLine) (me : Run) → IsRight start lines
     → Lists (older_takers start lines me) (IsOlderTaker start lines me)
 lists_older_takers start lines me right =
     lists_as (older_takers start lines me) (λ run. IsUnended start lines run
@@ -163,7 +163,7 @@ drew_younger start lines me act run drew h = by_way h.conflict
     by_way (inr (inl (among, conflict))) = each_among (IsDrawer start lines) run (committed start lines) drew.committed among
     by_way (inr (inr (among, conflict))) = each_among (IsDrawer start lines) run (aborted start lines) drew.aborted among
 
-drew_taker : (start : Start) (lines : List EngineLine) (me run : Run) → AllDrew start lines → IsYoungerTaker start lines me run
+pub drew_taker : (start : Start) (lines : List EngineLine) (me run : Run) → AllDrew start lines → IsYoungerTaker start lines me run
     → IsDrawer start lines run
 drew_taker start lines me run drew h = by_way h.counts
   where
@@ -194,7 +194,7 @@ one_writer start lines key a b sound at_a at_b wrote_a wrote_b = by_test (same_t
     by_test false is = absurd (apart (sound.apart a.tid b.tid a b is at_a at_b a.age b.age refl refl))
 
 -- at most one unsealed run has the ticket
-one_taker : (start : Start) (lines : List EngineLine) (me a b : Run) → HasOneTaker start lines → IsOlderTaker start lines me a
+pub one_taker : (start : Start) (lines : List EngineLine) (me a b : Run) → HasOneTaker start lines → IsOlderTaker start lines me a
     → IsOlderTaker start lines me b → a.tid ≡ b.tid
 one_taker start lines me a b one h g = by_test (same_tid a.tid b.tid) refl
   where

@@ -1,0 +1,23 @@
+use Rattle.mdb_base.specs.declared.names.Engine.TheVariants.{Timestamp, Multiversion}
+use Rattle.engine_laws.proofs.TimestampRuns.{timestamp_by_age}
+use Rattle.engine_laws.proofs.MultiversionRuns.{multiversion_by_age}
+use Rattle.access_ages.proofs.Steps.{follows_begins, follows_calls, follows_starts, follows_unseals}
+use Rattle.access_ages.proofs.laws.the_ages_follow_the_lines.Goals as goal
+
+pub returns-clause-starts : goal.returns-clause-starts
+returns-clause-starts c = follows_starts
+
+pub returns-clause-begins : goal.returns-clause-begins
+returns-clause-begins c = follows_begins
+
+pub returns-clause-calls : goal.returns-clause-calls
+returns-clause-calls c = follows_calls Timestamp timestamp_by_age
+
+pub returns-clause-calls_too : goal.returns-clause-calls_too
+returns-clause-calls_too c = follows_calls Multiversion multiversion_by_age
+
+pub returns-clause-unseals : goal.returns-clause-unseals
+returns-clause-unseals c = follows_unseals Timestamp timestamp_by_age
+
+pub returns-clause-unseals_too : goal.returns-clause-unseals_too
+returns-clause-unseals_too c = follows_unseals Multiversion multiversion_by_age
