@@ -1,9 +1,13 @@
 pub mod Ages
+pub mod Back
 pub mod ByAge
 pub mod Commits
 pub mod KeptBelow
+pub mod Lines
 pub mod Places
 pub mod Pruned
 pub mod Ranges
+pub mod Replies
+pub mod Starts
 pub mod TakenBack
 pub mod Versions

@@ -35,7 +35,7 @@ use Rattle.multiversion_engine.specs.declared.old_versions.Place.{Place}
 use Rattle.multiversion_engine.specs.declared.old_versions.OldVersion.{OldVersion}
 use Rattle.multiversion_engine.specs.OldVersions.{Olds, place_of, IsLastBelow, IsUnread, Prunes, value_in, writes_key}
 use Rattle.multiversion_engine.specs.Unended.{ByAge}
-use Rattle.multiversion_engine.specs.Versions.{newest, version_below, IsThere, AreVersions, IsValueAt}
+use Rattle.multiversion_engine.specs.Versions.{newest, version_below, IsThere, AreVersions, IsNewestOr, IsValueAt}
 use Rattle.multiversion_engine.proofs.KeptBelow.{newer_number, not_newer, newest-below, below-less, written-grows, written-least, kept-below, no_own, some_own, newer_clear}
 use Rattle.multiversion_engine.proofs.Places.{same_place, place-equal, self_place, version-put}
 use Rattle.multiversion_engine.proofs.Pruned.{left_there}
@@ -65,8 +65,8 @@ old_one olds key age mine (Some version) less there ordered last = by_less (nat_
 -- each unended run finds the value that the runs with smaller numbers left
 pub gives_table : (olds : Olds) (start : Start) (lines : List EngineLine) (tid : Tid) (run : Run) (key : Key) (value : ℕ) → IsStart start → IsRight start lines → AreVersions olds start lines →
     run_at start lines tid ≡ Some run → IsValueAt (newest start lines key) olds run.age key value → value ≡ table_before start lines run key
-gives_table olds start lines tid run key value starts right h at (old, (o, last, is_old), is) =
-    is ∙ (by_test (nat_lt (number_of now) run.age) refl ∙ value-kept_after start.rows (below run.age (committed start lines)) key)
+gives_table olds start lines tid run key value starts right h at is =
+    by_test (nat_lt (number_of now) run.age) refl is ∙ value-kept_after start.rows (below run.age (committed start lines)) key
   where
     now : Option Version
     now = newest start lines key
@@ -74,9 +74,9 @@ gives_table olds start lines tid run key value starts right h at (old, (o, last,
     some : 0 < run.age
     some = age_some start lines tid run starts right at
 
-    by_test : (b : Bool) → nat_lt (number_of now) run.age ≡ b → cond b (value_of now) old ≡ value_of (version_below start lines run.age key)
-    by_test true e = ap value_of (sym (newest-below run.age start.rows (committed start lines) key (newer_number run.age now some ∙ e)))
-    by_test false e =
+    by_test : (b : Bool) → nat_lt (number_of now) run.age ≡ b → IsNewestOr b now olds run.age key value → value ≡ value_of (version_below start lines run.age key)
+    by_test true e is = is ∙ ap value_of (sym (newest-below run.age start.rows (committed start lines) key (newer_number run.age now some ∙ e)))
+    by_test false e (o, last, is_old) =
         is_old
         ∙ old_one olds key run.age (version_below start lines run.age key) o (below-less run.age start.rows (committed start lines) key some)
         (h.kept tid run key at (newer_number run.age now some ∙ e)) (λ n v there less. h.ordered key n v run.age there less) last

@@ -1,11 +1,10 @@
 -- What a multiversion engine stands for.
-use Rattle.std.specs.Prelude.{ℕ, ◌≡◌, true, cond, Option, None, List, ◌∷◌}
+use Rattle.std.specs.Prelude.{ℕ, ◌≡◌, true, cond, Option, Some, None, List, ◌∷◌}
 use Rattle.std.specs.FinMap.{get}
 use Rattle.mdb_base.specs.declared.names.Engine.TheVariants.{Multiversion}
 use Rattle.mdb_base.specs.declared.names.Key.{Key}
 use Rattle.mdb_base.specs.declared.names.Tid.{Tid}
 use Rattle.mdb_base.specs.declared.acts.PlainAct.TheVariants.{Write}
-use Rattle.mdb_base.specs.Words.{or_else}
 use Rattle.mdb_base.specs.declared.replies.Reply.{Reply}
 use Rattle.mdb_base.specs.declared.replies.Reply.TheVariants.{Refused}
 
@@ -39,9 +38,14 @@ read_stop accesses run key = cond (has_written key run) None (writer_stop (ages_
 abbrev pub write_stop : Ages → Run → Key → ℕ → Option Reply
 write_stop accesses run key value = key_stop (ages_of accesses key) run.age (Write key value)
 
+-- the own write of a run is read, or else the version of its age
+abbrev pub IsOwnOr : Option ℕ → Book → Olds → ℕ → Key → ℕ → Type 0
+IsOwnOr (Some own) book olds age key value = value ≡ own
+IsOwnOr None book olds age key value = IsValueAt (get book.versions key.0) olds age key value
+
 -- what a run reads of a key: its own last write, and else the version of its age
 abbrev pub IsValueFor : Book → Olds → Run → Key → ℕ → Type 0
-IsValueFor book olds run key value = (old : ℕ) × IsValueAt (get book.versions key.0) olds run.age key old × (value ≡ or_else (own_write key run.acts) old)
+IsValueFor book olds run key value = IsOwnOr (own_write key run.acts) book olds run.age key value
 
 -- whether a line ends its run otherwise than by commit
 abbrev pub EndsBy : Tid → EngineLine → Type 0

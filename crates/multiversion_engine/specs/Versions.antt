@@ -1,5 +1,5 @@
 -- Which versions of a key the runs of a site read, and where each of them finds its own.
-use Rattle.std.specs.Prelude.{ℕ, ◌≡◌, ◌<◌, ◌≤◌, true, false, cond, nat_lt, Option, Some, List}
+use Rattle.std.specs.Prelude.{ℕ, ◌≡◌, ◌<◌, ◌≤◌, Bool, true, false, nat_lt, Option, Some, List}
 use Rattle.std.specs.FinMap.{get}
 use Rattle.mdb_base.specs.declared.names.Key.{Key}
 use Rattle.mdb_base.specs.declared.names.Tid.{Tid}
@@ -35,6 +35,11 @@ pub record AreVersions (olds : Olds) (start : Start) (lines : List EngineLine) :
   pub noted : (tid : Tid) (run : Run) (key : Key) → run_at start lines tid ≡ Some run → has_written key run ≡ true
       → IsThere olds key (newest start lines key)
 
--- what a run of this age reads of a key: the newest version, where it is above its number, and else the last old one below
+-- the newest version is read, or else the last old one below the age
+abbrev pub IsNewestOr : Bool → Option Version → Olds → ℕ → Key → ℕ → Type 0
+IsNewestOr true kept olds age key value = value ≡ value_of kept
+IsNewestOr false kept olds age key value = IsValueBelow olds key age value
+
+-- what a run of this age reads of a key: the newest version, where the age is above its number, and else the last old one below the age
 abbrev pub IsValueAt : Option Version → Olds → ℕ → Key → ℕ → Type 0
-IsValueAt kept olds age key value = (old : ℕ) × IsValueBelow olds key age old × (value ≡ cond (nat_lt (number_of kept) age) (value_of kept) old)
+IsValueAt kept olds age key value = IsNewestOr (nat_lt (number_of kept) age) kept olds age key value
