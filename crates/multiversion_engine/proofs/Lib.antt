@@ -4,6 +4,7 @@ pub mod ByAge
 pub mod Commits
 pub mod KeptBelow
 pub mod Lines
+pub mod Noting
 pub mod Places
 pub mod Pruned
 pub mod Ranges

@@ -19,8 +19,8 @@ use Rattle.access_ages.specs.Laws.{AreNow, IsNoted, where_written}
 use Rattle.access_ages.specs.Lines.{KeepsAges}
 use Rattle.access_ages.proofs.Steps.{follows_begins, follows_calls}
 use Rattle.run_book.specs.Held.{Held, held_in}
-use Rattle.run_book.specs.Book.{RoomyBook, begins, drops, commits}
-use Rattle.run_book.specs.Keeps.{KeepsRoomy}
+use Rattle.run_book.specs.Book.{Book, begins, drops, commits}
+use Rattle.run_book.specs.Keeps.{Keeps, KeepsRoomy}
 use Rattle.run_book.specs.Laws.{IsCalled}
 use Rattle.run_book.proofs.Ages.{age-le, ages-differ}
 use Rattle.run_book.proofs.Calls.{run_at-held}
@@ -34,6 +34,21 @@ use Rattle.multiversion_engine.proofs.Ages.{ChangesOne, unended_on, unended_more
 use Rattle.multiversion_engine.proofs.Commits.{versions_commit}
 use Rattle.multiversion_engine.proofs.Versions.{is_commit, NotesItsWrite, versions_next}
 use Rattle.fed_rules.specs.Runs.{number}
+
+-- a call that changes nothing, but that it may leave more room, and old versions that serve as well
+pub stands_kept : (old new : MultiversionEngine) (start : Start) (lines : List EngineLine) → Stands old start lines → new.book.book ≡ old.book.book → old.book.room ≤ new.book.room →
+    AreNow new.accesses (ages_of old.accesses) → new.takers ≡ old.takers → new.unended ≡ old.unended → AreVersions new.olds start lines → Stands new start lines
+stands_kept old new start lines s book room accesses takers unended versions = record {
+  keeps = record { keeps = subst (λ (b : Book). Keeps Multiversion b start lines) (sym book) s.keeps.keeps; room = let had = s.keeps.room in omega arith };
+  ages = record {
+    keys = λ key. accesses key ∙ s.ages.keys key;
+    unended = ap (λ (t : Takers). t.unended) takers ∙ s.ages.unended;
+    live = ap (λ (t : Takers). t.live) takers ∙ s.ages.live;
+    committed = ap (λ (t : Takers). t.committed) takers ∙ s.ages.committed;
+  };
+  unended = subst (λ (m : ByAge). AreUnended m (run_at start lines)) (sym unended) s.unended;
+  versions = versions;
+}
 
 -- one run changes at a line
 pub changes : (start : Start) (older : List EngineLine) (line : EngineLine) (was is : Option Run) → run_at start older (tid_of line) ≡ was → changed line was ≡ is →
