@@ -1,26 +1,25 @@
 -- The old versions through a commit: each run that isn't ended still finds its own, also once those are dropped that no run reads.
-use Rattle.std.proofs.Common.{◌≡◌, ℕ, ◌<◌, ◌≤◌, ◌⊎◌, Bool, true, false, cond, is_some, nat_lt, Option, Some, None, IsSome, List, [], ◌∷◌, inl, inr, refl, sym, ap, ◌∙◌, subst, arith}
+use Rattle.std.proofs.Common.{◌≡◌, ℕ, ◌<◌, ◌≤◌, Bool, true, false, cond, nat_lt, Option, Some, None, IsSome, List, ◌∷◌, inl, inr, refl, sym, ap, ◌∙◌, subst, arith}
 use Rattle.std.specs.FinMap.{get}
-use Rattle.std.proofs.lemmas.Bool.{cond-true, cond-false, cases_Bool, ltb-true, ltb-false, lt-ltb, le-ltb}
+use Rattle.std.proofs.lemmas.Bool.{cond-true, cond-false, ltb-true, ltb-false, lt-ltb}
 use Rattle.mdb_base.specs.declared.names.Engine.TheVariants.{Multiversion}
 use Rattle.mdb_base.specs.declared.names.Key.{Key}
 use Rattle.mdb_base.specs.declared.names.Tid.{Tid}
 use Rattle.mdb_base.specs.Names.{same_tid}
 use Rattle.mdb_base.specs.Words.{Each}
-use Rattle.fed_rules.specs.Runs.{Start, EngineLine, Commits, Run, changed, run_at, committed, number, by_number}
-use Rattle.fed_rules.specs.SerialRuns.{NumbersFall}
+use Rattle.fed_rules.specs.Runs.{Start, EngineLine, Commits, Run, run_at, committed, number}
 use Rattle.fed_rules.specs.Replies.{AtBegin, has_written}
 use Rattle.fed_rules.specs.EngineLines.{IsStart, IsRight}
-use Rattle.engine_laws.specs.Unended.{has_write, IsClear}
+use Rattle.engine_laws.specs.Unended.{has_write}
 use Rattle.engine_laws.proofs.ByNumber.{below, StaysClear, falls_inserted}
 use Rattle.engine_laws.proofs.Runs.{at_line, committed_is, number_is}
-use Rattle.engine_laws.proofs.Sound.{IsSound, IsApart}
+use Rattle.engine_laws.proofs.Sound.{IsSound}
 use Rattle.engine_laws.proofs.AgeRuns.{aged, age_sound}
 use Rattle.engine_laws.proofs.MultiversionRuns.{multiversion_by_age}
 use Rattle.engine_laws.proofs.Tables.{clear_unwritten}
 use Rattle.site_tables.specs.declared.versions.Version.{Version}
 use Rattle.site_tables.specs.Numbers.{number_of}
-use Rattle.site_tables.specs.Tables.{is_newer, value_of, written}
+use Rattle.site_tables.specs.Tables.{is_newer, written}
 use Rattle.run_book.specs.Held.{own_write}
 use Rattle.run_book.specs.Tables.{kept_after}
 use Rattle.run_book.proofs.Kept.{kept-by_number}
@@ -28,8 +27,7 @@ use Rattle.multiversion_engine.specs.declared.old_versions.Place.{Place}
 use Rattle.multiversion_engine.specs.OldVersions.{Olds, place_of, IsUnread, Prunes, writes_key}
 use Rattle.multiversion_engine.specs.Unended.{ByAge}
 use Rattle.multiversion_engine.specs.Versions.{newest, version_below, IsThere, AreVersions}
-use Rattle.multiversion_engine.proofs.KeptBelow.{newer_number, newest-below, below-less, written-grows, written-least, kept-below, no_own, some_own, newer_clear}
-use Rattle.multiversion_engine.proofs.Pruned.{left_there}
+use Rattle.multiversion_engine.proofs.KeptBelow.{newest-below, below-less, written-grows, written-least, kept-below, no_own, some_own, newer_clear}
 use Rattle.multiversion_engine.proofs.Versions.{age_some}
 
 module _ (olds : Olds) (start : Start) (older : List EngineLine) (tid : Tid) (run : Run) (kind : start.kind ≡ Multiversion) (starts : IsStart start) (right : IsRight start (Commits tid ∷ older))

@@ -1,15 +1,14 @@
 -- What the runs with smaller numbers leave of a key, and what a commit makes of it.
-use Rattle.std.proofs.Common.{◌≡◌, ℕ, ◌<◌, ◌≤◌, ◌⊎◌, Bool, true, false, ◌||◌, cond, nat_lt, Option, Some, None, List, [], ◌∷◌, inl, inr, refl, sym, ap, ◌∙◌, subst, arith}
-use Rattle.std.proofs.lemmas.Bool.{cond-true, cond-false, ltb-true, ltb-false, lt-ltb, le-ltb}
+use Rattle.std.proofs.Common.{◌≡◌, ℕ, ◌<◌, ◌≤◌, Bool, true, false, ◌||◌, cond, nat_lt, Option, Some, None, List, [], ◌∷◌, inl, inr, refl, sym, ap, ◌∙◌, arith}
+use Rattle.std.proofs.lemmas.Bool.{ltb-true, ltb-false, lt-ltb}
 use Rattle.mdb_base.specs.declared.names.Key.{Key}
 use Rattle.mdb_base.specs.declared.rows.Put.{Put}
 use Rattle.mdb_base.specs.Names.{same_key}
-use Rattle.mdb_base.specs.Rows.{value_in}
-use Rattle.mdb_base.specs.Words.{Each, those, inserted}
+use Rattle.mdb_base.specs.Words.{Each, inserted}
 use Rattle.mdb_base.proofs.ListLaws.{each_map, each_filtered, those_inserted, those_pass}
 use Rattle.fed_rules.specs.Runs.{Access, Got, Wrote, Run, number, by_number}
 use Rattle.fed_rules.specs.SerialRuns.{NumbersFall}
-use Rattle.engine_laws.specs.Unended.{has_write, IsClear}
+use Rattle.engine_laws.specs.Unended.{has_write}
 use Rattle.engine_laws.proofs.ByNumber.{is_later, below, StaysClear, falls_inserted}
 use Rattle.engine_laws.proofs.Tables.{clear_unwritten}
 use Rattle.site_tables.specs.declared.versions.Version.{Version}

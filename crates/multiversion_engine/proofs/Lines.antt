@@ -1,26 +1,21 @@
 -- A multiversion engine through each line: its book, the ages, the unended runs and the old versions.
-use Rattle.std.proofs.Common.{◌≡◌, ℕ, ◌+◌, ◌<◌, ◌≤◌, Bool, true, false, cond, Option, Some, None, IsSome, is_some, List, ◌∷◌, refl, sym, ap, ◌∙◌, subst, arith}
+use Rattle.std.proofs.Common.{◌≡◌, ℕ, ◌+◌, ◌≤◌, true, false, Option, Some, None, is_some, List, ◌∷◌, refl, sym, ap, ◌∙◌, subst, arith}
 use Rattle.std.specs.FinMap.{insert, remove}
 use Rattle.mdb_base.specs.declared.names.Engine.TheVariants.{Multiversion}
-use Rattle.mdb_base.specs.declared.names.Key.{Key}
 use Rattle.mdb_base.specs.declared.names.Tid.{Tid}
-use Rattle.mdb_base.specs.declared.acts.PlainAct.{PlainAct}
-use Rattle.mdb_base.specs.declared.acts.PlainAct.TheVariants.{Read, Write}
 use Rattle.mdb_base.specs.declared.replies.Reply.TheVariants.{Done, Value, Ticket, Wait, Refused, Unknown}
-use Rattle.mdb_base.specs.Names.{same_tid}
-use Rattle.mdb_base.proofs.NameLaws.{same_tid-equal}
 use Rattle.fed_rules.specs.Runs.{Start, EngineLine, Begins, Acts, Takes, Seals, Refuses, Commits, Aborts, Run, tid_of, begun, changed, gives_up, run_at, counter}
 use Rattle.fed_rules.specs.EngineLines.{IsFree, IsRightLine}
 use Rattle.engine_contract.proofs.Follows.{run_at-own, run_at-other}
 use Rattle.engine_laws.proofs.MultiversionRuns.{multiversion_by_age}
 use Rattle.access_ages.specs.Ages.{Ages, ages_of, unwritten}
-use Rattle.access_ages.specs.Takers.{Takers, without_taker, committed_taker}
+use Rattle.access_ages.specs.Takers.{Takers, without_taker}
 use Rattle.access_ages.specs.Laws.{AreNow, IsNoted, where_written}
 use Rattle.access_ages.specs.Lines.{KeepsAges}
 use Rattle.access_ages.proofs.Steps.{follows_begins, follows_calls}
 use Rattle.run_book.specs.Held.{Held, held_in}
 use Rattle.run_book.specs.Book.{Book, begins, drops, commits}
-use Rattle.run_book.specs.Keeps.{Keeps, KeepsRoomy}
+use Rattle.run_book.specs.Keeps.{Keeps}
 use Rattle.run_book.specs.Laws.{IsCalled}
 use Rattle.run_book.proofs.Ages.{age-le, ages-differ}
 use Rattle.run_book.proofs.Calls.{run_at-held}

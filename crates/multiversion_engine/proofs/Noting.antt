@@ -1,5 +1,5 @@
 -- What the noting of an access leaves of the ages, once there is room.
-use Rattle.std.proofs.Common.{◌≡◌, cond, Bool, refl, sym, ap, ◌∙◌}
+use Rattle.std.proofs.Common.{◌≡◌, cond, ap, ◌∙◌}
 use Rattle.std.specs.declared.result.Result.{Result}
 use Rattle.std.specs.declared.result.Result.TheVariants.{Ok, Err}
 use Rattle.std.specs.Prelude.{OnErr}

@@ -1,5 +1,5 @@
 -- Each answer of a multiversion engine is the rule's, and it then stands for the lines with that answer.
-use Rattle.std.proofs.Common.{◌≡◌, ℕ, ◌+◌, ◌≤◌, ◌⊎◌, Bool, true, false, cond, nat_lt, Option, Some, None, IfSome, List, ◌∷◌, inl, inr, refl, sym, ap, ◌∙◌, subst, arith}
+use Rattle.std.proofs.Common.{◌≡◌, ℕ, ◌+◌, ◌≤◌, ◌⊎◌, Bool, true, false, cond, Option, Some, None, IfSome, List, ◌∷◌, inl, inr, refl, sym, ap, ◌∙◌, subst}
 use Rattle.std.specs.FinMap.{insert}
 use Rattle.mdb_base.specs.declared.names.Engine.{Engine}
 use Rattle.mdb_base.specs.declared.names.Engine.TheVariants.{Multiversion}
@@ -11,16 +11,15 @@ use Rattle.mdb_base.specs.declared.replies.Reply.{Reply}
 use Rattle.mdb_base.specs.declared.replies.Reply.TheVariants.{Done, Value, Ticket, Wait, Refused}
 use Rattle.mdb_base.specs.declared.replies.Why.TheVariants.{Late}
 use Rattle.mdb_base.specs.Words.{or_else, greatest}
-use Rattle.fed_rules.specs.Runs.{Start, EngineLine, Acts, Takes, Seals, Got, Wrote, Run, run_at, has_ticket, published, after, counter}
+use Rattle.fed_rules.specs.Runs.{Start, EngineLine, Acts, Takes, Seals, Got, Wrote, Run, run_at, has_ticket, published}
 use Rattle.fed_rules.specs.Replies.{age_of, has_written, late_or_wait, wait_for_writer, older_writers, access_stop, ticket_stop, seal_stop, seal_number, granted, granted_by, rule, or_reply, table_before}
 use Rattle.fed_rules.specs.EngineLines.{IsRightLine}
 use Rattle.engine_laws.proofs.AgeTickets.{age_one_taker}
 use Rattle.engine_laws.proofs.MultiversionRuns.{multiversion_by_age}
-use Rattle.access_ages.specs.declared.key_ages.KeyAges.{KeyAges}
 use Rattle.access_ages.specs.Ages.{Ages, ages_of, younger_of, with_reader, with_writer}
 use Rattle.access_ages.specs.Takers.{Takers, with_taker}
-use Rattle.access_ages.specs.Stops.{above, below, stop_by, youngest_against, key_stop, writer_stop, IsTicketStop}
-use Rattle.access_ages.specs.Laws.{AreNow, IsNoted, at_key}
+use Rattle.access_ages.specs.Stops.{above, below, stop_by, youngest_against, writer_stop, IsTicketStop}
+use Rattle.access_ages.specs.Laws.{AreNow, at_key}
 use Rattle.access_ages.proofs.Rules.{stops_access, stops_reader}
 use Rattle.access_ages.proofs.TicketRules.{stops_taking}
 use Rattle.run_book.specs.declared.marks.Marks.{Marks}
@@ -35,7 +34,6 @@ use Rattle.multiversion_engine.specs.declared.engine.MultiversionEngine.{Multive
 use Rattle.site_tables.specs.Numbers.{number_of}
 use Rattle.site_tables.specs.Tables.{value_of}
 use Rattle.multiversion_engine.specs.OldVersions.{Olds, place_of}
-use Rattle.multiversion_engine.specs.Unended.{ByAge}
 use Rattle.multiversion_engine.specs.Noted.{with_newest}
 use Rattle.multiversion_engine.specs.Versions.{AreVersions, IsThere, IsValueAt, newest}
 use Rattle.multiversion_engine.specs.Stands.{Stands, StopsRun, IsOwnOr, IsValueFor, read_stop, write_stop}

@@ -1,7 +1,7 @@
 -- A multiversion engine as an epoch starts.
-use Rattle.std.proofs.Common.{◌≡◌, ℕ, ◌<◌, ◌≤◌, Bool, true, false, ◌||◌, cond, nat_lt, Option, Some, None, List, [], ◌∷◌, refl, sym, ap, ◌∙◌, subst, arith}
-use Rattle.std.specs.FinMap.{empty, get, get-empty, insert}
-use Rattle.std.proofs.lemmas.Bool.{cond-true, cond-false, lt-ltb}
+use Rattle.std.proofs.Common.{◌≡◌, ℕ, Bool, true, false, ◌||◌, cond, nat_lt, Option, Some, None, List, [], ◌∷◌, refl, sym, ap, ◌∙◌, subst, arith}
+use Rattle.std.specs.FinMap.{empty, get, get-empty}
+use Rattle.std.proofs.lemmas.Bool.{cond-true, lt-ltb}
 use Rattle.mdb_base.specs.declared.names.Engine.TheVariants.{Multiversion}
 use Rattle.mdb_base.specs.declared.names.Key.{Key}
 use Rattle.mdb_base.specs.declared.names.Tid.{Tid}
@@ -15,13 +15,13 @@ use Rattle.fed_rules.specs.Runs.{Start, Run, run_at, restored, restored_at, writ
 use Rattle.fed_rules.specs.Replies.{has_written, writes}
 use Rattle.fed_rules.specs.EngineLines.{IsStart, has_row}
 use Rattle.engine_contract.specs.Calls.{start_from}
-use Rattle.access_ages.specs.Ages.{Ages, no_ages, restored_writer}
+use Rattle.access_ages.specs.Ages.{no_ages, restored_writer}
 use Rattle.access_ages.specs.Takers.{no_takers, restored_takers}
 use Rattle.access_ages.specs.Laws.{AreNow}
 use Rattle.access_ages.proofs.Steps.{follows_starts}
 use Rattle.site_tables.specs.declared.versions.Version.{Version}
 use Rattle.site_tables.specs.Numbers.{number_of}
-use Rattle.site_tables.specs.Tables.{value_of, is_newer}
+use Rattle.site_tables.specs.Tables.{is_newer}
 use Rattle.site_tables.specs.Tables.{written as written_row}
 use Rattle.run_book.specs.Book.{Book, started, table_in, number_in}
 use Rattle.run_book.specs.Tables.{kept_after}

@@ -1,44 +1,30 @@
 -- The old versions through each line of a multiversion site.
-use Rattle.std.proofs.Common.{◌≡◌, ℕ, ◌+◌, ◌<◌, ◌≤◌, ◌⊎◌, Bool, true, false, ◌||◌, cond, is_some, nat_eq, nat_lt, Option, Some, None, IsSome, List, [], ◌∷◌, inl, inr, refl, sym, ap, ◌∙◌, subst, arith}
-use Rattle.std.specs.FinMap.{empty, get, get-empty, insert}
-use Rattle.std.proofs.lemmas.Bool.{cond-true, cond-false, cases_Bool, ltb-true, ltb-false, lt-ltb}
-use Rattle.mdb_base.specs.declared.names.Engine.TheVariants.{Multiversion}
+use Rattle.std.proofs.Common.{◌≡◌, ℕ, ◌<◌, ◌≤◌, Bool, true, false, ◌||◌, cond, nat_lt, Option, Some, None, List, ◌∷◌, inl, inr, refl, sym, ap, ◌∙◌, subst, arith}
+use Rattle.std.specs.FinMap.{get, insert}
+use Rattle.std.proofs.lemmas.Bool.{cond-true, cond-false, ltb-true, ltb-false, lt-ltb}
 use Rattle.mdb_base.specs.declared.names.Key.{Key}
 use Rattle.mdb_base.specs.declared.names.Tid.{Tid}
 use Rattle.mdb_base.specs.declared.acts.PlainAct.TheVariants.{Write}
 use Rattle.mdb_base.specs.declared.replies.Reply.TheVariants.{Done}
-use Rattle.mdb_base.specs.Names.{same_tid, same_key}
-use Rattle.mdb_base.specs.Rows.{look_up}
-use Rattle.mdb_base.specs.Words.{Each}
-use Rattle.mdb_base.proofs.NameLaws.{same_tid-equal, same_key-equal}
+use Rattle.mdb_base.specs.Names.{same_key}
+use Rattle.mdb_base.proofs.NameLaws.{same_key-equal}
 use Rattle.mdb_base.proofs.ListLaws.{each_map}
-use Rattle.fed_rules.specs.Runs.{Start, EngineLine, Begins, Acts, Seals, Commits, Run, tid_of, changed, run_at, counter, committed, number, by_number}
-use Rattle.fed_rules.specs.SerialRuns.{NumbersFall}
-use Rattle.fed_rules.specs.Replies.{AtBegin, has_written, table_before}
+use Rattle.fed_rules.specs.Runs.{Start, EngineLine, Acts, Commits, Run, run_at, committed, number}
+use Rattle.fed_rules.specs.Replies.{has_written, table_before}
 use Rattle.fed_rules.specs.EngineLines.{IsStart, IsRight}
-use Rattle.engine_laws.specs.Unended.{has_write, IsClear}
-use Rattle.engine_laws.proofs.ByNumber.{below, StaysClear}
-use Rattle.engine_laws.proofs.Runs.{Own, begins, stays, got, wrote, takes, seals, own, at_line, committed_is, number_is}
-use Rattle.engine_laws.proofs.Counted.{IsCounted, counted}
-use Rattle.engine_laws.proofs.Sound.{IsSound, IsApart}
-use Rattle.engine_laws.proofs.AgeRuns.{aged, age_sound}
-use Rattle.engine_laws.proofs.MultiversionRuns.{multiversion_by_age}
-use Rattle.engine_laws.proofs.Tables.{clear_unwritten}
+use Rattle.engine_laws.proofs.ByNumber.{below}
+use Rattle.engine_laws.proofs.Runs.{Own, begins, stays, got, wrote, takes, seals, own, at_line}
+use Rattle.engine_laws.proofs.Counted.{counted}
 use Rattle.site_tables.specs.declared.versions.Version.{Version}
 use Rattle.site_tables.specs.Numbers.{number_of}
-use Rattle.site_tables.specs.Tables.{is_newer, value_of, written}
-use Rattle.run_book.specs.Held.{own_write}
-use Rattle.run_book.specs.Tables.{kept_after}
-use Rattle.run_book.proofs.Ages.{some_inj}
-use Rattle.run_book.proofs.Kept.{newer-after, kept-by_number, value-kept_after}
+use Rattle.site_tables.specs.Tables.{is_newer, value_of}
+use Rattle.run_book.proofs.Kept.{newer-after, value-kept_after}
 use Rattle.multiversion_engine.specs.declared.old_versions.Place.{Place}
 use Rattle.multiversion_engine.specs.declared.old_versions.OldVersion.{OldVersion}
-use Rattle.multiversion_engine.specs.OldVersions.{Olds, place_of, IsLastBelow, IsUnread, Prunes, value_in, writes_key}
-use Rattle.multiversion_engine.specs.Unended.{ByAge}
+use Rattle.multiversion_engine.specs.OldVersions.{Olds, place_of, IsLastBelow, value_in}
 use Rattle.multiversion_engine.specs.Versions.{newest, version_below, IsThere, AreVersions, IsNewestOr, IsValueAt}
-use Rattle.multiversion_engine.proofs.KeptBelow.{newer_number, not_newer, newest-below, below-less, written-grows, written-least, kept-below, no_own, some_own, newer_clear}
+use Rattle.multiversion_engine.proofs.KeptBelow.{newer_number, not_newer, newest-below, below-less}
 use Rattle.multiversion_engine.proofs.Places.{same_place, place-equal, self_place, version-put}
-use Rattle.multiversion_engine.proofs.Pruned.{left_there}
 
 -- an age is never 0
 pub age_some : (start : Start) (lines : List EngineLine) (tid : Tid) (run : Run) → IsStart start → IsRight start lines → run_at start lines tid ≡ Some run → 0 < run.age

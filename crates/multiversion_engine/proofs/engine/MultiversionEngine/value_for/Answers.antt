@@ -1,7 +1,6 @@
-use Rattle.std.proofs.Common.{◌≡◌, ◌<◌, ℕ, Bool, true, Option, None, nat_lt, refl, sym, ap, ◌∙◌, subst, arith}
+use Rattle.std.proofs.Common.{◌≡◌, ℕ, Bool, true, Option, nat_lt, refl, sym, ◌∙◌, subst, arith}
 use Rattle.std.specs.FinMap.{get}
 use Rattle.std.proofs.lemmas.Bool.{lt-ltb}
-use Rattle.site_tables.specs.Numbers.{number_of}
 use Rattle.run_book.specs.Held.{Held}
 use Rattle.run_book.specs.Book.{number_in}
 use Rattle.run_book.proofs.InOrder.{if_found}

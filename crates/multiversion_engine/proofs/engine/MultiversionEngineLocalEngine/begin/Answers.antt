@@ -2,7 +2,6 @@ use Rattle.std.proofs.Common.{◌≡◌, ℕ, ◌+◌, ◌∷◌, List, None, re
 use Rattle.std.specs.FinMap.{get, insert, remove}
 use Rattle.std.proofs.lemmas.Result.{on_err_weaker}
 use Rattle.mdb_base.specs.declared.names.Engine.TheVariants.{Multiversion}
-use Rattle.mdb_base.specs.declared.names.Tid.{Tid}
 use Rattle.fed_rules.specs.Runs.{Start, EngineLine, Begins, counter, run_at}
 use Rattle.access_ages.proofs.Trees.{put-gone}
 use Rattle.run_book.specs.declared.marks.Marks.{Marks}

@@ -1,14 +1,8 @@
-use Rattle.std.proofs.Common.{◌≡◌, ℕ, Some, None, refl, sym, ap, ◌∙◌}
+use Rattle.std.proofs.Common.{◌≡◌, Some, None, refl, sym, ap, ◌∙◌}
 use Rattle.mdb_base.specs.declared.names.Engine.TheVariants.{Multiversion}
-use Rattle.mdb_base.specs.declared.names.Key.{Key}
 use Rattle.mdb_base.specs.declared.acts.PlainAct.TheVariants.{Read}
-use Rattle.mdb_base.specs.Names.{same_key}
 use Rattle.fed_rules.specs.Runs.{Access}
 use Rattle.fed_rules.specs.Replies.{age_of}
-use Rattle.access_ages.specs.declared.key_ages.KeyAges.{KeyAges}
-use Rattle.access_ages.specs.Ages.{Ages, ages_of, with_reader}
-use Rattle.access_ages.specs.Laws.{at_key}
-use Rattle.run_book.specs.declared.rival.Rival.{Rival}
 use Rattle.run_book.specs.Rivals.{rival_by}
 use Rattle.run_book.specs.Held.{Held}
 use Rattle.run_book.specs.Book.{grants}

@@ -1,5 +1,5 @@
-use Rattle.std.proofs.Common.{◌≡◌, ℕ, ◌+◌, Some, None, refl, sym, ap, ◌∙◌, subst}
-use Rattle.std.specs.FinMap.{get, insert, remove}
+use Rattle.std.proofs.Common.{◌≡◌, ℕ, Some, None, refl, sym, ap, ◌∙◌, subst}
+use Rattle.std.specs.FinMap.{get, remove}
 use Rattle.mdb_base.specs.declared.names.Engine.TheVariants.{Multiversion}
 use Rattle.fed_rules.specs.Replies.{age_of}
 use Rattle.access_ages.specs.Takers.{ByAge, Takers, with_taker}
