@@ -10,7 +10,7 @@ use Rattle.fed_rules.specs.Runs.{Access}
 use Rattle.fed_rules.specs.Replies.{writes}
 use Rattle.multiversion_engine.specs.declared.old_versions.Place.{Place}
 use Rattle.multiversion_engine.specs.declared.old_versions.OldVersion.{OldVersion}
-use Rattle.multiversion_engine.specs.Unended.{ByAge}
+use Rattle.multiversion_engine.specs.Unended.{ByAge, HasAgeWithin}
 
 -- by key, and then by number
 abbrev pub place_cmp : Place → Place → Ordering
@@ -57,6 +57,12 @@ pub record IsUnread (unended : ByAge) (number : ℕ) (olds : Olds) (q : Place) :
 abbrev pub Prunes : ByAge → (ℕ → Bool) → ℕ → Olds → Olds → Type 0
 Prunes unended wrote number old new =
     (q : Place) → (get new q ≡ get old q) ⊎ ((get new q ≡ None) × (wrote q.key ≡ true) × IsUnread unended number old q)
+
+-- what is left below this number of the keys that are written by it is read by one of these runs: its age is above the number of the version, and not
+-- above this one
+abbrev pub AllRead : ByAge → (ℕ → Bool) → ℕ → Olds → Type 0
+AllRead unended wrote number olds =
+    (q : Place) (value : ℕ) → wrote q.key ≡ true → q.number < number → get olds q ≡ Some value → HasAgeWithin unended q.number number
 
 -- whether one of these accesses writes the key of this number
 abbrev pub writes_key : List Access → ℕ → Bool

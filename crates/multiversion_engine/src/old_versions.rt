@@ -2,7 +2,7 @@
 ghost use Rattle.std.specs.Prelude.{◌≡◌, ◌==◌, OnOk, OnErr, reverse};
 ghost use Rattle.std.specs.FinMap.{empty, insert, remove};
 ghost use Rattle.fed_rules.specs.Runs.{number};
-ghost use Rattle.multiversion_engine.specs.OldVersions.{place_of, IsLastBelow, IsValueBelow, Prunes, writes_key};
+ghost use Rattle.multiversion_engine.specs.OldVersions.{place_of, IsLastBelow, IsValueBelow, Prunes, AllRead, writes_key};
 
 use crate::unended::Unended;
 use mdb_base::{Key, Memory};
@@ -108,7 +108,8 @@ impl OldVersions {
     /// Drops the versions of a key below this number that none of these runs reads: a run reads a version where its age is above the
     /// number of that one, and not above the next.
     fn drop_unread_of(&mut self, key: Key, number: u64, unended: &Unended)
-        ensures { Prunes unended.now (λ k. k == key.0) number self.old self.new }
+        ensures pruned { Prunes unended.now (λ k. k == key.0) number self.old self.new }
+        ensures read { AllRead unended.now (λ k. k == key.0) number self.new }
     {
         let mut next = number;
         while let Some(version) = self.last_below(key, next) {
@@ -121,7 +122,8 @@ impl OldVersions {
 
     /// Drops of each key that a run of this number wrote the versions that none of these runs reads.
     fn drop_written(&mut self, accesses: &[Granted], number: u64, unended: &Unended)
-        ensures { Prunes unended.now (writes_key (reverse accesses.now)) number self.old self.new }
+        ensures pruned { Prunes unended.now (writes_key (reverse accesses.now)) number self.old self.new }
+        ensures read { AllRead unended.now (writes_key (reverse accesses.now)) number self.new }
     {
         for access in accesses {
             if let Some(row) = access.written_row() {
@@ -132,7 +134,8 @@ impl OldVersions {
 
     /// A run has committed: of each key that it wrote, the versions that none of these runs reads any more are dropped.
     pub fn drop_unread(&mut self, run: &HeldRun, unended: &Unended)
-        ensures { Prunes unended.now (writes_key run.now.run.acts) (number run.now.run) self.old self.new }
+        ensures pruned { Prunes unended.now (writes_key run.now.run.acts) (number run.now.run) self.old self.new }
+        ensures read { AllRead unended.now (writes_key run.now.run.acts) (number run.now.run) self.new }
     {
         self.drop_written(run.accesses(), run.number(), unended);
     }

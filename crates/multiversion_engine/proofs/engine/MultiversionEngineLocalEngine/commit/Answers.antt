@@ -21,4 +21,4 @@ returns c =
     let at = run_at-held Multiversion book start lines c.args.tid held s.keeps.keeps c.commit-run.ensures.run in
     let right : IsRightLine start lines (Commits c.args.tid) = (held.run, here.number, (at, ap (λ (h : Held). h.run.sealed) same ∙ here.sealed)) in
     stands_commits old _ start lines c.args.tid held s right c.commit-run.ensures.run c.commit-run.ensures.book (c.commit.ensures, c.commit-2.ensures)
-    (c.remove.ensures ∙ ap (λ (n : ℕ). remove old.unended n) c.age.ensures) c.drop_unread.ensures
+    (c.remove.ensures ∙ ap (λ (n : ℕ). remove old.unended n) c.age.ensures) c.drop_unread.ensures.pruned
