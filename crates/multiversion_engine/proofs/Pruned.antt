@@ -29,15 +29,19 @@ pruned_more unended first second both number old mid new by_first by_second befo
     | inl was ↦ inl (same ∙ was)
     | inr gone ↦ inr (same ∙ gone.0, by_first q.key gone.1, gone.2)
   ]
-  | inr gone ↦ inr (gone.0, by_second q.key gone.1, record {
-    next = gone.2.next;
-    after = gone.2.after;
-    is_next = elim gone.2.is_next [
-      | inl is ↦ inl is
-      | inr there ↦ inr (left_there unended first number old mid (record { key = q.key; number = gone.2.next }) before there)
-    ];
-    none = gone.2.none;
-  })
+  | inr gone ↦ inr (
+    gone.0,
+    by_second q.key gone.1,
+    record {
+      next = gone.2.next;
+      after = gone.2.after;
+      is_next = elim gone.2.is_next [
+        | inl is ↦ inl is
+        | inr there ↦ inr (left_there unended first number old mid (record { key = q.key; number = gone.2.next }) before there)
+      ];
+      none = gone.2.none;
+    },
+  )
 ]
 
 -- one version is dropped

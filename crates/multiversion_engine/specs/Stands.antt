@@ -7,7 +7,6 @@ use Rattle.mdb_base.specs.declared.names.Tid.{Tid}
 use Rattle.mdb_base.specs.declared.acts.PlainAct.TheVariants.{Write}
 use Rattle.mdb_base.specs.declared.replies.Reply.{Reply}
 use Rattle.mdb_base.specs.declared.replies.Reply.TheVariants.{Refused}
-
 use Rattle.fed_rules.specs.Runs.{Start, EngineLine, Run, tid_of, run_at, gives_up}
 use Rattle.fed_rules.specs.EngineLines.{IsRightLine}
 use Rattle.fed_rules.specs.Replies.{has_written}

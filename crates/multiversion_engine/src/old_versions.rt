@@ -74,10 +74,7 @@ impl OldVersions {
             key: key.0,
             number: 0,
         };
-        let places = first..Place {
-            key: key.0,
-            number,
-        };
+        let places = first..Place { key: key.0, number };
         match self.values.range(places).next_back() {
             Some((place, value)) => Some(OldVersion {
                 number: place.number,
