@@ -11,8 +11,9 @@ use Rattle.fed_rules.specs.declared.runs.Kept.{Kept}
 use Rattle.fed_rules.specs.Runs.{Run, restored, restored_at}
 use Rattle.fed_rules.specs.EngineLines.{AreApart, AllApart}
 use Rattle.run_book.proofs.Ages.{some_inj}
-use Rattle.multiversion_engine.specs.Unended.{ByAge, IsOfAge, AreUnended, with_doubtful}
-use Rattle.multiversion_engine.proofs.ByAge.{age-put, age-gone}
+use Rattle.access_ages.specs.Takers.{ByAge, restored_takers}
+use Rattle.multiversion_engine.specs.Unended.{IsOfAge, AreUnended}
+use Rattle.access_ages.proofs.Trees.{get-put, get-gone}
 
 not_same : (x y : ℕ) → (x ≡ y → ⊥) → nat_eq x y ≡ false
 not_same x y apart = by_test (nat_eq x y) refl
@@ -61,17 +62,17 @@ module _ (m : ByAge) (runs now : Tid → Option Run) (t : Tid) where
   unended_more is change younger h = record { there = there; back = back }
     where
       there : (age : ℕ) (u : Tid) → get (insert m is.age t) age ≡ Some u → IsOfAge now u age
-      there age u at = by_age (nat_eq age is.age) refl (sym (age-put m is.age age t) ∙ at)
+      there age u at = by_age (nat_eq is.age age) refl (sym (get-put m is.age t age) ∙ at)
         where
           by_tid : (b : Bool) → same_tid t u ≡ b → IsOfAge runs u age → IsOfAge now u age
           by_tid true e old =
               let bad : None ≡ Some old.run = sym change.before ∙ (ap (λ (x : Tid). runs x) (same_tid-equal t u e) ∙ old.at) in cc
           by_tid false e old = record { run = old.run; at = change.others u e ∙ old.at; aged = old.aged }
 
-          by_age : (b : Bool) → nat_eq age is.age ≡ b → cond b (Some t) (get m age) ≡ Some u → IsOfAge now u age
+          by_age : (b : Bool) → nat_eq is.age age ≡ b → cond b (Some t) (get m age) ≡ Some u → IsOfAge now u age
           by_age true e at =
               let here : t ≡ u = cc in
-              record { run = is; at = ap (λ (x : Tid). now x) (sym here) ∙ change.after; aged = sym (eqb-true age is.age e) }
+              record { run = is; at = ap (λ (x : Tid). now x) (sym here) ∙ change.after; aged = eqb-true is.age age e }
           by_age false e at = by_tid (same_tid t u) refl (h.there age u at)
 
       back : (u : Tid) (run : Run) → now u ≡ Some run → get (insert m is.age t) run.age ≡ Some u
@@ -81,26 +82,26 @@ module _ (m : ByAge) (runs now : Tid → Option Run) (t : Tid) where
           by_tid true e =
               let here = same_tid-equal t u e in
               let same : is ≡ run = some_inj is run (sym change.after ∙ (ap (λ (x : Tid). now x) here ∙ at)) in
-              age-put m is.age run.age t ∙ (cond-true _ _ _ (eq-eqb run.age is.age (ap (λ (r : Run). r.age) (sym same))) ∙ ap (λ (x : Tid). Some x) here)
+              get-put m is.age t run.age ∙ (cond-true _ _ _ (eq-eqb is.age run.age (ap (λ (r : Run). r.age) same)) ∙ ap (λ (x : Tid). Some x) here)
           by_tid false e =
               let was = sym (change.others u e) ∙ at in
-              age-put m is.age run.age t
-              ∙ (cond-false _ _ _ (not_same run.age is.age (λ same. let less = younger u run was in omega arith)) ∙ h.back u run was)
+              get-put m is.age t run.age
+              ∙ (cond-false _ _ _ (not_same is.age run.age (λ same. let less = younger u run was in omega arith)) ∙ h.back u run was)
 
   -- a run ends
   pub unended_less : (was : Run) → ChangesOne runs now t (Some was) None → ((u : Tid) (run : Run) → runs u ≡ Some run → run.age ≡ was.age → u ≡ t) → AreUnended m runs → AreUnended (remove m was.age) now
   unended_less was change apart h = record { there = there; back = back }
     where
       there : (age : ℕ) (u : Tid) → get (remove m was.age) age ≡ Some u → IsOfAge now u age
-      there age u at = by_age (nat_eq age was.age) refl (sym (age-gone m was.age age) ∙ at)
+      there age u at = by_age (nat_eq was.age age) refl (sym (get-gone m was.age age) ∙ at)
         where
-          by_tid : (b : Bool) → same_tid t u ≡ b → nat_eq age was.age ≡ false → IsOfAge runs u age → IsOfAge now u age
+          by_tid : (b : Bool) → same_tid t u ≡ b → nat_eq was.age age ≡ false → IsOfAge runs u age → IsOfAge now u age
           by_tid true e differs old =
               let same : old.run ≡ was = some_inj old.run was (sym old.at ∙ (ap (λ (x : Tid). runs x) (sym (same_tid-equal t u e)) ∙ change.before)) in
-              let bad : true ≡ false = sym (eq-eqb age was.age (sym old.aged ∙ ap (λ (r : Run). r.age) same)) ∙ differs in cc
+              let bad : true ≡ false = sym (eq-eqb was.age age (ap (λ (r : Run). r.age) (sym same) ∙ old.aged)) ∙ differs in cc
           by_tid false e differs old = record { run = old.run; at = change.others u e ∙ old.at; aged = old.aged }
 
-          by_age : (b : Bool) → nat_eq age was.age ≡ b → cond b None (get m age) ≡ Some u → IsOfAge now u age
+          by_age : (b : Bool) → nat_eq was.age age ≡ b → cond b None (get m age) ≡ Some u → IsOfAge now u age
           by_age true e at = cc
           by_age false e at = by_tid (same_tid t u) refl e (h.there age u at)
 
@@ -111,9 +112,9 @@ module _ (m : ByAge) (runs now : Tid → Option Run) (t : Tid) where
           by_tid true e = let bad : None ≡ Some run = sym change.after ∙ (ap (λ (x : Tid). now x) (same_tid-equal t u e) ∙ at) in cc
           by_tid false e =
               let old = sym (change.others u e) ∙ at in
-              age-gone m was.age run.age
-              ∙ (cond-false _ _ _ (not_same run.age was.age (λ same.
-              let one = apart u run old same in
+              get-gone m was.age run.age
+              ∙ (cond-false _ _ _ (not_same was.age run.age (λ same.
+              let one = apart u run old (sym same) in
               let bad : true ≡ false = sym (same_tid-refl t) ∙ (ap (λ (x : Tid). same_tid t x) (sym one) ∙ e) in cc))
               ∙ h.back u run old)
 
@@ -143,44 +144,44 @@ other_tid kept (next ∷ more) t run apart at = by_test (same_tid next.tid t) re
     by_test false e at rest = rest at
 
 -- the others don't stand at the number of this one
-stays_at : (kept : Kept) (more : List Kept) (m : ByAge) → Each (AreApart kept) more → get (with_doubtful more m) kept.number ≡ get m kept.number
+stays_at : (kept : Kept) (more : List Kept) (m : ByAge) → Each (AreApart kept) more → get (restored_takers more m) kept.number ≡ get m kept.number
 stays_at kept [] m apart = refl
 stays_at kept (next ∷ more) m apart =
-    stays_at kept more (insert m next.number next.tid) apart.1 ∙ (age-put m next.number kept.number next.tid ∙ cond-false _ _ _ (not_same kept.number next.number differ))
+    stays_at kept more (insert m next.number next.tid) apart.1 ∙ (get-put m next.number next.tid kept.number ∙ cond-false _ _ _ (not_same next.number kept.number (λ same. differ (sym same))))
   where
     differ : (kept.number ≡ next.number) → ⊥
     differ same = elim apart.0.order [ inl less ↦ let l = less.0 in omega arith | inr more ↦ let g = more.0 in omega arith ]
 
-doubtful_there : (doubtful : List Kept) (m : ByAge) (age : ℕ) (t : Tid) → AllApart doubtful → get (with_doubtful doubtful m) age ≡ Some t → (get m age ≡ Some t) ⊎ IsOfAge (restored_at doubtful) t age
+doubtful_there : (doubtful : List Kept) (m : ByAge) (age : ℕ) (t : Tid) → AllApart doubtful → get (restored_takers doubtful m) age ≡ Some t → (get m age ≡ Some t) ⊎ IsOfAge (restored_at doubtful) t age
 doubtful_there [] m age t apart at = inl at
 doubtful_there (kept ∷ more) m age t apart at = elim (doubtful_there more (insert m kept.number kept.tid) age t apart.1 at) [
-  | inl before ↦ by_age (nat_eq age kept.number) refl (sym (age-put m kept.number age kept.tid) ∙ before)
+  | inl before ↦ by_age (nat_eq kept.number age) refl (sym (get-put m kept.number kept.tid age) ∙ before)
   | inr old ↦
       let other = other_tid kept more t old.run apart.0 old.at in
       inr (record { run = old.run; at = cond-false _ _ _ other.0 ∙ old.at; aged = old.aged })
 ]
   where
-    by_age : (b : Bool) → nat_eq age kept.number ≡ b → cond b (Some kept.tid) (get m age) ≡ Some t → (get m age ≡ Some t) ⊎ IsOfAge (restored_at (kept ∷ more)) t age
+    by_age : (b : Bool) → nat_eq kept.number age ≡ b → cond b (Some kept.tid) (get m age) ≡ Some t → (get m age ≡ Some t) ⊎ IsOfAge (restored_at (kept ∷ more)) t age
     by_age true e at =
         let here : kept.tid ≡ t = cc in
         let same : same_tid kept.tid t ≡ true = ap (λ (x : Tid). same_tid kept.tid x) (sym here) ∙ same_tid-refl kept.tid in
-        inr (record { run = restored kept; at = cond-true _ _ _ same; aged = sym (eqb-true age kept.number e) })
+        inr (record { run = restored kept; at = cond-true _ _ _ same; aged = eqb-true kept.number age e })
     by_age false e at = inl at
 
-doubtful_back : (doubtful : List Kept) (m : ByAge) (t : Tid) (run : Run) → AllApart doubtful → restored_at doubtful t ≡ Some run → get (with_doubtful doubtful m) run.age ≡ Some t
+doubtful_back : (doubtful : List Kept) (m : ByAge) (t : Tid) (run : Run) → AllApart doubtful → restored_at doubtful t ≡ Some run → get (restored_takers doubtful m) run.age ≡ Some t
 doubtful_back [] m t run apart at = cc
 doubtful_back (kept ∷ more) m t run apart at = by_test (same_tid kept.tid t) refl at (doubtful_back more (insert m kept.number kept.tid) t run apart.1)
   where
     by_test : (b : Bool) → same_tid kept.tid t ≡ b → cond b (Some (restored kept)) (restored_at more t) ≡ Some run →
-        (restored_at more t ≡ Some run → get (with_doubtful more (insert m kept.number kept.tid)) run.age ≡ Some t) → get (with_doubtful more (insert m kept.number kept.tid)) run.age ≡ Some t
+        (restored_at more t ≡ Some run → get (restored_takers more (insert m kept.number kept.tid)) run.age ≡ Some t) → get (restored_takers more (insert m kept.number kept.tid)) run.age ≡ Some t
     by_test true e at rest =
         let same = some_inj (restored kept) run at in
-        ap (λ (r : Run). get (with_doubtful more (insert m kept.number kept.tid)) r.age) (sym same)
+        ap (λ (r : Run). get (restored_takers more (insert m kept.number kept.tid)) r.age) (sym same)
         ∙ (stays_at kept more (insert m kept.number kept.tid) apart.0
-        ∙ (age-put m kept.number kept.number kept.tid ∙ (cond-true _ _ _ (eq-eqb kept.number kept.number refl) ∙ ap (λ (x : Tid). Some x) (same_tid-equal kept.tid t e))))
+        ∙ (get-put m kept.number kept.tid kept.number ∙ (cond-true _ _ _ (eq-eqb kept.number kept.number refl) ∙ ap (λ (x : Tid). Some x) (same_tid-equal kept.tid t e))))
     by_test false e at rest = rest at
 
-pub unended_restored : (doubtful : List Kept) → AllApart doubtful → AreUnended (with_doubtful doubtful empty) (restored_at doubtful)
+pub unended_restored : (doubtful : List Kept) → AllApart doubtful → AreUnended (restored_takers doubtful empty) (restored_at doubtful)
 unended_restored doubtful apart = record {
   there = λ age t at. elim (doubtful_there doubtful empty age t apart at) [
     | inl none ↦ let bad : None ≡ Some t = sym (get-empty nat_cmp age) ∙ none in cc

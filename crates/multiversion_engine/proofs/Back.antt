@@ -8,7 +8,7 @@ use Rattle.fed_rules.specs.Replies.{age_of}
 use Rattle.engine_contract.proofs.Follows.{run_at-own, run_at-other}
 use Rattle.engine_laws.proofs.MultiversionRuns.{multiversion_by_age}
 use Rattle.access_ages.specs.Ages.{Ages}
-use Rattle.access_ages.specs.Takers.{Takers}
+use Rattle.access_ages.specs.Takers.{Takers, ByAge}
 use Rattle.access_ages.specs.Lines.{KeepsAges}
 use Rattle.access_ages.proofs.Steps.{follows_begins, follows_unseals}
 use Rattle.run_book.specs.Rivals.{rival_by}
@@ -18,7 +18,7 @@ use Rattle.run_book.proofs.Ages.{ages-differ}
 use Rattle.run_book.proofs.Carried.{unbegins_well, unseals_well}
 use Rattle.multiversion_engine.specs.declared.engine.MultiversionEngine.{MultiversionEngine}
 use Rattle.multiversion_engine.specs.OldVersions.{Olds}
-use Rattle.multiversion_engine.specs.Unended.{ByAge, AreUnended}
+use Rattle.multiversion_engine.specs.Unended.{AreUnended}
 use Rattle.multiversion_engine.specs.Versions.{AreVersions}
 use Rattle.multiversion_engine.specs.Stands.{Stands}
 use Rattle.multiversion_engine.proofs.Ages.{unended_on, unended_less}

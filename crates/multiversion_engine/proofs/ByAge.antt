@@ -1,4 +1,4 @@
--- The tree that keeps runs by their ages.
+-- The first run of a part of the tree that keeps runs by their ages.
 use Rattle.std.proofs.Common.{◌≡◌, ℕ, ◌<◌, ◌≤◌, false, Bool, cond, nat_eq, Option, Some, None, is_some, List, [], ◌∷◌, refl, sym, ap, ◌∙◌, arith}
 use Rattle.std.specs.declared.cmp.Ordering.{Ordering}
 use Rattle.std.specs.declared.cmp.Ordering.TheVariants.{Less, Equal, Greater}
@@ -12,43 +12,8 @@ use Rattle.std.specs.BTreeMap.Range.{IsRangeOf}
 use Rattle.std.proofs.lemmas.Bool.{cond-true, lt-ltb}
 use Rattle.std.proofs.lemmas.Bool.Decides.{nat_tests}
 use Rattle.mdb_base.specs.declared.names.Tid.{Tid}
-use Rattle.multiversion_engine.specs.Unended.{ByAge, HasAgeWithin}
-
-ties : (a b : ℕ) → is_eq (nat_cmp a b) ≡ nat_eq a b
-ties a b = grind (arith, nat_tests)
-
-turned : (a b : ℕ) → is_eq (nat_cmp a b) ≡ nat_eq b a
-turned a b = grind (arith, nat_tests)
-
--- who is of an age after a run is put in or taken out
-pub age-put : (m : ByAge) (p q : ℕ) (t : Tid) → get (insert m p t) q ≡ cond (nat_eq q p) (Some t) (get m q)
-age-put m p q t = get-insert nat_cmp_total m p t q ∙ ap (λ (b : Bool). cond b (Some t) (get m q)) (ties q p)
-
-pub age-gone : (m : ByAge) (p q : ℕ) → get (remove m p) q ≡ cond (nat_eq q p) None (get m q)
-age-gone m p q = get-remove nat_cmp_total m p q ∙ ap (λ (b : Bool). cond b None (get m q)) (ties q p)
-
-same_ages : (m n : ByAge) → ((q : ℕ) → get m q ≡ get n q) → m ≡ n
-same_ages m n h = same_map nat_cmp_total nat_cmp-IsAntisymmetric m n h
-
-abbrev pub look : List (ℕ × Tid) → ℕ → Option Tid
-look es q = lookup (is_at (nat_cmp q)) es
-
-find_run : (es : List (ℕ × Tid)) (q : ℕ) → find nat_cmp q es ≡ look es q
-find_run [] q = refl
-find_run (e ∷ es) q = ap (cond (is_at (nat_cmp q) e.0) (Some e.1)) (find_run es q)
-
-pub get_run : (es : List (ℕ × Tid)) (q : ℕ) → get (from_entries {R = nat_cmp} es) q ≡ look es q
-get_run es q = get-from_entries nat_cmp_total es q ∙ find_run es q
-
-pub entries_put : (es fs : List (ℕ × Tid)) (p : ℕ) (t : Tid) → ((q : ℕ) → look fs q ≡ cond (is_at (nat_cmp p) q) (Some t) (look es q)) → from_entries {R = nat_cmp} fs ≡ insert (from_entries es) p t
-entries_put es fs p t h =
-    same_ages _ _ (λ q. get_run fs q ∙ h q ∙ ap (λ (b : Bool). cond b (Some t) (look es q)) (turned p q)
-    ∙ sym (age-put (from_entries es) p q t ∙ ap (cond (nat_eq q p) (Some t)) (get_run es q)))
-
-pub entries_gone : (es fs : List (ℕ × Tid)) (p : ℕ) → ((q : ℕ) → look fs q ≡ cond (is_at (nat_cmp p) q) None (look es q)) → from_entries {R = nat_cmp} fs ≡ remove (from_entries es) p
-entries_gone es fs p h =
-    same_ages _ _ (λ q. get_run fs q ∙ h q ∙ ap (λ (b : Bool). cond b None (look es q)) (turned p q)
-    ∙ sym (age-gone (from_entries es) p q ∙ ap (cond (nat_eq q p) None) (get_run es q)))
+use Rattle.access_ages.proofs.Trees.{get_look}
+use Rattle.multiversion_engine.specs.Unended.{HasAgeWithin}
 
 less_of : (x y : ℕ) → nat_cmp x y ≡ Less → x < y
 less_of x y h = ranked x y Less (sym h)
@@ -75,9 +40,9 @@ some_within from until m (x ∷ xs) rest e h is = record {
   age = x.0;
   above = less_of from x.0 h.1.0.0;
   within = le_of x.0 until h.1.0.1;
-  there = ap (λ (o : Option Tid). is_some o) (get_run m.entries x.0 ∙ h.1.1);
+  there = ap (λ (o : Option Tid). is_some o) (get_look m.entries x.0 ∙ h.1.1);
 }
 
 pub none_within : (from until : ℕ) (m : BTreeMap ℕ Tid) (r : List (ℕ × Tid)) → IsRangeOf nat_cmp (Excluded from) (Included until) m r → r ≡ [] →
     (age : ℕ) → from < age → age ≤ until → get (from_entries {R = nat_cmp} m.entries) age ≡ None
-none_within from until m r h is age above within = get_run m.entries age ∙ h.5 is age (of_less from age above, of_le age until within)
+none_within from until m r h is age above within = get_look m.entries age ∙ h.5 is age (of_less from age above, of_le age until within)

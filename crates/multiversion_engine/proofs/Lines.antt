@@ -9,7 +9,7 @@ use Rattle.fed_rules.specs.EngineLines.{IsFree, IsRightLine}
 use Rattle.engine_contract.proofs.Follows.{run_at-own, run_at-other}
 use Rattle.engine_laws.proofs.MultiversionRuns.{multiversion_by_age}
 use Rattle.access_ages.specs.Ages.{Ages, ages_of, unwritten}
-use Rattle.access_ages.specs.Takers.{Takers, without_taker}
+use Rattle.access_ages.specs.Takers.{Takers, without_taker, ByAge}
 use Rattle.access_ages.specs.Laws.{AreNow, IsNoted, where_written}
 use Rattle.access_ages.specs.Lines.{KeepsAges}
 use Rattle.access_ages.proofs.Steps.{follows_begins, follows_calls}
@@ -22,7 +22,7 @@ use Rattle.run_book.proofs.Calls.{run_at-held}
 use Rattle.run_book.proofs.Carried.{calls_well}
 use Rattle.multiversion_engine.specs.declared.engine.MultiversionEngine.{MultiversionEngine}
 use Rattle.multiversion_engine.specs.OldVersions.{Olds, Prunes, writes_key}
-use Rattle.multiversion_engine.specs.Unended.{ByAge, AreUnended}
+use Rattle.multiversion_engine.specs.Unended.{AreUnended}
 use Rattle.multiversion_engine.specs.Versions.{AreVersions}
 use Rattle.multiversion_engine.specs.Stands.{Stands, EndsRun}
 use Rattle.multiversion_engine.proofs.Ages.{ChangesOne, unended_on, unended_more, unended_less}

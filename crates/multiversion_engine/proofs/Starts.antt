@@ -16,7 +16,7 @@ use Rattle.fed_rules.specs.Replies.{has_written, writes}
 use Rattle.fed_rules.specs.EngineLines.{IsStart, has_row}
 use Rattle.engine_contract.specs.Calls.{start_from}
 use Rattle.access_ages.specs.Ages.{no_ages, restored_writer}
-use Rattle.access_ages.specs.Takers.{no_takers, restored_takers}
+use Rattle.access_ages.specs.Takers.{no_takers, restored_takers, ByAge}
 use Rattle.access_ages.specs.Laws.{AreNow}
 use Rattle.access_ages.proofs.Steps.{follows_starts}
 use Rattle.site_tables.specs.declared.versions.Version.{Version}
@@ -31,7 +31,7 @@ use Rattle.multiversion_engine.specs.declared.engine.MultiversionEngine.{Multive
 use Rattle.multiversion_engine.specs.declared.old_versions.Place.{Place}
 use Rattle.multiversion_engine.specs.OldVersions.{Olds, place_of, place_cmp}
 use Rattle.multiversion_engine.specs.Noted.{with_newest, with_rows, with_written}
-use Rattle.multiversion_engine.specs.Unended.{ByAge, AreUnended, with_doubtful}
+use Rattle.multiversion_engine.specs.Unended.{AreUnended}
 use Rattle.multiversion_engine.specs.Versions.{AreVersions, IsThere, newest}
 use Rattle.multiversion_engine.specs.Stands.{Stands}
 use Rattle.multiversion_engine.proofs.Ages.{unended_restored}
@@ -147,7 +147,7 @@ versions_start book start starts kept = record {
 pub stands_started : (new : MultiversionEngine) (rows : List Put) (doubtful : List Kept) (counter published : ℕ) (owner : Option Tid) → IsRising (λ row. row.key.0) rows →
     IsStart (start_from Multiversion rows doubtful counter published owner) → new.book.book ≡ started rows doubtful (record { counter = counter; published = published; owner = owner }) →
     AreNow new.accesses (λ key. record no_ages { writer = restored_writer doubtful key None }) → new.takers ≡ record no_takers { unended = restored_takers doubtful empty } →
-    new.unended ≡ with_doubtful doubtful empty → new.olds ≡ with_written new.book.book doubtful empty → Stands new (start_from Multiversion rows doubtful counter published owner) []
+    new.unended ≡ restored_takers doubtful empty → new.olds ≡ with_written new.book.book doubtful empty → Stands new (start_from Multiversion rows doubtful counter published owner) []
 stands_started new rows doubtful c p o rising starts book accesses takers unended olds =
     let start = start_from Multiversion rows doubtful c p o in
     let keeps = starts_well Multiversion new.book rows doubtful c p o rising starts book in

@@ -10,7 +10,8 @@ use Rattle.fed_rules.specs.Runs.{Access}
 use Rattle.fed_rules.specs.Replies.{writes}
 use Rattle.multiversion_engine.specs.declared.old_versions.Place.{Place}
 use Rattle.multiversion_engine.specs.declared.old_versions.OldVersion.{OldVersion}
-use Rattle.multiversion_engine.specs.Unended.{ByAge, HasAgeWithin}
+use Rattle.access_ages.specs.Takers.{ByAge}
+use Rattle.multiversion_engine.specs.Unended.{HasAgeWithin}
 
 -- by key, and then by number
 abbrev pub place_cmp : Place → Place → Ordering

@@ -1,19 +1,9 @@
 -- The unended runs by their ages.
-use Rattle.std.specs.Prelude.{ℕ, ◌≡◌, ◌<◌, ◌≤◌, Bool, true, false, Option, Some, None, IsSome, List, [], ◌∷◌}
-use Rattle.std.specs.Ordering.{nat_cmp}
-use Rattle.std.specs.FinMap.{FinMap, code, get, insert}
-use Rattle.std.specs.Coded.{Coded, coded_ℕ}
+use Rattle.std.specs.Prelude.{ℕ, ◌≡◌, ◌<◌, ◌≤◌, Bool, true, false, Option, Some, None, IsSome}
+use Rattle.std.specs.FinMap.{get}
 use Rattle.mdb_base.specs.declared.names.Tid.{Tid}
-use Rattle.fed_rules.specs.declared.runs.Kept.{Kept}
 use Rattle.fed_rules.specs.Runs.{Run}
-use Rattle.run_book.specs.Held.{tid_code}
-
--- at most one attempt of each age
-abbrev pub ByAge : Type 0
-ByAge = FinMap nat_cmp Tid
-
-abbrev pub by_age_code : Coded ByAge
-by_age_code = code coded_ℕ tid_code
+use Rattle.access_ages.specs.Takers.{ByAge}
 
 -- a run of an age that is above the first number, and not above the second
 pub record HasAgeWithin (runs : ByAge) (from until : ℕ) : Type 0 where
@@ -37,8 +27,3 @@ pub record IsOfAge (runs : Tid → Option Run) (tid : Tid) (age : ℕ) : Type 0 
 pub record AreUnended (unended : ByAge) (runs : Tid → Option Run) : Type 0 where
   pub there : (age : ℕ) (tid : Tid) → get unended age ≡ Some tid → IsOfAge runs tid age
   pub back : (tid : Tid) (run : Run) → runs tid ≡ Some run → get unended run.age ≡ Some tid
-
--- the transactions in doubt by their serial numbers, which are their ages
-abbrev pub with_doubtful : List Kept → ByAge → ByAge
-with_doubtful [] runs = runs
-with_doubtful (kept ∷ more) runs = with_doubtful more (insert runs kept.number kept.tid)

@@ -1,7 +1,8 @@
 //! The unended runs by their ages.
 ghost use Rattle.std.specs.Prelude.{◌≡◌, ◌<◌, OnOk, OnErr, IfOk};
 ghost use Rattle.std.specs.FinMap.{empty, get, insert, remove};
-ghost use Rattle.multiversion_engine.specs.Unended.{AreWithin, with_doubtful};
+ghost use Rattle.access_ages.specs.Takers.{restored_takers};
+ghost use Rattle.multiversion_engine.specs.Unended.{AreWithin};
 
 use fed_rules::Kept;
 use mdb_base::{Memory, Tid};
@@ -19,7 +20,7 @@ pub struct Unended {
 
 impl Model for Unended {
     ghost use Rattle.std.specs.FinMap.{from_entries};
-    ghost use Rattle.multiversion_engine.specs.Unended.{ByAge, by_age_code};
+    ghost use Rattle.access_ages.specs.Takers.{ByAge, by_age_code};
 
     ghost Value = { ByAge };
 
@@ -40,7 +41,7 @@ impl Unended {
 
     /// The transactions in doubt by their serial numbers, which are their ages.
     pub fn of_doubtful(alloc: Global, doubtful: &[Kept]) -> Result<Self, Memory>
-        ensures { IfOk result (λ runs. runs ≡ with_doubtful doubtful.now empty) }
+        ensures { IfOk result (λ runs. runs ≡ restored_takers doubtful.now empty) }
     {
         let mut runs = Unended::new(alloc);
         for kept in doubtful {

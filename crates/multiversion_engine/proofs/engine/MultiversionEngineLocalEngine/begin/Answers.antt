@@ -10,7 +10,7 @@ use Rattle.run_book.proofs.Ages.{age-le}
 use Rattle.run_book.proofs.Calls.{free_after}
 use Rattle.run_book.proofs.Words.{if_ok-both}
 use Rattle.multiversion_engine.specs.declared.engine.MultiversionEngine.{MultiversionEngine}
-use Rattle.multiversion_engine.specs.Unended.{ByAge}
+use Rattle.access_ages.specs.Takers.{ByAge}
 use Rattle.multiversion_engine.specs.Stands.{Stands}
 use Rattle.multiversion_engine.proofs.Ages.{no_age}
 use Rattle.multiversion_engine.proofs.Lines.{stands_begins, stands_kept}
