@@ -1,13 +1,12 @@
 -- The first run of a part of the tree that keeps runs by their ages.
-use Rattle.std.proofs.Common.{◌≡◌, ℕ, ◌<◌, ◌≤◌, false, Bool, cond, nat_eq, Option, Some, None, is_some, List, [], ◌∷◌, refl, sym, ap, ◌∙◌, arith}
+use Rattle.std.proofs.Common.{◌≡◌, ℕ, ◌<◌, ◌≤◌, false, Option, None, is_some, List, [], ◌∷◌, refl, sym, ap, ◌∙◌, arith}
 use Rattle.std.specs.declared.cmp.Ordering.{Ordering}
 use Rattle.std.specs.declared.cmp.Ordering.TheVariants.{Less, Equal, Greater}
 use Rattle.std.specs.declared.ops.Bound.TheVariants.{Included, Excluded}
-use Rattle.std.specs.Cmp.{nat_cmp_total, ranked}
-use Rattle.std.specs.Ordering.{nat_cmp, is_eq, is_gt}
-use Rattle.std.specs.FinMap.{from_entries, find, get, get-insert, get-remove, get-from_entries, insert, remove, same_map, nat_cmp-IsAntisymmetric}
-use Rattle.std.specs.Map.{lookup}
-use Rattle.std.specs.BTreeMap.{BTreeMap, is_at}
+use Rattle.std.specs.Cmp.{ranked}
+use Rattle.std.specs.Ordering.{nat_cmp, is_gt}
+use Rattle.std.specs.FinMap.{from_entries, get}
+use Rattle.std.specs.BTreeMap.{BTreeMap}
 use Rattle.std.specs.BTreeMap.Range.{IsRangeOf}
 use Rattle.std.proofs.lemmas.Bool.{cond-true, lt-ltb}
 use Rattle.std.proofs.lemmas.Bool.Decides.{nat_tests}
