@@ -1,9 +1,9 @@
 -- The committed runs through each line, and the youngest of them that passes a test.
-use Rattle.std.proofs.Common.{◌≡◌, ℕ, ◌≤◌, ◌⊎◌, Bool, true, false, cond, Option, Some, None, List, [], ◌∷◌, inl, inr, refl, sym, ap, ◌∙◌, subst, arith}
+use Rattle.std.proofs.Common.{◌≡◌, ℕ, ◌⊎◌, Bool, true, false, cond, Option, Some, None, List, [], ◌∷◌, inl, inr, refl, sym, ap, subst, arith}
 use Rattle.mdb_base.specs.declared.names.Tid.{Tid}
 use Rattle.mdb_base.specs.Words.{Each, Among, inserted}
 use Rattle.mdb_base.proofs.ListLaws.{each_map}
-use Rattle.fed_rules.specs.Runs.{Start, EngineLine, Begins, Acts, Takes, Seals, Refuses, Commits, Aborts, Run, tid_of, run_at, committed}
+use Rattle.fed_rules.specs.Runs.{Start, EngineLine, Commits, Run, tid_of, run_at, committed}
 use Rattle.fed_rules.specs.Replies.{age_of}
 use Rattle.fed_rules.specs.EngineLines.{IsRightLine, IsRight}
 use Rattle.engine_laws.specs.ReplyLaws.{IsAmong}

@@ -1,12 +1,12 @@
 -- The live taker is the one live run that has taken the ticket.
-use Rattle.std.proofs.Common.{◌≡◌, ℕ, ◌⊎◌, Bool, true, false, not, ◌&&◌, cond, is_some, Option, Some, None, List, [], ◌∷◌, inl, inr, refl, sym, ap, ◌∙◌, true≢false}
+use Rattle.std.proofs.Common.{◌≡◌, ℕ, Bool, true, false, not, ◌&&◌, cond, is_some, Option, Some, None, List, [], ◌∷◌, inl, inr, refl, sym, ap, ◌∙◌, true≢false}
 use Rattle.std.proofs.lemmas.Bool.{cases_Bool, and_parts}
 use Rattle.mdb_base.specs.declared.names.Engine.{Engine}
 use Rattle.mdb_base.specs.declared.names.Tid.{Tid}
 use Rattle.mdb_base.specs.declared.replies.Reply.TheVariants as Reply_is
 use Rattle.mdb_base.specs.Names.{same_tid}
 use Rattle.mdb_base.specs.Words.{holds_of, map_some}
-use Rattle.mdb_base.proofs.NameLaws.{same_tid-equal, same_tid-refl}
+use Rattle.mdb_base.proofs.NameLaws.{same_tid-equal}
 use Rattle.mdb_base.proofs.ListLaws.{each_all}
 use Rattle.fed_rules.specs.Runs.{Start, EngineLine, Begins, Acts, Takes, Seals, Refuses, Commits, Aborts, Run, tid_of, restored, run_at, has_ticket, is_sealed}
 use Rattle.fed_rules.specs.Replies.{age_of}
@@ -22,7 +22,7 @@ use Rattle.run_book.specs.Rivals.{rival_by}
 use Rattle.run_book.proofs.Ages.{some_inj}
 use Rattle.access_ages.specs.Takers.{takes_ticket}
 use Rattle.access_ages.specs.Lines.{rival_at, ends, live_taker}
-use Rattle.access_ages.proofs.Outcomes.{GoesOnAs, Continues, Outcome, outcome, is_sealing, left-going, ended_run, gives_up-ends}
+use Rattle.access_ages.proofs.Outcomes.{Outcome, outcome, is_sealing, left-going, ended_run, gives_up-ends}
 
 -- the rival is a live run that has taken the ticket
 pub record IsLiveTaker (start : Start) (lines : List EngineLine) (rival : Rival) : Type 0 where

@@ -9,11 +9,10 @@ use Rattle.mdb_base.specs.declared.acts.PlainAct.TheVariants.{Read, Write}
 use Rattle.mdb_base.specs.declared.replies.Reply.{Reply}
 use Rattle.mdb_base.specs.declared.replies.Reply.TheVariants as Reply_is
 use Rattle.mdb_base.specs.Names.{same_tid, same_key}
-use Rattle.mdb_base.specs.Words.{Each, Among, some_of, with_some, map_some}
+use Rattle.mdb_base.specs.Words.{Each, some_of, with_some, map_some}
 use Rattle.mdb_base.proofs.NameLaws.{same_tid-equal}
 use Rattle.mdb_base.proofs.ListLaws.{each_map, each_all}
-use Rattle.fed_rules.specs.declared.runs.Kept.{Kept}
-use Rattle.fed_rules.specs.Runs.{Start, EngineLine, Begins, Acts, Takes, Seals, Refuses, Commits, Aborts, Got, Wrote, Run, tid_of, written, restored, changed, run_at, committed, aborted, gives_up}
+use Rattle.fed_rules.specs.Runs.{Start, EngineLine, Begins, Acts, Takes, Seals, Refuses, Commits, Aborts, Got, Run, tid_of, written, restored, run_at, committed, aborted, gives_up}
 use Rattle.fed_rules.specs.Replies.{age_of, reads, has_read}
 use Rattle.fed_rules.specs.EngineLines.{IsRightLine, IsRight}
 use Rattle.engine_contract.proofs.Follows.{run_at-own, run_at-other}
@@ -28,7 +27,7 @@ use Rattle.access_ages.specs.Lines.{rival_at, read_by, reader}
 use Rattle.run_book.proofs.Ages.{some_inj}
 use Rattle.access_ages.proofs.Commits.{among_committed, committed_own}
 use Rattle.access_ages.proofs.Youngest.{IsUpTo, up_left, up_right, one_of}
-use Rattle.access_ages.proofs.Outcomes.{GoesOnAs, Continues, Outcome, outcome}
+use Rattle.access_ages.proofs.Outcomes.{Outcome, outcome}
 
 -- where the run has read the key, it isn't younger than this one
 abbrev ReadsUpTo : Key → Option Rival → Run → Type 0

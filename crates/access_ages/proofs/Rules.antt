@@ -1,39 +1,33 @@
 -- What the ages say stops an access is what the rules say.
-use Rattle.std.proofs.Common.{◌≡◌, ℕ, ◌≤◌, ◌<◌, ◌⊎◌, Bool, true, false, ◌||◌, cond, nat_lt, Option, Some, None, List, [], ◌∷◌, inl, inr, refl, sym, ap, ◌∙◌, subst, arith}
-use Rattle.std.proofs.lemmas.Bool.{ltb-true, ltb-false, lt-ltb}
+use Rattle.std.proofs.Common.{◌≡◌, ℕ, ◌⊎◌, Bool, true, false, ◌||◌, Option, Some, None, List, [], ◌∷◌, inl, inr, refl, sym, ap, ◌∙◌, subst, arith}
 use Rattle.mdb_base.specs.declared.names.Engine.{Engine}
 use Rattle.mdb_base.specs.declared.names.Key.{Key}
 use Rattle.mdb_base.specs.declared.names.Tid.{Tid}
 use Rattle.mdb_base.specs.declared.acts.PlainAct.{PlainAct}
 use Rattle.mdb_base.specs.declared.acts.PlainAct.TheVariants.{Read, Write}
-use Rattle.mdb_base.specs.declared.replies.Reply.{Reply}
 use Rattle.mdb_base.specs.Names.{same_key}
-use Rattle.mdb_base.specs.Words.{Each, some_of, map_some, greatest}
+use Rattle.mdb_base.specs.Words.{some_of, map_some, greatest}
 use Rattle.mdb_base.proofs.ListLaws.{each_among, some_among, among_some}
 use Rattle.fed_rules.specs.Runs.{Start, EngineLine, Access, Got, Wrote, Run, run_at, committed, aborted}
 use Rattle.fed_rules.specs.Replies.{age_of, key_of, conflicts, conflicts_with_read, reads, writes, has_read, has_written, late_or_wait, younger_in_the_way, older_writers, age_stop}
 use Rattle.fed_rules.specs.EngineLines.{IsStart, IsRight}
 use Rattle.engine_laws.specs.ReplyLaws.{IsUnended, IsAmong, HasConflict, HasReadConflict, HasWritten, IsYoungerInTheWay, IsOlderWriter}
-use Rattle.engine_laws.proofs.Relations.{Lists, OfOneAge, lists_none}
-use Rattle.engine_laws.proofs.Drawers.{AllDrew, all_drew, same_age}
+use Rattle.engine_laws.proofs.Drawers.{all_drew, same_age}
 use Rattle.engine_laws.proofs.AgeRuns.{IsByAge, age_sound}
 use Rattle.engine_laws.proofs.Runs.{tid_is}
 use Rattle.engine_laws.proofs.TimestampReplies.{lists_younger, lists_older, drew_younger, one_writer}
 use Rattle.run_book.specs.declared.rival.Rival.{Rival}
 use Rattle.run_book.specs.Rivals.{rival_by}
-use Rattle.run_book.proofs.Ages.{some_inj}
-use Rattle.run_book.proofs.Best.{greatest-is, greatest-none}
 use Rattle.access_ages.specs.declared.key_ages.KeyAges.{KeyAges}
-use Rattle.access_ages.specs.Ages.{Ages, ages_of, younger_of}
-use Rattle.access_ages.specs.Takers.{Takers}
+use Rattle.access_ages.specs.Ages.{younger_of}
 use Rattle.access_ages.specs.Stops.{above, below, stop_by, youngest_against, key_stop, writer_stop}
-use Rattle.access_ages.specs.Lines.{reader, writer, youngest_committed, ages_after, KeepsAges}
+use Rattle.access_ages.specs.Lines.{writer, ages_after}
 use Rattle.access_ages.specs.Laws.{StopsAccess, StopsReader}
 use Rattle.access_ages.proofs.Youngest.{IsUpTo, up_left, up_right, one_of}
 use Rattle.access_ages.proofs.Listed.{youngest_listed, youngest_above, youngest_below, stop_by-late_or_wait}
-use Rattle.access_ages.proofs.Commits.{IsCommitted, committed_up_to, committed_is_one}
-use Rattle.access_ages.proofs.Readers.{ReadersUpTo, readers_up_to, Counts, IsReader, reader_is}
-use Rattle.access_ages.proofs.Writers.{IsWriter, writer_is, writer_of}
+use Rattle.access_ages.proofs.Commits.{committed_up_to, committed_is_one}
+use Rattle.access_ages.proofs.Readers.{readers_up_to, Counts, reader_is}
+use Rattle.access_ages.proofs.Writers.{writer_is, writer_of}
 
 -- an access that conflicts with a read is a write of the key, and one that conflicts with a write any access of it
 read_conflicts : (key : Key) (acts : List Access) → some_of (conflicts (Read key)) acts ≡ some_of (writes key) acts

@@ -1,18 +1,18 @@
 -- The ages and the takers through each line.
-use Rattle.std.proofs.Common.{◌≡◌, ℕ, Bool, true, false, not, ◌&&◌, cond, is_some, Option, Some, None, List, [], ◌∷◌, refl, sym, ap, ◌∙◌, subst}
+use Rattle.std.proofs.Common.{◌≡◌, ℕ, ◌⊎◌, inl, inr, Bool, true, false, not, ◌&&◌, cond, is_some, Option, Some, None, List, ◌∷◌, refl, sym, ap, ◌∙◌}
 use Rattle.std.specs.FinMap.{remove}
 use Rattle.mdb_base.specs.declared.names.Engine.{Engine}
 use Rattle.mdb_base.specs.declared.names.Key.{Key}
 use Rattle.mdb_base.specs.declared.names.Tid.{Tid}
-use Rattle.mdb_base.specs.declared.acts.PlainAct.{PlainAct}
 use Rattle.mdb_base.specs.declared.acts.PlainAct.TheVariants.{Read, Write}
 use Rattle.mdb_base.specs.declared.replies.Reply.{Reply}
 use Rattle.mdb_base.specs.declared.replies.Reply.TheVariants.{Done, Value, Ticket, Wait, Refused, Unknown}
+use Rattle.mdb_base.specs.declared.replies.Why.TheVariants.{Late}
 use Rattle.mdb_base.specs.Names.{same_key}
 use Rattle.mdb_base.specs.Words.{map_some, holds_of}
-use Rattle.fed_rules.specs.Runs.{Start, EngineLine, Begins, Acts, Takes, Seals, Refuses, Commits, Aborts, Run, tid_of, run_at, has_ticket, is_sealed}
+use Rattle.fed_rules.specs.Runs.{Start, EngineLine, Begins, Acts, Takes, Seals, Refuses, Commits, Aborts, Run, tid_of, run_at, gives_up, has_ticket, is_sealed}
 use Rattle.fed_rules.specs.Replies.{age_of, has_written}
-use Rattle.fed_rules.specs.EngineLines.{IsStart, IsRightLine, IsRight}
+use Rattle.fed_rules.specs.EngineLines.{IsStart, IsRight}
 use Rattle.engine_laws.proofs.AgeRuns.{IsByAge}
 use Rattle.run_book.specs.declared.rival.Rival.{Rival}
 use Rattle.run_book.specs.Rivals.{rival_by}
@@ -21,7 +21,8 @@ use Rattle.engine_laws.proofs.Runs.{tid_is}
 use Rattle.access_ages.specs.declared.key_ages.KeyAges.{KeyAges}
 use Rattle.access_ages.specs.Ages.{Ages, ages_of, younger_of, with_reader, with_writer, settled, unwritten}
 use Rattle.access_ages.specs.Takers.{ByAge, Takers, with_taker, takes_ticket, without_taker, with_committed, committed_taker}
-use Rattle.access_ages.specs.Lines.{rival_at, reader, writer, committed_by, youngest_committed, ages_after, taken_by, left_by, unended_takers, live_taker, KeepsAges}
+use Rattle.access_ages.specs.Stops.{stop_by}
+use Rattle.access_ages.specs.Lines.{reader, writer, committed_by, youngest_committed, ages_after, taken_by, left_by, unended_takers, live_taker, KeepsAges}
 use Rattle.access_ages.specs.Laws.{FollowsBegins, FollowsCalls, FollowsStarts, FollowsUnseals, AreNow, IsNoted, where_written, at_key}
 use Rattle.access_ages.proofs.Writers.{writer_of}
 use Rattle.access_ages.proofs.Live.{live_of}
@@ -199,3 +200,29 @@ follows_starts ages takers start are is = record {
   live = ap (λ (t : Takers). t.live) is;
   committed = ap (λ (t : Takers). t.committed) is;
 }
+
+-- the lines that end a run otherwise than by commit
+pub noted_ends : (run : Run) (old new : Ages) (was now : Takers) (line : EngineLine) → gives_up line ≡ true → AreNow new (where_written run unwritten old) → now ≡ without_taker run was → IsNoted run old was line new now
+noted_ends run old new was now (Begins tid n) h are is = cc
+noted_ends run old new was now (Acts tid act (Refused why)) h are is = (are, is)
+noted_ends run old new was now (Acts tid act (Wait by)) h are is = cc
+noted_ends run old new was now (Acts tid act (Ticket n)) h are is = cc
+noted_ends run old new was now (Acts tid act (Value v)) h are is = cc
+noted_ends run old new was now (Acts tid act Done) h are is = cc
+noted_ends run old new was now (Acts tid act Unknown) h are is = cc
+noted_ends run old new was now (Takes tid (Refused why)) h are is = (are, is)
+noted_ends run old new was now (Takes tid (Wait by)) h are is = cc
+noted_ends run old new was now (Takes tid (Ticket n)) h are is = cc
+noted_ends run old new was now (Takes tid (Value v)) h are is = cc
+noted_ends run old new was now (Takes tid Done) h are is = cc
+noted_ends run old new was now (Takes tid Unknown) h are is = cc
+noted_ends run old new was now (Seals tid n) h are is = cc
+noted_ends run old new was now (Refuses tid why) h are is = (are, is)
+noted_ends run old new was now (Commits tid) h are is = cc
+noted_ends run old new was now (Aborts tid) h are is = (are, is)
+
+-- an answer that stops a run is a wait, or that it is late
+pub stop_shape : (youngest older : Option Rival) (stop : Reply) → stop_by youngest older ≡ Some stop → (by : Tid) × ((stop ≡ Wait by) ⊎ (stop ≡ Refused (Late by)))
+stop_shape None None stop e = cc
+stop_shape None (Some older) stop e = (older.tid, inl (let is : Wait older.tid ≡ stop = cc in sym is))
+stop_shape (Some youngest) older stop e = (youngest.tid, inr (let is : Refused (Late youngest.tid) ≡ stop = cc in sym is))

@@ -1,14 +1,12 @@
 -- What the takers say stops the taking of the ticket is what the rule says.
-use Rattle.std.proofs.Common.{◌≡◌, ℕ, ◌≤◌, ◌⊎◌, Bool, true, not, ◌&&◌, is_some, Option, Some, None, List, inl, inr, refl, sym, ap, ◌∙◌, subst}
+use Rattle.std.proofs.Common.{◌≡◌, ℕ, ◌⊎◌, true, not, ◌&&◌, is_some, Option, Some, None, List, inl, inr, sym, ap, ◌∙◌, subst}
 use Rattle.std.specs.FinMap.{get}
-use Rattle.std.proofs.lemmas.Bool.{and_parts}
 use Rattle.mdb_base.specs.declared.names.Engine.{Engine}
 use Rattle.mdb_base.specs.declared.names.Tid.{Tid}
-use Rattle.mdb_base.specs.declared.replies.Reply.{Reply}
 use Rattle.mdb_base.specs.Words.{map_some, greatest}
 use Rattle.mdb_base.proofs.ListLaws.{each_among}
 use Rattle.fed_rules.specs.Runs.{Start, EngineLine, Run, run_at, committed, has_ticket, is_sealed}
-use Rattle.fed_rules.specs.Replies.{age_of, younger_takers, older_takers, age_ticket_stop}
+use Rattle.fed_rules.specs.Replies.{age_of, younger_takers, older_takers}
 use Rattle.fed_rules.specs.EngineLines.{IsStart, IsRight}
 use Rattle.engine_laws.specs.ReplyLaws.{IsUnended, IsAmong, HasTaken, IsYoungerTaker, IsOlderTaker}
 use Rattle.engine_laws.proofs.Drawers.{all_drew, same_age}
@@ -20,7 +18,7 @@ use Rattle.engine_laws.proofs.TimestampReplies.{lists_younger_takers, lists_olde
 use Rattle.run_book.specs.declared.rival.Rival.{Rival}
 use Rattle.run_book.specs.Rivals.{rival_by}
 use Rattle.access_ages.specs.Ages.{younger_of}
-use Rattle.access_ages.specs.Takers.{ByAge, Takers, takes_ticket, IsYoungestOf}
+use Rattle.access_ages.specs.Takers.{ByAge, takes_ticket, IsYoungestOf}
 use Rattle.access_ages.specs.Stops.{above, below, stop_by}
 use Rattle.access_ages.specs.Lines.{unended_takers, live_taker, youngest_committed}
 use Rattle.access_ages.specs.Laws.{StopsTaking}

@@ -1,30 +1,27 @@
 -- The unended takers of the ticket are those that the lines say, and what they stop is what the rule says.
-use Rattle.std.proofs.Common.{◌≡◌, ℕ, ◌+◌, ◌≤◌, ◌<◌, ◌⊎◌, Bool, true, false, not, ◌&&◌, cond, is_some, nat_eq, Option, Some, None, List, [], ◌∷◌, inl, inr, refl, sym, ap, ◌∙◌, subst, true≢false, arith}
+use Rattle.std.proofs.Common.{◌≡◌, ℕ, ◌⊎◌, Bool, true, false, cond, is_some, nat_eq, Option, Some, None, List, [], ◌∷◌, inl, inr, refl, sym, ap, ◌∙◌, true≢false, arith}
 use Rattle.std.specs.Ordering.{nat_cmp}
-use Rattle.std.specs.FinMap.{empty, get, get-empty, insert, remove}
+use Rattle.std.specs.FinMap.{empty, get, get-empty}
 use Rattle.std.proofs.lemmas.Bool.{cond-true, cond-false, cases_Bool, eqb-true, eq-eqb}
-use Rattle.mdb_base.specs.declared.names.Engine.{Engine}
 use Rattle.mdb_base.specs.declared.names.Tid.{Tid}
-use Rattle.mdb_base.specs.declared.replies.Reply.{Reply}
 use Rattle.mdb_base.specs.declared.replies.Reply.TheVariants as Reply_is
 use Rattle.mdb_base.specs.Names.{same_tid}
 use Rattle.mdb_base.specs.Words.{Each, map_some}
 use Rattle.mdb_base.proofs.NameLaws.{same_tid-equal, same_tid-refl}
 use Rattle.fed_rules.specs.declared.runs.Kept.{Kept}
-use Rattle.fed_rules.specs.Runs.{Start, EngineLine, Begins, Acts, Takes, Seals, Refuses, Commits, Aborts, Run, tid_of, restored, restored_at, changed, run_at, has_ticket}
+use Rattle.fed_rules.specs.Runs.{Start, EngineLine, Takes, Run, tid_of, restored, restored_at, run_at, has_ticket}
 use Rattle.fed_rules.specs.Replies.{age_of}
 use Rattle.fed_rules.specs.EngineLines.{IsStart, IsRightLine, IsRight, AreApart, AllApart}
 use Rattle.engine_contract.proofs.Follows.{run_at-own, run_at-other}
 use Rattle.engine_laws.specs.Unended.{EachRun}
 use Rattle.engine_laws.proofs.Runs.{Own, begins, stays, got, wrote, takes, seals, own, each_run, tid_is}
-use Rattle.run_book.specs.declared.rival.Rival.{Rival}
 use Rattle.run_book.specs.Rivals.{rival_by}
 use Rattle.run_book.proofs.Ages.{some_inj, ages-differ}
 use Rattle.access_ages.specs.Ages.{rival_of}
 use Rattle.access_ages.specs.Takers.{ByAge, with_taker, restored_takers}
 use Rattle.access_ages.specs.Lines.{rival_at, ends, taken_by, taken_at, left_by, unended_takers}
 use Rattle.access_ages.proofs.Trees.{get-put, get-gone}
-use Rattle.access_ages.proofs.Outcomes.{GoesOnAs, Continues, Outcome, outcome, left-going, ended_run, gives_up-ends}
+use Rattle.access_ages.proofs.Outcomes.{Outcome, outcome, left-going, ended_run, gives_up-ends}
 use Rattle.access_ages.proofs.Writers.{restored_first, restored_after, restored_apart}
 
 -- the attempt has an unended run of this age that has taken the ticket

@@ -11,11 +11,11 @@ use Rattle.mdb_base.specs.declared.replies.Reply.{Reply}
 use Rattle.mdb_base.specs.declared.replies.Reply.TheVariants as Reply_is
 use Rattle.mdb_base.specs.Names.{same_tid, same_key}
 use Rattle.mdb_base.specs.Words.{Each, some_of, holds_of, map_some}
-use Rattle.mdb_base.proofs.NameLaws.{same_tid-equal, same_tid-refl, same_tid-sym}
+use Rattle.mdb_base.proofs.NameLaws.{same_tid-equal, same_tid-refl}
 use Rattle.mdb_base.proofs.ListLaws.{some_among}
 use Rattle.fed_rules.specs.declared.runs.Kept.{Kept}
-use Rattle.fed_rules.specs.Runs.{Start, EngineLine, Begins, Acts, Takes, Seals, Refuses, Commits, Aborts, Got, Wrote, Run, tid_of, written, restored, restored_at, changed, run_at}
-use Rattle.fed_rules.specs.Replies.{AtBegin, age_of, writes, has_written}
+use Rattle.fed_rules.specs.Runs.{Start, EngineLine, Begins, Acts, Takes, Seals, Refuses, Commits, Aborts, Wrote, Run, tid_of, written, restored, restored_at, run_at}
+use Rattle.fed_rules.specs.Replies.{age_of, writes, has_written}
 use Rattle.fed_rules.specs.EngineLines.{IsStart, IsRightLine, IsRight, AreApart, AllApart, has_row}
 use Rattle.engine_contract.proofs.Follows.{run_at-own, run_at-other}
 use Rattle.engine_laws.specs.Unended.{EachRun}
@@ -27,7 +27,7 @@ use Rattle.run_book.specs.Rivals.{rival_by}
 use Rattle.run_book.proofs.Ages.{some_inj}
 use Rattle.access_ages.specs.Ages.{rival_of, restored_writer}
 use Rattle.access_ages.specs.Lines.{rival_at, ends, written_by, written_at, writer}
-use Rattle.access_ages.proofs.Outcomes.{GoesOnAs, Continues, Outcome, outcome, left-going, ended_run, gives_up-ends}
+use Rattle.access_ages.proofs.Outcomes.{Outcome, outcome, left-going, ended_run, gives_up-ends}
 
 -- the rival is an unended run that has written the key
 pub record IsWriter (start : Start) (lines : List EngineLine) (key : Key) (rival : Rival) : Type 0 where

@@ -1,5 +1,5 @@
 -- The ages of each key and the takers of the ticket, as a list of engine lines says them.
-use Rattle.std.specs.Prelude.{ℕ, ◌≡◌, Bool, true, false, ◌&&◌, ◌||◌, cond, Option, Some, None, List, [], ◌∷◌}
+use Rattle.std.specs.Prelude.{◌≡◌, Bool, true, ◌&&◌, cond, Option, Some, None, List, [], ◌∷◌}
 use Rattle.std.specs.FinMap.{empty, remove}
 use Rattle.mdb_base.specs.declared.names.Key.{Key}
 use Rattle.mdb_base.specs.declared.names.Tid.{Tid}
@@ -8,8 +8,8 @@ use Rattle.mdb_base.specs.declared.acts.PlainAct.TheVariants.{Read, Write}
 use Rattle.mdb_base.specs.declared.replies.Reply.{Reply}
 use Rattle.mdb_base.specs.declared.replies.Reply.TheVariants.{Done, Value, Ticket}
 use Rattle.mdb_base.specs.Names.{same_key}
-use Rattle.mdb_base.specs.Words.{map_some, or_else, holds_of}
-use Rattle.fed_rules.specs.Runs.{Start, EngineLine, Begins, Acts, Takes, Seals, Refuses, Commits, Aborts, Run, tid_of, run_at, gives_up, has_ticket}
+use Rattle.mdb_base.specs.Words.{map_some, holds_of}
+use Rattle.fed_rules.specs.Runs.{Start, EngineLine, Acts, Takes, Seals, Commits, Run, tid_of, run_at, gives_up, has_ticket}
 use Rattle.fed_rules.specs.Replies.{age_of, has_written}
 use Rattle.run_book.specs.Rivals.{rival_by}
 use Rattle.run_book.specs.declared.rival.Rival.{Rival}

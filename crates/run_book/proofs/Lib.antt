@@ -4,6 +4,7 @@ pub mod BookLemmas
 pub mod Calls
 pub mod Carried
 pub mod Commits
+pub mod Ends
 pub mod HeldBy
 pub mod InOrder
 pub mod Installs

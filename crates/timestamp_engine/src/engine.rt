@@ -1,32 +1,35 @@
 //! The timestamp engine.
-use crate::rule::{
-    key_of, late_or_wait, youngest_in_the_way, youngest_live_taker, youngest_reader,
-    youngest_taker, youngest_writer,
-};
+use access_ages::{AccessAges, TicketAges};
 use engine_contract::{Kept, LocalEngine, SealErr, Sealed};
 use mdb_base::{Key, Memory, PlainAct, Puts, Reply, Tid};
-use run_lists::{Granted, HeldRun, Marks, Rival, RunBook};
+use run_book::{Granted, Marks, RunBook};
 use std::alloc::Global;
 
 #[cfg(test)]
+mod plain;
+#[cfg(test)]
+mod table_tests;
+#[cfg(test)]
 mod tests;
 
-/// A local engine that keeps its runs in the order of their begins. It keeps them in a book and scans them, and beside it
-/// those that were aborted, whose reads count until the next restart. Room for the abort of each unended run is always there.
+/// A local engine that keeps its runs in the order of their begins. It keeps them in a book, and beside it for each key who accessed
+/// it, and who has taken the ticket, each run by its age.
 #[derive(Drop)]
 pub struct TimestampEngine {
     book: RunBook,
-    aborted: Vec<HeldRun>,
+    accesses: AccessAges,
+    takers: TicketAges,
 }
 
 impl TimestampEngine {
     ghost use Rattle.std.specs.Prelude.{◌≡◌, [], IfOk, IsSome, IfSome};
     ghost use Rattle.mdb_base.specs.declared.names.Engine.TheVariants.{Timestamp};
+    ghost use Rattle.mdb_base.specs.declared.acts.PlainAct.TheVariants.{Read, Write};
     ghost use Rattle.engine_contract.specs.Calls.{fresh_start};
-    ghost use Rattle.run_lists.specs.Held.{held_in};
-    ghost use Rattle.run_lists.specs.Book.{drops};
-    ghost use Rattle.timestamp_engine.specs.Rule.{access_stop_in, ticket_stop_in};
-    ghost use Rattle.timestamp_engine.specs.Stands.{Stands, HasRoom, with_gone, stopped_book, stopped_gone};
+    ghost use Rattle.run_book.specs.Held.{held_in};
+    ghost use Rattle.access_ages.specs.Ages.{ages_of};
+    ghost use Rattle.access_ages.specs.Stops.{key_stop, IsTicketStop};
+    ghost use Rattle.timestamp_engine.specs.Stands.{Stands, EndsRun, StopsRun};
 
     /// An engine of a new site with these rows.
     pub fn new(alloc: Global, rows: &Puts) -> Result<Self, Memory>
@@ -40,60 +43,43 @@ impl TimestampEngine {
         let book = RunBook::start(alloc, rows, &[], marks)?;
         Ok(TimestampEngine {
             book,
-            aborted: Vec::new(alloc),
+            accesses: AccessAges::new(alloc),
+            takers: TicketAges::new(alloc),
         })
     }
 
-    /// What stops an access of a run, if anything.
-    fn access_stop(&self, tid: Tid, act: PlainAct) -> Option<Reply>
-        requires { IsSome (held_in self.now.book.unended tid) }
-        ensures { IfSome (held_in self.now.book.unended tid)
-            (λ held. result ≡ access_stop_in self.now.book self.now.aborted.items held.run.age act) }
+    /// What stops an act of a run on a key, if anything.
+    fn access_stop(&self, tid: Tid, key: Key, act: PlainAct) -> Option<Reply>
+        requires { IsSome (held_in self.now.book.book.runs tid) }
+        ensures { IfSome (held_in self.now.book.book.runs tid)
+            (λ held. result ≡ key_stop (ages_of self.now.accesses key) held.run.age act) }
     {
-        let age = self.book.run(tid).age();
-        let unended = youngest_in_the_way(self.book.unended(), age, act);
-        let committed = youngest_in_the_way(self.book.committed(), age, act);
-        let reader = youngest_reader(self.aborted.as_slice(), age, act);
-        let youngest = Rival::higher_of_two(Rival::higher_of_two(unended, committed), reader);
-        late_or_wait(
-            youngest,
-            youngest_writer(self.book.unended(), age, key_of(act)),
-        )
+        self.accesses.of(key).stop(self.book.run(tid).age(), act)
     }
 
     /// What stops the taking of the ticket by a run, if anything.
     fn ticket_stop(&self, tid: Tid) -> Option<Reply>
-        requires { IsSome (held_in self.now.book.unended tid) }
-        ensures { IfSome (held_in self.now.book.unended tid)
-            (λ held. result ≡ ticket_stop_in self.now.book held.run.age) }
+        requires { IsSome (held_in self.now.book.book.runs tid) }
+        ensures { IfSome (held_in self.now.book.book.runs tid) (λ held. IsTicketStop self.now.takers held.run.age result) }
     {
-        let age = self.book.run(tid).age();
-        let unended = youngest_taker(self.book.unended(), age);
-        let committed = youngest_taker(self.book.committed(), age);
-        let taker = youngest_live_taker(self.book.unended(), age);
-        late_or_wait(Rival::higher_of_two(unended, committed), taker)
+        self.takers.stop(self.book.run(tid).age())
     }
 
     /// Ends a run otherwise than by commit.
     fn end(&mut self, tid: Tid)
-        requires held { IsSome (held_in self.old.book.unended tid) }
-        requires room { HasRoom self.old }
-        ensures book { self.new.book ≡ drops tid self.old.book }
-        ensures gone { self.new.aborted.items ≡ with_gone tid self.old.book self.old.aborted.items }
-        ensures room { HasRoom self.new }
+        requires { IsSome (held_in self.old.book.book.runs tid) }
+        ensures { EndsRun self.old tid self.new }
     {
         let run = self.book.take_out(tid);
-        self.aborted.push_reserved(run);
+        self.accesses.abort(&run);
+        self.takers.abort(&run);
     }
 
     /// Ends a run that is refused.
     fn stop(&mut self, tid: Tid, stop: Reply) -> Reply
-        requires held { IsSome (held_in self.old.book.unended tid) }
-        requires room { HasRoom self.old }
+        requires { IsSome (held_in self.old.book.book.runs tid) }
         ensures answer { result ≡ stop }
-        ensures book { self.new.book ≡ stopped_book stop tid self.old.book }
-        ensures gone { self.new.aborted.items ≡ stopped_gone stop tid self.old.book self.old.aborted.items }
-        ensures room { HasRoom self.new }
+        ensures stopped { StopsRun self.old tid stop self.new }
     {
         if let Reply::Refused(_) = stop {
             self.end(tid);
@@ -110,40 +96,50 @@ impl LocalEngine for TimestampEngine {
 
     ghost stands = { Stands };
 
-    ghost of_kind = { λ engine start lines stood. stood.holds.keeps.of_kind };
+    ghost of_kind = { λ engine start lines stood. stood.keeps.keeps.of_kind };
 
-    ghost starts = { λ engine start lines stood. stood.holds.keeps.starts };
+    ghost starts = { λ engine start lines stood. stood.keeps.keeps.starts };
 
-    ghost right = { λ engine start lines stood. stood.holds.keeps.right };
+    ghost right = { λ engine start lines stood. stood.keeps.keeps.right };
 
     fn begin(&mut self, alloc: Global, tid: Tid) -> Result<u64, Memory> {
-        self.aborted.reserve(self.book.unended().len() + 1)?;
         self.book.begin(alloc, tid)
     }
 
     fn read(&mut self, _alloc: Global, tid: Tid, key: Key) -> Result<Reply, Memory> {
-        if let Some(stop) = self.access_stop(tid, PlainAct::Read(key)) {
+        if let Some(stop) = self.access_stop(tid, key, PlainAct::Read(key)) {
             return Ok(self.stop(tid, stop));
         }
+        let run = self.book.run(tid).by_age();
         let value = self.book.value_for(tid, key);
+        self.accesses.make_room(key)?;
         self.book.grant(tid, Granted::read(key, value))?;
+        self.accesses.read(key, run);
         Ok(Reply::Value(value))
     }
 
     fn write(&mut self, _alloc: Global, tid: Tid, key: Key, value: u64) -> Result<Reply, Memory> {
-        if let Some(stop) = self.access_stop(tid, PlainAct::Write(key, value)) {
+        if let Some(stop) = self.access_stop(tid, key, PlainAct::Write(key, value)) {
             return Ok(self.stop(tid, stop));
         }
+        let run = self.book.run(tid).by_age();
+        self.accesses.make_room(key)?;
         self.book.grant(tid, Granted::write(key, value))?;
+        self.accesses.write(key, run);
         Ok(Reply::Done)
     }
 
-    fn take(&mut self, _alloc: Global, tid: Tid) -> Result<Reply, Memory> {
+    fn take(&mut self, alloc: Global, tid: Tid) -> Result<Reply, Memory> {
         if let Some(stop) = self.ticket_stop(tid) {
             return Ok(self.stop(tid, stop));
         }
-        let ticket = self.book.marks().published + 1;
-        self.book.hold_ticket(tid, ticket);
+        let run = self.book.run(tid).by_age();
+        self.takers.enter(run)?;
+        let Ok(ticket) = self.book.take(alloc, tid) else {
+            self.takers.leave(run.rank);
+            return Err(Memory);
+        };
+        self.takers.hold(run);
         Ok(Reply::Ticket(ticket))
     }
 
@@ -153,6 +149,7 @@ impl LocalEngine for TimestampEngine {
         let ticket = run.ticket();
         let number = run.age();
         self.book.seal(alloc, tid, number)?;
+        self.takers.publish(ticket);
         Ok(Sealed {
             number,
             ticket,
@@ -166,10 +163,13 @@ impl LocalEngine for TimestampEngine {
 
     fn unseal(&mut self, tid: Tid) {
         self.book.unseal(tid);
+        self.takers.withdraw(self.book.run(tid));
     }
 
     fn commit(&mut self, tid: Tid) {
-        self.book.commit(tid);
+        let run = self.book.commit(tid);
+        self.accesses.commit(&run);
+        self.takers.commit(&run);
     }
 
     fn abort(&mut self, tid: Tid) {
@@ -190,10 +190,11 @@ impl LocalEngine for TimestampEngine {
             published,
             owner,
         };
-        let mut aborted = Vec::new(alloc);
-        aborted.reserve(doubtful.len())?;
+        let accesses = AccessAges::restored(alloc, doubtful)?;
+        let takers = TicketAges::restored(alloc, doubtful)?;
         self.book = RunBook::start(alloc, rows, doubtful, marks)?;
-        self.aborted = aborted;
+        self.accesses = accesses;
+        self.takers = takers;
         Ok(())
     }
 

@@ -231,7 +231,7 @@ fn the_rows_are_those_that_it_was_made_with(rt: HostRuntime) -> Result<(), Fail>
 }
 
 #[test]
-fn an_aborted_reader_makes_an_older_writer_late(rt: HostRuntime) -> Result<(), Fail> {
+fn an_aborted_reader_counts_until_the_restart(rt: HostRuntime) -> Result<(), Fail> {
     let mut engine = TimestampEngine::new(rt.alloc(), &no_rows(rt.alloc()))?;
     let calls = [
         Call::Begin(FIRST, 1),
@@ -243,6 +243,12 @@ fn an_aborted_reader_makes_an_older_writer_late(rt: HostRuntime) -> Result<(), F
         Call::Abort(SECOND),
         Call::Read(FIRST, KEY, Reply::Value(0)),
         Call::Write(FIRST, KEY, 9, Reply::Refused(Why::Late { by: SECOND })),
+    ];
+    play(&rt, rt.alloc(), &mut engine, &calls)?;
+    engine.restart(rt.alloc(), &no_rows(rt.alloc()), &[], 0, 0, None)?;
+    let calls = [
+        Call::Begin(FIRST, 1),
+        Call::Write(FIRST, KEY, 9, Reply::Done),
     ];
     play(&rt, rt.alloc(), &mut engine, &calls)
 }

@@ -1,6 +1,5 @@
 use Rattle.std.proofs.Common.{is_some, Option, sym, ap, ◌∙◌, subst, IsSome}
 use Rattle.std.specs.FinMap.{get}
-use Rattle.mdb_base.specs.declared.names.Key.{Key}
 use Rattle.run_book.proofs.HeldBy.{some-found}
 use Rattle.access_ages.specs.declared.key_ages.KeyAges.{KeyAges}
 use Rattle.access_ages.specs.Ages.{Ages, ages_of}

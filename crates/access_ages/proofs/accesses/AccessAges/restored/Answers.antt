@@ -1,6 +1,6 @@
-use Rattle.std.proofs.Common.{None, ap, ◌∙◌, Option}
+use Rattle.std.proofs.Common.{ap, ◌∙◌, Option}
 use Rattle.std.specs.Ordering.{nat_cmp}
-use Rattle.std.specs.FinMap.{get, get-empty}
+use Rattle.std.specs.FinMap.{get-empty}
 use Rattle.mdb_base.specs.Words.{or_else}
 use Rattle.access_ages.specs.declared.key_ages.KeyAges.{KeyAges}
 use Rattle.access_ages.specs.Ages.{Ages, ages_of, no_ages, restored_writer}

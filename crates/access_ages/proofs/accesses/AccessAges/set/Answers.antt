@@ -1,4 +1,4 @@
-use Rattle.std.proofs.Common.{◌≡◌, ◌&&◌, cond, is_some, None, Some, Option, IsSome, List, sym, ap, ◌∙◌, ℕ}
+use Rattle.std.proofs.Common.{◌≡◌, ◌&&◌, cond, is_some, None, Option, IsSome, sym, ap, ◌∙◌, ℕ}
 use Rattle.std.specs.BTreeMap.{BTreeMap}
 use Rattle.std.specs.FinMap.{from_entries, get}
 use Rattle.std.specs.Option.{option_copied_mut}

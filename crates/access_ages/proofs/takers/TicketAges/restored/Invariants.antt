@@ -1,6 +1,6 @@
 use Rattle.std.proofs.Common.{◌≡◌, drop}
 use Rattle.std.specs.FinMap.{empty}
-use Rattle.access_ages.specs.Takers.{no_takers, restored_takers, Takers}
+use Rattle.access_ages.specs.Takers.{no_takers, restored_takers}
 use Rattle.access_ages.proofs.takers.TicketAges.restored.Given as goal
 
 abbrev pub invariant-loop-kept : goal.invariant-loop-kept

@@ -1,15 +1,7 @@
-use Rattle.std.proofs.Common.{[], arith}
-use Rattle.mdb_base.specs.declared.names.Engine.TheVariants.{Timestamp}
-use Rattle.run_lists.proofs.Members.{same-refl}
-use Rattle.run_lists.proofs.Starts.{keeps_fresh}
+use Rattle.std.proofs.Common.{None, []}
+use Rattle.timestamp_engine.proofs.Lines.{stands_started, none_accessed}
 use Rattle.timestamp_engine.proofs.engine.TimestampEngine.new.Goals as goal
 
 pub returns : goal.returns
-returns c = record {
-  holds = rw (c.in_ok-book.ensures.book, c.new.ensures.items)
-      (record {
-        keeps = keeps_fresh Timestamp c.args.rows.now c.in_ok-book.ensures.rising;
-        ended = same-refl [];
-      });
-  room = rw c.in_ok-book.ensures.book (omega arith);
-}
+returns c =
+    stands_started _ c.args.rows.now [] 0 0 None c.in_ok-book.ensures.rising (record { numbered = tt; apart = tt }) c.in_ok-book.ensures.book (none_accessed _ c.new.ensures) c.new-2.ensures

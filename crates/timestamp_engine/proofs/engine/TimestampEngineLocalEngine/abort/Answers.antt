@@ -1,13 +1,14 @@
+use Rattle.std.proofs.Common.{refl}
 use Rattle.mdb_base.specs.declared.names.Engine.TheVariants.{Timestamp}
-use Rattle.run_lists.proofs.Calls.{is_held}
-use Rattle.timestamp_engine.proofs.Lines.{holds_aborted}
+use Rattle.fed_rules.specs.Runs.{Aborts}
+use Rattle.run_book.proofs.Calls.{run_at-held}
+use Rattle.run_book.proofs.HeldBy.{unended_held}
+use Rattle.run_book.proofs.InOrder.{some_held}
 use Rattle.timestamp_engine.proofs.engine.TimestampEngineLocalEngine.abort.Goals as goal
 
 pub returns : goal.returns
 returns c =
-    let book = c.args.self.now.book in
-    let here = is_held Timestamp book c.requires.start c.requires.lines c.args.tid c.requires.holds.run c.requires.stood.holds.keeps c.requires.holds.unended in
-    λ start lines stood. record {
-      holds = rw (c.end.ensures.book, c.end.ensures.gone) (holds_aborted book _ start lines stood.holds c.args.tid here.held here.found);
-      room = c.end.ensures.room;
-    }
+    let book = c.args.self.now.book.book in
+    let there = some_held _ (unended_held Timestamp book c.requires.start c.requires.lines c.args.tid c.requires.stood.keeps.keeps c.requires.holds) in
+    λ start lines s.
+    c.end.ensures start lines (Aborts c.args.tid) s (there.0.run, run_at-held Timestamp book start lines c.args.tid there.0 s.keeps.keeps there.1) (refl, refl)

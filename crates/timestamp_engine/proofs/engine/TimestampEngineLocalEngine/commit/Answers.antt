@@ -1,24 +1,22 @@
-use Rattle.std.proofs.Common.{arith}
+use Rattle.std.proofs.Common.{sym, ap, ◌∙◌}
 use Rattle.mdb_base.specs.declared.names.Engine.TheVariants.{Timestamp}
-use Rattle.run_lists.proofs.Calls.{run_at-held}
-use Rattle.run_lists.proofs.Commits.{keeps_commits}
-use Rattle.run_lists.proofs.HeldBy.{sealed_held}
-use Rattle.run_lists.proofs.Room.{without-le}
+use Rattle.fed_rules.specs.Runs.{Commits}
+use Rattle.fed_rules.specs.EngineLines.{IsRightLine}
+use Rattle.run_book.specs.Held.{Held}
+use Rattle.run_book.proofs.Ages.{some_inj}
+use Rattle.run_book.proofs.Calls.{run_at-held}
+use Rattle.run_book.proofs.HeldBy.{sealed_held}
+use Rattle.timestamp_engine.proofs.Lines.{stands_called}
 use Rattle.timestamp_engine.proofs.engine.TimestampEngineLocalEngine.commit.Goals as goal
 
 pub returns : goal.returns
 returns c =
-    let book = c.args.self.now.book in
-    let here = sealed_held Timestamp book c.requires.start c.requires.lines c.args.tid c.requires.stood.holds.keeps c.requires.holds in
-    let fewer = without-le c.args.tid book.unended in
-    λ start lines stood.
-    let k = stood.holds.keeps in
-    let room = stood.room in
-    record {
-      holds = record {
-        keeps = rw c.commit.ensures
-            (keeps_commits Timestamp book start lines c.args.tid k (here.held.run, here.number, (run_at-held Timestamp book start lines c.args.tid here.held k here.found, here.sealed)));
-        ended = stood.holds.ended;
-      };
-      room = rw c.commit.ensures (omega arith);
-    }
+    let old = c.args.self.now in
+    let book = old.book.book in
+    let here = sealed_held Timestamp book c.requires.start c.requires.lines c.args.tid c.requires.stood.keeps.keeps c.requires.holds in
+    let held = c.commit-run.result in
+    let same = some_inj held here.held (sym c.commit-run.ensures.run ∙ here.found) in
+    λ start lines s.
+    let at = run_at-held Timestamp book start lines c.args.tid held s.keeps.keeps c.commit-run.ensures.run in
+    let right : IsRightLine start lines (Commits c.args.tid) = (held.run, here.number, (at, ap (λ (h : Held). h.run.sealed) same ∙ here.sealed)) in
+    stands_called old _ start lines (Commits c.args.tid) held.run s right at c.commit-run.ensures.book (c.commit.ensures, c.commit-2.ensures)

@@ -1,34 +1,48 @@
-use Rattle.std.proofs.Common.{◌∙◌, sym, arith}
+use Rattle.std.proofs.Common.{◌≡◌, cond, Some, None, refl, sym, ap, ◌∙◌}
 use Rattle.mdb_base.specs.declared.names.Engine.TheVariants.{Timestamp}
-use Rattle.fed_rules.specs.Runs.{Got}
-use Rattle.run_lists.specs.Book.{granted_to}
-use Rattle.run_lists.proofs.HeldBy.{live_held}
-use Rattle.timestamp_engine.proofs.Lines.{holds_value, holds_stopped}
-use Rattle.run_lists.proofs.Room.{changed_in-length}
+use Rattle.mdb_base.specs.declared.acts.PlainAct.TheVariants.{Read}
+use Rattle.mdb_base.specs.declared.replies.Reply.TheVariants.{Value}
+use Rattle.mdb_base.specs.Names.{same_key}
+use Rattle.fed_rules.specs.Runs.{Acts, Access, after}
+use Rattle.fed_rules.specs.Replies.{age_of}
+use Rattle.run_book.specs.declared.rival.Rival.{Rival}
+use Rattle.run_book.specs.Book.{grants, table_in}
+use Rattle.run_book.specs.Held.{Held}
+use Rattle.run_book.specs.Rivals.{rival_by}
+use Rattle.run_book.proofs.Ages.{some_inj}
+use Rattle.run_book.proofs.HeldBy.{live_held}
+use Rattle.run_book.proofs.InOrder.{of_found}
+use Rattle.access_ages.specs.declared.key_ages.KeyAges.{KeyAges}
+use Rattle.access_ages.specs.Ages.{ages_of, with_reader}
+use Rattle.access_ages.specs.Stops.{key_stop}
+use Rattle.timestamp_engine.proofs.Lines.{at, right_value, stands_called, stands_stopped}
 use Rattle.timestamp_engine.proofs.engine.TimestampEngineLocalEngine.read.Goals as goal
 
 pub returns-in-Some-clause-answered : goal.returns-in-Some-clause-answered
 returns-in-Some-clause-answered c =
-    let book = c.args.self.now.book in
-    let here = live_held Timestamp book c.requires.start c.requires.lines c.args.tid c.requires.stood.holds.keeps c.requires.holds in
-    let stopped = rw here.found at c.access_stop.ensures in
-    λ start lines stood. record {
-      holds = rw (c.stop.ensures.book, c.stop.ensures.gone, c.stop.ensures.answer)
-          (holds_stopped book _ start lines stood.holds c.args.tid here.held here.found _ c.in-Some.stop here.live (sym stopped ∙ c.in-Some.is));
-      room = c.stop.ensures.room;
-    }
+    let old = c.args.self.now in
+    let act = Read c.args.key in
+    let here = live_held Timestamp old.book.book c.requires.start c.requires.lines c.args.tid c.requires.stood.keeps.keeps c.requires.holds in
+    let is = of_found (λ h. Some c.in-Some.stop ≡ key_stop (ages_of old.accesses c.args.key) h.run.age act) _ here.held here.found c.in-Some.ensures in
+    λ start lines s. rw c.stop.ensures.answer
+    (stands_stopped old c.stop.new.self start lines c.args.tid here.held act c.in-Some.stop s here.found here.live is c.stop.ensures.stopped)
 
 pub returns-clause-answered : goal.returns-clause-answered
 returns-clause-answered c =
-    let book = c.args.self.now.book in
-    let here = live_held Timestamp book c.requires.start c.requires.lines c.args.tid c.requires.stood.holds.keeps c.requires.holds in
-    let free = rw here.found at c.access_stop.ensures in
-    let as_many = changed_in-length c.args.tid (granted_to (Got c.args.key c.value_for-value.result)) book.unended in
-    let value = rw here.found at c.value_for-value.ensures in
-    λ start lines stood.
-    let room = stood.room in
-    record {
-      holds = rw (c.in_ok-grant.ensures.granted, c.read.ensures)
-          (holds_value book _ start lines stood.holds c.args.tid here.held here.found c.args.key c.value_for-value.result here.live (sym free ∙ c.in_default.is) value);
-      room = rw (c.in_ok-grant.ensures.granted, c.read.ensures) (omega arith);
-    }
+    let old = c.args.self.now in
+    let book = old.book.book in
+    let key = c.args.key in
+    let here = live_held Timestamp book c.requires.start c.requires.lines c.args.tid c.requires.stood.keeps.keeps c.requires.holds in
+    let free = of_found (λ h. None ≡ key_stop (ages_of old.accesses key) h.run.age (Read key)) _ here.held here.found c.in_default.ensures in
+    let value = of_found (λ h. c.value_for-value.result ≡ after h.run.acts (table_in book) key) _ here.held here.found c.value_for-value.ensures in
+    let same = some_inj c.run.result.now here.held (sym c.run.ensures ∙ here.found) in
+    let rival : c.by_age-run.result ≡ rival_by age_of here.held.run = c.by_age-run.ensures ∙ ap (λ (h : Held). rival_by age_of h.run) same in
+    λ start lines s.
+    stands_called old _ start lines (Acts c.args.tid (Read key) (Value c.value_for-value.result)) here.held.run s
+    (right_value old start lines s c.args.tid here.held here.found key c.value_for-value.result here.live free value) (at old start lines s c.args.tid here.held here.found)
+    (c.in_ok-grant.ensures.granted ∙ ap (λ (a : Access). grants c.args.tid a book) c.read.ensures) (
+      λ q. c.read-2.ensures q
+          ∙ (ap (λ (a : KeyAges). cond (same_key key q) (with_reader c.by_age-run.result a) a) (c.make_room.ensures.same q)
+          ∙ ap (λ (r : Rival). cond (same_key key q) (with_reader r (ages_of old.accesses q)) (ages_of old.accesses q)) rival),
+      refl,
+    )

@@ -1,24 +1,14 @@
-use Rattle.std.proofs.Common.{◌≡◌, ◌∙◌, [], length, arith}
-use Rattle.std.proofs.lemmas.List.{length-map}
-use Rattle.mdb_base.specs.declared.names.Engine.TheVariants.{Timestamp}
-use Rattle.run_lists.specs.declared.marks.Marks.{Marks}
-use Rattle.run_lists.specs.Book.{restored_runs}
-use Rattle.run_lists.proofs.Members.{same-refl}
-use Rattle.run_lists.proofs.Starts.{keeps_starts}
+use Rattle.std.proofs.Common.{[], sym, subst}
+use Rattle.mdb_base.specs.declared.names.Engine.{Engine}
+use Rattle.engine_contract.specs.Calls.{start_from}
+use Rattle.timestamp_engine.specs.declared.engine.TimestampEngine.{TimestampEngine}
+use Rattle.timestamp_engine.specs.Stands.{Stands}
+use Rattle.timestamp_engine.proofs.Lines.{stands_started}
 use Rattle.timestamp_engine.proofs.engine.TimestampEngineLocalEngine.restart.Goals as goal
 
 pub returns-clause-started : goal.returns-clause-started
 returns-clause-started c =
-    let doubtful = c.args.doubtful.now in
-    let marks : Marks = record { counter = c.args.counter; published = c.args.published; owner = c.args.owner } in
-    let none : c.reserve.new.self.items ≡ [] = c.reserve.ensures.items ∙ c.new-aborted.ensures.items in
-    let as_many : length (restored_runs marks doubtful) ≡ length doubtful = length-map doubtful _ in
-    let made_room = c.in_ok-reserve.ensures.ok in
-    λ start lines stood. record {
-      holds = rw (c.in_ok-self.ensures.book, stood.holds.keeps.of_kind, none)
-          (record {
-            keeps = keeps_starts Timestamp c.args.rows.now doubtful c.args.counter c.args.published c.args.owner c.in_ok-self.ensures.rising c.requires;
-            ended = same-refl [];
-          });
-      room = rw c.in_ok-self.ensures.book (omega arith);
-    }
+    let new : TimestampEngine = record { book = c.in_ok-self.field-0; accesses = c.in_ok-accesses.accesses; takers = c.in_ok-takers.takers } in
+    λ start lines s.
+    subst (λ (kind : Engine). Stands new (start_from kind c.args.rows.now c.args.doubtful.now c.args.counter c.args.published c.args.owner) []) (sym s.keeps.keeps.of_kind)
+    (stands_started new c.args.rows.now c.args.doubtful.now c.args.counter c.args.published c.args.owner c.in_ok-self.ensures.rising c.requires c.in_ok-self.ensures.book c.in_ok-accesses.ensures c.in_ok-takers.ensures)

@@ -1,23 +1,30 @@
-use Rattle.std.proofs.Common.{◌∙◌, sym, ap, arith}
+use Rattle.std.proofs.Common.{◌≡◌, ℕ, ◌+◌, ◌∷◌, Bool, is_some, cond, None, IfSome, Option, refl, sym, ap, ◌∙◌, subst}
 use Rattle.mdb_base.specs.declared.names.Engine.TheVariants.{Timestamp}
-use Rattle.run_lists.specs.Held.{Held}
-use Rattle.run_lists.specs.Book.{sealed_with}
-use Rattle.run_lists.proofs.Ages.{some_inj}
-use Rattle.run_lists.proofs.HeldBy.{sealable_held}
-use Rattle.timestamp_engine.proofs.Lines.{holds_sealing}
-use Rattle.run_lists.proofs.Room.{changed_in-length}
+use Rattle.fed_rules.specs.Runs.{Seals}
+use Rattle.run_book.specs.Held.{Held}
+use Rattle.run_book.proofs.Ages.{some_inj}
+use Rattle.run_book.proofs.HeldBy.{sealable_held}
+use Rattle.run_book.proofs.InOrder.{if_found}
+use Rattle.access_ages.specs.Takers.{Takers}
+use Rattle.timestamp_engine.proofs.Lines.{at, next_ticket, right_seal, stands_called}
 use Rattle.timestamp_engine.proofs.engine.TimestampEngineLocalEngine.seal.Goals as goal
+
+pub seal-requires-clause-next : goal.seal-requires-clause-next
+seal-requires-clause-next c =
+    let old = c.args.self.now in
+    let here = sealable_held Timestamp old.book.book c.requires.start c.requires.lines c.args.tid c.requires.stood.keeps.keeps c.requires.holds in
+    if_found (λ h. IfSome h.run.ticket (λ t. t ≡ old.book.book.marks.published + 1)) _ here.held here.found
+    (next_ticket old c.requires.start c.requires.lines c.requires.stood c.args.tid here.held here.found here.live)
 
 pub returns-clause-sealed : goal.returns-clause-sealed
 returns-clause-sealed c =
-    let book = c.args.self.now.book in
-    let here = sealable_held Timestamp book c.requires.start c.requires.lines c.args.tid c.requires.stood.holds.keeps c.requires.holds in
-    let same = some_inj here.held c.run-run.result.now (sym here.found ∙ c.run-run.ensures) in
-    let number = c.age-number.ensures ∙ ap (λ (held : Held). held.run.age) (sym same) in
-    let as_many = changed_in-length c.args.tid (sealed_with c.age-number.result book.marks) book.unended in
-    λ start lines stood.
-    let room = stood.room in
-    record {
-      holds = rw c.in_ok-seal.ensures.sealed (holds_sealing book _ start lines stood.holds c.args.tid here.held here.found _ here.live number);
-      room = rw c.in_ok-seal.ensures.sealed (omega arith);
-    }
+    let old = c.args.self.now in
+    let book = old.book.book in
+    let here = sealable_held Timestamp book c.requires.start c.requires.lines c.args.tid c.requires.stood.keeps.keeps c.requires.holds in
+    let same = some_inj c.run-run.result.now here.held (sym c.run-run.ensures ∙ here.found) in
+    let number = c.age-number.ensures ∙ ap (λ (h : Held). h.run.age) same in
+    let ticket = ap (λ (o : Option ℕ). is_some o) (c.ticket-ticket.ensures ∙ ap (λ (h : Held). h.run.ticket) same) in
+    λ start lines s.
+    stands_called old _ start lines (Seals c.args.tid c.age-number.result) here.held.run s (right_seal old start lines s c.args.tid here.held here.found c.age-number.result here.live number)
+    (at old start lines s c.args.tid here.held here.found) (c.in_ok-seal.ensures.sealed, c.in_ok-seal.ensures.room)
+    (λ q. refl, c.publish.ensures ∙ ap (λ (b : Bool). let t : Takers = record old.takers { live = cond b None old.takers.live } in t) ticket)

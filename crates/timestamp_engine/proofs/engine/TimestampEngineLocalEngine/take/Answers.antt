@@ -1,34 +1,59 @@
-use Rattle.std.proofs.Common.{◌+◌, ◌∙◌, sym, ap, arith}
+use Rattle.std.proofs.Common.{◌≡◌, ℕ, ◌+◌, Some, None, refl, sym, ap, ◌∙◌}
+use Rattle.std.specs.FinMap.{get, remove}
 use Rattle.mdb_base.specs.declared.names.Engine.TheVariants.{Timestamp}
-use Rattle.run_lists.specs.declared.marks.Marks.{Marks}
-use Rattle.run_lists.specs.Book.{with_ticket}
-use Rattle.run_lists.proofs.HeldBy.{ticketless_held}
-use Rattle.timestamp_engine.proofs.Lines.{holds_ticket, holds_ticket_stopped}
-use Rattle.run_lists.proofs.Room.{changed_in-length}
+use Rattle.mdb_base.specs.declared.replies.Reply.TheVariants.{Ticket}
+use Rattle.fed_rules.specs.Runs.{Takes}
+use Rattle.fed_rules.specs.Replies.{age_of}
+use Rattle.run_book.specs.declared.marks.Marks.{Marks}
+use Rattle.run_book.specs.declared.rival.Rival.{Rival}
+use Rattle.run_book.specs.Book.{tickets}
+use Rattle.run_book.specs.Held.{Held}
+use Rattle.run_book.specs.Rivals.{rival_by}
+use Rattle.run_book.proofs.Ages.{some_inj}
+use Rattle.run_book.proofs.HeldBy.{ticketless_held}
+use Rattle.run_book.proofs.InOrder.{of_found}
+use Rattle.access_ages.specs.Takers.{ByAge, Takers, with_taker}
+use Rattle.access_ages.specs.Stops.{IsTicketStop}
+use Rattle.access_ages.proofs.Trees.{put-gone}
+use Rattle.timestamp_engine.proofs.Lines.{at, no_taker, right_take, stands_called, stands_same, stands_ticket_stopped}
 use Rattle.timestamp_engine.proofs.engine.TimestampEngineLocalEngine.take.Goals as goal
 
 pub returns-in-Some-clause-answered : goal.returns-in-Some-clause-answered
 returns-in-Some-clause-answered c =
-    let book = c.args.self.now.book in
-    let here = ticketless_held Timestamp book c.requires.start c.requires.lines c.args.tid c.requires.stood.holds.keeps c.requires.holds in
-    let stopped = rw here.found at c.ticket_stop.ensures in
-    λ start lines stood. record {
-      holds = rw (c.stop.ensures.book, c.stop.ensures.gone, c.stop.ensures.answer)
-          (holds_ticket_stopped book _ start lines stood.holds c.args.tid here.held here.found c.in-Some.stop here.live here.ticketless (sym stopped ∙ c.in-Some.is));
-      room = c.stop.ensures.room;
-    }
+    let old = c.args.self.now in
+    let here = ticketless_held Timestamp old.book.book c.requires.start c.requires.lines c.args.tid c.requires.stood.keeps.keeps c.requires.holds in
+    let is = of_found (λ h. IsTicketStop old.takers h.run.age (Some c.in-Some.stop)) _ here.held here.found c.in-Some.ensures in
+    λ start lines s. rw c.stop.ensures.answer
+    (stands_ticket_stopped old c.stop.new.self start lines c.args.tid here.held c.in-Some.stop s here.found here.live here.ticketless is c.stop.ensures.stopped)
+
+pub returns-in_default-take-clause-memory : goal.returns-in_default-take-clause-memory
+returns-in_default-take-clause-memory c =
+    let old = c.args.self.now in
+    let here = ticketless_held Timestamp old.book.book c.requires.start c.requires.lines c.args.tid c.requires.stood.keeps.keeps c.requires.holds in
+    let same = some_inj c.run.result.now here.held (sym c.run.ensures ∙ here.found) in
+    let run = c.by_age-run.result in
+    let rival : run ≡ rival_by age_of here.held.run = c.by_age-run.ensures ∙ ap (λ (h : Held). rival_by age_of h.run) same in
+    λ start lines s.
+    let none : get old.takers.unended run.rank ≡ None = ap (λ (r : Rival). get old.takers.unended r.rank) rival ∙ no_taker old start lines s c.args.tid here.held here.found here.ticketless in
+    stands_same old _ start lines c.in_default-take.ensures.memory c.in_default-take.ensures.room (λ q. refl)
+    (c.leave.ensures ∙ (ap (λ (t : Takers). let u : Takers = record t { unended = remove t.unended run.rank } in u) c.in_ok-enter.ensures.entered
+    ∙ ap (λ (m : ByAge). let u : Takers = record old.takers { unended = m } in u) (put-gone old.takers.unended run.rank run.tid none))) s
 
 pub returns-clause-answered : goal.returns-clause-answered
 returns-clause-answered c =
-    let book = c.args.self.now.book in
-    let here = ticketless_held Timestamp book c.requires.start c.requires.lines c.args.tid c.requires.stood.holds.keeps c.requires.holds in
-    let free = rw here.found at c.ticket_stop.ensures in
-    let ticket = ap (λ (marks : Marks). marks.published + 1) c.marks-ticket.ensures in
-    let as_many = changed_in-length c.args.tid (with_ticket (c.marks-ticket.result.published + 1)) book.unended in
-    λ start lines stood.
-    let room = stood.room in
-    record {
-      holds = rw c.hold_ticket.ensures
-          (holds_ticket book _ start lines stood.holds c.args.tid here.held here.found _ here.live here.ticketless (sym free ∙ c.in_default.is) ticket);
-      room = rw c.hold_ticket.ensures (omega arith);
-    }
+    let old = c.args.self.now in
+    let book = old.book.book in
+    let here = ticketless_held Timestamp book c.requires.start c.requires.lines c.args.tid c.requires.stood.keeps.keeps c.requires.holds in
+    let free = of_found (λ h. IsTicketStop old.takers h.run.age None) _ here.held here.found c.in_default.ensures in
+    let same = some_inj c.run.result.now here.held (sym c.run.ensures ∙ here.found) in
+    let run = c.by_age-run.result in
+    let rival : run ≡ rival_by age_of here.held.run = c.by_age-run.ensures ∙ ap (λ (h : Held). rival_by age_of h.run) same in
+    λ start lines s.
+    stands_called old _ start lines (Takes c.args.tid (Ticket c.in-Ok.ticket)) here.held.run s
+    (right_take old start lines s c.args.tid here.held here.found (Ticket c.in-Ok.ticket) None here.live here.ticketless free
+    (ap (λ (n : ℕ). Ticket n) (c.in-Ok.ensures.ticket ∙ ap (λ (m : Marks). m.published + 1) s.keeps.keeps.marks)))
+    (at old start lines s c.args.tid here.held here.found) (c.in-Ok.ensures.taken ∙ ap (λ (n : ℕ). tickets c.args.tid n book) (sym c.in-Ok.ensures.ticket)) (
+      λ q. refl,
+      c.hold.ensures ∙ (ap (λ (t : Takers). let u : Takers = record t { live = Some run } in u) c.in_ok-enter.ensures.entered
+          ∙ ap (λ (r : Rival). let u : Takers = record old.takers { unended = with_taker r old.takers.unended; live = Some r } in u) rival),
+    )
