@@ -12,6 +12,7 @@ use Rattle.access_ages.specs.Ages.{Ages, ages_of, unwritten}
 use Rattle.access_ages.specs.Takers.{Takers, without_taker, ByAge}
 use Rattle.access_ages.specs.Laws.{AreNow, IsNoted, where_written}
 use Rattle.access_ages.specs.Lines.{KeepsAges}
+use Rattle.access_ages.proofs.Outcomes.{ends-none, gives_up-ends}
 use Rattle.access_ages.proofs.Steps.{follows_begins, follows_calls}
 use Rattle.run_book.specs.Held.{Held, held_in}
 use Rattle.run_book.specs.Book.{Book, begins, drops, commits}
@@ -69,26 +70,6 @@ pub of_one_age : (old : MultiversionEngine) (start : Start) (older : List Engine
     (u : Tid) (other : Run) → run_at start older u ≡ Some other → other.age ≡ run.age → u ≡ t
 of_one_age old start older t run s at u other there same = let k = s.keeps.keeps in ages-differ start older u t other run k.starts k.right there at same
 
--- a line that ends its run otherwise than by commit
-gives_none : (line : EngineLine) (run : Run) → gives_up line ≡ true → changed line (Some run) ≡ None
-gives_none (Begins tid n) run h = cc
-gives_none (Acts tid act (Refused why)) run h = refl
-gives_none (Acts tid act (Wait by)) run h = cc
-gives_none (Acts tid act (Ticket n)) run h = cc
-gives_none (Acts tid act (Value v)) run h = cc
-gives_none (Acts tid act Done) run h = cc
-gives_none (Acts tid act Unknown) run h = cc
-gives_none (Takes tid (Refused why)) run h = refl
-gives_none (Takes tid (Wait by)) run h = cc
-gives_none (Takes tid (Ticket n)) run h = cc
-gives_none (Takes tid (Value v)) run h = cc
-gives_none (Takes tid Done) run h = cc
-gives_none (Takes tid Unknown) run h = cc
-gives_none (Seals tid n) run h = cc
-gives_none (Refuses tid why) run h = refl
-gives_none (Commits tid) run h = cc
-gives_none (Aborts tid) run h = refl
-
 -- what the end of a run leaves of the book, the ages and the takers
 record EndsSo (old new : MultiversionEngine) (tid : Tid) (run : Run) : Type 0 where
   book : new.book.book ≡ drops tid old.book.book
@@ -132,7 +113,7 @@ ends_run old new tid held found book accesses takers unended olds start older li
       keeps = calls_well Multiversion old.book new.book start older line s.keeps right known.0;
       ages = follows_calls Multiversion multiversion_by_age old.accesses new.accesses old.takers new.takers start older line run k.of_kind k.starts k.right right at s.ages known.1;
       unended = subst (λ (m : ByAge). AreUnended m (run_at start (line ∷ older))) (sym unended)
-          (unended_less old.unended (run_at start older) (run_at start (line ∷ older)) (tid_of line) run (changes start older line (Some run) None at (gives_none line run ends.1))
+          (unended_less old.unended (run_at start older) (run_at start (line ∷ older)) (tid_of line) run (changes start older line (Some run) None at (ends-none line (Some run) (gives_up-ends line ends.1)))
           (of_one_age old start older (tid_of line) run s at) s.unended);
       versions = subst (λ (o : Olds). AreVersions o start (line ∷ older)) (sym olds)
           (versions_next old.olds start older line k.starts (right, k.right) known.2 (writes_nothing old.olds start older line ends.1) s.versions);

@@ -8,13 +8,13 @@ use Rattle.mdb_base.specs.declared.names.Tid.{Tid}
 use Rattle.mdb_base.specs.declared.rows.Put.{Put}
 use Rattle.mdb_base.specs.Names.{same_tid, same_key}
 use Rattle.mdb_base.specs.Rising.{IsRising}
-use Rattle.mdb_base.specs.Words.{some_of}
 use Rattle.mdb_base.proofs.NameLaws.{same_key-equal}
 use Rattle.fed_rules.specs.declared.runs.Kept.{Kept}
-use Rattle.fed_rules.specs.Runs.{Start, Run, run_at, restored, restored_at, written}
-use Rattle.fed_rules.specs.Replies.{has_written, writes}
+use Rattle.fed_rules.specs.Runs.{Start, Run, run_at, restored, restored_at}
+use Rattle.fed_rules.specs.Replies.{has_written}
 use Rattle.fed_rules.specs.EngineLines.{IsStart, has_row}
 use Rattle.engine_contract.specs.Calls.{start_from}
+use Rattle.engine_laws.proofs.Restored.{has_write_written}
 use Rattle.access_ages.specs.Ages.{no_ages, restored_writer}
 use Rattle.access_ages.specs.Takers.{no_takers, restored_takers, ByAge}
 use Rattle.access_ages.specs.Laws.{AreNow}
@@ -78,11 +78,7 @@ written_still : (book : Book) (doubtful : List Kept) (k : Key) (olds : Olds) →
 written_still book [] k olds there = there
 written_still book (kept ∷ more) k olds there = written_still book more k (with_rows book kept.writes olds) (rows_still book kept.writes k olds there)
 
--- a restored run has written the rows of its record
-written_rows : (key : Key) (puts : List Put) → some_of (writes key) (written puts) ≡ has_row key puts
-written_rows key [] = refl
-written_rows key (put ∷ puts) = ap (λ (b : Bool). same_key put.key key || b) (written_rows key puts)
-
+-- and so does that of a key that one of them wrote
 written_here : (book : Book) (doubtful : List Kept) (t : Tid) (run : Run) (k : Key) (olds : Olds) → restored_at doubtful t ≡ Some run → has_written k run ≡ true →
     IsThere (with_written book doubtful olds) k (kept_in book k)
 written_here book [] t run k olds at has = cc
@@ -93,7 +89,7 @@ written_here book (kept ∷ more) t run k olds at has = by_test (same_tid kept.t
         IsThere (with_written book more (with_rows book kept.writes olds)) k (kept_in book k)
     by_test true at rest =
         let same = some_inj (restored kept) run at in
-        let wrote : has_row k kept.writes ≡ true = sym (written_rows k kept.writes) ∙ (ap (λ (r : Run). has_written k r) same ∙ has) in
+        let wrote : has_row k kept.writes ≡ true = sym (has_write_written k kept.writes) ∙ (ap (λ (r : Run). has_written k r) same ∙ has) in
         written_still book more k (with_rows book kept.writes olds) (rows_here book kept.writes k olds wrote)
     by_test false at rest = rest at
 
