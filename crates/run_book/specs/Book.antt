@@ -1,12 +1,14 @@
 -- What a run book holds, and what each of its calls makes of it.
 use Rattle.std.specs.Prelude.{ℕ, ◌+◌, ◌-◌, max, nat_lt, cond, Option, Some, None, List, [], ◌∷◌}
 use Rattle.std.specs.FinMap.{empty, get}
+use Rattle.mdb_base.specs.declared.names.Key.{Key}
 use Rattle.mdb_base.specs.declared.names.Tid.{Tid}
 use Rattle.mdb_base.specs.declared.rows.Put.{Put}
 use Rattle.mdb_base.specs.Rows.{Table}
 use Rattle.mdb_base.specs.Words.{or_else, map_some}
 use Rattle.fed_rules.specs.declared.runs.Kept.{Kept}
 use Rattle.fed_rules.specs.Runs.{Access, restored, begun, number, has_ticket}
+use Rattle.site_tables.specs.Numbers.{number_of}
 use Rattle.site_tables.specs.Tables.{Versions, value_of}
 use Rattle.run_book.specs.declared.marks.Marks.{Marks}
 use Rattle.run_book.specs.Held.{Held, Runs, held_in, with_run, changed_in, without}
@@ -105,3 +107,7 @@ commits tid book =
 -- the value of each key in the table
 abbrev pub table_in : Book → Table
 table_in book key = value_of (get book.versions key.0)
+
+-- the number of each key's last writer in the table
+abbrev pub number_in : Book → Key → ℕ
+number_in book key = number_of (get book.versions key.0)

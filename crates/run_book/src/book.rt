@@ -5,7 +5,7 @@ ghost use Rattle.mdb_base.specs.Rising.{IsRising};
 ghost use Rattle.mdb_base.specs.Words.{holds_of};
 ghost use Rattle.fed_rules.specs.Runs.{after, has_ticket, is_sealed};
 ghost use Rattle.run_book.specs.Held.{held_in};
-ghost use Rattle.run_book.specs.Book.{started, begins, unbegins, grants, tickets, seals, unseals, drops, commits, table_in, taken_by};
+ghost use Rattle.run_book.specs.Book.{started, begins, unbegins, grants, tickets, seals, unseals, drops, commits, table_in, number_in, taken_by};
 ghost use Rattle.run_book.specs.Tables.{AreRowsOf};
 
 use crate::granted::Granted;
@@ -266,6 +266,13 @@ impl RunBook {
         ensures { result ≡ table_in self.now.book key }
     {
         self.tables.get(key)
+    }
+
+    /// The number of the run that wrote a key's value in the table; that of a first or absent row is 0.
+    pub fn number(&self, key: Key) -> u64
+        ensures { result ≡ number_in self.now.book key }
+    {
+        self.tables.number(key)
     }
 
     /// What a run reads of a key: its own last write, or the table's value.

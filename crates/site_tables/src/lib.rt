@@ -4,6 +4,7 @@
 //! one that the writes by rising number give. Look-ups and writes go through a hash table, so each takes constant time.
 #![tactic(auto)]
 
+mod numbers;
 mod tables;
 mod versions;
 

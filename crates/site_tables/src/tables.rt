@@ -4,8 +4,10 @@ ghost use Rattle.std.specs.FinMap as map;
 ghost use Rattle.mdb_base.specs.declared.names.Key.{Key};
 ghost use Rattle.mdb_base.specs.Rising.{IsRising};
 ghost use Rattle.mdb_base.specs.Rows.{value_in};
+ghost use Rattle.site_tables.specs.Numbers.{number_of};
 ghost use Rattle.site_tables.specs.Tables.{value_of, row_of, with_row, written};
 
+use crate::numbers::number;
 use crate::versions::{self, Version};
 use mdb_base::{Key, Memory, Put, Puts, sort_rows};
 use std::alloc::Global;
@@ -47,6 +49,13 @@ impl Tables {
         ensures { result ≡ value_of (map.get self.now.versions key.0) }
     {
         versions::value(&self.versions, key.0)
+    }
+
+    /// The number of a key's last writer; that of an absent key is 0.
+    pub fn number(&self, key: Key) -> u64
+        ensures { result ≡ number_of (map.get self.now.versions key.0) }
+    {
+        number(&self.versions, key.0)
     }
 
     /// Makes room for so many further keys. The table keeps its allocator.

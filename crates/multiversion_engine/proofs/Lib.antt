@@ -1,0 +1,14 @@
+pub mod Ages
+pub mod Back
+pub mod ByAge
+pub mod Commits
+pub mod KeptBelow
+pub mod Lines
+pub mod Noting
+pub mod Places
+pub mod Pruned
+pub mod Ranges
+pub mod Replies
+pub mod Starts
+pub mod TakenBack
+pub mod Versions

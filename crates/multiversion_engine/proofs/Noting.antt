@@ -1,0 +1,28 @@
+-- What the noting of an access leaves of the ages, once there is room.
+use Rattle.std.proofs.Common.{◌≡◌, cond, ap, ◌∙◌}
+use Rattle.std.specs.declared.result.Result.{Result}
+use Rattle.std.specs.declared.result.Result.TheVariants.{Ok, Err}
+use Rattle.std.specs.Prelude.{OnErr}
+use Rattle.mdb_base.specs.declared.names.Key.{Key}
+use Rattle.mdb_base.specs.Names.{same_key}
+use Rattle.access_ages.specs.declared.key_ages.KeyAges.{KeyAges}
+use Rattle.access_ages.specs.Ages.{Ages, ages_of, with_reader, with_writer}
+use Rattle.access_ages.specs.Laws.{AreNow, at_key}
+use Rattle.run_book.specs.declared.rival.Rival.{Rival}
+
+pub read_noted : (old room new : Ages) (key : Key) (rival run : Rival) → rival ≡ run → AreNow room (ages_of old) → AreNow new (at_key key (with_reader rival) room) → AreNow new (at_key key (with_reader run) old)
+read_noted old room new key rival run is same noted q =
+    noted q
+    ∙ (ap (λ (a : KeyAges). cond (same_key key q) (with_reader rival a) a) (same q)
+    ∙ ap (λ (r : Rival). cond (same_key key q) (with_reader r (ages_of old q)) (ages_of old q)) is)
+
+pub write_noted : (old room new : Ages) (key : Key) (rival run : Rival) → rival ≡ run → AreNow room (ages_of old) → AreNow new (at_key key (with_writer rival) room) → AreNow new (at_key key (with_writer run) old)
+write_noted old room new key rival run is same noted q =
+    noted q
+    ∙ (ap (λ (a : KeyAges). cond (same_key key q) (with_writer rival a) a) (same q)
+    ∙ ap (λ (r : Rival). cond (same_key key q) (with_writer r (ages_of old q)) (ages_of old q)) is)
+
+-- a fact that holds anyway holds of an error
+pub on_err_anyway : {T E P : Type 0} (r : Result T E) → P → OnErr r P
+on_err_anyway (Ok x) p = tt
+on_err_anyway (Err e) p = p

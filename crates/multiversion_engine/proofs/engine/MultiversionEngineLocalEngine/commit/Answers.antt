@@ -1,0 +1,24 @@
+use Rattle.std.proofs.Common.{ℕ, sym, ap, ◌∙◌}
+use Rattle.std.specs.FinMap.{remove}
+use Rattle.mdb_base.specs.declared.names.Engine.TheVariants.{Multiversion}
+use Rattle.fed_rules.specs.Runs.{Commits}
+use Rattle.fed_rules.specs.EngineLines.{IsRightLine}
+use Rattle.run_book.specs.Held.{Held}
+use Rattle.run_book.proofs.Ages.{some_inj}
+use Rattle.run_book.proofs.Calls.{run_at-held}
+use Rattle.run_book.proofs.HeldBy.{sealed_held}
+use Rattle.multiversion_engine.proofs.Lines.{stands_commits}
+use Rattle.multiversion_engine.proofs.engine.MultiversionEngineLocalEngine.commit.Goals as goal
+
+pub returns : goal.returns
+returns c =
+    let old = c.args.self.now in
+    let book = old.book.book in
+    let here = sealed_held Multiversion book c.requires.start c.requires.lines c.args.tid c.requires.stood.keeps.keeps c.requires.holds in
+    let held = c.commit-run.result in
+    let same = some_inj held here.held (sym c.commit-run.ensures.run ∙ here.found) in
+    λ start lines s.
+    let at = run_at-held Multiversion book start lines c.args.tid held s.keeps.keeps c.commit-run.ensures.run in
+    let right : IsRightLine start lines (Commits c.args.tid) = (held.run, here.number, (at, ap (λ (h : Held). h.run.sealed) same ∙ here.sealed)) in
+    stands_commits old _ start lines c.args.tid held s right c.commit-run.ensures.run c.commit-run.ensures.book (c.commit.ensures, c.commit-2.ensures)
+    (c.remove.ensures ∙ ap (λ (n : ℕ). remove old.unended n) c.age.ensures) c.drop_unread.ensures.pruned

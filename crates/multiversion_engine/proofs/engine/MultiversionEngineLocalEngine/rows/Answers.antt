@@ -1,0 +1,7 @@
+use Rattle.std.proofs.lemmas.Result.{IfOk-weaker}
+use Rattle.mdb_base.specs.declared.names.Engine.TheVariants.{Multiversion}
+use Rattle.run_book.proofs.Tables.{rows-are}
+use Rattle.multiversion_engine.proofs.engine.MultiversionEngineLocalEngine.rows.Goals as goal
+
+pub returns : goal.returns
+returns c = IfOk-weaker c.rows.result _ _ (λ rows are start lines s. rows-are Multiversion c.args.self.now.book.book start lines rows s.keeps.keeps are) c.rows.ensures

@@ -1,0 +1,10 @@
+use Rattle.std.proofs.Common.{ap, ◌∙◌}
+use Rattle.std.specs.FinMap.{remove}
+use Rattle.access_ages.specs.Takers.{ByAge}
+use Rattle.access_ages.proofs.Trees.{entries_gone}
+use Rattle.multiversion_engine.proofs.unended.Unended.remove.Goals as goal
+
+pub returns : goal.returns
+returns c =
+    entries_gone c.self.inside.tids.entries _ c.args.age c.remove.ensures.updates.0
+    ∙ ap (λ (m : ByAge). remove m c.args.age) c.self.view_is
