@@ -1,1 +1,3 @@
-
+pub mod MarkLaws
+pub mod VersionLaws
+pub mod EntryLaws

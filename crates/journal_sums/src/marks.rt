@@ -1,5 +1,5 @@
 //! The epoch, the greatest serial number, and the greatest ticket with its owner.
-ghost use Rattle.std.specs.Prelude.{List, [], ◌∷◌};
+ghost use Rattle.std.specs.Prelude.{◌≡◌, max, nat_lt, cond, Some, List, [], ◌∷◌};
 ghost use Rattle.fed_rules.specs.declared.records.SiteRecord.{SiteRecord};
 ghost use Rattle.fed_rules.specs.declared.sums.SiteSum.{SiteSum};
 ghost use Rattle.journal_sums.specs.Readings.{TellsMarks};
@@ -53,7 +53,9 @@ impl Marks {
     }
 
     // A number was given out.
-    fn counting(self, number: u64) -> Marks {
+    fn counting(self, number: u64) -> Marks
+        ensures { result ≡ record { epoch = self.epoch; counter = max number self.counter; published = self.published; owner = self.owner } }
+    {
         Marks {
             counter: self.counter.max(number),
             ..self
@@ -61,7 +63,14 @@ impl Marks {
     }
 
     // An attempt was prepared with this ticket.
-    fn taking(self, tid: Tid, ticket: u64) -> Marks {
+    fn taking(self, tid: Tid, ticket: u64) -> Marks
+        ensures { result ≡ record {
+          epoch = self.epoch;
+          counter = self.counter;
+          published = max ticket self.published;
+          owner = cond (nat_lt self.published ticket) (Some tid) self.owner;
+        } }
+    {
         if self.published < ticket {
             Marks {
                 published: ticket,
