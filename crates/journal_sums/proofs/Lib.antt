@@ -1,3 +1,5 @@
 pub mod MarkLaws
 pub mod VersionLaws
 pub mod EntryLaws
+pub mod DoubtLaws
+pub mod LocalLaws

@@ -13,4 +13,4 @@ invariant-loop-left l = record {
 }
 
 abbrev pub decreases-loop-left : goal.decreases-loop-left
-decreases-loop-left g l = l.left
+decreases-loop-left l = l.left
