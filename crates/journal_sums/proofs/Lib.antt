@@ -3,3 +3,4 @@ pub mod VersionLaws
 pub mod EntryLaws
 pub mod DoubtLaws
 pub mod LocalLaws
+pub mod ReadingLaws

@@ -22,21 +22,25 @@ pub record TellsMarks (marks : Marks) (sum : SiteSum) (newer : List SiteRecord) 
   pub published : marks.published ≡ max (last_ticket newer) sum.published
   pub owner : marks.owner ≡ cond (nat_lt sum.published (last_ticket newer)) (ticket_owner newer) sum.owner
 
--- all that was read says what this Checkpoint says with the newer records
-pub record Says (reading : Reading) (sum : SiteSum) (newer : List SiteRecord) : Type 0 where
+-- beside its counters, all that was read is what this Checkpoint says with the newer records
+pub record Holds (reading : Reading) (sum : SiteSum) (newer : List SiteRecord) : Type 0 where
   pub site : reading.site ≡ sum.site
   pub engine : reading.engine ≡ sum.engine
   pub protocol : reading.protocol ≡ sum.protocol
-  pub marks : TellsMarks reading.marks sum newer
   pub rising : IsRising (λ put. put.key.0) sum.rows
   pub versions : (key : Key) → get key_cmp reading.versions key ≡ version_in sum.rows (installs (newer ++ carried sum.doubtful)) key
   pub first_locals : reading.first_locals ≡ sum.locals
   pub locals : reverse reading.locals.items ≡ local_tids newer
   pub doubtful : (tid : Tid) → get tid_cmp reading.doubtful tid ≡ doubt_of (newer ++ carried sum.doubtful) tid
 
--- with this record behind, what the one says the other says
+-- all that was read says what this Checkpoint says with the newer records
+pub record Says (reading : Reading) (sum : SiteSum) (newer : List SiteRecord) : Type 0 where
+  pub marks : TellsMarks reading.marks sum newer
+  pub holds : Holds reading sum newer
+
+-- beside the counters, the one holds what the other holds with this record behind
 abbrev pub Adds : Reading → Reading → SiteRecord → Type 0
-Adds old new entry = (sum : SiteSum) (newer : List SiteRecord) → Says old sum newer → Says new sum (entry ∷ newer)
+Adds old new entry = (sum : SiteSum) (newer : List SiteRecord) → Holds old sum newer → Holds new sum (entry ∷ newer)
 
 -- it says what the journal of this site says, the newest record first
 abbrev pub SaysJournal : Reading → Home → List SiteRecord → Type 0

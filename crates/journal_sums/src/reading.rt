@@ -92,15 +92,16 @@ impl Reading {
             *self = Reading::of(alloc, sum)?;
             Ok(())
         } else {
-            self.add(alloc, entry)
+            self.marks = self.marks.after(entry);
+            self.hold(alloc, entry)
         }
     }
 
-    /// Adds what a record says that is no Checkpoint.
-    fn add(&mut self, alloc: Global, entry: &SiteRecord) -> Result<(), Memory>
-        ensures { OnOk result (Adds self.old self.new entry.now) }
+    /// Holds what a record says beside the counters. A Checkpoint says nothing new.
+    fn hold(&mut self, alloc: Global, entry: &SiteRecord) -> Result<(), Memory>
+        ensures held { OnOk result (Adds self.old self.new entry.now) }
+        ensures marks { self.new.marks ≡ self.old.marks }
     {
-        self.marks = self.marks.after(entry);
         match entry {
             SiteRecord::Prepared {
                 tid,
@@ -134,30 +135,47 @@ impl Reading {
 
     /// An attempt ended: it is settled, and its writes are installed at a commit, if it was in doubt.
     fn end(&mut self, tid: Tid, decision: Decision) -> Result<(), Memory>
-        ensures { OnOk result (Adds self.old self.new (Rec.Ended tid decision)) }
+        ensures ended { OnOk result (Adds self.old self.new (Rec.Ended tid decision)) }
+        ensures marks { self.new.marks ≡ self.old.marks }
     {
         let held = settle(&mut self.doubtful, tid);
-        if let (Some(held), Decision::Commit) = (held, decision) {
-            install(&mut self.versions, &held.writes, held.number)?;
+        match decision {
+            Decision::Commit => match held {
+                Some(held) => install(&mut self.versions, &held.writes, held.number),
+                None => Ok(()),
+            },
+            Decision::Abort => Ok(()),
         }
-        Ok(())
     }
 
     /// All that was read, as the content of a Checkpoint.
     pub fn into_sum(self, alloc: Global) -> Result<SiteSum, Memory>
         ensures { IfOk result (λ all. (sum : SiteSum) (newer : List SiteRecord) → Says self sum newer → all ≡ sum_with sum newer) }
     {
+        let Reading {
+            site,
+            engine,
+            protocol,
+            marks,
+            versions,
+            first_locals,
+            locals,
+            doubtful,
+        } = self;
+        let rows = rows_of(alloc, &versions)?;
+        let locals = all_locals(alloc, first_locals.as_slice(), locals)?;
+        let doubtful = by_attempt(alloc, doubtful)?;
         Ok(SiteSum {
-            site: self.site,
-            engine: self.engine,
-            protocol: self.protocol,
-            epoch: self.marks.epoch,
-            counter: self.marks.counter,
-            published: self.marks.published,
-            owner: self.marks.owner,
-            rows: rows_of(alloc, &self.versions)?,
-            locals: all_locals(alloc, self.first_locals.as_slice(), self.locals)?,
-            doubtful: by_attempt(alloc, self.doubtful)?,
+            site,
+            engine,
+            protocol,
+            epoch: marks.epoch,
+            counter: marks.counter,
+            published: marks.published,
+            owner: marks.owner,
+            rows,
+            locals,
+            doubtful,
         })
     }
 }
