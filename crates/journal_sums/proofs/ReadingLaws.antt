@@ -1,11 +1,11 @@
 -- What was read, with one more record and as the content of a Checkpoint.
-use Rattle.std.proofs.Common.{◌≡◌, ℕ, Bool, true, false, cond, nat_lt, Option, Some, None, List, [], ◌∷◌, ◌++◌, reverse, refl, sym, ap, ◌∙◌, subst, arith}
+use Rattle.std.proofs.Common.{◌≡◌, ℕ, Bool, true, false, cond, nat_lt, Option, Some, None, List, [], ◌∷◌, ◌++◌, ◌+◌, ◌<◌, length, get_or, take, reverse, refl, sym, ap, ◌∙◌, subst, arith}
 use Rattle.std.specs.Prelude.{max}
 use Rattle.std.specs.List.Sorted.{IsStrictlySortedBy}
 use Rattle.std.specs.Map.{keys_of, values_of}
 use Rattle.std.specs.BTreeMap.{BTreeMap, get}
 use Rattle.std.proofs.lemmas.Bool.{cond-false, ltb-false, le-ltb}
-use Rattle.std.proofs.lemmas.List.{append-nil, reverse-append, reverse-reverse}
+use Rattle.std.proofs.lemmas.List.{append-nil, reverse-append, reverse-reverse, take_more}
 use Rattle.mdb_base.specs.declared.names.Key.{Key}
 use Rattle.mdb_base.specs.declared.names.Tid.{Tid}
 use Rattle.mdb_base.specs.declared.names.SiteId.{SiteId}
@@ -118,30 +118,13 @@ adds_journal old new (Ended tid decision) adds other home journal says = adds (b
 adds_journal old new (Local tid number writes) adds other home journal says = adds (base home journal) (behind_sum journal) says
 adds_journal old new (Checkpoint sum) adds other home journal says = absurd (other sum refl)
 
--- the set-up says nothing more than the first rows
-pub begins_set_up : (reading : Reading) (site : SiteId) (engine : Engine) (protocol : Protocol) (items : List Put) (home : Home) →
-    Says reading (first_sum (record { site = site; engine = engine; protocol = protocol; items = items })) [] → Begins home (Setup site engine protocol items) →
-    SaysJournal reading home (Setup site engine protocol items ∷ [])
-begins_set_up reading site engine protocol items home says begins =
-    pass (subst (λ (h : Home). Says reading (first_sum h) []) same says)
-  where
-    same : ◌≡◌ {A = Home} (record { site = site; engine = engine; protocol = protocol; items = items }) home
-    same = rw (begins.0, begins.1, begins.2, begins.3) refl
-
-    pass : Says reading (first_sum home) [] → Says reading (first_sum home) (Setup site engine protocol items ∷ [])
-    pass s = record {
-      marks = record { epoch = s.marks.epoch; counter = s.marks.counter; published = s.marks.published; owner = s.marks.owner };
-      holds = record {
-        site = s.holds.site;
-        engine = s.holds.engine;
-        protocol = s.holds.protocol;
-        rising = s.holds.rising;
-        versions = s.holds.versions;
-        first_locals = s.holds.first_locals;
-        locals = s.holds.locals;
-        doubtful = s.holds.doubtful;
-      };
-    }
+-- the next record stands before those that were read
+pub next_read : (entries : List SiteRecord) (n : ℕ) (entry : SiteRecord) (journal : List SiteRecord) → n < length entries → entry ≡ get_or entries n entry →
+    reverse (take (n + 1) entries) ++ journal ≡ entry ∷ (reverse (take n entries) ++ journal)
+next_read entries n entry journal within here =
+    ap (λ (rs : List SiteRecord). reverse rs ++ journal) (take_more entries n entry within)
+    ∙ ap (λ (rs : List SiteRecord). rs ++ journal) (reverse-append (take n entries) (get_or entries n entry ∷ []))
+    ∙ ap (λ (e : SiteRecord). e ∷ (reverse (take n entries) ++ journal)) (sym here)
 
 -- the locals put one by one
 also-local_tids : (tids : List Tid) (records : List SiteRecord) → also tids (local_tids records) ≡ locals_with tids records
@@ -242,15 +225,24 @@ journal_is home journal = by_last (last_sum journal) refl
     by_last (Some sum) is = refl
 
 -- of a journal the oldest record begins it
-pub begins_of : (home : Home) (oldest : SiteRecord) (newer : List SiteRecord) → IsJournalOf home (reverse (oldest ∷ newer)) → Begins home oldest
-begins_of home oldest newer journal =
+pub begins_of : (home : Home) (records : List SiteRecord) (oldest : SiteRecord) (newer : List SiteRecord) → records ≡ oldest ∷ newer →
+    IsJournalOf home (reverse records) → Begins home oldest
+begins_of home records oldest newer split journal =
     let turned : oldest ∷ newer ≡ journal.oldest ∷ reverse journal.newer =
-    sym (reverse-reverse (oldest ∷ newer)) ∙ ap (λ (rs : List SiteRecord). reverse rs) journal.stands ∙ reverse-append journal.newer (journal.oldest ∷ []) in
+    sym split ∙ sym (reverse-reverse records) ∙ ap (λ (rs : List SiteRecord). reverse rs) journal.stands ∙ reverse-append journal.newer (journal.oldest ∷ []) in
     let same : journal.oldest ≡ oldest = cc in
     subst (Begins home) same journal.begins
 
-pub never_empty : IsJournal (reverse []) → ⊥
-never_empty journal = stands_there journal.journal.newer journal.journal.oldest journal.journal.stands
+-- and what its newer records say behind it is what the journal says
+pub all_read : (reading : Reading) (home : Home) (records : List SiteRecord) (oldest : SiteRecord) (newer : List SiteRecord) → records ≡ oldest ∷ newer →
+    SaysJournal reading home (reverse newer ++ oldest ∷ []) → SaysJournal reading home (reverse records)
+all_read reading home records oldest newer split says =
+    subst (SaysJournal reading home) (sym (ap (λ (rs : List SiteRecord). reverse rs) split ∙ reverse-append (oldest ∷ []) newer)) says
+
+-- no journal is empty
+pub never_empty : (records : List SiteRecord) → IsJournal (reverse records) → length records ≡ 0 → ⊥
+never_empty (newest ∷ records) journal none = absurd (omega (arith, none))
+never_empty [] journal none = stands_there journal.journal.newer journal.journal.oldest journal.journal.stands
   where
     stands_there : (newer : List SiteRecord) (oldest : SiteRecord) → [] ≡ newer ++ oldest ∷ [] → ⊥
     stands_there [] oldest e = cc
