@@ -21,7 +21,7 @@ use Rattle.rules_laws.proofs.EachAttempt as Attempts
 use Rattle.engine_laws.specs.Laws.{EachOnce}
 use Rattle.fed_rules.specs.declared.records.SiteRecord.{SiteRecord}
 use Rattle.fed_rules.specs.Attempts.{each_attempt}
-use Rattle.fed_rules.specs.SiteRecords.{Held, Install, by_tid, doubt_of, doubts, held_before, installs, kept_held, prepared_tids}
+use Rattle.fed_rules.specs.SiteRecords.{Held, by_tid, doubt_of, doubts, held_before, installs, kept_held, prepared_tids}
 use Rattle.fed_rules.specs.SiteSums.{carried}
 use Rattle.site_history.proofs.Restarts.{each_by_tid, each_found_from, once_doubts}
 use Rattle.site_history.proofs.Starts.{doubt_among, doubt_tid}

@@ -8,21 +8,18 @@ use Rattle.std.proofs.lemmas.Bool.{cond-false, ltb-false, le-ltb}
 use Rattle.std.proofs.lemmas.List.{append-nil, reverse-append, reverse-reverse, take_more}
 use Rattle.mdb_base.specs.declared.names.Key.{Key}
 use Rattle.mdb_base.specs.declared.names.Tid.{Tid}
-use Rattle.mdb_base.specs.declared.names.SiteId.{SiteId}
-use Rattle.mdb_base.specs.declared.names.Engine.{Engine}
 use Rattle.mdb_base.specs.declared.rows.Put.{Put}
 use Rattle.mdb_base.specs.Names.{same_tid, tid_before}
 use Rattle.mdb_base.specs.Rising.{IsRising}
 use Rattle.mdb_base.specs.Rows.{value_in}
 use Rattle.mdb_base.specs.Words.{inserted, or_else}
 use Rattle.mdb_base.proofs.RowLaws.{same_rows}
-use Rattle.presumptions.specs.declared.Protocol.{Protocol}
 use Rattle.presumptions.specs.declared.Decision.TheVariants as Decided
 use Rattle.order_laws.specs.Ranked.{tid_cmp}
 use Rattle.fed_rules.specs.declared.records.SiteRecord.{SiteRecord}
 use Rattle.fed_rules.specs.declared.records.SiteRecord.TheVariants.{Setup, Start, Prepared, Ended, Local, Checkpoint}
 use Rattle.fed_rules.specs.declared.sums.SiteSum.{SiteSum}
-use Rattle.fed_rules.specs.SiteRecords.{Held, Home, doubt_of, doubts, install_held, installs, last_number, last_ticket, rows_after, ticket_owner}
+use Rattle.fed_rules.specs.SiteRecords.{Held, Home, doubts, install_held, installs, last_number, last_ticket, rows_after, ticket_owner}
 use Rattle.fed_rules.specs.SiteSums.{behind_sum, carried, journal_sum, last_sum, locals_with, site_sum, sum_behind, sum_with}
 use Rattle.journal_sums.specs.declared.marks.Marks.{Marks}
 use Rattle.journal_sums.specs.declared.reading.Reading.{Reading}

@@ -1,5 +1,4 @@
-use Rattle.std.proofs.Common.{◌≡◌, ◌++◌, map}
-use Rattle.std.specs.Vec.Iter.{into_iter_items}
+use Rattle.std.proofs.Common.{◌≡◌, map}
 use Rattle.fed_rules.specs.SiteRecords.{kept_held}
 use Rattle.journal_sums.proofs.starts.kept_of.Given as goal
 

@@ -1,7 +1,3 @@
-use Rattle.std.proofs.Common.{◌∷◌, sym, subst, ap, ◌∙◌}
-use Rattle.fed_rules.specs.declared.records.SiteRecord.{SiteRecord}
-use Rattle.journal_sums.specs.declared.marks.Marks.{Marks}
-use Rattle.journal_sums.specs.Readings.{TellsMarks}
 use Rattle.journal_sums.proofs.MarkLaws.{tells_local, tells_prepared}
 use Rattle.journal_sums.proofs.marks.Marks.after.Goals as goal
 

@@ -1,5 +1,5 @@
 use Rattle.std.proofs.lemmas.Result.{on_ok_weaker}
-use Rattle.std.proofs.Common.{sym, ap, ◌∙◌}
+use Rattle.std.proofs.Common.{sym, ◌∙◌}
 use Rattle.journal_sums.proofs.ReadingLaws.{adds_commit}
 use Rattle.journal_sums.proofs.reading.Reading.end.Goals as goal
 
