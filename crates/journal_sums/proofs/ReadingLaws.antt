@@ -24,7 +24,7 @@ use Rattle.fed_rules.specs.SiteSums.{behind_sum, carried, journal_sum, last_sum,
 use Rattle.journal_sums.specs.declared.marks.Marks.{Marks}
 use Rattle.journal_sums.specs.declared.reading.Reading.{Reading}
 use Rattle.journal_sums.specs.declared.versions.Version.{Version}
-use Rattle.journal_sums.specs.Journals.{Begins, IsJournal, IsJournalOf, base, first_sum}
+use Rattle.journal_sums.specs.Journals.{Begins, IsFirst, IsJournal, IsJournalOf, base, first_sum}
 use Rattle.journal_sums.specs.Locals.{also, local_tids}
 use Rattle.journal_sums.specs.Readings.{Adds, Holds, Says, SaysJournal, TellsMarks}
 use Rattle.journal_sums.specs.Versions.{key_cmp, row_of, version_after, version_in}
@@ -244,3 +244,10 @@ never_empty [] journal none = stands_there journal.journal.newer journal.journal
     stands_there : (newer : List SiteRecord) (oldest : SiteRecord) → [] ≡ newer ++ oldest ∷ [] → ⊥
     stands_there [] oldest e = cc
     stands_there (newest ∷ newer) oldest e = cc
+
+-- newer records stand behind the oldest one
+pub journal_from : (oldest : SiteRecord) (newer : List SiteRecord) → IsFirst oldest → IsJournal (reverse (oldest ∷ newer))
+journal_from oldest newer first = record {
+  home = first.home;
+  journal = record { newer = reverse newer; oldest = oldest; begins = first.begins; stands = reverse-append (oldest ∷ []) newer };
+}

@@ -17,3 +17,5 @@ mod versions;
 pub use starts::{doubts_of, kept_of};
 pub use sums::read_sum;
 
+#[cfg(test)]
+mod tests;

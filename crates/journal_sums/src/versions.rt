@@ -65,11 +65,7 @@ fn is_kept(versions: &BTreeMap<Key, Version>, key: Key, number: u64) -> bool
 }
 
 /// Installs one write.
-fn install_row(
-    versions: &mut BTreeMap<Key, Version>,
-    put: Put,
-    number: u64,
-) -> Result<(), Memory>
+fn install_row(versions: &mut BTreeMap<Key, Version>, put: Put, number: u64) -> Result<(), Memory>
     ensures { OnOk result ((key : Key) → get key_cmp versions.new key ≡ version_after number (value_in (put ∷ []) key) (get key_cmp versions.old key)) }
 {
     if !is_kept(versions, put.key, number) {

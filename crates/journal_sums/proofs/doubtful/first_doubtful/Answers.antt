@@ -12,5 +12,5 @@ loop-left-preserved c = record {
       let left = c.loop-left.left in
       let one_more : left ≡ suc (left - 1) = omega arith in
       next_carried helds (left - 1) c.in_ok-copy_held.field-0 tid _ _ (c.at.ensures ∙ ap Some (sym c.in_ok-copy_held.ensures))
-          (c.loop-left.invariant.held tid ∙ ap (λ n. doubt_of (carried (drop n helds)) tid) one_more) (c.in_ok-put.ensures tid);
+      (c.loop-left.invariant.held tid ∙ ap (λ n. doubt_of (carried (drop n helds)) tid) one_more) (c.in_ok-put.ensures tid);
 }
