@@ -4,3 +4,4 @@ pub mod EntryLaws
 pub mod DoubtLaws
 pub mod LocalLaws
 pub mod ReadingLaws
+pub mod DifferLaws

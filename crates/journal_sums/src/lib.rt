@@ -7,6 +7,7 @@
 
 mod copies;
 mod doubtful;
+mod laws;
 mod locals;
 mod marks;
 mod reading;
@@ -14,6 +15,7 @@ mod starts;
 mod sums;
 mod versions;
 
+pub use laws::doubts_differ;
 pub use starts::{doubts_of, kept_of};
 pub use sums::read_sum;
 
