@@ -1,0 +1,219 @@
+-- Those in doubt, and what a Checkpoint carries of them.
+use Rattle.std.proofs.Common.{◌≡◌, ℕ, zero, suc, Bool, true, false, cond, Option, Some, None, List, [], ◌∷◌, drop, map, refl, sym, ap, ap₂, subst, ◌∙◌, ◌⊎◌, inl, inr, arith}
+use Rattle.std.specs.Prelude.{slice_get}
+use Rattle.std.specs.declared.cmp.Ordering.TheVariants.{Less}
+use Rattle.std.specs.List.{AllByRecursion}
+use Rattle.std.specs.List.Sorted.{IsStrictlySortedBy}
+use Rattle.std.specs.Map.{lookup, keys_of, values_of}
+use Rattle.std.specs.BTreeMap.{is_at}
+use Rattle.std.specs.Ordering.{is_eq}
+use Rattle.std.proofs.lemmas.Bool.Decides.{nat_tests}
+use Rattle.mdb_base.specs.declared.names.Tid.{Tid}
+use Rattle.mdb_base.specs.Names.{same_tid, tid_before}
+use Rattle.mdb_base.specs.Words.{Each, found, inserted, with_some}
+use Rattle.mdb_base.proofs.ListLaws.{each_map, each_inserted}
+use Rattle.mdb_base.proofs.NameLaws.{same_tid-refl}
+use Rattle.order_laws.specs.Chains.{In}
+use Rattle.order_laws.specs.Ranked.{tid_cmp}
+use Rattle.order_laws.proofs.Members.{in_each}
+use Rattle.order_laws.proofs.Names.{is_eq-tid_cmp, ranks_tids}
+use Rattle.rules_laws.proofs.EachAttempt as Attempts
+use Rattle.engine_laws.specs.Laws.{EachOnce}
+use Rattle.fed_rules.specs.declared.records.SiteRecord.{SiteRecord}
+use Rattle.fed_rules.specs.Attempts.{each_attempt}
+use Rattle.fed_rules.specs.SiteRecords.{Held, by_tid, doubt_of, doubts, held_before, installs, kept_held, prepared_tids}
+use Rattle.fed_rules.specs.SiteSums.{carried}
+use Rattle.site_history.proofs.Restarts.{each_by_tid, each_found_from, once_doubts}
+use Rattle.site_history.proofs.Starts.{doubt_among, doubt_tid}
+
+-- the next one that a Checkpoint carries, of the last ones first
+pub next_carried : (helds : List Held) (n : ℕ) (held : Held) (tid : Tid) (kept now : Option Held) → slice_get helds n ≡ Some held →
+    kept ≡ doubt_of (carried (drop (suc n) helds)) tid → now ≡ cond (same_tid held.tid tid) (Some held) kept → now ≡ doubt_of (carried (drop n helds)) tid
+next_carried [] n held tid kept now here before done = absurd cc
+next_carried (h ∷ helds) zero held tid kept now here before done =
+    let same : h ≡ held = cc in
+    done ∙ ap (cond (same_tid held.tid tid) (Some held)) before ∙ ap (λ (g : Held). cond (same_tid g.tid tid) (Some g) (doubt_of (carried helds) tid)) (sym same)
+next_carried (h ∷ helds) (suc n) held tid kept now here before done = next_carried helds n held tid kept now here before done
+
+-- a Checkpoint carries no transaction that is to be installed
+pub installs-carried : (helds : List Held) → installs (carried helds) ≡ []
+installs-carried [] = refl
+installs-carried (held ∷ helds) = installs-carried helds
+
+-- each stands before all behind it
+abbrev Rises : List Held → Type 0
+Rises [] = Unit {0}
+Rises (held ∷ helds) = Each (λ later. held_before held later ≡ true) helds × Rises helds
+
+not_itself : (tid : Tid) → tid_before tid tid ≡ true → ⊥
+not_itself tid e = let back = ranks_tids.one_way tid tid e in cc
+
+-- two rising lists with the same members are one
+same_members : (xs ys : List Held) → Rises xs → Rises ys → ((held : Held) → In held xs → In held ys) → ((held : Held) → In held ys → In held xs) → xs ≡ ys
+same_members [] [] up above there back = refl
+same_members [] (y ∷ ys) up above there back = absurd (back y (inl refl))
+same_members (x ∷ xs) [] up above there back = absurd (there x (inl refl))
+same_members (x ∷ xs) (y ∷ ys) up above there back =
+    let same : x ≡ y = heads (there x (inl refl)) (back y (inl refl)) in
+    ap₂ (λ z zs. z ∷ zs) same
+    (same_members xs ys up.1 above.1 (λ z i. tail x y z xs ys same up.0 (there z (inr i)) i) (λ z i. tail y x z ys xs (sym same) above.0 (back z (inr i)) i))
+  where
+    heads : In x (y ∷ ys) → In y (x ∷ xs) → x ≡ y
+    heads (inl e) j = sym e
+    heads (inr i) (inl e) = e
+    heads (inr i) (inr j) =
+        (let a = in_each (λ (z : Held). held_before y z ≡ true) ys x above.0 i in
+        let b = in_each (λ (z : Held). held_before x z ≡ true) xs y up.0 j in
+        let c = ranks_tids.one_way x.tid y.tid b in cc)
+
+    tail : (u v z : Held) (us vs : List Held) → u ≡ v → Each (λ w. held_before u w ≡ true) us → In z (v ∷ vs) → In z us → In z vs
+    tail u v z us vs same e (inl s) j =
+        absurd (not_itself u.tid (in_each (λ (w : Held). held_before u w ≡ true) us u e (subst (λ w. In w us) (sym s ∙ sym same) j)))
+    tail u v z us vs same e (inr i) j = i
+
+-- none stands before one that it is behind
+abbrev Sorted : List Held → Type 0
+Sorted [] = Unit {0}
+Sorted (held ∷ helds) = Each (λ later. held_before later held ≡ false) helds × Sorted helds
+
+behind_both : (x y z : Tid) → tid_before y x ≡ false → tid_before z y ≡ false → tid_before z x ≡ false
+behind_both x y z e f = grind arith
+
+sorted_inserted : (held : Held) (helds : List Held) → Sorted helds → Sorted (inserted held_before held helds)
+sorted_inserted held [] s = (tt, tt)
+sorted_inserted held (y ∷ helds) s = by_before (held_before y held) refl (sorted_inserted held helds s.1)
+  where
+    by_before : (b : Bool) → held_before y held ≡ b → Sorted (inserted held_before held helds) → Sorted (cond b (y ∷ inserted held_before held helds) (held ∷ y ∷ helds))
+    by_before true e rest = (each_inserted (λ later. held_before later y ≡ false) held_before held helds (ranks_tids.one_way y.tid held.tid e) s.0, rest)
+    by_before false e rest =
+        ((e, each_map (λ (z : Held). held_before z y ≡ false) (λ (z : Held). held_before z held ≡ false) (λ z f. behind_both held.tid y.tid z.tid e f) helds s.0), s)
+
+sorted_by_tid : (helds : List Held) → Sorted (by_tid helds)
+sorted_by_tid [] = tt
+sorted_by_tid (held ∷ helds) = sorted_inserted held (by_tid helds) (sorted_by_tid helds)
+
+before_from : (x y : Tid) → same_tid x y ≡ false → tid_before y x ≡ false → tid_before x y ≡ true
+before_from x y e f = grind arith
+
+-- sorted ones of different attempts rise
+rises_once : (helds : List Held) → Sorted helds → EachOnce (map kept_held helds) → Rises helds
+rises_once [] s once = tt
+rises_once (held ∷ helds) s once = (each_before helds s.0 once.0, rises_once helds s.1 once.1)
+  where
+    each_before : (more : List Held) → Each (λ later. held_before later held ≡ false) more → Each (λ other. same_tid held.tid other.tid ≡ false) (map kept_held more) →
+        Each (λ later. held_before held later ≡ true) more
+    each_before [] behind apart = tt
+    each_before (next ∷ more) behind apart = (before_from held.tid next.tid apart.0 behind.0, each_before more behind.1 apart.1)
+
+-- each one in doubt is what the records say of its attempt
+are_doubts : (records : List SiteRecord) → Each (λ held. doubt_of records held.tid ≡ Some held) (doubts records)
+are_doubts records =
+    each_by_tid (λ held. doubt_of records held.tid ≡ Some held) (found (doubt_of records) (each_attempt (prepared_tids records)))
+    (each_found_from (λ held. doubt_of records held.tid ≡ Some held) (doubt_of records) (each_attempt (prepared_tids records))
+    (λ tid held i e. ap (doubt_of records) (doubt_tid records tid held e) ∙ e))
+
+inserted_in : (x z : Held) (ys : List Held) → (x ≡ z) ⊎ In z ys → In z (inserted held_before x ys)
+inserted_in x z [] (inl e) = inl e
+inserted_in x z [] (inr i) = absurd i
+inserted_in x z (y ∷ ys) h = by_test (held_before y x) h (inserted_in x z ys)
+  where
+    by_test : (b : Bool) → (x ≡ z) ⊎ In z (y ∷ ys) → ((x ≡ z) ⊎ In z ys → In z (inserted held_before x ys)) → In z (cond b (y ∷ inserted held_before x ys) (x ∷ y ∷ ys))
+    by_test true (inl e) k = inr (k (inl e))
+    by_test true (inr (inl e)) k = inl e
+    by_test true (inr (inr j)) k = inr (k (inr j))
+    by_test false (inl e) k = inl e
+    by_test false (inr j) k = inr j
+
+by_tid_in : (z : Held) (helds : List Held) → In z helds → In z (by_tid helds)
+by_tid_in z [] i = i
+by_tid_in z (held ∷ helds) (inl e) = inserted_in held z (by_tid helds) (inl e)
+by_tid_in z (held ∷ helds) (inr i) = inserted_in held z (by_tid helds) (inr (by_tid_in z helds i))
+
+found_in : (f : Tid → Option Held) (tids : List Tid) (held : Held) → In held.tid tids → f held.tid ≡ Some held → In held (found f tids)
+found_in f [] held i e = absurd i
+found_in f (tid ∷ tids) held (inl same) e = here (f tid) (ap f same ∙ e)
+  where
+    here : (o : Option Held) → o ≡ Some held → In held (with_some o (found f tids))
+    here None is = cc
+    here (Some other) is = inl cc
+found_in f (tid ∷ tids) held (inr i) e = behind (f tid) (found_in f tids held i e)
+  where
+    behind : (o : Option Held) → In held (found f tids) → In held (with_some o (found f tids))
+    behind None j = j
+    behind (Some other) j = inr j
+
+-- and what the records say of its attempt is among those in doubt
+doubt_in : (records : List SiteRecord) (held : Held) → doubt_of records held.tid ≡ Some held → In held (doubts records)
+doubt_in records held e = by_record (doubt_among records held.tid)
+  where
+    by_record : In held.tid (prepared_tids records) ⊎ (doubt_of records held.tid ≡ None) → In held (doubts records)
+    by_record (inl among) =
+        by_tid_in held (found (doubt_of records) (each_attempt (prepared_tids records)))
+        (found_in (doubt_of records) (each_attempt (prepared_tids records)) held (Attempts.in_each (prepared_tids records) held.tid among) e)
+    by_record (inr none) = (let clash = sym e ∙ none in cc)
+
+-- a look-up in the tree
+abbrev look : List (Tid × Held) → Tid → Option Held
+look entries tid = lookup (is_at (tid_cmp tid)) entries
+
+before_less : (a b : Tid) → tid_cmp a b ≡ Less → tid_before a b ≡ true
+before_less a b e = grind (arith, nat_tests)
+
+differs_less : (a b : Tid) → tid_cmp a b ≡ Less → is_eq (tid_cmp b a) ≡ false
+differs_less a b e = grind (arith, nat_tests)
+
+-- each entry is found by its own attempt
+own_entries : (entries : List (Tid × Held)) → IsStrictlySortedBy tid_cmp (keys_of entries) → Each (λ entry. look entries entry.0 ≡ Some entry.1) entries
+unfolding IsStrictlySortedBy
+own_entries [] sorted = tt
+own_entries (e ∷ es) sorted =
+    (ap (λ b. cond b (Some e.1) (look es e.0)) (is_eq-tid_cmp e.0 e.0 ∙ same_tid-refl e.0), behind es sorted.0 (own_entries es sorted.1))
+  where
+    behind : (more : List (Tid × Held)) → AllByRecursion (λ tid. tid_cmp e.0 tid ≡ Less) (keys_of more) → Each (λ entry. look es entry.0 ≡ Some entry.1) more →
+        Each (λ entry. look (e ∷ es) entry.0 ≡ Some entry.1) more
+    behind [] less own = tt
+    behind (f ∷ more) less own =
+        (ap (λ b. cond b (Some e.1) (look es f.0)) (differs_less e.0 f.0 less.0) ∙ own.0, behind more less.1 own.1)
+
+value_in_entries : (entries : List (Tid × Held)) (tid : Tid) (held : Held) → look entries tid ≡ Some held → In held (values_of entries)
+value_in_entries [] tid held e = cc
+value_in_entries (f ∷ es) tid held e = by_test (is_eq (tid_cmp tid f.0)) e (value_in_entries es tid held)
+  where
+    by_test : (b : Bool) → cond b (Some f.1) (look es tid) ≡ Some held → (look es tid ≡ Some held → In held (values_of es)) → In held (f.1 ∷ values_of es)
+    by_test true e rest = inl cc
+    by_test false e rest = inr (rest e)
+
+each_value : (P : Held → Type 0) (entries : List (Tid × Held)) → Each (λ entry. P entry.1) entries → Each P (values_of entries)
+each_value P [] h = tt
+each_value P (e ∷ es) h = (h.0, each_value P es h.1)
+
+-- the values rise, if each is of the attempt that it is kept under
+rises-values : (entries : List (Tid × Held)) → IsStrictlySortedBy tid_cmp (keys_of entries) → Each (λ entry. entry.1.tid ≡ entry.0) entries → Rises (values_of entries)
+unfolding IsStrictlySortedBy
+rises-values [] sorted own = tt
+rises-values (e ∷ es) sorted own = (behind es sorted.0 own.1, rises-values es sorted.1 own.1)
+  where
+    behind : (more : List (Tid × Held)) → AllByRecursion (λ tid. tid_cmp e.0 tid ≡ Less) (keys_of more) → Each (λ entry. entry.1.tid ≡ entry.0) more →
+        Each (λ later. held_before e.1 later ≡ true) (values_of more)
+    behind [] less own_more = tt
+    behind (f ∷ more) less own_more = (ap₂ tid_before own.0 own_more.0 ∙ before_less e.0 f.0 less.0, behind more less.1 own_more.1)
+
+-- a tree that gives each attempt what the records say of it has those in doubt
+pub values_doubts : (entries : List (Tid × Held)) (records : List SiteRecord) → IsStrictlySortedBy tid_cmp (keys_of entries) →
+    ((tid : Tid) → look entries tid ≡ doubt_of records tid) → values_of entries ≡ doubts records
+values_doubts entries records sorted tells =
+    same_members (values_of entries) (doubts records) (rises-values entries sorted own)
+    (rises_once (doubts records) (sorted_by_tid (found (doubt_of records) (each_attempt (prepared_tids records)))) (once_doubts records))
+    (λ held i. doubt_in records held (in_each (λ (h : Held). doubt_of records h.tid ≡ Some h) (values_of entries) held are i))
+    (λ held i. value_in_entries entries held.tid held (tells held.tid ∙ in_each (λ (h : Held). doubt_of records h.tid ≡ Some h) (doubts records) held (are_doubts records) i))
+  where
+    own : Each (λ entry. entry.1.tid ≡ entry.0) entries
+    own =
+        each_map (λ (entry : Tid × Held). look entries entry.0 ≡ Some entry.1) (λ (entry : Tid × Held). entry.1.tid ≡ entry.0)
+        (λ entry e. doubt_tid records entry.0 entry.1 (sym (tells entry.0) ∙ e)) entries (own_entries entries sorted)
+
+    are : Each (λ held. doubt_of records held.tid ≡ Some held) (values_of entries)
+    are =
+        each_value (λ held. doubt_of records held.tid ≡ Some held) entries
+        (each_map (λ (entry : Tid × Held). look entries entry.0 ≡ Some entry.1) (λ (entry : Tid × Held). doubt_of records entry.1.tid ≡ Some entry.1)
+        (λ entry e. let told = sym (tells entry.0) ∙ e in ap (doubt_of records) (doubt_tid records entry.0 entry.1 told) ∙ told) entries (own_entries entries sorted))

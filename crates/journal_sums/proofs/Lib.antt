@@ -1,0 +1,7 @@
+pub mod MarkLaws
+pub mod VersionLaws
+pub mod EntryLaws
+pub mod DoubtLaws
+pub mod LocalLaws
+pub mod ReadingLaws
+pub mod DifferLaws

@@ -1,0 +1,22 @@
+use Rattle.std.proofs.Common.{sym, ap, ◌∙◌, refl}
+use Rattle.std.specs.Prelude.{reverse}
+use Rattle.journal_sums.specs.Versions.{version_in}
+use Rattle.journal_sums.proofs.DoubtLaws.{installs-carried}
+use Rattle.journal_sums.proofs.reading.Reading.of.Goals as goal
+
+pub returns : goal.returns
+returns c =
+    let sum = c.args.sum.now in
+    record {
+      marks = c.of.ensures;
+      holds = record {
+        site = refl;
+        engine = refl;
+        protocol = refl;
+        rising = c.in_ok-first_versions.ensures.rising;
+        versions = λ key. c.in_ok-first_versions.ensures.versions key ∙ ap (λ all. version_in sum.rows all key) (sym (installs-carried sum.doubtful));
+        first_locals = c.of-2.ensures ∙ c.in_ok-from_slice.ensures.items ∙ c.as_slice.ensures;
+        locals = ap (λ tids. reverse tids) c.new.ensures.items;
+        doubtful = c.in_ok-first_doubtful.ensures;
+      };
+    }

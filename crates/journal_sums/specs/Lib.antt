@@ -1,0 +1,5 @@
+pub mod Journals
+pub mod Locals
+pub mod Readings
+pub mod Starts
+pub mod Versions
