@@ -6,11 +6,11 @@ ghost use Rattle.access_ages.specs.Laws.{StopsAccess, StopsReader, StopsTaking, 
 /// What stops an access, what a read waits for, and what stops the taking of the ticket are the rule's, where the ages are those that
 /// right lines say.
 pub fn the_ages_answer_as_the_rules()
-    ensures access { StopsAccess Timestamp }
-    ensures write { StopsAccess Multiversion }
-    ensures reader { StopsReader Multiversion }
-    ensures ticket { StopsTaking Timestamp }
-    ensures ticket_too { StopsTaking Multiversion }
+    ensures timestamp_access { StopsAccess Timestamp }
+    ensures multiversion_write { StopsAccess Multiversion }
+    ensures multiversion_read { StopsReader Multiversion }
+    ensures timestamp_ticket { StopsTaking Timestamp }
+    ensures multiversion_ticket { StopsTaking Multiversion }
 {}
 
 /// Ages and takers that are those that right lines say are so with one more right line, once the call of that line was noted; and they
@@ -18,8 +18,8 @@ pub fn the_ages_answer_as_the_rules()
 pub fn the_ages_follow_the_lines()
     ensures starts { FollowsStarts }
     ensures begins { FollowsBegins }
-    ensures calls { FollowsCalls Timestamp }
-    ensures calls_too { FollowsCalls Multiversion }
-    ensures unseals { FollowsUnseals Timestamp }
-    ensures unseals_too { FollowsUnseals Multiversion }
+    ensures timestamp_calls { FollowsCalls Timestamp }
+    ensures multiversion_calls { FollowsCalls Multiversion }
+    ensures timestamp_unseals { FollowsUnseals Timestamp }
+    ensures multiversion_unseals { FollowsUnseals Multiversion }
 {}

@@ -1,6 +1,6 @@
 -- A timestamp engine through each line: its book, the ages of each key and the takers of the ticket.
-use Rattle.std.proofs.Common.{◌≡◌, ℕ, ◌+◌, ◌≤◌, ◌⊎◌, Bool, true, cond, is_some, Option, Some, None, IfSome, List, [], ◌∷◌, inl, inr, refl, sym, ap, ◌∙◌, subst, arith}
-use Rattle.std.specs.FinMap.{empty, get, insert, get-empty}
+use Rattle.std.proofs.Common.{◌≡◌, ℕ, ◌+◌, ◌≤◌, cond, Option, Some, None, IfSome, List, [], ◌∷◌, inl, inr, refl, sym, ap, ◌∙◌, subst, arith}
+use Rattle.std.specs.FinMap.{empty, get, get-empty}
 use Rattle.std.specs.Ordering.{nat_cmp}
 use Rattle.mdb_base.specs.declared.names.Engine.{Engine}
 use Rattle.mdb_base.specs.declared.names.Engine.TheVariants.{Timestamp}
@@ -8,23 +8,22 @@ use Rattle.mdb_base.specs.declared.names.Key.{Key}
 use Rattle.mdb_base.specs.declared.names.Tid.{Tid}
 use Rattle.mdb_base.specs.declared.rows.Put.{Put}
 use Rattle.mdb_base.specs.declared.acts.PlainAct.{PlainAct}
-use Rattle.mdb_base.specs.declared.acts.PlainAct.TheVariants.{Read, Write}
+use Rattle.mdb_base.specs.declared.acts.PlainAct.TheVariants.{Read}
 use Rattle.mdb_base.specs.declared.replies.Reply.{Reply}
-use Rattle.mdb_base.specs.declared.replies.Reply.TheVariants.{Done, Value, Ticket, Wait, Refused}
+use Rattle.mdb_base.specs.declared.replies.Reply.TheVariants.{Value, Ticket, Wait, Refused}
 use Rattle.mdb_base.specs.declared.replies.Why.TheVariants.{Late}
 use Rattle.mdb_base.specs.Rising.{IsRising}
 use Rattle.mdb_base.specs.Words.{or_else}
 use Rattle.fed_rules.specs.declared.runs.Kept.{Kept}
-use Rattle.fed_rules.specs.Runs.{Start, EngineLine, Begins, Acts, Takes, Seals, Got, Wrote, Run, tid_of, run_at, has_ticket, published, after}
+use Rattle.fed_rules.specs.Runs.{Start, EngineLine, Begins, Acts, Takes, Seals, Run, tid_of, run_at, has_ticket, published, after}
 use Rattle.fed_rules.specs.Replies.{age_of, key_of, access_stop, ticket_stop, seal_stop, seal_number, granted, granted_by, rule, or_reply}
 use Rattle.fed_rules.specs.EngineLines.{IsRightLine, IsFree, IsStart}
 use Rattle.engine_contract.specs.Calls.{start_from}
 use Rattle.engine_laws.proofs.AgeTickets.{age_one_taker}
 use Rattle.engine_laws.proofs.TimestampRuns.{timestamp_by_age}
 use Rattle.run_book.specs.declared.marks.Marks.{Marks}
-use Rattle.run_book.specs.declared.rival.Rival.{Rival}
 use Rattle.run_book.specs.Held.{Held, held_in}
-use Rattle.run_book.specs.Book.{Book, RoomyBook, started, begins, unbegins, unseals, drops, table_in, taken_by}
+use Rattle.run_book.specs.Book.{Book, started, begins, unbegins, unseals, drops, table_in, taken_by}
 use Rattle.run_book.specs.Keeps.{Keeps}
 use Rattle.run_book.specs.Laws.{IsCalled}
 use Rattle.run_book.specs.Rivals.{rival_by}
@@ -34,11 +33,10 @@ use Rattle.run_book.proofs.Ends.{called_ends}
 use Rattle.run_book.proofs.Tables.{after-table}
 use Rattle.access_ages.specs.declared.key_ages.KeyAges.{KeyAges}
 use Rattle.access_ages.specs.Ages.{Ages, ages_of, no_ages, restored_writer, unwritten}
-use Rattle.access_ages.specs.Takers.{ByAge, Takers, no_takers, with_taker, restored_takers, without_taker, IsYoungestOf}
-use Rattle.access_ages.specs.Stops.{above, below, stop_by, youngest_against, key_stop, IsTicketStop}
+use Rattle.access_ages.specs.Takers.{ByAge, Takers, no_takers, restored_takers, without_taker}
+use Rattle.access_ages.specs.Stops.{above, below, youngest_against, key_stop, IsTicketStop}
 use Rattle.access_ages.specs.Lines.{KeepsAges}
 use Rattle.access_ages.specs.Laws.{AreNow, where_written, IsNoted}
-use Rattle.access_ages.proofs.Trees.{put-gone}
 use Rattle.access_ages.proofs.Rules.{stops_access}
 use Rattle.access_ages.proofs.Tickets.{unlisted}
 use Rattle.access_ages.proofs.TicketRules.{stops_taking}

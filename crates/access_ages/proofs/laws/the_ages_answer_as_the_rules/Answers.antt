@@ -5,17 +5,17 @@ use Rattle.access_ages.proofs.Rules.{stops_access, stops_reader}
 use Rattle.access_ages.proofs.TicketRules.{stops_taking}
 use Rattle.access_ages.proofs.laws.the_ages_answer_as_the_rules.Goals as goal
 
-pub returns-clause-access : goal.returns-clause-access
-returns-clause-access c = stops_access Timestamp timestamp_by_age
+pub returns-clause-timestamp_access : goal.returns-clause-timestamp_access
+returns-clause-timestamp_access c = stops_access Timestamp timestamp_by_age
 
-pub returns-clause-write : goal.returns-clause-write
-returns-clause-write c = stops_access Multiversion multiversion_by_age
+pub returns-clause-multiversion_write : goal.returns-clause-multiversion_write
+returns-clause-multiversion_write c = stops_access Multiversion multiversion_by_age
 
-pub returns-clause-reader : goal.returns-clause-reader
-returns-clause-reader c = stops_reader Multiversion multiversion_by_age
+pub returns-clause-multiversion_read : goal.returns-clause-multiversion_read
+returns-clause-multiversion_read c = stops_reader Multiversion multiversion_by_age
 
-pub returns-clause-ticket : goal.returns-clause-ticket
-returns-clause-ticket c = stops_taking Timestamp timestamp_by_age
+pub returns-clause-timestamp_ticket : goal.returns-clause-timestamp_ticket
+returns-clause-timestamp_ticket c = stops_taking Timestamp timestamp_by_age
 
-pub returns-clause-ticket_too : goal.returns-clause-ticket_too
-returns-clause-ticket_too c = stops_taking Multiversion multiversion_by_age
+pub returns-clause-multiversion_ticket : goal.returns-clause-multiversion_ticket
+returns-clause-multiversion_ticket c = stops_taking Multiversion multiversion_by_age

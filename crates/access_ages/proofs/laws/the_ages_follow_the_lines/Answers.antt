@@ -10,14 +10,14 @@ returns-clause-starts c = follows_starts
 pub returns-clause-begins : goal.returns-clause-begins
 returns-clause-begins c = follows_begins
 
-pub returns-clause-calls : goal.returns-clause-calls
-returns-clause-calls c = follows_calls Timestamp timestamp_by_age
+pub returns-clause-timestamp_calls : goal.returns-clause-timestamp_calls
+returns-clause-timestamp_calls c = follows_calls Timestamp timestamp_by_age
 
-pub returns-clause-calls_too : goal.returns-clause-calls_too
-returns-clause-calls_too c = follows_calls Multiversion multiversion_by_age
+pub returns-clause-multiversion_calls : goal.returns-clause-multiversion_calls
+returns-clause-multiversion_calls c = follows_calls Multiversion multiversion_by_age
 
-pub returns-clause-unseals : goal.returns-clause-unseals
-returns-clause-unseals c = follows_unseals Timestamp timestamp_by_age
+pub returns-clause-timestamp_unseals : goal.returns-clause-timestamp_unseals
+returns-clause-timestamp_unseals c = follows_unseals Timestamp timestamp_by_age
 
-pub returns-clause-unseals_too : goal.returns-clause-unseals_too
-returns-clause-unseals_too c = follows_unseals Multiversion multiversion_by_age
+pub returns-clause-multiversion_unseals : goal.returns-clause-multiversion_unseals
+returns-clause-multiversion_unseals c = follows_unseals Multiversion multiversion_by_age

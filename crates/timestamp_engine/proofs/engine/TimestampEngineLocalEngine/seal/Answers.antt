@@ -1,4 +1,4 @@
-use Rattle.std.proofs.Common.{◌≡◌, ℕ, ◌+◌, ◌∷◌, Bool, is_some, cond, None, IfSome, Option, refl, sym, ap, ◌∙◌, subst}
+use Rattle.std.proofs.Common.{◌≡◌, ℕ, ◌+◌, Bool, is_some, cond, None, IfSome, Option, refl, sym, ap, ◌∙◌}
 use Rattle.mdb_base.specs.declared.names.Engine.TheVariants.{Timestamp}
 use Rattle.fed_rules.specs.Runs.{Seals}
 use Rattle.run_book.specs.Held.{Held}

@@ -1,4 +1,4 @@
-use Rattle.std.proofs.Common.{◌≡◌, Option, refl, ap, ◌∙◌}
+use Rattle.std.proofs.Common.{Option, refl, ap, ◌∙◌}
 use Rattle.mdb_base.specs.declared.names.Engine.TheVariants.{Timestamp}
 use Rattle.mdb_base.specs.Words.{map_some}
 use Rattle.run_book.specs.Held.{Held, held_in}
