@@ -7,9 +7,6 @@ use std::alloc::Global;
 use timestamp_engine::TimestampEngine;
 use validation_engine::ValidationEngine;
 
-#[cfg(test)]
-mod tests;
-
 /// A local engine of one of the rules: each call is that of the engine that it is.
 #[derive(Drop)]
 pub enum AnyEngine {
