@@ -1,12 +1,20 @@
 -- The list of transactions that were begun: the place of one, and what a note leaves.
-use Rattle.std.proofs.Common.{◌≡◌, ℕ, zero, suc, ◌+◌, ◌<◌, true, false, Some, None, List, [], ◌∷◌, ◌++◌, length, get_or, set, take, inl, inr, refl, sym, ap, ◌∙◌, arith}
+use Rattle.std.proofs.Common.{◌≡◌, ℕ, zero, suc, ◌+◌, ◌<◌, Bool, true, false, Some, None, List, [], ◌∷◌, ◌++◌, length, get_or, set, take, inl, inr, refl, sym, ap, ◌∙◌, arith}
 use Rattle.std.proofs.lemmas.Bool.{cond-true, cond-false, cases_Bool}
 use Rattle.std.proofs.lemmas.List.{take_more}
 use Rattle.mdb_base.specs.declared.names.Tx.{Tx}
 use Rattle.mdb_base.specs.Names.{same_tx}
-use Rattle.run_lists.proofs.HeldLemmas.{first_where-append}
+use Rattle.mdb_base.specs.Words.{first_where}
 use Rattle.site_core.specs.declared.attempts.Begun.{Begun}
 use Rattle.site_core.specs.Attempts.{noted, with_note, IsPlace}
+
+first_where-append : {A : Type 0} (test : A → Bool) (xs ys : List A) → first_where test xs ≡ None → first_where test (xs ++ ys) ≡ first_where test ys
+first_where-append test [] ys h = refl
+first_where-append test (x ∷ xs) ys h =
+    elim (cases_Bool (test x)) [
+      | inl e ↦ let bad : Some x ≡ None = sym (cond-true _ _ _ e) ∙ h in cc
+      | inr e ↦ cond-false _ _ _ e ∙ first_where-append test xs ys (sym (cond-false _ _ _ e) ∙ h)
+    ]
 
 -- the first one of the transaction stands behind those of others
 pub place-at : (begun : List Begun) (tx : Tx) (place : ℕ) (d : Begun) → noted (take place begun) tx ≡ None → place < length begun → same_tx (get_or begun place d).tx tx ≡ true → IsPlace begun tx place

@@ -14,8 +14,8 @@ use Rattle.site_tables.specs.declared.versions.Version.{Version}
 use Rattle.site_tables.specs.Tables.{row_of, written}
 use Rattle.site_tables.proofs.Writes.{either, either-cond}
 use Rattle.engine_laws.proofs.Rows.{rising_with_rows}
-use Rattle.run_lists.specs.Tables.{or_kept}
-use Rattle.run_lists.proofs.KeptRows.{row-kept_after}
+use Rattle.run_book.specs.Tables.{or_kept}
+use Rattle.run_book.proofs.KeptRows.{row-kept_after}
 use Rattle.site_core.specs.LastWrites.{last_write, later, version_of, write_of}
 
 pub later-none : (first : Option Version) → later first None ≡ first

@@ -17,8 +17,8 @@ use Rattle.fed_rules.specs.Site.{act_answer, next_number, of_abort, of_act, of_b
 use Rattle.fed_rules.specs.SitePast.{SiteHappening, SitePast, attempts_of, disk, engine_lines, epoch_start, live, live_of_tx, live_one, records}
 use Rattle.fed_rules.specs.SiteRecords.{Home, local_of, site_frame}
 use Rattle.engine_laws.proofs.Runs.{tid_is}
-use Rattle.run_lists.proofs.Members.{Is}
-use Rattle.run_lists.proofs.Unended.{is-unended, unended-is}
+use Rattle.run_book.proofs.Members.{Is}
+use Rattle.run_book.proofs.Unended.{is-unended, unended-is}
 use Rattle.site_core.specs.declared.attempts.Begun.{Begun}
 use Rattle.site_core.specs.declared.attempts.LiveAttempt.{LiveAttempt}
 use Rattle.site_core.specs.Attempts.{finished, finished_of, live_attempt, noted, running}

@@ -1,8 +1,0 @@
-use Rattle.std.proofs.Common.{take}
-use Rattle.std.specs.Fn.{FnReturnsAt}
-use Rattle.fed_rules.specs.Replies.{age_of}
-use Rattle.run_lists.specs.Rivals.{IsLeast}
-use Rattle.run_lists.proofs.scan.oldest.Given as goal
-
-abbrev pub invariant-loop-run : goal.invariant-loop-run
-invariant-loop-run g l = IsLeast age_of (FnReturnsAt g.F.Fn l.counts) (take l.run-index l.runs) l.oldest
