@@ -28,7 +28,7 @@ use Rattle.actor_store.specs.declared.errors.StepErr.{StepErr}
 use Rattle.actor_store.specs.declared.errors.StepErr.TheVariants as Step_err
 use Rattle.fed_world.specs.declared.local_site.LocalSite.{LocalSite}
 use Rattle.fed_world.specs.Calls.{IsAnswered, IsUnanswered, error_of}
-use Rattle.fed_world.specs.Stands.{IsTold, IsUntold, LocalStands}
+use Rattle.fed_world.specs.Stands.{IsTold, IsUntold, LocalStands, NumbersFit}
 use Rattle.fed_world.specs.Worlds.{HasCause, OthersEmpty, PartStands, SitePart}
 use Rattle.fed_world.proofs.Disks.{own_after, set_rises}
 use Rattle.fed_world.proofs.Handed.{fate_nowhere, back_happens, check_happens, halt_happens, trip_happens}
@@ -106,10 +106,10 @@ module _ {E D : Type 0} (stands : E → Start → List EngineLine → Type 0) (t
   -- the answer of the site
   pub answered_site : (site new : LocalSite E) (disks : List D) (old disk : D) (command : Command) (answer : Answer) (scenario : Scenario) (commands : List Command) → new.site ≡ site.site → slice_get disks site.site.0 ≡ Some old
       → SitePart stands tells seen site disks scenario commands → OthersEmpty seen (Some site) disks
-      → ((cs : List Command) → LocalStands stands tells seen site old scenario cs → IsTold (LocalStands stands tells seen new disk scenario) scenario cs command answer)
+      → NumbersFit command commands → ((cs : List Command) → LocalStands stands tells seen site old scenario cs → NumbersFit command cs → IsTold (LocalStands stands tells seen new disk scenario) scenario cs command answer)
       → IsAnswered stands tells seen (Some new) (slice_set disks site.site.0 disk) command answer scenario commands
-  answered_site site new disks old disk command answer scenario commands same own s others tell =
-      let told = tell commands (own_stood site disks old scenario commands own s) in
+  answered_site site new disks old disk command answer scenario commands same own s others fits tell =
+      let told = tell commands (own_stood site disks old scenario commands own s) fits in
       record {
         told = told.told;
         sends = told.sends;
@@ -119,15 +119,15 @@ module _ {E D : Type 0} (stands : E → Start → List EngineLine → Type 0) (t
       }
 
   -- no answer of the site
-  pub unanswered_site : (why : StepErr) (site new : LocalSite E) (disks : List D) (old disk : D) (scenario : Scenario) (commands : List Command) → new.site ≡ site.site → slice_get disks site.site.0 ≡ Some old
+  pub unanswered_site : (why : StepErr) (site new : LocalSite E) (disks : List D) (old disk : D) (command : Command) (scenario : Scenario) (commands : List Command) → new.site ≡ site.site → slice_get disks site.site.0 ≡ Some old
       → SitePart stands tells seen site disks scenario commands → OthersEmpty seen (Some site) disks
-      → ((cs : List Command) → LocalStands stands tells seen site old scenario cs → IsUntold (LocalStands stands tells seen new disk scenario) (CoreStands stands tells new.core (seen disk)) scenario why cs)
-      → IsUnanswered stands tells seen (error_of site.site.0 why) (Some new) (slice_set disks site.site.0 disk) scenario commands
-  unanswered_site Step_err.Memory site new disks old disk scenario commands same own s others tell =
-      (part_after site new disks old disk scenario commands same s.in_range own (tell commands (own_stood site disks old scenario commands own s)), others_empty seen site new disks disk same others)
-  unanswered_site Step_err.Disk site new disks old disk scenario commands same own s others tell =
+      → NumbersFit command commands → ((cs : List Command) → LocalStands stands tells seen site old scenario cs → NumbersFit command cs → IsUntold (LocalStands stands tells seen new disk scenario) (CoreStands stands tells new.core (seen disk)) scenario command why cs)
+      → IsUnanswered stands tells seen (error_of site.site.0 why) (Some new) (slice_set disks site.site.0 disk) command scenario commands
+  unanswered_site Step_err.Memory site new disks old disk command scenario commands same own s others fits tell =
+      (part_after site new disks old disk scenario commands same s.in_range own (tell commands (own_stood site disks old scenario commands own s) fits), others_empty seen site new disks disk same others)
+  unanswered_site Step_err.Disk site new disks old disk command scenario commands same own s others fits tell =
       let stood = own_stood site disks old scenario commands own s in
-      let (line, alone, cut) = tell commands stood in
+      let (line, alone, cut) = tell commands stood fits in
       let lists : stood.line ∷ [] ≡ line ∷ [] = sym stood.alone.sites ∙ alone.sites in
       let one : stood.line ≡ line = cc in
       let number = stood.at.number ∙ ap (λ (l : SiteLine). l.site) one in (

@@ -77,9 +77,11 @@ handed_at core new_core scenario line old new answer past event x h is leaves s 
 }
 
 -- a command that isn't answered
-pub untold : {E : Type 0} (core new_core : Home → SitePast → Type 0) (scenario : Scenario) (old new : LocalSite E) (why : StepErr) (commands : List Command) → (s : SiteStands core scenario old.site old.locals.items old.armed commands)
-    → Fails new_core why old new (home_from scenario s.line) (past_of s.line.site (story_of scenario commands)) → IsUntold (SiteStands new_core scenario new.site new.locals.items new.armed) new_core scenario why commands
-untold core new_core scenario old new Err_is.Memory commands s (stood, site, locals, armed) = record {
+pub untold : {E : Type 0} (core new_core bare : Home → SitePast → Type 0) (scenario : Scenario) (old new : LocalSite E) (why : StepErr) (event : SiteEvent) (commands : List Command)
+    → (s : SiteStands core scenario old.site old.locals.items old.armed commands) (command : Command)
+    → happens scenario (story_of scenario commands) command ≡ at_site (home_from scenario s.line) (story_of scenario commands) event
+    → Fails new_core bare why old new event (home_from scenario s.line) (past_of s.line.site (story_of scenario commands)) → IsUntold (SiteStands new_core scenario new.site new.locals.items new.armed) bare scenario command why commands
+untold core new_core bare scenario old new Err_is.Memory event commands s command is (stood, site, locals, armed) = record {
   line = s.line;
   alone = s.alone;
   own = s.own;
@@ -91,7 +93,7 @@ untold core new_core scenario old new Err_is.Memory commands s (stood, site, loc
     tripped = armed ∙ s.at.tripped;
   };
 }
-untold core new_core scenario old new Err_is.Disk commands s cut = (s.line, s.alone, cut)
+untold core new_core bare scenario old new Err_is.Disk event commands s command is cut = (s.line, s.alone, record { event = event; is = is; cut = cut })
 
 -- a fate of a transaction that isn't declared
 pub fate_nowhere : (scenario : Scenario) (story : Story) (tx : Tx) → first_where (λ (l : TxLine). same_tx l.tx tx) scenario.transactions ≡ None → happens scenario story (Cmd.Fate tx) ≡ Nowhere Say.None
@@ -101,7 +103,7 @@ fate_nowhere scenario story tx e =
     ∙ ap (coord_requested scenario story) (pick-none (global_program scenario tx) (Declines Say.None) _ (ap (λ o. map_some (λ (l : TxLine). l.program) (global_line o)) e))
 
 -- and of one that is
-fate_at : (scenario : Scenario) (story : Story) (tx : Tx) (home : Home) → local_home scenario tx ≡ Some home → happens scenario story (Cmd.Fate tx) ≡ at_site home story (Ev.Fate tx)
+pub fate_at : (scenario : Scenario) (story : Story) (tx : Tx) (home : Home) → local_home scenario tx ≡ Some home → happens scenario story (Cmd.Fate tx) ≡ at_site home story (Ev.Fate tx)
 unfolding happens on_fate request
 fate_at scenario story tx home e = local_at scenario story Fate tx _ home _ e refl
 
@@ -133,6 +135,13 @@ actor_at scenario story line zero at_coord event alone some same = absurd (omega
 actor_at scenario story line (suc n) at_coord event alone some same =
     pick-some (home_of scenario (record { 0 = suc n })) _ _ (home_from scenario line) (ap (λ k. home_of scenario (record { 0 = k })) same ∙ one_home scenario line alone.sites)
 
+-- so a command that is such an event comes to the site
+pub actor_here : (core : Home → SitePast → Type 0) (scenario : Scenario) (site : SiteId) (states : List State) (armed : Bool) (command : Command) (actor : ℕ) (at_coord : CoordEvent) (event : SiteEvent) (commands : List Command)
+    → ((story : Story) → happens scenario story command ≡ on_actor scenario story actor at_coord event) → 0 < actor → actor ≡ site.0 → (s : SiteStands core scenario site states armed commands)
+    → happens scenario (story_of scenario commands) command ≡ at_site (home_from scenario s.line) (story_of scenario commands) event
+actor_here core scenario site states armed command actor at_coord event commands happens_it some here s =
+    happens_it (story_of scenario commands) ∙ actor_at scenario (story_of scenario commands) s.line actor at_coord event s.alone some (here ∙ ap (λ (n : SiteId). n.0) s.at.number)
+
 -- the answer to an event of the site by its number
 pub actor_told : {E : Type 0} (core new_core : Home → SitePast → Type 0) (scenario : Scenario) (old new : LocalSite E) (command : Command) (actor : ℕ) (at_coord : CoordEvent) (event : SiteEvent) (answer : Answer) (commands : List Command) → IsOwn command → IsOwnEvent event → LeavesKept event
     → ((story : Story) → happens scenario story command ≡ on_actor scenario story actor at_coord event) → 0 < actor → actor ≡ old.site.0 → (s : SiteStands core scenario old.site old.locals.items old.armed commands)
@@ -144,7 +153,7 @@ actor_told core new_core scenario old new command actor at_coord event answer co
     let past = past_of s.line.site story in
     subst (λ a. IsTold (SiteStands new_core scenario new.site new.locals.items new.armed) scenario commands command a) (sym h.said)
     (told_at new_core scenario new.site new.locals.items new.armed commands command s.line (site_line home past event) s.alone s.own own
-    (happens_it story ∙ actor_at scenario story s.line actor at_coord event s.alone some (here ∙ ap (λ (n : SiteId). n.0) s.at.number)) h.silent
+    (actor_here core scenario old.site old.locals.items old.armed command actor at_coord event commands happens_it some here s) h.silent
     (handed_at core new_core scenario s.line old new answer past event _ h (silent_line home past event own_event).is leaves s.at))
 
 -- and to one of another actor

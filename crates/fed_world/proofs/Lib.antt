@@ -2,6 +2,7 @@ mod Answered
 mod Begun
 mod Closed
 mod Disks
+mod Growth
 mod Handed
 mod HandedOne
 mod Inserted
@@ -12,12 +13,14 @@ mod LiveLists
 mod LiveSteps
 mod MemberReads
 mod NewSites
+mod Noting
+mod OneStory
+mod OwnPasts
 mod Owned
 mod PassedOn
 mod PlaceLaws
 mod Readings
 pub mod Recalled
-mod RecordLists
 mod ReportLaws
 mod Silent
 mod SiteBounds
@@ -29,4 +32,4 @@ mod TellsCommit
 mod TellsStep
 mod TellsTrip
 mod Told
-mod Towards
+pub mod Towards

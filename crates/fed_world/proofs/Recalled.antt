@@ -17,7 +17,7 @@ module _ {E D : Type 0} (stands : E → Start → List EngineLine → Type 0) (t
         line = s.line;
         alone = s.alone;
         own = s.own;
-        at = record { stood = s.at.stood.holds; number = s.at.number; places = s.at.places; kept = s.at.kept; tripped = s.at.tripped };
+        at = record { stood = record { stood = s.at.stood.stood.holds; own = s.at.stood.own; committed = s.at.stood.committed }; number = s.at.number; places = s.at.places; kept = s.at.kept; tripped = s.at.tripped };
       }
 
   -- the world recalls what it stands for

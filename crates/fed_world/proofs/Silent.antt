@@ -14,7 +14,6 @@ use Rattle.fed_rules.specs.Site.{of_begin, of_act, of_commit, of_abort, of_fate,
 use Rattle.fed_rules.specs.SitePast.{SiteHappening, SitePast, disk, trip}
 use Rattle.fed_rules.specs.SiteRecords.{Home, site_frame}
 use Rattle.local_laws.specs.Sound.{IsOwnEvent}
-use Rattle.site_core.specs.Steps.{CanStep}
 use Rattle.fed_world.proofs.LineCases.{at_pick, at_when}
 
 -- the line is of this event, and sends nothing
@@ -70,18 +69,3 @@ silent_line home past (Ev.Halt cut) own = at_when (IsSilent _) _ _ _ (record { i
 silent_line home past (Ev.Trip calls cut) own = record { is = refl; sends = refl }
 silent_line home past Ev.Check own = silent_up home past _ _ (silent_check home past)
 silent_line home past Ev.Back own = at_when (IsSilent _) _ _ _ (silent_tripped (disk home past) (trip past) _ _ (record { is = refl; sends = refl })) (record { is = refl; sends = refl })
-
--- what a core may be handed is an event of its own
-pub can_own : (event : SiteEvent) (home : Home) (past : SitePast) → CanStep event home past → IsOwnEvent event
-can_own (Ev.Begin tid) home past can = tt
-can_own (Ev.Act tid act) home past can = tt
-can_own (Ev.Commit tid) home past can = tt
-can_own (Ev.Abort tid) home past can = tt
-can_own (Ev.Fate tx) home past can = tt
-can_own (Ev.Give message) home past can = absurd can
-can_own (Ev.Ask tid) home past can = absurd can
-can_own (Ev.Drop tid) home past can = absurd can
-can_own (Ev.Halt cut) home past can = tt
-can_own (Ev.Trip calls cut) home past can = tt
-can_own Ev.Back home past can = tt
-can_own Ev.Check home past can = absurd can

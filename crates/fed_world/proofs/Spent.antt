@@ -1,13 +1,9 @@
 -- What a begin is answered by a site with a core.
 use Rattle.std.proofs.Common.{◌≡◌, ℕ, true, false, Option, Some, None, List, length, sym, ◌∙◌, ap, subst}
-use Rattle.std.specs.Prelude.{reverse}
-use Rattle.std.proofs.lemmas.List.{reverse-reverse}
 use Rattle.mdb_base.specs.declared.names.Tid.{Tid}
-use Rattle.mdb_base.specs.declared.names.Tx.{Tx}
 use Rattle.mdb_base.proofs.Words.{when-true}
 use Rattle.fed_rules.specs.declared.answers.Answer.TheVariants as Say
 use Rattle.fed_rules.specs.declared.events.SiteEvent.TheVariants as Ev
-use Rattle.fed_rules.specs.declared.records.SiteRecord.{SiteRecord}
 use Rattle.fed_rules.specs.Happenings.{Trip, is_down, quiet}
 use Rattle.fed_rules.specs.Runs.{Start, EngineLine}
 use Rattle.fed_rules.specs.Site.{of_begin, site_line}
@@ -19,7 +15,7 @@ use Rattle.actor_store.proofs.EndsLaws.{passes_none}
 use Rattle.site_core.specs.declared.site.SiteCore.{SiteCore}
 use Rattle.site_core.specs.Stands.{Holds}
 use Rattle.site_core.proofs.LineLaws.{begin_begun, begin_committed, begin_quiet, begin_running, begin_up}
-use Rattle.site_core.proofs.StopLaws.{passes_is}
+use Rattle.site_core.proofs.RememberLaws.{passes_is}
 
 -- a site that is down
 begin_down : (home : Home) (past : SitePast) (tid : Tid) → is_down past ≡ true → site_line home past (Ev.Begin tid) ≡ quiet (Ev.Begin tid) Say.Down
@@ -31,13 +27,9 @@ begin_answered : {E : Type 0} (stands : E → Start → List EngineLine → Type
     → site_line home past (Ev.Begin tid) ≡ of_begin home past tid
 begin_answered stands core home past tid h up =
     let P : Option Trip → Type 0 = λ t. Passes t 0 in
-    let left : Passes (trip past) 0 = subst P h.trip (passes_none core.store.trip h.armed) in
+    let left : Passes (trip past) 0 = subst P h.memory.trip (passes_none core.store.trip h.memory.armed) in
     let Q : ℕ → Type 0 = λ n. Passes (trip past) n in
     begin_up home past tid up ∙ passes_is home past (of_begin home past tid) (subst Q (sym (ap (λ calls. length calls) (begin_quiet home past tid).0)) left)
-
--- the committed attempt by the records as they are read, oldest first
-pub local_read : (home : Home) (past : SitePast) (tx : Tx) (read : List SiteRecord) → read ≡ reverse (records home past) → local_of (records home past) tx ≡ local_of (reverse read) tx
-local_read home past tx read is = ap (λ (rs : List SiteRecord). local_of rs tx) (sym (reverse-reverse (records home past)) ∙ ap (λ (rs : List SiteRecord). reverse rs) (sym is))
 
 -- what the begin is answered, where no attempt may begin any more
 pub spent_down : (home : Home) (past : SitePast) (tid : Tid) → is_down past ≡ true → Say.Down ≡ unless_begun (site_line home past (Ev.Begin tid)).answer

@@ -33,7 +33,7 @@ module _ (scenario : Scenario) (line : SiteLine) (commands : List Command) (tx :
   abort_none up none = abort_idle scenario (story_of scenario commands) tx home (own_home scenario line commands tx place state o) up (none_live scenario line commands tx place state o none)
 
   -- the abort of the live attempt comes to the site
-  abort_next : (n : ℕ) → state.live ≡ Some n → is_down past ≡ false → happens scenario (story_of scenario commands) (Cmd.Abort tx) ≡ at_site home (story_of scenario commands) (Ev.Abort (attempt tx n))
+  pub abort_next : (n : ℕ) → state.live ≡ Some n → is_down past ≡ false → happens scenario (story_of scenario commands) (Cmd.Abort tx) ≡ at_site home (story_of scenario commands) (Ev.Abort (attempt tx n))
   abort_next n some up =
       let one = one_live scenario line commands tx place state o n some in
       abort_at scenario (story_of scenario commands) tx home (attempt tx n) one.running.run (own_home scenario line commands tx place state o) up one.found one.own

@@ -1,9 +1,10 @@
 -- The lines of `begin`.
-use Rattle.std.proofs.Common.{◌≡◌, ℕ, ◌<◌, true, false, cond, Some, List, slice_get, slice_set, refl, sym, ◌∙◌, ap, subst}
+use Rattle.std.proofs.Common.{◌≡◌, ℕ, ◌<◌, true, false, cond, Some, List, slice_get, slice_set, refl, sym, ◌∙◌, ap, subst, arith}
 use Rattle.std.specs.Prelude.{nat_le}
 use Rattle.std.proofs.lemmas.Bool.{lt-leb}
 use Rattle.mdb_base.specs.declared.names.Tid.{Tid}
 use Rattle.mdb_base.specs.declared.names.Tx.{Tx}
+use Rattle.mdb_base.specs.Words.{Each}
 use Rattle.mdb_base.proofs.Words.{when-true, when-false}
 use Rattle.fed_rules.specs.declared.answers.Answer.{Answer}
 use Rattle.fed_rules.specs.declared.answers.Answer.TheVariants as Say
@@ -14,15 +15,20 @@ use Rattle.fed_rules.specs.declared.scenario.Scenario.{Scenario}
 use Rattle.fed_rules.specs.declared.scenario.SiteLine.{SiteLine}
 use Rattle.fed_rules.specs.Happenings.{stops}
 use Rattle.fed_rules.specs.Site.{site_line}
-use Rattle.fed_rules.specs.SitePast.{SitePast}
+use Rattle.fed_rules.specs.SitePast.{SiteHappening, SitePast}
 use Rattle.fed_rules.specs.SiteRecords.{Home}
 use Rattle.fed_rules.specs.Story.{Nowhere, at_site, attempt, happens, most_attempts, past_of, story_of, unless_begun}
 use Rattle.local_laws.proofs.StoryCommands.{begin_at}
 use Rattle.local_laws.specs.Kept.{State, after_begin, resting}
+use Rattle.local_laws.specs.Sound.{IsOwnEvent}
+use Rattle.site_core.specs.Steps.{CanBegin}
 use Rattle.fed_world.specs.declared.local_site.LocalSite.{LocalSite}
-use Rattle.fed_world.specs.Stands.{home_from, Hands, IsTold, SiteStands}
+use Rattle.fed_world.specs.Stands.{home_from, Hands, IsShort, IsTold, SiteStands}
+use Rattle.fed_world.proofs.Begun.{next_unbegun}
 use Rattle.fed_world.proofs.HandedOne.{IsHeardBy, one_told, rest_at, set_same}
+use Rattle.fed_world.proofs.OwnPasts.{ungiven}
 use Rattle.fed_world.proofs.Owned.{IsOwned, own_agrees, own_home}
+use Rattle.fed_world.proofs.SiteBounds.{number_fits, site_led}
 
 module _ (scenario : Scenario) (line : SiteLine) (commands : List Command) (tx : Tx) (place : ℕ) (state : State) (o : IsOwned scenario line commands tx place state) where
   abbrev home : Home
@@ -38,10 +44,21 @@ module _ (scenario : Scenario) (line : SiteLine) (commands : List Command) (tx :
       ∙ (when-true true _ _ refl ∙ ap (λ a. Nowhere a) (sym (said state.begun)))
 
   -- else the next one comes to the site
-  begin_next : state.begun < most_attempts → happens scenario (story_of scenario commands) (Cmd.Begin tx) ≡ at_site home (story_of scenario commands) (Ev.Begin (attempt tx state.begun))
+  pub begin_next : state.begun < most_attempts → happens scenario (story_of scenario commands) (Cmd.Begin tx) ≡ at_site home (story_of scenario commands) (Ev.Begin (attempt tx state.begun))
   begin_next more =
       begin_at scenario (story_of scenario commands) tx home state.begun false _ (own_home scenario line commands tx place state o) (own_agrees scenario line commands tx place state o).begun (lt-leb most_attempts state.begun more) refl
       ∙ when-false false _ _ refl
+
+  -- and the attempt may be handed to the core
+  pub can_begin : Each (λ (x : SiteHappening). IsOwnEvent x.event) past → state.begun < 32 → IsShort commands → CanBegin (attempt tx state.begun) home past
+  can_begin events more short =
+      let begun = (own_agrees scenario line commands tx place state o).begun in
+      record {
+        apart = ungiven past tx events;
+        new = next_unbegun scenario home past tx state.begun (site_led scenario line commands o.alone o.own) begun;
+        few = omega arith;
+        fits = number_fits scenario line commands o.alone o.own short;
+      }
 
 -- what a begin makes of what is kept
 begin_rests : (answer : Answer) (state : State) → stops answer ≡ true → after_begin answer (resting state) ≡ resting state

@@ -3,7 +3,7 @@ use Rattle.std.proofs.Common.{◌≡◌, ℕ, ◌<◌, ◌≤◌, nat_le, nat_lt
 use Rattle.std.proofs.lemmas.Bool.{and_parts, le-ltb, lt-ltb}
 use Rattle.mdb_base.specs.declared.names.Tx.{Tx}
 use Rattle.mdb_base.specs.Names.{same_tx}
-use Rattle.mdb_base.specs.Words.{each_of}
+use Rattle.mdb_base.specs.Words.{Each, each_of}
 use Rattle.order_laws.proofs.Lists.{each_of_at, first_where_some}
 use Rattle.fed_rules.specs.declared.answers.Answer.{Answer}
 use Rattle.fed_rules.specs.declared.answers.Answer.TheVariants as Say
@@ -17,17 +17,19 @@ use Rattle.fed_rules.specs.Happenings.{is_down}
 use Rattle.fed_rules.specs.Plans.{IsScenario, is_between, is_in_place, is_transaction}
 use Rattle.fed_rules.specs.Scenarios.{program_of}
 use Rattle.fed_rules.specs.Site.{done, site_line}
-use Rattle.fed_rules.specs.SitePast.{SitePast}
+use Rattle.fed_rules.specs.SitePast.{SiteHappening, SitePast}
 use Rattle.fed_rules.specs.SiteRecords.{Home}
 use Rattle.fed_rules.specs.Story.{Nowhere, at_site, attempt, happens, past_of, story_of}
 use Rattle.local_laws.proofs.StoryCommands.{commit_at, commit_idle, commit_unfinished}
 pub use Rattle.local_laws.proofs.StoryCommands.{commit_down}
 use Rattle.site_core.specs.Steps.{CanCommit}
 use Rattle.local_laws.specs.Kept.{State, resting}
+use Rattle.local_laws.specs.Sound.{IsOwnEvent}
 use Rattle.fed_world.specs.declared.local_site.LocalSite.{LocalSite}
 use Rattle.fed_world.specs.Places.{IsPlace}
 use Rattle.fed_world.specs.Stands.{home_from, SiteStands, Hands, IsShort, IsTold}
 use Rattle.fed_world.proofs.HandedOne.{IsHeardBy, one_told}
+use Rattle.fed_world.proofs.OwnPasts.{ungiven}
 use Rattle.fed_world.proofs.Owned.{IsLiveOne, IsOwned, none_live, one_live, own_agrees, own_home}
 use Rattle.fed_world.proofs.SiteBounds.{number_fits}
 use Rattle.fed_world.proofs.Told.{one_at, place_program, place_tx}
@@ -76,12 +78,13 @@ module _ (scenario : Scenario) (line : SiteLine) (commands : List Command) (tx :
         commit_at scenario (story_of scenario commands) tx home (attempt tx n) one.running.run (own_home scenario line commands tx place state o) up one.found one.own (steps_left own false at (le-ltb _ _ all))
 
     -- and the attempt may be handed to the core for its commit
-    pub can_commit : IsScenario scenario → IsShort commands → CanCommit (attempt tx n) home past
-    can_commit whole short =
+    pub can_commit : IsScenario scenario → Each (λ (x : SiteHappening). IsOwnEvent x.event) past → IsShort commands → CanCommit (attempt tx n) home past
+    can_commit whole events short =
         let range = tx_in_range scenario tx place whole o.found in
         let last = one.last in
         let few = (own_agrees scenario line commands tx place state o).few in
         record {
+          apart = ungiven past tx events;
           in_range = record { least = range.0; greatest = range.1; attempts = omega arith };
           fits = number_fits scenario line commands o.alone o.own short;
         }

@@ -5,7 +5,7 @@ use Rattle.mdb_base.specs.declared.acts.Step.{Step}
 use Rattle.mdb_base.specs.declared.names.Tx.{Tx}
 use Rattle.mdb_base.specs.declared.program.Next.{Next}
 use Rattle.mdb_base.specs.Programs.{is_get, next_of, plain_act, reads_of}
-use Rattle.mdb_base.specs.Words.{item_at, pick}
+use Rattle.mdb_base.specs.Words.{Each, item_at, pick}
 use Rattle.fed_rules.specs.declared.answers.Answer.{Answer}
 use Rattle.fed_rules.specs.declared.answers.Answer.TheVariants as Say
 use Rattle.fed_rules.specs.declared.commands.Command.{Command}
@@ -17,10 +17,11 @@ use Rattle.fed_rules.specs.Happenings.{is_down, stops}
 use Rattle.fed_rules.specs.Runs.{Run}
 use Rattle.fed_rules.specs.Scenarios.{program_of}
 use Rattle.fed_rules.specs.Site.{done, site_line}
-use Rattle.fed_rules.specs.SitePast.{SitePast}
+use Rattle.fed_rules.specs.SitePast.{SiteHappening, SitePast}
 use Rattle.fed_rules.specs.SiteRecords.{Home}
 use Rattle.fed_rules.specs.Story.{Nowhere, at_site, attempt, happens, past_of, story_of}
-use Rattle.site_core.specs.Steps.{HasFewAccesses}
+use Rattle.local_laws.specs.Sound.{IsOwnEvent}
+use Rattle.site_core.specs.Steps.{CanAct, HasFewAccesses}
 use Rattle.local_laws.proofs.StoryCommands.{step_at, step_end, step_idle}
 pub use Rattle.local_laws.proofs.StoryCommands.{step_down}
 use Rattle.order_laws.proofs.Members.{item_at-below}
@@ -28,6 +29,7 @@ use Rattle.local_laws.specs.Kept.{State, after_access, resting}
 use Rattle.fed_world.specs.declared.local_site.LocalSite.{LocalSite}
 use Rattle.fed_world.specs.Stands.{home_from, Hands, IsTold, SiteStands}
 use Rattle.fed_world.proofs.HandedOne.{IsHeardBy, one_told}
+use Rattle.fed_world.proofs.OwnPasts.{ungiven}
 use Rattle.fed_world.proofs.Owned.{IsLiveOne, IsOwned, none_live, one_live, own_home}
 use Rattle.fed_world.proofs.Told.{place_program}
 
@@ -105,12 +107,16 @@ module _ (scenario : Scenario) (line : SiteLine) (commands : List Command) (tx :
         ∙ ap (λ act. at_site home (story_of scenario commands) (Ev.Act (attempt tx n) act)) (ap (λ reads. plain_act reads is.step.act) one.running.values ∙ is.act)
 
     -- the live run has as many accesses as the attempt has finished steps
-    pub few_accesses : state.done < 32 → HasFewAccesses (attempt tx n) home past
+    few_accesses : state.done < 32 → HasFewAccesses (attempt tx n) home past
     few_accesses few run is =
         (let both : Some one.running.run ≡ Some run = sym one.own ∙ is in
         let same : one.running.run ≡ run = cc in
         let count : length run.acts ≡ state.done = ap (λ (r : Run). length r.acts) (sym same) ∙ one.running.steps in
         omega arith)
+
+    -- and the access may be handed to the core
+    pub can_act : (act : PlainAct) → Each (λ (x : SiteHappening). IsOwnEvent x.event) past → state.done < 32 → CanAct (attempt tx n) home past
+    can_act act events few = record { apart = ungiven past tx events; few = few_accesses few }
 
 -- a step that is found is one of the program, which has at most 32
 pub step_below : (steps : List Step) (count : ℕ) (reads : List ℕ) (next : Next) → IsStep steps count reads next → length steps ≤ 32 → count < 32

@@ -8,9 +8,10 @@ use Rattle.fed_rules.specs.Runs.{Start, EngineLine}
 use Rattle.journal_disk.specs.Disk.{Seen}
 use Rattle.session_laws.specs.Closing.{with_aborts}
 use Rattle.fed_world.specs.declared.errors.WorldErr.{WorldErr}
+use Rattle.fed_world.specs.declared.errors.WorldErr.TheVariants as Err_is
 use Rattle.fed_world.specs.declared.world.World.{World}
 use Rattle.fed_world.specs.Closings.{with_command}
-use Rattle.fed_world.specs.Worlds.{Fails, FailsToward}
+use Rattle.fed_world.specs.Worlds.{Fails, FailsAt, FailsToward}
 
 -- what follows where the call succeeds
 pub on_success : {A B P Q : Type 0} (r : Result A B) → (P → Q) → OnOk r P → OnOk r Q
@@ -47,6 +48,12 @@ aborts_more tids i d commands lt = subst (λ k. with_aborts (take k tids) comman
     by_place [] k cs lt = absurd (omega arith)
     by_place (x ∷ xs) zero cs lt = refl
     by_place (x ∷ xs) (suc k) cs lt = by_place xs k (Cmd.Abort x.tx ∷ cs) (omega arith)
+
+-- what fails at this command fails at some command
+pub fails_some : {E D : Type 0} (stands : E → Start → List EngineLine → Type 0) (tells : Bool) (seen : D → Seen) (why : WorldErr) (world : World E) (disks : List D) (command : Command) (scenario : Scenario) (commands : List Command)
+    → FailsAt stands tells seen why world disks command scenario commands → Fails stands tells seen why world disks scenario commands
+fails_some stands tells seen Err_is.Memory world disks command scenario commands f = f
+fails_some stands tells seen (Err_is.Disk number) world disks command scenario commands f = (command, f)
 
 module _ {E D : Type 0} (stands : E → Start → List EngineLine → Type 0) (tells : Bool) (seen : D → Seen) (why : WorldErr) (world : World E) (disks : List D) (scenario : Scenario) where
   -- the first command fails

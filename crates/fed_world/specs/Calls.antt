@@ -26,9 +26,9 @@ pub record IsAnswered {E D : Type 0} (stands : E → Start → List EngineLine �
   pub part : PartStands stands tells seen site disks scenario (command ∷ commands)
   pub others : OthersEmpty seen site disks
 
--- a command without an answer: want of memory changes nothing, and behind a failed disk call the disk holds some stop
-abbrev pub IsUnanswered : {E D : Type 0} → (E → Start → List EngineLine → Type 0) → Bool → (D → Seen) → WorldErr → Option (LocalSite E) → List D → Scenario → List Command → Type 0
-IsUnanswered stands tells seen Err_is.Memory site disks scenario commands =
+-- a command without an answer: want of memory changes nothing, and behind a failed disk call the disk holds some stop within the command's event
+abbrev pub IsUnanswered : {E D : Type 0} → (E → Start → List EngineLine → Type 0) → Bool → (D → Seen) → WorldErr → Option (LocalSite E) → List D → Command → Scenario → List Command → Type 0
+IsUnanswered stands tells seen Err_is.Memory site disks command scenario commands =
     PartStands stands tells seen site disks scenario commands × OthersEmpty seen site disks
-IsUnanswered stands tells seen (Err_is.Disk number) site disks scenario commands =
-    PartBroke stands tells seen number site disks scenario commands × OthersEmpty seen site disks
+IsUnanswered stands tells seen (Err_is.Disk number) site disks command scenario commands =
+    PartBroke stands tells seen number site disks command scenario commands × OthersEmpty seen site disks

@@ -1,5 +1,5 @@
 -- The scenarios and commands that a site and a world stand for, and what a call does to them. Commands stand newest first.
-use Rattle.std.specs.Prelude.{ℕ, zero, suc, ◌≡◌, ◌<◌, ◌^◌, Bool, false, cond, is_some, Some, List, [], ◌∷◌, length, map, slice_get}
+use Rattle.std.specs.Prelude.{ℕ, zero, suc, ◌≡◌, ◌<◌, ◌^◌, Bool, true, false, cond, is_some, Some, List, [], ◌∷◌, length, map, slice_get}
 use Rattle.mdb_base.specs.declared.names.SiteId.{SiteId}
 use Rattle.mdb_base.specs.Words.{Each}
 use Rattle.fed_rules.specs.declared.answers.Answer.{Answer}
@@ -11,18 +11,19 @@ use Rattle.fed_rules.specs.declared.scenario.SiteLine.{SiteLine}
 use Rattle.fed_rules.specs.declared.scenario.TxLine.{TxLine}
 use Rattle.fed_rules.specs.Happenings.{is_down, stops}
 use Rattle.fed_rules.specs.Runs.{Start, EngineLine}
-use Rattle.fed_rules.specs.Site.{answered}
-use Rattle.fed_rules.specs.SitePast.{SiteHappening, SitePast, trip}
-use Rattle.fed_rules.specs.SiteRecords.{Home}
-use Rattle.fed_rules.specs.Story.{story_of, happens, answer_of, places_of, past_of, coord_past}
+use Rattle.fed_rules.specs.SitePast.{SiteHappening, SitePast, records, trip}
+use Rattle.fed_rules.specs.SiteRecords.{Home, installs}
+use Rattle.fed_rules.specs.Story.{story_of, happens, answer_of, places_of, past_of, coord_past, at_site}
 use Rattle.journal_disk.specs.Disk.{Seen}
 use Rattle.local_laws.specs.Kept.{State, resting, unbegun, kept_of}
-use Rattle.local_laws.specs.Sound.{IsOwn}
+use Rattle.local_laws.specs.Sound.{IsOwn, IsOwnEvent}
 use Rattle.actor_store.specs.declared.errors.StepErr.{StepErr}
 use Rattle.actor_store.specs.declared.errors.StepErr.TheVariants as Err_is
-use Rattle.site_core.specs.Stands.{Holds, Stands as CoreStands, cut_line}
+use Rattle.site_core.specs.Stands.{Holds, Stands as CoreStands, StopAt, stopped_past}
 pub use Rattle.session_laws.specs.Sessions.{home_from, IsAlone}
+use Rattle.fed_world.specs.declared.commits.Numbered.{Numbered}
 use Rattle.fed_world.specs.declared.local_site.LocalSite.{LocalSite}
+use Rattle.fed_world.specs.Commits.{numbered}
 
 -- what is kept of each transaction is what the lines of the site make of it
 abbrev pub AllKept : List TxLine → SitePast → List State → Type 0
@@ -32,6 +33,20 @@ AllKept lines past states = (place : ℕ) (line : TxLine) (state : State) → sl
 abbrev pub all_unbegun : ℕ → List State
 all_unbegun zero = []
 all_unbegun (suc n) = unbegun ∷ all_unbegun n
+
+-- the core stands for this past, which own events made, and the committed attempts are noted by their serial numbers, the greatest first
+pub record IsNoted (core : Home → SitePast → Type 0) (commits : List Numbered) (home : Home) (past : SitePast) : Type 0 where
+  pub stood : core home past
+  pub own : Each (λ x. IsOwnEvent x.event) past
+  pub committed : commits ≡ map numbered (installs (records home past))
+
+-- so does the core of a site with what is seen of its disk
+abbrev pub StandsNoted : {E : Type 0} → (E → Start → List EngineLine → Type 0) → Bool → LocalSite E → Seen → Home → SitePast → Type 0
+StandsNoted stands tells site disk = IsNoted (CoreStands stands tells site.core disk) site.commits.items
+
+-- and whatever is on its disk
+abbrev pub HoldsNoted : {E : Type 0} → (E → Start → List EngineLine → Type 0) → LocalSite E → Home → SitePast → Type 0
+HoldsNoted stands site = IsNoted (Holds stands site.core) site.commits.items
 
 -- the core stands for this past, and what is kept beside it fits
 pub record SiteAt (core : Home → SitePast → Type 0) (scenario : Scenario) (line : SiteLine) (site : SiteId) (states : List State) (armed : Bool) (past : SitePast) : Type 0 where
@@ -51,11 +66,11 @@ pub record SiteStands (core : Home → SitePast → Type 0) (scenario : Scenario
 -- so does a site with its disk
 abbrev pub LocalStands : {E D : Type 0} → (E → Start → List EngineLine → Type 0) → Bool → (D → Seen) → LocalSite E → D → Scenario → List Command → Type 0
 LocalStands stands tells seen site disk scenario commands =
-    SiteStands (CoreStands stands tells site.core (seen disk)) scenario site.site site.locals.items site.armed commands
+    SiteStands (StandsNoted stands tells site (seen disk)) scenario site.site site.locals.items site.armed commands
 
 -- and a site whatever is on its disk
 abbrev pub LocalHolds : {E : Type 0} → (E → Start → List EngineLine → Type 0) → LocalSite E → Scenario → List Command → Type 0
-LocalHolds stands site scenario commands = SiteStands (Holds stands site.core) scenario site.site site.locals.items site.armed commands
+LocalHolds stands site scenario commands = SiteStands (HoldsNoted stands site) scenario site.site site.locals.items site.armed commands
 
 -- no coordinator took part, and the site is up
 pub record IsUpAlone (scenario : Scenario) (site : SiteId) (commands : List Command) : Type 0 where
@@ -72,6 +87,10 @@ pub record SomeCommands (K : List Command → Type 0) (P : List Command → Type
 abbrev pub EachCommands : (List Command → Type 0) → (List Command → Type 0) → Type 0
 EachCommands K P = (commands : List Command) → K commands → P commands
 
+-- for all commands that it stands for and that fit the fact holds
+abbrev pub EachFitting : (List Command → Type 0) → (List Command → Type 0) → (List Command → Type 0) → Type 0
+EachFitting K Fits P = (commands : List Command) → K commands → Fits commands → P commands
+
 -- any commands
 abbrev pub AnyCommands : List Command → Type 0
 AnyCommands commands = Unit {0}
@@ -80,10 +99,13 @@ AnyCommands commands = Unit {0}
 abbrev pub IsShort : List Command → Type 0
 IsShort commands = length commands < 2 ^ 30
 
--- the numbers that the command may draw fit; an abort draws none. Checkpoints aren't among the commands of a world yet
+-- the numbers that the command may draw fit: a begin, a commit and a start draw one
 abbrev pub NumbersFit : Command → List Command → Type 0
 NumbersFit (Cmd.Abort tx) commands = Unit {0}
-NumbersFit (Cmd.Check actor) commands = ⊥
+NumbersFit (Cmd.Fate tx) commands = Unit {0}
+NumbersFit (Cmd.Halt actor cut) commands = Unit {0}
+NumbersFit (Cmd.Trip actor calls cut) commands = Unit {0}
+NumbersFit (Cmd.Check actor) commands = Unit {0}
 NumbersFit command commands = IsShort commands
 
 -- what is kept of the transactions behind an answer that may stop the site
@@ -99,14 +121,23 @@ pub record Hands {E : Type 0} (core : Home → SitePast → Type 0) (old new : L
   pub locals : new.locals.items ≡ rest_all x.answer old.locals.items
   pub armed : new.armed ≡ cond (stops x.answer) false old.armed
 
--- what a failed disk call leaves: some stop within the disk calls of one further event
-abbrev pub IsCut : (Home → SitePast → Type 0) → Home → SitePast → Type 0
-IsCut core home past = (event : SiteEvent) × (n : ℕ) × (cut : ℕ) × core home (cut_line n cut home past (answered home past event) ∷ past)
+-- the core stands for what a stop leaves that comes before the event, or within its disk calls; the site is down then
+pub record IsCutAt (core : Home → SitePast → Type 0) (event : SiteEvent) (home : Home) (past : SitePast) : Type 0 where
+  pub own : IsOwnEvent event
+  pub at : StopAt
+  pub stood : core home (stopped_past home past event at)
+  pub down : is_down (stopped_past home past event at) ≡ true
+
+-- what a failed disk call leaves: some stop within the event of the site that the command is
+pub record IsCut (core : Home → SitePast → Type 0) (scenario : Scenario) (line : SiteLine) (command : Command) (commands : List Command) : Type 0 where
+  pub event : SiteEvent
+  pub is : happens scenario (story_of scenario commands) command ≡ at_site (home_from scenario line) (story_of scenario commands) event
+  pub cut : IsCutAt core event (home_from scenario line) (past_of line.site (story_of scenario commands))
 
 -- want of memory changes nothing, and a failed disk call leaves some stop within the event
-abbrev pub Fails : {E : Type 0} → (Home → SitePast → Type 0) → StepErr → LocalSite E → LocalSite E → Home → SitePast → Type 0
-Fails core Err_is.Memory old new home past = core home past × (new.site ≡ old.site) × (new.locals.items ≡ old.locals.items) × (new.armed ≡ old.armed)
-Fails core Err_is.Disk old new home past = IsCut core home past
+abbrev pub Fails : {E : Type 0} → (noted core : Home → SitePast → Type 0) → StepErr → LocalSite E → LocalSite E → SiteEvent → Home → SitePast → Type 0
+Fails noted core Err_is.Memory old new event home past = noted home past × (new.site ≡ old.site) × (new.locals.items ≡ old.locals.items) × (new.armed ≡ old.armed)
+Fails noted core Err_is.Disk old new event home past = IsCutAt core event home past
 
 -- what a site answers to a command, and the commands that it stands for then
 pub record IsTold (K : List Command → Type 0) (scenario : Scenario) (commands : List Command) (command : Command) (answer : Answer) : Type 0 where
@@ -116,8 +147,7 @@ pub record IsTold (K : List Command → Type 0) (scenario : Scenario) (commands 
   pub next : K (command ∷ commands)
 
 -- a command that isn't answered: without memory the site stands for the commands before, and behind a failed disk call the core for some stop
--- within one further event
-abbrev pub IsUntold : (List Command → Type 0) → (Home → SitePast → Type 0) → Scenario → StepErr → List Command → Type 0
-IsUntold K core scenario Err_is.Memory commands = K commands
-IsUntold K core scenario Err_is.Disk commands =
-    (line : SiteLine) × IsAlone scenario line × IsCut core (home_from scenario line) (past_of line.site (story_of scenario commands))
+-- within the event of this command
+abbrev pub IsUntold : (List Command → Type 0) → (Home → SitePast → Type 0) → Scenario → Command → StepErr → List Command → Type 0
+IsUntold K core scenario command Err_is.Memory commands = K commands
+IsUntold K core scenario command Err_is.Disk commands = (line : SiteLine) × IsAlone scenario line × IsCut core scenario line command commands

@@ -137,31 +137,37 @@ CanClose scenario commands = length commands < 2 ^ 29
 abbrev pub AllUp : Scenario → List Command → Type 0
 AllUp scenario commands = (line : SiteLine) → IsAlone scenario line → is_down (past_of line.site (story_of scenario commands)) ≡ false
 
--- a call of this site's disk failed: the disk holds what some stop within the next event of the site leaves
-pub record SiteBroke {E D : Type 0} (stands : E → Start → List EngineLine → Type 0) (tells : Bool) (seen : D → Seen) (number : ℕ) (site : LocalSite E) (disks : List D) (scenario : Scenario) (commands : List Command) : Type 0 where
+-- a call of this site's disk failed: the disk holds what some stop within the event of this command leaves
+pub record SiteBroke {E D : Type 0} (stands : E → Start → List EngineLine → Type 0) (tells : Bool) (seen : D → Seen) (number : ℕ) (site : LocalSite E) (disks : List D) (command : Command) (scenario : Scenario) (commands : List Command) : Type 0 where
   pub line : SiteLine
   pub alone : IsAlone scenario line
   pub number_is : number ≡ line.site.0
   pub site_is : site.site ≡ line.site
   pub disk : D
   pub own : slice_get disks number ≡ Some disk
-  pub cut : IsCut (CoreStands stands tells site.core (seen disk)) (home_from scenario line) (past_of line.site (story_of scenario commands))
+  pub cut : IsCut (CoreStands stands tells site.core (seen disk)) scenario line command commands
 
-abbrev pub PartBroke : {E D : Type 0} → (E → Start → List EngineLine → Type 0) → Bool → (D → Seen) → ℕ → Option (LocalSite E) → List D → Scenario → List Command → Type 0
-PartBroke stands tells seen number None disks scenario commands = ⊥
-PartBroke stands tells seen number (Some site) disks scenario commands = SiteBroke stands tells seen number site disks scenario commands
+abbrev pub PartBroke : {E D : Type 0} → (E → Start → List EngineLine → Type 0) → Bool → (D → Seen) → ℕ → Option (LocalSite E) → List D → Command → Scenario → List Command → Type 0
+PartBroke stands tells seen number None disks command scenario commands = ⊥
+PartBroke stands tells seen number (Some site) disks command scenario commands = SiteBroke stands tells seen number site disks command scenario commands
 
--- the world of which this disk failed has the lines of the commands before
-pub record IsBroken {E D : Type 0} (stands : E → Start → List EngineLine → Type 0) (tells : Bool) (seen : D → Seen) (number : ℕ) (world : World E) (disks : List D) (scenario : Scenario) (commands : List Command) : Type 0 where
+-- the world of which this disk failed at this command has the lines of the commands before
+pub record IsBroken {E D : Type 0} (stands : E → Start → List EngineLine → Type 0) (tells : Bool) (seen : D → Seen) (number : ℕ) (world : World E) (disks : List D) (command : Command) (scenario : Scenario) (commands : List Command) : Type 0 where
   pub has : HasLines world scenario commands
   pub broken : world.broken ≡ true
-  pub site : PartBroke stands tells seen number world.site disks scenario commands
+  pub site : PartBroke stands tells seen number world.site disks command scenario commands
   pub others : OthersEmpty seen world.site disks
 
--- a command without a line: want of memory changes nothing, and a failed disk call breaks the world
+-- a command without a line: want of memory changes nothing, and a failed disk call breaks the world within the event of this command
+abbrev pub FailsAt : {E D : Type 0} → (E → Start → List EngineLine → Type 0) → Bool → (D → Seen) → WorldErr → World E → List D → Command → Scenario → List Command → Type 0
+FailsAt stands tells seen Err_is.Memory world disks command scenario commands = Stands stands tells seen world disks scenario commands
+FailsAt stands tells seen (Err_is.Disk number) world disks command scenario commands = IsBroken stands tells seen number world disks command scenario commands
+
+-- the same, of some command
 abbrev pub Fails : {E D : Type 0} → (E → Start → List EngineLine → Type 0) → Bool → (D → Seen) → WorldErr → World E → List D → Scenario → List Command → Type 0
 Fails stands tells seen Err_is.Memory world disks scenario commands = Stands stands tells seen world disks scenario commands
-Fails stands tells seen (Err_is.Disk number) world disks scenario commands = IsBroken stands tells seen number world disks scenario commands
+Fails stands tells seen (Err_is.Disk number) world disks scenario commands =
+    (command : Command) × IsBroken stands tells seen number world disks command scenario commands
 
 -- what leads to all these commands fails at some command: those before it were carried out
 pub record FailsToward {E D : Type 0} (stands : E → Start → List EngineLine → Type 0) (tells : Bool) (seen : D → Seen) (why : WorldErr) (world : World E) (disks : List D) (whole : List Command) (scenario : Scenario) (commands : List Command) : Type 0 where

@@ -1,7 +1,7 @@
 //! One site with its local transactions, and the disk of its core.
 ghost use Rattle.std.specs.Prelude.{◌≡◌, ◌≤◌, ◌<◌, [], false, cond, length, map, IsTrue, IfOk, IfErr, IsErrOf};
 ghost use Rattle.mdb_base.specs.Counts.{HasRisen};
-ghost use Rattle.fed_rules.specs.Site.{answered, site_line};
+ghost use Rattle.fed_rules.specs.Site.{site_line};
 ghost use Rattle.site_core.specs.Stands.{Stands as CoreStands};
 ghost use Rattle.site_core.specs.Steps.{CanStep, EachPast, SomePast};
 ghost use Rattle.fed_rules.specs.Happenings.{stops};
@@ -10,12 +10,13 @@ ghost use Rattle.fed_rules.specs.Disk.{empty_disk};
 ghost use Rattle.fed_rules.specs.Scenarios.{items_of};
 ghost use Rattle.fed_rules.specs.SitePast.{set_up_calls};
 ghost use Rattle.local_laws.specs.Kept.{resting};
-ghost use Rattle.local_laws.specs.Sound.{IsOwn};
+ghost use Rattle.local_laws.specs.Sound.{IsOwn, IsOwnEvent};
 ghost use Rattle.record_fields.specs.Named.{IsSite};
 ghost use Rattle.session_laws.specs.Closing.{IsAtSite};
 ghost use Rattle.site_core.specs.Store.{SomeStop};
-ghost use Rattle.fed_world.specs.Stands.{EachCommands, Fails, Hands, IsAlone, IsTold, IsUntold, LocalStands, NumbersFit, SomeCommands, all_unbegun, home_from, rest_all};
+ghost use Rattle.fed_world.specs.Stands.{EachFitting, Fails, Hands, IsAlone, IsTold, IsUntold, LocalStands, NumbersFit, SomeCommands, StandsNoted, all_unbegun, home_from, rest_all};
 
+use crate::commits::{Numbered, note_last};
 use crate::local_tx::LocalTx;
 use crate::places::transactions;
 use engine_contract::LocalEngine;
@@ -25,12 +26,14 @@ use mdb_base::{Memory, Puts, SiteId};
 use site_core::{SiteCore, StepErr};
 use std::alloc::Global;
 
-/// A site: its number, its core, what is kept of each local transaction, in the order of their lines, and whether a trip is armed.
+/// A site: its number, its core, what is kept of each local transaction, in the order of their lines, the committed attempts by their
+/// serial numbers, the greatest first, also those whose records were trimmed, and whether a trip is armed.
 #[derive(Drop)]
 pub(crate) struct LocalSite<E: LocalEngine> {
     pub(crate) site: SiteId,
     pub(crate) core: SiteCore<E>,
     pub(crate) locals: Vec<LocalTx>,
+    pub(crate) commits: Vec<Numbered>,
     pub(crate) armed: bool,
 }
 
@@ -85,6 +88,7 @@ impl<E: LocalEngine> LocalSite<E> {
                 site: line.site,
                 core,
                 locals,
+                commits: Vec::new(alloc),
                 armed: false,
             }),
             Err(why) => Err(why),
@@ -96,6 +100,7 @@ impl<E: LocalEngine> LocalSite<E> {
         ensures locals { self.new.locals.items ≡ map resting self.old.locals.items }
         ensures armed { self.new.armed ≡ false }
         ensures core { self.new.core ≡ self.old.core }
+        ensures commits { self.new.commits ≡ self.old.commits }
         ensures site { self.new.site ≡ self.old.site }
     {
         for local in self.locals.iter_mut() {
@@ -109,6 +114,7 @@ impl<E: LocalEngine> LocalSite<E> {
         ensures locals { self.new.locals.items ≡ rest_all answer.now self.old.locals.items }
         ensures armed { self.new.armed ≡ cond (stops answer.now) false self.old.armed }
         ensures core { self.new.core ≡ self.old.core }
+        ensures commits { self.new.commits ≡ self.old.commits }
         ensures site { self.new.site ≡ self.old.site }
     {
         match answer {
@@ -117,7 +123,8 @@ impl<E: LocalEngine> LocalSite<E> {
         }
     }
 
-    /// Hands an event to the core. Where it stops the site, or a disk call fails, each live attempt ends.
+    /// Hands an event to the core, and notes the attempt that it commits. Where it stops the site, or a disk call fails, each live attempt
+    /// ends.
     pub(crate) fn hand<D: Disk>(
         &mut self,
         alloc: Global,
@@ -125,17 +132,23 @@ impl<E: LocalEngine> LocalSite<E> {
         event: SiteEvent,
     ) -> Result<Answer, StepErr>
         requires told { IsTrue D.tells }
-        requires may { SomePast (CoreStands E.stands D.tells self.old.core (D.seen disk.old)) (CanStep event) }
-        ensures answered { IfOk result (λ answer. EachPast (CoreStands E.stands D.tells self.old.core (D.seen disk.old))
-            (λ home past. Hands (CoreStands E.stands D.tells self.new.core (D.seen disk.new)) self.old self.new answer home past (site_line home past event))) }
-        ensures failed { IfErr result (λ why. EachPast (CoreStands E.stands D.tells self.old.core (D.seen disk.old))
-            (λ home past. Fails (CoreStands E.stands D.tells self.new.core (D.seen disk.new)) why self.old self.new home past)) }
+        requires own { IsOwnEvent event }
+        requires may { SomePast (StandsNoted E.stands D.tells self.old (D.seen disk.old)) (CanStep event) }
+        ensures answered { IfOk result (λ answer. EachPast (StandsNoted E.stands D.tells self.old (D.seen disk.old)) (λ home past. CanStep event home past
+            → Hands (StandsNoted E.stands D.tells self.new (D.seen disk.new)) self.old self.new answer home past (site_line home past event))) }
+        ensures failed { IfErr result (λ why. EachPast (StandsNoted E.stands D.tells self.old (D.seen disk.old)) (λ home past. CanStep event home past
+            → Fails (StandsNoted E.stands D.tells self.new (D.seen disk.new)) (CoreStands E.stands D.tells self.new.core (D.seen disk.new)) why self.old self.new event home past)) }
         ensures cause { IsErrOf result StepErr.Disk → HasRisen ((D.seen disk.old).faults) ((D.seen disk.new).faults) }
         ensures faults { (D.seen disk.old).faults ≤ (D.seen disk.new).faults }
         ensures site { self.new.site ≡ self.old.site }
     {
+        let Ok(()) = self.commits.reserve(1) else {
+            return Err(StepErr::Memory);
+        };
+        let before = self.core.records().len();
         match self.core.step(alloc, disk, event) {
             Ok(step) => {
+                note_last(&mut self.commits, self.core.records(), before);
                 self.heeds(&step.answer);
                 Ok(step.answer)
             }
@@ -159,10 +172,10 @@ impl<E: LocalEngine> LocalSite<E> {
         requires own { IsOwn command }
         requires at_site { IsAtSite command }
         requires stood { SomeCommands (LocalStands E.stands D.tells D.seen self.old disk.old scenario.now) (NumbersFit command) }
-        ensures told { IfOk result (λ answer. EachCommands (LocalStands E.stands D.tells D.seen self.old disk.old scenario.now)
+        ensures told { IfOk result (λ answer. EachFitting (LocalStands E.stands D.tells D.seen self.old disk.old scenario.now) (NumbersFit command)
             (λ commands. IsTold (LocalStands E.stands D.tells D.seen self.new disk.new scenario.now) scenario.now commands command answer)) }
-        ensures failed { IfErr result (λ why. EachCommands (LocalStands E.stands D.tells D.seen self.old disk.old scenario.now)
-            (IsUntold (LocalStands E.stands D.tells D.seen self.new disk.new scenario.now) (CoreStands E.stands D.tells self.new.core (D.seen disk.new)) scenario.now why)) }
+        ensures failed { IfErr result (λ why. EachFitting (LocalStands E.stands D.tells D.seen self.old disk.old scenario.now) (NumbersFit command)
+            (IsUntold (LocalStands E.stands D.tells D.seen self.new disk.new scenario.now) (CoreStands E.stands D.tells self.new.core (D.seen disk.new)) scenario.now command why)) }
         ensures cause { IsErrOf result StepErr.Disk → HasRisen ((D.seen disk.old).faults) ((D.seen disk.new).faults) }
         ensures faults { (D.seen disk.old).faults ≤ (D.seen disk.new).faults }
         ensures site { self.new.site ≡ self.old.site }
@@ -178,6 +191,7 @@ impl<E: LocalEngine> LocalSite<E> {
                 self.trip(alloc, scenario, disk, actor, calls, cut)
             }
             Command::Back { actor } => self.back(alloc, scenario, disk, actor),
+            Command::Check { actor } => self.check(alloc, scenario, disk, actor),
             _ => unreachable!(),
         }
     }

@@ -5,7 +5,7 @@ ghost use Rattle.fed_rules.specs.Reports.{report_of};
 ghost use Rattle.fed_rules.specs.Story.{coord_past, story_of};
 ghost use Rattle.fed_world.specs.Stands.{EachCommands, IsUpAlone, LocalHolds, SomeCommands};
 
-use crate::commits::{Numbered, committed_by_number};
+use crate::commits::Numbered;
 use crate::local_site::LocalSite;
 use crate::local_tx::LocalTx;
 use crate::places::{sites, transactions};
@@ -82,8 +82,7 @@ impl<E: LocalEngine> LocalSite<E> {
     {
         tables_of_running_sites();
         each_site_of_a_story_is_serial();
-        let commits = committed_by_number(alloc, self.core.records())?;
-        let order = members(alloc, commits.as_slice())?;
+        let order = members(alloc, self.commits.as_slice())?;
         let reads = all_reads(
             alloc,
             transactions(scenario),

@@ -9,9 +9,8 @@ ghost use Rattle.site_core.specs.Stands.{Holds as CoreHolds, Stands as CoreStand
 ghost use Rattle.site_core.specs.Steps.{EachPast};
 ghost use Rattle.fed_rules.specs.SitePast.{live_of_tx};
 ghost use Rattle.fed_rules.specs.Story.{attempt, unless_begun};
-ghost use Rattle.fed_world.specs.Stands.{AnyCommands, EachCommands, IsShort, IsTold, IsUntold, LocalStands, SomeCommands};
+ghost use Rattle.fed_world.specs.Stands.{AnyCommands, EachFitting, IsShort, IsTold, IsUntold, LocalStands, SomeCommands};
 
-use crate::commits::committed_of;
 use crate::local_site::LocalSite;
 use crate::places::{place_of, program_at, transactions};
 use engine_contract::LocalEngine;
@@ -34,7 +33,7 @@ impl<E: LocalEngine> LocalSite<E> {
         if self.core.is_down() {
             return Answer::Down;
         }
-        match committed_of(self.core.records(), tx) {
+        match self.core.committed(tx) {
             Some(committed) => Answer::Committed(committed),
             None => match live {
                 Some(attempt) => Answer::Running(Tid { tx, attempt }),
@@ -53,10 +52,10 @@ impl<E: LocalEngine> LocalSite<E> {
     ) -> Result<Answer, StepErr>
         requires told { IsTrue D.tells }
         requires stood { SomeCommands (LocalStands E.stands D.tells D.seen self.old disk.old scenario.now) IsShort }
-        ensures told { IfOk result (λ answer. EachCommands (LocalStands E.stands D.tells D.seen self.old disk.old scenario.now)
+        ensures told { IfOk result (λ answer. EachFitting (LocalStands E.stands D.tells D.seen self.old disk.old scenario.now) IsShort
             (λ commands. IsTold (LocalStands E.stands D.tells D.seen self.new disk.new scenario.now) scenario.now commands (Cmd.Begin tx) answer)) }
-        ensures failed { IfErr result (λ why. EachCommands (LocalStands E.stands D.tells D.seen self.old disk.old scenario.now)
-            (IsUntold (LocalStands E.stands D.tells D.seen self.new disk.new scenario.now) (CoreStands E.stands D.tells self.new.core (D.seen disk.new)) scenario.now why)) }
+        ensures failed { IfErr result (λ why. EachFitting (LocalStands E.stands D.tells D.seen self.old disk.old scenario.now) IsShort
+            (IsUntold (LocalStands E.stands D.tells D.seen self.new disk.new scenario.now) (CoreStands E.stands D.tells self.new.core (D.seen disk.new)) scenario.now (Cmd.Begin tx) why)) }
         ensures cause { IsErrOf result StepErr.Disk → HasRisen ((D.seen disk.old).faults) ((D.seen disk.new).faults) }
         ensures faults { (D.seen disk.old).faults ≤ (D.seen disk.new).faults }
         ensures site { self.new.site ≡ self.old.site }
@@ -88,10 +87,10 @@ impl<E: LocalEngine> LocalSite<E> {
     ) -> Result<Answer, StepErr>
         requires told { IsTrue D.tells }
         requires stood { SomeCommands (LocalStands E.stands D.tells D.seen self.old disk.old scenario.now) IsShort }
-        ensures told { IfOk result (λ answer. EachCommands (LocalStands E.stands D.tells D.seen self.old disk.old scenario.now)
+        ensures told { IfOk result (λ answer. EachFitting (LocalStands E.stands D.tells D.seen self.old disk.old scenario.now) IsShort
             (λ commands. IsTold (LocalStands E.stands D.tells D.seen self.new disk.new scenario.now) scenario.now commands (Cmd.Step tx) answer)) }
-        ensures failed { IfErr result (λ why. EachCommands (LocalStands E.stands D.tells D.seen self.old disk.old scenario.now)
-            (IsUntold (LocalStands E.stands D.tells D.seen self.new disk.new scenario.now) (CoreStands E.stands D.tells self.new.core (D.seen disk.new)) scenario.now why)) }
+        ensures failed { IfErr result (λ why. EachFitting (LocalStands E.stands D.tells D.seen self.old disk.old scenario.now) IsShort
+            (IsUntold (LocalStands E.stands D.tells D.seen self.new disk.new scenario.now) (CoreStands E.stands D.tells self.new.core (D.seen disk.new)) scenario.now (Cmd.Step tx) why)) }
         ensures cause { IsErrOf result StepErr.Disk → HasRisen ((D.seen disk.old).faults) ((D.seen disk.new).faults) }
         ensures faults { (D.seen disk.old).faults ≤ (D.seen disk.new).faults }
         ensures site { self.new.site ≡ self.old.site }
@@ -129,10 +128,10 @@ impl<E: LocalEngine> LocalSite<E> {
     ) -> Result<Answer, StepErr>
         requires told { IsTrue D.tells }
         requires stood { SomeCommands (LocalStands E.stands D.tells D.seen self.old disk.old scenario.now) IsShort }
-        ensures told { IfOk result (λ answer. EachCommands (LocalStands E.stands D.tells D.seen self.old disk.old scenario.now)
+        ensures told { IfOk result (λ answer. EachFitting (LocalStands E.stands D.tells D.seen self.old disk.old scenario.now) IsShort
             (λ commands. IsTold (LocalStands E.stands D.tells D.seen self.new disk.new scenario.now) scenario.now commands (Cmd.Commit tx) answer)) }
-        ensures failed { IfErr result (λ why. EachCommands (LocalStands E.stands D.tells D.seen self.old disk.old scenario.now)
-            (IsUntold (LocalStands E.stands D.tells D.seen self.new disk.new scenario.now) (CoreStands E.stands D.tells self.new.core (D.seen disk.new)) scenario.now why)) }
+        ensures failed { IfErr result (λ why. EachFitting (LocalStands E.stands D.tells D.seen self.old disk.old scenario.now) IsShort
+            (IsUntold (LocalStands E.stands D.tells D.seen self.new disk.new scenario.now) (CoreStands E.stands D.tells self.new.core (D.seen disk.new)) scenario.now (Cmd.Commit tx) why)) }
         ensures cause { IsErrOf result StepErr.Disk → HasRisen ((D.seen disk.old).faults) ((D.seen disk.new).faults) }
         ensures faults { (D.seen disk.old).faults ≤ (D.seen disk.new).faults }
         ensures site { self.new.site ≡ self.old.site }
@@ -167,10 +166,10 @@ impl<E: LocalEngine> LocalSite<E> {
     ) -> Result<Answer, StepErr>
         requires told { IsTrue D.tells }
         requires stood { SomeCommands (LocalStands E.stands D.tells D.seen self.old disk.old scenario.now) AnyCommands }
-        ensures told { IfOk result (λ answer. EachCommands (LocalStands E.stands D.tells D.seen self.old disk.old scenario.now)
+        ensures told { IfOk result (λ answer. EachFitting (LocalStands E.stands D.tells D.seen self.old disk.old scenario.now) AnyCommands
             (λ commands. IsTold (LocalStands E.stands D.tells D.seen self.new disk.new scenario.now) scenario.now commands (Cmd.Abort tx) answer)) }
-        ensures failed { IfErr result (λ why. EachCommands (LocalStands E.stands D.tells D.seen self.old disk.old scenario.now)
-            (IsUntold (LocalStands E.stands D.tells D.seen self.new disk.new scenario.now) (CoreStands E.stands D.tells self.new.core (D.seen disk.new)) scenario.now why)) }
+        ensures failed { IfErr result (λ why. EachFitting (LocalStands E.stands D.tells D.seen self.old disk.old scenario.now) AnyCommands
+            (IsUntold (LocalStands E.stands D.tells D.seen self.new disk.new scenario.now) (CoreStands E.stands D.tells self.new.core (D.seen disk.new)) scenario.now (Cmd.Abort tx) why)) }
         ensures cause { IsErrOf result StepErr.Disk → HasRisen ((D.seen disk.old).faults) ((D.seen disk.new).faults) }
         ensures faults { (D.seen disk.old).faults ≤ (D.seen disk.new).faults }
         ensures site { self.new.site ≡ self.old.site }
@@ -201,10 +200,10 @@ impl<E: LocalEngine> LocalSite<E> {
     ) -> Result<Answer, StepErr>
         requires told { IsTrue D.tells }
         requires stood { SomeCommands (LocalStands E.stands D.tells D.seen self.old disk.old scenario.now) AnyCommands }
-        ensures told { IfOk result (λ answer. EachCommands (LocalStands E.stands D.tells D.seen self.old disk.old scenario.now)
+        ensures told { IfOk result (λ answer. EachFitting (LocalStands E.stands D.tells D.seen self.old disk.old scenario.now) AnyCommands
             (λ commands. IsTold (LocalStands E.stands D.tells D.seen self.new disk.new scenario.now) scenario.now commands (Cmd.Fate tx) answer)) }
-        ensures failed { IfErr result (λ why. EachCommands (LocalStands E.stands D.tells D.seen self.old disk.old scenario.now)
-            (IsUntold (LocalStands E.stands D.tells D.seen self.new disk.new scenario.now) (CoreStands E.stands D.tells self.new.core (D.seen disk.new)) scenario.now why)) }
+        ensures failed { IfErr result (λ why. EachFitting (LocalStands E.stands D.tells D.seen self.old disk.old scenario.now) AnyCommands
+            (IsUntold (LocalStands E.stands D.tells D.seen self.new disk.new scenario.now) (CoreStands E.stands D.tells self.new.core (D.seen disk.new)) scenario.now (Cmd.Fate tx) why)) }
         ensures cause { IsErrOf result StepErr.Disk → HasRisen ((D.seen disk.old).faults) ((D.seen disk.new).faults) }
         ensures faults { (D.seen disk.old).faults ≤ (D.seen disk.new).faults }
         ensures site { self.new.site ≡ self.old.site }

@@ -6,7 +6,7 @@ ghost use Rattle.fed_rules.specs.Story.{story_of, lines_of};
 ghost use Rattle.fed_rules.specs.Closing.{closed};
 ghost use Rattle.fed_world.specs.Calls.{IsAnswered, IsUnanswered, error_of};
 ghost use Rattle.fed_world.specs.Closings.{HasRoom, all_cleared, all_disarmed, all_up, armed_number, down_number, live_tids};
-ghost use Rattle.fed_world.specs.Worlds.{AllUp, AnyStory, AreEmpty, CanApply, CanClose, CanStart, EachStory, Fails, FailsToClose, FailsToStart, FailsToward, HasCause, HasLines, NeverFalls, Recalls, SomeStory, Stands};
+ghost use Rattle.fed_world.specs.Worlds.{AllUp, AnyStory, AreEmpty, CanApply, CanClose, CanStart, EachStory, FailsAt, FailsToClose, FailsToStart, FailsToward, HasCause, HasLines, NeverFalls, Recalls, SomeStory, Stands};
 
 use crate::errors::WorldErr;
 use crate::live::live_tids;
@@ -94,7 +94,7 @@ impl<E: LocalEngine> World<E> {
         ensures answered { IfOk result (λ answer. EachStory (Stands E.stands D.tells D.seen self.old disks.old.items)
             (IsAnswered E.stands D.tells D.seen self.new.site disks.new.items command answer)) }
         ensures failed { IfErr result (λ why. EachStory (Stands E.stands D.tells D.seen self.old disks.old.items)
-            (IsUnanswered E.stands D.tells D.seen why self.new.site disks.new.items)) }
+            (IsUnanswered E.stands D.tells D.seen why self.new.site disks.new.items command)) }
         ensures scenario { self.new.scenario ≡ self.old.scenario }
         ensures lines { self.new.lines ≡ self.old.lines }
         ensures broken { self.new.broken ≡ self.old.broken }
@@ -114,7 +114,7 @@ impl<E: LocalEngine> World<E> {
     }
 
     /// Carries out a command of a local transaction or of a site, and adds its line. Without memory all stays as it was. Where a disk
-    /// call fails the world is broken, and there is no line.
+    /// call fails the world is broken, there is no line, and the disk holds what some stop within the command's event leaves.
     pub fn apply<D: Disk>(
         &mut self,
         alloc: Global,
@@ -126,7 +126,7 @@ impl<E: LocalEngine> World<E> {
         ensures applied { OnOk result (EachStory (Stands E.stands D.tells D.seen self.old disks.old.items)
             (λ scenario commands. Stands E.stands D.tells D.seen self.new disks.new.items scenario (command ∷ commands))) }
         ensures failed { IfErr result (λ why. EachStory (Stands E.stands D.tells D.seen self.old disks.old.items)
-            (Fails E.stands D.tells D.seen why self.new disks.new.items)) }
+            (FailsAt E.stands D.tells D.seen why self.new disks.new.items command)) }
         ensures cause { IfErr result (λ why. HasCause D.seen why disks.old.items disks.new.items) }
         ensures faults { NeverFalls D.seen disks.old.items disks.new.items }
     {

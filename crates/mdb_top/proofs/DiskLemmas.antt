@@ -1,20 +1,21 @@
 -- What the disks of a session with one site at most hold: the site's disk what the rules say, and each other disk nothing.
 use Rattle.std.proofs.Common.{◌≡◌, ℕ, ◌==◌, Bool, true, false, IsTrue, Option, Some, None, List, [], ◌∷◌, ◌++◌, length, map, reverse, slice_get, refl, sym, ◌∙◌, ap, subst, arith}
-use Rattle.std.proofs.lemmas.Bool.{cond-false, eqb-true, eqb-false, eq-eqb, ne_eqb}
+use Rattle.std.proofs.lemmas.Bool.{cond-false, not-true, eqb-true, eqb-false, eq-eqb, ne_eqb}
 use Rattle.std.proofs.lemmas.List.{append-nil, length-append}
 use Rattle.order_laws.proofs.Names.{same_site_alike}
+use Rattle.fed_rules.specs.declared.events.SiteEvent.{SiteEvent}
 use Rattle.fed_rules.specs.declared.records.SiteRecord.{SiteRecord}
 use Rattle.fed_rules.specs.declared.scenario.Scenario.{Scenario}
 use Rattle.fed_rules.specs.declared.scenario.SiteLine.{SiteLine}
 use Rattle.fed_rules.specs.Disk.{Disk, empty_disk, journal}
-use Rattle.fed_rules.specs.Happenings.{Trip, stopped}
+use Rattle.fed_rules.specs.Happenings.{Trip}
 use Rattle.fed_rules.specs.Runs.{Start, EngineLine}
 use Rattle.fed_rules.specs.Scenarios.{home_in, home_of}
-use Rattle.fed_rules.specs.Site.{answered}
 use Rattle.fed_rules.specs.SitePast.{SitePast, disk}
 use Rattle.fed_rules.specs.SiteRecords.{Home, site_frame}
 use Rattle.fed_rules.specs.Story.{Story, past_of}
-use Rattle.fed_world.specs.Stands.{IsCut}
+use Rattle.fed_world.specs.Stands.{IsCutAt}
+use Rattle.frame_journal.specs.Journal.{Kept}
 use Rattle.frame_journal.specs.Records.{AreRecordsOf, as_written, entry_frame, spelled, spelled_size}
 use Rattle.frame_journal.proofs.Keeping.{length-frames, none_is_part, not_torn}
 use Rattle.journal_disk.specs.Disk.{Image, Seen}
@@ -23,13 +24,15 @@ use Rattle.journal_rules.specs.Stands.{record_frame}
 use Rattle.site_core.specs.declared.site.SiteCore.{SiteCore}
 use Rattle.actor_store.specs.declared.store.Standing.{Standing}
 use Rattle.actor_store.specs.declared.store.Standing.TheVariants.{Up, Down, Failing}
-use Rattle.site_core.specs.Stands.{Stands as CoreStands}
-use Rattle.site_core.specs.Store.{Keeps, Store, stopped_disk}
+use Rattle.site_core.specs.Stands.{Stands as CoreStands, stopped_past}
+use Rattle.site_core.specs.Store.{Keeps, Store}
+use Rattle.site_core.proofs.Founded.{all_within}
 use Rattle.site_core.proofs.NewStore.{keeps_bytes}
 use Rattle.actor_store.specs.Store.{IsInOrder, is_up, stored}
 use Rattle.site_journal.specs.Spelling.{spelling}
 use Rattle.session_laws.specs.Sessions.{home_from}
 use Rattle.session_laws.proofs.OneSite.{one_home}
+use Rattle.mdb_top.proofs.CutStops.{stopped_first}
 use Rattle.mdb_top.specs.Disks.{HoldAll, HoldFrames, HoldNothing, HoldOthers, HoldsBytes, StopsWithin, disk_at, disk_of, frames_at, frames_of}
 
 -- a list without items
@@ -90,12 +93,20 @@ keeps_frames tells seen store rules in_force told sized up k =
     untorn Down e o = absurd cc
     untorn Failing e o = absurd cc
 
+-- while its site is down all that a disk holds is synced
+at_rest : (kept : Kept SiteRecord) (rules : Disk SiteRecord) (standing : Standing) → is_up standing ≡ false → IsInOrder standing kept rules → rules.synced ≡ rules.length
+at_rest kept rules Up e o = cc
+at_rest kept rules Down e o = o
+at_rest kept rules Failing e o = o
+
 -- what a cut event leaves is some stop within it
 pub cut_stops : {E D : Type 0} (stands : E → Start → List EngineLine → Type 0) (tells : Bool) (seen : D → Seen) (core : SiteCore E) (one : D) (home : Home) (past : SitePast)
-    → IsCut (CoreStands stands tells core (seen one)) home past → StopsWithin ((seen one).image) home past
-unfolding stopped
-cut_stops stands tells seen core one home past (event, n, cut, stood) =
-    (event, (n, cut, keeps_bytes tells (seen one) core.store (stopped_disk n cut (disk home past) (answered home past event).calls) _ stood.stored))
+    → (event : SiteEvent) → IsCutAt (CoreStands stands tells core (seen one)) event home past → StopsWithin ((seen one).image) home past
+cut_stops stands tells seen core one home past event c =
+    let there = stopped_past home past event c.at in
+    let still : is_up core.store.standing ≡ false = not-true (is_up core.store.standing) (sym c.stood.holds.memory.standing ∙ c.down) in
+    let (n, (cut, is)) = stopped_first home past event c.at c.own (at_rest (stored core.store).journal (disk home there) core.store.standing still c.stood.stored.in_order) (all_within home there) in
+    (event, (n, cut, subst (λ (d : Disk SiteRecord). HoldsBytes ((seen one).image) d) is (keeps_bytes tells (seen one) core.store (disk home there) _ c.stood.stored)))
 
 -- each disk but this one has no byte
 abbrev pub OthersNothing : {D : Type 0} → (D → Seen) → ℕ → List D → Type 0

@@ -1,4 +1,5 @@
 mod Commands
+mod CutStops
 mod DiskLemmas
 mod FitStories
 mod Fits

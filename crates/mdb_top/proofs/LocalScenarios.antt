@@ -1,4 +1,4 @@
--- A scenario that runs here has one locking site with its local transactions, or nothing.
+-- A scenario that runs here has one site with its local transactions, or nothing.
 use Rattle.std.proofs.Common.{◌≡◌, ◌<◌, Bool, true, false, not, ◌||◌, is_some, Option, Some, None, List, [], ◌∷◌, length, map, slice_get, inl, inr, refl, sym, ◌∙◌, ap, subst, eq-eqb, arith}
 use Rattle.std.specs.List.{list_all}
 use Rattle.std.proofs.lemmas.Bool.{and_parts, or_left, or_right}
@@ -16,7 +16,7 @@ use Rattle.fed_rules.specs.declared.scenario.TxLine.{TxLine}
 use Rattle.fed_rules.specs.Plans.{IsScenario, all_differ, one_transaction, is_declared, is_in_place, is_transaction}
 use Rattle.session_laws.specs.Sessions.{IsAlone}
 use Rattle.order_laws.proofs.Names.{same_site_alike}
-use Rattle.mdb_top.specs.Verdicts.{is_locking, is_one_site, is_local}
+use Rattle.mdb_top.specs.Verdicts.{is_one_site, is_local}
 
 -- no two lines of one transaction
 among_numbers : (x : TxLine) (xs : List TxLine) → In x.tx (map (λ line. line.tx) xs) → some_of (one_transaction x) xs ≡ true
@@ -72,22 +72,12 @@ pub no_locals : (scenario : Scenario) → IsScenario scenario → scenario.sites
 no_locals scenario whole e local =
     none_declared scenario.transactions local (subst (λ sites. each_of (is_transaction sites) scenario.transactions ≡ true) e whole.transactions.in_place) whole.transactions.programs
 
-locks : (engine : Engine) → is_locking engine ≡ true → engine ≡ Locking
-locks Locking e = refl
-locks Timestamp e = absurd cc
-locks Validation e = absurd cc
-locks Multiversion e = absurd cc
-
 -- the first line is the only one
-pub record IsOnly (sites : List SiteLine) (line : SiteLine) : Type 0 where
-  pub sites_are : sites ≡ line ∷ []
-  pub locking : line.engine ≡ Locking
-
-pub the_site : (sites : List SiteLine) (line : SiteLine) → is_one_site sites ≡ true → slice_get sites 0 ≡ Some line → IsOnly sites line
+pub the_site : (sites : List SiteLine) (line : SiteLine) → is_one_site sites ≡ true → slice_get sites 0 ≡ Some line → sites ≡ line ∷ []
 the_site [] line one e = absurd cc
 the_site (site ∷ []) line one e =
     let same : site ≡ line = cc in
-    record { sites_are = ap (λ s. s ∷ []) same; locking = locks line.engine (ap (λ (s : SiteLine). is_locking s.engine) (sym same) ∙ one) }
+    ap (λ s. s ∷ []) same
 the_site (site ∷ other ∷ sites) line one e = absurd cc
 
 -- its transactions are local there

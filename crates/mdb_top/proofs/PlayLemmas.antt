@@ -12,8 +12,9 @@ use Rattle.fed_rules.specs.Plans.{IsScenario}
 use Rattle.fed_rules.specs.Runs.{Start, EngineLine}
 use Rattle.fed_world.specs.declared.errors.WorldErr.{WorldErr}
 use Rattle.fed_world.specs.declared.world.World.{World}
-use Rattle.fed_world.specs.Worlds.{CanApply, CanClose, EachStory, Fails, FailsToClose, SomeStory, Stands}
+use Rattle.fed_world.specs.Worlds.{CanApply, CanClose, EachStory, FailsAt, FailsToClose, SomeStory, Stands}
 use Rattle.fed_world.specs.Stands.{NumbersFit}
+use Rattle.fed_world.proofs.Towards.{fails_some}
 use Rattle.journal_disk.specs.Disk.{Seen}
 use Rattle.local_laws.specs.Sound.{IsOwn}
 use Rattle.session_laws.specs.Closing.{IsAtSite}
@@ -87,7 +88,7 @@ numbers_fit (Cmd.Begin tx) commands here few = few
 numbers_fit (Cmd.Step tx) commands here few = few
 numbers_fit (Cmd.Commit tx) commands here few = few
 numbers_fit (Cmd.Abort tx) commands here few = tt
-numbers_fit (Cmd.Fate tx) commands here few = few
+numbers_fit (Cmd.Fate tx) commands here few = tt
 numbers_fit (Cmd.Go tx) commands here few = few
 numbers_fit (Cmd.Again tid) commands here few = few
 numbers_fit (Cmd.Late tid) commands here few = few
@@ -95,10 +96,10 @@ numbers_fit (Cmd.Give site place) commands here few = few
 numbers_fit (Cmd.Take site place) commands here few = few
 numbers_fit (Cmd.Ask site tid) commands here few = few
 numbers_fit (Cmd.Drop site tid) commands here few = few
-numbers_fit (Cmd.Halt actor cut) commands here few = few
-numbers_fit (Cmd.Trip actor calls cut) commands here few = few
+numbers_fit (Cmd.Halt actor cut) commands here few = tt
+numbers_fit (Cmd.Trip actor calls cut) commands here few = tt
 numbers_fit (Cmd.Back actor) commands here few = few
-numbers_fit (Cmd.Check actor) commands here few = absurd cc
+numbers_fit (Cmd.Check actor) commands here few = tt
 
 -- the next command may be carried out
 pub can_apply : {E D : Type 0} (stands : E → Start → List EngineLine → Type 0) (tells : Bool) (seen : D → Seen) (old : World E) (old_disks : List D) (now : World E) (now_disks : List D) (all : List Command) (place : ℕ) (command : Command)
@@ -117,18 +118,18 @@ can_apply stands tells seen old old_disks now now_disks all place command some s
     }
 
 -- at the next command the world fails
-pub fails_at : {E D : Type 0} (stands : E → Start → List EngineLine → Type 0) (tells : Bool) (seen : D → Seen) (old : World E) (old_disks : List D) (now : World E) (now_disks : List D) (new : World E) (new_disks : List D) (why : WorldErr) (all : List Command) (place : ℕ)
+pub fails_at : {E D : Type 0} (stands : E → Start → List EngineLine → Type 0) (tells : Bool) (seen : D → Seen) (old : World E) (old_disks : List D) (now : World E) (now_disks : List D) (new : World E) (new_disks : List D) (why : WorldErr) (all : List Command) (place : ℕ) (command : Command)
     → SomeStory (Stands stands tells seen old old_disks) (CanPlay all) → HasPlayed stands tells seen old old_disks now now_disks (take place all)
-    → EachStory (Stands stands tells seen now now_disks) (Fails stands tells seen why new new_disks)
+    → EachStory (Stands stands tells seen now now_disks) (FailsAt stands tells seen why new new_disks command)
     → EachStory (Stands stands tells seen old old_disks) (FailsToPlay stands tells seen why new new_disks all)
-fails_at stands tells seen old old_disks now now_disks new new_disks why all place some so_far fails scenario before stood =
+fails_at stands tells seen old old_disks now now_disks new new_disks why all place command some so_far fails scenario before stood =
     let front = closed_front stands tells seen old old_disks all scenario before some stood in
     let done = with_commands (take place all) before in
     record {
       done = done;
       left = front.0 ++ reverse (drop place all);
       of_session = front.1 ∙ ap (λ cs. front.0 ++ cs) (first_ones all place before) ∙ sym (append_assoc front.0 (reverse (drop place all)) done);
-      fails = fails scenario done (so_far scenario before stood);
+      fails = fails_some stands tells seen why new new_disks command scenario done (fails scenario done (so_far scenario before stood));
     }
 
 -- behind the last command the session may be closed

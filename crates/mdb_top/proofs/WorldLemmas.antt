@@ -43,7 +43,7 @@ recalls_part stands tells seen (Some site) disks scenario commands p = record {
   line = p.stood.line;
   alone = p.stood.alone;
   own = p.stood.own;
-  at = record { stood = p.stood.at.stood.holds; number = p.stood.at.number; places = p.stood.at.places; kept = p.stood.at.kept; tripped = p.stood.at.tripped };
+  at = record { stood = record { stood = p.stood.at.stood.stood.holds; own = p.stood.at.stood.own; committed = p.stood.at.stood.committed }; number = p.stood.at.number; places = p.stood.at.places; kept = p.stood.at.kept; tripped = p.stood.at.tripped };
 }
 
 pub stands_recalls : {E D : Type 0} (stands : E → Start → List EngineLine → Type 0) (tells : Bool) (seen : D → Seen) (world : World E) (disks : List D) (scenario : Scenario) (commands : List Command)
@@ -71,7 +71,7 @@ part_holds_all {E} {D} stands tells seen (Some site) disks scenario commands siz
     let s = p.stood in
     let number : site.site.0 ≡ s.line.site.0 = ap (λ n. n.0) s.at.number in
     one_hold_all seen disks scenario s.line (story_of scenario commands) p.disk s.alone.sites (subst (λ n. slice_get disks n ≡ Some p.disk) number p.own)
-    (keeps_bytes tells (seen p.disk) site.core.store _ _ s.at.stood.stored)
+    (keeps_bytes tells (seen p.disk) site.core.store _ _ s.at.stood.stood.stored)
     (others_nothing seen s.line.site.0 disks sized (λ place one at apart. o.empty place one at (λ same. apart (same ∙ number))))
 
 pub stands_hold_all : {E D : Type 0} (stands : E → Start → List EngineLine → Type 0) (tells : Bool) (seen : D → Seen) (world : World E) (disks : List D) (scenario : Scenario) (commands : List Command)
@@ -86,9 +86,9 @@ part_holds_frames stands tells seen None disks scenario commands told sized up p
 part_holds_frames {E} {D} stands tells seen (Some site) disks scenario commands told sized up p o =
     let s = p.stood in
     let number : site.site.0 ≡ s.line.site.0 = ap (λ n. n.0) s.at.number in
-    let runs = not-false (is_up site.core.store.standing) (sym s.at.stood.holds.standing ∙ up s.line s.alone) in
+    let runs = not-false (is_up site.core.store.standing) (sym s.at.stood.stood.holds.memory.standing ∙ up s.line s.alone) in
     one_hold_frames seen disks scenario s.line (story_of scenario commands) p.disk s.alone.sites (subst (λ n. slice_get disks n ≡ Some p.disk) number p.own)
-    (keeps_frames tells (seen p.disk) site.core.store _ _ told (sized p.disk) runs s.at.stood.stored)
+    (keeps_frames tells (seen p.disk) site.core.store _ _ told (sized p.disk) runs s.at.stood.stood.stored)
     (others_nothing seen s.line.site.0 disks sized (λ place one at apart. o.empty place one at (λ same. apart (same ∙ number))))
 
 pub stands_hold_frames : {E D : Type 0} (stands : E → Start → List EngineLine → Type 0) (tells : Bool) (seen : D → Seen) (world : World E) (disks : List D) (scenario : Scenario) (commands : List Command)
@@ -106,10 +106,10 @@ set_up_breaks seen number old new scenario sized b rose = record {
 }
 
 -- and within the event of a command
-part_breaks : {E D : Type 0} (stands : E → Start → List EngineLine → Type 0) (tells : Bool) (seen : D → Seen) (number : ℕ) (site : Option (LocalSite E)) (old new : List D) (scenario : Scenario) (commands : List Command)
-    → AreSized seen → PartBroke stands tells seen number site new scenario commands → OthersEmpty seen site new → RoseAt seen number old new → BreaksAt seen number old new scenario commands
-part_breaks stands tells seen number None old new scenario commands sized b o rose = absurd b
-part_breaks stands tells seen number (Some site) old new scenario commands sized b o rose =
+part_breaks : {E D : Type 0} (stands : E → Start → List EngineLine → Type 0) (tells : Bool) (seen : D → Seen) (number : ℕ) (site : Option (LocalSite E)) (old new : List D) (command : Command) (scenario : Scenario) (commands : List Command)
+    → AreSized seen → PartBroke stands tells seen number site new command scenario commands → OthersEmpty seen site new → RoseAt seen number old new → BreaksAt seen number old new scenario commands
+part_breaks stands tells seen number None old new command scenario commands sized b o rose = absurd b
+part_breaks stands tells seen number (Some site) old new command scenario commands sized b o rose =
     let same : site.site.0 ≡ number = ap (λ n. n.0) b.site_is ∙ sym b.number_is in
     record {
       rose = rose;
@@ -118,16 +118,16 @@ part_breaks stands tells seen number (Some site) old new scenario commands sized
         declared = own_home scenario b.line number b.alone.sites b.number_is;
         one = b.disk;
         own = b.own;
-        stop = inl (cut_stops stands tells seen site.core b.disk (home_from scenario b.line) (past_of b.line.site (story_of scenario commands)) b.cut);
+        stop = inl (cut_stops stands tells seen site.core b.disk (home_from scenario b.line) (past_of b.line.site (story_of scenario commands)) b.cut.event b.cut.cut);
       };
       others = others_hold seen new scenario b.line (story_of scenario commands) number b.alone.sites b.number_is
           (others_nothing seen number new sized (λ place one at apart. o.empty place one at (λ e. apart (e ∙ same))));
     }
 
-pub world_breaks : {E D : Type 0} (stands : E → Start → List EngineLine → Type 0) (tells : Bool) (seen : D → Seen) (number : ℕ) (world : World E) (old new : List D) (scenario : Scenario) (commands : List Command)
-    → AreSized seen → IsBroken stands tells seen number world new scenario commands → RoseAt seen number old new → BreaksAt seen number old new scenario commands
-world_breaks stands tells seen number world old new scenario commands sized b rose =
-    part_breaks stands tells seen number world.site old new scenario commands sized b.site b.others rose
+pub world_breaks : {E D : Type 0} (stands : E → Start → List EngineLine → Type 0) (tells : Bool) (seen : D → Seen) (number : ℕ) (world : World E) (old new : List D) (command : Command) (scenario : Scenario) (commands : List Command)
+    → AreSized seen → IsBroken stands tells seen number world new command scenario commands → RoseAt seen number old new → BreaksAt seen number old new scenario commands
+world_breaks stands tells seen number world old new command scenario commands sized b rose =
+    part_breaks stands tells seen number world.site old new command scenario commands sized b.site b.others rose
 
 -- counts of faults over two calls, between which there were as many disks
 mid_disk : {D : Type 0} (old mid : List D) (place : ℕ) (a : D) → length mid ≡ length old → slice_get old place ≡ Some a → slice_get mid place ≡ Some (get_or mid place a)

@@ -19,24 +19,18 @@ is_replay [] = false
 is_replay (word ∷ []) = bytes_eq word (codes "replay")
 is_replay (word ∷ other ∷ words) = false
 
--- whether the site runs here: so far only locking sites do
-abbrev pub is_locking : Engine → Bool
-is_locking Locking = true
-is_locking Timestamp = false
-is_locking Validation = false
-is_locking Multiversion = false
-
--- whether there is no site, or a single one that locks
+-- whether there is no site, or a single one
 abbrev pub is_one_site : List SiteLine → Bool
 is_one_site [] = true
-is_one_site (site ∷ []) = is_locking site.engine
+is_one_site (site ∷ []) = true
 is_one_site (site ∷ more ∷ sites) = false
 
 -- whether the transaction is local
 abbrev pub is_local : TxLine → Bool
 is_local transaction = is_some transaction.home
 
--- whether the command runs here: so far those of local transactions do, and those that stop, trip or start a site, which isn't actor 0
+-- whether the command runs here: so far those of local transactions do, and those that stop, trip or start a site, which isn't actor 0, or have
+-- it write a Checkpoint
 abbrev pub is_own_command : Command → Bool
 is_own_command (Cmd.Begin tx) = true
 is_own_command (Cmd.Step tx) = true
@@ -46,9 +40,10 @@ is_own_command (Cmd.Fate tx) = true
 is_own_command (Cmd.Halt actor cut) = nat_lt 0 actor
 is_own_command (Cmd.Trip actor calls cut) = nat_lt 0 actor
 is_own_command (Cmd.Back actor) = nat_lt 0 actor
+is_own_command (Cmd.Check actor) = nat_lt 0 actor
 is_own_command command = false
 
--- whether the session runs here: one locking site at most, local transactions alone, and no coordinator
+-- whether the session runs here: one site at most, local transactions alone, and no coordinator
 abbrev pub runs_here : Session → Bool
 runs_here session =
     is_one_site session.scenario.sites && list_all is_local session.scenario.transactions && list_all is_own_command session.commands

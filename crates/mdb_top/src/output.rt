@@ -5,7 +5,7 @@ ghost use Rattle.mdb_base.specs.Words.{Each};
 ghost use Rattle.fed_rules.specs.Closing.{closed};
 ghost use Rattle.fed_rules.specs.Story.{story_of};
 ghost use Rattle.fed_world.specs.Worlds.{CanStart, EachStory, HasCause, NeverFalls, Recalls, SomeStory, Stands};
-ghost use Rattle.locking_engine.specs.Stands.{Stands as EngineStands};
+ghost use Rattle.any_engine.specs.Stands.{Stands as EngineStands};
 ghost use Rattle.scenario_text.specs.Kept.{AreCommands};
 ghost use Rattle.trace_lines.specs.Fits.{line_fits};
 ghost use Rattle.trace_lines.specs.Spelling.{lines_bytes};
@@ -17,11 +17,11 @@ ghost use Rattle.mdb_top.specs.Texts.{disk_failed_text};
 ghost use Rattle.mdb_top.specs.Verdicts as verdicts;
 
 use crate::first_rows::first_rows;
+use any_engine::AnyEngine;
 use engine_contract::LocalEngine;
 use fed_rules::{Command, Line, Scenario};
 use fed_world::{NewSite, World, WorldErr};
 use journal_disk::Disk;
-use locking_engine::LockingEngine;
 use mdb_base::{Memory, Puts, put_number, put_text};
 use report_text::print_report;
 use scenario_text::Session;
@@ -39,7 +39,7 @@ pub(crate) enum Output {
 }
 
 /// The engine of a scenario's site, new and with its first rows, where there is a site.
-fn first_site(alloc: Global, scenario: &Scenario) -> Result<Option<NewSite<LockingEngine>>, Memory>
+fn first_site(alloc: Global, scenario: &Scenario) -> Result<Option<NewSite<AnyEngine>>, Memory>
     requires one { IsTrue (verdicts.is_one_site scenario.now.sites) }
     requires local { IsTrue (list_all verdicts.is_local scenario.now.transactions) }
     ensures { IfOk result (CanStart EngineStands scenario.now) }
@@ -49,7 +49,7 @@ fn first_site(alloc: Global, scenario: &Scenario) -> Result<Option<NewSite<Locki
     }
     let line = scenario.sites.at(0);
     let items = Puts::of(first_rows(alloc, scenario.items.as_slice(), line.site)?);
-    let engine = LockingEngine::new(alloc, &items)?;
+    let engine = AnyEngine::new(alloc, line.engine, &items)?;
     Ok(Some(NewSite { engine, items }))
 }
 

@@ -1,27 +1,16 @@
-//! What runs so far: one locking site at most, local transactions, and the commands that speak of them and of sites.
+//! What runs so far: one site at most, local transactions, and the commands that speak of them and of sites.
 ghost use Rattle.std.specs.Prelude.{◌≡◌};
 ghost use Rattle.std.specs.List.{list_all};
 ghost use Rattle.mdb_top.specs.Verdicts as verdicts;
 
 use fed_rules::{Command, SiteLine, TxLine};
-use mdb_base::Engine;
 use scenario_text::Session;
 
-fn is_locking(engine: Engine) -> bool
-    ensures { result ≡ verdicts.is_locking engine }
-{
-    matches!(engine, Engine::Locking)
-}
-
-/// Whether there is no site, or a single one that locks.
+/// Whether there is no site, or a single one.
 fn is_one_site(sites: &[SiteLine]) -> bool
     ensures { result ≡ verdicts.is_one_site sites.now }
 {
-    match sites {
-        [] => true,
-        [site] => is_locking(site.engine),
-        _ => false,
-    }
+    sites.len() < 2
 }
 
 fn are_local(transactions: &[TxLine]) -> bool
@@ -43,6 +32,7 @@ fn is_own_command(command: Command) -> bool
         Command::Halt { actor, .. } => actor > 0,
         Command::Trip { actor, .. } => actor > 0,
         Command::Back { actor } => actor > 0,
+        Command::Check { actor } => actor > 0,
         _ => false,
     }
 }

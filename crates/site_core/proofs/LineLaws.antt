@@ -1,29 +1,38 @@
--- The next line of a site that is up, for each case of an event of a local attempt.
-use Rattle.std.proofs.Common.{◌≡◌, ℕ, ◌==◌, Bool, true, false, cond, not, ◌&&◌, is_some, Option, Some, None, List, [], ◌∷◌, length, refl, sym, ap, ap₂, ◌∙◌, inl, inr}
-use Rattle.std.proofs.lemmas.Bool.{cond-true, cond-false, and_parts, and_from, eqb-true, eq-eqb}
+-- The next line of a site that is up, for each case of an event of a local attempt; and what the book says of live attempts.
+use Rattle.std.proofs.Common.{◌≡◌, ℕ, zero, suc, ◌≤◌, ◌⊎◌, ◌==◌, Bool, true, false, cond, not, ◌&&◌, ◌||◌, is_some, IsSome, Option, Some, None, List, [], ◌∷◌, length, refl, sym, ap, ap₂, ◌∙◌, inl, inr, arith}
+use Rattle.std.proofs.lemmas.Bool.{cond-true, cond-false, and_parts, and_from}
+use Rattle.std.specs.Borrow.{Bor}
+use Rattle.std.specs.Option.{option_copied}
+use Rattle.std.specs.FinMap.{get}
 use Rattle.mdb_base.specs.declared.acts.PlainAct.{PlainAct}
 use Rattle.mdb_base.specs.declared.names.Tid.{Tid}
 use Rattle.mdb_base.specs.declared.names.Tx.{Tx}
 use Rattle.mdb_base.specs.declared.replies.Why.{Why}
-use Rattle.mdb_base.specs.Names.{same_tx}
+use Rattle.mdb_base.specs.Names.{same_tid, same_tx}
 use Rattle.mdb_base.specs.Words.{first_where, map_some, pick, when}
+use Rattle.mdb_base.proofs.NameLaws.{same_tid-equal}
+use Rattle.fed_rules.specs.declared.answers.Answer.{Answer}
 use Rattle.fed_rules.specs.declared.answers.Answer.TheVariants as Say
 use Rattle.fed_rules.specs.declared.events.SiteEvent.TheVariants as Ev
 use Rattle.fed_rules.specs.EngineLines.{IsLive, IsRight}
 use Rattle.fed_rules.specs.Disk.{Stops}
 use Rattle.fed_rules.specs.Happenings.{is_down, quiet, stopped}
-use Rattle.fed_rules.specs.Runs.{Start, EngineLine, Begins, Acts, Aborts, Refuses, Run, is_sealed, run_at, unended}
-use Rattle.fed_rules.specs.Site.{act_answer, next_number, of_abort, of_act, of_begin, of_commit, of_fate, refusal_answer, reply_to, seals_local, site_line, stop_of, unless_tripped, answered, with_lines}
-use Rattle.fed_rules.specs.SitePast.{SiteHappening, SitePast, attempts_of, disk, engine_lines, epoch_start, live, live_of_tx, live_one, records}
-use Rattle.fed_rules.specs.SiteRecords.{Home, local_of, site_frame}
+use Rattle.fed_rules.specs.declared.runs.Kept.{Kept}
+use Rattle.fed_rules.specs.Runs.{Start, EngineLine, Begins, Acts, Aborts, Refuses, Run, is_sealed, restored, restored_at, run_at, unended}
+use Rattle.fed_rules.specs.Site.{act_answer, answered, next_number, of_abort, of_act, of_begin, of_check, of_commit, of_fate, refusal_answer, reply_to, seals_local, site_line, stop_of, unless_tripped, with_lines}
+use Rattle.fed_rules.specs.SitePast.{SiteHappening, SitePast, attempts_of, begins_tx, disk, engine_lines, epoch_start, live, live_of_tx, live_one, records}
+use Rattle.fed_rules.specs.SiteRecords.{Home, local_of, site_frame, start_of}
 use Rattle.engine_laws.proofs.Runs.{tid_is}
 use Rattle.run_book.proofs.Members.{Is}
 use Rattle.run_book.proofs.Unended.{is-unended, unended-is}
-use Rattle.site_core.specs.declared.attempts.Begun.{Begun}
-use Rattle.site_core.specs.declared.attempts.LiveAttempt.{LiveAttempt}
-use Rattle.site_core.specs.Attempts.{finished, finished_of, live_attempt, noted, running}
-use Rattle.site_core.specs.Runs.{Lists, accesses}
-use Rattle.site_core.proofs.RunsLaws.{listed_lives, not_listed, same_tx-equal, same_tx-refl, tid_at}
+use Rattle.site_book.specs.declared.progress.Progress.{Progress}
+use Rattle.site_book.specs.declared.progress.Progress.TheVariants as Is
+use Rattle.site_book.specs.Noted.{Noted, noted_of}
+use Rattle.site_book.specs.Book.{Book, begun_in, count_of, live_in, live_part, running_in}
+use Rattle.site_book.specs.Follows.{Follows, progress_by}
+use Rattle.site_core.specs.Made.{begins_tid, was_begun, was_global}
+use Rattle.site_core.specs.Notes.{Notes, NotesPast}
+use Rattle.site_core.proofs.NameLaws.{same_tx-equal, same_tx-refl}
 
 module _ (home : Home) (past : SitePast) where
   pub begin_committed : (tid committed : Tid) → local_of (records home past) tid.tx ≡ Some committed → of_begin home past tid ≡ quiet (Ev.Begin tid) (Say.Committed committed)
@@ -85,13 +94,73 @@ module _ (home : Home) (past : SitePast) where
   unfolding of_commit pick
   commit_seals tid run a b = rw (a, b) refl
 
--- what isn't listed isn't live
-pub live_none : (list : List Begun) (home : Home) (past : SitePast) (tid : Tid) → Lists list (epoch_start home past) (engine_lines past) → finished list tid ≡ None → live home past tid ≡ None
-live_none list home past tid l e = ap live_one (not_listed list (epoch_start home past) (engine_lines past) tid l e)
+-- a live run by the lines, where the book has one, and none where it has none
+noted_by : (o : Option Run) (c : Bool) → live_part (progress_by o c) ≡ map_some noted_of (live_one o)
+noted_by None true = refl
+noted_by None false = refl
+noted_by (Some run) c = by_sealed (is_sealed run) where
+  by_sealed : (b : Bool) → live_part (Some (cond b Is.Sealed (Is.Live (noted_of run)))) ≡ map_some noted_of (cond b None (Some run))
+  by_sealed true = refl
+  by_sealed false = refl
 
--- a run that isn't sealed is live
-pub live_run : (home : Home) (past : SitePast) (tid : Tid) (run : Run) → IsLive (epoch_start home past) (engine_lines past) tid run → live home past tid ≡ Some run
-live_run home past tid run is = ap live_one is.0 ∙ cond-false _ _ _ (ap is_some is.1)
+pub noted_live : (book : Book) (start : Start) (lines : List EngineLine) (closed : Tid → Bool) → Follows book start lines closed → (u : Tid) → live_in book u ≡ map_some noted_of (live_one (run_at start lines u))
+noted_live book start lines closed f u = ap live_part (f.attempts u) ∙ noted_by (run_at start lines u) (closed u)
+
+-- what the book has as not live isn't
+pub live_none : (book : Book) (home : Home) (past : SitePast) (tid : Tid) → NotesPast book home past → live_in book tid ≡ None → live home past tid ≡ None
+live_none book home past tid n e = from (live home past tid) (sym (noted_live book _ _ _ n.follows tid) ∙ e) where
+  from : (o : Option Run) → map_some noted_of o ≡ None → o ≡ None
+  from None e = refl
+  from (Some run) e = cc
+
+-- a live run with what is noted of it
+pub record HasLive (book : Book) (home : Home) (past : SitePast) (tid : Tid) : Type 0 where
+  pub run : Run
+  pub live : live home past tid ≡ Some run
+  pub is : IsLive (epoch_start home past) (engine_lines past) tid run
+  pub noted : live_in book tid ≡ Some (noted_of run)
+
+pub live_some : (book : Book) (home : Home) (past : SitePast) (tid : Tid) → NotesPast book home past → is_some (live_in book tid) ≡ true → HasLive book home past tid
+live_some book home past tid n e = from (run_at (epoch_start home past) (engine_lines past) tid) refl (noted_live book _ _ _ n.follows tid) where
+  from : (o : Option Run) → run_at (epoch_start home past) (engine_lines past) tid ≡ o → live_in book tid ≡ map_some noted_of (live_one o) → HasLive book home past tid
+  from None is noted = let none : is_some (live_in book tid) ≡ false = ap is_some noted in cc
+  from (Some run) is noted = by_sealed run.sealed refl noted where
+    by_sealed : (s : Option ℕ) → run.sealed ≡ s → live_in book tid ≡ map_some noted_of (live_one (Some run)) → HasLive book home past tid
+    by_sealed (Some k) sealed noted =
+        let none : live_one (Some run) ≡ None = cond-true _ _ _ (ap is_some sealed) in
+        let none_noted : is_some (live_in book tid) ≡ false = ap is_some (noted ∙ ap (map_some noted_of) none) in
+        cc
+    by_sealed None unsealed noted =
+        let lives : live_one (Some run) ≡ Some run = cond-false _ _ _ (ap is_some unsealed) in
+        record { run = run; live = ap live_one is ∙ lives; is = (is, unsealed); noted = noted ∙ ap (map_some noted_of) lives }
+
+-- what is asked of a look-up in the book
+pub is_there : {A : Type 0} (o : Option (Bor A)) (p : Option A) (t : Bool) → option_copied o ≡ p → is_some o ≡ not t → is_some p ≡ not t
+is_there o p t copied tested = ap is_some (sym copied) ∙ same o ∙ tested where
+  same : {A : Type 0} (o : Option (Bor A)) → is_some (option_copied o) ≡ is_some o
+  same None = refl
+  same (Some r) = refl
+
+pub is_absent : {A : Type 0} (p : Option A) → is_some p ≡ false → p ≡ None
+is_absent None e = refl
+is_absent (Some a) e = cc
+
+-- an attempt that was begun is counted
+begins_counted : (u : Tid) (answer : Answer) → begins_tid u answer ≡ true → begins_tx u.tx answer ≡ true
+begins_counted u (Say.Begun begun) e = (and_parts _ _ e).0
+begins_counted u answer e = cc
+
+pub begun_counted : (past : SitePast) (u : Tid) → was_begun u past ≡ true → 1 ≤ attempts_of past u.tx
+begun_counted [] u e = cc
+begun_counted (x ∷ past) u e = from (begins_tid u x.answer) refl (begins_tx u.tx x.answer) refl (begun_counted past u) where
+  from : (b : Bool) → begins_tid u x.answer ≡ b → (c : Bool) → begins_tx u.tx x.answer ≡ c → (was_begun u past ≡ true → 1 ≤ attempts_of past u.tx) → 1 ≤ cond (begins_tx u.tx x.answer) (suc (attempts_of past u.tx)) (attempts_of past u.tx)
+  from b is true c rest = rw c (omega arith)
+  from true is false c rest = let same = begins_counted u x.answer is in cc
+  from false is false c rest = rw c (rest (sym (ap (λ (t : Bool). t || was_begun u past) is) ∙ e))
+
+pub some_again : (o : Option ℕ) → 1 ≤ count_of o → IsSome o
+some_again None e = absurd (omega arith)
+some_again (Some n) e = refl
 
 -- the first of a list that passes a test
 first-none : {A : Type 0} (test : A → Bool) (xs : List A) → ((x : A) → Is x xs → test x ≡ false) → first_where test xs ≡ None
@@ -106,55 +175,66 @@ first-some test (z ∷ zs) x x_in passes = by_test (test z) refl x_in (λ rest. 
   by_test false e (inl same) rest = let bad : test z ≡ true = ap test same ∙ passes in cc
   by_test false e (inr more) rest = let (y, (y_in, y_passes, first)) = rest more in (y, (inr y_in, y_passes, cond-false _ _ _ e ∙ first))
 
-module _ (list : List Begun) (start : Start) (lines : List EngineLine) (l : Lists list start lines) (right : IsRight start lines) (tx : Tx) where
+-- a live attempt of a local transaction is its running one
+pub local_runs : (book : Book) (home : Home) (past : SitePast) (u : Tid) → NotesPast book home past → ((tx : Tx) → begun_in book tx ≡ attempts_of past tx) → was_global u.tx past ≡ false
+    → is_some (live home past u) ≡ true → running_in book u.tx ≡ Some u
+local_runs book home past u n begun local lives = n.order.running u noted (some_again _ (by_known (n.known u (inr lives)))) where
+  noted_some : (o : Option Run) → is_some o ≡ true → is_some (map_some noted_of o) ≡ true
+  noted_some None e = cc
+  noted_some (Some run) e = refl
+
+  noted : is_some (live_in book u) ≡ true
+  noted = ap is_some (noted_live book _ _ _ n.follows u) ∙ noted_some (live home past u) lives
+
+  by_known : (was_begun u past ≡ true) ⊎ (was_global u.tx past ≡ true) → 1 ≤ begun_in book u.tx
+  by_known (inl b) = let counted = begun_counted past u b in let same = begun u.tx in omega (arith, counted, same)
+  by_known (inr g) = cc
+
+module _ (book : Book) (home : Home) (past : SitePast) (n : NotesPast book home past) (right : IsRight (epoch_start home past) (engine_lines past))
+    (begun : (tx : Tx) → begun_in book tx ≡ attempts_of past tx) (tx : Tx) (local : was_global tx past ≡ false) where
   -- a run of the transaction that isn't sealed
   abbrev test : Run → Bool
   test run = same_tx run.tid.tx tx && not (is_sealed run)
 
-  named : (run : Run) → Is run (unended start lines) → run_at start lines run.tid ≡ Some run
-  named run run_in = let (u, is) = unended-is start lines run run_in in ap (run_at start lines) (tid_is start lines right u run is) ∙ is
+  named : (run : Run) → Is run (unended (epoch_start home past) (engine_lines past)) → run_at (epoch_start home past) (engine_lines past) run.tid ≡ Some run
+  named run run_in =
+      let (u, is) = unended-is (epoch_start home past) (engine_lines past) run run_in in
+      ap (run_at (epoch_start home past) (engine_lines past)) (tid_is (epoch_start home past) (engine_lines past) right u run is) ∙ is
 
-  counted : (run : Run) → Is run (unended start lines) → test run ≡ true → finished list (record { tx = tx; attempt = run.tid.attempt }) ≡ Some (length run.acts)
-  counted run run_in passes =
-      let tx_is = same_tx-equal run.tid.tx tx (and_parts (same_tx run.tid.tx tx) (not (is_sealed run)) passes).0 in
-      ap (λ (t : Tx). finished list (record { tx = t; attempt = run.tid.attempt })) (sym tx_is) ∙ sym (l.live run.tid) ∙ ap accesses (named run run_in)
+  -- it runs
+  running_one : (run : Run) → Is run (unended (epoch_start home past) (engine_lines past)) → test run ≡ true → running_in book tx ≡ Some run.tid
+  running_one run run_in passes =
+      let (same, unsealed) = and_parts (same_tx run.tid.tx tx) (not (is_sealed run)) passes in
+      let tx_is = same_tx-equal run.tid.tx tx same in
+      let lives : live home past run.tid ≡ Some run = ap live_one (named run run_in) ∙ cond-false _ _ _ (not_true (is_sealed run) unsealed) in
+      ap (running_in book) (sym tx_is) ∙ local_runs book home past run.tid n begun (ap (λ (t : Tx). was_global t past) tx_is ∙ local) (ap is_some lives)
+    where
+      not_true : (b : Bool) → not b ≡ true → b ≡ false
+      not_true true e = cc
+      not_true false e = refl
 
-  no_run : live_attempt (noted list tx) ≡ None → (run : Run) → Is run (unended start lines) → test run ≡ false
-  no_run none run run_in = by_test (test run) refl where
-    by_test : (t : Bool) → test run ≡ t → test run ≡ false
-    by_test false e = e
-    by_test true e =
-        let nothing : finished list (record { tx = tx; attempt = run.tid.attempt }) ≡ None = ap (finished_of run.tid.attempt) none in
-        let some = counted run run_in e in
-        cc
+  some_tid : (a b : Tid) → ◌≡◌ {A = Option Tid} (Some a) (Some b) → a ≡ b
+  some_tid a b e = cc
 
-  one : (live : LiveAttempt) → live_attempt (noted list tx) ≡ Some live → (y : Run) → Is y (unended start lines) → test y ≡ true → y.tid ≡ record { tx = tx; attempt = live.attempt }
-  one live some y y_in passes =
-      let tx_is = same_tx-equal y.tid.tx tx (and_parts (same_tx y.tid.tx tx) (not (is_sealed y)) passes).0 in
-      ap₂ (λ t a. record { tx = t; attempt = a }) tx_is (by_test (live.attempt == y.tid.attempt) refl) where
-        by_test : (t : Bool) → (live.attempt == y.tid.attempt) ≡ t → y.tid.attempt ≡ live.attempt
-        by_test true e = sym (eqb-true live.attempt y.tid.attempt e)
-        by_test false e =
-            let nothing : finished list (record { tx = tx; attempt = y.tid.attempt }) ≡ None = ap (finished_of y.tid.attempt) some ∙ cond-false _ _ _ e in
-            let there = counted y y_in passes in
-            cc
+  running_from : (o : Option Tid) → running_in book tx ≡ o → live_of_tx home past tx ≡ o
+  running_from None e = ap (map_some (λ (run : Run). run.tid)) (first-none test (unended (epoch_start home past) (engine_lines past)) none) where
+    none : (run : Run) → Is run (unended (epoch_start home past) (engine_lines past)) → test run ≡ false
+    none run run_in = by_test (test run) refl where
+      by_test : (t : Bool) → test run ≡ t → test run ≡ false
+      by_test false f = f
+      by_test true f = let some = running_one run run_in f in cc
+  running_from (Some t) e =
+      let own : t.tx ≡ tx = n.order.own tx t e in
+      let l = live_some book home past t n (n.order.live tx t e) in
+      let run_in = is-unended (epoch_start home past) (engine_lines past) t l.run right l.is.0 in
+      let tid : l.run.tid ≡ t = tid_is (epoch_start home past) (engine_lines past) right t l.run l.is.0 in
+      let passes : test l.run ≡ true = and_from _ _ (ap (λ (u : Tid). same_tx u.tx tx) tid ∙ (ap (λ (x : Tx). same_tx x tx) own ∙ same_tx-refl tx)) (ap not (ap is_some l.is.1)) in
+      let (y, (y_in, y_passes, first)) = first-some test (unended (epoch_start home past) (engine_lines past)) l.run run_in passes in
+      ap (map_some (λ (r : Run). r.tid)) first ∙ (sym (running_one y y_in y_passes) ∙ e)
 
-  running_from : (o : Option LiveAttempt) → live_attempt (noted list tx) ≡ o → map_some (λ run. run.tid) (first_where test (unended start lines)) ≡ running list tx
-  running_from None e = ap (map_some (λ (run : Run). run.tid)) (first-none test (unended start lines) (no_run e)) ∙ sym (ap (map_some (tid_at tx)) e)
-  running_from (Some live) e =
-      let t : Tid = record { tx = tx; attempt = live.attempt } in
-      let done : finished list t ≡ Some live.done = ap (finished_of live.attempt) e ∙ cond-true _ _ _ (eq-eqb live.attempt live.attempt refl) in
-      let (run, (is, count)) = listed_lives list start lines t live.done l done in
-      let run_in = is-unended start lines t run right is.0 in
-      let tid : run.tid ≡ t = tid_is start lines right t run is.0 in
-      let passes : test run ≡ true = and_from _ _ (ap (λ (u : Tid). same_tx u.tx tx) tid ∙ same_tx-refl tx) (ap not (ap is_some is.1)) in
-      let (y, (y_in, y_passes, first)) = first-some test (unended start lines) run run_in passes in
-      ap (map_some (λ (r : Run). r.tid)) first ∙ ap (λ u. Some u) (one live e y y_in y_passes) ∙ sym (ap (map_some (tid_at tx)) e)
-
--- of a transaction the listed attempt is the one that is live
-pub running_is : (list : List Begun) (home : Home) (past : SitePast) → Lists list (epoch_start home past) (engine_lines past) → IsRight (epoch_start home past) (engine_lines past) → (tx : Tx)
-    → live_of_tx home past tx ≡ running list tx
-running_is list home past l right tx = running_from list (epoch_start home past) (engine_lines past) l right tx (live_attempt (noted list tx)) refl
+  -- the attempt of a local transaction that the book has running is the one that is live
+  pub running_is : live_of_tx home past tx ≡ running_in book tx
+  running_is = running_from (running_in book tx) refl
 
 -- the line of a site that is up
 pub begin_up : (home : Home) (past : SitePast) (tid : Tid) → is_down past ≡ false → site_line home past (Ev.Begin tid) ≡ unless_tripped home past (of_begin home past tid)
@@ -190,6 +270,26 @@ pub commit_answered : (home : Home) (past : SitePast) (tid : Tid) → answered h
 unfolding answered
 commit_answered home past tid = refl
 
+pub back_up : (home : Home) (past : SitePast) → is_down past ≡ false → site_line home past Ev.Back ≡ quiet Ev.Back Say.Awake
+unfolding site_line when
+back_up home past u = rw u refl
+
+pub check_up : (home : Home) (past : SitePast) → is_down past ≡ false → site_line home past Ev.Check ≡ unless_tripped home past (of_check home past)
+unfolding site_line answered when
+check_up home past u = rw u refl
+
+-- a start begins with sealed runs alone
+pub none_lives : (kepts : List Kept) (tid : Tid) → live_one (restored_at kepts tid) ≡ None
+none_lives [] tid = refl
+none_lives (kept ∷ kepts) tid = by_test (same_tid kept.tid tid) (none_lives kepts tid) where
+  by_test : (b : Bool) → live_one (restored_at kepts tid) ≡ None → live_one (cond b (Some (restored kept)) (restored_at kepts tid)) ≡ None
+  by_test true rest = refl
+  by_test false rest = rest
+
+-- so no attempt is live while the site is down
+pub down_dead : (home : Home) (past : SitePast) (tid : Tid) → epoch_start home past ≡ start_of home (records home past) → engine_lines past ≡ [] → live home past tid ≡ None
+down_dead home past tid start lines = ap₂ (λ (s : Start) (l : List EngineLine). live_one (run_at s l tid)) start lines ∙ none_lives (start_of home (records home past)).doubtful tid
+
 -- lines that neither call the disk nor send anything
 abbrev IsQuiet : SiteHappening → Type 0
 IsQuiet x = (x.calls ≡ []) × (x.sends ≡ [])
@@ -214,7 +314,3 @@ abort_quiet home past tid = pick_quiet (live home past tid) _ _ (refl, refl) (λ
 pub fate_quiet : (home : Home) (past : SitePast) (tx : Tx) → IsQuiet (of_fate home past tx)
 unfolding of_fate
 fate_quiet home past tx = pick_quiet (local_of (records home past) tx) _ _ (pick_quiet (live_of_tx home past tx) _ _ (refl, refl) (λ r. (refl, refl))) (λ c. (refl, refl))
-
-pub back_up : (home : Home) (past : SitePast) → is_down past ≡ false → site_line home past Ev.Back ≡ quiet Ev.Back Say.Awake
-unfolding site_line when
-back_up home past u = rw u refl

@@ -1,254 +1,329 @@
--- What a core stands for after a line with disk calls, and after a stop within them.
-use Rattle.std.proofs.Common.{◌≡◌, ℕ, zero, suc, ◌≤◌, ◌==◌, arith, leb, Bool, true, false, cond, not, ◌||◌, is_some, Option, Some, None, List, [], ◌∷◌, ◌++◌, length, map, reverse, take, refl, sym, ap, ◌∙◌, subst}
-use Rattle.std.proofs.lemmas.Bool.{cond-true, cond-false, le-leb, lt-leb}
+-- What a failed disk call leaves is what a stop leaves that events make; and what a halt and a trip that is set leave.
+use Rattle.std.proofs.Common.{◌≡◌, ℕ, zero, suc, ◌+◌, ◌≤◌, ◌<◌, ◌⊎◌, ◌==◌, ◌||◌, min, Bool, true, false, cond, not, Option, Some, None, Err, List, [], ◌∷◌, ◌++◌, length, take, inl, inr, refl, sym, ap, ap₂, ◌∙◌, subst, arith}
+use Rattle.std.specs.Prelude.{option_to_list}
+use Rattle.std.proofs.lemmas.Bool.{cond-true, cond-false, ne_eqb}
 use Rattle.mdb_base.specs.declared.names.Tid.{Tid}
 use Rattle.mdb_base.specs.declared.names.Tx.{Tx}
-use Rattle.mdb_base.specs.Words.{Each, map_some, when}
+use Rattle.mdb_base.specs.Words.{map_some, when}
 use Rattle.fed_rules.specs.declared.answers.Answer.{Answer}
 use Rattle.fed_rules.specs.declared.answers.Answer.TheVariants as Say
 use Rattle.fed_rules.specs.declared.events.SiteEvent.{SiteEvent}
+use Rattle.fed_rules.specs.declared.events.SiteEvent.TheVariants as Ev
+use Rattle.fed_rules.specs.declared.events.SiteStep.{SiteStep}
 use Rattle.fed_rules.specs.declared.records.SiteRecord.{SiteRecord}
-use Rattle.fed_rules.specs.declared.records.SiteRecord.TheVariants as Rec
-use Rattle.fed_rules.specs.Disk.{Call, Append, Sync, CutBack, TrimFront, Stops, Disk, after_call, after_calls, bytes_of, journal, standing, whole}
-use Rattle.frame_journal.specs.Journal.{records}
-use Rattle.frame_journal.specs.Records.{as_written, values}
-use Rattle.fed_rules.specs.Happenings.{Trip, comes_up, is_down, set, stopped, stops, tripped, used}
+use Rattle.fed_rules.specs.Disk.{Call, Stops, Disk, after_call, after_calls, bytes_of, whole}
+use Rattle.fed_rules.specs.Happenings.{Trip, comes_up, is_down, quiet, set, stopped, stops, used}
 use Rattle.fed_rules.specs.Runs as Lines
 use Rattle.fed_rules.specs.Runs.{EngineLine}
-use Rattle.fed_rules.specs.Site.{unless_tripped}
-use Rattle.fed_rules.specs.SitePast.{SiteHappening, SitePast, attempts_of, begins_tx, engine_lines, epoch_start, trip_of}
+use Rattle.fed_rules.specs.Site.{site_line, unless_tripped}
+use Rattle.fed_rules.specs.SitePast.{SiteHappening, SitePast, attempts_of, begins_tx, engine_lines, epoch_start, is_closed, trip_of}
 use Rattle.fed_rules.specs.SitePast as Past
-use Rattle.fed_rules.specs.SiteRecords.{Home, prepared_tids, site_frame}
+use Rattle.fed_rules.specs.SiteRecords.{Home, local_of, site_frame, start_of}
 use Rattle.journal_disk.specs.Disk.{Seen}
-use Rattle.site_core.specs.declared.site.SiteCore.{SiteCore}
-use Rattle.actor_store.specs.declared.errors.StepErr.{StepErr}
-use Rattle.site_core.specs.Store.{Store}
+use Rattle.actor_store.specs.declared.errors.StepErr.TheVariants as Err_is
+use Rattle.actor_store.specs.declared.store.Break.TheVariants.{Stopped, Failed}
+use Rattle.actor_store.specs.declared.store.SetTrip.{SetTrip}
 use Rattle.actor_store.specs.declared.store.Standing.{Standing}
 use Rattle.actor_store.specs.declared.store.Standing.TheVariants.{Up, Down, Failing}
-use Rattle.site_core.specs.Attempts.{SameBegun, finished, noted}
-use Rattle.site_core.specs.Runs.{IsRunning}
-use Rattle.site_core.specs.Stands.{Adds, Answers, Fails, Holds, IsOfKind, RunsStand, Stands}
-use Rattle.actor_store.proofs.EndsLaws.{passes_none}
-use Rattle.site_core.specs.Store.{Keeps}
-use Rattle.actor_store.specs.Store.{Passes, is_up, trip_of_rules}
+use Rattle.actor_store.specs.Store.{IsArmed, StopsWith, is_up, trip_of_rules, trip_to}
+use Rattle.actor_store.proofs.EndsLaws.{used_none}
+use Rattle.site_book.specs.Book.{begun_in}
+use Rattle.site_core.specs.declared.site.SiteCore.{SiteCore}
+use Rattle.site_core.specs.Stands.{Answers, Before, Breaks, Carries, IsIn, IsOfKind, IsStopped, IsUp, Remembers, Stands, StopAt, Within, behind, stopped_past}
+use Rattle.site_core.specs.Recovered.{LocalsOnce}
+use Rattle.site_core.specs.Store.{Ends, Keeps, Store}
+use Rattle.site_core.proofs.NotesLaws.{notes_same}
+use Rattle.site_core.proofs.OnceLaws.{AppendsOnce, once_stopped}
+use Rattle.site_core.proofs.UpLaws.{closed_same}
+use Rattle.site_core.proofs.Founded.{whole-all}
+use Rattle.site_core.proofs.RememberLaws.{answers_as, carries_quiet, carries_stop, down_is, kept_records, kind_at, stop_line, stopped_at, stopped_is, trips_is, up_is}
 
--- an epoch starts by the rule of the home
-pub epoch_kind : (home : Home) (past : SitePast) → (epoch_start home past).kind ≡ home.engine
-epoch_kind home [] = refl
-epoch_kind home (x ∷ past) = by_test (stops x.answer || comes_up x.answer) refl (epoch_kind home past) where
-  by_test : (t : Bool) → (stops x.answer || comes_up x.answer) ≡ t → (epoch_start home past).kind ≡ home.engine → (epoch_start home (x ∷ past)).kind ≡ home.engine
-  by_test true e rest = ap (λ (s : Lines.Start). s.kind) (cond-true _ _ _ e)
-  by_test false e rest = ap (λ (s : Lines.Start). s.kind) (cond-false _ _ _ e) ∙ rest
+-- the line of a trip that is set
+abbrev pub trip_line : ℕ → ℕ → SiteHappening
+trip_line calls cut = quiet (Ev.Trip calls cut) Say.Set
 
--- a call that appends no Prepared record and trims nothing
-abbrev pub IsPlainCall : Call SiteRecord → Type 0
-IsPlainCall (Append (Rec.Prepared tid epoch number ticket writes)) = ⊥
-IsPlainCall TrimFront = ⊥
-IsPlainCall call = Unit {0}
+pub trip_is : (home : Home) (past : SitePast) (calls cut : ℕ) → site_line home past (Ev.Trip calls cut) ≡ trip_line calls cut
+unfolding site_line
+trip_is home past calls cut = refl
 
-prepared-whole : (n : ℕ) (records : List SiteRecord) → prepared_tids records ≡ [] → prepared_tids (whole site_frame n records) ≡ []
-prepared-whole n [] e = refl
-prepared-whole n (newest ∷ records) e = by_test (leb (bytes_of site_frame (newest ∷ records)) n) refl (prepared-whole n records (rest newest e)) where
-  rest : (newest : SiteRecord) → prepared_tids (newest ∷ records) ≡ [] → prepared_tids records ≡ []
-  rest (Rec.Setup site engine protocol items) e = e
-  rest (Rec.Start epoch) e = e
-  rest (Rec.Prepared tid epoch number ticket writes) e = cc
-  rest (Rec.Ended tid decision) e = e
-  rest (Rec.Local tid number writes) e = e
-  rest (Rec.Checkpoint sum) e = e
+pub halt_up : (home : Home) (past : SitePast) (cut : ℕ) → is_down past ≡ false → site_line home past (Ev.Halt cut) ≡ stop_line home past (Ev.Halt cut) (Stops cut ∷ [])
+unfolding site_line when stopped
+halt_up home past cut u = rw u refl
 
-  by_test : (t : Bool) → leb (bytes_of site_frame (newest ∷ records)) n ≡ t → prepared_tids (whole site_frame n records) ≡ []
-      → prepared_tids (cond (leb (bytes_of site_frame (newest ∷ records)) n) (newest ∷ records) (whole site_frame n records)) ≡ []
-  by_test true t more = ap prepared_tids (cond-true _ _ _ t) ∙ e
-  by_test false t more = ap prepared_tids (cond-false _ _ _ t) ∙ more
+pub halt_down : (home : Home) (past : SitePast) (cut : ℕ) → is_down past ≡ true → site_line home past (Ev.Halt cut) ≡ quiet (Ev.Halt cut) Say.Down
+unfolding site_line when
+halt_down home past cut d = rw d refl
 
-prepared-call : (rules : Disk SiteRecord) (call : Call SiteRecord) → IsPlainCall call → prepared_tids rules.records ≡ [] → prepared_tids (after_call site_frame rules call).records ≡ []
-prepared-call rules (Append (Rec.Setup site engine protocol items)) plain e = e
-prepared-call rules (Append (Rec.Start epoch)) plain e = e
-prepared-call rules (Append (Rec.Prepared tid epoch number ticket writes)) plain e = absurd plain
-prepared-call rules (Append (Rec.Ended tid decision)) plain e = e
-prepared-call rules (Append (Rec.Local tid number writes)) plain e = e
-prepared-call rules (Append (Rec.Checkpoint sum)) plain e = e
-prepared-call rules Sync plain e = e
-prepared-call rules CutBack plain e = e
-prepared-call rules TrimFront plain e = absurd plain
-prepared-call rules (Stops cut) plain e = prepared-whole _ rules.records e
+-- a site that is down answers so to each event but a trip and a start
+pub down_line : (home : Home) (past : SitePast) (event : SiteEvent) → ((calls cut : ℕ) → event ≡ Ev.Trip calls cut → ⊥) → (event ≡ Ev.Back → ⊥) → is_down past ≡ true
+    → (site_line home past event ≡ quiet event Say.Down) × (trip_of event ≡ None)
+unfolding site_line when
+down_line home past (Ev.Begin tid) not_trip not_back d = (rw d refl, refl)
+down_line home past (Ev.Act tid act) not_trip not_back d = (rw d refl, refl)
+down_line home past (Ev.Commit tid) not_trip not_back d = (rw d refl, refl)
+down_line home past (Ev.Abort tid) not_trip not_back d = (rw d refl, refl)
+down_line home past (Ev.Fate tx) not_trip not_back d = (rw d refl, refl)
+down_line home past (Ev.Give message) not_trip not_back d = (rw d refl, refl)
+down_line home past (Ev.Ask tid) not_trip not_back d = (rw d refl, refl)
+down_line home past (Ev.Drop tid) not_trip not_back d = (rw d refl, refl)
+down_line home past (Ev.Halt cut) not_trip not_back d = (rw d refl, refl)
+down_line home past Ev.Check not_trip not_back d = (rw d refl, refl)
+down_line home past (Ev.Trip calls cut) not_trip not_back d = absurd (not_trip calls cut refl)
+down_line home past Ev.Back not_trip not_back d = absurd (not_back refl)
 
-pub prepared-calls : (rules : Disk SiteRecord) (calls : List (Call SiteRecord)) → Each IsPlainCall calls → prepared_tids rules.records ≡ [] → prepared_tids (after_calls site_frame rules calls).records ≡ []
-prepared-calls rules [] plain e = e
-prepared-calls rules (call ∷ calls) plain e = prepared-calls (after_call site_frame rules call) calls plain.1 (prepared-call rules call plain.0 e)
+-- a stop before the event, of a site that is up or down, and within it
+before_up : (home : Home) (past : SitePast) (event : SiteEvent) (cut : ℕ) → is_down past ≡ false
+    → stopped_past home past event (Before cut) ≡ stop_line home (trip_line 0 0 ∷ past) (Ev.Halt cut) (Stops cut ∷ []) ∷ trip_line 0 0 ∷ past
+before_up home past event cut up =
+    ap (λ (t : SiteHappening). site_line home (t ∷ past) (Ev.Halt cut) ∷ t ∷ past) (trip_is home past 0 0)
+    ∙ ap (λ (x : SiteHappening). x ∷ trip_line 0 0 ∷ past) (halt_up home (trip_line 0 0 ∷ past) cut up)
 
--- they trim nothing
-untrimmed_call : (rules : Disk SiteRecord) (call : Call SiteRecord) → IsPlainCall call → (after_call site_frame rules call).trimmed ≡ rules.trimmed
-untrimmed_call rules (Append entry) plain = refl
-untrimmed_call rules Sync plain = refl
-untrimmed_call rules CutBack plain = refl
-untrimmed_call rules TrimFront plain = absurd plain
-untrimmed_call rules (Stops cut) plain = refl
+before_down : (home : Home) (past : SitePast) (event : SiteEvent) (cut : ℕ) → is_down past ≡ true
+    → stopped_past home past event (Before cut) ≡ quiet (Ev.Halt cut) Say.Down ∷ trip_line 0 0 ∷ past
+before_down home past event cut down =
+    ap (λ (t : SiteHappening). site_line home (t ∷ past) (Ev.Halt cut) ∷ t ∷ past) (trip_is home past 0 0)
+    ∙ ap (λ (x : SiteHappening). x ∷ trip_line 0 0 ∷ past) (halt_down home (trip_line 0 0 ∷ past) cut down)
 
-pub untrimmed_calls : (rules : Disk SiteRecord) (calls : List (Call SiteRecord)) → Each IsPlainCall calls → (after_calls site_frame rules calls).trimmed ≡ rules.trimmed
-untrimmed_calls rules [] plain = refl
-untrimmed_calls rules (call ∷ calls) plain = untrimmed_calls (after_call site_frame rules call) calls plain.1 ∙ untrimmed_call rules call plain.0
+-- the event, with a trip set before it, is answered by this line where the trip doesn't stop it
+abbrev pub GoesOn : Home → SitePast → SiteEvent → SiteHappening → Type 0
+GoesOn home past event x = (calls cut : ℕ) → site_line home (trip_line calls cut ∷ past) event ≡ unless_tripped home (trip_line calls cut ∷ past) x
 
--- a disk of which nothing was trimmed holds all its records
-all_stand : (records : List SiteRecord) → standing site_frame 0 records ≡ records
-all_stand [] = refl
-all_stand (newest ∷ records) = cond-true _ _ _ (le-leb 0 (bytes_of site_frame records) (omega arith)) ∙ ap (λ rs. newest ∷ rs) (all_stand records)
+within_is : (home : Home) (past : SitePast) (event : SiteEvent) (x : SiteHappening) (n cut : ℕ) → GoesOn home past event x → 1 ≤ n → n ≤ length x.calls
+    → stopped_past home past event (Within n cut) ≡ stop_line home (trip_line n cut ∷ past) x.event (take n x.calls ++ Stops cut ∷ []) ∷ trip_line n cut ∷ past
+within_is home past event x zero cut goes some few = absurd (omega arith)
+within_is home past event x (suc n) cut goes some few =
+    ap (λ (t : SiteHappening). site_line home (t ∷ past) event ∷ t ∷ past) (trip_is home past (suc n) cut)
+    ∙ ap (λ (y : SiteHappening). y ∷ trip_line (suc n) cut ∷ past)
+    (goes (suc n) cut ∙ trips_is home (trip_line (suc n) cut ∷ past) x (record { calls = suc n; cut = cut }) (cond-false _ _ _ (ne_eqb (suc n) 0 (λ z. omega arith))) few)
 
-pub untrimmed_journal : (rules : Disk SiteRecord) → rules.trimmed ≡ 0 → journal site_frame rules ≡ rules.records
-untrimmed_journal rules none = ap (λ t. standing site_frame t rules.records) none ∙ all_stand rules.records
+-- the first calls of a list are none, or so many as there are
+first_calls : (n : ℕ) (calls : List (Call SiteRecord)) → (take n calls ≡ []) ⊎ ((m : ℕ) × (1 ≤ m) × (m ≤ length calls) × (take n calls ≡ take m calls))
+first_calls zero calls = inl refl
+first_calls (suc n) [] = inl refl
+first_calls (suc n) (call ∷ calls) = inr (from (first_calls n calls)) where
+  from : (take n calls ≡ []) ⊎ ((m : ℕ) × (1 ≤ m) × (m ≤ length calls) × (take n calls ≡ take m calls))
+      → (m : ℕ) × (1 ≤ m) × (m ≤ length (call ∷ calls)) × (take (suc n) (call ∷ calls) ≡ take m (call ∷ calls))
+  from (inl none) = (1, omega arith, omega arith, ap (λ (cs : List (Call SiteRecord)). call ∷ cs) none)
+  from (inr (m, some, few, same)) = (suc m, omega arith, omega (arith, few), ap (λ (cs : List (Call SiteRecord)). call ∷ cs) same)
 
-written_values : (entries : List SiteRecord) → values (map as_written entries) ≡ entries
-written_values [] = refl
-written_values (entry ∷ entries) = ap (λ es. entry ∷ es) (written_values entries)
+-- a stop of a disk that is all synced keeps all
+pub stop_same : (rules : Disk SiteRecord) (cut : ℕ) → rules.synced ≡ rules.length → bytes_of site_frame rules.records ≤ rules.length → after_call site_frame rules (Stops cut) ≡ rules
+stop_same rules cut synced within =
+    let n : min rules.length (rules.synced + cut) ≡ rules.length = omega (arith, synced) in
+    ap (λ (m : ℕ). record { records = whole site_frame m rules.records; length = m; synced = m; trimmed = rules.trimmed }) n
+    ∙ ap₂ (λ (rs : List SiteRecord) (m : ℕ). record { records = rs; length = rules.length; synced = m; trimmed = rules.trimmed }) (whole-all rules.length rules.records within) (sym synced)
 
--- a store that stands for such a disk has its records
-pub kept_records : (tells : Bool) (disk : Seen) (store : Store) (rules : Disk SiteRecord) (trip : Option Trip) → Keeps tells disk store rules trip → rules.trimmed ≡ 0
-    → records store.journal ≡ reverse rules.records
-kept_records tells disk store rules trip kept none =
-    ap values kept.records ∙ written_values (reverse (journal site_frame rules)) ∙ ap reverse (untrimmed_journal rules none)
+-- what a trip sets, as the rules speak of it
+trip_to-rules : (calls cut : ℕ) (old : Option Trip) → map_some trip_of_rules (trip_to calls cut) ≡ set (Some (record { calls = calls; cut = cut })) old
+trip_to-rules calls cut old = by_test (calls == 0) refl where
+  by_test : (t : Bool) → (calls == 0) ≡ t → map_some trip_of_rules (cond (calls == 0) None (Some (record { calls = calls; cut = cut }))) ≡ cond (calls == 0) None (Some (record { calls = calls; cut = cut }))
+  by_test true e = rw e refl
+  by_test false e = rw e refl
 
-pub plain_stop : (n cut : ℕ) (calls : List (Call SiteRecord)) → Each IsPlainCall calls → Each IsPlainCall (take n calls ++ Stops cut ∷ [])
-plain_stop zero cut calls plain = (tt, tt)
-plain_stop (suc n) cut [] plain = (tt, tt)
-plain_stop (suc n) cut (call ∷ calls) plain = (plain.0, plain_stop n cut calls plain.1)
+positive : (n : ℕ) → (n == 0) ≡ false → 0 < n
+positive zero e = cc
+positive (suc n) e = omega arith
 
--- the line that a stop ends
-abbrev pub stop_line : Home → SitePast → SiteEvent → List (Call SiteRecord) → SiteHappening
-stop_line home past event calls =
-    record { event = event; answer = Say.Stopped (length (journal site_frame (after_calls site_frame (Past.disk home past) calls))); sends = []; calls = calls; lines = [] }
-
-pub stopped_is : (home : Home) (past : SitePast) (event : SiteEvent) (calls : List (Call SiteRecord)) → stopped site_frame (Past.disk home past) event calls ≡ stop_line home past event calls
-unfolding stopped
-stopped_is home past event calls = refl
-
--- a trip that isn't used up leaves the line as it is
-pub passes_is : (home : Home) (past : SitePast) (x : SiteHappening) → Passes (Past.trip past) (length x.calls) → unless_tripped home past x ≡ x
-unfolding tripped when
-passes_is home past x passes = from (Past.trip past) passes where
-  from : (trip : Option Trip) → Passes trip (length x.calls) → tripped site_frame (Past.disk home past) trip x ≡ x
-  from None p = refl
-  from (Some trip) p = let e : leb trip.calls (length x.calls) ≡ false = lt-leb _ _ p in rw e refl
-
--- and one that comes within its calls stops it
-pub trips_is : (home : Home) (past : SitePast) (x : SiteHappening) (trip : Trip) → Past.trip past ≡ Some trip → trip.calls ≤ length x.calls
-    → unless_tripped home past x ≡ stop_line home past x.event (take trip.calls x.calls ++ Stops trip.cut ∷ [])
-unfolding tripped when
-trips_is home past x trip is few =
-    ap (λ t. tripped site_frame (Past.disk home past) t x) is
-    ∙ (let e : leb trip.calls (length x.calls) ≡ true = le-leb _ _ few in rw e (stopped_is home past x.event (take trip.calls x.calls ++ Stops trip.cut ∷ [])))
+trip_to-armed : (calls cut : ℕ) → IsArmed (trip_to calls cut)
+trip_to-armed calls cut = by_test (calls == 0) refl where
+  by_test : (t : Bool) → (calls == 0) ≡ t → IsArmed (cond (calls == 0) None (Some (record { calls = calls; cut = cut })))
+  by_test true e = rw e tt
+  by_test false e = rw e (positive calls e)
 
 module _ {E : Type 0} (stands : E → Lines.Start → List EngineLine → Type 0) (tells : Bool) where
-  -- a line that was carried out, with its disk calls
-  pub stands_line : (core : SiteCore E) (disk : Seen) (home : Home) (past : SitePast) (x : SiteHappening)
-      → Keeps tells disk core.store (after_calls site_frame (Past.disk home past) x.calls) (used (length x.calls) (Past.trip past))
-      → core.store.standing ≡ Up → is_down past ≡ false
-      → stops x.answer ≡ false → comes_up x.answer ≡ false → trip_of x.event ≡ None
-      → IsRunning stands core.runs (epoch_start home past) (x.lines ++ engine_lines past)
-      → ((tx : Tx) → is_some (noted core.runs.attempts.begun tx) ≡ not (attempts_of (x ∷ past) tx == 0))
-      → Each IsPlainCall x.calls → (Past.disk home past).trimmed ≡ 0 → prepared_tids (Past.records home past) ≡ [] → core.doubts.doubts ≡ []
-      → Stands stands tells core disk home (x ∷ past)
-  stands_line core disk home past x kept up here goes stays sets running begun plain untrimmed unprepared undoubted =
-      let untrimmed_now : (Past.disk home (x ∷ past)).trimmed ≡ 0 = untrimmed_calls (Past.disk home past) x.calls plain ∙ untrimmed in
-      let in_force : used (length x.calls) (Past.trip past) ≡ Past.trip (x ∷ past) = sym (cond-false _ _ _ goes ∙ ap (λ o. set o (used (length x.calls) (Past.trip past))) sets) in
-      let quiet_line : (stops x.answer || comes_up x.answer) ≡ false = rw (goes, stays) refl in
-      let P : Standing → Type 0 = λ s. RunsStand stands core.runs s home (x ∷ past) in
-      let Q : Lines.Start → List EngineLine → Type 0 = λ s l. IsRunning stands core.runs s l in
-      let start : epoch_start home (x ∷ past) ≡ epoch_start home past = cond-false _ _ _ quiet_line in
-      let listed : engine_lines (x ∷ past) ≡ x.lines ++ engine_lines past = cond-false _ _ _ quiet_line in
-      let T : Option Trip → Type 0 = λ t. Keeps tells disk core.store (after_calls site_frame (Past.disk home past) x.calls) t in
-      record {
-        holds = record {
-          records = kept_records tells disk core.store _ _ kept untrimmed_now;
-          untrimmed = untrimmed_now;
-          trip = kept.trip ∙ in_force;
-          armed = kept.armed;
-          standing = cond-false _ _ _ goes ∙ cond-false _ _ _ stays ∙ here ∙ sym (ap (λ s. not (is_up s)) up);
-          runs = subst P (sym up) (subst (λ (s : Lines.Start). Q s (engine_lines (x ∷ past))) (sym start) (subst (λ (l : List EngineLine). Q (epoch_start home past) l) (sym listed) running));
-          begun = begun;
-          unprepared = prepared-calls (Past.disk home past) x.calls plain unprepared;
-          undoubted = undoubted;
-        };
-        stored = subst T in_force kept;
-      }
+  -- a past that is another one by the rules
+  breaks_as : (core : SiteCore E) (disk : Seen) (home : Home) (past : SitePast) (event : SiteEvent) (at : StopAt) (there : SitePast) → stopped_past home past event at ≡ there
+      → Carries stands tells core disk home there → is_down there ≡ true → Breaks stands tells Err_is.Disk core disk home past event
+  breaks_as core disk home past event at there is c down =
+      let P : SitePast → Type 0 = Carries stands tells core disk home in
+      (at, subst P (sym is) c, ap (λ (p : SitePast). is_down p) is ∙ down)
 
-  -- a stop
-  pub stands_stop : (core : SiteCore E) (disk : Seen) (home : Home) (past : SitePast) (event : SiteEvent) (calls : List (Call SiteRecord))
-      → Keeps tells disk core.store (after_calls site_frame (Past.disk home past) calls) None
-      → is_up core.store.standing ≡ false
-      → IsOfKind stands core.runs.engine home.engine → ((tid : Tid) → finished core.runs.attempts.begun tid ≡ None)
-      → ((tx : Tx) → is_some (noted core.runs.attempts.begun tx) ≡ not (attempts_of past tx == 0))
-      → Each IsPlainCall calls → (Past.disk home past).trimmed ≡ 0 → prepared_tids (Past.records home past) ≡ [] → core.doubts.doubts ≡ []
-      → Stands stands tells core disk home (stop_line home past event calls ∷ past)
-  stands_stop core disk home past event calls kept down engine none begun plain untrimmed unprepared undoubted =
-      let untrimmed_now : (after_calls site_frame (Past.disk home past) calls).trimmed ≡ 0 = untrimmed_calls (Past.disk home past) calls plain ∙ untrimmed in
-      record {
-        holds = record {
-          records = kept_records tells disk core.store _ _ kept untrimmed_now;
-          untrimmed = untrimmed_now;
+  -- what a failed call leaves where it comes behind some calls
+  within_breaks : (core : SiteCore E) (disk : Seen) (home : Home) (past : SitePast) (event : SiteEvent) (x : SiteHappening) (n m cut : ℕ)
+      → GoesOn home past event x → 1 ≤ m → m ≤ length x.calls → take n x.calls ≡ take m x.calls
+      → Keeps tells disk core.store (after_calls site_frame (Past.disk home past) (take n x.calls ++ Stops cut ∷ [])) None → is_up core.store.standing ≡ false
+      → IsOfKind stands core.engine home.engine → ((tx : Tx) → begun_in core.book tx ≡ attempts_of past tx) → core.protocol ≡ home.protocol
+      → AppendsOnce (Past.disk home past) x.calls → LocalsOnce (Past.records home past) → Breaks stands tells Err_is.Disk core disk home past event
+  within_breaks core disk home past event x n m cut goes some few same kept down engine begun protocol fits once =
+      let K : List (Call SiteRecord) → Type 0 = λ cs. Keeps tells disk core.store (after_calls site_frame (Past.disk home past) (cs ++ Stops cut ∷ [])) None in
+      breaks_as core disk home past event (Within m cut) _ (within_is home past event x m cut goes some few)
+      (carries_stop stands tells core disk home (trip_line m cut ∷ past) x.event (take m x.calls ++ Stops cut ∷ []) (subst K same kept) down engine begun protocol (once_stopped (Past.disk home past) m cut x.calls fits once)) refl
+
+  -- a disk call of an event of a site that is up fails
+  pub breaks_up : (core : SiteCore E) (disk : Seen) (home : Home) (past : SitePast) (event : SiteEvent) (x : SiteHappening)
+      → is_down past ≡ false → GoesOn home past event x → Ends {A = ℕ} (Keeps tells disk core.store) (Past.disk home past) (Past.trip past) x.calls (Err Failed)
+      → is_up core.store.standing ≡ false → IsOfKind stands core.engine home.engine → ((tx : Tx) → begun_in core.book tx ≡ attempts_of past tx) → core.protocol ≡ home.protocol
+      → AppendsOnce (Past.disk home past) x.calls → LocalsOnce (Past.records home past) → Breaks stands tells Err_is.Disk core disk home past event
+  breaks_up core disk home past event x up goes (n, cut, kept) down engine begun protocol fits once = from (first_calls n x.calls) where
+    from : (take n x.calls ≡ []) ⊎ ((m : ℕ) × (1 ≤ m) × (m ≤ length x.calls) × (take n x.calls ≡ take m x.calls)) → Breaks stands tells Err_is.Disk core disk home past event
+    from (inl none) =
+        let K : List (Call SiteRecord) → Type 0 = λ cs. Keeps tells disk core.store (after_calls site_frame (Past.disk home past) (cs ++ Stops cut ∷ [])) None in
+        breaks_as core disk home past event (Before cut) _ (before_up home past event cut up)
+        (carries_stop stands tells core disk home (trip_line 0 0 ∷ past) (Ev.Halt cut) (Stops cut ∷ []) (subst K none kept) down engine begun protocol (once_stopped (Past.disk home past) 0 cut [] tt once)) refl
+    from (inr (m, some, few, same)) = within_breaks core disk home past event x n m cut goes some few same kept down engine begun protocol fits once
+
+  -- a site that is down stays so, with its disk as it was and no trip
+  pub breaks_down : (core : SiteCore E) (disk : Seen) (home : Home) (past : SitePast) (event : SiteEvent) → is_down past ≡ true
+      → Keeps tells disk core.store (Past.disk home past) None → is_up core.store.standing ≡ false
+      → IsOfKind stands core.engine home.engine → epoch_start home past ≡ start_of home (Past.records home past) → engine_lines past ≡ []
+      → ((tx : Tx) → begun_in core.book tx ≡ attempts_of past tx) → core.protocol ≡ home.protocol
+      → LocalsOnce (Past.records home past) → Breaks stands tells Err_is.Disk core disk home past event
+  breaks_down core disk home past event down kept still engine start lines begun protocol once =
+      let there : SitePast = quiet (Ev.Halt 0) Say.Down ∷ trip_line 0 0 ∷ past in
+      breaks_as core disk home past event (Before 0) there (before_down home past event 0 down)
+      (record {
+        memory = record {
+          records = kept_records tells disk core.store _ _ kept;
           trip = kept.trip;
           armed = kept.armed;
-          standing = sym (ap not down);
-          runs = runs_stopped core.store.standing down;
+          standing = down ∙ sym (ap not still);
+          standing_in = from core.store.standing still (record { engine = engine; start = start; lines = lines });
           begun = begun;
-          unprepared = prepared-calls (Past.disk home past) calls plain unprepared;
-          undoubted = undoubted;
+          protocol = protocol;
+          once = once;
         };
         stored = kept;
+      }) down where
+        from : (standing : Standing) → is_up standing ≡ false → IsStopped stands core home (quiet (Ev.Halt 0) Say.Down ∷ trip_line 0 0 ∷ past) → IsIn stands core standing home (quiet (Ev.Halt 0) Say.Down ∷ trip_line 0 0 ∷ past)
+        from Up e r = cc
+        from Down e r = r
+        from Failing e r = r
+
+  -- a disk call of an event of a site that is down fails
+  pub breaks_start : (core : SiteCore E) (disk : Seen) (home : Home) (past : SitePast) (event : SiteEvent) (x : SiteHappening) → is_down past ≡ true → GoesOn home past event x
+      → (Past.disk home past).synced ≡ (Past.disk home past).length → bytes_of site_frame (Past.records home past) ≤ (Past.disk home past).length
+      → Ends {A = ℕ} (Keeps tells disk core.store) (Past.disk home past) (Past.trip past) x.calls (Err Failed)
+      → is_up core.store.standing ≡ false → IsOfKind stands core.engine home.engine
+      → epoch_start home past ≡ start_of home (Past.records home past) → engine_lines past ≡ []
+      → ((tx : Tx) → begun_in core.book tx ≡ attempts_of past tx) → core.protocol ≡ home.protocol
+      → AppendsOnce (Past.disk home past) x.calls → LocalsOnce (Past.records home past) → Breaks stands tells Err_is.Disk core disk home past event
+  breaks_start core disk home past event x down goes synced within (n, cut, kept) still engine start lines begun protocol fits once = from (first_calls n x.calls) where
+    from : (take n x.calls ≡ []) ⊎ ((m : ℕ) × (1 ≤ m) × (m ≤ length x.calls) × (take n x.calls ≡ take m x.calls)) → Breaks stands tells Err_is.Disk core disk home past event
+    from (inl none) =
+        let K : List (Call SiteRecord) → Type 0 = λ cs. Keeps tells disk core.store (after_calls site_frame (Past.disk home past) (cs ++ Stops cut ∷ [])) None in
+        let R : Disk SiteRecord → Type 0 = λ d. Keeps tells disk core.store d None in
+        breaks_down core disk home past event down (subst R (stop_same (Past.disk home past) cut synced within) (subst K none kept)) still engine start lines begun protocol once
+    from (inr (m, some, few, same)) = within_breaks core disk home past event x n m cut goes some few same kept still engine begun protocol fits once
+
+  -- a halt
+  pub halt_stops : (old new : SiteCore E) (step : SiteStep) (disk disk' : Seen) (home : Home) (past : SitePast) (cut kept : ℕ)
+      → Stands stands tells old disk home past → old.store.standing ≡ Up
+      → StopsWith site_frame (Keeps tells disk' new.store) (Past.disk home past) cut kept
+      → new.store.standing ≡ Down → new.engine ≡ old.engine → new.book ≡ old.book → new.protocol ≡ old.protocol
+      → step ≡ record { answer = Say.Stopped kept; sends = None }
+      → Answers stands tells step new disk' home past (site_line home past (Ev.Halt cut))
+  halt_stops old new step disk disk' home past cut kept k up stopped_with down engine book protocol says =
+      let m = k.holds.memory in
+      let P : E → Type 0 = λ e. IsOfKind stands e home.engine in
+      answers_as stands tells step new disk' home past _ _ (halt_up home past cut (up_is stands old home past m up))
+      (record {
+        answer = ap (λ (s : SiteStep). s.answer) says ∙ ap (λ (n : ℕ). Say.Stopped n) stopped_with.1;
+        sends = ap (λ (s : SiteStep). option_to_list s.sends) says;
+        carries = carries_stop stands tells new disk' home past (Ev.Halt cut) (Stops cut ∷ []) stopped_with.0 (ap is_up down) (subst P (sym engine) (kind_at stands old home past m))
+            (λ tx. ap (λ b. begun_in b tx) book ∙ m.begun tx) (protocol ∙ m.protocol) (once_stopped (Past.disk home past) 0 cut [] tt m.once);
+      })
+
+  -- a site that is up, whatever trip is set
+  up_still : (old new : SiteCore E) (home : Home) (past : SitePast) (event : SiteEvent) (answer : Answer) {to : Option SetTrip} → IsUp stands old home past → stops answer ≡ false → comes_up answer ≡ false
+      → ((t : Tid) → Past.decides_on t event ≡ false) → new ≡ record old { store = record old.store { trip = to } } → IsUp stands new home (quiet event answer ∷ past)
+  up_still old new home past event answer u goes stays undecided is =
+      let test : (stops answer || comes_up answer) ≡ false = rw (goes, stays) refl in
+      let start : epoch_start home (quiet event answer ∷ past) ≡ epoch_start home past = cond-false _ _ _ test in
+      let lines : engine_lines (quiet event answer ∷ past) ≡ engine_lines past = cond-false _ _ _ test in
+      let S : Lines.Start → List EngineLine → Type 0 = λ s l. stands old.engine s l in
+      let notes = notes_same old.book (epoch_start home past) (epoch_start home (quiet event answer ∷ past)) (engine_lines past) (engine_lines (quiet event answer ∷ past)) (is_closed past) (is_closed (quiet event answer ∷ past)) (local_of (Past.records home past)) (local_of (Past.records home past)) past (quiet event answer)
+      u.notes start lines (λ t. closed_same past (quiet event answer) t stays (undecided t) refl) (λ tx. refl) in
+      let P : SiteCore E → Type 0 = λ c. IsUp stands c home (quiet event answer ∷ past) in
+      subst P (sym is) (record {
+        engine = subst (λ (s : Lines.Start). S s (engine_lines (quiet event answer ∷ past))) (sym start) (subst (λ (l : List EngineLine). S (epoch_start home past) l) (sym lines) u.engine);
+        notes = notes;
+        doubts = u.doubts;
+        epoch = u.epoch;
+      })
+
+  -- an event of a site in any standing that says something, changes no run and calls no disk; it may set a trip
+  pub stands_still : (old new : SiteCore E) (step : SiteStep) (disk : Seen) (home : Home) (past : SitePast) (event : SiteEvent) (answer : Answer) (to : Option SetTrip)
+      → Stands stands tells old disk home past → new ≡ record old { store = record old.store { trip = to } }
+      → stops answer ≡ false → comes_up answer ≡ false → ((tx : Tx) → begins_tx tx answer ≡ false)
+      → map_some trip_of_rules to ≡ set (trip_of event) (Past.trip past) → IsArmed to
+      → (old.store.standing ≡ Up → IsUp stands old home past → IsUp stands new home (quiet event answer ∷ past))
+      → step ≡ record { answer = answer; sends = None }
+      → Answers stands tells step new disk home past (quiet event answer)
+  stands_still old new step disk home past event answer to k is goes stays none sets armed up says =
+      let m = k.holds.memory in
+      let in_force : set (trip_of event) (Past.trip past) ≡ Past.trip (quiet event answer ∷ past) = ap (set (trip_of event)) (sym (used_none (Past.trip past))) ∙ sym (cond-false _ _ _ goes) in
+      let moved : Keeps tells disk (record old.store { trip = to }) (Past.disk home past) (Past.trip (quiet event answer ∷ past)) = record {
+        kept_on = k.stored.kept_on;
+        stands = k.stored.stands;
+        records = k.stored.records;
+        are_records = k.stored.are_records;
+        written = k.stored.written;
+        front = k.stored.front;
+        trip = sets ∙ in_force;
+        armed = armed;
+        in_order = k.stored.in_order;
+      } in
+      let P : Store → Type 0 = λ s. Keeps tells disk s (Past.disk home past) (Past.trip (quiet event answer ∷ past)) in
+      let store : new.store ≡ record old.store { trip = to } = ap (λ (c : SiteCore E). c.store) is in
+      let kept = subst P (sym store) moved in
+      let Q : Standing → Type 0 = λ s. IsIn stands new s home (quiet event answer ∷ past) in
+      record {
+        answer = ap (λ (s : SiteStep). s.answer) says;
+        sends = ap (λ (s : SiteStep). option_to_list s.sends) says;
+        carries = record {
+          memory = record {
+            records = kept_records tells disk new.store _ _ kept;
+            trip = kept.trip;
+            armed = kept.armed;
+            standing = cond-false _ _ _ goes ∙ cond-false _ _ _ stays ∙ m.standing ∙ ap (λ s. not (is_up s)) (sym (ap (λ (s : Store). s.standing) store));
+            standing_in = subst Q (sym (ap (λ (s : Store). s.standing) store)) (still old.store.standing refl m.standing_in);
+            begun = (λ tx. ap (λ (c : SiteCore E). begun_in c.book tx) is ∙ m.begun tx ∙ sym (cond-false _ _ _ (none tx)));
+            protocol = ap (λ (c : SiteCore E). c.protocol) is ∙ m.protocol;
+            once = m.once;
+          };
+          stored = kept;
+        };
       } where
-        runs_stopped : (standing : Standing) → is_up standing ≡ false → RunsStand stands core.runs standing home (stop_line home past event calls ∷ past)
-        runs_stopped Up e = cc
-        runs_stopped Down e = record { engine = engine; none_live = none; start = refl; lines = refl }
-        runs_stopped Failing e = record { engine = engine; none_live = none; start = refl; lines = refl }
+        quiet_test : (stops answer || comes_up answer) ≡ false
+        quiet_test = rw (goes, stays) refl
 
-  -- an answer to a line that is another one by the rules
-  pub answers_as : (answer : Answer) (core : SiteCore E) (disk : Seen) (home : Home) (past : SitePast) (x y : SiteHappening) → x ≡ y
-      → Answers stands tells answer core disk home past y → Answers stands tells answer core disk home past x
-  answers_as answer core disk home past x y e a = let P : SiteHappening → Type 0 = Answers stands tells answer core disk home past in subst P (sym e) a
+        down : IsStopped stands old home past → IsStopped stands new home (quiet event answer ∷ past)
+        down r =
+            let R : E → Type 0 = λ e. IsOfKind stands e home.engine in
+            record { engine = subst R (sym (ap (λ (c : SiteCore E). c.engine) is)) r.engine; start = cond-false _ _ _ quiet_test ∙ r.start; lines = cond-false _ _ _ quiet_test ∙ r.lines }
 
-  -- a line without disk calls, on the same disk
-  pub stands_quiet : (old new : SiteCore E) (disk : Seen) (home : Home) (past : SitePast) (y : SiteHappening) → Stands stands tells old disk home past → new.store ≡ old.store
-      → y.calls ≡ [] → Holds stands new home (y ∷ past) → Stands stands tells new disk home (y ∷ past)
-  stands_quiet old new disk home past y k store none h =
-      let same : after_calls site_frame (Past.disk home past) y.calls ≡ Past.disk home past = ap (after_calls site_frame (Past.disk home past)) none in
-      let kept : Keeps tells disk new.store (Past.disk home past) (Past.trip past) =
-      let P : Store → Type 0 = λ s. Keeps tells disk s (Past.disk home past) (Past.trip past) in subst P (sym store) k.stored in
-      let moved : Keeps tells disk new.store (Past.disk home past) (Past.trip (y ∷ past)) =
-      record { kept_on = kept.kept_on; stands = kept.stands; records = kept.records; are_records = kept.are_records; written = kept.written; front = kept.front; trip = h.trip; armed = kept.armed; in_order = kept.in_order } in
-      let Q : Disk SiteRecord → Type 0 = λ d. Keeps tells disk new.store d (Past.trip (y ∷ past)) in
-      record { holds = h; stored = subst Q (sym same) moved }
+        still : (standing : Standing) → old.store.standing ≡ standing → IsIn stands old standing home past → IsIn stands new standing home (quiet event answer ∷ past)
+        still Up e r = up e r
+        still Down e r = down r
+        still Failing e r = down r
 
-  -- a trip in force has calls left
-  pub trip_left : (core : SiteCore E) (home : Home) (past : SitePast) → Holds stands core home past → Passes (Past.trip past) 0
-  trip_left core home past h = let P : Option Trip → Type 0 = λ t. Passes t 0 in subst P h.trip (passes_none core.store.trip h.armed)
+  -- a trip that is set
+  pub trip_sets : (old new : SiteCore E) (step : SiteStep) (disk : Seen) (home : Home) (past : SitePast) (calls cut : ℕ) → Stands stands tells old disk home past
+      → new ≡ record old { store = record old.store { trip = trip_to calls cut } } → step ≡ record { answer = Say.Set; sends = None }
+      → Answers stands tells step new disk home past (site_line home past (Ev.Trip calls cut))
+  trip_sets old new step disk home past calls cut k is says =
+      answers_as stands tells step new disk home past _ _ (trip_is home past calls cut)
+      (stands_still old new step disk home past (Ev.Trip calls cut) Say.Set (trip_to calls cut) k is refl refl (λ tx. refl) (trip_to-rules calls cut (Past.trip past)) (trip_to-armed calls cut)
+      (λ e u. up_still old new home past (Ev.Trip calls cut) Say.Set u refl refl (λ t. refl) is) says)
 
-  -- an answer without disk calls
-  pub answers_quiet : (answer : Answer) (old new : SiteCore E) (disk : Seen) (home : Home) (past : SitePast) (x y : SiteHappening)
-      → Stands stands tells old disk home past → new.store ≡ old.store
-      → y.calls ≡ [] → y.sends ≡ [] → x ≡ unless_tripped home past y → Adds stands answer new home past y
-      → Answers stands tells answer new disk home past x
-  answers_quiet answer old new disk home past x y k store none silent is a =
-      let P : ℕ → Type 0 = λ n. Passes (Past.trip past) n in
-      let passes : Passes (Past.trip past) (length y.calls) = subst P (sym (ap length none)) (trip_left old home past k.holds) in
-      answers_as answer new disk home past x y (is ∙ passes_is home past y passes)
-      (record { said = a.said; silent = silent; stood = stands_quiet old new disk home past y k store none a.holds })
+  -- an event of a site that says something and changes nothing
+  pub says_only : (core : SiteCore E) (step : SiteStep) (disk : Seen) (home : Home) (past : SitePast) (event : SiteEvent) (answer : Answer) (x : SiteHappening) → Stands stands tells core disk home past → x ≡ quiet event answer
+      → stops answer ≡ false → comes_up answer ≡ false → ((tx : Tx) → begins_tx tx answer ≡ false) → trip_of event ≡ None → ((t : Tid) → Past.decides_on t event ≡ false) → step ≡ record { answer = answer; sends = None }
+      → Answers stands tells step core disk home past x
+  says_only core step disk home past event answer x k is goes stays none no_trip undecided says =
+      answers_as stands tells step core disk home past x (quiet event answer) is
+      (stands_still core core step disk home past event answer core.store.trip k refl goes stays none (k.holds.memory.trip ∙ sym (ap (λ o. set o (Past.trip past)) no_trip)) k.holds.memory.armed
+      (λ e u. up_still core core home past event answer u goes stays undecided refl) says)
 
-  -- the same past with other runs
-  pub holds_runs : (old new : SiteCore E) (home : Home) (past : SitePast) → Holds stands old home past → old.store.standing ≡ Up → new.store ≡ old.store → new.doubts ≡ old.doubts
-      → IsRunning stands new.runs (epoch_start home past) (engine_lines past) → SameBegun old.runs.attempts.begun new.runs.attempts.begun → Holds stands new home past
-  holds_runs old new home past h up store doubts running same = record {
-    records = ap (λ s. records s.journal) store ∙ h.records;
-    untrimmed = h.untrimmed;
-    trip = ap (λ s. map_some trip_of_rules s.trip) store ∙ h.trip;
-    armed = rw store h.armed;
-    standing = h.standing ∙ ap (λ s. not (is_up s.standing)) (sym store);
-    runs = (let P : Standing → Type 0 = λ s. RunsStand stands new.runs s home past in subst P (sym (ap (λ s. s.standing) store ∙ up)) running);
-    begun = (λ tx. same tx ∙ h.begun tx);
-    unprepared = h.unprepared;
-    undoubted = ap (λ b. b.doubts) doubts ∙ h.undoubted;
-  }
-
-  -- a line that is another one by the rules, and fails
-  pub fails_as : (why : StepErr) (core : SiteCore E) (disk : Seen) (home : Home) (past : SitePast) (x y : SiteHappening) → x ≡ y
-      → Fails stands tells why core disk home past y → Fails stands tells why core disk home past x
-  fails_as why core disk home past x y e f = let P : SiteHappening → Type 0 = Fails stands tells why core disk home past in subst P (sym e) f
+  -- an event of a site that is down, which it doesn't hear
+  pub says_down : (core : SiteCore E) (step : SiteStep) (disk : Seen) (home : Home) (past : SitePast) (event : SiteEvent) → Stands stands tells core disk home past → is_up core.store.standing ≡ false
+      → ((calls cut : ℕ) → event ≡ Ev.Trip calls cut → ⊥) → (event ≡ Ev.Back → ⊥) → step ≡ record { answer = Say.Down; sends = None }
+      → Answers stands tells step core disk home past (site_line home past event)
+  says_down core step disk home past event k down not_trip not_back says =
+      let line = down_line home past event not_trip not_back (down_is stands core home past k.holds.memory down) in
+      answers_as stands tells step core disk home past _ (quiet event Say.Down) line.0
+      (stands_still core core step disk home past event Say.Down core.store.trip k refl refl refl (λ tx. refl) (k.holds.memory.trip ∙ sym (ap (λ o. set o (Past.trip past)) line.1)) k.holds.memory.armed
+      (λ e u. absurd (both (sym (ap is_up e) ∙ down))) says)
+    where
+      both : true ≡ false → ⊥
+      both e = cc

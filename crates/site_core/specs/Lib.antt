@@ -1,7 +1,9 @@
-pub mod Attempts
-pub mod LastWrites
+pub mod Made
+pub mod Order
+pub mod Notes
+pub mod Operations
 pub mod Recovered
-pub mod Runs
+pub mod Sealing
 pub mod Sessions
 pub mod Stands
 pub mod Steps

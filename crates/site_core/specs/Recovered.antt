@@ -1,8 +1,12 @@
--- What the records of a site that stopped leave: the oldest ones are its set-up and its first start.
-use Rattle.std.specs.Prelude.{◌≡◌, List, [], ◌∷◌, ◌++◌}
+-- What holds of the records of a site, and what a start takes of a subtransaction in doubt.
+use Rattle.std.specs.Prelude.{◌≡◌, None, List, [], ◌∷◌, ◌++◌}
+use Rattle.mdb_base.specs.declared.names.Tid.{Tid}
 use Rattle.fed_rules.specs.declared.records.SiteRecord.{SiteRecord}
 use Rattle.fed_rules.specs.declared.records.SiteRecord.TheVariants as Rec
-use Rattle.fed_rules.specs.SiteRecords.{Home, prepared_tids}
+use Rattle.fed_rules.specs.SiteRecords.{Held, Home, local_of}
+
+abbrev pub held_tid : Held → Tid
+held_tid held = held.tid
 
 -- the two records that every site begins with, the newest first
 abbrev pub foundation : Home → List SiteRecord
@@ -13,8 +17,8 @@ pub record IsFounded (home : Home) (records : List SiteRecord) : Type 0 where
   pub newer : List SiteRecord
   pub founded : records ≡ newer ++ foundation home
 
--- the records are those of some site that prepared nothing
-pub record IsRecoverable (records : List SiteRecord) : Type 0 where
-  pub home : Home
-  pub founded : IsFounded home records
-  pub unprepared : prepared_tids records ≡ []
+-- no transaction has two Local records
+abbrev pub LocalsOnce : List SiteRecord → Type 0
+LocalsOnce [] = Unit {0}
+LocalsOnce (Rec.Local tid number writes ∷ records) = (local_of records tid.tx ≡ None) × LocalsOnce records
+LocalsOnce (other ∷ records) = LocalsOnce records

@@ -34,6 +34,10 @@ locking_home protocol = record { site = record { 0 = 1 }; engine = Locking; prot
 abbrev pub first : Tid
 first = record { tx = record { 0 = 1 }; attempt = 0 }
 
+-- the attempt behind it
+abbrev pub second : Tid
+second = record { tx = record { 0 = 1 }; attempt = 1 }
+
 abbrev pub read_five : SiteEvent
 read_five = Ev.Act first (Read (record { 0 = 5 }))
 

@@ -1,12 +1,15 @@
--- What a step of a core asks, and what it does to the pasts that the core stands for.
-use Rattle.std.specs.Prelude.{◌≡◌, ◌+◌, ◌<◌, ◌^◌, Some, length}
+-- What a step of a core asks of the past, and what it does to the pasts that the core stands for.
+use Rattle.std.specs.Prelude.{◌≡◌, ◌+◌, ◌<◌, ◌^◌, false, Some, length}
 use Rattle.mdb_base.specs.declared.names.Tid.{Tid}
 use Rattle.field_bytes.specs.Fields.{IsTid}
 use Rattle.fed_rules.specs.declared.events.SiteEvent.{SiteEvent}
 use Rattle.fed_rules.specs.declared.events.SiteEvent.TheVariants as Ev
-use Rattle.fed_rules.specs.Runs.{Run, counter}
-use Rattle.fed_rules.specs.SitePast.{SitePast, epoch, epoch_start, engine_lines, live}
+use Rattle.fed_rules.specs.declared.messages.ToSite.{ToSite}
+use Rattle.fed_rules.specs.declared.messages.ToSite.TheVariants as To
+use Rattle.fed_rules.specs.Runs.{Run, counter, published}
+use Rattle.fed_rules.specs.SitePast.{SitePast, attempts_of, epoch, epoch_start, engine_lines, live}
 use Rattle.fed_rules.specs.SiteRecords.{Home}
+use Rattle.site_core.specs.Made.{was_begun, was_global, was_local}
 
 -- for some past that it stands for the fact holds
 pub record SomePast (K : Home → SitePast → Type 0) (P : Home → SitePast → Type 0) : Type 0 where
@@ -19,16 +22,37 @@ pub record SomePast (K : Home → SitePast → Type 0) (P : Home → SitePast �
 abbrev pub EachPast : (Home → SitePast → Type 0) → (Home → SitePast → Type 0) → Type 0
 EachPast K P = (home : Home) (past : SitePast) → K home past → P home past
 
+-- any past
+abbrev pub AnyPast : Home → SitePast → Type 0
+AnyPast home past = Unit {0}
+
 -- the next number that is drawn fits
 abbrev pub NumberFits : Home → SitePast → Type 0
 NumberFits home past = counter (epoch_start home past) (engine_lines past) + 1 < 2 ^ 64
+
+-- no message was about the transaction of the attempt
+abbrev pub IsLocal : Tid → SitePast → Type 0
+IsLocal tid past = was_global tid.tx past ≡ false
+
+-- an attempt of a local transaction begins that wasn't begun before, of at most 32, and the next number fits
+pub record CanBegin (tid : Tid) (home : Home) (past : SitePast) : Type 0 where
+  pub apart : IsLocal tid past
+  pub new : was_begun tid past ≡ false
+  pub few : attempts_of past tid.tx < 32
+  pub fits : NumberFits home past
 
 -- the attempt has fewer than 32 finished accesses
 abbrev pub HasFewAccesses : Tid → Home → SitePast → Type 0
 HasFewAccesses tid home past = (run : Run) → live home past tid ≡ Some run → length run.acts < 32
 
--- a commit names an attempt in its range, and the next number fits
+-- an access is of a local attempt with fewer than 32 finished ones
+pub record CanAct (tid : Tid) (home : Home) (past : SitePast) : Type 0 where
+  pub apart : IsLocal tid past
+  pub few : HasFewAccesses tid home past
+
+-- a commit names a local attempt in its range, and the next number fits
 pub record CanCommit (tid : Tid) (home : Home) (past : SitePast) : Type 0 where
+  pub apart : IsLocal tid past
   pub in_range : IsTid tid
   pub fits : NumberFits home past
 
@@ -36,17 +60,49 @@ pub record CanCommit (tid : Tid) (home : Home) (past : SitePast) : Type 0 where
 abbrev pub EpochFits : Home → SitePast → Type 0
 EpochFits home past = epoch home past + 1 < 2 ^ 32
 
--- what an event asks of the past; the messages of a coordinator and Checkpoints aren't among the events yet
+-- no event of a local attempt names the transaction of the attempt
+abbrev pub IsGlobal : Tid → SitePast → Type 0
+IsGlobal tid past = was_local tid.tx past ≡ false
+
+-- a message is about a global transaction, and the next ticket fits
+pub record CanTakeTicket (tid : Tid) (home : Home) (past : SitePast) : Type 0 where
+  pub apart : IsGlobal tid past
+  pub fits : published (epoch_start home past) (engine_lines past) + 1 < 2 ^ 64
+
+-- a message is about a global transaction, and the next number fits
+pub record CanWork (tid : Tid) (home : Home) (past : SitePast) : Type 0 where
+  pub apart : IsGlobal tid past
+  pub fits : NumberFits home past
+
+-- a message is about an attempt of a global transaction in its range, and the next number fits
+pub record CanPrepare (tid : Tid) (home : Home) (past : SitePast) : Type 0 where
+  pub apart : IsGlobal tid past
+  pub in_range : IsTid tid
+  pub fits : NumberFits home past
+
+-- a message is about an attempt of a global transaction in its range
+pub record CanDecide (tid : Tid) (home : Home) (past : SitePast) : Type 0 where
+  pub apart : IsGlobal tid past
+  pub in_range : IsTid tid
+
+-- what a message of a coordinator asks of the past
+abbrev pub CanTakeMessage : ToSite → Home → SitePast → Type 0
+CanTakeMessage (To.Take tid epoch n) home past = CanTakeTicket tid home past
+CanTakeMessage (To.Work tid epoch n act) home past = CanWork tid home past
+CanTakeMessage (To.Prepare tid epoch n) home past = CanPrepare tid home past
+CanTakeMessage (To.Decide tid decision) home past = CanDecide tid home past
+
+-- what an event asks of the past
 abbrev pub CanStep : SiteEvent → Home → SitePast → Type 0
-CanStep (Ev.Begin tid) home past = NumberFits home past
-CanStep (Ev.Act tid act) home past = HasFewAccesses tid home past
+CanStep (Ev.Begin tid) home past = CanBegin tid home past
+CanStep (Ev.Act tid act) home past = CanAct tid home past
 CanStep (Ev.Commit tid) home past = CanCommit tid home past
-CanStep (Ev.Abort tid) home past = Unit {0}
-CanStep (Ev.Fate tx) home past = Unit {0}
-CanStep (Ev.Give message) home past = ⊥
-CanStep (Ev.Ask tid) home past = ⊥
-CanStep (Ev.Drop tid) home past = ⊥
+CanStep (Ev.Abort tid) home past = IsLocal tid past
+CanStep (Ev.Fate tx) home past = was_global tx past ≡ false
+CanStep (Ev.Give message) home past = CanTakeMessage message home past
+CanStep (Ev.Ask tid) home past = Unit {0}
+CanStep (Ev.Drop tid) home past = Unit {0}
 CanStep (Ev.Halt cut) home past = Unit {0}
 CanStep (Ev.Trip calls cut) home past = Unit {0}
 CanStep Ev.Back home past = EpochFits home past
-CanStep Ev.Check home past = ⊥
+CanStep Ev.Check home past = Unit {0}

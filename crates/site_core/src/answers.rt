@@ -1,9 +1,9 @@
 //! What a site says to an access of a local attempt and to a sealing that is refused.
-ghost use Rattle.std.specs.Prelude.{◌≡◌};
+ghost use Rattle.std.specs.Prelude.{◌≡◌, None};
 ghost use Rattle.mdb_base.specs.declared.names.Tid.{Tid};
 ghost use Rattle.fed_rules.specs.Site.{act_answer, refusal_answer};
 
-use fed_rules::Answer;
+use fed_rules::{Answer, SiteStep};
 use mdb_base::{PlainAct, Reply, Why};
 
 /// The answer to an access of a local attempt.
@@ -27,5 +27,15 @@ pub fn refusal_answer(why: Why) -> Answer
     match why {
         Why::Invalid { by, key } => Answer::Invalid(by, key),
         _ => Answer::Idle,
+    }
+}
+
+/// A step that says something and sends nothing.
+pub fn says(answer: Answer) -> SiteStep
+    ensures { result ≡ record { answer = answer; sends = None } }
+{
+    SiteStep {
+        answer,
+        sends: None,
     }
 }

@@ -6,16 +6,23 @@
 #![tactic(auto)]
 
 mod answers;
-mod attempts;
-mod committed;
-mod recovered;
-mod runs;
+mod checking;
+mod commits;
+mod decisions;
+mod inquiry;
+mod laws;
+mod locals;
+mod messages;
+mod operations;
 mod site;
 mod starting;
+mod stops;
 mod store;
+mod votes;
 
 pub use actor_store::StepErr;
 pub use fed_rules::{SiteEvent, SiteRecord, SiteStep};
+pub use laws::made_pasts_are_serial;
 pub use site::SiteCore;
 
 #[cfg(test)]

@@ -1,44 +1,48 @@
 //! The core of a site and its step.
-ghost use Rattle.std.specs.Prelude.{◌≡◌, ◌≤◌, [], false, length, reverse, is_some, IfOk, IfErr, IsErrOf, IsSome, IsTrue, OnErr};
+ghost use Rattle.std.specs.Prelude.{◌≡◌, ◌≤◌, [], false, length, reverse, is_some, IfOk, IfErr, IsErrOf, IsTrue};
+ghost use Rattle.std.specs.Option.{option_copied};
 ghost use Rattle.mdb_base.specs.Counts.{HasRisen};
-ghost use Rattle.field_bytes.specs.Fields.{IsTid};
-ghost use Rattle.fed_rules.specs.Site.{of_begin, of_act, of_abort, of_commit, of_fate, answered, site_line, unless_tripped};
+ghost use Rattle.mdb_base.specs.Words.{map_some};
 ghost use Rattle.mdb_base.specs.declared.names.Tid.{Tid};
 ghost use Rattle.record_fields.specs.Named.{IsSite};
+ghost use Rattle.fed_rules.specs.Disk.{empty_disk};
 ghost use Rattle.fed_rules.specs.Happenings.{is_down};
 ghost use Rattle.fed_rules.specs.Runs.{rows as rows_after};
-ghost use Rattle.fed_rules.specs.Disk.{empty_disk};
-ghost use Rattle.fed_rules.specs.SitePast.{engine_lines, epoch_start, live, records, set_up_calls};
-ghost use Rattle.fed_rules.specs.SiteRecords.{doubt_of};
+ghost use Rattle.fed_rules.specs.Site.{site_line};
+ghost use Rattle.fed_rules.specs.SitePast.{attempts_of, engine_lines, epoch_start, journal, live, live_of_tx, records, set_up_calls};
+ghost use Rattle.fed_rules.specs.SiteRecords.{doubt_of, local_of};
 ghost use Rattle.engine_contract.specs.Calls.{fresh_start};
+ghost use Rattle.site_book.specs.Noted.{noted_of};
+ghost use Rattle.actor_store.specs.Store.{is_up};
 ghost use Rattle.prepared_state.specs.Book.{doubt_about};
-ghost use Rattle.site_core.specs.Attempts.{finished, noted};
-ghost use Rattle.site_core.specs.Stands.{Adds, Answers, Fails, Holds, Stands, StandsSealing, Steps};
+ghost use Rattle.journal_sums.specs.Starts.{doubt_held};
+ghost use Rattle.site_core.specs.Made.{was_global};
+ghost use Rattle.site_core.specs.Stands.{Answers, Breaks, Fails, Holds, Stands, Steps};
+ghost use Rattle.site_core.specs.Steps.{CanStep, EachPast, SomePast};
 ghost use Rattle.site_core.specs.Store.{SomeStop};
-ghost use Rattle.actor_store.specs.Store.{is_up, trip_to};
-ghost use Rattle.site_core.specs.Steps.{CanCommit, CanStep, EachPast, HasFewAccesses, NumberFits, SomePast};
 
-use crate::answers::{act_answer, refusal_answer};
-use crate::attempts::Attempts;
-use crate::committed::committed_local;
-use crate::runs::Runs;
+use crate::answers::says;
 use crate::store::{SiteStore, set_up_store};
-use actor_store::{Break, Standing, StepErr};
-use engine_contract::{LocalEngine, SealErr, Sealed};
+use actor_store::{Standing, StepErr};
+use engine_contract::LocalEngine;
 use fed_rules::{Answer, SiteEvent, SiteRecord, SiteStep};
 use journal_disk::Disk;
-use mdb_base::{Engine, Memory, PlainAct, Puts, SiteId, Tid, Tx};
+use mdb_base::{Engine, Memory, Puts, SiteId, Tid, Tx};
 use prepared_state::PreparedBook;
 use presumptions::Protocol;
-use site_journal::SiteJournal;
+use site_book::{LiveRun, SiteBook};
 use std::alloc::Global;
 
-/// The core of one site: its local engine with the live attempts, its journal, and the prepared transactions that it is in doubt of.
+/// The core of one site: its local engine, the book of its transactions, the prepared ones that it is in doubt of, and its journal; with
+/// the number of its epoch and the protocol of its site.
 #[derive(Drop)]
 pub struct SiteCore<E: LocalEngine> {
-    pub(crate) runs: Runs<E>,
+    pub(crate) engine: E,
+    pub(crate) book: SiteBook,
+    pub(crate) doubts: PreparedBook,
     pub(crate) store: SiteStore,
-    doubts: PreparedBook,
+    pub(crate) epoch: u32,
+    pub(crate) protocol: Protocol,
 }
 
 impl<E: LocalEngine> SiteCore<E> {
@@ -73,12 +77,12 @@ impl<E: LocalEngine> SiteCore<E> {
         };
         match set_up_store(alloc, disk, site, engine, items, protocol) {
             Ok(store) => Ok(SiteCore {
-                runs: Runs {
-                    engine: local,
-                    attempts: Attempts::new(alloc),
-                },
-                store,
+                engine: local,
+                book: SiteBook::new(alloc),
                 doubts,
+                store,
+                epoch: 1,
+                protocol,
             }),
             Err(why) => Err(why),
         }
@@ -95,32 +99,26 @@ impl<E: LocalEngine> SiteCore<E> {
         requires told { IsTrue D.tells }
         requires may { SomePast (Stands E.stands D.tells self.old (D.seen disk.old)) (CanStep event) }
         ensures answered { IfOk result (λ step. EachPast (Stands E.stands D.tells self.old (D.seen disk.old))
-            (λ home past. Steps E.stands D.tells step self.new (D.seen disk.new) home past (site_line home past event))) }
+            (λ home past. CanStep event home past → Steps E.stands D.tells step self.new (D.seen disk.new) home past (site_line home past event))) }
         ensures failed { IfErr result (λ why. EachPast (Stands E.stands D.tells self.old (D.seen disk.old))
-            (λ home past. Fails E.stands D.tells why self.new (D.seen disk.new) home past (answered home past event))) }
+            (λ home past. CanStep event home past → Fails E.stands D.tells why self.new (D.seen disk.new) home past event)) }
         ensures cause { IsErrOf result StepErr.Disk → HasRisen (D.seen disk.old).faults (D.seen disk.new).faults }
         ensures faults { (D.seen disk.old).faults ≤ (D.seen disk.new).faults }
     {
-        match self.answer(alloc, disk, event) {
-            Ok(answer) => Ok(SiteStep {
-                answer,
-                sends: None,
-            }),
-            Err(why) => Err(why),
-        }
+        self.answer(alloc, disk, event)
     }
 
-    /// The records, oldest first.
+    /// The records that stand on the disk, oldest first: the last Checkpoint that was trimmed to, and those behind it.
     pub fn records(&self) -> &[SiteRecord]
-        ensures { EachPast (Holds E.stands self.now) (λ home past. result.now ≡ reverse (records home past)) }
+        ensures { EachPast (Holds E.stands self.now) (λ home past. result.now ≡ reverse (journal home past)) }
     {
         self.store.records()
     }
 
-    /// The prepared transactions that the site is in doubt of.
+    /// The prepared transactions that a site that is up is in doubt of, each with the epoch and the ticket of its record.
     pub fn doubts(&self) -> &PreparedBook
-        ensures { EachPast (Holds E.stands self.now) (λ home past. (tid : Tid) →
-            is_some (doubt_about tid result.now.doubts) ≡ is_some (doubt_of (records home past) tid)) }
+        ensures { EachPast (Holds E.stands self.now) (λ home past. is_down past ≡ false → (tid : Tid) →
+            doubt_about tid result.now.doubts ≡ map_some doubt_held (doubt_of (records home past) tid)) }
     {
         &self.doubts
     }
@@ -129,18 +127,42 @@ impl<E: LocalEngine> SiteCore<E> {
     pub fn is_live(&self, tid: Tid) -> bool
         ensures { EachPast (Holds E.stands self.now) (λ home past. result ≡ is_some (live home past tid)) }
     {
-        self.runs.attempts.is_live(tid)
+        self.store.is_up() && self.book.live(tid).is_some()
+    }
+
+    /// The attempt of a local transaction that committed here, at a site that is up.
+    pub fn committed(&self, tx: Tx) -> Option<Tid>
+        ensures { EachPast (Holds E.stands self.now) (λ home past. is_down past ≡ false → result ≡ local_of (records home past) tx) }
+    {
+        self.book.committed(tx)
+    }
+
+    /// The running attempt of a transaction that no message was about, at a site that is up.
+    pub fn running(&self, tx: Tx) -> Option<Tid>
+        ensures { EachPast (Holds E.stands self.now) (λ home past. is_down past ≡ false → was_global tx past ≡ false → result ≡ live_of_tx home past tx) }
+    {
+        self.book.running(tx)
+    }
+
+    /// How many attempts of a local transaction were begun.
+    pub fn begun(&self, tx: Tx) -> u32
+        ensures { EachPast (Holds E.stands self.now) (λ home past. result ≡ attempts_of past tx) }
+    {
+        self.book.begun(tx)
+    }
+
+    /// What is noted of the attempt, where it is live, at a site that is up.
+    pub fn live(&self, tid: Tid) -> Option<&LiveRun>
+        ensures { EachPast (Holds E.stands self.now) (λ home past. is_down past ≡ false → option_copied result ≡ map_some noted_of (live home past tid)) }
+    {
+        self.book.live(tid)
     }
 
     /// Whether the site is down: between a stop and the next start that comes through.
     pub fn is_down(&self) -> bool
         ensures { EachPast (Holds E.stands self.now) (λ home past. result ≡ is_down past) }
     {
-        match self.store.standing {
-            Standing::Up => false,
-            Standing::Down => true,
-            Standing::Failing => true,
-        }
+        !self.store.is_up()
     }
 
     /// The rows of a site that is up: those that the epoch started from, and every key that a committed transaction wrote since.
@@ -148,7 +170,7 @@ impl<E: LocalEngine> SiteCore<E> {
         ensures { IfOk result (λ rows. EachPast (Holds E.stands self.now)
             (λ home past. is_down past ≡ false → rows ≡ rows_after (epoch_start home past) (engine_lines past))) }
     {
-        self.runs.engine.rows(alloc)
+        self.engine.rows(alloc)
     }
 
     /// Answers an event by what the site is: up or down.
@@ -157,13 +179,13 @@ impl<E: LocalEngine> SiteCore<E> {
         alloc: Global,
         disk: &mut D,
         event: SiteEvent,
-    ) -> Result<Answer, StepErr>
+    ) -> Result<SiteStep, StepErr>
         requires told { IsTrue D.tells }
         requires may { SomePast (Stands E.stands D.tells self.old (D.seen disk.old)) (CanStep event) }
-        ensures answered { IfOk result (λ answer. EachPast (Stands E.stands D.tells self.old (D.seen disk.old))
-            (λ home past. Answers E.stands D.tells answer self.new (D.seen disk.new) home past (site_line home past event))) }
+        ensures answered { IfOk result (λ step. EachPast (Stands E.stands D.tells self.old (D.seen disk.old))
+            (λ home past. CanStep event home past → Answers E.stands D.tells step self.new (D.seen disk.new) home past (site_line home past event))) }
         ensures failed { IfErr result (λ why. EachPast (Stands E.stands D.tells self.old (D.seen disk.old))
-            (λ home past. Fails E.stands D.tells why self.new (D.seen disk.new) home past (answered home past event))) }
+            (λ home past. CanStep event home past → Breaks E.stands D.tells why self.new (D.seen disk.new) home past event)) }
         ensures cause { IsErrOf result StepErr.Disk → HasRisen (D.seen disk.old).faults (D.seen disk.new).faults }
         ensures faults { (D.seen disk.old).faults ≤ (D.seen disk.new).faults }
     {
@@ -174,199 +196,42 @@ impl<E: LocalEngine> SiteCore<E> {
         }
     }
 
-    /// A local attempt begins, unless its transaction has committed or has a live attempt.
-    fn begin(&mut self, alloc: Global, tid: Tid) -> Result<Answer, Memory>
-        requires up { self.old.store.standing ≡ Standing.Up }
-        requires may { SomePast (Holds E.stands self.old) NumberFits }
-        ensures answered { IfOk result (λ answer. EachPast (Holds E.stands self.old)
-            (λ home past. Adds E.stands answer self.new home past (of_begin home past tid))) }
-        ensures memory { OnErr result (EachPast (Holds E.stands self.old) (Holds E.stands self.new)) }
-        ensures store { self.new.store ≡ self.old.store }
-    {
-        match committed_local(self.store.records(), tid.tx) {
-            Some(committed) => Ok(Answer::Committed(committed)),
-            None => match self.runs.attempts.running(tid.tx) {
-                Some(running) => Ok(Answer::Running(running)),
-                None => {
-                    self.runs.begin(alloc, tid)?;
-                    Ok(Answer::Begun(tid))
-                }
-            },
-        }
-    }
-
-    /// The next access of a local attempt.
-    fn act(&mut self, alloc: Global, tid: Tid, act: PlainAct) -> Result<Answer, Memory>
-        requires up { self.old.store.standing ≡ Standing.Up }
-        requires may { SomePast (Holds E.stands self.old) (HasFewAccesses tid) }
-        ensures answered { IfOk result (λ answer. EachPast (Holds E.stands self.old)
-            (λ home past. Adds E.stands answer self.new home past (of_act home past tid act))) }
-        ensures memory { OnErr result (EachPast (Holds E.stands self.old) (Holds E.stands self.new)) }
-        ensures store { self.new.store ≡ self.old.store }
-    {
-        match self.runs.attempts.finished(tid) {
-            None => Ok(Answer::Idle),
-            Some(_) => {
-                let reply = self.runs.act(alloc, tid, act)?;
-                Ok(act_answer(reply, act))
-            }
-        }
-    }
-
-    /// A local attempt aborts.
-    fn abort(&mut self, tid: Tid) -> Answer
-        requires up { self.old.store.standing ≡ Standing.Up }
-        requires may { SomePast (Holds E.stands self.old) (λ home past. Unit {0}) }
-        ensures answered { EachPast (Holds E.stands self.old)
-            (λ home past. Adds E.stands result self.new home past (of_abort home past tid)) }
-        ensures store { self.new.store ≡ self.old.store }
-    {
-        match self.runs.attempts.finished(tid) {
-            None => Answer::Idle,
-            Some(_) => {
-                self.runs.abort(tid);
-                Answer::Aborted(tid)
-            }
-        }
-    }
-
-    /// A local attempt commits: it is sealed, its record is forced, and its writes are installed.
-    fn commit<D: Disk>(&mut self, alloc: Global, disk: &mut D, tid: Tid) -> Result<Answer, StepErr>
-        requires told { IsTrue D.tells }
-        requires up { self.old.store.standing ≡ Standing.Up }
-        requires may { SomePast (Stands E.stands D.tells self.old (D.seen disk.old)) (CanCommit tid) }
-        ensures answered { IfOk result (λ answer. EachPast (Stands E.stands D.tells self.old (D.seen disk.old))
-            (λ home past. Answers E.stands D.tells answer self.new (D.seen disk.new) home past
-            (unless_tripped home past (of_commit home past tid)))) }
-        ensures failed { IfErr result (λ why. EachPast (Stands E.stands D.tells self.old (D.seen disk.old))
-            (λ home past. Fails E.stands D.tells why self.new (D.seen disk.new) home past (of_commit home past tid))) }
-        ensures cause { IsErrOf result StepErr.Disk → HasRisen (D.seen disk.old).faults (D.seen disk.new).faults }
-        ensures faults { (D.seen disk.old).faults ≤ (D.seen disk.new).faults }
-    {
-        match self.runs.attempts.finished(tid) {
-            None => Ok(Answer::Idle),
-            Some(_) => match self.runs.seal(alloc, tid) {
-                Ok(sealed) => self.record_commit(alloc, disk, tid, sealed),
-                Err(SealErr::Refused(why)) => Ok(refusal_answer(why)),
-                Err(SealErr::Memory) => Err(StepErr::Memory),
-            },
-        }
-    }
-
-    /// Forces the record of an attempt that is sealed, and commits it. Where there is no memory for the record, the sealing is taken
-    /// back.
-    fn record_commit<D: Disk>(
-        &mut self,
-        alloc: Global,
-        disk: &mut D,
-        tid: Tid,
-        sealed: Sealed,
-    ) -> Result<Answer, StepErr>
-        requires told { IsTrue D.tells }
-        requires up { self.old.store.standing ≡ Standing.Up }
-        requires live { IsSome (finished self.old.runs.attempts.begun tid) }
-        requires in_range { IsTid tid }
-        requires may { SomePast (StandsSealing E.stands D.tells tid sealed self.old (D.seen disk.old)) (λ home past. Unit {0}) }
-        ensures answered { IfOk result (λ answer. EachPast (StandsSealing E.stands D.tells tid sealed self.old (D.seen disk.old))
-            (λ home past. Answers E.stands D.tells answer self.new (D.seen disk.new) home past
-            (unless_tripped home past (of_commit home past tid)))) }
-        ensures failed { IfErr result (λ why. EachPast (StandsSealing E.stands D.tells tid sealed self.old (D.seen disk.old))
-            (λ home past. Fails E.stands D.tells why self.new (D.seen disk.new) home past (of_commit home past tid))) }
-        ensures cause { IsErrOf result StepErr.Disk → HasRisen (D.seen disk.old).faults (D.seen disk.new).faults }
-        ensures faults { (D.seen disk.old).faults ≤ (D.seen disk.new).faults }
-    {
-        let Sealed {
-            number,
-            ticket: _,
-            writes,
-        } = sealed;
-        let entry = SiteRecord::Local {
-            tid,
-            number,
-            writes,
-        };
-        let bytes = SiteJournal::frame_len(&entry);
-        let Ok(()) = self.store.make_room(alloc, disk, 1, bytes) else {
-            self.runs.unseal(tid);
-            return Err(StepErr::Memory);
-        };
-        match self.store.force(disk, entry) {
-            Ok(()) => {
-                self.runs.commit(tid);
-                Ok(Answer::Sealed(tid, number))
-            }
-            Err(Break::Stopped(kept)) => {
-                self.runs.stop();
-                Ok(Answer::Stopped(kept))
-            }
-            Err(Break::Failed) => {
-                self.runs.stop();
-                Err(StepErr::Disk)
-            }
-        }
-    }
-
-    /// Stops the site with this cut.
-    fn halt<D: Disk>(&mut self, disk: &mut D, cut: u64) -> Answer
-        requires told { IsTrue D.tells }
-        requires up { self.old.store.standing ≡ Standing.Up }
-        requires may { SomePast (Stands E.stands D.tells self.old (D.seen disk.old)) (λ home past. Unit {0}) }
-        ensures answered { EachPast (Stands E.stands D.tells self.old (D.seen disk.old))
-            (λ home past. Answers E.stands D.tells result self.new (D.seen disk.new) home past (site_line home past (SiteEvent.Halt cut))) }
-        ensures faults { (D.seen disk.old).faults ≤ (D.seen disk.new).faults }
-    {
-        let kept = self.store.stop(disk, cut);
-        self.runs.stop();
-        Answer::Stopped(kept)
-    }
-
-    /// Sets a trip; one of no calls disarms.
-    fn set_trip(&mut self, calls: u32, cut: u64) -> Answer
-        ensures said { result ≡ Answer.Set }
-        ensures runs { self.new.runs ≡ self.old.runs }
-        ensures doubts { self.new.doubts ≡ self.old.doubts }
-        ensures store { self.new.store ≡ record self.old.store { trip = trip_to calls cut } }
-    {
-        self.store.set_trip(calls, cut);
-        Answer::Set
-    }
-
     /// Answers an event of a site that is up.
     fn serve<D: Disk>(
         &mut self,
         alloc: Global,
         disk: &mut D,
         event: SiteEvent,
-    ) -> Result<Answer, StepErr>
+    ) -> Result<SiteStep, StepErr>
         requires told { IsTrue D.tells }
         requires up { self.old.store.standing ≡ Standing.Up }
         requires may { SomePast (Stands E.stands D.tells self.old (D.seen disk.old)) (CanStep event) }
-        ensures answered { IfOk result (λ answer. EachPast (Stands E.stands D.tells self.old (D.seen disk.old))
-            (λ home past. Answers E.stands D.tells answer self.new (D.seen disk.new) home past (site_line home past event))) }
+        ensures answered { IfOk result (λ step. EachPast (Stands E.stands D.tells self.old (D.seen disk.old))
+            (λ home past. CanStep event home past → Answers E.stands D.tells step self.new (D.seen disk.new) home past (site_line home past event))) }
         ensures failed { IfErr result (λ why. EachPast (Stands E.stands D.tells self.old (D.seen disk.old))
-            (λ home past. Fails E.stands D.tells why self.new (D.seen disk.new) home past (answered home past event))) }
+            (λ home past. CanStep event home past → Breaks E.stands D.tells why self.new (D.seen disk.new) home past event)) }
         ensures cause { IsErrOf result StepErr.Disk → HasRisen (D.seen disk.old).faults (D.seen disk.new).faults }
         ensures faults { (D.seen disk.old).faults ≤ (D.seen disk.new).faults }
     {
         match event {
             SiteEvent::Begin(tid) => match self.begin(alloc, tid) {
-                Ok(answer) => Ok(answer),
+                Ok(step) => Ok(step),
                 Err(Memory) => Err(StepErr::Memory),
             },
             SiteEvent::Act { tid, act } => match self.act(alloc, tid, act) {
-                Ok(answer) => Ok(answer),
+                Ok(step) => Ok(step),
                 Err(Memory) => Err(StepErr::Memory),
             },
             SiteEvent::Commit(tid) => self.commit(alloc, disk, tid),
             SiteEvent::Abort(tid) => Ok(self.abort(tid)),
             SiteEvent::Fate(tx) => Ok(self.fate(tx)),
             SiteEvent::Halt { cut } => Ok(self.halt(disk, cut)),
-            SiteEvent::Give(_) => unreachable!(),
-            SiteEvent::Ask(_) => unreachable!(),
-            SiteEvent::Drop(_) => unreachable!(),
-            SiteEvent::Check => unreachable!(),
             SiteEvent::Trip { calls, cut } => Ok(self.set_trip(calls, cut)),
-            SiteEvent::Back => Ok(Answer::Awake),
+            SiteEvent::Back => Ok(says(Answer::Awake)),
+            SiteEvent::Check => self.check(alloc, disk),
+            SiteEvent::Ask(tid) => Ok(self.ask(tid)),
+            SiteEvent::Drop(tid) => Ok(self.give_up(tid)),
+            SiteEvent::Give(message) => self.give(alloc, disk, message),
         }
     }
 
@@ -376,48 +241,21 @@ impl<E: LocalEngine> SiteCore<E> {
         alloc: Global,
         disk: &mut D,
         event: SiteEvent,
-    ) -> Result<Answer, StepErr>
+    ) -> Result<SiteStep, StepErr>
         requires told { IsTrue D.tells }
         requires down { is_up self.old.store.standing ≡ false }
         requires may { SomePast (Stands E.stands D.tells self.old (D.seen disk.old)) (CanStep event) }
-        ensures answered { IfOk result (λ answer. EachPast (Stands E.stands D.tells self.old (D.seen disk.old))
-            (λ home past. Answers E.stands D.tells answer self.new (D.seen disk.new) home past (site_line home past event))) }
+        ensures answered { IfOk result (λ step. EachPast (Stands E.stands D.tells self.old (D.seen disk.old))
+            (λ home past. CanStep event home past → Answers E.stands D.tells step self.new (D.seen disk.new) home past (site_line home past event))) }
         ensures failed { IfErr result (λ why. EachPast (Stands E.stands D.tells self.old (D.seen disk.old))
-            (λ home past. Fails E.stands D.tells why self.new (D.seen disk.new) home past (answered home past event))) }
+            (λ home past. CanStep event home past → Breaks E.stands D.tells why self.new (D.seen disk.new) home past event)) }
         ensures cause { IsErrOf result StepErr.Disk → HasRisen (D.seen disk.old).faults (D.seen disk.new).faults }
         ensures faults { (D.seen disk.old).faults ≤ (D.seen disk.new).faults }
     {
         match event {
             SiteEvent::Trip { calls, cut } => Ok(self.set_trip(calls, cut)),
             SiteEvent::Back => self.back(alloc, disk),
-            _ => Ok(Answer::Down),
-        }
-    }
-
-    /// How a local transaction ended.
-    fn fate(&self, tx: Tx) -> Answer
-        requires up { self.now.store.standing ≡ Standing.Up }
-        ensures { EachPast (Holds E.stands self.now)
-            (λ home past. Adds E.stands result self.now home past (of_fate home past tx)) }
-    {
-        match committed_local(self.store.records(), tx) {
-            Some(committed) => Answer::Committed(committed),
-            None => match self.runs.attempts.running(tx) {
-                Some(running) => Answer::Running(running),
-                None => self.ended(tx),
-            },
-        }
-    }
-
-    /// Whether a transaction that neither committed nor is running was begun at all.
-    fn ended(&self, tx: Tx) -> Answer
-        ensures begun { IsTrue (is_some (noted self.now.runs.attempts.begun tx)) → result ≡ Answer.Ended }
-        ensures unbegun { is_some (noted self.now.runs.attempts.begun tx) ≡ false → result ≡ Answer.Unbegun }
-    {
-        if self.runs.attempts.was_begun(tx) {
-            Answer::Ended
-        } else {
-            Answer::Unbegun
+            _ => Ok(says(Answer::Down)),
         }
     }
 }

@@ -4,10 +4,10 @@ ghost use Rattle.journal_disk.specs.MemDisk.{mem_size};
 ghost use Rattle.site_core.specs.Sessions.{TestStands, locking_home, stopped_past};
 
 use super::{SiteCore, SiteEvent};
-use fed_rules::Answer;
+use fed_rules::{Answer, FromSite, ToSite};
 use journal_disk::{Disk, MemDisk};
 use locking_engine::LockingEngine;
-use mdb_base::{Engine, Key, PlainAct, Puts, SiteId, Tid, Tx};
+use mdb_base::{Engine, Key, PlainAct, Puts, Reply, SiteId, Tid, Tx};
 use presumptions::Protocol;
 use std::alloc::Global;
 use std::test::Fail;
@@ -154,7 +154,7 @@ fn a_local_record_that_is_kept_is_committed(rt: HostRuntime) -> Result<(), Fail>
     let mut disk = MemDisk::new(alloc)?;
     let (mut core, kept) = stopped_in_a_commit(alloc, &mut disk, 65_535)?;
     assert_eq!(rt; kept, 3);
-    let down = core.step(alloc, &mut disk, SiteEvent::Begin(FIRST))?;
+    let down = core.step(alloc, &mut disk, SiteEvent::Begin(SECOND))?;
     assert!(rt; matches!(down.answer, Answer::Down));
     let up = core.step(alloc, &mut disk, SiteEvent::Back)?;
     assert!(rt;
@@ -168,7 +168,7 @@ fn a_local_record_that_is_kept_is_committed(rt: HostRuntime) -> Result<(), Fail>
     );
     let fate = core.step(alloc, &mut disk, SiteEvent::Fate(Tx(1)))?;
     assert!(rt; matches!(fate.answer, Answer::Committed(FIRST)));
-    let again = core.step(alloc, &mut disk, SiteEvent::Begin(FIRST))?;
+    let again = core.step(alloc, &mut disk, SiteEvent::Begin(SECOND))?;
     assert!(rt; matches!(again.answer, Answer::Committed(FIRST)));
     Ok(())
 }
@@ -193,5 +193,44 @@ fn a_local_record_that_is_lost_leaves_its_attempt_ended(rt: HostRuntime) -> Resu
     assert!(rt; matches!(fate.answer, Answer::Ended));
     let begun = core.step(alloc, &mut disk, SiteEvent::Begin(SECOND))?;
     assert!(rt; matches!(begun.answer, Answer::Begun(SECOND)));
+    Ok(())
+}
+
+#[test]
+fn a_subtransaction_reads_and_takes_its_ticket(rt: HostRuntime) -> Result<(), Fail> {
+    let alloc = rt.alloc();
+    let mut disk = MemDisk::new(alloc)?;
+    let mut core = locking_site(alloc, &mut disk, Protocol::Nothing)?;
+    let work = ToSite::Work {
+        tid: FIRST,
+        epoch: 0,
+        n: 0,
+        act: PlainAct::Read(Key(5)),
+    };
+    let read = core.step(alloc, &mut disk, SiteEvent::Give(work))?;
+    assert!(rt; matches!(read.answer, Answer::Did(FIRST, Reply::Value(0))));
+    let did = FromSite::Did {
+        tid: FIRST,
+        epoch: 1,
+        n: 0,
+        reply: Reply::Value(0),
+    };
+    assert_eq!(rt; read.sends, Some(did));
+    let take = ToSite::Take {
+        tid: FIRST,
+        epoch: 1,
+        n: 1,
+    };
+    let taken = core.step(alloc, &mut disk, SiteEvent::Give(take))?;
+    assert!(rt; matches!(taken.answer, Answer::Did(FIRST, Reply::Ticket(1))));
+    let did = FromSite::Did {
+        tid: FIRST,
+        epoch: 1,
+        n: 1,
+        reply: Reply::Ticket(1),
+    };
+    assert_eq!(rt; taken.sends, Some(did));
+    assert!(rt; core.is_live(FIRST));
+    assert!(rt; holds(alloc, &mut disk, &BYTES));
     Ok(())
 }

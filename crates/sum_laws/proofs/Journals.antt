@@ -20,7 +20,7 @@ sums_behind home (Ended t d) rs s = s
 sums_behind home (Local t n writes) rs s = s
 sums_behind home (Checkpoint sum) rs s = s.1
 
-sums_front : (home : Home) (newer kept : List SiteRecord) → AreSums home (newer ++ kept) → AreSums home kept
+pub sums_front : (home : Home) (newer kept : List SiteRecord) → AreSums home (newer ++ kept) → AreSums home kept
 sums_front home [] kept s = s
 sums_front home (x ∷ newer) kept s = sums_front home newer kept (sums_behind home x (newer ++ kept) s)
 
@@ -159,7 +159,7 @@ fits_stopped home (suc n) cut (TrimFront ∷ calls) d f = (f.0, fits_stopped hom
 fits_stopped home (suc n) cut (Stops c ∷ calls) d f = fits_stopped home n cut calls _ f
 
 -- the records behind a trimmed place
-standing_trimmed : (newer : List SiteRecord) (sum : SiteSum) (before : List SiteRecord)
+pub standing_trimmed : (newer : List SiteRecord) (sum : SiteSum) (before : List SiteRecord)
     → standing site_frame (bytes_of site_frame before) (newer ++ Checkpoint sum ∷ before) ≡ newer ++ Checkpoint sum ∷ []
 standing_trimmed [] sum before =
     ap (λ b. cond b (Checkpoint sum ∷ standing site_frame (bytes_of site_frame before) before) []) (le-leb (bytes_of site_frame before) (bytes_of site_frame before) (omega arith))
@@ -182,7 +182,7 @@ standing_trimmed (x ∷ newer) sum before =
     behind [] older h = h
     behind (y ∷ newer) older h = let k = behind newer older h in omega (arith, k)
 
-standing_all : (rs : List SiteRecord) → standing site_frame 0 rs ≡ rs
+pub standing_all : (rs : List SiteRecord) → standing site_frame 0 rs ≡ rs
 standing_all [] = refl
 standing_all (x ∷ rs) = ap (λ b. cond b (x ∷ standing site_frame 0 rs) []) (le-leb 0 (bytes_of site_frame rs) (omega arith)) ∙ ap (λ xs. x ∷ xs) (standing_all rs)
 

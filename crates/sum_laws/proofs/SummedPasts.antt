@@ -119,6 +119,10 @@ summed_past home local [] sorted = record {
 summed_past home local (event ∷ events) (now, before) =
     next_line home local (site_past home events) event (well_past home local events before) (summed_past home local events before) now
 
+-- what stands on the disk of every past that sorted events make
+pub pasts_summed : OfSortedEvents (λ home past. IsSummed home (disk home past))
+pasts_summed home local events sorted = (summed_past home local events sorted).summed
+
 -- the journal says what all records say
 pub journals_say_all : OfSortedEvents (λ home past. journal_sum home (journal home past) ≡ site_sum home (records home past))
 journals_say_all home local events sorted =

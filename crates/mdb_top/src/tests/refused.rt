@@ -55,11 +55,6 @@ fn a_second_site_does_not_run_yet(rt: HostRuntime) {
 }
 
 #[test]
-fn another_engine_does_not_run_yet(rt: HostRuntime) {
-    expect(&rt, "site 1 timestamp abort\n", 2, "bad input\n");
-}
-
-#[test]
 fn a_global_does_not_run_yet(rt: HostRuntime) {
     expect(
         &rt,

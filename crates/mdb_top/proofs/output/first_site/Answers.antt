@@ -1,6 +1,4 @@
 use Rattle.std.proofs.Common.{◌≡◌, Some, List, [], slice_get, length, ◌≤◌, sym, ap, subst, ◌∙◌}
-use Rattle.mdb_base.specs.declared.names.Engine.{Engine}
-use Rattle.mdb_base.specs.declared.names.Engine.TheVariants.{Locking}
 use Rattle.mdb_base.specs.declared.rows.Put.{Put}
 use Rattle.mdb_base.specs.Rising.{IsRising}
 use Rattle.fed_rules.specs.declared.scenario.Scenario.{Scenario}
@@ -8,7 +6,7 @@ use Rattle.fed_rules.specs.declared.scenario.SiteLine.{SiteLine}
 use Rattle.fed_rules.specs.Plans.{IsScenario}
 use Rattle.fed_rules.specs.Scenarios.{items_of}
 use Rattle.engine_contract.specs.Calls.{fresh_start}
-use Rattle.locking_engine.specs.Stands.{Stands as EngineStands}
+use Rattle.any_engine.specs.Stands.{Stands as EngineStands}
 use Rattle.mdb_top.proofs.LocalScenarios.{no_locals, the_site, stands_alone}
 use Rattle.mdb_top.proofs.NewSites.{few_items, site_in_range}
 use Rattle.mdb_top.proofs.Rows.{rising_items}
@@ -34,13 +32,13 @@ returns c =
     let only = the_site scenario.sites line c.requires.one first in
     let rows : c.of-items.result ≡ items_of scenario.items line.site =
     c.of-items.ensures ∙ c.in_ok-first_rows.ensures ∙ ap (λ items. items_of items line.site) c.as_slice.ensures ∙ ap (λ (s : Scenario). items_of s.items line.site) c.scenario.view_is in
-    let started : EngineStands c.in_ok-engine.engine (fresh_start Locking c.of-items.result) [] = c.in_ok-engine.ensures in (
+    let started : EngineStands c.in_ok-engine.engine (fresh_start line.engine c.of-items.result) [] = c.in_ok-engine.ensures in (
       line,
       record {
-        alone = stands_alone scenario line whole only.sites_are c.requires.local;
-        in_range = site_in_range scenario line whole only.sites_are;
+        alone = stands_alone scenario line whole only c.requires.local;
+        in_range = site_in_range scenario line whole only;
         items = rows;
         few = subst (λ (puts : List Put). length puts ≤ 4096) (sym rows) (few_items scenario line.site whole);
-        fresh = subst (λ (kind : Engine). EngineStands c.in_ok-engine.engine (fresh_start kind c.of-items.result) []) (sym only.locking) started;
+        fresh = started;
       },
     )

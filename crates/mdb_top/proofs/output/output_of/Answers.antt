@@ -7,7 +7,7 @@ use Rattle.fed_rules.specs.Plans.{IsScenario}
 use Rattle.fed_rules.specs.Story.{lines_of, story_of}
 use Rattle.fed_world.specs.declared.errors.WorldErr.{WorldErr}
 use Rattle.fed_world.specs.Worlds.{Fails, FailsToStart, HasCause, Stands}
-use Rattle.locking_engine.specs.Stands.{Stands as EngineStands}
+use Rattle.any_engine.specs.Stands.{Stands as EngineStands}
 use Rattle.trace_lines.specs.Fits.{line_fits}
 use Rattle.trace_lines.specs.Spelling.{lines_bytes}
 use Rattle.mdb_top.specs.Sessions.{commands_of}
@@ -76,7 +76,8 @@ broken-requires-in-Err-Disk-play g c =
     let whole : IsScenario session.scenario = subst (λ (s : Scenario). IsScenario s) c.scenario.view_is c.scenario.invariant in
     let plain = is_plain session whole c.requires.runs c.requires.commands in
     let f = c.in-Err-Disk-play.ensures.failed session.scenario [] c.in-Ok.ensures.stands in
-    let fails = subst (λ (why : WorldErr). Fails EngineStands disk.tells disk.seen why c.play.new.world c.play.new.disks.items session.scenario f.done) c.in-Err-Disk-play.field-0-is f.fails in
+    let failed = subst (λ (why : WorldErr). Fails EngineStands disk.tells disk.seen why c.play.new.world c.play.new.disks.items session.scenario f.done) c.in-Err-Disk-play.field-0-is f.fails in
+    let fails = failed.1 in
     let front = plays_front EngineStands disk.tells disk.seen _ c.play.new.world c.play.new.disks.items session c.as_slice.result.now c.as_slice.ensures f in
     subst (Each (λ line. IsTrue (line_fits line))) (sym (c.lines.ensures session.scenario f.done fails.has))
     (each_oldest_first (λ line. IsTrue (line_fits line)) (lines_of (story_of session.scenario f.done)) (front_fits session f.done plain front))
@@ -89,12 +90,13 @@ returns-in-Err-Disk-play-clause-output g c =
     let plain = is_plain session whole c.requires.runs c.requires.commands in
     let sized = λ (one : g.row.D.Denot). g.met.D.Disk.told_size one c.requires.told in
     let f = c.in-Err-Disk-play.ensures.failed session.scenario [] c.in-Ok.ensures.stands in
-    let fails = subst (λ (why : WorldErr). Fails EngineStands disk.tells disk.seen why c.play.new.world c.play.new.disks.items session.scenario f.done) c.in-Err-Disk-play.field-0-is f.fails in
+    let failed = subst (λ (why : WorldErr). Fails EngineStands disk.tells disk.seen why c.play.new.world c.play.new.disks.items session.scenario f.done) c.in-Err-Disk-play.field-0-is f.fails in
+    let fails = failed.1 in
     let front = plays_front EngineStands disk.tells disk.seen _ c.play.new.world c.play.new.disks.items session c.as_slice.result.now c.as_slice.ensures f in
     let as_many = c.in-Ok.ensures.stands.others.nine ∙ sym c.requires.nine in
     let rose = subst (λ (why : WorldErr). HasCause disk.seen why c.args.disks.now.items c.play.new.disks.items) c.in-Err-Disk-play.field-0-is
     (cause_on disk.seen c.in-Err-Disk-play.field-0 c.args.disks.now.items c.new.new.disks.items c.play.new.disks.items as_many c.in-Ok.ensures.faults c.in-Err-Disk-play.ensures.cause) in
-    let breaks = world_breaks EngineStands disk.tells disk.seen c.in-Err-Disk-play.number c.play.new.world c.args.disks.now.items c.play.new.disks.items session.scenario f.done sized fails rose in
+    let breaks = world_breaks EngineStands disk.tells disk.seen c.in-Err-Disk-play.number c.play.new.world c.args.disks.now.items c.play.new.disks.items failed.0 session.scenario f.done sized fails rose in
     broken_output disk.seen c.broken-in-Err-Disk-play.result c.args.disks.now.items c.play.new.disks.items session f.done c.in-Err-Disk-play.number plain front breaks
     (broken_weaker c.broken-in-Err-Disk-play.result _ _ (λ bytes e. e ∙ ap (λ lines. lines_bytes lines ++ disk_failed_text c.in-Err-Disk-play.number) (c.lines.ensures session.scenario f.done fails.has)) c.broken-in-Err-Disk-play.ensures)
 
@@ -125,7 +127,8 @@ pub returns-in-Err-Disk-play-clause-nine : goal.returns-in-Err-Disk-play-clause-
 returns-in-Err-Disk-play-clause-nine g c =
     let disk = g.D.Disk in
     let f = c.in-Err-Disk-play.ensures.failed c.args.session.scenario [] c.in-Ok.ensures.stands in
-    (subst (λ (why : WorldErr). Fails EngineStands disk.tells disk.seen why c.play.new.world c.play.new.disks.items c.args.session.scenario f.done) c.in-Err-Disk-play.field-0-is f.fails).others.nine
+    let failed = subst (λ (why : WorldErr). Fails EngineStands disk.tells disk.seen why c.play.new.world c.play.new.disks.items c.args.session.scenario f.done) c.in-Err-Disk-play.field-0-is f.fails in
+    failed.1.others.nine
 
 pub returns-clause-nine : goal.returns-clause-nine
 returns-clause-nine g c =

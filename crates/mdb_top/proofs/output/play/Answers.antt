@@ -17,7 +17,7 @@ returns-in_err-apply-clause-failed g c =
     let p = err_from_is_err_and c.from_residual.result c.from_residual.ensures.1 in
     rw (p.1, p.2)
     (fails_at g.E.LocalEngine.stands disk.tells disk.seen c.args.world.now c.args.disks.now.items c.loop-command.world c.loop-command.disks.items c.apply.new.self c.apply.new.disks.items
-    c.in_err-apply.field-0.0 c.args.commands.now c.loop-command.command-index c.requires.stood c.loop-command.invariant.0 c.in_err-apply.ensures.failed)
+    c.in_err-apply.field-0.0 c.args.commands.now c.loop-command.command-index _ c.requires.stood c.loop-command.invariant.0 c.in_err-apply.ensures.failed)
 
 pub returns-in_err-apply-clause-cause : goal.returns-in_err-apply-clause-cause
 returns-in_err-apply-clause-cause g c =

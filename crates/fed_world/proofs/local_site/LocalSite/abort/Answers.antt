@@ -11,54 +11,60 @@ use Rattle.local_laws.proofs.StoryCommands.{abort_nowhere}
 use Rattle.site_core.specs.Stands.{Stands as CoreStands}
 use Rattle.local_laws.specs.Kept.{State}
 use Rattle.fed_world.specs.Places.{IsPlace}
-use Rattle.fed_world.specs.Stands.{home_from, IsTold, SiteStands}
+use Rattle.fed_world.specs.Stands.{StandsNoted, home_from, IsTold, SiteStands}
 use Rattle.fed_world.proofs.Handed.{untold}
 use Rattle.fed_world.proofs.HandedOne.{handed_below, handed_got}
+use Rattle.fed_world.proofs.OwnPasts.{ungiven}
 use Rattle.fed_world.proofs.Owned.{got, owned, place_below}
 use Rattle.fed_world.proofs.PassedOn.{passed_on}
-use Rattle.fed_world.proofs.TellsAbort.{abort_down, abort_none, abort_told}
+use Rattle.fed_world.proofs.TellsAbort.{abort_down, abort_next, abort_none, abort_told}
 use Rattle.fed_world.proofs.Told.{no_home, place_home, told_nowhere}
 use Rattle.fed_world.proofs.local_site.LocalSite.abort.Goals as goal
 
 pub returns-in_default-clause-told : goal.returns-in_default-clause-told
-returns-in_default-clause-told g c commands s =
+returns-in_default-clause-told g c commands s fits =
     told_nowhere _ c.args.scenario.now _ _ _ commands (Cmd.Abort c.args.tx) Say.None s tt
     (abort_nowhere c.args.scenario.now (story_of c.args.scenario.now commands) c.args.tx
     (no_home c.args.scenario.now c.args.tx (subst (λ xs. first_where (λ (l : TxLine). same_tx l.tx c.args.tx) xs ≡ None) (c.as_slice.ensures ∙ c.transactions-lines.ensures) c.in_default.ensures)))
 
 pub returns-then-is_down-clause-told : goal.returns-then-is_down-clause-told
-returns-then-is_down-clause-told g c commands s =
+returns-then-is_down-clause-told g c commands s fits =
     let found : IsPlace c.args.scenario.now.transactions c.args.tx c.in-Some.place = subst (λ xs. IsPlace xs c.args.tx c.in-Some.place) (c.as_slice.ensures ∙ c.transactions-lines.ensures) c.in-Some.ensures in
     let home = home_from c.args.scenario.now s.line in
     let past = past_of s.line.site (story_of c.args.scenario.now commands) in
     told_nowhere _ c.args.scenario.now _ _ _ commands (Cmd.Abort c.args.tx) Say.Down s tt
     (abort_down c.args.scenario.now (story_of c.args.scenario.now commands) c.args.tx home (place_home c.args.scenario.now s.line c.args.tx c.in-Some.place s.alone found)
-    (sym (c.is_down.ensures home past s.at.stood.holds) ∙ c.if-is_down.true))
+    (sym (c.is_down.ensures home past s.at.stood.stood.holds) ∙ c.if-is_down.true))
 
 pub index-local-requires : goal.index-local-requires
 index-local-requires g c =
     let r = c.requires.stood in
     let found : IsPlace c.args.scenario.now.transactions c.args.tx c.in-Some.place = subst (λ xs. IsPlace xs c.args.tx c.in-Some.place) (c.as_slice.ensures ∙ c.transactions-lines.ensures) c.in-Some.ensures in
-    let below = place_below (CoreStands g.E.LocalEngine.stands g.D.Disk.tells c.args.self.now.core (g.D.Disk.seen c.args.disk.now)) c.args.scenario.now c.args.self.now.site c.args.self.now.locals.items c.args.self.now.armed r.commands c.args.tx c.in-Some.place r.stood found in
+    let below = place_below (StandsNoted g.E.LocalEngine.stands g.D.Disk.tells c.args.self.now (g.D.Disk.seen c.args.disk.now)) c.args.scenario.now c.args.self.now.site c.args.self.now.locals.items c.args.self.now.armed r.commands c.args.tx c.in-Some.place r.stood found in
     let len = c.args.self.now.locals.ok.0 in
     omega arith
 
 pub returns-in_default-live-clause-told : goal.returns-in_default-live-clause-told
-returns-in_default-live-clause-told g c commands s =
+returns-in_default-live-clause-told g c commands s fits =
     let found : IsPlace c.args.scenario.now.transactions c.args.tx c.in-Some.place = subst (λ xs. IsPlace xs c.args.tx c.in-Some.place) (c.as_slice.ensures ∙ c.transactions-lines.ensures) c.in-Some.ensures in
     let state : State = c.index-local.result.now in
-    let o = owned (CoreStands g.E.LocalEngine.stands g.D.Disk.tells c.args.self.now.core (g.D.Disk.seen c.args.disk.now)) c.args.scenario.now c.args.self.now.site c.args.self.now.locals.items c.args.self.now.armed commands c.args.tx c.in-Some.place s found state c.index-local.ensures in
+    let o = owned (StandsNoted g.E.LocalEngine.stands g.D.Disk.tells c.args.self.now (g.D.Disk.seen c.args.disk.now)) c.args.scenario.now c.args.self.now.site c.args.self.now.locals.items c.args.self.now.armed commands c.args.tx c.in-Some.place s found state c.index-local.ensures in
     let home = home_from c.args.scenario.now s.line in
     let past = past_of s.line.site (story_of c.args.scenario.now commands) in
     told_nowhere _ c.args.scenario.now _ _ _ commands (Cmd.Abort c.args.tx) Say.Idle s tt
-    (abort_none c.args.scenario.now s.line commands c.args.tx c.in-Some.place state o (sym (c.is_down.ensures home past s.at.stood.holds) ∙ c.if-is_down.false)
+    (abort_none c.args.scenario.now s.line commands c.args.tx c.in-Some.place state o (sym (c.is_down.ensures home past s.at.stood.stood.holds) ∙ c.if-is_down.false)
     (sym c.live.ensures ∙ c.in_default-live.is))
 
 pub returns-in_err-answer-clause-failed : goal.returns-in_err-answer-clause-failed
 returns-in_err-answer-clause-failed g c =
     passed_on _ c.from_residual.result c.in_err-answer.field-0.0 c.from_residual.ensures.1
-    (λ commands s. untold (CoreStands g.E.LocalEngine.stands g.D.Disk.tells c.args.self.now.core (g.D.Disk.seen c.args.disk.now)) (CoreStands g.E.LocalEngine.stands g.D.Disk.tells c.hand.new.self.core (g.D.Disk.seen c.hand.new.disk)) c.args.scenario.now c.args.self.now c.hand.new.self c.in_err-answer.field-0.0 commands s
-    (c.in_err-answer.ensures.failed (home_from c.args.scenario.now s.line) (past_of s.line.site (story_of c.args.scenario.now commands)) s.at.stood))
+    (λ commands s fits.
+    let found : IsPlace c.args.scenario.now.transactions c.args.tx c.in-Some.place = subst (λ xs. IsPlace xs c.args.tx c.in-Some.place) (c.as_slice.ensures ∙ c.transactions-lines.ensures) c.in-Some.ensures in
+    let state : State = c.index-local.result.now in
+    let o = owned (StandsNoted g.E.LocalEngine.stands g.D.Disk.tells c.args.self.now (g.D.Disk.seen c.args.disk.now)) c.args.scenario.now c.args.self.now.site c.args.self.now.locals.items c.args.self.now.armed commands c.args.tx c.in-Some.place s found state c.index-local.ensures in
+    untold (StandsNoted g.E.LocalEngine.stands g.D.Disk.tells c.args.self.now (g.D.Disk.seen c.args.disk.now)) (StandsNoted g.E.LocalEngine.stands g.D.Disk.tells c.hand.new.self (g.D.Disk.seen c.hand.new.disk)) (CoreStands g.E.LocalEngine.stands g.D.Disk.tells c.hand.new.self.core (g.D.Disk.seen c.hand.new.disk)) c.args.scenario.now c.args.self.now c.hand.new.self c.in_err-answer.field-0.0 (Ev.Abort (attempt c.args.tx c.in-Some-live.attempt)) commands s (Cmd.Abort c.args.tx)
+    (abort_next c.args.scenario.now s.line commands c.args.tx c.in-Some.place state o c.in-Some-live.attempt (sym c.live.ensures ∙ c.in-Some-live.is) (sym (c.is_down.ensures (home_from c.args.scenario.now s.line) (past_of s.line.site (story_of c.args.scenario.now commands)) s.at.stood.stood.holds) ∙ c.if-is_down.false))
+    (c.in_err-answer.ensures.failed (home_from c.args.scenario.now s.line) (past_of s.line.site (story_of c.args.scenario.now commands)) s.at.stood (ungiven (past_of s.line.site (story_of c.args.scenario.now commands)) c.args.tx s.at.stood.own)))
 
 pub index_mut-requires : goal.index_mut-requires
 index_mut-requires g c =
@@ -67,25 +73,35 @@ index_mut-requires g c =
     let found : IsPlace c.args.scenario.now.transactions c.args.tx c.in-Some.place = subst (λ xs. IsPlace xs c.args.tx c.in-Some.place) (c.as_slice.ensures ∙ c.transactions-lines.ensures) c.in-Some.ensures in
     let home = home_from c.args.scenario.now s.line in
     let past = past_of s.line.site (story_of c.args.scenario.now commands) in
-    let below = place_below (CoreStands g.E.LocalEngine.stands g.D.Disk.tells c.args.self.now.core (g.D.Disk.seen c.args.disk.now)) c.args.scenario.now c.args.self.now.site c.args.self.now.locals.items c.args.self.now.armed commands c.args.tx c.in-Some.place s found in
-    let hands = c.in_ok-answer.ensures.answered home past s.at.stood in
-    let below_now = handed_below (CoreStands g.E.LocalEngine.stands g.D.Disk.tells c.hand.new.self.core (g.D.Disk.seen c.hand.new.disk)) c.args.self.now c.hand.new.self c.in_ok-answer.answer home past (site_line home past (Ev.Abort (attempt c.args.tx c.in-Some-live.attempt))) hands c.in-Some.place below in
+    let below = place_below (StandsNoted g.E.LocalEngine.stands g.D.Disk.tells c.args.self.now (g.D.Disk.seen c.args.disk.now)) c.args.scenario.now c.args.self.now.site c.args.self.now.locals.items c.args.self.now.armed commands c.args.tx c.in-Some.place s found in
+    let hands = c.in_ok-answer.ensures.answered home past s.at.stood (ungiven past c.args.tx s.at.stood.own) in
+    let below_now = handed_below (StandsNoted g.E.LocalEngine.stands g.D.Disk.tells c.hand.new.self (g.D.Disk.seen c.hand.new.disk)) c.args.self.now c.hand.new.self c.in_ok-answer.answer home past (site_line home past (Ev.Abort (attempt c.args.tx c.in-Some-live.attempt))) hands c.in-Some.place below in
     let len = c.hand.new.self.locals.ok.0 in
     omega arith
 
 pub returns-clause-told : goal.returns-clause-told
-returns-clause-told g c commands s =
+returns-clause-told g c commands s fits =
     let found : IsPlace c.args.scenario.now.transactions c.args.tx c.in-Some.place = subst (λ xs. IsPlace xs c.args.tx c.in-Some.place) (c.as_slice.ensures ∙ c.transactions-lines.ensures) c.in-Some.ensures in
     let state : State = c.index-local.result.now in
     let now : State = c.index_mut.result.now in
-    let o = owned (CoreStands g.E.LocalEngine.stands g.D.Disk.tells c.args.self.now.core (g.D.Disk.seen c.args.disk.now)) c.args.scenario.now c.args.self.now.site c.args.self.now.locals.items c.args.self.now.armed commands c.args.tx c.in-Some.place s found state c.index-local.ensures in
+    let o = owned (StandsNoted g.E.LocalEngine.stands g.D.Disk.tells c.args.self.now (g.D.Disk.seen c.args.disk.now)) c.args.scenario.now c.args.self.now.site c.args.self.now.locals.items c.args.self.now.armed commands c.args.tx c.in-Some.place s found state c.index-local.ensures in
     let home = home_from c.args.scenario.now s.line in
     let past = past_of s.line.site (story_of c.args.scenario.now commands) in
-    let below = place_below (CoreStands g.E.LocalEngine.stands g.D.Disk.tells c.args.self.now.core (g.D.Disk.seen c.args.disk.now)) c.args.scenario.now c.args.self.now.site c.args.self.now.locals.items c.args.self.now.armed commands c.args.tx c.in-Some.place s found in
-    let hands = c.in_ok-answer.ensures.answered home past s.at.stood in
-    let got_state = got (CoreStands g.E.LocalEngine.stands g.D.Disk.tells c.args.self.now.core (g.D.Disk.seen c.args.disk.now)) c.args.scenario.now c.args.self.now.site c.args.self.now.locals.items c.args.self.now.armed commands c.args.tx c.in-Some.place s found state c.index-local.ensures in
-    let got_now = handed_got (CoreStands g.E.LocalEngine.stands g.D.Disk.tells c.hand.new.self.core (g.D.Disk.seen c.hand.new.disk)) c.args.self.now c.hand.new.self c.in_ok-answer.answer home past (site_line home past (Ev.Abort (attempt c.args.tx c.in-Some-live.attempt))) hands c.in-Some.place now below c.index_mut.ensures.value in
-    subst (λ (st : State). IsTold (SiteStands (CoreStands g.E.LocalEngine.stands g.D.Disk.tells c.hand.new.self.core (g.D.Disk.seen c.hand.new.disk)) c.args.scenario.now c.hand.new.self.site (slice_set c.hand.new.self.locals.items c.in-Some.place st) c.hand.new.self.armed) c.args.scenario.now commands (Cmd.Abort c.args.tx) c.in_ok-answer.answer)
+    let below = place_below (StandsNoted g.E.LocalEngine.stands g.D.Disk.tells c.args.self.now (g.D.Disk.seen c.args.disk.now)) c.args.scenario.now c.args.self.now.site c.args.self.now.locals.items c.args.self.now.armed commands c.args.tx c.in-Some.place s found in
+    let hands = c.in_ok-answer.ensures.answered home past s.at.stood (ungiven past c.args.tx s.at.stood.own) in
+    let got_state = got (StandsNoted g.E.LocalEngine.stands g.D.Disk.tells c.args.self.now (g.D.Disk.seen c.args.disk.now)) c.args.scenario.now c.args.self.now.site c.args.self.now.locals.items c.args.self.now.armed commands c.args.tx c.in-Some.place s found state c.index-local.ensures in
+    let got_now = handed_got (StandsNoted g.E.LocalEngine.stands g.D.Disk.tells c.hand.new.self (g.D.Disk.seen c.hand.new.disk)) c.args.self.now c.hand.new.self c.in_ok-answer.answer home past (site_line home past (Ev.Abort (attempt c.args.tx c.in-Some-live.attempt))) hands c.in-Some.place now below c.index_mut.ensures.value in
+    subst (λ (st : State). IsTold (SiteStands (StandsNoted g.E.LocalEngine.stands g.D.Disk.tells c.hand.new.self (g.D.Disk.seen c.hand.new.disk)) c.args.scenario.now c.hand.new.self.site (slice_set c.hand.new.self.locals.items c.in-Some.place st) c.hand.new.self.armed) c.args.scenario.now commands (Cmd.Abort c.args.tx) c.in_ok-answer.answer)
     (sym c.rests.ensures)
-    (abort_told (CoreStands g.E.LocalEngine.stands g.D.Disk.tells c.args.self.now.core (g.D.Disk.seen c.args.disk.now)) (CoreStands g.E.LocalEngine.stands g.D.Disk.tells c.hand.new.self.core (g.D.Disk.seen c.hand.new.disk)) c.args.scenario.now c.args.self.now c.hand.new.self c.args.tx c.in-Some.place state now c.in-Some-live.attempt c.in_ok-answer.answer commands s o
-    (sym c.live.ensures ∙ c.in-Some-live.is) (sym (c.is_down.ensures home past s.at.stood.holds) ∙ c.if-is_down.false) hands got_state got_now)
+    (abort_told (StandsNoted g.E.LocalEngine.stands g.D.Disk.tells c.args.self.now (g.D.Disk.seen c.args.disk.now)) (StandsNoted g.E.LocalEngine.stands g.D.Disk.tells c.hand.new.self (g.D.Disk.seen c.hand.new.disk)) c.args.scenario.now c.args.self.now c.hand.new.self c.args.tx c.in-Some.place state now c.in-Some-live.attempt c.in_ok-answer.answer commands s o
+    (sym c.live.ensures ∙ c.in-Some-live.is) (sym (c.is_down.ensures home past s.at.stood.stood.holds) ∙ c.if-is_down.false) hands got_state got_now)
+
+pub hand-requires-clause-may : goal.hand-requires-clause-may
+hand-requires-clause-may g c =
+    let r = c.requires.stood in
+    record {
+      home = home_from c.args.scenario.now r.stood.line;
+      past = past_of r.stood.line.site (story_of c.args.scenario.now r.commands);
+      stood = r.stood.at.stood;
+      holds = ungiven (past_of r.stood.line.site (story_of c.args.scenario.now r.commands)) c.args.tx r.stood.at.stood.own;
+    }

@@ -4,7 +4,7 @@ use Rattle.fed_world.specs.Closings.{all_up, with_command, down_number}
 use Rattle.fed_world.specs.Worlds.{Stands}
 use Rattle.fed_world.proofs.Handed.{on_failure}
 use Rattle.fed_world.proofs.Recalled.{recalls}
-use Rattle.fed_world.proofs.Towards.{fails_here, on_success, with_extends}
+use Rattle.fed_world.proofs.Towards.{fails_here, fails_some, on_success, with_extends}
 use Rattle.fed_world.proofs.world.World.bring_up.Goals as goal
 
 pub returns-in-Some-clause-done : goal.returns-in-Some-clause-done
@@ -20,5 +20,6 @@ pub returns-in-Some-clause-failed : goal.returns-in-Some-clause-failed
 returns-in-Some-clause-failed g c =
     on_failure _ _ c.apply.result
     (λ why failed scenario commands s. fails_here g.E.LocalEngine.stands g.D.Disk.tells g.D.Disk.seen why c.apply.new.self c.apply.new.disks.items scenario (all_up scenario commands) commands
-    (with_extends (λ actor. Cmd.Back actor) (down_number scenario commands) commands) (failed scenario commands s))
+    (with_extends (λ actor. Cmd.Back actor) (down_number scenario commands) commands)
+    (fails_some g.E.LocalEngine.stands g.D.Disk.tells g.D.Disk.seen why c.apply.new.self c.apply.new.disks.items (Cmd.Back c.in-Some.actor) scenario commands (failed scenario commands s)))
     c.apply.ensures.failed

@@ -1,13 +1,14 @@
-use Rattle.std.proofs.Common.{take, sym, ◌∙◌, subst}
+use Rattle.std.proofs.Common.{get_or, take, sym, ◌∙◌, subst}
 use Rattle.std.proofs.lemmas.List.{take_all}
 use Rattle.std.proofs.lemmas.Result.{err_from_is_err_and}
+use Rattle.fed_rules.specs.declared.commands.Command.TheVariants as Cmd
 use Rattle.session_laws.specs.Closing.{with_aborts}
 use Rattle.fed_world.specs.declared.errors.WorldErr.TheVariants as Err_is
 use Rattle.fed_world.specs.Closings.{all_cleared, live_tids}
 use Rattle.fed_world.specs.Worlds.{FailsToward, Stands}
 use Rattle.fed_world.proofs.Disks.{cause_later, never_falls_twice, same_never_falls}
 use Rattle.fed_world.proofs.Recalled.{recalls}
-use Rattle.fed_world.proofs.Towards.{aborts_begin, aborts_extend, aborts_more, fails_behind, fails_here}
+use Rattle.fed_world.proofs.Towards.{aborts_begin, aborts_extend, aborts_more, fails_behind, fails_here, fails_some}
 use Rattle.fed_world.proofs.world.World.clear.Goals as goal
 
 pub returns-in_default-clause-failed : goal.returns-in_default-clause-failed
@@ -39,7 +40,8 @@ returns-in_err-apply-clause-failed g c =
     let now = c.in-Ok.ensures scenario commands (recalls g.E.LocalEngine.stands g.D.Disk.tells g.D.Disk.seen c.args.self.now c.args.disks.now.items scenario commands s) in
     subst (λ ts. FailsToward g.E.LocalEngine.stands g.D.Disk.tells g.D.Disk.seen c.in_err-apply.field-0.0 c.apply.new.self c.apply.new.disks.items (with_aborts ts commands) scenario commands) (c.deref-tid-items.ensures.value ∙ now)
     (fails_behind g.E.LocalEngine.stands g.D.Disk.tells g.D.Disk.seen c.in_err-apply.field-0.0 c.apply.new.self c.apply.new.disks.items scenario (with_aborts items commands) mid commands (aborts_extend (take c.loop-tid.tid-index items) commands)
-    (fails_here g.E.LocalEngine.stands g.D.Disk.tells g.D.Disk.seen c.in_err-apply.field-0.0 c.apply.new.self c.apply.new.disks.items scenario (with_aborts items commands) mid (aborts_begin c.loop-tid.tid-index items commands) failed)))
+    (fails_here g.E.LocalEngine.stands g.D.Disk.tells g.D.Disk.seen c.in_err-apply.field-0.0 c.apply.new.self c.apply.new.disks.items scenario (with_aborts items commands) mid (aborts_begin c.loop-tid.tid-index items commands)
+    (fails_some g.E.LocalEngine.stands g.D.Disk.tells g.D.Disk.seen c.in_err-apply.field-0.0 c.apply.new.self c.apply.new.disks.items (Cmd.Abort (get_or items c.loop-tid.tid-index (record { tx = record { 0 = 0 }; attempt = 0 })).tx) scenario mid failed))))
 
 pub returns-in_err-apply-clause-cause : goal.returns-in_err-apply-clause-cause
 returns-in_err-apply-clause-cause g c =

@@ -1,35 +1,43 @@
-use Rattle.std.proofs.Common.{◌≡◌, [], ◌∷◌, refl, sym, ap, ◌∙◌}
+use Rattle.std.proofs.Common.{◌≡◌, not, [], ◌∷◌, None, refl, sym, ap, ◌∙◌}
 use Rattle.mdb_base.specs.declared.replies.Reply.{Reply}
+use Rattle.fed_rules.specs.declared.answers.Answer.{Answer}
 use Rattle.fed_rules.specs.declared.answers.Answer.TheVariants as Say
 use Rattle.fed_rules.specs.declared.events.SiteEvent.TheVariants as Ev
+use Rattle.fed_rules.specs.declared.events.SiteStep.{SiteStep}
 use Rattle.fed_rules.specs.Runs.{Acts}
 use Rattle.fed_rules.specs.Site.{act_answer, reply_to, with_lines}
 use Rattle.fed_rules.specs.SitePast.{engine_lines, epoch_start}
-use Rattle.site_core.proofs.LineLaws.{act_acts, act_idle, live_none, live_run}
-use Rattle.site_core.proofs.RunsLaws.{listed_lives}
-use Rattle.site_core.proofs.StandsLaws.{adds_as, holds_acts, holds_quiet, up_runs}
+use Rattle.site_core.specs.declared.site.SiteCore.{SiteCore}
+use Rattle.site_core.proofs.LineLaws.{act_acts, act_idle, is_absent, is_there, live_none, live_some}
+use Rattle.site_core.proofs.LocalLaws.{act_adds, few_noted, replied_by}
+use Rattle.site_core.proofs.RememberLaws.{adds_as, is_up_at}
+use Rattle.site_core.proofs.UpLaws.{adds_quiet}
 use Rattle.site_core.proofs.site.SiteCore.act.Goals as goal
 
-pub returns-in-None-clause-answered : goal.returns-in-None-clause-answered
-returns-in-None-clause-answered g c = λ home past h.
+pub returns-then-is_none-clause-answered : goal.returns-then-is_none-clause-answered
+returns-then-is_none-clause-answered g c = λ home past h.
     let core = c.args.self.now in
-    let runs = up_runs g.E.LocalEngine.stands core home past h c.requires.up in
-    let none = live_none core.runs.attempts.begun home past c.args.tid runs.listed (sym c.finished.ensures ∙ c.in-None.is) in
+    let u = is_up_at g.E.LocalEngine.stands core home past h.memory c.requires.up in
+    let absent = is_there c.live.result _ c.is_none.result c.live.ensures c.is_none.ensures ∙ ap not c.if-is_none.true in
+    let none = live_none core.book home past c.args.tid u.notes (is_absent _ absent) in
     adds_as g.E.LocalEngine.stands _ core home past _ _ (act_idle home past c.args.tid c.args.act none)
-    (record { said = refl; holds = holds_quiet g.E.LocalEngine.stands core home past (Ev.Act c.args.tid c.args.act) Say.Idle h c.requires.up refl refl refl (λ tx. refl) })
+    (adds_quiet g.E.LocalEngine.stands core home past c.says.result (Ev.Act c.args.tid c.args.act) Say.Idle h c.requires.up refl refl refl (λ t. refl) (λ tx. refl) c.says.ensures)
 
-pub returns-in_ok-reply-in-Some-clause-answered : goal.returns-in_ok-reply-in-Some-clause-answered
-returns-in_ok-reply-in-Some-clause-answered g c = λ home past h.
+pub returns-clause-answered : goal.returns-clause-answered
+returns-clause-answered g c = λ home past h.
     let core = c.args.self.now in
     let tid = c.args.tid in
     let act = c.args.act in
-    let reply = c.in_ok-reply-in-Some.reply in
-    let runs = up_runs g.E.LocalEngine.stands core home past h c.requires.up in
-    let (run, (is, count)) = listed_lives core.runs.attempts.begun (epoch_start home past) (engine_lines past) tid _ runs.listed (sym c.finished.ensures ∙ c.in-Some.is) in
-    let ruled : reply ≡ reply_to home past run act = c.in_ok-reply-in-Some.ensures.ruled (epoch_start home past) (engine_lines past) runs run is.0 in
-    adds_as g.E.LocalEngine.stands c.act_answer.result _ home past _ _
-    (act_acts home past tid act run (live_run home past tid run is) ∙ ap (λ (r : Reply). with_lines (Ev.Act tid act) (act_answer tid r act) (Acts tid act r ∷ [])) (sym ruled))
-    (record {
-      said = c.act_answer.ensures tid;
-      holds = holds_acts g.E.LocalEngine.stands core _ home past tid act reply h c.requires.up refl refl (c.in_ok-reply-in-Some.ensures.answered (epoch_start home past) (engine_lines past) runs) c.in_ok-reply-in-Some.ensures.begun;
-    })
+    let reply = c.in_ok-reply.reply in
+    let u = is_up_at g.E.LocalEngine.stands core home past h.memory c.requires.up in
+    let there = is_there c.live.result _ c.is_none.result c.live.ensures c.is_none.ensures ∙ ap not c.if-is_none.false in
+    let l = live_some core.book home past tid u.notes there in
+    let stood = c.in_ok-reply.ensures.answered (epoch_start home past) (engine_lines past) u.engine in
+    let ruled : reply ≡ reply_to home past l.run act = replied_by core.book home past tid act reply l (g.met.E.LocalEngine.right _ _ _ stood) in
+    let k = c.requires.may in
+    let v = is_up_at g.E.LocalEngine.stands core k.home k.past k.stood.memory c.requires.up in
+    adds_as g.E.LocalEngine.stands _ _ home past _ _
+    (act_acts home past tid act l.run l.live ∙ ap (λ (r : Reply). with_lines (Ev.Act tid act) (act_answer tid r act) (Acts tid act r ∷ [])) (sym ruled))
+    (act_adds g.E.LocalEngine.stands core _ home past tid act reply c.says-2.result l h c.requires.up (few_noted core.book home past k.home k.past tid l (live_some core.book k.home k.past tid v.notes there) k.holds.few)
+    (ap (λ b. let new : SiteCore _ = record core { engine = c.access.new.engine; book = b } in new) c.note_reply.ensures) stood
+    (c.says-2.ensures ∙ ap (λ (a : Answer). let s : SiteStep = record { answer = a; sends = None } in s) (c.act_answer.ensures tid)))

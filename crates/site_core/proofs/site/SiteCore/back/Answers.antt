@@ -1,15 +1,18 @@
 use Rattle.std.proofs.Common.{refl}
-use Rattle.fed_rules.specs.declared.answers.Answer.{Answer}
 use Rattle.fed_rules.specs.declared.events.SiteEvent.TheVariants as Ev
-use Rattle.fed_rules.specs.Site.{of_back, site_line}
+use Rattle.fed_rules.specs.declared.events.SiteStep.{SiteStep}
+use Rattle.fed_rules.specs.Site.{site_line}
 use Rattle.fed_rules.specs.SitePast.{SitePast, disk, trip}
 use Rattle.fed_rules.specs.SiteRecords.{Home}
 use Rattle.actor_store.specs.declared.errors.StepErr.{StepErr}
-use Rattle.site_core.specs.Stands.{Answers, Fails, Stands}
+use Rattle.site_core.specs.declared.site.SiteCore.{SiteCore}
+use Rattle.site_core.specs.Stands.{Answers, Breaks, Stands}
 use Rattle.site_core.specs.Steps.{EachPast}
-use Rattle.site_core.proofs.BackLaws.{read_failed, stored_anew}
-use Rattle.site_core.proofs.Outcomes.{map_err, map_ok}
+use Rattle.site_core.proofs.BackLaws.{read_failed}
+use Rattle.site_core.proofs.CheckLaws.{roomier}
 use Rattle.site_core.proofs.NewStore.{risen_from}
+use Rattle.site_core.proofs.Outcomes.{map_err, map_ok}
+use Rattle.site_core.proofs.RememberLaws.{stands_from}
 use Rattle.site_core.proofs.site.SiteCore.back.Goals as goal
 
 pub reload-requires-clause-kept : goal.reload-requires-clause-kept
@@ -20,39 +23,45 @@ reload-requires-clause-kept g c =
 pub start_epoch-requires-clause-may : goal.start_epoch-requires-clause-may
 start_epoch-requires-clause-may g c =
     let m = c.requires.may in
+    let core = c.args.self.now in
     record {
       home = m.home;
       past = m.past;
-      stood = stored_anew g.E.LocalEngine.stands g.D.Disk.tells c.args.self.now _ (g.D.Disk.seen c.args.disk.now) (g.D.Disk.seen c.reload.new.disk) m.home m.past m.stood c.requires.down (c.reload.ensures.keeps _ _ m.stood.stored) c.reload.ensures.standing refl refl;
+      stood = stands_from g.E.LocalEngine.stands g.D.Disk.tells core _ (g.D.Disk.seen c.args.disk.now) (g.D.Disk.seen c.reload.new.disk) m.home m.past m.stood
+          (roomier g.E.LocalEngine.stands g.D.Disk.tells core _ (g.D.Disk.seen c.args.disk.now) (g.D.Disk.seen c.reload.new.disk) m.home m.past m.stood (c.reload.ensures.keeps _ _ m.stood.stored) c.reload.ensures.standing refl);
       holds = m.holds;
     }
 
 pub returns-in-Ok-clause-answered : goal.returns-in-Ok-clause-answered
 returns-in-Ok-clause-answered g c =
-    let K : Home → SitePast → Type 0 = Stands g.E.LocalEngine.stands g.D.Disk.tells (record { runs = c.args.self.now.runs; store = c.reload.new.self; doubts = c.args.self.now.doubts }) (g.D.Disk.seen c.reload.new.disk) in
-    let L : Home → SitePast → Type 0 = Stands g.E.LocalEngine.stands g.D.Disk.tells c.args.self.now (g.D.Disk.seen c.args.disk.now) in
-    let says : Answer → Home → SitePast → Type 0 = λ answer home past. Answers g.E.LocalEngine.stands g.D.Disk.tells answer c.start_epoch.new.self (g.D.Disk.seen c.start_epoch.new.disk) home past (site_line home past Ev.Back) in
-    map_ok (λ answer. EachPast K (says answer)) (λ answer. EachPast L (says answer)) c.start_epoch.result c.start_epoch.ensures.answered
-    (λ answer p home past k.
-    p home past (stored_anew g.E.LocalEngine.stands g.D.Disk.tells c.args.self.now _ (g.D.Disk.seen c.args.disk.now) (g.D.Disk.seen c.reload.new.disk) home past k c.requires.down (c.reload.ensures.keeps _ _ k.stored) c.reload.ensures.standing refl refl))
+    let core = c.args.self.now in
+    let loaded : SiteCore _ = record core { store = c.reload.new.self } in
+    let K : Home → SitePast → Type 0 = Stands g.E.LocalEngine.stands g.D.Disk.tells loaded (g.D.Disk.seen c.reload.new.disk) in
+    let L : Home → SitePast → Type 0 = Stands g.E.LocalEngine.stands g.D.Disk.tells core (g.D.Disk.seen c.args.disk.now) in
+    let says : SiteStep → Home → SitePast → Type 0 = λ step home past. Answers g.E.LocalEngine.stands g.D.Disk.tells step c.start_epoch.new.self (g.D.Disk.seen c.start_epoch.new.disk) home past (site_line home past Ev.Back) in
+    map_ok (λ step. EachPast K (says step)) (λ step. EachPast L (says step)) c.start_epoch.result c.start_epoch.ensures.answered
+    (λ step p home past k. p home past (stands_from g.E.LocalEngine.stands g.D.Disk.tells core loaded (g.D.Disk.seen c.args.disk.now) (g.D.Disk.seen c.reload.new.disk) home past k
+    (roomier g.E.LocalEngine.stands g.D.Disk.tells core loaded (g.D.Disk.seen c.args.disk.now) (g.D.Disk.seen c.reload.new.disk) home past k (c.reload.ensures.keeps _ _ k.stored) c.reload.ensures.standing refl)))
 
 pub returns-in-Ok-clause-failed : goal.returns-in-Ok-clause-failed
 returns-in-Ok-clause-failed g c =
-    let K : Home → SitePast → Type 0 = Stands g.E.LocalEngine.stands g.D.Disk.tells (record { runs = c.args.self.now.runs; store = c.reload.new.self; doubts = c.args.self.now.doubts }) (g.D.Disk.seen c.reload.new.disk) in
-    let L : Home → SitePast → Type 0 = Stands g.E.LocalEngine.stands g.D.Disk.tells c.args.self.now (g.D.Disk.seen c.args.disk.now) in
-    let fails : StepErr → Home → SitePast → Type 0 = λ why home past. Fails g.E.LocalEngine.stands g.D.Disk.tells why c.start_epoch.new.self (g.D.Disk.seen c.start_epoch.new.disk) home past (of_back home past) in
+    let core = c.args.self.now in
+    let loaded : SiteCore _ = record core { store = c.reload.new.self } in
+    let K : Home → SitePast → Type 0 = Stands g.E.LocalEngine.stands g.D.Disk.tells loaded (g.D.Disk.seen c.reload.new.disk) in
+    let L : Home → SitePast → Type 0 = Stands g.E.LocalEngine.stands g.D.Disk.tells core (g.D.Disk.seen c.args.disk.now) in
+    let fails : StepErr → Home → SitePast → Type 0 = λ why home past. Breaks g.E.LocalEngine.stands g.D.Disk.tells why c.start_epoch.new.self (g.D.Disk.seen c.start_epoch.new.disk) home past Ev.Back in
     map_err (λ why. EachPast K (fails why)) (λ why. EachPast L (fails why)) c.start_epoch.result c.start_epoch.ensures.failed
-    (λ why p home past k.
-    p home past (stored_anew g.E.LocalEngine.stands g.D.Disk.tells c.args.self.now _ (g.D.Disk.seen c.args.disk.now) (g.D.Disk.seen c.reload.new.disk) home past k c.requires.down (c.reload.ensures.keeps _ _ k.stored) c.reload.ensures.standing refl refl))
+    (λ why p home past k. p home past (stands_from g.E.LocalEngine.stands g.D.Disk.tells core loaded (g.D.Disk.seen c.args.disk.now) (g.D.Disk.seen c.reload.new.disk) home past k
+    (roomier g.E.LocalEngine.stands g.D.Disk.tells core loaded (g.D.Disk.seen c.args.disk.now) (g.D.Disk.seen c.reload.new.disk) home past k (c.reload.ensures.keeps _ _ k.stored) c.reload.ensures.standing refl)))
 
 pub returns-in-Ok-clause-cause : goal.returns-in-Ok-clause-cause
 returns-in-Ok-clause-cause g c = λ e. risen_from _ _ _ c.reload.ensures.cause.later (c.start_epoch.ensures.cause e)
 
 pub returns-in-Err-Memory-clause-failed : goal.returns-in-Err-Memory-clause-failed
 returns-in-Err-Memory-clause-failed g c = λ home past k.
-    stored_anew g.E.LocalEngine.stands g.D.Disk.tells c.args.self.now _ (g.D.Disk.seen c.args.disk.now) (g.D.Disk.seen c.reload.new.disk) home past k c.requires.down (c.reload.ensures.keeps _ _ k.stored) c.reload.ensures.standing refl refl
+    roomier g.E.LocalEngine.stands g.D.Disk.tells c.args.self.now _ (g.D.Disk.seen c.args.disk.now) (g.D.Disk.seen c.reload.new.disk) home past k (c.reload.ensures.keeps _ _ k.stored) c.reload.ensures.standing refl
 
 pub returns-in-Err-Disk-clause-failed : goal.returns-in-Err-Disk-clause-failed
 returns-in-Err-Disk-clause-failed g c = λ home past k.
     read_failed g.E.LocalEngine.stands g.D.Disk.tells c.args.self.now _ c.reload.new.self (g.D.Disk.seen c.args.disk.now) (g.D.Disk.seen c.reload.new.disk) home past k c.requires.down
-    (c.reload.ensures.keeps _ _ k.stored) c.reload.ensures.standing refl refl refl
+    (c.reload.ensures.keeps _ _ k.stored) c.reload.ensures.standing refl

@@ -1,33 +1,51 @@
-use Rattle.std.proofs.Common.{Some, None, refl, sym, ◌∙◌}
+use Rattle.std.proofs.Common.{◌≡◌, Some, None, refl, sym, ap, ◌∙◌}
+use Rattle.std.proofs.lemmas.Bool.{eq-eqb, ne_eqb}
+use Rattle.fed_rules.specs.SitePast.{attempts_of}
 use Rattle.fed_rules.specs.declared.answers.Answer.TheVariants as Say
 use Rattle.fed_rules.specs.declared.events.SiteEvent.TheVariants as Ev
-use Rattle.site_core.proofs.LineLaws.{fate_committed, fate_running, running_is}
-use Rattle.site_core.proofs.StandsLaws.{adds_as, adds_fate, committed_is, holds_quiet, up_runs}
+use Rattle.site_core.proofs.LineLaws.{fate_committed, fate_ended, fate_running, fate_unbegun, running_is}
+use Rattle.site_core.proofs.LocalLaws.{none_left}
+use Rattle.site_core.proofs.RememberLaws.{adds_as, is_up_at}
+use Rattle.site_core.proofs.UpLaws.{adds_quiet}
 use Rattle.site_core.proofs.site.SiteCore.fate.Goals as goal
 
 pub returns-in-Some : goal.returns-in-Some
-returns-in-Some g c = λ home past h.
+returns-in-Some g c = λ home past h may.
     let core = c.args.self.now in
     let tx = c.args.tx in
-    let is = committed_is g.E.LocalEngine.stands core home past tx c.records.result.now (Some c.in-Some.committed) h c.records.ensures (sym c.in-Some.is ∙ c.committed_local.ensures) in
+    let u = is_up_at g.E.LocalEngine.stands core home past h.memory c.requires.up in
+    let is = sym (u.notes.committed_is tx) ∙ sym c.committed.ensures ∙ c.in-Some.is in
     adds_as g.E.LocalEngine.stands _ core home past _ _ (fate_committed home past tx c.in-Some.committed is)
-    (record { said = refl; holds = holds_quiet g.E.LocalEngine.stands core home past (Ev.Fate tx) (Say.Committed c.in-Some.committed) h c.requires.up refl refl refl (λ tx. refl) })
+    (adds_quiet g.E.LocalEngine.stands core home past c.says.result (Ev.Fate tx) (Say.Committed c.in-Some.committed) h c.requires.up refl refl refl (λ t. refl) (λ t. refl) c.says.ensures)
 
 pub returns-in-Some-running : goal.returns-in-Some-running
-returns-in-Some-running g c = λ home past h.
+returns-in-Some-running g c = λ home past h may.
     let core = c.args.self.now in
     let tx = c.args.tx in
-    let runs = up_runs g.E.LocalEngine.stands core home past h c.requires.up in
-    let none = committed_is g.E.LocalEngine.stands core home past tx c.records.result.now None h c.records.ensures (sym c.in-None.is ∙ c.committed_local.ensures) in
-    let is = running_is core.runs.attempts.begun home past runs.listed (g.met.E.LocalEngine.right _ _ _ runs.stood) tx ∙ sym c.running.ensures in
-    adds_as g.E.LocalEngine.stands _ core home past _ _ (fate_running home past tx c.in-Some-running.running none (is ∙ c.in-Some-running.is))
-    (record { said = refl; holds = holds_quiet g.E.LocalEngine.stands core home past (Ev.Fate tx) (Say.Running c.in-Some-running.running) h c.requires.up refl refl refl (λ tx. refl) })
+    let u = is_up_at g.E.LocalEngine.stands core home past h.memory c.requires.up in
+    let none = sym (u.notes.committed_is tx) ∙ sym c.committed.ensures ∙ none_left c.committed.result c.in_default.not-Some in
+    let is = running_is core.book home past u.notes (g.met.E.LocalEngine.right _ _ _ u.engine) h.memory.begun tx may ∙ sym c.running.ensures ∙ c.in-Some-running.is in
+    adds_as g.E.LocalEngine.stands _ core home past _ _ (fate_running home past tx c.in-Some-running.running none is)
+    (adds_quiet g.E.LocalEngine.stands core home past c.says-in-Some-running.result (Ev.Fate tx) (Say.Running c.in-Some-running.running) h c.requires.up refl refl refl (λ t. refl) (λ t. refl) c.says-in-Some-running.ensures)
 
-pub returns-in-None-running : goal.returns-in-None-running
-returns-in-None-running g c = λ home past h.
+pub returns-then-begun-eq0 : goal.returns-then-begun-eq0
+returns-then-begun-eq0 g c = λ home past h may.
     let core = c.args.self.now in
     let tx = c.args.tx in
-    let runs = up_runs g.E.LocalEngine.stands core home past h c.requires.up in
-    let none = committed_is g.E.LocalEngine.stands core home past tx c.records.result.now None h c.records.ensures (sym c.in-None.is ∙ c.committed_local.ensures) in
-    let is = running_is core.runs.attempts.begun home past runs.listed (g.met.E.LocalEngine.right _ _ _ runs.stood) tx ∙ sym c.running.ensures in
-    adds_fate g.E.LocalEngine.stands core home past tx c.ended.result h c.requires.up none (is ∙ c.in-None-running.is) c.ended.ensures.begun c.ended.ensures.unbegun
+    let u = is_up_at g.E.LocalEngine.stands core home past h.memory c.requires.up in
+    let none = sym (u.notes.committed_is tx) ∙ sym c.committed.ensures ∙ none_left c.committed.result c.in_default.not-Some in
+    let is = running_is core.book home past u.notes (g.met.E.LocalEngine.right _ _ _ u.engine) h.memory.begun tx may ∙ sym c.running.ensures ∙ none_left c.running.result c.in_default-running.not-Some in
+    let zero : attempts_of past tx ≡ 0 = sym (h.memory.begun tx) ∙ sym c.begun.ensures ∙ c.if-begun-eq0.true in
+    adds_as g.E.LocalEngine.stands _ core home past _ _ (fate_unbegun home past tx none is (eq-eqb (attempts_of past tx) 0 zero))
+    (adds_quiet g.E.LocalEngine.stands core home past c.says-then-begun-eq0.result (Ev.Fate tx) Say.Unbegun h c.requires.up refl refl refl (λ t. refl) (λ t. refl) c.says-then-begun-eq0.ensures)
+
+pub returns-else-begun-eq0 : goal.returns-else-begun-eq0
+returns-else-begun-eq0 g c = λ home past h may.
+    let core = c.args.self.now in
+    let tx = c.args.tx in
+    let u = is_up_at g.E.LocalEngine.stands core home past h.memory c.requires.up in
+    let none = sym (u.notes.committed_is tx) ∙ sym c.committed.ensures ∙ none_left c.committed.result c.in_default.not-Some in
+    let is = running_is core.book home past u.notes (g.met.E.LocalEngine.right _ _ _ u.engine) h.memory.begun tx may ∙ sym c.running.ensures ∙ none_left c.running.result c.in_default-running.not-Some in
+    let some : attempts_of past tx ≡ 0 → ⊥ = λ e. c.if-begun-eq0.false (c.begun.ensures ∙ h.memory.begun tx ∙ e) in
+    adds_as g.E.LocalEngine.stands _ core home past _ _ (fate_ended home past tx none is (ne_eqb (attempts_of past tx) 0 some))
+    (adds_quiet g.E.LocalEngine.stands core home past c.says-else-begun-eq0.result (Ev.Fate tx) Say.Ended h c.requires.up refl refl refl (λ t. refl) (λ t. refl) c.says-else-begun-eq0.ensures)

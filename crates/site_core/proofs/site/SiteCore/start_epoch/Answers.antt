@@ -1,61 +1,115 @@
-use Rattle.std.proofs.Common.{ℕ, ◌+◌, refl, ap, ◌∙◌}
-use Rattle.fed_rules.specs.SitePast.{disk, trip}
-use Rattle.fed_rules.specs.SiteRecords.{epoch_of}
-use Rattle.site_core.proofs.BackLaws.{back_done, back_failed, back_stopped, down_kind, from_records, read_records, recoverable, stays_down, stored_anew}
+use Rattle.std.proofs.Common.{◌≡◌, ℕ, [], ◌+◌, ◌<◌, ◌^◌, None, length, map, refl, sym, ap, ◌∙◌, subst, arith}
+use Rattle.mdb_base.specs.declared.names.Engine.{Engine}
+use Rattle.fed_rules.specs.declared.answers.Answer.TheVariants as Say
+use Rattle.fed_rules.specs.declared.events.SiteStep.{SiteStep}
+use Rattle.fed_rules.specs.declared.sums.SiteSum.{SiteSum}
+use Rattle.fed_rules.specs.EngineLines.{IsStart}
+use Rattle.fed_rules.specs.SitePast.{SitePast, disk, epoch, records, trip}
+use Rattle.fed_rules.specs.SiteRecords.{Home, doubts, kept_held}
+use Rattle.prepared_state.specs.Book.{AreApart}
+use Rattle.engine_contract.specs.Calls.{start_from}
+use Rattle.journal_sums.specs.Starts.{doubt_held}
+use Rattle.site_core.specs.declared.site.SiteCore.{SiteCore}
+use Rattle.site_core.specs.Store.{Keeps, Store}
+use Rattle.site_core.proofs.BackLaws.{back_done, back_failed, back_stopped, doubts_apart_here, epoch_read, kind_kept, start_good, started_kind, stays_down}
+use Rattle.site_core.proofs.CheckLaws.{roomier}
+use Rattle.site_core.proofs.JournalLaws.{is_journal, sum_is}
+use Rattle.site_core.proofs.RememberLaws.{kind_at}
+use Rattle.site_core.proofs.SumLaws.{few_doubts}
 use Rattle.site_core.proofs.site.SiteCore.start_epoch.Goals as goal
 
-pub recovered_rows-requires : goal.recovered_rows-requires
-recovered_rows-requires g c =
+pub read_sum-requires : goal.read_sum-requires
+read_sum-requires g c =
     let m = c.requires.may in
-    recoverable g.E.LocalEngine.stands g.D.Disk.tells c.args.self.now m.home m.past c.records-records.result.now m.stood.holds c.records-records.ensures
+    is_journal g.E.LocalEngine.stands c.args.self.now m.home m.past c.records.result.now m.stood.holds.made m.stood.holds.memory c.records.ensures
+
+pub overflow_add-epoch : goal.overflow_add-epoch
+overflow_add-epoch g c =
+    let m = c.requires.may in
+    let is = sum_is g.E.LocalEngine.stands c.args.self.now m.home m.past c.records.result.now c.in-Ok.sum m.stood.holds.made m.stood.holds.memory c.records.ensures c.in-Ok.ensures in
+    let same : c.in-Ok.sum.epoch ≡ epoch m.home m.past = epoch_read m.home m.past c.in-Ok.sum is in
+    let fits : epoch m.home m.past + 1 < 2 ^ 32 = m.holds in
+    omega (arith, same, fits)
+
+pub overflow_cast-doubtful : goal.overflow_cast-doubtful
+overflow_cast-doubtful g c =
+    let m = c.requires.may in
+    let is = sum_is g.E.LocalEngine.stands c.args.self.now m.home m.past c.records.result.now c.in-Ok.sum m.stood.holds.made m.stood.holds.memory c.records.ensures c.in-Ok.ensures in
+    let few = few_doubts (records m.home m.past) m.stood.stored.written in
+    let same : length c.in-Ok.sum.doubtful ≡ length (doubts (records m.home m.past)) = ap (λ (s : SiteSum). length s.doubtful) is in
+    omega (arith, c.len-doubtful.ensures, same, few)
 
 pub returns-in_default-make_room-clause-failed : goal.returns-in_default-make_room-clause-failed
 returns-in_default-make_room-clause-failed g c = λ home past k.
-    stored_anew g.E.LocalEngine.stands g.D.Disk.tells c.args.self.now _ (g.D.Disk.seen c.args.disk.now) (g.D.Disk.seen c.make_room.new.disk) home past k c.requires.down (c.make_room.ensures.keeps _ _ k.stored) c.make_room.ensures.standing refl refl
+    roomier g.E.LocalEngine.stands g.D.Disk.tells c.args.self.now _ (g.D.Disk.seen c.args.disk.now) (g.D.Disk.seen c.make_room.new.disk) home past k (c.make_room.ensures.keeps _ _ k.stored) c.make_room.ensures.standing refl
 
-pub returns-in_default-restart-clause-failed : goal.returns-in_default-restart-clause-failed
-returns-in_default-restart-clause-failed g c = λ home past k.
+pub recover-requires-clause-start : goal.recover-requires-clause-start
+recover-requires-clause-start g c =
+    let m = c.requires.may in
     let core = c.args.self.now in
-    let stopped = down_kind g.E.LocalEngine.stands g.D.Disk.tells core home past k.holds c.requires.down in
-    stays_down g.E.LocalEngine.stands g.D.Disk.tells core _ (g.D.Disk.seen c.args.disk.now) (g.D.Disk.seen c.make_room.new.disk) home past k c.requires.down
-    (c.make_room.ensures.keeps _ _ k.stored) c.make_room.ensures.standing refl (c.in_default-restart.ensures.memory home.engine stopped.engine) c.restart.ensures.attempts
+    let is = sum_is g.E.LocalEngine.stands core m.home m.past c.records.result.now c.in-Ok.sum m.stood.holds.made m.stood.holds.memory c.records.ensures c.in-Ok.ensures in
+    let kind = kind_at g.E.LocalEngine.stands core m.home m.past m.stood.holds.memory in
+    let same : g.E.LocalEngine.kind core.engine ≡ m.home.engine = sym (g.met.E.LocalEngine.of_kind core.engine kind.start kind.lines kind.stood) ∙ kind.of_kind in
+    let S : Engine → SiteSum → Type 0 = λ k s. IsStart (start_from k s.rows (map kept_held s.doubtful) s.counter s.published s.owner) in
+    subst (λ (k : Engine). S k c.in-Ok.sum) (sym same) (subst (λ (s : SiteSum). S m.home.engine s) (sym is) (start_good m.home m.past m.stood.holds.made))
+
+pub recover-requires-clause-apart : goal.recover-requires-clause-apart
+recover-requires-clause-apart g c =
+    let m = c.requires.may in
+    let is = sum_is g.E.LocalEngine.stands c.args.self.now m.home m.past c.records.result.now c.in-Ok.sum m.stood.holds.made m.stood.holds.memory c.records.ensures c.in-Ok.ensures in
+    subst (λ (s : SiteSum). AreApart (map doubt_held s.doubtful)) (sym is) (doubts_apart_here m.home m.past)
+
+pub returns-in_default-recover-clause-failed : goal.returns-in_default-recover-clause-failed
+returns-in_default-recover-clause-failed g c = λ home past k.
+    let core = c.args.self.now in
+    let store : c.recover.new.self.store ≡ c.make_room.new.self = ap (λ (x : SiteCore _). x.store) c.recover.ensures.rest in
+    let P : Store → Type 0 = λ s. Keeps g.D.Disk.tells (g.D.Disk.seen c.make_room.new.disk) s (disk home past) (trip past) in
+    stays_down g.E.LocalEngine.stands g.D.Disk.tells core c.recover.new.self (g.D.Disk.seen c.args.disk.now) (g.D.Disk.seen c.make_room.new.disk) home past k c.requires.down
+    (subst P (sym store) (c.make_room.ensures.keeps _ _ k.stored)) (ap (λ (s : Store). s.standing) store ∙ c.make_room.ensures.standing)
+    (kind_kept g.E.LocalEngine.stands core.engine c.recover.new.self.engine home.engine (kind_at g.E.LocalEngine.stands core home past k.holds.memory) c.in_default-recover.ensures.memory)
+    c.recover.ensures.begun (ap (λ (x : SiteCore _). x.protocol) c.recover.ensures.rest)
 
 pub start-requires-clause-kept : goal.start-requires-clause-kept
 start-requires-clause-kept g c =
     let m = c.requires.may in
-    (disk m.home m.past, trip m.past, c.make_room.ensures.keeps _ _ m.stood.stored)
+    let store : c.recover.new.self.store ≡ c.make_room.new.self = ap (λ (x : SiteCore _). x.store) c.recover.ensures.rest in
+    let P : Store → Type 0 = λ s. Keeps g.D.Disk.tells (g.D.Disk.seen c.make_room.new.disk) s (disk m.home m.past) (trip m.past) in
+    (disk m.home m.past, trip m.past, subst P (sym store) (c.make_room.ensures.keeps _ _ m.stood.stored))
 
 pub returns-in-Ok-start-clause-answered : goal.returns-in-Ok-start-clause-answered
 returns-in-Ok-start-clause-answered g c = λ home past k.
     let core = c.args.self.now in
-    let slice = c.records-records.result.now in
-    let stopped = down_kind g.E.LocalEngine.stands g.D.Disk.tells core home past k.holds c.requires.down in
-    let read = read_records g.E.LocalEngine.stands g.D.Disk.tells core home past slice k.holds c.records-records.ensures in
-    let running = from_records g.E.LocalEngine.stands g.D.Disk.tells c.restart.new.self home past slice c.in-Ok.rows c.last_number-counter.result read c.in-Ok.ensures c.last_number-counter.ensures
-    (c.in-Ok-restart.ensures.started home.engine stopped.engine) in
-    back_done g.E.LocalEngine.stands g.D.Disk.tells core _ (g.D.Disk.seen c.args.disk.now) (g.D.Disk.seen c.start.new.disk) home past (c.epoch_of-epoch.result + 1) k c.requires.down
-    (ap (λ (n : ℕ). n + 1) (c.epoch_of-epoch.ensures ∙ ap epoch_of read))
-    (c.in-Ok-start.ensures.ends (disk home past) (trip past) (c.make_room.ensures.keeps _ _ k.stored)) c.in-Ok-start.ensures.standing refl c.restart.ensures.attempts running
+    let store : c.recover.new.self.store ≡ c.make_room.new.self = ap (λ (x : SiteCore _). x.store) c.recover.ensures.rest in
+    let P : Store → Type 0 = λ s. Keeps g.D.Disk.tells (g.D.Disk.seen c.make_room.new.disk) s (disk home past) (trip past) in
+    let kept = subst P (sym store) (c.make_room.ensures.keeps (disk home past) (trip past) k.stored) in
+    let is = sum_is g.E.LocalEngine.stands core home past c.records.result.now c.in-Ok.sum k.holds.made k.holds.memory c.records.ensures c.in-Ok.ensures in
+    let kind = kind_at g.E.LocalEngine.stands core home past k.holds.memory in
+    let S : Engine → Type 0 = λ e. g.E.LocalEngine.stands c.recover.new.self.engine (start_from e c.in-Ok.sum.rows (map kept_held c.in-Ok.sum.doubtful) c.in-Ok.sum.counter c.in-Ok.sum.published c.in-Ok.sum.owner) [] in
+    back_done g.E.LocalEngine.stands g.D.Disk.tells core _ c.says.result (g.D.Disk.seen c.args.disk.now) (g.D.Disk.seen c.start.new.disk) home past c.in-Ok.sum c.len-doubtful.result k c.requires.down is c.len-doubtful.ensures refl
+    (c.in-Ok-start.ensures.ends (disk home past) (trip past) kept) c.in-Ok-start.ensures.standing
+    (subst S kind.of_kind (c.in-Ok-recover.ensures.engine kind.start kind.lines kind.stood)) c.in-Ok-recover.ensures.book c.in-Ok-recover.ensures.doubts (ap (λ (x : SiteCore _). x.protocol) c.recover.ensures.rest) c.says.ensures
 
 pub returns-in-Err-Stopped-clause-answered : goal.returns-in-Err-Stopped-clause-answered
 returns-in-Err-Stopped-clause-answered g c = λ home past k.
     let core = c.args.self.now in
-    let stopped = down_kind g.E.LocalEngine.stands g.D.Disk.tells core home past k.holds c.requires.down in
-    let read = read_records g.E.LocalEngine.stands g.D.Disk.tells core home past c.records-records.result.now k.holds c.records-records.ensures in
-    let running = c.in-Ok-restart.ensures.started home.engine stopped.engine in
-    let ends = rw c.in-Err-Stopped.field-0-is at (c.in-Err-Stopped.ensures.ends (disk home past) (trip past) (c.make_room.ensures.keeps (disk home past) (trip past) k.stored)) in
-    let e = c.in-Err-Stopped.kept-is in
-    rw e (back_stopped g.E.LocalEngine.stands g.D.Disk.tells core _ (g.D.Disk.seen c.args.disk.now) (g.D.Disk.seen c.start.new.disk) home past (c.epoch_of-epoch.result + 1) c.in-Err-Stopped.kept k c.requires.down
-    (ap (λ (n : ℕ). n + 1) (c.epoch_of-epoch.ensures ∙ ap epoch_of read))
-    ends c.in-Err-Stopped.ensures.down refl c.restart.ensures.attempts (record { start = _; lines = _; stood = running.stood; of_kind = refl }))
+    let store : c.recover.new.self.store ≡ c.make_room.new.self = ap (λ (x : SiteCore _). x.store) c.recover.ensures.rest in
+    let P : Store → Type 0 = λ s. Keeps g.D.Disk.tells (g.D.Disk.seen c.make_room.new.disk) s (disk home past) (trip past) in
+    let kept = subst P (sym store) (c.make_room.ensures.keeps (disk home past) (trip past) k.stored) in
+    let is = sum_is g.E.LocalEngine.stands core home past c.records.result.now c.in-Ok.sum k.holds.made k.holds.memory c.records.ensures c.in-Ok.ensures in
+    let ends = rw c.in-Err-Stopped.field-0-is at (c.in-Err-Stopped.ensures.ends (disk home past) (trip past) kept) in
+    back_stopped g.E.LocalEngine.stands g.D.Disk.tells core _ c.says-in-Err-Stopped.result (g.D.Disk.seen c.args.disk.now) (g.D.Disk.seen c.start.new.disk) home past c.in-Ok.sum _ k c.requires.down is refl
+    ends c.in-Err-Stopped.ensures.down (started_kind g.E.LocalEngine.stands core.engine c.recover.new.self.engine home.engine (kind_at g.E.LocalEngine.stands core home past k.holds.memory) c.in-Ok-recover.ensures.engine)
+    c.recover.ensures.begun (ap (λ (x : SiteCore _). x.protocol) c.recover.ensures.rest)
+    (c.says-in-Err-Stopped.ensures ∙ ap (λ (n : ℕ). let s : SiteStep = record { answer = Say.Stopped n; sends = None } in s) c.in-Err-Stopped.kept-is)
 
-pub returns-clause-failed : goal.returns-clause-failed
-returns-clause-failed g c = λ home past k.
+pub returns-in-Err-Failed-clause-failed : goal.returns-in-Err-Failed-clause-failed
+returns-in-Err-Failed-clause-failed g c = λ home past k.
     let core = c.args.self.now in
-    let stopped = down_kind g.E.LocalEngine.stands g.D.Disk.tells core home past k.holds c.requires.down in
-    let read = read_records g.E.LocalEngine.stands g.D.Disk.tells core home past c.records-records.result.now k.holds c.records-records.ensures in
-    let running = c.in-Ok-restart.ensures.started home.engine stopped.engine in
-    let ends = rw c.in-Err-Failed.field-0-is at (c.in-Err-Failed.ensures.ends (disk home past) (trip past) (c.make_room.ensures.keeps (disk home past) (trip past) k.stored)) in
-    back_failed g.E.LocalEngine.stands g.D.Disk.tells core _ (g.D.Disk.seen c.args.disk.now) (g.D.Disk.seen c.start.new.disk) home past (c.epoch_of-epoch.result + 1) k c.requires.down
-    (ap (λ (n : ℕ). n + 1) (c.epoch_of-epoch.ensures ∙ ap epoch_of read))
-    ends c.in-Err-Failed.ensures.down refl c.restart.ensures.attempts (record { start = _; lines = _; stood = running.stood; of_kind = refl })
+    let store : c.recover.new.self.store ≡ c.make_room.new.self = ap (λ (x : SiteCore _). x.store) c.recover.ensures.rest in
+    let P : Store → Type 0 = λ s. Keeps g.D.Disk.tells (g.D.Disk.seen c.make_room.new.disk) s (disk home past) (trip past) in
+    let kept = subst P (sym store) (c.make_room.ensures.keeps (disk home past) (trip past) k.stored) in
+    let is = sum_is g.E.LocalEngine.stands core home past c.records.result.now c.in-Ok.sum k.holds.made k.holds.memory c.records.ensures c.in-Ok.ensures in
+    let ends = rw c.in-Err-Failed.field-0-is at (c.in-Err-Failed.ensures.ends (disk home past) (trip past) kept) in
+    back_failed g.E.LocalEngine.stands g.D.Disk.tells core _ (g.D.Disk.seen c.args.disk.now) (g.D.Disk.seen c.start.new.disk) home past c.in-Ok.sum k c.requires.down is refl
+    ends c.in-Err-Failed.ensures.down (started_kind g.E.LocalEngine.stands core.engine c.recover.new.self.engine home.engine (kind_at g.E.LocalEngine.stands core home past k.holds.memory) c.in-Ok-recover.ensures.engine)
+    c.recover.ensures.begun (ap (λ (x : SiteCore _). x.protocol) c.recover.ensures.rest)

@@ -1,0 +1,79 @@
+-- A step of a core: the line that it answers goes on with a past that events made.
+use Rattle.std.proofs.Common.{◌≡◌, ℕ, Bool, false, true, List, [], ◌∷◌, refl, sym, ap, ◌∙◌, subst}
+use Rattle.fed_rules.specs.declared.events.SiteEvent.{SiteEvent}
+use Rattle.fed_rules.specs.declared.events.SiteEvent.TheVariants as Ev
+use Rattle.fed_rules.specs.declared.messages.ToSite.TheVariants as To
+use Rattle.fed_rules.specs.declared.events.SiteStep.{SiteStep}
+use Rattle.fed_rules.specs.Happenings.{is_down}
+use Rattle.fed_rules.specs.Runs as Lines
+use Rattle.fed_rules.specs.Runs.{EngineLine}
+use Rattle.fed_rules.specs.Site.{site_line}
+use Rattle.fed_rules.specs.SitePast.{SiteHappening, SitePast}
+use Rattle.fed_rules.specs.SiteRecords.{Home}
+use Rattle.journal_disk.specs.Disk.{Seen}
+use Rattle.actor_store.specs.declared.errors.StepErr.{StepErr}
+use Rattle.actor_store.specs.declared.errors.StepErr.TheVariants as Err_is
+use Rattle.site_core.specs.declared.site.SiteCore.{SiteCore}
+use Rattle.site_core.specs.Made.{IsApart, IsMade}
+use Rattle.site_core.specs.Stands.{Answers, Before, Breaks, Carries, Fails, Stands, Steps, StopAt, Within, behind, stopped_past}
+use Rattle.site_core.specs.Steps.{CanStep}
+use Rattle.site_core.proofs.MadeLaws.{made_more}
+use Rattle.site_core.proofs.StopLaws.{trip_is, trip_line}
+
+-- an event that a step takes may come
+pub can_come : (home : Home) (past : SitePast) (event : SiteEvent) → CanStep event home past → IsApart past event
+can_come home past (Ev.Begin tid) may = may.apart
+can_come home past (Ev.Act tid act) may = may.apart
+can_come home past (Ev.Commit tid) may = may.apart
+can_come home past (Ev.Abort tid) may = may
+can_come home past (Ev.Fate tx) may = tt
+can_come home past (Ev.Give (To.Take tid epoch n)) may = may.apart
+can_come home past (Ev.Give (To.Work tid epoch n act)) may = may.apart
+can_come home past (Ev.Give (To.Prepare tid epoch n)) may = may.apart
+can_come home past (Ev.Give (To.Decide tid decision)) may = may.apart
+can_come home past (Ev.Ask tid) may = tt
+can_come home past (Ev.Drop tid) may = tt
+can_come home past (Ev.Halt cut) may = tt
+can_come home past (Ev.Trip calls cut) may = tt
+can_come home past Ev.Back may = tt
+can_come home past Ev.Check may = tt
+
+-- also where a trip is set before it
+still_apart : (past : SitePast) (event : SiteEvent) (calls cut : ℕ) → IsApart past event → IsApart (trip_line calls cut ∷ past) event
+still_apart past (Ev.Begin tid) calls cut a = a
+still_apart past (Ev.Act tid act) calls cut a = a
+still_apart past (Ev.Commit tid) calls cut a = a
+still_apart past (Ev.Abort tid) calls cut a = a
+still_apart past (Ev.Fate tx) calls cut a = a
+still_apart past (Ev.Give message) calls cut a = a
+still_apart past (Ev.Ask tid) calls cut a = a
+still_apart past (Ev.Drop tid) calls cut a = a
+still_apart past (Ev.Halt cut') calls cut a = a
+still_apart past (Ev.Trip calls' cut') calls cut a = a
+still_apart past Ev.Back calls cut a = a
+still_apart past Ev.Check calls cut a = a
+
+-- what such a stop leaves is made by events
+pub stopped_made : (home : Home) (past : SitePast) (event : SiteEvent) (at : StopAt) → IsMade home past → IsApart past event → IsMade home (stopped_past home past event at)
+stopped_made home past event (Before cut) made apart = made_more home (behind home past (Ev.Trip 0 0)) (Ev.Halt cut) (made_more home past (Ev.Trip 0 0) made tt) tt
+stopped_made home past event (Within calls cut) made apart =
+    let P : SiteHappening → Type 0 = λ t. IsApart (t ∷ past) event in
+    made_more home (behind home past (Ev.Trip calls cut)) event (made_more home past (Ev.Trip calls cut) made tt) (subst P (sym (trip_is home past calls cut)) (still_apart past event calls cut apart))
+
+module _ {E : Type 0} (stands : E → Lines.Start → List EngineLine → Type 0) (tells : Bool) where
+  pub steps : (old new : SiteCore E) (step : SiteStep) (disk disk' : Seen) (home : Home) (past : SitePast) (event : SiteEvent) → Stands stands tells old disk home past → CanStep event home past
+      → Answers stands tells step new disk' home past (site_line home past event) → Steps stands tells step new disk' home past (site_line home past event)
+  steps old new step disk disk' home past event k may a = record {
+    answer = a.answer;
+    sends = a.sends;
+    stood = record { holds = record { made = made_more home past event k.holds.made (can_come home past event may); memory = a.carries.memory }; stored = a.carries.stored };
+  }
+
+  pub fails : (old new : SiteCore E) (why : StepErr) (disk disk' : Seen) (home : Home) (past : SitePast) (event : SiteEvent) → Stands stands tells old disk home past → CanStep event home past
+      → Breaks stands tells why new disk' home past event → Fails stands tells why new disk' home past event
+  fails old new Err_is.Memory disk disk' home past event k may b = record { holds = record { made = k.holds.made; memory = b.memory }; stored = b.stored }
+  fails old new Err_is.Disk disk disk' home past event k may (at, c, down) = (
+    at,
+    record { holds = record { made = stopped_made home past event at k.holds.made (can_come home past event may); memory = c.memory }; stored = c.stored },
+    down,
+  )

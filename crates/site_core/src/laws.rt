@@ -1,0 +1,20 @@
+//! What holds of every past that the core of a site stands for.
+ghost use Rattle.fed_rules.specs.SitePast.{SitePast};
+ghost use Rattle.fed_rules.specs.SiteRecords.{Home};
+ghost use Rattle.site_history.specs.Events.{PreparesOnce};
+ghost use Rattle.site_history.specs.Lines.{HasRightLines};
+ghost use Rattle.site_history.specs.SiteOrders.{HasGoodStarts, IsSerialPast};
+ghost use Rattle.sum_laws.specs.Sums.{JournalSaysAll, JournalTellsStart};
+ghost use Rattle.site_core.specs.Made.{IsMade};
+
+/// Whatever events made the past of a site, over all its stops, starts and Checkpoints: each engine line may come there and answers by the
+/// rule, and the sealed runs are those in doubt; each epoch starts well; and the journal on the disk says what all records say. Where no
+/// attempt is prepared twice, the committed attempts by their serial numbers are serial, and so they are with all prepared ones whose
+/// outcome is commit.
+pub fn made_pasts_are_serial()
+    ensures lines { (home : Home) (past : SitePast) → IsMade home past → HasRightLines home past }
+    ensures starts { (home : Home) (past : SitePast) → IsMade home past → HasGoodStarts home past }
+    ensures sums { (home : Home) (past : SitePast) → IsMade home past → JournalSaysAll home past }
+    ensures restarts { (home : Home) (past : SitePast) → IsMade home past → JournalTellsStart home past }
+    ensures serial { (home : Home) (past : SitePast) → IsMade home past → PreparesOnce home past → IsSerialPast home past }
+{}

@@ -1,0 +1,48 @@
+//! The messages of a coordinator.
+ghost use Rattle.std.specs.Prelude.{◌≡◌, ◌≤◌, IfOk, IfErr, IsErrOf, IsTrue};
+ghost use Rattle.mdb_base.specs.Counts.{HasRisen};
+ghost use Rattle.fed_rules.specs.Site.{of_give, unless_tripped};
+ghost use Rattle.site_core.specs.Stands.{Answers, Breaks, Stands};
+ghost use Rattle.site_core.specs.Steps.{CanTakeMessage, EachPast, SomePast};
+
+use crate::site::SiteCore;
+use actor_store::{Standing, StepErr};
+use engine_contract::LocalEngine;
+use fed_rules::{SiteEvent, SiteStep, ToSite};
+use journal_disk::Disk;
+use mdb_base::Memory;
+use std::alloc::Global;
+
+impl<E: LocalEngine> SiteCore<E> {
+    /// Carries out a message of a coordinator.
+    pub(crate) fn give<D: Disk>(
+        &mut self,
+        alloc: Global,
+        disk: &mut D,
+        message: ToSite,
+    ) -> Result<SiteStep, StepErr>
+        requires told { IsTrue D.tells }
+        requires up { self.old.store.standing ≡ Standing.Up }
+        requires may { SomePast (Stands E.stands D.tells self.old (D.seen disk.old)) (CanTakeMessage message) }
+        ensures answered { IfOk result (λ step. EachPast (Stands E.stands D.tells self.old (D.seen disk.old))
+            (λ home past. CanTakeMessage message home past → Answers E.stands D.tells step self.new (D.seen disk.new) home past
+            (unless_tripped home past (of_give home past message)))) }
+        ensures failed { IfErr result (λ why. EachPast (Stands E.stands D.tells self.old (D.seen disk.old))
+            (λ home past. CanTakeMessage message home past → Breaks E.stands D.tells why self.new (D.seen disk.new) home past (SiteEvent.Give (message)))) }
+        ensures cause { IsErrOf result StepErr.Disk → HasRisen (D.seen disk.old).faults (D.seen disk.new).faults }
+        ensures faults { (D.seen disk.old).faults ≤ (D.seen disk.new).faults }
+    {
+        match message {
+            ToSite::Work { tid, epoch, n, act } => match self.work(alloc, tid, epoch, n, act) {
+                Ok(step) => Ok(step),
+                Err(Memory) => Err(StepErr::Memory),
+            },
+            ToSite::Take { tid, epoch, n } => match self.take(alloc, tid, epoch, n) {
+                Ok(step) => Ok(step),
+                Err(Memory) => Err(StepErr::Memory),
+            },
+            ToSite::Prepare { tid, epoch, n } => self.prepare(alloc, disk, tid, epoch, n),
+            ToSite::Decide { tid, decision } => self.decide(alloc, disk, tid, decision),
+        }
+    }
+}
