@@ -1,0 +1,117 @@
+//! A local database system, and how it hands events to its core.
+ghost use Rattle.std.specs.Prelude.{◌≡◌, ◌≤◌, [], Bool, length, IsTrue, IfOk, IfErr, IsErrOf};
+ghost use Rattle.mdb_base.specs.Counts.{HasRisen};
+ghost use Rattle.mdb_base.specs.Words.{Each};
+ghost use Rattle.record_fields.specs.Named.{IsSite};
+ghost use Rattle.fed_rules.specs.Disk.{empty_disk};
+ghost use Rattle.fed_rules.specs.Requests.{Submits};
+ghost use Rattle.fed_rules.specs.SitePast.{set_up_calls};
+ghost use Rattle.journal_disk.specs.Disk.{Seen};
+ghost use Rattle.engine_contract.specs.Calls.{fresh_start};
+ghost use Rattle.site_core.specs.Stands.{Stands as CoreStands};
+ghost use Rattle.site_core.specs.Store.{SomeStop};
+ghost use Rattle.local_dbms.specs.Stands.{CanHand, CanServe, Each_site, Fails, IsNamed, Sends, Serves, Some_site, Stands, home_from, own_programs, request_of};
+
+use crate::programs::programs_of;
+use crate::requests::Request;
+use engine_contract::LocalEngine;
+use fed_rules::{Answer, SiteEvent, SiteLine, SiteStep, TxLine};
+use journal_disk::Disk;
+use mdb_base::{Program, Puts, Tx};
+use site_core::{SiteCore, StepErr};
+use std::alloc::Global;
+use std::collections::BTreeMap;
+
+/// A local database system: its core, and the programs of its local transactions.
+#[derive(Drop)]
+pub struct LocalDbms<E: LocalEngine> {
+    pub(crate) core: SiteCore<E>,
+    pub(crate) programs: BTreeMap<Tx, Program>,
+}
+
+impl<E: LocalEngine> LocalDbms<E> {
+    /// Sets a new site up on an empty disk, with a new engine of its rule with these first rows. Its own transactions are those that are
+    /// local at this site by their lines, of several of one number the first. Without memory the disk stays empty. Where a disk call
+    /// fails, the disk holds what some stop within the calls of the set-up leaves.
+    pub fn set_up<D: Disk>(
+        alloc: Global,
+        disk: &mut D,
+        line: SiteLine,
+        items: Puts,
+        local: E,
+        transactions: &[TxLine],
+    ) -> Result<LocalDbms<E>, StepErr>
+        requires told { IsTrue D.tells }
+        requires empty { (D.seen disk.old).size ≡ 0 }
+        requires site { IsSite line.site }
+        requires few { length items ≤ 4096 }
+        requires fresh { E.stands local (fresh_start line.engine items) [] }
+        requires named { Each IsNamed transactions.now }
+        ensures stands { IfOk result (λ dbms. Stands E.stands D.tells dbms (D.seen disk.new) (home_from line items) (own_programs line.site transactions.now) []) }
+        ensures memory { IsErrOf result StepErr.Memory → (D.seen disk.new).image ≡ (D.seen disk.old).image }
+        ensures untouched { IsErrOf result StepErr.Memory → (D.seen disk.new).size ≡ 0 }
+        ensures broken { IsErrOf result StepErr.Disk → SomeStop (D.seen disk.new).image empty_disk (set_up_calls (home_from line items)) }
+        ensures cause { IsErrOf result StepErr.Disk → HasRisen (D.seen disk.old).faults (D.seen disk.new).faults }
+        ensures faults { (D.seen disk.old).faults ≤ (D.seen disk.new).faults }
+    {
+        let Ok(programs) = programs_of(alloc, line.site, transactions) else {
+            return Err(StepErr::Memory);
+        };
+        let (site, engine, protocol) = (line.site, line.engine, line.protocol);
+        match SiteCore::set_up(alloc, disk, site, engine, items, protocol, local) {
+            Ok(core) => Ok(LocalDbms { core, programs }),
+            Err(why) => Err(why),
+        }
+    }
+
+    /// The core of the site, which answers what is asked of its rows and records.
+    pub fn core(&self) -> &SiteCore<E>
+        ensures { (tells : Bool) (disk : Seen) → Each_site (Stands E.stands tells self.now disk) (λ home programs past. CoreStands E.stands tells result.now disk home past) }
+    {
+        &self.core
+    }
+
+    /// The core answers an event that may come there and fits the programs.
+    pub(crate) fn hand<D: Disk>(
+        &mut self,
+        alloc: Global,
+        disk: &mut D,
+        event: SiteEvent,
+    ) -> Result<SiteStep, StepErr>
+        requires told { IsTrue D.tells }
+        requires may { Some_site (Stands E.stands D.tells self.old (D.seen disk.old)) (CanHand event) }
+        ensures served { IfOk result (λ step. Each_site (Stands E.stands D.tells self.old (D.seen disk.old))
+            (λ home programs past. CanHand event home programs past → Sends (Stands E.stands D.tells self.new (D.seen disk.new)) step home programs past event)) }
+        ensures failed { IfErr result (λ why. Each_site (Stands E.stands D.tells self.old (D.seen disk.old))
+            (λ home programs past. CanHand event home programs past → Fails (Stands E.stands D.tells self.new (D.seen disk.new)) why home programs past (Submits event))) }
+        ensures cause { IsErrOf result StepErr.Disk → HasRisen (D.seen disk.old).faults (D.seen disk.new).faults }
+        ensures faults { (D.seen disk.old).faults ≤ (D.seen disk.new).faults }
+    {
+        self.core.step(alloc, disk, event)
+    }
+
+    /// Serves a request: the core answers its event.
+    pub(crate) fn serve<D: Disk>(
+        &mut self,
+        alloc: Global,
+        disk: &mut D,
+        request: Request,
+    ) -> Result<Answer, StepErr>
+        requires told { IsTrue D.tells }
+        requires may { Some_site (Stands E.stands D.tells self.old (D.seen disk.old)) (CanServe request) }
+        ensures served { IfOk result (λ answer. Each_site (Stands E.stands D.tells self.old (D.seen disk.old))
+            (λ home programs past. CanServe request home programs past → Serves (Stands E.stands D.tells self.new (D.seen disk.new)) answer home programs past (request_of request))) }
+        ensures failed { IfErr result (λ why. Each_site (Stands E.stands D.tells self.old (D.seen disk.old))
+            (λ home programs past. CanServe request home programs past → Fails (Stands E.stands D.tells self.new (D.seen disk.new)) why home programs past (request_of request))) }
+        ensures cause { IsErrOf result StepErr.Disk → HasRisen (D.seen disk.old).faults (D.seen disk.new).faults }
+        ensures faults { (D.seen disk.old).faults ≤ (D.seen disk.new).faults }
+    {
+        match request {
+            Request::Declines(answer) => Ok(answer),
+            Request::Submits(event) => match self.hand(alloc, disk, event) {
+                Ok(step) => Ok(step.answer),
+                Err(why) => Err(why),
+            },
+        }
+    }
+}

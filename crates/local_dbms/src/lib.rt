@@ -1,0 +1,12 @@
+//! One participating database system of a federation, seen from its own past alone: its core, and the programs of the local transactions
+//! that are submitted to it by their numbers. A world of several sites and a host behind a lock use it alike.
+#![tactic(auto)]
+
+mod dbms;
+mod programs;
+mod requests;
+mod site_commands;
+mod tx_commands;
+
+pub use dbms::LocalDbms;
+pub use site_core::StepErr;
