@@ -10,3 +10,6 @@ mod tx_commands;
 
 pub use dbms::LocalDbms;
 pub use site_core::StepErr;
+
+#[cfg(test)]
+mod tests;

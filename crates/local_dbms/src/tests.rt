@@ -1,0 +1,269 @@
+//! Scripts at a site on a disk in memory: what it answers to one command after another.
+ghost use Rattle.std.specs.Prelude.{◌≡◌, ◌≤◌, ◌+◌, IfOk, OnOk, IfSome};
+ghost use Rattle.journal_disk.specs.MemDisk.{mem_size};
+ghost use Rattle.local_dbms.specs.Sessions.{IsAbout, IsOfLines};
+
+use super::{LocalDbms, StepErr};
+use any_engine::AnyEngine;
+use fed_rules::{Answer, Command, SiteLine, SiteStep, ToSite};
+use journal_disk::MemDisk;
+use mdb_base::{Engine, Key, PlainAct, Put, Puts, SiteId, Tid, Tx};
+use presumptions::{Decision, Protocol};
+use std::alloc::Global;
+use std::process::Abort;
+use std::test::Fail;
+use trace_lines::read_line;
+
+// The transaction of the messages.
+const GLOBAL: Tx = Tx(1);
+
+// The message of this place about the transaction: first those of its attempt 0, and an act of its attempt 1 at the end.
+fn message(tx: Tx, place: u32) -> Option<ToSite>
+    ensures { IfSome result (IsAbout tx) }
+{
+    let act = PlainAct::Write(Key(1), 11);
+    let first = Tid { tx, attempt: 0 };
+    let second = Tid { tx, attempt: 1 };
+    match place {
+        0 => Some(ToSite::Work {
+            tid: first,
+            epoch: 0,
+            n: 0,
+            act,
+        }),
+        1 => Some(ToSite::Take {
+            tid: first,
+            epoch: 1,
+            n: 1,
+        }),
+        2 => Some(ToSite::Prepare {
+            tid: first,
+            epoch: 1,
+            n: 2,
+        }),
+        3 => Some(ToSite::Decide {
+            tid: first,
+            decision: Decision::Commit,
+        }),
+        4 => Some(ToSite::Decide {
+            tid: first,
+            decision: Decision::Abort,
+        }),
+        5 => Some(ToSite::Work {
+            tid: second,
+            epoch: 0,
+            n: 0,
+            act,
+        }),
+        _ => None,
+    }
+}
+
+// A step with this answer that sends nothing.
+fn alone(answer: Result<Answer, StepErr>) -> Result<SiteStep, StepErr> {
+    match answer {
+        Ok(answer) => Ok(SiteStep {
+            answer,
+            sends: None,
+        }),
+        Err(why) => Err(why),
+    }
+}
+
+// A site that stands for at most so many lines carries a command out; messages are about a transaction that isn't its own. It then
+// stands for at most two more, also where it fails: what a failed disk call leaves is a trip or a halt and a stopped line.
+fn asks(
+    dbms: &mut LocalDbms<AnyEngine>,
+    alloc: Global,
+    disk: &mut MemDisk,
+    foreign: Tx,
+    lines: u32,
+    command: Command,
+) -> Result<SiteStep, StepErr>
+    requires few { lines ≤ 1000 }
+    requires stood { IsOfLines lines foreign dbms.old disk.old }
+    ensures { IsOfLines (lines + 2) foreign dbms.new disk.new }
+{
+    match command {
+        Command::Begin(tx) => alone(dbms.begin(alloc, disk, tx)),
+        Command::Step(tx) => alone(dbms.step(alloc, disk, tx)),
+        Command::Commit(tx) => alone(dbms.commit(alloc, disk, tx)),
+        Command::Abort(tx) => alone(dbms.abort(alloc, disk, tx)),
+        Command::Fate(tx) => alone(dbms.fate(alloc, disk, tx)),
+        Command::Halt { cut, .. } => alone(dbms.halt(alloc, disk, cut)),
+        Command::Trip { calls, cut, .. } => alone(dbms.trip(alloc, disk, calls, cut)),
+        Command::Back { .. } => alone(dbms.back(alloc, disk)),
+        Command::Check { .. } => alone(dbms.check(alloc, disk)),
+        Command::Drop { tid, .. } => alone(dbms.drop(alloc, disk, tid)),
+        Command::Ask { tid, .. } => dbms.ask(alloc, disk, tid),
+        Command::Give { place, .. } => match message(foreign, place) {
+            Some(message) => dbms.give(alloc, disk, message),
+            None => alone(Ok(Answer::None)),
+        },
+        _ => alone(Ok(Answer::None)),
+    }
+}
+
+// Whether these are the same answer, of those that the scripts have.
+fn same(a: &Answer, b: &Answer) -> bool {
+    match a {
+        Answer::Down => matches!(b, Answer::Down),
+        Answer::Idle => matches!(b, Answer::Idle),
+        Answer::Set => matches!(b, Answer::Set),
+        Answer::Ended => matches!(b, Answer::Ended),
+        Answer::Checked => matches!(b, Answer::Checked),
+        Answer::Begun(a) => matches!(b, Answer::Begun(b) if a == b),
+        Answer::Committed(a) => matches!(b, Answer::Committed(b) if a == b),
+        Answer::Unheld(a) => matches!(b, Answer::Unheld(b) if a == b),
+        Answer::Asks(a) => matches!(b, Answer::Asks(b) if a == b),
+        Answer::Dropped(a) => matches!(b, Answer::Dropped(b) if a == b),
+        Answer::Read(a, n) => matches!(b, Answer::Read(b, m) if a == b && n == m),
+        Answer::Wrote(a, n) => matches!(b, Answer::Wrote(b, m) if a == b && n == m),
+        Answer::Invalid(a, n) => matches!(b, Answer::Invalid(b, m) if a == b && n == m),
+        Answer::Sealed(a, n) => matches!(b, Answer::Sealed(b, m) if a == b && n == m),
+        Answer::Stopped(a) => matches!(b, Answer::Stopped(b) if a == b),
+        Answer::Did(a, n) => matches!(b, Answer::Did(b, m) if a == b && n == m),
+        Answer::VotesYes(a, n) => matches!(b, Answer::VotesYes(b, m) if a == b && n == m),
+        Answer::VotesNo(a, n) => matches!(b, Answer::VotesNo(b, m) if a == b && n == m),
+        Answer::Settles(a, n) => matches!(b, Answer::Settles(b, m) if a == b && n == m),
+        Answer::UpSite { epoch, doubtful } => matches!(
+            b,
+            Answer::UpSite { epoch: e, doubtful: d } if epoch == e && doubtful == d
+        ),
+        _ => false,
+    }
+}
+
+// The site carries a script out: its lines are commands with their answers, and with the numbers of what is sent, counted from 0. Says
+// whether it came to the end: it ends where a disk call fails, or where the site stops and the script says otherwise.
+fn play(
+    rt: &impl Abort,
+    alloc: Global,
+    dbms: &mut LocalDbms<AnyEngine>,
+    disk: &mut MemDisk,
+    foreign: Tx,
+    start: u32,
+    script: &str,
+) -> Result<bool, Fail>
+    requires few { start ≤ 900 }
+    requires stood { IsOfLines start foreign dbms.old disk.old }
+    ensures { OnOk result (IsOfLines (start + 100) foreign dbms.new disk.new) }
+{
+    let mut sent: u32 = 0;
+    let mut lines = start;
+    for text in script.lines() {
+        if lines > start + 98 {
+            return Err(Fail::from("the script is too long"));
+        }
+        let line = read_line(alloc, text.as_bytes())?;
+        let asked = asks(dbms, alloc, disk, foreign, lines, line.command);
+        lines += 2;
+        let Ok(step) = asked else {
+            return Ok(false);
+        };
+        if matches!(step.answer, Answer::Stopped(_)) && !matches!(line.answer, Answer::Stopped(_)) {
+            return Ok(false);
+        }
+        assert!(rt; same(&step.answer, &line.answer), "{text}");
+        let mut want = None;
+        if step.sends.is_some() {
+            want = Some(sent);
+            sent = sent.saturating_add(1);
+        }
+        assert_eq!(rt;
+            line.sends.as_slice().first().map(|to| to.place),
+            want,
+            "{text}"
+        );
+    }
+    Ok(true)
+}
+
+// A new site 1 with no rows and no local transaction, on this empty disk.
+fn global_site(
+    alloc: Global,
+    disk: &mut MemDisk,
+    engine: Engine,
+    protocol: Protocol,
+) -> Result<LocalDbms<AnyEngine>, StepErr>
+    requires { mem_size disk.old ≡ 0 }
+    ensures { IfOk result (λ dbms. IsOfLines 0 GLOBAL dbms disk.new) }
+{
+    let items = Puts::of(Vec::new(alloc));
+    let line = SiteLine {
+        site: SiteId(1),
+        engine,
+        protocol,
+    };
+    let local = AnyEngine::new(alloc, engine, &items)?;
+    let dbms = LocalDbms::set_up(alloc, disk, line, items, local, &[])?;
+    Ok(dbms)
+}
+
+// Plays a script of messages about transaction 1 at a new site, to its end.
+fn plays_messages(
+    rt: &impl Abort,
+    alloc: Global,
+    engine: Engine,
+    protocol: Protocol,
+    script: &str,
+) -> Result<(), Fail> {
+    let mut disk = MemDisk::new(alloc)?;
+    let mut dbms = global_site(alloc, &mut disk, engine, protocol)?;
+    let ended = play(rt, alloc, &mut dbms, &mut disk, GLOBAL, 0, script)?;
+    assert!(rt; ended);
+    Ok(())
+}
+
+#[test]
+fn old_messages_are_unknown_also_behind_a_stop(rt: HostRuntime) -> Result<(), Fail> {
+    let script = "give 1 0 => did 1.0 done sends 0
+give 1 1 => did 1.0 ticket 1 sends 1
+give 1 2 => votes 1.0 yes 1 sends 2
+give 1 3 => settles 1.0 commit sends 3
+give 1 0 => did 1.0 unknown sends 4
+give 1 2 => votes 1.0 no unknown sends 5
+give 1 3 => unheld 1.0 sends 6
+halt 1 0 => stopped kept 4
+back 1 => up epoch 2 doubtful 0
+give 1 0 => did 1.0 done sends 7
+give 1 1 => did 1.0 unknown sends 8
+give 1 2 => votes 1.0 no unknown sends 9";
+    plays_messages(&rt, rt.alloc(), Engine::Locking, Protocol::Nothing, script)
+}
+
+#[test]
+fn a_prepared_one_is_in_doubt_behind_a_stop(rt: HostRuntime) -> Result<(), Fail> {
+    let script = "give 1 0 => did 1.0 done sends 0
+give 1 1 => did 1.0 ticket 1 sends 1
+give 1 2 => votes 1.0 yes 1 sends 2
+halt 1 0 => stopped kept 3
+back 1 => up epoch 2 doubtful 1
+ask 1 1.0 => asks 1.0 sends 3
+give 1 2 => votes 1.0 yes 1 sends 4
+give 1 4 => settles 1.0 abort";
+    let alloc = rt.alloc();
+    plays_messages(&rt, alloc, Engine::Timestamp, Protocol::Abort, script)?;
+    plays_messages(&rt, alloc, Engine::Locking, Protocol::Abort, script)
+}
+
+#[test]
+fn a_site_has_its_first_rows(rt: HostRuntime) -> Result<(), Fail> {
+    let alloc = rt.alloc();
+    let mut disk = MemDisk::new(alloc)?;
+    let row = Put {
+        key: Key(5),
+        value: 7,
+    };
+    let items = Puts::of(vec![in alloc; row]?);
+    let line = SiteLine {
+        site: SiteId(1),
+        engine: Engine::Locking,
+        protocol: Protocol::Nothing,
+    };
+    let local = AnyEngine::new(alloc, Engine::Locking, &items)?;
+    let dbms = LocalDbms::set_up(alloc, &mut disk, line, items, local, &[])?;
+    let rows = dbms.core().rows(alloc)?;
+    assert_eq!(rt; rows.as_slice(), [row].as_slice());
+    Ok(())
+}
