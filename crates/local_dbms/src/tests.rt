@@ -1,13 +1,13 @@
 //! Scripts at a site on a disk in memory: what it answers to one command after another.
-ghost use Rattle.std.specs.Prelude.{◌≡◌, ◌≤◌, ◌+◌, IfOk, OnOk, IfSome};
+ghost use Rattle.std.specs.Prelude.{◌≡◌, ◌≤◌, ◌+◌, ◌<◌, IfOk, OnOk, IfSome};
 ghost use Rattle.journal_disk.specs.MemDisk.{mem_size};
 ghost use Rattle.local_dbms.specs.Sessions.{IsAbout, IsOfLines};
 
 use super::{LocalDbms, StepErr};
 use any_engine::AnyEngine;
-use fed_rules::{Answer, Command, SiteLine, SiteStep, ToSite};
-use journal_disk::MemDisk;
-use mdb_base::{Engine, Key, PlainAct, Put, Puts, SiteId, Tid, Tx};
+use fed_rules::{Answer, Command, SiteLine, SiteRecord, SiteStep, ToSite, TxLine};
+use journal_disk::{Disk, MemDisk};
+use mdb_base::{Act, Engine, Key, PlainAct, Program, Put, Puts, SiteId, Step, Tid, Tx};
 use presumptions::{Decision, Protocol};
 use std::alloc::Global;
 use std::process::Abort;
@@ -16,6 +16,34 @@ use trace_lines::read_line;
 
 // The transaction of the messages.
 const GLOBAL: Tx = Tx(1);
+
+// A transaction that isn't the site's own, where 1 and 2 are.
+const OTHER: Tx = Tx(9);
+
+const GET_5: Step = Step {
+    site: SiteId(1),
+    act: Act::Get(Key(5)),
+};
+
+const SET_5_TO_1: Step = Step {
+    site: SiteId(1),
+    act: Act::Set(Key(5), 1),
+};
+
+const SET_5_TO_7: Step = Step {
+    site: SiteId(1),
+    act: Act::Set(Key(5), 7),
+};
+
+const SET_5_TO_9: Step = Step {
+    site: SiteId(1),
+    act: Act::Set(Key(5), 9),
+};
+
+const SET_6_TO_1: Step = Step {
+    site: SiteId(1),
+    act: Act::Set(Key(6), 1),
+};
 
 // The message of this place about the transaction: first those of its attempt 0, and an act of its attempt 1 at the end.
 fn message(tx: Tx, place: u32) -> Option<ToSite>
@@ -179,6 +207,44 @@ fn play(
     Ok(true)
 }
 
+// A new site 1 with no rows and the local transactions 1 and 2, on this empty disk; transaction 9 isn't its own.
+fn local_site(
+    alloc: Global,
+    disk: &mut MemDisk,
+    engine: Engine,
+    protocol: Protocol,
+    first: &[Step],
+    second: &[Step],
+) -> Result<LocalDbms<AnyEngine>, Fail>
+    requires { mem_size disk.old ≡ 0 }
+    ensures { IfOk result (λ dbms. IsOfLines 0 OTHER dbms disk.new) }
+{
+    let site = SiteId(1);
+    let items = Puts::of(Vec::new(alloc));
+    let line = SiteLine {
+        site,
+        engine,
+        protocol,
+    };
+    let local = AnyEngine::new(alloc, engine, &items)?;
+    let first = Program::new(alloc, first)?;
+    let second = Program::new(alloc, second)?;
+    let transactions = [
+        TxLine {
+            tx: Tx(1),
+            home: Some(site),
+            program: first,
+        },
+        TxLine {
+            tx: Tx(2),
+            home: Some(site),
+            program: second,
+        },
+    ];
+    let dbms = LocalDbms::set_up(alloc, disk, line, items, local, &transactions)?;
+    Ok(dbms)
+}
+
 // A new site 1 with no rows and no local transaction, on this empty disk.
 fn global_site(
     alloc: Global,
@@ -215,6 +281,23 @@ fn plays_messages(
     Ok(())
 }
 
+// Plays a script of the local transactions 1 and 2 at a new site, to its end, and gives the length of its disk.
+fn plays_locals(
+    rt: &impl Abort,
+    alloc: Global,
+    engine: Engine,
+    protocol: Protocol,
+    first: &[Step],
+    second: &[Step],
+    script: &str,
+) -> Result<u64, Fail> {
+    let mut disk = MemDisk::new(alloc)?;
+    let mut dbms = local_site(alloc, &mut disk, engine, protocol, first, second)?;
+    let ended = play(rt, alloc, &mut dbms, &mut disk, OTHER, 0, script)?;
+    assert!(rt; ended);
+    Ok(disk.len())
+}
+
 #[test]
 fn old_messages_are_unknown_also_behind_a_stop(rt: HostRuntime) -> Result<(), Fail> {
     let script = "give 1 0 => did 1.0 done sends 0
@@ -248,6 +331,110 @@ give 1 4 => settles 1.0 abort";
 }
 
 #[test]
+fn a_checkpoint_says_what_stood_before_it(rt: HostRuntime) -> Result<(), Fail> {
+    let script = "begin 1 => begun 1.0
+step 1 => wrote 5 7
+commit 1 => committed 1.0 number 2
+check 1 => checked
+halt 1 0 => stopped kept 1
+back 1 => up epoch 2 doubtful 0
+begin 1 => committed 1.0";
+    let kept = plays_locals(
+        &rt,
+        rt.alloc(),
+        Engine::Locking,
+        Protocol::Nothing,
+        &[SET_5_TO_7],
+        &[SET_5_TO_7],
+        script,
+    )?;
+    assert_eq!(rt; kept, 123);
+    Ok(())
+}
+
+#[test]
+fn a_checkpoint_that_a_stop_cuts_loses_nothing(rt: HostRuntime) -> Result<(), Fail> {
+    let torn = "begin 1 => begun 1.0
+step 1 => wrote 5 7
+commit 1 => committed 1.0 number 2
+trip 1 1 10 => set
+check 1 => stopped kept 3
+back 1 => up epoch 2 doubtful 0
+begin 1 => committed 1.0";
+    let untrimmed = "begin 1 => begun 1.0
+step 1 => wrote 5 7
+commit 1 => committed 1.0 number 2
+trip 1 2 0 => set
+check 1 => stopped kept 4
+back 1 => up epoch 2 doubtful 0
+begin 1 => committed 1.0";
+    for script in [torn, untrimmed] {
+        let _kept = plays_locals(
+            &rt,
+            rt.alloc(),
+            Engine::Locking,
+            Protocol::Nothing,
+            &[SET_5_TO_7],
+            &[SET_5_TO_7],
+            script,
+        )?;
+    }
+    Ok(())
+}
+
+#[test]
+fn a_commit_is_refused_by_validation(rt: HostRuntime) -> Result<(), Fail> {
+    let script = "begin 1 => begun 1.0
+begin 2 => begun 2.0
+step 1 => read 5 0
+step 2 => wrote 5 9
+commit 2 => committed 2.0 number 3
+step 1 => wrote 6 1
+commit 1 => invalid 2.0 5";
+    let _kept = plays_locals(
+        &rt,
+        rt.alloc(),
+        Engine::Validation,
+        Protocol::Abort,
+        &[GET_5, SET_6_TO_1],
+        &[SET_5_TO_9],
+        script,
+    )?;
+    Ok(())
+}
+
+#[test]
+fn a_commit_that_a_stop_cuts_is_kept_or_lost_whole(rt: HostRuntime) -> Result<(), Fail> {
+    let kept = "begin 1 => begun 1.0
+step 1 => wrote 5 1
+trip 1 1 65535 => set
+commit 1 => stopped kept 3
+begin 1 => down
+back 1 => up epoch 2 doubtful 0
+fate 1 => committed 1.0
+begin 1 => committed 1.0";
+    let lost = "begin 1 => begun 1.0
+step 1 => wrote 5 1
+trip 1 1 0 => set
+commit 1 => stopped kept 2
+back 1 => up epoch 2 doubtful 0
+fate 1 => aborted
+begin 1 => begun 1.1";
+    for script in [kept, lost] {
+        let _kept = plays_locals(
+            &rt,
+            rt.alloc(),
+            Engine::Locking,
+            Protocol::Abort,
+            &[SET_5_TO_1],
+            &[SET_5_TO_1],
+            script,
+        )?;
+    }
+    Ok(())
+}
+
+#[test]
 fn a_site_has_its_first_rows(rt: HostRuntime) -> Result<(), Fail> {
     let alloc = rt.alloc();
     let mut disk = MemDisk::new(alloc)?;
@@ -266,4 +453,90 @@ fn a_site_has_its_first_rows(rt: HostRuntime) -> Result<(), Fail> {
     let rows = dbms.core().rows(alloc)?;
     assert_eq!(rt; rows.as_slice(), [row].as_slice());
     Ok(())
+}
+
+// Whether the records leave the attempt 1.0 in doubt: it is prepared, also by a Checkpoint, and didn't end.
+fn is_doubtful(records: &[SiteRecord]) -> bool {
+    let mut doubtful = false;
+    for record in records {
+        match record {
+            SiteRecord::Prepared { .. } => doubtful = true,
+            SiteRecord::Ended { .. } => doubtful = false,
+            SiteRecord::Checkpoint(sum) => doubtful = !sum.doubtful.as_slice().is_empty(),
+            _ => {}
+        }
+    }
+    doubtful
+}
+
+// A site that a fault stops within the script goes on as its records say: with one in doubt that votes yes again and settles, or with
+// none. Says whether the script came to its end.
+fn goes_on_behind_a_fault(
+    rt: &impl Abort,
+    alloc: Global,
+    disk: &mut MemDisk,
+    script: &str,
+) -> Result<bool, Fail>
+    requires { mem_size disk.old ≡ 0 }
+{
+    let in_doubt = "back 1 => up epoch 2 doubtful 1
+give 1 2 => votes 1.0 yes 1 sends 0
+give 1 3 => settles 1.0 commit sends 1";
+    let in_none = "back 1 => up epoch 2 doubtful 0
+give 1 2 => votes 1.0 no unknown sends 0
+give 1 3 => unheld 1.0 sends 1";
+    let mut dbms = match global_site(alloc, disk, Engine::Locking, Protocol::Nothing) {
+        Ok(dbms) => dbms,
+        Err(_) => return Ok(false),
+    };
+    if play(rt, alloc, &mut dbms, disk, GLOBAL, 0, script)? {
+        return Ok(true);
+    }
+    assert!(rt; dbms.core().is_down());
+    let rest = if is_doubtful(dbms.core().records()) {
+        in_doubt
+    } else {
+        in_none
+    };
+    let ended = play(rt, alloc, &mut dbms, disk, GLOBAL, 100, rest)?;
+    assert!(rt; ended);
+    Ok(false)
+}
+
+const FAULTY: &str = "give 1 5 => did 1.1 done sends 0
+drop 1 1.1 => dropped 1.1
+give 1 0 => did 1.0 done sends 1
+give 1 1 => did 1.0 ticket 1 sends 2
+check 1 => checked
+give 1 2 => votes 1.0 yes 1 sends 3
+ask 1 1.0 => asks 1.0 sends 4
+check 1 => checked
+give 1 3 => settles 1.0 commit sends 5
+check 1 => checked";
+
+#[test]
+fn each_disk_call_fails_once(rt: HostRuntime) -> Result<(), Fail> {
+    let alloc = rt.alloc();
+    for call in 1..100 {
+        let mut disk = MemDisk::failing(alloc, &[call])?;
+        if goes_on_behind_a_fault(&rt, alloc, &mut disk, FAULTY)? {
+            return Ok(());
+        }
+    }
+    Err(Fail::from("the script has no end"))
+}
+
+#[test]
+fn a_trip_stops_the_site_behind_each_disk_call(rt: HostRuntime) -> Result<(), Fail> {
+    let alloc = rt.alloc();
+    for calls in 1..100 {
+        for cut in [0, 65_535] {
+            let mut disk = MemDisk::new(alloc)?;
+            let script = format!(in alloc; "trip 1 {calls} {cut} => set\n{FAULTY}")?;
+            if goes_on_behind_a_fault(&rt, alloc, &mut disk, &script)? {
+                return Ok(());
+            }
+        }
+    }
+    Err(Fail::from("the script has no end"))
 }
