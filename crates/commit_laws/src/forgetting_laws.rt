@@ -3,7 +3,7 @@
 ghost use Rattle.commit_laws.specs.Endings.{StoriesAnswerInDoubt, StoriesEndAlike, StoriesForgetExactly};
 ghost use Rattle.commit_laws.specs.Forgetting.{ForgottenAreAcknowledged, ForgottenWhenNoneIsMissing, InquiriesAreAnsweredTheOutcome, KnownWhileMissing, PresumptionsAreRight, RestartsCountAnew};
 
-/// A decided attempt is known exactly while a required acknowledgement is missing. While it is known, its decision is the outcome, and some
+/// A decided attempt is known only while a required acknowledgement is missing. While it is known, its decision is the outcome, and some
 /// required acknowledgement hasn't counted since the decision or the coordinator's last start, whichever is later. A line, other than
 /// a stop or a start, behind which it isn't known any more leaves none missing. Behind a stop or a start all are missing: they are
 /// counted anew. Of an attempt that isn't known, each site whose acknowledgement of the outcome is required has sent it.

@@ -37,7 +37,7 @@ begins_some g (Say.Begun t) e =
     let same : t ≡ g = cc in subst (λ u. begins u (Say.Begun t) ≡ true) same (same_tid-refl t)
 begins_some g a e = cc
 
-in_more : (g : Tid) (o : Option Tid) (tids : List Tid) → In g tids → In g (with_some o tids)
+pub in_more : (g : Tid) (o : Option Tid) (tids : List Tid) → In g tids → In g (with_some o tids)
 in_more g None tids i = i
 in_more g (Some t) tids i = inr i
 

@@ -76,7 +76,7 @@ voted_ticket past t member (m ∷ members) all i =
     by_vote (Some n) s (inr i) k = ap (λ b. same_site m.site member.site || b) (k i) ∙ or_true (same_site m.site member.site)
 
 -- so the sites of the last votes' tickets are the participants
-tickets_name : (protocols : List Participant) (before now : CoordPast) (t : Tid)
+pub tickets_name : (protocols : List Participant) (before now : CoordPast) (t : Tid)
     → all_voted now t (participants protocols before t) ≡ true
     → ticketed protocols (vote_tickets now t (participants protocols before t)) ≡ participants protocols before t
 tickets_name protocols before now t all =

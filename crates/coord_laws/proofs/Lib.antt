@@ -18,3 +18,4 @@ pub mod Sound
 pub mod Standings
 pub mod Taken
 pub mod Turns
+pub mod Unsent

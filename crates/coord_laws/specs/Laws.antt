@@ -7,7 +7,7 @@ use Rattle.order_laws.specs.Tickets.{OneEach, HasNoCycle}
 use Rattle.presumptions.specs.declared.Decision.{Decision}
 use Rattle.presumptions.specs.declared.Participant.{Participant}
 use Rattle.fed_rules.specs.Coord.{missing}
-use Rattle.fed_rules.specs.CoordPast.{CoordPast, records, Undecided, Decided, standing, is_known, begun_tids, attempts_of, participants}
+use Rattle.fed_rules.specs.CoordPast.{CoordPast, records, Undecided, Decided, standing, is_known, begun_tids, attempts_of, participants, has_sent, is_prepare_of, is_take_of}
 use Rattle.fed_rules.specs.CoordRecords.{named, has_commit, has_end, commits, recorded, outcome, is_nobody}
 
 -- no attempt begins twice
@@ -21,6 +21,11 @@ BeginInOrder protocols past = (tid : Tid) → In tid (begun_tids past) ↔ (tid.
 -- an attempt that the coordinator knows was begun
 abbrev pub KnownAreBegun : List Participant → CoordPast → Type 0
 KnownAreBegun protocols past = (tid : Tid) → is_known (standing protocols past tid) ≡ true → In tid (begun_tids past)
+
+-- neither a Take nor a Prepare was sent of an attempt that wasn't begun
+abbrev pub UnbegunAreUnsent : List Participant → CoordPast → Type 0
+UnbegunAreUnsent protocols past =
+    (tid : Tid) → (In tid (begun_tids past) → ⊥) → (has_sent (is_take_of tid) past ≡ false) × (has_sent (is_prepare_of tid) past ≡ false)
 
 -- an undecided attempt has no Commit and no End record
 abbrev pub UndecidedAreUnmarked : List Participant → CoordPast → Type 0

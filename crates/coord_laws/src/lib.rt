@@ -9,7 +9,7 @@ mod wrong_pasts;
 
 pub use attempts::{
     attempts_begin_in_order, decisions_are_outcomes, known_attempts_were_begun,
-    undecided_attempts_are_unmarked,
+    unbegun_attempts_were_not_sent, undecided_attempts_are_unmarked,
 };
 pub use records::{
     commits_close_no_cycle, recorded_attempts_were_begun, records_name_the_participants,

@@ -1,5 +1,5 @@
 -- The first item that a test holds of: where it stands, and what a write or a removal there comes to.
-use Rattle.std.proofs.Common.{◌≡◌, ℕ, zero, suc, ◌<◌, Bool, true, false, cond, Option, Some, None, List, [], ◌∷◌, length, get_or, slice_set, take, refl, sym, ap, subst, ◌∙◌, ◌+◌, ◌++◌, arith, add-one, map}
+use Rattle.std.proofs.Common.{◌≡◌, ℕ, zero, suc, ◌<◌, Bool, true, false, cond, Option, Some, None, List, [], ◌∷◌, length, get_or, slice_get, slice_set, take, refl, sym, ap, subst, ◌∙◌, ◌+◌, ◌++◌, arith, add-one, map}
 use Rattle.std.specs.Prelude.{reverse}
 use Rattle.std.proofs.lemmas.List.{map-append, reverse-append}
 use Rattle.std.specs.List.{remove}
@@ -143,3 +143,11 @@ last_more test f xs i d lt =
       inner [] k m = absurd (omega arith)
       inner (z ∷ zs) zero m = ap (λ ws. z ∷ ws) (take_none zs)
       inner (z ∷ zs) (suc k) m = ap (λ ws. z ∷ ws) (inner zs k (omega arith))
+
+-- what is read at a place stands there
+pub read_there : {A : Type 0} (xs : List A) (i : ℕ) (x : A) → slice_get xs i ≡ Some x → (i < length xs) × (get_or xs i x ≡ x)
+read_there [] i x e = cc
+read_there (y ∷ ys) zero x e = (omega arith, cc)
+read_there (y ∷ ys) (suc i) x e =
+    let rest = read_there ys i x e in
+    (omega (arith, rest.0), rest.1)

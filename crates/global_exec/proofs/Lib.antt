@@ -1,5 +1,4 @@
 pub mod Agrees
-pub mod Apart
 pub mod DueSites
 pub mod Finds
 pub mod Firsts
@@ -7,7 +6,10 @@ pub mod Rises
 pub mod SetBits
 pub mod SetLists
 pub mod Steps
+pub mod Keeps
 pub mod Lives
+pub mod Named
+pub mod Written
 pub mod Words
 pub mod ExecPasts
 pub mod CountPasts

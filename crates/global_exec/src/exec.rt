@@ -1,15 +1,18 @@
 //! The table and its calls.
-ghost use Rattle.std.specs.Prelude.{◌≡◌, ◌<◌, map, reverse, length, slice_get, IfSome, Some, None, [], ◌∷◌, ◌++◌, IfOk, OnOk, OnErr};
+ghost use Rattle.std.specs.Prelude.{◌≡◌, ◌<◌, map, reverse, length, slice_get, Some, None, [], ◌∷◌, ◌++◌, IfOk, OnOk, OnErr};
 ghost use Rattle.mdb_base.specs.Words.{first_where, holds_of, map_some, or_else};
 ghost use Rattle.mdb_base.specs.Names.{same_tx};
+ghost use Rattle.indexmap.specs.IndexMap.{values};
 ghost use Rattle.global_exec.specs.Counted as counted;
-ghost use Rattle.global_exec.specs.Firsts.{place_where, replaced, taken_out};
+ghost use Rattle.global_exec.specs.Firsts.{replaced, taken_out};
 ghost use Rattle.global_exec.specs.Live as spec;
 ghost use Rattle.global_exec.specs.declared.ends.DidEnd.TheVariants as Did;
 
 use crate::attempt::Attempt;
 use crate::ends::DidEnd;
+use crate::entries::{Entries, Name, add, at, find, take_out};
 use fed_rules::Dues;
+use indexmap::IndexMap;
 use mdb_base::{Memory, Program, Reply, SiteId, Tid, Tx};
 use std::alloc::Global;
 use std::marker::Model;
@@ -17,42 +20,31 @@ use std::marker::Model;
 /// The undecided attempts of the coordinator, seen as a list in order of submission.
 #[derive(Drop)]
 pub struct GlobalExec {
-    attempts: Vec<Attempt>,
+    attempts: Entries,
 }
 
 impl Model for GlobalExec {
-    ghost use Rattle.std.specs.Prelude.{List, map};
-    ghost use Rattle.global_exec.specs.Live.{AreApart, Live};
+    ghost use Rattle.std.specs.Prelude.{List};
+    ghost use Rattle.indexmap.specs.IndexMap.{values};
+    ghost use Rattle.global_exec.specs.Entries.{AreNamed};
+    ghost use Rattle.global_exec.specs.Live.{Live};
 
     ghost Value = { List Live };
 
-    ghost view = { λ e. e.attempts.items };
+    ghost view = { λ e. values e.attempts };
 
-    ghost invariant = { λ e. AreApart (map (λ live. live.tid) e.attempts.items) };
-}
-
-/// The place of the attempt of this name.
-fn place_of(attempts: &[Attempt], tid: Tid) -> Option<usize>
-    ensures place { result ≡ place_where (spec.is_of tid) attempts.now }
-    ensures within { IfSome result (λ place. place < length attempts.now) }
-{
-    for (place, attempt) in attempts.iter().enumerate() {
-        if attempt.tid() == tid {
-            return Some(place);
-        }
-    }
-    None
+    ghost invariant = { λ e. AreNamed e.attempts.entries };
 }
 
 /// The last attempt of the transaction.
-fn last_of(attempts: &[Attempt], tx: Tx) -> Option<Tid>
-    ensures { result ≡ first_where (λ tid. same_tx tid.tx tx) (reverse (map (λ live. live.tid) attempts.now)) }
+fn last_of(attempts: &Entries, tx: Tx) -> Option<Tid>
+    ensures { result ≡ first_where (λ tid. same_tx tid.tx tx) (reverse (map (λ live. live.tid) (values attempts.now))) }
 {
     let mut last = None;
-    for (place, attempt) in attempts.iter().enumerate() {
-        if attempt.tid().tx == tx {
-            last = Some(attempt.tid());
-            let _ = place;
+    for place in 0..attempts.len() {
+        let tid = at(attempts, place).tid();
+        if tid.tx == tx {
+            last = Some(tid);
         }
     }
     last
@@ -64,7 +56,7 @@ impl GlobalExec {
         ensures { IfOk result (λ exec. exec ≡ []) }
     {
         Ok(GlobalExec {
-            attempts: Vec::new(alloc),
+            attempts: IndexMap::new(alloc),
         })
     }
 
@@ -81,7 +73,7 @@ impl GlobalExec {
         requires { place < length self.now }
         ensures { slice_get self.now place ≡ Some result.now }
     {
-        &self.attempts[place]
+        at(&self.attempts, place)
     }
 
     /// Takes all attempts out.
@@ -101,7 +93,7 @@ impl GlobalExec {
     {
         let attempt = Attempt::new(alloc, tid, program)?;
         let dues = attempt.outstanding(alloc)?;
-        self.attempts.push(attempt)?;
+        add(&mut self.attempts, attempt)?;
         Ok(dues)
     }
 
@@ -109,8 +101,8 @@ impl GlobalExec {
     pub fn outstanding(&self, alloc: Global, tid: Tid) -> Result<Dues, Memory>
         ensures { IfOk result (λ dues. dues ≡ or_else (map_some spec.all_due (spec.live_of tid self.now)) []) }
     {
-        match place_of(self.attempts.as_slice(), tid) {
-            Some(place) => self.attempts[place].outstanding(alloc),
+        match find(&self.attempts, tid) {
+            Some(attempt) => attempt.outstanding(alloc),
             None => Ok(Dues::of(Vec::new(alloc))),
         }
     }
@@ -129,8 +121,8 @@ impl GlobalExec {
     ) -> Result<DidEnd, Memory>
         ensures { IfOk result (λ end. end ≡ or_else (map_some (counted.did_end site epoch n reply) (spec.live_of tid self.now)) Did.Ignored) }
     {
-        match place_of(self.attempts.as_slice(), tid) {
-            Some(place) => self.attempts[place].answers(alloc, site, epoch, n, reply),
+        match find(&self.attempts, tid) {
+            Some(attempt) => attempt.answers(alloc, site, epoch, n, reply),
             None => Ok(DidEnd::Ignored),
         }
     }
@@ -140,11 +132,11 @@ impl GlobalExec {
     pub fn take(&mut self, tid: Tid, site: SiteId, epoch: u32, n: u8, reply: Reply)
         ensures { self.new ≡ replaced (spec.is_of tid) (counted.after_did site epoch n reply) self.old }
     {
-        let place = match place_of(self.attempts.as_slice(), tid) {
-            Some(place) => place,
+        let attempt = match self.attempts.get_mut(&Name::of(tid)) {
+            Some(attempt) => attempt,
             None => return,
         };
-        self.attempts[place].take(site, epoch, n, reply);
+        attempt.take(site, epoch, n, reply);
     }
 
     /// Takes a site's reply, and answers what it comes to: `answers` and then `take`. Without memory the table stays as it was.
@@ -170,8 +162,8 @@ impl GlobalExec {
     pub fn counts(&self, tid: Tid, site: SiteId, epoch: u32, n: u8, reply: Reply) -> bool
         ensures { result ≡ holds_of (counted.counts site epoch n reply) (spec.live_of tid self.now) }
     {
-        match place_of(self.attempts.as_slice(), tid) {
-            Some(place) => self.attempts[place].counts(site, epoch, n, reply),
+        match find(&self.attempts, tid) {
+            Some(attempt) => attempt.counts(site, epoch, n, reply),
             None => false,
         }
     }
@@ -180,8 +172,8 @@ impl GlobalExec {
     pub fn awaits_vote(&self, tid: Tid, site: SiteId) -> bool
         ensures { result ≡ holds_of (spec.awaits_vote site) (spec.live_of tid self.now) }
     {
-        match place_of(self.attempts.as_slice(), tid) {
-            Some(place) => self.attempts[place].awaits_vote(site),
+        match find(&self.attempts, tid) {
+            Some(attempt) => attempt.awaits_vote(site),
             None => false,
         }
     }
@@ -190,15 +182,15 @@ impl GlobalExec {
     pub fn running(&self, tx: Tx) -> Option<Tid>
         ensures { result ≡ first_where (λ tid. same_tx tid.tx tx) (reverse (map (λ live. live.tid) self.now)) }
     {
-        last_of(self.attempts.as_slice(), tx)
+        last_of(&self.attempts, tx)
     }
 
     /// The values that the attempt read, in program order; none where it isn't listed.
     pub fn reads(&self, tid: Tid) -> &[u64]
         ensures { result.now ≡ or_else (map_some spec.reads_of_live (spec.live_of tid self.now)) [] }
     {
-        match place_of(self.attempts.as_slice(), tid) {
-            Some(place) => self.attempts[place].reads(),
+        match find(&self.attempts, tid) {
+            Some(attempt) => attempt.reads(),
             None => &[],
         }
     }
@@ -207,21 +199,17 @@ impl GlobalExec {
     pub fn voted(&mut self, tid: Tid, site: SiteId)
         ensures { self.new ≡ replaced (spec.is_of tid) (spec.voted site) self.old }
     {
-        let place = match place_of(self.attempts.as_slice(), tid) {
-            Some(place) => place,
+        let attempt = match self.attempts.get_mut(&Name::of(tid)) {
+            Some(attempt) => attempt,
             None => return,
         };
-        self.attempts[place].vote(site);
+        attempt.vote(site);
     }
 
     /// Takes the attempt out.
     pub fn refuse(&mut self, tid: Tid)
         ensures { self.new ≡ taken_out (spec.is_of tid) self.old }
     {
-        let place = match place_of(self.attempts.as_slice(), tid) {
-            Some(place) => place,
-            None => return,
-        };
-        let _ = self.attempts.remove(place);
+        take_out(&mut self.attempts, tid);
     }
 }

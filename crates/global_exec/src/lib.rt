@@ -6,6 +6,7 @@
 
 mod attempt;
 mod ends;
+mod entries;
 mod exec;
 mod laws;
 mod news;

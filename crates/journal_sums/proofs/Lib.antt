@@ -5,3 +5,4 @@ pub mod DoubtLaws
 pub mod LocalLaws
 pub mod ReadingLaws
 pub mod DifferLaws
+pub mod CoordReadingLaws

@@ -3,3 +3,4 @@ pub mod Locals
 pub mod Readings
 pub mod Starts
 pub mod Versions
+pub mod CoordReadings

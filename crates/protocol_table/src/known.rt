@@ -95,6 +95,16 @@ impl Known {
         !some_acks(self.members.as_slice(), decision)
     }
 
+    /// Whether an acknowledgement of the site counts: the attempt is decided, and it is required and missing.
+    pub fn awaits_ack(&self, site: SiteId) -> bool
+        ensures { result ≡ spec.ack_counts site self.now }
+    {
+        match self.decision {
+            None => false,
+            Some(decision) => lacks_ack_of(self.members.as_slice(), site, decision, self.initiated),
+        }
+    }
+
     /// Counts the site's acknowledgement, if it is required and missing.
     pub(crate) fn ack(&mut self, site: SiteId) -> AckEnd
         ensures end { result ≡ spec.ack_end site self.old }

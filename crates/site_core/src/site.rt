@@ -9,7 +9,7 @@ ghost use Rattle.fed_rules.specs.Disk.{empty_disk};
 ghost use Rattle.fed_rules.specs.Happenings.{is_down};
 ghost use Rattle.fed_rules.specs.Runs.{rows as rows_after};
 ghost use Rattle.fed_rules.specs.Site.{site_line};
-ghost use Rattle.fed_rules.specs.SitePast.{attempts_of, engine_lines, epoch_start, journal, live, live_of_tx, records, set_up_calls};
+ghost use Rattle.fed_rules.specs.SitePast.{attempts_of, engine_lines, epoch_start, journal, live, live_of_tx, records, set_up_calls, trip};
 ghost use Rattle.fed_rules.specs.SiteRecords.{doubt_of, local_of};
 ghost use Rattle.engine_contract.specs.Calls.{fresh_start};
 ghost use Rattle.site_book.specs.Noted.{noted_of};
@@ -163,6 +163,13 @@ impl<E: LocalEngine> SiteCore<E> {
         ensures { EachPast (Holds E.stands self.now) (λ home past. result ≡ is_down past) }
     {
         !self.store.is_up()
+    }
+
+    /// Whether a trip is set.
+    pub fn is_armed(&self) -> bool
+        ensures { EachPast (Holds E.stands self.now) (λ home past. result ≡ is_some (trip past)) }
+    {
+        self.store.trip.is_some()
     }
 
     /// The rows of a site that is up: those that the epoch started from, and every key that a committed transaction wrote since.

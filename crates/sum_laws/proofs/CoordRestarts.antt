@@ -31,7 +31,7 @@ use Rattle.coord_laws.proofs.Past.{any_member, next_turn, past_sound}
 use Rattle.coord_laws.proofs.RecordLists.{commit_among, end_among}
 use Rattle.coord_laws.proofs.Sound.{CoordSound, commit_mark, end_mark}
 use Rattle.commit_laws.specs.Pasts.{CoordinatorsAreMadeByEvents}
-use Rattle.sum_laws.specs.CoordRestarts.{JournalTellsRestart, JournalsTellRestarts, TellsRecords, outcome_of}
+use Rattle.sum_laws.specs.CoordRestarts.{CoordJournalSaysAll, JournalTellsRestart, JournalsTellRestarts, TellsRecords, outcome_of}
 
 abbrev earlier : CommittedAttempt → CommittedAttempt → Bool
 earlier a b = tid_before a.tid b.tid
@@ -242,3 +242,9 @@ journal_tells protocols policy past made =
 pub journals_tell_restarts : CoordinatorsAreMadeByEvents → JournalsTellRestarts
 journals_tell_restarts made scenario commands =
     journal_tells (protocols scenario) (policy scenario) (Story.coord_past (story_of scenario commands)) (made scenario commands)
+
+-- so it is of every past that events make
+pub made_journals_say_all : OfPasts CoordJournalSaysAll
+made_journals_say_all protocols policy past made =
+    let (events, e) = past_made protocols policy past made in
+    subst (CoordJournalSaysAll protocols) (sym e) (coord_journals_say_all protocols policy events)

@@ -67,6 +67,10 @@ pub data IsHeld (waiting : List (List SiteTicket)) (kept : List Ticketed) (c : T
   Waits : Among (λ tickets. are_before tickets c.tickets ≡ true) waiting → IsHeld waiting kept c
   Follows : (a : Ticketed) → In a kept → (s : SiteId) → Precedes a c s → IsHeld waiting kept c
 
+-- no kept attempt could be dropped while these wait
+abbrev pub AreHeld : List (List SiteTicket) → Graph → Type 0
+AreHeld waiting graph = (c : Ticketed) → In c graph.kept → IsHeld waiting graph.kept c
+
 -- an attempt was kept, and isn't any more
 pub record IsDropped (before after : Graph) (c : Ticketed) : Type 0 where
   pub was : In c before.kept

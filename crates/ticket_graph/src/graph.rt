@@ -1,12 +1,13 @@
 //! The graph of the tickets of the added attempts.
 ghost use Rattle.std.specs.Prelude.{List, ◌≡◌, ◌↔◌, [], ◌∷◌, ◌<◌, IfOk, OnOk, OnErr};
 ghost use Rattle.mdb_base.specs.declared.names.SiteId.{SiteId as TheSite};
+ghost use Rattle.mdb_base.specs.declared.names.SiteTicket.{SiteTicket as TheTicket};
 ghost use Rattle.mdb_base.specs.declared.names.Tid.{Tid as TheTid};
 ghost use Rattle.order_laws.specs.Chains.{In};
 ghost use Rattle.order_laws.specs.Tickets.{Ticketed, HasNoCycle, OneEach};
 ghost use Rattle.ticket_graph.specs.declared.verdict.Verdict.TheVariants as Verdicts;
 ghost use Rattle.ticket_graph.specs.Graph.{attempts_after, floor_of, tids_of, AreAbove, IsAfter, IsForwards, IsPruned, IsTopological, IsVerdict, IsWith, StandsFor};
-ghost use Rattle.ticket_graph.specs.Reach.{highest};
+ghost use Rattle.ticket_graph.specs.Reach.{highest, joined, IsLowest};
 
 use crate::added::Added;
 use crate::find::{Finding, find};
@@ -111,6 +112,15 @@ impl TicketGraph {
     {
         let mut lowest = Lowest::new();
         lowest.meet_all(waiting);
+        self.prune_over(lowest);
+    }
+
+    /// The same for waiting attempts of which the least tickets are known. It takes no memory.
+    pub fn prune_over(&mut self, lowest: Lowest)
+        requires { (met : List TheTicket) × IsLowest lowest.at met }
+        ensures pruned { (waiting : List (List TheTicket)) → IsLowest lowest.at (joined waiting) → IsPruned waiting self.old self.new }
+        ensures stands { (waiting : List (List TheTicket)) → IsLowest lowest.at (joined waiting) → (all : List Ticketed) → StandsFor all self.old → StandsFor all self.new }
+    {
         keep_reached(&mut self.attempts, &mut self.floors, lowest);
     }
 

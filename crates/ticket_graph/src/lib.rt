@@ -16,6 +16,7 @@ mod verdict;
 
 pub use added::Added;
 pub use graph::TicketGraph;
+pub use lowest::Lowest;
 pub use verdict::Verdict;
 
 #[cfg(test)]

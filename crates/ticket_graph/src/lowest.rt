@@ -8,7 +8,8 @@ use mdb_base::{SiteTicket, Tickets};
 /// The least ticket at each site of those that were met.
 #[derive(Drop)]
 pub struct Lowest {
-    at: [Option<u64>; 256],
+    /// By the number of the site.
+    pub at: [Option<u64>; 256],
 }
 
 impl Lowest {
@@ -20,7 +21,7 @@ impl Lowest {
     }
 
     /// Meets a ticket.
-    fn meet_one(&mut self, ticket: SiteTicket)
+    pub fn meet_one(&mut self, ticket: SiteTicket)
         ensures { (met : List TheTicket) → IsLowest self.old.at met → IsLowest self.new.at (met ++ ticket ∷ []) }
     {
         let place = usize::from(ticket.site.0);

@@ -1,21 +1,19 @@
-use Rattle.std.proofs.Common.{List, sym, ap, subst, ◌∙◌}
-use Rattle.global_exec.specs.Live.{AreApart, Live, is_of}
+use Rattle.std.proofs.Common.{sym, ◌∙◌}
 use Rattle.global_exec.specs.Counted.{after_did}
-use Rattle.global_exec.specs.Firsts.{place_where, replaced}
-use Rattle.global_exec.proofs.Apart.{apart_replaced, did_same, tids_of}
-use Rattle.global_exec.proofs.Firsts.{missing, set-replaced, stands}
+use Rattle.global_exec.proofs.Keeps.{did_same}
+use Rattle.global_exec.proofs.Named.{replaced-absent}
+use Rattle.global_exec.proofs.Written.{missing, named_after, values_after}
 use Rattle.global_exec.proofs.exec.GlobalExec.take.Goals as goal
 
 pub returns-in-None : goal.returns-in-None
-returns-in-None c = sym (ap (replaced (is_of c.args.tid) (after_did c.args.site c.args.epoch c.args.n c.args.reply)) (sym c.self.view_is) ∙ (missing (is_of c.args.tid) c.self.inside.attempts.items (ap (place_where (is_of c.args.tid)) (sym c.as_slice.ensures.value) ∙ sym c.place_of.ensures.place ∙ c.in-None.is)).set (after_did c.args.site c.args.epoch c.args.n c.args.reply) ∙ c.self.view_is)
+returns-in-None c =
+    rw c.get_mut.follows.holds-at-none
+    (c.self.view_is ∙ sym (replaced-absent c.args.tid (after_did c.args.site c.args.epoch c.args.n c.args.reply) c.args.self.now (missing c.args.tid c.of.result c.of.ensures c.self.inside.attempts.entries c.self.invariant c.args.self.now c.self.view_is c.in-None.ensures.value)))
+
+pub invariant_of-self-2 : goal.invariant_of-self-2
+invariant_of-self-2 c =
+    named_after c.args.tid c.of.result c.of.ensures c.self.inside.attempts.entries c.self.invariant c.args.self.now c.self.view_is c.in-Some.attempt.now c.take.new.self c.in-Some.ensures.value (c.get_mut.follows.lender c.take.new.self).entries (c.get_mut.follows.holds c.take.new.self).0 (after_did c.args.site c.args.epoch c.args.n c.args.reply) c.take.ensures (did_same c.args.site c.args.epoch c.args.n c.args.reply c.in-Some.attempt.now)
 
 pub returns : goal.returns
 returns c =
-    set-replaced (is_of c.args.tid) c.self.inside.attempts.items c.in-Some.place (after_did c.args.site c.args.epoch c.args.n c.args.reply) c.index_mut.result.now c.take.new.self (stands (is_of c.args.tid) c.self.inside.attempts.items c.in-Some.place (ap (place_where (is_of c.args.tid)) (sym c.as_slice.ensures.value) ∙ sym c.place_of.ensures.place ∙ c.in-Some.is)) c.index_mut.ensures.value c.take.ensures
-    ∙ ap (replaced (is_of c.args.tid) (after_did c.args.site c.args.epoch c.args.n c.args.reply)) c.self.view_is
-
-pub invariant_of-self : goal.invariant_of-self
-invariant_of-self c =
-    subst (λ (xs : List Live). AreApart (tids_of xs))
-    (sym (set-replaced (is_of c.args.tid) c.self.inside.attempts.items c.in-Some.place (after_did c.args.site c.args.epoch c.args.n c.args.reply) c.index_mut.result.now c.take.new.self (stands (is_of c.args.tid) c.self.inside.attempts.items c.in-Some.place (ap (place_where (is_of c.args.tid)) (sym c.as_slice.ensures.value) ∙ sym c.place_of.ensures.place ∙ c.in-Some.is)) c.index_mut.ensures.value c.take.ensures))
-    (apart_replaced (is_of c.args.tid) (after_did c.args.site c.args.epoch c.args.n c.args.reply) (did_same c.args.site c.args.epoch c.args.n c.args.reply) c.self.inside.attempts.items c.self.invariant)
+    values_after c.args.tid c.of.result c.of.ensures c.self.inside.attempts.entries c.self.invariant c.args.self.now c.self.view_is c.in-Some.attempt.now c.take.new.self c.in-Some.ensures.value (c.get_mut.follows.lender c.take.new.self).entries (c.get_mut.follows.holds c.take.new.self).0 (after_did c.args.site c.args.epoch c.args.n c.args.reply) c.take.ensures (did_same c.args.site c.args.epoch c.args.n c.args.reply c.in-Some.attempt.now)

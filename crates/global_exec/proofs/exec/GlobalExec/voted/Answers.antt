@@ -1,20 +1,18 @@
-use Rattle.std.proofs.Common.{List, refl, sym, ap, subst, ◌∙◌}
-use Rattle.global_exec.specs.Live.{AreApart, Live, is_of, voted}
-use Rattle.global_exec.specs.Firsts.{place_where, replaced}
-use Rattle.global_exec.proofs.Apart.{apart_replaced, tids_of}
-use Rattle.global_exec.proofs.Firsts.{missing, set-replaced, stands}
+use Rattle.std.proofs.Common.{refl, sym, ◌∙◌}
+use Rattle.global_exec.specs.Live.{voted}
+use Rattle.global_exec.proofs.Named.{replaced-absent}
+use Rattle.global_exec.proofs.Written.{missing, named_after, values_after}
 use Rattle.global_exec.proofs.exec.GlobalExec.voted.Goals as goal
 
 pub returns-in-None : goal.returns-in-None
-returns-in-None c = sym (ap (replaced (is_of c.args.tid) (voted c.args.site)) (sym c.self.view_is) ∙ (missing (is_of c.args.tid) c.self.inside.attempts.items (ap (place_where (is_of c.args.tid)) (sym c.as_slice.ensures.value) ∙ sym c.place_of.ensures.place ∙ c.in-None.is)).set (voted c.args.site) ∙ c.self.view_is)
+returns-in-None c =
+    rw c.get_mut.follows.holds-at-none
+    (c.self.view_is ∙ sym (replaced-absent c.args.tid (voted c.args.site) c.args.self.now (missing c.args.tid c.of.result c.of.ensures c.self.inside.attempts.entries c.self.invariant c.args.self.now c.self.view_is c.in-None.ensures.value)))
+
+pub invariant_of-self-2 : goal.invariant_of-self-2
+invariant_of-self-2 c =
+    named_after c.args.tid c.of.result c.of.ensures c.self.inside.attempts.entries c.self.invariant c.args.self.now c.self.view_is c.in-Some.attempt.now c.vote.new.self c.in-Some.ensures.value (c.get_mut.follows.lender c.vote.new.self).entries (c.get_mut.follows.holds c.vote.new.self).0 (voted c.args.site) c.vote.ensures refl
 
 pub returns : goal.returns
 returns c =
-    set-replaced (is_of c.args.tid) c.self.inside.attempts.items c.in-Some.place (voted c.args.site) c.index_mut.result.now c.vote.new.self (stands (is_of c.args.tid) c.self.inside.attempts.items c.in-Some.place (ap (place_where (is_of c.args.tid)) (sym c.as_slice.ensures.value) ∙ sym c.place_of.ensures.place ∙ c.in-Some.is)) c.index_mut.ensures.value c.vote.ensures
-    ∙ ap (replaced (is_of c.args.tid) (voted c.args.site)) c.self.view_is
-
-pub invariant_of-self : goal.invariant_of-self
-invariant_of-self c =
-    subst (λ (xs : List Live). AreApart (tids_of xs))
-    (sym (set-replaced (is_of c.args.tid) c.self.inside.attempts.items c.in-Some.place (voted c.args.site) c.index_mut.result.now c.vote.new.self (stands (is_of c.args.tid) c.self.inside.attempts.items c.in-Some.place (ap (place_where (is_of c.args.tid)) (sym c.as_slice.ensures.value) ∙ sym c.place_of.ensures.place ∙ c.in-Some.is)) c.index_mut.ensures.value c.vote.ensures))
-    (apart_replaced (is_of c.args.tid) (voted c.args.site) (λ live. refl) c.self.inside.attempts.items c.self.invariant)
+    values_after c.args.tid c.of.result c.of.ensures c.self.inside.attempts.entries c.self.invariant c.args.self.now c.self.view_is c.in-Some.attempt.now c.vote.new.self c.in-Some.ensures.value (c.get_mut.follows.lender c.vote.new.self).entries (c.get_mut.follows.holds c.vote.new.self).0 (voted c.args.site) c.vote.ensures refl

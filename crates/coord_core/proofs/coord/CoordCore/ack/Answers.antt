@@ -1,0 +1,51 @@
+use Rattle.std.proofs.Common.{sym, refl, ◌∙◌}
+use Rattle.presumptions.specs.declared.Protocol.TheVariants as By
+use Rattle.fed_rules.specs.declared.answers.Answer.TheVariants as Say
+use Rattle.fed_rules.specs.declared.events.CoordEvent.TheVariants as Ev
+use Rattle.fed_rules.specs.declared.messages.FromSite.TheVariants as From
+use Rattle.fed_rules.specs.Happenings.{quiet}
+use Rattle.fed_rules.specs.CoordPast.{standing}
+use Rattle.protocol_table.specs.Attempts.{known_of}
+use Rattle.coord_core.proofs.Acking.{ack_ignored, counted_presumed, counted_undecided}
+use Rattle.coord_core.proofs.Again.{stands_decided}
+use Rattle.coord_core.proofs.Calm.{uncounted_calm}
+use Rattle.coord_core.proofs.Events.{calm_steps}
+use Rattle.coord_core.proofs.Inquiries.{said_told}
+use Rattle.coord_core.proofs.Outcomes.{map_err, map_ok}
+use Rattle.coord_core.proofs.Still.{serves}
+use Rattle.coord_core.proofs.coord.CoordCore.ack.Goals as goal
+
+pub returns-then-not-awaits_ack-clause-answered : goal.returns-then-not-awaits_ack-clause-answered
+returns-then-not-awaits_ack-clause-answered g c = λ terms past k can.
+    let s = serves g.P.TakePolicy.policy g.D.Disk.tells c.args.self.now terms past k.holds c.requires.up in
+    calm_steps g.P.TakePolicy.policy g.D.Disk.tells c.silent.result c.args.self.now c.args.self.now (g.D.Disk.seen c.args.disk.now) terms past (Ev.Take c.args.site (From.Ack c.args.tid))
+    (quiet (Ev.Take c.args.site (From.Ack c.args.tid)) Say.Ignored) k c.requires.up can tt
+    (ack_ignored c.args.self.now.tables terms past c.args.site c.args.tid s (sym c.awaits_ack.ensures ∙ c.if-not-awaits_ack.true)) refl
+    (uncounted_calm (Ev.Take c.args.site (From.Ack c.args.tid)) Say.Ignored tt refl) (record { answer = c.silent.ensures.answer; sends = c.silent.ensures.sends }) refl
+
+pub ack_known-requires-clause-may : goal.ack_known-requires-clause-may
+ack_known-requires-clause-may g c =
+    let m = c.requires.may in
+    let s = serves g.P.TakePolicy.policy g.D.Disk.tells c.args.self.now m.terms m.past m.stood.holds c.requires.up in
+    let said = said_told c.args.self.now.tables m.terms m.past c.args.tid By.Nothing s ∙ (sym c.answer.ensures ∙ c.in-Known.is) in
+    record { terms = m.terms; past = m.past; stood = m.stood; holds = stands_decided By.Nothing c.in-Known.decision (standing m.terms.protocols m.past c.args.tid) said }
+
+pub returns-clause-answered : goal.returns-clause-answered
+returns-clause-answered g c = map_ok _ _ c.ack_known.result c.ack_known.ensures.answered (λ step each terms past k can.
+    let s = serves g.P.TakePolicy.policy g.D.Disk.tells c.args.self.now terms past k.holds c.requires.up in
+    let said = said_told c.args.self.now.tables terms past c.args.tid By.Nothing s ∙ (sym c.answer.ensures ∙ c.in-Known.is) in
+    each terms past k (stands_decided By.Nothing c.in-Known.decision (standing terms.protocols past c.args.tid) said))
+
+pub returns-clause-failed : goal.returns-clause-failed
+returns-clause-failed g c = map_err _ _ c.ack_known.result c.ack_known.ensures.failed (λ why each terms past k can.
+    let s = serves g.P.TakePolicy.policy g.D.Disk.tells c.args.self.now terms past k.holds c.requires.up in
+    let said = said_told c.args.self.now.tables terms past c.args.tid By.Nothing s ∙ (sym c.answer.ensures ∙ c.in-Known.is) in
+    each terms past k (stands_decided By.Nothing c.in-Known.decision (standing terms.protocols past c.args.tid) said))
+
+pub unreachable-requires : goal.unreachable-requires
+unreachable-requires g c =
+    counted_undecided c.args.site (known_of c.args.tid c.args.self.now.tables.known) (sym c.awaits_ack.ensures ∙ c.if-not-awaits_ack.false) (sym c.answer.ensures ∙ c.in-Undecided.is)
+
+pub unreachable-requires-in-Presumed : goal.unreachable-requires-in-Presumed
+unreachable-requires-in-Presumed g c =
+    counted_presumed c.args.site (known_of c.args.tid c.args.self.now.tables.known) c.in-Presumed.field-0 (sym c.awaits_ack.ensures ∙ c.if-not-awaits_ack.false) (sym c.answer.ensures ∙ c.in-Presumed.is)

@@ -1,0 +1,59 @@
+use Rattle.std.proofs.Common.{sym, refl, ◌∙◌}
+use Rattle.presumptions.specs.declared.Protocol.TheVariants as By
+use Rattle.fed_rules.specs.declared.answers.Answer.TheVariants as Say
+use Rattle.fed_rules.specs.declared.events.CoordEvent.TheVariants as Ev
+use Rattle.fed_rules.specs.Happenings.{quiet}
+use Rattle.fed_rules.specs.CoordPast.{is_open, known_decision, standing}
+use Rattle.coord_core.proofs.Again.{again_decided, again_gone, stands_decided, stands_gone, stands_undecided, tells_calm, undecided_open}
+use Rattle.coord_core.proofs.Calm.{quiet_calm}
+use Rattle.coord_core.proofs.Events.{calm_steps}
+use Rattle.coord_core.proofs.Inquiries.{said_told}
+use Rattle.coord_core.proofs.Outcomes.{map_err, map_ok}
+use Rattle.coord_core.proofs.Still.{serves}
+use Rattle.coord_core.proofs.coord.CoordCore.again.Goals as goal
+
+pub send_all-requires-clause-may : goal.send_all-requires-clause-may
+send_all-requires-clause-may g c =
+    let m = c.requires.may in
+    let s = serves g.P.TakePolicy.policy g.D.Disk.tells c.args.self.now m.terms m.past m.stood.holds c.requires.up in
+    let said = said_told c.args.self.now.tables m.terms m.past c.args.tid By.Nothing s ∙ (sym c.answer.ensures ∙ c.in-Undecided.is) in
+    record {
+      terms = m.terms;
+      past = m.past;
+      stood = m.stood;
+      holds = undecided_open (is_open m.past c.args.tid) (known_decision m.terms.protocols m.past c.args.tid) (stands_undecided By.Nothing (standing m.terms.protocols m.past c.args.tid) said);
+    }
+
+pub returns-in-Undecided-clause-answered : goal.returns-in-Undecided-clause-answered
+returns-in-Undecided-clause-answered g c = map_ok _ _ c.send_all.result c.send_all.ensures.answered (λ step each terms past k can.
+    let s = serves g.P.TakePolicy.policy g.D.Disk.tells c.args.self.now terms past k.holds c.requires.up in
+    let said = said_told c.args.self.now.tables terms past c.args.tid By.Nothing s ∙ (sym c.answer.ensures ∙ c.in-Undecided.is) in
+    each terms past k (undecided_open (is_open past c.args.tid) (known_decision terms.protocols past c.args.tid) (stands_undecided By.Nothing (standing terms.protocols past c.args.tid) said)))
+
+pub returns-in-Undecided-clause-failed : goal.returns-in-Undecided-clause-failed
+returns-in-Undecided-clause-failed g c = map_err _ _ c.send_all.result c.send_all.ensures.failed (λ why each terms past k can.
+    let s = serves g.P.TakePolicy.policy g.D.Disk.tells c.args.self.now terms past k.holds c.requires.up in
+    let said = said_told c.args.self.now.tables terms past c.args.tid By.Nothing s ∙ (sym c.answer.ensures ∙ c.in-Undecided.is) in
+    each terms past k (undecided_open (is_open past c.args.tid) (known_decision terms.protocols past c.args.tid) (stands_undecided By.Nothing (standing terms.protocols past c.args.tid) said)))
+
+pub returns-in-Presumed-clause-answered : goal.returns-in-Presumed-clause-answered
+returns-in-Presumed-clause-answered g c = λ terms past k can.
+    let s = serves g.P.TakePolicy.policy g.D.Disk.tells c.args.self.now terms past k.holds c.requires.up in
+    let said = said_told c.args.self.now.tables terms past c.args.tid By.Nothing s ∙ (sym c.answer.ensures ∙ c.in-Presumed.is) in
+    calm_steps g.P.TakePolicy.policy g.D.Disk.tells c.silent.result c.args.self.now c.args.self.now (g.D.Disk.seen c.args.disk.now) terms past (Ev.Again c.args.tid) (quiet (Ev.Again c.args.tid) Say.Idle) k c.requires.up can tt
+    (again_gone terms past c.args.tid (stands_gone By.Nothing c.in-Presumed.field-0 (standing terms.protocols past c.args.tid) said)) refl (quiet_calm (Ev.Again c.args.tid) Say.Idle tt tt) (record { answer = c.silent.ensures.answer; sends = c.silent.ensures.sends }) refl
+
+pub tell-requires-clause-may : goal.tell-requires-clause-may
+tell-requires-clause-may g c =
+    let m = c.requires.may in
+    let s = serves g.P.TakePolicy.policy g.D.Disk.tells c.args.self.now m.terms m.past m.stood.holds c.requires.up in
+    let said = said_told c.args.self.now.tables m.terms m.past c.args.tid By.Nothing s ∙ (sym c.answer.ensures ∙ c.in-Known.is) in
+    record { terms = m.terms; past = m.past; stood = m.stood.holds; holds = stands_decided By.Nothing c.in-Known.decision (standing m.terms.protocols m.past c.args.tid) said }
+
+pub returns-in-Ok-clause-answered : goal.returns-in-Ok-clause-answered
+returns-in-Ok-clause-answered g c = λ terms past k can.
+    let s = serves g.P.TakePolicy.policy g.D.Disk.tells c.args.self.now terms past k.holds c.requires.up in
+    let said = said_told c.args.self.now.tables terms past c.args.tid By.Nothing s ∙ (sym c.answer.ensures ∙ c.in-Known.is) in
+    let st = stands_decided By.Nothing c.in-Known.decision (standing terms.protocols past c.args.tid) said in
+    calm_steps g.P.TakePolicy.policy g.D.Disk.tells c.in-Ok.step c.args.self.now c.args.self.now (g.D.Disk.seen c.args.disk.now) terms past (Ev.Again c.args.tid) _ k c.requires.up can tt
+    (again_decided terms past c.args.tid c.in-Known.decision st) refl (tells_calm terms past c.args.tid c.in-Known.decision) (record { answer = c.in-Ok.ensures.answer; sends = c.in-Ok.ensures.sends terms past k.holds st }) refl

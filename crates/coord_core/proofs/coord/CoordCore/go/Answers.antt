@@ -1,0 +1,53 @@
+use Rattle.std.proofs.Common.{true, sym, refl, ◌∙◌}
+use Rattle.fed_rules.specs.declared.answers.Answer.TheVariants as Say
+use Rattle.fed_rules.specs.declared.events.CoordEvent.TheVariants as Ev
+use Rattle.fed_rules.specs.Happenings.{quiet}
+use Rattle.coord_core.proofs.Calm.{quiet_calm}
+use Rattle.coord_core.proofs.Events.{calm_steps}
+use Rattle.coord_core.proofs.Beginnings.{go_committed, go_running}
+use Rattle.coord_core.proofs.Inquiries.{running_is}
+use Rattle.coord_core.proofs.Outcomes.{map_fail, map_ok}
+use Rattle.coord_core.proofs.Still.{serves}
+use Rattle.coord_core.proofs.coord.CoordCore.go.Goals as goal
+
+pub returns-in-Some-clause-answered : goal.returns-in-Some-clause-answered
+returns-in-Some-clause-answered g c = λ tells seen terms past k can.
+    let s = serves g.P.TakePolicy.policy tells c.args.self.now terms past k.holds c.requires.up in
+    calm_steps g.P.TakePolicy.policy tells c.silent.result c.args.self.now c.args.self.now seen terms past (Ev.Go c.args.tid c.args.program) (quiet (Ev.Go c.args.tid c.args.program) (Say.Committed c.in-Some.committed)) k c.requires.up can tt
+    (go_committed terms past c.args.tid c.args.program c.in-Some.committed (sym (s.committed c.args.tid.tx) ∙ sym c.last_of.ensures ∙ c.in-Some.is)) refl
+    (quiet_calm (Ev.Go c.args.tid c.args.program) (Say.Committed c.in-Some.committed) tt tt) (record { answer = c.silent.ensures.answer; sends = c.silent.ensures.sends }) refl
+
+pub returns-in-Some-last_of-clause-answered : goal.returns-in-Some-last_of-clause-answered
+returns-in-Some-last_of-clause-answered g c = λ tells seen terms past k can.
+    let s = serves g.P.TakePolicy.policy tells c.args.self.now terms past k.holds c.requires.up in
+    calm_steps g.P.TakePolicy.policy tells c.silent-in-Some-last_of.result c.args.self.now c.args.self.now seen terms past (Ev.Go c.args.tid c.args.program) (quiet (Ev.Go c.args.tid c.args.program) (Say.Running c.in-Some-last_of.running)) k c.requires.up can tt
+    (go_running terms past c.args.tid c.args.program c.in-Some-last_of.running (sym (s.committed c.args.tid.tx) ∙ sym c.last_of.ensures ∙ c.in-None.is)
+    (sym (running_is c.args.self.now.tables terms past c.args.tid.tx s) ∙ sym c.last_of-in-None.ensures ∙ c.in-Some-last_of.is)) refl
+    (quiet_calm (Ev.Go c.args.tid c.args.program) (Say.Running c.in-Some-last_of.running) tt tt) (record { answer = c.silent-in-Some-last_of.ensures.answer; sends = c.silent-in-Some-last_of.ensures.sends }) refl
+
+pub begin-requires-clause-may : goal.begin-requires-clause-may
+begin-requires-clause-may g c =
+    let m = c.requires.may in
+    let s = serves g.P.TakePolicy.policy true c.args.self.now m.terms m.past m.stood c.requires.up in
+    record {
+      terms = m.terms;
+      past = m.past;
+      stood = m.stood;
+      holds = record {
+        can = m.holds;
+        uncommitted = sym (s.committed c.args.tid.tx) ∙ sym c.last_of.ensures ∙ c.in-None.is;
+        idle = sym (running_is c.args.self.now.tables m.terms m.past c.args.tid.tx s) ∙ sym c.last_of-in-None.ensures ∙ c.in-None-last_of.is;
+      };
+    }
+
+pub returns-in-None-last_of-clause-answered : goal.returns-in-None-last_of-clause-answered
+returns-in-None-last_of-clause-answered g c = map_ok _ _ c.begin.result c.begin.ensures.answered (λ step each tells seen terms past k can.
+    let s = serves g.P.TakePolicy.policy tells c.args.self.now terms past k.holds c.requires.up in
+    each tells seen terms past k (record {
+      can = can;
+      uncommitted = sym (s.committed c.args.tid.tx) ∙ sym c.last_of.ensures ∙ c.in-None.is;
+      idle = sym (running_is c.args.self.now.tables terms past c.args.tid.tx s) ∙ sym c.last_of-in-None.ensures ∙ c.in-None-last_of.is;
+    }))
+
+pub returns-in-None-last_of-clause-memory : goal.returns-in-None-last_of-clause-memory
+returns-in-None-last_of-clause-memory g c = map_fail _ _ c.begin.result c.begin.ensures.memory (λ each tells seen terms past k can. each tells seen terms past k)

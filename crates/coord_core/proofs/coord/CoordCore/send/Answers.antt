@@ -1,0 +1,70 @@
+use Rattle.std.proofs.Common.{refl, ◌∙◌}
+use Rattle.fed_rules.specs.declared.events.CoordStep.{CoordStep}
+use Rattle.fed_rules.specs.CoordPast.{disk, trip}
+use Rattle.coord_core.specs.declared.coord.CoordCore.{CoordCore}
+use Rattle.coord_core.specs.Sending.{after_taken}
+use Rattle.coord_core.proofs.Initiations.{initiation_fits, initiation_in_range}
+use Rattle.coord_core.proofs.Outcomes.{map_err, map_ok}
+use Rattle.coord_core.proofs.Sent.{initiates_is, sent_line, sent_pending, sent_tables}
+use Rattle.coord_core.proofs.Roomed.{stands_roomed}
+use Rattle.coord_core.proofs.Still.{serves, up_is}
+use Rattle.coord_core.proofs.coord.CoordCore.send.Goals as goal
+
+pub room_for-requires-clause-fits : goal.room_for-requires-clause-fits
+room_for-requires-clause-fits g c =
+    let m = c.requires.may in
+    let s = serves g.P.TakePolicy.policy g.D.Disk.tells c.args.self.now m.terms m.past m.stood.holds c.requires.up in
+    initiation_fits m.terms m.past c.args.tid c.args.dues.now c.in-Ok.entry m.stood.holds.sound (c.in-Ok.ensures m.terms m.past m.stood.holds.sound s m.holds)
+
+pub returns-in_default-room_for-clause-failed : goal.returns-in_default-room_for-clause-failed
+returns-in_default-room_for-clause-failed g c = λ terms past event k i.
+    stands_roomed g.P.TakePolicy.policy g.D.Disk.tells c.args.self.now c.room_for.new.store (g.D.Disk.seen c.args.disk.now) (g.D.Disk.seen c.room_for.new.disk) terms past c.room_for.ensures.keeps c.room_for.ensures.standing k
+
+pub end-requires-clause-kept : goal.end-requires-clause-kept
+end-requires-clause-kept g c =
+    let m = c.requires.may in
+    (disk m.past, trip m.past, c.room_for.ensures.keeps (disk m.past) (trip m.past) m.stood.stored)
+
+pub end-requires-clause-in_range : goal.end-requires-clause-in_range
+end-requires-clause-in_range g c =
+    let m = c.requires.may in
+    let s = serves g.P.TakePolicy.policy g.D.Disk.tells c.args.self.now m.terms m.past m.stood.holds c.requires.up in
+    initiation_in_range m.terms m.past c.args.tid c.args.dues.now c.in-Ok.entry m.stood.holds.sound m.holds (c.in-Ok.ensures m.terms m.past m.stood.holds.sound s m.holds)
+
+pub end-requires-clause-payload : goal.end-requires-clause-payload
+end-requires-clause-payload g c =
+    let m = c.requires.may in
+    let s = serves g.P.TakePolicy.policy g.D.Disk.tells c.args.self.now m.terms m.past m.stood.holds c.requires.up in
+    initiation_fits m.terms m.past c.args.tid c.args.dues.now c.in-Ok.entry m.stood.holds.sound (c.in-Ok.ensures m.terms m.past m.stood.holds.sound s m.holds)
+
+pub returns-clause-answered : goal.returns-clause-answered
+returns-clause-answered g c =
+    let old = c.args.self.now in
+    let core : CoordCore g.row.P.Denot = record old { tables = c.sent.new.self; store = c.room_for.new.store } in
+    let step : CoordStep = record { answer = c.said-answer.result; sends = c.in-Ok-send_dues.sends } in
+    map_ok _ _ c.end.result c.end.ensures.answered (λ ended each terms past event k i.
+    let s = serves g.P.TakePolicy.policy g.D.Disk.tells old terms past k.holds c.requires.up in
+    let entry = c.in-Ok.ensures terms past k.holds.sound s i.undecided in
+    let forces = c.is_some-initiates.ensures ∙ initiates_is terms past c.args.tid c.args.dues.now c.in-Ok.entry entry in
+    let served = sent_tables terms past event c.args.tid c.args.taken c.args.defers c.args.dues.now old.tables.exec (after_taken c.args.tid c.args.taken old.tables.exec) i c.is_some-initiates.result old.tables c.take_reply.new.self c.sent.new.self
+    refl c.take_reply.ensures.known c.take_reply.ensures.exec c.take_reply.ensures.stages c.take_reply.ensures.committed c.take_reply.ensures.graph c.sent.ensures.known c.sent.ensures.stages c.sent.ensures.exec c.sent.ensures.committed c.sent.ensures.graph s in
+    each terms past event (sent_line terms.protocols past event c.args.tid c.args.defers c.args.dues.now c.is_some-initiates.result)
+    (sent_pending terms past event c.args.tid c.args.taken c.args.defers c.args.dues.now old.tables.exec (after_taken c.args.tid c.args.taken old.tables.exec) i c.is_some-initiates.result g.P.TakePolicy.policy g.D.Disk.tells step old core
+    (g.D.Disk.seen c.args.disk.now) (g.D.Disk.seen c.room_for.new.disk) c.in-Ok.entry k forces entry c.said-answer.ensures c.in-Ok-send_dues.ensures (c.room_for.ensures.keeps (disk past) (trip past) k.stored)
+    (up_is g.P.TakePolicy.policy g.D.Disk.tells old terms past k.holds c.requires.up) refl refl refl served))
+
+pub returns-clause-failed : goal.returns-clause-failed
+returns-clause-failed g c =
+    let old = c.args.self.now in
+    let core : CoordCore g.row.P.Denot = record old { tables = c.sent.new.self; store = c.room_for.new.store } in
+    let step : CoordStep = record { answer = c.said-answer.result; sends = c.in-Ok-send_dues.sends } in
+    map_err _ _ c.end.result c.end.ensures.failed (λ why each terms past event k i.
+    let s = serves g.P.TakePolicy.policy g.D.Disk.tells old terms past k.holds c.requires.up in
+    let entry = c.in-Ok.ensures terms past k.holds.sound s i.undecided in
+    let forces = c.is_some-initiates.ensures ∙ initiates_is terms past c.args.tid c.args.dues.now c.in-Ok.entry entry in
+    let served = sent_tables terms past event c.args.tid c.args.taken c.args.defers c.args.dues.now old.tables.exec (after_taken c.args.tid c.args.taken old.tables.exec) i c.is_some-initiates.result old.tables c.take_reply.new.self c.sent.new.self
+    refl c.take_reply.ensures.known c.take_reply.ensures.exec c.take_reply.ensures.stages c.take_reply.ensures.committed c.take_reply.ensures.graph c.sent.ensures.known c.sent.ensures.stages c.sent.ensures.exec c.sent.ensures.committed c.sent.ensures.graph s in
+    each terms past event (sent_line terms.protocols past event c.args.tid c.args.defers c.args.dues.now c.is_some-initiates.result)
+    (sent_pending terms past event c.args.tid c.args.taken c.args.defers c.args.dues.now old.tables.exec (after_taken c.args.tid c.args.taken old.tables.exec) i c.is_some-initiates.result g.P.TakePolicy.policy g.D.Disk.tells step old core
+    (g.D.Disk.seen c.args.disk.now) (g.D.Disk.seen c.room_for.new.disk) c.in-Ok.entry k forces entry c.said-answer.ensures c.in-Ok-send_dues.ensures (c.room_for.ensures.keeps (disk past) (trip past) k.stored)
+    (up_is g.P.TakePolicy.policy g.D.Disk.tells old terms past k.holds c.requires.up) refl refl refl served))

@@ -1,0 +1,69 @@
+-- What a step of a core asks, and what it does to the pasts that the core stands for.
+use Rattle.std.specs.Prelude.{◌≡◌, Bool, true, List}
+use Rattle.mdb_base.specs.declared.acts.Step.{Step}
+use Rattle.mdb_base.specs.declared.names.Tid.{Tid}
+use Rattle.mdb_base.specs.Names.{same_tid}
+use Rattle.mdb_base.specs.Words.{Each, some_of}
+use Rattle.field_bytes.specs.Fields.{IsTid}
+use Rattle.fed_rules.specs.declared.events.CoordEvent.{CoordEvent}
+use Rattle.fed_rules.specs.declared.events.CoordEvent.TheVariants as Ev
+use Rattle.fed_rules.specs.declared.events.CoordStep.{CoordStep}
+use Rattle.fed_rules.specs.CoordPast.{CoordHappening, CoordPast, attempts_of, begun_tids}
+use Rattle.fed_rules.specs.Policies.{Policy}
+use Rattle.journal_disk.specs.Disk.{Seen}
+use Rattle.actor_store.specs.declared.errors.StepErr.{StepErr}
+use Rattle.global_exec.specs.Pasts.{IsAmong}
+use Rattle.coord_core.specs.declared.coord.CoordCore.{CoordCore}
+use Rattle.coord_core.specs.Stands.{Fails, Stands, Steps}
+use Rattle.coord_core.specs.Terms.{Terms, line_of}
+
+-- for some past that it stands for the fact holds
+pub record SomePast (K : Terms → CoordPast → Type 0) (P : Terms → CoordPast → Type 0) : Type 0 where
+  pub terms : Terms
+  pub past : CoordPast
+  pub stood : K terms past
+  pub holds : P terms past
+
+-- for every past that it stands for the fact holds
+abbrev pub EachPast : (Terms → CoordPast → Type 0) → (Terms → CoordPast → Type 0) → Type 0
+EachPast K P = (terms : Terms) (past : CoordPast) → K terms past → P terms past
+
+-- the attempt is the next one of its transaction, in its range, and its sites are declared
+pub record CanGo (tid : Tid) (program : List Step) (terms : Terms) (past : CoordPast) : Type 0 where
+  pub in_range : IsTid tid
+  pub next : tid.attempt ≡ attempts_of past tid.tx
+  pub sites : Each (λ step. IsAmong step.site terms.protocols) program
+
+-- the attempt was begun
+abbrev pub WasBegun : Tid → CoordPast → Type 0
+WasBegun tid past = some_of (same_tid tid) (begun_tids past) ≡ true
+
+-- what an event asks of the past: an attempt that goes may go, the site of a message is declared, and an attempt that is sent again or given up
+-- was begun
+abbrev pub CanStep : CoordEvent → Terms → CoordPast → Type 0
+CanStep (Ev.Go tid program) terms past = CanGo tid program terms past
+CanStep (Ev.Take site message) terms past = IsAmong site terms.protocols
+CanStep (Ev.Again tid) terms past = WasBegun tid past
+CanStep (Ev.Late tid) terms past = WasBegun tid past
+CanStep (Ev.Fate tx) terms past = Unit {0}
+CanStep (Ev.Halt cut) terms past = Unit {0}
+CanStep (Ev.Trip calls cut) terms past = Unit {0}
+CanStep Ev.Back terms past = Unit {0}
+CanStep Ev.Check terms past = Unit {0}
+
+-- for every past that the core stood for, on which the event may come, the step is that of the next line
+abbrev pub Answers : {P : Type 0} → (P → Policy) → Bool → CoordEvent → CoordCore P → Seen → CoordStep → CoordCore P → Seen → Type 0
+Answers test tells event old before step new after =
+    (terms : Terms) (past : CoordPast) → Stands test tells old before terms past → CanStep event terms past
+    → Steps test tells step new after terms past (line_of terms past event)
+
+-- for every such past the event isn't answered, for this reason
+abbrev pub Refuses : {P : Type 0} → (P → Policy) → Bool → CoordEvent → CoordCore P → Seen → StepErr → CoordCore P → Seen → Type 0
+Refuses test tells event old before why new after =
+    (terms : Terms) (past : CoordPast) → Stands test tells old before terms past → CanStep event terms past
+    → Fails test tells why new after terms past event
+
+-- the step says and sends what the line does
+pub record Says (step : CoordStep) (x : CoordHappening) : Type 0 where
+  pub answer : step.answer ≡ x.answer
+  pub sends : step.sends ≡ x.sends

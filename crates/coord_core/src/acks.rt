@@ -1,0 +1,107 @@
+//! Acknowledgements of sites.
+ghost use Rattle.std.specs.Prelude.{◌≡◌, ◌≤◌, IfErr, IfOk, IsErrOf, IsTrue};
+ghost use Rattle.mdb_base.specs.Counts.{HasRisen};
+ghost use Rattle.mdb_base.specs.Words.{holds_of, map_some, or_else};
+ghost use Rattle.fed_rules.specs.declared.messages.FromSite.TheVariants as From;
+ghost use Rattle.fed_rules.specs.CoordPast.{CoordPast, Decided, standing};
+ghost use Rattle.protocol_table.specs.declared.ends.AckEnd.TheVariants as Ack;
+ghost use Rattle.protocol_table.specs.Attempts.{known_of};
+ghost use Rattle.protocol_table.specs.Ends.{ack_counts, ack_end, after_ack};
+ghost use Rattle.coord_core.specs.Stands.{Fails, Stands, Steps};
+ghost use Rattle.coord_core.specs.Steps.{Answers, CanStep, Refuses, SomePast};
+ghost use Rattle.coord_core.specs.Terms.{Terms, line_of};
+
+use crate::coord::{CoordCore, silent};
+use crate::ending::room_for;
+use crate::tables::Tables;
+use actor_store::{Standing, StepErr};
+use fed_rules::{Answer, CoordEvent, CoordRecord, CoordStep};
+use global_exec::TakePolicy;
+use journal_disk::Disk;
+use mdb_base::{SiteId, Tid};
+use presumptions::{Decision, Protocol};
+use protocol_table::{AckEnd, Said};
+use std::alloc::Global;
+
+impl Tables {
+    /// Whether a site's acknowledgement of a decision counts: it is required and missing.
+    fn awaits_ack(&self, tid: Tid, site: SiteId) -> bool
+        ensures { result ≡ holds_of (ack_counts site) (known_of tid self.now.known) }
+    {
+        match self.known.known(tid) {
+            None => false,
+            Some(known) => known.awaits_ack(site),
+        }
+    }
+
+    /// Counts a site's acknowledgement of a decision, where it is required and missing. The last one takes the attempt out.
+    fn ack(&mut self, tid: Tid, site: SiteId) -> AckEnd
+        ensures end { result ≡ or_else (map_some (ack_end site) (known_of tid self.old.known)) Ack.Ignored }
+        ensures tables { self.new ≡ record self.old { known = after_ack result tid site self.old.known } }
+    {
+        self.known.ack(tid, site)
+    }
+}
+
+impl<P: TakePolicy> CoordCore<P> {
+    /// An acknowledgement of a decision that is known: it counts where it is required and missing, and the last one forgets the attempt, with
+    /// an End record that isn't forced.
+    fn ack_known<D: Disk>(
+        &mut self,
+        alloc: Global,
+        disk: &mut D,
+        site: SiteId,
+        tid: Tid,
+        decision: Decision,
+    ) -> Result<CoordStep, StepErr>
+        requires told { IsTrue D.tells }
+        requires up { self.old.store.standing ≡ Standing.Up }
+        requires may { SomePast (Stands P.policy D.tells self.old (D.seen disk.old)) (λ terms past. standing terms.protocols past tid ≡ Decided decision) }
+        ensures answered { IfOk result (λ step. (terms : Terms) (past : CoordPast) → Stands P.policy D.tells self.old (D.seen disk.old) terms past → standing terms.protocols past tid ≡ Decided decision
+            → Steps P.policy D.tells step self.new (D.seen disk.new) terms past (line_of terms past (CoordEvent.Take site (From.Ack tid)))) }
+        ensures failed { IfErr result (λ why. (terms : Terms) (past : CoordPast) → Stands P.policy D.tells self.old (D.seen disk.old) terms past → standing terms.protocols past tid ≡ Decided decision
+            → Fails P.policy D.tells why self.new (D.seen disk.new) terms past (CoordEvent.Take site (From.Ack tid))) }
+        ensures cause { IsErrOf result StepErr.Disk → HasRisen (D.seen disk.old).faults (D.seen disk.new).faults }
+        ensures faults { (D.seen disk.old).faults ≤ (D.seen disk.new).faults }
+    {
+        let entry = Some(CoordRecord::End { tid });
+        let Ok(()) = room_for(&mut self.store, alloc, disk, &entry) else {
+            return Err(StepErr::Memory);
+        };
+        match self.tables.ack(tid, site) {
+            AckEnd::Ignored => Ok(silent(alloc, Answer::Ignored)),
+            AckEnd::Acked => Ok(silent(alloc, Answer::Acked)),
+            AckEnd::Forgets => {
+                let step = silent(alloc, Answer::Forgets);
+                self.note(alloc, disk, CoordRecord::End { tid }, step)
+            }
+        }
+    }
+
+    /// An acknowledgement of a decision: it counts where it is required and missing, and the last one forgets the attempt, with an End record
+    /// that isn't forced. One that doesn't count takes no memory.
+    pub(crate) fn ack<D: Disk>(
+        &mut self,
+        alloc: Global,
+        disk: &mut D,
+        site: SiteId,
+        tid: Tid,
+    ) -> Result<CoordStep, StepErr>
+        requires told { IsTrue D.tells }
+        requires up { self.old.store.standing ≡ Standing.Up }
+        requires may { SomePast (Stands P.policy D.tells self.old (D.seen disk.old)) (CanStep (CoordEvent.Take site (From.Ack tid))) }
+        ensures answered { IfOk result (λ step. Answers P.policy D.tells (CoordEvent.Take site (From.Ack tid)) self.old (D.seen disk.old) step self.new (D.seen disk.new)) }
+        ensures failed { IfErr result (λ why. Refuses P.policy D.tells (CoordEvent.Take site (From.Ack tid)) self.old (D.seen disk.old) why self.new (D.seen disk.new)) }
+        ensures cause { IsErrOf result StepErr.Disk → HasRisen (D.seen disk.old).faults (D.seen disk.new).faults }
+        ensures faults { (D.seen disk.old).faults ≤ (D.seen disk.new).faults }
+    {
+        if !self.tables.awaits_ack(tid, site) {
+            return Ok(silent(alloc, Answer::Ignored));
+        }
+        match self.tables.known.answer(tid, Protocol::Nothing) {
+            Said::Known(decision) => self.ack_known(alloc, disk, site, tid, decision),
+            Said::Undecided => unreachable!(),
+            Said::Presumed(_) => unreachable!(),
+        }
+    }
+}

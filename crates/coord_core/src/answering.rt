@@ -1,0 +1,173 @@
+//! The messages of sites.
+ghost use Rattle.std.specs.Prelude.{◌≡◌, ◌≤◌, Bool, true, IfErr, IfOk, IsErrOf, IsTrue};
+ghost use Rattle.mdb_base.specs.Counts.{HasRisen};
+ghost use Rattle.fed_rules.specs.CoordPast.{CoordPast};
+ghost use Rattle.global_exec.specs.Counted.{is_answer};
+ghost use Rattle.mdb_base.specs.declared.names.Tid.{Tid as TheTid};
+ghost use Rattle.global_exec.specs.Pasts.{IsAmong};
+ghost use Rattle.journal_disk.specs.Disk.{Seen};
+ghost use Rattle.coord_core.specs.Replies.{CountsReply, reply_event};
+ghost use Rattle.coord_core.specs.Stands.{Fails, Stands, Steps};
+ghost use Rattle.coord_core.specs.Steps.{Answers, CanStep, Refuses, SomePast};
+ghost use Rattle.coord_core.specs.Terms.{Terms, line_of};
+
+use crate::coord::{CoordCore, silent};
+use crate::outgoing::{passed, some_held};
+use crate::sending::Taken;
+use actor_store::{Standing, StepErr};
+use fed_rules::{Answer, Cause, CoordEvent, CoordStep, FromSite};
+use global_exec::{DidEnd, TakePolicy};
+use journal_disk::Disk;
+use mdb_base::{Reply, SiteId, Tid, Why};
+use std::alloc::Global;
+
+impl<P: TakePolicy> CoordCore<P> {
+    /// An answer of a site that counts, other than a wait and a refusal: what became outstanding by it is sent.
+    fn go_on<D: Disk>(
+        &mut self,
+        alloc: Global,
+        disk: &mut D,
+        tid: Tid,
+        taken: Taken,
+    ) -> Result<CoordStep, StepErr>
+        requires told { IsTrue D.tells }
+        requires up { self.old.store.standing ≡ Standing.Up }
+        requires answers { is_answer taken.reply ≡ true }
+        requires may { SomePast (Stands P.policy D.tells self.old (D.seen disk.old)) (CountsReply tid taken) }
+        ensures answered { IfOk result (λ step. (terms : Terms) (past : CoordPast) → Stands P.policy D.tells self.old (D.seen disk.old) terms past → CountsReply tid taken terms past
+            → Steps P.policy D.tells step self.new (D.seen disk.new) terms past (line_of terms past (reply_event tid taken))) }
+        ensures failed { IfErr result (λ why. (terms : Terms) (past : CoordPast) → Stands P.policy D.tells self.old (D.seen disk.old) terms past → CountsReply tid taken terms past
+            → Fails P.policy D.tells why self.new (D.seen disk.new) terms past (reply_event tid taken)) }
+        ensures cause { IsErrOf result StepErr.Disk → HasRisen (D.seen disk.old).faults (D.seen disk.new).faults }
+        ensures faults { (D.seen disk.old).faults ≤ (D.seen disk.new).faults }
+    {
+        let Taken {
+            site,
+            epoch,
+            n,
+            reply,
+        } = taken;
+        let Ok(end) = self.tables.exec.answers(alloc, tid, site, epoch, n, reply) else {
+            return Err(StepErr::Memory);
+        };
+        let DidEnd::Next(dues) = end else {
+            unreachable!()
+        };
+        let Ok(may) = self.may_send(alloc, disk, tid, &dues) else {
+            return Err(StepErr::Memory);
+        };
+        let Ok(through) = passed(alloc, may, &dues) else {
+            return Err(StepErr::Memory);
+        };
+        let defers = some_held(may, &dues);
+        self.send(alloc, disk, tid, Some(taken), defers, &through)
+    }
+
+    /// A wait that counts fixes the epoch of its site.
+    fn take_wait(&mut self, alloc: Global, tid: Tid, taken: Taken) -> CoordStep
+        requires up { self.old.store.standing ≡ Standing.Up }
+        ensures answered { (tells : Bool) (seen : Seen) (terms : Terms) (past : CoordPast) (by : TheTid) → taken.reply ≡ Reply.Wait by
+            → Stands P.policy tells self.old seen terms past → CountsReply tid taken terms past
+            → Steps P.policy tells result self.new seen terms past (line_of terms past (reply_event tid taken)) }
+    {
+        self.tables
+            .exec
+            .take(tid, taken.site, taken.epoch, taken.n, taken.reply);
+        silent(alloc, Answer::TookWaits)
+    }
+
+    /// A reply of a site: where it doesn't count it is ignored.
+    pub(crate) fn did<D: Disk>(
+        &mut self,
+        alloc: Global,
+        disk: &mut D,
+        tid: Tid,
+        taken: Taken,
+    ) -> Result<CoordStep, StepErr>
+        requires told { IsTrue D.tells }
+        requires up { self.old.store.standing ≡ Standing.Up }
+        requires may { SomePast (Stands P.policy D.tells self.old (D.seen disk.old)) (λ terms past. IsAmong taken.site terms.protocols) }
+        ensures answered { IfOk result (λ step. (terms : Terms) (past : CoordPast) → Stands P.policy D.tells self.old (D.seen disk.old) terms past → IsAmong taken.site terms.protocols
+            → Steps P.policy D.tells step self.new (D.seen disk.new) terms past (line_of terms past (reply_event tid taken))) }
+        ensures failed { IfErr result (λ why. (terms : Terms) (past : CoordPast) → Stands P.policy D.tells self.old (D.seen disk.old) terms past → IsAmong taken.site terms.protocols
+            → Fails P.policy D.tells why self.new (D.seen disk.new) terms past (reply_event tid taken)) }
+        ensures cause { IsErrOf result StepErr.Disk → HasRisen (D.seen disk.old).faults (D.seen disk.new).faults }
+        ensures faults { (D.seen disk.old).faults ≤ (D.seen disk.new).faults }
+    {
+        if !self
+            .tables
+            .exec
+            .counts(tid, taken.site, taken.epoch, taken.n, taken.reply)
+        {
+            return Ok(silent(alloc, Answer::Ignored));
+        }
+        match taken.reply {
+            Reply::Done | Reply::Value(_) | Reply::Ticket(_) => self.go_on(alloc, disk, tid, taken),
+            Reply::Wait { .. } => Ok(self.take_wait(alloc, tid, taken)),
+            Reply::Unknown => self.abort(alloc, disk, tid, Cause::Unknown { site: taken.site }),
+            Reply::Refused(Why::Die { by }) => self.abort(
+                alloc,
+                disk,
+                tid,
+                Cause::Dies {
+                    site: taken.site,
+                    by,
+                },
+            ),
+            Reply::Refused(Why::Late { by }) => self.abort(
+                alloc,
+                disk,
+                tid,
+                Cause::TooLate {
+                    site: taken.site,
+                    by,
+                },
+            ),
+            Reply::Refused(_) => unreachable!(),
+        }
+    }
+
+    /// A message of a site.
+    pub(crate) fn take<D: Disk>(
+        &mut self,
+        alloc: Global,
+        disk: &mut D,
+        site: SiteId,
+        message: FromSite,
+    ) -> Result<CoordStep, StepErr>
+        requires told { IsTrue D.tells }
+        requires up { self.old.store.standing ≡ Standing.Up }
+        requires may { SomePast (Stands P.policy D.tells self.old (D.seen disk.old)) (CanStep (CoordEvent.Take site message)) }
+        ensures answered { IfOk result (λ step. Answers P.policy D.tells (CoordEvent.Take site message) self.old (D.seen disk.old) step self.new (D.seen disk.new)) }
+        ensures failed { IfErr result (λ why. Refuses P.policy D.tells (CoordEvent.Take site message) self.old (D.seen disk.old) why self.new (D.seen disk.new)) }
+        ensures cause { IsErrOf result StepErr.Disk → HasRisen (D.seen disk.old).faults (D.seen disk.new).faults }
+        ensures faults { (D.seen disk.old).faults ≤ (D.seen disk.new).faults }
+    {
+        match message {
+            FromSite::Did {
+                tid,
+                epoch,
+                n,
+                reply,
+            } => self.did(
+                alloc,
+                disk,
+                tid,
+                Taken {
+                    site,
+                    epoch,
+                    n,
+                    reply,
+                },
+            ),
+            FromSite::Vote { tid, yes } => self.vote(alloc, disk, site, tid, yes),
+            FromSite::Ack { tid } => self.ack(alloc, disk, site, tid),
+            FromSite::Inquiry { tid } => {
+                let Ok(step) = self.inquire(alloc, site, tid) else {
+                    return Err(StepErr::Memory);
+                };
+                Ok(step)
+            }
+        }
+    }
+}

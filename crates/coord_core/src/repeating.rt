@@ -1,0 +1,128 @@
+//! Sending again.
+ghost use Rattle.std.specs.Prelude.{◌≡◌, ◌≤◌, true, map, IfErr, IfOk, IsErrOf, IsTrue};
+ghost use Rattle.mdb_base.specs.Counts.{HasRisen};
+ghost use Rattle.mdb_base.specs.Rising.{IsRising};
+ghost use Rattle.presumptions.specs.declared.Participant.{Participant as TheParticipant};
+ghost use Rattle.fed_rules.specs.Coord.{decide_to as rules_decide_to, missing as rules_missing};
+ghost use Rattle.fed_rules.specs.CoordPast.{CoordPast, Decided, is_open, standing};
+ghost use Rattle.protocol_table.specs.Attempts.{lacks_ack, missing, participant_of};
+ghost use Rattle.coord_core.specs.Stands.{Fails, Holds, Stands, Steps};
+ghost use Rattle.coord_core.specs.Steps.{Answers, CanStep, EachPast, Refuses, SomePast};
+ghost use Rattle.coord_core.specs.Terms.{Terms, line_of};
+
+use crate::coord::{CoordCore, silent};
+use crate::messages::decide_to;
+use crate::outgoing::{passed, some_held};
+use actor_store::{Standing, StepErr};
+use fed_rules::{Answer, CoordEvent, CoordStep};
+use global_exec::TakePolicy;
+use journal_disk::Disk;
+use mdb_base::{Memory, Tid};
+use presumptions::{Decision, Participant, Participants, Protocol, acks};
+use protocol_table::{Known, Member, Said};
+use std::alloc::Global;
+
+/// Whether the member's acknowledgement of the decision is required and missing, in an attempt that has a record or not.
+fn lacks_ack(member: &Member, decision: Decision, initiated: bool) -> bool
+    ensures { result ≡ lacks_ack decision initiated member.now }
+{
+    initiated && acks(member.protocol, decision) && !member.acked
+}
+
+/// The participants whose required acknowledgement of the decision is missing.
+fn missing_of(alloc: Global, known: &Known, decision: Decision) -> Result<Participants, Memory>
+    requires { IsRising (λ (member : TheParticipant). member.site.0) (map participant_of (missing decision known.now)) }
+    ensures { IfOk result (λ members. members ≡ map participant_of (missing decision known.now)) }
+{
+    let mut members = Vec::with_capacity(alloc, known.members.len())?;
+    for member in known.members.as_slice() {
+        if lacks_ack(member, decision, known.initiated) {
+            members.push(Participant {
+                site: member.site,
+                protocol: member.protocol,
+            })?;
+        }
+    }
+    Ok(Participants::of(members))
+}
+
+impl<P: TakePolicy> CoordCore<P> {
+    /// Sends the decision again to those whose required acknowledgement is missing.
+    fn tell(&self, alloc: Global, tid: Tid, decision: Decision) -> Result<CoordStep, Memory>
+        requires up { self.now.store.standing ≡ Standing.Up }
+        requires may { SomePast (Holds P.policy self.now) (λ terms past. standing terms.protocols past tid ≡ Decided decision) }
+        ensures answer { IfOk result (λ step. step.answer ≡ Answer.Only) }
+        ensures sends { IfOk result (λ step. EachPast (Holds P.policy self.now) (λ terms past. standing terms.protocols past tid ≡ Decided decision
+            → step.sends ≡ rules_decide_to tid decision (rules_missing terms.protocols past tid decision))) }
+    {
+        match self.tables.known.known(tid) {
+            None => unreachable!(),
+            Some(known) => {
+                let members = missing_of(alloc, known, decision)?;
+                let sends = decide_to(alloc, tid, decision, &members)?;
+                Ok(CoordStep {
+                    answer: Answer::Only,
+                    sends,
+                })
+            }
+        }
+    }
+
+    /// Sends again all that is outstanding for an undecided attempt, but for Takes that the policy holds back.
+    fn send_all<D: Disk>(
+        &mut self,
+        alloc: Global,
+        disk: &mut D,
+        tid: Tid,
+    ) -> Result<CoordStep, StepErr>
+        requires told { IsTrue D.tells }
+        requires up { self.old.store.standing ≡ Standing.Up }
+        requires may { SomePast (Stands P.policy D.tells self.old (D.seen disk.old)) (λ terms past. is_open past tid ≡ true) }
+        ensures answered { IfOk result (λ step. (terms : Terms) (past : CoordPast) → Stands P.policy D.tells self.old (D.seen disk.old) terms past → is_open past tid ≡ true
+            → Steps P.policy D.tells step self.new (D.seen disk.new) terms past (line_of terms past (CoordEvent.Again tid))) }
+        ensures failed { IfErr result (λ why. (terms : Terms) (past : CoordPast) → Stands P.policy D.tells self.old (D.seen disk.old) terms past → is_open past tid ≡ true
+            → Fails P.policy D.tells why self.new (D.seen disk.new) terms past (CoordEvent.Again tid)) }
+        ensures cause { IsErrOf result StepErr.Disk → HasRisen (D.seen disk.old).faults (D.seen disk.new).faults }
+        ensures faults { (D.seen disk.old).faults ≤ (D.seen disk.new).faults }
+    {
+        let Ok(dues) = self.tables.exec.outstanding(alloc, tid) else {
+            return Err(StepErr::Memory);
+        };
+        let Ok(may) = self.may_take(alloc, disk, tid) else {
+            return Err(StepErr::Memory);
+        };
+        let Ok(through) = passed(alloc, may, &dues) else {
+            return Err(StepErr::Memory);
+        };
+        let held = some_held(may, &dues);
+        let none = through.len() == 0;
+        let defers = held & none;
+        self.send(alloc, disk, tid, None, defers, &through)
+    }
+
+    /// Sends again what is outstanding for an undecided attempt, and a decision that is known to those whose required acknowledgement is
+    /// missing.
+    pub(crate) fn again<D: Disk>(
+        &mut self,
+        alloc: Global,
+        disk: &mut D,
+        tid: Tid,
+    ) -> Result<CoordStep, StepErr>
+        requires told { IsTrue D.tells }
+        requires up { self.old.store.standing ≡ Standing.Up }
+        requires may { SomePast (Stands P.policy D.tells self.old (D.seen disk.old)) (CanStep (CoordEvent.Again tid)) }
+        ensures answered { IfOk result (λ step. Answers P.policy D.tells (CoordEvent.Again tid) self.old (D.seen disk.old) step self.new (D.seen disk.new)) }
+        ensures failed { IfErr result (λ why. Refuses P.policy D.tells (CoordEvent.Again tid) self.old (D.seen disk.old) why self.new (D.seen disk.new)) }
+        ensures cause { IsErrOf result StepErr.Disk → HasRisen (D.seen disk.old).faults (D.seen disk.new).faults }
+        ensures faults { (D.seen disk.old).faults ≤ (D.seen disk.new).faults }
+    {
+        match self.tables.known.answer(tid, Protocol::Nothing) {
+            Said::Undecided => self.send_all(alloc, disk, tid),
+            Said::Known(decision) => match self.tell(alloc, tid, decision) {
+                Ok(step) => Ok(step),
+                Err(Memory) => Err(StepErr::Memory),
+            },
+            Said::Presumed(_) => Ok(silent(alloc, Answer::Idle)),
+        }
+    }
+}

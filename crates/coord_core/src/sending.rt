@@ -1,0 +1,125 @@
+//! What the coordinator sends of an undecided attempt: what is outstanding, but for Takes that the policy holds back.
+ghost use Rattle.std.specs.Prelude.{◌≡◌, ◌≤◌, true, IfErr, IfOk, IsErrOf, IsTrue};
+ghost use Rattle.mdb_base.specs.Counts.{HasRisen};
+ghost use Rattle.fed_rules.specs.declared.events.CoordEvent.{CoordEvent as TheEvent};
+ghost use Rattle.fed_rules.specs.Coord.{may_take as rules_may_take};
+ghost use Rattle.fed_rules.specs.CoordPast.{CoordPast, is_open};
+ghost use Rattle.coord_core.specs.Sending.{HoldsTheSame, IsSending, after_taken, says_sent};
+ghost use Rattle.coord_core.specs.Stands.{Fails, Stands, Steps};
+ghost use Rattle.coord_core.specs.Steps.{Answers, CanStep, EachPast, Refuses, SomePast};
+ghost use Rattle.coord_core.specs.Terms.{Terms, line_of};
+
+use crate::coord::{CoordCore, silent};
+use crate::ending::room_for;
+use crate::messages::send_dues;
+use crate::outgoing::{passed, some_held, some_take};
+use actor_store::{Standing, StepErr};
+use fed_rules::{Answer, CoordEvent, CoordStep, Dues};
+use global_exec::TakePolicy;
+use journal_disk::Disk;
+use mdb_base::{Memory, Reply, SiteId, Tid};
+use std::alloc::Global;
+
+/// A reply of a site.
+#[derive(Clone, Copy)]
+pub struct Taken {
+    pub site: SiteId,
+    pub epoch: u32,
+    pub n: u8,
+    pub reply: Reply,
+}
+
+impl<P: TakePolicy> CoordCore<P> {
+    /// Whether an undecided attempt may take tickets beside the others in their phases.
+    pub(crate) fn may_take<D: Disk>(
+        &self,
+        alloc: Global,
+        disk: &D,
+        tid: Tid,
+    ) -> Result<bool, Memory>
+        requires up { self.now.store.standing ≡ Standing.Up }
+        requires may { SomePast (Stands P.policy D.tells self.now (D.seen disk.now)) (λ terms past. is_open past tid ≡ true) }
+        ensures { IfOk result (λ may. EachPast (Stands P.policy D.tells self.now (D.seen disk.now))
+            (λ terms past. is_open past tid ≡ true → may ≡ rules_may_take terms.protocols terms.policy past tid)) }
+    {
+        match self.tables.stages.stage_of(tid) {
+            None => unreachable!(),
+            Some(stage) => {
+                let others = self.tables.stages.others_taking(alloc, tid)?;
+                Ok(self.policy.may_take(stage.sites, &others))
+            }
+        }
+    }
+
+    /// Whether these dues of an undecided attempt may all be sent: the policy is asked where a Take is among them.
+    pub(crate) fn may_send<D: Disk>(
+        &self,
+        alloc: Global,
+        disk: &D,
+        tid: Tid,
+        dues: &Dues,
+    ) -> Result<bool, Memory>
+        requires up { self.now.store.standing ≡ Standing.Up }
+        requires may { SomePast (Stands P.policy D.tells self.now (D.seen disk.now)) (λ terms past. is_open past tid ≡ true) }
+        ensures { IfOk result (λ may. EachPast (Stands P.policy D.tells self.now (D.seen disk.now))
+            (λ terms past. is_open past tid ≡ true → HoldsTheSame may (rules_may_take terms.protocols terms.policy past tid) dues.now)) }
+    {
+        if some_take(dues) {
+            self.may_take(alloc, disk, tid)
+        } else {
+            Ok(true)
+        }
+    }
+
+    /// Sends these dues of an undecided attempt, once the reply is taken, where there is one. Before its first Prepare the attempt's
+    /// Initiation is forced, where it has one.
+    pub(crate) fn send<D: Disk>(
+        &mut self,
+        alloc: Global,
+        disk: &mut D,
+        tid: Tid,
+        taken: Option<Taken>,
+        defers: bool,
+        dues: &Dues,
+    ) -> Result<CoordStep, StepErr>
+        requires told { IsTrue D.tells }
+        requires up { self.old.store.standing ≡ Standing.Up }
+        requires may { SomePast (Stands P.policy D.tells self.old (D.seen disk.old)) (λ terms past. is_open past tid ≡ true) }
+        ensures answered { IfOk result (λ step. (terms : Terms) (past : CoordPast) (event : TheEvent) → Stands P.policy D.tells self.old (D.seen disk.old) terms past
+            → IsSending terms past event tid taken defers dues.now self.old.tables.exec (after_taken tid taken self.old.tables.exec)
+            → Steps P.policy D.tells step self.new (D.seen disk.new) terms past (line_of terms past event)) }
+        ensures failed { IfErr result (λ why. (terms : Terms) (past : CoordPast) (event : TheEvent) → Stands P.policy D.tells self.old (D.seen disk.old) terms past
+            → IsSending terms past event tid taken defers dues.now self.old.tables.exec (after_taken tid taken self.old.tables.exec)
+            → Fails P.policy D.tells why self.new (D.seen disk.new) terms past event) }
+        ensures cause { IsErrOf result StepErr.Disk → HasRisen (D.seen disk.old).faults (D.seen disk.new).faults }
+        ensures faults { (D.seen disk.old).faults ≤ (D.seen disk.new).faults }
+    {
+        let Ok(entry) = self.tables.initiation(alloc, tid, dues) else {
+            return Err(StepErr::Memory);
+        };
+        let Ok(sends) = send_dues(alloc, tid, dues) else {
+            return Err(StepErr::Memory);
+        };
+        let Ok(()) = room_for(&mut self.store, alloc, disk, &entry) else {
+            return Err(StepErr::Memory);
+        };
+        let initiates = entry.is_some();
+        self.tables.take_reply(tid, taken);
+        self.tables.sent(tid, dues, initiates);
+        let answer = said(initiates, defers);
+        self.end(alloc, disk, entry, CoordStep { answer, sends })
+    }
+}
+
+/// The answer of a line that sends dues: that it forces an Initiation, or whether it holds something back.
+fn said(initiates: bool, defers: bool) -> Answer
+    ensures { result ≡ says_sent initiates defers }
+{
+    if initiates {
+        Answer::Initiates
+    } else if defers {
+        Answer::Defers
+    } else {
+        Answer::Only
+    }
+}

@@ -1,0 +1,65 @@
+//! The start of a coordinator that is down.
+ghost use Rattle.std.specs.Prelude.{◌≡◌, ◌≤◌, false, IfErr, IfOk, IsErrOf, IsTrue};
+ghost use Rattle.mdb_base.specs.Counts.{HasRisen};
+ghost use Rattle.actor_store.specs.Store.{is_up};
+ghost use Rattle.coord_core.specs.Stands.{Stands};
+ghost use Rattle.coord_core.specs.Steps.{Answers, CanStep, Refuses, SomePast};
+
+use crate::coord::{CoordCore, silent};
+use actor_store::{Break, StepErr};
+use fed_rules::{Answer, CoordEvent, CoordStep};
+use global_exec::TakePolicy;
+use journal_disk::Disk;
+use journal_sums::read_coord_sum;
+use std::alloc::Global;
+
+impl<P: TakePolicy> CoordCore<P> {
+    /// Starts a coordinator that is down: it reads its records again, knows the attempts of which something is required, and keeps the
+    /// tickets of all committed ones. A failed read disarms the trip, as a stop does.
+    pub(crate) fn back<D: Disk>(
+        &mut self,
+        alloc: Global,
+        disk: &mut D,
+    ) -> Result<CoordStep, StepErr>
+        requires told { IsTrue D.tells }
+        requires down { is_up self.old.store.standing ≡ false }
+        requires may { SomePast (Stands P.policy D.tells self.old (D.seen disk.old)) (CanStep (CoordEvent.Back)) }
+        ensures answered { IfOk result (λ step. Answers P.policy D.tells (CoordEvent.Back) self.old (D.seen disk.old) step self.new (D.seen disk.new)) }
+        ensures failed { IfErr result (λ why. Refuses P.policy D.tells (CoordEvent.Back) self.old (D.seen disk.old) why self.new (D.seen disk.new)) }
+        ensures cause { IsErrOf result StepErr.Disk → HasRisen (D.seen disk.old).faults (D.seen disk.new).faults }
+        ensures faults { (D.seen disk.old).faults ≤ (D.seen disk.new).faults }
+    {
+        match self.store.reload(alloc, disk) {
+            Ok(()) => self.come_up(alloc, disk),
+            Err(StepErr::Memory) => Err(StepErr::Memory),
+            Err(StepErr::Disk) => {
+                self.store.trip = None;
+                Err(StepErr::Disk)
+            }
+        }
+    }
+
+    /// Comes up with what the records in memory say: the tables first, and then the disk, of which a torn rest is cut back.
+    fn come_up<D: Disk>(&mut self, alloc: Global, disk: &mut D) -> Result<CoordStep, StepErr>
+        requires told { IsTrue D.tells }
+        requires down { is_up self.old.store.standing ≡ false }
+        requires may { SomePast (Stands P.policy D.tells self.old (D.seen disk.old)) (CanStep (CoordEvent.Back)) }
+        ensures answered { IfOk result (λ step. Answers P.policy D.tells (CoordEvent.Back) self.old (D.seen disk.old) step self.new (D.seen disk.new)) }
+        ensures failed { IfErr result (λ why. Refuses P.policy D.tells (CoordEvent.Back) self.old (D.seen disk.old) why self.new (D.seen disk.new)) }
+        ensures cause { IsErrOf result StepErr.Disk → HasRisen (D.seen disk.old).faults (D.seen disk.new).faults }
+        ensures faults { (D.seen disk.old).faults ≤ (D.seen disk.new).faults }
+    {
+        let Ok(sum) = read_coord_sum(alloc, &self.protocols, self.store.records()) else {
+            return Err(StepErr::Memory);
+        };
+        let Ok(()) = self.tables.restart(alloc, &sum) else {
+            return Err(StepErr::Memory);
+        };
+        let known = self.tables.known.len() as u32;
+        match self.store.open(disk) {
+            Ok(()) => Ok(silent(alloc, Answer::UpCoord { known })),
+            Err(Break::Stopped(kept)) => Ok(silent(alloc, Answer::Stopped(kept))),
+            Err(Break::Failed) => Err(StepErr::Disk),
+        }
+    }
+}

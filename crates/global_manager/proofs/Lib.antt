@@ -1,0 +1,5 @@
+pub mod Asked
+pub mod Fit
+pub mod Lines
+pub mod Owned
+pub mod Sessions

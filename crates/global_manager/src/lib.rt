@@ -1,0 +1,17 @@
+//! The coordinator of a federation, seen from its own past alone: its core, and the programs of the global transactions that are submitted to
+//! it by their numbers (the global transaction manager of Georgakopoulos, Rusinkiewicz, Sheth 1994). A world of actors and a host behind a
+//! lock use it alike.
+#![tactic(auto)]
+
+mod attempt_commands;
+mod coord_commands;
+mod manager;
+mod programs;
+mod requests;
+mod tx_commands;
+
+pub use coord_core::StepErr;
+pub use manager::GlobalManager;
+
+#[cfg(test)]
+mod tests;

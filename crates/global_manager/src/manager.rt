@@ -1,0 +1,108 @@
+//! A global transaction manager, and how it hands events to its core.
+ghost use Rattle.std.specs.Prelude.{◌≡◌, ◌≤◌, [], Bool, IsTrue, IfOk, IfErr, IsErrOf};
+ghost use Rattle.mdb_base.specs.Counts.{HasRisen};
+ghost use Rattle.mdb_base.specs.Words.{Each};
+ghost use Rattle.presumptions.specs.declared.Participant.{Participant as TheParticipant};
+ghost use Rattle.record_fields.specs.Named.{IsSite};
+ghost use Rattle.fed_rules.specs.Requests.{Submits};
+ghost use Rattle.journal_disk.specs.Disk.{Seen};
+ghost use Rattle.coord_core.specs.Stands.{Holds, IsEmptyDisk, Stands as CoreStands};
+ghost use Rattle.global_manager.specs.Stands.{CanHand, CanServe, EachManaged, Fails, IsDeclared, Recalls, Sends, Serves, SomeManaged, Stands, own_programs, request_of};
+
+use crate::programs::programs_of;
+use crate::requests::Request;
+use coord_core::{CoordCore, StepErr};
+use fed_rules::{Answer, CoordEvent, CoordStep, Sends, TxLine};
+use global_exec::TakePolicy;
+use journal_disk::Disk;
+use mdb_base::{Memory, Program, Tx};
+use presumptions::Participants;
+use std::alloc::Global;
+use std::collections::BTreeMap;
+
+/// A global transaction manager: the core of the coordinator, and the programs of the global transactions.
+#[derive(Drop)]
+pub struct GlobalManager<P: TakePolicy> {
+    pub(crate) core: CoordCore<P>,
+    pub(crate) programs: BTreeMap<Tx, Program>,
+}
+
+/// An answer without an event, which sends nothing.
+fn declined(alloc: Global, answer: Answer) -> CoordStep
+    ensures answer { result.answer ≡ answer }
+    ensures sends { result.sends ≡ [] }
+{
+    CoordStep {
+        answer,
+        sends: Sends::of(Vec::new(alloc)),
+    }
+}
+
+impl<P: TakePolicy> GlobalManager<P> {
+    /// A manager of these sites, of 1 to 8, to which nothing happened yet. Its own transactions are those that have no home by their lines,
+    /// of several of one number the first; they are numbered 1 to 1,024, and their steps are at these sites. Its disk has to be an empty one.
+    pub fn new(
+        alloc: Global,
+        protocols: Participants,
+        policy: P,
+        transactions: &[TxLine],
+    ) -> Result<GlobalManager<P>, Memory>
+        requires sites { Each (λ (member : TheParticipant). IsSite member.site) protocols }
+        requires declared { Each (IsDeclared protocols) transactions.now }
+        ensures { IfOk result (λ manager. (tells : Bool) (seen : Seen) → IsEmptyDisk tells seen
+            → Stands P.policy tells manager seen (record { protocols = protocols; policy = P.policy policy }) (own_programs transactions.now) []) }
+    {
+        let programs = programs_of(alloc, transactions)?;
+        let core = CoordCore::new(alloc, protocols, policy)?;
+        Ok(GlobalManager { core, programs })
+    }
+
+    /// The core of the coordinator, which answers what is asked of its records, its table and its graph.
+    pub fn core(&self) -> &CoordCore<P>
+        ensures stood { (tells : Bool) (seen : Seen) → EachManaged (Stands P.policy tells self.now seen) (λ terms programs past. CoreStands P.policy tells result.now seen terms past) }
+        ensures held { EachManaged (Recalls P.policy self.now) (λ terms programs past. Holds P.policy result.now terms past) }
+    {
+        &self.core
+    }
+
+    /// The core answers an event that may come there and fits the programs.
+    pub(crate) fn hand<D: Disk>(
+        &mut self,
+        alloc: Global,
+        disk: &mut D,
+        event: CoordEvent,
+    ) -> Result<CoordStep, StepErr>
+        requires told { IsTrue D.tells }
+        requires may { SomeManaged (Stands P.policy D.tells self.old (D.seen disk.old)) (CanHand event) }
+        ensures served { IfOk result (λ step. EachManaged (Stands P.policy D.tells self.old (D.seen disk.old))
+            (λ terms programs past. CanHand event terms programs past → Sends (Stands P.policy D.tells self.new (D.seen disk.new)) step terms programs past event)) }
+        ensures failed { IfErr result (λ why. EachManaged (Stands P.policy D.tells self.old (D.seen disk.old))
+            (λ terms programs past. CanHand event terms programs past → Fails (Stands P.policy D.tells self.new (D.seen disk.new)) why terms programs past (Submits event))) }
+        ensures cause { IsErrOf result StepErr.Disk → HasRisen (D.seen disk.old).faults (D.seen disk.new).faults }
+        ensures faults { (D.seen disk.old).faults ≤ (D.seen disk.new).faults }
+    {
+        self.core.step(alloc, disk, event)
+    }
+
+    /// Serves a request: the core answers its event.
+    pub(crate) fn serve<D: Disk>(
+        &mut self,
+        alloc: Global,
+        disk: &mut D,
+        request: Request,
+    ) -> Result<CoordStep, StepErr>
+        requires told { IsTrue D.tells }
+        requires may { SomeManaged (Stands P.policy D.tells self.old (D.seen disk.old)) (CanServe request) }
+        ensures served { IfOk result (λ step. EachManaged (Stands P.policy D.tells self.old (D.seen disk.old))
+            (λ terms programs past. CanServe request terms programs past → Serves (Stands P.policy D.tells self.new (D.seen disk.new)) step terms programs past (request_of request))) }
+        ensures failed { IfErr result (λ why. EachManaged (Stands P.policy D.tells self.old (D.seen disk.old))
+            (λ terms programs past. CanServe request terms programs past → Fails (Stands P.policy D.tells self.new (D.seen disk.new)) why terms programs past (request_of request))) }
+        ensures cause { IsErrOf result StepErr.Disk → HasRisen (D.seen disk.old).faults (D.seen disk.new).faults }
+        ensures faults { (D.seen disk.old).faults ≤ (D.seen disk.new).faults }
+    {
+        match request {
+            Request::Declines(answer) => Ok(declined(alloc, answer)),
+            Request::Submits(event) => self.hand(alloc, disk, event),
+        }
+    }
+}

@@ -1,0 +1,211 @@
+//! A session in which each line with a disk call is stopped, and has each of its disk calls fail.
+ghost use Rattle.std.specs.Prelude.{◌≡◌, OnOk};
+ghost use Rattle.journal_disk.specs.MemDisk.{mem_image};
+ghost use Rattle.journal_disk.specs.Disk.{no_bytes};
+ghost use Rattle.global_manager.specs.Sessions.{IsOfThree};
+
+use super::kept::{Attempt, known_in, knows};
+use super::play::{Channels, global, manager_of, play, set};
+use crate::GlobalManager;
+use global_exec::{Always, TakePolicy};
+use journal_disk::MemDisk;
+use mdb_base::{Tid, Tx};
+use presumptions::Protocol;
+use std::alloc::Global;
+use std::process::Abort;
+use std::test::Fail;
+
+const MIXED: [Protocol; 3] = [Protocol::Nothing, Protocol::Abort, Protocol::Commit];
+
+// The attempts of the session.
+const ATTEMPTS: [Attempt; 3] = [
+    Attempt {
+        tid: Tid {
+            tx: Tx(1),
+            attempt: 0,
+        },
+        members: [Some(Protocol::Nothing), Some(Protocol::Abort), None],
+    },
+    Attempt {
+        tid: Tid {
+            tx: Tx(2),
+            attempt: 0,
+        },
+        members: [Some(Protocol::Nothing), None, None],
+    },
+    Attempt {
+        tid: Tid {
+            tx: Tx(3),
+            attempt: 0,
+        },
+        members: [None, None, Some(Protocol::Commit)],
+    },
+];
+
+// One attempt commits at two sites, a Checkpoint is written between its decision and its end, and another one is given up once it may be
+// prepared; the stop tears its End.
+const BEFORE: &str = "go 1 => begun 1.0 sends 1/0
+give 1 0 => did 1.0 done sends 0
+take 1 0 => sends 1/1 2/0
+give 1 1 => did 1.0 ticket 1 sends 1
+take 1 1 => initiates sends 1/2
+give 1 2 => votes 1.0 yes 1 sends 2
+take 1 2 => voted
+give 2 0 => did 1.0 done sends 0
+take 2 0 => sends 2/1
+give 2 1 => did 1.0 ticket 1 sends 1
+again 1.0 => sends 2/2
+take 2 1 => sends 2/3
+give 2 3 => votes 1.0 yes 1 sends 2
+take 2 2 => decides commit sends 1/3 2/4
+check 0 => checked
+give 1 3 => settles 1.0 commit sends 3
+take 1 3 => acked
+give 2 4 => settles 1.0 commit sends 3
+take 2 3 => forgets
+go 2 => begun 2.0 sends 1/4
+give 1 4 => did 2.0 done sends 4
+take 1 4 => sends 1/5
+give 1 5 => did 2.0 ticket 2 sends 5
+take 1 5 => sends 1/6
+late 2.0 => decides abort late sends 1/7
+again 2.0 => sends 1/8
+give 1 7 => settles 2.0 abort sends 6
+take 1 6 => forgets
+halt 0 10 => stopped kept 3
+";
+
+// It comes up, forgets the one that was given up again, and a third one commits where commit is presumed.
+const BEHIND: &str = "back 0 => up known 1
+again 2.0 => sends 1/9
+take 1 6 => forgets
+go 3 => begun 3.0 sends 3/0
+give 3 0 => did 3.0 done sends 0
+take 3 0 => sends 3/1
+give 3 1 => did 3.0 ticket 1 sends 1
+again 3.0 => sends 3/2
+take 3 1 => initiates sends 3/3
+give 3 3 => votes 3.0 yes 1 sends 2
+take 3 2 => decides commit forgets sends 3/4
+check 0 => checked";
+
+// The manager carries its part of the scripts out, one after the other. Says whether it came to the end of the last one.
+fn play_each<P: TakePolicy>(
+    rt: &impl Abort,
+    alloc: Global,
+    manager: &mut GlobalManager<P>,
+    disk: &mut MemDisk,
+    channels: &mut Channels,
+    scripts: &[&str],
+) -> Result<bool, Fail>
+    requires { IsOfThree P.policy manager.old disk.old }
+    ensures { OnOk result (IsOfThree P.policy manager.new disk.new) }
+{
+    for script in scripts {
+        if !play(rt, alloc, manager, disk, channels, script)? {
+            return Ok(false);
+        }
+    }
+    Ok(true)
+}
+
+// A coordinator that has just come up knows of each of these attempts exactly what its records say.
+fn knows_each<P: TakePolicy>(
+    rt: &impl Abort,
+    alloc: Global,
+    manager: &mut GlobalManager<P>,
+    disk: &mut MemDisk,
+    attempts: &[Attempt],
+) -> Result<(), Fail>
+    requires { IsOfThree P.policy manager.old disk.old }
+    ensures { OnOk result (IsOfThree P.policy manager.new disk.new) }
+{
+    for attempt in attempts {
+        knows(rt, alloc, manager, disk, attempt)?;
+    }
+    Ok(())
+}
+
+// A coordinator that is down answers so, comes up again, and knows then what its records say.
+fn comes_up<P: TakePolicy>(
+    rt: &impl Abort,
+    alloc: Global,
+    manager: &mut GlobalManager<P>,
+    disk: &mut MemDisk,
+    channels: &mut Channels,
+) -> Result<(), Fail>
+    requires { IsOfThree P.policy manager.old disk.old }
+    ensures { OnOk result (IsOfThree P.policy manager.new disk.new) }
+{
+    assert!(rt; manager.core().is_down());
+    let down = "go 1 => down\nfate 2 => down\nagain 1.0 => down\ncheck 0 => down\nhalt 0 0 => down";
+    assert!(rt; play(rt, alloc, manager, disk, channels, down)?);
+    let known = known_in(manager.core().records(), &ATTEMPTS);
+    let back = format!(in alloc; "back 0 => up known {known}")?;
+    assert!(rt; play(rt, alloc, manager, disk, channels, &back)?);
+    knows_each(rt, alloc, manager, disk, &ATTEMPTS)
+}
+
+// A coordinator that a fault stops within one of the scripts comes up again as its records say. Says whether the scripts came to their end.
+fn comes_up_behind_a_fault(
+    rt: &impl Abort,
+    alloc: Global,
+    disk: &mut MemDisk,
+    scripts: &[&str],
+) -> Result<bool, Fail>
+    requires { mem_image disk.old ≡ no_bytes }
+{
+    let transactions = [
+        global(alloc, 1, &[set(1, 1, 11), set(2, 2, 22)])?,
+        global(alloc, 2, &[set(1, 3, 33)])?,
+        global(alloc, 3, &[set(3, 4, 44)])?,
+    ];
+    let mut manager = manager_of(alloc, disk, Always, MIXED, &transactions)?;
+    let mut channels = Channels::new(alloc);
+    if play_each(rt, alloc, &mut manager, disk, &mut channels, scripts)? {
+        return Ok(true);
+    }
+    comes_up(rt, alloc, &mut manager, disk, &mut channels)?;
+    Ok(false)
+}
+
+#[test]
+fn each_disk_call_fails_once(rt: HostRuntime) -> Result<(), Fail> {
+    let alloc = rt.alloc();
+    for call in 1..100 {
+        let mut disk = MemDisk::failing(alloc, &[call])?;
+        if comes_up_behind_a_fault(&rt, alloc, &mut disk, &[BEFORE, BEHIND])? {
+            return Ok(());
+        }
+    }
+    Err(Fail::from("the script has no end"))
+}
+
+// A trip stops the coordinator behind each disk call of the second script.
+fn stops_behind_each_call(
+    rt: &impl Abort,
+    alloc: Global,
+    first: &str,
+    then: &str,
+) -> Result<(), Fail> {
+    for calls in 1..100 {
+        for cut in [0, 10, 65_535] {
+            let mut disk = MemDisk::new(alloc)?;
+            let trip = format!(in alloc; "trip 0 {calls} {cut} => set")?;
+            if comes_up_behind_a_fault(rt, alloc, &mut disk, &[first, &trip, then])? {
+                return Ok(());
+            }
+        }
+    }
+    Err(Fail::from("the script has no end"))
+}
+
+#[test]
+fn a_trip_stops_the_coordinator_behind_each_disk_call(rt: HostRuntime) -> Result<(), Fail> {
+    stops_behind_each_call(&rt, rt.alloc(), "", BEFORE)
+}
+
+#[test]
+fn a_trip_stops_a_start_and_what_comes_behind_it(rt: HostRuntime) -> Result<(), Fail> {
+    stops_behind_each_call(&rt, rt.alloc(), BEFORE, BEHIND)
+}

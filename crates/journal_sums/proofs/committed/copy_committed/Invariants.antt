@@ -1,0 +1,6 @@
+use Rattle.std.proofs.Common.{◌≡◌, take}
+use Rattle.journal_sums.proofs.committed.copy_committed.Given as goal
+
+-- the first ones are there
+abbrev pub invariant-loop-attempt : goal.invariant-loop-attempt
+invariant-loop-attempt l = l.copy.items ≡ take l.attempt-index l.attempt-items

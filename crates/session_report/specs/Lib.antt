@@ -1,0 +1,6 @@
+pub mod Entries
+pub mod Marks
+pub mod Outcomes
+pub mod Ranks
+pub mod Session
+pub mod Told
