@@ -46,7 +46,7 @@ one_few scenario line (Some site) few commands =
 abbrev before : TxLine → TxLine → Bool
 before a b = nat_lt a.tx.0 b.tx.0
 
-numbered_in : (lines : List TxLine) (line : TxLine) → In line (by_number lines) → In line lines
+pub numbered_in : (lines : List TxLine) (line : TxLine) → In line (by_number lines) → In line lines
 numbered_in [] line i = absurd i
 numbered_in (l ∷ lines) line i = elim (in_inserted l line (by_number lines) i) [ inl e ↦ inl e | inr j ↦ inr (numbered_in lines line j) ]
   where

@@ -1,15 +1,15 @@
 -- A closed session is at rest, and closing makes few commands.
 use Rattle.std.proofs.Common.{arith}
 use Rattle.fed_rules.specs.Closing.{disarm, bring_up, give_up, clear, end_known, ask_all}
-use Rattle.fed_rules.specs.Story.{story_of}
+use Rattle.fed_rules.specs.Story.{Story, story_of}
 use Rattle.site_history.specs.Stories.{StoriesHaveRightLines}
-use Rattle.closing_laws.specs.AtRest.{ClosedSessionsRest}
+use Rattle.closing_laws.specs.AtRest.{AllUp, ClosedSessionsRest, ClosingStaysUp}
 use Rattle.closing_laws.specs.Bound.{ClosingIsShort, ReplaysCloseShortly}
 use Rattle.closing_laws.proofs.Clear.{cleared}
 use Rattle.closing_laws.proofs.EndKnown.{ended}
 use Rattle.closing_laws.proofs.GiveUp.{given_up}
 use Rattle.closing_laws.proofs.Inquire.{settled}
-use Rattle.closing_laws.proofs.Onward.{onward_on}
+use Rattle.closing_laws.proofs.Onward.{IsCalm, onward_on}
 use Rattle.closing_laws.proofs.Quiet.{quiet_rests}
 use Rattle.closing_laws.proofs.Bound.{closing_short}
 use Rattle.closing_laws.proofs.Ready.{brought_calm}
@@ -31,6 +31,26 @@ closed_rests rights scenario commands whole =
       settled = sixth.settled;
       gone = λ tid. sixth.onward.gone tid (fifth.gone tid);
     })
+
+calm_up : (story : Story) → IsCalm story → AllUp story
+calm_up story c = record { coordinator = c.coordinator.up; sites = λ site. (c.sites site).up }
+
+-- and every actor is up from the second step on
+pub closing_up : StoriesHaveRightLines → ClosingStaysUp
+closing_up rights scenario commands whole =
+    let up = bring_up scenario (disarm scenario commands) in
+    let late = give_up scenario up in
+    let swept = clear scenario late in
+    let calm = brought_calm scenario commands whole in
+    let third = given_up scenario up calm in
+    let fourth = cleared rights scenario late whole third.onward.calm in
+    let fifth = ended scenario swept whole fourth.onward.calm (λ tid. fourth.onward.decided tid (third.decided tid)) in
+    record {
+      brought_up = calm_up (story_of scenario up) calm;
+      given_up = calm_up (story_of scenario late) third.onward.calm;
+      cleared = calm_up (story_of scenario swept) fourth.onward.calm;
+      ended = calm_up (story_of scenario (end_known scenario swept)) fifth.onward.calm;
+    }
 
 -- and closing makes few commands
 pub closed_short : StoriesHaveRightLines → ClosingIsShort

@@ -1,6 +1,8 @@
+pub mod AllAlone
 pub mod AloneAt
 pub mod AloneBound
 pub mod AloneSites
+pub mod BegunOnce
 pub mod Bound
 pub mod Calm
 pub mod Clear
@@ -23,11 +25,13 @@ pub mod FlowVotes
 pub mod GiveUp
 pub mod GlobalAlone
 pub mod GlobalFlow
+pub mod Growth
 pub mod Inquire
 pub mod Lengths
 pub mod LocalAlone
 pub mod Locals
 pub mod Onward
+pub mod OthersStay
 pub mod Published
 pub mod Quiet
 pub mod Ready

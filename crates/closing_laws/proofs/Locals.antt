@@ -38,12 +38,12 @@ use Rattle.site_history.proofs.Agreement.{live_is}
 use Rattle.federation_laws.proofs.Told.{local_home-declared, SiteCause, IsSiteLine, IsLine, line_is}
 
 -- what begins an attempt of the transaction is a `begin` of it
-abbrev IsBeginOf : Tx → SiteEvent → Type 0
+abbrev pub IsBeginOf : Tx → SiteEvent → Type 0
 IsBeginOf tx (Ev.Begin tid) = same_tx tid.tx tx ≡ true
 IsBeginOf tx event = ⊥
 
-record Begins (tx : Tx) (event : SiteEvent) (x : SiteHappening) : Type 0 where
-  begins : begins_tx tx x.answer ≡ true → IsBeginOf tx event
+pub record Begins (tx : Tx) (event : SiteEvent) (x : SiteHappening) : Type 0 where
+  pub begins : begins_tx tx x.answer ≡ true → IsBeginOf tx event
 
 module _ (tx : Tx) (event : SiteEvent) where
   begins_when : (t : Bool) (a b : SiteHappening) → Begins tx event a → Begins tx event b → Begins tx event (when t a b)
@@ -126,7 +126,7 @@ module _ (tx : Tx) (home : Home) (past : SitePast) where
       by_count true = begins_none tx _ _ refl
       by_count false = begins_none tx _ _ refl
 
-  by_line : (event : SiteEvent) → Begins tx event (site_line home past event)
+  pub by_line : (event : SiteEvent) → Begins tx event (site_line home past event)
   unfolding site_line answered of_begin of_act of_commit of_abort of_ask of_drop of_back of_check seals_local stopped
   by_line (Ev.Begin tid) =
       begins_up tx _ home past _

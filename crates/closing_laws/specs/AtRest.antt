@@ -3,7 +3,7 @@ use Rattle.std.specs.Prelude.{◌≡◌, false, None, List, []}
 use Rattle.mdb_base.specs.declared.names.SiteId.{SiteId}
 use Rattle.fed_rules.specs.declared.commands.Command.{Command}
 use Rattle.fed_rules.specs.declared.scenario.Scenario.{Scenario}
-use Rattle.fed_rules.specs.Closing.{closed, live, in_doubt_at, known}
+use Rattle.fed_rules.specs.Closing.{bring_up, clear, closed, disarm, end_known, give_up, live, in_doubt_at, known}
 use Rattle.fed_rules.specs.CoordPast as Coordinator
 use Rattle.fed_rules.specs.Happenings.{is_down}
 use Rattle.fed_rules.specs.Plans.{IsScenario}
@@ -20,6 +20,23 @@ pub record IsAtRest (scenario : Scenario) (story : Story) : Type 0 where
   pub none_live : (site : SiteId) → live scenario story site ≡ []
   pub none_in_doubt : (site : SiteId) → in_doubt_at (home_of scenario site) story ≡ []
   pub none_known : known scenario story ≡ []
+
+-- every actor is up
+pub record AllUp (story : Story) : Type 0 where
+  pub coordinator : is_down (coord_past story) ≡ false
+  pub sites : (site : SiteId) → is_down (past_of site story) ≡ false
+
+-- so it is behind the actors that were down came back, behind those undecided were given up, behind the live ones ended, and behind the known ones
+-- ended
+pub record StaysUp (scenario : Scenario) (commands : List Command) : Type 0 where
+  pub brought_up : AllUp (story_of scenario (bring_up scenario (disarm scenario commands)))
+  pub given_up : AllUp (story_of scenario (give_up scenario (bring_up scenario (disarm scenario commands))))
+  pub cleared : AllUp (story_of scenario (clear scenario (give_up scenario (bring_up scenario (disarm scenario commands)))))
+  pub ended : AllUp (story_of scenario (end_known scenario (clear scenario (give_up scenario (bring_up scenario (disarm scenario commands))))))
+
+-- whatever happened before, closing keeps every actor up from its second step on
+abbrev pub ClosingStaysUp : Type 0
+ClosingStaysUp = (scenario : Scenario) (commands : List Command) → IsScenario scenario → StaysUp scenario commands
 
 -- whatever happened before, a closed session is at rest
 abbrev pub ClosedSessionsRest : Type 0

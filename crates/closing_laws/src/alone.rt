@@ -1,6 +1,7 @@
 //! How a transaction is finished alone.
 ghost use Rattle.closing_laws.specs.Alone.{GlobalsCommitAlone, LocalsCommitAlone};
 ghost use Rattle.closing_laws.specs.Bound.{FinishingIsShort};
+ghost use Rattle.closing_laws.specs.Finished.{FinishedSessionsCommit};
 
 use rules_laws::pasts_are_made_by_events;
 use site_history::{each_site_of_a_story_is_serial, stories_have_right_lines};
@@ -28,3 +29,13 @@ pub fn globals_commit_alone()
 pub fn finishing_is_bounded()
     ensures { FinishingIsShort }
 {}
+
+/// Behind a session at rest in which of each transaction without a commit a further attempt may begin, finishing each of them alone, by
+/// rising number, leaves each transaction with a commit, and the session at rest.
+pub fn finished_sessions_commit()
+    ensures { FinishedSessionsCommit }
+{
+    stories_have_right_lines();
+    locals_commit_alone();
+    globals_commit_alone();
+}

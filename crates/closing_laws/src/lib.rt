@@ -5,5 +5,9 @@
 mod alone;
 mod closing;
 
-pub use alone::{finishing_is_bounded, globals_commit_alone, locals_commit_alone};
-pub use closing::{closed_sessions_rest, closing_is_bounded};
+pub use alone::{
+    finished_sessions_commit, finishing_is_bounded, globals_commit_alone, locals_commit_alone,
+};
+pub use closing::{
+    closed_sessions_rest, closing_is_bounded, closing_stays_up, sites_begin_attempts_once,
+};

@@ -6,6 +6,9 @@ ghost use Rattle.std.specs.Prelude.{◌≡◌, ◌<◌, ◌==◌};
 ghost use Rattle.std.specs.Int.RustNames.{bit_and};
 ghost use Rattle.mdb_base.specs.Words.{each_of};
 
+mod any_policy;
+
+pub use any_policy::AnyPolicy;
 use global_exec::{SiteSet, TakePolicy};
 
 /// The policy of the conservative method: an attempt may begin to take its tickets where it has no site in common with another attempt that

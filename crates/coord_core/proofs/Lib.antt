@@ -20,6 +20,7 @@ pub mod KnownAgain
 pub mod Lates
 pub mod Lines
 pub mod New
+pub mod Listings
 pub mod Noting
 pub mod OneActive
 pub mod Outcomes

@@ -1,6 +1,7 @@
 pub mod Attempts
 pub mod Beginning
 pub mod Deciding
+pub mod Listing
 pub mod Pending
 pub mod Replies
 pub mod Sending

@@ -27,6 +27,7 @@ mod coord;
 mod deciding;
 mod ending;
 mod going;
+mod listing;
 mod messages;
 mod outgoing;
 mod quiet;

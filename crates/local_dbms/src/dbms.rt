@@ -8,9 +8,9 @@ ghost use Rattle.fed_rules.specs.Requests.{Submits};
 ghost use Rattle.fed_rules.specs.SitePast.{set_up_calls};
 ghost use Rattle.journal_disk.specs.Disk.{Seen};
 ghost use Rattle.engine_contract.specs.Calls.{fresh_start};
-ghost use Rattle.site_core.specs.Stands.{Stands as CoreStands};
+ghost use Rattle.site_core.specs.Stands.{Holds, Stands as CoreStands};
 ghost use Rattle.site_core.specs.Store.{SomeStop};
-ghost use Rattle.local_dbms.specs.Stands.{CanHand, CanServe, Each_site, Fails, IsNamed, Sends, Serves, Some_site, Stands, home_from, own_programs, request_of};
+ghost use Rattle.local_dbms.specs.Stands.{CanHand, CanServe, Each_site, Fails, IsNamed, Recalls, Sends, Serves, Some_site, Stands, home_from, own_programs, request_of};
 
 use crate::programs::programs_of;
 use crate::requests::Request;
@@ -66,7 +66,8 @@ impl<E: LocalEngine> LocalDbms<E> {
 
     /// The core of the site, which answers what is asked of its rows and records.
     pub fn core(&self) -> &SiteCore<E>
-        ensures { (tells : Bool) (disk : Seen) → Each_site (Stands E.stands tells self.now disk) (λ home programs past. CoreStands E.stands tells result.now disk home past) }
+        ensures stood { (tells : Bool) (disk : Seen) → Each_site (Stands E.stands tells self.now disk) (λ home programs past. CoreStands E.stands tells result.now disk home past) }
+        ensures held { Each_site (Recalls E.stands self.now) (λ home programs past. Holds E.stands result.now home past) }
     {
         &self.core
     }

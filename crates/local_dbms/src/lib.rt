@@ -3,6 +3,7 @@
 #![tactic(auto)]
 
 mod dbms;
+mod looks;
 mod programs;
 mod requests;
 mod site_commands;

@@ -24,7 +24,7 @@ const MOST_ATTEMPTS: u32 = 32;
 impl<E: LocalEngine> LocalDbms<E> {
     /// What a begin behind the last attempt of a transaction is answered: what the rule says to a begin, but spent where one more
     /// attempt would begin.
-    fn spent(&self, tx: Tx) -> Answer
+    pub(crate) fn spent(&self, tx: Tx) -> Answer
         ensures { Each_site (Recalls E.stands self.now) (λ home programs past. IsSome (programs tx)
             → (n : ℕ) → result ≡ unless_begun (site_line home past (Ev.Begin (attempt tx n))).answer) }
     {

@@ -2,4 +2,5 @@ pub mod Book
 pub mod Calls
 pub mod Follows
 pub mod Laws
+pub mod Listing
 pub mod Noted

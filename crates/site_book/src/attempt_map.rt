@@ -2,6 +2,7 @@
 ghost use Rattle.std.specs.Prelude.{◌≡◌, ◌<◌, OnOk, OnErr, IfOk, IsSome, IfSome};
 ghost use Rattle.std.specs.Option.{option_copied};
 ghost use Rattle.std.specs.FinMap.{empty, from_entries, get, insert, remove};
+ghost use Rattle.site_book.specs.Listing.{Lists, is_live_in};
 ghost use Rattle.site_book.specs.Book.{changed_in, live_part, on_live, replied, taken, tid_cmp, with_doubtful};
 
 use crate::progress::Progress;
@@ -14,6 +15,22 @@ pub(crate) fn find(attempts: &BTreeMap<Tid, Progress>, tid: Tid) -> Option<&Prog
     ensures { option_copied result ≡ get {R = tid_cmp} (from_entries attempts.now.entries) tid }
 {
     attempts.get(&tid)
+}
+
+/// The live attempts, by rising attempt.
+pub(crate) fn live_tids(
+    attempts: &BTreeMap<Tid, Progress>,
+    alloc: Global,
+) -> Result<Vec<Tid>, Memory>
+    ensures { IfOk result (λ tids. Lists (is_live_in (from_entries attempts.now.entries)) tids.items) }
+{
+    let mut tids = Vec::new(alloc);
+    for (tid, progress) in attempts.iter() {
+        if let Progress::Live(_) = progress {
+            tids.push(*tid)?;
+        }
+    }
+    Ok(tids)
 }
 
 /// Puts an entry under its attempt.

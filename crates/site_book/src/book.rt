@@ -1,9 +1,10 @@
 //! The book of a site's transactions.
-ghost use Rattle.std.specs.Prelude.{◌≡◌, ◌<◌, None, Some, IfSome, IsSome, IsTrue, OnOk, OnErr, is_some, nat_lt};
+ghost use Rattle.std.specs.Prelude.{◌≡◌, ◌<◌, None, Some, IfOk, IfSome, IsSome, IsTrue, OnOk, OnErr, is_some, nat_lt};
 ghost use Rattle.std.specs.Option.{option_copied};
 ghost use Rattle.mdb_base.specs.Words.{holds_of};
 ghost use Rattle.site_book.specs.declared.progress.Progress.TheVariants as Is;
 ghost use Rattle.site_book.specs.Book.{begins_global, begins_local, begun_in, blank, closes, commits_local, committed_in, enters, forgets, is_closed_in, is_sealed_in, live_in, notes_reply, notes_take, progress_of, restarted, running_in, runs_local, seals, stopped, unbegins_local};
+ghost use Rattle.site_book.specs.Listing.{Lists, is_live_in};
 
 use crate::live_run::LiveRun;
 use crate::progress::{Progress, Standing};
@@ -59,6 +60,13 @@ impl SiteBook {
             Some(Progress::Live(run)) => Some(run),
             _ => None,
         }
+    }
+
+    /// The live attempts, by rising attempt.
+    pub fn live_tids(&self, alloc: Global) -> Result<Vec<Tid>, Memory>
+        ensures { IfOk result (λ tids. Lists (is_live_in self.now.attempts) tids.items) }
+    {
+        attempt_map::live_tids(&self.attempts, alloc)
     }
 
     /// Whether the attempt has an entry: it is live, sealed or closed.

@@ -9,6 +9,7 @@ pub mod GlobalLaws
 pub mod InquiryLaws
 pub mod JournalLaws
 pub mod LineLaws
+pub mod Listings
 pub mod LocalLaws
 pub mod MadeLaws
 pub mod NameLaws

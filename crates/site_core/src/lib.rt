@@ -6,11 +6,13 @@
 #![tactic(auto)]
 
 mod answers;
+mod arming;
 mod checking;
 mod commits;
 mod decisions;
 mod inquiry;
 mod laws;
+mod listing;
 mod locals;
 mod messages;
 mod operations;

@@ -1,0 +1,34 @@
+use Rattle.std.proofs.Common.{◌≡◌, ◌<◌, ◌-◌, suc, List, [], ◌∷◌, length, drop, sym, ap, ◌∙◌, arith}
+use Rattle.std.specs.FinMap.{from_entries, get}
+use Rattle.mdb_base.specs.declared.names.SiteId.{SiteId}
+use Rattle.mdb_base.specs.declared.names.Tx.{Tx}
+use Rattle.fed_rules.specs.declared.scenario.TxLine.{TxLine}
+use Rattle.site_book.specs.Book.{tx_cmp}
+use Rattle.site_book.proofs.Keys.{txs_exact, txs_total}
+use Rattle.site_book.proofs.Maps.{get_look}
+use Rattle.session_routes.specs.Routes.{site_by}
+use Rattle.session_routes.proofs.Homes.{drop_all, drop_before, noted_more}
+use Rattle.session_routes.proofs.routes.homes_of.Goals as goal
+
+pub loop-left-init : goal.loop-left-init
+loop-left-init c = record {
+  within = omega arith;
+  held = (λ tx.
+      ap (λ (es : List (Tx × SiteId)). get {R = tx_cmp} (from_entries es) tx) c.new-homes.ensures.empty ∙ get_look txs_total txs_exact [] tx
+      ∙ sym (ap (λ (ls : List TxLine). site_by ls tx) (drop_all c.args.lines.now)));
+}
+
+pub loop-left-preserved : goal.loop-left-preserved
+loop-left-preserved c =
+    let lines = c.args.lines.now in
+    let left = c.loop-left.left in
+    let line : TxLine = c.index-lines-left.result in
+    let next : left ≡ suc (left - 1) = omega arith in
+    let below : left - 1 < length lines = omega arith in
+    let whole : drop (left - 1) lines ≡ line ∷ drop left lines = drop_before lines (left - 1) left line next below c.index-lines-left.is in
+    record {
+      within = omega arith;
+      held = (λ tx.
+          noted_more line (drop left lines) (from_entries c.loop-left.homes.entries) (from_entries c.note.new.homes.entries) c.loop-left.invariant.held c.in_ok-note.ensures tx
+          ∙ sym (ap (λ (ls : List TxLine). site_by ls tx) whole));
+    }

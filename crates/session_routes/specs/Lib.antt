@@ -1,0 +1,4 @@
+pub mod Numbers
+pub mod Posting
+pub mod Routes
+pub mod Rows

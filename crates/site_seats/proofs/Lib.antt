@@ -1,0 +1,5 @@
+pub mod Quiet
+pub mod SeatHears
+pub mod SeatLines
+pub mod SentPlaces
+pub mod Told

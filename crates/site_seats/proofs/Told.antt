@@ -1,0 +1,85 @@
+-- What a site that is told something answers, from what its verb answers.
+use Rattle.std.proofs.Common.{◌≡◌, ◌≤◌, Option, Some, None, List, [], Result, Ok, Err, IfOk, IfErr, refl, sym, ap, ◌∙◌, subst}
+use Rattle.std.specs.Prelude.{IsErrOf}
+use Rattle.fed_rules.specs.declared.answers.Answer.{Answer}
+use Rattle.fed_rules.specs.declared.events.SiteEvent.{SiteEvent}
+use Rattle.fed_rules.specs.declared.events.SiteStep.{SiteStep}
+use Rattle.fed_rules.specs.Requests.{Request, Submits}
+use Rattle.fed_rules.specs.SitePast.{SitePast}
+use Rattle.fed_rules.specs.SiteRecords.{Home}
+use Rattle.actor_store.specs.declared.errors.StepErr.{StepErr}
+use Rattle.actor_store.specs.declared.errors.StepErr.TheVariants as Err_is
+use Rattle.local_dbms.specs.Stands.{Each_site, Fails, IsShort, OwnPrograms, Sends, Serves, Some_site}
+use Rattle.site_seats.specs.declared.asks.SiteAsk.{SiteAsk}
+use Rattle.site_seats.specs.Asks.{CanTell, sends_of, site_request}
+use Rattle.site_seats.specs.Parts.{Tells}
+use Rattle.site_seats.proofs.Quiet.{served_tells}
+
+silent_ok : (Q : Answer → Type 0) (R : SiteStep → Type 0) (asked : Result Answer StepErr) (told : Result SiteStep StepErr) → IfOk told (λ step. (asked ≡ Ok step.answer) × (step.sends ≡ None)) → IfOk asked Q
+    → ((step : SiteStep) → step.sends ≡ None → Q step.answer → R step) → IfOk told R
+silent_ok Q R asked (Ok step) s served k = k step s.1 (subst (λ (r : Result Answer StepErr). IfOk r Q) s.0 served)
+silent_ok Q R asked (Err why) s served k = tt
+
+silent_err : (Q : StepErr → Type 0) (asked : Result Answer StepErr) (told : Result SiteStep StepErr) → IfErr told (λ why. asked ≡ Err why) → IfErr asked Q → IfErr told Q
+silent_err Q asked (Ok step) s failed = tt
+silent_err Q asked (Err why) s failed = subst (λ (r : Result Answer StepErr). IfErr r Q) s failed
+
+-- it may be told
+pub may_tell : (K P : Home → OwnPrograms → SitePast → Type 0) (ask made : SiteAsk) → ask ≡ made → ((home : Home) (programs : OwnPrograms) (past : SitePast) → CanTell made home programs past → P home programs past)
+    → Some_site K (CanTell ask) → Some_site K P
+may_tell K P ask made is may s = record { home = s.home; programs = s.programs; past = s.past; stood = s.stood; holds = may s.home s.programs s.past (subst (λ (a : SiteAsk). CanTell a s.home s.programs s.past) is s.holds) }
+
+module _ (K L : Home → OwnPrograms → SitePast → Type 0) (ask made : SiteAsk) (is : ask ≡ made) where
+  -- an event that the core answers
+  pub sends_served : (P : Home → OwnPrograms → SitePast → Type 0) (event : SiteEvent) → ((home : Home) (programs : OwnPrograms) (past : SitePast) → site_request made home programs past ≡ Submits event)
+      → ((home : Home) (programs : OwnPrograms) (past : SitePast) → CanTell made home programs past → P home programs past) → (told : Result SiteStep StepErr)
+      → IfOk told (λ step. Each_site K (λ home programs past. P home programs past → Sends L step home programs past event))
+      → IfOk told (λ step. Each_site K (λ home programs past. CanTell ask home programs past → Tells L step home programs past (site_request ask home programs past)))
+  sends_served P event same may told served =
+      subst (λ (a : SiteAsk). IfOk told (λ step. Each_site K (λ home programs past. CanTell a home programs past → Tells L step home programs past (site_request a home programs past)))) (sym is) (by_ok told served)
+    where
+      by_ok : (r : Result SiteStep StepErr) → IfOk r (λ step. Each_site K (λ home programs past. P home programs past → Sends L step home programs past event))
+          → IfOk r (λ step. Each_site K (λ home programs past. CanTell made home programs past → Tells L step home programs past (site_request made home programs past)))
+      by_ok (Ok step) f = λ home programs past stood c.
+          (let s = f home programs past stood (may home programs past c) in
+          subst (λ (r : Request SiteEvent). Tells L step home programs past r) (sym (same home programs past)) (record { said = s.said; sent = s.sent; next = s.next }))
+      by_ok (Err why) f = tt
+
+  pub sends_failed : (P : Home → OwnPrograms → SitePast → Type 0) (event : SiteEvent) → ((home : Home) (programs : OwnPrograms) (past : SitePast) → site_request made home programs past ≡ Submits event)
+      → ((home : Home) (programs : OwnPrograms) (past : SitePast) → CanTell made home programs past → P home programs past) → (told : Result SiteStep StepErr)
+      → IfErr told (λ why. Each_site K (λ home programs past. P home programs past → Fails L why home programs past (Submits event)))
+      → IfErr told (λ why. Each_site K (λ home programs past. CanTell ask home programs past → Fails L why home programs past (site_request ask home programs past)))
+  sends_failed P event same may told failed =
+      subst (λ (a : SiteAsk). IfErr told (λ why. Each_site K (λ home programs past. CanTell a home programs past → Fails L why home programs past (site_request a home programs past)))) (sym is) (by_err told failed)
+    where
+      by_err : (r : Result SiteStep StepErr) → IfErr r (λ why. Each_site K (λ home programs past. P home programs past → Fails L why home programs past (Submits event)))
+          → IfErr r (λ why. Each_site K (λ home programs past. CanTell made home programs past → Fails L why home programs past (site_request made home programs past)))
+      by_err (Ok step) f = tt
+      by_err (Err why) f = λ home programs past stood c. subst (λ (r : Request SiteEvent). Fails L why home programs past r) (sym (same home programs past)) (f home programs past stood (may home programs past c))
+
+  pub own_served : (asked : Result Answer StepErr) (told : Result SiteStep StepErr) → ((home : Home) (programs : OwnPrograms) (past : SitePast) → CanTell made home programs past → IsShort home programs past)
+      → ((home : Home) (programs : OwnPrograms) (past : SitePast) → sends_of home past (site_request made home programs past) ≡ []) → IfOk told (λ step. (asked ≡ Ok step.answer) × (step.sends ≡ None))
+      → IfOk asked (λ answer. Each_site K (λ home programs past. IsShort home programs past → Serves L answer home programs past (site_request made home programs past)))
+      → IfOk told (λ step. Each_site K (λ home programs past. CanTell ask home programs past → Tells L step home programs past (site_request ask home programs past)))
+  own_served asked told short quiet s served =
+      subst (λ (a : SiteAsk). IfOk told (λ step. Each_site K (λ home programs past. CanTell a home programs past → Tells L step home programs past (site_request a home programs past)))) (sym is)
+      (silent_ok (λ (answer : Answer). Each_site K (λ home programs past. IsShort home programs past → Serves L answer home programs past (site_request made home programs past)))
+      (λ (step : SiteStep). Each_site K (λ home programs past. CanTell made home programs past → Tells L step home programs past (site_request made home programs past))) asked told s served
+      (λ step none q home programs past stood may. served_tells L step home programs past (site_request made home programs past) (quiet home programs past) none (q home programs past stood (short home programs past may))))
+
+  pub own_failed : (asked : Result Answer StepErr) (told : Result SiteStep StepErr) → ((home : Home) (programs : OwnPrograms) (past : SitePast) → CanTell made home programs past → IsShort home programs past)
+      → IfErr told (λ why. asked ≡ Err why) → IfErr asked (λ why. Each_site K (λ home programs past. IsShort home programs past → Fails L why home programs past (site_request made home programs past)))
+      → IfErr told (λ why. Each_site K (λ home programs past. CanTell ask home programs past → Fails L why home programs past (site_request ask home programs past)))
+  own_failed asked told short s failed =
+      subst (λ (a : SiteAsk). IfErr told (λ why. Each_site K (λ home programs past. CanTell a home programs past → Fails L why home programs past (site_request a home programs past)))) (sym is)
+      (by_err told (silent_err (λ (why : StepErr). Each_site K (λ home programs past. IsShort home programs past → Fails L why home programs past (site_request made home programs past))) asked told s failed))
+    where
+      by_err : (r : Result SiteStep StepErr) → IfErr r (λ why. Each_site K (λ home programs past. IsShort home programs past → Fails L why home programs past (site_request made home programs past)))
+          → IfErr r (λ why. Each_site K (λ home programs past. CanTell made home programs past → Fails L why home programs past (site_request made home programs past)))
+      by_err (Ok step) f = tt
+      by_err (Err why) f = λ home programs past stood may. f home programs past stood (short home programs past may)
+
+-- the cause of a failed call is that of the verb's
+pub own_cause : (P : Type 0) (asked : Result Answer StepErr) (told : Result SiteStep StepErr) → IfErr told (λ why. asked ≡ Err why) → (IsErrOf asked Err_is.Disk → P) → IsErrOf told Err_is.Disk → P
+own_cause P asked (Ok step) s cause e = cc
+own_cause P asked (Err why) s cause e = let same : why ≡ Err_is.Disk = cc in cause (s ∙ ap (λ (w : StepErr). Err w) same)
