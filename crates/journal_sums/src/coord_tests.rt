@@ -1,4 +1,6 @@
 //! Journals of a coordinator of sites 1 and 2, which presume commit, and of site 3, which presumes abort.
+ghost use Rattle.std.specs.Prelude.{◌≡◌};
+
 use crate::read_coord_sum;
 use fed_rules::{
     CommittedAttempt, CommittedAttempts, CoordRecord, CoordSum, OpenAttempt, OpenAttempts,
@@ -30,7 +32,10 @@ const fn attempt(tx: u32, attempt: u8) -> Tid {
     }
 }
 
-const fn ticket(site: u8, ticket: u64) -> SiteTicket {
+// The list of an attempt's tickets rises by their sites.
+fn ticket(site: u8, ticket: u64) -> SiteTicket
+    ensures { result.site.0 ≡ site }
+{
     SiteTicket {
         site: SiteId(site),
         ticket,
