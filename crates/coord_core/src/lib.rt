@@ -19,6 +19,7 @@
 
 mod acks;
 mod answering;
+mod arming;
 mod begun;
 mod checking;
 mod commit_graph;

@@ -5,6 +5,7 @@
 
 mod attempt_commands;
 mod coord_commands;
+mod looks;
 mod manager;
 mod programs;
 mod requests;

@@ -25,7 +25,7 @@ const MOST_ATTEMPTS: u8 = 32;
 impl<P: TakePolicy> GlobalManager<P> {
     /// What a `go` behind the last attempt of a transaction is answered: what the rule says to a `go`, but spent where one more attempt would
     /// begin.
-    fn spent(&self, tx: Tx) -> Answer
+    pub(crate) fn spent(&self, tx: Tx) -> Answer
         ensures { EachManaged (Recalls P.policy self.now) (λ terms programs past. (tid : TheTid) (steps : List TheStep) → tid.tx ≡ tx
             → result ≡ unless_begun (line_of terms past (Ev.Go tid steps)).answer) }
     {
