@@ -20,7 +20,7 @@ use Rattle.fed_rules.specs.declared.scenario.SiteLine.{SiteLine}
 use Rattle.fed_rules.specs.declared.scenario.TxLine.{TxLine}
 use Rattle.fed_rules.specs.Closing.{by_number, deliver_all, finished_alone, for_each, global_alone, is_done, last_sends, local_alone, one_alone, sent_next, steps_alone, take_answers, taken}
 use Rattle.fed_rules.specs.Plans.{IsScenario, all_differ, is_between, is_declared, is_in_place, is_transaction, one_transaction}
-use Rattle.fed_rules.specs.Scenarios.{global_line, global_program, home_at, home_in, home_of_line, items_of, local_home, program_of, program_of_line, transaction}
+use Rattle.fed_rules.specs.Scenarios.{global_line, global_program, home_at, home_in, home_of_line, items_of, local_home, local_site, program_of, program_of_line, transaction}
 use Rattle.fed_rules.specs.SiteRecords.{Home}
 use Rattle.fed_rules.specs.Story.{Story, story_of, most_attempts}
 use Rattle.coord_laws.proofs.Facts.{is_undecided}
@@ -115,6 +115,10 @@ has_home (line ∷ lines) items site e = by_test (same_site line.site site) e (h
 module _ (scenario : Scenario) (whole : IsScenario scenario) (line : TxLine) (listed : In line scenario.transactions) where
   its_line : transaction scenario line.tx ≡ Some line
   its_line = first_is scenario.transactions line whole.transactions.differ listed
+
+  -- its site is that of its transaction
+  pub its_site : local_site scenario line.tx ≡ line.home
+  its_site = ap home_of_line its_line
 
   its_program : program_of scenario line.tx ≡ line.program
   its_program = ap program_of_line its_line

@@ -1,67 +1,77 @@
--- The disks behind a change of the site's own one: it alone is another.
-use Rattle.std.proofs.Common.{◌≡◌, ℕ, zero, suc, ◌≤◌, ◌==◌, Bool, true, false, Some, List, [], ◌∷◌, length, get_or, slice_get, slice_set, inl, inr, refl, sym, ap, subst, eqb-true, eq-eqb, arith}
-use Rattle.std.proofs.lemmas.Option.{slice_get-get_or, slice_get_within}
+-- The disks behind a change of one of them.
+use Rattle.std.proofs.Common.{◌≡◌, ℕ, zero, suc, ◌<◌, ◌≤◌, ◌==◌, Bool, true, false, None, Some, List, [], ◌∷◌, length, map, option_map, slice_get, slice_set, refl, sym, ap, ◌∙◌, subst, eqb-true, eq-eqb, arith}
+use Rattle.std.proofs.lemmas.Option.{same_Some, slice_get-map, slice_get_within}
 use Rattle.mdb_base.specs.Counts.{HasRisen}
-use Rattle.fed_world.specs.Worlds.{HasCause, NeverFalls, RisesAt}
-use Rattle.fed_world.specs.declared.errors.WorldErr.{WorldErr}
-use Rattle.fed_world.specs.declared.errors.WorldErr.TheVariants as Err_is
-use Rattle.fed_world.proofs.Told.{get_set, get_set_other, one_at}
+use Rattle.mdb_base.specs.declared.names.SiteId.{SiteId}
+use Rattle.fed_rules.specs.declared.scenario.Scenario.{Scenario}
+use Rattle.fed_rules.specs.Scenarios.{home_of}
 use Rattle.journal_disk.specs.Disk.{Seen}
+use Rattle.session_routes.proofs.Posts.{get_other, get_put, length_set}
+use Rattle.fed_world.specs.Worlds.{AreDisks, NeverFalls, OnDisk, RisesAt}
 
--- the own disk after
-pub own_after : {A : Type 0} (xs : List A) (place : ℕ) (old new : A) → slice_get xs place ≡ Some old → slice_get (slice_set xs place new) place ≡ Some new
-own_after [] place old new at = cc
-own_after (x ∷ xs) zero old new at = refl
-own_after (x ∷ xs) (suc place) old new at = own_after xs place old new at
+-- what is seen of a list in which one item was put
+pub seen_put : {A B : Type 0} (f : A → B) (xs : List A) (n : ℕ) (x : A) → map f (slice_set xs n x) ≡ slice_set (map f xs) n (f x)
+seen_put f [] n x = cc
+seen_put f (y ∷ xs) zero x = refl
+seen_put {A} {B} f (y ∷ xs) (suc n) x = ap (λ (zs : List B). f y ∷ zs) (seen_put f xs n x)
 
--- a place is the one or another
-pub by_place : (P : Type 0) (place number : ℕ) → (place ≡ number → P) → ((place ≡ number → ⊥) → P) → P
-by_place P place number here there = by_test (place == number) refl
-  where
-    by_test : (b : Bool) → (place == number) ≡ b → P
-    by_test true is = here (eqb-true place number is)
-    by_test false is = there (λ same. (let t = eq-eqb place number same in cc))
-
--- no count of faults falls, where that of the changed disk doesn't
-pub set_never_falls : {D : Type 0} (seen : D → Seen) (disks : List D) (number : ℕ) (old new : D) → slice_get disks number ≡ Some old → (seen old).faults ≤ (seen new).faults → NeverFalls seen disks (slice_set disks number new)
-set_never_falls {D = D} seen disks number old new own later place a b at got =
-    by_place ((seen a).faults ≤ (seen b).faults) place number
-    (λ here.
-    let first : a ≡ old = one_at disks number a old (subst (λ p. slice_get disks p ≡ Some a) here at) own in
-    let last : new ≡ b = get_set disks number new b (subst (λ p. slice_get (slice_set disks number new) p ≡ Some b) here got) in
-    let below = ap (λ (d : D). (seen d).faults) first in
-    let above = ap (λ (d : D). (seen d).faults) last in omega arith)
-    (λ there.
-    let same : a ≡ b = one_at disks place a b at (get_set_other disks number place new b (λ h. there (sym h)) got) in
-    let equal = ap (λ (d : D). (seen d).faults) same in omega arith)
-
--- and the count of the changed disk rose
-pub set_rises : {D : Type 0} (seen : D → Seen) (disks : List D) (number : ℕ) (old new : D) → slice_get disks number ≡ Some old → HasRisen ((seen old).faults) ((seen new).faults) → RisesAt seen number disks (slice_set disks number new)
-set_rises seen disks number old new own rose a b at got =
-    subst (λ x. HasRisen ((seen x).faults) ((seen b).faults)) (one_at disks number old a own at) (subst (λ y. HasRisen ((seen old).faults) ((seen y).faults)) (get_set disks number new b got) rose)
+-- what is seen of one item
+pub seen_at : {A B : Type 0} (f : A → B) (xs : List A) (n : ℕ) (x : A) → slice_get xs n ≡ Some x → slice_get (map f xs) n ≡ Some (f x)
+seen_at f xs n x e = slice_get-map f xs n ∙ ap (option_map f) e
 
 -- the disks themselves
-pub same_never_falls : {D : Type 0} (seen : D → Seen) (disks : List D) → NeverFalls seen disks disks
-same_never_falls {D = D} seen disks place a b at got = let equal = ap (λ (d : D). (seen d).faults) (one_at disks place a b at got) in omega arith
+pub same_never_falls : (disks : List Seen) → NeverFalls disks disks
+same_never_falls disks place a b ea eb =
+    let same : a ≡ b = same_Some a b (sym ea ∙ eb) in
+    let equal = ap (λ (s : Seen). s.faults) same in
+    omega (arith, equal)
 
--- one change after another
-pub never_falls_twice : {D : Type 0} (seen : D → Seen) (old mid new : List D) → length old ≡ length mid → NeverFalls seen old mid → NeverFalls seen mid new → NeverFalls seen old new
-never_falls_twice seen old mid new same first second place a b at got =
-    let lt = slice_get_within old place a at in
-    let m = get_or mid place a in
-    let there = slice_get-get_or mid place a (omega arith) in
-    let one = first place a m at there in
-    let two = second place m b there got in omega arith
+module _ (disks : List Seen) (n : ℕ) (old new : Seen) (at : slice_get disks n ≡ Some old) where
+  within : n < length disks
+  within = slice_get_within disks n old at
 
-risen_later : (a b c : ℕ) → a ≤ b → HasRisen b c → HasRisen a c
-risen_later a b c le (inl lt) = inl (omega arith)
-risen_later a b c le (inr top) = inr top
+  put_here : slice_get (slice_set disks n new) n ≡ Some new
+  put_here = get_put disks n new within
 
--- what rose later rose
-pub cause_later : {D : Type 0} (seen : D → Seen) (why : WorldErr) (old mid new : List D) → length old ≡ length mid → NeverFalls seen old mid → HasCause seen why mid new → HasCause seen why old new
-cause_later seen Err_is.Memory old mid new same first rose = tt
-cause_later seen (Err_is.Disk number) old mid new same first rose = λ a b at got.
-    let lt = slice_get_within old number a at in
-    let m = get_or mid number a in
-    let there = slice_get-get_or mid number a (omega arith) in
-    risen_later ((seen a).faults) ((seen m).faults) ((seen b).faults) (first number a m at there) (rose m b there got)
+  -- a fact of the disk that was there
+  pub on_own : (K : Seen → Type 0) → OnDisk disks n K → K old
+  on_own K o = subst K (same_Some o.disk old (sym o.own ∙ at)) o.holds
+
+  -- a fact of the disk that was put
+  pub on_put : (K : Seen → Type 0) → K new → OnDisk (slice_set disks n new) n K
+  on_put K k = record { disk = new; own = put_here; holds = k }
+
+  -- every other disk stays
+  pub on_other : (k : ℕ) (K : Seen → Type 0) → (k ≡ n → ⊥) → OnDisk disks k K → OnDisk (slice_set disks n new) k K
+  on_other k K apart o = record { disk = o.disk; own = get_other disks n k new apart ∙ o.own; holds = o.holds }
+
+  -- no count of faults falls, where that of the disk doesn't
+  pub put_never_falls : old.faults ≤ new.faults → NeverFalls disks (slice_set disks n new)
+  put_never_falls most place a b ea eb = by_place (place == n) refl
+    where
+      by_place : (t : Bool) → (place == n) ≡ t → a.faults ≤ b.faults
+      by_place true is =
+          let same : place ≡ n = eqb-true place n is in
+          let first : a ≡ old = same_Some a old (sym ea ∙ (ap (slice_get disks) same ∙ at)) in
+          let last : b ≡ new = same_Some b new (sym eb ∙ (ap (slice_get (slice_set disks n new)) same ∙ put_here)) in
+          let low = ap (λ (s : Seen). s.faults) first in
+          let high = ap (λ (s : Seen). s.faults) last in
+          omega (arith, low, high, most)
+      by_place false is =
+          let apart : place ≡ n → ⊥ = λ same. (let yes : (place == n) ≡ true = eq-eqb place n same in let no : true ≡ false = sym yes ∙ is in cc) in
+          let same : a ≡ b = same_Some a b (sym ea ∙ (sym (get_other disks n place new apart) ∙ eb)) in
+          let equal = ap (λ (s : Seen). s.faults) same in
+          omega (arith, equal)
+
+  -- what rose at the disk rose
+  pub put_rises : HasRisen old.faults new.faults → RisesAt n disks (slice_set disks n new)
+  put_rises rose a b ea eb =
+      subst (λ (x : Seen). HasRisen x.faults b.faults) (same_Some old a (sym at ∙ ea))
+      (subst (λ (y : Seen). HasRisen old.faults y.faults) (same_Some new b (sym put_here ∙ eb)) rose)
+
+  -- nothing is on the disk of a site that isn't declared, where the disk is of none of them
+  pub put_disks : (scenario : Scenario) → ((site : SiteId) → 1 ≤ site.0 → home_of scenario site ≡ None → site.0 ≡ n → ⊥) → AreDisks disks scenario → AreDisks (slice_set disks n new) scenario
+  put_disks scenario never are = record {
+    nine = length_set disks n new ∙ are.nine;
+    others = λ site disk least none e. are.others site disk least none (sym (get_other disks n site.0 new (λ same. never site least none same)) ∙ e);
+  }

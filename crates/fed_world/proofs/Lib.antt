@@ -1,35 +1,28 @@
-mod Answered
-mod Begun
-mod Closed
-mod Disks
-mod Growth
-mod Handed
-mod HandedOne
-mod Inserted
-mod Installed
-mod KeptReads
-mod LineCases
-mod LiveLists
-mod LiveSteps
-mod MemberReads
-mod NewSites
-mod Noting
-mod OneStory
-mod OwnPasts
-mod Owned
-mod PassedOn
-mod PlaceLaws
-mod Readings
+pub mod ActorHears
+pub mod Asking
+pub mod Broken
+pub mod CoordHeard
+pub mod CoordTold
+pub mod DeclaredPlaces
+pub mod DeclaredSites
+pub mod DeclaredTransactions
+pub mod Disks
+pub mod EngineRows
+pub mod Gathered
+pub mod GatheredParts
+pub mod Growing
+pub mod Lookups
+pub mod NewWorlds
+pub mod Nowhere
+pub mod Pairs
 pub mod Recalled
-mod ReportLaws
-mod Silent
-mod SiteBounds
-mod Spent
-mod Started
-mod TellsAbort
-mod TellsBegin
-mod TellsCommit
-mod TellsStep
-mod TellsTrip
-mod Told
-pub mod Towards
+pub mod Routed
+pub mod SeatsByPlace
+pub mod SeatsKept
+pub mod SeenDisks
+pub mod SessionParts
+pub mod Sessions
+pub mod SetUpSteps
+pub mod SetUps
+pub mod SiteAsked
+pub mod SiteHeard

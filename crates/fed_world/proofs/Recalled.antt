@@ -1,25 +1,56 @@
 -- What a world stands for with its disks it recalls without them.
-use Rattle.std.proofs.Common.{Bool, Option, Some, None, List}
+use Rattle.std.proofs.Common.{Bool, List}
 use Rattle.fed_rules.specs.declared.commands.Command.{Command}
 use Rattle.fed_rules.specs.declared.scenario.Scenario.{Scenario}
-use Rattle.fed_rules.specs.Runs.{Start, EngineLine}
+use Rattle.fed_rules.specs.Scenarios.{global_program}
+use Rattle.fed_rules.specs.SitePast.{SitePast}
+use Rattle.fed_rules.specs.SiteRecords.{Home}
+use Rattle.fed_rules.specs.Story.{Story, coord_past, story_of}
 use Rattle.journal_disk.specs.Disk.{Seen}
-use Rattle.fed_world.specs.declared.local_site.LocalSite.{LocalSite}
+use Rattle.any_engine.specs.declared.engine.AnyEngine.{AnyEngine}
+use Rattle.any_engine.specs.Stands as Engines
+use Rattle.conservative_take.specs.AnyPolicies.{policy_is}
+use Rattle.global_manager.proofs.Fit as Manager
+use Rattle.local_dbms.specs.declared.dbms.LocalDbms.{LocalDbms}
+use Rattle.local_dbms.specs.Stands.{OwnPrograms}
+use Rattle.local_dbms.proofs.Fit as Dbms
+use Rattle.session_report.specs.declared.marks.Marks.{Marks}
+use Rattle.session_routes.specs.declared.traffic.Traffic.{Traffic}
+use Rattle.site_seats.specs.Seats.{OfDbms, SitesAt}
 use Rattle.fed_world.specs.declared.world.World.{World}
-use Rattle.fed_world.specs.Worlds.{PartHolds, PartStands, Recalls, Stands}
+use Rattle.fed_world.specs.Asks.{terms_of}
+use Rattle.fed_world.specs.Worlds.{DbmsRecalls, DbmsStands, Recalls, Stands}
 
-module _ {E D : Type 0} (stands : E → Start → List EngineLine → Type 0) (tells : Bool) (seen : D → Seen) where
-  part_holds : (site : Option (LocalSite E)) (disks : List D) (scenario : Scenario) (commands : List Command) → PartStands stands tells seen site disks scenario commands → PartHolds stands site scenario commands
-  part_holds None disks scenario commands p = p
-  part_holds (Some site) disks scenario commands p =
-      let s = p.stood in
+-- what holds of each site in its seat holds of it in weaker words
+pub sites_weaker : (K L : OfDbms) → ((dbms : LocalDbms AnyEngine) (home : Home) (programs : OwnPrograms) (past : SitePast) → K dbms home programs past → L dbms home programs past)
+    → (cores : List (LocalDbms AnyEngine)) (marks : List Marks) (channels : List Traffic) (scenario : Scenario) (story : Story)
+    → SitesAt K cores marks channels scenario story → SitesAt L cores marks channels scenario story
+sites_weaker K L weaker cores marks channels scenario story s = record {
+  all_cores = s.all_cores;
+  all_marks = s.all_marks;
+  all_channels = s.all_channels;
+  each = λ place site dbms own traffic there a b c.
+      let at = s.each place site dbms own traffic there a b c in
       record {
-        line = s.line;
-        alone = s.alone;
-        own = s.own;
-        at = record { stood = record { stood = s.at.stood.stood.holds; own = s.at.stood.own; committed = s.at.stood.committed }; number = s.at.number; places = s.at.places; kept = s.at.kept; tripped = s.at.tripped };
-      }
+        home = at.home;
+        is = at.is;
+        declared = at.declared;
+        part = record { dbms = weaker dbms _ _ _ at.part.dbms; marked = at.part.marked; site = at.part.site; marks = at.part.marks; to = at.part.to; from = at.part.from };
+      };
+}
 
-  -- the world recalls what it stands for
-  pub recalls : (world : World E) (disks : List D) (scenario : Scenario) (commands : List Command) → Stands stands tells seen world disks scenario commands → Recalls stands world scenario commands
-  recalls world disks scenario commands s = record { has = s.has; site = part_holds world.site disks scenario commands s.site; uncoordinated = s.uncoordinated }
+-- the world recalls what it stands for
+pub recalls : (tells : Bool) (world : World) (disks : List Seen) (scenario : Scenario) (commands : List Command) → Stands tells world disks scenario commands → Recalls world scenario commands
+recalls tells world disks scenario commands s =
+    let actors = s.stand.actors in
+    let story : Story = story_of scenario commands in
+    record {
+      has = s.has;
+      routed = s.routed;
+      actors = record {
+        coordinator = Manager.recalled policy_is tells world.cores.coordinator actors.coordinator.disk (terms_of scenario) (global_program scenario) (coord_past story) actors.coordinator.holds;
+        sites = sites_weaker (DbmsStands tells disks) DbmsRecalls
+            (λ dbms home programs past at. Dbms.recalled Engines.Stands tells dbms at.disk home programs past at.holds)
+            world.cores.sites.items.items world.cores.marks.items world.traffic.items scenario story actors.sites;
+      };
+    }

@@ -1,8 +1,8 @@
-pub mod Calls
-pub mod Closings
-pub mod Commits
-pub mod Live
-pub mod Places
-pub mod Reports
-pub mod Stands
+pub mod Asks
+pub mod Gathering
+pub mod Hearers
+pub mod Messages
+pub mod Reporting
+pub mod Sessions
+pub mod SettingUp
 pub mod Worlds

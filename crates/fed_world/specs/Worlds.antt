@@ -1,112 +1,141 @@
--- What a world with its disks stands for: a scenario, and commands, the newest first; and what a call does to them.
-use Rattle.std.specs.Prelude.{ℕ, ◌≡◌, ◌≤◌, ◌<◌, ◌^◌, Bool, true, false, Option, Some, None, List, [], ◌++◌, length, slice_get}
+-- The scenarios and commands that a world stands for, and what a call does to them. Commands stand newest first.
+use Rattle.std.specs.Prelude.{ℕ, zero, suc, ◌≡◌, ◌≤◌, ◌<◌, ◌^◌, Bool, true, false, Option, Some, None, List, [], ◌∷◌, ◌++◌, length, map, reverse, slice_get}
+use Rattle.mdb_base.specs.declared.names.SiteId.{SiteId}
 use Rattle.mdb_base.specs.Counts.{HasRisen}
 use Rattle.mdb_base.specs.Words.{Each}
-use Rattle.record_fields.specs.Named.{IsSite}
+use Rattle.order_laws.specs.Chains.{In}
+use Rattle.fed_rules.specs.declared.answers.Answer.{Answer}
 use Rattle.fed_rules.specs.declared.commands.Command.{Command}
+use Rattle.fed_rules.specs.declared.commands.Line.{Line}
+use Rattle.fed_rules.specs.declared.events.CoordEvent.{CoordEvent}
+use Rattle.fed_rules.specs.declared.events.SiteEvent.{SiteEvent}
 use Rattle.fed_rules.specs.declared.scenario.Scenario.{Scenario}
-use Rattle.fed_rules.specs.declared.scenario.SiteLine.{SiteLine}
-use Rattle.fed_rules.specs.Closing.{closed}
-use Rattle.fed_rules.specs.CoordPast.{oldest_first}
-use Rattle.fed_rules.specs.Happenings.{is_down}
-use Rattle.fed_rules.specs.Runs.{Start, EngineLine}
+use Rattle.fed_rules.specs.CoordPast.{CoordPast}
 use Rattle.fed_rules.specs.Disk.{empty_disk}
-use Rattle.fed_rules.specs.Scenarios.{items_of}
-use Rattle.fed_rules.specs.SitePast.{set_up_calls}
-use Rattle.fed_rules.specs.Story.{story_of, lines_of, past_of, coord_past}
-use Rattle.engine_contract.specs.Calls.{fresh_start}
+use Rattle.fed_rules.specs.Requests.{Request}
+use Rattle.fed_rules.specs.Right.{IsAnswer, IsRightStory}
+use Rattle.fed_rules.specs.Scenarios.{global_program, home_of, protocols, sites}
+use Rattle.fed_rules.specs.SitePast.{SitePast, set_up_calls}
+use Rattle.fed_rules.specs.SiteRecords.{Home}
+use Rattle.fed_rules.specs.Story.{Story, coord_past, coord_requested, happens, past_of, places_of, requested, sent_from, sent_to, story_of, tell}
 use Rattle.journal_disk.specs.Disk.{Seen}
-use Rattle.local_laws.specs.Sound.{IsOwn}
-use Rattle.session_laws.specs.Closing.{IsAtSite}
-use Rattle.site_core.specs.Stands.{Stands as CoreStands}
+use Rattle.actor_store.specs.declared.errors.StepErr.{StepErr}
+use Rattle.actor_store.specs.declared.errors.StepErr.TheVariants as Step_err
+use Rattle.any_engine.specs.declared.engine.AnyEngine.{AnyEngine}
+use Rattle.any_engine.specs.Stands as Engines
+use Rattle.conservative_take.specs.declared.any_policy.AnyPolicy.{AnyPolicy}
+use Rattle.conservative_take.specs.AnyPolicies.{policy_is}
+use Rattle.closing_laws.specs.AtRest.{IsAtRest}
+use Rattle.coord_core.specs.Terms.{Terms}
+use Rattle.global_manager.specs.declared.manager.GlobalManager.{GlobalManager}
+use Rattle.global_manager.specs.Stands as Manager
+use Rattle.local_dbms.specs.declared.dbms.LocalDbms.{LocalDbms}
+use Rattle.local_dbms.specs.Stands as Dbms
+use Rattle.local_dbms.specs.Stands.{OwnPrograms, own_programs}
+use Rattle.session_report.specs.declared.marks.Marks.{Marks}
 use Rattle.site_core.specs.Store.{SomeStop}
+use Rattle.site_seats.specs.declared.asks.Heard.{Heard}
+use Rattle.fed_world.specs.declared.cores.Cores.{Cores}
 use Rattle.fed_world.specs.declared.errors.WorldErr.{WorldErr}
 use Rattle.fed_world.specs.declared.errors.WorldErr.TheVariants as Err_is
-use Rattle.fed_world.specs.declared.local_site.LocalSite.{LocalSite}
-use Rattle.fed_world.specs.declared.world.NewSite.{NewSite}
+use Rattle.session_routes.specs.declared.routes.Routes.{Routes}
+use Rattle.session_routes.specs.declared.traffic.Traffic.{Traffic}
 use Rattle.fed_world.specs.declared.world.World.{World}
-use Rattle.fed_world.specs.Stands.{home_from, IsAlone, IsCut, LocalHolds, LocalStands, NumbersFit}
+use Rattle.fed_world.specs.declared.asks.CoordAsk.{CoordAsk}
+use Rattle.site_seats.specs.declared.asks.SiteAsk.{SiteAsk}
+use Rattle.fed_world.specs.Asks.{AsksCoordinator, AsksSite, terms_of}
+use Rattle.site_seats.specs.Seats.{AreFew, OfDbms, SitesAt}
+use Rattle.session_routes.specs.Routes.{IsRouted}
 
--- the site of this line is alone, and this is its new engine with its first rows
-pub record IsNewSite {E : Type 0} (stands : E → Start → List EngineLine → Type 0) (scenario : Scenario) (line : SiteLine) (local : NewSite E) : Type 0 where
-  pub alone : IsAlone scenario line
-  pub in_range : IsSite line.site
-  pub items : local.items ≡ items_of scenario.items line.site
-  pub few : length local.items ≤ 4096
-  pub fresh : stands local.engine (fresh_start line.engine local.items) []
+-- ---- which fact holds of an actor
 
--- there is no site and no transaction, or one site with its new engine and its local transactions
-abbrev pub CanStart : {E : Type 0} → (E → Start → List EngineLine → Type 0) → Scenario → Option (NewSite E) → Type 0
-CanStart stands scenario None = (scenario.sites ≡ []) × (scenario.transactions ≡ [])
-CanStart stands scenario (Some local) = (line : SiteLine) × IsNewSite stands scenario line local
+-- of the coordinator
+abbrev pub OfManager : Type 1
+OfManager = GlobalManager AnyPolicy → Terms → OwnPrograms → CoordPast → Type 0
 
--- there are nine disks, and none has a byte
-pub record AreEmpty {D : Type 0} (seen : D → Seen) (disks : List D) : Type 0 where
-  pub nine : length disks ≡ 9
-  pub empty : (place : ℕ) (disk : D) → slice_get disks place ≡ Some disk → (seen disk).size ≡ 0
+-- the coordinator has the past in memory
+abbrev pub ManagerRecalls : OfManager
+ManagerRecalls manager = Manager.Recalls policy_is manager
 
--- the place isn't that of the site's disk
-abbrev pub IsOther : {E : Type 0} → Option (LocalSite E) → ℕ → Type 0
-IsOther None place = Unit {0}
-IsOther (Some site) place = place ≡ site.site.0 → ⊥
+-- so does a site
+abbrev pub DbmsRecalls : OfDbms
+DbmsRecalls dbms = Dbms.Recalls Engines.Stands dbms
 
--- there are nine disks, and none but the site's has a byte
-pub record OthersEmpty {E D : Type 0} (seen : D → Seen) (site : Option (LocalSite E)) (disks : List D) : Type 0 where
-  pub nine : length disks ≡ 9
-  pub empty : (place : ℕ) (disk : D) → slice_get disks place ≡ Some disk → IsOther site place → (seen disk).size ≡ 0
-
--- a call of the disk failed while its site was set up: it holds what some stop within the set-up leaves
-pub record SetUpBroke {D : Type 0} (seen : D → Seen) (number : ℕ) (disks : List D) (scenario : Scenario) : Type 0 where
-  pub line : SiteLine
-  pub alone : IsAlone scenario line
-  pub number_is : number ≡ line.site.0
-  pub disk : D
+-- the disk of this actor is there, and the fact holds of what is seen of it
+pub record OnDisk (disks : List Seen) (number : ℕ) (K : Seen → Type 0) : Type 0 where
+  pub disk : Seen
   pub own : slice_get disks number ≡ Some disk
-  pub stop : SomeStop ((seen disk).image) empty_disk (set_up_calls (home_from scenario line))
-  pub nine : length disks ≡ 9
-  pub others : (place : ℕ) (other : D) → slice_get disks place ≡ Some other → (place ≡ number → ⊥) → (seen other).size ≡ 0
+  pub holds : K disk
 
--- a world that isn't made: without memory every disk stays empty
-abbrev pub FailsToStart : {D : Type 0} → (D → Seen) → WorldErr → List D → Scenario → Type 0
-FailsToStart seen Err_is.Memory disks scenario = AreEmpty seen disks
-FailsToStart seen (Err_is.Disk number) disks scenario = SetUpBroke seen number disks scenario
+-- the coordinator stands for it with disk 0
+abbrev pub ManagerStands : Bool → List Seen → OfManager
+ManagerStands tells disks manager terms programs past = OnDisk disks 0 (λ disk. Manager.Stands policy_is tells manager disk terms programs past)
 
--- the world has this scenario, and its lines are those of the story of these commands
-pub record HasLines {E : Type 0} (world : World E) (scenario : Scenario) (commands : List Command) : Type 0 where
-  pub scenario_is : world.scenario ≡ scenario
-  pub lines : world.lines.items ≡ oldest_first (lines_of (story_of scenario commands))
+-- a site stands for it with the disk of its number
+abbrev pub DbmsStands : Bool → List Seen → OfDbms
+DbmsStands tells disks dbms home programs past = OnDisk disks home.site.0 (λ disk. Dbms.Stands Engines.Stands tells dbms disk home programs past)
 
--- a site with its disk, which has its number among 1 to 8, stands for the commands
-pub record SitePart {E D : Type 0} (stands : E → Start → List EngineLine → Type 0) (tells : Bool) (seen : D → Seen) (site : LocalSite E) (disks : List D) (scenario : Scenario) (commands : List Command) : Type 0 where
-  pub in_range : IsSite site.site
-  pub disk : D
-  pub own : slice_get disks site.site.0 ≡ Some disk
-  pub stood : LocalStands stands tells seen site disk scenario commands
+-- ---- the parts of a world
 
--- without a site there are no transactions
-abbrev pub PartStands : {E D : Type 0} → (E → Start → List EngineLine → Type 0) → Bool → (D → Seen) → Option (LocalSite E) → List D → Scenario → List Command → Type 0
-PartStands stands tells seen None disks scenario commands = (scenario.sites ≡ []) × (scenario.transactions ≡ []) × Each IsOwn commands
-PartStands stands tells seen (Some site) disks scenario commands = SitePart stands tells seen site disks scenario commands
+-- the coordinator and the sites
+pub record ActorsAt (M : OfManager) (K : OfDbms) (cores : Cores) (channels : List Traffic) (scenario : Scenario) (story : Story) : Type 0 where
+  pub coordinator : M cores.coordinator (terms_of scenario) (global_program scenario) (coord_past story)
+  pub sites : SitesAt K cores.sites.items.items cores.marks.items channels scenario story
 
--- the world, with these disks, stands for this scenario and these commands, which are own ones and name no coordinator
-pub record Stands {E D : Type 0} (stands : E → Start → List EngineLine → Type 0) (tells : Bool) (seen : D → Seen) (world : World E) (disks : List D) (scenario : Scenario) (commands : List Command) : Type 0 where
-  pub has : HasLines world scenario commands
-  pub whole : world.broken ≡ false
-  pub site : PartStands stands tells seen world.site disks scenario commands
-  pub others : OthersEmpty seen world.site disks
-  pub at_sites : Each IsAtSite commands
-  pub uncoordinated : coord_past (story_of scenario commands) ≡ []
-
--- what a site holds beside its disk
-abbrev pub PartHolds : {E : Type 0} → (E → Start → List EngineLine → Type 0) → Option (LocalSite E) → Scenario → List Command → Type 0
-PartHolds stands None scenario commands = (scenario.sites ≡ []) × (scenario.transactions ≡ []) × Each IsOwn commands
-PartHolds stands (Some site) scenario commands = LocalHolds stands site scenario commands
+-- the world has this scenario, and its lines are right and of these commands
+pub record HasLines (world : World) (scenario : Scenario) (commands : List Command) : Type 0 where
+  pub scenario_is : world.cores.scenario ≡ scenario
+  pub commands_are : map (λ line. line.command) (reverse world.lines.items) ≡ commands
+  pub right : IsRightStory scenario (reverse world.lines.items)
 
 -- the world, whatever is on its disks, stands for this scenario and these commands
-pub record Recalls {E : Type 0} (stands : E → Start → List EngineLine → Type 0) (world : World E) (scenario : Scenario) (commands : List Command) : Type 0 where
+pub record Recalls (world : World) (scenario : Scenario) (commands : List Command) : Type 0 where
   pub has : HasLines world scenario commands
-  pub site : PartHolds stands world.site scenario commands
-  pub uncoordinated : coord_past (story_of scenario commands) ≡ []
+  pub routed : IsRouted world.routes scenario
+  pub actors : ActorsAt ManagerRecalls DbmsRecalls world.cores world.traffic.items scenario (story_of scenario commands)
+
+-- there are nine disks, and nothing is on the disk of a site that isn't declared
+pub record AreDisks (disks : List Seen) (scenario : Scenario) : Type 0 where
+  pub nine : length disks ≡ 9
+  pub others : (site : SiteId) (disk : Seen) → 1 ≤ site.0 → home_of scenario site ≡ None → slice_get disks site.0 ≡ Some disk → disk.size ≡ 0
+
+-- what the actors of a world with these disks are behind these commands, whatever its lines
+pub record ActorsStand (tells : Bool) (world : World) (disks : List Seen) (scenario : Scenario) (commands : List Command) : Type 0 where
+  pub actors : ActorsAt (ManagerStands tells disks) (DbmsStands tells disks) world.cores world.traffic.items scenario (story_of scenario commands)
+  pub few : AreFew (story_of scenario commands) (length commands)
+  pub others : AreDisks disks scenario
+
+-- the world with these disks stands for it
+pub record Stands (tells : Bool) (world : World) (disks : List Seen) (scenario : Scenario) (commands : List Command) : Type 0 where
+  pub has : HasLines world scenario commands
+  pub whole : world.broken ≡ false
+  pub routed : IsRouted world.routes scenario
+  pub stand : ActorsStand tells world disks scenario commands
+
+-- ---- what is asked of a world
+
+-- these are the right lines of these commands, the first line first
+pub record AreLines (lines : List Line) (scenario : Scenario) (commands : List Command) : Type 0 where
+  pub commands_are : map (λ line. line.command) (reverse lines) ≡ commands
+  pub right : IsRightStory scenario (reverse lines)
+
+-- the local database system is that of the site, and has its past in memory
+pub record IsLocalAt (dbms : LocalDbms AnyEngine) (scenario : Scenario) (site : SiteId) (story : Story) : Type 0 where
+  pub home : Home
+  pub declared : home_of scenario site ≡ Some home
+  pub recalls : DbmsRecalls dbms home (own_programs site scenario.transactions) (past_of site story)
+
+-- the actors have their pasts in memory, the sites by rising site
+pub record ActorsRecall (cores : Cores) (scenario : Scenario) (story : Story) : Type 0 where
+  pub scenario_is : cores.scenario ≡ scenario
+  pub coordinator : ManagerRecalls cores.coordinator (terms_of scenario) (global_program scenario) (coord_past story)
+  pub count : length cores.sites.items.items ≡ length (sites scenario)
+  pub sites : (place : ℕ) (site : SiteId) (dbms : LocalDbms AnyEngine) → slice_get (sites scenario) place ≡ Some site → slice_get cores.sites.items.items place ≡ Some dbms
+      → IsLocalAt dbms scenario site story
+
+-- the session is at rest
+abbrev pub Rests : Scenario → List Command → Type 0
+Rests scenario commands = IsAtRest scenario (story_of scenario commands)
 
 -- for some scenario and commands that it stands for the fact holds
 pub record SomeStory (K : Scenario → List Command → Type 0) (P : Scenario → List Command → Type 0) : Type 0 where
@@ -123,72 +152,118 @@ EachStory K P = (scenario : Scenario) (commands : List Command) → K scenario c
 abbrev pub AnyStory : Scenario → List Command → Type 0
 AnyStory scenario commands = Unit {0}
 
--- the command is an own one that names no coordinator, and its numbers fit
-pub record CanApply (command : Command) (scenario : Scenario) (commands : List Command) : Type 0 where
-  pub own : IsOwn command
-  pub at_site : IsAtSite command
-  pub fits : NumbersFit command commands
+-- there are few enough commands that the numbers of one more fit
+abbrev pub HasRoom : Scenario → List Command → Type 0
+HasRoom scenario commands = length commands < 2 ^ 30
 
--- the numbers of the commands that close the session fit
-abbrev pub CanClose : Scenario → List Command → Type 0
-CanClose scenario commands = length commands < 2 ^ 29
+-- ---- a failed disk call
 
--- the site is up
-abbrev pub AllUp : Scenario → List Command → Type 0
-AllUp scenario commands = (line : SiteLine) → IsAlone scenario line → is_down (past_of line.site (story_of scenario commands)) ≡ false
+-- the coordinator, in memory and on disk 0, is as some stop within the event of this command leaves it, and each site stands for its past
+pub record CoordinatorBroke (tells : Bool) (world : World) (disks : List Seen) (command : Command) (scenario : Scenario) (story : Story) : Type 0 where
+  pub asked : Request CoordEvent
+  pub happens : happens scenario story command ≡ coord_requested scenario story asked
+  pub coordinator : Manager.Fails (ManagerStands tells disks world.cores.coordinator) Step_err.Disk (terms_of scenario) (global_program scenario) (coord_past story) asked
+  pub sites : SitesAt (DbmsStands tells disks) world.cores.sites.items.items world.cores.marks.items world.traffic.items scenario story
 
--- a call of this site's disk failed: the disk holds what some stop within the event of this command leaves
-pub record SiteBroke {E D : Type 0} (stands : E → Start → List EngineLine → Type 0) (tells : Bool) (seen : D → Seen) (number : ℕ) (site : LocalSite E) (disks : List D) (command : Command) (scenario : Scenario) (commands : List Command) : Type 0 where
-  pub line : SiteLine
-  pub alone : IsAlone scenario line
-  pub number_is : number ≡ line.site.0
-  pub site_is : site.site ≡ line.site
-  pub disk : D
-  pub own : slice_get disks number ≡ Some disk
-  pub cut : IsCut (CoreStands stands tells site.core (seen disk)) scenario line command commands
+-- a site stands for its past, unless it has this number
+abbrev pub StandsBut : ℕ → Bool → List Seen → OfDbms
+StandsBut number tells disks dbms home programs past = (home.site.0 ≡ number → ⊥) → DbmsStands tells disks dbms home programs past
 
-abbrev pub PartBroke : {E D : Type 0} → (E → Start → List EngineLine → Type 0) → Bool → (D → Seen) → ℕ → Option (LocalSite E) → List D → Command → Scenario → List Command → Type 0
-PartBroke stands tells seen number None disks command scenario commands = ⊥
-PartBroke stands tells seen number (Some site) disks command scenario commands = SiteBroke stands tells seen number site disks command scenario commands
+-- the site of this number, in memory and on its disk, is as some stop within the event of this command leaves it, and each other actor stands
+-- for its past
+pub record SiteBroke (number : ℕ) (tells : Bool) (world : World) (disks : List Seen) (command : Command) (scenario : Scenario) (story : Story) : Type 0 where
+  pub home : Home
+  pub declared : home_of scenario home.site ≡ Some home
+  pub number_is : number ≡ home.site.0
+  pub asked : Request SiteEvent
+  pub happens : happens scenario story command ≡ requested home story asked
+  pub place : ℕ
+  pub at : slice_get (sites scenario) place ≡ Some home.site
+  pub dbms : LocalDbms AnyEngine
+  pub own : slice_get world.cores.sites.items.items place ≡ Some dbms
+  pub broken : Dbms.Fails (DbmsStands tells disks dbms) Step_err.Disk home (own_programs home.site scenario.transactions) (past_of home.site story) asked
+  pub coordinator : ManagerStands tells disks world.cores.coordinator (terms_of scenario) (global_program scenario) (coord_past story)
+  pub sites : SitesAt (StandsBut number tells disks) world.cores.sites.items.items world.cores.marks.items world.traffic.items scenario story
 
--- the world of which this disk failed at this command has the lines of the commands before
-pub record IsBroken {E D : Type 0} (stands : E → Start → List EngineLine → Type 0) (tells : Bool) (seen : D → Seen) (number : ℕ) (world : World E) (disks : List D) (command : Command) (scenario : Scenario) (commands : List Command) : Type 0 where
+-- the actor of this number is broken: 0 is the coordinator
+abbrev pub ActorBroke : ℕ → Bool → World → List Seen → Command → Scenario → Story → Type 0
+ActorBroke zero tells world disks command scenario story = CoordinatorBroke tells world disks command scenario story
+ActorBroke (suc n) tells world disks command scenario story = SiteBroke (suc n) tells world disks command scenario story
+
+-- the world of which this actor's disk failed at this command has the lines of the commands before
+pub record IsBroken (number : ℕ) (tells : Bool) (world : World) (disks : List Seen) (command : Command) (scenario : Scenario) (commands : List Command) : Type 0 where
   pub has : HasLines world scenario commands
   pub broken : world.broken ≡ true
-  pub site : PartBroke stands tells seen number world.site disks command scenario commands
-  pub others : OthersEmpty seen world.site disks
+  pub actor : ActorBroke number tells world disks command scenario (story_of scenario commands)
+  pub others : AreDisks disks scenario
 
 -- a command without a line: want of memory changes nothing, and a failed disk call breaks the world within the event of this command
-abbrev pub FailsAt : {E D : Type 0} → (E → Start → List EngineLine → Type 0) → Bool → (D → Seen) → WorldErr → World E → List D → Command → Scenario → List Command → Type 0
-FailsAt stands tells seen Err_is.Memory world disks command scenario commands = Stands stands tells seen world disks scenario commands
-FailsAt stands tells seen (Err_is.Disk number) world disks command scenario commands = IsBroken stands tells seen number world disks command scenario commands
-
--- the same, of some command
-abbrev pub Fails : {E D : Type 0} → (E → Start → List EngineLine → Type 0) → Bool → (D → Seen) → WorldErr → World E → List D → Scenario → List Command → Type 0
-Fails stands tells seen Err_is.Memory world disks scenario commands = Stands stands tells seen world disks scenario commands
-Fails stands tells seen (Err_is.Disk number) world disks scenario commands =
-    (command : Command) × IsBroken stands tells seen number world disks command scenario commands
-
--- what leads to all these commands fails at some command: those before it were carried out
-pub record FailsToward {E D : Type 0} (stands : E → Start → List EngineLine → Type 0) (tells : Bool) (seen : D → Seen) (why : WorldErr) (world : World E) (disks : List D) (whole : List Command) (scenario : Scenario) (commands : List Command) : Type 0 where
-  pub done : List Command
-  pub left : List Command
-  pub of_closing : whole ≡ left ++ done ++ commands
-  pub fails : Fails stands tells seen why world disks scenario (done ++ commands)
-
--- closing fails at some command: those before it were carried out
-abbrev pub FailsToClose : {E D : Type 0} → (E → Start → List EngineLine → Type 0) → Bool → (D → Seen) → WorldErr → World E → List D → Scenario → List Command → Type 0
-FailsToClose stands tells seen why world disks scenario commands = FailsToward stands tells seen why world disks (closed scenario commands) scenario commands
+abbrev pub FailsAt : Bool → WorldErr → World → List Seen → Command → Scenario → List Command → Type 0
+FailsAt tells Err_is.Memory world disks command scenario commands = Stands tells world disks scenario commands
+FailsAt tells (Err_is.Disk number) world disks command scenario commands = IsBroken number tells world disks command scenario commands
 
 -- the count of faults of this disk rose
-abbrev pub RisesAt : {D : Type 0} → (D → Seen) → ℕ → List D → List D → Type 0
-RisesAt {D} seen number old new = (a b : D) → slice_get old number ≡ Some a → slice_get new number ≡ Some b → HasRisen ((seen a).faults) ((seen b).faults)
+abbrev pub RisesAt : ℕ → List Seen → List Seen → Type 0
+RisesAt number old new = (a b : Seen) → slice_get old number ≡ Some a → slice_get new number ≡ Some b → HasRisen a.faults b.faults
 
 -- where a disk failed, its count of faults rose
-abbrev pub HasCause : {D : Type 0} → (D → Seen) → WorldErr → List D → List D → Type 0
-HasCause seen Err_is.Memory old new = Unit {0}
-HasCause seen (Err_is.Disk number) old new = RisesAt seen number old new
+abbrev pub HasCause : WorldErr → List Seen → List Seen → Type 0
+HasCause Err_is.Memory old new = Unit {0}
+HasCause (Err_is.Disk number) old new = RisesAt number old new
 
 -- no count of faults falls
-abbrev pub NeverFalls : {D : Type 0} → (D → Seen) → List D → List D → Type 0
-NeverFalls {D} seen old new = (place : ℕ) (a b : D) → slice_get old place ≡ Some a → slice_get new place ≡ Some b → (seen a).faults ≤ (seen b).faults
+abbrev pub NeverFalls : List Seen → List Seen → Type 0
+NeverFalls old new = (place : ℕ) (a b : Seen) → slice_get old place ≡ Some a → slice_get new place ≡ Some b → a.faults ≤ b.faults
+
+-- ---- what is asked of the actors
+
+-- a command that asks this of the site at this place, behind commands that the world stands for
+pub record SomeSiteAsk (K : Scenario → List Command → Type 0) (place : ℕ) (ask : SiteAsk) : Type 0 where
+  pub scenario : Scenario
+  pub commands : List Command
+  pub command : Command
+  pub stood : K scenario commands
+  pub asks : AsksSite place ask command scenario (story_of scenario commands)
+  pub room : HasRoom scenario commands
+
+-- and for all such
+abbrev pub EachSiteAsk : (Scenario → List Command → Type 0) → ℕ → SiteAsk → (Command → Scenario → List Command → Type 0) → Type 0
+EachSiteAsk K place ask P = (scenario : Scenario) (commands : List Command) (command : Command) → K scenario commands
+    → AsksSite place ask command scenario (story_of scenario commands) → HasRoom scenario commands → P command scenario commands
+
+-- a command that asks this of the coordinator
+pub record SomeCoordAsk (K : Scenario → List Command → Type 0) (ask : CoordAsk) : Type 0 where
+  pub scenario : Scenario
+  pub commands : List Command
+  pub command : Command
+  pub stood : K scenario commands
+  pub asks : AsksCoordinator ask command scenario (story_of scenario commands)
+  pub room : HasRoom scenario commands
+
+abbrev pub EachCoordAsk : (Scenario → List Command → Type 0) → CoordAsk → (Command → Scenario → List Command → Type 0) → Type 0
+EachCoordAsk K ask P = (scenario : Scenario) (commands : List Command) (command : Command) → K scenario commands
+    → AsksCoordinator ask command scenario (story_of scenario commands) → HasRoom scenario commands → P command scenario commands
+
+-- what is heard is the answer of the line that the command becomes with its places, and the actors stand for the command too
+pub record IsHeard (tells : Bool) (world : World) (disks : List Seen) (heard : Heard) (command : Command) (scenario : Scenario) (commands : List Command) : Type 0 where
+  pub answer : IsAnswer (protocols scenario) (story_of scenario commands) (tell scenario (story_of scenario commands) command).happened heard.answer
+  pub sends : heard.sends.items ≡ places_of (story_of scenario commands) (tell scenario (story_of scenario commands) command).happened
+  pub next : ActorsStand tells world disks scenario (command ∷ commands)
+
+-- what isn't heard: want of memory changes nothing, and a failed disk call breaks an actor
+abbrev pub IsUnheard : Bool → WorldErr → World → List Seen → Command → Scenario → List Command → Type 0
+IsUnheard tells Err_is.Memory world disks command scenario commands = ActorsStand tells world disks scenario commands
+IsUnheard tells (Err_is.Disk number) world disks command scenario commands =
+    ActorBroke number tells world disks command scenario (story_of scenario commands) × AreDisks disks scenario
+
+-- the rest of a world stays
+pub record KeepsLines (old new : World) : Type 0 where
+  pub lines : new.lines ≡ old.lines
+  pub broken : new.broken ≡ old.broken
+  pub routes : new.routes ≡ old.routes
+  pub scenario : new.cores.scenario ≡ old.cores.scenario
+
+-- why the disk of this number gave no line
+abbrev pub error_of : ℕ → StepErr → WorldErr
+error_of number Step_err.Disk = Err_is.Disk number
+error_of number Step_err.Memory = Err_is.Memory

@@ -1,17 +1,24 @@
-//! The world of a session: it carries out commands one after another, keeps their lines, and reports at the end.
-//! Here it has at most one site, which may stop at any call of its disk, and local transactions alone.
+//! The world of a session: up to eight sites, the coordinator, and the messages between them. It carries out commands one after another, and
+//! keeps their lines. It routes, numbers places and keeps lines; it decides nothing.
 #![tactic(auto)]
 
-mod commits;
+mod asked;
+mod asks;
+mod cores;
 mod errors;
-mod live;
-mod local_site;
-mod local_tx;
-mod places;
-mod site_commands;
-mod site_report;
-mod tx_commands;
+mod gathering;
+mod hearing;
+mod reading;
+mod reporting;
+mod setting_up;
+mod telling;
 mod world;
 
+pub use cores::{Cores, SiteCores};
 pub use errors::WorldErr;
-pub use world::{NewSite, World};
+pub use gathering::Channels;
+pub use session_report::{Channel, Mark, Marks};
+pub use world::World;
+
+#[cfg(test)]
+mod tests;

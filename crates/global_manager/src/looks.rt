@@ -28,7 +28,7 @@ impl<P: TakePolicy> GlobalManager<P> {
     pub fn would_begin(&self, tx: Tx) -> bool
         ensures { EachManaged (Recalls P.policy self.now) (λ terms programs past. (tid : TheTid) (steps : List TheStep) → tid.tx ≡ tx
             → MatchBool result (unless_begun (line_of terms past (Ev.Go tid steps)).answer ≡ Say.Spent)
-                (unless_begun (line_of terms past (Ev.Go tid steps)).answer ≡ (line_of terms past (Ev.Go tid steps)).answer)) }
+            (unless_begun (line_of terms past (Ev.Go tid steps)).answer ≡ (line_of terms past (Ev.Go tid steps)).answer)) }
     {
         matches!(self.spent(tx), Answer::Spent)
     }

@@ -2,15 +2,10 @@
 use Rattle.std.proofs.Common.{◌≡◌, ℕ, zero, suc, ◌+◌, ◌-◌, ◌*◌, ◌<◌, ◌≤◌, ◌⊎◌, inl, inr, Bool, true, false, cond, ◌==◌, IsTrue, List, [], ◌++◌, length, take, drop, sym, ◌∙◌, ap, arith}
 use Rattle.std.proofs.lemmas.Bool.{eqb-true}
 use Rattle.std.proofs.lemmas.List.{append_assoc, append-nil, length-append, length-drop, length-take-le, take-append-drop, take_all}
-use Rattle.std.proofs.Math.Seq.{take-add, take-append_seam}
-use Rattle.mdb_base.specs.Counts.{HasRisen}
+use Rattle.std.proofs.Math.Seq.{drop-append_seam, take-add, take-append_seam}
+use Rattle.mdb_top.proofs.Stores.{nothing}
 use Rattle.mdb_top.specs.Streams.{Gives, Takes}
 use Rattle.mdb_top.specs.Progress.{HasPut, ReadsOn, HasTaken}
-
--- a count that rose since a later moment rose since an earlier one
-pub risen-before : (a b c : ℕ) → a ≤ b → HasRisen b c → HasRisen a c
-risen-before a b c le (inl h) = inl (omega arith)
-risen-before a b c le (inr e) = inr e
 
 -- the rest of the bytes
 pub rest-of : (bytes : List ℕ) (place : ℕ) → take (length bytes - place) (drop place bytes) ≡ drop place bytes
@@ -77,3 +72,16 @@ all-taken tells at_end before now text most h (inl e) t =
 all-taken tells at_end before now text most h (inr le) t =
     let same : most ≡ length text = (let a = h.within in omega arith) in
     sym (ap (take most) (h.taken t) ∙ ap (λ n. take n (text ++ now)) same ∙ take-append_seam text now)
+
+-- nothing stands behind the end
+none_behind : (n : ℕ) (xs : List ℕ) → length xs ≤ n → drop n xs ≡ []
+none_behind n xs le = nothing (drop n xs) (omega (arith, length-drop n xs))
+
+-- what is left then is what stands behind as much as was asked for
+pub rest-left : (tells at_end : Bool) (before now text : List ℕ) (most : ℕ) → HasTaken tells at_end before now text most → (at_end ≡ true) ⊎ (most ≤ length text) → IsTrue tells → now ≡ drop most before
+rest-left tells at_end before now text most h (inl e) t =
+    let all : before ≡ text = h.taken t ∙ ap (λ xs. text ++ xs) (h.end t e) ∙ append-nil text in
+    h.end t e ∙ sym (ap (drop most) all ∙ none_behind most text h.within)
+rest-left tells at_end before now text most h (inr le) t =
+    let same : most ≡ length text = (let a = h.within in omega arith) in
+    sym (ap (drop most) (h.taken t) ∙ ap (λ n. drop n (text ++ now)) same ∙ drop-append_seam text now)

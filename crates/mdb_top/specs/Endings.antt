@@ -1,26 +1,28 @@
--- How the top call may end: which status an input leads to, and what the sink has got then.
+-- How the top call may end: which status an input leads to, what the sink has got then, and what the disks hold.
 use Rattle.std.specs.Prelude.{ℕ, ◌≡◌, ◌⊎◌, Bool, true, false, IsTrue, IfSome, List, [], ◌∷◌, ◌++◌}
+use Rattle.mdb_base.specs.declared.names.SiteId.{SiteId}
 use Rattle.order_laws.specs.Chains.{In}
-use Rattle.mdb_base.specs.Counts.{HasRisen}
 use Rattle.fed_rules.specs.declared.commands.Command.{Command}
+use Rattle.fed_rules.specs.declared.commands.Line.{Line}
 use Rattle.fed_rules.specs.declared.scenario.Scenario.{Scenario}
-use Rattle.fed_rules.specs.CoordPast.{oldest_first}
-use Rattle.fed_rules.specs.Right.{IsRightStory}
-use Rattle.fed_rules.specs.Story.{story_of, lines_of}
+use Rattle.fed_rules.specs.Scenarios.{sites}
+use Rattle.fed_rules.specs.Story.{story_of}
 use Rattle.journal_disk.specs.Disk.{Seen}
+use Rattle.fed_world.specs.Worlds.{AreLines}
+use Rattle.scenario_text.specs.declared.bad.BadLine.{BadLine}
 use Rattle.scenario_text.specs.declared.session.Session.{Session}
 use Rattle.trace_lines.specs.Spelling.{lines_bytes}
-use Rattle.mdb_top.specs.Disks.{BreaksAt, HoldAll, HoldFrames, HoldNothing, first_used, is_used, sizes_of}
-use Rattle.mdb_top.specs.Sessions.{commands_of, output_of, story, IsRight}
-use Rattle.mdb_top.specs.Streams.{WritesFront}
-use Rattle.mdb_top.specs.Texts.{read_failed_text, too_long_text, no_memory_text, bad_input_text, bad_line_text, disk_failed_text, disk_used_text}
-use Rattle.mdb_top.specs.Verdicts.{Verdict, TooLong, BadInput, NotHere, Runs}
+use Rattle.mdb_top.specs.Breaks.{BreaksAtNext, BreaksSetUp}
+use Rattle.mdb_top.specs.Disks.{AreSetUp, HoldAll, HoldFrames, NothingBut, first_used, is_used, sizes_of}
+use Rattle.mdb_top.specs.Sessions.{IsFront, IsRight, commands_of, printed, story}
+use Rattle.mdb_top.specs.Streams.{Gets, IsCalm, IsRead, Rose, Stream, WritesFront}
+use Rattle.mdb_top.specs.Texts.{bad_line_text, disk_failed_text, disk_used_text, no_memory_text, read_failed_text, too_long_text}
+use Rattle.mdb_top.specs.Verdicts.{Verdict, TooLong, BadInput, Runs, verdict}
 
--- the statuses that an input leads to: a session that runs finds a disk used; or else the sink or a disk may fail
-abbrev pub statuses : Bool → Verdict → List ℕ
+-- the statuses that an input leads to: a session finds a disk used; or else it is carried out, and the sink or a disk may fail
+abbrev pub statuses : (used : Bool) → Verdict → List ℕ
 statuses used TooLong = 7 ∷ []
 statuses used (BadInput bad) = 2 ∷ []
-statuses used NotHere = 2 ∷ []
 statuses true (Runs session) = 8 ∷ []
 statuses false (Runs session) = 0 ∷ 4 ∷ 5 ∷ []
 
@@ -28,84 +30,113 @@ statuses false (Runs session) = 0 ∷ 4 ∷ 5 ∷ []
 abbrev pub IsLedTo : ℕ → Bool → Verdict → Type 0
 IsLedTo status used verdict = In status (3 ∷ 6 ∷ statuses used verdict)
 
--- what is said of an input that is refused
-abbrev pub refusal_text : Verdict → List ℕ
-refusal_text (BadInput bad) = bad_line_text bad
-refusal_text verdict = bad_input_text
-
--- the sink, where it tells that, has got this text, or where its count of faults rose a front of it
-pub record Gets (tells : Bool) (faults_before faults_after : ℕ) (before after text : List ℕ) : Type 0 where
-  pub all : IsTrue tells → (HasRisen faults_before faults_after → ⊥) → after ≡ before ++ text
-  pub front : IsTrue tells → WritesFront before after text
-
--- the input is a session that runs, of which the fact holds
-pub record SomeSession (verdict : Verdict) (P : Session → Type 0) : Type 0 where
+-- the input spells a session, of which the fact holds
+pub record SomeSession (input : List ℕ) (P : Session → Type 0) : Type 0 where
   pub session : Session
-  pub is : verdict ≡ Runs session
+  pub is : verdict input ≡ Runs session
   pub holds : P session
 
--- the sink, where it tells that, has got the whole output of the session, which is right, and each disk holds the records of its actor
-pub record IsReplayed {D : Type 0} (tells : Bool) (before after : List ℕ) (seen : D → Seen) (disks : List D) (session : Session) : Type 0 where
-  pub right : IsRight session
-  pub output : IsTrue tells → after ≡ before ++ output_of session
-  pub kept : HoldFrames seen disks session.scenario (story session)
+-- the grammar refuses the input, and the fact holds of its first bad line
+pub record SomeBadLine (input : List ℕ) (P : BadLine → Type 0) : Type 0 where
+  pub bad : BadLine
+  pub is : verdict input ≡ BadInput bad
+  pub holds : P bad
 
--- the sink, where it tells that, has got a front of the output of the session, which is right, and each disk holds the records of its actor
-pub record IsCutOff {D : Type 0} (tells : Bool) (before after : List ℕ) (seen : D → Seen) (disks : List D) (session : Session) : Type 0 where
-  pub right : IsRight session
-  pub front : IsTrue tells → WritesFront before after (output_of session)
-  pub kept : HoldFrames seen disks session.scenario (story session)
+-- the session was carried out: these are its lines, each of which is the right one on the lines before it; its story is right; and each disk
+-- holds the records of its actor
+pub record IsDone (lines : List Line) (disks : List Seen) (session : Session) : Type 0 where
+  pub lines_are : AreLines lines session.scenario (commands_of session)
+  pub right : IsRight session.scenario (story session)
+  pub kept : HoldFrames disks session.scenario (story session)
 
--- the commands are the first ones of the session, the last one of them first
-abbrev pub IsFront : List Command → Session → Type 0
-IsFront done session = (left : List Command) × (commands_of session ≡ left ++ done)
+-- and the sink, where it tells, has got exactly its output: the lines, and then the report
+pub record IsReplayed (sink : Stream) (disks : List Seen) (session : Session) : Type 0 where
+  pub lines : List Line
+  pub done : IsDone lines disks session
+  pub output : IsTrue sink.tells → sink.after ≡ sink.before ++ printed lines session.scenario (story session)
 
--- the lines of these commands, the first one first
-abbrev pub lines_text : Scenario → List Command → List ℕ
-lines_text scenario done = lines_bytes (oldest_first (lines_of (story_of scenario done)))
+-- or a front of its output
+pub record IsCutOff (sink : Stream) (disks : List Seen) (session : Session) : Type 0 where
+  pub lines : List Line
+  pub done : IsDone lines disks session
+  pub front : IsTrue sink.tells → WritesFront sink.before sink.after (printed lines session.scenario (story session))
 
--- a call of a disk failed within the event of the next command, or of a set-up: the lines made until then are right, and behind them the
--- disk is named, whose count of faults rose; it holds what some stop within that event leaves, and each other disk what the rules say
-pub record IsBroken {D : Type 0} (tells : Bool) (faults_before faults_after : ℕ) (before after : List ℕ) (seen : D → Seen) (old new : List D) (session : Session) : Type 0 where
-  pub done : List Command
+-- a call of this disk failed within the event of the command behind these first ones of the session
+pub record BreaksBehind (number : ℕ) (old new : List Seen) (session : Session) (done : List Command) : Type 0 where
+  pub command : Command
+  pub front : IsFront (command ∷ done) session
+  pub breaks : BreaksAtNext number old new command session.scenario (story_of session.scenario done)
+
+-- it did so, or no command was carried out and it failed while its site was set up
+abbrev pub Breaks : ℕ → List Seen → List Seen → Session → List Command → Type 0
+Breaks number old new session done = BreaksBehind number old new session done ⊎ ((done ≡ []) × BreaksSetUp number old new session.scenario)
+
+-- a call of a disk failed: the sink has got the lines of the commands before, which are right, and behind them which disk
+pub record IsBroken (sink : Stream) (old new : List Seen) (session : Session) : Type 0 where
   pub number : ℕ
-  pub front : IsFront done session
-  pub right : IsRightStory session.scenario (lines_of (story_of session.scenario done))
-  pub text : Gets tells faults_before faults_after before after (lines_text session.scenario done ++ disk_failed_text number)
-  pub breaks : BreaksAt seen number old new session.scenario done
+  pub done : List Command
+  pub lines : List Line
+  pub lines_are : AreLines lines session.scenario done
+  pub text : Gets sink (lines_bytes lines ++ disk_failed_text number)
+  pub breaks : Breaks number old new session done
+
+-- memory was wanting while the sites were set up: the first ones are, and nothing is on any other disk
+pub record StartsShort (disks : List Seen) (scenario : Scenario) : Type 0 where
+  pub done : List SiteId
+  pub left : List SiteId
+  pub all : sites scenario ≡ done ++ left
+  pub set_up : AreSetUp done disks scenario
+  pub empty : NothingBut done disks
 
 -- memory was wanting behind the first commands of the session: each disk holds what the rules say is on it then
-pub record StopsShort {D : Type 0} (seen : D → Seen) (disks : List D) (session : Session) : Type 0 where
+pub record StopsShort (disks : List Seen) (session : Session) : Type 0 where
   pub done : List Command
   pub front : IsFront done session
-  pub kept : HoldAll seen disks session.scenario (story_of session.scenario done)
+  pub kept : HoldAll disks session.scenario (story_of session.scenario done)
 
 -- memory was wanting for the text of the lines made until a call of a disk failed
-pub record BreaksShort {D : Type 0} (seen : D → Seen) (old new : List D) (session : Session) : Type 0 where
-  pub done : List Command
+pub record BreaksShort (old new : List Seen) (session : Session) : Type 0 where
   pub number : ℕ
-  pub front : IsFront done session
-  pub breaks : BreaksAt seen number old new session.scenario done
+  pub done : List Command
+  pub breaks : Breaks number old new session done
 
--- memory was wanting in a session that was begun: before the site was set up, and no disk has a byte; or behind its first commands; or where
--- a disk had failed
-abbrev pub IsShort : {D : Type 0} → (D → Seen) → List D → List D → Session → Type 0
-IsShort seen old new session = HoldNothing seen new ⊎ (StopsShort seen new session ⊎ BreaksShort seen old new session)
+-- memory was wanting in a session that was begun
+abbrev pub IsShort : List Seen → List Seen → Session → Type 0
+IsShort old new session = StartsShort new session.scenario ⊎ (StopsShort new session ⊎ BreaksShort old new session)
 
--- where memory was wanting, the disks are as they were, or those of a session that was begun
-abbrev pub AreShort : {D : Type 0} → (D → Seen) → List D → List D → Verdict → Type 0
-AreShort seen old new verdict = (new ≡ old) ⊎ SomeSession verdict (IsShort seen old new)
+-- memory was wanting: the disks are as they were, or the input was read and its session begun
+abbrev pub AreShort : Stream → List Seen → List Seen → List ℕ → Type 0
+AreShort source old new input = (new ≡ old) ⊎ (IsRead source × SomeSession input (IsShort old new))
 
--- the status, what the sink has got and what the disks hold are such as the input leads to
-pub record Ends {D : Type 0} (seen : D → Seen) (old new : List D) (verdict : Verdict) (status : ℕ) (tells : Bool) (faults_before faults_after : ℕ) (before after : List ℕ) : Type 0 where
-  pub led : IsLedTo status (is_used (sizes_of seen old)) verdict
-  pub replayed : status ≡ 0 → SomeSession verdict (IsReplayed tells before after seen new)
-  pub refused : status ≡ 2 → Gets tells faults_before faults_after before after (refusal_text verdict)
-  pub unread : status ≡ 3 → Gets tells faults_before faults_after before after read_failed_text
-  pub cut : status ≡ 4 → SomeSession verdict (IsCutOff tells before after seen new)
-  pub failed : status ≡ 4 → HasRisen faults_before faults_after
-  pub broken : status ≡ 5 → SomeSession verdict (IsBroken tells faults_before faults_after before after seen old new)
-  pub wanting : status ≡ 6 → Gets tells faults_before faults_after before after no_memory_text
-  pub short : status ≡ 6 → AreShort seen old new verdict
-  pub long : status ≡ 7 → Gets tells faults_before faults_after before after too_long_text
-  pub used : status ≡ 8 → IfSome (first_used (sizes_of seen old)) (λ number. Gets tells faults_before faults_after before after (disk_used_text number))
+-- how a replay of this input ends: each status with its cause, what the sink has got then and what the disks hold
+pub record Ends (status : ℕ) (source sink : Stream) (old new : List Seen) (input : List ℕ) : Type 0 where
+  -- which status comes when; want of memory alone is free
+  pub led : IsLedTo status (is_used (sizes_of old)) (verdict input)
+  -- a read failed at status 3 alone, and else the source was read to its end or to byte 4,194,305
+  pub read : In status (0 ∷ 2 ∷ 4 ∷ 5 ∷ 7 ∷ 8 ∷ []) → IsRead source
+  pub read_failed : status ≡ 3 → Rose source
+  pub no_read_failed : (status ≡ 3 → ⊥) → IsCalm source
+  -- what the sink has got, and what the disks hold
+  pub replayed : status ≡ 0 → SomeSession input (IsReplayed sink new)
+  pub no_write_failed : status ≡ 0 → IsCalm sink
+  pub refused : status ≡ 2 → SomeBadLine input (λ bad. Gets sink (bad_line_text bad))
+  pub unread : status ≡ 3 → Gets sink read_failed_text
+  pub cut_off : status ≡ 4 → SomeSession input (IsCutOff sink new)
+  pub write_failed : status ≡ 4 → Rose sink
+  pub broken : status ≡ 5 → SomeSession input (IsBroken sink old new)
+  pub no_memory : status ≡ 6 → Gets sink no_memory_text
+  pub short : status ≡ 6 → AreShort source old new input
+  pub too_long : status ≡ 7 → Gets sink too_long_text
+  pub used : status ≡ 8 → IfSome (first_used (sizes_of old)) (λ number. Gets sink (disk_used_text number))
+
+-- how a session that was read ends
+pub record Carries (status : ℕ) (sink : Stream) (old new : List Seen) (session : Session) : Type 0 where
+  pub led : In status (6 ∷ statuses (is_used (sizes_of old)) (Runs session))
+  pub replayed : status ≡ 0 → IsReplayed sink new session
+  pub no_write_failed : status ≡ 0 → IsCalm sink
+  pub cut_off : status ≡ 4 → IsCutOff sink new session
+  pub write_failed : status ≡ 4 → Rose sink
+  pub broken : status ≡ 5 → IsBroken sink old new session
+  pub no_memory : status ≡ 6 → Gets sink no_memory_text
+  pub short : status ≡ 6 → (new ≡ old) ⊎ IsShort old new session
+  pub used : status ≡ 8 → IfSome (first_used (sizes_of old)) (λ number. Gets sink (disk_used_text number))

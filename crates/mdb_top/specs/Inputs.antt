@@ -3,7 +3,7 @@ use Rattle.std.specs.Prelude.{ℕ, ◌≡◌, Bool, IsTrue, List, Result, Ok, Er
 use Rattle.scenario_text.specs.declared.session.Session.{Session}
 use Rattle.mdb_top.specs.declared.input.Unplayed.{Unplayed}
 use Rattle.mdb_top.specs.declared.input.Unplayed.TheVariants as Why
-use Rattle.mdb_top.specs.Verdicts.{Verdict, TooLong, BadInput, NotHere, Runs}
+use Rattle.mdb_top.specs.Verdicts.{Verdict, TooLong, BadInput, Runs}
 
 -- the fact holds of some input; where the source tells the bytes that were left, the input is those
 pub record SomeInput (tells : Bool) (left : List ℕ) (P : List ℕ → Type 0) : Type 0 where
@@ -11,11 +11,18 @@ pub record SomeInput (tells : Bool) (left : List ℕ) (P : List ℕ → Type 0) 
   pub told : IsTrue tells → input ≡ left
   pub holds : P input
 
--- the session that runs here, or why there is none; a failed read and want of memory say nothing of the input
+-- the session, or why there is none; a failed read and want of memory say nothing of the input
 abbrev pub Tells : Result Session Unplayed → Verdict → Type 0
 Tells (Ok session) verdict = verdict ≡ Runs session
 Tells (Err Why.TooLong) verdict = verdict ≡ TooLong
 Tells (Err (Why.BadLine bad)) verdict = verdict ≡ BadInput bad
-Tells (Err Why.NotHere) verdict = verdict ≡ NotHere
 Tells (Err Why.Failed) verdict = Unit {0}
 Tells (Err Why.Memory) verdict = Unit {0}
+
+-- the answer is of an input that was read; where memory was wanting it may have been or not
+abbrev pub WasRead : Result Session Unplayed → Type 0
+WasRead (Ok session) = Unit {0}
+WasRead (Err Why.TooLong) = Unit {0}
+WasRead (Err (Why.BadLine bad)) = Unit {0}
+WasRead (Err Why.Failed) = ⊥
+WasRead (Err Why.Memory) = ⊥

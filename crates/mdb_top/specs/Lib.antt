@@ -1,6 +1,6 @@
+pub mod Breaks
 pub mod Disks
 pub mod Endings
-pub mod FirstRows
 pub mod Inputs
 pub mod MemStreams
 pub mod Outputs

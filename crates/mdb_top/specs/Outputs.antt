@@ -2,15 +2,15 @@
 use Rattle.std.specs.Prelude.{ℕ, ◌≡◌, List, ◌++◌, Result, Ok, Err}
 use Rattle.mdb_base.specs.declared.names.Memory.{Memory}
 use Rattle.fed_rules.specs.declared.commands.Command.{Command}
-use Rattle.fed_rules.specs.Right.{IsRightStory}
-use Rattle.fed_rules.specs.Story.{story_of, lines_of}
+use Rattle.fed_rules.specs.declared.commands.Line.{Line}
 use Rattle.journal_disk.specs.Disk.{Seen}
+use Rattle.fed_world.specs.Worlds.{AreLines}
 use Rattle.scenario_text.specs.declared.session.Session.{Session}
+use Rattle.trace_lines.specs.Spelling.{lines_bytes}
 use Rattle.mdb_top.specs.declared.output.Output.{Output}
 use Rattle.mdb_top.specs.declared.output.Output.TheVariants.{Whole, Broken}
-use Rattle.mdb_top.specs.Disks.{BreaksAt, HoldFrames}
-use Rattle.mdb_top.specs.Endings.{IsFront, IsShort, lines_text}
-use Rattle.mdb_top.specs.Sessions.{IsRight, output_of, story}
+use Rattle.mdb_top.specs.Endings.{Breaks, IsDone, IsShort}
+use Rattle.mdb_top.specs.Sessions.{printed, story}
 use Rattle.mdb_top.specs.Texts.{disk_failed_text}
 
 -- an output is a whole one of which the fact holds
@@ -25,23 +25,23 @@ IfBroken (Ok (Whole bytes)) P = ⊥
 IfBroken (Ok (Broken bytes)) P = P bytes.items
 IfBroken (Err why) P = Unit {0}
 
--- the output is that of the session, which is right, and each disk holds the records of its actor
-pub record PlaysWhole {D : Type 0} (output : List ℕ) (seen : D → Seen) (disks : List D) (session : Session) : Type 0 where
-  pub output_is : output ≡ output_of session
-  pub right : IsRight session
-  pub kept : HoldFrames seen disks session.scenario (story session)
+-- the output is that of the session, which was carried out
+pub record PlaysWhole (output : List ℕ) (disks : List Seen) (session : Session) : Type 0 where
+  pub lines : List Line
+  pub done : IsDone lines disks session
+  pub output_is : output ≡ printed lines session.scenario (story session)
 
--- the output is that of the first commands of the session, the lines of which are right, and behind them names the disk that failed
-pub record PlaysBroken {D : Type 0} (output : List ℕ) (seen : D → Seen) (old new : List D) (session : Session) : Type 0 where
-  pub done : List Command
+-- the output is the right lines of the first commands of the session, and behind them names the disk that failed
+pub record PlaysBroken (output : List ℕ) (old new : List Seen) (session : Session) : Type 0 where
   pub number : ℕ
-  pub output_is : output ≡ lines_text session.scenario done ++ disk_failed_text number
-  pub front : IsFront done session
-  pub right : IsRightStory session.scenario (lines_of (story_of session.scenario done))
-  pub breaks : BreaksAt seen number old new session.scenario done
+  pub done : List Command
+  pub lines : List Line
+  pub lines_are : AreLines lines session.scenario done
+  pub output_is : output ≡ lines_bytes lines ++ disk_failed_text number
+  pub breaks : Breaks number old new session done
 
 -- the output is that of a session on these disks
-abbrev pub IsOutput : {D : Type 0} → (D → Seen) → Result Output Memory → List D → List D → Session → Type 0
-IsOutput seen (Ok (Whole bytes)) old new session = PlaysWhole bytes.items seen new session
-IsOutput seen (Ok (Broken bytes)) old new session = PlaysBroken bytes.items seen old new session
-IsOutput seen (Err why) old new session = IsShort seen old new session
+abbrev pub IsOutput : Result Output Memory → List Seen → List Seen → Session → Type 0
+IsOutput (Ok (Whole bytes)) old new session = PlaysWhole bytes.items new session
+IsOutput (Ok (Broken bytes)) old new session = PlaysBroken bytes.items old new session
+IsOutput (Err why) old new session = IsShort old new session

@@ -1,42 +1,33 @@
--- How the commands of a session are carried out: what a world stands for before and behind them.
-use Rattle.std.specs.Prelude.{◌≡◌, ◌<◌, ◌^◌, Bool, IsTrue, List, ◌++◌, length, reverse}
-use Rattle.std.specs.List.{list_all}
+-- How the commands of a session are carried out, and what can be printed of a world.
+use Rattle.std.specs.Prelude.{ℕ, ◌≡◌, List}
 use Rattle.mdb_base.specs.Words.{Each}
 use Rattle.fed_rules.specs.declared.commands.Command.{Command}
+use Rattle.fed_rules.specs.declared.commands.Line.{Line}
 use Rattle.fed_rules.specs.declared.scenario.Scenario.{Scenario}
 use Rattle.fed_rules.specs.Closing.{closed}
 use Rattle.fed_rules.specs.Plans.{IsScenario}
-use Rattle.fed_rules.specs.Runs.{Start, EngineLine}
-use Rattle.fed_rules.specs.Story.{story_of, lines_of}
-use Rattle.fed_world.specs.declared.errors.WorldErr.{WorldErr}
-use Rattle.fed_world.specs.declared.world.World.{World}
-use Rattle.fed_world.specs.Worlds.{AllUp, Fails}
-use Rattle.journal_disk.specs.Disk.{Seen}
-use Rattle.trace_lines.specs.Fits.{line_fits}
-use Rattle.mdb_top.specs.Verdicts.{is_own_command}
+use Rattle.fed_rules.specs.Story.{story_of}
+use Rattle.closing.specs.Steps.{CanClose, with_commands}
+use Rattle.fed_world.specs.Worlds.{AreLines, Rests}
+use Rattle.line_laws.specs.Lines.{IsHeard}
+use Rattle.mdb_top.specs.Sessions.{printed}
 
--- these commands, the first one first, behind those before, the last one first
-abbrev pub with_commands : List Command → List Command → List Command
-with_commands commands before = reverse commands ++ before
+-- these commands behind those before, and the ones that close the session
+abbrev pub closed_with : List Command → Scenario → List Command → List Command
+closed_with commands scenario before = closed scenario (with_commands commands before)
 
--- the commands run here, and the numbers of all of them fit
-pub record CanPlay (commands : List Command) (scenario : Scenario) (before : List Command) : Type 0 where
-  pub own : IsTrue (list_all is_own_command commands)
-  pub few : length (with_commands commands before) < 2 ^ 29
-  pub scenario_is : IsScenario scenario
+-- there are few enough commands, with those before, that the numbers of those that close the session fit too
+abbrev pub CanPlay : List Command → Scenario → List Command → Type 0
+CanPlay commands scenario before = CanClose scenario (with_commands commands before)
 
--- of the commands and those that close the session some are carried out, and at the next one the world fails
-pub record FailsToPlay {E D : Type 0} (stands : E → Start → List EngineLine → Type 0) (tells : Bool) (seen : D → Seen) (why : WorldErr) (world : World E) (disks : List D) (commands : List Command) (scenario : Scenario) (before : List Command) : Type 0 where
-  pub done : List Command
-  pub left : List Command
-  pub of_session : closed scenario (with_commands commands before) ≡ left ++ done
-  pub fails : Fails stands tells seen why world disks scenario done
-
--- each line of these commands is one that its command can have
-abbrev pub AreLines : Scenario → List Command → Type 0
-AreLines scenario commands = Each (λ line. IsTrue (line_fits line)) (lines_of (story_of scenario commands))
-
--- the lines can be printed, and the site is up
+-- each line can be printed, and the session is at rest
 pub record IsPrintable (scenario : Scenario) (commands : List Command) : Type 0 where
-  pub lines : AreLines scenario commands
-  pub up : AllUp scenario commands
+  pub whole : IsScenario scenario
+  pub heard : Each (IsHeard scenario.sites) commands
+  pub rests : Rests scenario commands
+
+-- the text is that of the right lines of these commands, and of their report
+pub record IsPrinted (text : List ℕ) (scenario : Scenario) (commands : List Command) : Type 0 where
+  pub lines : List Line
+  pub lines_are : AreLines lines scenario commands
+  pub text_is : text ≡ printed lines scenario (story_of scenario commands)

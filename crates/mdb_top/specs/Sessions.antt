@@ -1,15 +1,25 @@
--- What a session is: its commands with those that close it, its story, and the output that is printed of it.
-use Rattle.std.specs.Prelude.{ℕ, List, ◌++◌, reverse}
+-- What a session is: its commands with those that close it, its story, and what holds of it.
+use Rattle.std.specs.Prelude.{ℕ, ◌≡◌, ◌⊎◌, ◌↔◌, true, Some, List, ◌++◌, reverse}
+use Rattle.mdb_base.specs.declared.names.Key.{Key}
+use Rattle.mdb_base.specs.declared.names.SiteId.{SiteId}
+use Rattle.mdb_base.specs.declared.names.Tid.{Tid}
+use Rattle.mdb_base.specs.declared.rows.Put.{Put}
+use Rattle.mdb_base.specs.Rows.{look_up}
+use Rattle.order_laws.specs.Chains.{In}
 use Rattle.fed_rules.specs.declared.commands.Command.{Command}
+use Rattle.fed_rules.specs.declared.commands.Line.{Line}
+use Rattle.fed_rules.specs.declared.records.SiteRecord.TheVariants.{Local}
 use Rattle.fed_rules.specs.declared.scenario.Scenario.{Scenario}
 use Rattle.fed_rules.specs.Closing.{closed}
-use Rattle.fed_rules.specs.CoordPast.{oldest_first}
-use Rattle.fed_rules.specs.Reports.{report_of}
-use Rattle.fed_rules.specs.Right.{IsRightStory}
-use Rattle.fed_rules.specs.Story.{Story, story_of, lines_of}
+use Rattle.fed_rules.specs.Headline.{Headline}
+use Rattle.fed_rules.specs.Orders.{due_of, is_committed, records_of, table_of}
+use Rattle.fed_rules.specs.Reports.{printed_order, report_of}
+use Rattle.fed_rules.specs.Scenarios.{home_of}
+use Rattle.fed_rules.specs.SiteRecords.{Home}
+use Rattle.fed_rules.specs.Story.{Story, story_of}
+use Rattle.closing_laws.specs.AtRest.{IsAtRest}
 use Rattle.report_text.specs.Spelling.{report_bytes}
 use Rattle.scenario_text.specs.declared.session.Session.{Session}
-use Rattle.session_laws.specs.Sessions.{IsSerialSession}
 use Rattle.trace_lines.specs.Spelling.{lines_bytes}
 
 -- the commands of a session with those that close it, the last one first
@@ -20,16 +30,35 @@ commands_of session = closed session.scenario (reverse session.commands)
 abbrev pub story : Session → Story
 story session = story_of session.scenario (commands_of session)
 
--- the lines of a story as they are printed, the first one first, and behind them its report
-abbrev pub printed : Scenario → Story → List ℕ
-printed scenario story = lines_bytes (oldest_first (lines_of story)) ++ report_bytes (report_of scenario story)
+-- these lines as they are printed, the first one first, and behind them the report of the story
+abbrev pub printed : List Line → Scenario → Story → List ℕ
+printed lines scenario story = lines_bytes lines ++ report_bytes (report_of scenario story)
 
--- the output of a session
-abbrev pub output_of : Session → List ℕ
-output_of session = printed session.scenario (story session)
+-- the commands are the first ones of the session, the last one of them first
+abbrev pub IsFront : List Command → Session → Type 0
+IsFront done session = (left : List Command) × (commands_of session ≡ left ++ done)
 
--- each line of the session is the right one on the lines before it. The order that is printed is one for all sites and names each
--- committed attempt once; its programs, run alone one after another, read the values and leave the tables that are printed
-pub record IsRight (session : Session) : Type 0 where
-  pub lines : IsRightStory session.scenario (lines_of (story session))
-  pub serial : IsSerialSession session.scenario (story session)
+-- a Local record of the attempt is kept at some site
+pub record IsKeptLocal (scenario : Scenario) (story : Story) (tid : Tid) : Type 0 where
+  pub site : SiteId
+  pub number : ℕ
+  pub writes : List Put
+  pub kept : In (Local tid number writes) (records_of scenario story site)
+
+-- the attempt committed: a local one has a kept Local record, and the outcome of a global one is commit
+abbrev pub HasCommitted : Scenario → Story → Tid → Type 0
+HasCommitted scenario story tid = IsKeptLocal scenario story tid ⊎ (is_committed story tid ≡ true)
+
+-- each declared site has what it is due
+abbrev pub AreSettled : Scenario → Story → Type 0
+AreSettled scenario story =
+    (site : SiteId) (home : Home) → home_of scenario site ≡ Some home
+    → (key : Key) → look_up (table_of scenario story site) key ≡ look_up (due_of scenario story site) key
+
+-- what holds of the story of a whole session: the headline of the rules; at the end it is at rest, every actor up and nothing live, in doubt or
+-- known; each site's table is what it is due; and an attempt stands in the printed order exactly where it committed
+pub record IsRight (scenario : Scenario) (story : Story) : Type 0 where
+  pub headline : Headline scenario story
+  pub at_rest : IsAtRest scenario story
+  pub settled : AreSettled scenario story
+  pub members : (tid : Tid) → In tid (printed_order scenario story) ↔ HasCommitted scenario story tid

@@ -20,9 +20,6 @@ too_long_text = line (codes "too long")
 abbrev pub no_memory_text : List ℕ
 no_memory_text = line (codes "no memory")
 
-abbrev pub bad_input_text : List ℕ
-bad_input_text = line (codes "bad input")
-
 -- which disk isn't empty
 abbrev pub disk_used_text : ℕ → List ℕ
 disk_used_text number = line (codes "disk " ++ decimal number ++ codes " is used")

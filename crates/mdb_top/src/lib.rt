@@ -2,12 +2,10 @@
 #![tactic(auto)]
 
 mod bad_lines;
-mod first_rows;
 mod input;
 mod mem_streams;
 mod output;
 mod reading;
-mod scope;
 mod streams;
 mod top_call;
 mod used_disks;

@@ -1,6 +1,8 @@
 //! A source and a sink in memory, some calls of which can be told to fail.
-ghost use Rattle.std.specs.Prelude.{◌≡◌, ◌≤◌, ◌<◌, [], ◌↔◌, IfOk, IsTrue, Contains, length};
+ghost use Rattle.std.specs.Prelude.{◌≡◌, ◌≤◌, ◌<◌, ◌++◌, ◌↔◌, IfOk, IsTrue, OnErr, Contains, length, min, take};
 ghost use Rattle.std.specs.Vec.{vec_capacity};
+ghost use Rattle.mdb_base.specs.Counts.{HasCause};
+ghost use Rattle.mdb_top.specs.Streams.{Gives, Takes};
 
 use crate::streams::{Sink, Source};
 use journal_disk::Failed;
@@ -21,13 +23,12 @@ pub struct MemSource {
 }
 
 impl MemSource {
-    ghost use Rattle.mdb_top.specs.MemStreams.{source_left, source_faults};
+    ghost use Rattle.mdb_top.specs.MemStreams.{IsNewSource};
 
     /// A source of these bytes.
     pub fn new(bytes: Vec<u8>, most: usize, failing: Vec<u32>) -> MemSource
         requires { 0 < most }
-        ensures left { source_left result ≡ bytes.items }
-        ensures faults { source_faults result ≡ 0 }
+        ensures { IsNewSource result bytes.items most failing.items }
     {
         MemSource {
             bytes,
@@ -42,7 +43,7 @@ impl MemSource {
 
 impl Source for MemSource {
     ghost use Rattle.std.specs.Prelude.{true};
-    ghost use Rattle.mdb_top.specs.MemStreams.{source_left, source_faults};
+    ghost use Rattle.mdb_top.specs.MemStreams.{FailsExactlyAt, SourceKeeps, counted, source_calls, source_failing, source_faults, source_left, source_most};
 
     ghost tells = { true };
 
@@ -50,7 +51,16 @@ impl Source for MemSource {
 
     ghost faults = { source_faults };
 
-    fn take(&mut self, into: &mut [u8]) -> Result<usize, Failed> {
+    /// Gives as many of the next bytes as the buffer has, and at most `most`. It fails exactly at the calls in `failing`, counted from 1.
+    fn take(&mut self, into: &mut [u8]) -> Result<usize, Failed>
+        ensures count { IfOk result (λ count. count ≤ length into.old) }
+        ensures given { IfOk result (λ count. IsTrue true → Gives count (source_left self.old) (source_left self.new) (length into.old) into.new) }
+        ensures err { OnErr result (IsTrue true → source_left self.new ≡ source_left self.old) }
+        ensures cause { HasCause (source_faults self.old) (source_faults self.new) result }
+        ensures amount { IfOk result (λ count. count ≡ min (min (length into.old) (source_most self.old)) (length (source_left self.old))) }
+        ensures fails { FailsExactlyAt (source_failing self.old) (counted (source_calls self.old)) result }
+        ensures keeps { SourceKeeps self.old self.new }
+    {
         self.calls = self.calls.saturating_add(1);
         if is_listed(&self.failing, self.calls) {
             self.faults = self.faults.saturating_add(1);
@@ -78,7 +88,7 @@ pub struct MemSink {
 }
 
 impl MemSink {
-    ghost use Rattle.mdb_top.specs.MemStreams.{sink_written, sink_faults};
+    ghost use Rattle.mdb_top.specs.MemStreams.{IsNewSink, sink_written};
 
     /// An empty sink with room for so many bytes.
     pub fn new(
@@ -88,8 +98,7 @@ impl MemSink {
         failing: Vec<u32>,
     ) -> Result<MemSink, Memory>
         requires { 0 < most }
-        ensures written { IfOk result (λ sink. sink_written sink ≡ []) }
-        ensures faults { IfOk result (λ sink. sink_faults sink ≡ 0) }
+        ensures { IfOk result (λ sink. IsNewSink sink room most failing.items) }
     {
         match Vec::with_capacity(alloc, room) {
             Ok(bytes) => Ok(MemSink {
@@ -114,7 +123,7 @@ impl MemSink {
 
 impl Sink for MemSink {
     ghost use Rattle.std.specs.Prelude.{true};
-    ghost use Rattle.mdb_top.specs.MemStreams.{sink_written, sink_faults};
+    ghost use Rattle.mdb_top.specs.MemStreams.{SinkFailsExactly, SinkKeeps, sink_faults, sink_left, sink_most, sink_written};
 
     ghost tells = { true };
 
@@ -122,7 +131,17 @@ impl Sink for MemSink {
 
     ghost faults = { sink_faults };
 
-    fn put(&mut self, piece: &[u8]) -> Result<usize, Failed> {
+    /// Takes a front of the piece: all of it, but at most `most` bytes, and no more than there is room. It fails exactly at the calls in
+    /// `failing`, counted from 1, and where it is full.
+    fn put(&mut self, piece: &[u8]) -> Result<usize, Failed>
+        ensures count { IfOk result (λ count. Takes count (length piece.now)) }
+        ensures written { IfOk result (λ count. IsTrue true → sink_written self.new ≡ sink_written self.old ++ take count piece.now) }
+        ensures err { OnErr result (IsTrue true → sink_written self.new ≡ sink_written self.old) }
+        ensures cause { HasCause (sink_faults self.old) (sink_faults self.new) result }
+        ensures amount { IfOk result (λ count. count ≡ min (min (length piece.now) (sink_most self.old)) (sink_left self.old)) }
+        ensures fails { SinkFailsExactly self.old result }
+        ensures keeps { SinkKeeps self.old self.new }
+    {
         self.calls = self.calls.saturating_add(1);
         let left = self.room.saturating_sub(self.bytes.len());
         if is_listed(&self.failing, self.calls) || left == 0 {

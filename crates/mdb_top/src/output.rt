@@ -1,31 +1,28 @@
 //! The output of a session: the lines that it makes, and its report, or the disk that failed.
-ghost use Rattle.std.specs.Prelude.{◌≡◌, ◌++◌, false, IsTrue, IfOk, IfErr, OnOk, length, map, reverse};
-ghost use Rattle.std.specs.List.{list_all};
+ghost use Rattle.std.specs.Prelude.{◌≡◌, ◌++◌, false, IsTrue, IfErr, OnOk, length, map};
 ghost use Rattle.mdb_base.specs.Words.{Each};
-ghost use Rattle.fed_rules.specs.Closing.{closed};
-ghost use Rattle.fed_rules.specs.Story.{story_of};
-ghost use Rattle.fed_world.specs.Worlds.{CanStart, EachStory, HasCause, NeverFalls, Recalls, SomeStory, Stands};
-ghost use Rattle.any_engine.specs.Stands.{Stands as EngineStands};
+ghost use Rattle.fed_rules.specs.Plans.{IsScenario};
+ghost use Rattle.closing.specs.Steps.{FitWith, with_commands};
+ghost use Rattle.closing.specs.Towards.{FallsShort, Reaches};
+ghost use Rattle.fed_world.specs.Worlds.{EachStory, HasCause, NeverFalls, Recalls, SomeStory, Stands};
 ghost use Rattle.scenario_text.specs.Kept.{AreCommands};
 ghost use Rattle.trace_lines.specs.Fits.{line_fits};
 ghost use Rattle.trace_lines.specs.Spelling.{lines_bytes};
 ghost use Rattle.mdb_top.specs.Disks.{is_used, sizes_of};
 ghost use Rattle.mdb_top.specs.Outputs.{IfBroken, IfWhole, IsOutput};
-ghost use Rattle.mdb_top.specs.Plays.{CanPlay, FailsToPlay, IsPrintable, with_commands};
-ghost use Rattle.mdb_top.specs.Sessions.{printed as printed_bytes};
+ghost use Rattle.mdb_top.specs.Plays.{CanPlay, IsPrintable, IsPrinted, closed_with};
 ghost use Rattle.mdb_top.specs.Texts.{disk_failed_text};
-ghost use Rattle.mdb_top.specs.Verdicts as verdicts;
 
-use crate::first_rows::first_rows;
-use any_engine::AnyEngine;
-use engine_contract::LocalEngine;
+use closing::close;
+use closing_laws::closed_sessions_rest;
 use fed_rules::{Command, Line, Scenario};
-use fed_world::{NewSite, World, WorldErr};
+use fed_world::{World, WorldErr};
+use federation_laws::federation_is_serializable;
 use journal_disk::Disk;
-use mdb_base::{Memory, Puts, put_number, put_text};
+use line_laws::{closing_is_heard, right_lines_fit};
+use mdb_base::{Memory, put_number, put_text};
 use report_text::print_report;
 use scenario_text::Session;
-use session_laws::own_sessions_are_serial;
 use std::alloc::Global;
 use trace_lines::print_line;
 
@@ -38,41 +35,44 @@ pub(crate) enum Output {
     Broken(Vec<u8>),
 }
 
-/// The engine of a scenario's site, new and with its first rows, where there is a site.
-fn first_site(alloc: Global, scenario: &Scenario) -> Result<Option<NewSite<AnyEngine>>, Memory>
-    requires one { IsTrue (verdicts.is_one_site scenario.now.sites) }
-    requires local { IsTrue (list_all verdicts.is_local scenario.now.transactions) }
-    ensures { IfOk result (CanStart EngineStands scenario.now) }
-{
-    if scenario.sites.is_empty() {
-        return Ok(None);
-    }
-    let line = scenario.sites.at(0);
-    let items = Puts::of(first_rows(alloc, scenario.items.as_slice(), line.site)?);
-    let engine = AnyEngine::new(alloc, line.engine, &items)?;
-    Ok(Some(NewSite { engine, items }))
-}
-
-/// Carries out the commands, and closes the session. After a refusal the lines made until then stand.
-fn play<E: LocalEngine, D: Disk>(
+/// Carries out the commands, one after another.
+fn carry_out<D: Disk>(
     alloc: Global,
-    world: &mut World<E>,
+    world: &mut World,
     commands: &[Command],
     disks: &mut Vec<D>,
 ) -> Result<(), WorldErr>
     requires told { IsTrue D.tells }
-    requires stood { SomeStory (Stands E.stands D.tells D.seen world.old disks.old.items) (CanPlay commands.now) }
-    ensures played { OnOk result (EachStory (Stands E.stands D.tells D.seen world.old disks.old.items)
-        (λ scenario before. Stands E.stands D.tells D.seen world.new disks.new.items scenario (closed scenario (with_commands commands.now before)))) }
-    ensures failed { IfErr result (λ why. EachStory (Stands E.stands D.tells D.seen world.old disks.old.items)
-        (FailsToPlay E.stands D.tells D.seen why world.new disks.new.items commands.now)) }
-    ensures cause { IfErr result (λ why. HasCause D.seen why disks.old.items disks.new.items) }
-    ensures faults { NeverFalls D.seen disks.old.items disks.new.items }
+    requires stood { SomeStory (Stands D.tells world.old (map D.seen disks.old.items)) (FitWith commands.now) }
+    ensures done { OnOk result (Reaches D.tells world.old (map D.seen disks.old.items) world.new (map D.seen disks.new.items) (FitWith commands.now)
+        (λ scenario before. with_commands commands.now before)) }
+    ensures failed { IfErr result (λ why. FallsShort D.tells world.old (map D.seen disks.old.items) why world.new (map D.seen disks.new.items) (FitWith commands.now)
+        (λ scenario before. with_commands commands.now before)) }
+    ensures cause { IfErr result (λ why. HasCause why (map D.seen disks.old.items) (map D.seen disks.new.items)) }
+    ensures faults { NeverFalls (map D.seen disks.old.items) (map D.seen disks.new.items) }
 {
     for command in commands {
         world.apply(alloc, disks, *command)?;
     }
-    world.close(alloc, disks)
+    Ok(())
+}
+
+/// Carries out the commands, and closes the session. After a refusal the lines made until then stand.
+fn play<D: Disk>(
+    alloc: Global,
+    world: &mut World,
+    commands: &[Command],
+    disks: &mut Vec<D>,
+) -> Result<(), WorldErr>
+    requires told { IsTrue D.tells }
+    requires stood { SomeStory (Stands D.tells world.old (map D.seen disks.old.items)) (CanPlay commands.now) }
+    ensures played { OnOk result (Reaches D.tells world.old (map D.seen disks.old.items) world.new (map D.seen disks.new.items) (CanPlay commands.now) (closed_with commands.now)) }
+    ensures failed { IfErr result (λ why. FallsShort D.tells world.old (map D.seen disks.old.items) why world.new (map D.seen disks.new.items) (CanPlay commands.now) (closed_with commands.now)) }
+    ensures cause { IfErr result (λ why. HasCause why (map D.seen disks.old.items) (map D.seen disks.new.items)) }
+    ensures faults { NeverFalls (map D.seen disks.old.items) (map D.seen disks.new.items) }
+{
+    carry_out(alloc, world, commands, disks)?;
+    close(alloc, world, disks)
 }
 
 /// Appends the lines, a line feed behind each.
@@ -87,12 +87,12 @@ fn put_lines(alloc: Global, lines: &[Line], out: &mut Vec<u8>) -> Result<(), Mem
     Ok(())
 }
 
-/// The lines of a world, and behind them its report.
-fn printed<E: LocalEngine>(alloc: Global, world: &World<E>) -> Result<Output, Memory>
-    requires { SomeStory (Recalls E.stands world.now) IsPrintable }
-    ensures { IfWhole result (λ bytes. EachStory (Recalls E.stands world.now)
-        (λ scenario commands. bytes ≡ printed_bytes scenario (story_of scenario commands))) }
+/// The lines of a world at rest, and behind them its report.
+fn printed(alloc: Global, world: &World) -> Result<Output, Memory>
+    requires { SomeStory (Recalls world.now) IsPrintable }
+    ensures { IfWhole result (λ bytes. EachStory (Recalls world.now) (IsPrinted bytes)) }
 {
+    right_lines_fit();
     let mut out = Vec::new(alloc);
     put_lines(alloc, world.lines(), &mut out)?;
     let report = world.report(alloc)?;
@@ -113,24 +113,33 @@ fn broken(alloc: Global, lines: &[Line], number: u8) -> Result<Output, Memory>
     Ok(Output::Broken(out))
 }
 
-/// What is to be put of a session that runs here, on nine empty disks.
+/// A scenario is one that the rules speak of.
+fn scenario_is_whole(scenario: &Scenario)
+    ensures { IsScenario scenario.now }
+{
+    let _ = &scenario.sites;
+}
+
+/// What is to be put of a session, on nine empty disks.
 pub(crate) fn output_of<D: Disk>(
     alloc: Global,
     session: Session,
     disks: &mut Vec<D>,
 ) -> Result<Output, Memory>
     requires told { IsTrue D.tells }
-    requires runs { IsTrue (verdicts.runs_here session) }
     requires commands { AreCommands session.scenario.sites session.commands }
     requires nine { length disks.old.items ≡ 9 }
-    requires unused { is_used (sizes_of D.seen disks.old.items) ≡ false }
-    ensures output { IsOutput D.seen result disks.old.items disks.new.items session }
+    requires unused { is_used (sizes_of (map D.seen disks.old.items)) ≡ false }
+    ensures output { IsOutput result (map D.seen disks.old.items) (map D.seen disks.new.items) session }
     ensures nine { length disks.new.items ≡ 9 }
 {
-    own_sessions_are_serial();
+    right_lines_fit();
+    closing_is_heard();
+    closed_sessions_rest();
+    federation_is_serializable();
     let Session { scenario, commands } = session;
-    let local = first_site(alloc, &scenario)?;
-    let mut world = match World::new(alloc, scenario, local, disks) {
+    scenario_is_whole(&scenario);
+    let mut world = match World::new(alloc, scenario, disks) {
         Ok(world) => world,
         Err(WorldErr::Disk { number }) => return broken(alloc, &[], number),
         Err(WorldErr::Memory) => return Err(Memory),

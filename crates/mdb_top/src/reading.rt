@@ -1,6 +1,6 @@
 //! Reads a source to its end, or to one byte more than an input may have.
-ghost use Rattle.std.specs.Prelude.{◌≡◌, ◌≤◌, ◌<◌, ◌+◌, ◌++◌, IsTrue, IfOk, IsErrOf, length, take};
-ghost use Rattle.mdb_base.specs.Counts.{HasRisen};
+ghost use Rattle.std.specs.Prelude.{◌≡◌, ◌≤◌, ◌<◌, ◌+◌, IsTrue, IfOk, length, take, drop};
+ghost use Rattle.mdb_base.specs.Counts.{HasCauseOf};
 ghost use Rattle.mdb_top.specs.Streams.{longest};
 ghost use Rattle.mdb_top.specs.Progress.{ReadsOn};
 
@@ -28,8 +28,7 @@ fn read_on<S: Source>(
 ) -> Result<usize, ReadErr>
     requires { 0 < length piece.old }
     ensures ok { IfOk result (λ count. ReadsOn S.tells count (length piece.old) (S.left source.old) (S.left source.new) text.old.items text.new.items) }
-    ensures failed { IsErrOf result ReadErr.Failed → HasRisen (S.faults source.old) (S.faults source.new) }
-    ensures faults { S.faults source.old ≤ S.faults source.new }
+    ensures cause { HasCauseOf ReadErr.Failed (S.faults source.old) (S.faults source.new) result }
 {
     let count = match source.take(piece) {
         Ok(count) => count,
@@ -50,10 +49,9 @@ fn read_up_to<S: Source>(
 ) -> Result<Vec<u8>, ReadErr>
     requires { 0 < size }
     ensures text { IfOk result (λ text. IsTrue S.tells → text.items ≡ take most (S.left source.old)) }
-    ensures rest { IfOk result (λ text. IsTrue S.tells → S.left source.old ≡ text.items ++ S.left source.new) }
+    ensures rest { IfOk result (λ text. IsTrue S.tells → S.left source.new ≡ drop most (S.left source.old)) }
     ensures limit { IfOk result (λ text. length text.items ≤ most) }
-    ensures failed { IsErrOf result ReadErr.Failed → HasRisen (S.faults source.old) (S.faults source.new) }
-    ensures faults { S.faults source.old ≤ S.faults source.new }
+    ensures cause { HasCauseOf ReadErr.Failed (S.faults source.old) (S.faults source.new) result }
 {
     let mut piece: Vec<u8> = match Vec::from_elem(alloc, 0, size) {
         Ok(piece) => piece,
@@ -74,10 +72,9 @@ fn read_up_to<S: Source>(
 /// The bytes that the source gives, to its end or to byte 4,194,305.
 pub fn read_all<S: Source>(alloc: Global, source: &mut S) -> Result<Vec<u8>, ReadErr>
     ensures text { IfOk result (λ text. IsTrue S.tells → text.items ≡ take (longest + 1) (S.left source.old)) }
-    ensures rest { IfOk result (λ text. IsTrue S.tells → S.left source.old ≡ text.items ++ S.left source.new) }
+    ensures rest { IfOk result (λ text. IsTrue S.tells → S.left source.new ≡ drop (longest + 1) (S.left source.old)) }
     ensures limit { IfOk result (λ text. length text.items ≤ longest + 1) }
-    ensures failed { IsErrOf result ReadErr.Failed → HasRisen (S.faults source.old) (S.faults source.new) }
-    ensures faults { S.faults source.old ≤ S.faults source.new }
+    ensures cause { HasCauseOf ReadErr.Failed (S.faults source.old) (S.faults source.new) result }
 {
     read_up_to(alloc, source, LONGEST + 1, PIECE)
 }

@@ -1,5 +1,5 @@
 //! Disks that aren't empty.
-ghost use Rattle.std.specs.Prelude.{◌≡◌, IfOk};
+ghost use Rattle.std.specs.Prelude.{◌≡◌, IfOk, map};
 ghost use Rattle.mdb_top.specs.Disks as disks_of;
 ghost use Rattle.mdb_top.specs.Texts as texts;
 
@@ -9,7 +9,7 @@ use std::alloc::Global;
 
 /// The least disk with bytes on it.
 pub(crate) fn first_used<D: Disk>(disks: &[D]) -> Option<usize>
-    ensures { result ≡ disks_of.first_used (disks_of.sizes_of D.seen disks.now) }
+    ensures { result ≡ disks_of.first_used (disks_of.sizes_of (map D.seen disks.now)) }
 {
     disks.iter().position(|disk| disk.len() > 0)
 }

@@ -45,32 +45,32 @@ fn a_step_too_many_is_named(rt: HostRuntime) {
 }
 
 #[test]
-fn a_second_site_does_not_run_yet(rt: HostRuntime) {
+fn a_step_at_a_site_that_is_not_declared_is_named(rt: HostRuntime) {
     expect(
         &rt,
-        "site 1 locking abort\nsite 2 locking abort\n",
+        "site 1 locking abort\nglobal 1 1/get:1 2/get:1\n",
         2,
-        "bad input\n",
+        "bad line 2 site\n",
     );
 }
 
 #[test]
-fn a_global_does_not_run_yet(rt: HostRuntime) {
+fn a_command_to_an_actor_that_is_not_declared_is_named(rt: HostRuntime) {
     expect(
         &rt,
-        "site 1 locking abort\nglobal 1 1/get:1\n",
+        "site 1 locking abort\ncommands\nhalt 0 0\nhalt 2 0\n",
         2,
-        "bad input\n",
+        "bad line 4 site\n",
     );
 }
 
 #[test]
-fn a_stop_of_the_coordinator_does_not_run_yet(rt: HostRuntime) {
+fn the_first_bad_line_is_named(rt: HostRuntime) {
     expect(
         &rt,
-        "site 1 locking abort\ncommands\nhalt 0 0\n",
+        "site 1 locking abort\ncommands\nbegin 1025\nbegins 1\n",
         2,
-        "bad input\n",
+        "bad line 3 range\n",
     );
 }
 

@@ -1,137 +1,166 @@
-use Rattle.std.proofs.lemmas.Result.{err_from_is_err_and}
-use Rattle.std.proofs.Common.{◌++◌, IsTrue, List, [], inl, inr, sym, ◌∙◌, ap, subst}
-use Rattle.mdb_base.specs.Words.{Each}
+use Rattle.std.proofs.Common.{◌++◌, List, [], map, inl, inr, refl, sym, ◌∙◌, subst}
+use Rattle.std.proofs.lemmas.List.{length-map}
 use Rattle.fed_rules.specs.declared.commands.Command.{Command}
-use Rattle.fed_rules.specs.declared.scenario.Scenario.{Scenario}
 use Rattle.fed_rules.specs.Plans.{IsScenario}
-use Rattle.fed_rules.specs.Story.{lines_of, story_of}
 use Rattle.fed_world.specs.declared.errors.WorldErr.{WorldErr}
-use Rattle.fed_world.specs.Worlds.{Fails, FailsToStart, HasCause, Stands}
-use Rattle.any_engine.specs.Stands.{Stands as EngineStands}
-use Rattle.trace_lines.specs.Fits.{line_fits}
-use Rattle.trace_lines.specs.Spelling.{lines_bytes}
+use Rattle.fed_world.specs.SettingUp.{FailsToStart}
+use Rattle.fed_world.specs.Worlds.{HasCause, Stands}
+use Rattle.closing.specs.Towards.{FailsToward}
+use Rattle.closing.proofs.Faults.{cause_later}
+use Rattle.mdb_top.specs.Plays.{closed_with}
 use Rattle.mdb_top.specs.Sessions.{commands_of}
-use Rattle.mdb_top.specs.Texts.{disk_failed_text}
-use Rattle.mdb_top.proofs.OutputLemmas.{broken_output, broken_weaker, each_oldest_first, front_fits, is_plain, no_front, plays_front, session_commands, session_printable, session_right, session_up, whole_output, whole_weaker}
+use Rattle.mdb_top.proofs.Holding.{all_sized, stands_hold_all, stands_hold_frames, starts_broken, starts_short}
+use Rattle.mdb_top.proofs.OutputLemmas.{broken_output, front_before, no_lines, play_breaks, short_output, whole_output, whole_weaker}
+use Rattle.mdb_top.proofs.PlayLemmas.{can_play, front_heard, lines_fit, session_commands, session_heard}
+use Rattle.mdb_top.proofs.Recalled.{nine, recalls}
+use Rattle.mdb_top.proofs.Rights.{story_right}
 use Rattle.mdb_top.proofs.UsedDisks.{are_empty}
-use Rattle.mdb_top.proofs.WorldLemmas.{cause_on, empty_nothing, set_up_breaks, stands_hold_all, stands_hold_frames, stands_recalls, world_breaks}
 use Rattle.mdb_top.proofs.output.output_of.Goals as goal
 
 pub new-requires-clause-empty : goal.new-requires-clause-empty
-new-requires-clause-empty g c = are_empty g.D.Disk.seen c.args.disks.now.items c.requires.nine c.requires.unused
-
-pub returns-in_err-local-clause-output : goal.returns-in_err-local-clause-output
-returns-in_err-local-clause-output g c =
-    let p = err_from_is_err_and c.from_residual.result c.from_residual.ensures.1 in
-    let sized = λ (one : g.row.D.Denot). g.met.D.Disk.told_size one c.requires.told in
-    rw p.1 (inl (empty_nothing g.D.Disk.seen c.args.disks.now.items sized (are_empty g.D.Disk.seen c.args.disks.now.items c.requires.nine c.requires.unused)))
+new-requires-clause-empty g c = are_empty (map g.D.Disk.seen c.args.disks.now.items) c.requires.unused
 
 pub returns-in-Err-Disk-clause-output : goal.returns-in-Err-Disk-clause-output
 returns-in-Err-Disk-clause-output g c =
     let disk = g.D.Disk in
     let session = c.args.session in
-    let whole : IsScenario session.scenario = subst (λ (s : Scenario). IsScenario s) c.scenario.view_is c.scenario.invariant in
-    let plain = is_plain session whole c.requires.runs c.requires.commands in
-    let sized = λ (one : g.row.D.Denot). g.met.D.Disk.told_size one c.requires.told in
-    let breaks = set_up_breaks disk.seen c.in-Err-Disk.number c.args.disks.now.items c.new.new.disks.items session.scenario sized
-    (subst (λ (why : WorldErr). FailsToStart disk.seen why c.new.new.disks.items session.scenario) c.in-Err-Disk.field-0-is c.in-Err-Disk.ensures.failed)
-    (subst (λ (why : WorldErr). HasCause disk.seen why c.args.disks.now.items c.new.new.disks.items) c.in-Err-Disk.field-0-is c.in-Err-Disk.ensures.cause) in
-    broken_output disk.seen c.broken.result c.args.disks.now.items c.new.new.disks.items session [] c.in-Err-Disk.number plain (no_front session) breaks c.broken.ensures
+    let old = map disk.seen c.args.disks.now.items in
+    let new = map disk.seen c.new.new.disks.items in
+    let sized = all_sized disk.seen (λ one. g.met.D.Disk.told_size one c.requires.told) c.new.new.disks.items in
+    let breaks = starts_broken c.in-Err-Disk.number disk.tells old new session.scenario sized
+    (subst (λ (why : WorldErr). HasCause why old new) c.in-Err-Disk.field-0-is c.in-Err-Disk.ensures.cause)
+    (subst (λ (why : WorldErr). FailsToStart disk.tells why new session.scenario) c.in-Err-Disk.field-0-is c.in-Err-Disk.ensures.failed) in
+    broken_output c.broken.result old new session c.in-Err-Disk.number [] [] (no_lines session.scenario) (inr (refl, breaks)) c.broken.ensures
+
+pub returns-in-Err-Memory-clause-output : goal.returns-in-Err-Memory-clause-output
+returns-in-Err-Memory-clause-output g c =
+    let disk = g.D.Disk in
+    let session = c.args.session in
+    let new = map disk.seen c.new.new.disks.items in
+    let sized = all_sized disk.seen (λ one. g.met.D.Disk.told_size one c.requires.told) c.new.new.disks.items in
+    inl (starts_short disk.tells new session.scenario sized (subst (λ (why : WorldErr). FailsToStart disk.tells why new session.scenario) c.in-Err-Memory.field-0-is c.in-Err-Memory.ensures.failed))
+
+pub play-requires-clause-stood : goal.play-requires-clause-stood
+play-requires-clause-stood g c =
+    let session = c.args.session in
+    record {
+      scenario = session.scenario;
+      commands = [];
+      stood = c.in-Ok.ensures.stands;
+      holds = can_play session c.as_slice.result.now c.as_slice.ensures c.requires.commands;
+    }
 
 pub printed-requires : goal.printed-requires
 printed-requires g c =
     let disk = g.D.Disk in
     let session = c.args.session in
-    let whole : IsScenario session.scenario = subst (λ (s : Scenario). IsScenario s) c.scenario.view_is c.scenario.invariant in
-    let plain = is_plain session whole c.requires.runs c.requires.commands in
-    let stood = subst (λ (cs : List Command). Stands EngineStands disk.tells disk.seen c.play.new.world c.play.new.disks.items session.scenario cs)
-    (session_commands session c.as_slice.result.now c.as_slice.ensures) (c.in-Ok-play.ensures.played session.scenario [] c.in-Ok.ensures.stands) in
+    let whole : IsScenario session.scenario = c.scenario_is_whole.ensures in
+    let same = session_commands session c.as_slice.result.now c.as_slice.ensures in
+    let can = can_play session c.as_slice.result.now c.as_slice.ensures c.requires.commands in
+    let stood = subst (λ (cs : List Command). Stands disk.tells c.play.new.world (map disk.seen c.play.new.disks.items) session.scenario cs) same (c.in-Ok-play.ensures.played session.scenario [] c.in-Ok.ensures.stands can) in
     record {
       scenario = session.scenario;
       commands = commands_of session;
-      stood = stands_recalls EngineStands disk.tells disk.seen c.play.new.world c.play.new.disks.items session.scenario (commands_of session) stood;
-      holds = session_printable session plain;
+      stood = recalls disk.tells c.play.new.world (map disk.seen c.play.new.disks.items) session.scenario (commands_of session) stood;
+      holds = record {
+        whole = whole;
+        heard = session_heard session whole c.requires.commands c.closing_is_heard.ensures;
+        rests = (story_right c.federation_is_serializable.ensures.headline c.closed_sessions_rest.ensures session.scenario whole _).at_rest;
+      };
     }
 
 pub returns-in-Ok-play-clause-output : goal.returns-in-Ok-play-clause-output
 returns-in-Ok-play-clause-output g c =
     let disk = g.D.Disk in
     let session = c.args.session in
-    let whole : IsScenario session.scenario = subst (λ (s : Scenario). IsScenario s) c.scenario.view_is c.scenario.invariant in
-    let plain = is_plain session whole c.requires.runs c.requires.commands in
-    let sized = λ (one : g.row.D.Denot). g.met.D.Disk.told_size one c.requires.told in
-    let stood = subst (λ (cs : List Command). Stands EngineStands disk.tells disk.seen c.play.new.world c.play.new.disks.items session.scenario cs)
-    (session_commands session c.as_slice.result.now c.as_slice.ensures) (c.in-Ok-play.ensures.played session.scenario [] c.in-Ok.ensures.stands) in
-    let recalls = stands_recalls EngineStands disk.tells disk.seen c.play.new.world c.play.new.disks.items session.scenario (commands_of session) stood in
-    whole_output disk.seen c.printed.result c.args.disks.now.items c.play.new.disks.items session
-    (session_right session c.own_sessions_are_serial.ensures plain)
-    (stands_hold_frames EngineStands disk.tells disk.seen c.play.new.world c.play.new.disks.items session.scenario (commands_of session) c.requires.told sized (session_up session plain) stood)
-    (stands_hold_all EngineStands disk.tells disk.seen c.play.new.world c.play.new.disks.items session.scenario (commands_of session) sized stood)
-    (whole_weaker c.printed.result _ _ (λ bytes each. each session.scenario (commands_of session) recalls) c.printed.ensures)
+    let old = map disk.seen c.args.disks.now.items in
+    let new = map disk.seen c.play.new.disks.items in
+    let whole : IsScenario session.scenario = c.scenario_is_whole.ensures in
+    let sized = all_sized disk.seen (λ one. g.met.D.Disk.told_size one c.requires.told) c.play.new.disks.items in
+    let same = session_commands session c.as_slice.result.now c.as_slice.ensures in
+    let can = can_play session c.as_slice.result.now c.as_slice.ensures c.requires.commands in
+    let stood = subst (λ (cs : List Command). Stands disk.tells c.play.new.world new session.scenario cs) same (c.in-Ok-play.ensures.played session.scenario [] c.in-Ok.ensures.stands can) in
+    let right = story_right c.federation_is_serializable.ensures.headline c.closed_sessions_rest.ensures session.scenario whole _ in
+    whole_output c.printed.result old new session right
+    (stands_hold_frames disk.tells c.play.new.world new session.scenario (commands_of session) c.requires.told sized right.at_rest stood)
+    (stands_hold_all disk.tells c.play.new.world new session.scenario (commands_of session) sized stood)
+    (whole_weaker c.printed.result _ _ (λ bytes each. each session.scenario (commands_of session) (recalls disk.tells c.play.new.world new session.scenario (commands_of session) stood)) c.printed.ensures)
 
 pub broken-requires-in-Err-Disk-play : goal.broken-requires-in-Err-Disk-play
 broken-requires-in-Err-Disk-play g c =
     let disk = g.D.Disk in
     let session = c.args.session in
-    let whole : IsScenario session.scenario = subst (λ (s : Scenario). IsScenario s) c.scenario.view_is c.scenario.invariant in
-    let plain = is_plain session whole c.requires.runs c.requires.commands in
-    let f = c.in-Err-Disk-play.ensures.failed session.scenario [] c.in-Ok.ensures.stands in
-    let failed = subst (λ (why : WorldErr). Fails EngineStands disk.tells disk.seen why c.play.new.world c.play.new.disks.items session.scenario f.done) c.in-Err-Disk-play.field-0-is f.fails in
-    let fails = failed.1 in
-    let front = plays_front EngineStands disk.tells disk.seen _ c.play.new.world c.play.new.disks.items session c.as_slice.result.now c.as_slice.ensures f in
-    subst (Each (λ line. IsTrue (line_fits line))) (sym (c.lines.ensures session.scenario f.done fails.has))
-    (each_oldest_first (λ line. IsTrue (line_fits line)) (lines_of (story_of session.scenario f.done)) (front_fits session f.done plain front))
+    let new = map disk.seen c.play.new.disks.items in
+    let whole : IsScenario session.scenario = c.scenario_is_whole.ensures in
+    let same = session_commands session c.as_slice.result.now c.as_slice.ensures in
+    let can = can_play session c.as_slice.result.now c.as_slice.ensures c.requires.commands in
+    let b = subst (λ (why : WorldErr). FailsToward disk.tells why c.play.new.world new (closed_with c.as_slice.result.now session.scenario []) session.scenario []) c.in-Err-Disk-play.field-0-is
+    (c.in-Err-Disk-play.ensures.failed session.scenario [] c.in-Ok.ensures.stands can) in
+    let front = front_before session b.command (b.done ++ []) (b.left, sym same ∙ b.of_whole) in
+    lines_fit c.right_lines_fit.ensures session.scenario (b.done ++ []) c.lines.result.now whole
+    (front_heard session (b.done ++ []) (session_heard session whole c.requires.commands c.closing_is_heard.ensures) front)
+    (c.lines.ensures session.scenario (b.done ++ []) b.broken.has)
 
 pub returns-in-Err-Disk-play-clause-output : goal.returns-in-Err-Disk-play-clause-output
 returns-in-Err-Disk-play-clause-output g c =
     let disk = g.D.Disk in
     let session = c.args.session in
-    let whole : IsScenario session.scenario = subst (λ (s : Scenario). IsScenario s) c.scenario.view_is c.scenario.invariant in
-    let plain = is_plain session whole c.requires.runs c.requires.commands in
-    let sized = λ (one : g.row.D.Denot). g.met.D.Disk.told_size one c.requires.told in
-    let f = c.in-Err-Disk-play.ensures.failed session.scenario [] c.in-Ok.ensures.stands in
-    let failed = subst (λ (why : WorldErr). Fails EngineStands disk.tells disk.seen why c.play.new.world c.play.new.disks.items session.scenario f.done) c.in-Err-Disk-play.field-0-is f.fails in
-    let fails = failed.1 in
-    let front = plays_front EngineStands disk.tells disk.seen _ c.play.new.world c.play.new.disks.items session c.as_slice.result.now c.as_slice.ensures f in
-    let as_many = c.in-Ok.ensures.stands.others.nine ∙ sym c.requires.nine in
-    let rose = subst (λ (why : WorldErr). HasCause disk.seen why c.args.disks.now.items c.play.new.disks.items) c.in-Err-Disk-play.field-0-is
-    (cause_on disk.seen c.in-Err-Disk-play.field-0 c.args.disks.now.items c.new.new.disks.items c.play.new.disks.items as_many c.in-Ok.ensures.faults c.in-Err-Disk-play.ensures.cause) in
-    let breaks = world_breaks EngineStands disk.tells disk.seen c.in-Err-Disk-play.number c.play.new.world c.args.disks.now.items c.play.new.disks.items failed.0 session.scenario f.done sized fails rose in
-    broken_output disk.seen c.broken-in-Err-Disk-play.result c.args.disks.now.items c.play.new.disks.items session f.done c.in-Err-Disk-play.number plain front breaks
-    (broken_weaker c.broken-in-Err-Disk-play.result _ _ (λ bytes e. e ∙ ap (λ lines. lines_bytes lines ++ disk_failed_text c.in-Err-Disk-play.number) (c.lines.ensures session.scenario f.done fails.has)) c.broken-in-Err-Disk-play.ensures)
+    let old = map disk.seen c.args.disks.now.items in
+    let new = map disk.seen c.play.new.disks.items in
+    let sized = all_sized disk.seen (λ one. g.met.D.Disk.told_size one c.requires.told) c.play.new.disks.items in
+    let same = session_commands session c.as_slice.result.now c.as_slice.ensures in
+    let can = can_play session c.as_slice.result.now c.as_slice.ensures c.requires.commands in
+    let b = subst (λ (why : WorldErr). FailsToward disk.tells why c.play.new.world new (closed_with c.as_slice.result.now session.scenario []) session.scenario []) c.in-Err-Disk-play.field-0-is
+    (c.in-Err-Disk-play.ensures.failed session.scenario [] c.in-Ok.ensures.stands can) in
+    let as_many = length-map c.args.disks.now.items disk.seen ∙ c.requires.nine ∙ sym (nine _ _ _ _ _ c.in-Ok.ensures.stands) in
+    let rose = subst (λ (why : WorldErr). HasCause why old new) c.in-Err-Disk-play.field-0-is
+    (cause_later c.in-Err-Disk-play.field-0 old (map disk.seen c.new.new.disks.items) new as_many c.in-Ok.ensures.faults c.in-Err-Disk-play.ensures.cause) in
+    broken_output c.broken-in-Err-Disk-play.result old new session c.in-Err-Disk-play.number (b.done ++ []) c.lines.result.now
+    (c.lines.ensures session.scenario (b.done ++ []) b.broken.has)
+    (play_breaks disk.tells c.play.new.world old new session c.as_slice.result.now same sized c.in-Err-Disk-play.number rose b)
+    c.broken-in-Err-Disk-play.ensures
 
 pub returns-clause-output : goal.returns-clause-output
 returns-clause-output g c =
     let disk = g.D.Disk in
     let session = c.args.session in
-    let sized = λ (one : g.row.D.Denot). g.met.D.Disk.told_size one c.requires.told in
-    let f = c.in-Err-Memory-play.ensures.failed session.scenario [] c.in-Ok.ensures.stands in
-    let fails = subst (λ (why : WorldErr). Fails EngineStands disk.tells disk.seen why c.play.new.world c.play.new.disks.items session.scenario f.done) c.in-Err-Memory-play.field-0-is f.fails in
-    let front = plays_front EngineStands disk.tells disk.seen _ c.play.new.world c.play.new.disks.items session c.as_slice.result.now c.as_slice.ensures f in
-    inr (inl (record {
-      done = f.done;
-      front = front;
-      kept = stands_hold_all EngineStands disk.tells disk.seen c.play.new.world c.play.new.disks.items session.scenario f.done sized fails;
-    }))
+    let old = map disk.seen c.args.disks.now.items in
+    let new = map disk.seen c.play.new.disks.items in
+    let sized = all_sized disk.seen (λ one. g.met.D.Disk.told_size one c.requires.told) c.play.new.disks.items in
+    let same = session_commands session c.as_slice.result.now c.as_slice.ensures in
+    let can = can_play session c.as_slice.result.now c.as_slice.ensures c.requires.commands in
+    short_output disk.tells c.play.new.world old new session c.as_slice.result.now same sized
+    (subst (λ (why : WorldErr). FailsToward disk.tells why c.play.new.world new (closed_with c.as_slice.result.now session.scenario []) session.scenario []) c.in-Err-Memory-play.field-0-is
+    (c.in-Err-Memory-play.ensures.failed session.scenario [] c.in-Ok.ensures.stands can))
 
--- there are nine disks as before
 pub returns-in-Err-Disk-clause-nine : goal.returns-in-Err-Disk-clause-nine
-returns-in-Err-Disk-clause-nine g c =
-    let disk = g.D.Disk in
-    (subst (λ (why : WorldErr). FailsToStart disk.seen why c.new.new.disks.items c.args.session.scenario) c.in-Err-Disk.field-0-is c.in-Err-Disk.ensures.failed).nine
+returns-in-Err-Disk-clause-nine g c = c.new.ensures.count
+
+pub returns-in-Err-Memory-clause-nine : goal.returns-in-Err-Memory-clause-nine
+returns-in-Err-Memory-clause-nine g c = c.new.ensures.count
 
 pub returns-in-Ok-play-clause-nine : goal.returns-in-Ok-play-clause-nine
-returns-in-Ok-play-clause-nine g c = (c.in-Ok-play.ensures.played c.args.session.scenario [] c.in-Ok.ensures.stands).others.nine
+returns-in-Ok-play-clause-nine g c =
+    let session = c.args.session in
+    let can = can_play session c.as_slice.result.now c.as_slice.ensures c.requires.commands in
+    sym (length-map c.play.new.disks.items g.D.Disk.seen) ∙ nine _ _ _ _ _ (c.in-Ok-play.ensures.played session.scenario [] c.in-Ok.ensures.stands can)
 
 pub returns-in-Err-Disk-play-clause-nine : goal.returns-in-Err-Disk-play-clause-nine
 returns-in-Err-Disk-play-clause-nine g c =
     let disk = g.D.Disk in
-    let f = c.in-Err-Disk-play.ensures.failed c.args.session.scenario [] c.in-Ok.ensures.stands in
-    let failed = subst (λ (why : WorldErr). Fails EngineStands disk.tells disk.seen why c.play.new.world c.play.new.disks.items c.args.session.scenario f.done) c.in-Err-Disk-play.field-0-is f.fails in
-    failed.1.others.nine
+    let session = c.args.session in
+    let new = map disk.seen c.play.new.disks.items in
+    let can = can_play session c.as_slice.result.now c.as_slice.ensures c.requires.commands in
+    let b = subst (λ (why : WorldErr). FailsToward disk.tells why c.play.new.world new (closed_with c.as_slice.result.now session.scenario []) session.scenario []) c.in-Err-Disk-play.field-0-is
+    (c.in-Err-Disk-play.ensures.failed session.scenario [] c.in-Ok.ensures.stands can) in
+    sym (length-map c.play.new.disks.items disk.seen) ∙ b.broken.others.nine
 
 pub returns-clause-nine : goal.returns-clause-nine
 returns-clause-nine g c =
     let disk = g.D.Disk in
-    let f = c.in-Err-Memory-play.ensures.failed c.args.session.scenario [] c.in-Ok.ensures.stands in
-    (subst (λ (why : WorldErr). Fails EngineStands disk.tells disk.seen why c.play.new.world c.play.new.disks.items c.args.session.scenario f.done) c.in-Err-Memory-play.field-0-is f.fails).others.nine
+    let session = c.args.session in
+    let new = map disk.seen c.play.new.disks.items in
+    let can = can_play session c.as_slice.result.now c.as_slice.ensures c.requires.commands in
+    let s = subst (λ (why : WorldErr). FailsToward disk.tells why c.play.new.world new (closed_with c.as_slice.result.now session.scenario []) session.scenario []) c.in-Err-Memory-play.field-0-is
+    (c.in-Err-Memory-play.ensures.failed session.scenario [] c.in-Ok.ensures.stands can) in
+    sym (length-map c.play.new.disks.items disk.seen) ∙ nine _ _ _ _ _ s.stood

@@ -1,76 +1,77 @@
-use Rattle.std.proofs.lemmas.Option.{slice_get-get_or}
-use Rattle.std.proofs.lemmas.Result.{err_from_is_err_and, on_ok_weaker, IfErr-weaker}
-use Rattle.std.proofs.Common.{take}
-use Rattle.mdb_top.proofs.PlayLemmas.{as_many, can_apply, fails_at, fails_closing, played_all, played_more}
-use Rattle.mdb_top.proofs.WorldLemmas.{cause_on, never_falls_on}
+use Rattle.std.proofs.Common.{map, sym, ◌∙◌}
+use Rattle.std.proofs.lemmas.Result.{err_from_is_err_and}
+use Rattle.closing.specs.Steps.{with_commands}
+use Rattle.closing.proofs.Faults.{cause_later, never_falls_twice}
+use Rattle.closing.proofs.Towards.{extends_here, fails_within, on_failure, on_success}
+use Rattle.mdb_top.specs.Plays.{closed_with}
+use Rattle.mdb_top.proofs.PlayLemmas.{can_fit, closed_on, with_extends}
+use Rattle.mdb_top.proofs.Recalled.{nine}
 use Rattle.mdb_top.proofs.output.play.Goals as goal
 
-pub apply-requires-clause-stood : goal.apply-requires-clause-stood
-apply-requires-clause-stood g c =
-    let disk = g.D.Disk in
-    can_apply g.E.LocalEngine.stands disk.tells disk.seen c.args.world.now c.args.disks.now.items c.loop-command.world c.loop-command.disks.items
-    c.args.commands.now c.loop-command.command-index _ c.requires.stood c.loop-command.invariant.0 (slice_get-get_or c.args.commands.now c.loop-command.command-index _ c.loop-command-test.true)
+pub carry_out-requires-clause-stood : goal.carry_out-requires-clause-stood
+carry_out-requires-clause-stood g c =
+    let r = c.requires.stood in
+    let more = c.args.commands.now in
+    record {
+      scenario = r.scenario;
+      commands = r.commands;
+      stood = r.stood;
+      holds = can_fit more r.scenario r.commands r.holds;
+    }
 
-pub returns-in_err-apply-clause-failed : goal.returns-in_err-apply-clause-failed
-returns-in_err-apply-clause-failed g c =
-    let disk = g.D.Disk in
+pub returns-in_err-carry_out-clause-failed : goal.returns-in_err-carry_out-clause-failed
+returns-in_err-carry_out-clause-failed g c =
     let p = err_from_is_err_and c.from_residual.result c.from_residual.ensures.1 in
-    rw (p.1, p.2)
-    (fails_at g.E.LocalEngine.stands disk.tells disk.seen c.args.world.now c.args.disks.now.items c.loop-command.world c.loop-command.disks.items c.apply.new.self c.apply.new.disks.items
-    c.in_err-apply.field-0.0 c.args.commands.now c.loop-command.command-index _ c.requires.stood c.loop-command.invariant.0 c.in_err-apply.ensures.failed)
+    let more = c.args.commands.now in
+    rw (p.1, p.2) (λ scenario before s can.
+    let on = closed_on scenario (with_commands more before) in
+    fails_within g.D.Disk.tells c.carry_out.new.world (map g.D.Disk.seen c.carry_out.new.disks.items) scenario c.in_err-carry_out.field-0.0 (closed_with more scenario before) (with_commands more before) before before
+    on (extends_here before) (c.in_err-carry_out.ensures.failed scenario before s (can_fit more scenario before can)))
 
-pub returns-in_err-apply-clause-cause : goal.returns-in_err-apply-clause-cause
-returns-in_err-apply-clause-cause g c =
-    let disk = g.D.Disk in
-    let p = err_from_is_err_and c.from_residual.result c.from_residual.ensures.1 in
-    rw (p.1, p.2)
-    (cause_on disk.seen c.in_err-apply.field-0.0 c.args.disks.now.items c.loop-command.disks.items c.apply.new.disks.items
-    (as_many g.E.LocalEngine.stands disk.tells disk.seen c.args.world.now c.args.disks.now.items c.loop-command.world c.loop-command.disks.items c.args.commands.now (take c.loop-command.command-index c.args.commands.now) c.requires.stood c.loop-command.invariant.0)
-    c.loop-command.invariant.1 c.in_err-apply.ensures.cause)
-
-pub returns-in_err-apply-clause-faults : goal.returns-in_err-apply-clause-faults
-returns-in_err-apply-clause-faults g c =
-    let disk = g.D.Disk in
-    never_falls_on disk.seen c.args.disks.now.items c.loop-command.disks.items c.apply.new.disks.items
-    (as_many g.E.LocalEngine.stands disk.tells disk.seen c.args.world.now c.args.disks.now.items c.loop-command.world c.loop-command.disks.items c.args.commands.now (take c.loop-command.command-index c.args.commands.now) c.requires.stood c.loop-command.invariant.0)
-    c.loop-command.invariant.1 c.in_err-apply.ensures.faults
-
-pub loop-command-preserved : goal.loop-command-preserved
-loop-command-preserved g c =
-    let disk = g.D.Disk in (
-      played_more g.E.LocalEngine.stands disk.tells disk.seen c.args.world.now c.args.disks.now.items c.loop-command.world c.loop-command.disks.items c.apply.new.self c.apply.new.disks.items
-          c.args.commands.now c.loop-command.command-index _ c.loop-command-test.true c.loop-command.invariant.0 c.in_ok-apply.ensures.applied,
-      never_falls_on disk.seen c.args.disks.now.items c.loop-command.disks.items c.apply.new.disks.items
-          (as_many g.E.LocalEngine.stands disk.tells disk.seen c.args.world.now c.args.disks.now.items c.loop-command.world c.loop-command.disks.items c.args.commands.now (take c.loop-command.command-index c.args.commands.now) c.requires.stood c.loop-command.invariant.0)
-          c.loop-command.invariant.1 c.in_ok-apply.ensures.faults,
-    )
+pub close-requires-clause-stood : goal.close-requires-clause-stood
+close-requires-clause-stood g c =
+    let r = c.requires.stood in
+    let more = c.args.commands.now in
+    let fits = can_fit more r.scenario r.commands r.holds in
+    record {
+      scenario = r.scenario;
+      commands = with_commands more r.commands;
+      stood = c.in_ok-carry_out.ensures.done r.scenario r.commands r.stood fits;
+      holds = r.holds;
+    }
 
 pub returns-clause-played : goal.returns-clause-played
 returns-clause-played g c =
-    let disk = g.D.Disk in
-    let all = c.args.commands.now in
-    let played = played_all g.E.LocalEngine.stands disk.tells disk.seen c.args.world.now c.args.disks.now.items c.loop-command.world c.loop-command.disks.items all c.loop-command.command-index c.loop-command-test.false c.loop-command.invariant.0 in
-    on_ok_weaker c.close.result (λ closed scenario before stood. closed scenario _ (played scenario before stood)) c.close.ensures.closed
+    let more = c.args.commands.now in
+    on_success c.close.result
+    (λ done scenario before s can.
+    done scenario (with_commands more before)
+    (c.in_ok-carry_out.ensures.done scenario before s (can_fit more scenario before can))
+    can)
+    c.close.ensures.done
 
 pub returns-clause-failed : goal.returns-clause-failed
 returns-clause-failed g c =
-    let disk = g.D.Disk in
-    let all = c.args.commands.now in
-    let played = played_all g.E.LocalEngine.stands disk.tells disk.seen c.args.world.now c.args.disks.now.items c.loop-command.world c.loop-command.disks.items all c.loop-command.command-index c.loop-command-test.false c.loop-command.invariant.0 in
-    IfErr-weaker c.close.result _ _ (λ why fails.
-    fails_closing g.E.LocalEngine.stands disk.tells disk.seen c.args.world.now c.args.disks.now.items c.loop-command.world c.loop-command.disks.items c.close.new.self c.close.new.disks.items why all played fails) c.close.ensures.failed
+    let more = c.args.commands.now in
+    on_failure _ _ c.close.result
+    (λ why failed scenario before s can.
+    fails_within g.D.Disk.tells c.close.new.world (map g.D.Disk.seen c.close.new.disks.items) scenario why (closed_with more scenario before) (closed_with more scenario before) (with_commands more before) before
+    (extends_here (closed_with more scenario before)) (with_extends more before)
+    (failed scenario (with_commands more before)
+    (c.in_ok-carry_out.ensures.done scenario before s (can_fit more scenario before can))
+    can))
+    c.close.ensures.failed
 
 pub returns-clause-cause : goal.returns-clause-cause
 returns-clause-cause g c =
-    let disk = g.D.Disk in
-    IfErr-weaker c.close.result _ _ (λ why cause.
-    cause_on disk.seen why c.args.disks.now.items c.loop-command.disks.items c.close.new.disks.items
-    (as_many g.E.LocalEngine.stands disk.tells disk.seen c.args.world.now c.args.disks.now.items c.loop-command.world c.loop-command.disks.items c.args.commands.now (take c.loop-command.command-index c.args.commands.now) c.requires.stood c.loop-command.invariant.0)
-    c.loop-command.invariant.1 cause) c.close.ensures.cause
+    let r = c.requires.stood in
+    let more = c.args.commands.now in
+    let mid = c.in_ok-carry_out.ensures.done r.scenario r.commands r.stood (can_fit more r.scenario r.commands r.holds) in
+    on_failure _ _ c.close.result (λ why rose. cause_later why _ _ _ (nine _ _ _ _ _ r.stood ∙ sym (nine _ _ _ _ _ mid)) c.carry_out.ensures.faults rose) c.close.ensures.cause
 
 pub returns-clause-faults : goal.returns-clause-faults
 returns-clause-faults g c =
-    let disk = g.D.Disk in
-    never_falls_on disk.seen c.args.disks.now.items c.loop-command.disks.items c.close.new.disks.items
-    (as_many g.E.LocalEngine.stands disk.tells disk.seen c.args.world.now c.args.disks.now.items c.loop-command.world c.loop-command.disks.items c.args.commands.now (take c.loop-command.command-index c.args.commands.now) c.requires.stood c.loop-command.invariant.0)
-    c.loop-command.invariant.1 c.close.ensures.faults
+    let r = c.requires.stood in
+    let more = c.args.commands.now in
+    let mid = c.in_ok-carry_out.ensures.done r.scenario r.commands r.stood (can_fit more r.scenario r.commands r.holds) in
+    never_falls_twice _ _ _ (nine _ _ _ _ _ r.stood ∙ sym (nine _ _ _ _ _ mid)) c.carry_out.ensures.faults c.close.ensures.faults

@@ -1,12 +1,22 @@
-use Rattle.std.proofs.Common.{IsTrue, sym, subst}
-use Rattle.mdb_base.specs.Words.{Each}
-use Rattle.fed_rules.specs.Story.{lines_of, story_of}
-use Rattle.trace_lines.specs.Fits.{line_fits}
-use Rattle.mdb_top.proofs.OutputLemmas.{each_oldest_first}
+use Rattle.std.proofs.Common.{◌++◌, ◌∙◌, ap}
+use Rattle.report_text.specs.Spelling.{report_bytes}
+use Rattle.trace_lines.specs.Spelling.{lines_bytes}
+use Rattle.mdb_top.proofs.PlayLemmas.{lines_fit}
 use Rattle.mdb_top.proofs.output.printed.Goals as goal
 
 pub put_lines-requires : goal.put_lines-requires
-put_lines-requires g c =
+put_lines-requires c =
     let r = c.requires in
-    subst (Each (λ line. IsTrue (line_fits line))) (sym (c.lines.ensures r.scenario r.commands r.stood.has))
-    (each_oldest_first (λ line. IsTrue (line_fits line)) (lines_of (story_of r.scenario r.commands)) r.holds.lines)
+    lines_fit c.right_lines_fit.ensures r.scenario r.commands c.lines.result.now r.holds.whole r.holds.heard (c.lines.ensures r.scenario r.commands r.stood.has)
+
+pub report-requires : goal.report-requires
+report-requires c = let r = c.requires in record { scenario = r.scenario; commands = r.commands; stood = r.stood; holds = r.holds.rests }
+
+pub returns : goal.returns
+returns c scenario commands r = record {
+  lines = c.lines.result.now;
+  lines_are = c.lines.ensures scenario commands r.has;
+  text_is = c.in_ok-print_report.ensures.ok
+      ∙ (ap (λ bytes. bytes ++ report_bytes c.in_ok-report.report) (c.in_ok-put_lines.ensures ∙ ap (λ bytes. bytes ++ lines_bytes c.lines.result.now) c.new-out.ensures.items)
+      ∙ ap (λ report. lines_bytes c.lines.result.now ++ report_bytes report) (c.in_ok-report.ensures scenario commands r));
+}

@@ -1,62 +1,92 @@
-use Rattle.std.proofs.Common.{◌∙◌, Err, List, [], false, slice_set, refl, sym, ap, subst}
-use Rattle.fed_world.specs.declared.errors.WorldErr.{WorldErr}
+use Rattle.std.proofs.Common.{◌≡◌, List, false, map, refl, sym, ap, subst, ◌∙◌, length}
+use Rattle.std.proofs.lemmas.List.{length-map}
+use Rattle.std.specs.Global.{Vec}
+use Rattle.mdb_base.specs.declared.names.SiteId.{SiteId}
+use Rattle.fed_rules.specs.declared.scenario.Scenario.{Scenario}
+use Rattle.fed_rules.specs.Scenarios.{sites}
+use Rattle.journal_disk.specs.Disk.{Seen}
+use Rattle.any_engine.specs.declared.engine.AnyEngine.{AnyEngine}
+use Rattle.local_dbms.specs.declared.dbms.LocalDbms.{LocalDbms}
+use Rattle.fed_world.specs.SettingUp.{AreSetUp, IsNewChannel, IsNewMarks}
 use Rattle.fed_world.specs.declared.world.World.{World}
-use Rattle.fed_world.specs.Worlds.{CanStart, FailsToStart, HasCause, NeverFalls, Stands}
-use Rattle.fed_world.proofs.Answered.{answer_cause}
-use Rattle.fed_world.proofs.Disks.{same_never_falls, set_never_falls}
-use Rattle.fed_world.proofs.Started.{made_at, read_at, started_none, started_site, unstarted}
+use Rattle.fed_world.proofs.NewWorlds.{TellsBytes, new_stands}
+use Rattle.fed_world.proofs.SeenDisks.{made_of, same_never_falls}
+use Rattle.fed_world.proofs.SetUps.{stops_at_once}
 use Rattle.fed_world.proofs.world.World.new.Goals as goal
-use Rattle.fed_world.proofs.world.World.new.Goals.{in-None, in-Some+in-Ok}
+
+pub returns-in_default-clause-failed : goal.returns-in_default-clause-failed
+returns-in_default-clause-failed g c = stops_at_once g.D.Disk.tells (map g.D.Disk.seen c.args.disks.now.items) c.args.scenario c.requires.empty
+
+pub returns-in_default-clause-faults : goal.returns-in_default-clause-faults
+returns-in_default-clause-faults g c = same_never_falls (map g.D.Disk.seen c.args.disks.now.items)
+
+pub returns-in_default-routes_of-clause-failed : goal.returns-in_default-routes_of-clause-failed
+returns-in_default-routes_of-clause-failed g c = stops_at_once g.D.Disk.tells (map g.D.Disk.seen c.args.disks.now.items) c.args.scenario c.requires.empty
+
+pub returns-in_default-routes_of-clause-faults : goal.returns-in_default-routes_of-clause-faults
+returns-in_default-routes_of-clause-faults g c = same_never_falls (map g.D.Disk.seen c.args.disks.now.items)
+
+pub returns-in_default-new_channels-clause-failed : goal.returns-in_default-new_channels-clause-failed
+returns-in_default-new_channels-clause-failed g c = stops_at_once g.D.Disk.tells (map g.D.Disk.seen c.args.disks.now.items) c.args.scenario c.requires.empty
+
+pub returns-in_default-new_channels-clause-faults : goal.returns-in_default-new_channels-clause-faults
+returns-in_default-new_channels-clause-faults g c = same_never_falls (map g.D.Disk.seen c.args.disks.now.items)
+
+pub returns-in_default-new_marks-clause-failed : goal.returns-in_default-new_marks-clause-failed
+returns-in_default-new_marks-clause-failed g c = stops_at_once g.D.Disk.tells (map g.D.Disk.seen c.args.disks.now.items) c.args.scenario c.requires.empty
+
+pub returns-in_default-new_marks-clause-faults : goal.returns-in_default-new_marks-clause-faults
+returns-in_default-new_marks-clause-faults g c = same_never_falls (map g.D.Disk.seen c.args.disks.now.items)
+
+pub returns-in_default-new_coordinator-clause-failed : goal.returns-in_default-new_coordinator-clause-failed
+returns-in_default-new_coordinator-clause-failed g c = stops_at_once g.D.Disk.tells (map g.D.Disk.seen c.args.disks.now.items) c.args.scenario c.requires.empty
+
+pub returns-in_default-new_coordinator-clause-faults : goal.returns-in_default-new_coordinator-clause-faults
+returns-in_default-new_coordinator-clause-faults g c = same_never_falls (map g.D.Disk.seen c.args.disks.now.items)
+
+pub set_up_sites-requires-clause-told : goal.set_up_sites-requires-clause-told
+set_up_sites-requires-clause-told g c = c.requires.told
+
+pub set_up_sites-requires-clause-declared : goal.set_up_sites-requires-clause-declared
+set_up_sites-requires-clause-declared g c = c.as_slice-3.ensures.value ∙ c.in-Ok.ensures.declared
+
+pub set_up_sites-requires-clause-nine : goal.set_up_sites-requires-clause-nine
+set_up_sites-requires-clause-nine g c = c.requires.nine
+
+pub set_up_sites-requires-clause-empty : goal.set_up_sites-requires-clause-empty
+set_up_sites-requires-clause-empty g c = c.requires.empty
+
+pub same-scenario : goal.same-scenario
+same-scenario g c = refl
+
+pub returns-in-Ok-set_up_sites-clause-stands : goal.returns-in-Ok-set_up_sites-clause-stands
+returns-in-Ok-set_up_sites-clause-stands g c =
+    let scenario : Scenario = c.args.scenario in
+    let disks = c.set_up_sites.new.disks.items in
+    let first : c.as_slice.result.now ≡ sites scenario = c.as_slice.ensures.value ∙ c.in-Ok.ensures.declared in
+    let second : c.as_slice-2.result.now ≡ sites scenario = c.as_slice-2.ensures.value ∙ c.in-Ok.ensures.declared in
+    let world : World = record {
+      cores = record { scenario = c.args.scenario; coordinator = c.in-Ok-new_coordinator.coordinator; sites = c.of.result; marks = c.in-Ok-new_marks.marks };
+      routes = c.in-Ok-routes_of.routes;
+      traffic = c.in-Ok-new_channels.traffic;
+      lines = c.new.result;
+      broken = false;
+    } in
+    new_stands g.D.Disk.tells world (map g.D.Disk.seen disks) scenario c.in-Ok.ensures.whole c.requires.told (length-map disks g.D.Disk.seen ∙ c.set_up_sites.ensures.count)
+    (λ (seen : Seen) at. (let (disk, got, is) = made_of g.D.Disk.seen disks 0 seen at in subst (λ (s : Seen). TellsBytes s) is (record { bytes = g.met.D.Disk.told_size disk c.requires.told; sound = g.met.D.Disk.is_sound disk c.requires.told })))
+    refl c.new.ensures.items refl c.in-Ok-routes_of.ensures c.in-Ok-new_coordinator.ensures
+    (subst (λ (ds : List (LocalDbms AnyEngine)). AreSetUp g.D.Disk.tells ds (map g.D.Disk.seen disks) scenario) (sym (ap (λ (v : Vec (LocalDbms AnyEngine)). v.items) c.of.ensures)) c.in-Ok-set_up_sites.ensures.stands)
+    (c.in-Ok-new_marks.ensures.count ∙ ap (λ (zs : List SiteId). length zs) second) (subst (λ (zs : List SiteId). IsNewMarks zs c.in-Ok-new_marks.marks.items) second c.in-Ok-new_marks.ensures.each)
+    (c.in-Ok-new_channels.ensures.count ∙ ap (λ (zs : List SiteId). length zs) first) (subst (λ (zs : List SiteId). IsNewChannel zs c.in-Ok-new_channels.traffic.items) first c.in-Ok-new_channels.ensures.each)
+
+pub returns-in-Ok-set_up_sites-clause-faults : goal.returns-in-Ok-set_up_sites-clause-faults
+returns-in-Ok-set_up_sites-clause-faults g c = c.set_up_sites.ensures.faults
 
 pub returns-in-Err-clause-failed : goal.returns-in-Err-clause-failed
-returns-in-Err-clause-failed g c =
-    let disk = c.index_mut-disk.result.now in
-    let made = made_at g.E.LocalEngine.stands c.args.scenario c.args.local c.in-Some.field-0 c.sites.result.now c.at-line.result.now c.requires.start c.in-Some.is c.sites.ensures c.at-line.ensures in
-    let own = read_at g.D.Disk.seen c.args.disks.now.items c.at-line.result.now.site disk made.in_range c.requires.empty c.index_mut-disk.ensures.value in
-    subst (λ (why : WorldErr). FailsToStart g.D.Disk.seen why (slice_set c.args.disks.now.items c.at-line.result.now.site.0 c.new.new.disk) c.args.scenario) (sym c.world_err.ensures)
-    (unstarted g.D.Disk.seen c.in-Err.why c.args.disks.now.items disk c.new.new.disk c.args.scenario c.at-line.result.now made.alone c.requires.empty own
-    (λ is. c.new.ensures.memory (c.in-Err.is ∙ ap (λ e. Err e) is)) (λ is. c.new.ensures.broken (c.in-Err.is ∙ ap (λ e. Err e) is)))
+returns-in-Err-clause-failed g c = c.in-Err.ensures.failed
 
 pub returns-in-Err-clause-cause : goal.returns-in-Err-clause-cause
-returns-in-Err-clause-cause g c =
-    let disk = c.index_mut-disk.result.now in
-    let made = made_at g.E.LocalEngine.stands c.args.scenario c.args.local c.in-Some.field-0 c.sites.result.now c.at-line.result.now c.requires.start c.in-Some.is c.sites.ensures c.at-line.ensures in
-    let own = read_at g.D.Disk.seen c.args.disks.now.items c.at-line.result.now.site disk made.in_range c.requires.empty c.index_mut-disk.ensures.value in
-    subst (λ (why : WorldErr). HasCause g.D.Disk.seen why c.args.disks.now.items (slice_set c.args.disks.now.items c.at-line.result.now.site.0 c.new.new.disk)) (sym c.world_err.ensures)
-    (answer_cause g.D.Disk.seen c.in-Err.why c.args.disks.now.items c.at-line.result.now.site.0 disk c.new.new.disk own (λ is. c.new.ensures.cause (c.in-Err.is ∙ ap (λ e. Err e) is)))
+returns-in-Err-clause-cause g c = c.in-Err.ensures.cause
 
 pub returns-in-Err-clause-faults : goal.returns-in-Err-clause-faults
-returns-in-Err-clause-faults g c =
-    let disk = c.index_mut-disk.result.now in
-    let made = made_at g.E.LocalEngine.stands c.args.scenario c.args.local c.in-Some.field-0 c.sites.result.now c.at-line.result.now c.requires.start c.in-Some.is c.sites.ensures c.at-line.ensures in
-    let own = read_at g.D.Disk.seen c.args.disks.now.items c.at-line.result.now.site disk made.in_range c.requires.empty c.index_mut-disk.ensures.value in
-    set_never_falls g.D.Disk.seen c.args.disks.now.items c.at-line.result.now.site.0 disk c.new.new.disk own c.new.ensures.faults
-
-pub returns-clause-stands : goal.returns-clause-stands
-returns-clause-stands g c =
-    let world : World _ = record { scenario = c.args.scenario; site = c.match-local.site; lines = c.new-2.result; broken = false } in
-    elim c.match-local.branch [
-      | in-None w ↦
-          (let none = subst (λ local. CanStart g.E.LocalEngine.stands c.args.scenario local) w.in-None.is c.requires.start in
-          subst (λ (disks : List _). Stands g.E.LocalEngine.stands g.D.Disk.tells g.D.Disk.seen world disks c.args.scenario []) (sym (ap (λ v. v.items) w.disks-is))
-          (started_none g.E.LocalEngine.stands g.D.Disk.tells g.D.Disk.seen world c.args.disks.now.items c.args.scenario refl c.new-2.ensures.items refl w.site-is none.0 none.1 c.requires.empty))
-      | in-Some+in-Ok w ↦
-          (let disk = w.index_mut-disk.result.now in
-          let made = made_at g.E.LocalEngine.stands c.args.scenario c.args.local w.in-Some.field-0 w.sites.result.now w.at-line.result.now c.requires.start w.in-Some.is w.sites.ensures w.at-line.ensures in
-          let own = read_at g.D.Disk.seen c.args.disks.now.items w.at-line.result.now.site disk made.in_range c.requires.empty w.index_mut-disk.ensures.value in
-          subst (λ (disks : List _). Stands g.E.LocalEngine.stands g.D.Disk.tells g.D.Disk.seen world disks c.args.scenario []) (sym (ap (λ v. v.items) w.disks-is))
-          (started_site g.E.LocalEngine.stands g.D.Disk.tells g.D.Disk.seen world w.in-Ok.site c.args.disks.now.items disk w.new.new.disk c.args.scenario w.at-line.result.now refl c.new-2.ensures.items refl w.site-is made.alone made.in_range c.requires.empty own w.in-Ok.ensures.stands))
-    ]
-
-pub returns-clause-faults : goal.returns-clause-faults
-returns-clause-faults g c =
-    elim c.match-local.branch [
-      | in-None w ↦
-          subst (λ (disks : List _). NeverFalls g.D.Disk.seen c.args.disks.now.items disks) (sym (ap (λ v. v.items) w.disks-is)) (same_never_falls g.D.Disk.seen c.args.disks.now.items)
-      | in-Some+in-Ok w ↦
-          (let disk = w.index_mut-disk.result.now in
-          let made = made_at g.E.LocalEngine.stands c.args.scenario c.args.local w.in-Some.field-0 w.sites.result.now w.at-line.result.now c.requires.start w.in-Some.is w.sites.ensures w.at-line.ensures in
-          let own = read_at g.D.Disk.seen c.args.disks.now.items w.at-line.result.now.site disk made.in_range c.requires.empty w.index_mut-disk.ensures.value in
-          subst (λ (disks : List _). NeverFalls g.D.Disk.seen c.args.disks.now.items disks) (sym (ap (λ v. v.items) w.disks-is))
-          (set_never_falls g.D.Disk.seen c.args.disks.now.items w.at-line.result.now.site.0 disk w.new.new.disk own w.new.ensures.faults))
-    ]
+returns-in-Err-clause-faults g c = c.set_up_sites.ensures.faults

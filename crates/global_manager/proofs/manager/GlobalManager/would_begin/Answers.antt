@@ -13,6 +13,6 @@ pub returns : goal.returns
 returns g c terms programs past r tid steps of =
     let said = c.spent.ensures terms programs past r tid steps of in
     elim c.match-matches.branch [
-      in-Spent w ↦ rw w.matches-is (sym said ∙ w.in-Spent.is)
-    | in_default w ↦ rw w.matches-is (unless_same _ (λ e. w.in_default.not-Spent (said ∙ e)))
+      | in-Spent w ↦ rw w.matches-is (sym said ∙ w.in-Spent.is)
+      | in_default w ↦ rw w.matches-is (unless_same _ (λ e. w.in_default.not-Spent (said ∙ e)))
     ]

@@ -1,0 +1,12 @@
+pub mod Cores
+pub mod Deliveries
+pub mod Faults
+pub mod Grows
+pub mod LastLine
+pub mod Listed
+pub mod Loops
+pub mod Numbered
+pub mod Parts
+pub mod RisingSites
+pub mod Towards
+pub mod World

@@ -1,0 +1,142 @@
+use Rattle.std.proofs.Common.{◌<◌, ◌^◌, ◌∷◌, List, length, map, sym, ◌∙◌}
+use Rattle.std.proofs.lemmas.Result.{err_from_is_err_and}
+use Rattle.mdb_base.specs.declared.acts.Step.{Step}
+use Rattle.mdb_base.specs.declared.names.Tx.{Tx}
+use Rattle.fed_rules.specs.declared.commands.Command.{Command}
+use Rattle.fed_rules.specs.declared.commands.Command.TheVariants as Cmd
+use Rattle.fed_rules.specs.Closing as rules
+use Rattle.closing.specs.Towards.{Fits}
+use Rattle.closing.proofs.Deliveries.{steps_grow}
+use Rattle.closing.proofs.Faults.{cause_later, never_falls_twice}
+use Rattle.closing.proofs.Towards.{Extends, extends_here, extends_one, extends_twice, fails_at, fails_within, fits_less, on_failure, on_success, room_one}
+use Rattle.closing.proofs.World.{nine}
+use Rattle.closing.proofs.alone.local_alone.Goals as goal
+
+-- behind the begin, and behind each step
+abbrev one : Tx → List Command → List Command
+one tx commands = Cmd.Begin tx ∷ commands
+
+abbrev two : Tx → List Step → List Command → List Command
+two tx steps commands = rules.steps_alone tx steps (one tx commands)
+
+first : (tx : Tx) (steps : List Step) (commands : List Command) → Extends (rules.local_alone tx steps commands) (one tx commands)
+first tx steps commands = extends_twice (one tx commands) (two tx steps commands) (rules.local_alone tx steps commands) (extends_one (Cmd.Commit tx) (two tx steps commands)) (steps_grow tx steps (one tx commands))
+
+second : (tx : Tx) (steps : List Step) (commands : List Command) → Extends (two tx steps commands) commands
+second tx steps commands = extends_twice commands (one tx commands) (two tx steps commands) (steps_grow tx steps (one tx commands)) (extends_one (Cmd.Begin tx) commands)
+
+room : (tx : Tx) (steps : List Step) (commands : List Command) → Fits (rules.local_alone tx steps commands) → length commands < 2 ^ 30
+room tx steps commands fits = room_one (Cmd.Begin tx) commands (fits_less (rules.local_alone tx steps commands) (one tx commands) (first tx steps commands) fits)
+
+fits_two : (tx : Tx) (steps : List Step) (commands : List Command) → Fits (rules.local_alone tx steps commands) → Fits (two tx steps commands)
+fits_two tx steps commands fits = fits_less (rules.local_alone tx steps commands) (two tx steps commands) (extends_one (Cmd.Commit tx) (two tx steps commands)) fits
+
+last_room : (tx : Tx) (steps : List Step) (commands : List Command) → Fits (rules.local_alone tx steps commands) → length (two tx steps commands) < 2 ^ 30
+last_room tx steps commands fits = room_one (Cmd.Commit tx) (two tx steps commands) fits
+
+pub apply-requires-clause-stood : goal.apply-requires-clause-stood
+apply-requires-clause-stood g c =
+    let r = c.requires.stood in
+    record { scenario = r.scenario; commands = r.commands; stood = r.stood; holds = room c.args.tx c.args.steps.now r.commands r.holds }
+
+pub returns-in_err-apply-clause-failed : goal.returns-in_err-apply-clause-failed
+returns-in_err-apply-clause-failed g c =
+    let p = err_from_is_err_and c.from_residual.result c.from_residual.ensures.1 in
+    rw (p.1, p.2) (λ scenario commands s fits.
+    let tx = c.args.tx in
+    let steps = c.args.steps.now in
+    fails_within g.D.Disk.tells c.apply.new.self (map g.D.Disk.seen c.apply.new.disks.items) scenario c.in_err-apply.field-0.0 (rules.local_alone tx steps commands) (one tx commands) commands commands
+    (first tx steps commands) (extends_here commands)
+    (fails_at g.D.Disk.tells c.apply.new.self (map g.D.Disk.seen c.apply.new.disks.items) scenario c.in_err-apply.field-0.0 (Cmd.Begin tx) commands
+    (c.in_err-apply.ensures.failed scenario commands s (room tx steps commands fits))))
+
+pub steps_alone-requires-clause-stood : goal.steps_alone-requires-clause-stood
+steps_alone-requires-clause-stood g c =
+    let r = c.requires.stood in
+    record {
+      scenario = r.scenario;
+      commands = one c.args.tx r.commands;
+      stood = c.in_ok-apply.ensures.applied r.scenario r.commands r.stood (room c.args.tx c.args.steps.now r.commands r.holds);
+      holds = fits_two c.args.tx c.args.steps.now r.commands r.holds;
+    }
+
+pub returns-in_err-steps_alone-clause-failed : goal.returns-in_err-steps_alone-clause-failed
+returns-in_err-steps_alone-clause-failed g c =
+    let p = err_from_is_err_and c.from_residual-in_err-steps_alone.result c.from_residual-in_err-steps_alone.ensures.1 in
+    rw (p.1, p.2) (λ scenario commands s fits.
+    let tx = c.args.tx in
+    let steps = c.args.steps.now in
+    let next = c.in_ok-apply.ensures.applied scenario commands s (room tx steps commands fits) in
+    fails_within g.D.Disk.tells c.steps_alone.new.world (map g.D.Disk.seen c.steps_alone.new.disks.items) scenario c.in_err-steps_alone.field-0.0 (rules.local_alone tx steps commands) (two tx steps commands) (one tx commands) commands
+    (extends_one (Cmd.Commit tx) (two tx steps commands)) (extends_one (Cmd.Begin tx) commands)
+    (c.in_err-steps_alone.ensures.failed scenario (one tx commands) next (fits_two tx steps commands fits)))
+
+pub returns-in_err-steps_alone-clause-cause : goal.returns-in_err-steps_alone-clause-cause
+returns-in_err-steps_alone-clause-cause g c =
+    let p = err_from_is_err_and c.from_residual-in_err-steps_alone.result c.from_residual-in_err-steps_alone.ensures.1 in
+    let r = c.requires.stood in
+    let next = c.in_ok-apply.ensures.applied r.scenario r.commands r.stood (room c.args.tx c.args.steps.now r.commands r.holds) in
+    rw (p.1, p.2) (cause_later c.in_err-steps_alone.field-0.0 _ _ _ (nine _ _ _ _ _ r.stood ∙ sym (nine _ _ _ _ _ next)) c.apply.ensures.faults c.in_err-steps_alone.ensures.cause)
+
+pub returns-in_err-steps_alone-clause-faults : goal.returns-in_err-steps_alone-clause-faults
+returns-in_err-steps_alone-clause-faults g c =
+    let r = c.requires.stood in
+    let next = c.in_ok-apply.ensures.applied r.scenario r.commands r.stood (room c.args.tx c.args.steps.now r.commands r.holds) in
+    never_falls_twice _ _ _ (nine _ _ _ _ _ r.stood ∙ sym (nine _ _ _ _ _ next)) c.apply.ensures.faults c.steps_alone.ensures.faults
+
+pub apply-requires-2-clause-stood : goal.apply-requires-2-clause-stood
+apply-requires-2-clause-stood g c =
+    let r = c.requires.stood in
+    let tx = c.args.tx in
+    let steps = c.args.steps.now in
+    let next = c.in_ok-apply.ensures.applied r.scenario r.commands r.stood (room tx steps r.commands r.holds) in
+    record {
+      scenario = r.scenario;
+      commands = two tx steps r.commands;
+      stood = c.in_ok-steps_alone.ensures.done r.scenario (one tx r.commands) next (fits_two tx steps r.commands r.holds);
+      holds = last_room tx steps r.commands r.holds;
+    }
+
+pub returns-clause-done : goal.returns-clause-done
+returns-clause-done g c =
+    on_success c.apply-2.result
+    (λ applied scenario commands s fits.
+    let tx = c.args.tx in
+    let steps = c.args.steps.now in
+    let next = c.in_ok-apply.ensures.applied scenario commands s (room tx steps commands fits) in
+    let last = c.in_ok-steps_alone.ensures.done scenario (one tx commands) next (fits_two tx steps commands fits) in
+    applied scenario (two tx steps commands) last (last_room tx steps commands fits))
+    c.apply-2.ensures.applied
+
+pub returns-clause-failed : goal.returns-clause-failed
+returns-clause-failed g c =
+    on_failure _ _ c.apply-2.result
+    (λ why failed scenario commands s fits.
+    let tx = c.args.tx in
+    let steps = c.args.steps.now in
+    let next = c.in_ok-apply.ensures.applied scenario commands s (room tx steps commands fits) in
+    let last = c.in_ok-steps_alone.ensures.done scenario (one tx commands) next (fits_two tx steps commands fits) in
+    let whole = rules.local_alone tx steps commands in
+    fails_within g.D.Disk.tells c.apply-2.new.self (map g.D.Disk.seen c.apply-2.new.disks.items) scenario why whole whole (two tx steps commands) commands (extends_here whole) (second tx steps commands)
+    (fails_at g.D.Disk.tells c.apply-2.new.self (map g.D.Disk.seen c.apply-2.new.disks.items) scenario why (Cmd.Commit tx) (two tx steps commands) (failed scenario (two tx steps commands) last (last_room tx steps commands fits))))
+    c.apply-2.ensures.failed
+
+pub returns-clause-cause : goal.returns-clause-cause
+returns-clause-cause g c =
+    let r = c.requires.stood in
+    let tx = c.args.tx in
+    let steps = c.args.steps.now in
+    let next = c.in_ok-apply.ensures.applied r.scenario r.commands r.stood (room tx steps r.commands r.holds) in
+    let last = c.in_ok-steps_alone.ensures.done r.scenario (one tx r.commands) next (fits_two tx steps r.commands r.holds) in
+    let falls = never_falls_twice _ _ _ (nine _ _ _ _ _ r.stood ∙ sym (nine _ _ _ _ _ next)) c.apply.ensures.faults c.steps_alone.ensures.faults in
+    on_failure _ _ c.apply-2.result (λ why rose. cause_later why _ _ _ (nine _ _ _ _ _ r.stood ∙ sym (nine _ _ _ _ _ last)) falls rose) c.apply-2.ensures.cause
+
+pub returns-clause-faults : goal.returns-clause-faults
+returns-clause-faults g c =
+    let r = c.requires.stood in
+    let tx = c.args.tx in
+    let steps = c.args.steps.now in
+    let next = c.in_ok-apply.ensures.applied r.scenario r.commands r.stood (room tx steps r.commands r.holds) in
+    let last = c.in_ok-steps_alone.ensures.done r.scenario (one tx r.commands) next (fits_two tx steps r.commands r.holds) in
+    let falls = never_falls_twice _ _ _ (nine _ _ _ _ _ r.stood ∙ sym (nine _ _ _ _ _ next)) c.apply.ensures.faults c.steps_alone.ensures.faults in
+    never_falls_twice _ _ _ (nine _ _ _ _ _ r.stood ∙ sym (nine _ _ _ _ _ last)) falls c.apply-2.ensures.faults

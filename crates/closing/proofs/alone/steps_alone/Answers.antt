@@ -1,0 +1,62 @@
+use Rattle.std.proofs.Common.{◌∷◌, map, take, sym, ◌∙◌, subst}
+use Rattle.std.proofs.lemmas.List.{take_all}
+use Rattle.std.proofs.lemmas.Result.{err_from_is_err_and}
+use Rattle.fed_rules.specs.declared.commands.Command.TheVariants as Cmd
+use Rattle.fed_rules.specs.Closing as rules
+use Rattle.fed_world.specs.Worlds.{Stands}
+use Rattle.closing.proofs.Deliveries.{front_steps, steps_fit, steps_grow, steps_next}
+use Rattle.closing.proofs.Faults.{cause_later, never_falls_twice}
+use Rattle.closing.proofs.Towards.{fails_at, fails_within, room_one}
+use Rattle.closing.proofs.World.{nine}
+use Rattle.closing.proofs.alone.steps_alone.Goals as goal
+
+pub apply-requires-clause-stood : goal.apply-requires-clause-stood
+apply-requires-clause-stood g c =
+    let r = c.requires.stood in
+    record {
+      scenario = r.scenario;
+      commands = rules.steps_alone c.args.tx (take c.loop-done.done c.args.steps.now) r.commands;
+      stood = c.loop-done.invariant.stands r.scenario r.commands r.stood r.holds;
+      holds = room_one (Cmd.Step c.args.tx) (rules.steps_alone c.args.tx (take c.loop-done.done c.args.steps.now) r.commands) (steps_fit c.args.tx c.args.steps.now c.loop-done.done r.commands c.loop-done-test.true r.holds);
+    }
+
+pub returns-in_err-apply-clause-failed : goal.returns-in_err-apply-clause-failed
+returns-in_err-apply-clause-failed g c =
+    let p = err_from_is_err_and c.from_residual.result c.from_residual.ensures.1 in
+    rw (p.1, p.2) (λ scenario before s fits.
+    let tx = c.args.tx in
+    let steps = c.args.steps.now in
+    let mid = rules.steps_alone tx (take c.loop-done.done steps) before in
+    fails_within g.D.Disk.tells c.apply.new.self (map g.D.Disk.seen c.apply.new.disks.items) scenario c.in_err-apply.field-0.0 (rules.steps_alone tx steps before) (Cmd.Step tx ∷ mid) mid before
+    (front_steps tx steps c.loop-done.done before c.loop-done-test.true) (steps_grow tx (take c.loop-done.done steps) before)
+    (fails_at g.D.Disk.tells c.apply.new.self (map g.D.Disk.seen c.apply.new.disks.items) scenario c.in_err-apply.field-0.0 (Cmd.Step tx) mid
+    (c.in_err-apply.ensures.failed scenario mid (c.loop-done.invariant.stands scenario before s fits) (room_one (Cmd.Step tx) mid (steps_fit tx steps c.loop-done.done before c.loop-done-test.true fits)))))
+
+pub returns-in_err-apply-clause-cause : goal.returns-in_err-apply-clause-cause
+returns-in_err-apply-clause-cause g c =
+    let p = err_from_is_err_and c.from_residual.result c.from_residual.ensures.1 in
+    let r = c.requires.stood in
+    rw (p.1, p.2) (cause_later c.in_err-apply.field-0.0 _ _ _ (nine _ _ _ _ _ r.stood ∙ sym (nine _ _ _ _ _ (c.loop-done.invariant.stands r.scenario r.commands r.stood r.holds))) c.loop-done.invariant.faults c.in_err-apply.ensures.cause)
+
+pub returns-in_err-apply-clause-faults : goal.returns-in_err-apply-clause-faults
+returns-in_err-apply-clause-faults g c =
+    let r = c.requires.stood in
+    never_falls_twice _ _ _ (nine _ _ _ _ _ r.stood ∙ sym (nine _ _ _ _ _ (c.loop-done.invariant.stands r.scenario r.commands r.stood r.holds))) c.loop-done.invariant.faults c.apply.ensures.faults
+
+pub loop-done-preserved : goal.loop-done-preserved
+loop-done-preserved g c =
+    let r = c.requires.stood in
+    let tx = c.args.tx in
+    let steps = c.args.steps.now in
+    record {
+      stands = λ scenario before s fits.
+          let mid = rules.steps_alone tx (take c.loop-done.done steps) before in
+          subst (λ more. Stands g.D.Disk.tells c.apply.new.self (map g.D.Disk.seen c.apply.new.disks.items) scenario more) (sym (steps_next tx steps c.loop-done.done before c.loop-done-test.true))
+          (c.in_ok-apply.ensures.applied scenario mid (c.loop-done.invariant.stands scenario before s fits) (room_one (Cmd.Step tx) mid (steps_fit tx steps c.loop-done.done before c.loop-done-test.true fits)));
+      faults = never_falls_twice _ _ _ (nine _ _ _ _ _ r.stood ∙ sym (nine _ _ _ _ _ (c.loop-done.invariant.stands r.scenario r.commands r.stood r.holds))) c.loop-done.invariant.faults c.apply.ensures.faults;
+    }
+
+pub returns-clause-done : goal.returns-clause-done
+returns-clause-done g c scenario before s fits =
+    subst (λ xs. Stands g.D.Disk.tells c.loop-done.world (map g.D.Disk.seen c.loop-done.disks.items) scenario (rules.steps_alone c.args.tx xs before)) (take_all c.loop-done.done c.args.steps.now c.loop-done-test.false)
+    (c.loop-done.invariant.stands scenario before s fits)

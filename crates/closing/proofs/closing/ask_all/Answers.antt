@@ -1,0 +1,38 @@
+use Rattle.std.proofs.Common.{map, sym, subst, ◌∙◌, ap}
+use Rattle.fed_rules.specs.Closing as rules
+use Rattle.fed_rules.specs.Closing.{for_each}
+use Rattle.fed_rules.specs.Scenarios.{sites}
+use Rattle.fed_rules.specs.Story.{story_of}
+use Rattle.fed_world.specs.Worlds.{Stands}
+use Rattle.closing.specs.Steps.{asks_all}
+use Rattle.closing.specs.Towards.{FailsToward, Fits}
+use Rattle.closing.proofs.Grows.{asking_is, ask_all_grows}
+use Rattle.closing.proofs.Towards.{on_failure, on_success, short_here}
+use Rattle.closing.proofs.World.{recalls}
+use Rattle.closing.proofs.closing.ask_all.Goals as goal
+
+pub returns-in_default-clause-failed : goal.returns-in_default-clause-failed
+returns-in_default-clause-failed g c scenario commands s can =
+    short_here g.D.Disk.tells c.args.world.now (map g.D.Disk.seen c.args.disks.now.items) scenario (rules.ask_all scenario commands) commands (ask_all_grows scenario commands) s
+
+pub ask_each-requires-clause-stood : goal.ask_each-requires-clause-stood
+ask_each-requires-clause-stood g c =
+    let r = c.requires.stood in
+    let are = (ap (λ all. asks_all all r.scenario r.commands) c.deref.ensures.value ∙ asking_is r.scenario (story_of r.scenario r.commands) (sites r.scenario) c.in-Ok.sites.items r.commands (c.in-Ok.ensures r.scenario r.commands (recalls _ _ _ _ _ r.stood) r.holds.up)) in
+    record { scenario = r.scenario; commands = r.commands; stood = r.stood; holds = subst Fits (sym are) r.holds.fits }
+
+pub returns-clause-done : goal.returns-clause-done
+returns-clause-done g c =
+    on_success c.ask_each.result
+    (λ done scenario commands s can.
+    let are = (ap (λ all. asks_all all scenario commands) c.deref.ensures.value ∙ asking_is scenario (story_of scenario commands) (sites scenario) c.in-Ok.sites.items commands (c.in-Ok.ensures scenario commands (recalls _ _ _ _ _ s) can.up)) in
+    subst (λ all. Stands g.D.Disk.tells c.ask_each.new.world (map g.D.Disk.seen c.ask_each.new.disks.items) scenario all) are (done scenario commands s (subst Fits (sym are) can.fits)))
+    c.ask_each.ensures.done
+
+pub returns-clause-failed : goal.returns-clause-failed
+returns-clause-failed g c =
+    on_failure _ _ c.ask_each.result
+    (λ why failed scenario commands s can.
+    let are = (ap (λ all. asks_all all scenario commands) c.deref.ensures.value ∙ asking_is scenario (story_of scenario commands) (sites scenario) c.in-Ok.sites.items commands (c.in-Ok.ensures scenario commands (recalls _ _ _ _ _ s) can.up)) in
+    subst (λ all. FailsToward g.D.Disk.tells why c.ask_each.new.world (map g.D.Disk.seen c.ask_each.new.disks.items) all scenario commands) are (failed scenario commands s (subst Fits (sym are) can.fits)))
+    c.ask_each.ensures.failed

@@ -1,0 +1,152 @@
+//! The commands that close a session.
+ghost use Rattle.std.specs.Prelude.{IfErr, OnOk, IsTrue, map};
+ghost use Rattle.fed_rules.specs.Closing as rules;
+ghost use Rattle.fed_rules.specs.Closing.{closed};
+ghost use Rattle.fed_world.specs.Worlds.{EachStory, HasCause, NeverFalls, Rests, SomeStory, Stands};
+ghost use Rattle.closing.specs.Steps.{CanClose, MayClose, MayStep};
+ghost use Rattle.closing.specs.Towards.{FallsShort, Reaches, WillFit};
+
+use crate::actors::{armed_actors, clearing, doubtful, down_actors, known, undecided};
+use crate::carrying::carry_out;
+use crate::exchanging::{ask_each, send_each};
+use crate::reading::{bringing_up, disarming, every_scenario_is_one, giving_up};
+use closing_laws::{closed_sessions_rest, closing_is_bounded, closing_stays_up};
+use fed_world::{World, WorldErr};
+use journal_disk::Disk;
+use std::alloc::Global;
+
+/// Each armed trip is disarmed.
+fn disarm<D: Disk>(alloc: Global, world: &mut World, disks: &mut Vec<D>) -> Result<(), WorldErr>
+    requires told { IsTrue D.tells }
+    requires stood { SomeStory (Stands D.tells world.old (map D.seen disks.old.items)) (WillFit rules.disarm) }
+    ensures done { OnOk result (Reaches D.tells world.old (map D.seen disks.old.items) world.new (map D.seen disks.new.items) (WillFit rules.disarm) rules.disarm) }
+    ensures failed { IfErr result (λ why. FallsShort D.tells world.old (map D.seen disks.old.items) why world.new (map D.seen disks.new.items) (WillFit rules.disarm) rules.disarm) }
+    ensures cause { IfErr result (λ why. HasCause why (map D.seen disks.old.items) (map D.seen disks.new.items)) }
+    ensures faults { NeverFalls (map D.seen disks.old.items) (map D.seen disks.new.items) }
+{
+    let Ok(armed) = armed_actors(alloc, world) else {
+        return Err(WorldErr::Memory);
+    };
+    let Ok(commands) = disarming(alloc, &armed) else {
+        return Err(WorldErr::Memory);
+    };
+    carry_out(alloc, world, disks, &commands)
+}
+
+/// Each actor that is down comes back.
+fn bring_up<D: Disk>(alloc: Global, world: &mut World, disks: &mut Vec<D>) -> Result<(), WorldErr>
+    requires told { IsTrue D.tells }
+    requires stood { SomeStory (Stands D.tells world.old (map D.seen disks.old.items)) (WillFit rules.bring_up) }
+    ensures done { OnOk result (Reaches D.tells world.old (map D.seen disks.old.items) world.new (map D.seen disks.new.items) (WillFit rules.bring_up) rules.bring_up) }
+    ensures failed { IfErr result (λ why. FallsShort D.tells world.old (map D.seen disks.old.items) why world.new (map D.seen disks.new.items) (WillFit rules.bring_up) rules.bring_up) }
+    ensures cause { IfErr result (λ why. HasCause why (map D.seen disks.old.items) (map D.seen disks.new.items)) }
+    ensures faults { NeverFalls (map D.seen disks.old.items) (map D.seen disks.new.items) }
+{
+    let Ok(down) = down_actors(alloc, world) else {
+        return Err(WorldErr::Memory);
+    };
+    let Ok(commands) = bringing_up(alloc, &down) else {
+        return Err(WorldErr::Memory);
+    };
+    carry_out(alloc, world, disks, &commands)
+}
+
+/// Each attempt that is known without a decision is given up.
+fn give_up<D: Disk>(alloc: Global, world: &mut World, disks: &mut Vec<D>) -> Result<(), WorldErr>
+    requires told { IsTrue D.tells }
+    requires stood { SomeStory (Stands D.tells world.old (map D.seen disks.old.items)) (MayStep rules.give_up) }
+    ensures done { OnOk result (Reaches D.tells world.old (map D.seen disks.old.items) world.new (map D.seen disks.new.items) (MayStep rules.give_up) rules.give_up) }
+    ensures failed { IfErr result (λ why. FallsShort D.tells world.old (map D.seen disks.old.items) why world.new (map D.seen disks.new.items) (MayStep rules.give_up) rules.give_up) }
+    ensures cause { IfErr result (λ why. HasCause why (map D.seen disks.old.items) (map D.seen disks.new.items)) }
+    ensures faults { NeverFalls (map D.seen disks.old.items) (map D.seen disks.new.items) }
+{
+    let Ok(tids) = undecided(alloc, world) else {
+        return Err(WorldErr::Memory);
+    };
+    let Ok(commands) = giving_up(alloc, &tids) else {
+        return Err(WorldErr::Memory);
+    };
+    carry_out(alloc, world, disks, &commands)
+}
+
+/// At each site each live local transaction is aborted, and then each live subtransaction dropped.
+fn clear<D: Disk>(alloc: Global, world: &mut World, disks: &mut Vec<D>) -> Result<(), WorldErr>
+    requires told { IsTrue D.tells }
+    requires stood { SomeStory (Stands D.tells world.old (map D.seen disks.old.items)) (MayStep rules.clear) }
+    ensures done { OnOk result (Reaches D.tells world.old (map D.seen disks.old.items) world.new (map D.seen disks.new.items) (MayStep rules.clear) rules.clear) }
+    ensures failed { IfErr result (λ why. FallsShort D.tells world.old (map D.seen disks.old.items) why world.new (map D.seen disks.new.items) (MayStep rules.clear) rules.clear) }
+    ensures cause { IfErr result (λ why. HasCause why (map D.seen disks.old.items) (map D.seen disks.new.items)) }
+    ensures faults { NeverFalls (map D.seen disks.old.items) (map D.seen disks.new.items) }
+{
+    let Ok(commands) = clearing(alloc, world) else {
+        return Err(WorldErr::Memory);
+    };
+    carry_out(alloc, world, disks, &commands)
+}
+
+/// Each known attempt is ended.
+fn end_known<D: Disk>(alloc: Global, world: &mut World, disks: &mut Vec<D>) -> Result<(), WorldErr>
+    requires told { IsTrue D.tells }
+    requires stood { SomeStory (Stands D.tells world.old (map D.seen disks.old.items)) (MayStep rules.end_known) }
+    ensures done { OnOk result (Reaches D.tells world.old (map D.seen disks.old.items) world.new (map D.seen disks.new.items) (MayStep rules.end_known) rules.end_known) }
+    ensures failed { IfErr result (λ why. FallsShort D.tells world.old (map D.seen disks.old.items) why world.new (map D.seen disks.new.items) (MayStep rules.end_known) rules.end_known) }
+    ensures cause { IfErr result (λ why. HasCause why (map D.seen disks.old.items) (map D.seen disks.new.items)) }
+    ensures faults { NeverFalls (map D.seen disks.old.items) (map D.seen disks.new.items) }
+{
+    let Ok(tids) = known(alloc, world) else {
+        return Err(WorldErr::Memory);
+    };
+    send_each(alloc, world, disks, &tids)
+}
+
+/// Each doubt of each site is cleared.
+fn ask_all<D: Disk>(alloc: Global, world: &mut World, disks: &mut Vec<D>) -> Result<(), WorldErr>
+    requires told { IsTrue D.tells }
+    requires stood { SomeStory (Stands D.tells world.old (map D.seen disks.old.items)) (MayStep rules.ask_all) }
+    ensures done { OnOk result (Reaches D.tells world.old (map D.seen disks.old.items) world.new (map D.seen disks.new.items) (MayStep rules.ask_all) rules.ask_all) }
+    ensures failed { IfErr result (λ why. FallsShort D.tells world.old (map D.seen disks.old.items) why world.new (map D.seen disks.new.items) (MayStep rules.ask_all) rules.ask_all) }
+    ensures cause { IfErr result (λ why. HasCause why (map D.seen disks.old.items) (map D.seen disks.new.items)) }
+    ensures faults { NeverFalls (map D.seen disks.old.items) (map D.seen disks.new.items) }
+{
+    let Ok(sites) = doubtful(alloc, world) else {
+        return Err(WorldErr::Memory);
+    };
+    ask_each(alloc, world, disks, &sites)
+}
+
+/// Each step of closing in its turn.
+fn each_step<D: Disk>(alloc: Global, world: &mut World, disks: &mut Vec<D>) -> Result<(), WorldErr>
+    requires told { IsTrue D.tells }
+    requires stood { SomeStory (Stands D.tells world.old (map D.seen disks.old.items)) MayClose }
+    ensures done { OnOk result (Reaches D.tells world.old (map D.seen disks.old.items) world.new (map D.seen disks.new.items) MayClose closed) }
+    ensures failed { IfErr result (λ why. FallsShort D.tells world.old (map D.seen disks.old.items) why world.new (map D.seen disks.new.items) MayClose closed) }
+    ensures cause { IfErr result (λ why. HasCause why (map D.seen disks.old.items) (map D.seen disks.new.items)) }
+    ensures faults { NeverFalls (map D.seen disks.old.items) (map D.seen disks.new.items) }
+{
+    closing_stays_up();
+    disarm(alloc, world, disks)?;
+    bring_up(alloc, world, disks)?;
+    give_up(alloc, world, disks)?;
+    clear(alloc, world, disks)?;
+    end_known(alloc, world, disks)?;
+    ask_all(alloc, world, disks)
+}
+
+/// Closes a session by the commands that this project's profile names, and by no others: each armed trip is disarmed, each actor that is down
+/// comes back, each undecided attempt is given up, at each site what is live ends, each known attempt is ended, and each doubt is cleared;
+/// attempts and sites in rising order. Behind that the session is at rest. After want of memory or a failed disk call the lines made until
+/// then stand.
+pub fn close<D: Disk>(alloc: Global, world: &mut World, disks: &mut Vec<D>) -> Result<(), WorldErr>
+    requires told { IsTrue D.tells }
+    requires stood { SomeStory (Stands D.tells world.old (map D.seen disks.old.items)) CanClose }
+    ensures done { OnOk result (Reaches D.tells world.old (map D.seen disks.old.items) world.new (map D.seen disks.new.items) CanClose closed) }
+    ensures rests { OnOk result (EachStory (Stands D.tells world.new (map D.seen disks.new.items)) Rests) }
+    ensures failed { IfErr result (λ why. FallsShort D.tells world.old (map D.seen disks.old.items) why world.new (map D.seen disks.new.items) CanClose closed) }
+    ensures cause { IfErr result (λ why. HasCause why (map D.seen disks.old.items) (map D.seen disks.new.items)) }
+    ensures faults { NeverFalls (map D.seen disks.old.items) (map D.seen disks.new.items) }
+{
+    closing_is_bounded();
+    closed_sessions_rest();
+    every_scenario_is_one(world.scenario());
+    each_step(alloc, world, disks)
+}

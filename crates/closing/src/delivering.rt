@@ -1,0 +1,79 @@
+//! A message that is delivered: its site is given it, and what the site sends is taken.
+ghost use Rattle.std.specs.Prelude.{IfErr, OnOk, IsTrue, map};
+ghost use Rattle.fed_rules.specs.Closing.{deliver as delivered, taken};
+ghost use Rattle.fed_world.specs.Worlds.{HasCause, NeverFalls, SomeStory, Stands};
+ghost use Rattle.closing.specs.Steps.{given};
+ghost use Rattle.closing.specs.Towards.{FallsShort, Reaches, WillFit};
+
+use crate::carrying::carry_out;
+use crate::sent::{gives, last_places, takes};
+use fed_rules::{Command, Place};
+use fed_world::{World, WorldErr};
+use journal_disk::Disk;
+use std::alloc::Global;
+
+/// What a site just sent is taken.
+pub(crate) fn take_sent<D: Disk>(
+    alloc: Global,
+    world: &mut World,
+    disks: &mut Vec<D>,
+) -> Result<(), WorldErr>
+    requires told { IsTrue D.tells }
+    requires stood { SomeStory (Stands D.tells world.old (map D.seen disks.old.items)) (WillFit taken) }
+    ensures done { OnOk result (Reaches D.tells world.old (map D.seen disks.old.items) world.new (map D.seen disks.new.items) (WillFit taken) taken) }
+    ensures failed { IfErr result (λ why. FallsShort D.tells world.old (map D.seen disks.old.items) why world.new (map D.seen disks.new.items) (WillFit taken) taken) }
+    ensures cause { IfErr result (λ why. HasCause why (map D.seen disks.old.items) (map D.seen disks.new.items)) }
+    ensures faults { NeverFalls (map D.seen disks.old.items) (map D.seen disks.new.items) }
+{
+    let Ok(places) = last_places(alloc, world) else {
+        return Err(WorldErr::Memory);
+    };
+    let Ok(commands) = takes(alloc, &places) else {
+        return Err(WorldErr::Memory);
+    };
+    carry_out(alloc, world, disks, &commands)
+}
+
+/// What the coordinator just sent is given to its sites.
+pub(crate) fn give_sent<D: Disk>(
+    alloc: Global,
+    world: &mut World,
+    disks: &mut Vec<D>,
+) -> Result<(), WorldErr>
+    requires told { IsTrue D.tells }
+    requires stood { SomeStory (Stands D.tells world.old (map D.seen disks.old.items)) (WillFit given) }
+    ensures done { OnOk result (Reaches D.tells world.old (map D.seen disks.old.items) world.new (map D.seen disks.new.items) (WillFit given) given) }
+    ensures failed { IfErr result (λ why. FallsShort D.tells world.old (map D.seen disks.old.items) why world.new (map D.seen disks.new.items) (WillFit given) given) }
+    ensures cause { IfErr result (λ why. HasCause why (map D.seen disks.old.items) (map D.seen disks.new.items)) }
+    ensures faults { NeverFalls (map D.seen disks.old.items) (map D.seen disks.new.items) }
+{
+    let Ok(places) = last_places(alloc, world) else {
+        return Err(WorldErr::Memory);
+    };
+    let Ok(commands) = gives(alloc, &places) else {
+        return Err(WorldErr::Memory);
+    };
+    carry_out(alloc, world, disks, &commands)
+}
+
+/// The message at this place is given to its site, and what the site sends at that is taken.
+pub(crate) fn deliver<D: Disk>(
+    alloc: Global,
+    world: &mut World,
+    disks: &mut Vec<D>,
+    place: Place,
+) -> Result<(), WorldErr>
+    requires told { IsTrue D.tells }
+    requires stood { SomeStory (Stands D.tells world.old (map D.seen disks.old.items)) (WillFit (λ scenario. delivered scenario place)) }
+    ensures done { OnOk result (Reaches D.tells world.old (map D.seen disks.old.items) world.new (map D.seen disks.new.items) (WillFit (λ scenario. delivered scenario place)) (λ scenario. delivered scenario place)) }
+    ensures failed { IfErr result (λ why. FallsShort D.tells world.old (map D.seen disks.old.items) why world.new (map D.seen disks.new.items) (WillFit (λ scenario. delivered scenario place)) (λ scenario. delivered scenario place)) }
+    ensures cause { IfErr result (λ why. HasCause why (map D.seen disks.old.items) (map D.seen disks.new.items)) }
+    ensures faults { NeverFalls (map D.seen disks.old.items) (map D.seen disks.new.items) }
+{
+    let command = Command::Give {
+        site: place.site,
+        place: place.place,
+    };
+    world.apply(alloc, disks, command)?;
+    take_sent(alloc, world, disks)
+}

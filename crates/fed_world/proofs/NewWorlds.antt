@@ -1,0 +1,110 @@
+-- A world whose sites were just set up stands for no line.
+use Rattle.std.proofs.Common.{◌≡◌, Bool, false, IsTrue, Some, List, [], length, map, reverse, slice_get, refl, sym, ◌∙◌, ap, subst, arith}
+use Rattle.mdb_base.specs.declared.names.SiteId.{SiteId}
+use Rattle.order_laws.specs.Chains.{In}
+use Rattle.order_laws.proofs.Lists.{each_at}
+use Rattle.record_fields.specs.Named.{IsSite}
+use Rattle.fed_rules.specs.declared.commands.Line.{Line}
+use Rattle.fed_rules.specs.declared.scenario.Scenario.{Scenario}
+use Rattle.fed_rules.specs.Plans.{IsScenario}
+use Rattle.fed_rules.specs.Right.{IsRightStory}
+use Rattle.fed_rules.specs.Scenarios.{home_of, sites}
+use Rattle.fed_rules.specs.SiteRecords.{Home}
+use Rattle.rules_laws.proofs.Declared.{its-site}
+use Rattle.world_laws.proofs.Sent.{homeless}
+use Rattle.journal_disk.specs.Disk.{IsSound, Seen}
+use Rattle.any_engine.specs.declared.engine.AnyEngine.{AnyEngine}
+use Rattle.local_dbms.specs.declared.dbms.LocalDbms.{LocalDbms}
+use Rattle.local_dbms.specs.Stands.{own_programs}
+use Rattle.session_report.specs.declared.marks.Marks.{Marks}
+use Rattle.session_report.specs.Marks.{kept_marks}
+use Rattle.session_routes.specs.declared.traffic.Traffic.{Traffic}
+use Rattle.session_routes.specs.Routes.{IsRouted}
+use Rattle.site_seats.specs.Seats.{SiteAt}
+use Rattle.fed_world.specs.declared.world.World.{World}
+use Rattle.fed_world.specs.SettingUp.{AreSetUp, EmptyBut, IsNewChannel, IsNewManager, IsNewMarks}
+use Rattle.fed_world.specs.Worlds.{ActorsStand, AreDisks, DbmsStands, HasLines, Stands}
+use Rattle.fed_world.proofs.DeclaredSites.{declared_ranged, site_home}
+use Rattle.fed_world.proofs.Pairs.{at_in, item_there}
+
+-- a site that was set up has no marks
+no_marks : (home : Home) → kept_marks home [] ≡ []
+no_marks home = refl
+
+-- the coordinator isn't a site
+not_a_site : (scenario : Scenario) → IsScenario scenario → In (record { 0 = 0 }) (sites scenario) → ⊥
+not_a_site scenario whole i = let range = each_at IsSite (record { 0 = 0 }) (sites scenario) (declared_ranged scenario whole) i in let least = range.least in omega (arith, least)
+
+-- the bytes told of a disk are as many as it has, and at most all are synced
+pub record TellsBytes (seen : Seen) : Type 0 where
+  pub bytes : length seen.image.bytes ≡ seen.size
+  pub sound : IsSound seen.image
+
+-- no line yet
+new_lines : (world : World) (scenario : Scenario) → world.cores.scenario ≡ scenario → world.lines.items ≡ [] → HasLines world scenario []
+new_lines world scenario same none = record {
+  scenario_is = same;
+  commands_are = ap (λ (ls : List Line). map (λ (line : Line). line.command) (reverse ls)) none;
+  right = subst (λ (ls : List Line). IsRightStory scenario (reverse ls)) (sym none) tt;
+}
+
+-- the disks of undeclared sites are empty
+new_disks : (disks : List Seen) (scenario : Scenario) → length disks ≡ 9 → EmptyBut (sites scenario) disks → AreDisks disks scenario
+new_disks disks scenario nine empty = record { nine = nine; others = λ site disk least none at. empty site.0 disk at (homeless scenario.sites scenario.items site none) }
+
+-- a site with its new marks and channel
+new_site : (tells : Bool) (disks : List Seen) (dbms : LocalDbms AnyEngine) (own : Marks) (traffic : Traffic) (scenario : Scenario) (site : SiteId) → In site (sites scenario)
+    → ((home : Home) → home_of scenario site ≡ Some home → DbmsStands tells disks dbms home (own_programs site scenario.transactions) [])
+    → (own.site ≡ site) × (own.kept.items ≡ []) → (traffic.site ≡ site) × (traffic.to.items ≡ []) × (traffic.from.items ≡ []) → SiteAt (DbmsStands tells disks) dbms own traffic scenario site []
+new_site tells disks dbms own traffic scenario site i stood marks channel =
+    let (home, declared) = site_home scenario site i in
+    let same : home.site ≡ site = its-site scenario site home declared in
+    record {
+      home = home;
+      is = same;
+      declared = declared;
+      part = record {
+        dbms = stood home declared;
+        marked = marks.0 ∙ sym same;
+        site = channel.0 ∙ sym same;
+        marks = marks.1 ∙ sym (no_marks home);
+        to = channel.1;
+        from = channel.2;
+      };
+    }
+
+-- the world of the sites that were set up, with the coordinator and its empty disk
+pub new_stands : (tells : Bool) (world : World) (disks : List Seen) (scenario : Scenario) → IsScenario scenario → IsTrue tells → length disks ≡ 9 → ((seen : Seen) → slice_get disks 0 ≡ Some seen → TellsBytes seen)
+    → world.cores.scenario ≡ scenario → world.lines.items ≡ [] → world.broken ≡ false → IsRouted world.routes scenario → IsNewManager world.cores.coordinator scenario
+    → AreSetUp tells world.cores.sites.items.items disks scenario → length world.cores.marks.items ≡ length (sites scenario) → IsNewMarks (sites scenario) world.cores.marks.items
+    → length world.traffic.items ≡ length (sites scenario) → IsNewChannel (sites scenario) world.traffic.items → Stands tells world disks scenario []
+new_stands tells world disks scenario whole told nine bytes same none unbroken routed manager up all_marks marks all_channels channels = record {
+  has = new_lines world scenario same none;
+  whole = unbroken;
+  routed = routed;
+  stand = stand;
+}
+  where
+    stand : ActorsStand tells world disks scenario []
+    stand =
+        let (seen, own) = item_there disks 0 (omega (arith, nine)) in
+        let b = bytes seen own in
+        record {
+          actors = record {
+            coordinator = record {
+              disk = seen;
+              own = own;
+              holds = manager tells seen (record { told = told; empty = up.empty 0 seen own (not_a_site scenario whole); bytes = b.bytes; sound = b.sound });
+            };
+            sites = record {
+              all_cores = up.count;
+              all_marks = all_marks;
+              all_channels = all_channels;
+              each = λ place site dbms marked traffic at got kept sent.
+                  new_site tells disks dbms marked traffic scenario site (at_in (sites scenario) place site at)
+                  (λ home declared. up.each place site home dbms at declared got) (marks place site marked at kept) (channels place site traffic at sent);
+            };
+          };
+          few = record { to = λ site. omega arith; from = λ site. omega arith };
+          others = new_disks disks scenario nine up.empty;
+        }

@@ -1,0 +1,9 @@
+use Rattle.std.proofs.Common.{[], arith}
+use Rattle.fed_world.proofs.Sessions.{are_empty}
+use Rattle.fed_world.proofs.tests.world_of.Goals as goal
+
+pub new-requires-clause-empty : goal.new-requires-clause-empty
+new-requires-clause-empty c = are_empty c.args.disks.now.items c.requires.empty
+
+pub returns : goal.returns
+returns c = record { scenario = c.in_ok-scenario.scenario; commands = []; stood = c.in_ok-world.ensures.stands; holds = omega arith }

@@ -1,0 +1,106 @@
+use Rattle.std.proofs.Common.{◌∙◌, Err, List, map, slice_set, refl, sym, ap, subst, arith}
+use Rattle.std.proofs.lemmas.List.{length-map}
+use Rattle.journal_disk.specs.Disk.{Seen}
+use Rattle.actor_store.specs.declared.errors.StepErr.{StepErr}
+use Rattle.fed_world.specs.declared.errors.WorldErr.{WorldErr}
+use Rattle.fed_world.specs.Worlds.{HasCause, NeverFalls}
+use Rattle.fed_world.proofs.CoordHeard.{fails_told, few_messages, first_disk, hears_told, may_tell_coord, roomed_stands}
+use Rattle.fed_world.proofs.Disks.{put_never_falls, same_never_falls, seen_put}
+use Rattle.fed_world.proofs.SiteHeard.{cause_at}
+use Rattle.fed_world.proofs.world.World.at_coordinator.Goals as goal
+
+pub returns-in_default-clause-failed : goal.returns-in_default-clause-failed
+returns-in_default-clause-failed g c scenario commands command s asks room = s.stand
+
+pub returns-in_default-clause-keeps : goal.returns-in_default-clause-keeps
+returns-in_default-clause-keeps g c = record { lines = refl; broken = refl; routes = refl; scenario = refl }
+
+pub returns-in_default-clause-faults : goal.returns-in_default-clause-faults
+returns-in_default-clause-faults g c = same_never_falls (map g.D.Disk.seen c.args.disks.now.items)
+
+pub returns-in_default-make_room-clause-failed : goal.returns-in_default-make_room-clause-failed
+returns-in_default-make_room-clause-failed g c scenario commands command s asks room =
+    roomed_stands g.D.Disk.tells c.args.self.now (map g.D.Disk.seen c.args.disks.now.items) scenario commands s.stand _ refl (record { cores_are = refl; marks_are = refl; channels_are = c.make_room.ensures.same })
+
+pub returns-in_default-make_room-clause-keeps : goal.returns-in_default-make_room-clause-keeps
+returns-in_default-make_room-clause-keeps g c = record { lines = refl; broken = refl; routes = refl; scenario = refl }
+
+pub returns-in_default-make_room-clause-faults : goal.returns-in_default-make_room-clause-faults
+returns-in_default-make_room-clause-faults g c = same_never_falls (map g.D.Disk.seen c.args.disks.now.items)
+
+pub index_mut-requires : goal.index_mut-requires
+index_mut-requires g c =
+    let nine = c.requires.stood.stood.stand.others.nine in
+    let seen = length-map c.args.disks.now.items g.D.Disk.seen in
+    let size = c.args.disks.now.ok.0 in
+    omega (arith, nine, seen, size)
+
+pub tell_coordinator-requires-clause-told : goal.tell_coordinator-requires-clause-told
+tell_coordinator-requires-clause-told g c = c.requires.told
+
+pub tell_coordinator-requires-clause-stood : goal.tell_coordinator-requires-clause-stood
+tell_coordinator-requires-clause-stood g c =
+    let r = c.requires.stood in
+    let at = first_disk g.D.Disk.seen c.args.disks.now.items c.index_mut.result.now r.scenario r.stood.stand.others c.index_mut.ensures.value in
+    may_tell_coord g.D.Disk.tells c.args.self.now (map g.D.Disk.seen c.args.disks.now.items) r.scenario r.commands r.stood.stand (g.D.Disk.seen c.index_mut.result.now) (g.D.Disk.seen c.index_mut.result.now) at c.args.ask r.command r.asks
+
+pub post-requires-clause-room : goal.post-requires-clause-room
+post-requires-clause-room g c = c.in-Ok-make_room.ensures.room
+
+pub post-requires-clause-empty : goal.post-requires-clause-empty
+post-requires-clause-empty g c = c.reserve.ensures.items ∙ c.new-sends.ensures.items
+
+pub post-requires-clause-places : goal.post-requires-clause-places
+post-requires-clause-places g c =
+    let room = c.in-Ok.ensures.ok in
+    let many = c.len.ensures in
+    let same = c.make_room.ensures.same.count in
+    let size = c.args.self.now.traffic.ok.0 in
+    omega (arith, room, many, same, size)
+
+pub post-requires-clause-few : goal.post-requires-clause-few
+post-requires-clause-few g c =
+    let r = c.requires.stood in
+    few_messages g.D.Disk.tells c.args.self.now (map g.D.Disk.seen c.args.disks.now.items) r.scenario r.commands r.stood.stand c.make_room.new.traffic.items c.make_room.ensures.same r.room
+
+pub returns-in-Ok-tell_coordinator-clause-heard : goal.returns-in-Ok-tell_coordinator-clause-heard
+returns-in-Ok-tell_coordinator-clause-heard g c scenario commands command s asks room =
+    let at = first_disk g.D.Disk.seen c.args.disks.now.items c.index_mut.result.now scenario s.stand.others c.index_mut.ensures.value in
+    hears_told g.D.Disk.tells c.args.self.now (map g.D.Disk.seen c.args.disks.now.items) scenario commands s.stand (g.D.Disk.seen c.index_mut.result.now) (g.D.Disk.seen c.tell_coordinator.new.disk) at c.args.ask command asks
+    _ _ c.make_room.new.traffic.items c.as_slice.result.now c.in-Ok-tell_coordinator.step _ (seen_put g.D.Disk.seen c.args.disks.now.items 0 c.tell_coordinator.new.disk)
+    (record { cores_are = refl; marks_are = refl; room = c.make_room.ensures.same; posted = c.post.ensures.posted }) c.as_slice.ensures.items c.in-Ok-tell_coordinator.ensures.served c.as_slice.ensures.rising refl c.post.ensures.places
+
+pub returns-in-Ok-tell_coordinator-clause-keeps : goal.returns-in-Ok-tell_coordinator-clause-keeps
+returns-in-Ok-tell_coordinator-clause-keeps g c = record { lines = refl; broken = refl; routes = refl; scenario = refl }
+
+pub returns-in-Ok-tell_coordinator-clause-faults : goal.returns-in-Ok-tell_coordinator-clause-faults
+returns-in-Ok-tell_coordinator-clause-faults g c =
+    let r = c.requires.stood in
+    let at = first_disk g.D.Disk.seen c.args.disks.now.items c.index_mut.result.now r.scenario r.stood.stand.others c.index_mut.ensures.value in
+    subst (λ (ds : List Seen). NeverFalls (map g.D.Disk.seen c.args.disks.now.items) ds) (sym (seen_put g.D.Disk.seen c.args.disks.now.items 0 c.tell_coordinator.new.disk))
+    (put_never_falls (map g.D.Disk.seen c.args.disks.now.items) 0 (g.D.Disk.seen c.index_mut.result.now) (g.D.Disk.seen c.tell_coordinator.new.disk) at c.tell_coordinator.ensures.faults)
+
+pub returns-in-Err-clause-failed : goal.returns-in-Err-clause-failed
+returns-in-Err-clause-failed g c scenario commands command s asks room =
+    let at = first_disk g.D.Disk.seen c.args.disks.now.items c.index_mut.result.now scenario s.stand.others c.index_mut.ensures.value in
+    fails_told g.D.Disk.tells c.args.self.now (map g.D.Disk.seen c.args.disks.now.items) scenario commands s.stand (g.D.Disk.seen c.index_mut.result.now) (g.D.Disk.seen c.tell_coordinator.new.disk) at c.args.ask command asks
+    c.in-Err.why c.world_err.result _ _ c.world_err.ensures (seen_put g.D.Disk.seen c.args.disks.now.items 0 c.tell_coordinator.new.disk)
+    (record { cores_are = refl; marks_are = refl; channels_are = c.make_room.ensures.same }) c.in-Err.ensures.failed
+
+pub returns-in-Err-clause-keeps : goal.returns-in-Err-clause-keeps
+returns-in-Err-clause-keeps g c = record { lines = refl; broken = refl; routes = refl; scenario = refl }
+
+pub returns-in-Err-clause-cause : goal.returns-in-Err-clause-cause
+returns-in-Err-clause-cause g c =
+    let r = c.requires.stood in
+    let at = first_disk g.D.Disk.seen c.args.disks.now.items c.index_mut.result.now r.scenario r.stood.stand.others c.index_mut.ensures.value in
+    subst (λ (why : WorldErr). HasCause why (map g.D.Disk.seen c.args.disks.now.items) (map g.D.Disk.seen (slice_set c.args.disks.now.items 0 c.tell_coordinator.new.disk))) (sym c.world_err.ensures)
+    (cause_at c.in-Err.why 0 (map g.D.Disk.seen c.args.disks.now.items) _ (g.D.Disk.seen c.index_mut.result.now) (g.D.Disk.seen c.tell_coordinator.new.disk) at
+    (seen_put g.D.Disk.seen c.args.disks.now.items 0 c.tell_coordinator.new.disk) (λ is. c.tell_coordinator.ensures.cause (c.in-Err.is ∙ ap (λ (e : StepErr). Err e) is)))
+
+pub returns-in-Err-clause-faults : goal.returns-in-Err-clause-faults
+returns-in-Err-clause-faults g c =
+    let r = c.requires.stood in
+    let at = first_disk g.D.Disk.seen c.args.disks.now.items c.index_mut.result.now r.scenario r.stood.stand.others c.index_mut.ensures.value in
+    subst (λ (ds : List Seen). NeverFalls (map g.D.Disk.seen c.args.disks.now.items) ds) (sym (seen_put g.D.Disk.seen c.args.disks.now.items 0 c.tell_coordinator.new.disk))
+    (put_never_falls (map g.D.Disk.seen c.args.disks.now.items) 0 (g.D.Disk.seen c.index_mut.result.now) (g.D.Disk.seen c.tell_coordinator.new.disk) at c.tell_coordinator.ensures.faults)

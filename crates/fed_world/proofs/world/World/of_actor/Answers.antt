@@ -1,0 +1,10 @@
+use Rattle.std.proofs.Common.{ℕ, sym, ap, ◌∙◌}
+use Rattle.fed_world.specs.Hearers.{to_actor}
+use Rattle.fed_world.proofs.Asking.{to_other_actor}
+use Rattle.fed_world.proofs.world.World.of_actor.Goals as goal
+
+pub returns-then-actor-eq0 : goal.returns-then-actor-eq0
+returns-then-actor-eq0 c scenario commands r = ap (λ (n : ℕ). to_actor scenario n c.args.coordinator c.args.site) (sym c.if-actor-eq0.true)
+
+pub returns-else-actor-eq0 : goal.returns-else-actor-eq0
+returns-else-actor-eq0 c scenario commands r = c.of_site.ensures scenario commands r ∙ sym (to_other_actor scenario c.args.actor c.args.coordinator c.args.site c.if-actor-eq0.false)

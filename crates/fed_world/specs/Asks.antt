@@ -1,0 +1,75 @@
+-- What a command asks of an actor, as a request over the actor's own past.
+use Rattle.std.specs.Prelude.{ℕ, ◌≡◌, slice_get, Some}
+use Rattle.mdb_base.specs.declared.names.SiteId.{SiteId}
+use Rattle.order_laws.specs.Chains.{In}
+use Rattle.global_exec.specs.Pasts.{IsAmong}
+use Rattle.fed_rules.specs.declared.answers.Answer.TheVariants as Say
+use Rattle.fed_rules.specs.declared.commands.Command.{Command}
+use Rattle.fed_rules.specs.declared.events.CoordEvent.{CoordEvent}
+use Rattle.fed_rules.specs.declared.events.CoordEvent.TheVariants as To_coord
+use Rattle.fed_rules.specs.declared.scenario.Scenario.{Scenario}
+use Rattle.fed_rules.specs.CoordCommands.{go_request, fate_request, attempt_request}
+use Rattle.fed_rules.specs.CoordPast.{CoordPast}
+use Rattle.fed_rules.specs.Requests.{Request, Submits, Declines}
+use Rattle.fed_rules.specs.Scenarios.{global_program, home_of, policy, protocols, sites}
+use Rattle.fed_rules.specs.SiteRecords.{Home}
+use Rattle.fed_rules.specs.Story.{Story, Nowhere, coord_past, coord_requested, happens, past_of, requested, sent_to}
+use Rattle.coord_core.specs.Terms.{Terms}
+use Rattle.local_dbms.specs.Stands.{OwnPrograms, own_programs}
+use Rattle.site_seats.specs.Asks.{site_request}
+use Rattle.fed_world.specs.declared.asks.Asked.{Asked}
+use Rattle.fed_world.specs.declared.asks.Asked.TheVariants.{Site, Coordinator, Nobody}
+use Rattle.fed_world.specs.declared.asks.CoordAsk.{CoordAsk}
+use Rattle.fed_world.specs.declared.asks.CoordAsk.TheVariants as Coord
+use Rattle.site_seats.specs.declared.asks.SiteAsk.{SiteAsk}
+use Rattle.site_seats.specs.declared.asks.SiteAsk.TheVariants as At
+
+-- what the coordinator makes of it
+abbrev pub coord_request : CoordAsk → Terms → OwnPrograms → CoordPast → Request CoordEvent
+coord_request (Coord.Go tx) terms programs past = go_request terms.protocols terms.policy (programs tx) past tx
+coord_request (Coord.Fate tx) terms programs past = fate_request (programs tx) tx
+coord_request (Coord.Again tid) terms programs past = attempt_request past tid (To_coord.Again tid)
+coord_request (Coord.Late tid) terms programs past = attempt_request past tid (To_coord.Late tid)
+coord_request (Coord.Take site message) terms programs past = Submits (To_coord.Take site message)
+coord_request (Coord.Halt cut) terms programs past = Submits (To_coord.Halt cut)
+coord_request (Coord.Trip calls cut) terms programs past = Submits (To_coord.Trip calls cut)
+coord_request Coord.Back terms programs past = Submits To_coord.Back
+coord_request Coord.Check terms programs past = Submits To_coord.Check
+
+-- when the coordinator may be asked: a message comes from one of its sites
+abbrev pub CanTellCoord : CoordAsk → Terms → OwnPrograms → CoordPast → Type 0
+CanTellCoord (Coord.Take site message) terms programs past = IsAmong site terms.protocols
+CanTellCoord ask terms programs past = Unit {0}
+
+-- the terms of the coordinator of a scenario
+abbrev pub terms_of : Scenario → Terms
+terms_of scenario = record { protocols = protocols scenario; policy = policy scenario }
+
+-- a message that is given was sent to the site
+abbrev pub WasSent : SiteAsk → SiteId → Story → Type 0
+WasSent (At.Give message) site story = In message (sent_to site story)
+WasSent ask site story = Unit {0}
+
+-- a message that is taken comes from a declared site
+abbrev pub IsFromSite : CoordAsk → Scenario → Type 0
+IsFromSite (Coord.Take site message) scenario = IsAmong site (protocols scenario)
+IsFromSite ask scenario = Unit {0}
+
+-- the command makes happen what this request of the site at this place comes to
+pub record AsksSite (place : ℕ) (ask : SiteAsk) (command : Command) (scenario : Scenario) (story : Story) : Type 0 where
+  pub home : Home
+  pub declared : home_of scenario home.site ≡ Some home
+  pub at : slice_get (sites scenario) place ≡ Some home.site
+  pub happens : happens scenario story command ≡ requested home story (site_request ask home (own_programs home.site scenario.transactions) (past_of home.site story))
+  pub sent : WasSent ask home.site story
+
+-- what this request of the coordinator comes to
+pub record AsksCoordinator (ask : CoordAsk) (command : Command) (scenario : Scenario) (story : Story) : Type 0 where
+  pub happens : happens scenario story command ≡ coord_requested scenario story (coord_request ask (terms_of scenario) (global_program scenario) (coord_past story))
+  pub from : IsFromSite ask scenario
+
+-- who hears of the command, and what is asked
+abbrev pub IsAsked : Asked → Command → Scenario → Story → Type 0
+IsAsked (Site place ask) command scenario story = AsksSite place ask command scenario story
+IsAsked (Coordinator ask) command scenario story = AsksCoordinator ask command scenario story
+IsAsked Nobody command scenario story = happens scenario story command ≡ Nowhere Say.None

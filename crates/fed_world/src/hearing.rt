@@ -1,0 +1,121 @@
+//! How a command comes to its actor.
+ghost use Rattle.std.specs.Prelude.{◌≡◌, IsTrue, IfOk, IfErr, map};
+ghost use Rattle.fed_world.specs.Worlds.{EachCoordAsk, EachSiteAsk, EachStory, HasCause, HasRoom, IsHeard, IsUnheard, KeepsLines, NeverFalls, SomeCoordAsk, SomeSiteAsk, SomeStory, Stands, error_of};
+
+use crate::asks::{Asked, CoordAsk};
+use crate::errors::WorldErr;
+use crate::telling::tell_coordinator;
+use crate::world::World;
+use fed_rules::{Answer, Command};
+use journal_disk::Disk;
+use local_dbms::StepErr;
+use session_routes::{make_room, post};
+use site_seats::{Heard, SiteAsk, tell_seat};
+use std::alloc::Global;
+
+/// Why the disk of this actor gave no line.
+fn world_err(number: u8, why: StepErr) -> WorldErr
+    ensures { result ≡ error_of number why }
+{
+    match why {
+        StepErr::Disk => WorldErr::Disk { number },
+        StepErr::Memory => WorldErr::Memory,
+    }
+}
+
+impl World {
+    /// The site at this place hears what is asked of it.
+    #[tactic(none)]
+    fn at_site<D: Disk>(
+        &mut self,
+        alloc: Global,
+        disks: &mut Vec<D>,
+        place: usize,
+        ask: SiteAsk,
+    ) -> Result<Heard, WorldErr>
+        requires told { IsTrue D.tells }
+        requires stood { SomeSiteAsk (Stands D.tells self.old (map D.seen disks.old.items)) place ask }
+        ensures heard { IfOk result (λ heard. EachSiteAsk (Stands D.tells self.old (map D.seen disks.old.items)) place ask (IsHeard D.tells self.new (map D.seen disks.new.items) heard)) }
+        ensures failed { IfErr result (λ why. EachSiteAsk (Stands D.tells self.old (map D.seen disks.old.items)) place ask (IsUnheard D.tells why self.new (map D.seen disks.new.items))) }
+        ensures keeps { KeepsLines self.old self.new }
+        ensures cause { IfErr result (λ why. HasCause why (map D.seen disks.old.items) (map D.seen disks.new.items)) }
+        ensures faults { NeverFalls (map D.seen disks.old.items) (map D.seen disks.new.items) }
+    {
+        let traffic = &mut self.traffic[place];
+        let number = traffic.site.0;
+        let heard = tell_seat(
+            &mut self.cores.sites.items[place],
+            &mut self.cores.marks[place],
+            traffic,
+            alloc,
+            &mut disks[number as usize],
+            ask,
+        );
+        match heard {
+            Ok(heard) => Ok(heard),
+            Err(why) => Err(world_err(number, why)),
+        }
+    }
+
+    /// The coordinator hears what is asked of it, and what it sends is put into the channels. Room is made before.
+    #[tactic(none)]
+    fn at_coordinator<D: Disk>(
+        &mut self,
+        alloc: Global,
+        disks: &mut Vec<D>,
+        ask: CoordAsk,
+    ) -> Result<Heard, WorldErr>
+        requires told { IsTrue D.tells }
+        requires stood { SomeCoordAsk (Stands D.tells self.old (map D.seen disks.old.items)) ask }
+        ensures heard { IfOk result (λ heard. EachCoordAsk (Stands D.tells self.old (map D.seen disks.old.items)) ask (IsHeard D.tells self.new (map D.seen disks.new.items) heard)) }
+        ensures failed { IfErr result (λ why. EachCoordAsk (Stands D.tells self.old (map D.seen disks.old.items)) ask (IsUnheard D.tells why self.new (map D.seen disks.new.items))) }
+        ensures keeps { KeepsLines self.old self.new }
+        ensures cause { IfErr result (λ why. HasCause why (map D.seen disks.old.items) (map D.seen disks.new.items)) }
+        ensures faults { NeverFalls (map D.seen disks.old.items) (map D.seen disks.new.items) }
+    {
+        let mut sends = Vec::new(alloc);
+        let Ok(()) = sends.reserve(self.traffic.len()) else {
+            return Err(WorldErr::Memory);
+        };
+        let Ok(()) = make_room(&mut self.traffic) else {
+            return Err(WorldErr::Memory);
+        };
+        match tell_coordinator(&mut self.cores.coordinator, alloc, &mut disks[0], ask) {
+            Ok(step) => {
+                post(&mut self.traffic, step.sends.as_slice(), &mut sends);
+                Ok(Heard {
+                    answer: step.answer,
+                    sends,
+                })
+            }
+            Err(why) => Err(world_err(0, why)),
+        }
+    }
+
+    /// The actor of a command hears of it.
+    pub(crate) fn hear<D: Disk>(
+        &mut self,
+        alloc: Global,
+        disks: &mut Vec<D>,
+        command: Command,
+    ) -> Result<Heard, WorldErr>
+        requires told { IsTrue D.tells }
+        requires stood { SomeStory (Stands D.tells self.old (map D.seen disks.old.items)) HasRoom }
+        ensures heard { IfOk result (λ heard. EachStory (Stands D.tells self.old (map D.seen disks.old.items)) (λ scenario commands. HasRoom scenario commands
+            → IsHeard D.tells self.new (map D.seen disks.new.items) heard command scenario commands)) }
+        ensures failed { IfErr result (λ why. EachStory (Stands D.tells self.old (map D.seen disks.old.items)) (λ scenario commands. HasRoom scenario commands
+            → IsUnheard D.tells why self.new (map D.seen disks.new.items) command scenario commands)) }
+        ensures keeps { KeepsLines self.old self.new }
+        ensures cause { IfErr result (λ why. HasCause why (map D.seen disks.old.items) (map D.seen disks.new.items)) }
+        ensures faults { NeverFalls (map D.seen disks.old.items) (map D.seen disks.new.items) }
+    {
+        match self.asked(command) {
+            Asked::Site { place, ask } => self.at_site(alloc, disks, place, ask),
+            Asked::Coordinator(ask) => self.at_coordinator(alloc, disks, ask),
+            Asked::Nobody => Ok(Heard {
+                answer: Answer::None,
+                sends: Vec::new(alloc),
+            }),
+        }
+    }
+}

@@ -1,0 +1,96 @@
+//! The report of a world's session.
+ghost use Rattle.std.specs.Prelude.{◌≡◌, ◌<◌, false, IfOk, Some, length, map, slice_get};
+ghost use Rattle.mdb_base.specs.declared.names.SiteId.{SiteId as TheSite};
+ghost use Rattle.fed_rules.specs.CoordPast.{records};
+ghost use Rattle.fed_rules.specs.CoordRecords.{committed_of};
+ghost use Rattle.fed_rules.specs.Happenings.{is_down};
+ghost use Rattle.fed_rules.specs.Reports.{report_of, tables};
+ghost use Rattle.fed_rules.specs.Scenarios.{sites};
+ghost use Rattle.fed_rules.specs.Story.{story_of};
+ghost use Rattle.global_manager.specs.Stands.{EachManaged};
+ghost use Rattle.fed_world.specs.Reporting as reporting;
+ghost use Rattle.fed_world.specs.Worlds.{AnyStory, EachStory, ManagerRecalls, Recalls, Rests, SomeStory};
+
+use crate::world::World;
+use fed_rules::{FromMessages, Report, ToMessages};
+use mdb_base::{Memory, SiteRows, Tx};
+use session_report::{Channel, report};
+use session_routes::Traffic;
+use std::alloc::Global;
+
+/// The messages to and from a site, as the report reads them.
+fn channel_of(alloc: Global, traffic: &Traffic) -> Result<Channel, Memory>
+    ensures { IfOk result (λ channel. channel ≡ reporting.channel_of traffic.now) }
+{
+    let to = Vec::from_slice(alloc, traffic.to.as_slice())?;
+    let from = Vec::from_slice(alloc, traffic.from.as_slice())?;
+    Ok(Channel {
+        site: traffic.site,
+        to: ToMessages::of(to),
+        from: FromMessages::of(from),
+    })
+}
+
+/// The messages to and from each of these sites, in their order.
+pub(crate) fn channels_of(alloc: Global, traffic: &[Traffic]) -> Result<Vec<Channel>, Memory>
+    ensures { IfOk result (λ channels. channels.items ≡ map reporting.channel_of traffic.now) }
+{
+    let mut channels = Vec::new(alloc);
+    for one in traffic {
+        let channel = channel_of(alloc, one)?;
+        channels.push(channel)?;
+    }
+    Ok(channels)
+}
+
+impl World {
+    /// The rows of the site at this place, in a session at rest.
+    fn rows_at(&self, alloc: Global, place: usize) -> Result<SiteRows, Memory>
+        requires cores { place < length self.now.cores.sites.items.items }
+        requires channels { place < length self.now.traffic.items }
+        ensures { IfOk result (λ rows. EachStory (Recalls self.now) (λ scenario commands. Rests scenario commands
+            → (site : TheSite) → slice_get (sites scenario) place ≡ Some site → rows ≡ reporting.rows_at scenario (story_of scenario commands) site)) }
+    {
+        let rows = self.cores.sites.at(place).core().rows(alloc)?;
+        Ok(SiteRows {
+            site: self.traffic[place].site,
+            rows,
+        })
+    }
+
+    /// The rows of each site, by rising site, in a session at rest.
+    fn tables(&self, alloc: Global) -> Result<Vec<SiteRows>, Memory>
+        requires { SomeStory (Recalls self.now) AnyStory }
+        ensures { IfOk result (λ rows. EachStory (Recalls self.now) (λ scenario commands. Rests scenario commands
+            → rows.items ≡ tables scenario (story_of scenario commands))) }
+    {
+        let mut tables = Vec::new(alloc);
+        for place in 0..self.traffic.len() {
+            let rows = self.rows_at(alloc, place)?;
+            tables.push(rows)?;
+        }
+        Ok(tables)
+    }
+
+    /// The report of a session at rest.
+    pub fn report(&self, alloc: Global) -> Result<Report, Memory>
+        requires { SomeStory (Recalls self.now) Rests }
+        ensures { IfOk result (λ report. EachStory (Recalls self.now) (λ scenario commands. report ≡ report_of scenario (story_of scenario commands))) }
+    {
+        let channels = channels_of(alloc, self.traffic.as_slice())?;
+        let tables = self.tables(alloc)?;
+        let coordinator = &self.cores.coordinator;
+        let committed = |tx: Tx|
+            ensures { EachManaged (ManagerRecalls coordinator.entry.now) (λ terms programs past. is_down past ≡ false → result ≡ committed_of (records past) tx) }
+        { coordinator.core().committed(tx) };
+        report(
+            alloc,
+            &self.cores.scenario,
+            self.lines.as_slice(),
+            channels.as_slice(),
+            self.cores.marks.as_slice(),
+            tables,
+            &committed,
+        )
+    }
+}

@@ -1,0 +1,13 @@
+mod CoordFits
+mod CoordLines
+mod CoordReplies
+mod CoordSends
+mod CoordTrips
+mod Happened
+mod Heard
+mod News
+mod Outstanding
+mod RightLines
+mod SiteFits
+mod SiteReplies
+mod Sorted

@@ -1,0 +1,95 @@
+-- What is on the disk of an actor's store: the bytes of the rules, and while the actor is up the frames of its records alone.
+use Rattle.std.proofs.Common.{◌≡◌, ℕ, Bool, true, false, IsTrue, Option, Some, List, [], ◌∷◌, ◌++◌, length, map, reverse, refl, sym, ◌∙◌, ap, subst, arith}
+use Rattle.std.proofs.lemmas.List.{append-nil, length-append}
+use Rattle.fed_rules.specs.declared.records.CoordRecord.{CoordRecord}
+use Rattle.fed_rules.specs.declared.records.SiteRecord.{SiteRecord}
+use Rattle.fed_rules.specs.CoordRecords.{coord_frame}
+use Rattle.fed_rules.specs.Disk.{Disk, empty_disk, journal}
+use Rattle.fed_rules.specs.Happenings.{Trip}
+use Rattle.fed_rules.specs.SiteRecords.{site_frame}
+use Rattle.journal_disk.specs.Disk.{Image, Seen}
+use Rattle.journal_disk.specs.Frames.{Frame, frames}
+use Rattle.frame_journal.specs.Records.{AreRecordsOf, as_written, entry_frame, spelled, spelled_size}
+use Rattle.frame_journal.proofs.Keeping.{length-frames, none_is_part, not_torn}
+use Rattle.journal_rules.specs.Stands.{CountsFrames, record_frame}
+use Rattle.journal_rules.proofs.Keeps.{journal_stands}
+use Rattle.actor_store.specs.declared.store.Standing.{Standing}
+use Rattle.actor_store.specs.declared.store.Standing.TheVariants.{Up, Down, Failing}
+use Rattle.actor_store.specs.Store.{HoldsBytes, IsInOrder, Keeps, Stored, is_up, taken_as}
+use Rattle.actor_store.proofs.StoreLaws.{sizes, taken_bytes}
+use Rattle.coord_journal.specs.Exact as coord_exact
+use Rattle.coord_journal.specs.Frames as coord_frames
+use Rattle.coord_journal.specs.Spelling as of_coordinator
+use Rattle.site_journal.specs.Exact as site_exact
+use Rattle.site_journal.specs.Frames as site_frames
+use Rattle.site_journal.specs.Spelling as of_site
+
+-- a list without items
+pub nothing : {A : Type 0} (xs : List A) → length xs ≡ 0 → xs ≡ []
+nothing [] e = refl
+nothing (x ∷ xs) e = absurd (omega (arith, e))
+
+module _ {R : Type 0} (spelling : R → List ℕ) (reading : List ℕ → Option R) (is_record : R → Type 0) (frame_bytes : R → ℕ) (counts : CountsFrames spelling frame_bytes) (again : (entry : R) → is_record entry → reading (spelling entry) ≡ Some entry) where
+  -- the bytes on a store's disk are those of the rules
+  holds_bytes : (tells : Bool) (seen : Seen) (store : Stored R) (rules : Disk R) (trip : Option Trip) → Keeps spelling is_record frame_bytes tells seen store rules trip → HoldsBytes spelling frame_bytes seen.image rules
+  holds_bytes tells seen store rules trip k =
+      let same = taken_bytes store.standing seen.image in
+      let all = sizes spelling reading is_record frame_bytes counts again (taken_as store.standing seen.image) rules k.stands in
+      record {
+        records = subst (λ (bytes : List ℕ). AreRecordsOf (record_frame spelling) bytes (reverse (journal frame_bytes rules))) same
+            (journal_stands spelling frame_bytes counts (taken_as store.standing seen.image) rules k.stands);
+        bytes = omega (arith, all.0, ap length same);
+      }
+
+  -- the frames of entries as they are written are those of their records
+  written_frames : (rs : List R) → spelled (entry_frame spelling) (map as_written rs) ≡ spelled (record_frame spelling) rs
+  written_frames rs = ap frames (map-map rs)
+    where
+      map-map : (rs : List R) → map (entry_frame spelling) (map as_written rs) ≡ map (record_frame spelling) rs
+      map-map [] = refl
+      map-map (r ∷ rs) = ap (λ (fs : List Frame). record_frame spelling r ∷ fs) (map-map rs)
+
+  -- while the actor is up they are the frames of its records
+  holds_frames : (tells : Bool) (seen : Seen) (store : Stored R) (rules : Disk R) (trip : Option Trip) → IsTrue tells → length seen.image.bytes ≡ seen.size → is_up store.standing ≡ true
+      → Keeps spelling is_record frame_bytes tells seen store rules trip → seen.image.bytes ≡ spelled (record_frame spelling) (reverse (journal frame_bytes rules))
+  holds_frames tells seen store rules trip told sized up k =
+      let entries = store.journal.entries in
+      let are = k.kept_on.records told in
+      let whole : store.journal.is_torn ≡ false = untorn store.standing up k.in_order in
+      let most = not_torn store.journal.is_torn (spelled_size (entry_frame spelling) entries) seen.size k.kept_on.is_torn whole in
+      let parts : length seen.image.bytes ≡ length (spelled (entry_frame spelling) entries ++ are.rest) = ap length are.parts in
+      let none : are.rest ≡ [] = nothing are.rest (omega (arith, most, parts, sized, length-append (spelled (entry_frame spelling) entries) are.rest, length-frames (map (entry_frame spelling) entries))) in
+      are.parts ∙ ap (λ rest. spelled (entry_frame spelling) entries ++ rest) none ∙ append-nil (spelled (entry_frame spelling) entries)
+      ∙ ap (λ es. spelled (entry_frame spelling) es) k.records ∙ written_frames (reverse (journal frame_bytes rules))
+    where
+      untorn : (standing : Standing) → is_up standing ≡ true → IsInOrder standing store.journal rules → store.journal.is_torn ≡ false
+      untorn Up e o = o
+      untorn Down e o = absurd cc
+      untorn Failing e o = absurd cc
+
+-- of the coordinator
+pub coord_bytes : (tells : Bool) (seen : Seen) (store : Stored CoordRecord) (rules : Disk CoordRecord) (trip : Option Trip) → Keeps of_coordinator.spelling of_coordinator.IsRecord coord_frame tells seen store rules trip
+    → HoldsBytes of_coordinator.spelling coord_frame seen.image rules
+coord_bytes = holds_bytes of_coordinator.spelling of_coordinator.reading of_coordinator.IsRecord coord_frame coord_frames.frame_has_size coord_exact.spelled_is_read
+
+pub coord_whole : (tells : Bool) (seen : Seen) (store : Stored CoordRecord) (rules : Disk CoordRecord) (trip : Option Trip) → IsTrue tells → length seen.image.bytes ≡ seen.size → is_up store.standing ≡ true
+    → Keeps of_coordinator.spelling of_coordinator.IsRecord coord_frame tells seen store rules trip
+    → seen.image.bytes ≡ spelled (record_frame of_coordinator.spelling) (reverse (journal coord_frame rules))
+coord_whole = holds_frames of_coordinator.spelling of_coordinator.reading of_coordinator.IsRecord coord_frame coord_frames.frame_has_size coord_exact.spelled_is_read
+
+-- and of a site
+pub site_bytes : (tells : Bool) (seen : Seen) (store : Stored SiteRecord) (rules : Disk SiteRecord) (trip : Option Trip) → Keeps of_site.spelling of_site.IsRecord site_frame tells seen store rules trip
+    → HoldsBytes of_site.spelling site_frame seen.image rules
+site_bytes = holds_bytes of_site.spelling of_site.reading of_site.IsRecord site_frame site_frames.frame_has_size site_exact.spelled_is_read
+
+pub site_whole : (tells : Bool) (seen : Seen) (store : Stored SiteRecord) (rules : Disk SiteRecord) (trip : Option Trip) → IsTrue tells → length seen.image.bytes ≡ seen.size → is_up store.standing ≡ true
+    → Keeps of_site.spelling of_site.IsRecord site_frame tells seen store rules trip → seen.image.bytes ≡ spelled (record_frame of_site.spelling) (reverse (journal site_frame rules))
+site_whole = holds_frames of_site.spelling of_site.reading of_site.IsRecord site_frame site_frames.frame_has_size site_exact.spelled_is_read
+
+-- a disk without bytes holds what the rules say where nothing was written
+pub none_holds : (image : Image) → image.bytes ≡ [] → HoldsBytes of_coordinator.spelling coord_frame image empty_disk
+none_holds image e = record {
+  records = subst (λ (bytes : List ℕ). AreRecordsOf (record_frame of_coordinator.spelling) bytes []) (sym e)
+      (record { right = record { are_frames = tt; are_right = tt }; rest = []; parts = refl; is_torn = none_is_part });
+  bytes = omega (arith, ap length e);
+}

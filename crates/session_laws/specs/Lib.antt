@@ -1,4 +1,0 @@
-pub mod Closing
-pub mod Serial
-pub mod Sessions
-pub mod Tables
