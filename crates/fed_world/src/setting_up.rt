@@ -185,6 +185,7 @@ impl World {
         ensures failed { IfErr result (λ why. FailsToStart D.tells why (map D.seen disks.new.items) scenario) }
         ensures cause { IfErr result (λ why. HasCause why (map D.seen disks.old.items) (map D.seen disks.new.items)) }
         ensures faults { NeverFalls (map D.seen disks.old.items) (map D.seen disks.new.items) }
+        ensures count { length disks.new.items ≡ 9 }
     {
         let Ok(declared) = declared_sites(alloc, &scenario) else {
             return Err(WorldErr::Memory);

@@ -20,11 +20,17 @@ returns-in_default-clause-failed g c = stops_at_once g.D.Disk.tells (map g.D.Dis
 pub returns-in_default-clause-faults : goal.returns-in_default-clause-faults
 returns-in_default-clause-faults g c = same_never_falls (map g.D.Disk.seen c.args.disks.now.items)
 
+pub returns-in_default-clause-count : goal.returns-in_default-clause-count
+returns-in_default-clause-count g c = c.requires.nine
+
 pub returns-in_default-routes_of-clause-failed : goal.returns-in_default-routes_of-clause-failed
 returns-in_default-routes_of-clause-failed g c = stops_at_once g.D.Disk.tells (map g.D.Disk.seen c.args.disks.now.items) c.args.scenario c.requires.empty
 
 pub returns-in_default-routes_of-clause-faults : goal.returns-in_default-routes_of-clause-faults
 returns-in_default-routes_of-clause-faults g c = same_never_falls (map g.D.Disk.seen c.args.disks.now.items)
+
+pub returns-in_default-routes_of-clause-count : goal.returns-in_default-routes_of-clause-count
+returns-in_default-routes_of-clause-count g c = c.requires.nine
 
 pub returns-in_default-new_channels-clause-failed : goal.returns-in_default-new_channels-clause-failed
 returns-in_default-new_channels-clause-failed g c = stops_at_once g.D.Disk.tells (map g.D.Disk.seen c.args.disks.now.items) c.args.scenario c.requires.empty
@@ -32,17 +38,26 @@ returns-in_default-new_channels-clause-failed g c = stops_at_once g.D.Disk.tells
 pub returns-in_default-new_channels-clause-faults : goal.returns-in_default-new_channels-clause-faults
 returns-in_default-new_channels-clause-faults g c = same_never_falls (map g.D.Disk.seen c.args.disks.now.items)
 
+pub returns-in_default-new_channels-clause-count : goal.returns-in_default-new_channels-clause-count
+returns-in_default-new_channels-clause-count g c = c.requires.nine
+
 pub returns-in_default-new_marks-clause-failed : goal.returns-in_default-new_marks-clause-failed
 returns-in_default-new_marks-clause-failed g c = stops_at_once g.D.Disk.tells (map g.D.Disk.seen c.args.disks.now.items) c.args.scenario c.requires.empty
 
 pub returns-in_default-new_marks-clause-faults : goal.returns-in_default-new_marks-clause-faults
 returns-in_default-new_marks-clause-faults g c = same_never_falls (map g.D.Disk.seen c.args.disks.now.items)
 
+pub returns-in_default-new_marks-clause-count : goal.returns-in_default-new_marks-clause-count
+returns-in_default-new_marks-clause-count g c = c.requires.nine
+
 pub returns-in_default-new_coordinator-clause-failed : goal.returns-in_default-new_coordinator-clause-failed
 returns-in_default-new_coordinator-clause-failed g c = stops_at_once g.D.Disk.tells (map g.D.Disk.seen c.args.disks.now.items) c.args.scenario c.requires.empty
 
 pub returns-in_default-new_coordinator-clause-faults : goal.returns-in_default-new_coordinator-clause-faults
 returns-in_default-new_coordinator-clause-faults g c = same_never_falls (map g.D.Disk.seen c.args.disks.now.items)
+
+pub returns-in_default-new_coordinator-clause-count : goal.returns-in_default-new_coordinator-clause-count
+returns-in_default-new_coordinator-clause-count g c = c.requires.nine
 
 pub set_up_sites-requires-clause-told : goal.set_up_sites-requires-clause-told
 set_up_sites-requires-clause-told g c = c.requires.told
@@ -82,6 +97,9 @@ returns-in-Ok-set_up_sites-clause-stands g c =
 pub returns-in-Ok-set_up_sites-clause-faults : goal.returns-in-Ok-set_up_sites-clause-faults
 returns-in-Ok-set_up_sites-clause-faults g c = c.set_up_sites.ensures.faults
 
+pub returns-in-Ok-set_up_sites-clause-count : goal.returns-in-Ok-set_up_sites-clause-count
+returns-in-Ok-set_up_sites-clause-count g c = c.set_up_sites.ensures.count
+
 pub returns-in-Err-clause-failed : goal.returns-in-Err-clause-failed
 returns-in-Err-clause-failed g c = c.in-Err.ensures.failed
 
@@ -90,3 +108,6 @@ returns-in-Err-clause-cause g c = c.in-Err.ensures.cause
 
 pub returns-in-Err-clause-faults : goal.returns-in-Err-clause-faults
 returns-in-Err-clause-faults g c = c.set_up_sites.ensures.faults
+
+pub returns-in-Err-clause-count : goal.returns-in-Err-clause-count
+returns-in-Err-clause-count g c = c.set_up_sites.ensures.count
