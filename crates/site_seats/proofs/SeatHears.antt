@@ -1,10 +1,8 @@
 -- What a seat holds behind a line, from what its site was told.
-use Rattle.std.proofs.Common.{◌≡◌, ℕ, zero, suc, ◌+◌, true, false, Bool, cond, Option, Some, None, List, [], ◌∷◌, ◌++◌, length, reverse, option_to_list, refl, sym, ap, ap₂, ◌∙◌, subst, arith}
-use Rattle.std.specs.Prelude.{nat_lt}
+use Rattle.std.proofs.Common.{◌≡◌, ℕ, Option, Some, None, List, [], ◌∷◌, ◌++◌, length, reverse, option_to_list, refl, sym, ap, ap₂, ◌∙◌, subst, arith}
 use Rattle.std.proofs.lemmas.Bool.{cond-false, le-ltb}
 use Rattle.std.proofs.lemmas.List.{append-nil, reverse-reverse, length-reverse}
 use Rattle.mdb_base.specs.declared.names.SiteId.{SiteId}
-use Rattle.mdb_base.specs.Words.{with_some}
 use Rattle.fed_rules.specs.declared.commands.Place.{Place}
 use Rattle.fed_rules.specs.declared.events.SiteEvent.{SiteEvent}
 use Rattle.fed_rules.specs.declared.events.SiteStep.{SiteStep}
@@ -22,7 +20,7 @@ use Rattle.site_core.proofs.MadeLaws.{events_of, made_is}
 use Rattle.local_dbms.specs.Stands.{OwnPrograms}
 use Rattle.session_report.specs.declared.marks.Mark.{Mark}
 use Rattle.session_report.specs.declared.marks.Marks.{Marks}
-use Rattle.session_report.specs.Marks.{kept_marks, mark_of, new_marks}
+use Rattle.session_report.specs.Marks.{kept_marks, new_marks}
 use Rattle.session_report.proofs.LineMarks.{lines_mark_one}
 use Rattle.session_routes.specs.declared.traffic.Traffic.{Traffic}
 use Rattle.site_seats.specs.declared.asks.Heard.{Heard}

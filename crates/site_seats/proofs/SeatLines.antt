@@ -1,33 +1,31 @@
 -- What a line leaves of the sites in their seats.
-use Rattle.std.proofs.Common.{◌≡◌, ℕ, zero, suc, ◌+◌, ◌<◌, ◌≤◌, ◌==◌, ◌⊎◌, inl, inr, Bool, true, false, cond, Option, Some, None, List, [], ◌∷◌, ◌++◌, length, map, slice_get, slice_set, option_to_list, refl, sym, ap, ap₂, ◌∙◌, subst, eqb-true, eq-eqb, arith}
+use Rattle.std.proofs.Common.{◌≡◌, ℕ, zero, suc, ◌<◌, ◌≤◌, ◌==◌, Bool, true, false, cond, Option, Some, None, List, [], ◌∷◌, ◌++◌, length, map, slice_get, slice_set, option_to_list, refl, sym, ap, ◌∙◌, subst, eqb-true, eq-eqb, arith}
 use Rattle.std.proofs.lemmas.Bool.{cond-true, cond-false, ne_eqb}
 use Rattle.std.proofs.lemmas.List.{append-nil}
 use Rattle.std.proofs.lemmas.Option.{slice_get_within}
 use Rattle.mdb_base.specs.declared.names.SiteId.{SiteId}
 use Rattle.mdb_base.specs.Names.{same_site}
 use Rattle.mdb_base.specs.Rising.{IsRising}
-use Rattle.mdb_base.specs.Words.{first_where, found, map_some, those, with_some}
-use Rattle.order_laws.proofs.Names.{same_site_alike, same_site_self}
+use Rattle.mdb_base.specs.Words.{first_where, map_some, those}
+use Rattle.order_laws.proofs.Names.{same_site_self}
 use Rattle.fed_rules.specs.declared.events.SiteEvent.{SiteEvent}
 use Rattle.fed_rules.specs.declared.messages.FromSite.{FromSite}
 use Rattle.fed_rules.specs.declared.messages.Sent.{Sent}
 use Rattle.fed_rules.specs.declared.messages.ToSite.{ToSite}
 use Rattle.fed_rules.specs.declared.scenario.Scenario.{Scenario}
-use Rattle.fed_rules.specs.CoordPast.{CoordHappening}
 use Rattle.fed_rules.specs.Requests.{Request, Submits, Declines}
 use Rattle.fed_rules.specs.Scenarios.{home_of, sites}
-use Rattle.fed_rules.specs.Site.{site_line}
 use Rattle.fed_rules.specs.SiteCommands.{past_behind}
-use Rattle.fed_rules.specs.SitePast.{SiteHappening, SitePast}
+use Rattle.fed_rules.specs.SitePast.{SitePast}
 use Rattle.fed_rules.specs.SiteRecords.{Home}
-use Rattle.fed_rules.specs.Story.{Story, Told, Happened, AtSite, AtCoordinator, Nowhere, past_of, requested, sends_from, sends_to, sent_from, sent_to, with_site}
+use Rattle.fed_rules.specs.Story.{Story, Told, Happened, past_of, requested, sends_from, sends_to, sent_from, sent_to, with_site}
 use Rattle.any_engine.specs.declared.engine.AnyEngine.{AnyEngine}
 use Rattle.local_dbms.specs.declared.dbms.LocalDbms.{LocalDbms}
 use Rattle.local_dbms.specs.Stands.{OwnPrograms, own_programs}
 use Rattle.session_report.specs.declared.marks.Marks.{Marks}
 use Rattle.session_report.specs.Marks.{kept_marks}
 use Rattle.session_routes.specs.declared.traffic.Traffic.{Traffic}
-use Rattle.session_routes.specs.Posting.{ArePosted, IsPosted, message_to}
+use Rattle.session_routes.specs.Posting.{message_to}
 use Rattle.session_routes.proofs.Posts.{get_other, get_put, length_set}
 use Rattle.site_seats.specs.Asks.{sends_of}
 use Rattle.site_seats.specs.Parts.{PartAt}

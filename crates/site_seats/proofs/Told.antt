@@ -1,5 +1,5 @@
 -- What a site that is told something answers, from what its verb answers.
-use Rattle.std.proofs.Common.{◌≡◌, ◌≤◌, Option, Some, None, List, [], Result, Ok, Err, IfOk, IfErr, refl, sym, ap, ◌∙◌, subst}
+use Rattle.std.proofs.Common.{◌≡◌, true, false, None, [], Result, Ok, Err, IfOk, IfErr, sym, ap, ◌∙◌, subst}
 use Rattle.std.specs.Prelude.{IsErrOf}
 use Rattle.fed_rules.specs.declared.answers.Answer.{Answer}
 use Rattle.fed_rules.specs.declared.events.SiteEvent.{SiteEvent}
@@ -11,7 +11,7 @@ use Rattle.actor_store.specs.declared.errors.StepErr.{StepErr}
 use Rattle.actor_store.specs.declared.errors.StepErr.TheVariants as Err_is
 use Rattle.local_dbms.specs.Stands.{Each_site, Fails, IsShort, OwnPrograms, Sends, Serves, Some_site}
 use Rattle.site_seats.specs.declared.asks.SiteAsk.{SiteAsk}
-use Rattle.site_seats.specs.Asks.{CanTell, sends_of, site_request}
+use Rattle.site_seats.specs.Asks.{CanTell, can_send, sends_of, site_request}
 use Rattle.site_seats.specs.Parts.{Tells}
 use Rattle.site_seats.proofs.Quiet.{served_tells}
 
@@ -23,6 +23,16 @@ silent_ok Q R asked (Err why) s served k = tt
 silent_err : (Q : StepErr → Type 0) (asked : Result Answer StepErr) (told : Result SiteStep StepErr) → IfErr told (λ why. asked ≡ Err why) → IfErr asked Q → IfErr told Q
 silent_err Q asked (Ok step) s failed = tt
 silent_err Q asked (Err why) s failed = subst (λ (r : Result Answer StepErr). IfErr r Q) s failed
+
+-- what is silent sends nothing
+pub quiet_silent : (P : Type 0) (asked : Result Answer StepErr) (told : Result SiteStep StepErr) → IfOk told (λ step. (asked ≡ Ok step.answer) × (step.sends ≡ None)) → IfOk told (λ step. P → step.sends ≡ None)
+quiet_silent P asked (Ok step) s = λ _. s.1
+quiet_silent P asked (Err why) s = tt
+
+-- what can send isn't asked to send nothing
+pub quiet_sending : (ask made : SiteAsk) (told : Result SiteStep StepErr) → ask ≡ made → can_send made ≡ true → IfOk told (λ step. can_send ask ≡ false → step.sends ≡ None)
+quiet_sending ask made (Ok step) is can = λ cannot. (let no : true ≡ false = sym can ∙ (sym (ap can_send is) ∙ cannot) in cc)
+quiet_sending ask made (Err why) is can = tt
 
 -- it may be told
 pub may_tell : (K P : Home → OwnPrograms → SitePast → Type 0) (ask made : SiteAsk) → ask ≡ made → ((home : Home) (programs : OwnPrograms) (past : SitePast) → CanTell made home programs past → P home programs past)

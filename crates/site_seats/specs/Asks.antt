@@ -1,5 +1,5 @@
 -- What is asked of a site, as a request over its own past.
-use Rattle.std.specs.Prelude.{List, []}
+use Rattle.std.specs.Prelude.{Bool, true, false, List, []}
 use Rattle.fed_rules.specs.declared.events.SiteEvent.{SiteEvent}
 use Rattle.fed_rules.specs.declared.events.SiteEvent.TheVariants as To_site
 use Rattle.fed_rules.specs.declared.messages.FromSite.{FromSite}
@@ -37,3 +37,9 @@ sends_of home past (Declines answer) = []
 abbrev pub CanTell : SiteAsk → Home → OwnPrograms → SitePast → Type 0
 CanTell (At.Give message) home programs past = CanGive message home programs past
 CanTell ask home programs past = IsShort home programs past
+
+-- only a message that is given and an inquiry can make a site send
+abbrev pub can_send : SiteAsk → Bool
+can_send (At.Give message) = true
+can_send (At.Ask tid) = true
+can_send ask = false

@@ -1,23 +1,49 @@
 //! What a site hears, with what the world keeps of it.
-ghost use Rattle.std.specs.Prelude.{◌≤◌, ◌<◌, ◌^◌, ◌≡◌, List, IsTrue, IfOk, IfErr, IsErrOf, length};
+ghost use Rattle.std.specs.Prelude.{◌≤◌, ◌<◌, ◌^◌, ◌≡◌, List, IsTrue, IfOk, IfErr, IsErrOf, OnOk, length, true, vec_len, vec_capacity};
 ghost use Rattle.mdb_base.specs.Counts.{HasRisen};
 ghost use Rattle.any_engine.specs.Stands as Engines;
 ghost use Rattle.fed_rules.specs.declared.messages.FromSite.{FromSite as TheFrom};
 ghost use Rattle.fed_rules.specs.declared.messages.ToSite.{ToSite as TheTo};
 ghost use Rattle.local_dbms.specs.Stands as Dbms;
 ghost use Rattle.local_dbms.specs.Stands.{Each_site, Some_site};
-ghost use Rattle.site_seats.specs.Asks.{CanTell, site_request};
+ghost use Rattle.site_seats.specs.Asks.{CanTell, can_send, site_request};
 ghost use Rattle.site_seats.specs.Parts.{PartAt, PartFails, PartHears};
 
 use crate::asks::{Heard, SiteAsk};
 use crate::telling::tell_site;
 use any_engine::AnyEngine;
-use fed_rules::Place;
+use fed_rules::{FromSite, Place};
 use journal_disk::Disk;
 use local_dbms::{LocalDbms, StepErr};
+use mdb_base::Memory;
 use session_report::Marks;
 use session_routes::Traffic;
 use std::alloc::Global;
+
+/// Whether a site that is asked this can send something.
+fn can_send(ask: SiteAsk) -> bool
+    ensures { result ≡ can_send ask }
+{
+    match ask {
+        SiteAsk::Give(_) | SiteAsk::Ask(_) => true,
+        _ => false,
+    }
+}
+
+/// Makes room for what a site that is asked this can send, and for its place. Where it can send nothing, no memory is taken. What is kept
+/// stays.
+fn make_room(sends: &mut Vec<Place>, from: &mut Vec<FromSite>, ask: SiteAsk) -> Result<(), Memory>
+    ensures places { OnOk result (can_send ask ≡ true → vec_len sends.new < vec_capacity sends.new) }
+    ensures messages { OnOk result (can_send ask ≡ true → vec_len from.new < vec_capacity from.new) }
+    ensures sends { sends.new.items ≡ sends.old.items }
+    ensures from { from.new.items ≡ from.old.items }
+{
+    if can_send(ask) {
+        sends.reserve(1)?;
+        from.reserve(1)?;
+    }
+    Ok(())
+}
 
 /// A site is told what is asked of it. The record that it adds is marked, and the message that it sends is put behind those that it sent.
 /// Room is made before.
@@ -42,10 +68,7 @@ pub fn tell_seat<D: Disk>(
     ensures faults { (D.seen disk.old).faults ≤ (D.seen disk.new).faults }
 {
     let mut sends = Vec::new(alloc);
-    let Ok(()) = sends.reserve(1) else {
-        return Err(StepErr::Memory);
-    };
-    let Ok(()) = traffic.from.reserve(1) else {
+    let Ok(()) = make_room(&mut sends, &mut traffic.from, ask) else {
         return Err(StepErr::Memory);
     };
     let Ok(()) = marks.reserve() else {

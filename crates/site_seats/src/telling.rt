@@ -1,10 +1,10 @@
 //! How a site is told what is asked of it.
-ghost use Rattle.std.specs.Prelude.{◌≤◌, ◌≡◌, IsTrue, IfOk, IfErr, IsErrOf, None};
+ghost use Rattle.std.specs.Prelude.{◌≤◌, ◌≡◌, IsTrue, IfOk, IfErr, IsErrOf, None, false};
 ghost use Rattle.mdb_base.specs.Counts.{HasRisen};
 ghost use Rattle.any_engine.specs.Stands as Engines;
 ghost use Rattle.local_dbms.specs.Stands as Dbms;
 ghost use Rattle.local_dbms.specs.Stands.{Each_site, Some_site};
-ghost use Rattle.site_seats.specs.Asks.{CanTell, site_request};
+ghost use Rattle.site_seats.specs.Asks.{CanTell, can_send, site_request};
 ghost use Rattle.site_seats.specs.Parts.{Tells};
 
 use crate::asks::SiteAsk;
@@ -28,7 +28,7 @@ fn silent(answer: Result<Answer, StepErr>) -> Result<SiteStep, StepErr>
     }
 }
 
-/// A site is told what is asked of it.
+/// A site is told what is asked of it. It sends something only where it may.
 #[tactic(none)]
 pub fn tell_site<D: Disk>(
     dbms: &mut LocalDbms<AnyEngine>,
@@ -42,6 +42,7 @@ pub fn tell_site<D: Disk>(
         → Tells (Dbms.Stands Engines.Stands D.tells dbms.new (D.seen disk.new)) step home programs past (site_request ask home programs past))) }
     ensures failed { IfErr result (λ why. Each_site (Dbms.Stands Engines.Stands D.tells dbms.old (D.seen disk.old)) (λ home programs past. CanTell ask home programs past
         → Dbms.Fails (Dbms.Stands Engines.Stands D.tells dbms.new (D.seen disk.new)) why home programs past (site_request ask home programs past))) }
+    ensures quiet { IfOk result (λ step. can_send ask ≡ false → step.sends ≡ None) }
     ensures cause { IsErrOf result StepErr.Disk → HasRisen (D.seen disk.old).faults (D.seen disk.new).faults }
     ensures faults { (D.seen disk.old).faults ≤ (D.seen disk.new).faults }
 {

@@ -1,6 +1,7 @@
 -- Words that are joined by spaces.
 use Rattle.std.proofs.Common.{◌≡◌, ℕ, ◌-◌, ◌≤◌, List, [], ◌∷◌, ◌++◌, length, take, drop, get_or, ap, sym, ◌∙◌, append-nil, arith}
 use Rattle.std.proofs.lemmas.Grind.{common_steps}
+use Rattle.std.proofs.lemmas.List.{append_assoc}
 use Rattle.trace_lines.specs.declared.word.Word.{Word}
 use Rattle.trace_lines.specs.Words.{word_text}
 use Rattle.trace_lines.specs.Spelling.{spaced, words_bytes}
@@ -17,8 +18,9 @@ joined_by_places (word ∷ more) d h =
     let all : take (length (word ∷ more) - 1) more ≡ more = grind (arith, common_steps) in
     joined_by_spaces word more ∙ ap (λ rest. word_text word ++ spaced rest) (sym all)
 
--- the first word is written where nothing was, and then the others
-pub first_and_others : (none first all : List ℕ) (words : List Word) (d : Word) → 1 ≤ length words → none ≡ [] → first ≡ none ++ word_text (get_or words 0 d) → all ≡ first ++ spaced (take (length words - 1) (drop 1 words)) → all ≡ words_bytes words
-first_and_others none first all words d h e f g =
+-- the first word is written behind what stood there, and then the others
+pub first_and_others : (old first all : List ℕ) (words : List Word) (d : Word) → 1 ≤ length words → first ≡ old ++ word_text (get_or words 0 d) → all ≡ first ++ spaced (take (length words - 1) (drop 1 words)) → all ≡ old ++ words_bytes words
+first_and_others old first all words d h f g =
+    let word : List ℕ = word_text (get_or words 0 d) in
     let others : List ℕ = spaced (take (length words - 1) (drop 1 words)) in
-    g ∙ ap (λ front. front ++ others) (f ∙ ap (λ front. front ++ word_text (get_or words 0 d)) e) ∙ sym (joined_by_places words d h)
+    g ∙ ap (λ front. front ++ others) f ∙ append_assoc old word others ∙ ap (λ text. old ++ text) (sym (joined_by_places words d h))

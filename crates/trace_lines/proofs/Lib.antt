@@ -1,4 +1,5 @@
 pub mod Joining
+pub mod Begun
 pub mod Bytes
 pub mod Pairs
 pub mod ParsedNumbers

@@ -39,9 +39,12 @@ pub fn print_line(alloc: Global, line: &Line, out: &mut Vec<u8>) -> Result<(), M
     ensures err { OnErr result (out.new.items ≡ out.old.items) }
 {
     let words = spelling::line_words(alloc, line)?;
-    let text = printing::text_of(alloc, &words)?;
-    out.extend_from_slice(&text)?;
-    Ok(())
+    let length = out.len();
+    let printed = printing::put_words(out, &words);
+    if printed.is_err() {
+        out.truncate(length);
+    }
+    printed
 }
 
 /// The line that is spelled so, without a line feed. The answer and the places are some that the command can have, and each

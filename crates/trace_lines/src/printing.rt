@@ -1,16 +1,16 @@
-//! Words as bytes.
-ghost use Rattle.std.specs.Prelude.{◌≡◌, ◌∷◌, ◌++◌, OnOk, IfOk, codes, decimal};
-ghost use Rattle.mdb_base.specs.Texts.{tid_text};
+//! Words as bytes. After want of memory the bytes still begin with what they were.
+ghost use Rattle.std.specs.Prelude.{◌≡◌, ◌∷◌, ◌++◌, OnOk, OnErr, codes, decimal};
+ghost use Rattle.mdb_base.specs.Texts.{tid_text, BeginsWith};
 ghost use Rattle.trace_lines.specs.Words.{place_text, edge_text, word_text};
 ghost use Rattle.trace_lines.specs.Spelling.{spaced, words_bytes};
 
 use crate::word::Word;
 use fed_rules::Place;
 use mdb_base::{Edge, Memory, put_number, put_text, put_tid};
-use std::alloc::Global;
 
 fn put_place(out: &mut Vec<u8>, sent: Place) -> Result<(), Memory>
-    ensures { OnOk result (out.new.items ≡ out.old.items ++ place_text sent) }
+    ensures ok { OnOk result (out.new.items ≡ out.old.items ++ place_text sent) }
+    ensures err { OnErr result (BeginsWith out.old.items out.new.items) }
 {
     put_number(out, u64::from(sent.site.0))?;
     put_text(out, "/")?;
@@ -18,7 +18,8 @@ fn put_place(out: &mut Vec<u8>, sent: Place) -> Result<(), Memory>
 }
 
 fn put_edge(out: &mut Vec<u8>, edge: Edge) -> Result<(), Memory>
-    ensures { OnOk result (out.new.items ≡ out.old.items ++ edge_text edge) }
+    ensures ok { OnOk result (out.new.items ≡ out.old.items ++ edge_text edge) }
+    ensures err { OnErr result (BeginsWith out.old.items out.new.items) }
 {
     put_tid(out, edge.from)?;
     put_text(out, ">")?;
@@ -28,7 +29,8 @@ fn put_edge(out: &mut Vec<u8>, edge: Edge) -> Result<(), Memory>
 }
 
 fn put_word(out: &mut Vec<u8>, word: Word) -> Result<(), Memory>
-    ensures { OnOk result (out.new.items ≡ out.old.items ++ word_text word) }
+    ensures ok { OnOk result (out.new.items ≡ out.old.items ++ word_text word) }
+    ensures err { OnErr result (BeginsWith out.old.items out.new.items) }
 {
     match word {
         Word::Plain(keyword) => put_text(out, keyword.text()),
@@ -41,26 +43,26 @@ fn put_word(out: &mut Vec<u8>, word: Word) -> Result<(), Memory>
 
 /// Appends words, with one space before each.
 fn put_more(out: &mut Vec<u8>, words: &[Word]) -> Result<(), Memory>
-    ensures { OnOk result (out.new.items ≡ out.old.items ++ spaced words.now) }
+    ensures ok { OnOk result (out.new.items ≡ out.old.items ++ spaced words.now) }
+    ensures err { OnErr result (BeginsWith out.old.items out.new.items) }
 {
     for word in words {
-        put_text(out, " ")?;
+        out.push(b' ')?;
         put_word(out, *word)?;
     }
     Ok(())
 }
 
-/// The bytes of words, with one space between each two.
-pub fn text_of(alloc: Global, words: &[Word]) -> Result<Vec<u8>, Memory>
-    ensures { IfOk result (λ text. text.items ≡ words_bytes words.now) }
+/// Appends words, with one space between each two.
+pub fn put_words(out: &mut Vec<u8>, words: &[Word]) -> Result<(), Memory>
+    ensures ok { OnOk result (out.new.items ≡ out.old.items ++ words_bytes words.now) }
+    ensures err { OnErr result (BeginsWith out.old.items out.new.items) }
 {
     match words {
-        [] => Ok(Vec::new(alloc)),
+        [] => Ok(()),
         [first, more @ ..] => {
-            let mut text = Vec::new(alloc);
-            put_word(&mut text, *first)?;
-            put_more(&mut text, more)?;
-            Ok(text)
+            put_word(out, *first)?;
+            put_more(out, more)
         }
     }
 }

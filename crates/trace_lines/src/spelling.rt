@@ -11,6 +11,9 @@ use mdb_base::{Edge, Key, Memory, Reply, SiteId, Tx, Why};
 use presumptions::Decision;
 use std::alloc::Global;
 
+/// For how many words there is room at first: few lines have more.
+const ROOM: usize = 8;
+
 fn tx_word(tx: Tx) -> Word
     ensures { result ≡ Number tx.0 }
 {
@@ -340,7 +343,7 @@ fn push_sends(words: &mut Vec<Word>, command: &Command, places: &[Place]) -> Res
 pub fn line_words(alloc: Global, line: &Line) -> Result<Vec<Word>, Memory>
     ensures { IfOk result (λ words. words.items ≡ spelling.line_words line.now) }
 {
-    let mut words = Vec::new(alloc);
+    let mut words = Vec::with_capacity(alloc, ROOM)?;
     push_command(&mut words, line.command)?;
     push_one(&mut words, Keyword::Arrow)?;
     push_answer(&mut words, &line.answer)?;

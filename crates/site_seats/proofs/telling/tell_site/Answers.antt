@@ -6,7 +6,7 @@ use Rattle.local_dbms.specs.Stands as Dbms
 use Rattle.local_dbms.specs.Stands.{CanGive, IsShort}
 use Rattle.site_seats.specs.declared.asks.SiteAsk.TheVariants as At
 use Rattle.site_seats.proofs.Quiet.{event_quiet, own_quiet}
-use Rattle.site_seats.proofs.Told.{may_tell, own_cause, own_failed, own_served, sends_failed, sends_served}
+use Rattle.site_seats.proofs.Told.{may_tell, own_cause, own_failed, own_served, quiet_sending, quiet_silent, sends_failed, sends_served}
 use Rattle.site_seats.proofs.telling.tell_site.Goals as goal
 
 pub begin-requires-clause-told : goal.begin-requires-clause-told
@@ -20,6 +20,9 @@ returns-in-Begin-clause-served g c = own_served _ _ c.args.ask (At.Begin c.in-Be
 
 pub returns-in-Begin-clause-failed : goal.returns-in-Begin-clause-failed
 returns-in-Begin-clause-failed g c = own_failed _ (Dbms.Stands Engines.Stands g.D.Disk.tells c.begin.new.self (g.D.Disk.seen c.begin.new.disk)) c.args.ask (At.Begin c.in-Begin.tx) c.in-Begin.is _ _ (λ home programs past may. may) c.silent.ensures.err c.begin.ensures.failed
+
+pub returns-in-Begin-clause-quiet : goal.returns-in-Begin-clause-quiet
+returns-in-Begin-clause-quiet g c = quiet_silent _ _ _ c.silent.ensures.ok
 
 pub returns-in-Begin-clause-cause : goal.returns-in-Begin-clause-cause
 returns-in-Begin-clause-cause g c = own_cause _ _ _ c.silent.ensures.err c.begin.ensures.cause
@@ -39,6 +42,9 @@ returns-in-Step-clause-served g c = own_served _ _ c.args.ask (At.Step c.in-Step
 pub returns-in-Step-clause-failed : goal.returns-in-Step-clause-failed
 returns-in-Step-clause-failed g c = own_failed _ (Dbms.Stands Engines.Stands g.D.Disk.tells c.step.new.self (g.D.Disk.seen c.step.new.disk)) c.args.ask (At.Step c.in-Step.tx) c.in-Step.is _ _ (λ home programs past may. may) c.silent-in-Step.ensures.err c.step.ensures.failed
 
+pub returns-in-Step-clause-quiet : goal.returns-in-Step-clause-quiet
+returns-in-Step-clause-quiet g c = quiet_silent _ _ _ c.silent-in-Step.ensures.ok
+
 pub returns-in-Step-clause-cause : goal.returns-in-Step-clause-cause
 returns-in-Step-clause-cause g c = own_cause _ _ _ c.silent-in-Step.ensures.err c.step.ensures.cause
 
@@ -56,6 +62,9 @@ returns-in-Commit-clause-served g c = own_served _ _ c.args.ask (At.Commit c.in-
 
 pub returns-in-Commit-clause-failed : goal.returns-in-Commit-clause-failed
 returns-in-Commit-clause-failed g c = own_failed _ (Dbms.Stands Engines.Stands g.D.Disk.tells c.commit.new.self (g.D.Disk.seen c.commit.new.disk)) c.args.ask (At.Commit c.in-Commit.tx) c.in-Commit.is _ _ (λ home programs past may. may) c.silent-in-Commit.ensures.err c.commit.ensures.failed
+
+pub returns-in-Commit-clause-quiet : goal.returns-in-Commit-clause-quiet
+returns-in-Commit-clause-quiet g c = quiet_silent _ _ _ c.silent-in-Commit.ensures.ok
 
 pub returns-in-Commit-clause-cause : goal.returns-in-Commit-clause-cause
 returns-in-Commit-clause-cause g c = own_cause _ _ _ c.silent-in-Commit.ensures.err c.commit.ensures.cause
@@ -75,6 +84,9 @@ returns-in-Abort-clause-served g c = own_served _ _ c.args.ask (At.Abort c.in-Ab
 pub returns-in-Abort-clause-failed : goal.returns-in-Abort-clause-failed
 returns-in-Abort-clause-failed g c = own_failed _ (Dbms.Stands Engines.Stands g.D.Disk.tells c.abort.new.self (g.D.Disk.seen c.abort.new.disk)) c.args.ask (At.Abort c.in-Abort.tx) c.in-Abort.is _ _ (λ home programs past may. may) c.silent-in-Abort.ensures.err c.abort.ensures.failed
 
+pub returns-in-Abort-clause-quiet : goal.returns-in-Abort-clause-quiet
+returns-in-Abort-clause-quiet g c = quiet_silent _ _ _ c.silent-in-Abort.ensures.ok
+
 pub returns-in-Abort-clause-cause : goal.returns-in-Abort-clause-cause
 returns-in-Abort-clause-cause g c = own_cause _ _ _ c.silent-in-Abort.ensures.err c.abort.ensures.cause
 
@@ -92,6 +104,9 @@ returns-in-Fate-clause-served g c = own_served _ _ c.args.ask (At.Fate c.in-Fate
 
 pub returns-in-Fate-clause-failed : goal.returns-in-Fate-clause-failed
 returns-in-Fate-clause-failed g c = own_failed _ (Dbms.Stands Engines.Stands g.D.Disk.tells c.fate.new.self (g.D.Disk.seen c.fate.new.disk)) c.args.ask (At.Fate c.in-Fate.tx) c.in-Fate.is _ _ (λ home programs past may. may) c.silent-in-Fate.ensures.err c.fate.ensures.failed
+
+pub returns-in-Fate-clause-quiet : goal.returns-in-Fate-clause-quiet
+returns-in-Fate-clause-quiet g c = quiet_silent _ _ _ c.silent-in-Fate.ensures.ok
 
 pub returns-in-Fate-clause-cause : goal.returns-in-Fate-clause-cause
 returns-in-Fate-clause-cause g c = own_cause _ _ _ c.silent-in-Fate.ensures.err c.fate.ensures.cause
@@ -111,6 +126,9 @@ returns-in-Drop-clause-served g c = own_served _ _ c.args.ask (At.Drop c.in-Drop
 pub returns-in-Drop-clause-failed : goal.returns-in-Drop-clause-failed
 returns-in-Drop-clause-failed g c = own_failed _ (Dbms.Stands Engines.Stands g.D.Disk.tells c.drop.new.self (g.D.Disk.seen c.drop.new.disk)) c.args.ask (At.Drop c.in-Drop.tid) c.in-Drop.is _ _ (λ home programs past may. may) c.silent-in-Drop.ensures.err c.drop.ensures.failed
 
+pub returns-in-Drop-clause-quiet : goal.returns-in-Drop-clause-quiet
+returns-in-Drop-clause-quiet g c = quiet_silent _ _ _ c.silent-in-Drop.ensures.ok
+
 pub returns-in-Drop-clause-cause : goal.returns-in-Drop-clause-cause
 returns-in-Drop-clause-cause g c = own_cause _ _ _ c.silent-in-Drop.ensures.err c.drop.ensures.cause
 
@@ -128,6 +146,9 @@ returns-in-Halt-clause-served g c = own_served _ _ c.args.ask (At.Halt c.in-Halt
 
 pub returns-in-Halt-clause-failed : goal.returns-in-Halt-clause-failed
 returns-in-Halt-clause-failed g c = own_failed _ (Dbms.Stands Engines.Stands g.D.Disk.tells c.halt.new.self (g.D.Disk.seen c.halt.new.disk)) c.args.ask (At.Halt c.in-Halt.cut) c.in-Halt.is _ _ (λ home programs past may. may) c.silent-in-Halt.ensures.err c.halt.ensures.failed
+
+pub returns-in-Halt-clause-quiet : goal.returns-in-Halt-clause-quiet
+returns-in-Halt-clause-quiet g c = quiet_silent _ _ _ c.silent-in-Halt.ensures.ok
 
 pub returns-in-Halt-clause-cause : goal.returns-in-Halt-clause-cause
 returns-in-Halt-clause-cause g c = own_cause _ _ _ c.silent-in-Halt.ensures.err c.halt.ensures.cause
@@ -147,6 +168,9 @@ returns-in-Trip-clause-served g c = own_served _ _ c.args.ask (At.Trip c.in-Trip
 pub returns-in-Trip-clause-failed : goal.returns-in-Trip-clause-failed
 returns-in-Trip-clause-failed g c = own_failed _ (Dbms.Stands Engines.Stands g.D.Disk.tells c.trip.new.self (g.D.Disk.seen c.trip.new.disk)) c.args.ask (At.Trip c.in-Trip.calls c.in-Trip.cut) c.in-Trip.is _ _ (λ home programs past may. may) c.silent-in-Trip.ensures.err c.trip.ensures.failed
 
+pub returns-in-Trip-clause-quiet : goal.returns-in-Trip-clause-quiet
+returns-in-Trip-clause-quiet g c = quiet_silent _ _ _ c.silent-in-Trip.ensures.ok
+
 pub returns-in-Trip-clause-cause : goal.returns-in-Trip-clause-cause
 returns-in-Trip-clause-cause g c = own_cause _ _ _ c.silent-in-Trip.ensures.err c.trip.ensures.cause
 
@@ -164,6 +188,9 @@ returns-in-Back-clause-served g c = own_served _ _ c.args.ask At.Back c.in-Back.
 
 pub returns-in-Back-clause-failed : goal.returns-in-Back-clause-failed
 returns-in-Back-clause-failed g c = own_failed _ (Dbms.Stands Engines.Stands g.D.Disk.tells c.back.new.self (g.D.Disk.seen c.back.new.disk)) c.args.ask At.Back c.in-Back.is _ _ (λ home programs past may. may) c.silent-in-Back.ensures.err c.back.ensures.failed
+
+pub returns-in-Back-clause-quiet : goal.returns-in-Back-clause-quiet
+returns-in-Back-clause-quiet g c = quiet_silent _ _ _ c.silent-in-Back.ensures.ok
 
 pub returns-in-Back-clause-cause : goal.returns-in-Back-clause-cause
 returns-in-Back-clause-cause g c = own_cause _ _ _ c.silent-in-Back.ensures.err c.back.ensures.cause
@@ -183,6 +210,9 @@ returns-in-Check-clause-served g c = own_served _ _ c.args.ask At.Check c.in-Che
 pub returns-in-Check-clause-failed : goal.returns-in-Check-clause-failed
 returns-in-Check-clause-failed g c = own_failed _ (Dbms.Stands Engines.Stands g.D.Disk.tells c.check.new.self (g.D.Disk.seen c.check.new.disk)) c.args.ask At.Check c.in-Check.is _ _ (λ home programs past may. may) c.silent-in-Check.ensures.err c.check.ensures.failed
 
+pub returns-in-Check-clause-quiet : goal.returns-in-Check-clause-quiet
+returns-in-Check-clause-quiet g c = quiet_silent _ _ _ c.silent-in-Check.ensures.ok
+
 pub returns-in-Check-clause-cause : goal.returns-in-Check-clause-cause
 returns-in-Check-clause-cause g c = own_cause _ _ _ c.silent-in-Check.ensures.err c.check.ensures.cause
 
@@ -201,6 +231,9 @@ returns-in-Give-clause-served g c = sends_served _ (Dbms.Stands Engines.Stands g
 pub returns-in-Give-clause-failed : goal.returns-in-Give-clause-failed
 returns-in-Give-clause-failed g c = sends_failed _ (Dbms.Stands Engines.Stands g.D.Disk.tells c.give.new.self (g.D.Disk.seen c.give.new.disk)) c.args.ask (At.Give c.in-Give.message) c.in-Give.is (CanGive c.in-Give.message) (Ev.Give c.in-Give.message) (λ home programs past. refl) (λ home programs past may. may) _ c.give.ensures.failed
 
+pub returns-in-Give-clause-quiet : goal.returns-in-Give-clause-quiet
+returns-in-Give-clause-quiet g c = quiet_sending c.args.ask (At.Give c.in-Give.message) _ c.in-Give.is refl
+
 pub returns-in-Give-clause-cause : goal.returns-in-Give-clause-cause
 returns-in-Give-clause-cause g c = c.give.ensures.cause
 
@@ -218,6 +251,9 @@ returns-in-Ask-clause-served g c = sends_served _ (Dbms.Stands Engines.Stands g.
 
 pub returns-in-Ask-clause-failed : goal.returns-in-Ask-clause-failed
 returns-in-Ask-clause-failed g c = sends_failed _ (Dbms.Stands Engines.Stands g.D.Disk.tells c.ask.new.self (g.D.Disk.seen c.ask.new.disk)) c.args.ask (At.Ask c.in-Ask.tid) c.in-Ask.is IsShort (Ev.Ask c.in-Ask.tid) (λ home programs past. refl) (λ home programs past may. may) _ c.ask.ensures.failed
+
+pub returns-in-Ask-clause-quiet : goal.returns-in-Ask-clause-quiet
+returns-in-Ask-clause-quiet g c = quiet_sending c.args.ask (At.Ask c.in-Ask.tid) _ c.in-Ask.is refl
 
 pub returns-in-Ask-clause-cause : goal.returns-in-Ask-clause-cause
 returns-in-Ask-clause-cause g c = c.ask.ensures.cause

@@ -1,0 +1,13 @@
+-- Bytes that begin with what stood there before.
+use Rattle.std.proofs.Common.{◌≡◌, ℕ, List, ◌++◌, Result, Ok, Err, OnErr, ap, ◌∙◌}
+use Rattle.std.proofs.lemmas.List.{append_assoc}
+use Rattle.mdb_base.specs.Texts.{BeginsWith}
+
+-- what begins with longer bytes begins with their front
+pub begins_with_the_front : (old piece now all : List ℕ) → now ≡ old ++ piece → BeginsWith now all → BeginsWith old all
+begins_with_the_front old piece now all e (rest, f) = (piece ++ rest, f ∙ ap (λ front. front ++ rest) e ∙ append_assoc old piece rest)
+
+-- what holds, holds of an error too
+pub holds_on_err : {T E P : Type 0} (r : Result T E) → P → OnErr r P
+holds_on_err (Ok x) p = tt
+holds_on_err (Err x) p = p
