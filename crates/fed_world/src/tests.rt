@@ -2,8 +2,8 @@
 ghost use Rattle.std.specs.Prelude.{◌≡◌, ◌≤◌, ◌+◌, None, IfOk, OnOk};
 ghost use Rattle.journal_disk.specs.MemDisk.{mem_size};
 ghost use Rattle.fed_world.specs.Sessions.{AreNew, IsOfCommands};
-ghost use Rattle.fed_world.specs.Worlds.{Recalls, Rests, SomeStory};
 
+mod conservative;
 mod failing;
 mod gathered;
 mod same_lines;
@@ -13,7 +13,6 @@ use crate::{World, WorldErr};
 use fed_rules::{Command, Scenario};
 use journal_disk::MemDisk;
 use mdb_base::Memory;
-use report_text::print_report;
 use same_lines::same_line;
 use scenario_text::read_scenario;
 use std::alloc::Global;
@@ -143,30 +142,4 @@ fn replays(rt: &impl Abort, alloc: Global, scenario: &str, script: &str) -> Resu
     let mut disks = nine_disks(alloc, 0, 0)?;
     let mut world = world_of(alloc, scenario, &mut disks)?;
     play(rt, alloc, &mut world, &mut disks, 0, script)
-}
-
-/// The report of a world at rest, as it is printed.
-fn printed_report(alloc: Global, world: &World) -> Result<Vec<u8>, Memory>
-    requires { SomeStory (Recalls world.now) Rests }
-{
-    let report = world.report(alloc)?;
-    let mut printed = Vec::new(alloc);
-    print_report(alloc, &report, &mut printed)?;
-    Ok(printed)
-}
-
-/// Carries out a whole session that leaves the world at rest, and compares its report.
-fn reports(
-    rt: &impl Abort,
-    alloc: Global,
-    scenario: &str,
-    script: &str,
-    report: &str,
-) -> Result<(), Fail> {
-    let mut disks = nine_disks(alloc, 0, 0)?;
-    let mut world = world_of(alloc, scenario, &mut disks)?;
-    play(rt, alloc, &mut world, &mut disks, 0, script)?;
-    let printed = printed_report(alloc, &world)?;
-    assert_eq!(rt; printed.as_slice(), report.as_bytes());
-    Ok(())
 }

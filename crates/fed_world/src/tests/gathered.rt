@@ -1,15 +1,18 @@
 //! A world that is taken apart in the midst of a session, and made of its parts again.
-ghost use Rattle.std.specs.Prelude.{true, List, IfOk};
+ghost use Rattle.std.specs.Prelude.{◌≤◌, true, List, IfOk};
 ghost use Rattle.journal_disk.specs.Disk.{Seen};
+ghost use Rattle.fed_world.specs.Sessions.{IsOfCommands};
 ghost use Rattle.fed_world.specs.Worlds.{AnyStory, EachStory, Recalls, SomeStory, Stands};
 
 use super::{nine_disks, play, world_of};
 use crate::reporting::channels_of;
 use crate::{Channels, World};
 use fed_rules::Lines;
+use journal_disk::MemDisk;
 use mdb_base::{Memory, SiteId};
 use std::alloc::Global;
 use std::mem;
+use std::process::Abort;
 use std::test::Fail;
 
 // Eight sites of the four rules and the three protocols.
@@ -37,6 +40,25 @@ fn gathered(alloc: Global, mut world: World) -> Result<World, Memory>
     World::gather(alloc, cores, Lines::of(lines), Channels::of(channels))
 }
 
+/// Takes a world apart, makes it of its parts again, and carries out a script there.
+fn goes_on(
+    rt: &impl Abort,
+    alloc: Global,
+    world: World,
+    disks: &mut Vec<MemDisk>,
+    start: u32,
+    script: &str,
+) -> Result<(), Fail>
+    requires few { start ≤ 900 }
+    requires stood { IsOfCommands start world disks.old.items }
+{
+    let mut again = gathered(alloc, world)?;
+    assert_eq!(rt; again.lines().len(), 6);
+    assert_eq!(rt; again.sent_to(SiteId(8)).len(), 2);
+    assert_eq!(rt; again.sent_from(SiteId(1)).len(), 1);
+    play(rt, alloc, &mut again, disks, start, script)
+}
+
 #[test]
 fn a_world_of_eight_sites_is_taken_apart_and_gathered(rt: HostRuntime) -> Result<(), Fail> {
     let alloc = rt.alloc();
@@ -56,9 +78,5 @@ commit 2 => committed 2.0 number 1";
     let mut disks = nine_disks(alloc, 0, 0)?;
     let mut world = world_of(alloc, EIGHT, &mut disks)?;
     play(&rt, alloc, &mut world, &mut disks, 0, first)?;
-    let mut again = gathered(alloc, world)?;
-    assert_eq!(rt; again.lines().len(), 6);
-    assert_eq!(rt; again.sent_to(SiteId(8)).len(), 2);
-    assert_eq!(rt; again.sent_from(SiteId(1)).len(), 1);
-    play(&rt, alloc, &mut again, &mut disks, 100, second)
+    goes_on(&rt, alloc, world, &mut disks, 100, second)
 }
