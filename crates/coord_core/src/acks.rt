@@ -1,6 +1,6 @@
 //! Acknowledgements of sites.
-ghost use Rattle.std.specs.Prelude.{◌≡◌, ◌≤◌, IfErr, IfOk, IsErrOf, IsTrue};
-ghost use Rattle.mdb_base.specs.Counts.{HasRisen};
+ghost use Rattle.std.specs.Prelude.{◌≡◌, IfErr, IfOk, IsTrue};
+ghost use Rattle.mdb_base.specs.Counts.{HasCauseOf};
 ghost use Rattle.mdb_base.specs.Words.{holds_of, map_some, or_else};
 ghost use Rattle.fed_rules.specs.declared.messages.FromSite.TheVariants as From;
 ghost use Rattle.fed_rules.specs.CoordPast.{CoordPast, Decided, standing};
@@ -61,8 +61,7 @@ impl<P: TakePolicy> CoordCore<P> {
             → Steps P.policy D.tells step self.new (D.seen disk.new) terms past (line_of terms past (CoordEvent.Take site (From.Ack tid)))) }
         ensures failed { IfErr result (λ why. (terms : Terms) (past : CoordPast) → Stands P.policy D.tells self.old (D.seen disk.old) terms past → standing terms.protocols past tid ≡ Decided decision
             → Fails P.policy D.tells why self.new (D.seen disk.new) terms past (CoordEvent.Take site (From.Ack tid))) }
-        ensures cause { IsErrOf result StepErr.Disk → HasRisen (D.seen disk.old).faults (D.seen disk.new).faults }
-        ensures faults { (D.seen disk.old).faults ≤ (D.seen disk.new).faults }
+        ensures cause { HasCauseOf StepErr.Disk (D.seen disk.old).faults (D.seen disk.new).faults result }
     {
         let entry = Some(CoordRecord::End { tid });
         let Ok(()) = room_for(&mut self.store, alloc, disk, &entry) else {
@@ -92,8 +91,7 @@ impl<P: TakePolicy> CoordCore<P> {
         requires may { SomePast (Stands P.policy D.tells self.old (D.seen disk.old)) (CanStep (CoordEvent.Take site (From.Ack tid))) }
         ensures answered { IfOk result (λ step. Answers P.policy D.tells (CoordEvent.Take site (From.Ack tid)) self.old (D.seen disk.old) step self.new (D.seen disk.new)) }
         ensures failed { IfErr result (λ why. Refuses P.policy D.tells (CoordEvent.Take site (From.Ack tid)) self.old (D.seen disk.old) why self.new (D.seen disk.new)) }
-        ensures cause { IsErrOf result StepErr.Disk → HasRisen (D.seen disk.old).faults (D.seen disk.new).faults }
-        ensures faults { (D.seen disk.old).faults ≤ (D.seen disk.new).faults }
+        ensures cause { HasCauseOf StepErr.Disk (D.seen disk.old).faults (D.seen disk.new).faults result }
     {
         if !self.tables.awaits_ack(tid, site) {
             return Ok(silent(alloc, Answer::Ignored));

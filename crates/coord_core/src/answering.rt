@@ -1,6 +1,6 @@
 //! The messages of sites.
-ghost use Rattle.std.specs.Prelude.{◌≡◌, ◌≤◌, Bool, true, IfErr, IfOk, IsErrOf, IsTrue};
-ghost use Rattle.mdb_base.specs.Counts.{HasRisen};
+ghost use Rattle.std.specs.Prelude.{◌≡◌, Bool, true, IfErr, IfOk, IsTrue};
+ghost use Rattle.mdb_base.specs.Counts.{HasCauseOf};
 ghost use Rattle.fed_rules.specs.CoordPast.{CoordPast};
 ghost use Rattle.global_exec.specs.Counted.{is_answer};
 ghost use Rattle.mdb_base.specs.declared.names.Tid.{Tid as TheTid};
@@ -38,8 +38,7 @@ impl<P: TakePolicy> CoordCore<P> {
             → Steps P.policy D.tells step self.new (D.seen disk.new) terms past (line_of terms past (reply_event tid taken))) }
         ensures failed { IfErr result (λ why. (terms : Terms) (past : CoordPast) → Stands P.policy D.tells self.old (D.seen disk.old) terms past → CountsReply tid taken terms past
             → Fails P.policy D.tells why self.new (D.seen disk.new) terms past (reply_event tid taken)) }
-        ensures cause { IsErrOf result StepErr.Disk → HasRisen (D.seen disk.old).faults (D.seen disk.new).faults }
-        ensures faults { (D.seen disk.old).faults ≤ (D.seen disk.new).faults }
+        ensures cause { HasCauseOf StepErr.Disk (D.seen disk.old).faults (D.seen disk.new).faults result }
     {
         let Taken {
             site,
@@ -91,8 +90,7 @@ impl<P: TakePolicy> CoordCore<P> {
             → Steps P.policy D.tells step self.new (D.seen disk.new) terms past (line_of terms past (reply_event tid taken))) }
         ensures failed { IfErr result (λ why. (terms : Terms) (past : CoordPast) → Stands P.policy D.tells self.old (D.seen disk.old) terms past → IsAmong taken.site terms.protocols
             → Fails P.policy D.tells why self.new (D.seen disk.new) terms past (reply_event tid taken)) }
-        ensures cause { IsErrOf result StepErr.Disk → HasRisen (D.seen disk.old).faults (D.seen disk.new).faults }
-        ensures faults { (D.seen disk.old).faults ≤ (D.seen disk.new).faults }
+        ensures cause { HasCauseOf StepErr.Disk (D.seen disk.old).faults (D.seen disk.new).faults result }
     {
         if !self
             .tables
@@ -140,8 +138,7 @@ impl<P: TakePolicy> CoordCore<P> {
         requires may { SomePast (Stands P.policy D.tells self.old (D.seen disk.old)) (CanStep (CoordEvent.Take site message)) }
         ensures answered { IfOk result (λ step. Answers P.policy D.tells (CoordEvent.Take site message) self.old (D.seen disk.old) step self.new (D.seen disk.new)) }
         ensures failed { IfErr result (λ why. Refuses P.policy D.tells (CoordEvent.Take site message) self.old (D.seen disk.old) why self.new (D.seen disk.new)) }
-        ensures cause { IsErrOf result StepErr.Disk → HasRisen (D.seen disk.old).faults (D.seen disk.new).faults }
-        ensures faults { (D.seen disk.old).faults ≤ (D.seen disk.new).faults }
+        ensures cause { HasCauseOf StepErr.Disk (D.seen disk.old).faults (D.seen disk.new).faults result }
     {
         match message {
             FromSite::Did {

@@ -1,6 +1,6 @@
 //! The Checkpoint of the coordinator: what all its records say, forced to its disk; and what stood before it is trimmed.
-ghost use Rattle.std.specs.Prelude.{◌≡◌, ◌≤◌, IfErr, IfOk, IsErrOf, IsTrue};
-ghost use Rattle.mdb_base.specs.Counts.{HasRisen};
+ghost use Rattle.std.specs.Prelude.{◌≡◌, IfErr, IfOk, IsTrue};
+ghost use Rattle.mdb_base.specs.Counts.{HasCauseOf};
 ghost use Rattle.coord_core.specs.Stands.{Stands};
 ghost use Rattle.coord_core.specs.Steps.{Answers, CanStep, Refuses, SomePast};
 
@@ -25,8 +25,7 @@ impl<P: TakePolicy> CoordCore<P> {
         requires may { SomePast (Stands P.policy D.tells self.old (D.seen disk.old)) (CanStep (CoordEvent.Check)) }
         ensures answered { IfOk result (λ step. Answers P.policy D.tells (CoordEvent.Check) self.old (D.seen disk.old) step self.new (D.seen disk.new)) }
         ensures failed { IfErr result (λ why. Refuses P.policy D.tells (CoordEvent.Check) self.old (D.seen disk.old) why self.new (D.seen disk.new)) }
-        ensures cause { IsErrOf result StepErr.Disk → HasRisen (D.seen disk.old).faults (D.seen disk.new).faults }
-        ensures faults { (D.seen disk.old).faults ≤ (D.seen disk.new).faults }
+        ensures cause { HasCauseOf StepErr.Disk (D.seen disk.old).faults (D.seen disk.new).faults result }
     {
         let Ok(sum) = read_coord_sum(alloc, &self.protocols, self.store.records()) else {
             return Err(StepErr::Memory);

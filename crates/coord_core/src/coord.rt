@@ -1,6 +1,6 @@
 //! The core of the coordinator and its step.
-ghost use Rattle.std.specs.Prelude.{◌≡◌, ◌≤◌, Bool, [], false, is_some, reverse, IfOk, IfErr, IsErrOf, IsTrue};
-ghost use Rattle.mdb_base.specs.Counts.{HasRisen};
+ghost use Rattle.std.specs.Prelude.{◌≡◌, Bool, [], false, is_some, reverse, IfOk, IfErr, IsTrue};
+ghost use Rattle.mdb_base.specs.Counts.{HasCauseOf};
 ghost use Rattle.mdb_base.specs.Words.{Each};
 ghost use Rattle.presumptions.specs.declared.Participant.{Participant as TheParticipant};
 ghost use Rattle.record_fields.specs.Named.{IsSite};
@@ -96,8 +96,7 @@ impl<P: TakePolicy> CoordCore<P> {
         requires may { SomePast (Stands P.policy D.tells self.old (D.seen disk.old)) (CanStep event) }
         ensures answered { IfOk result (λ step. Answers P.policy D.tells event self.old (D.seen disk.old) step self.new (D.seen disk.new)) }
         ensures failed { IfErr result (λ why. Refuses P.policy D.tells event self.old (D.seen disk.old) why self.new (D.seen disk.new)) }
-        ensures cause { IsErrOf result StepErr.Disk → HasRisen (D.seen disk.old).faults (D.seen disk.new).faults }
-        ensures faults { (D.seen disk.old).faults ≤ (D.seen disk.new).faults }
+        ensures cause { HasCauseOf StepErr.Disk (D.seen disk.old).faults (D.seen disk.new).faults result }
     {
         match self.store.standing {
             Standing::Up => self.serve(alloc, disk, event),
@@ -181,8 +180,7 @@ impl<P: TakePolicy> CoordCore<P> {
         requires may { SomePast (Stands P.policy D.tells self.old (D.seen disk.old)) (CanStep event) }
         ensures answered { IfOk result (λ step. Answers P.policy D.tells event self.old (D.seen disk.old) step self.new (D.seen disk.new)) }
         ensures failed { IfErr result (λ why. Refuses P.policy D.tells event self.old (D.seen disk.old) why self.new (D.seen disk.new)) }
-        ensures cause { IsErrOf result StepErr.Disk → HasRisen (D.seen disk.old).faults (D.seen disk.new).faults }
-        ensures faults { (D.seen disk.old).faults ≤ (D.seen disk.new).faults }
+        ensures cause { HasCauseOf StepErr.Disk (D.seen disk.old).faults (D.seen disk.new).faults result }
     {
         match event {
             CoordEvent::Fate(tx) => Ok(self.fate(alloc, tx)),
@@ -212,8 +210,7 @@ impl<P: TakePolicy> CoordCore<P> {
         requires may { SomePast (Stands P.policy D.tells self.old (D.seen disk.old)) (CanStep event) }
         ensures answered { IfOk result (λ step. Answers P.policy D.tells event self.old (D.seen disk.old) step self.new (D.seen disk.new)) }
         ensures failed { IfErr result (λ why. Refuses P.policy D.tells event self.old (D.seen disk.old) why self.new (D.seen disk.new)) }
-        ensures cause { IsErrOf result StepErr.Disk → HasRisen (D.seen disk.old).faults (D.seen disk.new).faults }
-        ensures faults { (D.seen disk.old).faults ≤ (D.seen disk.new).faults }
+        ensures cause { HasCauseOf StepErr.Disk (D.seen disk.old).faults (D.seen disk.new).faults result }
     {
         match event {
             CoordEvent::Trip { calls, cut } => Ok(self.set_trip(alloc, calls, cut)),
@@ -228,7 +225,7 @@ impl<P: TakePolicy> CoordCore<P> {
         requires up { self.old.store.standing ≡ Standing.Up }
         requires may { SomePast (Stands P.policy D.tells self.old (D.seen disk.old)) (CanStep (CoordEvent.Halt cut)) }
         ensures answered { Answers P.policy D.tells (CoordEvent.Halt cut) self.old (D.seen disk.old) result self.new (D.seen disk.new) }
-        ensures faults { (D.seen disk.old).faults ≤ (D.seen disk.new).faults }
+        ensures faults { (D.seen disk.new).faults ≡ (D.seen disk.old).faults }
     {
         let kept = self.store.stop(disk, cut);
         silent(alloc, Answer::Stopped(kept))

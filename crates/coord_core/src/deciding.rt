@@ -1,6 +1,6 @@
 //! Decisions: what is recorded of one, and what is left of the attempt.
-ghost use Rattle.std.specs.Prelude.{◌≡◌, ◌≤◌, ◌&&◌, true, false, cond, map, IfErr, IfOk, IsErrOf, IsTrue};
-ghost use Rattle.mdb_base.specs.Counts.{HasRisen};
+ghost use Rattle.std.specs.Prelude.{◌≡◌, ◌&&◌, true, false, cond, map, IfErr, IfOk, IsTrue};
+ghost use Rattle.mdb_base.specs.Counts.{HasCauseOf};
 ghost use Rattle.mdb_base.specs.Words.{map_some, or_else};
 ghost use Rattle.fed_rules.specs.declared.events.CoordEvent.{CoordEvent as TheEvent};
 ghost use Rattle.fed_rules.specs.CoordPast.{CoordPast, has_sent, is_open, is_prepare_of, participants};
@@ -127,8 +127,7 @@ impl<P: TakePolicy> CoordCore<P> {
             → IsAborting terms past event tid cause → Steps P.policy D.tells step self.new (D.seen disk.new) terms past (line_of terms past event)) }
         ensures failed { IfErr result (λ why. (terms : Terms) (past : CoordPast) (event : TheEvent) → Stands P.policy D.tells self.old (D.seen disk.old) terms past
             → IsAborting terms past event tid cause → Fails P.policy D.tells why self.new (D.seen disk.new) terms past event) }
-        ensures cause { IsErrOf result StepErr.Disk → HasRisen (D.seen disk.old).faults (D.seen disk.new).faults }
-        ensures faults { (D.seen disk.old).faults ≤ (D.seen disk.new).faults }
+        ensures cause { HasCauseOf StepErr.Disk (D.seen disk.old).faults (D.seen disk.new).faults result }
     {
         let Ok(members) = self.tables.members(alloc, tid) else {
             return Err(StepErr::Memory);
@@ -165,8 +164,7 @@ impl<P: TakePolicy> CoordCore<P> {
         requires may { SomePast (Stands P.policy D.tells self.old (D.seen disk.old)) (CanStep (CoordEvent.Late tid)) }
         ensures answered { IfOk result (λ step. Answers P.policy D.tells (CoordEvent.Late tid) self.old (D.seen disk.old) step self.new (D.seen disk.new)) }
         ensures failed { IfErr result (λ why. Refuses P.policy D.tells (CoordEvent.Late tid) self.old (D.seen disk.old) why self.new (D.seen disk.new)) }
-        ensures cause { IsErrOf result StepErr.Disk → HasRisen (D.seen disk.old).faults (D.seen disk.new).faults }
-        ensures faults { (D.seen disk.old).faults ≤ (D.seen disk.new).faults }
+        ensures cause { HasCauseOf StepErr.Disk (D.seen disk.old).faults (D.seen disk.new).faults result }
     {
         if self.tables.is_open(tid) {
             self.abort(alloc, disk, tid, Cause::Late)

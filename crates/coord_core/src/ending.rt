@@ -1,6 +1,6 @@
 //! How a line ends whose tables stand already.
-ghost use Rattle.std.specs.Prelude.{◌≡◌, ◌≤◌, [], ◌∷◌, option_to_list, IfErr, IfOk, IfSome, IsErrOf, IsTrue, OnOk};
-ghost use Rattle.mdb_base.specs.Counts.{HasRisen};
+ghost use Rattle.std.specs.Prelude.{◌≡◌, [], ◌∷◌, option_to_list, IfErr, IfOk, IfSome, IsTrue, OnOk};
+ghost use Rattle.mdb_base.specs.Counts.{HasCauseOf};
 ghost use Rattle.fed_rules.specs.declared.records.CoordRecord.{CoordRecord as TheRecord};
 ghost use Rattle.fed_rules.specs.Coord.{forced};
 ghost use Rattle.fed_rules.specs.Disk.{Append, Disk as RulesDisk};
@@ -68,8 +68,7 @@ impl<P: TakePolicy> CoordCore<P> {
             (λ terms past event x. Steps P.policy D.tells ended self.new (D.seen disk.new) terms past (line_of terms past event))) }
         ensures failed { IfErr result (λ why. EachLine (IsPending P.policy D.tells (forced (option_to_list entry)) step self.old (D.seen disk.old))
             (λ terms past event x. Fails P.policy D.tells why self.new (D.seen disk.new) terms past event)) }
-        ensures cause { IsErrOf result StepErr.Disk → HasRisen (D.seen disk.old).faults (D.seen disk.new).faults }
-        ensures faults { (D.seen disk.old).faults ≤ (D.seen disk.new).faults }
+        ensures cause { HasCauseOf StepErr.Disk (D.seen disk.old).faults (D.seen disk.new).faults result }
     {
         match entry {
             None => Ok(step),
@@ -100,8 +99,7 @@ impl<P: TakePolicy> CoordCore<P> {
             (λ terms past event x. Steps P.policy D.tells ended self.new (D.seen disk.new) terms past (line_of terms past event))) }
         ensures failed { IfErr result (λ why. EachLine (IsPending P.policy D.tells (Append entry ∷ []) step self.old (D.seen disk.old))
             (λ terms past event x. Fails P.policy D.tells why self.new (D.seen disk.new) terms past event)) }
-        ensures cause { IsErrOf result StepErr.Disk → HasRisen (D.seen disk.old).faults (D.seen disk.new).faults }
-        ensures faults { (D.seen disk.old).faults ≤ (D.seen disk.new).faults }
+        ensures cause { HasCauseOf StepErr.Disk (D.seen disk.old).faults (D.seen disk.new).faults result }
     {
         match self.store.append(disk, entry) {
             Ok(()) => Ok(step),

@@ -1,6 +1,6 @@
 //! Sending again.
-ghost use Rattle.std.specs.Prelude.{◌≡◌, ◌≤◌, true, map, IfErr, IfOk, IsErrOf, IsTrue};
-ghost use Rattle.mdb_base.specs.Counts.{HasRisen};
+ghost use Rattle.std.specs.Prelude.{◌≡◌, true, map, IfErr, IfOk, IsTrue};
+ghost use Rattle.mdb_base.specs.Counts.{HasCauseOf};
 ghost use Rattle.mdb_base.specs.Rising.{IsRising};
 ghost use Rattle.presumptions.specs.declared.Participant.{Participant as TheParticipant};
 ghost use Rattle.fed_rules.specs.Coord.{decide_to as rules_decide_to, missing as rules_missing};
@@ -82,8 +82,7 @@ impl<P: TakePolicy> CoordCore<P> {
             → Steps P.policy D.tells step self.new (D.seen disk.new) terms past (line_of terms past (CoordEvent.Again tid))) }
         ensures failed { IfErr result (λ why. (terms : Terms) (past : CoordPast) → Stands P.policy D.tells self.old (D.seen disk.old) terms past → is_open past tid ≡ true
             → Fails P.policy D.tells why self.new (D.seen disk.new) terms past (CoordEvent.Again tid)) }
-        ensures cause { IsErrOf result StepErr.Disk → HasRisen (D.seen disk.old).faults (D.seen disk.new).faults }
-        ensures faults { (D.seen disk.old).faults ≤ (D.seen disk.new).faults }
+        ensures cause { HasCauseOf StepErr.Disk (D.seen disk.old).faults (D.seen disk.new).faults result }
     {
         let Ok(dues) = self.tables.exec.outstanding(alloc, tid) else {
             return Err(StepErr::Memory);
@@ -113,8 +112,7 @@ impl<P: TakePolicy> CoordCore<P> {
         requires may { SomePast (Stands P.policy D.tells self.old (D.seen disk.old)) (CanStep (CoordEvent.Again tid)) }
         ensures answered { IfOk result (λ step. Answers P.policy D.tells (CoordEvent.Again tid) self.old (D.seen disk.old) step self.new (D.seen disk.new)) }
         ensures failed { IfErr result (λ why. Refuses P.policy D.tells (CoordEvent.Again tid) self.old (D.seen disk.old) why self.new (D.seen disk.new)) }
-        ensures cause { IsErrOf result StepErr.Disk → HasRisen (D.seen disk.old).faults (D.seen disk.new).faults }
-        ensures faults { (D.seen disk.old).faults ≤ (D.seen disk.new).faults }
+        ensures cause { HasCauseOf StepErr.Disk (D.seen disk.old).faults (D.seen disk.new).faults result }
     {
         match self.tables.known.answer(tid, Protocol::Nothing) {
             Said::Undecided => self.send_all(alloc, disk, tid),

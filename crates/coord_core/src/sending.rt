@@ -1,6 +1,6 @@
 //! What the coordinator sends of an undecided attempt: what is outstanding, but for Takes that the policy holds back.
-ghost use Rattle.std.specs.Prelude.{◌≡◌, ◌≤◌, true, IfErr, IfOk, IsErrOf, IsTrue};
-ghost use Rattle.mdb_base.specs.Counts.{HasRisen};
+ghost use Rattle.std.specs.Prelude.{◌≡◌, true, IfErr, IfOk, IsTrue};
+ghost use Rattle.mdb_base.specs.Counts.{HasCauseOf};
 ghost use Rattle.fed_rules.specs.declared.events.CoordEvent.{CoordEvent as TheEvent};
 ghost use Rattle.fed_rules.specs.Coord.{may_take as rules_may_take};
 ghost use Rattle.fed_rules.specs.CoordPast.{CoordPast, is_open};
@@ -91,8 +91,7 @@ impl<P: TakePolicy> CoordCore<P> {
         ensures failed { IfErr result (λ why. (terms : Terms) (past : CoordPast) (event : TheEvent) → Stands P.policy D.tells self.old (D.seen disk.old) terms past
             → IsSending terms past event tid taken defers dues.now self.old.tables.exec (after_taken tid taken self.old.tables.exec)
             → Fails P.policy D.tells why self.new (D.seen disk.new) terms past event) }
-        ensures cause { IsErrOf result StepErr.Disk → HasRisen (D.seen disk.old).faults (D.seen disk.new).faults }
-        ensures faults { (D.seen disk.old).faults ≤ (D.seen disk.new).faults }
+        ensures cause { HasCauseOf StepErr.Disk (D.seen disk.old).faults (D.seen disk.new).faults result }
     {
         let Ok(entry) = self.tables.initiation(alloc, tid, dues) else {
             return Err(StepErr::Memory);

@@ -1,6 +1,6 @@
 //! Votes of sites.
-ghost use Rattle.std.specs.Prelude.{Bool, ◌≡◌, ◌≤◌, false, true, None, Some, map, IfErr, IfOk, IfSome, IsErrOf, IsSome, IsTrue, OnOk};
-ghost use Rattle.mdb_base.specs.Counts.{HasRisen};
+ghost use Rattle.std.specs.Prelude.{Bool, ◌≡◌, false, true, None, Some, map, IfErr, IfOk, IfSome, IsSome, IsTrue, OnOk};
+ghost use Rattle.mdb_base.specs.Counts.{HasCauseOf};
 ghost use Rattle.mdb_base.specs.Rising.{IsRising};
 ghost use Rattle.mdb_base.specs.Words.{each_of};
 ghost use Rattle.journal_disk.specs.Disk.{Seen};
@@ -184,8 +184,7 @@ impl<P: TakePolicy> CoordCore<P> {
         ensures failed { IfErr result (λ why. (terms : Terms) (past : CoordPast) → Stands P.policy D.tells self.old (D.seen disk.old) terms past
             → IsLastVote site tid ticket tickets.now terms past
             → Fails P.policy D.tells why self.new (D.seen disk.new) terms past (vote_event site tid (Some ticket))) }
-        ensures cause { IsErrOf result StepErr.Disk → HasRisen (D.seen disk.old).faults (D.seen disk.new).faults }
-        ensures faults { (D.seen disk.old).faults ≤ (D.seen disk.new).faults }
+        ensures cause { HasCauseOf StepErr.Disk (D.seen disk.old).faults (D.seen disk.new).faults result }
     {
         let Ok(members) = self.tables.members(alloc, tid) else {
             return Err(StepErr::Memory);
@@ -236,8 +235,7 @@ impl<P: TakePolicy> CoordCore<P> {
             → Steps P.policy D.tells step self.new (D.seen disk.new) terms past (line_of terms past (vote_event site tid (Some ticket)))) }
         ensures failed { IfErr result (λ why. (terms : Terms) (past : CoordPast) → Stands P.policy D.tells self.old (D.seen disk.old) terms past → CountsVote site tid terms past
             → Fails P.policy D.tells why self.new (D.seen disk.new) terms past (vote_event site tid (Some ticket))) }
-        ensures cause { IsErrOf result StepErr.Disk → HasRisen (D.seen disk.old).faults (D.seen disk.new).faults }
-        ensures faults { (D.seen disk.old).faults ≤ (D.seen disk.new).faults }
+        ensures cause { HasCauseOf StepErr.Disk (D.seen disk.old).faults (D.seen disk.new).faults result }
     {
         let Ok(last) = self.tables.last_tickets(alloc, site, tid, ticket) else {
             return Err(StepErr::Memory);
@@ -263,8 +261,7 @@ impl<P: TakePolicy> CoordCore<P> {
         requires may { SomePast (Stands P.policy D.tells self.old (D.seen disk.old)) (CanStep (CoordEvent.Take site (From.Vote tid yes))) }
         ensures answered { IfOk result (λ step. Answers P.policy D.tells (CoordEvent.Take site (From.Vote tid yes)) self.old (D.seen disk.old) step self.new (D.seen disk.new)) }
         ensures failed { IfErr result (λ why. Refuses P.policy D.tells (CoordEvent.Take site (From.Vote tid yes)) self.old (D.seen disk.old) why self.new (D.seen disk.new)) }
-        ensures cause { IsErrOf result StepErr.Disk → HasRisen (D.seen disk.old).faults (D.seen disk.new).faults }
-        ensures faults { (D.seen disk.old).faults ≤ (D.seen disk.new).faults }
+        ensures cause { HasCauseOf StepErr.Disk (D.seen disk.old).faults (D.seen disk.new).faults result }
     {
         if !self.tables.exec.awaits_vote(tid, site) {
             return Ok(silent(alloc, Answer::Ignored));

@@ -1,6 +1,6 @@
 //! The commands about an attempt that was begun.
-ghost use Rattle.std.specs.Prelude.{◌≡◌, ◌≤◌, IsTrue, IfOk, IfErr, IsErrOf};
-ghost use Rattle.mdb_base.specs.Counts.{HasRisen};
+ghost use Rattle.std.specs.Prelude.{◌≡◌, IsTrue, IfOk, IfErr};
+ghost use Rattle.mdb_base.specs.Counts.{HasCauseOf};
 ghost use Rattle.mdb_base.specs.Names.{same_tid};
 ghost use Rattle.mdb_base.specs.Words.{some_of};
 ghost use Rattle.fed_rules.specs.declared.events.CoordEvent.TheVariants as Ev;
@@ -62,8 +62,7 @@ impl<P: TakePolicy> GlobalManager<P> {
             Serves (Stands P.policy D.tells self.new (D.seen disk.new)) step terms programs past (attempt_request past tid (Ev.Again tid)))) }
         ensures failed { IfErr result (λ why. EachManaged (Stands P.policy D.tells self.old (D.seen disk.old)) (λ terms programs past.
             Fails (Stands P.policy D.tells self.new (D.seen disk.new)) why terms programs past (attempt_request past tid (Ev.Again tid)))) }
-        ensures cause { IsErrOf result StepErr.Disk → HasRisen (D.seen disk.old).faults (D.seen disk.new).faults }
-        ensures faults { (D.seen disk.old).faults ≤ (D.seen disk.new).faults }
+        ensures cause { HasCauseOf StepErr.Disk (D.seen disk.old).faults (D.seen disk.new).faults result }
     {
         let request = self.asks_again(tid);
         self.serve(alloc, disk, request)
@@ -82,8 +81,7 @@ impl<P: TakePolicy> GlobalManager<P> {
             Serves (Stands P.policy D.tells self.new (D.seen disk.new)) step terms programs past (attempt_request past tid (Ev.Late tid)))) }
         ensures failed { IfErr result (λ why. EachManaged (Stands P.policy D.tells self.old (D.seen disk.old)) (λ terms programs past.
             Fails (Stands P.policy D.tells self.new (D.seen disk.new)) why terms programs past (attempt_request past tid (Ev.Late tid)))) }
-        ensures cause { IsErrOf result StepErr.Disk → HasRisen (D.seen disk.old).faults (D.seen disk.new).faults }
-        ensures faults { (D.seen disk.old).faults ≤ (D.seen disk.new).faults }
+        ensures cause { HasCauseOf StepErr.Disk (D.seen disk.old).faults (D.seen disk.new).faults result }
     {
         let request = self.asks_late(tid);
         self.serve(alloc, disk, request)

@@ -1,6 +1,6 @@
 //! The commands of the coordinator, and what comes to it from the sites.
-ghost use Rattle.std.specs.Prelude.{◌≤◌, IsTrue, IfOk, IfErr, IsErrOf};
-ghost use Rattle.mdb_base.specs.Counts.{HasRisen};
+ghost use Rattle.std.specs.Prelude.{IsTrue, IfOk, IfErr};
+ghost use Rattle.mdb_base.specs.Counts.{HasCauseOf};
 ghost use Rattle.fed_rules.specs.declared.events.CoordEvent.TheVariants as Ev;
 ghost use Rattle.fed_rules.specs.Requests.{Submits};
 ghost use Rattle.global_manager.specs.Stands.{AsksNothing, EachManaged, Fails, HasSite, Serves, SomeManaged, Stands};
@@ -29,8 +29,7 @@ impl<P: TakePolicy> GlobalManager<P> {
             → Serves (Stands P.policy D.tells self.new (D.seen disk.new)) step terms programs past (Submits (Ev.Take site message)))) }
         ensures failed { IfErr result (λ why. EachManaged (Stands P.policy D.tells self.old (D.seen disk.old)) (λ terms programs past. HasSite site terms programs past
             → Fails (Stands P.policy D.tells self.new (D.seen disk.new)) why terms programs past (Submits (Ev.Take site message)))) }
-        ensures cause { IsErrOf result StepErr.Disk → HasRisen (D.seen disk.old).faults (D.seen disk.new).faults }
-        ensures faults { (D.seen disk.old).faults ≤ (D.seen disk.new).faults }
+        ensures cause { HasCauseOf StepErr.Disk (D.seen disk.old).faults (D.seen disk.new).faults result }
     {
         self.serve(
             alloc,
@@ -52,8 +51,7 @@ impl<P: TakePolicy> GlobalManager<P> {
             Serves (Stands P.policy D.tells self.new (D.seen disk.new)) step terms programs past (Submits (Ev.Halt cut)))) }
         ensures failed { IfErr result (λ why. EachManaged (Stands P.policy D.tells self.old (D.seen disk.old)) (λ terms programs past.
             Fails (Stands P.policy D.tells self.new (D.seen disk.new)) why terms programs past (Submits (Ev.Halt cut)))) }
-        ensures cause { IsErrOf result StepErr.Disk → HasRisen (D.seen disk.old).faults (D.seen disk.new).faults }
-        ensures faults { (D.seen disk.old).faults ≤ (D.seen disk.new).faults }
+        ensures cause { HasCauseOf StepErr.Disk (D.seen disk.old).faults (D.seen disk.new).faults result }
     {
         self.serve(alloc, disk, Request::Submits(CoordEvent::Halt { cut }))
     }
@@ -72,8 +70,7 @@ impl<P: TakePolicy> GlobalManager<P> {
             Serves (Stands P.policy D.tells self.new (D.seen disk.new)) step terms programs past (Submits (Ev.Trip calls cut)))) }
         ensures failed { IfErr result (λ why. EachManaged (Stands P.policy D.tells self.old (D.seen disk.old)) (λ terms programs past.
             Fails (Stands P.policy D.tells self.new (D.seen disk.new)) why terms programs past (Submits (Ev.Trip calls cut)))) }
-        ensures cause { IsErrOf result StepErr.Disk → HasRisen (D.seen disk.old).faults (D.seen disk.new).faults }
-        ensures faults { (D.seen disk.old).faults ≤ (D.seen disk.new).faults }
+        ensures cause { HasCauseOf StepErr.Disk (D.seen disk.old).faults (D.seen disk.new).faults result }
     {
         self.serve(
             alloc,
@@ -90,8 +87,7 @@ impl<P: TakePolicy> GlobalManager<P> {
             Serves (Stands P.policy D.tells self.new (D.seen disk.new)) step terms programs past (Submits Ev.Back))) }
         ensures failed { IfErr result (λ why. EachManaged (Stands P.policy D.tells self.old (D.seen disk.old)) (λ terms programs past.
             Fails (Stands P.policy D.tells self.new (D.seen disk.new)) why terms programs past (Submits Ev.Back))) }
-        ensures cause { IsErrOf result StepErr.Disk → HasRisen (D.seen disk.old).faults (D.seen disk.new).faults }
-        ensures faults { (D.seen disk.old).faults ≤ (D.seen disk.new).faults }
+        ensures cause { HasCauseOf StepErr.Disk (D.seen disk.old).faults (D.seen disk.new).faults result }
     {
         self.serve(alloc, disk, Request::Submits(CoordEvent::Back))
     }
@@ -104,8 +100,7 @@ impl<P: TakePolicy> GlobalManager<P> {
             Serves (Stands P.policy D.tells self.new (D.seen disk.new)) step terms programs past (Submits Ev.Check))) }
         ensures failed { IfErr result (λ why. EachManaged (Stands P.policy D.tells self.old (D.seen disk.old)) (λ terms programs past.
             Fails (Stands P.policy D.tells self.new (D.seen disk.new)) why terms programs past (Submits Ev.Check))) }
-        ensures cause { IsErrOf result StepErr.Disk → HasRisen (D.seen disk.old).faults (D.seen disk.new).faults }
-        ensures faults { (D.seen disk.old).faults ≤ (D.seen disk.new).faults }
+        ensures cause { HasCauseOf StepErr.Disk (D.seen disk.old).faults (D.seen disk.new).faults result }
     {
         self.serve(alloc, disk, Request::Submits(CoordEvent::Check))
     }

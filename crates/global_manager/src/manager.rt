@@ -1,6 +1,6 @@
 //! A global transaction manager, and how it hands events to its core.
-ghost use Rattle.std.specs.Prelude.{◌≡◌, ◌≤◌, [], Bool, IsTrue, IfOk, IfErr, IsErrOf};
-ghost use Rattle.mdb_base.specs.Counts.{HasRisen};
+ghost use Rattle.std.specs.Prelude.{◌≡◌, [], Bool, IsTrue, IfOk, IfErr};
+ghost use Rattle.mdb_base.specs.Counts.{HasCauseOf};
 ghost use Rattle.mdb_base.specs.Words.{Each};
 ghost use Rattle.presumptions.specs.declared.Participant.{Participant as TheParticipant};
 ghost use Rattle.record_fields.specs.Named.{IsSite};
@@ -78,8 +78,7 @@ impl<P: TakePolicy> GlobalManager<P> {
             (λ terms programs past. CanHand event terms programs past → Sends (Stands P.policy D.tells self.new (D.seen disk.new)) step terms programs past event)) }
         ensures failed { IfErr result (λ why. EachManaged (Stands P.policy D.tells self.old (D.seen disk.old))
             (λ terms programs past. CanHand event terms programs past → Fails (Stands P.policy D.tells self.new (D.seen disk.new)) why terms programs past (Submits event))) }
-        ensures cause { IsErrOf result StepErr.Disk → HasRisen (D.seen disk.old).faults (D.seen disk.new).faults }
-        ensures faults { (D.seen disk.old).faults ≤ (D.seen disk.new).faults }
+        ensures cause { HasCauseOf StepErr.Disk (D.seen disk.old).faults (D.seen disk.new).faults result }
     {
         self.core.step(alloc, disk, event)
     }
@@ -97,8 +96,7 @@ impl<P: TakePolicy> GlobalManager<P> {
             (λ terms programs past. CanServe request terms programs past → Serves (Stands P.policy D.tells self.new (D.seen disk.new)) step terms programs past (request_of request))) }
         ensures failed { IfErr result (λ why. EachManaged (Stands P.policy D.tells self.old (D.seen disk.old))
             (λ terms programs past. CanServe request terms programs past → Fails (Stands P.policy D.tells self.new (D.seen disk.new)) why terms programs past (request_of request))) }
-        ensures cause { IsErrOf result StepErr.Disk → HasRisen (D.seen disk.old).faults (D.seen disk.new).faults }
-        ensures faults { (D.seen disk.old).faults ≤ (D.seen disk.new).faults }
+        ensures cause { HasCauseOf StepErr.Disk (D.seen disk.old).faults (D.seen disk.new).faults result }
     {
         match request {
             Request::Declines(answer) => Ok(declined(alloc, answer)),

@@ -1,8 +1,8 @@
 //! The commands of a global transaction, by its number.
-ghost use Rattle.std.specs.Prelude.{◌≡◌, ◌≤◌, IsTrue, IfOk, IfErr, IsErrOf, List};
+ghost use Rattle.std.specs.Prelude.{◌≡◌, IsTrue, IfOk, IfErr, List};
 ghost use Rattle.mdb_base.specs.declared.acts.Step.{Step as TheStep};
 ghost use Rattle.mdb_base.specs.declared.names.Tid.{Tid as TheTid};
-ghost use Rattle.mdb_base.specs.Counts.{HasRisen};
+ghost use Rattle.mdb_base.specs.Counts.{HasCauseOf};
 ghost use Rattle.fed_rules.specs.declared.events.CoordEvent.TheVariants as Ev;
 ghost use Rattle.fed_rules.specs.CoordCommands.{fate_request, go_request};
 ghost use Rattle.fed_rules.specs.Requests.{unless_begun};
@@ -78,8 +78,7 @@ impl<P: TakePolicy> GlobalManager<P> {
             Serves (Stands P.policy D.tells self.new (D.seen disk.new)) step terms programs past (go_request terms.protocols terms.policy (programs tx) past tx))) }
         ensures failed { IfErr result (λ why. EachManaged (Stands P.policy D.tells self.old (D.seen disk.old)) (λ terms programs past.
             Fails (Stands P.policy D.tells self.new (D.seen disk.new)) why terms programs past (go_request terms.protocols terms.policy (programs tx) past tx))) }
-        ensures cause { IsErrOf result StepErr.Disk → HasRisen (D.seen disk.old).faults (D.seen disk.new).faults }
-        ensures faults { (D.seen disk.old).faults ≤ (D.seen disk.new).faults }
+        ensures cause { HasCauseOf StepErr.Disk (D.seen disk.old).faults (D.seen disk.new).faults result }
     {
         let Ok(request) = self.asks_go(alloc, tx) else {
             return Err(StepErr::Memory);
@@ -100,8 +99,7 @@ impl<P: TakePolicy> GlobalManager<P> {
             Serves (Stands P.policy D.tells self.new (D.seen disk.new)) step terms programs past (fate_request (programs tx) tx))) }
         ensures failed { IfErr result (λ why. EachManaged (Stands P.policy D.tells self.old (D.seen disk.old)) (λ terms programs past.
             Fails (Stands P.policy D.tells self.new (D.seen disk.new)) why terms programs past (fate_request (programs tx) tx))) }
-        ensures cause { IsErrOf result StepErr.Disk → HasRisen (D.seen disk.old).faults (D.seen disk.new).faults }
-        ensures faults { (D.seen disk.old).faults ≤ (D.seen disk.new).faults }
+        ensures cause { HasCauseOf StepErr.Disk (D.seen disk.old).faults (D.seen disk.new).faults result }
     {
         let request = self.asks_fate(tx);
         self.serve(alloc, disk, request)

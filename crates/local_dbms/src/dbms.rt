@@ -1,6 +1,6 @@
 //! A local database system, and how it hands events to its core.
 ghost use Rattle.std.specs.Prelude.{◌≡◌, ◌≤◌, [], Bool, length, IsTrue, IfOk, IfErr, IsErrOf};
-ghost use Rattle.mdb_base.specs.Counts.{HasRisen};
+ghost use Rattle.mdb_base.specs.Counts.{HasCauseOf};
 ghost use Rattle.mdb_base.specs.Words.{Each};
 ghost use Rattle.record_fields.specs.Named.{IsSite};
 ghost use Rattle.fed_rules.specs.Disk.{empty_disk};
@@ -51,8 +51,7 @@ impl<E: LocalEngine> LocalDbms<E> {
         ensures memory { IsErrOf result StepErr.Memory → (D.seen disk.new).image ≡ (D.seen disk.old).image }
         ensures untouched { IsErrOf result StepErr.Memory → (D.seen disk.new).size ≡ 0 }
         ensures broken { IsErrOf result StepErr.Disk → SomeStop (D.seen disk.new).image empty_disk (set_up_calls (home_from line items)) }
-        ensures cause { IsErrOf result StepErr.Disk → HasRisen (D.seen disk.old).faults (D.seen disk.new).faults }
-        ensures faults { (D.seen disk.old).faults ≤ (D.seen disk.new).faults }
+        ensures cause { HasCauseOf StepErr.Disk (D.seen disk.old).faults (D.seen disk.new).faults result }
     {
         let Ok(programs) = programs_of(alloc, line.site, transactions) else {
             return Err(StepErr::Memory);
@@ -85,8 +84,7 @@ impl<E: LocalEngine> LocalDbms<E> {
             (λ home programs past. CanHand event home programs past → Sends (Stands E.stands D.tells self.new (D.seen disk.new)) step home programs past event)) }
         ensures failed { IfErr result (λ why. Each_site (Stands E.stands D.tells self.old (D.seen disk.old))
             (λ home programs past. CanHand event home programs past → Fails (Stands E.stands D.tells self.new (D.seen disk.new)) why home programs past (Submits event))) }
-        ensures cause { IsErrOf result StepErr.Disk → HasRisen (D.seen disk.old).faults (D.seen disk.new).faults }
-        ensures faults { (D.seen disk.old).faults ≤ (D.seen disk.new).faults }
+        ensures cause { HasCauseOf StepErr.Disk (D.seen disk.old).faults (D.seen disk.new).faults result }
     {
         self.core.step(alloc, disk, event)
     }
@@ -104,8 +102,7 @@ impl<E: LocalEngine> LocalDbms<E> {
             (λ home programs past. CanServe request home programs past → Serves (Stands E.stands D.tells self.new (D.seen disk.new)) answer home programs past (request_of request))) }
         ensures failed { IfErr result (λ why. Each_site (Stands E.stands D.tells self.old (D.seen disk.old))
             (λ home programs past. CanServe request home programs past → Fails (Stands E.stands D.tells self.new (D.seen disk.new)) why home programs past (request_of request))) }
-        ensures cause { IsErrOf result StepErr.Disk → HasRisen (D.seen disk.old).faults (D.seen disk.new).faults }
-        ensures faults { (D.seen disk.old).faults ≤ (D.seen disk.new).faults }
+        ensures cause { HasCauseOf StepErr.Disk (D.seen disk.old).faults (D.seen disk.new).faults result }
     {
         match request {
             Request::Declines(answer) => Ok(answer),

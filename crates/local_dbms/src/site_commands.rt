@@ -1,6 +1,6 @@
 //! The commands of a site, and what comes to it from a coordinator.
-ghost use Rattle.std.specs.Prelude.{◌≤◌, IsTrue, IfOk, IfErr, IsErrOf};
-ghost use Rattle.mdb_base.specs.Counts.{HasRisen};
+ghost use Rattle.std.specs.Prelude.{IsTrue, IfOk, IfErr};
+ghost use Rattle.mdb_base.specs.Counts.{HasCauseOf};
 ghost use Rattle.fed_rules.specs.declared.events.SiteEvent.TheVariants as Ev;
 ghost use Rattle.fed_rules.specs.Requests.{Submits};
 ghost use Rattle.local_dbms.specs.Stands.{CanGive, Each_site, Fails, IsShort, Sends, Serves, Some_site, Stands};
@@ -28,8 +28,7 @@ impl<E: LocalEngine> LocalDbms<E> {
             → Serves (Stands E.stands D.tells self.new (D.seen disk.new)) answer home programs past (Submits (Ev.Halt cut)))) }
         ensures failed { IfErr result (λ why. Each_site (Stands E.stands D.tells self.old (D.seen disk.old)) (λ home programs past. IsShort home programs past
             → Fails (Stands E.stands D.tells self.new (D.seen disk.new)) why home programs past (Submits (Ev.Halt cut)))) }
-        ensures cause { IsErrOf result StepErr.Disk → HasRisen (D.seen disk.old).faults (D.seen disk.new).faults }
-        ensures faults { (D.seen disk.old).faults ≤ (D.seen disk.new).faults }
+        ensures cause { HasCauseOf StepErr.Disk (D.seen disk.old).faults (D.seen disk.new).faults result }
     {
         self.serve(alloc, disk, Request::Submits(SiteEvent::Halt { cut }))
     }
@@ -48,8 +47,7 @@ impl<E: LocalEngine> LocalDbms<E> {
             → Serves (Stands E.stands D.tells self.new (D.seen disk.new)) answer home programs past (Submits (Ev.Trip calls cut)))) }
         ensures failed { IfErr result (λ why. Each_site (Stands E.stands D.tells self.old (D.seen disk.old)) (λ home programs past. IsShort home programs past
             → Fails (Stands E.stands D.tells self.new (D.seen disk.new)) why home programs past (Submits (Ev.Trip calls cut)))) }
-        ensures cause { IsErrOf result StepErr.Disk → HasRisen (D.seen disk.old).faults (D.seen disk.new).faults }
-        ensures faults { (D.seen disk.old).faults ≤ (D.seen disk.new).faults }
+        ensures cause { HasCauseOf StepErr.Disk (D.seen disk.old).faults (D.seen disk.new).faults result }
     {
         self.serve(
             alloc,
@@ -66,8 +64,7 @@ impl<E: LocalEngine> LocalDbms<E> {
             → Serves (Stands E.stands D.tells self.new (D.seen disk.new)) answer home programs past (Submits (Ev.Back)))) }
         ensures failed { IfErr result (λ why. Each_site (Stands E.stands D.tells self.old (D.seen disk.old)) (λ home programs past. IsShort home programs past
             → Fails (Stands E.stands D.tells self.new (D.seen disk.new)) why home programs past (Submits (Ev.Back)))) }
-        ensures cause { IsErrOf result StepErr.Disk → HasRisen (D.seen disk.old).faults (D.seen disk.new).faults }
-        ensures faults { (D.seen disk.old).faults ≤ (D.seen disk.new).faults }
+        ensures cause { HasCauseOf StepErr.Disk (D.seen disk.old).faults (D.seen disk.new).faults result }
     {
         self.serve(alloc, disk, Request::Submits(SiteEvent::Back))
     }
@@ -80,8 +77,7 @@ impl<E: LocalEngine> LocalDbms<E> {
             → Serves (Stands E.stands D.tells self.new (D.seen disk.new)) answer home programs past (Submits (Ev.Check)))) }
         ensures failed { IfErr result (λ why. Each_site (Stands E.stands D.tells self.old (D.seen disk.old)) (λ home programs past. IsShort home programs past
             → Fails (Stands E.stands D.tells self.new (D.seen disk.new)) why home programs past (Submits (Ev.Check)))) }
-        ensures cause { IsErrOf result StepErr.Disk → HasRisen (D.seen disk.old).faults (D.seen disk.new).faults }
-        ensures faults { (D.seen disk.old).faults ≤ (D.seen disk.new).faults }
+        ensures cause { HasCauseOf StepErr.Disk (D.seen disk.old).faults (D.seen disk.new).faults result }
     {
         self.serve(alloc, disk, Request::Submits(SiteEvent::Check))
     }
@@ -99,8 +95,7 @@ impl<E: LocalEngine> LocalDbms<E> {
             → Serves (Stands E.stands D.tells self.new (D.seen disk.new)) answer home programs past (Submits (Ev.Drop tid)))) }
         ensures failed { IfErr result (λ why. Each_site (Stands E.stands D.tells self.old (D.seen disk.old)) (λ home programs past. IsShort home programs past
             → Fails (Stands E.stands D.tells self.new (D.seen disk.new)) why home programs past (Submits (Ev.Drop tid)))) }
-        ensures cause { IsErrOf result StepErr.Disk → HasRisen (D.seen disk.old).faults (D.seen disk.new).faults }
-        ensures faults { (D.seen disk.old).faults ≤ (D.seen disk.new).faults }
+        ensures cause { HasCauseOf StepErr.Disk (D.seen disk.old).faults (D.seen disk.new).faults result }
     {
         self.serve(alloc, disk, Request::Submits(SiteEvent::Drop(tid)))
     }
@@ -118,8 +113,7 @@ impl<E: LocalEngine> LocalDbms<E> {
             → Sends (Stands E.stands D.tells self.new (D.seen disk.new)) step home programs past (Ev.Ask tid))) }
         ensures failed { IfErr result (λ why. Each_site (Stands E.stands D.tells self.old (D.seen disk.old)) (λ home programs past. IsShort home programs past
             → Fails (Stands E.stands D.tells self.new (D.seen disk.new)) why home programs past (Submits (Ev.Ask tid)))) }
-        ensures cause { IsErrOf result StepErr.Disk → HasRisen (D.seen disk.old).faults (D.seen disk.new).faults }
-        ensures faults { (D.seen disk.old).faults ≤ (D.seen disk.new).faults }
+        ensures cause { HasCauseOf StepErr.Disk (D.seen disk.old).faults (D.seen disk.new).faults result }
     {
         self.hand(alloc, disk, SiteEvent::Ask(tid))
     }
@@ -137,8 +131,7 @@ impl<E: LocalEngine> LocalDbms<E> {
             → Sends (Stands E.stands D.tells self.new (D.seen disk.new)) step home programs past (Ev.Give message))) }
         ensures failed { IfErr result (λ why. Each_site (Stands E.stands D.tells self.old (D.seen disk.old)) (λ home programs past. CanGive message home programs past
             → Fails (Stands E.stands D.tells self.new (D.seen disk.new)) why home programs past (Submits (Ev.Give message)))) }
-        ensures cause { IsErrOf result StepErr.Disk → HasRisen (D.seen disk.old).faults (D.seen disk.new).faults }
-        ensures faults { (D.seen disk.old).faults ≤ (D.seen disk.new).faults }
+        ensures cause { HasCauseOf StepErr.Disk (D.seen disk.old).faults (D.seen disk.new).faults result }
     {
         self.hand(alloc, disk, SiteEvent::Give(message))
     }

@@ -1,6 +1,6 @@
 //! The commands of a local transaction, by its number.
-ghost use Rattle.std.specs.Prelude.{ℕ, ◌≡◌, ◌≤◌, IsSome, IsTrue, IfOk, IfErr, IsErrOf};
-ghost use Rattle.mdb_base.specs.Counts.{HasRisen};
+ghost use Rattle.std.specs.Prelude.{ℕ, ◌≡◌, IsSome, IsTrue, IfOk, IfErr};
+ghost use Rattle.mdb_base.specs.Counts.{HasCauseOf};
 ghost use Rattle.fed_rules.specs.declared.events.SiteEvent.TheVariants as Ev;
 ghost use Rattle.fed_rules.specs.Requests.{attempt, unless_begun};
 ghost use Rattle.fed_rules.specs.Site.{site_line};
@@ -147,8 +147,7 @@ impl<E: LocalEngine> LocalDbms<E> {
             → Serves (Stands E.stands D.tells self.new (D.seen disk.new)) answer home programs past (own_request Verb.Begin home (programs tx) past tx))) }
         ensures failed { IfErr result (λ why. Each_site (Stands E.stands D.tells self.old (D.seen disk.old)) (λ home programs past. IsShort home programs past
             → Fails (Stands E.stands D.tells self.new (D.seen disk.new)) why home programs past (own_request Verb.Begin home (programs tx) past tx))) }
-        ensures cause { IsErrOf result StepErr.Disk → HasRisen (D.seen disk.old).faults (D.seen disk.new).faults }
-        ensures faults { (D.seen disk.old).faults ≤ (D.seen disk.new).faults }
+        ensures cause { HasCauseOf StepErr.Disk (D.seen disk.old).faults (D.seen disk.new).faults result }
     {
         let request = self.asks_begin(tx);
         self.serve(alloc, disk, request)
@@ -162,8 +161,7 @@ impl<E: LocalEngine> LocalDbms<E> {
             → Serves (Stands E.stands D.tells self.new (D.seen disk.new)) answer home programs past (own_request Verb.Step_on home (programs tx) past tx))) }
         ensures failed { IfErr result (λ why. Each_site (Stands E.stands D.tells self.old (D.seen disk.old)) (λ home programs past. IsShort home programs past
             → Fails (Stands E.stands D.tells self.new (D.seen disk.new)) why home programs past (own_request Verb.Step_on home (programs tx) past tx))) }
-        ensures cause { IsErrOf result StepErr.Disk → HasRisen (D.seen disk.old).faults (D.seen disk.new).faults }
-        ensures faults { (D.seen disk.old).faults ≤ (D.seen disk.new).faults }
+        ensures cause { HasCauseOf StepErr.Disk (D.seen disk.old).faults (D.seen disk.new).faults result }
     {
         let request = self.asks_step(tx);
         self.serve(alloc, disk, request)
@@ -182,8 +180,7 @@ impl<E: LocalEngine> LocalDbms<E> {
             → Serves (Stands E.stands D.tells self.new (D.seen disk.new)) answer home programs past (own_request Verb.Commit home (programs tx) past tx))) }
         ensures failed { IfErr result (λ why. Each_site (Stands E.stands D.tells self.old (D.seen disk.old)) (λ home programs past. IsShort home programs past
             → Fails (Stands E.stands D.tells self.new (D.seen disk.new)) why home programs past (own_request Verb.Commit home (programs tx) past tx))) }
-        ensures cause { IsErrOf result StepErr.Disk → HasRisen (D.seen disk.old).faults (D.seen disk.new).faults }
-        ensures faults { (D.seen disk.old).faults ≤ (D.seen disk.new).faults }
+        ensures cause { HasCauseOf StepErr.Disk (D.seen disk.old).faults (D.seen disk.new).faults result }
     {
         let request = self.asks_commit(tx);
         self.serve(alloc, disk, request)
@@ -197,8 +194,7 @@ impl<E: LocalEngine> LocalDbms<E> {
             → Serves (Stands E.stands D.tells self.new (D.seen disk.new)) answer home programs past (own_request Verb.Abort home (programs tx) past tx))) }
         ensures failed { IfErr result (λ why. Each_site (Stands E.stands D.tells self.old (D.seen disk.old)) (λ home programs past. IsShort home programs past
             → Fails (Stands E.stands D.tells self.new (D.seen disk.new)) why home programs past (own_request Verb.Abort home (programs tx) past tx))) }
-        ensures cause { IsErrOf result StepErr.Disk → HasRisen (D.seen disk.old).faults (D.seen disk.new).faults }
-        ensures faults { (D.seen disk.old).faults ≤ (D.seen disk.new).faults }
+        ensures cause { HasCauseOf StepErr.Disk (D.seen disk.old).faults (D.seen disk.new).faults result }
     {
         let request = self.asks_abort(tx);
         self.serve(alloc, disk, request)
@@ -212,8 +208,7 @@ impl<E: LocalEngine> LocalDbms<E> {
             → Serves (Stands E.stands D.tells self.new (D.seen disk.new)) answer home programs past (own_request Verb.Fate home (programs tx) past tx))) }
         ensures failed { IfErr result (λ why. Each_site (Stands E.stands D.tells self.old (D.seen disk.old)) (λ home programs past. IsShort home programs past
             → Fails (Stands E.stands D.tells self.new (D.seen disk.new)) why home programs past (own_request Verb.Fate home (programs tx) past tx))) }
-        ensures cause { IsErrOf result StepErr.Disk → HasRisen (D.seen disk.old).faults (D.seen disk.new).faults }
-        ensures faults { (D.seen disk.old).faults ≤ (D.seen disk.new).faults }
+        ensures cause { HasCauseOf StepErr.Disk (D.seen disk.old).faults (D.seen disk.new).faults result }
     {
         let request = self.asks_fate(tx);
         self.serve(alloc, disk, request)

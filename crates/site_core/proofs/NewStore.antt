@@ -1,8 +1,7 @@
 -- What the store of a new site stands for.
-use Rattle.std.proofs.Common.{◌≡◌, ℕ, ◌≤◌, Bool, Option, None, Err, List, [], length, refl, sym, ap, subst, arith, inl, inr}
+use Rattle.std.proofs.Common.{◌≡◌, ℕ, Bool, Option, None, Err, List, [], length, refl, sym, ap, subst, arith}
 use Rattle.std.specs.Prelude.{reverse}
 use Rattle.std.proofs.lemmas.List.{nil_from_length}
-use Rattle.mdb_base.specs.Counts.{HasRisen}
 use Rattle.fed_rules.specs.declared.records.SiteRecord.{SiteRecord}
 use Rattle.fed_rules.specs.Disk.{Call, Disk, empty_disk, journal}
 use Rattle.fed_rules.specs.Happenings.{Trip}
@@ -22,11 +21,6 @@ use Rattle.actor_store.specs.Store as actor
 use Rattle.actor_store.specs.Store.{HoldsBytes, taken_as}
 use Rattle.actor_store.proofs.StoreLaws.{sizes, taken_bytes}
 use Rattle.site_core.specs.Store.{Store, Keeps, SomeStop, Ends, stopped_disk}
-
--- a count that rose from a later one rose from an earlier one
-pub risen_from : (a b now : ℕ) → a ≤ b → HasRisen b now → HasRisen a now
-risen_from a b now le (inl less) = inl (omega arith)
-risen_from a b now le (inr last) = inr last
 
 -- the empty disk of the rules, beside one that holds no byte
 no_records : AreRecordsOf (record_frame spelling) [] []

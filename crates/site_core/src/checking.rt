@@ -1,6 +1,6 @@
 //! The Checkpoint of a site: what all its records say, forced to its disk; and what stood before it is trimmed.
-ghost use Rattle.std.specs.Prelude.{◌≡◌, ◌≤◌, IfOk, IfErr, IsErrOf, IsTrue};
-ghost use Rattle.mdb_base.specs.Counts.{HasRisen};
+ghost use Rattle.std.specs.Prelude.{◌≡◌, IfOk, IfErr, IsTrue};
+ghost use Rattle.mdb_base.specs.Counts.{HasCauseOf};
 ghost use Rattle.fed_rules.specs.Site.{of_check, unless_tripped};
 ghost use Rattle.site_core.specs.Stands.{Answers, Breaks, Stands};
 ghost use Rattle.site_core.specs.Steps.{AnyPast, EachPast, SomePast};
@@ -29,8 +29,7 @@ impl<E: LocalEngine> SiteCore<E> {
             (λ home past. Answers E.stands D.tells step self.new (D.seen disk.new) home past (unless_tripped home past (of_check home past)))) }
         ensures failed { IfErr result (λ why. EachPast (Stands E.stands D.tells self.old (D.seen disk.old))
             (λ home past. Breaks E.stands D.tells why self.new (D.seen disk.new) home past SiteEvent.Check)) }
-        ensures cause { IsErrOf result StepErr.Disk → HasRisen (D.seen disk.old).faults (D.seen disk.new).faults }
-        ensures faults { (D.seen disk.old).faults ≤ (D.seen disk.new).faults }
+        ensures cause { HasCauseOf StepErr.Disk (D.seen disk.old).faults (D.seen disk.new).faults result }
     {
         let Ok(sum) = read_sum(alloc, self.store.records()) else {
             return Err(StepErr::Memory);

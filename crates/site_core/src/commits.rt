@@ -1,6 +1,6 @@
 //! The commit of a local attempt: it is sealed, its record is forced, and its writes are installed.
-ghost use Rattle.std.specs.Prelude.{◌≡◌, ◌≤◌, IfOk, IfErr, IsErrOf, IsTrue};
-ghost use Rattle.mdb_base.specs.Counts.{HasRisen};
+ghost use Rattle.std.specs.Prelude.{◌≡◌, IfOk, IfErr, IsTrue};
+ghost use Rattle.mdb_base.specs.Counts.{HasCauseOf};
 ghost use Rattle.fed_rules.specs.Site.{of_commit, unless_tripped};
 ghost use Rattle.site_core.specs.Sealing.{StandsSealing};
 ghost use Rattle.site_core.specs.Stands.{Answers, Breaks, Stands};
@@ -32,8 +32,7 @@ impl<E: LocalEngine> SiteCore<E> {
             (unless_tripped home past (of_commit home past tid)))) }
         ensures failed { IfErr result (λ why. EachPast (Stands E.stands D.tells self.old (D.seen disk.old))
             (λ home past. CanStep (SiteEvent.Commit tid) home past → Breaks E.stands D.tells why self.new (D.seen disk.new) home past (SiteEvent.Commit tid))) }
-        ensures cause { IsErrOf result StepErr.Disk → HasRisen (D.seen disk.old).faults (D.seen disk.new).faults }
-        ensures faults { (D.seen disk.old).faults ≤ (D.seen disk.new).faults }
+        ensures cause { HasCauseOf StepErr.Disk (D.seen disk.old).faults (D.seen disk.new).faults result }
     {
         if self.book.live(tid).is_none() {
             return Ok(says(Answer::Idle));
@@ -65,8 +64,7 @@ impl<E: LocalEngine> SiteCore<E> {
             (unless_tripped home past (of_commit home past tid)))) }
         ensures failed { IfErr result (λ why. EachPast (StandsSealing E.stands D.tells tid sealed self.old (D.seen disk.old))
             (λ home past. CanStep (SiteEvent.Commit tid) home past → Breaks E.stands D.tells why self.new (D.seen disk.new) home past (SiteEvent.Commit tid))) }
-        ensures cause { IsErrOf result StepErr.Disk → HasRisen (D.seen disk.old).faults (D.seen disk.new).faults }
-        ensures faults { (D.seen disk.old).faults ≤ (D.seen disk.new).faults }
+        ensures cause { HasCauseOf StepErr.Disk (D.seen disk.old).faults (D.seen disk.new).faults result }
     {
         let Sealed {
             number,

@@ -1,6 +1,6 @@
 //! The decision on a subtransaction: one that is sealed settles by it, and a live run of it aborts.
-ghost use Rattle.std.specs.Prelude.{◌≡◌, ◌≤◌, [], ◌∷◌, cond, false, option_to_list, IfOk, IfErr, IsErrOf, IsSome, IsTrue, Option, OnOk, OnErr};
-ghost use Rattle.mdb_base.specs.Counts.{HasCauseOf, HasRisen};
+ghost use Rattle.std.specs.Prelude.{◌≡◌, [], ◌∷◌, cond, false, option_to_list, IfOk, IfErr, IsSome, IsTrue, Option, OnOk, OnErr};
+ghost use Rattle.mdb_base.specs.Counts.{HasCauseOf};
 ghost use Rattle.presumptions.specs.Table.{forces};
 ghost use Rattle.fed_rules.specs.declared.answers.Answer.TheVariants as Say;
 ghost use Rattle.fed_rules.specs.declared.messages.ToSite.TheVariants as To;
@@ -48,8 +48,7 @@ impl<E: LocalEngine> SiteCore<E> {
             (unless_tripped home past (of_decide home past tid decision)))) }
         ensures failed { IfErr result (λ why. EachPast (Stands E.stands D.tells self.old (D.seen disk.old))
             (λ home past. CanDecide tid home past → Breaks E.stands D.tells why self.new (D.seen disk.new) home past (SiteEvent.Give (To.Decide tid decision)))) }
-        ensures cause { IsErrOf result StepErr.Disk → HasRisen (D.seen disk.old).faults (D.seen disk.new).faults }
-        ensures faults { (D.seen disk.old).faults ≤ (D.seen disk.new).faults }
+        ensures cause { HasCauseOf StepErr.Disk (D.seen disk.old).faults (D.seen disk.new).faults result }
     {
         if self.doubts.doubtful(tid).is_some() {
             return self.settle(alloc, disk, tid, decision);
@@ -85,8 +84,7 @@ impl<E: LocalEngine> SiteCore<E> {
             (unless_tripped home past (of_decide home past tid decision)))) }
         ensures failed { IfErr result (λ why. EachPast (Stands E.stands D.tells self.old (D.seen disk.old))
             (λ home past. CanDecide tid home past → Breaks E.stands D.tells why self.new (D.seen disk.new) home past (SiteEvent.Give (To.Decide tid decision)))) }
-        ensures cause { IsErrOf result StepErr.Disk → HasRisen (D.seen disk.old).faults (D.seen disk.new).faults }
-        ensures faults { (D.seen disk.old).faults ≤ (D.seen disk.new).faults }
+        ensures cause { HasCauseOf StepErr.Disk (D.seen disk.old).faults (D.seen disk.new).faults result }
     {
         let entry = SiteRecord::Ended { tid, decision };
         let bytes = SiteJournal::frame_len(&entry);

@@ -1,6 +1,6 @@
 //! The messages of a coordinator.
-ghost use Rattle.std.specs.Prelude.{◌≡◌, ◌≤◌, IfOk, IfErr, IsErrOf, IsTrue};
-ghost use Rattle.mdb_base.specs.Counts.{HasRisen};
+ghost use Rattle.std.specs.Prelude.{◌≡◌, IfOk, IfErr, IsTrue};
+ghost use Rattle.mdb_base.specs.Counts.{HasCauseOf};
 ghost use Rattle.fed_rules.specs.Site.{of_give, unless_tripped};
 ghost use Rattle.site_core.specs.Stands.{Answers, Breaks, Stands};
 ghost use Rattle.site_core.specs.Steps.{CanTakeMessage, EachPast, SomePast};
@@ -29,8 +29,7 @@ impl<E: LocalEngine> SiteCore<E> {
             (unless_tripped home past (of_give home past message)))) }
         ensures failed { IfErr result (λ why. EachPast (Stands E.stands D.tells self.old (D.seen disk.old))
             (λ home past. CanTakeMessage message home past → Breaks E.stands D.tells why self.new (D.seen disk.new) home past (SiteEvent.Give (message)))) }
-        ensures cause { IsErrOf result StepErr.Disk → HasRisen (D.seen disk.old).faults (D.seen disk.new).faults }
-        ensures faults { (D.seen disk.old).faults ≤ (D.seen disk.new).faults }
+        ensures cause { HasCauseOf StepErr.Disk (D.seen disk.old).faults (D.seen disk.new).faults result }
     {
         match message {
             ToSite::Work { tid, epoch, n, act } => match self.work(alloc, tid, epoch, n, act) {

@@ -1,7 +1,7 @@
 //! The core of a site and its step.
 ghost use Rattle.std.specs.Prelude.{◌≡◌, ◌≤◌, [], false, length, reverse, is_some, IfOk, IfErr, IsErrOf, IsTrue};
 ghost use Rattle.std.specs.Option.{option_copied};
-ghost use Rattle.mdb_base.specs.Counts.{HasRisen};
+ghost use Rattle.mdb_base.specs.Counts.{HasCauseOf};
 ghost use Rattle.mdb_base.specs.Words.{map_some};
 ghost use Rattle.mdb_base.specs.declared.names.Tid.{Tid};
 ghost use Rattle.record_fields.specs.Named.{IsSite};
@@ -69,8 +69,7 @@ impl<E: LocalEngine> SiteCore<E> {
         ensures untouched { IsErrOf result StepErr.Memory → (D.seen disk.new).size ≡ 0 }
         ensures broken { IsErrOf result StepErr.Disk → SomeStop (D.seen disk.new).image empty_disk
             (set_up_calls (record { site = site; engine = engine; protocol = protocol; items = items })) }
-        ensures cause { IsErrOf result StepErr.Disk → HasRisen (D.seen disk.old).faults (D.seen disk.new).faults }
-        ensures faults { (D.seen disk.old).faults ≤ (D.seen disk.new).faults }
+        ensures cause { HasCauseOf StepErr.Disk (D.seen disk.old).faults (D.seen disk.new).faults result }
     {
         let Ok(doubts) = PreparedBook::new(alloc) else {
             return Err(StepErr::Memory);
@@ -102,8 +101,7 @@ impl<E: LocalEngine> SiteCore<E> {
             (λ home past. CanStep event home past → Steps E.stands D.tells step self.new (D.seen disk.new) home past (site_line home past event))) }
         ensures failed { IfErr result (λ why. EachPast (Stands E.stands D.tells self.old (D.seen disk.old))
             (λ home past. CanStep event home past → Fails E.stands D.tells why self.new (D.seen disk.new) home past event)) }
-        ensures cause { IsErrOf result StepErr.Disk → HasRisen (D.seen disk.old).faults (D.seen disk.new).faults }
-        ensures faults { (D.seen disk.old).faults ≤ (D.seen disk.new).faults }
+        ensures cause { HasCauseOf StepErr.Disk (D.seen disk.old).faults (D.seen disk.new).faults result }
     {
         self.answer(alloc, disk, event)
     }
@@ -193,8 +191,7 @@ impl<E: LocalEngine> SiteCore<E> {
             (λ home past. CanStep event home past → Answers E.stands D.tells step self.new (D.seen disk.new) home past (site_line home past event))) }
         ensures failed { IfErr result (λ why. EachPast (Stands E.stands D.tells self.old (D.seen disk.old))
             (λ home past. CanStep event home past → Breaks E.stands D.tells why self.new (D.seen disk.new) home past event)) }
-        ensures cause { IsErrOf result StepErr.Disk → HasRisen (D.seen disk.old).faults (D.seen disk.new).faults }
-        ensures faults { (D.seen disk.old).faults ≤ (D.seen disk.new).faults }
+        ensures cause { HasCauseOf StepErr.Disk (D.seen disk.old).faults (D.seen disk.new).faults result }
     {
         match self.store.standing {
             Standing::Up => self.serve(alloc, disk, event),
@@ -217,8 +214,7 @@ impl<E: LocalEngine> SiteCore<E> {
             (λ home past. CanStep event home past → Answers E.stands D.tells step self.new (D.seen disk.new) home past (site_line home past event))) }
         ensures failed { IfErr result (λ why. EachPast (Stands E.stands D.tells self.old (D.seen disk.old))
             (λ home past. CanStep event home past → Breaks E.stands D.tells why self.new (D.seen disk.new) home past event)) }
-        ensures cause { IsErrOf result StepErr.Disk → HasRisen (D.seen disk.old).faults (D.seen disk.new).faults }
-        ensures faults { (D.seen disk.old).faults ≤ (D.seen disk.new).faults }
+        ensures cause { HasCauseOf StepErr.Disk (D.seen disk.old).faults (D.seen disk.new).faults result }
     {
         match event {
             SiteEvent::Begin(tid) => match self.begin(alloc, tid) {
@@ -256,8 +252,7 @@ impl<E: LocalEngine> SiteCore<E> {
             (λ home past. CanStep event home past → Answers E.stands D.tells step self.new (D.seen disk.new) home past (site_line home past event))) }
         ensures failed { IfErr result (λ why. EachPast (Stands E.stands D.tells self.old (D.seen disk.old))
             (λ home past. CanStep event home past → Breaks E.stands D.tells why self.new (D.seen disk.new) home past event)) }
-        ensures cause { IsErrOf result StepErr.Disk → HasRisen (D.seen disk.old).faults (D.seen disk.new).faults }
-        ensures faults { (D.seen disk.old).faults ≤ (D.seen disk.new).faults }
+        ensures cause { HasCauseOf StepErr.Disk (D.seen disk.old).faults (D.seen disk.new).faults result }
     {
         match event {
             SiteEvent::Trip { calls, cut } => Ok(self.set_trip(calls, cut)),

@@ -1,6 +1,6 @@
 //! The start of a site that is down.
-ghost use Rattle.std.specs.Prelude.{◌≡◌, ◌≤◌, [], false, map, IfOk, IfErr, IsErrOf, IsTrue, OnOk, OnErr};
-ghost use Rattle.mdb_base.specs.Counts.{HasRisen};
+ghost use Rattle.std.specs.Prelude.{◌≡◌, [], false, map, IfOk, IfErr, IsTrue, OnOk, OnErr};
+ghost use Rattle.mdb_base.specs.Counts.{HasCauseOf};
 ghost use Rattle.fed_rules.specs.Site.{site_line};
 ghost use Rattle.actor_store.specs.Store.{is_up};
 ghost use Rattle.mdb_base.specs.declared.names.Tid.{Tid};
@@ -38,8 +38,7 @@ impl<E: LocalEngine> SiteCore<E> {
             (λ home past. Answers E.stands D.tells step self.new (D.seen disk.new) home past (site_line home past SiteEvent.Back))) }
         ensures failed { IfErr result (λ why. EachPast (Stands E.stands D.tells self.old (D.seen disk.old))
             (λ home past. Breaks E.stands D.tells why self.new (D.seen disk.new) home past SiteEvent.Back)) }
-        ensures cause { IsErrOf result StepErr.Disk → HasRisen (D.seen disk.old).faults (D.seen disk.new).faults }
-        ensures faults { (D.seen disk.old).faults ≤ (D.seen disk.new).faults }
+        ensures cause { HasCauseOf StepErr.Disk (D.seen disk.old).faults (D.seen disk.new).faults result }
     {
         match self.store.reload(alloc, disk) {
             Ok(()) => self.start_epoch(alloc, disk),
@@ -61,8 +60,7 @@ impl<E: LocalEngine> SiteCore<E> {
             (λ home past. Answers E.stands D.tells step self.new (D.seen disk.new) home past (site_line home past SiteEvent.Back))) }
         ensures failed { IfErr result (λ why. EachPast (Stands E.stands D.tells self.old (D.seen disk.old))
             (λ home past. Breaks E.stands D.tells why self.new (D.seen disk.new) home past SiteEvent.Back)) }
-        ensures cause { IsErrOf result StepErr.Disk → HasRisen (D.seen disk.old).faults (D.seen disk.new).faults }
-        ensures faults { (D.seen disk.old).faults ≤ (D.seen disk.new).faults }
+        ensures cause { HasCauseOf StepErr.Disk (D.seen disk.old).faults (D.seen disk.new).faults result }
     {
         let Ok(sum) = read_sum(alloc, self.store.records()) else {
             return Err(StepErr::Memory);

@@ -1,5 +1,5 @@
 //! A halt, and the setting of a trip.
-ghost use Rattle.std.specs.Prelude.{◌≡◌, ◌≤◌, None, IsTrue};
+ghost use Rattle.std.specs.Prelude.{◌≡◌, None, IsTrue};
 ghost use Rattle.fed_rules.specs.Site.{site_line};
 ghost use Rattle.actor_store.specs.Store.{trip_to};
 ghost use Rattle.site_core.specs.Stands.{Answers, Stands};
@@ -20,7 +20,7 @@ impl<E: LocalEngine> SiteCore<E> {
         requires may { SomePast (Stands E.stands D.tells self.old (D.seen disk.old)) AnyPast }
         ensures answered { EachPast (Stands E.stands D.tells self.old (D.seen disk.old))
             (λ home past. Answers E.stands D.tells result self.new (D.seen disk.new) home past (site_line home past (SiteEvent.Halt cut))) }
-        ensures faults { (D.seen disk.old).faults ≤ (D.seen disk.new).faults }
+        ensures faults { (D.seen disk.new).faults ≡ (D.seen disk.old).faults }
     {
         let kept = self.store.stop(disk, cut);
         says(Answer::Stopped(kept))

@@ -1,6 +1,6 @@
 //! The journal of a new site on its disk.
 ghost use Rattle.std.specs.Prelude.{◌≡◌, ◌≤◌, ◌+◌, [], ◌∷◌, None, IfOk, IsErrOf, IsTrue, length};
-ghost use Rattle.mdb_base.specs.Counts.{HasRisen};
+ghost use Rattle.mdb_base.specs.Counts.{HasCauseOf};
 ghost use Rattle.fed_rules.specs.Disk.{Append, Sync, after_calls, empty_disk};
 ghost use Rattle.fed_rules.specs.SitePast.{disk as disk_of, set_up_calls};
 ghost use Rattle.fed_rules.specs.SiteRecords.{site_frame};
@@ -40,8 +40,7 @@ pub fn set_up_store<D: Disk>(
     ensures untouched { IsErrOf result StepErr.Memory → (D.seen disk.new).size ≡ 0 }
     ensures broken { IsErrOf result StepErr.Disk → SomeStop (D.seen disk.new).image empty_disk
         (set_up_calls (record { site = site; engine = engine; protocol = protocol; items = items })) }
-    ensures cause { IsErrOf result StepErr.Disk → HasRisen (D.seen disk.old).faults (D.seen disk.new).faults }
-    ensures faults { (D.seen disk.old).faults ≤ (D.seen disk.new).faults }
+    ensures cause { HasCauseOf StepErr.Disk (D.seen disk.old).faults (D.seen disk.new).faults result }
 {
     let setup = SiteRecord::Setup {
         site,
@@ -80,8 +79,7 @@ fn begin_journal<D: Disk>(
     ensures memory { IsErrOf result StepErr.Memory → (D.seen disk.new).image ≡ (D.seen disk.old).image }
     ensures untouched { IsErrOf result StepErr.Memory → (D.seen disk.new).size ≡ 0 }
     ensures broken { IsErrOf result StepErr.Disk → SomeStop (D.seen disk.new).image empty_disk (Append setup ∷ Append start ∷ Sync ∷ []) }
-    ensures cause { IsErrOf result StepErr.Disk → HasRisen (D.seen disk.old).faults (D.seen disk.new).faults }
-    ensures faults { (D.seen disk.old).faults ≤ (D.seen disk.new).faults }
+    ensures cause { HasCauseOf StepErr.Disk (D.seen disk.old).faults (D.seen disk.new).faults result }
 {
     let mut store = store;
     match store.append(disk, setup) {

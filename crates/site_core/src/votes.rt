@@ -1,6 +1,6 @@
 //! The vote of a site on a subtransaction: its run is sealed, its Prepared record is forced, and the site is in doubt of it.
-ghost use Rattle.std.specs.Prelude.{◌≡◌, ◌≤◌, ℕ, None, Some, IfOk, IfErr, IsErrOf, IsTrue};
-ghost use Rattle.mdb_base.specs.Counts.{HasRisen};
+ghost use Rattle.std.specs.Prelude.{◌≡◌, ◌≤◌, ℕ, None, Some, IfOk, IfErr, IsTrue};
+ghost use Rattle.mdb_base.specs.Counts.{HasCauseOf};
 ghost use Rattle.fed_rules.specs.Site.{of_prepare, unless_tripped};
 ghost use Rattle.fed_rules.specs.declared.answers.Answer.TheVariants as Say;
 ghost use Rattle.fed_rules.specs.declared.messages.FromSite.TheVariants as From;
@@ -41,8 +41,7 @@ impl<E: LocalEngine> SiteCore<E> {
             (unless_tripped home past (of_prepare home past tid epoch n)))) }
         ensures failed { IfErr result (λ why. EachPast (Stands E.stands D.tells self.old (D.seen disk.old))
             (λ home past. CanPrepare tid home past → Breaks E.stands D.tells why self.new (D.seen disk.new) home past (SiteEvent.Give (To.Prepare tid epoch n)))) }
-        ensures cause { IsErrOf result StepErr.Disk → HasRisen (D.seen disk.old).faults (D.seen disk.new).faults }
-        ensures faults { (D.seen disk.old).faults ≤ (D.seen disk.new).faults }
+        ensures cause { HasCauseOf StepErr.Disk (D.seen disk.old).faults (D.seen disk.new).faults result }
     {
         if let Some(doubt) = self.doubts.doubtful(tid) {
             if doubt.epoch == epoch {
@@ -100,8 +99,7 @@ impl<E: LocalEngine> SiteCore<E> {
             (unless_tripped home past (of_prepare home past tid self.old.epoch n)))) }
         ensures failed { IfErr result (λ why. EachPast (StandsSealing E.stands D.tells tid sealed self.old (D.seen disk.old))
             (λ home past. CanPrepare tid home past → (n : ℕ) → HasFinished tid n home past → Breaks E.stands D.tells why self.new (D.seen disk.new) home past (SiteEvent.Give (To.Prepare tid self.old.epoch n)))) }
-        ensures cause { IsErrOf result StepErr.Disk → HasRisen (D.seen disk.old).faults (D.seen disk.new).faults }
-        ensures faults { (D.seen disk.old).faults ≤ (D.seen disk.new).faults }
+        ensures cause { HasCauseOf StepErr.Disk (D.seen disk.old).faults (D.seen disk.new).faults result }
     {
         let Sealed {
             number,

@@ -1,6 +1,6 @@
 -- What a site that is told something answers, from what its verb answers.
-use Rattle.std.proofs.Common.{◌≡◌, true, false, None, [], Result, Ok, Err, IfOk, IfErr, sym, ap, ◌∙◌, subst}
-use Rattle.std.specs.Prelude.{IsErrOf}
+use Rattle.std.proofs.Common.{ℕ, ◌≡◌, true, false, None, [], Result, Ok, Err, IfOk, IfErr, sym, ap, ◌∙◌, subst}
+use Rattle.mdb_base.specs.Counts.{HasCauseOf}
 use Rattle.fed_rules.specs.declared.answers.Answer.{Answer}
 use Rattle.fed_rules.specs.declared.events.SiteEvent.{SiteEvent}
 use Rattle.fed_rules.specs.declared.events.SiteStep.{SiteStep}
@@ -89,7 +89,16 @@ module _ (K L : Home → OwnPrograms → SitePast → Type 0) (ask made : SiteAs
       by_err (Ok step) f = tt
       by_err (Err why) f = λ home programs past stood may. f home programs past stood (short home programs past may)
 
--- the cause of a failed call is that of the verb's
-pub own_cause : (P : Type 0) (asked : Result Answer StepErr) (told : Result SiteStep StepErr) → IfErr told (λ why. asked ≡ Err why) → (IsErrOf asked Err_is.Disk → P) → IsErrOf told Err_is.Disk → P
-own_cause P asked (Ok step) s cause e = cc
-own_cause P asked (Err why) s cause e = let same : why ≡ Err_is.Disk = cc in cause (s ∙ ap (λ (w : StepErr). Err w) same)
+-- what is silent has the cause that its verb has
+pub own_cause : (before now : ℕ) (asked : Result Answer StepErr) (told : Result SiteStep StepErr) → IfOk told (λ step. (asked ≡ Ok step.answer) × (step.sends ≡ None)) → IfErr told (λ why. asked ≡ Err why)
+    → HasCauseOf Err_is.Disk before now asked → HasCauseOf Err_is.Disk before now told
+own_cause before now asked (Ok step) ok err cause = record {
+  later = cause.later;
+  failed = λ e. cc;
+  clean = λ _. cause.clean (λ e. let never = sym ok.0 ∙ e in cc);
+}
+own_cause before now asked (Err why) ok err cause = record {
+  later = cause.later;
+  failed = λ e. let same : why ≡ Err_is.Disk = cc in cause.failed (err ∙ ap (λ (w : StepErr). Err w) same);
+  clean = λ no. cause.clean (λ e. let is = sym err ∙ e in let same : why ≡ Err_is.Disk = cc in no (ap (λ (w : StepErr). Err w) same));
+}

@@ -1,6 +1,6 @@
 //! What a site hears, with what the world keeps of it.
-ghost use Rattle.std.specs.Prelude.{◌≤◌, ◌<◌, ◌^◌, ◌≡◌, List, IsTrue, IfOk, IfErr, IsErrOf, OnOk, length, true, vec_len, vec_capacity};
-ghost use Rattle.mdb_base.specs.Counts.{HasRisen};
+ghost use Rattle.std.specs.Prelude.{◌<◌, ◌^◌, ◌≡◌, List, IsTrue, IfOk, IfErr, OnOk, length, true, vec_len, vec_capacity};
+ghost use Rattle.mdb_base.specs.Counts.{HasCauseOf};
 ghost use Rattle.any_engine.specs.Stands as Engines;
 ghost use Rattle.fed_rules.specs.declared.messages.FromSite.{FromSite as TheFrom};
 ghost use Rattle.fed_rules.specs.declared.messages.ToSite.{ToSite as TheTo};
@@ -64,8 +64,7 @@ pub fn tell_seat<D: Disk>(
     ensures failed { IfErr result (λ why. Each_site (Dbms.Stands Engines.Stands D.tells dbms.old (D.seen disk.old)) (λ home programs past. CanTell ask home programs past
         → (to : List TheTo) (from : List TheFrom) → PartAt (Dbms.Stands Engines.Stands D.tells dbms.old (D.seen disk.old)) marks.old traffic.old home programs past to from
         → PartFails (Dbms.Stands Engines.Stands D.tells dbms.new (D.seen disk.new)) why marks.new traffic.new home programs past to from (site_request ask home programs past))) }
-    ensures cause { IsErrOf result StepErr.Disk → HasRisen (D.seen disk.old).faults (D.seen disk.new).faults }
-    ensures faults { (D.seen disk.old).faults ≤ (D.seen disk.new).faults }
+    ensures cause { HasCauseOf StepErr.Disk (D.seen disk.old).faults (D.seen disk.new).faults result }
 {
     let mut sends = Vec::new(alloc);
     let Ok(()) = make_room(&mut sends, &mut traffic.from, ask) else {

@@ -1,6 +1,6 @@
 //! How a site is told what is asked of it.
-ghost use Rattle.std.specs.Prelude.{◌≤◌, ◌≡◌, IsTrue, IfOk, IfErr, IsErrOf, None, false};
-ghost use Rattle.mdb_base.specs.Counts.{HasRisen};
+ghost use Rattle.std.specs.Prelude.{◌≡◌, IsTrue, IfOk, IfErr, None, false};
+ghost use Rattle.mdb_base.specs.Counts.{HasCauseOf};
 ghost use Rattle.any_engine.specs.Stands as Engines;
 ghost use Rattle.local_dbms.specs.Stands as Dbms;
 ghost use Rattle.local_dbms.specs.Stands.{Each_site, Some_site};
@@ -43,8 +43,7 @@ pub fn tell_site<D: Disk>(
     ensures failed { IfErr result (λ why. Each_site (Dbms.Stands Engines.Stands D.tells dbms.old (D.seen disk.old)) (λ home programs past. CanTell ask home programs past
         → Dbms.Fails (Dbms.Stands Engines.Stands D.tells dbms.new (D.seen disk.new)) why home programs past (site_request ask home programs past))) }
     ensures quiet { IfOk result (λ step. can_send ask ≡ false → step.sends ≡ None) }
-    ensures cause { IsErrOf result StepErr.Disk → HasRisen (D.seen disk.old).faults (D.seen disk.new).faults }
-    ensures faults { (D.seen disk.old).faults ≤ (D.seen disk.new).faults }
+    ensures cause { HasCauseOf StepErr.Disk (D.seen disk.old).faults (D.seen disk.new).faults result }
 {
     match ask {
         SiteAsk::Begin(tx) => silent(dbms.begin(alloc, disk, tx)),

@@ -25,10 +25,7 @@ pub returns-in-Begin-clause-quiet : goal.returns-in-Begin-clause-quiet
 returns-in-Begin-clause-quiet g c = quiet_silent _ _ _ c.silent.ensures.ok
 
 pub returns-in-Begin-clause-cause : goal.returns-in-Begin-clause-cause
-returns-in-Begin-clause-cause g c = own_cause _ _ _ c.silent.ensures.err c.begin.ensures.cause
-
-pub returns-in-Begin-clause-faults : goal.returns-in-Begin-clause-faults
-returns-in-Begin-clause-faults g c = c.begin.ensures.faults
+returns-in-Begin-clause-cause g c = own_cause _ _ _ _ c.silent.ensures.ok c.silent.ensures.err c.begin.ensures.cause
 
 pub step-requires-clause-told : goal.step-requires-clause-told
 step-requires-clause-told g c = c.requires.told
@@ -46,10 +43,7 @@ pub returns-in-Step-clause-quiet : goal.returns-in-Step-clause-quiet
 returns-in-Step-clause-quiet g c = quiet_silent _ _ _ c.silent-in-Step.ensures.ok
 
 pub returns-in-Step-clause-cause : goal.returns-in-Step-clause-cause
-returns-in-Step-clause-cause g c = own_cause _ _ _ c.silent-in-Step.ensures.err c.step.ensures.cause
-
-pub returns-in-Step-clause-faults : goal.returns-in-Step-clause-faults
-returns-in-Step-clause-faults g c = c.step.ensures.faults
+returns-in-Step-clause-cause g c = own_cause _ _ _ _ c.silent-in-Step.ensures.ok c.silent-in-Step.ensures.err c.step.ensures.cause
 
 pub commit-requires-clause-told : goal.commit-requires-clause-told
 commit-requires-clause-told g c = c.requires.told
@@ -67,10 +61,7 @@ pub returns-in-Commit-clause-quiet : goal.returns-in-Commit-clause-quiet
 returns-in-Commit-clause-quiet g c = quiet_silent _ _ _ c.silent-in-Commit.ensures.ok
 
 pub returns-in-Commit-clause-cause : goal.returns-in-Commit-clause-cause
-returns-in-Commit-clause-cause g c = own_cause _ _ _ c.silent-in-Commit.ensures.err c.commit.ensures.cause
-
-pub returns-in-Commit-clause-faults : goal.returns-in-Commit-clause-faults
-returns-in-Commit-clause-faults g c = c.commit.ensures.faults
+returns-in-Commit-clause-cause g c = own_cause _ _ _ _ c.silent-in-Commit.ensures.ok c.silent-in-Commit.ensures.err c.commit.ensures.cause
 
 pub abort-requires-clause-told : goal.abort-requires-clause-told
 abort-requires-clause-told g c = c.requires.told
@@ -88,10 +79,7 @@ pub returns-in-Abort-clause-quiet : goal.returns-in-Abort-clause-quiet
 returns-in-Abort-clause-quiet g c = quiet_silent _ _ _ c.silent-in-Abort.ensures.ok
 
 pub returns-in-Abort-clause-cause : goal.returns-in-Abort-clause-cause
-returns-in-Abort-clause-cause g c = own_cause _ _ _ c.silent-in-Abort.ensures.err c.abort.ensures.cause
-
-pub returns-in-Abort-clause-faults : goal.returns-in-Abort-clause-faults
-returns-in-Abort-clause-faults g c = c.abort.ensures.faults
+returns-in-Abort-clause-cause g c = own_cause _ _ _ _ c.silent-in-Abort.ensures.ok c.silent-in-Abort.ensures.err c.abort.ensures.cause
 
 pub fate-requires-clause-told : goal.fate-requires-clause-told
 fate-requires-clause-told g c = c.requires.told
@@ -109,10 +97,7 @@ pub returns-in-Fate-clause-quiet : goal.returns-in-Fate-clause-quiet
 returns-in-Fate-clause-quiet g c = quiet_silent _ _ _ c.silent-in-Fate.ensures.ok
 
 pub returns-in-Fate-clause-cause : goal.returns-in-Fate-clause-cause
-returns-in-Fate-clause-cause g c = own_cause _ _ _ c.silent-in-Fate.ensures.err c.fate.ensures.cause
-
-pub returns-in-Fate-clause-faults : goal.returns-in-Fate-clause-faults
-returns-in-Fate-clause-faults g c = c.fate.ensures.faults
+returns-in-Fate-clause-cause g c = own_cause _ _ _ _ c.silent-in-Fate.ensures.ok c.silent-in-Fate.ensures.err c.fate.ensures.cause
 
 pub drop-requires-clause-told : goal.drop-requires-clause-told
 drop-requires-clause-told g c = c.requires.told
@@ -130,10 +115,7 @@ pub returns-in-Drop-clause-quiet : goal.returns-in-Drop-clause-quiet
 returns-in-Drop-clause-quiet g c = quiet_silent _ _ _ c.silent-in-Drop.ensures.ok
 
 pub returns-in-Drop-clause-cause : goal.returns-in-Drop-clause-cause
-returns-in-Drop-clause-cause g c = own_cause _ _ _ c.silent-in-Drop.ensures.err c.drop.ensures.cause
-
-pub returns-in-Drop-clause-faults : goal.returns-in-Drop-clause-faults
-returns-in-Drop-clause-faults g c = c.drop.ensures.faults
+returns-in-Drop-clause-cause g c = own_cause _ _ _ _ c.silent-in-Drop.ensures.ok c.silent-in-Drop.ensures.err c.drop.ensures.cause
 
 pub halt-requires-clause-told : goal.halt-requires-clause-told
 halt-requires-clause-told g c = c.requires.told
@@ -151,10 +133,7 @@ pub returns-in-Halt-clause-quiet : goal.returns-in-Halt-clause-quiet
 returns-in-Halt-clause-quiet g c = quiet_silent _ _ _ c.silent-in-Halt.ensures.ok
 
 pub returns-in-Halt-clause-cause : goal.returns-in-Halt-clause-cause
-returns-in-Halt-clause-cause g c = own_cause _ _ _ c.silent-in-Halt.ensures.err c.halt.ensures.cause
-
-pub returns-in-Halt-clause-faults : goal.returns-in-Halt-clause-faults
-returns-in-Halt-clause-faults g c = c.halt.ensures.faults
+returns-in-Halt-clause-cause g c = own_cause _ _ _ _ c.silent-in-Halt.ensures.ok c.silent-in-Halt.ensures.err c.halt.ensures.cause
 
 pub trip-requires-clause-told : goal.trip-requires-clause-told
 trip-requires-clause-told g c = c.requires.told
@@ -172,10 +151,7 @@ pub returns-in-Trip-clause-quiet : goal.returns-in-Trip-clause-quiet
 returns-in-Trip-clause-quiet g c = quiet_silent _ _ _ c.silent-in-Trip.ensures.ok
 
 pub returns-in-Trip-clause-cause : goal.returns-in-Trip-clause-cause
-returns-in-Trip-clause-cause g c = own_cause _ _ _ c.silent-in-Trip.ensures.err c.trip.ensures.cause
-
-pub returns-in-Trip-clause-faults : goal.returns-in-Trip-clause-faults
-returns-in-Trip-clause-faults g c = c.trip.ensures.faults
+returns-in-Trip-clause-cause g c = own_cause _ _ _ _ c.silent-in-Trip.ensures.ok c.silent-in-Trip.ensures.err c.trip.ensures.cause
 
 pub back-requires-clause-told : goal.back-requires-clause-told
 back-requires-clause-told g c = c.requires.told
@@ -193,10 +169,7 @@ pub returns-in-Back-clause-quiet : goal.returns-in-Back-clause-quiet
 returns-in-Back-clause-quiet g c = quiet_silent _ _ _ c.silent-in-Back.ensures.ok
 
 pub returns-in-Back-clause-cause : goal.returns-in-Back-clause-cause
-returns-in-Back-clause-cause g c = own_cause _ _ _ c.silent-in-Back.ensures.err c.back.ensures.cause
-
-pub returns-in-Back-clause-faults : goal.returns-in-Back-clause-faults
-returns-in-Back-clause-faults g c = c.back.ensures.faults
+returns-in-Back-clause-cause g c = own_cause _ _ _ _ c.silent-in-Back.ensures.ok c.silent-in-Back.ensures.err c.back.ensures.cause
 
 pub check-requires-clause-told : goal.check-requires-clause-told
 check-requires-clause-told g c = c.requires.told
@@ -214,10 +187,7 @@ pub returns-in-Check-clause-quiet : goal.returns-in-Check-clause-quiet
 returns-in-Check-clause-quiet g c = quiet_silent _ _ _ c.silent-in-Check.ensures.ok
 
 pub returns-in-Check-clause-cause : goal.returns-in-Check-clause-cause
-returns-in-Check-clause-cause g c = own_cause _ _ _ c.silent-in-Check.ensures.err c.check.ensures.cause
-
-pub returns-in-Check-clause-faults : goal.returns-in-Check-clause-faults
-returns-in-Check-clause-faults g c = c.check.ensures.faults
+returns-in-Check-clause-cause g c = own_cause _ _ _ _ c.silent-in-Check.ensures.ok c.silent-in-Check.ensures.err c.check.ensures.cause
 
 pub give-requires-clause-told : goal.give-requires-clause-told
 give-requires-clause-told g c = c.requires.told
@@ -237,9 +207,6 @@ returns-in-Give-clause-quiet g c = quiet_sending c.args.ask (At.Give c.in-Give.m
 pub returns-in-Give-clause-cause : goal.returns-in-Give-clause-cause
 returns-in-Give-clause-cause g c = c.give.ensures.cause
 
-pub returns-in-Give-clause-faults : goal.returns-in-Give-clause-faults
-returns-in-Give-clause-faults g c = c.give.ensures.faults
-
 pub ask-requires-clause-told : goal.ask-requires-clause-told
 ask-requires-clause-told g c = c.requires.told
 
@@ -257,6 +224,3 @@ returns-in-Ask-clause-quiet g c = quiet_sending c.args.ask (At.Ask c.in-Ask.tid)
 
 pub returns-in-Ask-clause-cause : goal.returns-in-Ask-clause-cause
 returns-in-Ask-clause-cause g c = c.ask.ensures.cause
-
-pub returns-in-Ask-clause-faults : goal.returns-in-Ask-clause-faults
-returns-in-Ask-clause-faults g c = c.ask.ensures.faults

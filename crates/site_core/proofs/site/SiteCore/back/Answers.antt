@@ -10,7 +10,6 @@ use Rattle.site_core.specs.Stands.{Answers, Breaks, Stands}
 use Rattle.site_core.specs.Steps.{EachPast}
 use Rattle.site_core.proofs.BackLaws.{read_failed}
 use Rattle.site_core.proofs.CheckLaws.{roomier}
-use Rattle.site_core.proofs.NewStore.{risen_from}
 use Rattle.site_core.proofs.Outcomes.{map_err, map_ok}
 use Rattle.site_core.proofs.RememberLaws.{stands_from}
 use Rattle.site_core.proofs.site.SiteCore.back.Goals as goal
@@ -53,9 +52,6 @@ returns-in-Ok-clause-failed g c =
     map_err (λ why. EachPast K (fails why)) (λ why. EachPast L (fails why)) c.start_epoch.result c.start_epoch.ensures.failed
     (λ why p home past k. p home past (stands_from g.E.LocalEngine.stands g.D.Disk.tells core loaded (g.D.Disk.seen c.args.disk.now) (g.D.Disk.seen c.reload.new.disk) home past k
     (roomier g.E.LocalEngine.stands g.D.Disk.tells core loaded (g.D.Disk.seen c.args.disk.now) (g.D.Disk.seen c.reload.new.disk) home past k (c.reload.ensures.keeps _ _ k.stored) c.reload.ensures.standing refl)))
-
-pub returns-in-Ok-clause-cause : goal.returns-in-Ok-clause-cause
-returns-in-Ok-clause-cause g c = λ e. risen_from _ _ _ c.reload.ensures.cause.later (c.start_epoch.ensures.cause e)
 
 pub returns-in-Err-Memory-clause-failed : goal.returns-in-Err-Memory-clause-failed
 returns-in-Err-Memory-clause-failed g c = λ home past k.
