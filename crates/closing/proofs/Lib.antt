@@ -1,6 +1,5 @@
 pub mod Cores
 pub mod Deliveries
-pub mod Faults
 pub mod Grows
 pub mod LastLine
 pub mod Listed

@@ -2,7 +2,8 @@
 ghost use Rattle.std.specs.Prelude.{◌≡◌, IfErr, IfOk, OnOk, IsTrue, map};
 ghost use Rattle.fed_rules.specs.Closing as rules;
 ghost use Rattle.fed_rules.specs.Closing.{finished_alone, sent_next};
-ghost use Rattle.fed_world.specs.Worlds.{EachStory, HasCause, HasLines, NeverFalls, SomeStory, Stands};
+ghost use Rattle.fed_world.specs.Faults.{CountsTell};
+ghost use Rattle.fed_world.specs.Worlds.{EachStory, HasLines, SomeStory, Stands};
 ghost use Rattle.closing.specs.Steps.{CanFinish};
 ghost use Rattle.closing.specs.Alone.{AllCommit, CanAllCommit, all_alone, delivered_next, queue_after};
 ghost use Rattle.closing.specs.Towards.{FallsShort, Reaches, WillFit};
@@ -30,8 +31,7 @@ fn steps_alone<D: Disk>(
     requires stood { SomeStory (Stands D.tells world.old (map D.seen disks.old.items)) (WillFit (λ scenario. rules.steps_alone tx steps.now)) }
     ensures done { OnOk result (Reaches D.tells world.old (map D.seen disks.old.items) world.new (map D.seen disks.new.items) (WillFit (λ scenario. rules.steps_alone tx steps.now)) (λ scenario. rules.steps_alone tx steps.now)) }
     ensures failed { IfErr result (λ why. FallsShort D.tells world.old (map D.seen disks.old.items) why world.new (map D.seen disks.new.items) (WillFit (λ scenario. rules.steps_alone tx steps.now)) (λ scenario. rules.steps_alone tx steps.now)) }
-    ensures cause { IfErr result (λ why. HasCause why (map D.seen disks.old.items) (map D.seen disks.new.items)) }
-    ensures faults { NeverFalls (map D.seen disks.old.items) (map D.seen disks.new.items) }
+    ensures cause { CountsTell result (map D.seen disks.old.items) (map D.seen disks.new.items) }
 {
     for done in 0..steps.len() {
         let _ = done;
@@ -52,8 +52,7 @@ fn local_alone<D: Disk>(
     requires stood { SomeStory (Stands D.tells world.old (map D.seen disks.old.items)) (WillFit (λ scenario. rules.local_alone tx steps.now)) }
     ensures done { OnOk result (Reaches D.tells world.old (map D.seen disks.old.items) world.new (map D.seen disks.new.items) (WillFit (λ scenario. rules.local_alone tx steps.now)) (λ scenario. rules.local_alone tx steps.now)) }
     ensures failed { IfErr result (λ why. FallsShort D.tells world.old (map D.seen disks.old.items) why world.new (map D.seen disks.new.items) (WillFit (λ scenario. rules.local_alone tx steps.now)) (λ scenario. rules.local_alone tx steps.now)) }
-    ensures cause { IfErr result (λ why. HasCause why (map D.seen disks.old.items) (map D.seen disks.new.items)) }
-    ensures faults { NeverFalls (map D.seen disks.old.items) (map D.seen disks.new.items) }
+    ensures cause { CountsTell result (map D.seen disks.old.items) (map D.seen disks.new.items) }
 {
     world.apply(alloc, disks, Command::Begin(tx))?;
     steps_alone(alloc, world, disks, tx, steps)?;
@@ -82,8 +81,7 @@ fn deliver_next<D: Disk>(
     ensures sent { IfOk result (λ sent. EachStory (Stands D.tells world.old (map D.seen disks.old.items)) (λ scenario commands. WillFit (delivered_next place) scenario commands → sent.items ≡ queue_after scenario place commands)) }
     ensures done { OnOk result (Reaches D.tells world.old (map D.seen disks.old.items) world.new (map D.seen disks.new.items) (WillFit (delivered_next place)) (delivered_next place)) }
     ensures failed { IfErr result (λ why. FallsShort D.tells world.old (map D.seen disks.old.items) why world.new (map D.seen disks.new.items) (WillFit (delivered_next place)) (delivered_next place)) }
-    ensures cause { IfErr result (λ why. HasCause why (map D.seen disks.old.items) (map D.seen disks.new.items)) }
-    ensures faults { NeverFalls (map D.seen disks.old.items) (map D.seen disks.new.items) }
+    ensures cause { CountsTell result (map D.seen disks.old.items) (map D.seen disks.new.items) }
 {
     let command = Command::Give {
         site: place.site,
@@ -112,8 +110,7 @@ fn global_alone<D: Disk>(
     requires stood { SomeStory (Stands D.tells world.old (map D.seen disks.old.items)) (WillFit (λ scenario. rules.global_alone scenario tx steps.now)) }
     ensures done { OnOk result (Reaches D.tells world.old (map D.seen disks.old.items) world.new (map D.seen disks.new.items) (WillFit (λ scenario. rules.global_alone scenario tx steps.now)) (λ scenario. rules.global_alone scenario tx steps.now)) }
     ensures failed { IfErr result (λ why. FallsShort D.tells world.old (map D.seen disks.old.items) why world.new (map D.seen disks.new.items) (WillFit (λ scenario. rules.global_alone scenario tx steps.now)) (λ scenario. rules.global_alone scenario tx steps.now)) }
-    ensures cause { IfErr result (λ why. HasCause why (map D.seen disks.old.items) (map D.seen disks.new.items)) }
-    ensures faults { NeverFalls (map D.seen disks.old.items) (map D.seen disks.new.items) }
+    ensures cause { CountsTell result (map D.seen disks.old.items) (map D.seen disks.new.items) }
 {
     world.apply(alloc, disks, Command::Go(tx))?;
     let Ok(mut places) = last_places(alloc, world) else {
@@ -143,8 +140,7 @@ fn one_alone<D: Disk>(
     requires stood { SomeStory (Stands D.tells world.old (map D.seen disks.old.items)) (WillFit (λ scenario. rules.one_alone scenario line.now line.now.home)) }
     ensures done { OnOk result (Reaches D.tells world.old (map D.seen disks.old.items) world.new (map D.seen disks.new.items) (WillFit (λ scenario. rules.one_alone scenario line.now line.now.home)) (λ scenario. rules.one_alone scenario line.now line.now.home)) }
     ensures failed { IfErr result (λ why. FallsShort D.tells world.old (map D.seen disks.old.items) why world.new (map D.seen disks.new.items) (WillFit (λ scenario. rules.one_alone scenario line.now line.now.home)) (λ scenario. rules.one_alone scenario line.now line.now.home)) }
-    ensures cause { IfErr result (λ why. HasCause why (map D.seen disks.old.items) (map D.seen disks.new.items)) }
-    ensures faults { NeverFalls (map D.seen disks.old.items) (map D.seen disks.new.items) }
+    ensures cause { CountsTell result (map D.seen disks.old.items) (map D.seen disks.new.items) }
 {
     match line.home {
         Some(_) => local_alone(alloc, world, disks, line.tx, line.program.steps()),
@@ -163,8 +159,7 @@ fn each_alone<D: Disk>(
     requires stood { SomeStory (Stands D.tells world.old (map D.seen disks.old.items)) (WillFit (all_alone lines.now)) }
     ensures done { OnOk result (Reaches D.tells world.old (map D.seen disks.old.items) world.new (map D.seen disks.new.items) (WillFit (all_alone lines.now)) (all_alone lines.now)) }
     ensures failed { IfErr result (λ why. FallsShort D.tells world.old (map D.seen disks.old.items) why world.new (map D.seen disks.new.items) (WillFit (all_alone lines.now)) (all_alone lines.now)) }
-    ensures cause { IfErr result (λ why. HasCause why (map D.seen disks.old.items) (map D.seen disks.new.items)) }
-    ensures faults { NeverFalls (map D.seen disks.old.items) (map D.seen disks.new.items) }
+    ensures cause { CountsTell result (map D.seen disks.old.items) (map D.seen disks.new.items) }
 {
     for line in lines {
         one_alone(alloc, world, disks, line)?;
@@ -187,8 +182,7 @@ pub fn finish_alone<D: Disk>(
     ensures commits { OnOk result (SomeStory (Stands D.tells world.old (map D.seen disks.old.items)) CanAllCommit
         → EachStory (Stands D.tells world.new (map D.seen disks.new.items)) AllCommit) }
     ensures failed { IfErr result (λ why. FallsShort D.tells world.old (map D.seen disks.old.items) why world.new (map D.seen disks.new.items) CanFinish finished_alone) }
-    ensures cause { IfErr result (λ why. HasCause why (map D.seen disks.old.items) (map D.seen disks.new.items)) }
-    ensures faults { NeverFalls (map D.seen disks.old.items) (map D.seen disks.new.items) }
+    ensures cause { CountsTell result (map D.seen disks.old.items) (map D.seen disks.new.items) }
 {
     finishing_is_bounded();
     finished_sessions_commit();

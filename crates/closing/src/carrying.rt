@@ -1,6 +1,7 @@
 //! Commands that are carried out one after another.
 ghost use Rattle.std.specs.Prelude.{IfErr, OnOk, IsTrue, map};
-ghost use Rattle.fed_world.specs.Worlds.{HasCause, NeverFalls, SomeStory, Stands};
+ghost use Rattle.fed_world.specs.Faults.{CountsTell};
+ghost use Rattle.fed_world.specs.Worlds.{SomeStory, Stands};
 ghost use Rattle.closing.specs.Steps.{FitWith, with_commands};
 ghost use Rattle.closing.specs.Towards.{FallsShort, Reaches};
 
@@ -20,8 +21,7 @@ pub(crate) fn carry_out<D: Disk>(
     requires stood { SomeStory (Stands D.tells world.old (map D.seen disks.old.items)) (FitWith commands.now) }
     ensures done { OnOk result (Reaches D.tells world.old (map D.seen disks.old.items) world.new (map D.seen disks.new.items) (FitWith commands.now) (λ scenario before. with_commands commands.now before)) }
     ensures failed { IfErr result (λ why. FallsShort D.tells world.old (map D.seen disks.old.items) why world.new (map D.seen disks.new.items) (FitWith commands.now) (λ scenario before. with_commands commands.now before)) }
-    ensures cause { IfErr result (λ why. HasCause why (map D.seen disks.old.items) (map D.seen disks.new.items)) }
-    ensures faults { NeverFalls (map D.seen disks.old.items) (map D.seen disks.new.items) }
+    ensures cause { CountsTell result (map D.seen disks.old.items) (map D.seen disks.new.items) }
 {
     for command in commands {
         world.apply(alloc, disks, *command)?;

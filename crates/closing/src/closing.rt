@@ -2,7 +2,8 @@
 ghost use Rattle.std.specs.Prelude.{IfErr, OnOk, IsTrue, map};
 ghost use Rattle.fed_rules.specs.Closing as rules;
 ghost use Rattle.fed_rules.specs.Closing.{closed};
-ghost use Rattle.fed_world.specs.Worlds.{EachStory, HasCause, NeverFalls, Rests, SomeStory, Stands};
+ghost use Rattle.fed_world.specs.Faults.{CountsTell};
+ghost use Rattle.fed_world.specs.Worlds.{EachStory, Rests, SomeStory, Stands};
 ghost use Rattle.closing.specs.Steps.{CanClose, MayClose, MayStep};
 ghost use Rattle.closing.specs.Towards.{FallsShort, Reaches, WillFit};
 
@@ -21,8 +22,7 @@ fn disarm<D: Disk>(alloc: Global, world: &mut World, disks: &mut Vec<D>) -> Resu
     requires stood { SomeStory (Stands D.tells world.old (map D.seen disks.old.items)) (WillFit rules.disarm) }
     ensures done { OnOk result (Reaches D.tells world.old (map D.seen disks.old.items) world.new (map D.seen disks.new.items) (WillFit rules.disarm) rules.disarm) }
     ensures failed { IfErr result (λ why. FallsShort D.tells world.old (map D.seen disks.old.items) why world.new (map D.seen disks.new.items) (WillFit rules.disarm) rules.disarm) }
-    ensures cause { IfErr result (λ why. HasCause why (map D.seen disks.old.items) (map D.seen disks.new.items)) }
-    ensures faults { NeverFalls (map D.seen disks.old.items) (map D.seen disks.new.items) }
+    ensures cause { CountsTell result (map D.seen disks.old.items) (map D.seen disks.new.items) }
 {
     let Ok(armed) = armed_actors(alloc, world) else {
         return Err(WorldErr::Memory);
@@ -39,8 +39,7 @@ fn bring_up<D: Disk>(alloc: Global, world: &mut World, disks: &mut Vec<D>) -> Re
     requires stood { SomeStory (Stands D.tells world.old (map D.seen disks.old.items)) (WillFit rules.bring_up) }
     ensures done { OnOk result (Reaches D.tells world.old (map D.seen disks.old.items) world.new (map D.seen disks.new.items) (WillFit rules.bring_up) rules.bring_up) }
     ensures failed { IfErr result (λ why. FallsShort D.tells world.old (map D.seen disks.old.items) why world.new (map D.seen disks.new.items) (WillFit rules.bring_up) rules.bring_up) }
-    ensures cause { IfErr result (λ why. HasCause why (map D.seen disks.old.items) (map D.seen disks.new.items)) }
-    ensures faults { NeverFalls (map D.seen disks.old.items) (map D.seen disks.new.items) }
+    ensures cause { CountsTell result (map D.seen disks.old.items) (map D.seen disks.new.items) }
 {
     let Ok(down) = down_actors(alloc, world) else {
         return Err(WorldErr::Memory);
@@ -57,8 +56,7 @@ fn give_up<D: Disk>(alloc: Global, world: &mut World, disks: &mut Vec<D>) -> Res
     requires stood { SomeStory (Stands D.tells world.old (map D.seen disks.old.items)) (MayStep rules.give_up) }
     ensures done { OnOk result (Reaches D.tells world.old (map D.seen disks.old.items) world.new (map D.seen disks.new.items) (MayStep rules.give_up) rules.give_up) }
     ensures failed { IfErr result (λ why. FallsShort D.tells world.old (map D.seen disks.old.items) why world.new (map D.seen disks.new.items) (MayStep rules.give_up) rules.give_up) }
-    ensures cause { IfErr result (λ why. HasCause why (map D.seen disks.old.items) (map D.seen disks.new.items)) }
-    ensures faults { NeverFalls (map D.seen disks.old.items) (map D.seen disks.new.items) }
+    ensures cause { CountsTell result (map D.seen disks.old.items) (map D.seen disks.new.items) }
 {
     let Ok(tids) = undecided(alloc, world) else {
         return Err(WorldErr::Memory);
@@ -75,8 +73,7 @@ fn clear<D: Disk>(alloc: Global, world: &mut World, disks: &mut Vec<D>) -> Resul
     requires stood { SomeStory (Stands D.tells world.old (map D.seen disks.old.items)) (MayStep rules.clear) }
     ensures done { OnOk result (Reaches D.tells world.old (map D.seen disks.old.items) world.new (map D.seen disks.new.items) (MayStep rules.clear) rules.clear) }
     ensures failed { IfErr result (λ why. FallsShort D.tells world.old (map D.seen disks.old.items) why world.new (map D.seen disks.new.items) (MayStep rules.clear) rules.clear) }
-    ensures cause { IfErr result (λ why. HasCause why (map D.seen disks.old.items) (map D.seen disks.new.items)) }
-    ensures faults { NeverFalls (map D.seen disks.old.items) (map D.seen disks.new.items) }
+    ensures cause { CountsTell result (map D.seen disks.old.items) (map D.seen disks.new.items) }
 {
     let Ok(commands) = clearing(alloc, world) else {
         return Err(WorldErr::Memory);
@@ -90,8 +87,7 @@ fn end_known<D: Disk>(alloc: Global, world: &mut World, disks: &mut Vec<D>) -> R
     requires stood { SomeStory (Stands D.tells world.old (map D.seen disks.old.items)) (MayStep rules.end_known) }
     ensures done { OnOk result (Reaches D.tells world.old (map D.seen disks.old.items) world.new (map D.seen disks.new.items) (MayStep rules.end_known) rules.end_known) }
     ensures failed { IfErr result (λ why. FallsShort D.tells world.old (map D.seen disks.old.items) why world.new (map D.seen disks.new.items) (MayStep rules.end_known) rules.end_known) }
-    ensures cause { IfErr result (λ why. HasCause why (map D.seen disks.old.items) (map D.seen disks.new.items)) }
-    ensures faults { NeverFalls (map D.seen disks.old.items) (map D.seen disks.new.items) }
+    ensures cause { CountsTell result (map D.seen disks.old.items) (map D.seen disks.new.items) }
 {
     let Ok(tids) = known(alloc, world) else {
         return Err(WorldErr::Memory);
@@ -105,8 +101,7 @@ fn ask_all<D: Disk>(alloc: Global, world: &mut World, disks: &mut Vec<D>) -> Res
     requires stood { SomeStory (Stands D.tells world.old (map D.seen disks.old.items)) (MayStep rules.ask_all) }
     ensures done { OnOk result (Reaches D.tells world.old (map D.seen disks.old.items) world.new (map D.seen disks.new.items) (MayStep rules.ask_all) rules.ask_all) }
     ensures failed { IfErr result (λ why. FallsShort D.tells world.old (map D.seen disks.old.items) why world.new (map D.seen disks.new.items) (MayStep rules.ask_all) rules.ask_all) }
-    ensures cause { IfErr result (λ why. HasCause why (map D.seen disks.old.items) (map D.seen disks.new.items)) }
-    ensures faults { NeverFalls (map D.seen disks.old.items) (map D.seen disks.new.items) }
+    ensures cause { CountsTell result (map D.seen disks.old.items) (map D.seen disks.new.items) }
 {
     let Ok(sites) = doubtful(alloc, world) else {
         return Err(WorldErr::Memory);
@@ -120,8 +115,7 @@ fn each_step<D: Disk>(alloc: Global, world: &mut World, disks: &mut Vec<D>) -> R
     requires stood { SomeStory (Stands D.tells world.old (map D.seen disks.old.items)) MayClose }
     ensures done { OnOk result (Reaches D.tells world.old (map D.seen disks.old.items) world.new (map D.seen disks.new.items) MayClose closed) }
     ensures failed { IfErr result (λ why. FallsShort D.tells world.old (map D.seen disks.old.items) why world.new (map D.seen disks.new.items) MayClose closed) }
-    ensures cause { IfErr result (λ why. HasCause why (map D.seen disks.old.items) (map D.seen disks.new.items)) }
-    ensures faults { NeverFalls (map D.seen disks.old.items) (map D.seen disks.new.items) }
+    ensures cause { CountsTell result (map D.seen disks.old.items) (map D.seen disks.new.items) }
 {
     closing_stays_up();
     disarm(alloc, world, disks)?;
@@ -142,8 +136,7 @@ pub fn close<D: Disk>(alloc: Global, world: &mut World, disks: &mut Vec<D>) -> R
     ensures done { OnOk result (Reaches D.tells world.old (map D.seen disks.old.items) world.new (map D.seen disks.new.items) CanClose closed) }
     ensures rests { OnOk result (EachStory (Stands D.tells world.new (map D.seen disks.new.items)) Rests) }
     ensures failed { IfErr result (λ why. FallsShort D.tells world.old (map D.seen disks.old.items) why world.new (map D.seen disks.new.items) CanClose closed) }
-    ensures cause { IfErr result (λ why. HasCause why (map D.seen disks.old.items) (map D.seen disks.new.items)) }
-    ensures faults { NeverFalls (map D.seen disks.old.items) (map D.seen disks.new.items) }
+    ensures cause { CountsTell result (map D.seen disks.old.items) (map D.seen disks.new.items) }
 {
     closing_is_bounded();
     closed_sessions_rest();

@@ -1,7 +1,8 @@
 //! A message that is delivered: its site is given it, and what the site sends is taken.
 ghost use Rattle.std.specs.Prelude.{IfErr, OnOk, IsTrue, map};
 ghost use Rattle.fed_rules.specs.Closing.{deliver as delivered, taken};
-ghost use Rattle.fed_world.specs.Worlds.{HasCause, NeverFalls, SomeStory, Stands};
+ghost use Rattle.fed_world.specs.Faults.{CountsTell};
+ghost use Rattle.fed_world.specs.Worlds.{SomeStory, Stands};
 ghost use Rattle.closing.specs.Steps.{given};
 ghost use Rattle.closing.specs.Towards.{FallsShort, Reaches, WillFit};
 
@@ -22,8 +23,7 @@ pub(crate) fn take_sent<D: Disk>(
     requires stood { SomeStory (Stands D.tells world.old (map D.seen disks.old.items)) (WillFit taken) }
     ensures done { OnOk result (Reaches D.tells world.old (map D.seen disks.old.items) world.new (map D.seen disks.new.items) (WillFit taken) taken) }
     ensures failed { IfErr result (λ why. FallsShort D.tells world.old (map D.seen disks.old.items) why world.new (map D.seen disks.new.items) (WillFit taken) taken) }
-    ensures cause { IfErr result (λ why. HasCause why (map D.seen disks.old.items) (map D.seen disks.new.items)) }
-    ensures faults { NeverFalls (map D.seen disks.old.items) (map D.seen disks.new.items) }
+    ensures cause { CountsTell result (map D.seen disks.old.items) (map D.seen disks.new.items) }
 {
     let Ok(places) = last_places(alloc, world) else {
         return Err(WorldErr::Memory);
@@ -44,8 +44,7 @@ pub(crate) fn give_sent<D: Disk>(
     requires stood { SomeStory (Stands D.tells world.old (map D.seen disks.old.items)) (WillFit given) }
     ensures done { OnOk result (Reaches D.tells world.old (map D.seen disks.old.items) world.new (map D.seen disks.new.items) (WillFit given) given) }
     ensures failed { IfErr result (λ why. FallsShort D.tells world.old (map D.seen disks.old.items) why world.new (map D.seen disks.new.items) (WillFit given) given) }
-    ensures cause { IfErr result (λ why. HasCause why (map D.seen disks.old.items) (map D.seen disks.new.items)) }
-    ensures faults { NeverFalls (map D.seen disks.old.items) (map D.seen disks.new.items) }
+    ensures cause { CountsTell result (map D.seen disks.old.items) (map D.seen disks.new.items) }
 {
     let Ok(places) = last_places(alloc, world) else {
         return Err(WorldErr::Memory);
@@ -67,8 +66,7 @@ pub(crate) fn deliver<D: Disk>(
     requires stood { SomeStory (Stands D.tells world.old (map D.seen disks.old.items)) (WillFit (λ scenario. delivered scenario place)) }
     ensures done { OnOk result (Reaches D.tells world.old (map D.seen disks.old.items) world.new (map D.seen disks.new.items) (WillFit (λ scenario. delivered scenario place)) (λ scenario. delivered scenario place)) }
     ensures failed { IfErr result (λ why. FallsShort D.tells world.old (map D.seen disks.old.items) why world.new (map D.seen disks.new.items) (WillFit (λ scenario. delivered scenario place)) (λ scenario. delivered scenario place)) }
-    ensures cause { IfErr result (λ why. HasCause why (map D.seen disks.old.items) (map D.seen disks.new.items)) }
-    ensures faults { NeverFalls (map D.seen disks.old.items) (map D.seen disks.new.items) }
+    ensures cause { CountsTell result (map D.seen disks.old.items) (map D.seen disks.new.items) }
 {
     let command = Command::Give {
         site: place.site,

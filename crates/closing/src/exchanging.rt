@@ -1,7 +1,8 @@
 //! The steps in which actors send to one another: decisions that are sent again, and inquiries.
 ghost use Rattle.std.specs.Prelude.{IfErr, OnOk, IsTrue, map};
 ghost use Rattle.fed_rules.specs.Closing.{inquire as inquired, send_again as sent_again};
-ghost use Rattle.fed_world.specs.Worlds.{HasCause, NeverFalls, SomeStory, Stands};
+ghost use Rattle.fed_world.specs.Faults.{CountsTell};
+ghost use Rattle.fed_world.specs.Worlds.{SomeStory, Stands};
 ghost use Rattle.closing.specs.Towards.{FallsShort, Reaches, WillFit};
 ghost use Rattle.closing.specs.Steps.{asks_about, asks_all, deliver_all, sent_for};
 
@@ -25,8 +26,7 @@ fn deliver_each<D: Disk>(
     requires stood { SomeStory (Stands D.tells world.old (map D.seen disks.old.items)) (WillFit (deliver_all places.now)) }
     ensures done { OnOk result (Reaches D.tells world.old (map D.seen disks.old.items) world.new (map D.seen disks.new.items) (WillFit (deliver_all places.now)) (deliver_all places.now)) }
     ensures failed { IfErr result (λ why. FallsShort D.tells world.old (map D.seen disks.old.items) why world.new (map D.seen disks.new.items) (WillFit (deliver_all places.now)) (deliver_all places.now)) }
-    ensures cause { IfErr result (λ why. HasCause why (map D.seen disks.old.items) (map D.seen disks.new.items)) }
-    ensures faults { NeverFalls (map D.seen disks.old.items) (map D.seen disks.new.items) }
+    ensures cause { CountsTell result (map D.seen disks.old.items) (map D.seen disks.new.items) }
 {
     for place in places {
         deliver(alloc, world, disks, *place)?;
@@ -45,8 +45,7 @@ fn send_again<D: Disk>(
     requires stood { SomeStory (Stands D.tells world.old (map D.seen disks.old.items)) (WillFit (λ scenario. sent_again scenario tid)) }
     ensures done { OnOk result (Reaches D.tells world.old (map D.seen disks.old.items) world.new (map D.seen disks.new.items) (WillFit (λ scenario. sent_again scenario tid)) (λ scenario. sent_again scenario tid)) }
     ensures failed { IfErr result (λ why. FallsShort D.tells world.old (map D.seen disks.old.items) why world.new (map D.seen disks.new.items) (WillFit (λ scenario. sent_again scenario tid)) (λ scenario. sent_again scenario tid)) }
-    ensures cause { IfErr result (λ why. HasCause why (map D.seen disks.old.items) (map D.seen disks.new.items)) }
-    ensures faults { NeverFalls (map D.seen disks.old.items) (map D.seen disks.new.items) }
+    ensures cause { CountsTell result (map D.seen disks.old.items) (map D.seen disks.new.items) }
 {
     world.apply(alloc, disks, Command::Again(tid))?;
     let Ok(places) = last_places(alloc, world) else {
@@ -67,8 +66,7 @@ fn inquire<D: Disk>(
     requires stood { SomeStory (Stands D.tells world.old (map D.seen disks.old.items)) (WillFit (λ scenario. inquired scenario site tid)) }
     ensures done { OnOk result (Reaches D.tells world.old (map D.seen disks.old.items) world.new (map D.seen disks.new.items) (WillFit (λ scenario. inquired scenario site tid)) (λ scenario. inquired scenario site tid)) }
     ensures failed { IfErr result (λ why. FallsShort D.tells world.old (map D.seen disks.old.items) why world.new (map D.seen disks.new.items) (WillFit (λ scenario. inquired scenario site tid)) (λ scenario. inquired scenario site tid)) }
-    ensures cause { IfErr result (λ why. HasCause why (map D.seen disks.old.items) (map D.seen disks.new.items)) }
-    ensures faults { NeverFalls (map D.seen disks.old.items) (map D.seen disks.new.items) }
+    ensures cause { CountsTell result (map D.seen disks.old.items) (map D.seen disks.new.items) }
 {
     world.apply(alloc, disks, Command::Ask { site, tid })?;
     take_sent(alloc, world, disks)?;
@@ -87,8 +85,7 @@ fn ask_about<D: Disk>(
     requires stood { SomeStory (Stands D.tells world.old (map D.seen disks.old.items)) (WillFit (asks_about site tids.now)) }
     ensures done { OnOk result (Reaches D.tells world.old (map D.seen disks.old.items) world.new (map D.seen disks.new.items) (WillFit (asks_about site tids.now)) (asks_about site tids.now)) }
     ensures failed { IfErr result (λ why. FallsShort D.tells world.old (map D.seen disks.old.items) why world.new (map D.seen disks.new.items) (WillFit (asks_about site tids.now)) (asks_about site tids.now)) }
-    ensures cause { IfErr result (λ why. HasCause why (map D.seen disks.old.items) (map D.seen disks.new.items)) }
-    ensures faults { NeverFalls (map D.seen disks.old.items) (map D.seen disks.new.items) }
+    ensures cause { CountsTell result (map D.seen disks.old.items) (map D.seen disks.new.items) }
 {
     for tid in tids {
         inquire(alloc, world, disks, site, *tid)?;
@@ -107,8 +104,7 @@ pub(crate) fn send_each<D: Disk>(
     requires stood { SomeStory (Stands D.tells world.old (map D.seen disks.old.items)) (WillFit (sent_for tids.now)) }
     ensures done { OnOk result (Reaches D.tells world.old (map D.seen disks.old.items) world.new (map D.seen disks.new.items) (WillFit (sent_for tids.now)) (sent_for tids.now)) }
     ensures failed { IfErr result (λ why. FallsShort D.tells world.old (map D.seen disks.old.items) why world.new (map D.seen disks.new.items) (WillFit (sent_for tids.now)) (sent_for tids.now)) }
-    ensures cause { IfErr result (λ why. HasCause why (map D.seen disks.old.items) (map D.seen disks.new.items)) }
-    ensures faults { NeverFalls (map D.seen disks.old.items) (map D.seen disks.new.items) }
+    ensures cause { CountsTell result (map D.seen disks.old.items) (map D.seen disks.new.items) }
 {
     for tid in tids {
         send_again(alloc, world, disks, *tid)?;
@@ -127,8 +123,7 @@ pub(crate) fn ask_each<D: Disk>(
     requires stood { SomeStory (Stands D.tells world.old (map D.seen disks.old.items)) (WillFit (asks_all sites.now)) }
     ensures done { OnOk result (Reaches D.tells world.old (map D.seen disks.old.items) world.new (map D.seen disks.new.items) (WillFit (asks_all sites.now)) (asks_all sites.now)) }
     ensures failed { IfErr result (λ why. FallsShort D.tells world.old (map D.seen disks.old.items) why world.new (map D.seen disks.new.items) (WillFit (asks_all sites.now)) (asks_all sites.now)) }
-    ensures cause { IfErr result (λ why. HasCause why (map D.seen disks.old.items) (map D.seen disks.new.items)) }
-    ensures faults { NeverFalls (map D.seen disks.old.items) (map D.seen disks.new.items) }
+    ensures cause { CountsTell result (map D.seen disks.old.items) (map D.seen disks.new.items) }
 {
     for at in sites {
         ask_about(alloc, world, disks, at.site, at.tids.as_slice())?;

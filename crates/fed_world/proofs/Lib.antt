@@ -8,6 +8,7 @@ pub mod DeclaredSites
 pub mod DeclaredTransactions
 pub mod Disks
 pub mod EngineRows
+pub mod Faults
 pub mod Gathered
 pub mod GatheredParts
 pub mod Growing

@@ -1,8 +1,8 @@
 -- One more site is set up on the disk of its number, or isn't.
-use Rattle.std.proofs.Common.{◌≡◌, ℕ, ◌+◌, ◌<◌, ◌≤◌, Bool, Some, List, ◌∷◌, [], ◌++◌, length, take, get_or, map, slice_get, slice_set, refl, sym, ◌∙◌, subst, arith}
-use Rattle.std.proofs.lemmas.List.{length-map, map-set}
+use Rattle.std.proofs.Common.{◌≡◌, ℕ, ◌+◌, ◌<◌, Bool, Some, List, ◌∷◌, [], ◌++◌, length, take, get_or, map, Result, Ok, Err, slice_get, slice_set, refl, sym, ◌∙◌, subst, arith}
+use Rattle.std.proofs.lemmas.List.{map-set}
 use Rattle.std.proofs.lemmas.Option.{slice_get_read}
-use Rattle.mdb_base.specs.Counts.{HasRisen}
+use Rattle.mdb_base.specs.Counts.{HasCauseOf}
 use Rattle.mdb_base.specs.declared.names.SiteId.{SiteId}
 use Rattle.order_laws.specs.Chains.{In}
 use Rattle.order_laws.proofs.Lists.{each_at}
@@ -14,6 +14,8 @@ use Rattle.fed_rules.specs.Scenarios.{home_of, sites}
 use Rattle.fed_rules.specs.SitePast.{set_up_calls}
 use Rattle.fed_rules.specs.SiteRecords.{Home}
 use Rattle.journal_disk.specs.Disk.{Seen}
+use Rattle.actor_store.specs.declared.errors.StepErr.{StepErr}
+use Rattle.actor_store.specs.declared.errors.StepErr.TheVariants as Step_err
 use Rattle.any_engine.specs.declared.engine.AnyEngine.{AnyEngine}
 use Rattle.any_engine.specs.Stands as Engines
 use Rattle.local_dbms.specs.declared.dbms.LocalDbms.{LocalDbms}
@@ -22,10 +24,12 @@ use Rattle.local_dbms.specs.Stands.{own_programs}
 use Rattle.site_core.specs.Store.{SomeStop}
 use Rattle.site_seats.proofs.SeatLines.{one_place}
 use Rattle.fed_world.specs.SettingUp.{StopsForDisk, StopsForMemory}
-use Rattle.fed_world.specs.Worlds.{NeverFalls, RisesAt}
+use Rattle.fed_world.specs.Faults.{FailedAs, faults_of}
+use Rattle.fed_world.specs.Worlds.{error_of}
 use Rattle.fed_world.proofs.DeclaredSites.{declared_ranged, declared_rise}
+use Rattle.fed_world.proofs.Faults.{failed_later, failure_told, line_told}
 use Rattle.fed_world.proofs.Pairs.{at_in, front_place}
-use Rattle.fed_world.proofs.SeenDisks.{mapped_at, never_falls_twice, rises_later, set_never_falls, set_rises}
+use Rattle.fed_world.proofs.SeenDisks.{mapped_at}
 use Rattle.fed_world.proofs.SetUps.{IsUpTo, one_more_up, stops_for_disk, stops_for_memory}
 
 -- a declared site has one of nine disks
@@ -76,18 +80,12 @@ module _ {D : Type 0} (seen : D → Seen) (tells : Bool) (scenario : Scenario) (
     step_with_fault stop =
         subst (λ (ds : List Seen). StopsForDisk site.0 tells ds scenario) (sym set_is) (stops_for_disk tells scenario whole cores (map seen disks) n site (seen old) (seen new) up own seen_there stop)
 
-  module _ (falls : NeverFalls (map seen first) (map seen disks)) (before : length first ≡ 9) where
-    as_many : length (map seen first) ≡ length (map seen disks)
-    as_many = length-map first seen ∙ (before ∙ sym (length-map disks seen ∙ nine))
+  module _ (calm : faults_of (map seen disks) ≡ faults_of (map seen first)) where
+    -- where it is set up no count moved
+    pub step_calm : {T : Type 0} (outcome : Result T StepErr) (done : T) → outcome ≡ Ok done → HasCauseOf Step_err.Disk (seen old).faults (seen new).faults outcome → faults_of changed ≡ faults_of (map seen first)
+    step_calm outcome done e cause = line_told (map seen disks) changed site.0 (seen old) (seen new) seen_there set_is outcome done e cause ∙ calm
 
-    -- no count of faults falls
-    pub step_falls : (seen old).faults ≤ (seen new).faults → NeverFalls (map seen first) changed
-    step_falls later =
-        subst (λ (ds : List Seen). NeverFalls (map seen first) ds) (sym set_is)
-        (never_falls_twice (map seen first) (map seen disks) (slice_set (map seen disks) site.0 (seen new)) as_many falls (set_never_falls (map seen disks) site.0 (seen old) (seen new) seen_there later))
-
-    -- and where the disk failed its own rose
-    pub step_rises : HasRisen (seen old).faults (seen new).faults → RisesAt site.0 (map seen first) changed
-    step_rises rose =
-        subst (λ (ds : List Seen). RisesAt site.0 (map seen first) ds) (sym set_is)
-        (rises_later site.0 (map seen first) (map seen disks) (slice_set (map seen disks) site.0 (seen new)) as_many falls (set_rises (map seen disks) site.0 (seen old) (seen new) seen_there rose))
+    -- and where it isn't the counts tell why
+    pub step_failed : {T : Type 0} (outcome : Result T StepErr) (why : StepErr) → outcome ≡ Err why → HasCauseOf Step_err.Disk (seen old).faults (seen new).faults outcome → FailedAs (error_of site.0 why) (map seen first) changed
+    step_failed outcome why e cause =
+        failed_later (error_of site.0 why) (map seen first) (map seen disks) changed calm (failure_told (map seen disks) changed site.0 (seen old) (seen new) seen_there set_is outcome why e cause)

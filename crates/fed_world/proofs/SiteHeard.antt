@@ -3,7 +3,6 @@ use Rattle.std.proofs.Common.{◌≡◌, ℕ, zero, suc, ◌≤◌, ◌<◌, ◌
 use Rattle.std.proofs.lemmas.List.{length-map}
 use Rattle.std.proofs.lemmas.Option.{slice_get_read, slice_get_within}
 use Rattle.mdb_base.specs.declared.names.SiteId.{SiteId}
-use Rattle.mdb_base.specs.Counts.{HasRisen}
 use Rattle.mdb_base.specs.Rising.{IsRising}
 use Rattle.record_fields.specs.Named.{IsSite}
 use Rattle.order_laws.proofs.Alike.{some_parts}
@@ -45,8 +44,8 @@ use Rattle.session_routes.proofs.Posts.{get_put}
 use Rattle.fed_world.specs.declared.errors.WorldErr.{WorldErr}
 use Rattle.fed_world.specs.declared.world.World.{World}
 use Rattle.fed_world.specs.Asks.{AsksSite, terms_of}
-use Rattle.fed_world.specs.Worlds.{ActorBroke, ActorsStand, AreDisks, DbmsStands, HasCause, HasRoom, IsHeard, IsUnheard, ManagerStands, RisesAt, SiteBroke, StandsBut, error_of}
-use Rattle.fed_world.proofs.Disks.{on_other, on_own, on_put, put_disks, put_rises, seen_at}
+use Rattle.fed_world.specs.Worlds.{ActorBroke, ActorsStand, AreDisks, DbmsStands, HasRoom, IsHeard, IsUnheard, ManagerStands, SiteBroke, StandsBut, error_of}
+use Rattle.fed_world.proofs.Disks.{on_other, on_own, on_put, put_disks, seen_at}
 use Rattle.fed_world.proofs.Growing.{few_behind, numbers_fit, site_sends_from, site_sends_to}
 use Rattle.fed_world.proofs.SeatsKept.{channel_named, seat_of, site_in_range, sites_put, sites_same}
 use Rattle.fed_world.proofs.SiteAsked.{can_tell}
@@ -71,11 +70,6 @@ fails_put : (K : Home → OwnPrograms → SitePast → Type 0) (L : Home → Own
     → Dbms.Fails K Step_err.Disk home programs past r → Dbms.Fails L Step_err.Disk home programs past r
 fails_put K L home programs past (Submits event) over f = (f.0, over _ f.1, f.2)
 fails_put K L home programs past (Declines answer) over f = f
-
--- why a disk gave no line
-pub cause_at : (why : StepErr) (n : ℕ) (disks now : List Seen) (old new : Seen) → slice_get disks n ≡ Some old → now ≡ slice_set disks n new → (why ≡ Step_err.Disk → HasRisen old.faults new.faults) → HasCause (error_of n why) disks now
-cause_at Step_err.Memory n disks now old new at is rose = tt
-cause_at Step_err.Disk n disks now old new at is rose = subst (λ (ds : List Seen). RisesAt n disks ds) (sym is) (put_rises disks n old new at (rose refl))
 
 -- the world with what is kept of one site put anew
 pub record IsPut (world next : World) (place : ℕ) (dbms : LocalDbms AnyEngine) (own : Marks) (channel : Traffic) : Type 0 where

@@ -1,4 +1,5 @@
 pub mod Asks
+pub mod Faults
 pub mod Gathering
 pub mod Hearers
 pub mod Messages

@@ -1,23 +1,17 @@
 -- The scenarios and commands that a world stands for, and what a call does to them. Commands stand newest first.
-use Rattle.std.specs.Prelude.{ℕ, zero, suc, ◌≡◌, ◌≤◌, ◌<◌, ◌^◌, Bool, true, false, Option, Some, None, List, [], ◌∷◌, ◌++◌, length, map, reverse, slice_get}
+use Rattle.std.specs.Prelude.{ℕ, zero, suc, ◌≡◌, ◌≤◌, ◌<◌, ◌^◌, Bool, true, false, Some, None, List, ◌∷◌, length, map, reverse, slice_get}
 use Rattle.mdb_base.specs.declared.names.SiteId.{SiteId}
-use Rattle.mdb_base.specs.Counts.{HasRisen}
-use Rattle.mdb_base.specs.Words.{Each}
-use Rattle.order_laws.specs.Chains.{In}
-use Rattle.fed_rules.specs.declared.answers.Answer.{Answer}
 use Rattle.fed_rules.specs.declared.commands.Command.{Command}
 use Rattle.fed_rules.specs.declared.commands.Line.{Line}
 use Rattle.fed_rules.specs.declared.events.CoordEvent.{CoordEvent}
 use Rattle.fed_rules.specs.declared.events.SiteEvent.{SiteEvent}
 use Rattle.fed_rules.specs.declared.scenario.Scenario.{Scenario}
 use Rattle.fed_rules.specs.CoordPast.{CoordPast}
-use Rattle.fed_rules.specs.Disk.{empty_disk}
 use Rattle.fed_rules.specs.Requests.{Request}
 use Rattle.fed_rules.specs.Right.{IsAnswer, IsRightStory}
 use Rattle.fed_rules.specs.Scenarios.{global_program, home_of, protocols, sites}
-use Rattle.fed_rules.specs.SitePast.{SitePast, set_up_calls}
 use Rattle.fed_rules.specs.SiteRecords.{Home}
-use Rattle.fed_rules.specs.Story.{Story, coord_past, coord_requested, happens, past_of, places_of, requested, sent_from, sent_to, story_of, tell}
+use Rattle.fed_rules.specs.Story.{Story, coord_past, coord_requested, happens, past_of, places_of, requested, story_of, tell}
 use Rattle.journal_disk.specs.Disk.{Seen}
 use Rattle.actor_store.specs.declared.errors.StepErr.{StepErr}
 use Rattle.actor_store.specs.declared.errors.StepErr.TheVariants as Step_err
@@ -32,13 +26,10 @@ use Rattle.global_manager.specs.Stands as Manager
 use Rattle.local_dbms.specs.declared.dbms.LocalDbms.{LocalDbms}
 use Rattle.local_dbms.specs.Stands as Dbms
 use Rattle.local_dbms.specs.Stands.{OwnPrograms, own_programs}
-use Rattle.session_report.specs.declared.marks.Marks.{Marks}
-use Rattle.site_core.specs.Store.{SomeStop}
 use Rattle.site_seats.specs.declared.asks.Heard.{Heard}
 use Rattle.fed_world.specs.declared.cores.Cores.{Cores}
 use Rattle.fed_world.specs.declared.errors.WorldErr.{WorldErr}
 use Rattle.fed_world.specs.declared.errors.WorldErr.TheVariants as Err_is
-use Rattle.session_routes.specs.declared.routes.Routes.{Routes}
 use Rattle.session_routes.specs.declared.traffic.Traffic.{Traffic}
 use Rattle.fed_world.specs.declared.world.World.{World}
 use Rattle.fed_world.specs.declared.asks.CoordAsk.{CoordAsk}
@@ -201,19 +192,6 @@ pub record IsBroken (number : ℕ) (tells : Bool) (world : World) (disks : List 
 abbrev pub FailsAt : Bool → WorldErr → World → List Seen → Command → Scenario → List Command → Type 0
 FailsAt tells Err_is.Memory world disks command scenario commands = Stands tells world disks scenario commands
 FailsAt tells (Err_is.Disk number) world disks command scenario commands = IsBroken number tells world disks command scenario commands
-
--- the count of faults of this disk rose
-abbrev pub RisesAt : ℕ → List Seen → List Seen → Type 0
-RisesAt number old new = (a b : Seen) → slice_get old number ≡ Some a → slice_get new number ≡ Some b → HasRisen a.faults b.faults
-
--- where a disk failed, its count of faults rose
-abbrev pub HasCause : WorldErr → List Seen → List Seen → Type 0
-HasCause Err_is.Memory old new = Unit {0}
-HasCause (Err_is.Disk number) old new = RisesAt number old new
-
--- no count of faults falls
-abbrev pub NeverFalls : List Seen → List Seen → Type 0
-NeverFalls old new = (place : ℕ) (a b : Seen) → slice_get old place ≡ Some a → slice_get new place ≡ Some b → a.faults ≤ b.faults
 
 -- ---- what is asked of the actors
 

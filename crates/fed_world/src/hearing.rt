@@ -1,6 +1,7 @@
 //! How a command comes to its actor.
 ghost use Rattle.std.specs.Prelude.{◌≡◌, IsTrue, IfOk, IfErr, map};
-ghost use Rattle.fed_world.specs.Worlds.{EachCoordAsk, EachSiteAsk, EachStory, HasCause, HasRoom, IsHeard, IsUnheard, KeepsLines, NeverFalls, SomeCoordAsk, SomeSiteAsk, SomeStory, Stands, error_of};
+ghost use Rattle.fed_world.specs.Faults.{CountsTell};
+ghost use Rattle.fed_world.specs.Worlds.{EachCoordAsk, EachSiteAsk, EachStory, HasRoom, IsHeard, IsUnheard, KeepsLines, SomeCoordAsk, SomeSiteAsk, SomeStory, Stands, error_of};
 
 use crate::asks::{Asked, CoordAsk};
 use crate::errors::WorldErr;
@@ -38,8 +39,7 @@ impl World {
         ensures heard { IfOk result (λ heard. EachSiteAsk (Stands D.tells self.old (map D.seen disks.old.items)) place ask (IsHeard D.tells self.new (map D.seen disks.new.items) heard)) }
         ensures failed { IfErr result (λ why. EachSiteAsk (Stands D.tells self.old (map D.seen disks.old.items)) place ask (IsUnheard D.tells why self.new (map D.seen disks.new.items))) }
         ensures keeps { KeepsLines self.old self.new }
-        ensures cause { IfErr result (λ why. HasCause why (map D.seen disks.old.items) (map D.seen disks.new.items)) }
-        ensures faults { NeverFalls (map D.seen disks.old.items) (map D.seen disks.new.items) }
+        ensures cause { CountsTell result (map D.seen disks.old.items) (map D.seen disks.new.items) }
     {
         let traffic = &mut self.traffic[place];
         let number = traffic.site.0;
@@ -70,8 +70,7 @@ impl World {
         ensures heard { IfOk result (λ heard. EachCoordAsk (Stands D.tells self.old (map D.seen disks.old.items)) ask (IsHeard D.tells self.new (map D.seen disks.new.items) heard)) }
         ensures failed { IfErr result (λ why. EachCoordAsk (Stands D.tells self.old (map D.seen disks.old.items)) ask (IsUnheard D.tells why self.new (map D.seen disks.new.items))) }
         ensures keeps { KeepsLines self.old self.new }
-        ensures cause { IfErr result (λ why. HasCause why (map D.seen disks.old.items) (map D.seen disks.new.items)) }
-        ensures faults { NeverFalls (map D.seen disks.old.items) (map D.seen disks.new.items) }
+        ensures cause { CountsTell result (map D.seen disks.old.items) (map D.seen disks.new.items) }
     {
         let mut sends = Vec::new(alloc);
         let Ok(()) = sends.reserve(self.traffic.len()) else {
@@ -106,8 +105,7 @@ impl World {
         ensures failed { IfErr result (λ why. EachStory (Stands D.tells self.old (map D.seen disks.old.items)) (λ scenario commands. HasRoom scenario commands
             → IsUnheard D.tells why self.new (map D.seen disks.new.items) command scenario commands)) }
         ensures keeps { KeepsLines self.old self.new }
-        ensures cause { IfErr result (λ why. HasCause why (map D.seen disks.old.items) (map D.seen disks.new.items)) }
-        ensures faults { NeverFalls (map D.seen disks.old.items) (map D.seen disks.new.items) }
+        ensures cause { CountsTell result (map D.seen disks.old.items) (map D.seen disks.new.items) }
     {
         match self.asked(command) {
             Asked::Site { place, ask } => self.at_site(alloc, disks, place, ask),

@@ -1,6 +1,6 @@
 //! How a world is made: its sites are set up on their disks, by rising site.
 ghost use Rattle.std.specs.Prelude.{◌≡◌, ◌≤◌, [], IfOk, IfErr, IsErrOf, IsTrue, Some, length, map};
-ghost use Rattle.mdb_base.specs.Counts.{HasRisen};
+ghost use Rattle.mdb_base.specs.Counts.{HasCauseOf};
 ghost use Rattle.mdb_base.specs.declared.names.SiteId.{SiteId as TheSite};
 ghost use Rattle.any_engine.specs.Stands as Engines;
 ghost use Rattle.fed_rules.specs.Disk.{empty_disk};
@@ -13,7 +13,8 @@ ghost use Rattle.local_dbms.specs.Stands as Dbms;
 ghost use Rattle.session_routes.specs.Routes.{IsRouted};
 ghost use Rattle.site_core.specs.Store.{SomeStop};
 ghost use Rattle.fed_world.specs.SettingUp.{AreEmpty, AreSetUp, FailsToStart, IsHomed, IsNewChannel, IsNewManager, IsNewMarks};
-ghost use Rattle.fed_world.specs.Worlds.{HasCause, NeverFalls, Stands};
+ghost use Rattle.fed_world.specs.Faults.{CountsTell};
+ghost use Rattle.fed_world.specs.Worlds.{Stands};
 
 use crate::cores::{Cores, SiteCores};
 use crate::errors::WorldErr;
@@ -68,8 +69,7 @@ fn set_up_site<D: Disk>(
     ensures untouched { IsErrOf result StepErr.Memory → (D.seen disk.new).size ≡ 0 }
     ensures broken { IsErrOf result StepErr.Disk → (home : Home) → home_of scenario.now line.site ≡ Some home
         → SomeStop (D.seen disk.new).image empty_disk (set_up_calls home) }
-    ensures cause { IsErrOf result StepErr.Disk → HasRisen (D.seen disk.old).faults (D.seen disk.new).faults }
-    ensures faults { (D.seen disk.old).faults ≤ (D.seen disk.new).faults }
+    ensures cause { HasCauseOf StepErr.Disk (D.seen disk.old).faults (D.seen disk.new).faults result }
 {
     let Ok(items) = first_rows(alloc, scenario.items.as_slice(), line.site) else {
         return Err(StepErr::Memory);
@@ -101,8 +101,7 @@ fn set_up_sites<D: Disk>(
     requires empty { AreEmpty (map D.seen disks.old.items) }
     ensures stands { IfOk result (λ cores. AreSetUp D.tells cores.items (map D.seen disks.new.items) scenario.now) }
     ensures failed { IfErr result (λ why. FailsToStart D.tells why (map D.seen disks.new.items) scenario.now) }
-    ensures cause { IfErr result (λ why. HasCause why (map D.seen disks.old.items) (map D.seen disks.new.items)) }
-    ensures faults { NeverFalls (map D.seen disks.old.items) (map D.seen disks.new.items) }
+    ensures cause { CountsTell result (map D.seen disks.old.items) (map D.seen disks.new.items) }
     ensures count { length disks.new.items ≡ 9 }
 {
     let mut cores = Vec::new(alloc);
@@ -183,8 +182,7 @@ impl World {
         requires empty { AreEmpty (map D.seen disks.old.items) }
         ensures stands { IfOk result (λ world. Stands D.tells world (map D.seen disks.new.items) scenario []) }
         ensures failed { IfErr result (λ why. FailsToStart D.tells why (map D.seen disks.new.items) scenario) }
-        ensures cause { IfErr result (λ why. HasCause why (map D.seen disks.old.items) (map D.seen disks.new.items)) }
-        ensures faults { NeverFalls (map D.seen disks.old.items) (map D.seen disks.new.items) }
+        ensures cause { CountsTell result (map D.seen disks.old.items) (map D.seen disks.new.items) }
         ensures count { length disks.new.items ≡ 9 }
     {
         let Ok(declared) = declared_sites(alloc, &scenario) else {

@@ -1,6 +1,6 @@
 //! How the coordinator is told what a command asks of it.
 ghost use Rattle.std.specs.Prelude.{◌≤◌, IsTrue, IfOk, IfErr, IsErrOf};
-ghost use Rattle.mdb_base.specs.Counts.{HasRisen};
+ghost use Rattle.mdb_base.specs.Counts.{HasCauseOf};
 ghost use Rattle.conservative_take.specs.AnyPolicies.{policy_is};
 ghost use Rattle.global_manager.specs.Stands as Manager;
 ghost use Rattle.global_manager.specs.Stands.{EachManaged, SomeManaged};
@@ -27,8 +27,7 @@ pub(crate) fn tell_coordinator<D: Disk>(
         → Manager.Serves (Manager.Stands policy_is D.tells manager.new (D.seen disk.new)) step terms programs past (coord_request ask terms programs past))) }
     ensures failed { IfErr result (λ why. EachManaged (Manager.Stands policy_is D.tells manager.old (D.seen disk.old)) (λ terms programs past. CanTellCoord ask terms programs past
         → Manager.Fails (Manager.Stands policy_is D.tells manager.new (D.seen disk.new)) why terms programs past (coord_request ask terms programs past))) }
-    ensures cause { IsErrOf result StepErr.Disk → HasRisen (D.seen disk.old).faults (D.seen disk.new).faults }
-    ensures faults { (D.seen disk.old).faults ≤ (D.seen disk.new).faults }
+    ensures cause { HasCauseOf StepErr.Disk (D.seen disk.old).faults (D.seen disk.new).faults result }
 {
     match ask {
         CoordAsk::Go(tx) => manager.go(alloc, disk, tx),

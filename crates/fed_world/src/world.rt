@@ -1,6 +1,7 @@
 //! The world of a session.
 ghost use Rattle.std.specs.Prelude.{◌∷◌, IfErr, OnOk, IsTrue, map};
-ghost use Rattle.fed_world.specs.Worlds.{EachStory, FailsAt, HasCause, HasRoom, NeverFalls, SomeStory, Stands};
+ghost use Rattle.fed_world.specs.Faults.{CountsTell};
+ghost use Rattle.fed_world.specs.Worlds.{EachStory, FailsAt, HasRoom, SomeStory, Stands};
 
 use crate::cores::Cores;
 use crate::errors::WorldErr;
@@ -36,8 +37,7 @@ impl World {
             (λ scenario commands. HasRoom scenario commands → Stands D.tells self.new (map D.seen disks.new.items) scenario (command ∷ commands))) }
         ensures failed { IfErr result (λ why. EachStory (Stands D.tells self.old (map D.seen disks.old.items))
             (λ scenario commands. HasRoom scenario commands → FailsAt D.tells why self.new (map D.seen disks.new.items) command scenario commands)) }
-        ensures cause { IfErr result (λ why. HasCause why (map D.seen disks.old.items) (map D.seen disks.new.items)) }
-        ensures faults { NeverFalls (map D.seen disks.old.items) (map D.seen disks.new.items) }
+        ensures cause { CountsTell result (map D.seen disks.old.items) (map D.seen disks.new.items) }
     {
         let Ok(()) = self.lines.reserve(1) else {
             return Err(WorldErr::Memory);

@@ -30,7 +30,8 @@ use Rattle.local_dbms.specs.Stands.{own_programs}
 use Rattle.site_core.specs.Stands.{stopped_past}
 use Rattle.fed_world.specs.declared.world.World.{World}
 use Rattle.fed_world.specs.Asks.{terms_of}
-use Rattle.fed_world.specs.Worlds.{AreDisks, CoordinatorBroke, DbmsStands, IsBroken, ManagerStands, RisesAt, SiteBroke, Stands, StandsBut}
+use Rattle.fed_world.specs.Faults.{RisesAt, faults_of}
+use Rattle.fed_world.specs.Worlds.{AreDisks, CoordinatorBroke, DbmsStands, IsBroken, ManagerStands, SiteBroke, Stands, StandsBut}
 use Rattle.fed_world.specs.SettingUp.{EmptyBut, IsSetUp, StopsForDisk, StopsForMemory}
 use Rattle.mdb_top.specs.Breaks.{BreaksAtNext, BreaksSetUp, CoordinatorStops, SiteStops}
 use Rattle.mdb_top.specs.Disks.{AreSetUp, CoordHolds, HoldAll, HoldFrames, HoldOthers, HoldsAt, NothingBut, SiteHolds, frames_at, site_frames}
@@ -234,9 +235,9 @@ set_up_hold tells disks scenario done each site seen i at =
 empty_nothing : (disks : List Seen) (done : List SiteId) → AreSized disks → EmptyBut done disks → NothingBut done disks
 empty_nothing disks done sized empty number seen at apart = no_byte disks number seen sized at (empty number seen at apart)
 
-pub starts_short : (tells : Bool) (disks : List Seen) (scenario : Scenario) → AreSized disks → StopsForMemory tells disks scenario → StartsShort disks scenario
-starts_short tells disks scenario sized s =
-    record { done = s.done; left = s.left; all = s.all; set_up = set_up_hold tells disks scenario s.done s.set_up; empty = empty_nothing disks s.done sized s.empty }
+pub starts_short : (tells : Bool) (old disks : List Seen) (scenario : Scenario) → AreSized disks → faults_of disks ≡ faults_of old → StopsForMemory tells disks scenario → StartsShort old disks scenario
+starts_short tells old disks scenario sized calm s =
+    record { done = s.done; left = s.left; all = s.all; set_up = set_up_hold tells disks scenario s.done s.set_up; empty = empty_nothing disks s.done sized s.empty; calm = calm }
 
 pub starts_broken : (number : ℕ) (tells : Bool) (old disks : List Seen) (scenario : Scenario) → AreSized disks → RisesAt number old disks → StopsForDisk number tells disks scenario → BreaksSetUp number old disks scenario
 starts_broken number tells old disks scenario sized rose s = record {

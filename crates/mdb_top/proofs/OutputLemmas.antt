@@ -7,7 +7,8 @@ use Rattle.journal_disk.specs.Disk.{Seen}
 use Rattle.mdb_base.specs.declared.names.Memory.{Memory}
 use Rattle.closing.specs.Towards as towards
 use Rattle.fed_world.specs.declared.world.World.{World}
-use Rattle.fed_world.specs.Worlds.{AreLines, RisesAt}
+use Rattle.fed_world.specs.Faults.{RisesAt, faults_of}
+use Rattle.fed_world.specs.Worlds.{AreLines}
 use Rattle.scenario_text.specs.declared.session.Session.{Session}
 use Rattle.trace_lines.specs.Spelling.{lines_bytes}
 use Rattle.mdb_top.specs.declared.output.Output.{Output}
@@ -27,12 +28,12 @@ whole_weaker (Ok (Broken bytes)) P Q f p = p
 whole_weaker (Err why) P Q f p = p
 
 -- the whole output of a session that was carried out
-pub whole_output : (r : Result Output Memory) (old new : List Seen) (session : Session) → IsRight session.scenario (story session) → HoldFrames new session.scenario (story session)
+pub whole_output : (r : Result Output Memory) (old new : List Seen) (session : Session) → faults_of new ≡ faults_of old → IsRight session.scenario (story session) → HoldFrames new session.scenario (story session)
     → HoldAll new session.scenario (story session) → IfWhole r (λ bytes. IsPrinted bytes session.scenario (commands_of session)) → IsOutput r old new session
-whole_output (Ok (Whole bytes)) old new session right frames all p =
-    record { lines = p.lines; done = record { lines_are = p.lines_are; right = right; kept = frames }; output_is = p.text_is }
-whole_output (Ok (Broken bytes)) old new session right frames all p = absurd p
-whole_output (Err why) old new session right frames all p = inr (inl (record { done = commands_of session; front = ([], refl); kept = all }))
+whole_output (Ok (Whole bytes)) old new session calm right frames all p =
+    record { lines = p.lines; done = record { lines_are = p.lines_are; right = right; kept = frames }; calm = calm; output_is = p.text_is }
+whole_output (Ok (Broken bytes)) old new session calm right frames all p = absurd p
+whole_output (Err why) old new session calm right frames all p = inr (inl (record { done = commands_of session; front = ([], refl); kept = all; calm = calm }))
 
 -- the output of one in which a disk failed
 pub broken_output : (r : Result Output Memory) (old new : List Seen) (session : Session) (number : ℕ) (done : List Command) (lines : List Line) → AreLines lines session.scenario done
@@ -48,11 +49,12 @@ no_lines scenario = record { commands_are = refl; right = tt }
 -- a world that fails on the way to all commands of a session
 module _ (tells : Bool) (world : World) (old disks : List Seen) (session : Session) (commands : List Command) (same : closed_with commands session.scenario [] ≡ commands_of session) (sized : AreSized disks) where
   -- for want of memory
-  pub short_output : towards.IsShort tells world disks (closed_with commands session.scenario []) session.scenario [] → IsShort old disks session
-  short_output s = inr (inl (record {
+  pub short_output : faults_of disks ≡ faults_of old → towards.IsShort tells world disks (closed_with commands session.scenario []) session.scenario [] → IsShort old disks session
+  short_output calm s = inr (inl (record {
     done = s.done ++ [];
     front = (s.left, sym same ∙ s.of_whole);
     kept = stands_hold_all tells world disks session.scenario (s.done ++ []) sized s.stood;
+    calm = calm;
   }))
 
   -- by a failed disk call

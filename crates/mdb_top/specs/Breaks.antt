@@ -18,7 +18,7 @@ use Rattle.coord_core.specs.Terms.{Terms, line_of}
 use Rattle.site_core.specs.Stands.{StopAt, stopped_past}
 use Rattle.site_core.specs.Store.{SomeStop}
 use Rattle.fed_world.specs.Asks.{terms_of}
-use Rattle.fed_world.specs.Worlds.{RisesAt}
+use Rattle.fed_world.specs.Faults.{RisesAt}
 use Rattle.mdb_top.specs.Disks.{AreSetUp, CoordHolds, HoldOthers, NothingBut, SiteHolds}
 
 -- the coordinator's disk holds what a stop before the event leaves
@@ -56,8 +56,8 @@ abbrev pub ActorStops : ℕ → Image → Command → Scenario → Story → Typ
 ActorStops zero image command scenario story = CoordinatorStops image command scenario story
 ActorStops (suc n) image command scenario story = SiteStops (suc n) image command scenario story
 
--- behind these commands a call of this disk failed within the event of the next one: its count of faults rose, it holds what some stop within that
--- event leaves, and each other disk what the rules say
+-- behind these commands a call of this disk failed within the event of the next one: its count of faults rose and no other, it holds what some stop
+-- within that event leaves, and each other disk what the rules say
 pub record BreaksAtNext (number : ℕ) (old new : List Seen) (command : Command) (scenario : Scenario) (story : Story) : Type 0 where
   pub rose : RisesAt number old new
   pub disk : Seen
@@ -65,8 +65,8 @@ pub record BreaksAtNext (number : ℕ) (old new : List Seen) (command : Command)
   pub stop : ActorStops number disk.image command scenario story
   pub others : HoldOthers number new scenario story
 
--- a call of this disk failed while its site was set up: its count of faults rose, it holds what some stop within the set-up leaves, the sites
--- before it are set up, and nothing is on any other disk
+-- a call of this disk failed while its site was set up: its count of faults rose and no other, it holds what some stop within the set-up leaves, the
+-- sites before it are set up, and nothing is on any other disk
 pub record BreaksSetUp (number : ℕ) (old new : List Seen) (scenario : Scenario) : Type 0 where
   pub done : List SiteId
   pub left : List SiteId

@@ -8,6 +8,7 @@ use Rattle.fed_rules.specs.declared.scenario.Scenario.{Scenario}
 use Rattle.fed_rules.specs.Scenarios.{sites}
 use Rattle.fed_rules.specs.Story.{story_of}
 use Rattle.journal_disk.specs.Disk.{Seen}
+use Rattle.fed_world.specs.Faults.{faults_of}
 use Rattle.fed_world.specs.Worlds.{AreLines}
 use Rattle.scenario_text.specs.declared.bad.BadLine.{BadLine}
 use Rattle.scenario_text.specs.declared.session.Session.{Session}
@@ -80,19 +81,21 @@ pub record IsBroken (sink : Stream) (old new : List Seen) (session : Session) : 
   pub text : Gets sink (lines_bytes lines ++ disk_failed_text number)
   pub breaks : Breaks number old new session done
 
--- memory was wanting while the sites were set up: the first ones are, and nothing is on any other disk
-pub record StartsShort (disks : List Seen) (scenario : Scenario) : Type 0 where
+-- memory was wanting while the sites were set up: the first ones are, nothing is on any other disk, and no disk failed
+pub record StartsShort (old new : List Seen) (scenario : Scenario) : Type 0 where
   pub done : List SiteId
   pub left : List SiteId
   pub all : sites scenario ≡ done ++ left
-  pub set_up : AreSetUp done disks scenario
-  pub empty : NothingBut done disks
+  pub set_up : AreSetUp done new scenario
+  pub empty : NothingBut done new
+  pub calm : faults_of new ≡ faults_of old
 
--- memory was wanting behind the first commands of the session: each disk holds what the rules say is on it then
-pub record StopsShort (disks : List Seen) (session : Session) : Type 0 where
+-- memory was wanting behind the first commands of the session: each disk holds what the rules say is on it then, and none failed
+pub record StopsShort (old new : List Seen) (session : Session) : Type 0 where
   pub done : List Command
   pub front : IsFront done session
-  pub kept : HoldAll disks session.scenario (story_of session.scenario done)
+  pub kept : HoldAll new session.scenario (story_of session.scenario done)
+  pub calm : faults_of new ≡ faults_of old
 
 -- memory was wanting for the text of the lines made until a call of a disk failed
 pub record BreaksShort (old new : List Seen) (session : Session) : Type 0 where
@@ -102,7 +105,7 @@ pub record BreaksShort (old new : List Seen) (session : Session) : Type 0 where
 
 -- memory was wanting in a session that was begun
 abbrev pub IsShort : List Seen → List Seen → Session → Type 0
-IsShort old new session = StartsShort new session.scenario ⊎ (StopsShort new session ⊎ BreaksShort old new session)
+IsShort old new session = StartsShort old new session.scenario ⊎ (StopsShort old new session ⊎ BreaksShort old new session)
 
 -- memory was wanting: the disks are as they were, or the input was read and its session begun
 abbrev pub AreShort : Stream → List Seen → List Seen → List ℕ → Type 0
@@ -119,6 +122,7 @@ pub record Ends (status : ℕ) (source sink : Stream) (old new : List Seen) (inp
   -- what the sink has got, and what the disks hold
   pub replayed : status ≡ 0 → SomeSession input (IsReplayed sink new)
   pub no_write_failed : status ≡ 0 → IsCalm sink
+  pub no_disk_failed : In status (0 ∷ 4 ∷ []) → faults_of new ≡ faults_of old
   pub refused : status ≡ 2 → SomeBadLine input (λ bad. Gets sink (bad_line_text bad))
   pub unread : status ≡ 3 → Gets sink read_failed_text
   pub cut_off : status ≡ 4 → SomeSession input (IsCutOff sink new)
@@ -134,6 +138,7 @@ pub record Carries (status : ℕ) (sink : Stream) (old new : List Seen) (session
   pub led : In status (6 ∷ statuses (is_used (sizes_of old)) (Runs session))
   pub replayed : status ≡ 0 → IsReplayed sink new session
   pub no_write_failed : status ≡ 0 → IsCalm sink
+  pub no_disk_failed : In status (0 ∷ 4 ∷ []) → faults_of new ≡ faults_of old
   pub cut_off : status ≡ 4 → IsCutOff sink new session
   pub write_failed : status ≡ 4 → Rose sink
   pub broken : status ≡ 5 → IsBroken sink old new session

@@ -4,6 +4,7 @@ use Rattle.mdb_base.specs.declared.names.Memory.{Memory}
 use Rattle.fed_rules.specs.declared.commands.Command.{Command}
 use Rattle.fed_rules.specs.declared.commands.Line.{Line}
 use Rattle.journal_disk.specs.Disk.{Seen}
+use Rattle.fed_world.specs.Faults.{faults_of}
 use Rattle.fed_world.specs.Worlds.{AreLines}
 use Rattle.scenario_text.specs.declared.session.Session.{Session}
 use Rattle.trace_lines.specs.Spelling.{lines_bytes}
@@ -25,10 +26,11 @@ IfBroken (Ok (Whole bytes)) P = ⊥
 IfBroken (Ok (Broken bytes)) P = P bytes.items
 IfBroken (Err why) P = Unit {0}
 
--- the output is that of the session, which was carried out
-pub record PlaysWhole (output : List ℕ) (disks : List Seen) (session : Session) : Type 0 where
+-- the output is that of the session, which was carried out without a failed disk
+pub record PlaysWhole (output : List ℕ) (old new : List Seen) (session : Session) : Type 0 where
   pub lines : List Line
-  pub done : IsDone lines disks session
+  pub done : IsDone lines new session
+  pub calm : faults_of new ≡ faults_of old
   pub output_is : output ≡ printed lines session.scenario (story session)
 
 -- the output is the right lines of the first commands of the session, and behind them names the disk that failed
@@ -42,6 +44,6 @@ pub record PlaysBroken (output : List ℕ) (old new : List Seen) (session : Sess
 
 -- the output is that of a session on these disks
 abbrev pub IsOutput : Result Output Memory → List Seen → List Seen → Session → Type 0
-IsOutput (Ok (Whole bytes)) old new session = PlaysWhole bytes.items new session
+IsOutput (Ok (Whole bytes)) old new session = PlaysWhole bytes.items old new session
 IsOutput (Ok (Broken bytes)) old new session = PlaysBroken bytes.items old new session
 IsOutput (Err why) old new session = IsShort old new session

@@ -4,7 +4,8 @@ ghost use Rattle.mdb_base.specs.Words.{Each};
 ghost use Rattle.fed_rules.specs.Plans.{IsScenario};
 ghost use Rattle.closing.specs.Steps.{FitWith, with_commands};
 ghost use Rattle.closing.specs.Towards.{FallsShort, Reaches};
-ghost use Rattle.fed_world.specs.Worlds.{EachStory, HasCause, NeverFalls, Recalls, SomeStory, Stands};
+ghost use Rattle.fed_world.specs.Faults.{CountsTell};
+ghost use Rattle.fed_world.specs.Worlds.{EachStory, Recalls, SomeStory, Stands};
 ghost use Rattle.scenario_text.specs.Kept.{AreCommands};
 ghost use Rattle.trace_lines.specs.Fits.{line_fits};
 ghost use Rattle.trace_lines.specs.Spelling.{lines_bytes};
@@ -48,8 +49,7 @@ fn carry_out<D: Disk>(
         (λ scenario before. with_commands commands.now before)) }
     ensures failed { IfErr result (λ why. FallsShort D.tells world.old (map D.seen disks.old.items) why world.new (map D.seen disks.new.items) (FitWith commands.now)
         (λ scenario before. with_commands commands.now before)) }
-    ensures cause { IfErr result (λ why. HasCause why (map D.seen disks.old.items) (map D.seen disks.new.items)) }
-    ensures faults { NeverFalls (map D.seen disks.old.items) (map D.seen disks.new.items) }
+    ensures cause { CountsTell result (map D.seen disks.old.items) (map D.seen disks.new.items) }
 {
     for command in commands {
         world.apply(alloc, disks, *command)?;
@@ -68,8 +68,7 @@ fn play<D: Disk>(
     requires stood { SomeStory (Stands D.tells world.old (map D.seen disks.old.items)) (CanPlay commands.now) }
     ensures played { OnOk result (Reaches D.tells world.old (map D.seen disks.old.items) world.new (map D.seen disks.new.items) (CanPlay commands.now) (closed_with commands.now)) }
     ensures failed { IfErr result (λ why. FallsShort D.tells world.old (map D.seen disks.old.items) why world.new (map D.seen disks.new.items) (CanPlay commands.now) (closed_with commands.now)) }
-    ensures cause { IfErr result (λ why. HasCause why (map D.seen disks.old.items) (map D.seen disks.new.items)) }
-    ensures faults { NeverFalls (map D.seen disks.old.items) (map D.seen disks.new.items) }
+    ensures cause { CountsTell result (map D.seen disks.old.items) (map D.seen disks.new.items) }
 {
     carry_out(alloc, world, commands, disks)?;
     close(alloc, world, disks)

@@ -1,4 +1,4 @@
-use Rattle.std.proofs.Common.{◌<◌, ◌^◌, ◌∷◌, List, length, map, sym, ◌∙◌, ap}
+use Rattle.std.proofs.Common.{◌<◌, ◌^◌, ◌∷◌, List, length, map, ◌∙◌, ap}
 use Rattle.std.proofs.lemmas.Result.{err_from_is_err_and}
 use Rattle.fed_rules.specs.declared.commands.Command.{Command}
 use Rattle.fed_rules.specs.declared.commands.Place.{Place}
@@ -9,10 +9,10 @@ use Rattle.closing.specs.Alone.{delivered_next}
 use Rattle.closing.specs.Steps.{give_of}
 use Rattle.closing.specs.Towards.{Fits}
 use Rattle.closing.proofs.Deliveries.{next_grows}
-use Rattle.closing.proofs.Faults.{cause_later, never_falls_twice}
+use Rattle.fed_world.proofs.Faults.{failed_later}
 use Rattle.closing.proofs.Grows.{taken_grows}
 use Rattle.closing.proofs.Towards.{extends_here, extends_one, fails_at, fails_within, fits_less, room_one, short_here}
-use Rattle.closing.proofs.World.{has_lines, nine}
+use Rattle.closing.proofs.World.{has_lines}
 use Rattle.closing.proofs.alone.deliver_next.Goals as goal
 
 room : (scenario : Scenario) (place : Place) (commands : List Command) → Fits (delivered_next place scenario commands) → length commands < 2 ^ 30
@@ -68,15 +68,7 @@ returns-in_err-take_sent-clause-failed g c =
 pub returns-in_err-take_sent-clause-cause : goal.returns-in_err-take_sent-clause-cause
 returns-in_err-take_sent-clause-cause g c =
     let p = err_from_is_err_and c.from_residual-in_err-take_sent.result c.from_residual-in_err-take_sent.ensures.1 in
-    let r = c.requires.stood in
-    let next = c.in_ok-apply.ensures.applied r.scenario r.commands r.stood (room r.scenario c.args.place r.commands r.holds) in
-    rw (p.1, p.2) (cause_later c.in_err-take_sent.field-0.0 _ _ _ (nine _ _ _ _ _ r.stood ∙ sym (nine _ _ _ _ _ next)) c.apply.ensures.faults c.in_err-take_sent.ensures.cause)
-
-pub returns-in_err-take_sent-clause-faults : goal.returns-in_err-take_sent-clause-faults
-returns-in_err-take_sent-clause-faults g c =
-    let r = c.requires.stood in
-    let next = c.in_ok-apply.ensures.applied r.scenario r.commands r.stood (room r.scenario c.args.place r.commands r.holds) in
-    never_falls_twice _ _ _ (nine _ _ _ _ _ r.stood ∙ sym (nine _ _ _ _ _ next)) c.apply.ensures.faults c.take_sent.ensures.faults
+    rw (p.1, p.2) (failed_later c.in_err-take_sent.field-0.0 _ _ _ c.in_ok-apply.ensures.cause c.in_err-take_sent.ensures.cause)
 
 pub returns-in-Ok-sent_at-clause-sent : goal.returns-in-Ok-sent_at-clause-sent
 returns-in-Ok-sent_at-clause-sent g c scenario commands s fits =
@@ -91,11 +83,9 @@ pub returns-in-Ok-sent_at-clause-done : goal.returns-in-Ok-sent_at-clause-done
 returns-in-Ok-sent_at-clause-done g c scenario commands s fits =
     c.in_ok-take_sent.ensures.done scenario (give_of c.args.place ∷ commands) (c.in_ok-apply.ensures.applied scenario commands s (room scenario c.args.place commands fits)) fits
 
-pub returns-in-Ok-sent_at-clause-faults : goal.returns-in-Ok-sent_at-clause-faults
-returns-in-Ok-sent_at-clause-faults g c =
-    let r = c.requires.stood in
-    let next = c.in_ok-apply.ensures.applied r.scenario r.commands r.stood (room r.scenario c.args.place r.commands r.holds) in
-    never_falls_twice _ _ _ (nine _ _ _ _ _ r.stood ∙ sym (nine _ _ _ _ _ next)) c.apply.ensures.faults c.take_sent.ensures.faults
+pub returns-in-Ok-sent_at-clause-cause : goal.returns-in-Ok-sent_at-clause-cause
+returns-in-Ok-sent_at-clause-cause g c =
+    c.in_ok-take_sent.ensures.cause ∙ c.in_ok-apply.ensures.cause
 
 pub returns-clause-failed : goal.returns-clause-failed
 returns-clause-failed g c scenario commands s fits =
@@ -106,8 +96,6 @@ returns-clause-failed g c scenario commands s fits =
     fails_within g.D.Disk.tells c.take_sent.new.world (map g.D.Disk.seen c.take_sent.new.disks.items) scenario Err_is.Memory whole whole whole commands (extends_here whole) (next_grows scenario place commands)
     (short_here g.D.Disk.tells c.take_sent.new.world (map g.D.Disk.seen c.take_sent.new.disks.items) scenario whole whole (extends_here whole) last)
 
-pub returns-clause-faults : goal.returns-clause-faults
-returns-clause-faults g c =
-    let r = c.requires.stood in
-    let next = c.in_ok-apply.ensures.applied r.scenario r.commands r.stood (room r.scenario c.args.place r.commands r.holds) in
-    never_falls_twice _ _ _ (nine _ _ _ _ _ r.stood ∙ sym (nine _ _ _ _ _ next)) c.apply.ensures.faults c.take_sent.ensures.faults
+pub returns-clause-cause : goal.returns-clause-cause
+returns-clause-cause g c =
+    c.in_ok-take_sent.ensures.cause ∙ c.in_ok-apply.ensures.cause

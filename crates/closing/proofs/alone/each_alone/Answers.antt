@@ -9,10 +9,9 @@ use Rattle.fed_world.specs.Worlds.{Stands}
 use Rattle.closing.specs.Alone.{all_alone}
 use Rattle.closing.specs.Towards.{FailsToward, Fits}
 use Rattle.closing.proofs.Deliveries.{one_grows}
-use Rattle.closing.proofs.Faults.{cause_later, never_falls_twice}
+use Rattle.fed_world.proofs.Faults.{failed_later}
 use Rattle.closing.proofs.Loops.{each_extends, each_more, next_begins, room_for}
 use Rattle.closing.proofs.Towards.{fails_within}
-use Rattle.closing.proofs.World.{nine}
 use Rattle.closing.proofs.alone.each_alone.Goals as goal
 
 -- what one transaction adds
@@ -49,17 +48,10 @@ returns-in_err-one_alone-clause-failed g c =
 pub returns-in_err-one_alone-clause-cause : goal.returns-in_err-one_alone-clause-cause
 returns-in_err-one_alone-clause-cause g c =
     let p = err_from_is_err_and c.from_residual.result c.from_residual.ensures.1 in
-    let r = c.requires.stood in
-    rw (p.1, p.2) (cause_later c.in_err-one_alone.field-0.0 _ _ _ (nine _ _ _ _ _ r.stood ∙ sym (nine _ _ _ _ _ (c.loop-line.invariant.stands r.scenario r.commands r.stood r.holds))) c.loop-line.invariant.faults c.in_err-one_alone.ensures.cause)
-
-pub returns-in_err-one_alone-clause-faults : goal.returns-in_err-one_alone-clause-faults
-returns-in_err-one_alone-clause-faults g c =
-    let r = c.requires.stood in
-    never_falls_twice _ _ _ (nine _ _ _ _ _ r.stood ∙ sym (nine _ _ _ _ _ (c.loop-line.invariant.stands r.scenario r.commands r.stood r.holds))) c.loop-line.invariant.faults c.one_alone.ensures.faults
+    rw (p.1, p.2) (failed_later c.in_err-one_alone.field-0.0 _ _ _ c.loop-line.invariant.calm c.in_err-one_alone.ensures.cause)
 
 pub loop-line-preserved : goal.loop-line-preserved
 loop-line-preserved g c =
-    let r = c.requires.stood in
     let items = c.args.lines.now in
     let i = c.loop-line.line-index in
     record {
@@ -69,7 +61,7 @@ loop-line-preserved g c =
           subst (λ (line : TxLine). Stands g.D.Disk.tells c.one_alone.new.world (map g.D.Disk.seen c.one_alone.new.disks.items) scenario (add_line scenario line mid)) c.line-item.is
           (c.in_ok-one_alone.ensures.done scenario mid (c.loop-line.invariant.stands scenario before s fits)
           (subst (λ (line : TxLine). Fits (add_line scenario line mid)) (sym c.line-item.is) (room_for (add_line scenario) (one_grows scenario) items i c.line-item.result before c.loop-line-test.true fits))));
-      faults = never_falls_twice _ _ _ (nine _ _ _ _ _ r.stood ∙ sym (nine _ _ _ _ _ (c.loop-line.invariant.stands r.scenario r.commands r.stood r.holds))) c.loop-line.invariant.faults c.one_alone.ensures.faults;
+      calm = c.in_ok-one_alone.ensures.cause ∙ c.loop-line.invariant.calm;
     }
 
 pub returns-clause-done : goal.returns-clause-done

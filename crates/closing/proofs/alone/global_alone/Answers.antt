@@ -1,4 +1,4 @@
-use Rattle.std.proofs.Common.{◌≡◌, ℕ, suc, ◌+◌, ◌-◌, ◌*◌, ◌<◌, ◌^◌, ◌∷◌, ◌++◌, List, length, map, drop, get_or, sym, ◌∙◌, ap, arith}
+use Rattle.std.proofs.Common.{◌≡◌, ℕ, suc, ◌+◌, ◌-◌, ◌*◌, ◌<◌, ◌^◌, ◌∷◌, ◌++◌, List, length, map, drop, get_or, ◌∙◌, ap, arith}
 use Rattle.std.proofs.lemmas.List.{drop_all}
 use Rattle.std.proofs.lemmas.Result.{err_from_is_err_and}
 use Rattle.mdb_base.specs.declared.acts.Step.{Step}
@@ -13,9 +13,9 @@ use Rattle.fed_world.specs.declared.errors.WorldErr.TheVariants as Err_is
 use Rattle.closing.specs.Alone.{delivered_next}
 use Rattle.closing.specs.Towards.{Fits}
 use Rattle.closing.proofs.Deliveries.{all_delivered, delivers_grow, fuel_spent, delivery_begins, next_grows, delivery_rest}
-use Rattle.closing.proofs.Faults.{cause_later, never_falls_twice}
+use Rattle.fed_world.proofs.Faults.{failed_later}
 use Rattle.closing.proofs.Towards.{Extends, extends_here, extends_one, extends_twice, fails_at, fails_within, fits_less, room_one, short_here}
-use Rattle.closing.proofs.World.{has_lines, nine}
+use Rattle.closing.proofs.World.{has_lines}
 use Rattle.closing.proofs.alone.global_alone.Goals as goal
 
 abbrev one : Tx → List Command → List Command
@@ -70,7 +70,7 @@ loop-next-init g c = record {
             ∙ ap (λ ps. deliver_all scenario (4 * length c.args.steps.now) ps (one c.args.tx commands)) (c.in-Ok.ensures scenario (one c.args.tx commands) (has_lines _ _ _ _ _ next));
         on = extends_one (Cmd.Go c.args.tx) commands;
       };
-  faults = c.apply.ensures.faults;
+  calm = c.in_ok-apply.ensures.cause;
 }
 
 -- the numbers of one message more fit
@@ -116,13 +116,7 @@ returns-in_err-sent-clause-failed g c =
 pub returns-in_err-sent-clause-cause : goal.returns-in_err-sent-clause-cause
 returns-in_err-sent-clause-cause g c =
     let p = err_from_is_err_and c.from_residual-in_err-sent.result c.from_residual-in_err-sent.ensures.1 in
-    let r = c.requires.stood in
-    rw (p.1, p.2) (cause_later c.in_err-sent.field-0.0 _ _ _ (nine _ _ _ _ _ r.stood ∙ sym (nine _ _ _ _ _ (c.loop-next.invariant.stands r.scenario r.commands r.stood r.holds).stood)) c.loop-next.invariant.faults c.in_err-sent.ensures.cause)
-
-pub returns-in_err-sent-clause-faults : goal.returns-in_err-sent-clause-faults
-returns-in_err-sent-clause-faults g c =
-    let r = c.requires.stood in
-    never_falls_twice _ _ _ (nine _ _ _ _ _ r.stood ∙ sym (nine _ _ _ _ _ (c.loop-next.invariant.stands r.scenario r.commands r.stood r.holds).stood)) c.loop-next.invariant.faults c.deliver_next.ensures.faults
+    rw (p.1, p.2) (failed_later c.in_err-sent.field-0.0 _ _ _ c.loop-next.invariant.calm c.in_err-sent.ensures.cause)
 
 pub returns-in_default-extend_from_slice-clause-failed : goal.returns-in_default-extend_from_slice-clause-failed
 returns-in_default-extend_from_slice-clause-failed g c scenario commands s fits =
@@ -138,14 +132,12 @@ returns-in_default-extend_from_slice-clause-failed g c scenario commands s fits 
     fails_within g.D.Disk.tells c.deliver_next.new.world (map g.D.Disk.seen c.deliver_next.new.disks.items) scenario Err_is.Memory whole whole next commands (extends_here whole) (extends_twice commands w.mid next (next_grows scenario place w.mid) w.on)
     (short_here g.D.Disk.tells c.deliver_next.new.world (map g.D.Disk.seen c.deliver_next.new.disks.items) scenario whole next begins stood)
 
-pub returns-in_default-extend_from_slice-clause-faults : goal.returns-in_default-extend_from_slice-clause-faults
-returns-in_default-extend_from_slice-clause-faults g c =
-    let r = c.requires.stood in
-    never_falls_twice _ _ _ (nine _ _ _ _ _ r.stood ∙ sym (nine _ _ _ _ _ (c.loop-next.invariant.stands r.scenario r.commands r.stood r.holds).stood)) c.loop-next.invariant.faults c.deliver_next.ensures.faults
+pub returns-in_default-extend_from_slice-clause-cause : goal.returns-in_default-extend_from_slice-clause-cause
+returns-in_default-extend_from_slice-clause-cause g c =
+    c.in_ok-sent.ensures.cause ∙ c.loop-next.invariant.calm
 
 pub loop-next-preserved : goal.loop-next-preserved
 loop-next-preserved g c =
-    let r = c.requires.stood in
     let tx = c.args.tx in
     let steps = c.args.steps.now in
     let n = c.loop-next.next in
@@ -163,7 +155,7 @@ loop-next-preserved g c =
                 c.in_ok-sent.sent.items c.extend_from_slice.new.self.items (c.in_ok-sent.ensures.sent scenario w.mid w.stood few) (c.in-Ok-extend_from_slice.ensures.items ∙ ap (λ ps. places ++ ps) c.deref.ensures.value);
             on = extends_twice commands w.mid (delivered_next place scenario w.mid) (next_grows scenario place w.mid) w.on;
           };
-      faults = never_falls_twice _ _ _ (nine _ _ _ _ _ r.stood ∙ sym (nine _ _ _ _ _ (c.loop-next.invariant.stands r.scenario r.commands r.stood r.holds).stood)) c.loop-next.invariant.faults c.deliver_next.ensures.faults;
+      calm = c.in_ok-sent.ensures.cause ∙ c.loop-next.invariant.calm;
     }
 
 pub returns-clause-done : goal.returns-clause-done
@@ -171,8 +163,8 @@ returns-clause-done g c scenario commands s fits =
     fuel_spent g.D.Disk.tells c.loop-next.world (map g.D.Disk.seen c.loop-next.disks.items) scenario (4 * length c.args.steps.now - c.loop-next.next) (drop c.loop-next.next c.loop-next.places.items) (rules.global_alone scenario c.args.tx c.args.steps.now commands) commands
     (omega (arith, c.loop-next-test.false)) (c.loop-next.invariant.stands scenario commands s fits)
 
-pub returns-then-next-len-clause-faults : goal.returns-then-next-len-clause-faults
-returns-then-next-len-clause-faults g c = c.loop-next.invariant.faults
+pub returns-then-next-len-clause-cause : goal.returns-then-next-len-clause-cause
+returns-then-next-len-clause-cause g c = c.loop-next.invariant.calm
 
-pub returns-clause-faults : goal.returns-clause-faults
-returns-clause-faults g c = c.loop-next.invariant.faults
+pub returns-clause-cause : goal.returns-clause-cause
+returns-clause-cause g c = c.loop-next.invariant.calm

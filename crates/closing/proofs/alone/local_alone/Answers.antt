@@ -1,4 +1,4 @@
-use Rattle.std.proofs.Common.{◌<◌, ◌^◌, ◌∷◌, List, length, map, sym, ◌∙◌}
+use Rattle.std.proofs.Common.{◌<◌, ◌^◌, ◌∷◌, List, length, map, ◌∙◌}
 use Rattle.std.proofs.lemmas.Result.{err_from_is_err_and}
 use Rattle.mdb_base.specs.declared.acts.Step.{Step}
 use Rattle.mdb_base.specs.declared.names.Tx.{Tx}
@@ -7,9 +7,8 @@ use Rattle.fed_rules.specs.declared.commands.Command.TheVariants as Cmd
 use Rattle.fed_rules.specs.Closing as rules
 use Rattle.closing.specs.Towards.{Fits}
 use Rattle.closing.proofs.Deliveries.{steps_grow}
-use Rattle.closing.proofs.Faults.{cause_later, never_falls_twice}
+use Rattle.fed_world.proofs.Faults.{failed_later, told_later}
 use Rattle.closing.proofs.Towards.{Extends, extends_here, extends_one, extends_twice, fails_at, fails_within, fits_less, on_failure, on_success, room_one}
-use Rattle.closing.proofs.World.{nine}
 use Rattle.closing.proofs.alone.local_alone.Goals as goal
 
 -- behind the begin, and behind each step
@@ -74,15 +73,7 @@ returns-in_err-steps_alone-clause-failed g c =
 pub returns-in_err-steps_alone-clause-cause : goal.returns-in_err-steps_alone-clause-cause
 returns-in_err-steps_alone-clause-cause g c =
     let p = err_from_is_err_and c.from_residual-in_err-steps_alone.result c.from_residual-in_err-steps_alone.ensures.1 in
-    let r = c.requires.stood in
-    let next = c.in_ok-apply.ensures.applied r.scenario r.commands r.stood (room c.args.tx c.args.steps.now r.commands r.holds) in
-    rw (p.1, p.2) (cause_later c.in_err-steps_alone.field-0.0 _ _ _ (nine _ _ _ _ _ r.stood ∙ sym (nine _ _ _ _ _ next)) c.apply.ensures.faults c.in_err-steps_alone.ensures.cause)
-
-pub returns-in_err-steps_alone-clause-faults : goal.returns-in_err-steps_alone-clause-faults
-returns-in_err-steps_alone-clause-faults g c =
-    let r = c.requires.stood in
-    let next = c.in_ok-apply.ensures.applied r.scenario r.commands r.stood (room c.args.tx c.args.steps.now r.commands r.holds) in
-    never_falls_twice _ _ _ (nine _ _ _ _ _ r.stood ∙ sym (nine _ _ _ _ _ next)) c.apply.ensures.faults c.steps_alone.ensures.faults
+    rw (p.1, p.2) (failed_later c.in_err-steps_alone.field-0.0 _ _ _ c.in_ok-apply.ensures.cause c.in_err-steps_alone.ensures.cause)
 
 pub apply-requires-2-clause-stood : goal.apply-requires-2-clause-stood
 apply-requires-2-clause-stood g c =
@@ -123,20 +114,5 @@ returns-clause-failed g c =
 
 pub returns-clause-cause : goal.returns-clause-cause
 returns-clause-cause g c =
-    let r = c.requires.stood in
-    let tx = c.args.tx in
-    let steps = c.args.steps.now in
-    let next = c.in_ok-apply.ensures.applied r.scenario r.commands r.stood (room tx steps r.commands r.holds) in
-    let last = c.in_ok-steps_alone.ensures.done r.scenario (one tx r.commands) next (fits_two tx steps r.commands r.holds) in
-    let falls = never_falls_twice _ _ _ (nine _ _ _ _ _ r.stood ∙ sym (nine _ _ _ _ _ next)) c.apply.ensures.faults c.steps_alone.ensures.faults in
-    on_failure _ _ c.apply-2.result (λ why rose. cause_later why _ _ _ (nine _ _ _ _ _ r.stood ∙ sym (nine _ _ _ _ _ last)) falls rose) c.apply-2.ensures.cause
-
-pub returns-clause-faults : goal.returns-clause-faults
-returns-clause-faults g c =
-    let r = c.requires.stood in
-    let tx = c.args.tx in
-    let steps = c.args.steps.now in
-    let next = c.in_ok-apply.ensures.applied r.scenario r.commands r.stood (room tx steps r.commands r.holds) in
-    let last = c.in_ok-steps_alone.ensures.done r.scenario (one tx r.commands) next (fits_two tx steps r.commands r.holds) in
-    let falls = never_falls_twice _ _ _ (nine _ _ _ _ _ r.stood ∙ sym (nine _ _ _ _ _ next)) c.apply.ensures.faults c.steps_alone.ensures.faults in
-    never_falls_twice _ _ _ (nine _ _ _ _ _ r.stood ∙ sym (nine _ _ _ _ _ last)) falls c.apply-2.ensures.faults
+    let falls = c.in_ok-steps_alone.ensures.cause ∙ c.in_ok-apply.ensures.cause in
+    told_later c.apply-2.result _ _ _ falls c.apply-2.ensures.cause

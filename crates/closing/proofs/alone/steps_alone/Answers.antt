@@ -5,9 +5,8 @@ use Rattle.fed_rules.specs.declared.commands.Command.TheVariants as Cmd
 use Rattle.fed_rules.specs.Closing as rules
 use Rattle.fed_world.specs.Worlds.{Stands}
 use Rattle.closing.proofs.Deliveries.{front_steps, steps_fit, steps_grow, steps_next}
-use Rattle.closing.proofs.Faults.{cause_later, never_falls_twice}
+use Rattle.fed_world.proofs.Faults.{failed_later}
 use Rattle.closing.proofs.Towards.{fails_at, fails_within, room_one}
-use Rattle.closing.proofs.World.{nine}
 use Rattle.closing.proofs.alone.steps_alone.Goals as goal
 
 pub apply-requires-clause-stood : goal.apply-requires-clause-stood
@@ -35,17 +34,10 @@ returns-in_err-apply-clause-failed g c =
 pub returns-in_err-apply-clause-cause : goal.returns-in_err-apply-clause-cause
 returns-in_err-apply-clause-cause g c =
     let p = err_from_is_err_and c.from_residual.result c.from_residual.ensures.1 in
-    let r = c.requires.stood in
-    rw (p.1, p.2) (cause_later c.in_err-apply.field-0.0 _ _ _ (nine _ _ _ _ _ r.stood ∙ sym (nine _ _ _ _ _ (c.loop-done.invariant.stands r.scenario r.commands r.stood r.holds))) c.loop-done.invariant.faults c.in_err-apply.ensures.cause)
-
-pub returns-in_err-apply-clause-faults : goal.returns-in_err-apply-clause-faults
-returns-in_err-apply-clause-faults g c =
-    let r = c.requires.stood in
-    never_falls_twice _ _ _ (nine _ _ _ _ _ r.stood ∙ sym (nine _ _ _ _ _ (c.loop-done.invariant.stands r.scenario r.commands r.stood r.holds))) c.loop-done.invariant.faults c.apply.ensures.faults
+    rw (p.1, p.2) (failed_later c.in_err-apply.field-0.0 _ _ _ c.loop-done.invariant.calm c.in_err-apply.ensures.cause)
 
 pub loop-done-preserved : goal.loop-done-preserved
 loop-done-preserved g c =
-    let r = c.requires.stood in
     let tx = c.args.tx in
     let steps = c.args.steps.now in
     record {
@@ -53,7 +45,7 @@ loop-done-preserved g c =
           let mid = rules.steps_alone tx (take c.loop-done.done steps) before in
           subst (λ more. Stands g.D.Disk.tells c.apply.new.self (map g.D.Disk.seen c.apply.new.disks.items) scenario more) (sym (steps_next tx steps c.loop-done.done before c.loop-done-test.true))
           (c.in_ok-apply.ensures.applied scenario mid (c.loop-done.invariant.stands scenario before s fits) (room_one (Cmd.Step tx) mid (steps_fit tx steps c.loop-done.done before c.loop-done-test.true fits)));
-      faults = never_falls_twice _ _ _ (nine _ _ _ _ _ r.stood ∙ sym (nine _ _ _ _ _ (c.loop-done.invariant.stands r.scenario r.commands r.stood r.holds))) c.loop-done.invariant.faults c.apply.ensures.faults;
+      calm = c.in_ok-apply.ensures.cause ∙ c.loop-done.invariant.calm;
     }
 
 pub returns-clause-done : goal.returns-clause-done

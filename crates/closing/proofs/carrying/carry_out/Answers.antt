@@ -5,10 +5,9 @@ use Rattle.fed_rules.specs.declared.commands.Command.{Command}
 use Rattle.fed_rules.specs.declared.commands.Command.TheVariants as Cmd
 use Rattle.fed_world.specs.Worlds.{Stands}
 use Rattle.closing.specs.Steps.{with_commands}
-use Rattle.closing.proofs.Faults.{cause_later, never_falls_twice}
+use Rattle.fed_world.proofs.Faults.{failed_later}
 use Rattle.closing.proofs.Loops.{each_extends, each_more, next_begins, room_for}
 use Rattle.closing.proofs.Towards.{extends_one, room_one, fails_at, fails_within}
-use Rattle.closing.proofs.World.{nine}
 use Rattle.closing.proofs.carrying.carry_out.Goals as goal
 
 -- some command
@@ -45,24 +44,17 @@ returns-in_err-apply-clause-failed g c =
 pub returns-in_err-apply-clause-cause : goal.returns-in_err-apply-clause-cause
 returns-in_err-apply-clause-cause g c =
     let p = err_from_is_err_and c.from_residual.result c.from_residual.ensures.1 in
-    let r = c.requires.stood in
-    rw (p.1, p.2) (cause_later c.in_err-apply.field-0.0 _ _ _ (nine _ _ _ _ _ r.stood ∙ sym (nine _ _ _ _ _ (c.loop-command.invariant.stands r.scenario r.commands r.stood r.holds))) c.loop-command.invariant.faults c.in_err-apply.ensures.cause)
-
-pub returns-in_err-apply-clause-faults : goal.returns-in_err-apply-clause-faults
-returns-in_err-apply-clause-faults g c =
-    let r = c.requires.stood in
-    never_falls_twice _ _ _ (nine _ _ _ _ _ r.stood ∙ sym (nine _ _ _ _ _ (c.loop-command.invariant.stands r.scenario r.commands r.stood r.holds))) c.loop-command.invariant.faults c.apply.ensures.faults
+    rw (p.1, p.2) (failed_later c.in_err-apply.field-0.0 _ _ _ c.loop-command.invariant.calm c.in_err-apply.ensures.cause)
 
 pub loop-command-preserved : goal.loop-command-preserved
 loop-command-preserved g c =
-    let r = c.requires.stood in
     let items = c.args.commands.now in
     let i = c.loop-command.command-index in
     record {
       stands = λ scenario before s fits.
           subst (λ more. Stands g.D.Disk.tells c.apply.new.self (map g.D.Disk.seen c.apply.new.disks.items) scenario more) (sym (each_more push items i none before c.loop-command-test.true))
           (c.in_ok-apply.ensures.applied scenario (with_commands (take i items) before) (c.loop-command.invariant.stands scenario before s fits) (room_one (get_or items i none) _ (room_for push extends_one items i none before c.loop-command-test.true fits)));
-      faults = never_falls_twice _ _ _ (nine _ _ _ _ _ r.stood ∙ sym (nine _ _ _ _ _ (c.loop-command.invariant.stands r.scenario r.commands r.stood r.holds))) c.loop-command.invariant.faults c.apply.ensures.faults;
+      calm = c.in_ok-apply.ensures.cause ∙ c.loop-command.invariant.calm;
     }
 
 pub returns-clause-done : goal.returns-clause-done

@@ -1,10 +1,9 @@
-use Rattle.std.proofs.Common.{map, sym, ◌∙◌}
+use Rattle.std.proofs.Common.{map, ◌∙◌}
 use Rattle.std.proofs.lemmas.Result.{err_from_is_err_and}
 use Rattle.fed_rules.specs.Closing.{closed}
-use Rattle.closing.proofs.Faults.{cause_later, never_falls_twice}
+use Rattle.fed_world.proofs.Faults.{failed_later, told_later}
 use Rattle.closing.proofs.Parts.{first, second, third, fourth, fifth, first_in, second_in, third_in, fourth_in, fifth_in, first_on, second_on, third_on, fourth_on, fifth_on}
 use Rattle.closing.proofs.Towards.{extends_here, fails_within, fits_less, on_failure, on_success}
-use Rattle.closing.proofs.World.{nine}
 use Rattle.closing.proofs.closing.each_step.Goals as goal
 
 pub disarm-requires-clause-stood : goal.disarm-requires-clause-stood
@@ -38,19 +37,8 @@ returns-in_err-bring_up-clause-failed g c =
 pub returns-in_err-bring_up-clause-cause : goal.returns-in_err-bring_up-clause-cause
 returns-in_err-bring_up-clause-cause g c =
     let p = err_from_is_err_and c.from_residual-in_err-bring_up.result c.from_residual-in_err-bring_up.ensures.1 in
-    let r = c.requires.stood in
-    let can = r.holds in
-    let s1 = c.in_ok-disarm.ensures.done r.scenario r.commands r.stood (fits_less (closed r.scenario r.commands) (first r.scenario r.commands) (first_in r.scenario r.commands) can.fits) in
-    let f1 = c.disarm.ensures.faults in
-    rw (p.1, p.2) (cause_later c.in_err-bring_up.field-0.0 _ _ _ (nine _ _ _ _ _ r.stood ∙ sym (nine _ _ _ _ _ s1)) f1 c.in_err-bring_up.ensures.cause)
-
-pub returns-in_err-bring_up-clause-faults : goal.returns-in_err-bring_up-clause-faults
-returns-in_err-bring_up-clause-faults g c =
-    let r = c.requires.stood in
-    let can = r.holds in
-    let s1 = c.in_ok-disarm.ensures.done r.scenario r.commands r.stood (fits_less (closed r.scenario r.commands) (first r.scenario r.commands) (first_in r.scenario r.commands) can.fits) in
-    let f1 = c.disarm.ensures.faults in
-    never_falls_twice _ _ _ (nine _ _ _ _ _ r.stood ∙ sym (nine _ _ _ _ _ s1)) f1 c.bring_up.ensures.faults
+    let f1 = c.in_ok-disarm.ensures.cause in
+    rw (p.1, p.2) (failed_later c.in_err-bring_up.field-0.0 _ _ _ f1 c.in_err-bring_up.ensures.cause)
 
 pub give_up-requires-clause-stood : goal.give_up-requires-clause-stood
 give_up-requires-clause-stood g c =
@@ -74,25 +62,9 @@ returns-in_err-give_up-clause-failed g c =
 pub returns-in_err-give_up-clause-cause : goal.returns-in_err-give_up-clause-cause
 returns-in_err-give_up-clause-cause g c =
     let p = err_from_is_err_and c.from_residual-in_err-give_up.result c.from_residual-in_err-give_up.ensures.1 in
-    let r = c.requires.stood in
-    let can = r.holds in
-    let stays = c.closing_stays_up.ensures r.scenario r.commands can.whole in
-    let s1 = c.in_ok-disarm.ensures.done r.scenario r.commands r.stood (fits_less (closed r.scenario r.commands) (first r.scenario r.commands) (first_in r.scenario r.commands) can.fits) in
-    let s2 = c.in_ok-bring_up.ensures.done r.scenario (first r.scenario r.commands) s1 (fits_less (closed r.scenario r.commands) (second r.scenario r.commands) (second_in r.scenario r.commands) can.fits) in
-    let f1 = c.disarm.ensures.faults in
-    let f2 = never_falls_twice _ _ _ (nine _ _ _ _ _ r.stood ∙ sym (nine _ _ _ _ _ s1)) f1 c.bring_up.ensures.faults in
-    rw (p.1, p.2) (cause_later c.in_err-give_up.field-0.0 _ _ _ (nine _ _ _ _ _ r.stood ∙ sym (nine _ _ _ _ _ s2)) f2 c.in_err-give_up.ensures.cause)
-
-pub returns-in_err-give_up-clause-faults : goal.returns-in_err-give_up-clause-faults
-returns-in_err-give_up-clause-faults g c =
-    let r = c.requires.stood in
-    let can = r.holds in
-    let stays = c.closing_stays_up.ensures r.scenario r.commands can.whole in
-    let s1 = c.in_ok-disarm.ensures.done r.scenario r.commands r.stood (fits_less (closed r.scenario r.commands) (first r.scenario r.commands) (first_in r.scenario r.commands) can.fits) in
-    let s2 = c.in_ok-bring_up.ensures.done r.scenario (first r.scenario r.commands) s1 (fits_less (closed r.scenario r.commands) (second r.scenario r.commands) (second_in r.scenario r.commands) can.fits) in
-    let f1 = c.disarm.ensures.faults in
-    let f2 = never_falls_twice _ _ _ (nine _ _ _ _ _ r.stood ∙ sym (nine _ _ _ _ _ s1)) f1 c.bring_up.ensures.faults in
-    never_falls_twice _ _ _ (nine _ _ _ _ _ r.stood ∙ sym (nine _ _ _ _ _ s2)) f2 c.give_up.ensures.faults
+    let f1 = c.in_ok-disarm.ensures.cause in
+    let f2 = c.in_ok-bring_up.ensures.cause ∙ f1 in
+    rw (p.1, p.2) (failed_later c.in_err-give_up.field-0.0 _ _ _ f2 c.in_err-give_up.ensures.cause)
 
 pub clear-requires-clause-stood : goal.clear-requires-clause-stood
 clear-requires-clause-stood g c =
@@ -118,29 +90,10 @@ returns-in_err-clear-clause-failed g c =
 pub returns-in_err-clear-clause-cause : goal.returns-in_err-clear-clause-cause
 returns-in_err-clear-clause-cause g c =
     let p = err_from_is_err_and c.from_residual-in_err-clear.result c.from_residual-in_err-clear.ensures.1 in
-    let r = c.requires.stood in
-    let can = r.holds in
-    let stays = c.closing_stays_up.ensures r.scenario r.commands can.whole in
-    let s1 = c.in_ok-disarm.ensures.done r.scenario r.commands r.stood (fits_less (closed r.scenario r.commands) (first r.scenario r.commands) (first_in r.scenario r.commands) can.fits) in
-    let s2 = c.in_ok-bring_up.ensures.done r.scenario (first r.scenario r.commands) s1 (fits_less (closed r.scenario r.commands) (second r.scenario r.commands) (second_in r.scenario r.commands) can.fits) in
-    let s3 = c.in_ok-give_up.ensures.done r.scenario (second r.scenario r.commands) s2 (record { up = stays.brought_up; fits = (fits_less (closed r.scenario r.commands) (third r.scenario r.commands) (third_in r.scenario r.commands) can.fits) }) in
-    let f1 = c.disarm.ensures.faults in
-    let f2 = never_falls_twice _ _ _ (nine _ _ _ _ _ r.stood ∙ sym (nine _ _ _ _ _ s1)) f1 c.bring_up.ensures.faults in
-    let f3 = never_falls_twice _ _ _ (nine _ _ _ _ _ r.stood ∙ sym (nine _ _ _ _ _ s2)) f2 c.give_up.ensures.faults in
-    rw (p.1, p.2) (cause_later c.in_err-clear.field-0.0 _ _ _ (nine _ _ _ _ _ r.stood ∙ sym (nine _ _ _ _ _ s3)) f3 c.in_err-clear.ensures.cause)
-
-pub returns-in_err-clear-clause-faults : goal.returns-in_err-clear-clause-faults
-returns-in_err-clear-clause-faults g c =
-    let r = c.requires.stood in
-    let can = r.holds in
-    let stays = c.closing_stays_up.ensures r.scenario r.commands can.whole in
-    let s1 = c.in_ok-disarm.ensures.done r.scenario r.commands r.stood (fits_less (closed r.scenario r.commands) (first r.scenario r.commands) (first_in r.scenario r.commands) can.fits) in
-    let s2 = c.in_ok-bring_up.ensures.done r.scenario (first r.scenario r.commands) s1 (fits_less (closed r.scenario r.commands) (second r.scenario r.commands) (second_in r.scenario r.commands) can.fits) in
-    let s3 = c.in_ok-give_up.ensures.done r.scenario (second r.scenario r.commands) s2 (record { up = stays.brought_up; fits = (fits_less (closed r.scenario r.commands) (third r.scenario r.commands) (third_in r.scenario r.commands) can.fits) }) in
-    let f1 = c.disarm.ensures.faults in
-    let f2 = never_falls_twice _ _ _ (nine _ _ _ _ _ r.stood ∙ sym (nine _ _ _ _ _ s1)) f1 c.bring_up.ensures.faults in
-    let f3 = never_falls_twice _ _ _ (nine _ _ _ _ _ r.stood ∙ sym (nine _ _ _ _ _ s2)) f2 c.give_up.ensures.faults in
-    never_falls_twice _ _ _ (nine _ _ _ _ _ r.stood ∙ sym (nine _ _ _ _ _ s3)) f3 c.clear.ensures.faults
+    let f1 = c.in_ok-disarm.ensures.cause in
+    let f2 = c.in_ok-bring_up.ensures.cause ∙ f1 in
+    let f3 = c.in_ok-give_up.ensures.cause ∙ f2 in
+    rw (p.1, p.2) (failed_later c.in_err-clear.field-0.0 _ _ _ f3 c.in_err-clear.ensures.cause)
 
 pub end_known-requires-clause-stood : goal.end_known-requires-clause-stood
 end_known-requires-clause-stood g c =
@@ -168,33 +121,11 @@ returns-in_err-end_known-clause-failed g c =
 pub returns-in_err-end_known-clause-cause : goal.returns-in_err-end_known-clause-cause
 returns-in_err-end_known-clause-cause g c =
     let p = err_from_is_err_and c.from_residual-in_err-end_known.result c.from_residual-in_err-end_known.ensures.1 in
-    let r = c.requires.stood in
-    let can = r.holds in
-    let stays = c.closing_stays_up.ensures r.scenario r.commands can.whole in
-    let s1 = c.in_ok-disarm.ensures.done r.scenario r.commands r.stood (fits_less (closed r.scenario r.commands) (first r.scenario r.commands) (first_in r.scenario r.commands) can.fits) in
-    let s2 = c.in_ok-bring_up.ensures.done r.scenario (first r.scenario r.commands) s1 (fits_less (closed r.scenario r.commands) (second r.scenario r.commands) (second_in r.scenario r.commands) can.fits) in
-    let s3 = c.in_ok-give_up.ensures.done r.scenario (second r.scenario r.commands) s2 (record { up = stays.brought_up; fits = (fits_less (closed r.scenario r.commands) (third r.scenario r.commands) (third_in r.scenario r.commands) can.fits) }) in
-    let s4 = c.in_ok-clear.ensures.done r.scenario (third r.scenario r.commands) s3 (record { up = stays.given_up; fits = (fits_less (closed r.scenario r.commands) (fourth r.scenario r.commands) (fourth_in r.scenario r.commands) can.fits) }) in
-    let f1 = c.disarm.ensures.faults in
-    let f2 = never_falls_twice _ _ _ (nine _ _ _ _ _ r.stood ∙ sym (nine _ _ _ _ _ s1)) f1 c.bring_up.ensures.faults in
-    let f3 = never_falls_twice _ _ _ (nine _ _ _ _ _ r.stood ∙ sym (nine _ _ _ _ _ s2)) f2 c.give_up.ensures.faults in
-    let f4 = never_falls_twice _ _ _ (nine _ _ _ _ _ r.stood ∙ sym (nine _ _ _ _ _ s3)) f3 c.clear.ensures.faults in
-    rw (p.1, p.2) (cause_later c.in_err-end_known.field-0.0 _ _ _ (nine _ _ _ _ _ r.stood ∙ sym (nine _ _ _ _ _ s4)) f4 c.in_err-end_known.ensures.cause)
-
-pub returns-in_err-end_known-clause-faults : goal.returns-in_err-end_known-clause-faults
-returns-in_err-end_known-clause-faults g c =
-    let r = c.requires.stood in
-    let can = r.holds in
-    let stays = c.closing_stays_up.ensures r.scenario r.commands can.whole in
-    let s1 = c.in_ok-disarm.ensures.done r.scenario r.commands r.stood (fits_less (closed r.scenario r.commands) (first r.scenario r.commands) (first_in r.scenario r.commands) can.fits) in
-    let s2 = c.in_ok-bring_up.ensures.done r.scenario (first r.scenario r.commands) s1 (fits_less (closed r.scenario r.commands) (second r.scenario r.commands) (second_in r.scenario r.commands) can.fits) in
-    let s3 = c.in_ok-give_up.ensures.done r.scenario (second r.scenario r.commands) s2 (record { up = stays.brought_up; fits = (fits_less (closed r.scenario r.commands) (third r.scenario r.commands) (third_in r.scenario r.commands) can.fits) }) in
-    let s4 = c.in_ok-clear.ensures.done r.scenario (third r.scenario r.commands) s3 (record { up = stays.given_up; fits = (fits_less (closed r.scenario r.commands) (fourth r.scenario r.commands) (fourth_in r.scenario r.commands) can.fits) }) in
-    let f1 = c.disarm.ensures.faults in
-    let f2 = never_falls_twice _ _ _ (nine _ _ _ _ _ r.stood ∙ sym (nine _ _ _ _ _ s1)) f1 c.bring_up.ensures.faults in
-    let f3 = never_falls_twice _ _ _ (nine _ _ _ _ _ r.stood ∙ sym (nine _ _ _ _ _ s2)) f2 c.give_up.ensures.faults in
-    let f4 = never_falls_twice _ _ _ (nine _ _ _ _ _ r.stood ∙ sym (nine _ _ _ _ _ s3)) f3 c.clear.ensures.faults in
-    never_falls_twice _ _ _ (nine _ _ _ _ _ r.stood ∙ sym (nine _ _ _ _ _ s4)) f4 c.end_known.ensures.faults
+    let f1 = c.in_ok-disarm.ensures.cause in
+    let f2 = c.in_ok-bring_up.ensures.cause ∙ f1 in
+    let f3 = c.in_ok-give_up.ensures.cause ∙ f2 in
+    let f4 = c.in_ok-clear.ensures.cause ∙ f3 in
+    rw (p.1, p.2) (failed_later c.in_err-end_known.field-0.0 _ _ _ f4 c.in_err-end_known.ensures.cause)
 
 pub ask_all-requires-clause-stood : goal.ask_all-requires-clause-stood
 ask_all-requires-clause-stood g c =
@@ -237,34 +168,9 @@ returns-clause-failed g c =
 
 pub returns-clause-cause : goal.returns-clause-cause
 returns-clause-cause g c =
-    let r = c.requires.stood in
-    let can = r.holds in
-    let stays = c.closing_stays_up.ensures r.scenario r.commands can.whole in
-    let s1 = c.in_ok-disarm.ensures.done r.scenario r.commands r.stood (fits_less (closed r.scenario r.commands) (first r.scenario r.commands) (first_in r.scenario r.commands) can.fits) in
-    let s2 = c.in_ok-bring_up.ensures.done r.scenario (first r.scenario r.commands) s1 (fits_less (closed r.scenario r.commands) (second r.scenario r.commands) (second_in r.scenario r.commands) can.fits) in
-    let s3 = c.in_ok-give_up.ensures.done r.scenario (second r.scenario r.commands) s2 (record { up = stays.brought_up; fits = (fits_less (closed r.scenario r.commands) (third r.scenario r.commands) (third_in r.scenario r.commands) can.fits) }) in
-    let s4 = c.in_ok-clear.ensures.done r.scenario (third r.scenario r.commands) s3 (record { up = stays.given_up; fits = (fits_less (closed r.scenario r.commands) (fourth r.scenario r.commands) (fourth_in r.scenario r.commands) can.fits) }) in
-    let s5 = c.in_ok-end_known.ensures.done r.scenario (fourth r.scenario r.commands) s4 (record { up = stays.cleared; fits = (fits_less (closed r.scenario r.commands) (fifth r.scenario r.commands) (fifth_in r.scenario r.commands) can.fits) }) in
-    let f1 = c.disarm.ensures.faults in
-    let f2 = never_falls_twice _ _ _ (nine _ _ _ _ _ r.stood ∙ sym (nine _ _ _ _ _ s1)) f1 c.bring_up.ensures.faults in
-    let f3 = never_falls_twice _ _ _ (nine _ _ _ _ _ r.stood ∙ sym (nine _ _ _ _ _ s2)) f2 c.give_up.ensures.faults in
-    let f4 = never_falls_twice _ _ _ (nine _ _ _ _ _ r.stood ∙ sym (nine _ _ _ _ _ s3)) f3 c.clear.ensures.faults in
-    let f5 = never_falls_twice _ _ _ (nine _ _ _ _ _ r.stood ∙ sym (nine _ _ _ _ _ s4)) f4 c.end_known.ensures.faults in
-    on_failure _ _ c.ask_all.result (λ why rose. cause_later why _ _ _ (nine _ _ _ _ _ r.stood ∙ sym (nine _ _ _ _ _ s5)) f5 rose) c.ask_all.ensures.cause
-
-pub returns-clause-faults : goal.returns-clause-faults
-returns-clause-faults g c =
-    let r = c.requires.stood in
-    let can = r.holds in
-    let stays = c.closing_stays_up.ensures r.scenario r.commands can.whole in
-    let s1 = c.in_ok-disarm.ensures.done r.scenario r.commands r.stood (fits_less (closed r.scenario r.commands) (first r.scenario r.commands) (first_in r.scenario r.commands) can.fits) in
-    let s2 = c.in_ok-bring_up.ensures.done r.scenario (first r.scenario r.commands) s1 (fits_less (closed r.scenario r.commands) (second r.scenario r.commands) (second_in r.scenario r.commands) can.fits) in
-    let s3 = c.in_ok-give_up.ensures.done r.scenario (second r.scenario r.commands) s2 (record { up = stays.brought_up; fits = (fits_less (closed r.scenario r.commands) (third r.scenario r.commands) (third_in r.scenario r.commands) can.fits) }) in
-    let s4 = c.in_ok-clear.ensures.done r.scenario (third r.scenario r.commands) s3 (record { up = stays.given_up; fits = (fits_less (closed r.scenario r.commands) (fourth r.scenario r.commands) (fourth_in r.scenario r.commands) can.fits) }) in
-    let s5 = c.in_ok-end_known.ensures.done r.scenario (fourth r.scenario r.commands) s4 (record { up = stays.cleared; fits = (fits_less (closed r.scenario r.commands) (fifth r.scenario r.commands) (fifth_in r.scenario r.commands) can.fits) }) in
-    let f1 = c.disarm.ensures.faults in
-    let f2 = never_falls_twice _ _ _ (nine _ _ _ _ _ r.stood ∙ sym (nine _ _ _ _ _ s1)) f1 c.bring_up.ensures.faults in
-    let f3 = never_falls_twice _ _ _ (nine _ _ _ _ _ r.stood ∙ sym (nine _ _ _ _ _ s2)) f2 c.give_up.ensures.faults in
-    let f4 = never_falls_twice _ _ _ (nine _ _ _ _ _ r.stood ∙ sym (nine _ _ _ _ _ s3)) f3 c.clear.ensures.faults in
-    let f5 = never_falls_twice _ _ _ (nine _ _ _ _ _ r.stood ∙ sym (nine _ _ _ _ _ s4)) f4 c.end_known.ensures.faults in
-    never_falls_twice _ _ _ (nine _ _ _ _ _ r.stood ∙ sym (nine _ _ _ _ _ s5)) f5 c.ask_all.ensures.faults
+    let f1 = c.in_ok-disarm.ensures.cause in
+    let f2 = c.in_ok-bring_up.ensures.cause ∙ f1 in
+    let f3 = c.in_ok-give_up.ensures.cause ∙ f2 in
+    let f4 = c.in_ok-clear.ensures.cause ∙ f3 in
+    let f5 = c.in_ok-end_known.ensures.cause ∙ f4 in
+    told_later c.ask_all.result _ _ _ f5 c.ask_all.ensures.cause

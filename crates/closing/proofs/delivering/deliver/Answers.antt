@@ -1,4 +1,4 @@
-use Rattle.std.proofs.Common.{◌<◌, ◌^◌, ◌∷◌, List, length, map, sym, ◌∙◌}
+use Rattle.std.proofs.Common.{◌<◌, ◌^◌, ◌∷◌, List, length, map}
 use Rattle.std.proofs.lemmas.Result.{err_from_is_err_and}
 use Rattle.fed_rules.specs.declared.commands.Command.{Command}
 use Rattle.fed_rules.specs.declared.commands.Place.{Place}
@@ -6,10 +6,9 @@ use Rattle.fed_rules.specs.declared.scenario.Scenario.{Scenario}
 use Rattle.fed_rules.specs.Closing.{deliver as delivered}
 use Rattle.closing.specs.Steps.{give_of}
 use Rattle.closing.specs.Towards.{Fits}
-use Rattle.closing.proofs.Faults.{cause_later, never_falls_twice}
+use Rattle.fed_world.proofs.Faults.{told_later}
 use Rattle.closing.proofs.Grows.{taken_grows}
 use Rattle.closing.proofs.Towards.{extends_here, extends_one, fails_at, fails_within, fits_less, on_failure, on_success, room_one}
-use Rattle.closing.proofs.World.{nine}
 use Rattle.closing.proofs.delivering.deliver.Goals as goal
 
 room : (scenario : Scenario) (place : Place) (commands : List Command) → Fits (delivered scenario place commands) → length commands < 2 ^ 30
@@ -62,12 +61,4 @@ returns-clause-failed g c =
 
 pub returns-clause-cause : goal.returns-clause-cause
 returns-clause-cause g c =
-    let r = c.requires.stood in
-    let next = c.in_ok-apply.ensures.applied r.scenario r.commands r.stood (room r.scenario c.args.place r.commands r.holds) in
-    on_failure _ _ c.take_sent.result (λ why rose. cause_later why _ _ _ (nine _ _ _ _ _ r.stood ∙ sym (nine _ _ _ _ _ next)) c.apply.ensures.faults rose) c.take_sent.ensures.cause
-
-pub returns-clause-faults : goal.returns-clause-faults
-returns-clause-faults g c =
-    let r = c.requires.stood in
-    let next = c.in_ok-apply.ensures.applied r.scenario r.commands r.stood (room r.scenario c.args.place r.commands r.holds) in
-    never_falls_twice _ _ _ (nine _ _ _ _ _ r.stood ∙ sym (nine _ _ _ _ _ next)) c.apply.ensures.faults c.take_sent.ensures.faults
+    told_later c.take_sent.result _ _ _ c.in_ok-apply.ensures.cause c.take_sent.ensures.cause

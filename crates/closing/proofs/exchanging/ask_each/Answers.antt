@@ -9,11 +9,10 @@ use Rattle.fed_rules.specs.Closing as rules
 use Rattle.fed_rules.specs.Closing.{for_each}
 use Rattle.closing.specs.Steps.{asks_about, asks_all}
 use Rattle.closing.specs.Towards.{FailsToward, Fits}
-use Rattle.closing.proofs.Faults.{cause_later, never_falls_twice}
+use Rattle.fed_world.proofs.Faults.{failed_later}
 use Rattle.closing.proofs.Grows.{inquire_grows}
 use Rattle.closing.proofs.Loops.{each_extends, each_more, next_begins, room_for}
 use Rattle.closing.proofs.Towards.{Extends, fails_within}
-use Rattle.closing.proofs.World.{nine}
 use Rattle.closing.proofs.exchanging.ask_each.Goals as goal
 
 -- what one site asks
@@ -56,17 +55,10 @@ returns-in_err-ask_about-clause-failed g c =
 pub returns-in_err-ask_about-clause-cause : goal.returns-in_err-ask_about-clause-cause
 returns-in_err-ask_about-clause-cause g c =
     let p = err_from_is_err_and c.from_residual.result c.from_residual.ensures.1 in
-    let r = c.requires.stood in
-    rw (p.1, p.2) (cause_later c.in_err-ask_about.field-0.0 _ _ _ (nine _ _ _ _ _ r.stood ∙ sym (nine _ _ _ _ _ (c.loop-at.invariant.stands r.scenario r.commands r.stood r.holds))) c.loop-at.invariant.faults c.in_err-ask_about.ensures.cause)
-
-pub returns-in_err-ask_about-clause-faults : goal.returns-in_err-ask_about-clause-faults
-returns-in_err-ask_about-clause-faults g c =
-    let r = c.requires.stood in
-    never_falls_twice _ _ _ (nine _ _ _ _ _ r.stood ∙ sym (nine _ _ _ _ _ (c.loop-at.invariant.stands r.scenario r.commands r.stood r.holds))) c.loop-at.invariant.faults c.ask_about.ensures.faults
+    rw (p.1, p.2) (failed_later c.in_err-ask_about.field-0.0 _ _ _ c.loop-at.invariant.calm c.in_err-ask_about.ensures.cause)
 
 pub loop-at-preserved : goal.loop-at-preserved
 loop-at-preserved g c =
-    let r = c.requires.stood in
     let items = c.args.sites.now in
     let i = c.loop-at.at-index in
     record {
@@ -78,7 +70,7 @@ loop-at-preserved g c =
           (c.in_ok-ask_about.ensures.done scenario mid (c.loop-at.invariant.stands scenario before s fits)
           (subst (λ tids. Fits (asks_about c.at-item.result.site tids scenario mid)) (sym c.as_slice.ensures.value)
           (subst (λ (at : SiteTids). Fits (add_at scenario at mid)) (sym c.at-item.is) (room_for (add_at scenario) (grows_at scenario) items i c.at-item.result before c.loop-at-test.true fits))))));
-      faults = never_falls_twice _ _ _ (nine _ _ _ _ _ r.stood ∙ sym (nine _ _ _ _ _ (c.loop-at.invariant.stands r.scenario r.commands r.stood r.holds))) c.loop-at.invariant.faults c.ask_about.ensures.faults;
+      calm = c.in_ok-ask_about.ensures.cause ∙ c.loop-at.invariant.calm;
     }
 
 pub returns-clause-done : goal.returns-clause-done

@@ -1,7 +1,8 @@
-use Rattle.std.proofs.Common.{List, map, take}
+use Rattle.std.proofs.Common.{◌≡◌, List, map, take}
 use Rattle.fed_rules.specs.declared.commands.Command.{Command}
 use Rattle.fed_rules.specs.declared.scenario.Scenario.{Scenario}
-use Rattle.fed_world.specs.Worlds.{NeverFalls, Stands}
+use Rattle.fed_world.specs.Faults.{faults_of}
+use Rattle.fed_world.specs.Worlds.{Stands}
 use Rattle.closing.specs.Steps.{asks_all}
 use Rattle.closing.specs.Towards.{Fits}
 use Rattle.closing.proofs.exchanging.ask_each.Given as goal
@@ -10,5 +11,5 @@ abbrev pub invariant-loop-at : goal.invariant-loop-at
 invariant-loop-at g l = record {
   stands : (scenario : Scenario) (commands : List Command) → Stands g.D.Disk.tells l.fn.world (map g.D.Disk.seen l.fn.disks.items) scenario commands → Fits (asks_all l.sites scenario commands)
       → Stands g.D.Disk.tells l.world (map g.D.Disk.seen l.disks.items) scenario (asks_all (take l.at-index l.sites) scenario commands);
-  faults : NeverFalls (map g.D.Disk.seen l.fn.disks.items) (map g.D.Disk.seen l.disks.items);
+  calm : faults_of (map g.D.Disk.seen l.disks.items) ≡ faults_of (map g.D.Disk.seen l.fn.disks.items);
 }

@@ -5,11 +5,10 @@ use Rattle.fed_rules.specs.declared.commands.Place.{Place}
 use Rattle.fed_world.specs.Worlds.{Stands}
 use Rattle.fed_rules.specs.Closing as rules
 use Rattle.closing.specs.Steps.{deliver_all}
-use Rattle.closing.proofs.Faults.{cause_later, never_falls_twice}
+use Rattle.fed_world.proofs.Faults.{failed_later}
 use Rattle.closing.proofs.Grows.{deliver_grows}
 use Rattle.closing.proofs.Loops.{each_extends, each_more, next_begins, room_for}
 use Rattle.closing.proofs.Towards.{fails_within}
-use Rattle.closing.proofs.World.{nine}
 use Rattle.closing.proofs.exchanging.deliver_each.Goals as goal
 
 -- some item
@@ -44,24 +43,17 @@ returns-in_err-deliver-clause-failed g c =
 pub returns-in_err-deliver-clause-cause : goal.returns-in_err-deliver-clause-cause
 returns-in_err-deliver-clause-cause g c =
     let p = err_from_is_err_and c.from_residual.result c.from_residual.ensures.1 in
-    let r = c.requires.stood in
-    rw (p.1, p.2) (cause_later c.in_err-deliver.field-0.0 _ _ _ (nine _ _ _ _ _ r.stood ∙ sym (nine _ _ _ _ _ (c.loop-place.invariant.stands r.scenario r.commands r.stood r.holds))) c.loop-place.invariant.faults c.in_err-deliver.ensures.cause)
-
-pub returns-in_err-deliver-clause-faults : goal.returns-in_err-deliver-clause-faults
-returns-in_err-deliver-clause-faults g c =
-    let r = c.requires.stood in
-    never_falls_twice _ _ _ (nine _ _ _ _ _ r.stood ∙ sym (nine _ _ _ _ _ (c.loop-place.invariant.stands r.scenario r.commands r.stood r.holds))) c.loop-place.invariant.faults c.deliver.ensures.faults
+    rw (p.1, p.2) (failed_later c.in_err-deliver.field-0.0 _ _ _ c.loop-place.invariant.calm c.in_err-deliver.ensures.cause)
 
 pub loop-place-preserved : goal.loop-place-preserved
 loop-place-preserved g c =
-    let r = c.requires.stood in
     let items = c.args.places.now in
     let i = c.loop-place.place-index in
     record {
       stands = λ scenario before s fits.
           subst (λ more. Stands g.D.Disk.tells c.deliver.new.world (map g.D.Disk.seen c.deliver.new.disks.items) scenario more) (sym (each_more (rules.deliver scenario) items i none before c.loop-place-test.true))
           (c.in_ok-deliver.ensures.done scenario (deliver_all (take i items) scenario before) (c.loop-place.invariant.stands scenario before s fits) (room_for (rules.deliver scenario) (deliver_grows scenario) items i none before c.loop-place-test.true fits));
-      faults = never_falls_twice _ _ _ (nine _ _ _ _ _ r.stood ∙ sym (nine _ _ _ _ _ (c.loop-place.invariant.stands r.scenario r.commands r.stood r.holds))) c.loop-place.invariant.faults c.deliver.ensures.faults;
+      calm = c.in_ok-deliver.ensures.cause ∙ c.loop-place.invariant.calm;
     }
 
 pub returns-clause-done : goal.returns-clause-done

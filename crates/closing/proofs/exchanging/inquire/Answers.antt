@@ -1,4 +1,4 @@
-use Rattle.std.proofs.Common.{◌<◌, ◌^◌, ◌∷◌, List, length, map, sym, ◌∙◌}
+use Rattle.std.proofs.Common.{◌<◌, ◌^◌, ◌∷◌, List, length, map, ◌∙◌}
 use Rattle.std.proofs.lemmas.Result.{err_from_is_err_and}
 use Rattle.mdb_base.specs.declared.names.SiteId.{SiteId}
 use Rattle.mdb_base.specs.declared.names.Tid.{Tid}
@@ -6,12 +6,11 @@ use Rattle.fed_rules.specs.declared.commands.Command.{Command}
 use Rattle.fed_rules.specs.declared.commands.Command.TheVariants as Cmd
 use Rattle.fed_rules.specs.declared.scenario.Scenario.{Scenario}
 use Rattle.fed_rules.specs.Closing as rules
-use Rattle.fed_rules.specs.Closing.{deliver, last_sends, taken}
+use Rattle.fed_rules.specs.Closing.{taken}
 use Rattle.closing.specs.Towards.{Fits}
-use Rattle.closing.proofs.Faults.{cause_later, never_falls_twice}
+use Rattle.fed_world.proofs.Faults.{failed_later, told_later}
 use Rattle.closing.proofs.Grows.{given_grows, taken_grows}
 use Rattle.closing.proofs.Towards.{Extends, extends_here, extends_one, extends_twice, fails_at, fails_within, fits_less, on_failure, on_success, room_one}
-use Rattle.closing.proofs.World.{nine}
 use Rattle.closing.proofs.exchanging.inquire.Goals as goal
 
 abbrev one : SiteId → Tid → List Command → List Command
@@ -71,15 +70,7 @@ returns-in_err-take_sent-clause-failed g c =
 pub returns-in_err-take_sent-clause-cause : goal.returns-in_err-take_sent-clause-cause
 returns-in_err-take_sent-clause-cause g c =
     let p = err_from_is_err_and c.from_residual-in_err-take_sent.result c.from_residual-in_err-take_sent.ensures.1 in
-    let r = c.requires.stood in
-    let next = c.in_ok-apply.ensures.applied r.scenario r.commands r.stood (room r.scenario c.args.site c.args.tid r.commands r.holds) in
-    rw (p.1, p.2) (cause_later c.in_err-take_sent.field-0.0 _ _ _ (nine _ _ _ _ _ r.stood ∙ sym (nine _ _ _ _ _ next)) c.apply.ensures.faults c.in_err-take_sent.ensures.cause)
-
-pub returns-in_err-take_sent-clause-faults : goal.returns-in_err-take_sent-clause-faults
-returns-in_err-take_sent-clause-faults g c =
-    let r = c.requires.stood in
-    let next = c.in_ok-apply.ensures.applied r.scenario r.commands r.stood (room r.scenario c.args.site c.args.tid r.commands r.holds) in
-    never_falls_twice _ _ _ (nine _ _ _ _ _ r.stood ∙ sym (nine _ _ _ _ _ next)) c.apply.ensures.faults c.take_sent.ensures.faults
+    rw (p.1, p.2) (failed_later c.in_err-take_sent.field-0.0 _ _ _ c.in_ok-apply.ensures.cause c.in_err-take_sent.ensures.cause)
 
 pub give_sent-requires-clause-stood : goal.give_sent-requires-clause-stood
 give_sent-requires-clause-stood g c =
@@ -114,16 +105,5 @@ returns-clause-failed g c =
 
 pub returns-clause-cause : goal.returns-clause-cause
 returns-clause-cause g c =
-    let r = c.requires.stood in
-    let next = c.in_ok-apply.ensures.applied r.scenario r.commands r.stood (room r.scenario c.args.site c.args.tid r.commands r.holds) in
-    let last = c.in_ok-take_sent.ensures.done r.scenario (one c.args.site c.args.tid r.commands) next (fits_second r.scenario c.args.site c.args.tid r.commands r.holds) in
-    let falls = never_falls_twice _ _ _ (nine _ _ _ _ _ r.stood ∙ sym (nine _ _ _ _ _ next)) c.apply.ensures.faults c.take_sent.ensures.faults in
-    on_failure _ _ c.give_sent.result (λ why rose. cause_later why _ _ _ (nine _ _ _ _ _ r.stood ∙ sym (nine _ _ _ _ _ last)) falls rose) c.give_sent.ensures.cause
-
-pub returns-clause-faults : goal.returns-clause-faults
-returns-clause-faults g c =
-    let r = c.requires.stood in
-    let next = c.in_ok-apply.ensures.applied r.scenario r.commands r.stood (room r.scenario c.args.site c.args.tid r.commands r.holds) in
-    let last = c.in_ok-take_sent.ensures.done r.scenario (one c.args.site c.args.tid r.commands) next (fits_second r.scenario c.args.site c.args.tid r.commands r.holds) in
-    let falls = never_falls_twice _ _ _ (nine _ _ _ _ _ r.stood ∙ sym (nine _ _ _ _ _ next)) c.apply.ensures.faults c.take_sent.ensures.faults in
-    never_falls_twice _ _ _ (nine _ _ _ _ _ r.stood ∙ sym (nine _ _ _ _ _ last)) falls c.give_sent.ensures.faults
+    let falls = c.in_ok-take_sent.ensures.cause ∙ c.in_ok-apply.ensures.cause in
+    told_later c.give_sent.result _ _ _ falls c.give_sent.ensures.cause

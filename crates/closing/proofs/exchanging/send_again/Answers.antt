@@ -5,15 +5,15 @@ use Rattle.fed_rules.specs.declared.commands.Command.{Command}
 use Rattle.fed_rules.specs.declared.commands.Command.TheVariants as Cmd
 use Rattle.fed_rules.specs.declared.scenario.Scenario.{Scenario}
 use Rattle.fed_rules.specs.Closing as rules
-use Rattle.fed_rules.specs.Closing.{deliver, last_sends, taken}
+use Rattle.fed_rules.specs.Closing.{deliver, last_sends}
 use Rattle.fed_world.specs.Worlds.{Stands}
 use Rattle.closing.specs.Steps.{deliver_all}
 use Rattle.closing.specs.Towards.{FailsToward, Fits}
-use Rattle.closing.proofs.Faults.{cause_later, never_falls_twice}
+use Rattle.fed_world.proofs.Faults.{told_later}
 use Rattle.closing.proofs.Grows.{deliver_grows}
 use Rattle.closing.proofs.Loops.{each_extends}
 use Rattle.closing.proofs.Towards.{Extends, extends_here, extends_one, fails_at, fails_within, fits_less, on_failure, on_success, room_one}
-use Rattle.closing.proofs.World.{has_lines, nine}
+use Rattle.closing.proofs.World.{has_lines}
 use Rattle.closing.proofs.exchanging.send_again.Goals as goal
 
 abbrev one : Tid → List Command → List Command
@@ -85,12 +85,4 @@ returns-clause-failed g c =
 
 pub returns-clause-cause : goal.returns-clause-cause
 returns-clause-cause g c =
-    let r = c.requires.stood in
-    let next = c.in_ok-apply.ensures.applied r.scenario r.commands r.stood (room r.scenario c.args.tid r.commands r.holds) in
-    on_failure _ _ c.deliver_each.result (λ why rose. cause_later why _ _ _ (nine _ _ _ _ _ r.stood ∙ sym (nine _ _ _ _ _ next)) c.apply.ensures.faults rose) c.deliver_each.ensures.cause
-
-pub returns-clause-faults : goal.returns-clause-faults
-returns-clause-faults g c =
-    let r = c.requires.stood in
-    let next = c.in_ok-apply.ensures.applied r.scenario r.commands r.stood (room r.scenario c.args.tid r.commands r.holds) in
-    never_falls_twice _ _ _ (nine _ _ _ _ _ r.stood ∙ sym (nine _ _ _ _ _ next)) c.apply.ensures.faults c.deliver_each.ensures.faults
+    told_later c.deliver_each.result _ _ _ c.in_ok-apply.ensures.cause c.deliver_each.ensures.cause

@@ -5,11 +5,10 @@ use Rattle.mdb_base.specs.declared.names.Tid.{Tid}
 use Rattle.fed_world.specs.Worlds.{Stands}
 use Rattle.fed_rules.specs.Closing as rules
 use Rattle.closing.specs.Steps.{sent_for}
-use Rattle.closing.proofs.Faults.{cause_later, never_falls_twice}
+use Rattle.fed_world.proofs.Faults.{failed_later}
 use Rattle.closing.proofs.Grows.{send_again_grows}
 use Rattle.closing.proofs.Loops.{each_extends, each_more, next_begins, room_for}
 use Rattle.closing.proofs.Towards.{fails_within}
-use Rattle.closing.proofs.World.{nine}
 use Rattle.closing.proofs.exchanging.send_each.Goals as goal
 
 -- some item
@@ -44,24 +43,17 @@ returns-in_err-send_again-clause-failed g c =
 pub returns-in_err-send_again-clause-cause : goal.returns-in_err-send_again-clause-cause
 returns-in_err-send_again-clause-cause g c =
     let p = err_from_is_err_and c.from_residual.result c.from_residual.ensures.1 in
-    let r = c.requires.stood in
-    rw (p.1, p.2) (cause_later c.in_err-send_again.field-0.0 _ _ _ (nine _ _ _ _ _ r.stood ∙ sym (nine _ _ _ _ _ (c.loop-tid.invariant.stands r.scenario r.commands r.stood r.holds))) c.loop-tid.invariant.faults c.in_err-send_again.ensures.cause)
-
-pub returns-in_err-send_again-clause-faults : goal.returns-in_err-send_again-clause-faults
-returns-in_err-send_again-clause-faults g c =
-    let r = c.requires.stood in
-    never_falls_twice _ _ _ (nine _ _ _ _ _ r.stood ∙ sym (nine _ _ _ _ _ (c.loop-tid.invariant.stands r.scenario r.commands r.stood r.holds))) c.loop-tid.invariant.faults c.send_again.ensures.faults
+    rw (p.1, p.2) (failed_later c.in_err-send_again.field-0.0 _ _ _ c.loop-tid.invariant.calm c.in_err-send_again.ensures.cause)
 
 pub loop-tid-preserved : goal.loop-tid-preserved
 loop-tid-preserved g c =
-    let r = c.requires.stood in
     let items = c.args.tids.now in
     let i = c.loop-tid.tid-index in
     record {
       stands = λ scenario before s fits.
           subst (λ more. Stands g.D.Disk.tells c.send_again.new.world (map g.D.Disk.seen c.send_again.new.disks.items) scenario more) (sym (each_more (rules.send_again scenario) items i none before c.loop-tid-test.true))
           (c.in_ok-send_again.ensures.done scenario (sent_for (take i items) scenario before) (c.loop-tid.invariant.stands scenario before s fits) (room_for (rules.send_again scenario) (send_again_grows scenario) items i none before c.loop-tid-test.true fits));
-      faults = never_falls_twice _ _ _ (nine _ _ _ _ _ r.stood ∙ sym (nine _ _ _ _ _ (c.loop-tid.invariant.stands r.scenario r.commands r.stood r.holds))) c.loop-tid.invariant.faults c.send_again.ensures.faults;
+      calm = c.in_ok-send_again.ensures.cause ∙ c.loop-tid.invariant.calm;
     }
 
 pub returns-clause-done : goal.returns-clause-done

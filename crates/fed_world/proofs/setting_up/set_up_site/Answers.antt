@@ -27,10 +27,7 @@ pub returns-in_default-clause-broken : goal.returns-in_default-clause-broken
 returns-in_default-clause-broken g c e home declared = cc
 
 pub returns-in_default-clause-cause : goal.returns-in_default-clause-cause
-returns-in_default-clause-cause g c e = cc
-
-pub returns-in_default-clause-faults : goal.returns-in_default-clause-faults
-returns-in_default-clause-faults g c = omega arith
+returns-in_default-clause-cause g c = record { later = omega arith; failed = λ e. cc; clean = λ other. refl }
 
 pub returns-in_default-new-clause-untouched : goal.returns-in_default-new-clause-untouched
 returns-in_default-new-clause-untouched g c e = c.requires.empty
@@ -39,10 +36,7 @@ pub returns-in_default-new-clause-broken : goal.returns-in_default-new-clause-br
 returns-in_default-new-clause-broken g c e home declared = cc
 
 pub returns-in_default-new-clause-cause : goal.returns-in_default-new-clause-cause
-returns-in_default-new-clause-cause g c e = cc
-
-pub returns-in_default-new-clause-faults : goal.returns-in_default-new-clause-faults
-returns-in_default-new-clause-faults g c = omega arith
+returns-in_default-new-clause-cause g c = record { later = omega arith; failed = λ e. cc; clean = λ other. refl }
 
 pub same-items : goal.same-items
 same-items g c = refl
@@ -91,6 +85,3 @@ returns-clause-broken g c e home declared =
 
 pub returns-clause-cause : goal.returns-clause-cause
 returns-clause-cause g c = c.set_up.ensures.cause
-
-pub returns-clause-faults : goal.returns-clause-faults
-returns-clause-faults g c = c.set_up.ensures.faults

@@ -1,4 +1,4 @@
-use Rattle.std.proofs.Common.{◌≡◌, ◌+◌, Err, Some, None, List, [], length, map, slice_get, slice_index_or, slice_set, sym, ap, subst, ◌∙◌, length-set, arith}
+use Rattle.std.proofs.Common.{◌≡◌, ◌+◌, Err, Some, None, List, [], length, map, slice_get, slice_index_or, slice_set, refl, sym, ap, subst, ◌∙◌, length-set, arith}
 use Rattle.std.proofs.lemmas.Option.{slice_get-get_or}
 use Rattle.mdb_base.specs.declared.names.SiteId.{SiteId}
 use Rattle.mdb_base.specs.Words.{first_where}
@@ -12,22 +12,22 @@ use Rattle.fed_rules.specs.SiteRecords.{Home}
 use Rattle.any_engine.specs.declared.engine.AnyEngine.{AnyEngine}
 use Rattle.any_engine.specs.Stands as Engines
 use Rattle.actor_store.specs.declared.errors.StepErr.{StepErr}
+use Rattle.actor_store.specs.declared.errors.StepErr.TheVariants as Step_err
 use Rattle.local_dbms.specs.declared.dbms.LocalDbms.{LocalDbms}
 use Rattle.local_dbms.specs.Stands as Dbms
 use Rattle.local_dbms.specs.Stands.{own_programs}
 use Rattle.site_core.specs.Store.{SomeStop}
 use Rattle.fed_world.proofs.DeclaredSites.{has_line, line_homed, line_site}
 use Rattle.fed_world.proofs.Pairs.{at_in}
-use Rattle.fed_world.proofs.SeenDisks.{same_never_falls}
 use Rattle.fed_world.proofs.SetUps.{IsUpTo, all_up, none_up, stops_at_once}
-use Rattle.fed_world.proofs.SetUpSteps.{disk_empty, disk_within, step_falls, step_rises, step_up, step_with_fault, step_without_memory}
+use Rattle.fed_world.proofs.SetUpSteps.{disk_empty, disk_within, step_calm, step_failed, step_up, step_with_fault, step_without_memory}
 use Rattle.fed_world.proofs.setting_up.set_up_sites.Goals as goal
 
 pub returns-in_default-clause-failed : goal.returns-in_default-clause-failed
 returns-in_default-clause-failed g c = stops_at_once g.D.Disk.tells (map g.D.Disk.seen c.args.disks.now.items) c.args.scenario.now c.requires.empty
 
-pub returns-in_default-clause-faults : goal.returns-in_default-clause-faults
-returns-in_default-clause-faults g c = same_never_falls (map g.D.Disk.seen c.args.disks.now.items)
+pub returns-in_default-clause-cause : goal.returns-in_default-clause-cause
+returns-in_default-clause-cause g c = refl
 
 pub returns-in_default-clause-count : goal.returns-in_default-clause-count
 returns-in_default-clause-count g c = c.requires.nine
@@ -37,7 +37,7 @@ loop-site-init g c = record {
   up = none_up g.D.Disk.tells c.reserve.new.self.items (map g.D.Disk.seen c.args.disks.now.items) c.args.scenario.now (c.reserve.ensures.items ∙ c.new-cores.ensures.items) c.requires.empty;
   room = (let room = c.in-Ok.ensures.ok in omega (arith, room));
   nine = c.requires.nine;
-  falls = same_never_falls (map g.D.Disk.seen c.args.disks.now.items);
+  calm = refl;
 }
 
 pub loop-site-preserved-in_default-line_of : goal.loop-site-preserved-in_default-line_of
@@ -122,19 +122,7 @@ returns-in-Err-Disk-clause-cause g c =
     let disks = c.loop-site.disks.items in
     let old = c.index_mut.result.now in
     let new = c.set_up_site.new.disk in
-    step_rises g.D.Disk.seen g.D.Disk.tells scenario whole c.loop-site.cores.items c.args.disks.now.items disks n site old new c.loop-site.invariant.nine own c.index_mut.ensures.value c.loop-site.invariant.falls c.requires.nine (c.in-Err-Disk.ensures.cause (ap (λ (e : StepErr). Err e) c.in-Err-Disk.field-0-is))
-
-pub returns-in-Err-Disk-clause-faults : goal.returns-in-Err-Disk-clause-faults
-returns-in-Err-Disk-clause-faults g c =
-    let scenario : Scenario = c.args.scenario.now in
-    let whole : IsScenario scenario = subst (λ (s : Scenario). IsScenario s) c.scenario.view_is c.scenario.invariant in
-    let n = c.loop-site.site-index in
-    let site : SiteId = slice_index_or c.args.declared.now n (record { 0 = 0 }) in
-    let own : slice_get (sites scenario) n ≡ Some site = sym (ap (λ (zs : List SiteId). slice_get zs n) c.requires.declared) ∙ slice_get-get_or c.args.declared.now n (record { 0 = 0 }) c.loop-site-test.true in
-    let disks = c.loop-site.disks.items in
-    let old = c.index_mut.result.now in
-    let new = c.set_up_site.new.disk in
-    step_falls g.D.Disk.seen g.D.Disk.tells scenario whole c.loop-site.cores.items c.args.disks.now.items disks n site old new c.loop-site.invariant.nine own c.index_mut.ensures.value c.loop-site.invariant.falls c.requires.nine c.set_up_site.ensures.faults
+    step_failed g.D.Disk.seen g.D.Disk.tells scenario whole c.loop-site.cores.items c.args.disks.now.items disks n site old new c.loop-site.invariant.nine own c.index_mut.ensures.value c.loop-site.invariant.calm _ Step_err.Disk (ap (λ (e : StepErr). Err e) c.in-Err-Disk.field-0-is) c.in-Err-Disk.ensures.cause
 
 pub returns-in-Err-Disk-clause-count : goal.returns-in-Err-Disk-clause-count
 returns-in-Err-Disk-clause-count g c = length-set c.loop-site.disks.items _ c.set_up_site.new.disk ∙ c.loop-site.invariant.nine
@@ -151,8 +139,8 @@ returns-in-Err-Memory-clause-failed g c =
     let new = c.set_up_site.new.disk in
     step_without_memory g.D.Disk.seen g.D.Disk.tells scenario whole c.loop-site.cores.items c.args.disks.now.items disks n site old new c.loop-site.invariant.nine own c.index_mut.ensures.value c.loop-site.invariant.up (c.in-Err-Memory.ensures.untouched (ap (λ (e : StepErr). Err e) c.in-Err-Memory.field-0-is))
 
-pub returns-in-Err-Memory-clause-faults : goal.returns-in-Err-Memory-clause-faults
-returns-in-Err-Memory-clause-faults g c =
+pub returns-in-Err-Memory-clause-cause : goal.returns-in-Err-Memory-clause-cause
+returns-in-Err-Memory-clause-cause g c =
     let scenario : Scenario = c.args.scenario.now in
     let whole : IsScenario scenario = subst (λ (s : Scenario). IsScenario s) c.scenario.view_is c.scenario.invariant in
     let n = c.loop-site.site-index in
@@ -161,7 +149,7 @@ returns-in-Err-Memory-clause-faults g c =
     let disks = c.loop-site.disks.items in
     let old = c.index_mut.result.now in
     let new = c.set_up_site.new.disk in
-    step_falls g.D.Disk.seen g.D.Disk.tells scenario whole c.loop-site.cores.items c.args.disks.now.items disks n site old new c.loop-site.invariant.nine own c.index_mut.ensures.value c.loop-site.invariant.falls c.requires.nine c.set_up_site.ensures.faults
+    step_failed g.D.Disk.seen g.D.Disk.tells scenario whole c.loop-site.cores.items c.args.disks.now.items disks n site old new c.loop-site.invariant.nine own c.index_mut.ensures.value c.loop-site.invariant.calm _ Step_err.Memory (ap (λ (e : StepErr). Err e) c.in-Err-Memory.field-0-is) c.in-Err-Memory.ensures.cause
 
 pub returns-in-Err-Memory-clause-count : goal.returns-in-Err-Memory-clause-count
 returns-in-Err-Memory-clause-count g c = length-set c.loop-site.disks.items _ c.set_up_site.new.disk ∙ c.loop-site.invariant.nine
@@ -187,7 +175,7 @@ loop-site-preserved g c =
           (subst (λ (z : SiteId). (home : Home) → home_of scenario z ≡ Some home → Dbms.Stands Engines.Stands g.D.Disk.tells core (g.D.Disk.seen new) home (own_programs z scenario.transactions) []) here c.in-Ok-set_up_site.ensures.stands));
       room = (let grown = c.push_reserved.ensures.capacity in let room = c.loop-site.invariant.room in omega (arith, grown, room));
       nine = length-set disks site.0 new ∙ c.loop-site.invariant.nine;
-      falls = step_falls g.D.Disk.seen g.D.Disk.tells scenario whole c.loop-site.cores.items c.args.disks.now.items disks n site old new c.loop-site.invariant.nine own c.index_mut.ensures.value c.loop-site.invariant.falls c.requires.nine c.set_up_site.ensures.faults;
+      calm = step_calm g.D.Disk.seen g.D.Disk.tells scenario whole c.loop-site.cores.items c.args.disks.now.items disks n site old new c.loop-site.invariant.nine own c.index_mut.ensures.value c.loop-site.invariant.calm _ core refl c.in-Ok-set_up_site.ensures.cause;
     }
 
 pub returns-clause-stands : goal.returns-clause-stands
@@ -197,8 +185,8 @@ returns-clause-stands g c =
     let within = c.loop-site.auto.site-index-end in
     all_up g.D.Disk.tells c.loop-site.cores.items (map g.D.Disk.seen c.loop-site.disks.items) c.args.scenario.now c.loop-site.site-index c.loop-site.invariant.up (omega (arith, many, past, within))
 
-pub returns-clause-faults : goal.returns-clause-faults
-returns-clause-faults g c = c.loop-site.invariant.falls
+pub returns-clause-cause : goal.returns-clause-cause
+returns-clause-cause g c = c.loop-site.invariant.calm
 
 pub returns-clause-count : goal.returns-clause-count
 returns-clause-count g c = c.loop-site.invariant.nine

@@ -1,5 +1,5 @@
 use Rattle.std.proofs.Common.{◌≡◌, ◌≤◌, length, map, vec_capacity}
-use Rattle.fed_world.specs.Worlds.{NeverFalls}
+use Rattle.fed_world.specs.Faults.{faults_of}
 use Rattle.fed_world.proofs.SetUps.{IsUpTo}
 use Rattle.fed_world.proofs.setting_up.set_up_sites.Given as goal
 
@@ -9,5 +9,5 @@ invariant-loop-site g l =
       up : IsUpTo g.D.Disk.tells l.cores.items (map g.D.Disk.seen l.disks.items) l.scenario l.site-index;
       room : length l.declared ≤ vec_capacity l.cores;
       nine : length l.disks.items ≡ 9;
-      falls : NeverFalls (map g.D.Disk.seen l.fn.disks.items) (map g.D.Disk.seen l.disks.items);
+      calm : faults_of (map g.D.Disk.seen l.disks.items) ≡ faults_of (map g.D.Disk.seen l.fn.disks.items);
     }

@@ -20,9 +20,6 @@ returns-in-Go-clause-failed g c = free_failed (Manager.Stands policy_is g.D.Disk
 pub returns-in-Go-clause-cause : goal.returns-in-Go-clause-cause
 returns-in-Go-clause-cause g c = c.go.ensures.cause
 
-pub returns-in-Go-clause-faults : goal.returns-in-Go-clause-faults
-returns-in-Go-clause-faults g c = c.go.ensures.faults
-
 pub fate-requires-clause-told : goal.fate-requires-clause-told
 fate-requires-clause-told g c = c.requires.told
 
@@ -37,9 +34,6 @@ returns-in-Fate-clause-failed g c = free_failed (Manager.Stands policy_is g.D.Di
 
 pub returns-in-Fate-clause-cause : goal.returns-in-Fate-clause-cause
 returns-in-Fate-clause-cause g c = c.fate.ensures.cause
-
-pub returns-in-Fate-clause-faults : goal.returns-in-Fate-clause-faults
-returns-in-Fate-clause-faults g c = c.fate.ensures.faults
 
 pub again-requires-clause-told : goal.again-requires-clause-told
 again-requires-clause-told g c = c.requires.told
@@ -56,9 +50,6 @@ returns-in-Again-clause-failed g c = free_failed (Manager.Stands policy_is g.D.D
 pub returns-in-Again-clause-cause : goal.returns-in-Again-clause-cause
 returns-in-Again-clause-cause g c = c.again.ensures.cause
 
-pub returns-in-Again-clause-faults : goal.returns-in-Again-clause-faults
-returns-in-Again-clause-faults g c = c.again.ensures.faults
-
 pub late-requires-clause-told : goal.late-requires-clause-told
 late-requires-clause-told g c = c.requires.told
 
@@ -73,9 +64,6 @@ returns-in-Late-clause-failed g c = free_failed (Manager.Stands policy_is g.D.Di
 
 pub returns-in-Late-clause-cause : goal.returns-in-Late-clause-cause
 returns-in-Late-clause-cause g c = c.late.ensures.cause
-
-pub returns-in-Late-clause-faults : goal.returns-in-Late-clause-faults
-returns-in-Late-clause-faults g c = c.late.ensures.faults
 
 pub take-requires-clause-told : goal.take-requires-clause-told
 take-requires-clause-told g c = c.requires.told
@@ -92,9 +80,6 @@ returns-in-Take-clause-failed g c = told_failed (Manager.Stands policy_is g.D.Di
 pub returns-in-Take-clause-cause : goal.returns-in-Take-clause-cause
 returns-in-Take-clause-cause g c = c.take.ensures.cause
 
-pub returns-in-Take-clause-faults : goal.returns-in-Take-clause-faults
-returns-in-Take-clause-faults g c = c.take.ensures.faults
-
 pub halt-requires-clause-told : goal.halt-requires-clause-told
 halt-requires-clause-told g c = c.requires.told
 
@@ -109,9 +94,6 @@ returns-in-Halt-clause-failed g c = free_failed (Manager.Stands policy_is g.D.Di
 
 pub returns-in-Halt-clause-cause : goal.returns-in-Halt-clause-cause
 returns-in-Halt-clause-cause g c = c.halt.ensures.cause
-
-pub returns-in-Halt-clause-faults : goal.returns-in-Halt-clause-faults
-returns-in-Halt-clause-faults g c = c.halt.ensures.faults
 
 pub trip-requires-clause-told : goal.trip-requires-clause-told
 trip-requires-clause-told g c = c.requires.told
@@ -128,9 +110,6 @@ returns-in-Trip-clause-failed g c = free_failed (Manager.Stands policy_is g.D.Di
 pub returns-in-Trip-clause-cause : goal.returns-in-Trip-clause-cause
 returns-in-Trip-clause-cause g c = c.trip.ensures.cause
 
-pub returns-in-Trip-clause-faults : goal.returns-in-Trip-clause-faults
-returns-in-Trip-clause-faults g c = c.trip.ensures.faults
-
 pub back-requires-clause-told : goal.back-requires-clause-told
 back-requires-clause-told g c = c.requires.told
 
@@ -146,9 +125,6 @@ returns-in-Back-clause-failed g c = free_failed (Manager.Stands policy_is g.D.Di
 pub returns-in-Back-clause-cause : goal.returns-in-Back-clause-cause
 returns-in-Back-clause-cause g c = c.back.ensures.cause
 
-pub returns-in-Back-clause-faults : goal.returns-in-Back-clause-faults
-returns-in-Back-clause-faults g c = c.back.ensures.faults
-
 pub check-requires-clause-told : goal.check-requires-clause-told
 check-requires-clause-told g c = c.requires.told
 
@@ -163,6 +139,3 @@ returns-in-Check-clause-failed g c = free_failed (Manager.Stands policy_is g.D.D
 
 pub returns-in-Check-clause-cause : goal.returns-in-Check-clause-cause
 returns-in-Check-clause-cause g c = c.check.ensures.cause
-
-pub returns-in-Check-clause-faults : goal.returns-in-Check-clause-faults
-returns-in-Check-clause-faults g c = c.check.ensures.faults

@@ -4,9 +4,10 @@ use Rattle.fed_rules.specs.declared.commands.Command.{Command}
 use Rattle.fed_rules.specs.Plans.{IsScenario}
 use Rattle.fed_world.specs.declared.errors.WorldErr.{WorldErr}
 use Rattle.fed_world.specs.SettingUp.{FailsToStart}
-use Rattle.fed_world.specs.Worlds.{HasCause, Stands}
+use Rattle.fed_world.specs.Faults.{FailedAs}
+use Rattle.fed_world.specs.Worlds.{Stands}
+use Rattle.fed_world.proofs.Faults.{failed_later}
 use Rattle.closing.specs.Towards.{FailsToward}
-use Rattle.closing.proofs.Faults.{cause_later}
 use Rattle.mdb_top.specs.Plays.{closed_with}
 use Rattle.mdb_top.specs.Sessions.{commands_of}
 use Rattle.mdb_top.proofs.Holding.{all_sized, stands_hold_all, stands_hold_frames, starts_broken, starts_short}
@@ -28,7 +29,7 @@ returns-in-Err-Disk-clause-output g c =
     let new = map disk.seen c.new.new.disks.items in
     let sized = all_sized disk.seen (λ one. g.met.D.Disk.told_size one c.requires.told) c.new.new.disks.items in
     let breaks = starts_broken c.in-Err-Disk.number disk.tells old new session.scenario sized
-    (subst (λ (why : WorldErr). HasCause why old new) c.in-Err-Disk.field-0-is c.in-Err-Disk.ensures.cause)
+    (subst (λ (why : WorldErr). FailedAs why old new) c.in-Err-Disk.field-0-is c.in-Err-Disk.ensures.cause)
     (subst (λ (why : WorldErr). FailsToStart disk.tells why new session.scenario) c.in-Err-Disk.field-0-is c.in-Err-Disk.ensures.failed) in
     broken_output c.broken.result old new session c.in-Err-Disk.number [] [] (no_lines session.scenario) (inr (refl, breaks)) c.broken.ensures
 
@@ -36,9 +37,11 @@ pub returns-in-Err-Memory-clause-output : goal.returns-in-Err-Memory-clause-outp
 returns-in-Err-Memory-clause-output g c =
     let disk = g.D.Disk in
     let session = c.args.session in
+    let old = map disk.seen c.args.disks.now.items in
     let new = map disk.seen c.new.new.disks.items in
     let sized = all_sized disk.seen (λ one. g.met.D.Disk.told_size one c.requires.told) c.new.new.disks.items in
-    inl (starts_short disk.tells new session.scenario sized (subst (λ (why : WorldErr). FailsToStart disk.tells why new session.scenario) c.in-Err-Memory.field-0-is c.in-Err-Memory.ensures.failed))
+    let calm = subst (λ (why : WorldErr). FailedAs why old new) c.in-Err-Memory.field-0-is c.in-Err-Memory.ensures.cause in
+    inl (starts_short disk.tells old new session.scenario sized calm (subst (λ (why : WorldErr). FailsToStart disk.tells why new session.scenario) c.in-Err-Memory.field-0-is c.in-Err-Memory.ensures.failed))
 
 pub play-requires-clause-stood : goal.play-requires-clause-stood
 play-requires-clause-stood g c =
@@ -81,7 +84,7 @@ returns-in-Ok-play-clause-output g c =
     let can = can_play session c.as_slice.result.now c.as_slice.ensures c.requires.commands in
     let stood = subst (λ (cs : List Command). Stands disk.tells c.play.new.world new session.scenario cs) same (c.in-Ok-play.ensures.played session.scenario [] c.in-Ok.ensures.stands can) in
     let right = story_right c.federation_is_serializable.ensures.headline c.closed_sessions_rest.ensures session.scenario whole _ in
-    whole_output c.printed.result old new session right
+    whole_output c.printed.result old new session (c.in-Ok-play.ensures.cause ∙ c.in-Ok.ensures.cause) right
     (stands_hold_frames disk.tells c.play.new.world new session.scenario (commands_of session) c.requires.told sized right.at_rest stood)
     (stands_hold_all disk.tells c.play.new.world new session.scenario (commands_of session) sized stood)
     (whole_weaker c.printed.result _ _ (λ bytes each. each session.scenario (commands_of session) (recalls disk.tells c.play.new.world new session.scenario (commands_of session) stood)) c.printed.ensures)
@@ -112,9 +115,8 @@ returns-in-Err-Disk-play-clause-output g c =
     let can = can_play session c.as_slice.result.now c.as_slice.ensures c.requires.commands in
     let b = subst (λ (why : WorldErr). FailsToward disk.tells why c.play.new.world new (closed_with c.as_slice.result.now session.scenario []) session.scenario []) c.in-Err-Disk-play.field-0-is
     (c.in-Err-Disk-play.ensures.failed session.scenario [] c.in-Ok.ensures.stands can) in
-    let as_many = length-map c.args.disks.now.items disk.seen ∙ c.requires.nine ∙ sym (nine _ _ _ _ _ c.in-Ok.ensures.stands) in
-    let rose = subst (λ (why : WorldErr). HasCause why old new) c.in-Err-Disk-play.field-0-is
-    (cause_later c.in-Err-Disk-play.field-0 old (map disk.seen c.new.new.disks.items) new as_many c.in-Ok.ensures.faults c.in-Err-Disk-play.ensures.cause) in
+    let rose = subst (λ (why : WorldErr). FailedAs why old new) c.in-Err-Disk-play.field-0-is
+    (failed_later c.in-Err-Disk-play.field-0 old (map disk.seen c.new.new.disks.items) new c.in-Ok.ensures.cause c.in-Err-Disk-play.ensures.cause) in
     broken_output c.broken-in-Err-Disk-play.result old new session c.in-Err-Disk-play.number (b.done ++ []) c.lines.result.now
     (c.lines.ensures session.scenario (b.done ++ []) b.broken.has)
     (play_breaks disk.tells c.play.new.world old new session c.as_slice.result.now same sized c.in-Err-Disk-play.number rose b)
@@ -129,7 +131,9 @@ returns-clause-output g c =
     let sized = all_sized disk.seen (λ one. g.met.D.Disk.told_size one c.requires.told) c.play.new.disks.items in
     let same = session_commands session c.as_slice.result.now c.as_slice.ensures in
     let can = can_play session c.as_slice.result.now c.as_slice.ensures c.requires.commands in
-    short_output disk.tells c.play.new.world old new session c.as_slice.result.now same sized
+    let calm = subst (λ (why : WorldErr). FailedAs why old new) c.in-Err-Memory-play.field-0-is
+    (failed_later c.in-Err-Memory-play.field-0 old (map disk.seen c.new.new.disks.items) new c.in-Ok.ensures.cause c.in-Err-Memory-play.ensures.cause) in
+    short_output disk.tells c.play.new.world old new session c.as_slice.result.now same sized calm
     (subst (λ (why : WorldErr). FailsToward disk.tells why c.play.new.world new (closed_with c.as_slice.result.now session.scenario []) session.scenario []) c.in-Err-Memory-play.field-0-is
     (c.in-Err-Memory-play.ensures.failed session.scenario [] c.in-Ok.ensures.stands can))
 

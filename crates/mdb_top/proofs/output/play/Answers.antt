@@ -1,11 +1,10 @@
-use Rattle.std.proofs.Common.{map, sym, ◌∙◌}
+use Rattle.std.proofs.Common.{map}
 use Rattle.std.proofs.lemmas.Result.{err_from_is_err_and}
 use Rattle.closing.specs.Steps.{with_commands}
-use Rattle.closing.proofs.Faults.{cause_later, never_falls_twice}
+use Rattle.fed_world.proofs.Faults.{told_later}
 use Rattle.closing.proofs.Towards.{extends_here, fails_within, on_failure, on_success}
 use Rattle.mdb_top.specs.Plays.{closed_with}
 use Rattle.mdb_top.proofs.PlayLemmas.{can_fit, closed_on, with_extends}
-use Rattle.mdb_top.proofs.Recalled.{nine}
 use Rattle.mdb_top.proofs.output.play.Goals as goal
 
 pub carry_out-requires-clause-stood : goal.carry_out-requires-clause-stood
@@ -64,14 +63,4 @@ returns-clause-failed g c =
 
 pub returns-clause-cause : goal.returns-clause-cause
 returns-clause-cause g c =
-    let r = c.requires.stood in
-    let more = c.args.commands.now in
-    let mid = c.in_ok-carry_out.ensures.done r.scenario r.commands r.stood (can_fit more r.scenario r.commands r.holds) in
-    on_failure _ _ c.close.result (λ why rose. cause_later why _ _ _ (nine _ _ _ _ _ r.stood ∙ sym (nine _ _ _ _ _ mid)) c.carry_out.ensures.faults rose) c.close.ensures.cause
-
-pub returns-clause-faults : goal.returns-clause-faults
-returns-clause-faults g c =
-    let r = c.requires.stood in
-    let more = c.args.commands.now in
-    let mid = c.in_ok-carry_out.ensures.done r.scenario r.commands r.stood (can_fit more r.scenario r.commands r.holds) in
-    never_falls_twice _ _ _ (nine _ _ _ _ _ r.stood ∙ sym (nine _ _ _ _ _ mid)) c.carry_out.ensures.faults c.close.ensures.faults
+    told_later c.close.result _ _ _ c.in_ok-carry_out.ensures.cause c.close.ensures.cause

@@ -1,12 +1,10 @@
-use Rattle.std.proofs.Common.{◌∙◌, Err, List, map, slice_set, refl, sym, ap, subst, arith}
+use Rattle.std.proofs.Common.{◌∙◌, map, slice_set, refl, sym, subst, arith}
 use Rattle.std.proofs.lemmas.List.{length-map}
-use Rattle.journal_disk.specs.Disk.{Seen}
-use Rattle.actor_store.specs.declared.errors.StepErr.{StepErr}
 use Rattle.fed_world.specs.declared.errors.WorldErr.{WorldErr}
-use Rattle.fed_world.specs.Worlds.{HasCause, NeverFalls}
+use Rattle.fed_world.specs.Faults.{FailedAs}
 use Rattle.fed_world.proofs.CoordHeard.{fails_told, few_messages, first_disk, hears_told, may_tell_coord, roomed_stands}
-use Rattle.fed_world.proofs.Disks.{put_never_falls, same_never_falls, seen_put}
-use Rattle.fed_world.proofs.SiteHeard.{cause_at}
+use Rattle.fed_world.proofs.Disks.{seen_put}
+use Rattle.fed_world.proofs.Faults.{failure_told, line_told}
 use Rattle.fed_world.proofs.world.World.at_coordinator.Goals as goal
 
 pub returns-in_default-clause-failed : goal.returns-in_default-clause-failed
@@ -15,8 +13,8 @@ returns-in_default-clause-failed g c scenario commands command s asks room = s.s
 pub returns-in_default-clause-keeps : goal.returns-in_default-clause-keeps
 returns-in_default-clause-keeps g c = record { lines = refl; broken = refl; routes = refl; scenario = refl }
 
-pub returns-in_default-clause-faults : goal.returns-in_default-clause-faults
-returns-in_default-clause-faults g c = same_never_falls (map g.D.Disk.seen c.args.disks.now.items)
+pub returns-in_default-clause-cause : goal.returns-in_default-clause-cause
+returns-in_default-clause-cause g c = refl
 
 pub returns-in_default-make_room-clause-failed : goal.returns-in_default-make_room-clause-failed
 returns-in_default-make_room-clause-failed g c scenario commands command s asks room =
@@ -25,8 +23,8 @@ returns-in_default-make_room-clause-failed g c scenario commands command s asks 
 pub returns-in_default-make_room-clause-keeps : goal.returns-in_default-make_room-clause-keeps
 returns-in_default-make_room-clause-keeps g c = record { lines = refl; broken = refl; routes = refl; scenario = refl }
 
-pub returns-in_default-make_room-clause-faults : goal.returns-in_default-make_room-clause-faults
-returns-in_default-make_room-clause-faults g c = same_never_falls (map g.D.Disk.seen c.args.disks.now.items)
+pub returns-in_default-make_room-clause-cause : goal.returns-in_default-make_room-clause-cause
+returns-in_default-make_room-clause-cause g c = refl
 
 pub index_mut-requires : goal.index_mut-requires
 index_mut-requires g c =
@@ -73,12 +71,12 @@ returns-in-Ok-tell_coordinator-clause-heard g c scenario commands command s asks
 pub returns-in-Ok-tell_coordinator-clause-keeps : goal.returns-in-Ok-tell_coordinator-clause-keeps
 returns-in-Ok-tell_coordinator-clause-keeps g c = record { lines = refl; broken = refl; routes = refl; scenario = refl }
 
-pub returns-in-Ok-tell_coordinator-clause-faults : goal.returns-in-Ok-tell_coordinator-clause-faults
-returns-in-Ok-tell_coordinator-clause-faults g c =
+pub returns-in-Ok-tell_coordinator-clause-cause : goal.returns-in-Ok-tell_coordinator-clause-cause
+returns-in-Ok-tell_coordinator-clause-cause g c =
     let r = c.requires.stood in
     let at = first_disk g.D.Disk.seen c.args.disks.now.items c.index_mut.result.now r.scenario r.stood.stand.others c.index_mut.ensures.value in
-    subst (λ (ds : List Seen). NeverFalls (map g.D.Disk.seen c.args.disks.now.items) ds) (sym (seen_put g.D.Disk.seen c.args.disks.now.items 0 c.tell_coordinator.new.disk))
-    (put_never_falls (map g.D.Disk.seen c.args.disks.now.items) 0 (g.D.Disk.seen c.index_mut.result.now) (g.D.Disk.seen c.tell_coordinator.new.disk) at c.tell_coordinator.ensures.faults)
+    line_told (map g.D.Disk.seen c.args.disks.now.items) _ 0 (g.D.Disk.seen c.index_mut.result.now) (g.D.Disk.seen c.tell_coordinator.new.disk) at
+    (seen_put g.D.Disk.seen c.args.disks.now.items 0 c.tell_coordinator.new.disk) _ c.in-Ok-tell_coordinator.step refl c.in-Ok-tell_coordinator.ensures.cause
 
 pub returns-in-Err-clause-failed : goal.returns-in-Err-clause-failed
 returns-in-Err-clause-failed g c scenario commands command s asks room =
@@ -94,13 +92,6 @@ pub returns-in-Err-clause-cause : goal.returns-in-Err-clause-cause
 returns-in-Err-clause-cause g c =
     let r = c.requires.stood in
     let at = first_disk g.D.Disk.seen c.args.disks.now.items c.index_mut.result.now r.scenario r.stood.stand.others c.index_mut.ensures.value in
-    subst (λ (why : WorldErr). HasCause why (map g.D.Disk.seen c.args.disks.now.items) (map g.D.Disk.seen (slice_set c.args.disks.now.items 0 c.tell_coordinator.new.disk))) (sym c.world_err.ensures)
-    (cause_at c.in-Err.why 0 (map g.D.Disk.seen c.args.disks.now.items) _ (g.D.Disk.seen c.index_mut.result.now) (g.D.Disk.seen c.tell_coordinator.new.disk) at
-    (seen_put g.D.Disk.seen c.args.disks.now.items 0 c.tell_coordinator.new.disk) (λ is. c.tell_coordinator.ensures.cause (c.in-Err.is ∙ ap (λ (e : StepErr). Err e) is)))
-
-pub returns-in-Err-clause-faults : goal.returns-in-Err-clause-faults
-returns-in-Err-clause-faults g c =
-    let r = c.requires.stood in
-    let at = first_disk g.D.Disk.seen c.args.disks.now.items c.index_mut.result.now r.scenario r.stood.stand.others c.index_mut.ensures.value in
-    subst (λ (ds : List Seen). NeverFalls (map g.D.Disk.seen c.args.disks.now.items) ds) (sym (seen_put g.D.Disk.seen c.args.disks.now.items 0 c.tell_coordinator.new.disk))
-    (put_never_falls (map g.D.Disk.seen c.args.disks.now.items) 0 (g.D.Disk.seen c.index_mut.result.now) (g.D.Disk.seen c.tell_coordinator.new.disk) at c.tell_coordinator.ensures.faults)
+    subst (λ (why : WorldErr). FailedAs why (map g.D.Disk.seen c.args.disks.now.items) (map g.D.Disk.seen (slice_set c.args.disks.now.items 0 c.tell_coordinator.new.disk))) (sym c.world_err.ensures)
+    (failure_told (map g.D.Disk.seen c.args.disks.now.items) _ 0 (g.D.Disk.seen c.index_mut.result.now) (g.D.Disk.seen c.tell_coordinator.new.disk) at
+    (seen_put g.D.Disk.seen c.args.disks.now.items 0 c.tell_coordinator.new.disk) _ c.in-Err.why refl c.in-Err.ensures.cause)

@@ -1,13 +1,12 @@
-use Rattle.std.proofs.Common.{◌≡◌, ◌∙◌, Some, Err, List, length, map, slice_get, slice_set, refl, sym, ap, subst, arith}
+use Rattle.std.proofs.Common.{◌≡◌, Some, length, map, slice_get, slice_set, refl, sym, subst, arith}
 use Rattle.std.proofs.lemmas.List.{length-map}
 use Rattle.std.proofs.lemmas.Option.{slice_get_read, slice_get_within}
 use Rattle.fed_rules.specs.Scenarios.{sites}
-use Rattle.journal_disk.specs.Disk.{Seen}
-use Rattle.actor_store.specs.declared.errors.StepErr.{StepErr}
 use Rattle.fed_world.specs.declared.errors.WorldErr.{WorldErr}
-use Rattle.fed_world.specs.Worlds.{HasCause, NeverFalls}
-use Rattle.fed_world.proofs.Disks.{put_never_falls, seen_put}
-use Rattle.fed_world.proofs.SiteHeard.{cause_at, fails_from, few_sent, hears_from, is_read, may_hear, number_within}
+use Rattle.fed_world.specs.Faults.{FailedAs}
+use Rattle.fed_world.proofs.Disks.{seen_put}
+use Rattle.fed_world.proofs.Faults.{failure_told, line_told}
+use Rattle.fed_world.proofs.SiteHeard.{fails_from, few_sent, hears_from, is_read, may_hear, number_within}
 use Rattle.fed_world.proofs.world.World.at_site.Goals as goal
 
 pub index_mut-traffic-requires : goal.index_mut-traffic-requires
@@ -79,14 +78,13 @@ returns-in-Ok-clause-heard g c scenario commands command s asks room =
 pub returns-in-Ok-clause-keeps : goal.returns-in-Ok-clause-keeps
 returns-in-Ok-clause-keeps g c = record { lines = refl; broken = refl; routes = refl; scenario = refl }
 
-pub returns-in-Ok-clause-faults : goal.returns-in-Ok-clause-faults
-returns-in-Ok-clause-faults g c =
+pub returns-in-Ok-clause-cause : goal.returns-in-Ok-clause-cause
+returns-in-Ok-clause-cause g c =
     let r = c.requires.stood in
     let read = is_read g.D.Disk.seen g.D.Disk.tells c.args.self.now c.args.disks.now.items r.scenario r.commands c.args.place c.args.ask r.command c.index_mut.result.now c.index_mut-2.result.now c.index_mut-traffic.result.now c.index_mut-3.result.now
     r.stood.stand r.asks c.index_mut.ensures.value c.index_mut-2.ensures.value c.index_mut-traffic.ensures.value c.index_mut-3.ensures.value in
-    subst (λ (ds : List Seen). NeverFalls (map g.D.Disk.seen c.args.disks.now.items) ds)
-    (sym (seen_put g.D.Disk.seen c.args.disks.now.items c.index_mut-traffic.result.now.site.0 c.tell_seat-heard.new.disk))
-    (put_never_falls (map g.D.Disk.seen c.args.disks.now.items) c.index_mut-traffic.result.now.site.0 (g.D.Disk.seen c.index_mut-3.result.now) (g.D.Disk.seen c.tell_seat-heard.new.disk) read.disk c.tell_seat-heard.ensures.faults)
+    line_told (map g.D.Disk.seen c.args.disks.now.items) _ c.index_mut-traffic.result.now.site.0 (g.D.Disk.seen c.index_mut-3.result.now) (g.D.Disk.seen c.tell_seat-heard.new.disk) read.disk
+    (seen_put g.D.Disk.seen c.args.disks.now.items c.index_mut-traffic.result.now.site.0 c.tell_seat-heard.new.disk) _ c.in-Ok.heard refl c.in-Ok.ensures.cause
 
 pub returns-in-Err-clause-failed : goal.returns-in-Err-clause-failed
 returns-in-Err-clause-failed g c scenario commands command s asks room =
@@ -104,15 +102,6 @@ returns-in-Err-clause-cause g c =
     let r = c.requires.stood in
     let read = is_read g.D.Disk.seen g.D.Disk.tells c.args.self.now c.args.disks.now.items r.scenario r.commands c.args.place c.args.ask r.command c.index_mut.result.now c.index_mut-2.result.now c.index_mut-traffic.result.now c.index_mut-3.result.now
     r.stood.stand r.asks c.index_mut.ensures.value c.index_mut-2.ensures.value c.index_mut-traffic.ensures.value c.index_mut-3.ensures.value in
-    subst (λ (why : WorldErr). HasCause why (map g.D.Disk.seen c.args.disks.now.items) (map g.D.Disk.seen (slice_set c.args.disks.now.items c.index_mut-traffic.result.now.site.0 c.tell_seat-heard.new.disk))) (sym c.world_err.ensures)
-    (cause_at c.in-Err.why c.index_mut-traffic.result.now.site.0 (map g.D.Disk.seen c.args.disks.now.items) _ (g.D.Disk.seen c.index_mut-3.result.now) (g.D.Disk.seen c.tell_seat-heard.new.disk) read.disk
-    (seen_put g.D.Disk.seen c.args.disks.now.items c.index_mut-traffic.result.now.site.0 c.tell_seat-heard.new.disk) (λ is. c.tell_seat-heard.ensures.cause (c.in-Err.is ∙ ap (λ (e : StepErr). Err e) is)))
-
-pub returns-in-Err-clause-faults : goal.returns-in-Err-clause-faults
-returns-in-Err-clause-faults g c =
-    let r = c.requires.stood in
-    let read = is_read g.D.Disk.seen g.D.Disk.tells c.args.self.now c.args.disks.now.items r.scenario r.commands c.args.place c.args.ask r.command c.index_mut.result.now c.index_mut-2.result.now c.index_mut-traffic.result.now c.index_mut-3.result.now
-    r.stood.stand r.asks c.index_mut.ensures.value c.index_mut-2.ensures.value c.index_mut-traffic.ensures.value c.index_mut-3.ensures.value in
-    subst (λ (ds : List Seen). NeverFalls (map g.D.Disk.seen c.args.disks.now.items) ds)
-    (sym (seen_put g.D.Disk.seen c.args.disks.now.items c.index_mut-traffic.result.now.site.0 c.tell_seat-heard.new.disk))
-    (put_never_falls (map g.D.Disk.seen c.args.disks.now.items) c.index_mut-traffic.result.now.site.0 (g.D.Disk.seen c.index_mut-3.result.now) (g.D.Disk.seen c.tell_seat-heard.new.disk) read.disk c.tell_seat-heard.ensures.faults)
+    subst (λ (why : WorldErr). FailedAs why (map g.D.Disk.seen c.args.disks.now.items) (map g.D.Disk.seen (slice_set c.args.disks.now.items c.index_mut-traffic.result.now.site.0 c.tell_seat-heard.new.disk))) (sym c.world_err.ensures)
+    (failure_told (map g.D.Disk.seen c.args.disks.now.items) _ c.index_mut-traffic.result.now.site.0 (g.D.Disk.seen c.index_mut-3.result.now) (g.D.Disk.seen c.tell_seat-heard.new.disk) read.disk
+    (seen_put g.D.Disk.seen c.args.disks.now.items c.index_mut-traffic.result.now.site.0 c.tell_seat-heard.new.disk) _ c.in-Err.why refl c.in-Err.ensures.cause)

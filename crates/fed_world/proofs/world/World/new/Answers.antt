@@ -10,15 +10,15 @@ use Rattle.local_dbms.specs.declared.dbms.LocalDbms.{LocalDbms}
 use Rattle.fed_world.specs.SettingUp.{AreSetUp, IsNewChannel, IsNewMarks}
 use Rattle.fed_world.specs.declared.world.World.{World}
 use Rattle.fed_world.proofs.NewWorlds.{TellsBytes, new_stands}
-use Rattle.fed_world.proofs.SeenDisks.{made_of, same_never_falls}
+use Rattle.fed_world.proofs.SeenDisks.{made_of}
 use Rattle.fed_world.proofs.SetUps.{stops_at_once}
 use Rattle.fed_world.proofs.world.World.new.Goals as goal
 
 pub returns-in_default-clause-failed : goal.returns-in_default-clause-failed
 returns-in_default-clause-failed g c = stops_at_once g.D.Disk.tells (map g.D.Disk.seen c.args.disks.now.items) c.args.scenario c.requires.empty
 
-pub returns-in_default-clause-faults : goal.returns-in_default-clause-faults
-returns-in_default-clause-faults g c = same_never_falls (map g.D.Disk.seen c.args.disks.now.items)
+pub returns-in_default-clause-cause : goal.returns-in_default-clause-cause
+returns-in_default-clause-cause g c = refl
 
 pub returns-in_default-clause-count : goal.returns-in_default-clause-count
 returns-in_default-clause-count g c = c.requires.nine
@@ -26,8 +26,8 @@ returns-in_default-clause-count g c = c.requires.nine
 pub returns-in_default-routes_of-clause-failed : goal.returns-in_default-routes_of-clause-failed
 returns-in_default-routes_of-clause-failed g c = stops_at_once g.D.Disk.tells (map g.D.Disk.seen c.args.disks.now.items) c.args.scenario c.requires.empty
 
-pub returns-in_default-routes_of-clause-faults : goal.returns-in_default-routes_of-clause-faults
-returns-in_default-routes_of-clause-faults g c = same_never_falls (map g.D.Disk.seen c.args.disks.now.items)
+pub returns-in_default-routes_of-clause-cause : goal.returns-in_default-routes_of-clause-cause
+returns-in_default-routes_of-clause-cause g c = refl
 
 pub returns-in_default-routes_of-clause-count : goal.returns-in_default-routes_of-clause-count
 returns-in_default-routes_of-clause-count g c = c.requires.nine
@@ -35,8 +35,8 @@ returns-in_default-routes_of-clause-count g c = c.requires.nine
 pub returns-in_default-new_channels-clause-failed : goal.returns-in_default-new_channels-clause-failed
 returns-in_default-new_channels-clause-failed g c = stops_at_once g.D.Disk.tells (map g.D.Disk.seen c.args.disks.now.items) c.args.scenario c.requires.empty
 
-pub returns-in_default-new_channels-clause-faults : goal.returns-in_default-new_channels-clause-faults
-returns-in_default-new_channels-clause-faults g c = same_never_falls (map g.D.Disk.seen c.args.disks.now.items)
+pub returns-in_default-new_channels-clause-cause : goal.returns-in_default-new_channels-clause-cause
+returns-in_default-new_channels-clause-cause g c = refl
 
 pub returns-in_default-new_channels-clause-count : goal.returns-in_default-new_channels-clause-count
 returns-in_default-new_channels-clause-count g c = c.requires.nine
@@ -44,8 +44,8 @@ returns-in_default-new_channels-clause-count g c = c.requires.nine
 pub returns-in_default-new_marks-clause-failed : goal.returns-in_default-new_marks-clause-failed
 returns-in_default-new_marks-clause-failed g c = stops_at_once g.D.Disk.tells (map g.D.Disk.seen c.args.disks.now.items) c.args.scenario c.requires.empty
 
-pub returns-in_default-new_marks-clause-faults : goal.returns-in_default-new_marks-clause-faults
-returns-in_default-new_marks-clause-faults g c = same_never_falls (map g.D.Disk.seen c.args.disks.now.items)
+pub returns-in_default-new_marks-clause-cause : goal.returns-in_default-new_marks-clause-cause
+returns-in_default-new_marks-clause-cause g c = refl
 
 pub returns-in_default-new_marks-clause-count : goal.returns-in_default-new_marks-clause-count
 returns-in_default-new_marks-clause-count g c = c.requires.nine
@@ -53,8 +53,8 @@ returns-in_default-new_marks-clause-count g c = c.requires.nine
 pub returns-in_default-new_coordinator-clause-failed : goal.returns-in_default-new_coordinator-clause-failed
 returns-in_default-new_coordinator-clause-failed g c = stops_at_once g.D.Disk.tells (map g.D.Disk.seen c.args.disks.now.items) c.args.scenario c.requires.empty
 
-pub returns-in_default-new_coordinator-clause-faults : goal.returns-in_default-new_coordinator-clause-faults
-returns-in_default-new_coordinator-clause-faults g c = same_never_falls (map g.D.Disk.seen c.args.disks.now.items)
+pub returns-in_default-new_coordinator-clause-cause : goal.returns-in_default-new_coordinator-clause-cause
+returns-in_default-new_coordinator-clause-cause g c = refl
 
 pub returns-in_default-new_coordinator-clause-count : goal.returns-in_default-new_coordinator-clause-count
 returns-in_default-new_coordinator-clause-count g c = c.requires.nine
@@ -94,8 +94,8 @@ returns-in-Ok-set_up_sites-clause-stands g c =
     (c.in-Ok-new_marks.ensures.count ∙ ap (λ (zs : List SiteId). length zs) second) (subst (λ (zs : List SiteId). IsNewMarks zs c.in-Ok-new_marks.marks.items) second c.in-Ok-new_marks.ensures.each)
     (c.in-Ok-new_channels.ensures.count ∙ ap (λ (zs : List SiteId). length zs) first) (subst (λ (zs : List SiteId). IsNewChannel zs c.in-Ok-new_channels.traffic.items) first c.in-Ok-new_channels.ensures.each)
 
-pub returns-in-Ok-set_up_sites-clause-faults : goal.returns-in-Ok-set_up_sites-clause-faults
-returns-in-Ok-set_up_sites-clause-faults g c = c.set_up_sites.ensures.faults
+pub returns-in-Ok-set_up_sites-clause-cause : goal.returns-in-Ok-set_up_sites-clause-cause
+returns-in-Ok-set_up_sites-clause-cause g c = c.in-Ok-set_up_sites.ensures.cause
 
 pub returns-in-Ok-set_up_sites-clause-count : goal.returns-in-Ok-set_up_sites-clause-count
 returns-in-Ok-set_up_sites-clause-count g c = c.set_up_sites.ensures.count
@@ -105,9 +105,6 @@ returns-in-Err-clause-failed g c = c.in-Err.ensures.failed
 
 pub returns-in-Err-clause-cause : goal.returns-in-Err-clause-cause
 returns-in-Err-clause-cause g c = c.in-Err.ensures.cause
-
-pub returns-in-Err-clause-faults : goal.returns-in-Err-clause-faults
-returns-in-Err-clause-faults g c = c.set_up_sites.ensures.faults
 
 pub returns-in-Err-clause-count : goal.returns-in-Err-clause-count
 returns-in-Err-clause-count g c = c.set_up_sites.ensures.count
