@@ -1,10 +1,16 @@
 //! The top call on whole inputs: what it puts, and its status.
 ghost use Rattle.std.specs.Prelude.{◌≡◌, IfOk, length};
 
+mod checkpoints;
 mod disks;
+mod engines;
 mod failing;
+mod limits;
+mod protocols;
 mod refused;
+mod serial_order;
 mod sessions;
+mod tickets;
 
 use crate::{MemDisk, MemSink, MemSource, federate};
 use mdb_base::Memory;
@@ -26,7 +32,7 @@ fn empty_disks(alloc: Global) -> Result<Vec<MemDisk>, Memory>
 fn replayed(alloc: Global, input: &[u8]) -> Result<(u8, Vec<u8>), Memory> {
     let words = vec![in alloc; String::from_str(alloc, "replay")?]?;
     let mut source = MemSource::new(Vec::from_slice(alloc, input)?, 1_000, Vec::new(alloc));
-    let mut sink = MemSink::new(alloc, 4_096, 7, Vec::new(alloc))?;
+    let mut sink = MemSink::new(alloc, 65_536, 7, Vec::new(alloc))?;
     let mut disks = empty_disks(alloc)?;
     let status = federate(alloc, &words, &mut source, &mut sink, &mut disks);
     Ok((status, Vec::from_slice(alloc, sink.written())?))

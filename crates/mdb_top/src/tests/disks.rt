@@ -86,6 +86,16 @@ fn the_lines_before_a_failed_call_are_put(rt: HostRuntime) -> Result<(), std::te
 }
 
 #[test]
+fn a_used_disk_is_named(rt: HostRuntime) -> Result<(), std::test::Fail> {
+    let mut disks = empty_disks(rt.alloc())?;
+    disks[4] = used_disk(rt.alloc())?;
+    let (status, put) = replayed_on(rt.alloc(), SESSION, disks)?;
+    assert_eq!(rt; status, 8);
+    assert_eq!(rt; put.as_slice(), b"disk 4 is used\n".as_slice());
+    Ok(())
+}
+
+#[test]
 fn the_least_used_disk_is_named(rt: HostRuntime) -> Result<(), std::test::Fail> {
     let mut disks = empty_disks(rt.alloc())?;
     disks[4] = used_disk(rt.alloc())?;

@@ -25,6 +25,11 @@ fn a_site_that_stands_twice_is_named(rt: HostRuntime) {
 }
 
 #[test]
+fn a_policy_that_is_not_known_is_named(rt: HostRuntime) {
+    expect(&rt, "policy any\n", 2, "bad line 1 spelling\n");
+}
+
+#[test]
 fn a_register_that_is_not_read_is_named(rt: HostRuntime) {
     expect(
         &rt,

@@ -2,7 +2,7 @@
 use super::expect;
 
 // Sessions of local transactions at one site.
-const LOCAL: [(&str, &str); 18] = [
+pub(super) const LOCAL: [(&str, &str); 18] = [
     // No input is a session.
     ("", "order\nforgotten\nend\n"),
     // One transaction reads and writes.
@@ -93,7 +93,7 @@ const LOCAL: [(&str, &str); 18] = [
 ];
 
 // Sessions of several sites and the coordinator.
-const FEDERATED: [(&str, &str); 8] = [
+pub(super) const FEDERATED: [(&str, &str); 8] = [
     // A transfer between two sites, with an audit at each.
     (
         "site 1 locking abort\nsite 2 validation commit\nitem 1 10 500\nitem 2 20 40\nglobal 1 1/get:10 1/add:10:0:18446744073709551516 2/get:20 2/add:20:1:100\nlocal 2 1 get:10\nlocal 3 2 get:20\ncommands\ngo 1\ngive 1 0\ntake 1 0\ngive 1 1\ntake 1 1\ngive 1 2\ntake 1 2\ngive 1 3\ntake 1 3\ngive 2 0\ntake 2 0\ngive 2 1\ntake 2 1\ngive 2 2\ntake 2 2\ngive 2 3\ntake 2 3\ngive 1 4\ntake 1 4\ngive 2 4\nbegin 2\nstep 2\ncommit 2\nbegin 3\nstep 3\ncommit 3\n",
