@@ -1,5 +1,5 @@
 -- The counts of faults where one disk was put anew, and over one call after another.
-use Rattle.std.proofs.Common.{◌≡◌, ℕ, zero, suc, Some, List, [], ◌∷◌, Result, Ok, Err, slice_get, slice_set, sym, ◌∙◌, ap, subst}
+use Rattle.std.proofs.Common.{◌≡◌, ◌≤◌, ℕ, zero, suc, Some, List, [], ◌∷◌, Result, Ok, Err, slice_get, slice_set, sym, ◌∙◌, ap, subst}
 use Rattle.mdb_base.specs.Counts.{HasCauseOf, HasRisen}
 use Rattle.journal_disk.specs.Disk.{Seen}
 use Rattle.actor_store.specs.declared.errors.StepErr.{StepErr}
@@ -28,8 +28,8 @@ module _ (disks now : List Seen) (n : ℕ) (old new : Seen) (at : slice_get disk
   put_calm same = counts_are ∙ (ap (λ (count : ℕ). slice_set (faults_of disks) n count) same ∙ set_same (faults_of disks) n old.faults count_was)
 
   -- and where that of the disk rose no other one moves
-  pub put_rose : HasRisen old.faults new.faults → RoseAt n (faults_of disks) (faults_of now)
-  put_rose rose = record { before = old.faults; now = new.faults; own = count_was; rose = rose; others = counts_are }
+  pub put_rose : old.faults ≤ new.faults → HasRisen old.faults new.faults → RoseAt n (faults_of disks) (faults_of now)
+  put_rose later rose = record { before = old.faults; now = new.faults; own = count_was; later = later; rose = rose; others = counts_are }
 
   -- what they tell of a line
   pub line_told : {T : Type 0} (outcome : Result T StepErr) (done : T) → outcome ≡ Ok done → HasCauseOf Step_err.Disk old.faults new.faults outcome → faults_of now ≡ faults_of disks
@@ -38,7 +38,7 @@ module _ (disks now : List Seen) (n : ℕ) (old new : Seen) (at : slice_get disk
   -- and of why there is none
   pub failure_told : {T : Type 0} (outcome : Result T StepErr) (why : StepErr) → outcome ≡ Err why → HasCauseOf Step_err.Disk old.faults new.faults outcome → FailedAs (error_of n why) disks now
   failure_told outcome Step_err.Memory e cause = put_calm (cause.clean (λ failed. (let never = sym e ∙ failed in cc)))
-  failure_told outcome Step_err.Disk e cause = put_rose (cause.failed e)
+  failure_told outcome Step_err.Disk e cause = put_rose cause.later (cause.failed e)
 
 -- a call that failed behind others that moved no count
 pub failed_later : (why : WorldErr) (old mid new : List Seen) → faults_of mid ≡ faults_of old → FailedAs why mid new → FailedAs why old new

@@ -1,5 +1,5 @@
 -- What the counts of faults of the disks tell of a call.
-use Rattle.std.specs.Prelude.{ℕ, ◌≡◌, Some, List, Result, Ok, Err, map, slice_get, slice_set}
+use Rattle.std.specs.Prelude.{ℕ, ◌≡◌, ◌≤◌, Some, List, Result, Ok, Err, map, slice_get, slice_set}
 use Rattle.mdb_base.specs.Counts.{HasRisen}
 use Rattle.journal_disk.specs.Disk.{Seen}
 use Rattle.fed_world.specs.declared.errors.WorldErr.{WorldErr}
@@ -9,11 +9,12 @@ use Rattle.fed_world.specs.declared.errors.WorldErr.TheVariants as Err_is
 abbrev pub faults_of : List Seen → List ℕ
 faults_of disks = map (λ disk. disk.faults) disks
 
--- the count of this disk rose, and each other one stands where it stood
+-- the count of this disk rose, or stands at its last value, and each other one stands where it stood
 pub record RoseAt (number : ℕ) (old new : List ℕ) : Type 0 where
   pub before : ℕ
   pub now : ℕ
   pub own : slice_get old number ≡ Some before
+  pub later : before ≤ now
   pub rose : HasRisen before now
   pub others : new ≡ slice_set old number now
 
