@@ -1,0 +1,15 @@
+pub mod Plans
+pub mod Lines
+pub mod Turns
+pub mod History
+pub mod Hearing
+pub mod CoordPlans
+pub mod CoordLines
+pub mod CoordTurns
+pub mod CoordHearing
+pub mod CoordHistory
+pub mod Links
+pub mod Written
+pub mod Logs
+pub mod Merged
+pub mod Stops
