@@ -29,9 +29,9 @@ pub record MayStep (step : Scenario → List Command → List Command) (scenario
   pub up : AllUp (story_of scenario commands)
   pub fits : Fits (step scenario commands)
 
--- there are few enough commands that the numbers of those that close the session fit: they are at most 20 for each one, and 252 more
+-- there are few enough commands that the numbers of those that close the session fit: they are at most 1,638,418, however long it was
 abbrev pub CanClose : Scenario → List Command → Type 0
-CanClose scenario commands = length commands < 2 ^ 25
+CanClose scenario commands = length commands < 2 ^ 29
 
 -- the scenario is one, as that of every world, and the numbers of the commands that close the session fit
 pub record MayClose (scenario : Scenario) (commands : List Command) : Type 0 where

@@ -1,24 +1,23 @@
 -- Finishing a transaction alone makes at most 34 commands for a local one, and 257 for a global one.
-use Rattle.std.proofs.Common.{◌≡◌, ℕ, zero, suc, ◌+◌, ◌*◌, ◌<◌, ◌≤◌, ◌⊎◌, Bool, true, false, cond, not, nat_lt, nat_le, Option, Some, None, List, [], ◌∷◌, ◌++◌, map, length, inl, inr, refl, ap, ◌∙◌, arith, eq-eqb}
-use Rattle.std.proofs.lemmas.Bool.{and_parts, leb-true}
+use Rattle.std.proofs.Common.{◌≡◌, ℕ, zero, suc, ◌+◌, ◌*◌, ◌≤◌, ◌⊎◌, Bool, true, false, cond, not, nat_lt, Option, Some, None, List, [], ◌∷◌, ◌++◌, length, inl, inr, refl, ap, ◌∙◌, arith}
 use Rattle.mdb_base.specs.declared.acts.Step.{Step}
 use Rattle.mdb_base.specs.declared.names.SiteId.{SiteId}
 use Rattle.mdb_base.specs.declared.names.Tx.{Tx}
 use Rattle.mdb_base.specs.Programs.{IsProgram}
-use Rattle.mdb_base.specs.Words.{Among, each_of, inserted, those}
-use Rattle.order_laws.specs.Chains.{Distinct, In}
-use Rattle.order_laws.proofs.Lists.{among_is, among_map, each_at, each_of_at, those_in}
+use Rattle.mdb_base.specs.Words.{inserted, those}
+use Rattle.order_laws.specs.Chains.{In}
+use Rattle.order_laws.proofs.Lists.{each_at, those_in}
 use Rattle.fed_rules.specs.declared.commands.Command.{Command}
 use Rattle.fed_rules.specs.declared.commands.Command.TheVariants as Cmd
 use Rattle.fed_rules.specs.declared.commands.Place.{Place}
 use Rattle.fed_rules.specs.declared.scenario.Scenario.{Scenario}
 use Rattle.fed_rules.specs.declared.scenario.TxLine.{TxLine}
 use Rattle.fed_rules.specs.Closing.{by_number, deliver_all, is_done, last_sends, one_alone, sent_next, steps_alone, taken}
-use Rattle.fed_rules.specs.Plans.{is_between, is_in_place, is_transaction, one_transaction}
 use Rattle.fed_rules.specs.Story.{story_of}
 use Rattle.closing_laws.specs.Bound.{FinishingIsShort}
 use Rattle.closing_laws.proofs.SentPlaces.{give_places, taken_many}
-use Rattle.closing_laws.proofs.Lengths.{adds_over, few_numbers, length_inserted, length_map, length_those, numbers_differ, sum_alone}
+use Rattle.closing_laws.proofs.FewAttempts.{few_transactions}
+use Rattle.closing_laws.proofs.Lengths.{adds_each, length_inserted, length_those}
 
 steps_many : (tx : Tx) (steps : List Step) (commands : List Command) → length (steps_alone tx steps commands) ≡ length steps + length commands
 steps_many tx [] commands = omega arith
@@ -68,31 +67,10 @@ numbered_many (line ∷ lines) = length_inserted before line (by_number lines) �
 pub finishing_short : FinishingIsShort
 finishing_short scenario whole commands =
     let left = those (λ line. not (is_done scenario (story_of scenario commands) line.tx)) (by_number scenario.transactions) in
-    let all = adds_over (λ (line : TxLine). one_alone scenario line line.home) (λ line. 257) left
+    let all = adds_each (λ (line : TxLine). one_alone scenario line line.home) 257 left
     (λ line cs i. one_few scenario line line.home
     (each_at (λ (l : TxLine). IsProgram l.program) line scenario.transactions whole.transactions.programs
     (numbered_in scenario.transactions line (those_in (λ (l : TxLine). not (is_done scenario (story_of scenario commands) l.tx)) line (by_number scenario.transactions) i).0)).few cs) commands in
-    let each = sum_alone left in
     let some = length_those (λ (line : TxLine). not (is_done scenario (story_of scenario commands) line.tx)) (by_number scenario.transactions) in
     let same = numbered_many scenario.transactions in
-    let most = thousand in omega (arith, all, each, some, same, most)
-  where
-    numbers : Distinct (map (λ (l : TxLine). l.tx.0) scenario.transactions)
-    numbers = numbers_differ one_transaction (λ (l : TxLine). l.tx.0) (λ a b e. eq-eqb a.tx.0 b.tx.0 e) scenario.transactions whole.transactions.differ
-
-    in_range : (k : ℕ) → In k (map (λ (l : TxLine). l.tx.0) scenario.transactions) → (0 < k) × (k ≤ 1024)
-    in_range k i = of_line (among_map (λ n. n ≡ k) (λ (l : TxLine). l.tx.0) scenario.transactions i)
-      where
-        of_line : Among (λ (l : TxLine). l.tx.0 ≡ k) scenario.transactions → (0 < k) × (k ≤ 1024)
-        of_line m =
-            let (line, listed, is) = among_is (λ (l : TxLine). l.tx.0 ≡ k) scenario.transactions m in
-            let ok = each_of_at (is_transaction scenario.sites) scenario.transactions line whole.transactions.in_place listed in
-            let between = (and_parts (is_between 1 1024 line.tx.0) (each_of (is_in_place scenario.sites line.home) line.program) ok).0 in
-            let parts = and_parts (nat_le 1 line.tx.0) (nat_le line.tx.0 1024) between in
-            let low = leb-true 1 line.tx.0 parts.0 in
-            let high = leb-true line.tx.0 1024 parts.1 in (omega (arith, low, is), omega (arith, high, is))
-
-    thousand : length scenario.transactions ≤ 1024
-    thousand =
-        let few = few_numbers (map (λ (l : TxLine). l.tx.0) scenario.transactions) 1024 numbers in_range in
-        let all = length_map (λ (l : TxLine). l.tx.0) scenario.transactions in omega (arith, few, all)
+    let most = few_transactions scenario whole in omega (arith, all, some, same, most)

@@ -21,7 +21,7 @@ use Rattle.fed_rules.specs.declared.runs.Kept.{Kept}
 use Rattle.fed_rules.specs.declared.scenario.Scenario.{Scenario}
 use Rattle.fed_rules.specs.Happenings.{comes_up}
 use Rattle.fed_rules.specs.Runs.{Start, EngineLine, Begins, Acts, Takes, Seals, Refuses, Commits, Aborts, Run, attempts, begun, changed, restored, restored_at, run_at, tid_of}
-use Rattle.fed_rules.specs.Scenarios.{home_at, local_home, local_site}
+use Rattle.fed_rules.specs.Scenarios.{home_at, home_of, local_home, local_site}
 use Rattle.fed_rules.specs.Site.{site_line, site_past}
 use Rattle.fed_rules.specs.SitePast.{SiteHappening, SitePast, attempts_of, begins_tx, decides_on, ends, engine_lines, epoch_start, is_closed, records, run_of}
 use Rattle.fed_rules.specs.SiteRecords.{Home, doubts, kept_held, start_of}
@@ -248,7 +248,7 @@ counted_line home past local x sorted (First plain tid act reply n is others unc
     (first_run home past local x plain tid (Acts tid act reply ∷ []) n is) (λ mine. let clash : false ≡ true = sym others ∙ mine in cc) c
 
 -- what a message to a site is for isn't local
-abbrev IsOthers : Scenario → SiteEvent → Type 0
+abbrev pub IsOthers : Scenario → SiteEvent → Type 0
 IsOthers scenario (Ev.Give message) = IsSorted (is_local scenario) (Ev.Give message)
 IsOthers scenario event = Unit {0}
 
@@ -351,8 +351,18 @@ all_others : (scenario : Scenario) (commands : List Command) → AllAllow (IsOth
 all_others scenario [] = tt
 all_others scenario (command ∷ commands) = (others_allowed scenario commands command, all_others scenario commands)
 
--- so it is at each declared site of every story
+-- so a declared site is led in every story, and its attempts are counted
+pub led_story : (scenario : Scenario) (commands : List Command) (home : Home) → home_of scenario home.site ≡ Some home
+    → IsLed (IsOthers scenario) scenario home (past_of home.site (story_of scenario commands))
+led_story scenario commands home declared = pasts_led (IsOthers scenario) scenario home commands declared (all_others scenario commands)
+
 pub sites_begin_once : SitesBeginOnce
 sites_begin_once scenario commands site home declared =
-    (led_counted scenario home (past_of home.site (story_of scenario commands))
-    (pasts_led (IsOthers scenario) scenario home commands (home-again scenario site home declared) (all_others scenario commands))).once
+    (led_counted scenario home (past_of home.site (story_of scenario commands)) (led_story scenario commands home (home-again scenario site home declared))).once
+
+-- and a local one is numbered below what was begun of its transaction
+pub locals_numbered : (scenario : Scenario) (commands : List Command) (home : Home) → home_of scenario home.site ≡ Some home → (tid : Tid)
+    → In tid (attempts (epoch_start home (past_of home.site (story_of scenario commands))) (engine_lines (past_of home.site (story_of scenario commands))))
+    → is_local scenario tid.tx ≡ true → tid.attempt < attempts_of (past_of home.site (story_of scenario commands)) tid.tx
+locals_numbered scenario commands home declared =
+    (led_counted scenario home (past_of home.site (story_of scenario commands)) (led_story scenario commands home declared)).below

@@ -1,17 +1,14 @@
--- A closed session is at rest, and closing makes few commands.
-use Rattle.std.proofs.Common.{arith}
+-- A closed session is at rest.
 use Rattle.fed_rules.specs.Closing.{disarm, bring_up, give_up, clear, end_known, ask_all}
 use Rattle.fed_rules.specs.Story.{Story, story_of}
 use Rattle.site_history.specs.Stories.{StoriesHaveRightLines}
 use Rattle.closing_laws.specs.AtRest.{AllUp, ClosedSessionsRest, ClosingStaysUp}
-use Rattle.closing_laws.specs.Bound.{ClosingIsShort, ReplaysCloseShortly}
 use Rattle.closing_laws.proofs.Clear.{cleared}
 use Rattle.closing_laws.proofs.EndKnown.{ended}
 use Rattle.closing_laws.proofs.GiveUp.{given_up}
 use Rattle.closing_laws.proofs.Inquire.{settled}
-use Rattle.closing_laws.proofs.Onward.{IsCalm, onward_on}
+use Rattle.closing_laws.proofs.Onward.{IsCalm}
 use Rattle.closing_laws.proofs.Quiet.{quiet_rests}
-use Rattle.closing_laws.proofs.Bound.{closing_short}
 use Rattle.closing_laws.proofs.Ready.{brought_calm}
 
 pub closed_rests : StoriesHaveRightLines → ClosedSessionsRest
@@ -51,19 +48,3 @@ closing_up rights scenario commands whole =
       cleared = calm_up (story_of scenario swept) fourth.onward.calm;
       ended = calm_up (story_of scenario (end_known scenario swept)) fifth.onward.calm;
     }
-
--- and closing makes few commands
-pub closed_short : StoriesHaveRightLines → ClosingIsShort
-closed_short rights scenario whole commands =
-    let up = bring_up scenario (disarm scenario commands) in
-    let late = give_up scenario up in
-    let swept = clear scenario late in
-    let told = end_known scenario swept in
-    let third = given_up scenario up (brought_calm scenario commands whole) in
-    let fourth = cleared rights scenario late whole third.onward.calm in
-    let fifth = ended scenario swept whole fourth.onward.calm (λ tid. fourth.onward.decided tid (third.decided tid)) in
-    let swept_on = onward_on scenario (story_of scenario up) (story_of scenario late) (story_of scenario swept) third.onward fourth.onward in
-    closing_short scenario whole commands (onward_on scenario (story_of scenario up) (story_of scenario swept) (story_of scenario told) swept_on fifth.onward)
-
-pub replays_short : StoriesHaveRightLines → ReplaysCloseShortly
-replays_short rights scenario whole commands few = let short = closed_short rights scenario whole commands in omega (arith, short, few)

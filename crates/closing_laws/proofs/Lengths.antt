@@ -1,13 +1,15 @@
 -- How long lists are: those that are sorted, found and picked out, those of different numbers, and the commands that each item of a list adds.
 use Rattle.std.proofs.Common.{◌≡◌, ℕ, zero, suc, ◌+◌, ◌*◌, ◌≤◌, ◌<◌, ◌⊎◌, Bool, true, false, cond, not, ◌||◌, Option, Some, None, List, [], ◌∷◌, ◌++◌, map, length, inl, inr, refl, sym, ap, subst, ◌∙◌, arith}
 use Rattle.std.proofs.lemmas.Bool.{and_parts}
+use Rattle.std.proofs.Math.Nat.{mul-suc}
 use Rattle.mdb_base.specs.declared.names.Tid.{Tid}
 use Rattle.mdb_base.specs.Names.{tid_before}
-use Rattle.mdb_base.specs.Words.{found, how_many, inserted, some_of, those, with_some}
+use Rattle.mdb_base.specs.Words.{found, inserted, some_of, those, with_some}
 use Rattle.order_laws.specs.Chains.{Distinct, In}
 use Rattle.fed_rules.specs.declared.commands.Command.{Command}
 use Rattle.fed_rules.specs.Closing.{for_each, rising}
 use Rattle.fed_rules.specs.Plans.{all_differ}
+use Rattle.fed_rules.specs.SiteRecords.{Held, by_tid, held_before}
 
 pub length_those : {A : Type 0} (test : A → Bool) (xs : List A) → length (those test xs) ≤ length xs
 length_those test [] = omega arith
@@ -46,6 +48,10 @@ length_inserted {A = A} before x (y ∷ ys) = by_test (before y x) (length_inser
   by_test : (b : Bool) → length (inserted before x ys) ≡ suc (length ys) → length (cond b (y ∷ inserted before x ys) (x ∷ y ∷ ys)) ≡ suc (suc (length ys))
   by_test true h = ap suc h
   by_test false h = refl
+
+pub length_sorted : (helds : List Held) → length (by_tid helds) ≡ length helds
+length_sorted [] = refl
+length_sorted (held ∷ helds) = length_inserted held_before held (by_tid helds) ∙ ap suc (length_sorted helds)
 
 pub length_rising : (tids : List Tid) → length (rising tids) ≡ length tids
 length_rising [] = refl
@@ -135,60 +141,12 @@ numbers_differ {A = A} alike number same (x ∷ xs) e =
       by_test true g k = cc
       by_test false g k = k g
 
--- what the items come to together
-unfoldable pub sum_over : {A : Type 0} → (A → ℕ) → List A → ℕ
-sum_over f [] = 0
-sum_over f (x ∷ xs) = f x + sum_over f xs
-
--- where each item of a list adds so many commands at most, the list adds what these come to
-pub adds_over : {A : Type 0} (add : A → List Command → List Command) (f : A → ℕ) (xs : List A)
-    → ((x : A) (commands : List Command) → In x xs → length (add x commands) ≤ f x + length commands) → (commands : List Command)
-    → length (for_each add xs commands) ≤ sum_over f xs + length commands
-unfolding sum_over
-adds_over add f [] each commands = omega arith
-adds_over add f (x ∷ xs) each commands =
+-- where each item of a list adds so many commands at most, the list adds as many for each
+pub adds_each : {A : Type 0} (add : A → List Command → List Command) (most : ℕ) (xs : List A)
+    → ((x : A) (commands : List Command) → In x xs → length (add x commands) ≤ most + length commands) → (commands : List Command)
+    → length (for_each add xs commands) ≤ most * length xs + length commands
+adds_each add most [] each commands = omega arith
+adds_each add most (x ∷ xs) each commands =
     let here = each x commands (inl refl) in
-    let rest = adds_over add f xs (λ y cs i. each y cs (inr i)) (add x commands) in omega (arith, here, rest)
-
-pub sum_most : {A : Type 0} (f g : A → ℕ) (xs : List A) → ((x : A) → f x ≤ g x) → sum_over f xs ≤ sum_over g xs
-unfolding sum_over
-sum_most f g [] h = omega arith
-sum_most f g (x ∷ xs) h = let here = h x in let rest = sum_most f g xs h in omega (arith, here, rest)
-
--- one for each, nineteen for each, and so on
-pub sum_ones : {A : Type 0} (xs : List A) → sum_over (λ x. 1) xs ≡ length xs
-unfolding sum_over
-sum_ones [] = refl
-sum_ones (x ∷ xs) = let rest = sum_ones xs in omega (arith, rest)
-
-pub sum_nineteens : {A : Type 0} (xs : List A) → sum_over (λ x. 19) xs ≡ 19 * length xs
-unfolding sum_over
-sum_nineteens [] = refl
-sum_nineteens (x ∷ xs) = let rest = sum_nineteens xs in omega (arith, rest)
-
-pub sum_elevens : {A : Type 0} (xs : List A) → sum_over (λ x. 11) xs ≡ 11 * length xs
-unfolding sum_over
-sum_elevens [] = refl
-sum_elevens (x ∷ xs) = let rest = sum_elevens xs in omega (arith, rest)
-
-pub sum_alone : {A : Type 0} (xs : List A) → sum_over (λ x. 257) xs ≡ 257 * length xs
-unfolding sum_over
-sum_alone [] = refl
-sum_alone (x ∷ xs) = let rest = sum_alone xs in omega (arith, rest)
-
-pub sum_elevenfold : {A : Type 0} (f : A → ℕ) (xs : List A) → sum_over (λ x. 11 * f x) xs ≡ 11 * sum_over f xs
-unfolding sum_over
-sum_elevenfold f [] = refl
-sum_elevenfold f (x ∷ xs) = let rest = sum_elevenfold f xs in omega (arith, rest)
-
-pub sum_twofold : {A : Type 0} (f : A → ℕ) (xs : List A) → sum_over (λ x. 2 * f x) xs ≡ 2 * sum_over f xs
-unfolding sum_over
-sum_twofold f [] = refl
-sum_twofold f (x ∷ xs) = let rest = sum_twofold f xs in omega (arith, rest)
-
--- no item adds a command of which the test holds
-pub adds_none : {A : Type 0} (test : Command → Bool) (add : A → List Command → List Command) (xs : List A)
-    → ((x : A) (commands : List Command) → how_many test (add x commands) ≡ how_many test commands) → (commands : List Command)
-    → how_many test (for_each add xs commands) ≡ how_many test commands
-adds_none test add [] each commands = refl
-adds_none test add (x ∷ xs) each commands = adds_none test add xs each (add x commands) ∙ each x commands
+    let rest = adds_each add most xs (λ y cs i. each y cs (inr i)) (add x commands) in
+    let one = mul-suc most (length xs) in omega (arith, here, rest, one)

@@ -9,14 +9,13 @@ pub mod Clear
 pub mod Closed
 pub mod CoordTurns
 pub mod CoordView
-pub mod Counts
 pub mod Decisions
 pub mod Declared
 pub mod Delivered
 pub mod Dues
 pub mod EndKnown
 pub mod Exchange
-pub mod FewRuns
+pub mod FewAttempts
 pub mod FewSends
 pub mod FewSites
 pub mod Flow

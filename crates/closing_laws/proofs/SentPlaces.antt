@@ -1,28 +1,39 @@
--- How many messages a line of closing sends: of a site one, and of the coordinator at most one for each declared site, or one.
-use Rattle.std.proofs.Common.{◌≡◌, ℕ, suc, ◌+◌, ◌≤◌, Some, List, [], ◌∷◌, map, length, refl, sym, ap, subst, ◌∙◌, arith}
+-- How many messages a line of closing sends: of a site one, and of the coordinator at most one for each declared site, or one as an answer.
+use Rattle.std.proofs.Common.{◌≡◌, ◌⊎◌, ℕ, suc, ◌+◌, ◌≤◌, Bool, true, false, nat_le, Option, Some, None, List, [], ◌∷◌, map, length, inl, inr, refl, sym, ap, subst, ◌∙◌, arith}
 use Rattle.mdb_base.specs.declared.names.SiteId.{SiteId}
 use Rattle.mdb_base.specs.declared.names.Tid.{Tid}
+use Rattle.mdb_base.specs.Words.{pick, when}
 use Rattle.presumptions.specs.declared.Participant.{Participant}
+use Rattle.fed_rules.specs.declared.answers.Answer.TheVariants as Say
 use Rattle.fed_rules.specs.declared.commands.Command.{Command}
 use Rattle.fed_rules.specs.declared.commands.Command.TheVariants as Cmd
 use Rattle.fed_rules.specs.declared.commands.Place.{Place}
 use Rattle.fed_rules.specs.declared.events.CoordEvent.{CoordEvent}
 use Rattle.fed_rules.specs.declared.events.CoordEvent.TheVariants as Coord_event
+use Rattle.fed_rules.specs.declared.events.SiteEvent.TheVariants as Site_event
 use Rattle.fed_rules.specs.declared.messages.FromSite.{FromSite}
+use Rattle.fed_rules.specs.declared.messages.FromSite.TheVariants as From
 use Rattle.fed_rules.specs.declared.messages.Sent.{Sent}
+use Rattle.fed_rules.specs.declared.records.SiteRecord.{SiteRecord}
 use Rattle.fed_rules.specs.declared.scenario.Scenario.{Scenario}
 use Rattle.fed_rules.specs.Closing.{last_sends, take_answers}
 use Rattle.fed_rules.specs.Coord.{coord_line}
 use Rattle.fed_rules.specs.CoordPast as Coordinator
-use Rattle.fed_rules.specs.CoordPast.{CoordPast, begun_tids, is_known, is_open, participants, standing}
 use Rattle.fed_rules.specs.CoordRecords.{named}
+use Rattle.fed_rules.specs.Disk.{Disk}
+use Rattle.fed_rules.specs.Happenings.{Trip, is_down, quiet, stopped, tripped}
 use Rattle.fed_rules.specs.Scenarios.{policy, protocols}
-use Rattle.fed_rules.specs.Story.{Story, Happened, AtSite, AtCoordinator, Nowhere, coord_past, happens, place_from, places_of, sent_from, sent_to, story_of}
+use Rattle.fed_rules.specs.Site.{answered, of_ask, site_line}
+use Rattle.fed_rules.specs.SitePast.{SiteHappening, SitePast, disk, records, trip}
+use Rattle.fed_rules.specs.SiteRecords.{Held, Home, doubt_of, site_frame}
+use Rattle.fed_rules.specs.Story.{Story, Happened, AtSite, AtCoordinator, Nowhere, coord_past, happens, past_of, place_from, places_of, sent_from, sent_to, story_of}
 use Rattle.rules_laws.specs.Lines.{CoordCause, IsLine}
 use Rattle.rules_laws.proofs.Lines.{line_is}
 use Rattle.commit_laws.proofs.Agreed.{coord-sound}
 use Rattle.commit_laws.proofs.PreparedLaws.{nowhere}
-use Rattle.closing_laws.proofs.FewSends.{SendsFew, agains_few, takes_few}
+use Rattle.closing_laws.proofs.CoordTurns.{takes_there}
+use Rattle.closing_laws.proofs.Delivered.{sent_behind}
+use Rattle.closing_laws.proofs.FewSends.{SendsFew, agains_few, inquiries_few}
 use Rattle.closing_laws.proofs.Lengths.{length_those}
 
 -- what a line of a site sends
@@ -55,22 +66,70 @@ coord_places : (story : Story) (sends : List Sent) → length (map (place_of sto
 coord_places story [] = refl
 coord_places story (sent ∷ sends) = ap suc (coord_places story sends)
 
-pub take_places : (scenario : Scenario) (commands : List Command) (site : SiteId) (place : ℕ) → length (last_sends scenario (Cmd.Take site place ∷ commands)) ≤ suc (length (protocols scenario))
-take_places scenario commands site place = by_line (happens scenario story (Cmd.Take site place)) (line_is scenario story (Cmd.Take site place))
+-- a site that asks sends its inquiry, or nothing
+record MayAsk (tid : Tid) (x : SiteHappening) : Type 0 where
+  sends : (x.sends ≡ []) ⊎ (x.sends ≡ From.Inquiry tid ∷ [])
+
+asks_when : (tid : Tid) (b : Bool) (x y : SiteHappening) → MayAsk tid x → MayAsk tid y → MayAsk tid (when b x y)
+unfolding when
+asks_when tid true x y p q = p
+asks_when tid false x y p q = q
+
+asks_tripped : (tid : Tid) (d : Disk SiteRecord) (t : Option Trip) (x : SiteHappening) → MayAsk tid x → MayAsk tid (tripped site_frame d t x)
+unfolding tripped stopped
+asks_tripped tid d None x p = p
+asks_tripped tid d (Some t) x p = asks_when tid (nat_le t.calls (length x.calls)) _ _ (record { sends = inl refl }) p
+
+asks_doubt : (home : Home) (past : SitePast) (tid : Tid) → MayAsk tid (of_ask home past tid)
+unfolding of_ask pick
+asks_doubt home past tid = by_doubt (doubt_of (records home past) tid)
+  where
+    by_doubt : (o : Option Held)
+        → MayAsk tid (pick o (quiet (Site_event.Ask tid) Say.Idle) (λ held. record { event = Site_event.Ask tid; answer = Say.Asks tid; sends = From.Inquiry tid ∷ []; calls = []; lines = [] }))
+    by_doubt None = record { sends = inl refl }
+    by_doubt (Some held) = record { sends = inr refl }
+
+asks : (home : Home) (past : SitePast) (tid : Tid) → MayAsk tid (site_line home past (Site_event.Ask tid))
+unfolding site_line answered
+asks home past tid = asks_when tid (is_down past) _ _ (record { sends = inl refl }) (asks_tripped tid (disk home past) (trip past) (of_ask home past tid) (asks_doubt home past tid))
+
+-- so the line that takes what a site just sent when it asked sends one message at most
+pub answer_places : (scenario : Scenario) (commands : List Command) (site : SiteId) (tid : Tid) (place : Place)
+    → last_sends scenario (Cmd.Ask site tid ∷ commands) ≡ place ∷ [] → length (last_sends scenario (Cmd.Take place.site place.place ∷ Cmd.Ask site tid ∷ commands)) ≤ 1
+answer_places scenario commands site tid place only = by_line (happens scenario story (Cmd.Ask site tid)) refl (line_is scenario story (Cmd.Ask site tid)) only
   where
     story : Story
     story = story_of scenario commands
 
-    by_line : (happened : Happened) → IsLine scenario story (Cmd.Take site place) happened → length (places_of story happened) ≤ suc (length (protocols scenario))
-    by_line (Nowhere answer) line = omega arith
-    by_line (AtSite s x) line = absurd line.cause
-    by_line (AtCoordinator x) line =
-        let is : x ≡ coord_line (protocols scenario) (policy scenario) (coord_past story) (Coord_event.Take site line.cause.message) =
-        line.is_next ∙ ap (coord_line (protocols scenario) (policy scenario) (coord_past story)) line.cause.is in
-        let few = (subst (SendsFew (protocols scenario)) (sym is) (takes_few (protocols scenario) (policy scenario) (coord_past story) site line.cause.message)).few in
-        let same = coord_places story x.sends in omega (arith, few, same)
+    now : Happened → Story
+    now happened = record { command = Cmd.Ask site tid; happened = happened } ∷ story
 
-pub again_places : (scenario : Scenario) (commands : List Command) (tid : Tid) → length (last_sends scenario (Cmd.Again tid ∷ commands)) ≤ suc (length (protocols scenario))
+    taken_at : Happened → Place → List Place
+    taken_at happened at = places_of (now happened) (happens scenario (now happened) (Cmd.Take at.site at.place))
+
+    answered_at : (s : SiteId) (x : SiteHappening) → x.sends ≡ From.Inquiry tid ∷ [] → length (taken_at (AtSite s x) (record { site = s; place = length (sent_from s story) })) ≤ 1
+    answered_at s x e =
+        let there = sent_behind story (Cmd.Ask site tid) s x (From.Inquiry tid) e in
+        let told = takes_there scenario (now (AtSite s x)) s (length (sent_from s story)) (From.Inquiry tid) there in
+        let line = coord_line (protocols scenario) (policy scenario) (coord_past (now (AtSite s x))) (Coord_event.Take s (From.Inquiry tid)) in
+        let few = (inquiries_few (protocols scenario) (coord_past (now (AtSite s x))) s tid (policy scenario)).few in
+        let same = coord_places (now (AtSite s x)) line.sends in
+        subst (λ h. length (places_of (now (AtSite s x)) h) ≤ 1) (sym told) (omega (arith, few, same))
+
+    by_line : (happened : Happened) → happens scenario story (Cmd.Ask site tid) ≡ happened → IsLine scenario story (Cmd.Ask site tid) happened → places_of story happened ≡ place ∷ []
+        → length (last_sends scenario (Cmd.Take place.site place.place ∷ Cmd.Ask site tid ∷ commands)) ≤ 1
+    by_line (Nowhere answer) told line at = cc
+    by_line (AtCoordinator x) told line at = absurd line.cause
+    by_line (AtSite s x) told line at =
+        let own = subst (MayAsk tid) (sym (line.is_next ∙ ap (site_line line.home (past_of line.home.site story)) line.cause.1)) (asks line.home (past_of line.home.site story) tid) in
+        elim own.sends [
+          | inl none ↦ (let clash = sym (ap (place_from s (length (sent_from s story))) none) ∙ at in cc)
+          | inr inquiry ↦
+              let here : record { site = s; place = length (sent_from s story) } ≡ place = (let same = sym (ap (place_from s (length (sent_from s story))) inquiry) ∙ at in cc) in
+              subst (λ h. length (taken_at h place) ≤ 1) (sym told) (subst (λ p. length (taken_at (AtSite s x) p) ≤ 1) here (answered_at s x inquiry))
+        ]
+
+pub again_places : (scenario : Scenario) (commands : List Command) (tid : Tid) → length (last_sends scenario (Cmd.Again tid ∷ commands)) ≤ length (protocols scenario)
 again_places scenario commands tid = by_line (happens scenario story (Cmd.Again tid)) (line_is scenario story (Cmd.Again tid))
   where
     story : Story
@@ -81,13 +140,13 @@ again_places scenario commands tid = by_line (happens scenario story (Cmd.Again 
         let s = (coord-sound scenario nowhere tid commands).names ms e in
         subst (λ ks. length ks ≤ length (protocols scenario)) (sym s.1) (length_those _ (protocols scenario))
 
-    by_line : (happened : Happened) → IsLine scenario story (Cmd.Again tid) happened → length (places_of story happened) ≤ suc (length (protocols scenario))
+    by_line : (happened : Happened) → IsLine scenario story (Cmd.Again tid) happened → length (places_of story happened) ≤ length (protocols scenario)
     by_line (Nowhere answer) line = omega arith
     by_line (AtSite s x) line = absurd line.cause
     by_line (AtCoordinator x) line =
         let is : x ≡ coord_line (protocols scenario) (policy scenario) (coord_past story) (Coord_event.Again tid) =
         line.is_next ∙ ap (coord_line (protocols scenario) (policy scenario) (coord_past story)) line.cause in
-        let few = (subst (SendsFew (protocols scenario)) (sym is) (agains_few (protocols scenario) (policy scenario) (coord_past story) tid names)).few in
+        let few = (subst (SendsFew (length (protocols scenario))) (sym is) (agains_few (protocols scenario) (coord_past story) tid (policy scenario) names)).few in
         let same = coord_places story x.sends in omega (arith, few, same)
 
 pub taken_many : (places : List Place) (commands : List Command) → length (take_answers places commands) ≡ length places + length commands

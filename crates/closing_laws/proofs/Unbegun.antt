@@ -270,3 +270,9 @@ unopened scenario (command ∷ commands) home g whole d global unbegun =
 
 pub unbegun_open : UnbegunAreOpen
 unbegun_open scenario commands home tid whole d global unbegun = (unopened scenario commands home tid whole d global unbegun).shut
+
+-- so it isn't live there
+pub unbegun_none : (scenario : Scenario) (commands : List Command) (home : Home) (tid : Tid) → IsScenario scenario → home_of scenario home.site ≡ Some home
+    → local_site scenario tid.tx ≡ None → Coordinator.attempts_of (coord_past (story_of scenario commands)) tid.tx ≤ tid.attempt
+    → live home (past_of home.site (story_of scenario commands)) tid ≡ None
+unbegun_none scenario commands home tid whole d global unbegun = (unopened scenario commands home tid whole d global unbegun).none

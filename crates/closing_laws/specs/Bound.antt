@@ -1,21 +1,23 @@
 -- How many commands closing makes, and finishing alone.
-use Rattle.std.specs.Prelude.{◌+◌, ◌*◌, ◌<◌, ◌≤◌, List, length}
+use Rattle.std.specs.Prelude.{ℕ, ◌+◌, ◌*◌, ◌≤◌, List, length}
 use Rattle.fed_rules.specs.declared.commands.Command.{Command}
 use Rattle.fed_rules.specs.declared.scenario.Scenario.{Scenario}
 use Rattle.fed_rules.specs.Closing.{closed, finished_alone}
 use Rattle.fed_rules.specs.Plans.{IsScenario}
 
--- closing makes at most 20 commands for each one before it, and 252 more
+-- the most commands for an attempt: one gives it up; at each of eight sites one ends its live run; one sends its decision again, and at each site one
+-- gives the message and one takes the answer; and at each site that is in doubt of it one asks, one takes the inquiry, and one gives the answer
+abbrev pub most_for_attempt : ℕ
+most_for_attempt = 1 + 8 + (1 + 8 * 2) + 8 * 3
+
+-- for each of nine actors one disarms its trip and one brings it up; and there are at most 32 attempts of each of 1,024 transactions
+abbrev pub most_closing : ℕ
+most_closing = 9 * 2 + 1024 * 32 * most_for_attempt
+
+-- closing makes at most so many commands, 1,638,418, however many there are before it
 abbrev pub ClosingIsShort : Type 0
 ClosingIsShort =
-    (scenario : Scenario) → IsScenario scenario → (commands : List Command)
-    → length (closed scenario commands) ≤ 252 + 20 * length commands + length commands
-
--- so behind at most 65,536 commands it makes fewer than 2^21
-abbrev pub ReplaysCloseShortly : Type 0
-ReplaysCloseShortly =
-    (scenario : Scenario) → IsScenario scenario → (commands : List Command) → length commands ≤ 65536
-    → length (closed scenario commands) < 2097152 + length commands
+    (scenario : Scenario) → IsScenario scenario → (commands : List Command) → length (closed scenario commands) ≤ most_closing + length commands
 
 -- finishing each transaction alone makes at most 257 commands for each of 1,024
 abbrev pub FinishingIsShort : Type 0
