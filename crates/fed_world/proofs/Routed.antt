@@ -1,9 +1,7 @@
 -- Routes among the declared sites of a scenario and its transactions are its routes; a site that is set up is that of its line.
 use Rattle.std.proofs.Common.{◌≡◌, Bool, Some, List, [], Result, Ok, Err, IfOk, ◌∙◌, ap, subst}
-use Rattle.std.specs.FinMap.{from_entries, get}
 use Rattle.mdb_base.specs.declared.names.Memory.{Memory}
 use Rattle.mdb_base.specs.declared.names.SiteId.{SiteId}
-use Rattle.mdb_base.specs.declared.names.Tx.{Tx}
 use Rattle.mdb_base.specs.declared.rows.Put.{Put}
 use Rattle.mdb_base.specs.Words.{first_where}
 use Rattle.fed_rules.specs.declared.scenario.Scenario.{Scenario}
@@ -12,7 +10,6 @@ use Rattle.fed_rules.specs.declared.scenario.TxLine.{TxLine}
 use Rattle.fed_rules.specs.Plans.{declares}
 use Rattle.fed_rules.specs.Scenarios.{home_of, items_of, sites}
 use Rattle.fed_rules.specs.SiteRecords.{Home}
-use Rattle.site_book.specs.Book.{tx_cmp}
 use Rattle.actor_store.specs.declared.errors.StepErr.{StepErr}
 use Rattle.any_engine.specs.declared.engine.AnyEngine.{AnyEngine}
 use Rattle.any_engine.specs.Stands as Engines
@@ -21,12 +18,12 @@ use Rattle.local_dbms.specs.declared.dbms.LocalDbms.{LocalDbms}
 use Rattle.local_dbms.specs.Stands as Dbms
 use Rattle.local_dbms.specs.Stands.{home_from, own_programs}
 use Rattle.session_routes.specs.declared.routes.Routes.{Routes}
-use Rattle.session_routes.specs.Routes.{ArePlaces, IsRouted, site_by}
+use Rattle.session_routes.specs.Routes.{AreHomes, ArePlaces, IsRouted, site_by}
 use Rattle.fed_world.proofs.DeclaredSites.{its_home}
 
 -- routes among the declared sites
 pub are_routed : (r : Result Routes Memory) (scenario : Scenario) (declared : List SiteId) (lines : List TxLine) → declared ≡ sites scenario → lines ≡ scenario.transactions
-    → IfOk r (λ (routes : Routes). (tx : Tx) → get {R = tx_cmp} (from_entries routes.homes.entries) tx ≡ site_by lines tx) → IfOk r (λ (routes : Routes). ArePlaces declared routes.places.items)
+    → IfOk r (λ (routes : Routes). AreHomes lines routes.homes.items) → IfOk r (λ (routes : Routes). ArePlaces declared routes.places.items)
     → IfOk r (λ (routes : Routes). IsRouted routes scenario)
 are_routed (Ok routes) scenario declared lines all same homes places = record {
   homes = λ tx. homes tx ∙ ap (λ (ls : List TxLine). site_by ls tx) same;

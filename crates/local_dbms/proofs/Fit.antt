@@ -1,6 +1,5 @@
 -- The event that a command of a local transaction comes to may come to the core, and fits the programs; and what a line leaves of what is stood for.
 use Rattle.std.proofs.Common.{◌≡◌, ◌≤◌, ◌<◌, ◌^◌, ◌⊎◌, Bool, true, false, not, is_some, IsSome, Option, Some, None, List, length, inl, inr, refl, sym, ap, subst, arith}
-use Rattle.std.specs.FinMap.{from_entries}
 use Rattle.mdb_base.specs.declared.acts.PlainAct.{PlainAct}
 use Rattle.mdb_base.specs.declared.acts.Step.{Step}
 use Rattle.mdb_base.specs.declared.names.Tid.{Tid}
@@ -111,7 +110,7 @@ pub recalled : {E : Type 0} (stands : E → Start → List EngineLine → Type 0
 recalled stands tells dbms disk home programs past s = record { core = s.core.holds; owns = s.owns }
 
 module _ {E : Type 0} (stands : E → Start → List EngineLine → Type 0) (tells : Bool) (old : LocalDbms E) (core : SiteCore E) (disk : Seen) (home : Home) (programs : OwnPrograms) (past : SitePast)
-    (event : SiteEvent) (owns : Owns (from_entries old.programs.entries) programs past) (fits : FitsPrograms programs past event) where
+    (event : SiteEvent) (owns : Owns old.programs.items programs past) (fits : FitsPrograms programs past event) where
   -- the core answered
   pub sends : (step : SiteStep) → Steps stands tells step core disk home past (site_line home past event) → Sends (Stands stands tells (record old { core = core }) disk) step home programs past event
   sends step s = record {

@@ -1,29 +1,20 @@
 -- The programs of a site's own transactions by their lines.
-use Rattle.std.proofs.Common.{◌≡◌, ℕ, suc, ◌≤◌, ◌<◌, Bool, true, false, cond, IsSome, Option, Some, None, List, [], ◌∷◌, length, drop, drop-cons, get_or, refl, sym, ap, ap₂, ◌∙◌, subst}
-use Rattle.std.specs.FinMap.{FinMap, get}
+use Rattle.std.proofs.Common.{◌≡◌, ℕ, suc, ◌≤◌, ◌<◌, Bool, true, false, cond, IsSome, Option, Some, List, [], ◌∷◌, length, drop, drop-cons, get_or, refl, sym, ap₂, ◌∙◌, subst}
 use Rattle.mdb_base.specs.declared.acts.Step.{Step}
 use Rattle.mdb_base.specs.declared.names.SiteId.{SiteId}
 use Rattle.mdb_base.specs.declared.names.Tx.{Tx}
 use Rattle.mdb_base.specs.Names.{same_tx}
 use Rattle.mdb_base.specs.Words.{Each, first_where}
 use Rattle.fed_rules.specs.declared.scenario.TxLine.{TxLine}
-use Rattle.site_book.specs.Book.{tx_cmp}
 use Rattle.site_core.proofs.NameLaws.{same_tx-equal}
-use Rattle.site_core.proofs.NotesLaws.{get-gone_tx, get-put_tx}
-use Rattle.local_dbms.specs.Stands.{IsNamed, noted, own_programs, program_at}
+use Rattle.local_dbms.specs.Stands.{AreOwn, IsNamed, noted, own_programs, program_at, program_in}
 
--- what is found behind a line that is noted
-noted_get : (tx q : Tx) (program : Option (List Step)) (map : FinMap tx_cmp (List Step)) → get (noted tx program map) q ≡ cond (same_tx tx q) program (get map q)
-noted_get tx q None map = get-gone_tx map tx q
-noted_get tx q (Some steps) map = get-put_tx map tx q steps
-
--- so the map goes on with a line
-pub noted_more : (site : SiteId) (line : TxLine) (lines : List TxLine) (map more : FinMap tx_cmp (List Step)) → ((tx : Tx) → get map tx ≡ own_programs site lines tx)
-    → more ≡ noted line.tx (program_at site (Some line)) map → (tx : Tx) → get more tx ≡ own_programs site (line ∷ lines) tx
-noted_more site line lines map more held is tx =
-    ap (λ (m : FinMap tx_cmp (List Step)). get m tx) is ∙ noted_get line.tx tx (program_at site (Some line)) map ∙ by_test (same_tx line.tx tx)
+-- so the list goes on with a line
+pub noted_more : (site : SiteId) (line : TxLine) (lines : List TxLine) (kept more : List (Option (List Step))) → AreOwn site lines kept → ((tx : Tx) → program_in more tx ≡ noted site line kept tx)
+    → AreOwn site (line ∷ lines) more
+noted_more site line lines kept more held is tx = is tx ∙ by_test (same_tx line.tx tx)
   where
-    by_test : (b : Bool) → cond b (program_at site (Some line)) (get map tx) ≡ program_at site (cond b (Some line) (first_where (λ l. same_tx l.tx tx) lines))
+    by_test : (b : Bool) → cond b (program_at site (Some line)) (program_in kept tx) ≡ program_at site (cond b (Some line) (first_where (λ l. same_tx l.tx tx) lines))
     by_test true = refl
     by_test false = held tx
 

@@ -1,19 +1,17 @@
 -- What a local database system stands for: its home, the programs of its local transactions, and its past, the newest line first.
-use Rattle.std.specs.Prelude.{◌≡◌, ◌≤◌, ◌<◌, ◌^◌, option_to_list, Bool, true, cond, IsSome, Option, Some, None, List, [], ◌∷◌, length}
-use Rattle.std.specs.FinMap.{FinMap, from_entries, get, insert, remove}
+use Rattle.std.specs.Prelude.{◌≡◌, ◌≤◌, ◌<◌, ◌^◌, option_to_list, Bool, true, cond, IsSome, Option, Some, None, List, [], ◌∷◌, length, slice_get}
 use Rattle.mdb_base.specs.declared.acts.Step.{Step}
 use Rattle.mdb_base.specs.declared.names.SiteId.{SiteId}
 use Rattle.mdb_base.specs.declared.names.Tx.{Tx}
 use Rattle.mdb_base.specs.declared.rows.Put.{Put}
 use Rattle.mdb_base.specs.Names.{same_site, same_tx}
-use Rattle.mdb_base.specs.Words.{first_where}
+use Rattle.mdb_base.specs.Words.{first_where, or_else}
 use Rattle.field_bytes.specs.Fields.{IsTid}
 use Rattle.fed_rules.specs.declared.answers.Answer.{Answer}
 use Rattle.fed_rules.specs.declared.events.SiteEvent.{SiteEvent}
 use Rattle.fed_rules.specs.declared.events.SiteEvent.TheVariants as Ev
 use Rattle.fed_rules.specs.declared.events.SiteStep.{SiteStep}
 use Rattle.fed_rules.specs.declared.messages.ToSite.{ToSite}
-use Rattle.fed_rules.specs.declared.messages.ToSite.TheVariants as To
 use Rattle.fed_rules.specs.declared.scenario.SiteLine.{SiteLine}
 use Rattle.fed_rules.specs.declared.scenario.TxLine.{TxLine}
 use Rattle.fed_rules.specs.Happenings.{is_down}
@@ -26,7 +24,6 @@ use Rattle.fed_rules.specs.SiteRecords.{Home}
 use Rattle.journal_disk.specs.Disk.{Seen}
 use Rattle.actor_store.specs.declared.errors.StepErr.{StepErr}
 use Rattle.actor_store.specs.declared.errors.StepErr.TheVariants as Err_is
-use Rattle.site_book.specs.Book.{tx_cmp}
 use Rattle.site_core.specs.Made.{about}
 use Rattle.site_core.specs.Stands.{Holds, Stands as CoreStands, StopAt, behind, stopped_past}
 use Rattle.site_core.specs.Steps.{CanStep}
@@ -53,21 +50,25 @@ abbrev pub IsOwned : OwnPrograms → SitePast → Type 0
 IsOwned programs [] = Unit {0}
 IsOwned programs (x ∷ past) = FitsPrograms programs past x.event × IsOwned programs past
 
--- the map holds exactly these programs, of transactions in their range, and the past is that of their site
-pub record Owns (map : FinMap tx_cmp (List Step)) (programs : OwnPrograms) (past : SitePast) : Type 0 where
-  pub held : (tx : Tx) → get map tx ≡ programs tx
+-- the program that stands at the number of a transaction in this list
+abbrev pub program_in : List (Option (List Step)) → Tx → Option (List Step)
+program_in kept tx = or_else (slice_get kept tx.0) None
+
+-- the list has exactly these programs, of transactions in their range, and the past is that of their site
+pub record Owns (kept : List (Option (List Step))) (programs : OwnPrograms) (past : SitePast) : Type 0 where
+  pub held : (tx : Tx) → program_in kept tx ≡ programs tx
   pub named : (tx : Tx) → IsSome (programs tx) → (1 ≤ tx.0) × (tx.0 ≤ 1024)
   pub owned : IsOwned programs past
 
 -- the core has this past in memory
 pub record Recalls {E : Type 0} (stands : E → Start → List EngineLine → Type 0) (dbms : LocalDbms E) (home : Home) (programs : OwnPrograms) (past : SitePast) : Type 0 where
   pub core : Holds stands dbms.core home past
-  pub owns : Owns (from_entries dbms.programs.entries) programs past
+  pub owns : Owns dbms.programs.items programs past
 
 -- and on this disk
 pub record Stands {E : Type 0} (stands : E → Start → List EngineLine → Type 0) (tells : Bool) (dbms : LocalDbms E) (disk : Seen) (home : Home) (programs : OwnPrograms) (past : SitePast) : Type 0 where
   pub core : CoreStands stands tells dbms.core disk home past
-  pub owns : Owns (from_entries dbms.programs.entries) programs past
+  pub owns : Owns dbms.programs.items programs past
 
 -- for some home, programs and past that it stands for the fact holds
 pub record Some_site (K : Home → OwnPrograms → SitePast → Type 0) (P : Home → OwnPrograms → SitePast → Type 0) : Type 0 where
@@ -136,10 +137,13 @@ program_at site (Some line) = at line.home where
 abbrev pub own_programs : SiteId → List TxLine → OwnPrograms
 own_programs site lines tx = program_at site (first_where (λ line. same_tx line.tx tx) lines)
 
--- the programs with that of one further line, which counts before the others, where there is one
-abbrev pub noted : Tx → Option (List Step) → FinMap tx_cmp (List Step) → FinMap tx_cmp (List Step)
-noted tx None map = remove map tx
-noted tx (Some steps) map = insert map tx steps
+-- the program of a transaction by one further line, which counts before what stands in this list
+abbrev pub noted : SiteId → TxLine → List (Option (List Step)) → OwnPrograms
+noted site line kept tx = cond (same_tx line.tx tx) (program_at site (Some line)) (program_in kept tx)
+
+-- at the number of each of the site's own transactions by these lines stands its program, and at any other number nothing
+abbrev pub AreOwn : SiteId → List TxLine → List (Option (List Step)) → Type 0
+AreOwn site lines kept = (tx : Tx) → program_in kept tx ≡ own_programs site lines tx
 
 -- the transaction of the line is in its range
 abbrev pub IsNamed : TxLine → Type 0

@@ -1,5 +1,6 @@
 //! A local database system, and how it hands events to its core.
 ghost use Rattle.std.specs.Prelude.{◌≡◌, ◌≤◌, [], Bool, length, IsTrue, IfOk, IfErr, IsErrOf};
+ghost use Rattle.std.specs.Option.{option_copied};
 ghost use Rattle.mdb_base.specs.Counts.{HasCauseOf};
 ghost use Rattle.mdb_base.specs.Words.{Each};
 ghost use Rattle.record_fields.specs.Named.{IsSite};
@@ -10,7 +11,7 @@ ghost use Rattle.journal_disk.specs.Disk.{Seen};
 ghost use Rattle.engine_contract.specs.Calls.{fresh_start};
 ghost use Rattle.site_core.specs.Stands.{Holds, Stands as CoreStands};
 ghost use Rattle.site_core.specs.Store.{SomeStop};
-ghost use Rattle.local_dbms.specs.Stands.{CanHand, CanServe, Each_site, Fails, IsNamed, Recalls, Sends, Serves, Some_site, Stands, home_from, own_programs, request_of};
+ghost use Rattle.local_dbms.specs.Stands.{CanHand, CanServe, Each_site, Fails, IsNamed, Recalls, Sends, Serves, Some_site, Stands, home_from, own_programs, program_in, request_of};
 
 use crate::programs::programs_of;
 use crate::requests::Request;
@@ -20,13 +21,12 @@ use journal_disk::Disk;
 use mdb_base::{Program, Puts, Tx};
 use site_core::{SiteCore, StepErr};
 use std::alloc::Global;
-use std::collections::BTreeMap;
 
-/// A local database system: its core, and the programs of its local transactions.
+/// A local database system: its core, and at the number of each of its local transactions its program. These numbers are at most 1,024.
 #[derive(Drop)]
 pub struct LocalDbms<E: LocalEngine> {
     pub(crate) core: SiteCore<E>,
-    pub(crate) programs: BTreeMap<Tx, Program>,
+    pub(crate) programs: Vec<Option<Program>>,
 }
 
 impl<E: LocalEngine> LocalDbms<E> {
@@ -69,6 +69,16 @@ impl<E: LocalEngine> LocalDbms<E> {
         ensures held { Each_site (Recalls E.stands self.now) (λ home programs past. Holds E.stands result.now home past) }
     {
         &self.core
+    }
+
+    /// The program of the transaction, where it is one of the site's own.
+    pub(crate) fn program_of(&self, tx: Tx) -> Option<&Program>
+        ensures { option_copied result ≡ program_in self.now.programs.items tx }
+    {
+        match self.programs.get(tx.0 as usize) {
+            Some(Some(program)) => Some(program),
+            _ => None,
+        }
     }
 
     /// The core answers an event that may come there and fits the programs.

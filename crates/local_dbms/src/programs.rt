@@ -1,22 +1,12 @@
 //! The programs of a site's local transactions, and the plain act of a step.
-ghost use Rattle.std.specs.Prelude.{◌≡◌, IfOk, OnOk, Some, slice_index};
-ghost use Rattle.std.specs.Option.{option_copied};
-ghost use Rattle.std.specs.FinMap.{from_entries, get, insert, remove};
+ghost use Rattle.std.specs.Prelude.{◌≡◌, ◌<◌, IfOk, OnOk, Some, length, slice_index};
 ghost use Rattle.mdb_base.specs.Programs.{plain_act};
-ghost use Rattle.site_book.specs.Book.{tx_cmp};
-ghost use Rattle.local_dbms.specs.Stands.{noted, own_programs, program_at};
+ghost use Rattle.mdb_base.specs.declared.names.Tx.{Tx as TheTx};
+ghost use Rattle.local_dbms.specs.Stands.{AreOwn, noted, program_at, program_in};
 
 use fed_rules::TxLine;
 use mdb_base::{Act, Memory, PlainAct, Program, SiteId, Tx};
 use std::alloc::Global;
-use std::collections::BTreeMap;
-
-/// The program of the transaction, where it is one of the site's own.
-pub(crate) fn find(programs: &BTreeMap<Tx, Program>, tx: Tx) -> Option<&Program>
-    ensures { option_copied result ≡ get {R = tx_cmp} (from_entries programs.now.entries) tx }
-{
-    programs.get(&tx)
-}
 
 /// The value at this place among the values that were read, and 0 behind them.
 fn read_at(reads: &[u64], register: u8) -> u64
@@ -43,19 +33,15 @@ pub(crate) fn plain(act: Act, reads: &[u64]) -> PlainAct
     }
 }
 
-/// Keeps a program under its transaction, in place of another one.
-fn put(programs: &mut BTreeMap<Tx, Program>, tx: Tx, program: Program) -> Result<(), Memory>
-    ensures { OnOk result (from_entries {R = tx_cmp} programs.new.entries ≡ insert (from_entries programs.old.entries) tx program) }
+/// Makes the list reach to the number of a transaction. What stands in it stays.
+fn reach(programs: &mut Vec<Option<Program>>, tx: Tx) -> Result<(), Memory>
+    ensures reached { OnOk result (tx.0 < length programs.new.items) }
+    ensures same { OnOk result ((other : TheTx) → program_in programs.new.items other ≡ program_in programs.old.items other) }
 {
-    programs.insert(tx, program)?;
+    while programs.len() <= tx.0 as usize {
+        programs.push(None)?;
+    }
     Ok(())
-}
-
-/// Keeps nothing under the transaction.
-fn take_out(programs: &mut BTreeMap<Tx, Program>, tx: Tx)
-    ensures { from_entries {R = tx_cmp} programs.new.entries ≡ remove (from_entries programs.old.entries) tx }
-{
-    programs.remove(&tx);
 }
 
 /// The same program again.
@@ -68,29 +54,28 @@ fn copied(alloc: Global, program: &Program) -> Result<Program, Memory>
     }
 }
 
-/// Keeps the program of a line, where its transaction is local at this site, and else nothing under its number.
+/// The program of a line, where its transaction is local at this site.
+fn own_program(alloc: Global, site: SiteId, line: &TxLine) -> Result<Option<Program>, Memory>
+    ensures { IfOk result (λ program. program ≡ program_at site (Some line.now)) }
+{
+    match line.home {
+        Some(home) if home.0 == site.0 => Ok(Some(copied(alloc, &line.program)?)),
+        _ => Ok(None),
+    }
+}
+
+/// Keeps the program of a line at its number, where its transaction is local at this site, and else nothing.
 fn note(
     alloc: Global,
-    programs: &mut BTreeMap<Tx, Program>,
+    programs: &mut Vec<Option<Program>>,
     site: SiteId,
     line: &TxLine,
 ) -> Result<(), Memory>
-    ensures { OnOk result (from_entries {R = tx_cmp} programs.new.entries ≡ noted line.now.tx (program_at site (Some line.now)) (from_entries programs.old.entries)) }
+    ensures { OnOk result ((tx : TheTx) → program_in programs.new.items tx ≡ noted site line.now programs.old.items tx) }
 {
-    match line.home {
-        Some(home) => {
-            if home.0 == site.0 {
-                put(programs, line.tx, copied(alloc, &line.program)?)
-            } else {
-                take_out(programs, line.tx);
-                Ok(())
-            }
-        }
-        None => {
-            take_out(programs, line.tx);
-            Ok(())
-        }
-    }
+    reach(programs, line.tx)?;
+    programs[line.tx.0 as usize] = own_program(alloc, site, line)?;
+    Ok(())
 }
 
 /// The programs of a site's own transactions by these lines, of several of one number the first.
@@ -98,10 +83,10 @@ pub(crate) fn programs_of(
     alloc: Global,
     site: SiteId,
     lines: &[TxLine],
-) -> Result<BTreeMap<Tx, Program>, Memory>
-    ensures { IfOk result (λ programs. (tx : Tx) → get {R = tx_cmp} (from_entries programs.entries) tx ≡ own_programs site lines.now tx) }
+) -> Result<Vec<Option<Program>>, Memory>
+    ensures { IfOk result (λ programs. AreOwn site lines.now programs.items) }
 {
-    let mut programs = BTreeMap::new(alloc);
+    let mut programs = Vec::new(alloc);
     let mut left = lines.len();
     while left > 0 {
         left -= 1;

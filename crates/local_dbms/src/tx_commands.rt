@@ -9,7 +9,7 @@ ghost use Rattle.fed_rules.specs.SiteCommands.{own_request};
 ghost use Rattle.local_dbms.specs.Stands.{CanServe, Each_site, Fails, IsShort, Recalls, Serves, Some_site, Stands, request_of};
 
 use crate::dbms::LocalDbms;
-use crate::programs::{find, plain};
+use crate::programs::plain;
 use crate::requests::Request;
 use engine_contract::LocalEngine;
 use fed_rules::{Answer, SiteEvent};
@@ -45,7 +45,7 @@ impl<E: LocalEngine> LocalDbms<E> {
         ensures asked { Each_site (Recalls E.stands self.now) (λ home programs past. request_of result ≡ own_request Verb.Begin home (programs tx) past tx) }
         ensures may { Each_site (Recalls E.stands self.now) (λ home programs past. IsShort home programs past → CanServe result home programs past) }
     {
-        if find(&self.programs, tx).is_none() {
+        if self.program_of(tx).is_none() {
             return Request::Declines(Answer::None);
         }
         let begun = self.core.begun(tx);
@@ -63,7 +63,7 @@ impl<E: LocalEngine> LocalDbms<E> {
         ensures asked { Each_site (Recalls E.stands self.now) (λ home programs past. request_of result ≡ own_request Verb.Step_on home (programs tx) past tx) }
         ensures may { Each_site (Recalls E.stands self.now) (λ home programs past. IsShort home programs past → CanServe result home programs past) }
     {
-        let Some(program) = find(&self.programs, tx) else {
+        let Some(program) = self.program_of(tx) else {
             return Request::Declines(Answer::None);
         };
         if self.core.is_down() {
@@ -90,7 +90,7 @@ impl<E: LocalEngine> LocalDbms<E> {
         ensures asked { Each_site (Recalls E.stands self.now) (λ home programs past. request_of result ≡ own_request Verb.Commit home (programs tx) past tx) }
         ensures may { Each_site (Recalls E.stands self.now) (λ home programs past. IsShort home programs past → CanServe result home programs past) }
     {
-        let Some(program) = find(&self.programs, tx) else {
+        let Some(program) = self.program_of(tx) else {
             return Request::Declines(Answer::None);
         };
         if self.core.is_down() {
@@ -113,7 +113,7 @@ impl<E: LocalEngine> LocalDbms<E> {
         ensures asked { Each_site (Recalls E.stands self.now) (λ home programs past. request_of result ≡ own_request Verb.Abort home (programs tx) past tx) }
         ensures may { Each_site (Recalls E.stands self.now) (λ home programs past. IsShort home programs past → CanServe result home programs past) }
     {
-        if find(&self.programs, tx).is_none() {
+        if self.program_of(tx).is_none() {
             return Request::Declines(Answer::None);
         }
         if self.core.is_down() {
@@ -133,7 +133,7 @@ impl<E: LocalEngine> LocalDbms<E> {
         ensures asked { Each_site (Recalls E.stands self.now) (λ home programs past. request_of result ≡ own_request Verb.Fate home (programs tx) past tx) }
         ensures may { Each_site (Recalls E.stands self.now) (λ home programs past. IsShort home programs past → CanServe result home programs past) }
     {
-        if find(&self.programs, tx).is_none() {
+        if self.program_of(tx).is_none() {
             return Request::Declines(Answer::None);
         }
         Request::Submits(SiteEvent::Fate(tx))

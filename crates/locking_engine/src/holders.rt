@@ -1,4 +1,8 @@
 //! Who holds a key, by rising age.
+ghost use Rattle.std.proofs.Common.{rules};
+ghost use Rattle.std.specs.Cmp.{partial_order_from_own_ties};
+ghost use Rattle.std.specs.Cmp.Rules.{comparing};
+ghost use Rattle.std.specs.Ordering.{as_partial_cmp, nat_cmp, on, then_cmp};
 ghost use Rattle.std.specs.Prelude.{◌≡◌, reverse, not, is_some, cond, None, OnOk, OnErr, IfOk};
 ghost use Rattle.std.specs.FinMap.{empty, get, remove};
 ghost use Rattle.locking_engine.specs.Holders.{place_of, held_by, is_touched, touches, IsOldestBelow, IsOldestAbove, IsOldestOther, with_rows_held, with_restored};
@@ -7,15 +11,51 @@ use fed_rules::Kept;
 use mdb_base::{Key, Memory, Put, Tid};
 use run_book::{Granted, HeldRun, Rival};
 use std::alloc::Global;
+use std::cmp::Ordering;
 use std::collections::BTreeMap;
 use std::marker::Model;
 use std::ops::Bound;
 
 /// A key, and the age of a run that holds it. No two unended runs are of one age.
-#[derive(Clone, Copy, Debug, PartialEq, Eq, PartialOrd, Ord)]
+#[derive(Clone, Copy, Debug, PartialEq, Eq)]
 pub struct Place {
     pub key: u16,
     pub age: u64,
+}
+
+impl PartialOrd for Place {
+    ghost partial_cmp = { as_partial_cmp (then_cmp (on (λ place. place.key) nat_cmp) (on (λ place. place.age) nat_cmp)) };
+
+    ghost laws = { partial_order_from_own_ties (Prim.search (comparing, rules)) (Prim.search (comparing, rules)) };
+
+    fn partial_cmp(&self, other: &Place) -> Option<Ordering> {
+        Some(self.cmp(other))
+    }
+}
+
+// Written out for the reason that the orders of transactions and attempts are: a search in a tree asks at each key whether it is passed.
+impl Ord for Place {
+    ghost cmp = { then_cmp (on (λ place. place.key) nat_cmp) (on (λ place. place.age) nat_cmp) };
+
+    ghost total = { Prim.search (comparing, rules) };
+
+    ghost matches_partial_cmp = { Prim.search (comparing, rules) };
+
+    ghost matches_eq = { Prim.search (comparing, rules) };
+
+    fn cmp(&self, other: &Place) -> Ordering {
+        if self.key > other.key {
+            Ordering::Greater
+        } else if self.key < other.key {
+            Ordering::Less
+        } else if self.age > other.age {
+            Ordering::Greater
+        } else if self.age == other.age {
+            Ordering::Equal
+        } else {
+            Ordering::Less
+        }
+    }
 }
 
 /// The holders of each key by their ages, seen as a finite map from keys and ages to the runs' names. Each call takes time by the

@@ -1,3 +1,4 @@
+pub mod CommandLemmas
 pub mod CountLemmas
 pub mod DecimalLemmas
 pub mod MoreSites

@@ -10,7 +10,7 @@ use Rattle.fed_rules.specs.declared.commands.Command.TheVariants as command
 use Rattle.scenario_text.specs.declared.bad.BadWhy.{BadWhy}
 use Rattle.scenario_text.specs.declared.bad.BadWhy.TheVariants.{Word}
 use Rattle.scenario_text.specs.Names.{number_in, tx_of, site_of, actor_of, tid_of}
-use Rattle.scenario_text.specs.Pieces.{only_two, only_three, only_four, first_word}
+use Rattle.scenario_text.specs.Pieces.{only_one, only_two, only_three, only_four, first_word}
 use Rattle.scenario_text.specs.Reads.{◌>>=◌, counted}
 
 -- the transaction of a line `WORD T`
@@ -18,6 +18,12 @@ unfoldable pub tx_argument : List (List ℕ) → Result Tx BadWhy
 tx_argument words = do
   w ← counted (only_two words)
   tx_of w.1
+
+-- the transaction of a line `WORD T`, by the words behind the first one
+unfoldable pub tx_behind : List (List ℕ) → Result Tx BadWhy
+tx_behind words = do
+  word ← counted (only_one words)
+  tx_of word
 
 -- the attempt of a line `WORD T.A`
 unfoldable pub tid_argument : List (List ℕ) → Result Tid BadWhy

@@ -1,12 +1,12 @@
 //! What a command says.
-ghost use Rattle.std.specs.Prelude.{◌≡◌};
+ghost use Rattle.std.specs.Prelude.{◌≡◌, ◌∷◌, IfSome};
 ghost use Rattle.scenario_text.specs.CommandLines as spells;
 ghost use Rattle.scenario_text.specs.Pieces.{words_of};
 
 use crate::bad::BadWhy;
 use crate::draft::SiteDraft;
 use crate::names::{number_in, tid_of, tx_of};
-use crate::pieces::{first_word, four_pieces, three_pieces, two_pieces};
+use crate::pieces::{first_word, four_pieces, one_piece, three_pieces, two_pieces};
 use fed_rules::Command;
 use mdb_base::{SiteId, Tid, Tx};
 
@@ -115,9 +115,9 @@ fn actor_command(sites: &SiteDraft, line: &[u8]) -> Result<Command, BadWhy>
     }
 }
 
-/// What a command says, by its first word.
+/// What any command says, by its first word.
 #[tactic(auto, unfolding(crate::specs::CommandLines::command_line))]
-pub fn command_line(sites: &SiteDraft, line: &[u8]) -> Result<Command, BadWhy>
+fn any_command(sites: &SiteDraft, line: &[u8]) -> Result<Command, BadWhy>
     ensures { result ≡ spells.command_line sites.now (words_of line.now) }
 {
     let first = first_word(line);
@@ -140,4 +140,60 @@ pub fn command_line(sites: &SiteDraft, line: &[u8]) -> Result<Command, BadWhy>
     } else {
         actor_command(sites, line)
     }
+}
+
+/// The transaction of a line `WORD T`, where these bytes stand behind the space.
+#[tactic(auto, unfolding(crate::specs::CommandLines::tx_behind))]
+fn tx_behind(rest: &[u8]) -> Result<Tx, BadWhy>
+    ensures { result ≡ spells.tx_behind (words_of rest.now) }
+{
+    let tx = one_piece(rest, b' ').ok_or(BadWhy::Count)?;
+    tx_of(tx)
+}
+
+/// What stands behind `step` and its space, where the line begins so.
+fn behind_step(line: &[u8]) -> Option<&[u8]>
+    ensures { IfSome result (λ rest. line.now ≡ 115 ∷ 116 ∷ 101 ∷ 112 ∷ 32 ∷ rest.now) }
+{
+    match line {
+        [b's', b't', b'e', b'p', b' ', rest @ ..] => Some(rest),
+        _ => None,
+    }
+}
+
+/// What stands behind `begin` and its space, where the line begins so.
+fn behind_begin(line: &[u8]) -> Option<&[u8]>
+    ensures { IfSome result (λ rest. line.now ≡ 98 ∷ 101 ∷ 103 ∷ 105 ∷ 110 ∷ 32 ∷ rest.now) }
+{
+    match line {
+        [b'b', b'e', b'g', b'i', b'n', b' ', rest @ ..] => Some(rest),
+        _ => None,
+    }
+}
+
+/// What stands behind `commit` and its space, where the line begins so.
+fn behind_commit(line: &[u8]) -> Option<&[u8]>
+    ensures { IfSome result (λ rest. line.now ≡ 99 ∷ 111 ∷ 109 ∷ 109 ∷ 105 ∷ 116 ∷ 32 ∷ rest.now) }
+{
+    match line {
+        [b'c', b'o', b'm', b'm', b'i', b't', b' ', rest @ ..] => Some(rest),
+        _ => None,
+    }
+}
+
+/// What a command says, by its first word. A begin, a step and a commit, of which there are most, are told by their bytes.
+#[tactic(auto, using(crate::proofs::CommandLemmas::said_step, crate::proofs::CommandLemmas::said_begin, crate::proofs::CommandLemmas::said_commit))]
+pub fn command_line(sites: &SiteDraft, line: &[u8]) -> Result<Command, BadWhy>
+    ensures { result ≡ spells.command_line sites.now (words_of line.now) }
+{
+    if let Some(rest) = behind_step(line) {
+        return Ok(Command::Step(tx_behind(rest)?));
+    }
+    if let Some(rest) = behind_begin(line) {
+        return Ok(Command::Begin(tx_behind(rest)?));
+    }
+    if let Some(rest) = behind_commit(line) {
+        return Ok(Command::Commit(tx_behind(rest)?));
+    }
+    any_command(sites, line)
 }

@@ -1,11 +1,10 @@
 -- What is posted in the channels, one after another.
-use Rattle.std.proofs.Common.{◌≡◌, ℕ, zero, suc, ◌+◌, ◌<◌, ◌≤◌, ◌==◌, Bool, true, false, cond, Option, Some, None, List, [], ◌∷◌, ◌++◌, length, take, slice_get, slice_set, option_to_list, refl, sym, ap, ap₂, ◌∙◌, subst, eqb-true, eq-eqb, append_assoc, arith}
-use Rattle.std.proofs.lemmas.List.{append-nil}
+use Rattle.std.proofs.Common.{◌≡◌, ℕ, zero, suc, ◌+◌, ◌<◌, ◌≤◌, ◌==◌, Bool, true, false, Option, Some, None, List, [], ◌∷◌, ◌++◌, length, take, slice_get, slice_set, option_to_list, refl, sym, ap, ◌∙◌, subst, eqb-true, eq-eqb, arith}
 use Rattle.mdb_base.specs.Words.{found, with_some}
 use Rattle.fed_rules.specs.declared.commands.Place.{Place}
 use Rattle.fed_rules.specs.declared.messages.Sent.{Sent}
 use Rattle.session_routes.specs.declared.traffic.Traffic.{Traffic}
-use Rattle.session_routes.specs.Posting.{ArePosted, IsPosted, place_to, places_to}
+use Rattle.session_routes.specs.Posting.{IsPosted, place_to, places_to}
 
 pub length_set : {A : Type 0} (xs : List A) (n : ℕ) (x : A) → length (slice_set xs n x) ≡ length xs
 length_set [] n x = cc

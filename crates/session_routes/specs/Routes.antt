@@ -1,11 +1,9 @@
 -- Where a site stands among the declared ones, and which site a local transaction is at.
 use Rattle.std.specs.Prelude.{ℕ, zero, suc, ◌≡◌, cond, Option, Some, None, List, [], ◌∷◌, slice_get}
-use Rattle.std.specs.FinMap.{FinMap, from_entries, get, insert, remove}
 use Rattle.mdb_base.specs.declared.names.SiteId.{SiteId}
 use Rattle.mdb_base.specs.declared.names.Tx.{Tx}
 use Rattle.mdb_base.specs.Names.{same_site, same_tx}
 use Rattle.mdb_base.specs.Words.{first_where, map_some, or_else}
-use Rattle.site_book.specs.Book.{tx_cmp}
 use Rattle.fed_rules.specs.declared.scenario.Scenario.{Scenario}
 use Rattle.fed_rules.specs.declared.scenario.TxLine.{TxLine}
 use Rattle.fed_rules.specs.Scenarios.{home_of_line, local_site, sites}
@@ -20,10 +18,17 @@ place_in (other ∷ sites) site = cond (same_site other site) (Some zero) (map_s
 abbrev pub site_by : List TxLine → Tx → Option SiteId
 site_by lines tx = home_of_line (first_where (λ line. same_tx line.tx tx) lines)
 
--- the sites of local transactions with that of one further line, which counts before the others
-abbrev pub noted : Tx → Option SiteId → FinMap tx_cmp SiteId → FinMap tx_cmp SiteId
-noted tx None map = remove map tx
-noted tx (Some site) map = insert map tx site
+-- the site that stands at the number of a transaction in this list
+abbrev pub home_in : List (Option SiteId) → Tx → Option SiteId
+home_in homes tx = or_else (slice_get homes tx.0) None
+
+-- the site of a local transaction by one further line, which counts before what stands in this list
+abbrev pub noted : TxLine → List (Option SiteId) → Tx → Option SiteId
+noted line homes tx = cond (same_tx line.tx tx) line.home (home_in homes tx)
+
+-- at the number of each local transaction of these lines stands its site, and at any other number nothing
+abbrev pub AreHomes : List TxLine → List (Option SiteId) → Type 0
+AreHomes lines homes = (tx : Tx) → home_in homes tx ≡ site_by lines tx
 
 -- at the number of each site stands its place in this list, and behind the last number nothing
 abbrev pub ArePlaces : List SiteId → List (Option ℕ) → Type 0
@@ -31,5 +36,5 @@ ArePlaces sites places = (n : ℕ) → or_else (slice_get places n) None ≡ pla
 
 -- the routes are those of the scenario
 pub record IsRouted (routes : Routes) (scenario : Scenario) : Type 0 where
-  pub homes : (tx : Tx) → get {R = tx_cmp} (from_entries routes.homes.entries) tx ≡ local_site scenario tx
+  pub homes : (tx : Tx) → home_in routes.homes.items tx ≡ local_site scenario tx
   pub places : ArePlaces (sites scenario) routes.places.items

@@ -1,59 +1,49 @@
 //! Where a site stands among the declared ones, and which site a local transaction is at.
-ghost use Rattle.std.specs.Prelude.{◌≡◌, IfOk, OnOk};
-ghost use Rattle.std.specs.FinMap.{from_entries, get, insert, remove};
+ghost use Rattle.std.specs.Prelude.{◌≡◌, ◌<◌, IfOk, OnOk, length};
 ghost use Rattle.mdb_base.specs.Words.{Each};
 ghost use Rattle.mdb_base.specs.declared.names.Tx.{Tx as TheTx};
 ghost use Rattle.record_fields.specs.Named.{IsSite};
-ghost use Rattle.site_book.specs.Book.{tx_cmp};
 ghost use Rattle.fed_rules.specs.declared.scenario.Scenario.{Scenario as TheScenario};
 ghost use Rattle.fed_rules.specs.Scenarios.{local_site, sites};
-ghost use Rattle.session_routes.specs.Routes.{ArePlaces, IsRouted, noted, place_in, site_by};
+ghost use Rattle.session_routes.specs.Routes.{AreHomes, ArePlaces, IsRouted, home_in, noted, place_in};
 
 use fed_rules::TxLine;
 use mdb_base::{Memory, SiteId, Tx};
 use std::alloc::Global;
-use std::collections::BTreeMap;
 
-/// The site of each local transaction, and at the number of each declared site its place among them, by rising site.
+/// At the number of each local transaction its site, and at the number of each declared site its place among them, by rising site. The
+/// numbers of a scenario's transactions are at most 1,024.
 #[derive(Drop)]
 pub struct Routes {
-    pub homes: BTreeMap<Tx, SiteId>,
+    pub homes: Vec<Option<SiteId>>,
     pub places: Vec<Option<usize>>,
 }
 
-/// Keeps the site of a transaction, in place of another one.
-fn put(homes: &mut BTreeMap<Tx, SiteId>, tx: Tx, site: SiteId) -> Result<(), Memory>
-    ensures { OnOk result (from_entries {R = tx_cmp} homes.new.entries ≡ insert (from_entries homes.old.entries) tx site) }
+/// Makes the list reach to the number of a transaction. What stands in it stays.
+fn reach(homes: &mut Vec<Option<SiteId>>, tx: Tx) -> Result<(), Memory>
+    ensures reached { OnOk result (tx.0 < length homes.new.items) }
+    ensures same { OnOk result ((other : TheTx) → home_in homes.new.items other ≡ home_in homes.old.items other) }
 {
-    homes.insert(tx, site)?;
+    while homes.len() <= tx.0 as usize {
+        homes.push(None)?;
+    }
     Ok(())
 }
 
-/// Keeps nothing under the transaction.
-fn take_out(homes: &mut BTreeMap<Tx, SiteId>, tx: Tx)
-    ensures { from_entries {R = tx_cmp} homes.new.entries ≡ remove (from_entries homes.old.entries) tx }
+/// Keeps the site of a line at its number, where its transaction is local, and else nothing.
+fn note(homes: &mut Vec<Option<SiteId>>, line: &TxLine) -> Result<(), Memory>
+    ensures { OnOk result ((tx : TheTx) → home_in homes.new.items tx ≡ noted line.now homes.old.items tx) }
 {
-    homes.remove(&tx);
-}
-
-/// Keeps the site of a line, where its transaction is local, and else nothing under its number.
-fn note(homes: &mut BTreeMap<Tx, SiteId>, line: &TxLine) -> Result<(), Memory>
-    ensures { OnOk result (from_entries {R = tx_cmp} homes.new.entries ≡ noted line.now.tx line.now.home (from_entries homes.old.entries)) }
-{
-    match line.home {
-        Some(site) => put(homes, line.tx, site),
-        None => {
-            take_out(homes, line.tx);
-            Ok(())
-        }
-    }
+    reach(homes, line.tx)?;
+    homes[line.tx.0 as usize] = line.home;
+    Ok(())
 }
 
 /// The sites of the local transactions of these lines, of several of one number the first.
-fn homes_of(alloc: Global, lines: &[TxLine]) -> Result<BTreeMap<Tx, SiteId>, Memory>
-    ensures { IfOk result (λ homes. (tx : TheTx) → get {R = tx_cmp} (from_entries homes.entries) tx ≡ site_by lines.now tx) }
+fn homes_of(alloc: Global, lines: &[TxLine]) -> Result<Vec<Option<SiteId>>, Memory>
+    ensures { IfOk result (λ homes. AreHomes lines.now homes.items) }
 {
-    let mut homes = BTreeMap::new(alloc);
+    let mut homes = Vec::new(alloc);
     let mut left = lines.len();
     while left > 0 {
         left -= 1;
@@ -90,7 +80,7 @@ impl Routes {
     /// The routes among these declared sites, which rise, and these transactions.
     pub fn new(alloc: Global, sites: &[SiteId], lines: &[TxLine]) -> Result<Routes, Memory>
         requires { Each IsSite sites.now }
-        ensures homes { IfOk result (λ routes. (tx : TheTx) → get {R = tx_cmp} (from_entries routes.homes.entries) tx ≡ site_by lines.now tx) }
+        ensures homes { IfOk result (λ routes. AreHomes lines.now routes.homes.items) }
         ensures places { IfOk result (λ routes. ArePlaces sites.now routes.places.items) }
     {
         let homes = homes_of(alloc, lines)?;
@@ -102,8 +92,8 @@ impl Routes {
     pub fn home_of(&self, tx: Tx) -> Option<SiteId>
         ensures { (scenario : TheScenario) → IsRouted self.now scenario → result ≡ local_site scenario tx }
     {
-        match self.homes.get(&tx) {
-            Some(site) => Some(*site),
+        match self.homes.get(tx.0 as usize) {
+            Some(home) => *home,
             None => None,
         }
     }

@@ -3,6 +3,7 @@ pub mod InOrder
 pub mod Keys
 pub mod Listed
 pub mod Maps
+pub mod Numbered
 pub mod Ordered
 pub mod Starts
 pub mod Undone

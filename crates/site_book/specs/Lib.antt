@@ -4,3 +4,4 @@ pub mod Follows
 pub mod Laws
 pub mod Listing
 pub mod Noted
+pub mod Numbered

@@ -14,20 +14,22 @@ use std::alloc::Global;
 use std::collections::BTreeMap;
 use std::marker::Model;
 
-/// How far each attempt of this epoch is, how each local transaction stands, and how many attempts of each were begun, in trees. A
-/// queried entry, a begin and a change each take time by the logarithm of how much is kept. What may take memory changes nothing where
-/// there is none, and has a call that takes it back.
+/// How far each attempt of this epoch is, in a tree, and in lists by number how each local transaction stands, and how many attempts of
+/// each were begun behind the first. A queried entry, a begin and a change each take time by the logarithm of how many attempts are kept,
+/// and a list is made longer where the number of a transaction is beyond its end. What may take memory changes nothing where there is
+/// none, and has a call that takes it back.
 #[derive(Drop)]
 pub struct SiteBook {
     attempts: BTreeMap<Tid, Progress>,
-    locals: BTreeMap<Tx, Standing>,
-    again: BTreeMap<Tx, u8>,
+    locals: Vec<Option<Standing>>,
+    again: Vec<Option<u8>>,
 }
 
 impl Model for SiteBook {
     ghost use Rattle.std.specs.Coded.{codes};
     ghost use Rattle.std.specs.FinMap.{code, from_entries};
     ghost use Rattle.site_book.specs.Book.{Book};
+    ghost use Rattle.site_book.specs.Numbered.{by_number};
 
     ghost Value = { Book };
 
@@ -35,8 +37,8 @@ impl Model for SiteBook {
 
     ghost view = { λ b. record {
       attempts = from_entries b.attempts.entries;
-      locals = from_entries b.locals.entries;
-      again = from_entries b.again.entries;
+      locals = by_number b.locals.items;
+      again = by_number b.again.items;
     } };
 }
 
@@ -47,8 +49,8 @@ impl SiteBook {
     {
         SiteBook {
             attempts: BTreeMap::new(alloc),
-            locals: BTreeMap::new(alloc),
-            again: BTreeMap::new(alloc),
+            locals: Vec::new(alloc),
+            again: Vec::new(alloc),
         }
     }
 
@@ -266,7 +268,7 @@ impl SiteBook {
         ensures { self.new ≡ stopped self.old }
     {
         self.attempts = BTreeMap::new(alloc);
-        self.locals = BTreeMap::new(alloc);
+        self.locals = Vec::new(alloc);
     }
 
     /// The site starts again: these local attempts are committed, of several of one transaction the last in the list, and these

@@ -1,118 +1,103 @@
-//! The local transactions in trees by transaction: how each stands, and how many attempts of it were begun behind the first. Each call
-//! takes time by the logarithm of their count.
-ghost use Rattle.std.specs.Prelude.{◌≡◌, ◌<◌, ◌+◌, OnOk, OnErr, IfOk, IsSome};
-ghost use Rattle.std.specs.FinMap.{empty, from_entries, get, insert, remove};
+//! The local transactions in lists by their numbers: how each stands, and how many attempts of it were begun behind the first. A list
+//! reaches as far as a number that was put into it; else each call takes the same time however many there are.
+ghost use Rattle.std.specs.Prelude.{◌≡◌, ◌<◌, ◌+◌, OnOk, OnErr, IfOk, IsSome, length};
+ghost use Rattle.std.specs.FinMap.{empty, get, insert, remove};
 ghost use Rattle.site_book.specs.Book.{count_of, counted, tx_cmp, uncounted, with_committed};
+ghost use Rattle.site_book.specs.Numbered.{by_number};
 
 use crate::progress::Standing;
 use mdb_base::{Memory, Tid, Tx};
 use std::alloc::Global;
-use std::collections::BTreeMap;
 
-/// How the transaction stands.
-pub(crate) fn find(locals: &BTreeMap<Tx, Standing>, tx: Tx) -> Option<Standing>
-    ensures { result ≡ get {R = tx_cmp} (from_entries locals.now.entries) tx }
+/// What stands at the number of the transaction.
+pub(crate) fn find<A: Copy>(items: &[Option<A>], tx: Tx) -> Option<A>
+    ensures { result ≡ get {R = tx_cmp} (by_number items.now) tx }
 {
-    locals.get(&tx).copied()
+    match items.get(tx.0 as usize) {
+        Some(item) => *item,
+        None => None,
+    }
 }
 
-/// Notes how the transaction stands.
-pub(crate) fn put(
-    locals: &mut BTreeMap<Tx, Standing>,
-    tx: Tx,
-    standing: Standing,
-) -> Result<(), Memory>
-    ensures put { OnOk result (from_entries {R = tx_cmp} locals.new.entries ≡ insert (from_entries locals.old.entries) tx standing) }
-    ensures memory { OnErr result (locals.new.entries ≡ locals.old.entries) }
+/// Makes the list reach to the number of the transaction. What stands in it stays.
+fn reach<A: Copy>(items: &mut Vec<Option<A>>, tx: Tx) -> Result<(), Memory>
+    ensures reached { OnOk result (tx.0 < length items.new.items) }
+    ensures same { by_number items.new.items ≡ by_number items.old.items }
 {
-    locals.insert(tx, standing)?;
+    while items.len() <= tx.0 as usize {
+        items.push(None)?;
+    }
     Ok(())
 }
 
-/// Notes this in place of how the transaction stood.
-pub(crate) fn set(locals: &mut BTreeMap<Tx, Standing>, tx: Tx, standing: Standing)
-    requires { IsSome (get {R = tx_cmp} (from_entries locals.old.entries) tx) }
-    ensures { from_entries {R = tx_cmp} locals.new.entries ≡ insert (from_entries locals.old.entries) tx standing }
+/// Puts this at the number of the transaction.
+pub(crate) fn put<A: Copy>(items: &mut Vec<Option<A>>, tx: Tx, item: A) -> Result<(), Memory>
+    ensures put { OnOk result (by_number items.new.items ≡ insert (by_number items.old.items) tx item) }
+    ensures memory { OnErr result (by_number items.new.items ≡ by_number items.old.items) }
 {
-    *locals.get_mut(&tx).unwrap() = standing;
+    reach(items, tx)?;
+    items[tx.0 as usize] = Some(item);
+    Ok(())
 }
 
-/// The transaction neither runs nor is committed.
-pub(crate) fn take_out(locals: &mut BTreeMap<Tx, Standing>, tx: Tx)
-    ensures { from_entries {R = tx_cmp} locals.new.entries ≡ remove (from_entries locals.old.entries) tx }
+/// Puts this in place of what stands at the number of the transaction.
+pub(crate) fn set<A: Copy>(items: &mut Vec<Option<A>>, tx: Tx, item: A)
+    requires { IsSome (get {R = tx_cmp} (by_number items.old.items) tx) }
+    ensures { by_number items.new.items ≡ insert (by_number items.old.items) tx item }
 {
-    locals.remove(&tx);
+    items[tx.0 as usize] = Some(item);
+}
+
+/// Leaves nothing at the number of the transaction.
+pub(crate) fn take_out<A: Copy>(items: &mut Vec<Option<A>>, tx: Tx)
+    ensures { by_number items.new.items ≡ remove (by_number items.old.items) tx }
+{
+    if (tx.0 as usize) < items.len() {
+        items[tx.0 as usize] = None;
+    }
 }
 
 /// The transactions of these attempts, which are committed.
-pub(crate) fn committed(alloc: Global, committed: &[Tid]) -> Result<BTreeMap<Tx, Standing>, Memory>
-    ensures { IfOk result (λ locals. from_entries locals.entries ≡ with_committed committed.now empty) }
+pub(crate) fn committed(alloc: Global, committed: &[Tid]) -> Result<Vec<Option<Standing>>, Memory>
+    ensures { IfOk result (λ locals. by_number locals.items ≡ with_committed committed.now empty) }
 {
-    let mut locals = BTreeMap::new(alloc);
+    let mut locals = Vec::new(alloc);
     for tid in committed {
         put(&mut locals, tid.tx, Standing::Committed(*tid))?;
     }
     Ok(locals)
 }
 
-/// How many attempts of the transaction were begun behind the first.
-fn find_again(again: &BTreeMap<Tx, u8>, tx: Tx) -> Option<u8>
-    ensures { result ≡ get {R = tx_cmp} (from_entries again.now.entries) tx }
-{
-    again.get(&tx).copied()
-}
-
 /// How many attempts of the transaction were begun.
-pub(crate) fn begun(again: &BTreeMap<Tx, u8>, tx: Tx) -> u32
-    ensures { result ≡ count_of (get {R = tx_cmp} (from_entries again.now.entries) tx) }
+pub(crate) fn begun(again: &[Option<u8>], tx: Tx) -> u32
+    ensures { result ≡ count_of (get {R = tx_cmp} (by_number again.now) tx) }
 {
-    match find_again(again, tx) {
+    match find(again, tx) {
         Some(n) => u32::from(n) + 1,
         None => 0,
     }
 }
 
 /// Counts one further attempt.
-pub(crate) fn count(again: &mut BTreeMap<Tx, u8>, tx: Tx) -> Result<(), Memory>
-    requires { count_of (get {R = tx_cmp} (from_entries again.old.entries) tx) < 32 }
-    ensures counted { OnOk result (from_entries again.new.entries ≡ counted tx (from_entries again.old.entries)) }
-    ensures memory { OnErr result (again.new.entries ≡ again.old.entries) }
+pub(crate) fn count(again: &mut Vec<Option<u8>>, tx: Tx) -> Result<(), Memory>
+    requires { count_of (get {R = tx_cmp} (by_number again.old.items) tx) < 32 }
+    ensures counted { OnOk result (by_number again.new.items ≡ counted tx (by_number again.old.items)) }
+    ensures memory { OnErr result (by_number again.new.items ≡ by_number again.old.items) }
 {
-    match find_again(again, tx) {
-        Some(n) => set_count(again, tx, n + 1),
-        None => put_count(again, tx)?,
+    match find(again, tx) {
+        Some(n) => set(again, tx, n + 1),
+        None => put(again, tx, 0)?,
     }
     Ok(())
 }
 
 /// Doesn't count the last attempt.
-pub(crate) fn uncount(again: &mut BTreeMap<Tx, u8>, tx: Tx)
-    ensures { from_entries again.new.entries ≡ uncounted tx (from_entries again.old.entries) }
+pub(crate) fn uncount(again: &mut Vec<Option<u8>>, tx: Tx)
+    ensures { by_number again.new.items ≡ uncounted tx (by_number again.old.items) }
 {
-    match find_again(again, tx) {
-        Some(0) => remove_count(again, tx),
-        Some(n) => set_count(again, tx, n - 1),
+    match find(again, tx) {
+        Some(0) => take_out(again, tx),
+        Some(n) => set(again, tx, n - 1),
         None => {}
     }
-}
-
-fn put_count(again: &mut BTreeMap<Tx, u8>, tx: Tx) -> Result<(), Memory>
-    ensures put { OnOk result (from_entries {R = tx_cmp} again.new.entries ≡ insert (from_entries again.old.entries) tx 0) }
-    ensures memory { OnErr result (again.new.entries ≡ again.old.entries) }
-{
-    again.insert(tx, 0)?;
-    Ok(())
-}
-
-fn remove_count(again: &mut BTreeMap<Tx, u8>, tx: Tx)
-    ensures { from_entries {R = tx_cmp} again.new.entries ≡ remove (from_entries again.old.entries) tx }
-{
-    again.remove(&tx);
-}
-
-fn set_count(again: &mut BTreeMap<Tx, u8>, tx: Tx, n: u8)
-    requires { IsSome (get {R = tx_cmp} (from_entries again.old.entries) tx) }
-    ensures { from_entries {R = tx_cmp} again.new.entries ≡ insert (from_entries again.old.entries) tx n }
-{
-    *again.get_mut(&tx).unwrap() = n;
 }

@@ -1,6 +1,7 @@
 -- What a site that is told something answers, from what its verb answers.
-use Rattle.std.proofs.Common.{ℕ, ◌≡◌, true, false, None, [], Result, Ok, Err, IfOk, IfErr, sym, ap, ◌∙◌, subst}
+use Rattle.std.proofs.Common.{ℕ, ◌≡◌, ◌⊎◌, inl, inr, true, false, None, [], Result, Ok, Err, IfOk, IfErr, IsTrue, refl, sym, ap, ◌∙◌, subst}
 use Rattle.mdb_base.specs.Counts.{HasCauseOf}
+use Rattle.mdb_base.specs.declared.names.Tx.{Tx}
 use Rattle.fed_rules.specs.declared.answers.Answer.{Answer}
 use Rattle.fed_rules.specs.declared.events.SiteEvent.{SiteEvent}
 use Rattle.fed_rules.specs.declared.events.SiteStep.{SiteStep}
@@ -11,7 +12,8 @@ use Rattle.actor_store.specs.declared.errors.StepErr.{StepErr}
 use Rattle.actor_store.specs.declared.errors.StepErr.TheVariants as Err_is
 use Rattle.local_dbms.specs.Stands.{Each_site, Fails, IsShort, OwnPrograms, Sends, Serves, Some_site}
 use Rattle.site_seats.specs.declared.asks.SiteAsk.{SiteAsk}
-use Rattle.site_seats.specs.Asks.{CanTell, can_send, sends_of, site_request}
+use Rattle.site_seats.specs.declared.asks.SiteAsk.TheVariants as At
+use Rattle.site_seats.specs.Asks.{CanTell, can_send, is_rare, sends_of, site_request}
 use Rattle.site_seats.specs.Parts.{Tells}
 use Rattle.site_seats.proofs.Quiet.{served_tells}
 
@@ -33,6 +35,19 @@ quiet_silent P asked (Err why) s = tt
 pub quiet_sending : (ask made : SiteAsk) (told : Result SiteStep StepErr) → ask ≡ made → can_send made ≡ true → IfOk told (λ step. can_send ask ≡ false → step.sends ≡ None)
 quiet_sending ask made (Ok step) is can = λ cannot. (let no : true ≡ false = sym can ∙ (sym (ap can_send is) ∙ cannot) in cc)
 quiet_sending ask made (Err why) is can = tt
+
+-- what is neither a begin nor a step nor a commit is rare
+pub rarely : (ask : SiteAsk) → ((tx : Tx) → ask ≡ At.Begin tx → ⊥) → ((tx : Tx) → ask ≡ At.Step tx → ⊥) → ((tx : Tx) → ask ≡ At.Commit tx → ⊥) → IsTrue (is_rare ask)
+rarely (At.Begin tx) no_begin no_step no_commit = absurd (no_begin tx refl)
+rarely (At.Step tx) no_begin no_step no_commit = absurd (no_step tx refl)
+rarely (At.Commit tx) no_begin no_step no_commit = absurd (no_commit tx refl)
+rarely ask no_begin no_step no_commit = refl
+
+-- and those aren't
+pub usual : (ask : SiteAsk) → (((tx : Tx) × (ask ≡ At.Begin tx)) ⊎ (((tx : Tx) × (ask ≡ At.Step tx)) ⊎ ((tx : Tx) × (ask ≡ At.Commit tx)))) → IsTrue (is_rare ask) → ⊥
+usual ask (inl begin) rare = let no : true ≡ false = sym rare ∙ ap is_rare begin.1 in cc
+usual ask (inr (inl step)) rare = let no : true ≡ false = sym rare ∙ ap is_rare step.1 in cc
+usual ask (inr (inr commit)) rare = let no : true ≡ false = sym rare ∙ ap is_rare commit.1 in cc
 
 -- it may be told
 pub may_tell : (K P : Home → OwnPrograms → SitePast → Type 0) (ask made : SiteAsk) → ask ≡ made → ((home : Home) (programs : OwnPrograms) (past : SitePast) → CanTell made home programs past → P home programs past)

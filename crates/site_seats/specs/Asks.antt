@@ -43,3 +43,10 @@ abbrev pub can_send : SiteAsk → Bool
 can_send (At.Give message) = true
 can_send (At.Ask tid) = true
 can_send ask = false
+
+-- a begin, a step and a commit are usual, and all else is rare
+abbrev pub is_rare : SiteAsk → Bool
+is_rare (At.Begin tx) = false
+is_rare (At.Step tx) = false
+is_rare (At.Commit tx) = false
+is_rare ask = true

@@ -13,6 +13,7 @@ pub mod Causes
 pub mod Answered
 pub mod Sends
 pub mod Lines
+pub mod Written
 pub mod OneWord
 pub mod Visible
 pub mod Spelled

@@ -21,6 +21,7 @@ mod numbers;
 mod printing;
 mod reading;
 mod spelling;
+mod straight;
 mod word;
 
 pub use error::{DoorErr, LineErr};
@@ -38,9 +39,8 @@ pub fn print_line(alloc: Global, line: &Line, out: &mut Vec<u8>) -> Result<(), M
     ensures ok { OnOk result (out.new.items ≡ out.old.items ++ line_bytes line.now) }
     ensures err { OnErr result (out.new.items ≡ out.old.items) }
 {
-    let words = spelling::line_words(alloc, line)?;
     let length = out.len();
-    let printed = printing::put_words(out, &words);
+    let printed = straight::put_line(alloc, line, out);
     if printed.is_err() {
         out.truncate(length);
     }

@@ -42,7 +42,7 @@ fn put_word(out: &mut Vec<u8>, word: Word) -> Result<(), Memory>
 }
 
 /// Appends words, with one space before each.
-fn put_more(out: &mut Vec<u8>, words: &[Word]) -> Result<(), Memory>
+pub fn put_more(out: &mut Vec<u8>, words: &[Word]) -> Result<(), Memory>
     ensures ok { OnOk result (out.new.items ≡ out.old.items ++ spaced words.now) }
     ensures err { OnErr result (BeginsWith out.old.items out.new.items) }
 {

@@ -12,7 +12,7 @@ use presumptions::Decision;
 use std::alloc::Global;
 
 /// For how many words there is room at first: few lines have more.
-const ROOM: usize = 8;
+pub const ROOM: usize = 8;
 
 fn tx_word(tx: Tx) -> Word
     ensures { result ≡ Number tx.0 }
@@ -78,7 +78,7 @@ fn push_three(words: &mut Vec<Word>, keyword: Keyword, word: Word, next: Word) -
     push(words, &[Plain(keyword), word, next])
 }
 
-fn push_command(words: &mut Vec<Word>, command: Command) -> Result<(), Memory>
+pub fn push_command(words: &mut Vec<Word>, command: Command) -> Result<(), Memory>
     ensures { OnOk result (words.new.items ≡ words.old.items ++ spelling.command_words command) }
 {
     match command {
@@ -233,7 +233,7 @@ fn push_bare(words: &mut Vec<Word>, answer: &Answer) -> Result<(), Memory>
     }
 }
 
-fn push_answer(words: &mut Vec<Word>, answer: &Answer) -> Result<(), Memory>
+pub fn push_answer(words: &mut Vec<Word>, answer: &Answer) -> Result<(), Memory>
     ensures { OnOk result (words.new.items ≡ words.old.items ++ spelling.answer_words answer.now) }
 {
     match answer {
@@ -329,7 +329,7 @@ fn push_places(words: &mut Vec<Word>, command: &Command, places: &[Place]) -> Re
     Ok(())
 }
 
-fn push_sends(words: &mut Vec<Word>, command: &Command, places: &[Place]) -> Result<(), Memory>
+pub fn push_sends(words: &mut Vec<Word>, command: &Command, places: &[Place]) -> Result<(), Memory>
     ensures { OnOk result (words.new.items ≡ words.old.items ++ spelling.sends_words command.now places.now) }
 {
     if let [_, ..] = places {
@@ -337,16 +337,4 @@ fn push_sends(words: &mut Vec<Word>, command: &Command, places: &[Place]) -> Res
         push_places(words, command, places)?;
     }
     Ok(())
-}
-
-/// The words of a line.
-pub fn line_words(alloc: Global, line: &Line) -> Result<Vec<Word>, Memory>
-    ensures { IfOk result (λ words. words.items ≡ spelling.line_words line.now) }
-{
-    let mut words = Vec::with_capacity(alloc, ROOM)?;
-    push_command(&mut words, line.command)?;
-    push_one(&mut words, Keyword::Arrow)?;
-    push_answer(&mut words, &line.answer)?;
-    push_sends(&mut words, &line.command, line.sends.as_slice())?;
-    Ok(words)
 }

@@ -1,12 +1,7 @@
-use Rattle.std.proofs.Common.{◌≡◌, ◌<◌, ◌-◌, suc, List, [], ◌∷◌, length, drop, sym, ap, ◌∙◌, arith}
-use Rattle.std.specs.FinMap.{from_entries, get}
+use Rattle.std.proofs.Common.{◌≡◌, ◌<◌, ◌-◌, suc, Option, List, ◌∷◌, length, drop, sym, ap, ◌∙◌, arith}
 use Rattle.mdb_base.specs.declared.acts.Step.{Step}
-use Rattle.mdb_base.specs.declared.names.Tx.{Tx}
 use Rattle.fed_rules.specs.declared.scenario.TxLine.{TxLine}
-use Rattle.site_book.specs.Book.{tx_cmp}
-use Rattle.site_book.proofs.Keys.{txs_exact, txs_total}
-use Rattle.site_book.proofs.Maps.{get_look}
-use Rattle.local_dbms.specs.Stands.{own_programs}
+use Rattle.local_dbms.specs.Stands.{own_programs, program_in}
 use Rattle.local_dbms.proofs.Lines.{drop_all, drop_before, noted_more}
 use Rattle.local_dbms.proofs.programs.programs_of.Goals as goal
 
@@ -14,7 +9,7 @@ pub loop-left-init : goal.loop-left-init
 loop-left-init c = record {
   within = omega arith;
   held = (λ tx.
-      ap (λ (es : List (Tx × List Step)). get {R = tx_cmp} (from_entries es) tx) c.new-programs.ensures.empty ∙ get_look txs_total txs_exact [] tx
+      ap (λ (kept : List (Option (List Step))). program_in kept tx) c.new-programs.ensures.items
       ∙ sym (ap (λ (ls : List TxLine). own_programs c.args.site ls tx) (drop_all c.args.lines.now)));
 }
 
@@ -29,6 +24,6 @@ loop-left-preserved c =
     record {
       within = omega arith;
       held = (λ tx.
-          noted_more c.args.site line (drop left lines) (from_entries c.loop-left.programs.entries) (from_entries c.note.new.programs.entries) c.loop-left.invariant.held c.in_ok-note.ensures tx
+          noted_more c.args.site line (drop left lines) c.loop-left.programs.items c.note.new.programs.items c.loop-left.invariant.held c.in_ok-note.ensures tx
           ∙ sym (ap (λ (ls : List TxLine). own_programs c.args.site ls tx) whole));
     }

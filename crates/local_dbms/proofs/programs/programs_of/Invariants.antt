@@ -1,16 +1,9 @@
-use Rattle.std.proofs.Common.{◌≡◌, ◌≤◌, drop, length}
-use Rattle.std.specs.FinMap.{from_entries, get}
-use Rattle.mdb_base.specs.declared.names.Tx.{Tx}
-use Rattle.site_book.specs.Book.{tx_cmp}
-use Rattle.local_dbms.specs.Stands.{own_programs}
+use Rattle.std.proofs.Common.{◌≤◌, drop, length}
+use Rattle.local_dbms.specs.Stands.{AreOwn}
 use Rattle.local_dbms.proofs.programs.programs_of.Given as goal
 
 abbrev pub invariant-loop-left : goal.invariant-loop-left
-invariant-loop-left l =
-    record {
-      within : l.left ≤ length l.lines;
-      held : (tx : Tx) → get {R = tx_cmp} (from_entries l.programs.entries) tx ≡ own_programs l.site (drop l.left l.lines) tx;
-    }
+invariant-loop-left l = record { within : l.left ≤ length l.lines; held : AreOwn l.site (drop l.left l.lines) l.programs.items }
 
 abbrev pub decreases-loop-left : goal.decreases-loop-left
 decreases-loop-left l = l.left

@@ -1,21 +1,14 @@
-use Rattle.std.proofs.Common.{◌≡◌, ◌<◌, ◌-◌, suc, List, [], ◌∷◌, length, drop, sym, ap, ◌∙◌, arith}
-use Rattle.std.specs.FinMap.{from_entries, get}
+use Rattle.std.proofs.Common.{◌≡◌, ◌<◌, ◌-◌, suc, Option, List, ◌∷◌, length, drop, sym, ap, ◌∙◌, arith}
 use Rattle.mdb_base.specs.declared.names.SiteId.{SiteId}
-use Rattle.mdb_base.specs.declared.names.Tx.{Tx}
 use Rattle.fed_rules.specs.declared.scenario.TxLine.{TxLine}
-use Rattle.site_book.specs.Book.{tx_cmp}
-use Rattle.site_book.proofs.Keys.{txs_exact, txs_total}
-use Rattle.site_book.proofs.Maps.{get_look}
-use Rattle.session_routes.specs.Routes.{site_by}
+use Rattle.session_routes.specs.Routes.{home_in, site_by}
 use Rattle.session_routes.proofs.Homes.{drop_all, drop_before, noted_more}
 use Rattle.session_routes.proofs.routes.homes_of.Goals as goal
 
 pub loop-left-init : goal.loop-left-init
 loop-left-init c = record {
   within = omega arith;
-  held = (λ tx.
-      ap (λ (es : List (Tx × SiteId)). get {R = tx_cmp} (from_entries es) tx) c.new-homes.ensures.empty ∙ get_look txs_total txs_exact [] tx
-      ∙ sym (ap (λ (ls : List TxLine). site_by ls tx) (drop_all c.args.lines.now)));
+  held = (λ tx. ap (λ (hs : List (Option SiteId)). home_in hs tx) c.new-homes.ensures.items ∙ sym (ap (λ (ls : List TxLine). site_by ls tx) (drop_all c.args.lines.now)));
 }
 
 pub loop-left-preserved : goal.loop-left-preserved
@@ -29,6 +22,6 @@ loop-left-preserved c =
     record {
       within = omega arith;
       held = (λ tx.
-          noted_more line (drop left lines) (from_entries c.loop-left.homes.entries) (from_entries c.note.new.homes.entries) c.loop-left.invariant.held c.in_ok-note.ensures tx
+          noted_more line (drop left lines) c.loop-left.homes.items c.note.new.homes.items c.loop-left.invariant.held c.in_ok-note.ensures tx
           ∙ sym (ap (λ (ls : List TxLine). site_by ls tx) whole));
     }

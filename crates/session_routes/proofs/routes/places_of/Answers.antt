@@ -1,4 +1,4 @@
-use Rattle.std.proofs.Common.{◌≡◌, ◌<◌, ℕ, ◌∙◌, arith}
+use Rattle.std.proofs.Common.{◌≡◌, ◌∙◌, arith}
 use Rattle.session_routes.proofs.Places.{are_places}
 use Rattle.session_routes.proofs.routes.places_of.Goals as goal
 

@@ -1,6 +1,10 @@
-use Rattle.site_book.proofs.Keys.{txs_exact, txs_total}
-use Rattle.site_book.proofs.Maps.{entries_put}
+use Rattle.std.proofs.Common.{ap, ◌∙◌}
+use Rattle.std.specs.FinMap.{FinMap, insert}
+use Rattle.site_book.specs.Book.{tx_cmp}
+use Rattle.site_book.proofs.Numbered.{put_number}
 use Rattle.site_book.proofs.local_map.put.Goals as goal
 
 pub returns-clause-put : goal.returns-clause-put
-returns-clause-put c = entries_put txs_total txs_exact c.args.locals.now.entries _ c.args.tx c.args.standing c.in_ok-insert.ensures.updates.0
+returns-clause-put g c =
+    put_number c.reach.new.items.items c.args.tx c.args.item c.in_ok-reach.ensures.reached
+    ∙ ap (λ (map : FinMap tx_cmp g.row.A.Denot). insert map c.args.tx c.args.item) c.reach.ensures.same

@@ -1,6 +1,9 @@
-use Rattle.site_book.proofs.Keys.{txs_exact, txs_total}
-use Rattle.site_book.proofs.Maps.{entries_gone}
+use Rattle.std.proofs.Common.{rules, ◌<◌, ◌≤◌, length}
+use Rattle.site_book.proofs.Numbered.{gone_number, gone_past}
 use Rattle.site_book.proofs.local_map.take_out.Goals as goal
 
-pub returns : goal.returns
-returns c = entries_gone txs_total txs_exact c.args.locals.now.entries _ c.args.tx c.remove.ensures.updates.0
+pub returns-then-tx-len : goal.returns-then-tx-len
+returns-then-tx-len g c = let within : c.args.tx.0 < length c.args.items.now.items = search rules in gone_number c.args.items.now.items c.args.tx within
+
+pub returns-else-tx-len : goal.returns-else-tx-len
+returns-else-tx-len g c = let past : length c.args.items.now.items ≤ c.args.tx.0 = search rules in gone_past c.args.items.now.items c.args.tx past

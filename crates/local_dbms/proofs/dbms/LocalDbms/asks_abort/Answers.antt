@@ -8,18 +8,18 @@ use Rattle.local_dbms.proofs.dbms.LocalDbms.asks_abort.Goals as goal
 
 pub returns-then-is_none-clause-asked : goal.returns-then-is_none-clause-asked
 returns-then-is_none-clause-asked g c home programs past r =
-    let absent = is_there c.find.result _ c.is_none.result c.find.ensures c.is_none.ensures ∙ ap not c.if-is_none.true in
+    let absent = is_there c.program_of.result _ c.is_none.result c.program_of.ensures c.is_none.ensures ∙ ap not c.if-is_none.true in
     sym (none_request Verb.Abort home (programs c.args.tx) past c.args.tx (sym (r.owns.held c.args.tx) ∙ is_absent _ absent))
 
 pub returns-then-is_down-clause-asked : goal.returns-then-is_down-clause-asked
 returns-then-is_down-clause-asked g c home programs past r =
-    let there = is_there c.find.result _ c.is_none.result c.find.ensures c.is_none.ensures ∙ ap not c.if-is_none.false in
+    let there = is_there c.program_of.result _ c.is_none.result c.program_of.ensures c.is_none.ensures ∙ ap not c.if-is_none.false in
     let (steps, own) = found_own (programs c.args.tx) _ (r.owns.held c.args.tx) there in
     sym (verb_down home (programs c.args.tx) past c.args.tx steps own Verb.Abort (abort_live home (programs c.args.tx) past c.args.tx steps own) (sym (c.is_down.ensures home past r.core) ∙ c.if-is_down.true))
 
 pub returns-in_default-clause-asked : goal.returns-in_default-clause-asked
 returns-in_default-clause-asked g c home programs past r =
-    let there = is_there c.find.result _ c.is_none.result c.find.ensures c.is_none.ensures ∙ ap not c.if-is_none.false in
+    let there = is_there c.program_of.result _ c.is_none.result c.program_of.ensures c.is_none.ensures ∙ ap not c.if-is_none.false in
     let (steps, own) = found_own (programs c.args.tx) _ (r.owns.held c.args.tx) there in
     let up = sym (c.is_down.ensures home past r.core) ∙ c.if-is_down.false in
     let apart = own_apart programs past c.args.tx r.owns.owned (some_own (programs c.args.tx) steps own) in
@@ -27,7 +27,7 @@ returns-in_default-clause-asked g c home programs past r =
 
 pub returns-then-is_none-2-clause-asked : goal.returns-then-is_none-2-clause-asked
 returns-then-is_none-2-clause-asked g c home programs past r =
-    let there = is_there c.find.result _ c.is_none.result c.find.ensures c.is_none.ensures ∙ ap not c.if-is_none.false in
+    let there = is_there c.program_of.result _ c.is_none.result c.program_of.ensures c.is_none.ensures ∙ ap not c.if-is_none.false in
     let (steps, own) = found_own (programs c.args.tx) _ (r.owns.held c.args.tx) there in
     let up = sym (c.is_down.ensures home past r.core) ∙ c.if-is_down.false in
     let apart = own_apart programs past c.args.tx r.owns.owned (some_own (programs c.args.tx) steps own) in
@@ -37,7 +37,7 @@ returns-then-is_none-2-clause-asked g c home programs past r =
 
 pub returns-clause-asked : goal.returns-clause-asked
 returns-clause-asked g c home programs past r =
-    let there = is_there c.find.result _ c.is_none.result c.find.ensures c.is_none.ensures ∙ ap not c.if-is_none.false in
+    let there = is_there c.program_of.result _ c.is_none.result c.program_of.ensures c.is_none.ensures ∙ ap not c.if-is_none.false in
     let (steps, own) = found_own (programs c.args.tx) _ (r.owns.held c.args.tx) there in
     let up = sym (c.is_down.ensures home past r.core) ∙ c.if-is_down.false in
     let apart = own_apart programs past c.args.tx r.owns.owned (some_own (programs c.args.tx) steps own) in
@@ -47,7 +47,7 @@ returns-clause-asked g c home programs past r =
 
 pub returns-clause-may : goal.returns-clause-may
 returns-clause-may g c home programs past r short =
-    let there = is_there c.find.result _ c.is_none.result c.find.ensures c.is_none.ensures ∙ ap not c.if-is_none.false in
+    let there = is_there c.program_of.result _ c.is_none.result c.program_of.ensures c.is_none.ensures ∙ ap not c.if-is_none.false in
     let (steps, own) = found_own (programs c.args.tx) _ (r.owns.held c.args.tx) there in
     let up = sym (c.is_down.ensures home past r.core) ∙ c.if-is_down.false in
     let apart = own_apart programs past c.args.tx r.owns.owned (some_own (programs c.args.tx) steps own) in

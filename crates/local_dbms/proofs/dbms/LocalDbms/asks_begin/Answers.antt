@@ -11,12 +11,12 @@ use Rattle.local_dbms.proofs.dbms.LocalDbms.asks_begin.Goals as goal
 
 pub returns-then-is_none-clause-asked : goal.returns-then-is_none-clause-asked
 returns-then-is_none-clause-asked g c home programs past r =
-    let absent = is_there c.find.result _ c.is_none.result c.find.ensures c.is_none.ensures ∙ ap not c.if-is_none.true in
+    let absent = is_there c.program_of.result _ c.is_none.result c.program_of.ensures c.is_none.ensures ∙ ap not c.if-is_none.true in
     sym (none_request Verb.Begin home (programs c.args.tx) past c.args.tx (sym (r.owns.held c.args.tx) ∙ is_absent _ absent))
 
 pub returns-then-begun-ge-MOST_ATTEMPTS-clause-asked : goal.returns-then-begun-ge-MOST_ATTEMPTS-clause-asked
 returns-then-begun-ge-MOST_ATTEMPTS-clause-asked g c home programs past r =
-    let there = is_there c.find.result _ c.is_none.result c.find.ensures c.is_none.ensures ∙ ap not c.if-is_none.false in
+    let there = is_there c.program_of.result _ c.is_none.result c.program_of.ensures c.is_none.ensures ∙ ap not c.if-is_none.false in
     let (steps, own) = found_own (programs c.args.tx) _ (r.owns.held c.args.tx) there in
     let is = c.begun-begun.ensures home past r.core in
     let all : 32 ≤ attempts_of past c.args.tx = (let most = c.if-begun-ge-MOST_ATTEMPTS.true in omega arith) in
@@ -25,7 +25,7 @@ returns-then-begun-ge-MOST_ATTEMPTS-clause-asked g c home programs past r =
 
 pub returns-clause-asked : goal.returns-clause-asked
 returns-clause-asked g c home programs past r =
-    let there = is_there c.find.result _ c.is_none.result c.find.ensures c.is_none.ensures ∙ ap not c.if-is_none.false in
+    let there = is_there c.program_of.result _ c.is_none.result c.program_of.ensures c.is_none.ensures ∙ ap not c.if-is_none.false in
     let (steps, own) = found_own (programs c.args.tx) _ (r.owns.held c.args.tx) there in
     let is = c.begun-begun.ensures home past r.core in
     let few : attempts_of past c.args.tx < 32 = (let most = c.if-begun-ge-MOST_ATTEMPTS.false in omega arith) in
@@ -33,7 +33,7 @@ returns-clause-asked g c home programs past r =
 
 pub returns-clause-may : goal.returns-clause-may
 returns-clause-may g c home programs past r short =
-    let there = is_there c.find.result _ c.is_none.result c.find.ensures c.is_none.ensures ∙ ap not c.if-is_none.false in
+    let there = is_there c.program_of.result _ c.is_none.result c.program_of.ensures c.is_none.ensures ∙ ap not c.if-is_none.false in
     let (steps, own) = found_own (programs c.args.tx) _ (r.owns.held c.args.tx) there in
     let is = c.begun-begun.ensures home past r.core in
     let few : attempts_of past c.args.tx < 32 = (let most = c.if-begun-ge-MOST_ATTEMPTS.false in omega arith) in

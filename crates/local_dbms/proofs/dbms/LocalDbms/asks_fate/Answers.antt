@@ -7,17 +7,17 @@ use Rattle.local_dbms.proofs.dbms.LocalDbms.asks_fate.Goals as goal
 
 pub returns-then-is_none-clause-asked : goal.returns-then-is_none-clause-asked
 returns-then-is_none-clause-asked g c home programs past r =
-    let absent = is_there c.find.result _ c.is_none.result c.find.ensures c.is_none.ensures ∙ ap not c.if-is_none.true in
+    let absent = is_there c.program_of.result _ c.is_none.result c.program_of.ensures c.is_none.ensures ∙ ap not c.if-is_none.true in
     sym (none_request Verb.Fate home (programs c.args.tx) past c.args.tx (sym (r.owns.held c.args.tx) ∙ is_absent _ absent))
 
 pub returns-clause-asked : goal.returns-clause-asked
 returns-clause-asked g c home programs past r =
-    let there = is_there c.find.result _ c.is_none.result c.find.ensures c.is_none.ensures ∙ ap not c.if-is_none.false in
+    let there = is_there c.program_of.result _ c.is_none.result c.program_of.ensures c.is_none.ensures ∙ ap not c.if-is_none.false in
     let (steps, own) = found_own (programs c.args.tx) _ (r.owns.held c.args.tx) there in
     sym (fate_submits home (programs c.args.tx) past c.args.tx steps own)
 
 pub returns-clause-may : goal.returns-clause-may
 returns-clause-may g c home programs past r short =
-    let there = is_there c.find.result _ c.is_none.result c.find.ensures c.is_none.ensures ∙ ap not c.if-is_none.false in
+    let there = is_there c.program_of.result _ c.is_none.result c.program_of.ensures c.is_none.ensures ∙ ap not c.if-is_none.false in
     let (steps, own) = found_own (programs c.args.tx) _ (r.owns.held c.args.tx) there in
     can_fate g.E.LocalEngine.stands c.args.self.now home programs past r c.args.tx (some_own (programs c.args.tx) steps own)

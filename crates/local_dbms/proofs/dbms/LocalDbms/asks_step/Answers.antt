@@ -14,18 +14,18 @@ use Rattle.local_dbms.proofs.dbms.LocalDbms.asks_step.Goals as goal
 
 pub returns-in_default-clause-asked : goal.returns-in_default-clause-asked
 returns-in_default-clause-asked g c home programs past r =
-    sym (none_request Verb.Step_on home (programs c.args.tx) past c.args.tx (sym (r.owns.held c.args.tx) ∙ sym c.find.ensures ∙ ap option_copied c.in_default.is))
+    sym (none_request Verb.Step_on home (programs c.args.tx) past c.args.tx (sym (r.owns.held c.args.tx) ∙ sym c.program_of.ensures ∙ ap option_copied c.in_default.is))
 
 pub returns-then-is_down-clause-asked : goal.returns-then-is_down-clause-asked
 returns-then-is_down-clause-asked g c home programs past r =
     let steps = c.in-Some.program.now in
-    let own = sym (r.owns.held c.args.tx) ∙ sym c.find.ensures ∙ ap option_copied c.in-Some.is in
+    let own = sym (r.owns.held c.args.tx) ∙ sym c.program_of.ensures ∙ ap option_copied c.in-Some.is in
     sym (verb_down home (programs c.args.tx) past c.args.tx steps own Verb.Step_on (step_live home (programs c.args.tx) past c.args.tx steps own) (sym (c.is_down.ensures home past r.core) ∙ c.if-is_down.true))
 
 pub returns-in_default-running-clause-asked : goal.returns-in_default-running-clause-asked
 returns-in_default-running-clause-asked g c home programs past r =
     let steps = c.in-Some.program.now in
-    let own = sym (r.owns.held c.args.tx) ∙ sym c.find.ensures ∙ ap option_copied c.in-Some.is in
+    let own = sym (r.owns.held c.args.tx) ∙ sym c.program_of.ensures ∙ ap option_copied c.in-Some.is in
     let up = sym (c.is_down.ensures home past r.core) ∙ c.if-is_down.false in
     let apart = own_apart programs past c.args.tx r.owns.owned (some_own (programs c.args.tx) steps own) in
     sym (verb_idle home (programs c.args.tx) past c.args.tx steps own Verb.Step_on (step_live home (programs c.args.tx) past c.args.tx steps own) up (sym (c.running.ensures home past r.core up apart) ∙ c.in_default-running.is))
@@ -33,7 +33,7 @@ returns-in_default-running-clause-asked g c home programs past r =
 pub returns-in_default-live-clause-asked : goal.returns-in_default-live-clause-asked
 returns-in_default-live-clause-asked g c home programs past r =
     let steps = c.in-Some.program.now in
-    let own = sym (r.owns.held c.args.tx) ∙ sym c.find.ensures ∙ ap option_copied c.in-Some.is in
+    let own = sym (r.owns.held c.args.tx) ∙ sym c.program_of.ensures ∙ ap option_copied c.in-Some.is in
     let up = sym (c.is_down.ensures home past r.core) ∙ c.if-is_down.false in
     let apart = own_apart programs past c.args.tx r.owns.owned (some_own (programs c.args.tx) steps own) in
     let runs = sym (c.running.ensures home past r.core up apart) ∙ c.in-Some-running.is in
@@ -43,7 +43,7 @@ returns-in_default-live-clause-asked g c home programs past r =
 pub returns-then-done-len-clause-asked : goal.returns-then-done-len-clause-asked
 returns-then-done-len-clause-asked g c home programs past r =
     let steps = c.in-Some.program.now in
-    let own = sym (r.owns.held c.args.tx) ∙ sym c.find.ensures ∙ ap option_copied c.in-Some.is in
+    let own = sym (r.owns.held c.args.tx) ∙ sym c.program_of.ensures ∙ ap option_copied c.in-Some.is in
     let up = sym (c.is_down.ensures home past r.core) ∙ c.if-is_down.false in
     let apart = own_apart programs past c.args.tx r.owns.owned (some_own (programs c.args.tx) steps own) in
     let runs = sym (c.running.ensures home past r.core up apart) ∙ c.in-Some-running.is in
@@ -55,7 +55,7 @@ returns-then-done-len-clause-asked g c home programs past r =
 pub returns-clause-asked : goal.returns-clause-asked
 returns-clause-asked g c home programs past r =
     let steps = c.in-Some.program.now in
-    let own = sym (r.owns.held c.args.tx) ∙ sym c.find.ensures ∙ ap option_copied c.in-Some.is in
+    let own = sym (r.owns.held c.args.tx) ∙ sym c.program_of.ensures ∙ ap option_copied c.in-Some.is in
     let up = sym (c.is_down.ensures home past r.core) ∙ c.if-is_down.false in
     let apart = own_apart programs past c.args.tx r.owns.owned (some_own (programs c.args.tx) steps own) in
     let runs = sym (c.running.ensures home past r.core up apart) ∙ c.in-Some-running.is in
@@ -68,7 +68,7 @@ returns-clause-asked g c home programs past r =
 pub returns-clause-may : goal.returns-clause-may
 returns-clause-may g c home programs past r short =
     let steps = c.in-Some.program.now in
-    let own = sym (r.owns.held c.args.tx) ∙ sym c.find.ensures ∙ ap option_copied c.in-Some.is in
+    let own = sym (r.owns.held c.args.tx) ∙ sym c.program_of.ensures ∙ ap option_copied c.in-Some.is in
     let up = sym (c.is_down.ensures home past r.core) ∙ c.if-is_down.false in
     let apart = own_apart programs past c.args.tx r.owns.owned (some_own (programs c.args.tx) steps own) in
     let runs = sym (c.running.ensures home past r.core up apart) ∙ c.in-Some-running.is in

@@ -1,10 +1,10 @@
-use Rattle.std.proofs.Common.{sym, ◌∙◌}
-use Rattle.site_book.proofs.Keys.{txs_exact, txs_total}
-use Rattle.site_book.proofs.Maps.{get_look}
+use Rattle.std.proofs.Common.{◌≡◌, Option, List, false, ltb, length, sym, ap, ◌∙◌}
+use Rattle.mdb_base.specs.declared.names.SiteId.{SiteId}
+use Rattle.session_routes.proofs.Homes.{no_home}
 use Rattle.session_routes.proofs.routes.Routes.home_of.Goals as goal
 
-pub returns-in-Some : goal.returns-in-Some
-returns-in-Some c scenario routed = c.in-Some.ensures.value ∙ sym (get_look txs_total txs_exact _ c.args.tx) ∙ routed.homes c.args.tx
-
 pub returns-in-None : goal.returns-in-None
-returns-in-None c scenario routed = c.in-None.ensures.value ∙ sym (get_look txs_total txs_exact _ c.args.tx) ∙ routed.homes c.args.tx
+returns-in-None c scenario routed =
+    let homes = c.args.self.now.homes.items in
+    let past : false ≡ ltb c.args.tx.0 (length homes) = c.in-None.ensures.lookup.0 ∙ ap (λ (hs : List (Option SiteId)). ltb c.args.tx.0 (length hs)) c.deref.ensures.value in
+    sym (no_home homes c.args.tx past) ∙ routed.homes c.args.tx

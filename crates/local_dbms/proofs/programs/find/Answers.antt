@@ -1,7 +1,0 @@
-use Rattle.std.proofs.Common.{sym, ◌∙◌}
-use Rattle.site_book.proofs.Keys.{txs_exact, txs_total}
-use Rattle.site_book.proofs.Maps.{get_look}
-use Rattle.local_dbms.proofs.programs.find.Goals as goal
-
-pub returns : goal.returns
-returns c = c.get.ensures.value ∙ sym (get_look txs_total txs_exact _ c.args.tx)

@@ -1,0 +1,9 @@
+use Rattle.std.proofs.Common.{◌≡◌, ◌+◌, ◌-◌, length}
+use Rattle.site_book.specs.Numbered.{by_number}
+use Rattle.site_book.proofs.local_map.reach.Given as goal
+
+abbrev pub invariant-loop-tx : goal.invariant-loop-tx
+invariant-loop-tx g l = by_number l.items.items ≡ by_number l.fn.items.items
+
+abbrev pub decreases-loop-tx : goal.decreases-loop-tx
+decreases-loop-tx g l = l.tx.0 + 1 - length l.items.items

@@ -1,6 +1,0 @@
-use Rattle.site_book.proofs.Keys.{txs_exact, txs_total}
-use Rattle.site_book.proofs.Maps.{entries_gone}
-use Rattle.site_book.proofs.local_map.remove_count.Goals as goal
-
-pub returns : goal.returns
-returns c = entries_gone txs_total txs_exact c.args.again.now.entries _ c.args.tx c.remove.ensures.updates.0
