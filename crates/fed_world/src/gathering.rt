@@ -56,7 +56,8 @@ impl World {
         cores
     }
 
-    /// The world of these actors, whose lines and messages these are: what they stand for behind the commands of the lines, it stands for.
+    /// The world of these actors, whose lines and messages these are: what they stand for behind the commands of the lines, it stands for. Its
+    /// lines are those given.
     #[tactic(none)]
     pub fn gather(
         alloc: Global,
@@ -66,6 +67,7 @@ impl World {
     ) -> Result<World, Memory>
         requires { SomeStory (Gathers cores lines channels) AnyStory }
         ensures recalls { IfOk result (λ world. EachStory (Gathers cores lines channels) (Recalls world)) }
+        ensures lines { IfOk result (λ world. world.lines.items ≡ lines) }
         ensures stands { IfOk result (λ world. (tells : Bool) (disks : List Seen) → EachStory (GathersOn tells disks cores lines channels) (Stands tells world disks)) }
     {
         let Ok(routes) = routes_of(alloc, &cores.scenario) else {

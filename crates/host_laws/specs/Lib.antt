@@ -8,6 +8,7 @@ pub mod CoordLines
 pub mod CoordTurns
 pub mod CoordHearing
 pub mod CoordHistory
+pub mod Links
 pub mod Written
 pub mod Logs
 pub mod Merged

@@ -14,6 +14,9 @@ returns-clause-recalls c scenario commands g =
     let world : World = record { cores = c.args.cores; routes = c.in-Ok.routes; traffic = c.in-Ok-traffic_of.traffic; lines = c.into_items.result; broken = false } in
     gathered_recalls world c.args.lines c.args.channels c.into_items.ensures c.in-Ok-traffic_of.ensures c.in-Ok.ensures scenario commands g
 
+pub returns-clause-lines : goal.returns-clause-lines
+returns-clause-lines c = c.into_items.ensures
+
 pub returns-clause-stands : goal.returns-clause-stands
 returns-clause-stands c tells disks scenario commands g =
     let world : World = record { cores = c.args.cores; routes = c.in-Ok.routes; traffic = c.in-Ok-traffic_of.traffic; lines = c.into_items.result; broken = false } in

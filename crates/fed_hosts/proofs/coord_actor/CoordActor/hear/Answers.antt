@@ -1,0 +1,208 @@
+use Rattle.std.proofs.Common.{◌≡◌, ◌<◌, ◌≤◌, ◌+◌, ◌^◌, Some, slice_get, length, refl, sym, ap, ◌∙◌, subst, arith}
+use Rattle.std.proofs.lemmas.Option.{slice_get_read}
+use Rattle.fed_rules.specs.declared.commands.Command.TheVariants as Cmd
+use Rattle.fed_rules.specs.declared.events.CoordEvent.TheVariants as Ev
+use Rattle.fed_rules.specs.Requests.{Submits}
+use Rattle.fed_hosts.specs.declared.coord_actor.CoordTold.{CoordTold}
+use Rattle.fed_hosts.specs.declared.ports.Port.{Port}
+use Rattle.host_laws.specs.CoordHearing.{BearsFrom}
+use Rattle.host_laws.specs.CoordTurns.{coord_past_of}
+use Rattle.fed_hosts.specs.Serving.{has_failed}
+use Rattle.fed_hosts.proofs.CoordHeard.{late_from, unread_from}
+use Rattle.fed_hosts.proofs.CoordSame.{coord_kept_for, same_coord, tooks_beside}
+use Rattle.fed_hosts.proofs.CoordServed.{coord_keeps_failed}
+use Rattle.fed_hosts.proofs.CoordTurning.{aside_keeps, back_keeps, coord_last_fits, coord_line_ready, coord_take_line, holds_same, port_among, was_put_back}
+use Rattle.fed_hosts.proofs.Faults.{clean}
+use Rattle.fed_hosts.proofs.Polled.{arrived_last}
+use Rattle.fed_hosts.proofs.Words.{not_some}
+use Rattle.fed_hosts.proofs.coord_actor.CoordActor.hear.Goals as goal
+
+pub returns-in_default-clause-keeps : goal.returns-in_default-clause-keeps
+returns-in_default-clause-keeps g c =
+    let test = g.P.TakePolicy.policy in
+    let tells = g.D.Disk.tells in
+    let seen = g.D.Disk.seen in
+    let plan = g.N.Plan.coordinator in
+    let rings = g.N.Wires.rings in
+    let h = c.requires.keeps in
+    let old = record c.args.self.now { first = c.args.arrived.place + 1 } in
+    let held = holds_same test tells seen plan rings c.args.arrived c.args.self.now old refl h in
+    let k = held.keeps in
+    aside_keeps test tells seen plan rings c.args.arrived old held (unread_from c.args.arrived.packet c.decode_from.result c.decode_from.ensures.only (not_some c.decode_from.result c.in_default.not-Some))
+
+pub returns-then-envelope-ge-MOST_STAMP-clause-keeps : goal.returns-then-envelope-ge-MOST_STAMP-clause-keeps
+returns-then-envelope-ge-MOST_STAMP-clause-keeps g c =
+    let test = g.P.TakePolicy.policy in
+    let tells = g.D.Disk.tells in
+    let seen = g.D.Disk.seen in
+    let plan = g.N.Plan.coordinator in
+    let rings = g.N.Wires.rings in
+    let h = c.requires.keeps in
+    let old = record c.args.self.now { first = c.args.arrived.place + 1 } in
+    let held = holds_same test tells seen plan rings c.args.arrived c.args.self.now old refl h in
+    let k = held.keeps in
+    aside_keeps test tells seen plan rings c.args.arrived old held
+    (late_from c.args.arrived.packet c.decode_from.result c.in-Some.envelope c.decode_from.ensures.only c.in-Some.is (omega (arith, c.if-envelope-ge-MOST_STAMP.true)))
+
+pub take-requires-clause-stood : goal.take-requires-clause-stood
+take-requires-clause-stood g c =
+    let test = g.P.TakePolicy.policy in
+    let tells = g.D.Disk.tells in
+    let seen = g.D.Disk.seen in
+    let plan = g.N.Plan.coordinator in
+    let rings = g.N.Wires.rings in
+    let arrived = c.args.arrived in
+    let old = record c.args.self.now { first = arrived.place + 1 } in
+    let held = holds_same test tells seen plan rings arrived c.args.self.now old refl c.requires.keeps in
+    let k = held.keeps in
+    let past = coord_past_of plan k.turns in
+    let ports = c.args.self.now.ports.items in
+    let from : Port = c.index.result.now in
+    let at : slice_get ports arrived.place ≡ Some from = slice_get_read ports (length ports) arrived.place from refl c.requires.arrived.within c.index.ensures in
+    let among = port_among rings plan ports arrived.place from k.planned at in
+    let envelope = c.in-Some.envelope in
+    record { terms = plan.terms; programs = plan.programs; past = past; stood = k.standing; holds = among }
+
+pub carry-requires-clause-room : goal.carry-requires-clause-room
+carry-requires-clause-room g c = record { lines = c.requires.room.lines; ports = c.requires.room.ports }
+
+pub carry-requires-clause-ready : goal.carry-requires-clause-ready
+carry-requires-clause-ready g c =
+    let test = g.P.TakePolicy.policy in
+    let tells = g.D.Disk.tells in
+    let seen = g.D.Disk.seen in
+    let plan = g.N.Plan.coordinator in
+    let rings = g.N.Wires.rings in
+    let arrived = c.args.arrived in
+    let old = record c.args.self.now { first = arrived.place + 1 } in
+    let held = holds_same test tells seen plan rings arrived c.args.self.now old refl c.requires.keeps in
+    let k = held.keeps in
+    let past = coord_past_of plan k.turns in
+    let ports = c.args.self.now.ports.items in
+    let from : Port = c.index.result.now in
+    let at : slice_get ports arrived.place ≡ Some from = slice_get_read ports (length ports) arrived.place from refl c.requires.arrived.within c.index.ensures in
+    let among = port_among rings plan ports arrived.place from k.planned at in
+    let envelope = c.in-Some.envelope in
+    let step = c.in-Ok.step in
+    let mid = record old { manager = c.take.new.self; disk = c.take.new.disk } in
+    let told : CoordTold = record { command = Cmd.Take from.ends.site envelope.index; answer = step.answer; sends = step.sends; after = envelope.stamp; places = c.args.places } in
+    coord_line_ready mid plan k.turns told (coord_kept_for old c.take.new.self c.take.new.disk plan k.turns k.kept) (record { lines = c.requires.room.lines; ports = c.requires.room.ports })
+    (omega (arith, c.if-envelope-ge-MOST_STAMP.false)) c.requires.places
+
+pub carry-requires-clause-last : goal.carry-requires-clause-last
+carry-requires-clause-last g c = coord_last_fits c.args.self.now g.N.Plan.coordinator c.requires.keeps.keeps.turns c.requires.keeps.keeps.kept
+
+pub put_back-requires-clause-last : goal.put_back-requires-clause-last
+put_back-requires-clause-last g c =
+    let test = g.P.TakePolicy.policy in
+    let tells = g.D.Disk.tells in
+    let seen = g.D.Disk.seen in
+    let plan = g.N.Plan.coordinator in
+    let rings = g.N.Wires.rings in
+    let arrived = c.args.arrived in
+    let old = record c.args.self.now { first = arrived.place + 1 } in
+    let held = holds_same test tells seen plan rings arrived c.args.self.now old refl c.requires.keeps in
+    let k = held.keeps in
+    let past = coord_past_of plan k.turns in
+    let ports = c.args.self.now.ports.items in
+    let from : Port = c.index.result.now in
+    let at : slice_get ports arrived.place ≡ Some from = slice_get_read ports (length ports) arrived.place from refl c.requires.arrived.within c.index.ensures in
+    let among = port_among rings plan ports arrived.place from k.planned at in
+    let envelope = c.in-Some.envelope in
+    let port : Port = c.index_mut.result.now in
+    let there : slice_get ports arrived.place ≡ Some port = slice_get_read ports (length ports) arrived.place port refl c.requires.arrived.within c.index_mut.ensures.value in
+    arrived_last arrived held.before ports port held.polled there
+
+pub put_back-requires-clause-back : goal.put_back-requires-clause-back
+put_back-requires-clause-back g c =
+    let ports = c.args.self.now.ports.items in
+    let arrived = c.args.arrived in
+    let port : Port = c.index_mut.result.now in
+    let there : slice_get ports arrived.place ≡ Some port = slice_get_read ports (length ports) arrived.place port refl c.requires.arrived.within c.index_mut.ensures.value in
+    c.requires.arrived.kept port there
+
+pub returns-in-Ok-clause-keeps : goal.returns-in-Ok-clause-keeps
+returns-in-Ok-clause-keeps g c =
+    let test = g.P.TakePolicy.policy in
+    let tells = g.D.Disk.tells in
+    let seen = g.D.Disk.seen in
+    let plan = g.N.Plan.coordinator in
+    let rings = g.N.Wires.rings in
+    let arrived = c.args.arrived in
+    let old = record c.args.self.now { first = arrived.place + 1 } in
+    let held = holds_same test tells seen plan rings arrived c.args.self.now old refl c.requires.keeps in
+    let k = held.keeps in
+    let past = coord_past_of plan k.turns in
+    let ports = c.args.self.now.ports.items in
+    let from : Port = c.index.result.now in
+    let at : slice_get ports arrived.place ≡ Some from = slice_get_read ports (length ports) arrived.place from refl c.requires.arrived.within c.index.ensures in
+    let among = port_among rings plan ports arrived.place from k.planned at in
+    let envelope = c.in-Some.envelope in
+    let step = c.in-Ok.step in
+    let bears : BearsFrom arrived.packet envelope = record { in_range = c.in-Some.ensures.in_range; spelled = c.in-Some.ensures.spelled; small = omega (arith, c.if-envelope-ge-MOST_STAMP.false) } in
+    let sends = c.in-Ok.ensures.served plan.terms plan.programs past k.standing among in
+    let told : CoordTold = record { command = Cmd.Take from.ends.site envelope.index; answer = step.answer; sends = step.sends; after = envelope.stamp; places = c.args.places } in
+    let line = coord_take_line test tells seen plan rings old c.take.new.self c.take.new.disk c.carry.new.self c.requires.few (clean _ _ step c.in-Ok.ensures.cause) c.carry.ensures.beside arrived held from envelope step c.args.places at bears sends told refl
+    (c.carry.ensures.carried tells (seen c.take.new.disk)) in
+    line.keeps
+
+pub returns-in-Ok-clause-turned : goal.returns-in-Ok-clause-turned
+returns-in-Ok-clause-turned g c =
+    let test = g.P.TakePolicy.policy in
+    let tells = g.D.Disk.tells in
+    let seen = g.D.Disk.seen in
+    let plan = g.N.Plan.coordinator in
+    let rings = g.N.Wires.rings in
+    let arrived = c.args.arrived in
+    let old = record c.args.self.now { first = arrived.place + 1 } in
+    let held = holds_same test tells seen plan rings arrived c.args.self.now old refl c.requires.keeps in
+    let k = held.keeps in
+    let past = coord_past_of plan k.turns in
+    let ports = c.args.self.now.ports.items in
+    let from : Port = c.index.result.now in
+    let at : slice_get ports arrived.place ≡ Some from = slice_get_read ports (length ports) arrived.place from refl c.requires.arrived.within c.index.ensures in
+    let among = port_among rings plan ports arrived.place from k.planned at in
+    let envelope = c.in-Some.envelope in
+    let step = c.in-Ok.step in
+    let bears : BearsFrom arrived.packet envelope = record { in_range = c.in-Some.ensures.in_range; spelled = c.in-Some.ensures.spelled; small = omega (arith, c.if-envelope-ge-MOST_STAMP.false) } in
+    let sends = c.in-Ok.ensures.served plan.terms plan.programs past k.standing among in
+    let told : CoordTold = record { command = Cmd.Take from.ends.site envelope.index; answer = step.answer; sends = step.sends; after = envelope.stamp; places = c.args.places } in
+    let line = coord_take_line test tells seen plan rings old c.take.new.self c.take.new.disk c.carry.new.self c.requires.few (clean _ _ step c.in-Ok.ensures.cause) c.carry.ensures.beside arrived held from envelope step c.args.places at bears sends told refl
+    (c.carry.ensures.carried tells (seen c.take.new.disk)) in
+    record { command = told.command; answer = step.answer; of_turn = tt; adds = line.adds }
+
+pub returns-in-Ok-clause-took : goal.returns-in-Ok-clause-took
+returns-in-Ok-clause-took g c = tooks_beside c.args.self.now.ports.items c.carry.new.self.ports.items c.carry.ensures.beside.ports
+
+pub returns-in-Err-clause-failed : goal.returns-in-Err-clause-failed
+returns-in-Err-clause-failed g c =
+    let test = g.P.TakePolicy.policy in
+    let tells = g.D.Disk.tells in
+    let seen = g.D.Disk.seen in
+    let plan = g.N.Plan.coordinator in
+    let rings = g.N.Wires.rings in
+    let arrived = c.args.arrived in
+    let old = record c.args.self.now { first = arrived.place + 1 } in
+    let held = holds_same test tells seen plan rings arrived c.args.self.now old refl c.requires.keeps in
+    let k = held.keeps in
+    let past = coord_past_of plan k.turns in
+    let ports = c.args.self.now.ports.items in
+    let from : Port = c.index.result.now in
+    let at : slice_get ports arrived.place ≡ Some from = slice_get_read ports (length ports) arrived.place from refl c.requires.arrived.within c.index.ensures in
+    let among = port_among rings plan ports arrived.place from k.planned at in
+    let envelope = c.in-Some.envelope in
+    let port : Port = c.index_mut.result.now in
+    let there : slice_get ports arrived.place ≡ Some port = slice_get_read ports (length ports) arrived.place port refl c.requires.arrived.within c.index_mut.ensures.value in
+    let why = c.in-Err.why in
+    let mid = record old { manager = c.take.new.self; disk = c.take.new.disk } in
+    let fails = c.in-Err.ensures.failed plan.terms plan.programs past k.standing among in
+    back_keeps test tells seen plan rings (has_failed why) arrived held.before mid _ held.polled (was_put_back ports arrived port c.put_back.new.self c.requires.arrived.within there c.put_back.ensures.ring c.put_back.ensures.taken)
+    (coord_keeps_failed test tells seen plan rings held.before old mid c.take.new.self c.take.new.disk why k (Submits (Ev.Take from.ends.site envelope.message)) fails c.in-Err.ensures.cause (same_coord mid))
+
+pub returns-in-Err-clause-back : goal.returns-in-Err-clause-back
+returns-in-Err-clause-back g c =
+    let ports = c.args.self.now.ports.items in
+    let arrived = c.args.arrived in
+    let port : Port = c.index_mut.result.now in
+    let there : slice_get ports arrived.place ≡ Some port = slice_get_read ports (length ports) arrived.place port refl c.requires.arrived.within c.index_mut.ensures.value in
+    was_put_back ports arrived port c.put_back.new.self c.requires.arrived.within there c.put_back.ensures.ring c.put_back.ensures.taken

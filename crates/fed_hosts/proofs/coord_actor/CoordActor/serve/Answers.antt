@@ -1,0 +1,223 @@
+use Rattle.std.proofs.Common.{◌≡◌, ◌≤◌, ◌<◌, false, length, IfErr, inl, inr, refl, sym, ap, ◌∙◌, subst, arith}
+use Rattle.fed_rules.specs.declared.answers.Answer.{Answer}
+use Rattle.actor_store.specs.declared.errors.StepErr.{StepErr}
+use Rattle.global_manager.proofs.Fit.{recalled}
+use Rattle.global_manager.specs.Stands.{Stands}
+use Rattle.fed_hosts.specs.declared.coord_actor.CoordTold.{CoordTold}
+use Rattle.fed_hosts.specs.CoordRooms.{HasCoordRoom}
+use Rattle.fed_hosts.specs.CoordServing.{HasCoordFailed, request_of_call}
+use Rattle.host_laws.specs.CoordTurns.{coord_past_of}
+use Rattle.fed_hosts.specs.CoordViews.{MayAnswerNext, command_of_call, coord_view_of}
+use Rattle.host_laws.specs.Plans.{most_lines}
+use Rattle.fed_hosts.proofs.CoordArmed.{coord_as_many}
+use Rattle.fed_hosts.proofs.CoordAsked.{call_right, call_short, call_unspent, coord_call_line, full_spent, last_spent, may_answer, unknown_unspent}
+use Rattle.fed_hosts.proofs.CoordOwn.{soft_call}
+use Rattle.fed_hosts.proofs.CoordSame.{coord_kept_for, coord_view_same, same_coord}
+use Rattle.fed_hosts.proofs.CoordServed.{coord_keeps_failed, coord_keeps_same, coord_line_adds, coord_line_view}
+use Rattle.fed_hosts.proofs.CoordTurning.{coord_last_fits, coord_line_ready, stood_managed}
+use Rattle.fed_hosts.proofs.CoordViews.{coord_keeps_seen}
+use Rattle.fed_hosts.proofs.Faults.{clean}
+use Rattle.fed_hosts.proofs.Words.{handed_on, ok_so}
+use Rattle.fed_hosts.proofs.coord_actor.CoordActor.serve.Goals as goal
+
+pub returns-then-len-ge-MOST_LINES-clause-served : goal.returns-then-len-ge-MOST_LINES-clause-served
+returns-then-len-ge-MOST_LINES-clause-served g c =
+    let test = g.P.TakePolicy.policy in
+    let tells = g.D.Disk.tells in
+    let seen = g.D.Disk.seen in
+    let plan = g.N.Plan.coordinator in
+    let rings = g.N.Wires.rings in
+    let old = c.args.self.now in
+    let k = c.requires.keeps in
+    let short = k.kept.logged.short in
+    let count = coord_as_many plan k.turns old k.kept.logged in
+    record {
+      turns = k.turns;
+      seen = coord_keeps_seen test tells seen plan rings false false old k;
+      served = inl (full_spent plan k.turns c.args.call old.lines.items (omega (arith, count, short, old.lines.ok.0, c.len.ensures, c.if-len-ge-MOST_LINES.true)), refl, refl);
+    }
+
+pub returns-then-is_unknown-clause-served : goal.returns-then-is_unknown-clause-served
+returns-then-is_unknown-clause-served g c =
+    let test = g.P.TakePolicy.policy in
+    let tells = g.D.Disk.tells in
+    let seen = g.D.Disk.seen in
+    let plan = g.N.Plan.coordinator in
+    let rings = g.N.Wires.rings in
+    let old = c.args.self.now in
+    let k = c.requires.keeps in
+    let past = coord_past_of plan k.turns in
+    let unknown = c.is_unknown.ensures.unknown c.if-is_unknown.true plan.terms plan.programs past (recalled test tells old.manager (seen old.disk) plan.terms plan.programs past k.standing) in
+    record {
+      turns = k.turns;
+      seen = coord_keeps_seen test tells seen plan rings false false old k;
+      served = inr (unknown_unspent plan k.turns c.args.call old.lines.items (omega (arith, old.lines.ok.0, c.len.ensures, c.if-len-ge-MOST_LINES.false)) unknown, inl (unknown, refl, refl));
+    }
+
+pub returns-then-is_last-clause-served : goal.returns-then-is_last-clause-served
+returns-then-is_last-clause-served g c =
+    let test = g.P.TakePolicy.policy in
+    let tells = g.D.Disk.tells in
+    let seen = g.D.Disk.seen in
+    let plan = g.N.Plan.coordinator in
+    let rings = g.N.Wires.rings in
+    let old = c.args.self.now in
+    let k = c.requires.keeps in
+    let past = coord_past_of plan k.turns in
+    let recalls = recalled test tells old.manager (seen old.disk) plan.terms plan.programs past k.standing in
+    let known = c.if-is_unknown.ensures.known refl plan.terms plan.programs past recalls in
+    let last = c.is_last.ensures.spent c.if-is_last.true plan.terms plan.programs past recalls in
+    record {
+      turns = k.turns;
+      seen = coord_keeps_seen test tells seen plan rings false false old k;
+      served = inl (last_spent plan k.turns old c.args.call k.kept.logged known last, refl, refl);
+    }
+
+pub ask-requires-clause-stood : goal.ask-requires-clause-stood
+ask-requires-clause-stood g c =
+    let test = g.P.TakePolicy.policy in
+    let tells = g.D.Disk.tells in
+    let seen = g.D.Disk.seen in
+    let plan = g.N.Plan.coordinator in
+    let rings = g.N.Wires.rings in
+    let ready = c.reserve.new.self in
+    stood_managed test tells seen plan rings ready.ports.items ready (coord_keeps_same test tells seen plan rings false c.args.self.now ready c.reserve.ensures.same c.requires.keeps)
+
+pub returns-in_err-step-clause-failed : goal.returns-in_err-step-clause-failed
+returns-in_err-step-clause-failed g c =
+    let test = g.P.TakePolicy.policy in
+    let tells = g.D.Disk.tells in
+    let seen = g.D.Disk.seen in
+    let plan = g.N.Plan.coordinator in
+    let rings = g.N.Wires.rings in
+    let ready = c.reserve.new.self in
+    let new = record ready { manager = c.ask.new.manager; disk = c.ask.new.disk } in
+    let k = coord_keeps_same test tells seen plan rings false c.args.self.now ready c.reserve.ensures.same c.requires.keeps in
+    let past = coord_past_of plan k.turns in
+    let why = c.in_err-step.field-0.0 in
+    subst (λ r. IfErr r (HasCoordFailed test tells seen plan rings new)) (sym (handed_on c.from_residual.result why c.from_residual.ensures))
+    (coord_keeps_failed test tells seen plan rings ready.ports.items ready new c.ask.new.manager c.ask.new.disk why k (request_of_call plan.terms plan.programs past c.args.call)
+    (c.in_err-step.ensures.failed plan.terms plan.programs past k.standing) c.in_err-step.ensures.cause (same_coord new))
+
+pub again-copy-requires : goal.again-copy-requires
+again-copy-requires g c =
+    let test = g.P.TakePolicy.policy in
+    let tells = g.D.Disk.tells in
+    let seen = g.D.Disk.seen in
+    let plan = g.N.Plan.coordinator in
+    let rings = g.N.Wires.rings in
+    let ready = c.reserve.new.self in
+    let k = coord_keeps_same test tells seen plan rings false c.args.self.now ready c.reserve.ensures.same c.requires.keeps in
+    let past = coord_past_of plan k.turns in
+    let r = request_of_call plan.terms plan.programs past c.args.call in
+    let served = c.in_ok-step.ensures.served plan.terms plan.programs past k.standing in
+    call_short plan.terms past c.args.call r c.in_ok-step.step.answer (soft_call plan.terms plan.programs past c.args.call)
+    (may_answer plan.terms plan.programs past (Stands test tells c.ask.new.manager (seen c.ask.new.disk)) r c.in_ok-step.step served)
+
+pub carry-requires-clause-ready : goal.carry-requires-clause-ready
+carry-requires-clause-ready g c =
+    let test = g.P.TakePolicy.policy in
+    let tells = g.D.Disk.tells in
+    let seen = g.D.Disk.seen in
+    let plan = g.N.Plan.coordinator in
+    let rings = g.N.Wires.rings in
+    let ready = c.reserve.new.self in
+    let k = coord_keeps_same test tells seen plan rings false c.args.self.now ready c.reserve.ensures.same c.requires.keeps in
+    let mid = record ready { manager = c.ask.new.manager; disk = c.ask.new.disk } in
+    let step = c.in_ok-step.step in
+    let told : CoordTold = record { command = c.command.result; answer = step.answer; sends = step.sends; after = 0; places = c.in-Ok.places } in
+    let room : HasCoordRoom ready = ok_so c.reserve.result (sym c.is_err.ensures.value ∙ c.if-is_err.false) c.reserve.ensures.room in
+    let count = c.reserve.ensures.same.ports.count in
+    coord_line_ready mid plan k.turns told (coord_kept_for ready c.ask.new.manager c.ask.new.disk plan k.turns k.kept) (record { lines = room.lines; ports = room.ports }) (omega arith)
+    (c.in-Ok.ensures.items, omega (arith, count, c.args.self.now.ports.ok.0, c.len-2.ensures, c.in-Ok.ensures.capacity))
+
+pub carry-requires-clause-last : goal.carry-requires-clause-last
+carry-requires-clause-last g c =
+    let test = g.P.TakePolicy.policy in
+    let tells = g.D.Disk.tells in
+    let seen = g.D.Disk.seen in
+    let plan = g.N.Plan.coordinator in
+    let rings = g.N.Wires.rings in
+    let ready = c.reserve.new.self in
+    let k = coord_keeps_same test tells seen plan rings false c.args.self.now ready c.reserve.ensures.same c.requires.keeps in
+    coord_last_fits ready plan k.turns k.kept
+
+pub returns-clause-keeps : goal.returns-clause-keeps
+returns-clause-keeps g c =
+    let test = g.P.TakePolicy.policy in
+    let tells = g.D.Disk.tells in
+    let seen = g.D.Disk.seen in
+    let plan = g.N.Plan.coordinator in
+    let rings = g.N.Wires.rings in
+    let old = c.args.self.now in
+    let ready = c.reserve.new.self in
+    let now = c.requires.keeps in
+    let k = coord_keeps_same test tells seen plan rings false old ready c.reserve.ensures.same now in
+    let past = coord_past_of plan k.turns in
+    let step = c.in_ok-step.step in
+    let served = c.in_ok-step.ensures.served plan.terms plan.programs past k.standing in
+    let recalls = recalled test tells old.manager (seen old.disk) plan.terms plan.programs past now.standing in
+    let known = c.if-is_unknown.ensures.known refl plan.terms plan.programs past recalls in
+    let may = c.if-is_last.ensures.left refl plan.terms plan.programs past recalls in
+    let count = ap length c.reserve.ensures.same.lines in
+    let told : CoordTold = record { command = c.command.result; answer = step.answer; sends = step.sends; after = 0; places = c.in-Ok.places } in
+    let line = coord_call_line test tells seen plan rings ready c.ask.new.manager c.ask.new.disk c.carry.new.self c.args.call told k refl c.command.ensures served known may
+    (omega (arith, count, old.lines.ok.0, c.len.ensures, c.if-len-ge-MOST_LINES.false)) (clean _ _ step c.in_ok-step.ensures.cause) (c.carry.ensures.carried tells (seen c.ask.new.disk)) c.carry.ensures.beside in
+    line.keeps
+
+pub returns-clause-served : goal.returns-clause-served
+returns-clause-served g c =
+    let test = g.P.TakePolicy.policy in
+    let tells = g.D.Disk.tells in
+    let seen = g.D.Disk.seen in
+    let plan = g.N.Plan.coordinator in
+    let rings = g.N.Wires.rings in
+    let old = c.args.self.now in
+    let ready = c.reserve.new.self in
+    let now = c.requires.keeps in
+    let k = coord_keeps_same test tells seen plan rings false old ready c.reserve.ensures.same now in
+    let past = coord_past_of plan k.turns in
+    let step = c.in_ok-step.step in
+    let served = c.in_ok-step.ensures.served plan.terms plan.programs past k.standing in
+    let recalls = recalled test tells old.manager (seen old.disk) plan.terms plan.programs past now.standing in
+    let known = c.if-is_unknown.ensures.known refl plan.terms plan.programs past recalls in
+    let may = c.if-is_last.ensures.left refl plan.terms plan.programs past recalls in
+    let count = ap length c.reserve.ensures.same.lines in
+    let told : CoordTold = record { command = c.command.result; answer = step.answer; sends = step.sends; after = 0; places = c.in-Ok.places } in
+    let line = coord_call_line test tells seen plan rings ready c.ask.new.manager c.ask.new.disk c.carry.new.self c.args.call told k refl c.command.ensures served known may
+    (omega (arith, count, old.lines.ok.0, c.len.ensures, c.if-len-ge-MOST_LINES.false)) (clean _ _ step c.in_ok-step.ensures.cause) (c.carry.ensures.carried tells (seen c.ask.new.disk)) c.carry.ensures.beside in
+    record {
+      turns = k.turns;
+      seen = coord_keeps_seen test tells seen plan rings false false old now;
+      served = inr (
+        call_unspent plan k.turns c.args.call old.lines.items (omega (arith, old.lines.ok.0, c.len.ensures, c.if-len-ge-MOST_LINES.false)) may,
+        inr (
+          known,
+          record {
+            others = coord_line_view test tells seen plan rings old ready c.carry.new.self told c.reserve.ensures.same line;
+            adds = coord_line_adds test tells seen plan rings old ready c.carry.new.self told (command_of_call c.args.call) c.again-copy.result c.reserve.ensures.same line c.command.ensures (sym c.again-copy.ensures);
+            right = subst (λ (a : Answer). MayAnswerNext plan k.turns c.args.call a) (sym c.again-copy.ensures)
+                (call_right plan k.turns c.args.call step.answer (may_answer plan.terms plan.programs past (Stands test tells c.ask.new.manager (seen c.ask.new.disk)) (request_of_call plan.terms plan.programs past c.args.call) step served));
+          },
+        ),
+      );
+    }
+
+pub returns-then-is_err-clause-failed : goal.returns-then-is_err-clause-failed
+returns-then-is_err-clause-failed g c =
+    coord_keeps_same g.P.TakePolicy.policy g.D.Disk.tells g.D.Disk.seen g.N.Plan.coordinator g.N.Wires.rings false c.args.self.now c.reserve.new.self c.reserve.ensures.same c.requires.keeps
+
+pub returns-then-is_err-clause-same : goal.returns-then-is_err-clause-same
+returns-then-is_err-clause-same g c = coord_view_same c.args.self.now c.reserve.new.self c.reserve.ensures.same false
+
+pub returns-in_err-step-clause-same : goal.returns-in_err-step-clause-same
+returns-in_err-step-clause-same g c =
+    let old = c.args.self.now in
+    let ready = c.reserve.new.self in
+    let why = c.in_err-step.field-0.0 in
+    subst (λ r. IfErr r (λ w. coord_view_of ready false ≡ coord_view_of old false)) (sym (handed_on c.from_residual.result why c.from_residual.ensures)) (coord_view_same old ready c.reserve.ensures.same false)
+
+pub carry-requires-clause-room : goal.carry-requires-clause-room
+carry-requires-clause-room g c =
+    let room : HasCoordRoom c.reserve.new.self = ok_so c.reserve.result (sym c.is_err.ensures.value ∙ c.if-is_err.false) c.reserve.ensures.room in
+    record { lines = room.lines; ports = room.ports }

@@ -1,0 +1,154 @@
+use Rattle.std.proofs.Common.{false, is_some, refl, sym, ap, ◌∙◌, arith}
+use Rattle.mdb_base.specs.declared.names.Tid.{Tid}
+use Rattle.fed_rules.specs.declared.commands.Command.TheVariants as Cmd
+use Rattle.fed_rules.specs.declared.events.SiteEvent.TheVariants as Ev
+use Rattle.fed_rules.specs.Requests.{Submits}
+use Rattle.local_dbms.proofs.Fit.{recalled}
+use Rattle.site_core.specs.Made.{about}
+use Rattle.scripted_link.specs.Inlets.{taken}
+use Rattle.fed_hosts.specs.declared.site_actor.Told.{Told}
+use Rattle.host_laws.specs.Hearing.{Bears}
+use Rattle.fed_hosts.specs.Serving.{has_failed}
+use Rattle.host_laws.specs.Turns.{past_of}
+use Rattle.fed_hosts.proofs.Lines.{short_past}
+use Rattle.fed_hosts.proofs.Same.{same_self}
+use Rattle.fed_hosts.proofs.Faults.{clean}
+use Rattle.fed_hosts.proofs.Served.{keeps_failed, kept_beside}
+use Rattle.fed_hosts.proofs.Turning.{about_named, give_line, last_fits, left_aside, line_ready, put_back, unread_late, unread_none, unread_own}
+use Rattle.fed_hosts.proofs.Words.{none_of, not_some}
+use Rattle.fed_hosts.proofs.site_actor.SiteActor.hear.Goals as goal
+use Rattle.fed_hosts.proofs.site_actor.SiteActor.hear.Goals.{then-envelope-ge-MOST_STAMP-via-then-envelope-ge-MOST_STAMP, then-envelope-ge-MOST_STAMP-via-else-envelope-ge-MOST_STAMP+then-is_own}
+
+pub returns-in_default-clause-keeps : goal.returns-in_default-clause-keeps
+returns-in_default-clause-keeps g c =
+    let h = c.requires.keeps in
+    left_aside g.E.LocalEngine.stands g.D.Disk.tells g.D.Disk.seen g.N.Plan.sites g.N.Wires.rings c.args.packet c.args.self.now h
+    (unread_none h.keeps.plan.programs c.args.packet c.decode_to.result c.decode_to.ensures.only (not_some c.decode_to.result c.in_default.not-Some))
+
+pub returns-then-envelope-ge-MOST_STAMP-clause-keeps : goal.returns-then-envelope-ge-MOST_STAMP-clause-keeps
+returns-then-envelope-ge-MOST_STAMP-clause-keeps g c =
+    let h = c.requires.keeps in
+    let k = h.keeps in
+    let old = c.args.self.now in
+    let stands = g.E.LocalEngine.stands in
+    let envelope = c.in-Some.envelope in
+    left_aside stands g.D.Disk.tells g.D.Disk.seen g.N.Plan.sites g.N.Wires.rings c.args.packet old h
+    (elim c.then-envelope-ge-MOST_STAMP.branch [
+      | then-envelope-ge-MOST_STAMP-via-then-envelope-ge-MOST_STAMP w ↦
+          unread_late k.plan.programs c.args.packet c.decode_to.result envelope c.decode_to.ensures.only c.in-Some.is (omega (arith, w.if-envelope-ge-MOST_STAMP.true))
+      | then-envelope-ge-MOST_STAMP-via-else-envelope-ge-MOST_STAMP+then-is_own w ↦
+          unread_own k.plan.programs c.args.packet c.decode_to.result envelope c.decode_to.ensures.only c.in-Some.is
+          (ap (λ (t : Tid). is_some (k.plan.programs t.tx)) (sym w.about.ensures)
+          ∙ sym (w.is_own.ensures k.plan.home k.plan.programs (past_of k.plan k.turns) (recalled stands g.D.Disk.tells old.dbms (g.D.Disk.seen old.disk) k.plan.home k.plan.programs (past_of k.plan k.turns) k.standing)) ∙ w.if-is_own.true)
+    ])
+
+pub give-requires-clause-stood : goal.give-requires-clause-stood
+give-requires-clause-stood g c =
+    let h = c.requires.keeps in
+    let k = h.keeps in
+    let old = c.args.self.now in
+    let stands = g.E.LocalEngine.stands in
+    let past = past_of k.plan k.turns in
+    record {
+      home = k.plan.home;
+      programs = k.plan.programs;
+      past = past;
+      stood = k.standing;
+      holds = record {
+        short = short_past stands g.D.Disk.tells g.D.Disk.seen g.N.Plan.sites g.N.Wires.rings false h.before old k;
+        foreign = none_of (k.plan.programs (about c.in-Some.envelope.message).tx)
+            (ap (λ (t : Tid). is_some (k.plan.programs t.tx)) (sym c.about.ensures)
+            ∙ sym (c.is_own.ensures k.plan.home k.plan.programs past (recalled stands g.D.Disk.tells old.dbms (g.D.Disk.seen old.disk) k.plan.home k.plan.programs past k.standing)) ∙ c.if-is_own.false);
+        in_range = about_named c.in-Some.envelope.message c.in-Some.ensures.in_range.message;
+      };
+    }
+
+pub carry-requires-clause-room : goal.carry-requires-clause-room
+carry-requires-clause-room g c = record { lines = c.requires.room.lines; sent = c.requires.room.sent; outlet = c.requires.room.outlet }
+
+pub carry-requires-clause-ready : goal.carry-requires-clause-ready
+carry-requires-clause-ready g c =
+    let k = c.requires.keeps.keeps in
+    let old = c.args.self.now in
+    let mid = record old { dbms = c.give.new.self; disk = c.give.new.disk } in
+    let told : Told = record { command = Cmd.Give old.ends.site c.in-Some.envelope.index; answer = c.in-Ok.step.answer; send = c.in-Ok.step.sends; after = c.in-Some.envelope.stamp; places = c.args.places } in
+    line_ready g.E.LocalEngine.stands g.D.Disk.tells g.D.Disk.seen g.N.Plan.sites g.N.Wires.rings mid k.plan k.turns told (kept_beside old c.give.new.self c.give.new.disk k.plan k.turns k.kept)
+    (record { lines = c.requires.room.lines; sent = c.requires.room.sent; outlet = c.requires.room.outlet }) (omega (arith, c.if-envelope-ge-MOST_STAMP.false)) c.requires.places
+
+pub carry-requires-clause-last : goal.carry-requires-clause-last
+carry-requires-clause-last g c =
+    let k = c.requires.keeps.keeps in
+    last_fits g.E.LocalEngine.stands g.D.Disk.tells g.D.Disk.seen g.N.Plan.sites g.N.Wires.rings c.args.self.now k.plan k.turns k.kept
+
+pub put_back-requires-clause-last : goal.put_back-requires-clause-last
+put_back-requires-clause-last g c = (c.requires.keeps.before, c.requires.keeps.took)
+
+pub returns-in-Ok-clause-keeps : goal.returns-in-Ok-clause-keeps
+returns-in-Ok-clause-keeps g c =
+    let stands = g.E.LocalEngine.stands in
+    let tells = g.D.Disk.tells in
+    let seen = g.D.Disk.seen in
+    let h = c.requires.keeps in
+    let k = h.keeps in
+    let old = c.args.self.now in
+    let past = past_of k.plan k.turns in
+    let envelope = c.in-Some.envelope in
+    let foreign = none_of (k.plan.programs (about envelope.message).tx)
+    (ap (λ (t : Tid). is_some (k.plan.programs t.tx)) (sym c.about.ensures)
+    ∙ sym (c.is_own.ensures k.plan.home k.plan.programs past (recalled stands tells old.dbms (seen old.disk) k.plan.home k.plan.programs past k.standing)) ∙ c.if-is_own.false) in
+    let bears : Bears k.plan.programs c.args.packet envelope =
+    record { in_range = c.in-Some.ensures.in_range; spelled = c.in-Some.ensures.spelled; small = omega (arith, c.if-envelope-ge-MOST_STAMP.false); foreign = foreign } in
+    let short = short_past stands tells seen g.N.Plan.sites g.N.Wires.rings false h.before old k in
+    let sends = c.in-Ok.ensures.served k.plan.home k.plan.programs past k.standing (record { short = short; foreign = foreign; in_range = about_named envelope.message c.in-Some.ensures.in_range.message }) in
+    (give_line stands tells seen g.N.Plan.sites g.N.Wires.rings old c.give.new.self c.give.new.disk c.carry.new.self c.requires.few (clean _ _ c.in-Ok.step c.in-Ok.ensures.cause) c.carry.ensures.beside c.args.packet h envelope c.in-Ok.step c.args.places bears sends
+    (c.carry.ensures.carried tells (seen c.give.new.disk))).keeps
+
+pub returns-in-Ok-clause-turned : goal.returns-in-Ok-clause-turned
+returns-in-Ok-clause-turned g c =
+    let stands = g.E.LocalEngine.stands in
+    let tells = g.D.Disk.tells in
+    let seen = g.D.Disk.seen in
+    let h = c.requires.keeps in
+    let k = h.keeps in
+    let old = c.args.self.now in
+    let past = past_of k.plan k.turns in
+    let envelope = c.in-Some.envelope in
+    let foreign = none_of (k.plan.programs (about envelope.message).tx)
+    (ap (λ (t : Tid). is_some (k.plan.programs t.tx)) (sym c.about.ensures)
+    ∙ sym (c.is_own.ensures k.plan.home k.plan.programs past (recalled stands tells old.dbms (seen old.disk) k.plan.home k.plan.programs past k.standing)) ∙ c.if-is_own.false) in
+    let bears : Bears k.plan.programs c.args.packet envelope =
+    record { in_range = c.in-Some.ensures.in_range; spelled = c.in-Some.ensures.spelled; small = omega (arith, c.if-envelope-ge-MOST_STAMP.false); foreign = foreign } in
+    let short = short_past stands tells seen g.N.Plan.sites g.N.Wires.rings false h.before old k in
+    let sends = c.in-Ok.ensures.served k.plan.home k.plan.programs past k.standing (record { short = short; foreign = foreign; in_range = about_named envelope.message c.in-Some.ensures.in_range.message }) in
+    record {
+      command = Cmd.Give old.ends.site envelope.index;
+      answer = c.in-Ok.step.answer;
+      of_turn = refl;
+      adds = (give_line stands tells seen g.N.Plan.sites g.N.Wires.rings old c.give.new.self c.give.new.disk c.carry.new.self c.requires.few (clean _ _ c.in-Ok.step c.in-Ok.ensures.cause) c.carry.ensures.beside c.args.packet h envelope c.in-Ok.step c.args.places bears sends
+          (c.carry.ensures.carried tells (seen c.give.new.disk))).adds;
+    }
+
+pub returns-in-Ok-clause-took : goal.returns-in-Ok-clause-took
+returns-in-Ok-clause-took g c = ap taken c.carry.ensures.beside.inlet
+
+pub returns-in-Err-clause-failed : goal.returns-in-Err-clause-failed
+returns-in-Err-clause-failed g c =
+    let stands = g.E.LocalEngine.stands in
+    let tells = g.D.Disk.tells in
+    let seen = g.D.Disk.seen in
+    let sites = g.N.Plan.sites in
+    let rings = g.N.Wires.rings in
+    let h = c.requires.keeps in
+    let k = h.keeps in
+    let old = c.args.self.now in
+    let past = past_of k.plan k.turns in
+    let why = c.in-Err.why in
+    let message = c.in-Some.envelope.message in
+    let mid = record old { dbms = c.give.new.self; disk = c.give.new.disk } in
+    let foreign = none_of (k.plan.programs (about message).tx)
+    (ap (λ (t : Tid). is_some (k.plan.programs t.tx)) (sym c.about.ensures)
+    ∙ sym (c.is_own.ensures k.plan.home k.plan.programs past (recalled stands tells old.dbms (seen old.disk) k.plan.home k.plan.programs past k.standing)) ∙ c.if-is_own.false) in
+    let short = short_past stands tells seen sites rings false h.before old k in
+    let fails = c.in-Err.ensures.failed k.plan.home k.plan.programs past k.standing (record { short = short; foreign = foreign; in_range = about_named message c.in-Some.ensures.in_range.message }) in
+    put_back stands tells seen sites rings (has_failed why) c.args.packet h.before mid c.put_back.new.self h.took c.put_back.ensures.taken c.put_back.ensures.ring
+    (keeps_failed stands tells seen sites rings h.before old mid c.give.new.self c.give.new.disk why k (Submits (Ev.Give message)) fails c.in-Err.ensures.cause (same_self mid))

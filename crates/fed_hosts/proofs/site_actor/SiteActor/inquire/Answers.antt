@@ -1,0 +1,102 @@
+use Rattle.std.proofs.Common.{false, IfErr, refl, sym, subst, arith}
+use Rattle.fed_rules.specs.declared.commands.Command.TheVariants as Cmd
+use Rattle.fed_rules.specs.declared.events.SiteEvent.TheVariants as Ev
+use Rattle.fed_rules.specs.Requests.{Submits}
+use Rattle.scripted_link.specs.Inlets.{taken}
+use Rattle.fed_hosts.specs.declared.site_actor.Told.{Told}
+use Rattle.fed_hosts.specs.Serving.{HasFailed}
+use Rattle.host_laws.specs.Turns.{past_of}
+use Rattle.fed_hosts.proofs.Lines.{short_past, stood_short}
+use Rattle.fed_hosts.proofs.Same.{kept_same, same_self}
+use Rattle.fed_hosts.proofs.Faults.{clean}
+use Rattle.fed_hosts.proofs.Served.{keeps_failed, keeps_same, kept_beside}
+use Rattle.fed_hosts.proofs.Turning.{ask_line, last_fits, line_ready}
+use Rattle.fed_hosts.proofs.Words.{handed_on}
+use Rattle.fed_hosts.proofs.site_actor.SiteActor.inquire.Goals as goal
+
+pub returns-then-self-clause-keeps : goal.returns-then-self-clause-keeps
+returns-then-self-clause-keeps g c =
+    keeps_same g.E.LocalEngine.stands g.D.Disk.tells g.D.Disk.seen g.N.Plan.sites g.N.Wires.rings false c.args.self.now _
+    (record { dbms = refl; disk = refl; site = refl; inlet = refl; wire = refl; offers = refl; stops = refl; armed = refl; lines = refl; sent = refl; last = refl }) c.requires.keeps
+
+pub returns-then-len-eq0-clause-keeps : goal.returns-then-len-eq0-clause-keeps
+returns-then-len-eq0-clause-keeps g c =
+    keeps_same g.E.LocalEngine.stands g.D.Disk.tells g.D.Disk.seen g.N.Plan.sites g.N.Wires.rings false c.args.self.now (record c.args.self.now { idle = 0 })
+    (record { dbms = refl; disk = refl; site = refl; inlet = refl; wire = refl; offers = refl; stops = refl; armed = refl; lines = refl; sent = refl; last = refl }) c.requires.keeps
+
+pub ask-requires-clause-stood : goal.ask-requires-clause-stood
+ask-requires-clause-stood g c =
+    stood_short g.E.LocalEngine.stands g.D.Disk.tells g.D.Disk.seen g.N.Plan.sites g.N.Wires.rings (taken c.args.self.now.ends.inlet) c.args.self.now c.requires.keeps
+
+pub returns-in_err-step-clause-failed : goal.returns-in_err-step-clause-failed
+returns-in_err-step-clause-failed g c =
+    let stands = g.E.LocalEngine.stands in
+    let tells = g.D.Disk.tells in
+    let seen = g.D.Disk.seen in
+    let sites = g.N.Plan.sites in
+    let rings = g.N.Wires.rings in
+    let old = c.args.self.now in
+    let new = record old { dbms = c.ask.new.self; disk = c.ask.new.disk } in
+    let k = c.requires.keeps in
+    let short = short_past stands tells seen sites rings false (taken old.ends.inlet) old k in
+    let why = c.in_err-step.field-0.0 in
+    subst (λ r. IfErr r (HasFailed stands tells seen sites rings new)) (sym (handed_on c.from_residual.result why c.from_residual.ensures))
+    (keeps_failed stands tells seen sites rings (taken old.ends.inlet) old new c.ask.new.self c.ask.new.disk why k (Submits (Ev.Ask c.at.result.now.tid))
+    (c.in_err-step.ensures.failed k.plan.home k.plan.programs (past_of k.plan k.turns) k.standing short) c.in_err-step.ensures.cause (same_self new))
+
+pub carry-requires-clause-room : goal.carry-requires-clause-room
+carry-requires-clause-room g c = record { lines = c.requires.room.lines; sent = c.requires.room.sent; outlet = c.requires.room.outlet }
+
+pub carry-requires-clause-ready : goal.carry-requires-clause-ready
+carry-requires-clause-ready g c =
+    let k = c.requires.keeps in
+    let old = record c.args.self.now { idle = 0 } in
+    let mid = record old { dbms = c.ask.new.self; disk = c.ask.new.disk } in
+    let told : Told = record { command = Cmd.Ask c.args.self.now.ends.site c.at.result.now.tid; answer = c.in_ok-step.step.answer; send = c.in_ok-step.step.sends; after = 0; places = c.args.places } in
+    line_ready g.E.LocalEngine.stands g.D.Disk.tells g.D.Disk.seen g.N.Plan.sites g.N.Wires.rings mid k.plan k.turns told
+    (kept_beside old c.ask.new.self c.ask.new.disk k.plan k.turns
+    (kept_same c.args.self.now old (record { dbms = refl; disk = refl; site = refl; inlet = refl; wire = refl; offers = refl; stops = refl; armed = refl; lines = refl; sent = refl; last = refl }) k.plan k.turns k.kept))
+    (record { lines = c.requires.room.lines; sent = c.requires.room.sent; outlet = c.requires.room.outlet }) (omega arith) c.requires.places
+
+pub carry-requires-clause-last : goal.carry-requires-clause-last
+carry-requires-clause-last g c =
+    let k = c.requires.keeps in
+    last_fits g.E.LocalEngine.stands g.D.Disk.tells g.D.Disk.seen g.N.Plan.sites g.N.Wires.rings c.args.self.now k.plan k.turns k.kept
+
+pub returns-clause-keeps : goal.returns-clause-keeps
+returns-clause-keeps g c =
+    let stands = g.E.LocalEngine.stands in
+    let tells = g.D.Disk.tells in
+    let seen = g.D.Disk.seen in
+    let sites = g.N.Plan.sites in
+    let rings = g.N.Wires.rings in
+    let k = c.requires.keeps in
+    let old = record c.args.self.now { idle = 0 } in
+    let now = keeps_same stands tells seen sites rings false c.args.self.now old (record { dbms = refl; disk = refl; site = refl; inlet = refl; wire = refl; offers = refl; stops = refl; armed = refl; lines = refl; sent = refl; last = refl }) k in
+    let short = short_past stands tells seen sites rings false (taken c.args.self.now.ends.inlet) c.args.self.now k in
+    let sends = c.in_ok-step.ensures.served k.plan.home k.plan.programs (past_of k.plan k.turns) k.standing short in
+    (ask_line stands tells seen sites rings old c.ask.new.self c.ask.new.disk c.carry.new.self c.requires.few (clean _ _ c.in_ok-step.step c.in_ok-step.ensures.cause) c.carry.ensures.beside now c.at.result.now.tid c.in_ok-step.step c.args.places sends
+    (c.carry.ensures.carried tells (seen c.ask.new.disk))).keeps
+
+pub returns-clause-turned : goal.returns-clause-turned
+returns-clause-turned g c =
+    let stands = g.E.LocalEngine.stands in
+    let tells = g.D.Disk.tells in
+    let seen = g.D.Disk.seen in
+    let sites = g.N.Plan.sites in
+    let rings = g.N.Wires.rings in
+    let k = c.requires.keeps in
+    let old = record c.args.self.now { idle = 0 } in
+    let now = keeps_same stands tells seen sites rings false c.args.self.now old (record { dbms = refl; disk = refl; site = refl; inlet = refl; wire = refl; offers = refl; stops = refl; armed = refl; lines = refl; sent = refl; last = refl }) k in
+    let short = short_past stands tells seen sites rings false (taken c.args.self.now.ends.inlet) c.args.self.now k in
+    let sends = c.in_ok-step.ensures.served k.plan.home k.plan.programs (past_of k.plan k.turns) k.standing short in
+    record {
+      command = Cmd.Ask old.ends.site c.at.result.now.tid;
+      answer = c.in_ok-step.step.answer;
+      of_turn = refl;
+      adds = (ask_line stands tells seen sites rings old c.ask.new.self c.ask.new.disk c.carry.new.self c.requires.few (clean _ _ c.in_ok-step.step c.in_ok-step.ensures.cause) c.carry.ensures.beside now c.at.result.now.tid c.in_ok-step.step c.args.places sends
+          (c.carry.ensures.carried tells (seen c.ask.new.disk))).adds;
+    }
+
+pub returns-clause-inlet : goal.returns-clause-inlet
+returns-clause-inlet g c = c.carry.ensures.beside.inlet

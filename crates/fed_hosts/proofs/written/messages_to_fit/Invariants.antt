@@ -1,0 +1,8 @@
+use Rattle.std.proofs.Common.{drop}
+use Rattle.mdb_base.specs.Words.{Each}
+use Rattle.host_laws.specs.Written.{FitsToSite}
+use Rattle.fed_hosts.proofs.written.messages_to_fit.Given as goal
+
+-- with those that are left it is so of all
+abbrev pub invariant-loop-message : goal.invariant-loop-message
+invariant-loop-message l = Each FitsToSite (drop l.message-index l.messages) → Each FitsToSite l.messages

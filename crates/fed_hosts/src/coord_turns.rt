@@ -1,0 +1,126 @@
+//! A turn of the coordinator's host.
+ghost use Rattle.std.specs.Prelude.{◌≡◌, ◌<◌, ◌≤◌, [], false, true, IfErr, IfOk, IsTrue, length};
+ghost use Rattle.std.specs.Vec.{vec_capacity};
+ghost use Rattle.fed_hosts.specs.CoordKeeps.{CoordKeeps};
+ghost use Rattle.fed_hosts.specs.CoordRooms.{HasCoordRoom};
+ghost use Rattle.fed_hosts.specs.CoordServing.{HasCoordFailed, HoldsFrom};
+ghost use Rattle.fed_hosts.specs.CoordViews.{HasCoordMade, HasCoordTurned, coord_view_of};
+ghost use Rattle.host_laws.specs.Plans.{most_lines};
+ghost use Rattle.fed_hosts.specs.Ports.{empties_of, tooks_of};
+ghost use Rattle.fed_hosts.specs.Rounds.{ArePutBack, HasArrived};
+
+use crate::coord_actor::{CoordActor, CoordTold};
+use crate::plans::Plan;
+use crate::rounds::{Arrived, next_arrived};
+use crate::site_actor::MOST_LINES;
+use crate::turns::MOST_STAMP;
+use fed_messages::decode_from;
+use fed_rules::{Command, Place};
+use global_exec::TakePolicy;
+use global_manager::StepErr;
+use journal_disk::Disk;
+
+impl<P: TakePolicy, D: Disk> CoordActor<P, D> {
+    /// A turn of the coordinator's own, which makes at most one line, and arms the next stop behind it. A coordinator that is down starts
+    /// again; one that is up takes the next message, going round its sites. Says whether a line was made.
+    pub(crate) fn turn<N: Plan>(&mut self) -> Result<bool, StepErr>
+        requires told { IsTrue D.tells }
+        requires keeps { CoordKeeps P.policy D.tells D.seen N.coordinator N.rings false self.old }
+        ensures keeps { IfOk result (λ _. CoordKeeps P.policy D.tells D.seen N.coordinator N.rings false self.new) }
+        ensures turned { IfOk result (HasCoordTurned N.coordinator (coord_view_of self.old false) (coord_view_of self.new false)) }
+        ensures failed { IfErr result (HasCoordFailed P.policy D.tells D.seen N.coordinator N.rings self.new) }
+        ensures same { IfErr result (λ _. coord_view_of self.new false ≡ record (coord_view_of self.old false) { empties = empties_of self.new.ports.items }) }
+    {
+        if self.lines.len() >= MOST_LINES {
+            return Ok(false);
+        }
+        let Ok(places) = Vec::with_capacity(self.alloc, self.ports.len()) else {
+            return Err(StepErr::Memory);
+        };
+        if self.reserve().is_err() {
+            return Err(StepErr::Memory);
+        }
+        if self.manager.core().is_down() {
+            return self.start::<N>(places);
+        }
+        match next_arrived(&mut self.ports, self.first) {
+            Some(arrived) => self.hear::<N>(arrived, places),
+            None => Ok(false),
+        }
+    }
+
+    /// Starts the coordinator again.
+    fn start<N: Plan>(&mut self, places: Vec<Place>) -> Result<bool, StepErr>
+        requires told { IsTrue D.tells }
+        requires few { length self.old.lines.items < most_lines }
+        requires room { HasCoordRoom self.old }
+        requires places { (places.items ≡ []) × (length self.old.ports.items ≤ vec_capacity places) }
+        requires keeps { CoordKeeps P.policy D.tells D.seen N.coordinator N.rings false self.old }
+        ensures keeps { IfOk result (λ _. CoordKeeps P.policy D.tells D.seen N.coordinator N.rings false self.new) }
+        ensures made { IfOk result (λ made. made ≡ true) }
+        ensures turned { IfOk result (HasCoordMade (coord_view_of self.old false) (coord_view_of self.new false)) }
+        ensures failed { IfErr result (HasCoordFailed P.policy D.tells D.seen N.coordinator N.rings self.new) }
+        ensures same { IfErr result (λ _. coord_view_of self.new false ≡ coord_view_of self.old false) }
+    {
+        let step = self.manager.back(self.alloc, &mut self.disk)?;
+        self.carry(CoordTold {
+            command: Command::Back { actor: 0 },
+            answer: step.answer,
+            sends: step.sends,
+            after: 0,
+            places,
+        });
+        Ok(true)
+    }
+
+    /// Takes a packet, and goes on at the next port at the next turn. One that spells no envelope, or has too great a stamp, is left
+    /// aside. Where the message isn't answered the packet is put back.
+    fn hear<N: Plan>(&mut self, arrived: Arrived, places: Vec<Place>) -> Result<bool, StepErr>
+        requires told { IsTrue D.tells }
+        requires few { length self.old.lines.items < most_lines }
+        requires room { HasCoordRoom self.old }
+        requires places { (places.items ≡ []) × (length self.old.ports.items ≤ vec_capacity places) }
+        requires arrived { HasArrived self.old.ports.items arrived }
+        requires keeps { HoldsFrom P.policy D.tells D.seen N.coordinator N.rings arrived self.old }
+        ensures keeps { IfOk result (λ _. CoordKeeps P.policy D.tells D.seen N.coordinator N.rings false self.new) }
+        ensures turned { IfOk result (HasCoordMade (coord_view_of self.old false) (coord_view_of self.new false)) }
+        ensures took { IfOk result (λ _. tooks_of self.new.ports.items ≡ tooks_of self.old.ports.items) }
+        ensures failed { IfErr result (HasCoordFailed P.policy D.tells D.seen N.coordinator N.rings self.new) }
+        ensures same { IfErr result (λ _. self.new.lines.items ≡ self.old.lines.items) }
+        ensures back { IfErr result (λ _. ArePutBack arrived self.old.ports.items self.new.ports.items) }
+    {
+        self.first = arrived.place + 1;
+        let Some(envelope) = decode_from(&arrived.packet) else {
+            return Ok(false);
+        };
+        if envelope.stamp >= MOST_STAMP {
+            return Ok(false);
+        }
+        let site = self.ports[arrived.place].ends.site;
+        match self
+            .manager
+            .take(self.alloc, &mut self.disk, site, envelope.message)
+        {
+            Ok(step) => {
+                self.carry(CoordTold {
+                    command: Command::Take {
+                        site,
+                        place: envelope.index,
+                    },
+                    answer: step.answer,
+                    sends: step.sends,
+                    after: envelope.stamp,
+                    places,
+                });
+                Ok(true)
+            }
+            Err(why) => {
+                self.ports[arrived.place]
+                    .ends
+                    .inlet
+                    .put_back(arrived.packet);
+                Err(why)
+            }
+        }
+    }
+}

@@ -1,0 +1,66 @@
+//! The coordinator's ends of the rings to and from one site.
+ghost use Rattle.std.specs.Prelude.{◌≡◌, ◌+◌, ◌^◌, ◌<◌, ◌≤◌, OnOk, length, vec_len, vec_capacity};
+ghost use Rattle.session_routes.specs.Posting.{message_to};
+ghost use Rattle.fed_hosts.specs.Ports.{HasPortRoom, IsPosted, IsSamePort, place_at, places_behind};
+
+use crate::ends::HostEnds;
+use fed_messages::{Envelope, encode_to};
+use fed_rules::{Place, Sent, ToSite};
+use mdb_base::{Memory, SiteId};
+
+/// The coordinator's ends of the rings to and from one site, and the messages that it sent there.
+#[derive(Drop)]
+pub struct Port {
+    pub ends: HostEnds,
+    pub to: Vec<ToSite>,
+}
+
+/// The message to the site among these.
+fn message_to(sends: &[Sent], site: SiteId) -> Option<ToSite>
+    ensures { result ≡ message_to site sends.now }
+{
+    for sent in sends {
+        if sent.site.0 == site.0 {
+            return Some(sent.message);
+        }
+    }
+    None
+}
+
+impl Port {
+    /// Makes room for one message. It changes nothing else, also without memory.
+    pub(crate) fn reserve(&mut self) -> Result<(), Memory>
+        ensures room { OnOk result (HasPortRoom self.new) }
+        ensures same { IsSamePort self.old self.new }
+    {
+        self.to.try_reserve(1)?;
+        self.ends.outlet.reserve()
+    }
+
+    /// Keeps and offers what a line with this stamp sends to the site, and notes its place.
+    pub(crate) fn post(&mut self, sends: &[Sent], stamp: u64, places: &mut Vec<Place>)
+        requires room { HasPortRoom self.old }
+        requires places { vec_len places.old < vec_capacity places.old }
+        requires few { length self.old.to.items < 2 ^ 32 }
+        ensures posted { IsPosted sends.now stamp self.old self.new }
+        ensures places { places.new.items ≡ places_behind places.old.items (place_at sends.now self.old) }
+        ensures grown { vec_len places.new ≤ vec_len places.old + 1 }
+        ensures capacity { vec_capacity places.new ≡ vec_capacity places.old }
+    {
+        let Some(message) = message_to(sends, self.ends.site) else {
+            return;
+        };
+        let place = self.to.len() as u32;
+        places.push_reserved(Place {
+            site: self.ends.site,
+            place,
+        });
+        let packet = encode_to(&Envelope {
+            index: place,
+            stamp,
+            message,
+        });
+        self.ends.outlet.offer(packet);
+        self.to.push_reserved(message);
+    }
+}

@@ -1,0 +1,176 @@
+//! A turn of a site's host.
+ghost use Rattle.std.specs.Prelude.{◌≡◌, ◌<◌, ◌≤◌, ◌++◌, ◌∷◌, [], false, true, None, length, IfOk, IfErr, IsTrue};
+ghost use Rattle.site_core.specs.Made.{about};
+ghost use Rattle.scripted_link.specs.Inlets.{empty_count, returned, taken};
+ghost use Rattle.fed_hosts.specs.Keeps.{HoldsPacket, Keeps};
+ghost use Rattle.host_laws.specs.Plans.{most_lines};
+ghost use Rattle.fed_hosts.specs.Rooms.{HasRoom};
+ghost use Rattle.std.specs.Vec.{vec_capacity};
+ghost use Rattle.fed_hosts.specs.Serving.{HasFailed};
+ghost use Rattle.fed_hosts.specs.Views.{HasMade, HasTurned, view_of};
+
+use crate::plans::Plan;
+use crate::site_actor::{MOST_LINES, SiteActor, Told};
+use engine_contract::LocalEngine;
+use fed_messages::{Packet, decode_to};
+use fed_rules::{Command, Place, ToSite};
+use journal_disk::Disk;
+use local_dbms::StepErr;
+use mdb_base::Tid;
+
+/// Stamps of messages are below this; a packet with a greater one is left aside.
+pub(crate) const MOST_STAMP: u64 = 1 << 62;
+
+/// At each eighth turn that finds no message a site asks about its least attempt in doubt.
+const IDLE_TURNS: u8 = 8;
+
+/// The attempt that a message is about.
+fn about(message: &ToSite) -> Tid
+    ensures { result ≡ about message.now }
+{
+    match message {
+        ToSite::Work { tid, .. } => *tid,
+        ToSite::Take { tid, .. } => *tid,
+        ToSite::Prepare { tid, .. } => *tid,
+        ToSite::Decide { tid, .. } => *tid,
+    }
+}
+
+impl<E: LocalEngine, D: Disk> SiteActor<E, D> {
+    /// A turn of the site's own, which makes at most one line, and arms the next stop behind it. A site that is down starts again; one
+    /// that is up takes the next message; at each eighth turn that finds none it asks about its least attempt in doubt. Says whether a
+    /// line was made.
+    pub(crate) fn turn<N: Plan>(&mut self) -> Result<bool, StepErr>
+        requires told { IsTrue D.tells }
+        requires keeps { Keeps E.stands D.tells D.seen N.sites N.rings false self.old }
+        ensures keeps { IfOk result (λ _. Keeps E.stands D.tells D.seen N.sites N.rings false self.new) }
+        ensures turned { IfOk result (HasTurned N.sites (view_of self.old false) (view_of self.new false)) }
+        ensures failed { IfErr result (HasFailed E.stands D.tells D.seen N.sites N.rings self.new) }
+        ensures same { IfErr result (λ _. view_of self.new false ≡ record (view_of self.old false) { empties = empty_count self.new.ends.inlet }) }
+    {
+        if self.lines.len() >= MOST_LINES {
+            return Ok(false);
+        }
+        let Ok(places) = Vec::with_capacity(self.alloc, 1) else {
+            return Err(StepErr::Memory);
+        };
+        if self.reserve().is_err() {
+            return Err(StepErr::Memory);
+        }
+        if self.dbms.core().is_down() {
+            return self.start::<N>(places);
+        }
+        match self.ends.inlet.next() {
+            Some(packet) => self.hear::<N>(packet, places),
+            None => self.inquire::<N>(places),
+        }
+    }
+
+    /// Starts the site again.
+    fn start<N: Plan>(&mut self, places: Vec<Place>) -> Result<bool, StepErr>
+        requires told { IsTrue D.tells }
+        requires few { length self.old.lines.items < most_lines }
+        requires room { HasRoom self.old }
+        requires places { (places.items ≡ []) × (1 ≤ vec_capacity places) }
+        requires keeps { Keeps E.stands D.tells D.seen N.sites N.rings false self.old }
+        ensures keeps { IfOk result (λ _. Keeps E.stands D.tells D.seen N.sites N.rings false self.new) }
+        ensures made { IfOk result (λ made. made ≡ true) }
+        ensures turned { IfOk result (HasMade (view_of self.old false) (view_of self.new false)) }
+        ensures failed { IfErr result (HasFailed E.stands D.tells D.seen N.sites N.rings self.new) }
+        ensures same { IfErr result (λ _. view_of self.new false ≡ view_of self.old false) }
+    {
+        let answer = self.dbms.back(self.alloc, &mut self.disk)?;
+        self.carry(Told {
+            command: Command::Back {
+                actor: self.ends.site.0,
+            },
+            answer,
+            send: None,
+            after: 0,
+            places,
+        });
+        Ok(true)
+    }
+
+    /// Takes a packet. One that spells no envelope, or has too great a stamp, or is about a transaction of the site's own, is left
+    /// aside. Where the message isn't answered the packet is put back.
+    fn hear<N: Plan>(&mut self, packet: Packet, places: Vec<Place>) -> Result<bool, StepErr>
+        requires told { IsTrue D.tells }
+        requires few { length self.old.lines.items < most_lines }
+        requires room { HasRoom self.old }
+        requires places { (places.items ≡ []) × (1 ≤ vec_capacity places) }
+        requires keeps { HoldsPacket E.stands D.tells D.seen N.sites N.rings packet self.old }
+        requires back { returned self.old.ends.inlet ≡ None }
+        ensures keeps { IfOk result (λ _. Keeps E.stands D.tells D.seen N.sites N.rings false self.new) }
+        ensures turned { IfOk result (HasMade (view_of self.old false) (view_of self.new false)) }
+        ensures took { IfOk result (λ _. taken self.new.ends.inlet ≡ taken self.old.ends.inlet) }
+        ensures failed { IfErr result (HasFailed E.stands D.tells D.seen N.sites N.rings self.new) }
+        ensures same { IfErr result (λ _. self.new.lines.items ≡ self.old.lines.items) }
+        ensures back { IfErr result (λ _. taken self.old.ends.inlet ≡ taken self.new.ends.inlet ++ packet ∷ []) }
+        ensures site { self.new.ends.site ≡ self.old.ends.site }
+    {
+        let Some(envelope) = decode_to(&packet) else {
+            return Ok(false);
+        };
+        if envelope.stamp >= MOST_STAMP || self.dbms.is_own(about(&envelope.message).tx) {
+            return Ok(false);
+        }
+        match self.dbms.give(self.alloc, &mut self.disk, envelope.message) {
+            Ok(step) => {
+                self.carry(Told {
+                    command: Command::Give {
+                        site: self.ends.site,
+                        place: envelope.index,
+                    },
+                    answer: step.answer,
+                    send: step.sends,
+                    after: envelope.stamp,
+                    places,
+                });
+                Ok(true)
+            }
+            Err(why) => {
+                self.ends.inlet.put_back(packet);
+                Err(why)
+            }
+        }
+    }
+
+    /// Counts a turn that found no message, and at each eighth one asks about the least attempt in doubt.
+    fn inquire<N: Plan>(&mut self, places: Vec<Place>) -> Result<bool, StepErr>
+        requires told { IsTrue D.tells }
+        requires few { length self.old.lines.items < most_lines }
+        requires room { HasRoom self.old }
+        requires places { (places.items ≡ []) × (1 ≤ vec_capacity places) }
+        requires keeps { Keeps E.stands D.tells D.seen N.sites N.rings false self.old }
+        ensures keeps { IfOk result (λ _. Keeps E.stands D.tells D.seen N.sites N.rings false self.new) }
+        ensures turned { IfOk result (HasMade (view_of self.old false) (view_of self.new false)) }
+        ensures inlet { IfOk result (λ _. self.new.ends.inlet ≡ self.old.ends.inlet) }
+        ensures failed { IfErr result (HasFailed E.stands D.tells D.seen N.sites N.rings self.new) }
+        ensures same { IfErr result (λ _. view_of self.new false ≡ view_of self.old false) }
+    {
+        if self.idle < IDLE_TURNS - 1 {
+            self.idle += 1;
+            return Ok(false);
+        }
+        let doubts = self.dbms.core().doubts();
+        if doubts.len() == 0 {
+            self.idle = 0;
+            return Ok(false);
+        }
+        let tid = doubts.at(0).tid;
+        let step = self.dbms.ask(self.alloc, &mut self.disk, tid)?;
+        self.idle = 0;
+        self.carry(Told {
+            command: Command::Ask {
+                site: self.ends.site,
+                tid,
+            },
+            answer: step.answer,
+            send: step.sends,
+            after: 0,
+            places,
+        });
+        Ok(true)
+    }
+}
