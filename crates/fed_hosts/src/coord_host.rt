@@ -100,7 +100,8 @@ impl<P: TakePolicy, D: Disk, N: Plan> CoordHost<P, D, N> {
         }
     }
 
-    /// Submits the next attempt of a global transaction. `Spent` also where it would be the last of all attempts, which is left for finishing. `Disk` comes only where a disk call failed, and from then on always; without memory nothing changes.
+    /// Submits the next attempt of a global transaction. `Spent` also where it would be the last of all attempts, which is left for
+    /// finishing. `Disk` comes only where a disk call failed, and from then on always; without memory nothing changes.
     pub fn go<G: Gate>(&mut self, tx: Tx, gate: &G) -> Result<Answer, DoorErr>
         ensures served { IfOk result (HasCoordServed N.coordinator self.old self.new (Asks.Go tx)) }
         ensures memory { IsErrOf result Err_is.Memory → self.new ≡ self.old }
@@ -110,7 +111,8 @@ impl<P: TakePolicy, D: Disk, N: Plan> CoordHost<P, D, N> {
         self.call(CoordCall::Go(tx), gate)
     }
 
-    /// What became of a global transaction. `Disk` comes only where a disk call failed, and from then on always; without memory nothing changes.
+    /// What became of a global transaction. `Disk` comes only where a disk call failed, and from then on always; without memory nothing
+    /// changes.
     pub fn fate<G: Gate>(&mut self, tx: Tx, gate: &G) -> Result<Answer, DoorErr>
         ensures served { IfOk result (HasCoordServed N.coordinator self.old self.new (Asks.Fate tx)) }
         ensures memory { IsErrOf result Err_is.Memory → self.new ≡ self.old }
@@ -120,7 +122,8 @@ impl<P: TakePolicy, D: Disk, N: Plan> CoordHost<P, D, N> {
         self.call(CoordCall::Fate(tx), gate)
     }
 
-    /// What is outstanding for an attempt is sent again, or its decision to those that have to acknowledge it. `Disk` comes only where a disk call failed, and from then on always; without memory nothing changes.
+    /// What is outstanding for an attempt is sent again, or its decision to those that have to acknowledge it. `Disk` comes only where a
+    /// disk call failed, and from then on always; without memory nothing changes.
     pub fn again<G: Gate>(&mut self, tid: Tid, gate: &G) -> Result<Answer, DoorErr>
         ensures served { IfOk result (HasCoordServed N.coordinator self.old self.new (Asks.Again tid)) }
         ensures memory { IsErrOf result Err_is.Memory → self.new ≡ self.old }

@@ -73,7 +73,7 @@ impl<P: TakePolicy, D: Disk> CoordActor<P, D> {
         Ok(true)
     }
 
-    /// Takes a packet, and goes on at the next port at the next turn. One that spells no envelope, or has too great a stamp, is left
+    /// Takes a packet, and goes on at the next port at the next turn. One that spells no envelope, or has a stamp of 2^62 or more, is left
     /// aside. Where the message isn't answered the packet is put back.
     fn hear<N: Plan>(&mut self, arrived: Arrived, places: Vec<Place>) -> Result<bool, StepErr>
         requires told { IsTrue D.tells }

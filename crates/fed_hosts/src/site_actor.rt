@@ -17,7 +17,7 @@ pub(crate) const MOST_LINES: usize = 16_777_216;
 pub(crate) const MOST_BEGUN: u32 = 31;
 
 /// A site's local database system with its disk, and what its host keeps: its ends, the scripted stops and how many of them were armed,
-/// the stamped lines, the messages that were sent, the last stamp, and how many turns in a row of eight found no message.
+/// the stamped lines, the messages that were sent, the last stamp, and how many turns found no message since the last eighth.
 #[derive(Drop)]
 pub(crate) struct SiteActor<E: LocalEngine, D: Disk> {
     pub(crate) alloc: Global,

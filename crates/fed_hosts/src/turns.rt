@@ -18,7 +18,7 @@ use journal_disk::Disk;
 use local_dbms::StepErr;
 use mdb_base::Tid;
 
-/// Stamps of messages are below this; a packet with a greater one is left aside.
+/// Stamps of messages are below this; a packet with any other is left aside.
 pub(crate) const MOST_STAMP: u64 = 1 << 62;
 
 /// At each eighth turn that finds no message a site asks about its least attempt in doubt.
@@ -92,7 +92,7 @@ impl<E: LocalEngine, D: Disk> SiteActor<E, D> {
         Ok(true)
     }
 
-    /// Takes a packet. One that spells no envelope, or has too great a stamp, or is about a transaction of the site's own, is left
+    /// Takes a packet. One that spells no envelope, or has a stamp of 2^62 or more, or is about a transaction of the site's own, is left
     /// aside. Where the message isn't answered the packet is put back.
     fn hear<N: Plan>(&mut self, packet: Packet, places: Vec<Place>) -> Result<bool, StepErr>
         requires told { IsTrue D.tells }
