@@ -1,30 +1,18 @@
 //! The coordinator's ends of the rings to and from one site.
 ghost use Rattle.std.specs.Prelude.{◌≡◌, ◌+◌, ◌^◌, ◌<◌, ◌≤◌, OnOk, length, vec_len, vec_capacity};
-ghost use Rattle.session_routes.specs.Posting.{message_to};
 ghost use Rattle.fed_hosts.specs.Ports.{HasPortRoom, IsPosted, IsSamePort, place_at, places_behind};
 
 use crate::ends::HostEnds;
 use fed_messages::{Envelope, encode_to};
 use fed_rules::{Place, Sent, ToSite};
-use mdb_base::{Memory, SiteId};
+use mdb_base::Memory;
+use session_routes::message_to;
 
 /// The coordinator's ends of the rings to and from one site, and the messages that it sent there.
 #[derive(Drop)]
 pub struct Port {
     pub ends: HostEnds,
     pub to: Vec<ToSite>,
-}
-
-/// The message to the site among these.
-fn message_to(sends: &[Sent], site: SiteId) -> Option<ToSite>
-    ensures { result ≡ message_to site sends.now }
-{
-    for sent in sends {
-        if sent.site.0 == site.0 {
-            return Some(sent.message);
-        }
-    }
-    None
 }
 
 impl Port {

@@ -14,7 +14,7 @@ use Rattle.fed_rules.specs.Runs.{Access}
 use Rattle.fed_rules.specs.Replies.{access_key}
 use Rattle.run_book.specs.declared.rival.Rival.{Rival}
 use Rattle.locking_engine.specs.declared.holders.Place.{Place}
-use Rattle.locking_engine.specs.Holders.{Holders, place_cmp, place_of, touches, IsOldestBelow, IsOldestAbove, IsOldestOther}
+use Rattle.locking_engine.specs.Holders.{Holders, place_cmp, place_of, touches, IsOldest, IsOldestAbove, IsOldestOther}
 use Rattle.locking_engine.proofs.Places.{look, get_holder, same_place, below_of, up_to_of, below_here, up_to_here}
 
 -- the first of a part is in it, and nothing in it is before that one
@@ -26,16 +26,6 @@ none_unless : (o : Option Tid) → (IsSome o → ⊥) → o ≡ None
 none_unless None h = refl
 none_unless (Some t) h = absurd (h refl)
 
-in_below : (key : Key) (age : ℕ) (q : Place) → IsInRange place_cmp (Included (place_of key 0)) (Excluded (place_of key age)) q → (q.key ≡ key.0) × (q.age < age)
-in_below key age q h =
-    elim (up_to_of (place_of key 0) q h.0) [
-      | inl lt ↦ elim (below_of q (place_of key age) h.1) [ inl gt ↦ absurd (omega arith) | inr is ↦ is ]
-      | inr same ↦ elim (below_of q (place_of key age) h.1) [ inl gt ↦ let e = same.0 in absurd (omega arith) | inr is ↦ is ]
-    ]
-
-below_in : (key : Key) (age a : ℕ) → a < age → IsInRange place_cmp (Included (place_of key 0)) (Excluded (place_of key age)) (place_of key a)
-below_in key age a lt = (up_to_here key.0 0 a (omega arith), below_here key.0 a age lt)
-
 -- what stands before the first one doesn't stand there
 nothing_before : (m : BTreeMap Place Tid) (e : Place) (key : Key) (a : ℕ) → e.key ≡ key.0 → a < e.age → (IsSome (look m.entries (place_of key a)) → IsLeBy place_cmp e (place_of key a)) →
     get (from_entries {R = place_cmp} m.entries) (place_of key a) ≡ None
@@ -46,55 +36,82 @@ nothing_before m e key a same lt least =
 here_is : (m : BTreeMap Place Tid) (e : Place) (t : Tid) (key : Key) → e.key ≡ key.0 → look m.entries e ≡ Some t → get (from_entries {R = place_cmp} m.entries) (place_of key e.age) ≡ Some t
 here_is m e t key same at = get_holder m.entries (place_of key e.age) ∙ (ap (λ (k : ℕ). look m.entries (record { key = k; age = e.age })) (sym same) ∙ at)
 
-pub first_below : (key : Key) (age : ℕ) (m : BTreeMap Place Tid) (r rest : List (Place × Tid)) (e : Place) (t : Tid) →
-    IsRangeOf place_cmp (Included (place_of key 0)) (Excluded (place_of key age)) m r → r ≡ (e, t) ∷ rest →
-    IsOldestBelow (from_entries m.entries) key age (Some (record { tid = t; rank = e.age }))
-first_below key age m r rest e t h is =
-    let first = first_of (Included (place_of key 0)) (Excluded (place_of key age)) m r rest (e, t) h is in
-    let place = in_below key age e first.0.0 in (
-      here_is m e t key place.0 first.0.1,
-      place.1,
-      λ a lt. let up = place.1 in nothing_before m e key a place.0 lt (λ there. first.1 (place_of key a) (below_in key age a (omega arith)) there),
-    )
+-- the part of the tree from some place on, in which these ages of the key lie, and behind them greater keys
+module _ (lo : Bound Place) (key : Key) (From : ℕ → Type 0) (into : (a : ℕ) → From a → IsInRange place_cmp lo Unbounded (place_of key a))
+    (out : (q : Place) → IsInRange place_cmp lo Unbounded q → (key.0 < q.key) ⊎ ((key.0 ≡ q.key) × From q.age)) (m : BTreeMap Place Tid) (r : List (Place × Tid)) (h : IsRangeOf place_cmp lo Unbounded m r) where
+  -- where its first entry is of the key, that is the oldest holder of these ages
+  first_from : (rest : List (Place × Tid)) (e : Place) (t : Tid) → r ≡ (e, t) ∷ rest → e.key ≡ key.0 →
+      (get (from_entries {R = place_cmp} m.entries) (place_of key e.age) ≡ Some t) × From e.age
+      × ((a : ℕ) → From a → a < e.age → get (from_entries {R = place_cmp} m.entries) (place_of key a) ≡ None)
+  first_from rest e t is same =
+      let first = first_of lo Unbounded m r rest (e, t) h is in (
+        here_is m e t key same first.0.1,
+        elim (out e first.0.0) [ inl lt ↦ absurd (omega arith) | inr place ↦ place.1 ],
+        λ a from lt. nothing_before m e key a same lt (λ there. first.1 (place_of key a) (into a from) there),
+      )
 
-pub none_below : (key : Key) (age : ℕ) (m : BTreeMap Place Tid) (r : List (Place × Tid)) →
-    IsRangeOf place_cmp (Included (place_of key 0)) (Excluded (place_of key age)) m r → r ≡ [] → IsOldestBelow (from_entries m.entries) key age None
-none_below key age m r h is a lt = get_holder m.entries (place_of key a) ∙ h.5 is (place_of key a) (below_in key age a lt)
+  -- where it is of another key, none of these ages holds the key
+  none_beside : (rest : List (Place × Tid)) (e : Place) (t : Tid) → r ≡ (e, t) ∷ rest → (e.key ≡ key.0 → ⊥) →
+      (a : ℕ) → From a → get (from_entries {R = place_cmp} m.entries) (place_of key a) ≡ None
+  none_beside rest e t is apart a from =
+      let first = first_of lo Unbounded m r rest (e, t) h is in
+      get_holder m.entries (place_of key a)
+      ∙ none_unless _ (λ there.
+      elim (out e first.0.0) [
+        | inl lt ↦ elim (up_to_of e (place_of key a) (first.1 (place_of key a) (into a from) there)) [
+          | inl less ↦ omega arith
+          | inr same ↦ apart same.0
+        ]
+        | inr place ↦ apart (sym place.0)
+      ])
 
-in_above : (key : Key) (age : ℕ) (q : Place) → IsInRange place_cmp (Excluded (place_of key age)) Unbounded q → (key.0 < q.key) ⊎ ((key.0 ≡ q.key) × (age < q.age))
-in_above key age q h = below_of (place_of key age) q h.0
+  -- nor where there is no entry
+  none_from : r ≡ [] → (a : ℕ) → From a → get (from_entries {R = place_cmp} m.entries) (place_of key a) ≡ None
+  none_from is a from = get_holder m.entries (place_of key a) ∙ h.5 is (place_of key a) (into a from)
 
-above_in : (key : Key) (age a : ℕ) → age < a → IsInRange place_cmp (Excluded (place_of key age)) Unbounded (place_of key a)
+-- all ages of the key
+abbrev pub from_first : Key → Bound Place
+from_first key = Included (place_of key 0)
+
+any_in : (key : Key) (a : ℕ) → Unit {0} → IsInRange place_cmp (from_first key) Unbounded (place_of key a)
+any_in key a any = (up_to_here key.0 0 a (omega arith), tt)
+
+in_any : (key : Key) (q : Place) → IsInRange place_cmp (from_first key) Unbounded q → (key.0 < q.key) ⊎ ((key.0 ≡ q.key) × Unit {0})
+in_any key q h = elim (up_to_of (place_of key 0) q h.0) [ inl lt ↦ inl lt | inr same ↦ inr (same.0, tt) ]
+
+pub first_oldest : (key : Key) (m : BTreeMap Place Tid) (r rest : List (Place × Tid)) (e : Place) (t : Tid) →
+    IsRangeOf place_cmp (from_first key) Unbounded m r → r ≡ (e, t) ∷ rest → e.key ≡ key.0 → IsOldest (from_entries m.entries) key (Some (record { tid = t; rank = e.age }))
+first_oldest key m r rest e t h is same =
+    let first = first_from (from_first key) key (λ a. Unit {0}) (any_in key) (in_any key) m r h rest e t is same in (first.0, λ a less. first.2 a tt less)
+
+pub no_oldest_beside : (key : Key) (m : BTreeMap Place Tid) (r rest : List (Place × Tid)) (e : Place) (t : Tid) →
+    IsRangeOf place_cmp (from_first key) Unbounded m r → r ≡ (e, t) ∷ rest → (e.key ≡ key.0 → ⊥) → IsOldest (from_entries m.entries) key None
+no_oldest_beside key m r rest e t h is apart a = none_beside (from_first key) key (λ b. Unit {0}) (any_in key) (in_any key) m r h rest e t is apart a tt
+
+pub no_oldest : (key : Key) (m : BTreeMap Place Tid) (r : List (Place × Tid)) → IsRangeOf place_cmp (from_first key) Unbounded m r → r ≡ [] → IsOldest (from_entries m.entries) key None
+no_oldest key m r h is a = none_from (from_first key) key (λ b. Unit {0}) (any_in key) (in_any key) m r h is a tt
+
+-- the ages of the key above this one
+abbrev pub behind : Key → ℕ → Bound Place
+behind key age = Excluded (place_of key age)
+
+above_in : (key : Key) (age a : ℕ) → age < a → IsInRange place_cmp (behind key age) Unbounded (place_of key a)
 above_in key age a lt = (below_here key.0 age a lt, tt)
 
-pub first_above : (key : Key) (age : ℕ) (m : BTreeMap Place Tid) (r rest : List (Place × Tid)) (e : Place) (t : Tid) →
-    IsRangeOf place_cmp (Excluded (place_of key age)) Unbounded m r → r ≡ (e, t) ∷ rest → e.key ≡ key.0 →
-    IsOldestAbove (from_entries m.entries) key age (Some (record { tid = t; rank = e.age }))
-first_above key age m r rest e t h is same =
-    let first = first_of (Excluded (place_of key age)) Unbounded m r rest (e, t) h is in (
-      here_is m e t key same first.0.1,
-      elim (in_above key age e first.0.0) [ inl lt ↦ absurd (omega arith) | inr place ↦ place.1 ],
-      λ a more lt. nothing_before m e key a same lt (λ there. first.1 (place_of key a) (above_in key age a more) there),
-    )
+in_above : (key : Key) (age : ℕ) (q : Place) → IsInRange place_cmp (behind key age) Unbounded q → (key.0 < q.key) ⊎ ((key.0 ≡ q.key) × (age < q.age))
+in_above key age q h = below_of (place_of key age) q h.0
 
--- where the first one is of another key
+pub first_above : (key : Key) (age : ℕ) (m : BTreeMap Place Tid) (r rest : List (Place × Tid)) (e : Place) (t : Tid) →
+    IsRangeOf place_cmp (behind key age) Unbounded m r → r ≡ (e, t) ∷ rest → e.key ≡ key.0 → IsOldestAbove (from_entries m.entries) key age (Some (record { tid = t; rank = e.age }))
+first_above key age m r rest e t h is same = first_from (behind key age) key (λ a. age < a) (above_in key age) (in_above key age) m r h rest e t is same
+
 pub other_above : (key : Key) (age : ℕ) (m : BTreeMap Place Tid) (r rest : List (Place × Tid)) (e : Place) (t : Tid) →
-    IsRangeOf place_cmp (Excluded (place_of key age)) Unbounded m r → r ≡ (e, t) ∷ rest → (e.key ≡ key.0 → ⊥) → IsOldestAbove (from_entries m.entries) key age None
-other_above key age m r rest e t h is apart a more =
-    let first = first_of (Excluded (place_of key age)) Unbounded m r rest (e, t) h is in
-    get_holder m.entries (place_of key a)
-    ∙ none_unless _ (λ there.
-    elim (in_above key age e first.0.0) [
-      | inl lt ↦ elim (up_to_of e (place_of key a) (first.1 (place_of key a) (above_in key age a more) there)) [
-        | inl less ↦ omega arith
-        | inr same ↦ apart same.0
-      ]
-      | inr place ↦ apart (sym place.0)
-    ])
+    IsRangeOf place_cmp (behind key age) Unbounded m r → r ≡ (e, t) ∷ rest → (e.key ≡ key.0 → ⊥) → IsOldestAbove (from_entries m.entries) key age None
+other_above key age m r rest e t h is apart = none_beside (behind key age) key (λ a. age < a) (above_in key age) (in_above key age) m r h rest e t is apart
 
 pub none_above : (key : Key) (age : ℕ) (m : BTreeMap Place Tid) (r : List (Place × Tid)) →
-    IsRangeOf place_cmp (Excluded (place_of key age)) Unbounded m r → r ≡ [] → IsOldestAbove (from_entries m.entries) key age None
-none_above key age m r h is a lt = get_holder m.entries (place_of key a) ∙ h.5 is (place_of key a) (above_in key age a lt)
+    IsRangeOf place_cmp (behind key age) Unbounded m r → r ≡ [] → IsOldestAbove (from_entries m.entries) key age None
+none_above key age m r h is = none_from (behind key age) key (λ a. age < a) (above_in key age) (in_above key age) m r h is
 
 differ : (x y : ℕ) → (x < y) ⊎ (y < x) → nat_eq x y ≡ false
 differ x y (inl h) = grind (arith, nat_tests, h)
@@ -107,15 +124,20 @@ not_same x y h = by_less (nat_lt x y) refl
     by_less true e = inl (ltb-true x y e)
     by_less false e = let ge = ltb-false x y e in let apart : x ≡ y → ⊥ = λ is. let same : nat_eq x y ≡ true = eq-eqb x y is in cc in inr (omega (arith, apart))
 
--- the oldest of the older ones, and else of the younger ones
-pub other_older : (holders : Holders) (key : Key) (me : ℕ) (rival : Rival) → IsOldestBelow holders key me (Some rival) → IsOldestOther holders key me (Some rival)
-other_older holders key me rival h = let lt = h.1 in (h.0, differ rival.rank me (inl lt), λ a apart less. h.2 a less)
+-- the oldest one, where it is another
+pub other_oldest : (holders : Holders) (key : Key) (me : ℕ) (rival : Rival) → IsOldest holders key (Some rival) → nat_eq rival.rank me ≡ false → IsOldestOther holders key me (Some rival)
+other_oldest holders key me rival h apart = (h.0, apart, λ a other less. h.1 a less)
 
-pub other_younger : (holders : Holders) (key : Key) (me : ℕ) (o : Option Rival) → IsOldestBelow holders key me None → IsOldestAbove holders key me o → IsOldestOther holders key me o
-other_younger holders key me None none above = λ a apart. elim (not_same a me apart) [ inl lt ↦ none a lt | inr gt ↦ above a gt ]
-other_younger holders key me (Some rival) none above =
+-- nobody else, where nobody holds the key
+pub no_other : (holders : Holders) (key : Key) (me : ℕ) → IsOldest holders key None → IsOldestOther holders key me None
+no_other holders key me none a apart = none a
+
+-- the oldest of the younger ones, where this is the oldest one of all
+pub other_younger : (holders : Holders) (key : Key) (me : ℕ) (own : Rival) (o : Option Rival) → IsOldest holders key (Some own) → own.rank ≡ me → IsOldestAbove holders key me o → IsOldestOther holders key me o
+other_younger holders key me own None first is above = λ a apart. elim (not_same a me apart) [ inl lt ↦ first.1 a (omega arith) | inr gt ↦ above a gt ]
+other_younger holders key me own (Some rival) first is above =
     let gt = above.1 in
-    (above.0, differ rival.rank me (inr gt), λ a apart less. elim (not_same a me apart) [ inl lt ↦ none a lt | inr more ↦ above.2 a more less ])
+    (above.0, differ rival.rank me (inr gt), λ a apart less. elim (not_same a me apart) [ inl lt ↦ first.1 a (omega arith) | inr more ↦ above.2 a more less ])
 
 -- one more access of the walk
 pub touched_more : (access : Access) (acts : List Access) (age : ℕ) (q : Place) (o : Option Tid) →

@@ -57,11 +57,10 @@ touches acts age q = (q.age == age) && some_of (λ access. (access_key access).0
 abbrev pub is_touched : Run → Place → Bool
 is_touched run q = touches run.acts run.age q
 
--- nobody older than this age holds the key, or this is the oldest one who does
-abbrev pub IsOldestBelow : Holders → Key → ℕ → Option Rival → Type 0
-IsOldestBelow holders key me None = (age : ℕ) → age < me → get holders (place_of key age) ≡ None
-IsOldestBelow holders key me (Some rival) =
-    (get holders (place_of key rival.rank) ≡ Some rival.tid) × (rival.rank < me) × ((age : ℕ) → age < rival.rank → get holders (place_of key age) ≡ None)
+-- nobody holds the key, or this is the oldest one who does
+abbrev pub IsOldest : Holders → Key → Option Rival → Type 0
+IsOldest holders key None = (age : ℕ) → get holders (place_of key age) ≡ None
+IsOldest holders key (Some rival) = (get holders (place_of key rival.rank) ≡ Some rival.tid) × ((age : ℕ) → age < rival.rank → get holders (place_of key age) ≡ None)
 
 -- nobody younger than this age holds the key, or this is the oldest one who does
 abbrev pub IsOldestAbove : Holders → Key → ℕ → Option Rival → Type 0

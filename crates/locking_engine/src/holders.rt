@@ -5,7 +5,7 @@ ghost use Rattle.std.specs.Cmp.Rules.{comparing};
 ghost use Rattle.std.specs.Ordering.{as_partial_cmp, nat_cmp, on, then_cmp};
 ghost use Rattle.std.specs.Prelude.{◌≡◌, reverse, not, is_some, cond, None, OnOk, OnErr, IfOk};
 ghost use Rattle.std.specs.FinMap.{empty, get, remove};
-ghost use Rattle.locking_engine.specs.Holders.{place_of, held_by, is_touched, touches, IsOldestBelow, IsOldestAbove, IsOldestOther, with_rows_held, with_restored};
+ghost use Rattle.locking_engine.specs.Holders.{place_of, held_by, is_touched, touches, IsOldest, IsOldestAbove, IsOldestOther, with_rows_held, with_restored};
 
 use fed_rules::Kept;
 use mdb_base::{Key, Memory, Put, Tid};
@@ -86,16 +86,17 @@ impl Holders {
         }
     }
 
-    /// The oldest holder of the key that is older than this age.
-    fn oldest_below(&self, key: Key, age: u64) -> Option<Rival>
-        ensures { IsOldestBelow self.now key age result }
+    /// The oldest holder of the key.
+    fn oldest(&self, key: Key) -> Option<Rival>
+        ensures { IsOldest self.now key result }
     {
-        let first = Place { key: key.0, age: 0 };
-        match self.tids.range(first..Place { key: key.0, age }).next() {
-            Some((place, tid)) => Some(Rival {
+        let first = Bound::Included(Place { key: key.0, age: 0 });
+        match self.tids.range((first, Bound::Unbounded)).next() {
+            Some((place, tid)) if place.key == key.0 => Some(Rival {
                 tid: *tid,
                 rank: place.age,
             }),
+            Some(_) => None,
             None => None,
         }
     }
@@ -116,12 +117,15 @@ impl Holders {
     }
 
     /// The oldest holder of the key but for the one of this age.
+    #[tactic(auto, using(crate::proofs::Ranges::other_oldest, crate::proofs::Ranges::no_other, crate::proofs::Ranges::other_younger))]
     pub fn oldest_other(&self, key: Key, age: u64) -> Option<Rival>
         ensures { IsOldestOther self.now key age result }
     {
-        match self.oldest_below(key, age) {
-            Some(older) => Some(older),
-            None => self.oldest_above(key, age),
+        let oldest = self.oldest(key)?;
+        if oldest.rank == age {
+            self.oldest_above(key, age)
+        } else {
+            Some(oldest)
         }
     }
 

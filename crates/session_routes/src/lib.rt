@@ -9,7 +9,7 @@ mod rows;
 mod traffic;
 
 pub use numbers::{line_of, protocols_of, sites_of};
-pub use posting::{make_room, post};
+pub use posting::{make_room, message_to, post};
 pub use routes::Routes;
 pub use rows::first_rows;
 pub use traffic::Traffic;

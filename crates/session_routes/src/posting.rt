@@ -8,7 +8,7 @@ use fed_rules::{Place, Sent, ToSite};
 use mdb_base::{Memory, SiteId};
 
 /// The message to the site among these.
-fn message_to(sends: &[Sent], site: SiteId) -> Option<ToSite>
+pub fn message_to(sends: &[Sent], site: SiteId) -> Option<ToSite>
     ensures { result ≡ message_to site sends.now }
 {
     for sent in sends {

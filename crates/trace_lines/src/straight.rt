@@ -37,7 +37,8 @@ fn put_bare(out: &mut Vec<u8>, keyword: Keyword) -> Result<(), Memory>
     ensures ok { OnOk result (out.new.items ≡ out.old.items ++ spaced (Plain keyword ∷ [])) }
     ensures err { OnErr result (BeginsWith out.old.items out.new.items) }
 {
-    put_text(out, keyword.spaced_text())
+    put_text(out, " ")?;
+    put_text(out, keyword.text())
 }
 
 /// Appends a keyword and an attempt, each behind a space.
@@ -45,7 +46,7 @@ fn put_attempt(out: &mut Vec<u8>, keyword: Keyword, tid: Tid) -> Result<(), Memo
     ensures ok { OnOk result (out.new.items ≡ out.old.items ++ spaced (Plain keyword ∷ Attempt tid ∷ [])) }
     ensures err { OnErr result (BeginsWith out.old.items out.new.items) }
 {
-    put_text(out, keyword.spaced_text())?;
+    put_bare(out, keyword)?;
     put_text(out, " ")?;
     put_tid(out, tid)
 }
@@ -55,7 +56,7 @@ fn put_counts(out: &mut Vec<u8>, keyword: Keyword, first: u64, next: u64) -> Res
     ensures ok { OnOk result (out.new.items ≡ out.old.items ++ spaced (Plain keyword ∷ Number first ∷ Number next ∷ [])) }
     ensures err { OnErr result (BeginsWith out.old.items out.new.items) }
 {
-    put_text(out, keyword.spaced_text())?;
+    put_bare(out, keyword)?;
     put_count(out, first)?;
     put_count(out, next)
 }

@@ -1,5 +1,5 @@
 //! The words of a line.
-ghost use Rattle.std.specs.Prelude.{◌≡◌, ◌∷◌};
+ghost use Rattle.std.specs.Prelude.{◌≡◌};
 ghost use Rattle.trace_lines.specs.Words.{keyword_text};
 
 use fed_rules::Place;
@@ -156,84 +156,6 @@ impl Keyword {
             Keyword::Epoch => "epoch",
             Keyword::Doubtful => "doubtful",
             Keyword::Known => "known",
-        }
-    }
-
-    /// How the word is spelled, behind a space.
-    pub fn spaced_text(self) -> &'static str
-        ensures { result.now ≡ 32 ∷ keyword_text self }
-    {
-        match self {
-            Keyword::Arrow => " =>",
-            Keyword::Sends => " sends",
-            Keyword::Begin => " begin",
-            Keyword::Step => " step",
-            Keyword::Commit => " commit",
-            Keyword::Abort => " abort",
-            Keyword::Fate => " fate",
-            Keyword::Go => " go",
-            Keyword::Again => " again",
-            Keyword::Late => " late",
-            Keyword::Give => " give",
-            Keyword::Take => " take",
-            Keyword::Ask => " ask",
-            Keyword::Drop => " drop",
-            Keyword::Halt => " halt",
-            Keyword::Trip => " trip",
-            Keyword::Back => " back",
-            Keyword::Check => " check",
-            Keyword::None => " none",
-            Keyword::Down => " down",
-            Keyword::Idle => " idle",
-            Keyword::Spent => " spent",
-            Keyword::End => " end",
-            Keyword::Unfinished => " unfinished",
-            Keyword::Unbegun => " unbegun",
-            Keyword::Aborted => " aborted",
-            Keyword::Set => " set",
-            Keyword::Awake => " awake",
-            Keyword::Defers => " defers",
-            Keyword::Ignored => " ignored",
-            Keyword::Waits => " waits",
-            Keyword::Voted => " voted",
-            Keyword::Acked => " acked",
-            Keyword::Forgets => " forgets",
-            Keyword::Undecided => " undecided",
-            Keyword::Initiates => " initiates",
-            Keyword::Large => " large",
-            Keyword::Checked => " checked",
-            Keyword::Committed => " committed",
-            Keyword::Running => " running",
-            Keyword::Begun => " begun",
-            Keyword::Unheld => " unheld",
-            Keyword::Asks => " asks",
-            Keyword::Dropped => " dropped",
-            Keyword::Read => " read",
-            Keyword::Wrote => " wrote",
-            Keyword::Dies => " dies",
-            Keyword::Invalid => " invalid",
-            Keyword::Number => " number",
-            Keyword::Stopped => " stopped",
-            Keyword::Kept => " kept",
-            Keyword::Did => " did",
-            Keyword::Done => " done",
-            Keyword::Value => " value",
-            Keyword::Ticket => " ticket",
-            Keyword::Unknown => " unknown",
-            Keyword::Votes => " votes",
-            Keyword::Yes => " yes",
-            Keyword::No => " no",
-            Keyword::Moved => " moved",
-            Keyword::Settles => " settles",
-            Keyword::Answers => " answers",
-            Keyword::Presumes => " presumes",
-            Keyword::Decides => " decides",
-            Keyword::Site => " site",
-            Keyword::Cycle => " cycle",
-            Keyword::Up => " up",
-            Keyword::Epoch => " epoch",
-            Keyword::Doubtful => " doubtful",
-            Keyword::Known => " known",
         }
     }
 }
