@@ -156,7 +156,7 @@ module _ (K : OfDbms) (cores : List (LocalDbms AnyEngine)) (marks : List Marks) 
 -- ---- the rows of a site
 
 -- the rows of the engine of a declared site are those of its table
-engine_table : (scenario : Scenario) (commands : List Command) (site : SiteId) (home : Home) → home.site ≡ site → home_of scenario site ≡ Some home
+pub engine_table : (scenario : Scenario) (commands : List Command) (site : SiteId) (home : Home) → home.site ≡ site → home_of scenario site ≡ Some home
     → rows (epoch_start home (past_of site (story_of scenario commands))) (engine_lines (past_of site (story_of scenario commands))) ≡ table_of scenario (story_of scenario commands) site
 engine_table scenario commands site home is declared =
     let story = story_of scenario commands in

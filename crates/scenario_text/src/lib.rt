@@ -15,6 +15,7 @@ mod steps;
 
 pub use bad::{BadLine, BadWhy, TextErr};
 pub use fed_rules::{Command, Commands, ItemLine, LinkLine, Scenario, SiteLine, StopLine, TxLine};
+pub use names::number_in;
 pub use reading::{read_commands, read_scenario};
 pub use session::Session;
 

@@ -48,7 +48,8 @@ fn decimal(digits: &[u8]) -> Option<u64>
     Some(number)
 }
 
-/// A number from `low` to `high`, both among them.
+/// The number that a word spells, from `low` to `high`, both among them. A word that is neither `0` nor decimal digits without a leading zero
+/// is refused by `Number`, and a number beyond these bounds by `Range`.
 #[tactic(auto, using(crate::proofs::DecimalLemmas::is_number_digits), unfolding(crate::specs::Names::number_in))]
 pub fn number_in(low: u64, high: u64, word: &[u8]) -> Result<u64, BadWhy>
     ensures exact { result ≡ names.number_in low high word.now }
