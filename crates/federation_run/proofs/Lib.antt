@@ -1,0 +1,17 @@
+pub mod Places
+pub mod Homes
+pub mod Untrimmed
+pub mod Unchecked
+pub mod FatesRise
+pub mod Moored
+pub mod Opened
+pub mod Seated
+pub mod Closed
+pub mod Started
+pub mod Sorts
+pub mod Owned
+pub mod Logged
+pub mod Counted
+pub mod Ran
+pub mod SettledParts
+pub mod Settled

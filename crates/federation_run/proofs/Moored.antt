@@ -1,0 +1,98 @@
+-- The sites of a run are given their rings one after another.
+use Rattle.std.proofs.Common.{◌≡◌, Bool, ℕ, zero, suc, ◌+◌, ◌<◌, ◌⊎◌, inl, inr, Some, List, [], ◌∷◌, ◌++◌, length, drop, slice_get, slice_index_or, refl, sym, ap, ◌∙◌, subst, arith}
+use Rattle.std.proofs.lemmas.List.{length-append}
+use Rattle.std.proofs.lemmas.Option.{slice_get_within}
+use Rattle.mdb_base.specs.declared.names.SiteId.{SiteId}
+use Rattle.fed_rules.specs.declared.scenario.Scenario.{Scenario}
+use Rattle.fed_rules.specs.Scenarios.{global_program, sites}
+use Rattle.journal_disk.specs.Disk.{Seen}
+use Rattle.any_engine.specs.declared.engine.AnyEngine.{AnyEngine}
+use Rattle.conservative_take.specs.declared.any_policy.AnyPolicy.{AnyPolicy}
+use Rattle.global_manager.specs.declared.manager.GlobalManager.{GlobalManager}
+use Rattle.local_dbms.specs.declared.dbms.LocalDbms.{LocalDbms}
+use Rattle.fed_world.specs.Asks.{terms_of}
+use Rattle.fed_world.specs.Worlds.{ManagerStands}
+use Rattle.fed_world.proofs.SeatsByPlace.{has_item}
+use Rattle.fed_hosts.specs.declared.ports.Port.{Port}
+use Rattle.federation_run.specs.declared.crews.Berth.{Berth}
+use Rattle.federation_run.specs.declared.crews.Crew.{Crew}
+use Rattle.federation_run.specs.Crews.{AreMoored, IsCrew, IsManned, IsMoored, IsStood}
+use Rattle.federation_run.specs.Plans.{stops_in}
+use Rattle.federation_run.proofs.Places.{before_or_last, same_item}
+
+-- so many sites have their rings, and the local database systems of the others are left
+pub record AreMooredTo (scenario : Scenario) (sites : List SiteId) (cores rest : List (LocalDbms AnyEngine)) (index : ℕ) (berths : List Berth) (ports : List Port) : Type 0 where
+  pub rest_is : rest ≡ drop index cores
+  pub berths_count : length berths ≡ index
+  pub ports_count : length ports ≡ index
+  pub each : (place : ℕ) (site : SiteId) (dbms : LocalDbms AnyEngine) (berth : Berth) (port : Port) → slice_get sites place ≡ Some site → slice_get cores place ≡ Some dbms
+      → slice_get berths place ≡ Some berth → slice_get ports place ≡ Some port → IsMoored scenario site dbms berth port
+
+-- the first item of the rest of a list, and what is left then
+pub first_of_rest : {A : Type 0} (xs : List A) (i : ℕ) (x : A) → i < length xs → x ≡ slice_index_or (drop i xs) 0 x → slice_get xs i ≡ Some x
+first_of_rest [] i x within is = absurd (omega (arith, within))
+first_of_rest (y ∷ ys) zero x within is = ap (λ (z : _). Some z) (sym is)
+first_of_rest (y ∷ ys) (suc i) x within is = first_of_rest ys i x (omega (arith, within)) is
+
+pub rest_of_rest : {A : Type 0} (xs : List A) (i : ℕ) → i < length xs → drop 1 (drop i xs) ≡ drop (i + 1) xs
+rest_of_rest [] i within = absurd (omega (arith, within))
+rest_of_rest (y ∷ ys) zero within = refl
+rest_of_rest {A} (y ∷ ys) (suc i) within =
+    (let next : suc i + 1 ≡ suc (i + 1) = omega arith in subst (λ (n : ℕ). drop 1 (drop i ys) ≡ drop n (y ∷ ys)) (sym next) (rest_of_rest ys i (omega (arith, within))))
+
+last_length : {A : Type 0} (xs : List A) (x : A) → length (xs ++ x ∷ []) ≡ length xs + 1
+last_length xs x = length-append xs (x ∷ [])
+
+-- one site more
+pub moored_next : (scenario : Scenario) (sites : List SiteId) (cores rest now : List (LocalDbms AnyEngine)) (index : ℕ) (berths berths_now : List Berth) (ports ports_now : List Port) (site : SiteId) (dbms : LocalDbms AnyEngine) (berth : Berth) (port : Port)
+    → length cores ≡ length sites → index < length sites → AreMooredTo scenario sites cores rest index berths ports → slice_get sites index ≡ Some site → dbms ≡ slice_index_or rest 0 dbms → now ≡ drop 1 rest
+    → IsMoored scenario site dbms berth port → berths_now ≡ berths ++ berth ∷ [] → ports_now ≡ ports ++ port ∷ [] → AreMooredTo scenario sites cores now (index + 1) berths_now ports_now
+moored_next scenario sites cores rest now index berths berths_now ports ports_now site dbms berth port same within m there first now_is own berths_are ports_are = record {
+  rest_is = now_is ∙ (ap (λ (ls : List (LocalDbms AnyEngine)). drop 1 ls) m.rest_is ∙ rest_of_rest cores index (omega (arith, within, same)));
+  berths_count = ap (λ (bs : List Berth). length bs) berths_are ∙ (last_length berths berth ∙ ap (λ (n : ℕ). n + 1) m.berths_count);
+  ports_count = ap (λ (ps : List Port). length ps) ports_are ∙ (last_length ports port ∙ ap (λ (n : ℕ). n + 1) m.ports_count);
+  each = λ place s d b p at dat bat pat. by_place place s d b p at dat
+      (before_or_last berths berth b place (subst (λ (bs : List Berth). slice_get bs place ≡ Some b) berths_are bat))
+      (before_or_last ports port p place (subst (λ (ps : List Port). slice_get ps place ≡ Some p) ports_are pat));
+}
+  where
+    core_at : slice_get cores index ≡ Some dbms
+    core_at = first_of_rest cores index dbms (omega (arith, within, same)) (subst (λ (ls : List (LocalDbms AnyEngine)). dbms ≡ slice_index_or ls 0 dbms) m.rest_is first)
+
+    by_place : (place : ℕ) (s : SiteId) (d : LocalDbms AnyEngine) (b : Berth) (p : Port) → slice_get sites place ≡ Some s → slice_get cores place ≡ Some d
+        → (slice_get berths place ≡ Some b) ⊎ ((place ≡ length berths) × (berth ≡ b)) → (slice_get ports place ≡ Some p) ⊎ ((place ≡ length ports) × (port ≡ p)) → IsMoored scenario s d b p
+    by_place place s d b p at dat (inl bat) (inl pat) = m.each place s d b p at dat bat pat
+    by_place place s d b p at dat (inl bat) (inr last) =
+        (let w = slice_get_within berths place b bat in let n = m.berths_count in let k = m.ports_count in let e = last.0 in absurd (omega (arith, w, n, k, e)))
+    by_place place s d b p at dat (inr last) (inl pat) =
+        (let w = slice_get_within ports place p pat in let n = m.berths_count in let k = m.ports_count in let e = last.0 in absurd (omega (arith, w, n, k, e)))
+    by_place place s d b p at dat (inr one) (inr two) =
+        let here : place ≡ index = one.0 ∙ m.berths_count in
+        let sites_same : site ≡ s = same_item sites index site s there (subst (λ (n : ℕ). slice_get sites n ≡ Some s) here at) in
+        let cores_same : dbms ≡ d = same_item cores index dbms d core_at (subst (λ (n : ℕ). slice_get cores n ≡ Some d) here dat) in
+        subst (λ (z : SiteId). IsMoored scenario z d b p) sites_same (subst (λ (z : LocalDbms AnyEngine). IsMoored scenario site z b p) cores_same
+        (subst (λ (z : Berth). IsMoored scenario site dbms z p) one.1 (subst (λ (z : Port). IsMoored scenario site dbms berth z) two.1 own)))
+
+-- all sites
+pub moored_all : (scenario : Scenario) (sites : List SiteId) (cores rest : List (LocalDbms AnyEngine)) (index : ℕ) (berths : List Berth) (ports : List Port) → index ≡ length sites
+    → AreMooredTo scenario sites cores rest index berths ports → AreMoored scenario sites cores berths ports
+moored_all scenario sites cores rest index berths ports all m = record { berths_count = m.berths_count ∙ all; ports_count = m.ports_count ∙ all; each = m.each }
+
+-- with their local database systems, and the coordinator with its stops, they are a crew
+pub crewed : (tells : Bool) (disks : List Seen) (scenario : Scenario) (manager : GlobalManager AnyPolicy) (cores : List (LocalDbms AnyEngine)) (crew : Crew) → crew.manager ≡ manager → crew.stops.items ≡ stops_in scenario 0
+    → AreMoored scenario (sites scenario) cores crew.berths.items crew.ports.items → IsManned tells disks scenario manager cores → IsCrew tells disks scenario crew
+crewed tells disks scenario manager cores crew manager_is stops_are m manned = record {
+  manager = subst (λ (g : GlobalManager AnyPolicy). ManagerStands tells disks g (terms_of scenario) (global_program scenario) []) (sym manager_is) manned.coordinator;
+  stops = stops_are;
+  berths_count = m.berths_count;
+  ports_count = m.ports_count;
+  berth = λ place site berth at bat.
+      (let dbms = has_item cores (sites scenario) place site manned.count at in
+      let port = has_item crew.ports.items (sites scenario) place site m.ports_count at in
+      let one = m.each place site dbms.0 berth port.0 at dbms.1 bat port.1 in
+      (one.stops, subst (λ (d : LocalDbms AnyEngine). IsStood tells disks scenario site d) (sym one.dbms_is) (manned.each place site dbms.0 at dbms.1)));
+  ringed = λ place site berth port at bat pat.
+      (let dbms = has_item cores (sites scenario) place site manned.count at in
+      (m.each place site dbms.0 berth port at dbms.1 bat pat).rings);
+  others = manned.others;
+}

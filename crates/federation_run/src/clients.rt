@@ -1,0 +1,103 @@
+//! The clients of a run.
+ghost use Rattle.std.specs.Prelude.{◌≡◌, ◌≤◌, IfOk, length};
+
+use crate::doors::{CoordLock, SiteLock};
+use crate::hosts::Hosts;
+use client_drivers::{DoorErr, Driven, drive_global, drive_local};
+use fed_hosts::{Gate, Plan};
+use fed_rules::{Scenario, TxLine};
+use journal_disk::Disk;
+use mdb_base::{Memory, SiteId, Tx};
+use std::alloc::Global;
+use std::sync::Wait;
+
+/// A transaction that a client drives, local at its home or global where there is none.
+#[derive(Clone, Copy, Debug, PartialEq, Eq, PartialOrd, Ord)]
+pub(crate) struct Ride {
+    pub(crate) tx: Tx,
+    pub(crate) home: Option<SiteId>,
+}
+
+/// What clients are given: the transactions by rising number, how many clients there are, how often an attempt waits before it is given
+/// up, and how many calls each client makes at most.
+#[derive(Drop)]
+pub(crate) struct Rides {
+    pub(crate) all: Vec<Ride>,
+    pub(crate) clients: u8,
+    pub(crate) tries: u8,
+    pub(crate) turns: u32,
+}
+
+fn ride_of(line: &TxLine) -> Ride
+    ensures { result ≡ record { tx = line.now.tx; home = line.now.home } }
+{
+    Ride {
+        tx: line.tx,
+        home: line.home,
+    }
+}
+
+/// What the clients of a scenario are given.
+pub(crate) fn rides_of(alloc: Global, scenario: &Scenario) -> Result<Rides, Memory> {
+    let mut all = Vec::new(alloc);
+    for line in scenario.transactions.as_slice() {
+        all.push(ride_of(line))?;
+    }
+    all.sort()?;
+    Ok(Rides {
+        all,
+        clients: scenario.clients,
+        tries: scenario.tries,
+        turns: scenario.turns,
+    })
+}
+
+/// Drives one transaction with what is left of a client's calls.
+fn drive<R: Wait, D: Disk, G: Gate, N: Plan>(
+    rt: &R,
+    hosts: &Hosts<D, N>,
+    gate: &G,
+    ride: Ride,
+    tries: u8,
+    left: u32,
+) -> Result<Driven, DoorErr>
+    ensures { IfOk result (λ driven. driven.used ≤ left) }
+{
+    match ride.home {
+        Some(site) => {
+            let Some(host) = hosts.site(site) else {
+                return Ok(Driven {
+                    used: 0,
+                    committed: false,
+                });
+            };
+            drive_local(&mut SiteLock { rt, host, gate }, ride.tx, tries, left)
+        }
+        None => {
+            let host = hosts.coordinator;
+            drive_global(&mut CoordLock { rt, host, gate }, ride.tx, tries, left)
+        }
+    }
+}
+
+/// A client, counted from 0, drives its transactions, one after another: of all by rising number, counted from 0, those whose number
+/// leaves the client's number over the clients. It stops where a host carries nothing out.
+pub(crate) fn run_client<R: Wait, D: Disk, G: Gate, N: Plan>(
+    rt: &R,
+    rides: &Rides,
+    hosts: &Hosts<D, N>,
+    gate: &G,
+    client: u8,
+) {
+    let mut left = rides.turns;
+    let mut next = usize::from(client);
+    for index in 0..rides.all.len() {
+        if index == next {
+            next = next.saturating_add(usize::from(rides.clients));
+            match drive(rt, hosts, gate, rides.all[index], rides.tries, left) {
+                Ok(driven) => left -= driven.used,
+                Err(_) => return,
+            }
+        }
+    }
+}

@@ -1,0 +1,131 @@
+//! How a scenario runs in threads.
+ghost use Rattle.std.specs.Prelude.{◌≡◌, IfErr, IfOk, IsTrue, OnErr, length, map};
+ghost use Rattle.fed_world.specs.Faults.{faults_of};
+ghost use Rattle.fed_world.specs.SettingUp.{AreEmpty};
+ghost use Rattle.federation_run.specs.Crews.{IsCrew};
+ghost use Rattle.federation_run.specs.Lefts.{HasLeft};
+ghost use Rattle.federation_run.specs.Running.{EndsBadly, HasRun};
+ghost use Rattle.federation_run.specs.Seats.{IsNamed};
+
+use crate::clients::rides_of;
+use crate::closing_up::close_all;
+use crate::crews::Crew;
+use crate::errors::RunErr;
+use crate::lefts::{CoordLeft, Left};
+use crate::mooring::{crew_of, declared_sites};
+use crate::seats::{Seat, open_all};
+use crate::settling::settle;
+use crate::tasks::{run_tasks, tasks_of};
+use conservative_take::AnyPolicy;
+use fed_hosts::{CoordHost, CoordParts, Gate, Plan};
+use fed_rules::{Lines, Scenario};
+use fed_world::{Cores, World, WorldErr};
+use journal_disk::Disk;
+use mdb_base::Memory;
+use std::alloc::Global;
+use std::marker::Brand;
+use std::sync::{Mutex, Wait};
+use std::thread::Threads;
+
+/// Runs the hosts of a crew in threads, each with the disk of its number, until every task is done. All memory is taken before the first
+/// disk leaves its place, and each one is back there in the end. Without memory no disk is touched.
+pub(crate) fn run_over<R: Threads + Wait + Sync, D: Disk + Send, G: Gate + Sync, N: Plan + Send>(
+    rt: &R,
+    alloc: Global,
+    scenario: &Scenario,
+    crew: Crew,
+    disks: &mut Vec<D>,
+    gate: &G,
+) -> Result<Left, Memory>
+    requires told { IsTrue D.tells }
+    requires named { IsNamed scenario.now (faults_of (map D.seen disks.old.items)) crew N.sites N.coordinator N.rings }
+    requires crew { IsCrew D.tells (map D.seen disks.old.items) scenario.now crew }
+    ensures left { IfOk result (HasLeft D.tells scenario.now N.sites N.coordinator N.rings (map D.seen disks.old.items) (map D.seen disks.new.items)) }
+    ensures untouched { OnErr result (disks.new.items ≡ disks.old.items) }
+{
+    let declared = declared_sites(alloc, scenario)?;
+    let rides = rides_of(alloc, scenario)?;
+    let mut tasks = tasks_of(alloc, declared.as_slice(), scenario.clients)?;
+    let mut seats: Vec<Seat<D, N>> = Vec::with_capacity(alloc, 8)?;
+    let shared = Vec::with_capacity(alloc, 8)?;
+    let mut sites = Vec::with_capacity(alloc, 8)?;
+    let Crew {
+        manager,
+        stops,
+        ports,
+        berths,
+    } = crew;
+    open_all::<D, N>(alloc, disks, berths, &mut seats);
+    let first = disks.take_last();
+    let host = Mutex::new(CoordHost::<AnyPolicy, D, N>::new(alloc, manager, first, stops, ports));
+    run_tasks(
+        rt,
+        &rides,
+        seats.as_slice(),
+        &host,
+        gate,
+        &mut tasks,
+        shared,
+    );
+    let CoordParts {
+        manager,
+        disk,
+        lines,
+        ports,
+        failed,
+    } = host.into_inner().finish();
+    disks.push_reserved(disk);
+    close_all(seats, disks, &mut sites);
+    Ok(Left {
+        coordinator: CoordLeft {
+            manager,
+            lines,
+            ports,
+            failed,
+        },
+        sites,
+    })
+}
+
+/// Runs a scenario on nine empty disks in threads: a task for the coordinator, one for each declared site, and one for each client. Each
+/// host lies behind a lock of its own, and messages go over rings with the scenario's scripts. The lines of all hosts by their stamps
+/// (Lamport 1978) are right, and the world stands for them. Where a disk call fails, the others go on, and the error has the right lines
+/// so far. Every disk is back in its place in the end. Want of memory is the one answer without a cause.
+pub fn run_threads<R: Threads + Wait + Sync, D: Disk + Send, G: Gate + Sync>(
+    rt: &R,
+    alloc: Global,
+    scenario: Scenario,
+    disks: &mut Vec<D>,
+    gate: &G,
+) -> Result<World, RunErr>
+    requires told { IsTrue D.tells }
+    requires nine { length disks.old.items ≡ 9 }
+    requires empty { AreEmpty (map D.seen disks.old.items) }
+    ensures ran { IfOk result (HasRun D.tells (faults_of (map D.seen disks.old.items)) (map D.seen disks.new.items) scenario) }
+    ensures failed { IfErr result (EndsBadly D.tells (map D.seen disks.old.items) (map D.seen disks.new.items) scenario) }
+    ensures count { length disks.new.items ≡ 9 }
+{
+    let world = match World::new(alloc, scenario, disks) {
+        Ok(world) => world,
+        Err(WorldErr::Memory) => return Err(RunErr::Memory),
+        Err(WorldErr::Disk { number }) => {
+            return Err(RunErr::Disk {
+                number,
+                lines: Lines::of(Vec::new(alloc)),
+            });
+        }
+    };
+    let Cores {
+        scenario,
+        coordinator,
+        sites,
+        ..
+    } = world.into_cores();
+    let Ok(crew) = crew_of(alloc, &scenario, coordinator, sites) else {
+        return Err(RunErr::Memory);
+    };
+    match run_over::<R, D, G, Brand>(rt, alloc, &scenario, crew, disks, gate) {
+        Ok(left) => settle(alloc, scenario, left),
+        Err(_) => Err(RunErr::Memory),
+    }
+}
