@@ -35,7 +35,7 @@ use Rattle.fed_world.specs.Worlds.{AreDisks, CoordinatorBroke, DbmsStands, IsBro
 use Rattle.fed_world.specs.SettingUp.{EmptyBut, IsSetUp, StopsForDisk, StopsForMemory}
 use Rattle.mdb_top.specs.Breaks.{BreaksAtNext, BreaksSetUp, CoordinatorStops, SiteStops}
 use Rattle.mdb_top.specs.Disks.{AreSetUp, CoordHolds, HoldAll, HoldFrames, HoldOthers, HoldsAt, NothingBut, SiteHolds, frames_at, site_frames}
-use Rattle.mdb_top.specs.Endings.{StartsShort}
+use Rattle.mdb_top.specs.Outcomes.{StartsShort}
 use Rattle.mdb_top.proofs.Recalled.{site_held}
 use Rattle.mdb_top.proofs.Stores.{coord_bytes, coord_whole, nothing, site_bytes, site_whole}
 

@@ -3,8 +3,6 @@ use Rattle.std.proofs.Common.{◌≡◌, ℕ, ◌+◌, ◌<◌, ◌≤◌, ◌�
 use Rattle.std.proofs.lemmas.List.{take_all, length-take-le}
 use Rattle.std.proofs.lemmas.Bool.{cases_lt, lt-ltb, le-ltb, cond-true, cond-false}
 use Rattle.scenario_text.specs.declared.bad.BadLine.{BadLine}
-use Rattle.scenario_text.specs.declared.session.Session.{Session}
-use Rattle.scenario_text.specs.Texts.{session_of}
 use Rattle.mdb_top.specs.declared.input.Unplayed.{Unplayed}
 use Rattle.mdb_top.specs.Inputs.{SomeInput, Tells}
 use Rattle.mdb_top.specs.Streams.{longest}
@@ -21,22 +19,23 @@ front_or_longer m bytes = by_order (cases_lt (m + 1) (length bytes))
         let taken = length-take-le (m + 1) bytes all in
         inr (omega arith, omega (arith, taken))
 
--- more bytes than the limit, and no more
-pub verdict-long : (bytes : List ℕ) → longest < length bytes → verdict bytes ≡ TooLong
-verdict-long bytes more = cond-true _ _ _ (lt-ltb longest (length bytes) more)
+module _ {X : Type 0} (reads : List ℕ → Result X BadLine) where
+  -- more bytes than the limit, and no more
+  pub verdict-long : (bytes : List ℕ) → longest < length bytes → verdict reads bytes ≡ TooLong
+  verdict-long bytes more = cond-true _ _ _ (lt-ltb longest (length bytes) more)
 
-pub verdict-short : (bytes : List ℕ) (read : Result Session BadLine) → length bytes ≤ longest → session_of bytes ≡ read → verdict bytes ≡ verdict_on read
-verdict-short bytes read few e = cond-false _ _ _ (le-ltb longest (length bytes) few) ∙ ap verdict_on e
+  pub verdict-short : (bytes : List ℕ) (read : Result X BadLine) → length bytes ≤ longest → reads bytes ≡ read → verdict reads bytes ≡ verdict_on read
+  verdict-short bytes read few e = cond-false _ _ _ (le-ltb longest (length bytes) few) ∙ ap verdict_on e
 
--- the front that is read has the verdict of the whole
-verdict-front : (bytes : List ℕ) → verdict (take (longest + 1) bytes) ≡ verdict bytes
-verdict-front bytes = elim (front_or_longer longest bytes) [
-  | inl same ↦ ap verdict same
-  | inr more ↦ verdict-long (take (longest + 1) bytes) more.1 ∙ sym (verdict-long bytes more.0)
-]
+  -- the front that is read has the verdict of the whole
+  verdict-front : (bytes : List ℕ) → verdict reads (take (longest + 1) bytes) ≡ verdict reads bytes
+  verdict-front bytes = elim (front_or_longer longest bytes) [
+    | inl same ↦ ap (verdict reads) same
+    | inr more ↦ verdict-long (take (longest + 1) bytes) more.1 ∙ sym (verdict-long bytes more.0)
+  ]
 
--- the input is all that was left, or where nothing is told the bytes that came
-pub read_input : (tells : Bool) (left bytes : List ℕ) (read : Result Session Unplayed) → (IsTrue tells → bytes ≡ take (longest + 1) left) → Tells read (verdict bytes)
-    → SomeInput tells left (λ input. Tells read (verdict input))
-read_input true left bytes read e h = record { input = left; told = (λ t. refl); holds = subst (Tells read) (ap verdict (e refl) ∙ verdict-front left) h }
-read_input false left bytes read e h = record { input = bytes; told = (λ t. absurd cc); holds = h }
+  -- the input is all that was left, or where nothing is told the bytes that came
+  pub read_input : (tells : Bool) (left bytes : List ℕ) (read : Result X Unplayed) → (IsTrue tells → bytes ≡ take (longest + 1) left) → Tells read (verdict reads bytes)
+      → SomeInput tells left (λ input. Tells read (verdict reads input))
+  read_input true left bytes read e h = record { input = left; told = (λ t. refl); holds = subst (Tells read) (ap (verdict reads) (e refl) ∙ verdict-front left) h }
+  read_input false left bytes read e h = record { input = bytes; told = (λ t. absurd cc); holds = h }

@@ -14,9 +14,9 @@ use Rattle.trace_lines.specs.Spelling.{lines_bytes}
 use Rattle.mdb_top.specs.declared.output.Output.{Output}
 use Rattle.mdb_top.specs.declared.output.Output.TheVariants.{Whole, Broken}
 use Rattle.mdb_top.specs.Disks.{HoldAll, HoldFrames}
-use Rattle.mdb_top.specs.Endings.{Breaks, IsShort}
 use Rattle.mdb_top.specs.Outputs.{IfBroken, IfWhole, IsOutput}
 use Rattle.mdb_top.specs.Plays.{IsPrinted, closed_with}
+use Rattle.mdb_top.specs.Replays.{Breaks, IsShort, replaying}
 use Rattle.mdb_top.specs.Sessions.{IsFront, IsRight, commands_of, story}
 use Rattle.mdb_top.specs.Texts.{disk_failed_text}
 use Rattle.mdb_top.proofs.Holding.{AreSized, stands_hold_all, world_breaks}
@@ -29,7 +29,7 @@ whole_weaker (Err why) P Q f p = p
 
 -- the whole output of a session that was carried out
 pub whole_output : (r : Result Output Memory) (old new : List Seen) (session : Session) → faults_of new ≡ faults_of old → IsRight session.scenario (story session) → HoldFrames new session.scenario (story session)
-    → HoldAll new session.scenario (story session) → IfWhole r (λ bytes. IsPrinted bytes session.scenario (commands_of session)) → IsOutput r old new session
+    → HoldAll new session.scenario (story session) → IfWhole r (λ bytes. IsPrinted bytes session.scenario (commands_of session)) → IsOutput replaying r old new session
 whole_output (Ok (Whole bytes)) old new session calm right frames all p =
     record { lines = p.lines; done = record { lines_are = p.lines_are; right = right; kept = frames }; calm = calm; output_is = p.text_is }
 whole_output (Ok (Broken bytes)) old new session calm right frames all p = absurd p
@@ -37,7 +37,7 @@ whole_output (Err why) old new session calm right frames all p = inr (inl (recor
 
 -- the output of one in which a disk failed
 pub broken_output : (r : Result Output Memory) (old new : List Seen) (session : Session) (number : ℕ) (done : List Command) (lines : List Line) → AreLines lines session.scenario done
-    → Breaks number old new session done → IfBroken r (λ bytes. bytes ≡ lines_bytes lines ++ disk_failed_text number) → IsOutput r old new session
+    → Breaks number old new session done → IfBroken r (λ bytes. bytes ≡ lines_bytes lines ++ disk_failed_text number) → IsOutput replaying r old new session
 broken_output (Ok (Whole bytes)) old new session number done lines are breaks p = absurd p
 broken_output (Ok (Broken bytes)) old new session number done lines are breaks p = record { number = number; done = done; lines = lines; lines_are = are; output_is = p; breaks = breaks }
 broken_output (Err why) old new session number done lines are breaks p = inr (inr (record { number = number; done = done; breaks = breaks }))
@@ -66,8 +66,8 @@ module _ (tells : Bool) (world : World) (old disks : List Seen) (session : Sessi
   })
 
 -- the commands before the failed one are first ones too
-pub front_before : (session : Session) (command : Command) (done : List Command) → IsFront (command ∷ done) session → IsFront done session
-front_before session command done (left, e) = (left ++ command ∷ [], e ∙ sym (again left))
+pub front_before : (whole : List Command) (command : Command) (done : List Command) → IsFront (command ∷ done) whole → IsFront done whole
+front_before whole command done (left, e) = (left ++ command ∷ [], e ∙ sym (again left))
   where
     again : (left : List Command) → (left ++ command ∷ []) ++ done ≡ left ++ command ∷ done
     again [] = refl

@@ -95,8 +95,8 @@ session_heard session whole are closing =
     closing session.scenario whole (reverse session.commands) (each_reverse (IsHeard sites) session.commands own)
 
 -- and the first ones of it
-pub front_heard : (session : Session) (done : List Command) → Each (IsHeard session.scenario.sites) (commands_of session) → IsFront done session → Each (IsHeard session.scenario.sites) done
-front_heard session done heard (left, e) = (each_append (IsHeard session.scenario.sites) left done (subst (λ cs. Each (IsHeard session.scenario.sites) cs) e heard)).1
+pub front_heard : (sites : List SiteLine) (whole done : List Command) → Each (IsHeard sites) whole → IsFront done whole → Each (IsHeard sites) done
+front_heard sites whole done heard (left, e) = (each_append (IsHeard sites) left done (subst (λ cs. Each (IsHeard sites) cs) e heard)).1
 
 -- so their right lines can be printed
 pub lines_fit : RightLinesFit → (scenario : Scenario) (commands : List Command) (lines : List Line) → IsScenario scenario → Each (IsHeard scenario.sites) commands → AreLines lines scenario commands

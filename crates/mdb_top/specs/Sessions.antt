@@ -3,6 +3,7 @@ use Rattle.std.specs.Prelude.{ℕ, ◌≡◌, ◌⊎◌, ◌↔◌, true, Some, 
 use Rattle.mdb_base.specs.declared.names.Key.{Key}
 use Rattle.mdb_base.specs.declared.names.SiteId.{SiteId}
 use Rattle.mdb_base.specs.declared.names.Tid.{Tid}
+use Rattle.mdb_base.specs.declared.names.Tx.{Tx}
 use Rattle.mdb_base.specs.declared.rows.Put.{Put}
 use Rattle.mdb_base.specs.Rows.{look_up}
 use Rattle.order_laws.specs.Chains.{In}
@@ -10,6 +11,7 @@ use Rattle.fed_rules.specs.declared.commands.Command.{Command}
 use Rattle.fed_rules.specs.declared.commands.Line.{Line}
 use Rattle.fed_rules.specs.declared.records.SiteRecord.TheVariants.{Local}
 use Rattle.fed_rules.specs.declared.scenario.Scenario.{Scenario}
+use Rattle.fed_rules.specs.declared.scenario.TxLine.{TxLine}
 use Rattle.fed_rules.specs.Closing.{closed}
 use Rattle.fed_rules.specs.Headline.{Headline}
 use Rattle.fed_rules.specs.Orders.{due_of, is_committed, records_of, table_of}
@@ -34,9 +36,9 @@ story session = story_of session.scenario (commands_of session)
 abbrev pub printed : List Line → Scenario → Story → List ℕ
 printed lines scenario story = lines_bytes lines ++ report_bytes (report_of scenario story)
 
--- the commands are the first ones of the session, the last one of them first
-abbrev pub IsFront : List Command → Session → Type 0
-IsFront done session = (left : List Command) × (commands_of session ≡ left ++ done)
+-- the commands are the first ones of these, the last one of them first
+abbrev pub IsFront : List Command → List Command → Type 0
+IsFront done whole = (left : List Command) × (whole ≡ left ++ done)
 
 -- a Local record of the attempt is kept at some site
 pub record IsKeptLocal (scenario : Scenario) (story : Story) (tid : Tid) : Type 0 where
@@ -49,13 +51,25 @@ pub record IsKeptLocal (scenario : Scenario) (story : Story) (tid : Tid) : Type 
 abbrev pub HasCommitted : Scenario → Story → Tid → Type 0
 HasCommitted scenario story tid = IsKeptLocal scenario story tid ⊎ (is_committed story tid ≡ true)
 
+-- an attempt of the transaction committed and stands in the printed order, and no other one does
+pub record CommitsOnce (scenario : Scenario) (story : Story) (tx : Tx) : Type 0 where
+  pub tid : Tid
+  pub of_tx : tid.tx ≡ tx
+  pub committed : HasCommitted scenario story tid
+  pub ordered : In tid (printed_order scenario story)
+  pub once : (other : Tid) → In other (printed_order scenario story) → other.tx ≡ tx → other ≡ tid
+
+-- so it is with each transaction of the scenario
+abbrev pub AllCommit : Scenario → Story → Type 0
+AllCommit scenario story = (line : TxLine) → In line scenario.transactions → CommitsOnce scenario story line.tx
+
 -- each declared site has what it is due
 abbrev pub AreSettled : Scenario → Story → Type 0
 AreSettled scenario story =
     (site : SiteId) (home : Home) → home_of scenario site ≡ Some home
     → (key : Key) → look_up (table_of scenario story site) key ≡ look_up (due_of scenario story site) key
 
--- what holds of the story of a whole session: the headline of the rules; at the end it is at rest, every actor up and nothing live, in doubt or
+-- what holds of the story of all commands of a session: the headline of the rules; at the end it is at rest, every actor up and nothing live, in doubt or
 -- known; each site's table is what it is due; and an attempt stands in the printed order exactly where it committed
 pub record IsRight (scenario : Scenario) (story : Story) : Type 0 where
   pub headline : Headline scenario story

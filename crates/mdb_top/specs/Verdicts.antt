@@ -1,27 +1,38 @@
--- What an input is: too long, no session, or a session. And the words that ask for a replay.
-use Rattle.std.specs.Prelude.{ℕ, nat_lt, Bool, false, cond, codes, List, [], ◌∷◌, length, Result, Ok, Err}
+-- What an input is: too long, a text with a bad line, or what it spells. And what the words of the program ask for.
+use Rattle.std.specs.Prelude.{ℕ, nat_lt, cond, codes, Option, Some, None, List, [], ◌∷◌, length, Result, Ok, Err}
 use Rattle.std.specs.Str.{bytes_eq}
+use Rattle.mdb_base.specs.Words.{map_some}
 use Rattle.scenario_text.specs.declared.bad.BadLine.{BadLine}
-use Rattle.scenario_text.specs.declared.session.Session.{Session}
-use Rattle.scenario_text.specs.Texts.{session_of}
+use Rattle.mdb_top.specs.declared.words.Job.{Job}
+use Rattle.mdb_top.specs.declared.words.Job.TheVariants.{Make, Replay, Run}
+use Rattle.mdb_top.specs.Made.{IsMakeable, made_by}
 use Rattle.mdb_top.specs.Streams.{longest}
 
--- whether the words are a command of the program: so far `replay` alone is
-abbrev pub is_replay : List (List ℕ) → Bool
-is_replay [] = false
-is_replay (word ∷ []) = bytes_eq word (codes "replay")
-is_replay (word ∷ other ∷ words) = false
+-- what one word asks for
+abbrev pub job_of : List ℕ → Option Job
+job_of word = cond (bytes_eq word (codes "replay")) (Some Replay) (cond (bytes_eq word (codes "run")) (Some Run) None)
 
--- what an input is
-pub data Verdict : Type 0 where
-  TooLong : Verdict
-  BadInput : BadLine → Verdict
-  Runs : Session → Verdict
+-- what the words ask for
+abbrev pub asked_by : List (List ℕ) → Option Job
+asked_by [] = None
+asked_by (word ∷ []) = job_of word
+asked_by (word ∷ other ∷ words) = map_some Make (made_by (word ∷ other ∷ words))
 
-abbrev pub verdict_on : Result Session BadLine → Verdict
+-- what is asked for can be done: what is to be made can be made
+abbrev pub CanBeDone : Job → Type 0
+CanBeDone (Make making) = IsMakeable making
+CanBeDone job = Unit {0}
+
+-- what an input is, to a reader of texts
+pub data Verdict (X : Type 0) : Type 0 where
+  TooLong : Verdict X
+  BadInput : BadLine → Verdict X
+  Spells : X → Verdict X
+
+abbrev pub verdict_on : {X : Type 0} → Result X BadLine → Verdict X
 verdict_on (Err bad) = BadInput bad
-verdict_on (Ok session) = Runs session
+verdict_on (Ok x) = Spells x
 
 -- the limit on the bytes comes first, then the grammar
-abbrev pub verdict : List ℕ → Verdict
-verdict bytes = cond (nat_lt longest (length bytes)) TooLong (verdict_on (session_of bytes))
+abbrev pub verdict : {X : Type 0} → (List ℕ → Result X BadLine) → List ℕ → Verdict X
+verdict reads bytes = cond (nat_lt longest (length bytes)) TooLong (verdict_on (reads bytes))

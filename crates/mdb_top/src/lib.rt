@@ -3,15 +3,23 @@
 
 mod bad_lines;
 mod input;
+mod made;
+mod made_output;
 mod mem_streams;
 mod output;
 mod reading;
+mod run_output;
 mod streams;
+mod summary;
+mod summing;
+mod telling;
+mod threaded;
 mod top_call;
 mod used_disks;
 mod words;
 mod writing;
 
+pub use federation_run::{Gate, NoGate};
 pub use journal_disk::{Disk, Failed, MemDisk};
 pub use mem_streams::{MemSink, MemSource};
 pub use streams::{Sink, Source};

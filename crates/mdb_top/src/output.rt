@@ -11,6 +11,7 @@ ghost use Rattle.trace_lines.specs.Fits.{line_fits};
 ghost use Rattle.trace_lines.specs.Spelling.{lines_bytes};
 ghost use Rattle.mdb_top.specs.Disks.{is_used, sizes_of};
 ghost use Rattle.mdb_top.specs.Outputs.{IfBroken, IfWhole, IsOutput};
+ghost use Rattle.mdb_top.specs.Replays.{replaying};
 ghost use Rattle.mdb_top.specs.Plays.{CanPlay, IsPrintable, IsPrinted, closed_with};
 ghost use Rattle.mdb_top.specs.Texts.{disk_failed_text};
 
@@ -87,7 +88,7 @@ fn put_lines(alloc: Global, lines: &[Line], out: &mut Vec<u8>) -> Result<(), Mem
 }
 
 /// The lines of a world at rest, and behind them its report.
-fn printed(alloc: Global, world: &World) -> Result<Output, Memory>
+pub(crate) fn printed(alloc: Global, world: &World) -> Result<Output, Memory>
     requires { SomeStory (Recalls world.now) IsPrintable }
     ensures { IfWhole result (λ bytes. EachStory (Recalls world.now) (IsPrinted bytes)) }
 {
@@ -100,7 +101,7 @@ fn printed(alloc: Global, world: &World) -> Result<Output, Memory>
 }
 
 /// These lines, and behind them which disk failed.
-fn broken(alloc: Global, lines: &[Line], number: u8) -> Result<Output, Memory>
+pub(crate) fn broken(alloc: Global, lines: &[Line], number: u8) -> Result<Output, Memory>
     requires { Each (λ line. IsTrue (line_fits line)) lines.now }
     ensures { IfBroken result (λ bytes. bytes ≡ lines_bytes lines.now ++ disk_failed_text number) }
 {
@@ -113,7 +114,7 @@ fn broken(alloc: Global, lines: &[Line], number: u8) -> Result<Output, Memory>
 }
 
 /// A scenario is one that the rules speak of.
-fn scenario_is_whole(scenario: &Scenario)
+pub(crate) fn scenario_is_whole(scenario: &Scenario)
     ensures { IsScenario scenario.now }
 {
     let _ = &scenario.sites;
@@ -129,7 +130,7 @@ pub(crate) fn output_of<D: Disk>(
     requires commands { AreCommands session.scenario.sites session.commands }
     requires nine { length disks.old.items ≡ 9 }
     requires unused { is_used (sizes_of (map D.seen disks.old.items)) ≡ false }
-    ensures output { IsOutput result (map D.seen disks.old.items) (map D.seen disks.new.items) session }
+    ensures output { IsOutput replaying result (map D.seen disks.old.items) (map D.seen disks.new.items) session }
     ensures nine { length disks.new.items ≡ 9 }
 {
     right_lines_fit();

@@ -5,17 +5,31 @@ mod checkpoints;
 mod disks;
 mod engines;
 mod failing;
+mod gates;
 mod limits;
+mod makes;
 mod protocols;
 mod refused;
+mod runs;
 mod serial_order;
 mod sessions;
 mod tickets;
 
-use crate::{MemDisk, MemSink, MemSource, federate};
+use crate::{Gate, MemDisk, MemSink, MemSource, NoGate, federate};
 use mdb_base::Memory;
 use std::alloc::Global;
 use std::process::Abort;
+use std::sync::Wait;
+use std::thread::Threads;
+
+/// How many bytes one call of a source gives.
+const GIVEN: usize = 1_000;
+
+/// How many bytes one call of a sink takes.
+const TAKEN: usize = 10;
+
+/// How many bytes a sink has room for.
+const ROOM: usize = 1_048_576;
 
 /// Nine empty disks, of which no call fails.
 fn empty_disks(alloc: Global) -> Result<Vec<MemDisk>, Memory>
@@ -28,19 +42,60 @@ fn empty_disks(alloc: Global) -> Result<Vec<MemDisk>, Memory>
     Ok(disks)
 }
 
-/// The status of `replay` on these bytes, given and taken a few at a time, and what was put.
-fn replayed(alloc: Global, input: &[u8]) -> Result<(u8, Vec<u8>), Memory> {
-    let words = vec![in alloc; String::from_str(alloc, "replay")?]?;
-    let mut source = MemSource::new(Vec::from_slice(alloc, input)?, 1_000, Vec::new(alloc));
-    let mut sink = MemSink::new(alloc, 65_536, 7, Vec::new(alloc))?;
-    let mut disks = empty_disks(alloc)?;
-    let status = federate(alloc, &words, &mut source, &mut sink, &mut disks);
+/// The status of these words on these bytes and disks with this gate, where the call of the source with the first number fails, counted from
+/// 1, and that of the sink with the second, and what was put; at call 0 none fails.
+fn called<R: Threads + Wait + Sync + AllocGlobal, G: Gate + Sync>(
+    rt: &R,
+    words: &[&str],
+    input: &[u8],
+    failing: (u32, u32),
+    disks: &mut Vec<MemDisk>,
+    gate: &G,
+) -> Result<(u8, Vec<u8>), Memory>
+    requires { length disks.old.items ≡ 9 }
+    ensures { length disks.new.items ≡ 9 }
+{
+    let alloc = rt.alloc();
+    let (take, put) = failing;
+    let mut owned = Vec::new(alloc);
+    for word in words {
+        owned.push(String::from_str(alloc, word)?)?;
+    }
+    let takes = vec![in alloc; take]?;
+    let puts = vec![in alloc; put]?;
+    let mut source = MemSource::new(Vec::from_slice(alloc, input)?, GIVEN, takes);
+    let mut sink = MemSink::new(alloc, ROOM, TAKEN, puts)?;
+    let status = federate(rt, alloc, &owned, &mut source, &mut sink, disks, gate);
     Ok((status, Vec::from_slice(alloc, sink.written())?))
 }
 
+/// The status of `replay` on these bytes and disks, and what was put.
+fn replayed_on<R: Threads + Wait + Sync + AllocGlobal>(
+    rt: &R,
+    input: &[u8],
+    mut disks: Vec<MemDisk>,
+) -> Result<(u8, Vec<u8>), Memory>
+    requires { length disks.items ≡ 9 }
+{
+    called(rt, &["replay"], input, (0, 0), &mut disks, &NoGate)
+}
+
+/// The status of `replay` on these bytes, and what was put.
+fn replayed<R: Threads + Wait + Sync + AllocGlobal>(
+    rt: &R,
+    input: &[u8],
+) -> Result<(u8, Vec<u8>), Memory> {
+    replayed_on(rt, input, empty_disks(rt.alloc())?)
+}
+
 /// `replay` on this text puts that one and has this status. There is memory.
-fn expect(rt: &(impl Abort + AllocGlobal), input: &str, status: u8, output: &str) {
-    match replayed(rt.alloc(), input.as_bytes()) {
+fn expect(
+    rt: &(impl Abort + Threads + Wait + Sync + AllocGlobal),
+    input: &str,
+    status: u8,
+    output: &str,
+) {
+    match replayed(rt, input.as_bytes()) {
         Ok((ended, put)) => {
             assert_eq!(rt; ended, status);
             assert_eq!(rt; put.as_slice(), output.as_bytes());

@@ -1,10 +1,31 @@
 //! The words that the program is called with.
-ghost use Rattle.std.specs.Prelude.{◌≡◌, map, string_bytes};
-ghost use Rattle.mdb_top.specs.Verdicts as verdicts;
+ghost use Rattle.std.specs.Prelude.{◌≡◌, IfSome, map, string_bytes};
+ghost use Rattle.mdb_top.specs.Verdicts.{CanBeDone, asked_by};
 
-/// Whether the words are the one command that there is so far: `replay`, alone.
-pub(crate) fn is_replay(words: &[String]) -> bool
-    ensures { result ≡ verdicts.is_replay (map string_bytes words.now) }
+use crate::made::{Making, made_by};
+
+/// What the words ask for.
+#[derive(Clone, Copy, Debug, PartialEq, Eq)]
+pub(crate) enum Job {
+    /// A scenario's commands are carried out in their order.
+    Replay,
+    /// A scenario runs in threads.
+    Run,
+    /// A made scenario does.
+    Make(Making),
+}
+
+/// What the words ask for: `replay` alone, `run` alone, or `make NUMBER SITES TRANSACTIONS`. Other words are no command.
+pub(crate) fn job_of(words: &[String]) -> Option<Job>
+    ensures exact { result ≡ asked_by (map string_bytes words.now) }
+    ensures doable { IfSome result CanBeDone }
 {
-    words.len() == 1 && words[0].as_str() == "replay"
+    if words.len() != 1 {
+        return Some(Job::Make(made_by(words)?));
+    }
+    match words[0].as_str() {
+        "replay" => Some(Job::Replay),
+        "run" => Some(Job::Run),
+        _ => None,
+    }
 }

@@ -1,4 +1,5 @@
-//! The program: `mdbfed replay` reads a session from standard input, and writes its lines and its report to standard output.
+//! The program: `mdbfed replay` reads a session from standard input, and `mdbfed run` a scenario; both write the lines and the report to
+//! standard output.
 #![tactic(auto)]
 
 ghost use Rattle.std.specs.Prelude.{◌≡◌, IfOk, length};
@@ -7,7 +8,7 @@ mod std_streams;
 
 use crate::std_streams::{StdSink, StdSource};
 use mdb_base::Memory;
-use mdb_top::{MemDisk, federate};
+use mdb_top::{MemDisk, NoGate, federate};
 use std::alloc::Global;
 use std::env;
 use std::env::Env;
@@ -55,5 +56,13 @@ fn main(rt: HostRuntime) -> ExitCode {
     };
     let mut source = StdSource::new(rt.reader());
     let mut sink = StdSink::new(rt.stdout());
-    ExitCode::from(federate(rt.alloc(), &words, &mut source, &mut sink, &mut disks))
+    ExitCode::from(federate(
+        &rt,
+        rt.alloc(),
+        &words,
+        &mut source,
+        &mut sink,
+        &mut disks,
+        &NoGate,
+    ))
 }

@@ -1,11 +1,10 @@
 //! Checkpoints in whole sessions, and what the disk of a site holds at the end.
-ghost use Rattle.std.specs.Prelude.{◌≡◌, length};
-
-use super::{empty_disks, expect};
-use crate::{Disk, MemDisk, MemSink, MemSource, federate};
-use mdb_base::Memory;
+use super::{called, empty_disks, expect};
+use crate::{Disk, MemDisk, NoGate};
 use std::alloc::Global;
+use std::sync::Wait;
 use std::test::Fail;
+use std::thread::Threads;
 
 // A local commits, and a Checkpoint of its site follows.
 pub(super) const CHECKED: [(&str, &str); 3] = [
@@ -123,18 +122,24 @@ fn bytes_of(alloc: Global, disk: &mut MemDisk) -> Result<Vec<u8>, Fail> {
 }
 
 /// What disk 1 holds after this session, and whether the coordinator's disk is empty.
-fn kept(alloc: Global, input: &str) -> Result<(Vec<u8>, bool), Fail> {
-    let words = vec![in alloc; String::from_str(alloc, "replay")?]?;
-    let bytes = Vec::from_slice(alloc, input.as_bytes())?;
-    let mut source = MemSource::new(bytes, 1_000, Vec::new(alloc));
-    let mut sink = MemSink::new(alloc, 4_096, 4_096, Vec::new(alloc))?;
-    let mut disks = empty_disks(alloc)?;
-    let status = federate(alloc, &words, &mut source, &mut sink, &mut disks);
+fn kept<R: Threads + Wait + Sync + AllocGlobal>(
+    rt: &R,
+    input: &str,
+) -> Result<(Vec<u8>, bool), Fail> {
+    let mut disks = empty_disks(rt.alloc())?;
+    let (status, _) = called(
+        rt,
+        &["replay"],
+        input.as_bytes(),
+        (0, 0),
+        &mut disks,
+        &NoGate,
+    )?;
     if status != 0 {
         return Err(Fail::from("the session is carried out"));
     }
     let unused = disks[0].len() == 0;
-    Ok((bytes_of(alloc, &mut disks[1])?, unused))
+    Ok((bytes_of(rt.alloc(), &mut disks[1])?, unused))
 }
 
 #[test]
@@ -147,7 +152,7 @@ step 1
 step 1
 commit 1
 ";
-    let (bytes, unused) = kept(rt.alloc(), input)?;
+    let (bytes, unused) = kept(&rt, input)?;
     assert_eq!(rt; bytes.as_slice(), COMMITTED.as_slice());
     assert!(rt; unused);
     Ok(())
@@ -155,7 +160,7 @@ commit 1
 
 #[test]
 fn a_trimmed_disk_has_these_bytes(rt: HostRuntime) -> Result<(), Fail> {
-    let (bytes, unused) = kept(rt.alloc(), CHECKED[0].0)?;
+    let (bytes, unused) = kept(&rt, CHECKED[0].0)?;
     assert_eq!(rt; bytes.as_slice(), TRIMMED.as_slice());
     assert!(rt; unused);
     Ok(())

@@ -1,28 +1,11 @@
 //! Stops at a disk call, and disks that fail or are used.
-ghost use Rattle.std.specs.Prelude.{◌≡◌, length};
-
-use super::{empty_disks, expect};
-use crate::{Disk, MemDisk, MemSink, MemSource, federate};
+use super::{empty_disks, expect, replayed_on};
+use crate::{Disk, MemDisk};
 use mdb_base::Memory;
 use std::alloc::Global;
 
 const SESSION: &str =
     "site 1 locking nothing\nlocal 1 1 get:5 add:5:0:7\ncommands\nbegin 1\nstep 1\nstep 1\ncommit 1\n";
-
-/// The status of `replay` on this session with these disks, and what was put.
-fn replayed_on(alloc: Global, input: &str, mut disks: Vec<MemDisk>) -> Result<(u8, Vec<u8>), Memory>
-    requires { length disks.items ≡ 9 }
-{
-    let words = vec![in alloc; String::from_str(alloc, "replay")?]?;
-    let mut source = MemSource::new(
-        Vec::from_slice(alloc, input.as_bytes())?,
-        1_000,
-        Vec::new(alloc),
-    );
-    let mut sink = MemSink::new(alloc, 4_096, 4_096, Vec::new(alloc))?;
-    let status = federate(alloc, &words, &mut source, &mut sink, &mut disks);
-    Ok((status, Vec::from_slice(alloc, sink.written())?))
-}
 
 /// A disk with one byte.
 fn used_disk(alloc: Global) -> Result<MemDisk, Memory> {
@@ -54,7 +37,7 @@ fn a_stop_between_append_and_sync(rt: HostRuntime) {
 fn a_failing_disk_is_named(rt: HostRuntime) -> Result<(), std::test::Fail> {
     let mut disks = empty_disks(rt.alloc())?;
     disks[1] = MemDisk::failing(rt.alloc(), &[3])?;
-    let (status, put) = replayed_on(rt.alloc(), SESSION, disks)?;
+    let (status, put) = replayed_on(&rt, SESSION.as_bytes(), disks)?;
     assert_eq!(rt; status, 5);
     assert_eq!(rt; put.as_slice(), b"disk 1 failed\n".as_slice());
     Ok(())
@@ -65,7 +48,7 @@ fn the_failing_disk_of_the_second_site_is_named(rt: HostRuntime) -> Result<(), s
     let mut disks = empty_disks(rt.alloc())?;
     disks[2] = MemDisk::failing(rt.alloc(), &[3])?;
     let input = "site 1 locking nothing\nsite 2 timestamp abort\n";
-    let (status, put) = replayed_on(rt.alloc(), input, disks)?;
+    let (status, put) = replayed_on(&rt, input.as_bytes(), disks)?;
     assert_eq!(rt; status, 5);
     assert_eq!(rt; put.as_slice(), b"disk 2 failed\n".as_slice());
     Ok(())
@@ -76,7 +59,7 @@ fn the_lines_before_a_failed_call_are_put(rt: HostRuntime) -> Result<(), std::te
     let mut disks = empty_disks(rt.alloc())?;
     disks[0] = MemDisk::failing(rt.alloc(), &[1])?;
     let input = "site 1 locking nothing\ncommands\ncheck 1\ncheck 0\nhalt 1 0\n";
-    let (status, put) = replayed_on(rt.alloc(), input, disks)?;
+    let (status, put) = replayed_on(&rt, input.as_bytes(), disks)?;
     assert_eq!(rt; status, 5);
     assert_eq!(rt;
         put.as_slice(),
@@ -89,7 +72,7 @@ fn the_lines_before_a_failed_call_are_put(rt: HostRuntime) -> Result<(), std::te
 fn a_used_disk_is_named(rt: HostRuntime) -> Result<(), std::test::Fail> {
     let mut disks = empty_disks(rt.alloc())?;
     disks[4] = used_disk(rt.alloc())?;
-    let (status, put) = replayed_on(rt.alloc(), SESSION, disks)?;
+    let (status, put) = replayed_on(&rt, SESSION.as_bytes(), disks)?;
     assert_eq!(rt; status, 8);
     assert_eq!(rt; put.as_slice(), b"disk 4 is used\n".as_slice());
     Ok(())
@@ -100,7 +83,7 @@ fn the_least_used_disk_is_named(rt: HostRuntime) -> Result<(), std::test::Fail> 
     let mut disks = empty_disks(rt.alloc())?;
     disks[4] = used_disk(rt.alloc())?;
     disks[7] = used_disk(rt.alloc())?;
-    let (status, put) = replayed_on(rt.alloc(), SESSION, disks)?;
+    let (status, put) = replayed_on(&rt, SESSION.as_bytes(), disks)?;
     assert_eq!(rt; status, 8);
     assert_eq!(rt; put.as_slice(), b"disk 4 is used\n".as_slice());
     Ok(())

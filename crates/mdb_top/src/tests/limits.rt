@@ -2,7 +2,9 @@
 use super::{expect, replayed};
 use std::alloc::Global;
 use std::process::Abort;
+use std::sync::Wait;
 use std::test::Fail;
+use std::thread::Threads;
 
 // A global at eight sites, of each rule and each protocol. Those that presume commit ask at the end.
 pub(super) const EIGHT_SITES: (&str, &str) = (
@@ -184,8 +186,12 @@ impl Wanted {
     }
 
     /// `replay` on the input has this status, and puts the output.
-    fn is_met(&self, rt: &impl Abort, status: u8) -> Result<(), Fail> {
-        let (ended, put) = replayed(self.alloc, self.input.as_bytes())?;
+    fn is_met(
+        &self,
+        rt: &(impl Abort + Threads + Wait + Sync + AllocGlobal),
+        status: u8,
+    ) -> Result<(), Fail> {
+        let (ended, put) = replayed(rt, self.input.as_bytes())?;
         assert_eq!(rt; ended, status);
         assert_eq!(rt; put.as_slice(), self.output.as_bytes());
         Ok(())

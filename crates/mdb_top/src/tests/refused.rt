@@ -1,8 +1,7 @@
 //! Words and inputs that are refused.
-use super::{empty_disks, expect};
-use crate::{MemSink, MemSource, federate};
-use mdb_base::Memory;
-use std::alloc::Global;
+use super::{called, empty_disks, expect};
+use crate::NoGate;
+use std::test::Fail;
 
 #[test]
 fn an_unknown_word_is_named(rt: HostRuntime) {
@@ -79,27 +78,14 @@ fn the_first_bad_line_is_named(rt: HostRuntime) {
     );
 }
 
-/// The status of two words, and what was put.
-fn called(alloc: Global, first: &str, second: &str) -> Result<(u8, Vec<u8>), Memory> {
-    let mut words = vec![in alloc; String::from_str(alloc, first)?]?;
-    words.push(String::from_str(alloc, second)?)?;
-    let mut source = MemSource::new(Vec::new(alloc), 3, Vec::new(alloc));
-    let mut sink = MemSink::new(alloc, 100, 100, Vec::new(alloc))?;
-    let mut disks = empty_disks(alloc)?;
-    let status = federate(alloc, &words, &mut source, &mut sink, &mut disks);
-    Ok((status, Vec::from_slice(alloc, sink.written())?))
-}
-
 #[test]
-fn other_words_are_told_the_usage(rt: HostRuntime) {
-    match called(rt.alloc(), "replay", "x") {
-        Ok((status, put)) => {
-            assert_eq!(rt; status, 1);
-            assert_eq!(rt;
-                put.as_slice(),
-                b"usage: mdbfed replay | run | make NUMBER SITES TRANSACTIONS\n".as_slice()
-            );
-        }
-        Err(_) => panic!(rt; "there is memory"),
+fn other_words_are_told_the_usage(rt: HostRuntime) -> Result<(), Fail> {
+    let usage = b"usage: mdbfed replay | run | make NUMBER SITES TRANSACTIONS\n".as_slice();
+    for (first, second) in [("replay", "x"), ("run", "x"), ("-h", "run"), ("ran", "")] {
+        let mut disks = empty_disks(rt.alloc())?;
+        let (status, put) = called(&rt, &[first, second], b"", (0, 0), &mut disks, &NoGate)?;
+        assert_eq!(rt; status, 1);
+        assert_eq!(rt; put.as_slice(), usage);
     }
+    Ok(())
 }

@@ -11,7 +11,9 @@ use scenario_text::{Scenario, read_commands};
 use serial_machine::{AllTables, Reads, run_serial};
 use std::alloc::Global;
 use std::process::Abort;
+use std::sync::Wait;
 use std::test::Fail;
+use std::thread::Threads;
 
 /// The attempt that a word of the order names.
 fn tid_of(word: &str) -> Result<Tid, Fail> {
@@ -132,43 +134,45 @@ fn is_serial(alloc: Global, input: &str, output: &str) -> Result<bool, Fail> {
 }
 
 /// Whether the order that is printed of a session gives what is printed of it.
-fn prints_serial(alloc: Global, input: &str) -> Result<bool, Fail> {
-    let (status, put) = replayed(alloc, input.as_bytes())?;
+fn prints_serial<R: Threads + Wait + Sync + AllocGlobal>(
+    rt: &R,
+    input: &str,
+) -> Result<bool, Fail> {
+    let (status, put) = replayed(rt, input.as_bytes())?;
     if status != 0 {
         return Err(Fail::from("the session is carried out"));
     }
     match str::from_utf8(&put) {
-        Ok(output) => is_serial(alloc, input, output),
+        Ok(output) => is_serial(rt.alloc(), input, output),
         Err(_) => Err(Fail::from("a text is put")),
     }
 }
 
 /// What is printed of these sessions is what their orders give.
 fn are_serial(
-    rt: &impl Abort,
-    alloc: Global,
+    rt: &(impl Abort + Threads + Wait + Sync + AllocGlobal),
     sessions: &[(&'static str, &'static str)],
 ) -> Result<(), Fail> {
     for (input, _) in sessions {
-        assert!(rt; prints_serial(alloc, input)?, "{input}");
+        assert!(rt; prints_serial(rt, input)?, "{input}");
     }
     Ok(())
 }
 
 #[test]
 fn the_order_of_a_site_gives_the_reads_and_the_table(rt: HostRuntime) -> Result<(), Fail> {
-    are_serial(&rt, rt.alloc(), &LOCAL)?;
-    are_serial(&rt, rt.alloc(), &REFUSED)?;
-    are_serial(&rt, rt.alloc(), &GRANTED)?;
-    are_serial(&rt, rt.alloc(), &CHECKED)
+    are_serial(&rt, &LOCAL)?;
+    are_serial(&rt, &REFUSED)?;
+    are_serial(&rt, &GRANTED)?;
+    are_serial(&rt, &CHECKED)
 }
 
 #[test]
 fn the_order_of_a_federation_gives_the_reads_and_the_tables(rt: HostRuntime) -> Result<(), Fail> {
-    are_serial(&rt, rt.alloc(), &FEDERATED)?;
-    are_serial(&rt, rt.alloc(), &TICKETS)?;
-    are_serial(&rt, rt.alloc(), &UNIFORM)?;
-    are_serial(&rt, rt.alloc(), &[EIGHT_SITES])
+    are_serial(&rt, &FEDERATED)?;
+    are_serial(&rt, &TICKETS)?;
+    are_serial(&rt, &UNIFORM)?;
+    are_serial(&rt, &[EIGHT_SITES])
 }
 
 // Two locals read and write one key.

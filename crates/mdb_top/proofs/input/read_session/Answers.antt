@@ -1,10 +1,11 @@
 use Rattle.std.proofs.Common.{refl, ◌∙◌}
+use Rattle.scenario_text.specs.Texts.{session_of}
 use Rattle.mdb_top.proofs.InputLemmas.{read_input}
 use Rattle.mdb_top.proofs.input.read_session.Goals as goal
 
 pub returns-in-Ok-clause-told : goal.returns-in-Ok-clause-told
 returns-in-Ok-clause-told g c =
-    read_input g.S.Source.tells (g.S.Source.left c.args.source.now) c.deref.result.now c.session_in.result
+    read_input session_of g.S.Source.tells (g.S.Source.left c.args.source.now) c.deref.result.now c.session_in.result
     (λ t. c.deref.ensures.value ∙ c.in-Ok.ensures.text t) c.session_in.ensures.told
 
 pub returns-in-Err-Failed-clause-told : goal.returns-in-Err-Failed-clause-told

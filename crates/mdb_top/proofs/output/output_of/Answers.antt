@@ -1,4 +1,4 @@
-use Rattle.std.proofs.Common.{◌++◌, List, [], map, inl, inr, refl, sym, ◌∙◌, subst}
+use Rattle.std.proofs.Common.{◌++◌, List, [], map, reverse, inl, inr, refl, sym, ◌∙◌, subst}
 use Rattle.std.proofs.lemmas.List.{length-map}
 use Rattle.fed_rules.specs.declared.commands.Command.{Command}
 use Rattle.fed_rules.specs.Plans.{IsScenario}
@@ -68,7 +68,7 @@ printed-requires g c =
       holds = record {
         whole = whole;
         heard = session_heard session whole c.requires.commands c.closing_is_heard.ensures;
-        rests = (story_right c.federation_is_serializable.ensures.headline c.closed_sessions_rest.ensures session.scenario whole _).at_rest;
+        rests = c.closed_sessions_rest.ensures session.scenario (reverse session.commands) whole;
       };
     }
 
@@ -83,7 +83,7 @@ returns-in-Ok-play-clause-output g c =
     let same = session_commands session c.as_slice.result.now c.as_slice.ensures in
     let can = can_play session c.as_slice.result.now c.as_slice.ensures c.requires.commands in
     let stood = subst (λ (cs : List Command). Stands disk.tells c.play.new.world new session.scenario cs) same (c.in-Ok-play.ensures.played session.scenario [] c.in-Ok.ensures.stands can) in
-    let right = story_right c.federation_is_serializable.ensures.headline c.closed_sessions_rest.ensures session.scenario whole _ in
+    let right = story_right c.federation_is_serializable.ensures.headline session.scenario whole (commands_of session) (c.closed_sessions_rest.ensures session.scenario (reverse session.commands) whole) in
     whole_output c.printed.result old new session (c.in-Ok-play.ensures.cause ∙ c.in-Ok.ensures.cause) right
     (stands_hold_frames disk.tells c.play.new.world new session.scenario (commands_of session) c.requires.told sized right.at_rest stood)
     (stands_hold_all disk.tells c.play.new.world new session.scenario (commands_of session) sized stood)
@@ -99,9 +99,9 @@ broken-requires-in-Err-Disk-play g c =
     let can = can_play session c.as_slice.result.now c.as_slice.ensures c.requires.commands in
     let b = subst (λ (why : WorldErr). FailsToward disk.tells why c.play.new.world new (closed_with c.as_slice.result.now session.scenario []) session.scenario []) c.in-Err-Disk-play.field-0-is
     (c.in-Err-Disk-play.ensures.failed session.scenario [] c.in-Ok.ensures.stands can) in
-    let front = front_before session b.command (b.done ++ []) (b.left, sym same ∙ b.of_whole) in
+    let front = front_before (commands_of session) b.command (b.done ++ []) (b.left, sym same ∙ b.of_whole) in
     lines_fit c.right_lines_fit.ensures session.scenario (b.done ++ []) c.lines.result.now whole
-    (front_heard session (b.done ++ []) (session_heard session whole c.requires.commands c.closing_is_heard.ensures) front)
+    (front_heard session.scenario.sites (commands_of session) (b.done ++ []) (session_heard session whole c.requires.commands c.closing_is_heard.ensures) front)
     (c.lines.ensures session.scenario (b.done ++ []) b.broken.has)
 
 pub returns-in-Err-Disk-play-clause-output : goal.returns-in-Err-Disk-play-clause-output

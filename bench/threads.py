@@ -1,0 +1,172 @@
+#!/usr/bin/env python3
+"""Runs scenarios in threads many times, and checks each run. It is no part of the gate.
+
+usage: bench/threads.py [--six N] [--made N] [--seed N] [PROGRAM]
+
+PROGRAM is the built `mdbfed`, by default the one that `rt run` leaves in crates/mdbfed/out. There are N runs, by default 200, of a scenario of
+six transactions at three sites with six clients, whose tables are known, and N runs, by default 100, of scenarios that are drawn here, the
+same for the same seed: sites of all engines and protocols, locals and globals that contend, messages that are lost, repeated and held back, and stops
+of every actor. Of each run it checks that
+
+  - the status is 0, and the order names each transaction once;
+  - the tables are those that the six programs leave in any order;
+  - the printed commands, given to `replay` with the same scenario, print the same but for the edges of a cycle. A run of more commands than
+    `replay` reads, 65,536, is counted and not replayed.
+
+It ends with status 1 at the first run that isn't so, and prints its scenario and its output.
+"""
+import argparse
+import pathlib
+import random
+import subprocess
+import sys
+
+TOP = pathlib.Path(__file__).resolve().parent.parent
+ENGINES = ("locking", "timestamp", "validation", "multiversion")
+PROTOCOLS = ("nothing", "abort", "commit")
+SECONDS = 120
+
+SIX = """site 1 locking nothing
+site 2 timestamp abort
+site 3 validation commit
+global 1 1/get:1 1/add:1:0:1 2/get:1 2/add:1:1:1
+global 2 2/get:1 2/add:1:0:10 3/get:1 3/add:1:1:10
+global 3 3/get:1 3/add:1:0:100 1/get:1 1/add:1:1:100
+local 4 1 get:1 add:1:0:1000
+local 5 2 get:1 add:1:0:1000
+local 6 3 get:1 add:1:0:1000
+link to 1 0 drop
+link from 2 1 twice
+link to 3 2 hold:3
+stop 2 4 0
+clients 6
+"""
+SIX_TABLES = ["table 1 1=1101", "table 2 1=1011", "table 3 1=1110"]
+
+
+class Wrong(Exception):
+    """A run that isn't as it should be."""
+
+
+def steps_of(draw, sites, keys):
+    """Two to six steps at these sites: reads, writes, and writes of what was read before plus an amount."""
+    steps, reads = [], 0
+    for _ in range(draw.randint(2, 6)):
+        at, key = draw.choice(sites), draw.randrange(keys)
+        kinds = ["get", "set"] + ["add"] * (2 if reads else 0)
+        kind = draw.choice(kinds)
+        if kind == "get":
+            steps.append((at, f"get:{key}"))
+            reads += 1
+        elif kind == "set":
+            steps.append((at, f"set:{key}:{draw.randrange(1000)}"))
+        else:
+            steps.append((at, f"add:{key}:{draw.randrange(reads)}:{draw.randrange(1000)}"))
+    return steps
+
+
+def fate_of(draw):
+    return draw.choice(["drop", "twice", f"hold:{draw.randint(1, 8)}"])
+
+
+def scenario_of(seed):
+    """A scenario, the same for the same seed."""
+    draw = random.Random(seed)
+    count, keys = draw.randint(1, 5), draw.randint(2, 12)
+    sites = sorted(draw.sample(range(1, 9), count))
+    lines = [f"policy {draw.choice(['always', 'conservative'])}"] if draw.random() < 0.5 else []
+    lines += [f"site {site} {draw.choice(ENGINES)} {draw.choice(PROTOCOLS)}" for site in sites]
+    lines += [f"item {site} {key} {draw.randrange(1000)}" for site in sites for key in range(keys) if draw.random() < 0.3]
+    for tx in range(1, draw.randint(2, 40) + 1):
+        if draw.random() < 0.5:
+            at = draw.choice(sites)
+            lines.append(f"local {tx} {at} " + " ".join(step for _, step in steps_of(draw, [at], keys)))
+        else:
+            among = draw.sample(sites, draw.randint(1, count))
+            lines.append(f"global {tx} " + " ".join(f"{at}/{step}" for at, step in steps_of(draw, among, keys)))
+    lines += [f"clients {draw.randint(1, 16)}", f"turns {draw.choice([1, 10, 100, 1000])}", f"tries {draw.randint(1, 16)}"]
+    places = {(way, site, draw.randrange(20)) for site in sites for way in ("to", "from") for _ in range(draw.randint(0, 4))}
+    lines += [f"link {way} {site} {place} {fate_of(draw)}" for way, site, place in sorted(places)]
+    for actor in [0] + sites:
+        for _ in range(draw.randint(0, 3)):
+            lines.append(f"stop {actor} {draw.randint(1, 8)} {draw.choice([0, 1, 20, 65535])}")
+    return "\n".join(lines) + "\n"
+
+
+def called(program, word, text):
+    """The status of the command on this input, and what it printed."""
+    ran = subprocess.run([program, word], input=text.encode(), stdout=subprocess.PIPE, timeout=SECONDS, check=False)
+    return ran.returncode, ran.stdout.decode()
+
+
+def without_edges(line):
+    """The line without the edges of its cycle."""
+    return line.split(" cycle ")[0] + " cycle" if " cycle " in line else line
+
+
+def check_order(scenario, output):
+    """The order names each transaction of the scenario once."""
+    declared = sorted(int(line.split()[1]) for line in scenario.splitlines() if line.split()[0] in ("local", "global"))
+    orders = [line for line in output.splitlines() if line.split()[0] == "order"]
+    if len(orders) != 1:
+        raise Wrong("there is one order")
+    if sorted(int(tid.split(".")[0]) for tid in orders[0].split()[1:]) != declared:
+        raise Wrong("the order names each transaction once")
+
+
+def check_again(program, scenario, output):
+    """The printed commands print the same again. Answers whether `replay` reads so many."""
+    commands = [line.split(" => ")[0] for line in output.splitlines() if " => " in line]
+    text = scenario + "commands\n" + "".join(command + "\n" for command in commands)
+    if len(commands) > 65_536 or len(text) > 4_194_304:
+        return False
+    status, again = called(program, "replay", text)
+    if status != 0:
+        raise Wrong(f"the printed commands end with status {status}")
+    if [without_edges(line) for line in output.splitlines()] != [without_edges(line) for line in again.splitlines()]:
+        raise Wrong("the printed commands print something else:\n" + again)
+    return True
+
+
+def check_run(program, scenario, tables):
+    """One run. Answers how many lines it has, and whether they were replayed."""
+    status, output = called(program, "run", scenario)
+    try:
+        if status != 0:
+            raise Wrong(f"status {status}")
+        check_order(scenario, output)
+        if tables and [line for line in output.splitlines() if line.startswith("table")] != tables:
+            raise Wrong("the tables are others")
+        return output.count(" => "), check_again(program, scenario, output)
+    except Wrong as why:
+        print(f"{scenario}\n-- prints --\n{output}\n-- {why}")
+        sys.exit(1)
+
+
+def check_runs(name, program, scenarios, tables):
+    """Runs of these scenarios, and a line on them."""
+    lines, replayed = [], 0
+    for scenario in scenarios:
+        count, again = check_run(program, scenario, tables)
+        lines.append(count)
+        replayed += again
+    if lines:
+        print(f"{name}: {len(lines)} runs of {min(lines)} to {max(lines)} lines, {replayed} replayed, all as they should be", flush=True)
+
+
+def main():
+    reader = argparse.ArgumentParser(description=__doc__.splitlines()[0])
+    reader.add_argument("--six", type=int, default=200)
+    reader.add_argument("--made", type=int, default=100)
+    reader.add_argument("--seed", type=int, default=1)
+    reader.add_argument("program", nargs="?", default=str(TOP / "crates/mdbfed/out/mdbfed"))
+    words = reader.parse_args()
+    if not pathlib.Path(words.program).exists():
+        print(f"{words.program} isn't there: build it by `rt run` in crates/mdbfed")
+        sys.exit(2)
+    check_runs("six transactions", words.program, [SIX] * words.six, SIX_TABLES)
+    check_runs("drawn scenarios", words.program, [scenario_of(words.seed * 100_000 + at) for at in range(words.made)], None)
+
+
+if __name__ == "__main__":
+    main()
