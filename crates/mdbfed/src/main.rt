@@ -1,5 +1,5 @@
 //! The program: `mdbfed replay` reads a session from standard input, and `mdbfed run` a scenario; both write the lines and the report to
-//! standard output.
+//! standard output. `mdbfed make` reads nothing, and writes the summary of a made scenario.
 #![tactic(auto)]
 
 ghost use Rattle.std.specs.Prelude.{◌≡◌, IfOk, length};
