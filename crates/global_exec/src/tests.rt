@@ -1,213 +1,165 @@
-//! Sessions of attempts with their sites.
-use crate::{Always, DidEnd, Due, Dues, GlobalExec, SiteSet, TakePolicy};
-use mdb_base::{Act, Key, PlainAct, Program, Reply, SiteId, Step, Tid, Tx, Why};
-use std::test::Fail;
+//! Sessions of attempts with their sites, as tables of deeds and what comes of each.
+mod play;
 
-const FIRST: Tid = Tid {
-    tx: Tx(1),
-    attempt: 0,
-};
+use crate::{Always, Due, GlobalExec, SiteSet, TakePolicy};
+use mdb_base::{Key, PlainAct, Reply, Tid, Tx, Why};
+use play::{Came, Deed, FIRST, ONE, Said, TWO, play, submitted};
+use std::test::Fail;
 
 const SECOND: Tid = Tid {
     tx: Tx(2),
     attempt: 0,
 };
 
-const ONE: SiteId = SiteId(1);
+// The first step's work, before any reply.
+const READ: Due = Due::Work {
+    site: TWO,
+    epoch: 0,
+    n: 0,
+    act: PlainAct::Read(Key(5)),
+};
 
-const TWO: SiteId = SiteId(2);
+// The same in the site's fourth epoch.
+const READ_IN_EPOCH_4: Due = Due::Work {
+    site: TWO,
+    epoch: 4,
+    n: 0,
+    act: PlainAct::Read(Key(5)),
+};
 
-/// Reads at site 2, and writes what was read and three more at site 1.
-const STEPS: [Step; 2] = [
-    Step {
-        site: TWO,
-        act: Act::Get(Key(5)),
-    },
-    Step {
-        site: ONE,
-        act: Act::Add {
-            key: Key(6),
-            register: 0,
-            amount: 3,
-        },
-    },
+// The second step's work, where 7 was read.
+const WRITE: Due = Due::Work {
+    site: ONE,
+    epoch: 0,
+    n: 0,
+    act: PlainAct::Write(Key(6), 10),
+};
+
+const TAKE_IN_EPOCH_1: Due = Due::Take {
+    site: TWO,
+    epoch: 1,
+    n: 1,
+};
+
+const TAKE_IN_EPOCH_4: Due = Due::Take {
+    site: TWO,
+    epoch: 4,
+    n: 1,
+};
+
+const PREPARE: Due = Due::Prepare {
+    site: TWO,
+    epoch: 4,
+    n: 2,
+};
+
+const SEVEN: Reply = Reply::Value(7);
+
+const IN_ORDER: [(Deed, Came); 13] = [
+    (Deed::Outstanding, Came::Dues(Some(READ), None)),
+    // another count, another operation's reply, another site, another attempt
+    (Deed::Did(Said(FIRST, TWO, 1, 1, SEVEN)), Came::Ignored),
+    (
+        Deed::Did(Said(FIRST, TWO, 1, 0, Reply::Done)),
+        Came::Ignored,
+    ),
+    (Deed::Did(Said(FIRST, ONE, 1, 0, SEVEN)), Came::Ignored),
+    (Deed::Did(Said(SECOND, TWO, 1, 0, SEVEN)), Came::Ignored),
+    // a wait fixes the epoch
+    (
+        Deed::Did(Said(FIRST, TWO, 4, 0, Reply::Wait { by: SECOND })),
+        Came::Waits,
+    ),
+    (Deed::Did(Said(FIRST, TWO, 5, 0, SEVEN)), Came::Ignored),
+    (Deed::Outstanding, Came::Dues(Some(READ_IN_EPOCH_4), None)),
+    // the read is answered: its site's ticket and the next step are outstanding
+    (
+        Deed::Did(Said(FIRST, TWO, 4, 0, SEVEN)),
+        Came::Dues(Some(WRITE), Some(TAKE_IN_EPOCH_4)),
+    ),
+    (Deed::Reads, Came::Values(1, Some(7))),
+    // the ticket is there, so that the site is prepared until it votes
+    (
+        Deed::Did(Said(FIRST, TWO, 4, 1, Reply::Ticket(9))),
+        Came::Dues(Some(PREPARE), None),
+    ),
+    (Deed::Voted(TWO), Came::Quiet),
+    (Deed::Outstanding, Came::Dues(Some(WRITE), None)),
 ];
-
-/// What a reply gave, where it was the last thing that became outstanding.
-fn next_of(end: &DidEnd, place: usize) -> Option<Due> {
-    match end {
-        DidEnd::Next(dues) if place < dues.len() => Some(*dues.at(place)),
-        _ => None,
-    }
-}
-
-/// What is outstanding at this place.
-fn due_at(dues: &Dues, place: usize) -> Option<Due> {
-    if place < dues.len() {
-        Some(*dues.at(place))
-    } else {
-        None
-    }
-}
-
-fn read(epoch: u32) -> Due {
-    Due::Work {
-        site: TWO,
-        epoch,
-        n: 0,
-        act: PlainAct::Read(Key(5)),
-    }
-}
 
 #[test]
 fn operations_follow_one_another(rt: HostRuntime) -> Result<(), Fail> {
-    let alloc = rt.alloc();
-    let program = Program::new(alloc, &STEPS)?;
-    let mut exec = GlobalExec::new(alloc)?;
-    let first = exec.submit(alloc, FIRST, program)?;
-    assert_eq!(rt; due_at(&first, 0), Some(read(0)));
-    assert_eq!(rt; first.len(), 1);
-
-    // another count, another operation's reply, another site, another attempt
-    assert!(rt;
-        matches!(
-            exec.did(alloc, FIRST, TWO, 1, 1, Reply::Value(7))?,
-            DidEnd::Ignored
-        )
-    );
-    assert!(rt;
-        matches!(
-            exec.did(alloc, FIRST, TWO, 1, 0, Reply::Done)?,
-            DidEnd::Ignored
-        )
-    );
-    assert!(rt;
-        matches!(
-            exec.did(alloc, FIRST, ONE, 1, 0, Reply::Value(7))?,
-            DidEnd::Ignored
-        )
-    );
-    assert!(rt;
-        matches!(
-            exec.did(alloc, SECOND, TWO, 1, 0, Reply::Value(7))?,
-            DidEnd::Ignored
-        )
-    );
-
-    // a wait fixes the epoch
-    assert!(rt;
-        matches!(
-            exec.did(alloc, FIRST, TWO, 4, 0, Reply::Wait { by: SECOND })?,
-            DidEnd::Waits
-        )
-    );
-    assert!(rt;
-        matches!(
-            exec.did(alloc, FIRST, TWO, 5, 0, Reply::Value(7))?,
-            DidEnd::Ignored
-        )
-    );
-    assert_eq!(rt; due_at(&exec.outstanding(alloc, FIRST)?, 0), Some(read(4)));
-
-    // the read is answered: its site's ticket and the next step are outstanding
-    let end = exec.did(alloc, FIRST, TWO, 4, 0, Reply::Value(7))?;
-    let write = Due::Work {
-        site: ONE,
-        epoch: 0,
-        n: 0,
-        act: PlainAct::Write(Key(6), 10),
-    };
-    let take = Due::Take {
-        site: TWO,
-        epoch: 4,
-        n: 1,
-    };
-    assert_eq!(rt; next_of(&end, 0), Some(write));
-    assert_eq!(rt; next_of(&end, 1), Some(take));
-    assert_eq!(rt; exec.reads(FIRST), [7].as_slice());
-
-    // the ticket is there, so that the site is prepared until it votes
-    let end = exec.did(alloc, FIRST, TWO, 4, 1, Reply::Ticket(9))?;
-    let prepare = Due::Prepare {
-        site: TWO,
-        epoch: 4,
-        n: 2,
-    };
-    assert_eq!(rt; next_of(&end, 0), Some(prepare));
-    assert_eq!(rt; next_of(&end, 1), None);
-    exec.voted(FIRST, TWO);
-    let rest = exec.outstanding(alloc, FIRST)?;
-    assert_eq!(rt; due_at(&rest, 0), Some(write));
-    assert_eq!(rt; rest.len(), 1);
-    Ok(())
+    play(&rt, &IN_ORDER)
 }
+
+const DIES: Reply = Reply::Refused(Why::Die { by: SECOND });
+
+const REFUSED: [(Deed, Came); 6] = [
+    (Deed::Did(Said(FIRST, TWO, 1, 0, DIES)), Came::Refused),
+    (
+        Deed::Did(Said(FIRST, TWO, 1, 0, Reply::Unknown)),
+        Came::Refused,
+    ),
+    (Deed::Refuse, Came::Quiet),
+    (Deed::Did(Said(FIRST, TWO, 1, 0, SEVEN)), Came::Ignored),
+    (Deed::Outstanding, Came::Dues(None, None)),
+    (Deed::Reads, Came::Values(0, None)),
+];
 
 #[test]
 fn a_refused_attempt_is_taken_out(rt: HostRuntime) -> Result<(), Fail> {
-    let alloc = rt.alloc();
-    let program = Program::new(alloc, &STEPS)?;
-    let mut exec = GlobalExec::new(alloc)?;
-    let first = exec.submit(alloc, FIRST, program)?;
-    assert_eq!(rt; first.len(), 1);
-    let dies = Reply::Refused(Why::Die { by: SECOND });
-    assert!(rt; matches!(exec.did(alloc, FIRST, TWO, 1, 0, dies)?, DidEnd::Refused));
-    assert!(rt;
-        matches!(
-            exec.did(alloc, FIRST, TWO, 1, 0, Reply::Unknown)?,
-            DidEnd::Refused
-        )
-    );
-    exec.refuse(FIRST);
-    assert!(rt;
-        matches!(
-            exec.did(alloc, FIRST, TWO, 1, 0, Reply::Value(7))?,
-            DidEnd::Ignored
-        )
-    );
-    assert_eq!(rt; exec.outstanding(alloc, FIRST)?.len(), 0);
-    assert_eq!(rt; exec.reads(FIRST).len(), 0);
-    Ok(())
+    play(&rt, &REFUSED)
 }
+
+// The read's reply, and the ticket.
+const READS: Said = Said(FIRST, TWO, 1, 0, SEVEN);
+
+const TAKES: Said = Said(FIRST, TWO, 1, 1, Reply::Ticket(4));
+
+const ASKED_FIRST: [(Deed, Came); 10] = [
+    (Deed::Counts(READS), Came::Holds(true)),
+    (
+        Deed::Answers(READS),
+        Came::Dues(Some(WRITE), Some(TAKE_IN_EPOCH_1)),
+    ),
+    (
+        Deed::Answers(READS),
+        Came::Dues(Some(WRITE), Some(TAKE_IN_EPOCH_1)),
+    ),
+    (Deed::Reads, Came::Values(0, None)),
+    (Deed::Take(READS), Came::Quiet),
+    (Deed::Reads, Came::Values(1, Some(7))),
+    (Deed::Counts(READS), Came::Holds(false)),
+    (Deed::AwaitsVote(TWO), Came::Holds(false)),
+    (Deed::Take(TAKES), Came::Quiet),
+    (Deed::AwaitsVote(TWO), Came::Holds(true)),
+];
 
 #[test]
 fn an_answer_changes_nothing_until_it_is_taken(rt: HostRuntime) -> Result<(), Fail> {
-    let alloc = rt.alloc();
-    let mut exec = GlobalExec::new(alloc)?;
-    exec.submit(alloc, FIRST, Program::new(alloc, STEPS.as_slice())?)?;
-    let reply = Reply::Value(7);
-    assert!(rt; exec.counts(FIRST, TWO, 1, 0, reply));
-    let first = exec.answers(alloc, FIRST, TWO, 1, 0, reply)?;
-    let again = exec.answers(alloc, FIRST, TWO, 1, 0, reply)?;
-    let work = Due::Work {
-        site: ONE,
-        epoch: 0,
-        n: 0,
-        act: PlainAct::Write(Key(6), 10),
-    };
-    assert_eq!(rt; next_of(&first, 0), Some(work));
-    assert_eq!(rt; next_of(&again, 0), Some(work));
-    assert_eq!(rt; exec.reads(FIRST).len(), 0);
-    exec.take(FIRST, TWO, 1, 0, reply);
-    assert_eq!(rt; exec.reads(FIRST), [7].as_slice());
-    assert!(rt; !exec.counts(FIRST, TWO, 1, 0, reply));
-    assert!(rt; !exec.awaits_vote(FIRST, TWO));
-    exec.take(FIRST, TWO, 1, 1, Reply::Ticket(4));
-    assert!(rt; exec.awaits_vote(FIRST, TWO));
-    Ok(())
+    play(&rt, &ASKED_FIRST)
+}
+
+// How many attempts there are, and those of the transactions 1 and 2.
+fn listed(exec: &GlobalExec) -> (usize, Option<Tid>, Option<Tid>) {
+    (exec.len(), exec.running(Tx(1)), exec.running(Tx(2)))
+}
+
+// The first attempt in order of submission.
+fn first(exec: &GlobalExec) -> Option<Tid> {
+    if exec.len() == 0 {
+        return None;
+    }
+    Some(exec.at(0).tid())
 }
 
 #[test]
 fn a_restart_takes_all_attempts_out(rt: HostRuntime) -> Result<(), Fail> {
-    let alloc = rt.alloc();
-    let mut exec = GlobalExec::new(alloc)?;
-    exec.submit(alloc, FIRST, Program::new(alloc, STEPS.as_slice())?)?;
-    assert_eq!(rt; exec.running(Tx(1)), Some(FIRST));
-    assert_eq!(rt; exec.running(Tx(2)), None);
-    assert_eq!(rt; exec.len(), 1);
-    assert_eq!(rt; exec.at(0).tid(), FIRST);
+    let mut exec = submitted(rt.alloc())?;
+    assert_eq!(rt; listed(&exec), (1, Some(FIRST), None));
+    assert_eq!(rt; first(&exec), Some(FIRST));
     exec.clear();
-    assert_eq!(rt; exec.len(), 0);
-    assert_eq!(rt; exec.running(Tx(1)), None);
+    assert_eq!(rt; listed(&exec), (0, None, None));
     Ok(())
 }
 
