@@ -3,7 +3,10 @@ ghost use Rattle.std.specs.Prelude.{◌≡◌, ◌≤◌, ◌+◌, ◌<◌, IfOk
 ghost use Rattle.journal_disk.specs.MemDisk.{mem_size};
 ghost use Rattle.local_dbms.specs.Sessions.{IsAbout, IsOfLines};
 
+mod again;
+
 use super::{LocalDbms, StepErr};
+use again::stand_twice;
 use any_engine::AnyEngine;
 use fed_rules::{Answer, Command, SiteLine, SiteRecord, SiteStep, ToSite, TxLine};
 use journal_disk::{Disk, MemDisk};
@@ -500,6 +503,7 @@ give 1 3 => unheld 1.0 sends 1";
     };
     let ended = play(rt, alloc, &mut dbms, disk, GLOBAL, 100, rest)?;
     assert!(rt; ended);
+    assert!(rt; !stand_twice(dbms.core().records()));
     Ok(false)
 }
 

@@ -2,18 +2,22 @@
 ghost use Rattle.std.specs.Prelude.{◌≡◌, IfOk, length};
 
 mod checkpoints;
+mod cuts;
 mod disks;
 mod engines;
 mod failing;
+mod faults;
 mod gates;
 mod limits;
 mod makes;
 mod protocols;
 mod refused;
+mod repeats;
 mod runs;
 mod serial_order;
 mod sessions;
 mod tickets;
+mod trips;
 
 use crate::{Gate, MemDisk, MemSink, MemSource, NoGate, federate};
 use mdb_base::Memory;
@@ -23,7 +27,7 @@ use std::sync::Wait;
 use std::thread::Threads;
 
 /// How many bytes one call of a source gives.
-const GIVEN: usize = 1_000;
+const GIVEN: usize = 100;
 
 /// How many bytes one call of a sink takes.
 const TAKEN: usize = 10;
@@ -86,6 +90,17 @@ fn replayed<R: Threads + Wait + Sync + AllocGlobal>(
     input: &[u8],
 ) -> Result<(u8, Vec<u8>), Memory> {
     replayed_on(rt, input, empty_disks(rt.alloc())?)
+}
+
+/// How many lines end in these bytes.
+fn lines_in(bytes: &[u8]) -> usize {
+    let mut count: usize = 0;
+    for byte in bytes {
+        if *byte == b'\n' {
+            count = count.saturating_add(1);
+        }
+    }
+    count
 }
 
 /// `replay` on this text puts that one and has this status. There is memory.

@@ -5,8 +5,9 @@ ghost use Rattle.journal_disk.specs.Disk.{no_bytes};
 ghost use Rattle.global_manager.specs.Sessions.{IsOfThree};
 
 use super::kept::{Attempt, known_in, knows};
-use super::play::{Channels, global, manager_of, play, set};
-use crate::GlobalManager;
+use super::play::{Channels, asks, global, hear, is_own, manager_of, play, set};
+use crate::{GlobalManager, StepErr};
+use fed_rules::{Command, CoordRecord};
 use global_exec::{Always, TakePolicy};
 use journal_disk::MemDisk;
 use mdb_base::{Tid, Tx};
@@ -14,6 +15,7 @@ use presumptions::Protocol;
 use std::alloc::Global;
 use std::process::Abort;
 use std::test::Fail;
+use trace_lines::read_line;
 
 const MIXED: [Protocol; 3] = [Protocol::Nothing, Protocol::Abort, Protocol::Commit];
 
@@ -208,4 +210,114 @@ fn a_trip_stops_the_coordinator_behind_each_disk_call(rt: HostRuntime) -> Result
 #[test]
 fn a_trip_stops_a_start_and_what_comes_behind_it(rt: HostRuntime) -> Result<(), Fail> {
     stops_behind_each_call(&rt, rt.alloc(), BEFORE, BEHIND)
+}
+
+// Whether two records say the same of one attempt.
+fn are_of_one(a: &CoordRecord, b: &CoordRecord) -> bool {
+    match a {
+        CoordRecord::Initiation { tid, .. } => {
+            matches!(b, CoordRecord::Initiation { tid: other, .. } if tid == other)
+        }
+        CoordRecord::Commit { tid, .. } => {
+            matches!(b, CoordRecord::Commit { tid: other, .. } if tid == other)
+        }
+        CoordRecord::Abort { tid, .. } => {
+            matches!(b, CoordRecord::Abort { tid: other, .. } if tid == other)
+        }
+        CoordRecord::End { tid } => { matches!(b, CoordRecord::End { tid: other } if tid == other) }
+        CoordRecord::Checkpoint(_) => false,
+    }
+}
+
+// Whether some of these records say the same of one attempt.
+fn stand_twice(records: &[CoordRecord]) -> bool {
+    for record in records {
+        let mut count: u32 = 0;
+        for other in records {
+            if are_of_one(record, other) {
+                count = count.saturating_add(1);
+            }
+        }
+        if count > 1 {
+            return true;
+        }
+    }
+    false
+}
+
+// The manager carries its part of a script out, whatever it answers, and a command whose disk call fails again behind a start. Gives how
+// many failed.
+fn asks_each<P: TakePolicy>(
+    rt: &impl Abort,
+    alloc: Global,
+    manager: &mut GlobalManager<P>,
+    disk: &mut MemDisk,
+    channels: &mut Channels,
+    script: &str,
+) -> Result<u32, Fail>
+    requires { IsOfThree P.policy manager.old disk.old }
+    ensures { OnOk result (IsOfThree P.policy manager.new disk.new) }
+{
+    let mut failed: u32 = 0;
+    for text in script.lines() {
+        let line = read_line(alloc, text.as_bytes())?;
+        if !is_own(line.command) {
+            hear(rt, channels, &line, text)?;
+            continue;
+        }
+        match asks(manager, alloc, disk, channels, line.command) {
+            Ok(step) => {
+                let _places = channels.sends(alloc, &step.sends)?;
+                continue;
+            }
+            Err(StepErr::Disk) => failed = failed.saturating_add(1),
+            Err(StepErr::Memory) => return Err(Fail::from("there is memory")),
+        }
+        let start = Command::Back { actor: 0 };
+        let _up = asks(manager, alloc, disk, channels, start)?;
+        let step = asks(manager, alloc, disk, channels, line.command)?;
+        let _places = channels.sends(alloc, &step.sends)?;
+    }
+    Ok(failed)
+}
+
+// A coordinator of which a command fails and is asked again carries the rest of the scripts out. It then has no record twice, and knows
+// behind a stop what its records say. Says whether none failed.
+fn goes_on_behind_a_fault(rt: &impl Abort, alloc: Global, disk: &mut MemDisk) -> Result<bool, Fail>
+    requires { mem_image disk.old ≡ no_bytes }
+{
+    let transactions = [
+        global(alloc, 1, &[set(1, 1, 11), set(2, 2, 22)])?,
+        global(alloc, 2, &[set(1, 3, 33)])?,
+        global(alloc, 3, &[set(3, 4, 44)])?,
+    ];
+    let mut manager = manager_of(alloc, disk, Always, MIXED, &transactions)?;
+    let mut channels = Channels::new(alloc);
+    let before = asks_each(rt, alloc, &mut manager, disk, &mut channels, BEFORE)?;
+    let behind = asks_each(rt, alloc, &mut manager, disk, &mut channels, BEHIND)?;
+    assert!(rt; !stand_twice(manager.core().records()));
+    if before == 0 && behind == 0 {
+        return Ok(true);
+    }
+    assert_eq!(rt; before.saturating_add(behind), 1);
+    let halt = Command::Halt { actor: 0, cut: 0 };
+    let _stop = asks(&mut manager, alloc, disk, &channels, halt)?;
+    comes_up(rt, alloc, &mut manager, disk, &mut channels)?;
+    Ok(false)
+}
+
+/// 21 failed calls, each in a session of its own. The first attempt makes 5, by an Initiation, a Commit and an End, and the Checkpoint within it
+/// 3; the second one makes 3, by an Abort and an End; the start reads the disk and cuts the torn End, which is then appended again; the third
+/// one makes 4, and the last Checkpoint 3.
+#[test]
+fn what_a_failed_disk_call_stopped_is_asked_again(rt: HostRuntime) -> Result<(), Fail> {
+    let alloc = rt.alloc();
+    for call in 1_u32..100 {
+        let mut disk = MemDisk::failing(alloc, &[call])?;
+        if goes_on_behind_a_fault(&rt, alloc, &mut disk)? {
+            assert_eq!(rt; call - 1, 21);
+            return Ok(());
+        }
+    }
+    Err(Fail::from("the scripts have no end"))
 }

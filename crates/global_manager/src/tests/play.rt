@@ -110,8 +110,8 @@ impl Channels {
         epoch
     }
 
-    // Notes the messages that a step sends, and gives their places.
-    fn sends(&mut self, alloc: Global, sends: &Sends) -> Result<Vec<Place>, Fail> {
+    /// Notes the messages that a step sends, and gives their places.
+    pub fn sends(&mut self, alloc: Global, sends: &Sends) -> Result<Vec<Place>, Fail> {
         let mut places = Vec::new(alloc);
         for sent in sends.as_slice() {
             places.push(self.place_to(sent.site))?;
@@ -236,8 +236,8 @@ fn nothing(alloc: Global) -> Result<CoordStep, StepErr> {
     })
 }
 
-// A manager of the sites 1 to 3 carries a command out.
-fn asks<P: TakePolicy>(
+/// A manager of the sites 1 to 3 carries a command out.
+pub(super) fn asks<P: TakePolicy>(
     manager: &mut GlobalManager<P>,
     alloc: Global,
     disk: &mut MemDisk,
@@ -331,8 +331,8 @@ fn same(a: &Answer, b: &Answer) -> bool {
     }
 }
 
-// Whether the coordinator hears of the command.
-fn is_own(command: Command) -> bool {
+/// Whether the coordinator hears of the command.
+pub(super) fn is_own(command: Command) -> bool {
     match command {
         Command::Go(_) | Command::Fate(_) | Command::Again(_) | Command::Late(_) => true,
         Command::Take { .. } => true,
@@ -383,8 +383,13 @@ fn told(channels: &Channels, site: SiteId, place: u32, line: &Line) -> Option<Fr
     }
 }
 
-// Takes what a site says at its line.
-fn hear(rt: &impl Abort, channels: &mut Channels, line: &Line, text: &str) -> Result<(), Fail> {
+/// Takes what a site says at its line.
+pub(super) fn hear(
+    rt: &impl Abort,
+    channels: &mut Channels,
+    line: &Line,
+    text: &str,
+) -> Result<(), Fail> {
     let (site, place) = match line.command {
         Command::Give { site, place } => (site, place),
         Command::Ask { site, .. } => (site, 0),

@@ -125,7 +125,7 @@ fn serial_values(alloc: Global, scenario: &Scenario, order: &[Tid]) -> Result<St
 }
 
 /// Whether the order of this output gives its reads and its tables, and those of no other attempt.
-fn is_serial(alloc: Global, input: &str, output: &str) -> Result<bool, Fail> {
+pub(super) fn is_serial(alloc: Global, input: &str, output: &str) -> Result<bool, Fail> {
     let scenario = read_commands(alloc, input.as_bytes())?.scenario;
     let order = printed_order(alloc, output)?;
     let serial = serial_values(alloc, &scenario, &order)?;

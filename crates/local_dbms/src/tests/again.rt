@@ -1,0 +1,209 @@
+//! Sessions in which a disk call fails: the site starts again, and is asked the same once more.
+ghost use Rattle.std.specs.Prelude.{◌≡◌, OnOk};
+ghost use Rattle.journal_disk.specs.MemDisk.{mem_size};
+ghost use Rattle.local_dbms.specs.Sessions.{IsOfLines};
+
+use super::{
+    GET_5, GLOBAL, OTHER, SET_5_TO_7, SET_6_TO_1, asks, global_site, is_doubtful, local_site,
+};
+use crate::{LocalDbms, StepErr};
+use any_engine::AnyEngine;
+use fed_rules::{Command, SiteRecord, SiteStep};
+use journal_disk::MemDisk;
+use mdb_base::{Engine, Puts, SiteId, Tx};
+use presumptions::Protocol;
+use std::alloc::Global;
+use std::process::Abort;
+use std::test::Fail;
+
+// Whether two records are of one thing: the set-up, a start, or what became of an attempt.
+fn are_of_one(a: &SiteRecord, b: &SiteRecord) -> bool {
+    match a {
+        SiteRecord::Setup { .. } => matches!(b, SiteRecord::Setup { .. }),
+        SiteRecord::Start { epoch } => {
+            matches!(b, SiteRecord::Start { epoch: other } if epoch == other)
+        }
+        SiteRecord::Prepared { tid, .. } => {
+            matches!(b, SiteRecord::Prepared { tid: other, .. } if tid == other)
+        }
+        SiteRecord::Ended { tid, .. } => {
+            matches!(b, SiteRecord::Ended { tid: other, .. } if tid == other)
+        }
+        SiteRecord::Local { tid, .. } => {
+            matches!(b, SiteRecord::Local { tid: other, .. } if tid.tx == other.tx)
+        }
+        SiteRecord::Checkpoint(_) => false,
+    }
+}
+
+/// Whether some of these records are of one thing: a commit, say, that stands twice.
+pub(super) fn stand_twice(records: &[SiteRecord]) -> bool {
+    for record in records {
+        let mut count: u32 = 0;
+        for other in records {
+            if are_of_one(record, other) {
+                count = count.saturating_add(1);
+            }
+        }
+        if count > 1 {
+            return true;
+        }
+    }
+    false
+}
+
+// Whether a disk call failed of what was asked. There is memory.
+fn is_stopped(asked: &Result<SiteStep, StepErr>) -> Result<bool, Fail> {
+    match asked {
+        Ok(_) => Ok(false),
+        Err(StepErr::Disk) => Ok(true),
+        Err(StepErr::Memory) => Err(Fail::from("there is memory")),
+    }
+}
+
+// Asks the site each of these commands, and one whose disk call fails again behind a start; messages are about this transaction. Gives how
+// many failed.
+fn asks_each(
+    alloc: Global,
+    dbms: &mut LocalDbms<AnyEngine>,
+    disk: &mut MemDisk,
+    foreign: Tx,
+    commands: &[Command],
+) -> Result<u32, Fail>
+    requires { IsOfLines 0 foreign dbms.old disk.old }
+{
+    let mut lines: u32 = 0;
+    let mut failed: u32 = 0;
+    for command in commands {
+        if lines > 900 {
+            return Err(Fail::from("there are too many commands"));
+        }
+        let asked = asks(dbms, alloc, disk, foreign, lines, *command);
+        lines += 2;
+        if !is_stopped(&asked)? {
+            continue;
+        }
+        failed = failed.saturating_add(1);
+        let start = Command::Back { actor: 1 };
+        let _up = asks(dbms, alloc, disk, foreign, lines, start)?;
+        lines += 2;
+        let _again = asks(dbms, alloc, disk, foreign, lines, *command)?;
+        lines += 2;
+    }
+    Ok(failed)
+}
+
+const FIRST: Tx = Tx(1);
+
+const SECOND: Tx = Tx(2);
+
+// Each local is carried to its commit twice, so that it commits in one of the two, and a Checkpoint and a stop come between them.
+const LOCALS: [Command; 20] = [
+    Command::Begin(FIRST),
+    Command::Step(FIRST),
+    Command::Commit(FIRST),
+    Command::Begin(FIRST),
+    Command::Step(FIRST),
+    Command::Commit(FIRST),
+    Command::Check { actor: 1 },
+    Command::Begin(SECOND),
+    Command::Step(SECOND),
+    Command::Step(SECOND),
+    Command::Commit(SECOND),
+    Command::Begin(SECOND),
+    Command::Step(SECOND),
+    Command::Step(SECOND),
+    Command::Commit(SECOND),
+    Command::Halt { actor: 1, cut: 0 },
+    Command::Back { actor: 1 },
+    Command::Fate(FIRST),
+    Command::Fate(SECOND),
+    Command::Check { actor: 1 },
+];
+
+// Carries the session out on this disk, of which the calls of the set-up don't fail: how many of its commands failed, and the rows.
+fn ends_on(rt: &impl Abort, alloc: Global, disk: &mut MemDisk) -> Result<(u32, Puts), Fail>
+    requires { mem_size disk.old ≡ 0 }
+{
+    let engine = Engine::Locking;
+    let first = [SET_5_TO_7];
+    let second = [GET_5, SET_6_TO_1];
+    let mut dbms = local_site(alloc, disk, engine, Protocol::Nothing, &first, &second)?;
+    let failed = asks_each(alloc, &mut dbms, disk, OTHER, &LOCALS)?;
+    assert!(rt; !dbms.core().is_down());
+    assert!(rt; !stand_twice(dbms.core().records()));
+    Ok((failed, dbms.core().rows(alloc)?))
+}
+
+/// 13 failed calls behind the three of the set-up, each in a session of its own, which ends with the rows of the one where none fails: 2 of each
+/// commit, 3 of each Checkpoint, and 3 of the start, which reads the disk.
+#[test]
+fn a_local_that_a_failed_disk_call_stopped_is_asked_again(rt: HostRuntime) -> Result<(), Fail> {
+    let alloc = rt.alloc();
+    let mut whole = MemDisk::new(alloc)?;
+    let (none, rows) = ends_on(&rt, alloc, &mut whole)?;
+    assert_eq!(rt; (none, rows.as_slice().len()), (0, 2));
+    for call in 4_u32..100 {
+        let mut disk = MemDisk::failing(alloc, &[call])?;
+        let (failed, ended) = ends_on(&rt, alloc, &mut disk)?;
+        assert_eq!(rt; ended.as_slice(), rows.as_slice(), "{call}");
+        if failed == 0 {
+            assert_eq!(rt; call - 4, 13);
+            return Ok(());
+        }
+        assert_eq!(rt; failed, 1, "{call}");
+    }
+    Err(Fail::from("the session makes few calls"))
+}
+
+const SITE: SiteId = SiteId(1);
+
+// A global is prepared and settles here by commit, with a Checkpoint behind each of the two.
+const MESSAGES: [Command; 6] = [
+    Command::Give {
+        site: SITE,
+        place: 0,
+    },
+    Command::Give {
+        site: SITE,
+        place: 1,
+    },
+    Command::Give {
+        site: SITE,
+        place: 2,
+    },
+    Command::Check { actor: 1 },
+    Command::Give {
+        site: SITE,
+        place: 3,
+    },
+    Command::Check { actor: 1 },
+];
+
+// Gives the site the messages on this disk, of which the calls of the set-up don't fail: how many of them failed. Nothing is in doubt then.
+fn settles_on(rt: &impl Abort, alloc: Global, disk: &mut MemDisk) -> Result<u32, Fail>
+    requires { mem_size disk.old ≡ 0 }
+{
+    let mut dbms = global_site(alloc, disk, Engine::Locking, Protocol::Nothing)?;
+    let failed = asks_each(alloc, &mut dbms, disk, GLOBAL, &MESSAGES)?;
+    assert!(rt; !dbms.core().is_down());
+    assert!(rt; !is_doubtful(dbms.core().records()));
+    assert!(rt; !stand_twice(dbms.core().records()));
+    Ok(failed)
+}
+
+/// 10 failed calls behind the three of the set-up, each in a session of its own: 2 by Prepared, 2 by Ended, and 3 of each Checkpoint.
+#[test]
+fn a_message_that_a_failed_disk_call_stopped_is_given_again(rt: HostRuntime) -> Result<(), Fail> {
+    let alloc = rt.alloc();
+    for call in 4_u32..100 {
+        let mut disk = MemDisk::failing(alloc, &[call])?;
+        let failed = settles_on(&rt, alloc, &mut disk)?;
+        if failed == 0 {
+            assert_eq!(rt; call - 4, 10);
+            return Ok(());
+        }
+        assert_eq!(rt; failed, 1, "{call}");
+    }
+    Err(Fail::from("the session makes few calls"))
+}
