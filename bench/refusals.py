@@ -7,7 +7,8 @@ usage: bench/refusals.py [PROGRAM [FILE..]]
 PROGRAM is the built `mdbfed`, by default the one that `rt run` leaves in crates/mdbfed/out. Each FILE is a session for `replay`, or a scenario
 for `run` where its name ends in `.run`; by default they are those of examples/, and there is one call of `make`. The program asks the C
 library for its memory, so a small library of C, which is compiled here by `cc` and loaded before the others, counts the calls of `malloc` and
-`realloc` and refuses one of them. (`rt try --fail-alloc N` refuses the Nth too, but builds the program anew for each N.)
+`realloc`, refuses one of them, and writes their number down where the program ends, which it does by `_exit`. (`rt try --fail-alloc N` refuses
+the Nth too, but builds the program anew for each N.)
 
 A line for each call says how many allocations it makes, and how many times one of them was refused and the call ended in status 6 with
 nothing put but `no memory` or nothing at all, ended as the whole one does, or ended otherwise. Each of the last kind is told, and the status is
@@ -26,6 +27,8 @@ SHIM = r"""
 #include <stddef.h>
 #include <stdio.h>
 #include <stdlib.h>
+#include <sys/syscall.h>
+#include <unistd.h>
 extern void *__libc_malloc(size_t);
 extern void *__libc_realloc(void *, size_t);
 static unsigned long calls, refused;
@@ -37,11 +40,12 @@ __attribute__((constructor)) static void begin(void) {
     refused = strtoul(getenv("REFUSED"), 0, 10);
     is_begun = 1;
 }
-__attribute__((destructor)) static void end(void) {
+void _exit(int status) {
     is_begun = 0;
     FILE *file = fopen(getenv("COUNTED"), "w");
     fprintf(file, "%lu", calls);
     fclose(file);
+    for (;;) syscall(SYS_exit_group, status);
 }
 """
 
