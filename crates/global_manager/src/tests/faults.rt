@@ -245,8 +245,8 @@ fn stand_twice(records: &[CoordRecord]) -> bool {
     false
 }
 
-// The manager carries its part of a script out, whatever it answers, and a command whose disk call fails again behind a start. Gives how
-// many failed.
+// The manager carries its part of a script out, whatever it answers, and a command whose disk call fails again behind a start, after which
+// no record stands twice. Gives how many failed.
 fn asks_each<P: TakePolicy>(
     rt: &impl Abort,
     alloc: Global,
@@ -277,12 +277,13 @@ fn asks_each<P: TakePolicy>(
         let _up = asks(manager, alloc, disk, channels, start)?;
         let step = asks(manager, alloc, disk, channels, line.command)?;
         let _places = channels.sends(alloc, &step.sends)?;
+        assert!(rt; !stand_twice(manager.core().records()), "{text}");
     }
     Ok(failed)
 }
 
-// A coordinator of which a command fails and is asked again carries the rest of the scripts out. It then has no record twice, and knows
-// behind a stop what its records say. Says whether none failed.
+// A coordinator of which a command fails and is asked again carries the rest of the scripts out, and knows behind a stop what its records
+// say. Says whether none failed.
 fn goes_on_behind_a_fault(rt: &impl Abort, alloc: Global, disk: &mut MemDisk) -> Result<bool, Fail>
     requires { mem_image disk.old ≡ no_bytes }
 {
@@ -295,7 +296,6 @@ fn goes_on_behind_a_fault(rt: &impl Abort, alloc: Global, disk: &mut MemDisk) ->
     let mut channels = Channels::new(alloc);
     let before = asks_each(rt, alloc, &mut manager, disk, &mut channels, BEFORE)?;
     let behind = asks_each(rt, alloc, &mut manager, disk, &mut channels, BEHIND)?;
-    assert!(rt; !stand_twice(manager.core().records()));
     if before == 0 && behind == 0 {
         return Ok(true);
     }
