@@ -24,6 +24,3 @@ pub use journal_disk::{Disk, Failed, MemDisk};
 pub use mem_streams::{MemSink, MemSource};
 pub use streams::{Sink, Source};
 pub use top_call::federate;
-
-#[cfg(test)]
-mod tests;

@@ -78,32 +78,3 @@ pub fn read_all<S: Source>(alloc: Global, source: &mut S) -> Result<Vec<u8>, Rea
 {
     read_up_to(alloc, source, LONGEST + 1, PIECE)
 }
-
-#[cfg(test)]
-mod tests {
-    use super::{ReadErr, read_all};
-    use crate::mem_streams::MemSource;
-    use std::test::Fail;
-
-    #[test]
-    fn a_source_is_read_to_its_end(rt: HostRuntime) -> Result<(), Fail> {
-        let bytes = b"site 1 locking nothing\n".to_vec(rt.alloc())?;
-        let mut source = MemSource::new(bytes, 5, Vec::new(rt.alloc()));
-        match read_all(rt.alloc(), &mut source) {
-            Ok(text) => assert_eq!(rt; text.as_slice(), b"site 1 locking nothing\n".as_slice()),
-            Err(_) => panic!(rt; "the source doesn't fail"),
-        }
-        Ok(())
-    }
-
-    #[test]
-    fn a_failed_read_is_told(rt: HostRuntime) -> Result<(), Fail> {
-        let bytes = b"site 1 locking nothing\n".to_vec(rt.alloc())?;
-        let mut source = MemSource::new(bytes, 5, vec![in rt.alloc(); 2]?);
-        assert_eq!(rt;
-            read_all(rt.alloc(), &mut source).err(),
-            Some(ReadErr::Failed)
-        );
-        Ok(())
-    }
-}

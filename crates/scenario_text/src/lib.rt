@@ -18,6 +18,3 @@ pub use fed_rules::{Command, Commands, ItemLine, LinkLine, Scenario, SiteLine, S
 pub use names::number_in;
 pub use reading::{read_commands, read_scenario};
 pub use session::Session;
-
-#[cfg(test)]
-mod tests;

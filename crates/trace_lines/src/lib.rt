@@ -71,6 +71,3 @@ pub fn one_text()
     ensures { (a b : List Line) (x y : List ℕ) → Each (λ line. IsTrue (is_line line)) a → Each (λ line. IsTrue (is_line line)) b
         → lines_bytes a ++ (codes "order" ++ x) ≡ lines_bytes b ++ (codes "order" ++ y) → (a ≡ b) × (x ≡ y) }
 {}
-
-#[cfg(test)]
-mod tests;

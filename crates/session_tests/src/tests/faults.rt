@@ -2,9 +2,9 @@
 ghost use Rattle.std.specs.Prelude.{◌≡◌, IfOk, length};
 
 use super::sessions::PRESUMPTIONS;
-use super::{GIVEN, TAKEN, called, empty_disks, replayed_on};
-use crate::{MemDisk, NoGate};
+use super::{GIVEN, TAKEN, called, empty_disks, first_lines, replayed_on};
 use mdb_base::Memory;
+use mdb_top::{MemDisk, NoGate};
 use std::alloc::Global;
 use std::process::Abort;
 use std::sync::Wait;
@@ -36,11 +36,7 @@ const CALLS: [(u8, &[usize]); 4] = [
 
 /// What is put of the session where this disk fails behind so many lines.
 fn put_before(alloc: Global, number: u8, lines: usize) -> Result<String, Fail> {
-    let mut text = String::new(alloc);
-    for line in PRESUMPTIONS.1.lines().take(lines) {
-        text.push_str(line)?;
-        text.push('\n')?;
-    }
+    let mut text = first_lines(alloc, PRESUMPTIONS.1, lines)?;
     text.push_str(&format!(in alloc; "disk {number} failed\n")?)?;
     Ok(text)
 }

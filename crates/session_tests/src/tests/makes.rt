@@ -1,6 +1,6 @@
 //! Made scenarios: whatever the interleaving, each transaction commits and the total stays.
 use super::{called, empty_disks};
-use crate::NoGate;
+use mdb_top::NoGate;
 use std::process::Abort;
 use std::sync::Wait;
 use std::test::Fail;

@@ -1,6 +1,6 @@
 //! At least five texts that are refused for each reason, among them texts with several reasons.
 use super::{bad_line, first_bad};
-use crate::BadWhy;
+use scenario_text::BadWhy;
 use std::process::Abort;
 
 /// Each text is refused for this reason at its line.

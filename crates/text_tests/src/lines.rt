@@ -1,12 +1,14 @@
 //! Lines that sessions print are read and printed again, and other texts are refused.
 mod lists;
 
-use super::*;
+use fed_rules::{Answer, Cause, Command, Place};
 use lists::{NO_LINES, OTHERS, WORKED};
 use mdb_base::{Edge, SiteId, Tid, Tx};
 use presumptions::Decision;
+use std::alloc::Global;
 use std::process::Abort;
 use std::test::Fail;
+use trace_lines::{LineErr, print_line, read_line};
 
 fn reads_and_prints(rt: &impl Abort, alloc: Global, lines: &str) -> Result<(), Fail> {
     for text in lines.lines() {

@@ -1,6 +1,6 @@
 //! Texts at a limit and one above it.
 use super::{bad_line, first_bad};
-use crate::{BadLine, BadWhy};
+use scenario_text::{BadLine, BadWhy};
 use std::alloc::{AllocError, Global};
 use std::fmt::Write;
 use std::process::Abort;

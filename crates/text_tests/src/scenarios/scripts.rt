@@ -1,7 +1,7 @@
 //! Scripts that are read, whole and cut.
 use super::{bad_line, first_bad};
-use crate::{BadLine, BadWhy, Command, TextErr, read_commands, read_scenario};
 use mdb_base::{SiteId, Tid, Tx};
+use scenario_text::{BadLine, BadWhy, Command, TextErr, read_commands, read_scenario};
 use std::alloc::Global;
 use std::test::Fail;
 

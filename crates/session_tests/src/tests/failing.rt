@@ -1,7 +1,7 @@
 //! Streams that fail in the middle, and inputs about as long as the limit.
 use super::{called, empty_disks};
-use crate::NoGate;
 use mdb_base::Memory;
+use mdb_top::NoGate;
 use std::alloc::Global;
 use std::process::Abort;
 use std::sync::Wait;

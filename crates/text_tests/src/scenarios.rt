@@ -3,7 +3,7 @@ mod limits;
 mod refused;
 mod scripts;
 
-use crate::{BadLine, BadWhy, TextErr, read_commands};
+use scenario_text::{BadLine, BadWhy, TextErr, read_commands};
 use std::alloc::Global;
 
 /// The first bad line of a text that may have commands; none where it is read.

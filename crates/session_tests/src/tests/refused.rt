@@ -1,6 +1,6 @@
 //! Words and inputs that are refused.
 use super::{called, empty_disks, expect};
-use crate::NoGate;
+use mdb_top::NoGate;
 use std::test::Fail;
 
 #[test]
@@ -78,14 +78,39 @@ fn the_first_bad_line_is_named(rt: HostRuntime) {
     );
 }
 
+/// What is none of the calls: words with one space between each two.
+const UNKNOWN: [&str; 17] = [
+    "replay x",
+    "run x",
+    "-h run",
+    "ran ",
+    "make",
+    "make 5 3",
+    "make 5 3 100 1",
+    "Make 5 3 100",
+    "make -1 3 100",
+    "make 05 3 100",
+    "make 18446744073709551616 3 100",
+    "make 5 0 100",
+    "make 5 9 100",
+    "make 5 3 0",
+    "make 5 3 1025",
+    "make 5 3 ",
+    "run 5 3 100",
+];
+
 #[test]
 fn other_words_are_told_the_usage(rt: HostRuntime) -> Result<(), Fail> {
     let usage = b"usage: mdbfed replay | run | make NUMBER SITES TRANSACTIONS\n".as_slice();
-    for (first, second) in [("replay", "x"), ("run", "x"), ("-h", "run"), ("ran", "")] {
+    for text in UNKNOWN.iter() {
+        let mut words = Vec::new(rt.alloc());
+        for word in text.split(' ') {
+            words.push(word)?;
+        }
         let mut disks = empty_disks(rt.alloc())?;
-        let (status, put) = called(&rt, &[first, second], b"", (0, 0), &mut disks, &NoGate)?;
-        assert_eq!(rt; status, 1);
-        assert_eq!(rt; put.as_slice(), usage);
+        let (status, put) = called(&rt, &words, b"", (0, 0), &mut disks, &NoGate)?;
+        assert_eq!(rt; status, 1, "{text}");
+        assert_eq!(rt; put.as_slice(), usage, "{text}");
     }
     Ok(())
 }

@@ -19,11 +19,12 @@ mod sessions;
 mod tickets;
 mod trips;
 
-use crate::{Gate, MemDisk, MemSink, MemSource, NoGate, federate};
 use mdb_base::Memory;
+use mdb_top::{Gate, MemDisk, MemSink, MemSource, NoGate, federate};
 use std::alloc::Global;
 use std::process::Abort;
 use std::sync::Wait;
+use std::test::Fail;
 use std::thread::Threads;
 
 /// How many bytes one call of a source gives.
@@ -101,6 +102,16 @@ fn lines_in(bytes: &[u8]) -> usize {
         }
     }
     count
+}
+
+/// The first lines of a text, so many of them.
+fn first_lines(alloc: Global, text: &str, count: usize) -> Result<String, Fail> {
+    let mut lines = String::new(alloc);
+    for line in text.lines().take(count) {
+        lines.push_str(line)?;
+        lines.push('\n')?;
+    }
+    Ok(lines)
 }
 
 /// `replay` on this text puts that one and has this status. There is memory.

@@ -1,6 +1,6 @@
 //! Checkpoints in whole sessions, and what the disk of a site holds at the end.
 use super::{called, empty_disks, expect};
-use crate::{Disk, MemDisk, NoGate};
+use mdb_top::{Disk, MemDisk, NoGate};
 use std::alloc::Global;
 use std::sync::Wait;
 use std::test::Fail;

@@ -1,6 +1,6 @@
 //! Runs in threads: each transaction commits, once, whatever the interleaving, and the printed commands print the same again.
 use super::{called, empty_disks, replayed};
-use crate::{Gate, NoGate};
+use mdb_top::{Gate, NoGate};
 use std::alloc::Global;
 use std::process::Abort;
 use std::sync::Wait;

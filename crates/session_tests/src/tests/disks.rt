@@ -1,7 +1,7 @@
 //! Stops at a disk call, and disks that fail or are used.
 use super::{empty_disks, expect, replayed_on};
-use crate::{Disk, MemDisk};
 use mdb_base::Memory;
+use mdb_top::{Disk, MemDisk};
 use std::alloc::Global;
 
 const SESSION: &str =

@@ -1,22 +1,12 @@
 //! A session's input cut after each of its bytes, and with each of them replaced by one that no line may have.
 use super::serial_order::is_serial;
 use super::sessions::TRANSFER;
-use super::{lines_in, replayed};
+use super::{first_lines, lines_in, replayed};
 use std::alloc::Global;
 use std::process::Abort;
 use std::sync::Wait;
 use std::test::Fail;
 use std::thread::Threads;
-
-/// The first lines of a text, so many of them.
-fn first_lines(alloc: Global, text: &str, count: usize) -> Result<String, Fail> {
-    let mut lines = String::new(alloc);
-    for line in text.lines().take(count) {
-        lines.push_str(line)?;
-        lines.push('\n')?;
-    }
-    Ok(lines)
-}
 
 /// Whether this is put of a front of the session: the lines of its commands, and then a whole report, whose order gives it.
 fn is_session(alloc: Global, front: &str, put: &[u8]) -> Result<bool, Fail> {

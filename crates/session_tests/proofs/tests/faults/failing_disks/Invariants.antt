@@ -1,5 +1,5 @@
 use Rattle.std.proofs.Common.{◌≡◌, length}
-use Rattle.mdb_top.proofs.tests.faults.failing_disks.Given as goal
+use Rattle.session_tests.proofs.tests.faults.failing_disks.Given as goal
 
 -- there are as many disks as were counted
 abbrev pub invariant-loop-place : goal.invariant-loop-place
