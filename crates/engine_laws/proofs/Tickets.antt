@@ -1,4 +1,4 @@
--- Tickets of sealed and committed runs stand in the order of their numbers: what the three rules share.
+-- Tickets of sealed and committed runs stand in the order of their numbers: what the four rules share.
 use Rattle.std.proofs.Common.{◌≡◌, ℕ, ◌<◌, ◌≤◌, ◌⊎◌, max, Bool, true, false, cond, Option, Some, None, List, [], ◌∷◌, refl, sym, ap, ◌∙◌, subst, inl, inr, arith}
 use Rattle.mdb_base.specs.declared.names.Tid.{Tid}
 use Rattle.mdb_base.specs.Names.{same_tid}

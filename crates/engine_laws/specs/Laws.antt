@@ -1,4 +1,4 @@
--- What holds at a site whatever calls come, by whichever of the three rules: the words of the serial laws.
+-- What holds at a site whatever calls come, by whichever of the four rules: the words of the serial laws.
 use Rattle.std.specs.Prelude.{ℕ, ◌≡◌, ◌<◌, ◌≤◌, false, Some, List, [], ◌∷◌}
 use Rattle.mdb_base.specs.declared.names.Engine.{Engine}
 use Rattle.mdb_base.specs.declared.names.Key.{Key}

@@ -1,4 +1,4 @@
-//! The laws over all three rules at once, for what is generic in the engine.
+//! The laws over all four rules at once, for what is generic in the engine.
 ghost use Rattle.std.specs.Prelude.{List, ◌≡◌};
 ghost use Rattle.engine_laws.specs.Epochs.{EpochsAreSerial};
 ghost use Rattle.engine_laws.specs.Laws.{Always, HasRowsOfTable, HasTicketsInOrder, IsSerialSite, MayRestart, WithAnyCommits};

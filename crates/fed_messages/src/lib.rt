@@ -4,8 +4,6 @@
 mod decoding;
 mod encoding;
 mod reading;
-#[cfg(test)]
-mod tests;
 mod text;
 
 pub use decoding::{decode_from, decode_to};

@@ -12,8 +12,6 @@ mod laws;
 mod news;
 mod policy;
 mod progress;
-#[cfg(test)]
-mod tests;
 
 pub use attempt::Attempt;
 pub use ends::DidEnd;

@@ -15,6 +15,3 @@ pub use frames::{LONGEST_PAYLOAD, ROOM_BEFORE, ROOM_BEHIND, Version, append_fram
 pub use laws::{damage_is_seen, frames_are_apart, what_a_stop_leaves, whole_frames_survive};
 pub use mem_disk::MemDisk;
 pub use reading::Frames;
-
-#[cfg(test)]
-mod tests;

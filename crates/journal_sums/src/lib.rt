@@ -22,8 +22,3 @@ pub use coord_sums::read_coord_sum;
 pub use laws::doubts_differ;
 pub use starts::{doubts_of, kept_of};
 pub use sums::read_sum;
-
-#[cfg(test)]
-mod coord_tests;
-#[cfg(test)]
-mod tests;

@@ -9,7 +9,7 @@
 //! The table has the newest version of each key. The one that a write is to supersede is noted where that write is granted, so a commit
 //! takes no memory. At a commit, of each key that it wrote, those superseded versions are dropped that no unended run reads. A sealed
 //! run counts among these until it ends, since its sealing may be taken back. An access takes time by the logarithm of the keys, the
-//! runs and the versions.
+//! runs and the versions, and by the count of the run's own accesses.
 #![tactic(auto)]
 
 mod engine;

@@ -11,8 +11,6 @@ mod known;
 mod laws;
 mod members;
 mod table;
-#[cfg(test)]
-mod tests;
 
 pub use ends::{AckEnd, Said, VoteEnd};
 pub use known::{Known, Restored};

@@ -34,6 +34,3 @@ pub fn print_report(alloc: Global, report: &Report, out: &mut Vec<u8>) -> Result
     out.extend_from_slice(&text)?;
     Ok(())
 }
-
-#[cfg(test)]
-mod tests;

@@ -1,8 +1,12 @@
-//! Tests of the texts of a session: its lines, which are read and printed, and its scenario and commands, which are read. They use public
-//! calls alone, so they stand in a crate of their own.
+//! Tests of texts and messages: lines, which are read and printed, scenarios and commands, which are read, reports, which are printed, and
+//! messages as bytes. They use public calls alone, so they stand in a crate of their own.
 #![tactic(auto)]
 
 #[cfg(test)]
 mod lines;
+#[cfg(test)]
+mod messages;
+#[cfg(test)]
+mod reports;
 #[cfg(test)]
 mod scenarios;

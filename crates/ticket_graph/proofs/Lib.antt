@@ -15,4 +15,3 @@ pub mod Heights
 pub mod Pruning
 pub mod Standing
 pub mod Restoring
-pub mod TestLemmas

@@ -18,6 +18,3 @@ pub use added::Added;
 pub use graph::TicketGraph;
 pub use lowest::Lowest;
 pub use verdict::Verdict;
-
-#[cfg(test)]
-mod tests;
