@@ -22,7 +22,6 @@ pub mod SeatsByPlace
 pub mod SeatsKept
 pub mod SeenDisks
 pub mod SessionParts
-pub mod Sessions
 pub mod SetUpSteps
 pub mod SetUps
 pub mod SiteAsked

@@ -19,6 +19,3 @@ pub use errors::WorldErr;
 pub use gathering::Channels;
 pub use session_report::{Channel, Mark, Marks};
 pub use world::World;
-
-#[cfg(test)]
-mod tests;

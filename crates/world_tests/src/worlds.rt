@@ -1,16 +1,15 @@
 //! Sessions of a world on disks in memory: each command's line is the one that is printed.
 ghost use Rattle.std.specs.Prelude.{◌≡◌, ◌≤◌, ◌+◌, None, IfOk, OnOk};
 ghost use Rattle.journal_disk.specs.MemDisk.{mem_size};
-ghost use Rattle.fed_world.specs.Sessions.{AreNew, IsOfCommands};
+ghost use Rattle.world_tests.specs.Sessions.{AreNew, IsOfCommands};
 
 mod conservative;
 mod failing;
-mod gathered;
 mod same_lines;
 mod sessions;
 
-use crate::{World, WorldErr};
 use fed_rules::{Command, Scenario};
+use fed_world::{World, WorldErr};
 use journal_disk::MemDisk;
 use mdb_base::Memory;
 use same_lines::same_line;

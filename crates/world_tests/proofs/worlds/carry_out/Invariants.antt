@@ -1,6 +1,6 @@
 use Rattle.std.proofs.Common.{◌+◌, ◌≤◌}
-use Rattle.fed_world.specs.Sessions.{IsOfCommands}
-use Rattle.fed_world.proofs.tests.carry_out.Given as goal
+use Rattle.world_tests.specs.Sessions.{IsOfCommands}
+use Rattle.world_tests.proofs.worlds.carry_out.Given as goal
 
 abbrev pub invariant-loop-text : goal.invariant-loop-text
 invariant-loop-text g l = record { few : l.count ≤ l.start + 100; stood : IsOfCommands l.count l.world l.disks.items }

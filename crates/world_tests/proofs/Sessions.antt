@@ -8,7 +8,7 @@ use Rattle.journal_disk.specs.Disk.{Seen}
 use Rattle.journal_disk.specs.MemDisk.{mem_size}
 use Rattle.site_core.specs.Sessions.{mem_seen}
 use Rattle.fed_world.specs.declared.world.World.{World}
-use Rattle.fed_world.specs.Sessions.{AreNew, IsWithin}
+use Rattle.world_tests.specs.Sessions.{AreNew, IsWithin}
 use Rattle.fed_world.specs.SettingUp.{AreEmpty}
 use Rattle.fed_world.specs.Worlds.{EachStory, HasRoom, SomeStory}
 

@@ -1,6 +1,6 @@
 use Rattle.std.proofs.Common.{[], arith}
-use Rattle.fed_world.proofs.Sessions.{are_empty}
-use Rattle.fed_world.proofs.tests.world_of.Goals as goal
+use Rattle.world_tests.proofs.Sessions.{are_empty}
+use Rattle.world_tests.proofs.worlds.world_of.Goals as goal
 
 pub new-requires-clause-empty : goal.new-requires-clause-empty
 new-requires-clause-empty c = are_empty c.args.disks.now.items c.requires.empty

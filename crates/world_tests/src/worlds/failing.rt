@@ -1,6 +1,6 @@
 //! A session of two sites, each disk of which fails at each of its calls.
 use super::{carry_out, nine_disks};
-use crate::{World, WorldErr};
+use fed_world::{World, WorldErr};
 use scenario_text::read_scenario;
 use std::alloc::Global;
 use std::process::Abort;

@@ -3,8 +3,8 @@ use Rattle.std.proofs.lemmas.List.{length_push}
 use Rattle.mdb_base.specs.Words.{Each}
 use Rattle.journal_disk.specs.declared.mem_disk.MemDisk.{MemDisk}
 use Rattle.journal_disk.specs.MemDisk.{mem_size}
-use Rattle.fed_world.proofs.Sessions.{each_pushed}
-use Rattle.fed_world.proofs.tests.nine_disks.Goals as goal
+use Rattle.world_tests.proofs.Sessions.{each_pushed}
+use Rattle.world_tests.proofs.worlds.nine_disks.Goals as goal
 
 pub loop-place-preserved : goal.loop-place-preserved
 loop-place-preserved c =
