@@ -1,5 +1,5 @@
 -- Notes that agree with a list of engine lines agree with the next line, and with a start.
-use Rattle.std.proofs.Common.{◌≡◌, ℕ, ◌≤◌, Bool, true, false, cond, Option, Some, None, List, [], ◌∷◌, map, refl, sym, ap, ◌∙◌, subst, max, arith}
+use Rattle.std.proofs.Common.{◌≡◌, ℕ, Bool, true, false, cond, Option, Some, None, List, [], ◌∷◌, map, refl, sym, ap, ◌∙◌, subst, max, arith}
 use Rattle.mdb_base.specs.Words.{or_else}
 use Rattle.mdb_base.specs.Names.{same_tid}
 use Rattle.mdb_base.proofs.NameLaws.{same_tid-equal}

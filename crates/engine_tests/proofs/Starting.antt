@@ -1,6 +1,6 @@
 -- What the test of a start tells: the epoch may start from it.
 use Rattle.std.proofs.Common.{◌≡◌, ℕ, ◌<◌, ◌≤◌, ◌⊎◌, Bool, true, false, not, ◌&&◌, ◌||◌, nat_lt, nat_le, List, [], ◌∷◌, arith}
-use Rattle.std.proofs.lemmas.Bool.{and_parts, or_cases, not-true}
+use Rattle.std.proofs.lemmas.Bool.{and_parts, or_cases}
 use mathlib.Core.Logic.{inl, inr}
 use Rattle.mdb_base.specs.Names.{same_tid}
 use Rattle.mdb_base.specs.Words.{Each, each_of}

@@ -21,102 +21,114 @@ fn played(
     play_on(rt, alloc, engine, rows, left)
 }
 
+const OLD_VERSION: [Row; 14] = [
+    Row::Begin(FIRST, 1),
+    Row::Begin(SECOND, 2),
+    Row::Begin(THIRD, 3),
+    Row::Write(SECOND, KEY, 9, Reply::Done),
+    Row::Read(THIRD, KEY, Reply::Wait { by: SECOND }),
+    Row::Read(FIRST, KEY, Reply::Value(0)),
+    Row::Seal(SECOND, 2, None),
+    Row::Commit(SECOND),
+    Row::Read(THIRD, KEY, Reply::Value(9)),
+    Row::Seal(THIRD, 3, None),
+    Row::Commit(THIRD),
+    Row::Read(FIRST, KEY, Reply::Value(0)),
+    Row::Seal(FIRST, 1, None),
+    Row::Commit(FIRST),
+];
+
 #[test]
 fn an_old_run_reads_the_version_of_its_age(rt: HostRuntime) -> Result<(), Fail> {
-    let calls = [
-        Row::Begin(FIRST, 1),
-        Row::Begin(SECOND, 2),
-        Row::Begin(THIRD, 3),
-        Row::Write(SECOND, KEY, 9, Reply::Done),
-        Row::Read(THIRD, KEY, Reply::Wait { by: SECOND }),
-        Row::Read(FIRST, KEY, Reply::Value(0)),
-        Row::Seal(SECOND, 2, None),
-        Row::Commit(SECOND),
-        Row::Read(THIRD, KEY, Reply::Value(9)),
-        Row::Seal(THIRD, 3, None),
-        Row::Commit(THIRD),
-        Row::Read(FIRST, KEY, Reply::Value(0)),
-        Row::Seal(FIRST, 1, None),
-        Row::Commit(FIRST),
-    ];
-    played(&rt, rt.alloc(), None, &calls, &[Put { key: KEY, value: 9 }])
+    played(
+        &rt,
+        rt.alloc(),
+        None,
+        &OLD_VERSION,
+        &[Put { key: KEY, value: 9 }],
+    )
 }
+
+const LATE_WRITE: [Row; 4] = [
+    Row::Begin(FIRST, 1),
+    Row::Begin(SECOND, 2),
+    Row::Read(SECOND, KEY, Reply::Value(0)),
+    Row::Write(FIRST, KEY, 1, Reply::Refused(Why::Late { by: SECOND })),
+];
 
 #[test]
 fn a_write_behind_a_younger_read_comes_too_late(rt: HostRuntime) -> Result<(), Fail> {
-    let calls = [
-        Row::Begin(FIRST, 1),
-        Row::Begin(SECOND, 2),
-        Row::Read(SECOND, KEY, Reply::Value(0)),
-        Row::Write(FIRST, KEY, 1, Reply::Refused(Why::Late { by: SECOND })),
-    ];
-    played(&rt, rt.alloc(), None, &calls, &[])
+    played(&rt, rt.alloc(), None, &LATE_WRITE, &[])
 }
+
+const KEPT_VERSION: [Row; 11] = [
+    Row::Begin(FIRST, 1),
+    Row::Begin(SECOND, 2),
+    Row::Write(SECOND, KEY, 9, Reply::Done),
+    Row::Seal(SECOND, 2, None),
+    Row::Commit(SECOND),
+    Row::Read(FIRST, KEY, Reply::Value(7)),
+    Row::Abort(FIRST),
+    Row::Begin(THIRD, 3),
+    Row::Write(THIRD, KEY, 8, Reply::Done),
+    Row::Seal(THIRD, 3, None),
+    Row::Commit(THIRD),
+];
 
 #[test]
 fn a_version_stays_while_a_run_may_read_it(rt: HostRuntime) -> Result<(), Fail> {
     let first = Put { key: KEY, value: 7 };
-    let calls = [
-        Row::Begin(FIRST, 1),
-        Row::Begin(SECOND, 2),
-        Row::Write(SECOND, KEY, 9, Reply::Done),
-        Row::Seal(SECOND, 2, None),
-        Row::Commit(SECOND),
-        Row::Read(FIRST, KEY, Reply::Value(7)),
-        Row::Abort(FIRST),
-        Row::Begin(THIRD, 3),
-        Row::Write(THIRD, KEY, 8, Reply::Done),
-        Row::Seal(THIRD, 3, None),
-        Row::Commit(THIRD),
-    ];
     played(
         &rt,
         rt.alloc(),
         Some(first),
-        &calls,
+        &KEPT_VERSION,
         &[Put { key: KEY, value: 8 }],
     )
 }
 
+const TICKET_IS_HELD: [Row; 8] = [
+    Row::Begin(FIRST, 1),
+    Row::Begin(SECOND, 2),
+    Row::Begin(THIRD, 3),
+    Row::Take(SECOND, Reply::Ticket(1)),
+    Row::Take(THIRD, Reply::Wait { by: SECOND }),
+    Row::Seal(SECOND, 2, Some(1)),
+    Row::Take(THIRD, Reply::Ticket(2)),
+    Row::Take(FIRST, Reply::Refused(Why::Late { by: THIRD })),
+];
+
 #[test]
 fn a_ticket_is_held_until_it_is_sealed(rt: HostRuntime) -> Result<(), Fail> {
-    let calls = [
-        Row::Begin(FIRST, 1),
-        Row::Begin(SECOND, 2),
-        Row::Begin(THIRD, 3),
-        Row::Take(SECOND, Reply::Ticket(1)),
-        Row::Take(THIRD, Reply::Wait { by: SECOND }),
-        Row::Seal(SECOND, 2, Some(1)),
-        Row::Take(THIRD, Reply::Ticket(2)),
-        Row::Take(FIRST, Reply::Refused(Why::Late { by: THIRD })),
-    ];
-    played(&rt, rt.alloc(), None, &calls, &[])
+    played(&rt, rt.alloc(), None, &TICKET_IS_HELD, &[])
 }
+
+const TAKEN_BACK: [Row; 5] = [
+    Row::BeginAgain(FIRST, 1),
+    Row::Read(FIRST, KEY, Reply::Value(0)),
+    Row::SealAgain(FIRST, 1, None),
+    Row::Commit(FIRST),
+    Row::Begin(SECOND, 2),
+];
 
 #[test]
 fn a_number_that_is_taken_back_is_drawn_again(rt: HostRuntime) -> Result<(), Fail> {
     let engine = new_multiversion(rt.alloc(), &few_rows(rt.alloc(), None)?)?;
     read_once(&rt, rt.alloc(), engine)?;
-    let calls = [
-        Row::BeginAgain(FIRST, 1),
-        Row::Read(FIRST, KEY, Reply::Value(0)),
-        Row::SealAgain(FIRST, 1, None),
-        Row::Commit(FIRST),
-        Row::Begin(SECOND, 2),
-    ];
-    played(&rt, rt.alloc(), None, &calls, &[])
+    played(&rt, rt.alloc(), None, &TAKEN_BACK, &[])
 }
+
+const AFTER_RESTART: [Row; 6] = [
+    Row::Begin(SECOND, 8),
+    Row::Read(SECOND, KEY, Reply::Wait { by: FIRST }),
+    Row::Take(SECOND, Reply::Ticket(5)),
+    Row::Commit(FIRST),
+    Row::Read(SECOND, KEY, Reply::Value(9)),
+    Row::Seal(SECOND, 8, Some(5)),
+];
 
 #[test]
 fn a_restart_restores_what_was_prepared(rt: HostRuntime) -> Result<(), Fail> {
-    let calls = [
-        Row::Begin(SECOND, 8),
-        Row::Read(SECOND, KEY, Reply::Wait { by: FIRST }),
-        Row::Take(SECOND, Reply::Ticket(5)),
-        Row::Commit(FIRST),
-        Row::Read(SECOND, KEY, Reply::Value(9)),
-        Row::Seal(SECOND, 8, Some(5)),
-    ];
     let stopped = Stopped {
         before: &[],
         prepared: Some(Prepared {
@@ -130,7 +142,7 @@ fn a_restart_restores_what_was_prepared(rt: HostRuntime) -> Result<(), Fail> {
             published: 4,
             owner: None,
         },
-        behind: &calls,
+        behind: &AFTER_RESTART,
         left: &[Put { key: KEY, value: 9 }],
     };
     let engine = new_multiversion(rt.alloc(), &few_rows(rt.alloc(), None)?)?;

@@ -76,8 +76,23 @@ impl PlainRun {
         Ok(run)
     }
 
+    /// What a restart is given of the run, where it is in doubt.
+    fn kept(self) -> Option<Kept> {
+        Some(Kept {
+            tid: self.tid,
+            number: self.number?,
+            ticket: self.ticket?,
+            writes: self.writes?,
+        })
+    }
+
     pub fn is_live(&self) -> bool {
         self.number.is_none()
+    }
+
+    /// Whether it holds the ticket.
+    pub fn holds_ticket(&self) -> bool {
+        self.number.is_none() && self.ticket.is_some()
     }
 
     /// Whether it has read the key, or whether it has written it.
@@ -257,19 +272,24 @@ impl PlainSite {
         Ok(Answer::Sealed(number, ticket))
     }
 
+    /// Puts the writes of a run into the table.
+    fn install(&mut self, acts: &[Granted], number: u64) -> Result<(), Memory> {
+        for act in acts {
+            if act.is_write {
+                self.rows.push(PlainRow {
+                    put: act.put,
+                    number,
+                })?;
+            }
+        }
+        Ok(())
+    }
+
     fn commit(&mut self, tid: Tid) -> Result<Answer, Memory> {
         let place = self.place(tid);
         if place < self.runs.len() {
             let mut run = self.runs.remove(place);
-            let number = run.number.unwrap_or(0);
-            for act in run.acts.as_slice() {
-                if act.is_write {
-                    self.rows.push(PlainRow {
-                        put: act.put,
-                        number,
-                    })?;
-                }
-            }
+            self.install(run.acts.as_slice(), run.number.unwrap_or(0))?;
             run.ended = self.counter;
             self.committed.push(run)?;
         }
@@ -299,33 +319,29 @@ impl PlainSite {
         }
     }
 
-    /// Stops the site, and answers those in doubt: they are sealed and have a ticket. The table is its first rows.
-    pub fn stop(&mut self, alloc: Global) -> Result<Vec<Kept>, Memory> {
+    /// The rows of the table.
+    fn table_rows(&self, alloc: Global) -> Result<Vec<PlainRow>, Memory> {
         let mut rows = Vec::new(alloc);
         for key in 0..KEYS {
             let key = Key(key);
             let value = self.value(key);
-            rows.push(PlainRow {
-                put: Put { key, value },
-                number: 0,
-            })?;
+            let put = Put { key, value };
+            rows.push(PlainRow { put, number: 0 })?;
         }
-        let mut doubtful = Vec::new(alloc);
-        for run in mem::replace(&mut self.runs, Vec::new(alloc)) {
-            if let (Some(number), Some(ticket), Some(writes)) = (
-                run.number, run.ticket, run.writes,
-            ) {
-                doubtful.push(Kept {
-                    tid: run.tid,
-                    number,
-                    ticket,
-                    writes,
-                })?;
-            }
-        }
-        self.rows = rows;
+        Ok(rows)
+    }
+
+    /// Stops the site, and answers those in doubt: they are sealed and have a ticket. The table is its first rows.
+    pub fn stop(&mut self, alloc: Global) -> Result<Vec<Kept>, Memory> {
+        self.rows = self.table_rows(alloc)?;
         self.committed = Vec::new(alloc);
         self.aborted = Vec::new(alloc);
+        let mut doubtful = Vec::new(alloc);
+        for run in mem::replace(&mut self.runs, Vec::new(alloc)) {
+            if let Some(kept) = run.kept() {
+                doubtful.push(kept)?;
+            }
+        }
         Ok(doubtful)
     }
 

@@ -121,20 +121,20 @@ pub struct Prepared {
 }
 
 fn in_doubt(alloc: Global, prepared: Option<Prepared>) -> Result<Vec<Kept>, Memory> {
-    let mut doubtful = Vec::new(alloc);
-    if let Some(prepared) = prepared {
-        let row = Put {
-            key: KEY,
-            value: prepared.value,
-        };
-        doubtful.push(Kept {
-            tid: prepared.tid,
-            number: prepared.number,
-            ticket: prepared.ticket,
-            writes: few_rows(alloc, Some(row))?,
-        })?;
-    }
-    Ok(doubtful)
+    let Some(prepared) = prepared else {
+        return Ok(Vec::new(alloc));
+    };
+    let row = Put {
+        key: KEY,
+        value: prepared.value,
+    };
+    let kept = Kept {
+        tid: prepared.tid,
+        number: prepared.number,
+        ticket: prepared.ticket,
+        writes: few_rows(alloc, Some(row))?,
+    };
+    Ok(vec![in alloc; kept]?)
 }
 
 /// Makes these calls of an engine of a new site, and compares the rows that they leave.

@@ -147,7 +147,7 @@ fn younger_taker(site: &PlainSite, me: &PlainRun) -> Ranked {
 fn older_taker(site: &PlainSite, me: &PlainRun) -> Ranked {
     let mut found = None;
     for run in site.runs.as_slice() {
-        if run.age < me.age && run.is_live() && run.ticket.is_some() {
+        if run.age < me.age && run.holds_ticket() {
             found = youngest(found, run);
         }
     }
@@ -169,7 +169,7 @@ impl Rule for Locking {
     fn take_stop(site: &PlainSite, me: &PlainRun) -> Option<Reply> {
         let mut holder = None;
         for run in site.runs.as_slice() {
-            if run.tid != me.tid && run.is_live() && run.ticket.is_some() {
+            if run.tid != me.tid && run.holds_ticket() {
                 holder = oldest(holder, run);
             }
         }

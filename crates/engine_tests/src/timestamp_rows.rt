@@ -45,27 +45,42 @@ fn spent(alloc: Global) -> Result<Vec<Row>, Memory> {
     Ok(rows)
 }
 
+const OLDER_IS_LATE: [Row; 15] = [
+    Row::Begin(FIRST, 1),
+    Row::Begin(SECOND, 2),
+    Row::Begin(THIRD, 3),
+    Row::Write(SECOND, KEY, 9, Reply::Done),
+    Row::Read(THIRD, KEY, Reply::Wait { by: SECOND }),
+    Row::Read(FIRST, KEY, Reply::Refused(Why::Late { by: SECOND })),
+    Row::Seal(SECOND, 2, None),
+    Row::Commit(SECOND),
+    Row::Read(THIRD, KEY, Reply::Value(9)),
+    Row::Seal(THIRD, 3, None),
+    Row::Commit(THIRD),
+    Row::Begin(FIRST_AGAIN, 4),
+    Row::Read(FIRST_AGAIN, KEY, Reply::Value(9)),
+    Row::Seal(FIRST_AGAIN, 4, None),
+    Row::Commit(FIRST_AGAIN),
+];
+
 #[test]
 fn the_older_is_late_and_the_younger_waits(rt: HostRuntime) -> Result<(), Fail> {
-    let calls = [
-        Row::Begin(FIRST, 1),
-        Row::Begin(SECOND, 2),
-        Row::Begin(THIRD, 3),
-        Row::Write(SECOND, KEY, 9, Reply::Done),
-        Row::Read(THIRD, KEY, Reply::Wait { by: SECOND }),
-        Row::Read(FIRST, KEY, Reply::Refused(Why::Late { by: SECOND })),
-        Row::Seal(SECOND, 2, None),
-        Row::Commit(SECOND),
-        Row::Read(THIRD, KEY, Reply::Value(9)),
-        Row::Seal(THIRD, 3, None),
-        Row::Commit(THIRD),
-        Row::Begin(FIRST_AGAIN, 4),
-        Row::Read(FIRST_AGAIN, KEY, Reply::Value(9)),
-        Row::Seal(FIRST_AGAIN, 4, None),
-        Row::Commit(FIRST_AGAIN),
-    ];
-    played(&rt, rt.alloc(), None, &calls, &[Put { key: KEY, value: 9 }])
+    played(
+        &rt,
+        rt.alloc(),
+        None,
+        &OLDER_IS_LATE,
+        &[Put { key: KEY, value: 9 }],
+    )
 }
+
+const SUM_WRAPS: [Row; 5] = [
+    Row::Begin(LAST, 1),
+    Row::Read(LAST, LAST_KEY, Reply::Value(u64::MAX)),
+    Row::Write(LAST, LAST_KEY, 0, Reply::Done),
+    Row::Seal(LAST, 1, None),
+    Row::Commit(LAST),
+];
 
 #[test]
 fn a_sum_that_wrapped_around_is_committed(rt: HostRuntime) -> Result<(), Fail> {
@@ -73,18 +88,11 @@ fn a_sum_that_wrapped_around_is_committed(rt: HostRuntime) -> Result<(), Fail> {
         key: LAST_KEY,
         value: u64::MAX,
     };
-    let calls = [
-        Row::Begin(LAST, 1),
-        Row::Read(LAST, LAST_KEY, Reply::Value(u64::MAX)),
-        Row::Write(LAST, LAST_KEY, 0, Reply::Done),
-        Row::Seal(LAST, 1, None),
-        Row::Commit(LAST),
-    ];
     let left = Put {
         key: LAST_KEY,
         value: 0,
     };
-    played(&rt, rt.alloc(), Some(first), &calls, &[left])
+    played(&rt, rt.alloc(), Some(first), &SUM_WRAPS, &[left])
 }
 
 #[test]
@@ -99,82 +107,87 @@ fn the_rows_are_those_that_it_was_made_with(rt: HostRuntime) -> Result<(), Fail>
     played(&rt, rt.alloc(), Some(row), &[], &[row])
 }
 
+const ABORTED_READER: [Row; 9] = [
+    Row::Begin(FIRST, 1),
+    Row::Begin(SECOND, 2),
+    Row::Begin(THIRD, 3),
+    Row::Write(THIRD, KEY, 4, Reply::Done),
+    Row::Abort(THIRD),
+    Row::Read(SECOND, KEY, Reply::Value(0)),
+    Row::Abort(SECOND),
+    Row::Read(FIRST, KEY, Reply::Value(0)),
+    Row::Write(FIRST, KEY, 9, Reply::Refused(Why::Late { by: SECOND })),
+];
+
+const AFTER_STOP: [Row; 2] = [Row::Begin(FIRST, 1), Row::Write(FIRST, KEY, 9, Reply::Done)];
+
 #[test]
 fn an_aborted_reader_counts_until_the_restart(rt: HostRuntime) -> Result<(), Fail> {
-    let before = [
-        Row::Begin(FIRST, 1),
-        Row::Begin(SECOND, 2),
-        Row::Begin(THIRD, 3),
-        Row::Write(THIRD, KEY, 4, Reply::Done),
-        Row::Abort(THIRD),
-        Row::Read(SECOND, KEY, Reply::Value(0)),
-        Row::Abort(SECOND),
-        Row::Read(FIRST, KEY, Reply::Value(0)),
-        Row::Write(FIRST, KEY, 9, Reply::Refused(Why::Late { by: SECOND })),
-    ];
-    let behind = [Row::Begin(FIRST, 1), Row::Write(FIRST, KEY, 9, Reply::Done)];
     let stopped = Stopped {
-        before: &before,
+        before: &ABORTED_READER,
         prepared: None,
         marks: Marks {
             counter: 0,
             published: 0,
             owner: None,
         },
-        behind: &behind,
+        behind: &AFTER_STOP,
         left: &[],
     };
     let engine = new_timestamp(rt.alloc(), &few_rows(rt.alloc(), None)?)?;
     play_over_stop(&rt, rt.alloc(), engine, stopped)
 }
 
+const TICKETS_IN_ORDER: [Row; 15] = [
+    Row::Begin(FIRST, 1),
+    Row::Begin(SECOND, 2),
+    Row::Take(SECOND, Reply::Ticket(1)),
+    Row::Take(FIRST, Reply::Refused(Why::Late { by: SECOND })),
+    Row::Begin(FIRST_AGAIN, 3),
+    Row::Take(FIRST_AGAIN, Reply::Wait { by: SECOND }),
+    Row::Abort(SECOND),
+    Row::Begin(THIRD, 4),
+    Row::Take(FIRST_AGAIN, Reply::Ticket(1)),
+    Row::Take(THIRD, Reply::Wait { by: FIRST_AGAIN }),
+    Row::Seal(FIRST_AGAIN, 3, Some(1)),
+    Row::Take(THIRD, Reply::Ticket(2)),
+    Row::Seal(THIRD, 4, Some(2)),
+    Row::Commit(THIRD),
+    Row::Commit(FIRST_AGAIN),
+];
+
 #[test]
 fn tickets_are_taken_in_the_order_of_the_begins(rt: HostRuntime) -> Result<(), Fail> {
-    let calls = [
-        Row::Begin(FIRST, 1),
-        Row::Begin(SECOND, 2),
-        Row::Take(SECOND, Reply::Ticket(1)),
-        Row::Take(FIRST, Reply::Refused(Why::Late { by: SECOND })),
-        Row::Begin(FIRST_AGAIN, 3),
-        Row::Take(FIRST_AGAIN, Reply::Wait { by: SECOND }),
-        Row::Abort(SECOND),
-        Row::Begin(THIRD, 4),
-        Row::Take(FIRST_AGAIN, Reply::Ticket(1)),
-        Row::Take(THIRD, Reply::Wait { by: FIRST_AGAIN }),
-        Row::Seal(FIRST_AGAIN, 3, Some(1)),
-        Row::Take(THIRD, Reply::Ticket(2)),
-        Row::Seal(THIRD, 4, Some(2)),
-        Row::Commit(THIRD),
-        Row::Commit(FIRST_AGAIN),
-    ];
-    played(&rt, rt.alloc(), None, &calls, &[])
+    played(&rt, rt.alloc(), None, &TICKETS_IN_ORDER, &[])
 }
+
+const TAKEN_BACK: [Row; 5] = [
+    Row::BeginAgain(FIRST, 1),
+    Row::Read(FIRST, KEY, Reply::Value(0)),
+    Row::SealAgain(FIRST, 1, None),
+    Row::Commit(FIRST),
+    Row::Begin(SECOND, 2),
+];
 
 #[test]
 fn a_number_that_is_taken_back_is_drawn_again(rt: HostRuntime) -> Result<(), Fail> {
     let engine = new_timestamp(rt.alloc(), &few_rows(rt.alloc(), None)?)?;
     read_once(&rt, rt.alloc(), engine)?;
-    let calls = [
-        Row::BeginAgain(FIRST, 1),
-        Row::Read(FIRST, KEY, Reply::Value(0)),
-        Row::SealAgain(FIRST, 1, None),
-        Row::Commit(FIRST),
-        Row::Begin(SECOND, 2),
-    ];
-    played(&rt, rt.alloc(), None, &calls, &[])
+    played(&rt, rt.alloc(), None, &TAKEN_BACK, &[])
 }
+
+const AFTER_RESTART: [Row; 7] = [
+    Row::Begin(SECOND, 8),
+    Row::Read(SECOND, KEY, Reply::Wait { by: FIRST }),
+    Row::Take(SECOND, Reply::Ticket(5)),
+    Row::Commit(FIRST),
+    Row::Read(SECOND, KEY, Reply::Value(9)),
+    Row::Seal(SECOND, 8, Some(5)),
+    Row::Commit(SECOND),
+];
 
 #[test]
 fn a_restart_restores_what_was_prepared(rt: HostRuntime) -> Result<(), Fail> {
-    let calls = [
-        Row::Begin(SECOND, 8),
-        Row::Read(SECOND, KEY, Reply::Wait { by: FIRST }),
-        Row::Take(SECOND, Reply::Ticket(5)),
-        Row::Commit(FIRST),
-        Row::Read(SECOND, KEY, Reply::Value(9)),
-        Row::Seal(SECOND, 8, Some(5)),
-        Row::Commit(SECOND),
-    ];
     let stopped = Stopped {
         before: &[],
         prepared: Some(Prepared {
@@ -188,7 +201,7 @@ fn a_restart_restores_what_was_prepared(rt: HostRuntime) -> Result<(), Fail> {
             published: 4,
             owner: None,
         },
-        behind: &calls,
+        behind: &AFTER_RESTART,
         left: &[Put { key: KEY, value: 9 }],
     };
     let engine = new_timestamp(rt.alloc(), &few_rows(rt.alloc(), None)?)?;

@@ -1,4 +1,4 @@
-use Rattle.std.proofs.Common.{rules, ◌≡◌, ◌∷◌, true}
+use Rattle.std.proofs.Common.{rules, ◌≡◌, true}
 use Rattle.engine_tests.specs.Stages.{noted, live}
 use Rattle.engine_tests.proofs.Agreement.{seals_agree}
 use Rattle.engine_tests.proofs.watched.Watched.seal.Goals as goal
