@@ -59,28 +59,40 @@ pub enum Row {
     Abort(Tid),
 }
 
-fn asked(row: Row) -> (Tid, Call, Answer) {
-    match row {
-        Row::Begin(tid, number) => (tid, Call::Begin, Answer::Number(number)),
-        Row::BeginAgain(tid, number) => (tid, Call::BeginAgain, Answer::Number(number)),
-        Row::Read(tid, key, reply) => {
-            (tid, Call::Access(PlainAct::Read(key)), Answer::Reply(reply))
+impl Row {
+    fn tid(self) -> Tid {
+        match self {
+            Row::Begin(tid, _) | Row::BeginAgain(tid, _) => tid,
+            Row::Read(tid, _, _) | Row::Write(tid, _, _, _) | Row::Take(tid, _) => tid,
+            Row::Seal(tid, _, _) | Row::SealAgain(tid, _, _) | Row::Refuse(tid, _) => tid,
+            Row::Commit(tid) | Row::Abort(tid) => tid,
         }
-        Row::Write(tid, key, value, reply) => {
-            (
-                tid,
-                Call::Access(PlainAct::Write(key, value)),
-                Answer::Reply(reply),
-            )
+    }
+
+    fn call(self) -> Call {
+        match self {
+            Row::Begin(_, _) => Call::Begin,
+            Row::BeginAgain(_, _) => Call::BeginAgain,
+            Row::Read(_, key, _) => Call::Access(PlainAct::Read(key)),
+            Row::Write(_, key, value, _) => Call::Access(PlainAct::Write(key, value)),
+            Row::Take(_, _) => Call::Take,
+            Row::Seal(_, _, _) | Row::Refuse(_, _) => Call::Seal,
+            Row::SealAgain(_, _, _) => Call::SealAgain,
+            Row::Commit(_) => Call::Commit,
+            Row::Abort(_) => Call::Abort,
         }
-        Row::Take(tid, reply) => (tid, Call::Take, Answer::Reply(reply)),
-        Row::Seal(tid, number, ticket) => (tid, Call::Seal, Answer::Sealed(number, ticket)),
-        Row::SealAgain(tid, number, ticket) => {
-            (tid, Call::SealAgain, Answer::Sealed(number, ticket))
+    }
+
+    fn answer(self) -> Answer {
+        match self {
+            Row::Begin(_, number) | Row::BeginAgain(_, number) => Answer::Number(number),
+            Row::Read(_, _, reply) | Row::Write(_, _, _, reply) => Answer::Reply(reply),
+            Row::Take(_, reply) => Answer::Reply(reply),
+            Row::Seal(_, number, ticket) => Answer::Sealed(number, ticket),
+            Row::SealAgain(_, number, ticket) => Answer::Sealed(number, ticket),
+            Row::Refuse(_, why) => Answer::Refused(why),
+            Row::Commit(_) | Row::Abort(_) => Answer::Ended,
         }
-        Row::Refuse(tid, why) => (tid, Call::Seal, Answer::Refused(why)),
-        Row::Commit(tid) => (tid, Call::Commit, Answer::Ended),
-        Row::Abort(tid) => (tid, Call::Abort, Answer::Ended),
     }
 }
 
@@ -96,9 +108,8 @@ fn play<E: LocalEngine>(
         (Agrees watched.new.notes.items watched.new.counter watched.new.published)) }
 {
     for row in rows {
-        let (tid, call, answer) = asked(*row);
-        let made = watched.make(rt, alloc, tid, call)?;
-        assert_eq!(rt; made.answer, answer);
+        let made = watched.make(rt, alloc, row.tid(), row.call())?;
+        assert_eq!(rt; made.answer, row.answer());
     }
     Ok(())
 }

@@ -1,7 +1,5 @@
 //! An engine whose runs are noted beside it, so that each call is made only where it may come.
-ghost use Rattle.std.specs.Prelude.{◌≡◌, ◌∷◌, IfOk, OnOk, IfErr, true};
-ghost use Rattle.std.specs.Prelude.{List, map};
-ghost use Rattle.mdb_base.specs.declared.acts.PlainAct.{PlainAct};
+ghost use Rattle.std.specs.Prelude.{◌≡◌, ◌∷◌, IfOk, OnOk, IfErr, map};
 ghost use Rattle.fed_rules.specs.Runs.{Begins, Acts, Seals};
 ghost use Rattle.engine_contract.specs.Past.{SomePast, AddsLine, EachPast};
 ghost use Rattle.engine_contract.specs.Calls.{CanBegin, CanAct, CanSeal, SealsRun, FailsToSeal};
