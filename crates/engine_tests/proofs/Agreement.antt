@@ -10,7 +10,7 @@ use Rattle.mdb_base.specs.declared.replies.Reply.{Reply}
 use Rattle.mdb_base.specs.declared.replies.Reply.TheVariants as Reply_is
 use Rattle.fed_rules.specs.declared.runs.Kept.{Kept}
 use Rattle.fed_rules.specs.declared.runs.Sealed.{Sealed as Handed}
-use Rattle.fed_rules.specs.Runs.{Start, EngineLine, Acts, Seals, Run, tid_of, changed, run_at, counter, published, ticket_of, restored, restored_at}
+use Rattle.fed_rules.specs.Runs.{Start, EngineLine, Acts, Seals, Run, tid_of, changed, run_at, ticket_of, restored, restored_at}
 use Rattle.fed_rules.specs.Runs.{acted as run_acted}
 use Rattle.engine_contract.specs.Calls.{SealsRun}
 use Rattle.engine_tests.specs.declared.stage.Stage.{Stage}
