@@ -12,13 +12,6 @@ use mdb_base::{Key, Memory, PlainAct, Puts, Reply, Tid};
 use run_book::{Granted, HeldRun, Marks, Rival, RunBook};
 use std::alloc::Global;
 
-#[cfg(test)]
-mod plain;
-#[cfg(test)]
-mod table_tests;
-#[cfg(test)]
-mod tests;
-
 /// A local engine that locks what its runs read and write. It keeps its runs in a book, and beside it for each key who has read it
 /// and who has written it, and who holds the ticket.
 #[derive(Drop)]

@@ -9,10 +9,6 @@ use run_book::{Granted, HeldRun, Marks, RunBook};
 use std::alloc::Global;
 
 #[cfg(test)]
-mod plain;
-#[cfg(test)]
-mod table_tests;
-#[cfg(test)]
 mod tests;
 
 /// A local engine that answers a read the version of its run's age. It keeps its runs in a book, and beside it who accessed each key and

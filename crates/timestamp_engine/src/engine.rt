@@ -5,13 +5,6 @@ use mdb_base::{Key, Memory, PlainAct, Puts, Reply, Tid};
 use run_book::{Granted, Marks, RunBook};
 use std::alloc::Global;
 
-#[cfg(test)]
-mod plain;
-#[cfg(test)]
-mod table_tests;
-#[cfg(test)]
-mod tests;
-
 /// A local engine that keeps its runs in the order of their begins. It keeps them in a book, and beside it for each key who accessed
 /// it, and who has taken the ticket, each run by its age.
 #[derive(Drop)]

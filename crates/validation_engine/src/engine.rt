@@ -6,13 +6,6 @@ use mdb_base::{Key, Memory, Puts, Reply, Tid};
 use run_book::{Granted, Marks, Rival, RunBook};
 use std::alloc::Global;
 
-#[cfg(test)]
-mod plain;
-#[cfg(test)]
-mod table_tests;
-#[cfg(test)]
-mod tests;
-
 /// A local engine that grants every access, and tests a run when it is sealed. It keeps its runs in a book, and beside it for each
 /// key who wrote it.
 #[derive(Drop)]
