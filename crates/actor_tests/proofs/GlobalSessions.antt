@@ -51,9 +51,10 @@ pub sited_from : (protocols : List Participant) (home : Option SiteId) (steps : 
 sited_from protocols None steps sited = sited
 sited_from protocols (Some home) steps sited = tt
 
-pub each_pushed : {A : Type 0} (P : A → Type 0) (x : A) (xs : List A) → Each P xs → P x → Each P (xs ++ x ∷ [])
-each_pushed P x [] h p = (p, tt)
-each_pushed P x (y ∷ xs) h p = (h.0, each_pushed P x xs h.1 p)
+-- one more
+pub each_pushed : {A : Type 0} (P : A → Type 0) (xs : List A) (x : A) → Each P xs → P x → Each P (xs ++ x ∷ [])
+each_pushed P [] x h p = (p, tt)
+each_pushed P (y ∷ xs) x h p = (h.0, each_pushed P xs x h.1 p)
 
 pub each_of-list_all : {A : Type 0} (test : A → Bool) (xs : List A) → each_of test xs ≡ list_all test xs
 each_of-list_all test [] = refl

@@ -1,11 +1,12 @@
 -- How a session goes on: a site that stands for few lines stands behind a command for at most two more, also where the command fails.
-use Rattle.std.proofs.Common.{ℕ, ◌+◌, ◌≤◌, ◌<◌, ◌^◌, Result, Ok, Err, IfOk, IfErr, length, ap, sym, ◌∙◌, subst, arith}
+use Rattle.std.proofs.Common.{true, List, [], ℕ, ◌+◌, ◌≤◌, ◌<◌, ◌^◌, Result, Ok, Err, IfOk, IfErr, length, ap, sym, ◌∙◌, subst, arith}
 use Rattle.mdb_base.specs.declared.names.Tx.{Tx}
 use Rattle.fed_rules.specs.declared.answers.Answer.{Answer}
 use Rattle.fed_rules.specs.declared.events.SiteEvent.{SiteEvent}
 use Rattle.fed_rules.specs.declared.events.SiteEvent.TheVariants as Ev
 use Rattle.fed_rules.specs.declared.events.SiteStep.{SiteStep}
 use Rattle.fed_rules.specs.declared.messages.ToSite.{ToSite}
+use Rattle.fed_rules.specs.declared.scenario.TxLine.{TxLine}
 use Rattle.fed_rules.specs.Requests.{Request, Submits, Declines}
 use Rattle.fed_rules.specs.SiteCommands.{past_behind}
 use Rattle.fed_rules.specs.SitePast.{SitePast}
@@ -14,11 +15,13 @@ use Rattle.actor_store.specs.declared.errors.StepErr.{StepErr}
 use Rattle.actor_store.specs.declared.errors.StepErr.TheVariants as Err_is
 use Rattle.site_core.specs.Made.{about}
 use Rattle.site_core.specs.Stands.{Before, StopAt, Within, stopped_past}
-use Rattle.actor_tests.specs.LocalSessions.{IsAbout, IsOfLines, IsWithin}
+use Rattle.actor_tests.specs.LocalSessions.{IsAbout, IsApart, IsOfLines, IsWithin}
 use Rattle.journal_disk.specs.declared.mem_disk.MemDisk.{MemDisk}
 use Rattle.any_engine.specs.declared.engine.AnyEngine.{AnyEngine}
+use Rattle.any_engine.specs.Stands as Engines
+use Rattle.site_core.specs.Sessions.{mem_seen}
 use Rattle.local_dbms.specs.declared.dbms.LocalDbms.{LocalDbms}
-use Rattle.local_dbms.specs.Stands.{CanGive, Each_site, Fails, IsShort, OwnPrograms, Sends, Serves, Some_site}
+use Rattle.local_dbms.specs.Stands.{CanGive, Each_site, Fails, IsShort, OwnPrograms, Sends, Serves, Some_site, Stands, own_programs}
 
 -- a request adds at most one line, and a stop within an event two
 more_lines : (home : Home) (past : SitePast) (r : Request SiteEvent) (n : ℕ) → length past ≤ n → length (past_behind home past r) ≤ n + 2
@@ -41,6 +44,20 @@ more_lines_of n m foreign dbms disk s le =
       stood = s.stood;
       holds = record { few = omega arith; apart = s.holds.apart; least = s.holds.least; greatest = s.holds.greatest };
     }
+
+-- a new site
+pub set_up_on : (result : Result (LocalDbms AnyEngine) StepErr) (disk : MemDisk) (home : Home) (transactions : List TxLine) (foreign : Tx) → IsApart foreign transactions
+    → IfOk result (λ dbms. Stands Engines.Stands true dbms (mem_seen disk) home (own_programs (record { 0 = 1 }) transactions) [])
+    → IfOk result (λ dbms. IsOfLines 0 foreign dbms disk)
+unfolding IsOfLines
+set_up_on (Ok dbms) disk home transactions foreign apart stands = record {
+  home = home;
+  programs = own_programs (record { 0 = 1 }) transactions;
+  past = [];
+  stood = stands;
+  holds = record { few = omega arith; apart = apart.apart; least = apart.least; greatest = apart.greatest };
+}
+set_up_on (Err why) disk home transactions foreign apart stands = tt
 
 module _ (K L : Home → OwnPrograms → SitePast → Type 0) (n : ℕ) (foreign : Tx) (few : n ≤ 1000) (s : Some_site K (IsWithin n foreign)) where
   is_short : length s.past < 2 ^ 30

@@ -278,6 +278,21 @@ fn global_site(
     site_of(alloc, disk, engine, protocol, GLOBAL, &[])
 }
 
+// A new site comes to the end of this script.
+fn plays(
+    rt: &impl Abort,
+    alloc: Global,
+    dbms: &mut LocalDbms<AnyEngine>,
+    disk: &mut MemDisk,
+    foreign: Tx,
+    script: &str,
+) -> Result<(), Fail>
+    requires { IsOfLines 0 foreign dbms.old disk.old }
+{
+    assert!(rt; play(rt, alloc, dbms, disk, foreign, 0, script)?);
+    Ok(())
+}
+
 // Plays a script of messages about transaction 1 at a new site, to its end.
 fn plays_messages(
     rt: &impl Abort,
@@ -288,9 +303,7 @@ fn plays_messages(
 ) -> Result<(), Fail> {
     let mut disk = MemDisk::new(alloc)?;
     let mut dbms = global_site(alloc, &mut disk, engine, protocol)?;
-    let ended = play(rt, alloc, &mut dbms, &mut disk, GLOBAL, 0, script)?;
-    assert!(rt; ended);
-    Ok(())
+    plays(rt, alloc, &mut dbms, &mut disk, GLOBAL, script)
 }
 
 // Plays a script of the local transactions 1 and 2 at a new site, to its end, and gives the length of its disk.
@@ -305,8 +318,7 @@ fn plays_locals(
 ) -> Result<u64, Fail> {
     let mut disk = MemDisk::new(alloc)?;
     let mut dbms = local_site(alloc, &mut disk, engine, protocol, first, second)?;
-    let ended = play(rt, alloc, &mut dbms, &mut disk, OTHER, 0, script)?;
-    assert!(rt; ended);
+    plays(rt, alloc, &mut dbms, &mut disk, OTHER, script)?;
     Ok(disk.len())
 }
 
@@ -446,6 +458,18 @@ begin 1 => begun 1.1";
     Ok(())
 }
 
+// The site has this row alone.
+fn has_row(
+    rt: &impl Abort,
+    alloc: Global,
+    dbms: &LocalDbms<AnyEngine>,
+    row: Put,
+) -> Result<(), Fail> {
+    let rows = dbms.core().rows(alloc)?;
+    assert!(rt; rows.as_slice() == [row].as_slice());
+    Ok(())
+}
+
 #[test]
 fn a_site_has_its_first_rows(rt: HostRuntime) -> Result<(), Fail> {
     let alloc = rt.alloc();
@@ -462,9 +486,7 @@ fn a_site_has_its_first_rows(rt: HostRuntime) -> Result<(), Fail> {
     };
     let local = AnyEngine::new(alloc, Engine::Locking, &items)?;
     let dbms = LocalDbms::set_up(alloc, &mut disk, line, items, local, &[])?;
-    let rows = dbms.core().rows(alloc)?;
-    assert_eq!(rt; rows.as_slice(), [row].as_slice());
-    Ok(())
+    has_row(&rt, alloc, &dbms, row)
 }
 
 // Whether the records leave the attempt 1.0 in doubt: it is prepared, also by a Checkpoint, and didn't end.
@@ -510,7 +532,24 @@ fn goes_on(
     Ok(())
 }
 
-// A site that a fault stops within the script goes on. Says whether the script came to its end.
+// A new site comes to the end of the script, or a fault stops it within it, and it goes on. Says whether it came to its end.
+fn ends_or_goes_on(
+    rt: &impl Abort,
+    alloc: Global,
+    dbms: &mut LocalDbms<AnyEngine>,
+    disk: &mut MemDisk,
+    script: &str,
+) -> Result<bool, Fail>
+    requires { IsOfLines 0 GLOBAL dbms.old disk.old }
+{
+    let ended = play(rt, alloc, dbms, disk, GLOBAL, 0, script)?;
+    if !ended {
+        goes_on(rt, alloc, dbms, disk)?;
+    }
+    Ok(ended)
+}
+
+// The same of a site on this empty disk, unless a fault stops its set-up.
 fn goes_on_behind_a_fault(
     rt: &impl Abort,
     alloc: Global,
@@ -522,11 +561,7 @@ fn goes_on_behind_a_fault(
     let Ok(mut dbms) = global_site(alloc, disk, Engine::Locking, Protocol::Nothing) else {
         return Ok(false);
     };
-    let ended = play(rt, alloc, &mut dbms, disk, GLOBAL, 0, script)?;
-    if !ended {
-        goes_on(rt, alloc, &mut dbms, disk)?;
-    }
-    Ok(ended)
+    ends_or_goes_on(rt, alloc, &mut dbms, disk, script)
 }
 
 const FAULTY: &str = "give 1 5 => did 1.1 done sends 0

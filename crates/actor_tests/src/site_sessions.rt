@@ -116,23 +116,27 @@ fn is_running(core: &SiteCore<LockingEngine>, records: usize) -> bool {
     core.is_live(FIRST) && !core.is_down() && core.records().len() == records
 }
 
+// A new site begins an attempt, and has its first records.
+fn begins(
+    rt: &impl Abort,
+    alloc: Global,
+    core: &mut SiteCore<LockingEngine>,
+    disk: &mut MemDisk,
+) -> Result<(), Fail>
+    requires { TestStands core.old disk.old (locking_home Protocol.Nothing) [] }
+{
+    let begin = SiteEvent::Begin(FIRST);
+    let _begun = answers(rt, alloc, core, disk, begin, Answer::Begun(FIRST))?;
+    assert!(rt; is_running(core, 2) && holds(alloc, disk, &BYTES));
+    Ok(())
+}
+
 #[test]
 fn a_new_site_has_its_first_records_and_begins(rt: HostRuntime) -> Result<(), Fail> {
     let alloc = rt.alloc();
     let mut disk = MemDisk::new(alloc)?;
     let mut core = locking_site(alloc, &mut disk, Protocol::Nothing)?;
-    let begin = SiteEvent::Begin(FIRST);
-    let _begun = answers(
-        &rt,
-        alloc,
-        &mut core,
-        &mut disk,
-        begin,
-        Answer::Begun(FIRST),
-    )?;
-    assert!(rt; is_running(&core, 2));
-    assert!(rt; holds(alloc, &mut disk, &BYTES));
-    Ok(())
+    begins(&rt, alloc, &mut core, &mut disk)
 }
 
 // A new site begins an attempt, reads, writes and commits it.
@@ -157,6 +161,7 @@ fn commits(
         Answer::Wrote(Key(5), 7),
     )?;
     let _sealed = answers(rt, alloc, core, disk, commit, Answer::Sealed(FIRST, 2))?;
+    assert!(rt; holds(alloc, disk, &SEALED));
     Ok(())
 }
 
@@ -165,9 +170,7 @@ fn a_local_transaction_reads_writes_and_commits(rt: HostRuntime) -> Result<(), F
     let alloc = rt.alloc();
     let mut disk = MemDisk::new(alloc)?;
     let mut core = locking_site(alloc, &mut disk, Protocol::Nothing)?;
-    commits(&rt, alloc, &mut core, &mut disk)?;
-    assert!(rt; holds(alloc, &mut disk, &SEALED));
-    Ok(())
+    commits(&rt, alloc, &mut core, &mut disk)
 }
 
 // A trip with this cut stops a new site right after the append of the record of 1.0, which wrote 1 to key 5; so many records are kept.
@@ -287,6 +290,7 @@ fn takes_its_ticket(
     });
     let taken = answers(rt, alloc, core, disk, take, Answer::Did(FIRST, ticket))?;
     assert!(rt; taken == did(1, ticket));
+    assert!(rt; is_running(core, 2) && holds(alloc, disk, &BYTES));
     Ok(())
 }
 
@@ -295,8 +299,5 @@ fn a_subtransaction_reads_and_takes_its_ticket(rt: HostRuntime) -> Result<(), Fa
     let alloc = rt.alloc();
     let mut disk = MemDisk::new(alloc)?;
     let mut core = locking_site(alloc, &mut disk, Protocol::Nothing)?;
-    takes_its_ticket(&rt, alloc, &mut core, &mut disk)?;
-    assert!(rt; is_running(&core, 2));
-    assert!(rt; holds(alloc, &mut disk, &BYTES));
-    Ok(())
+    takes_its_ticket(&rt, alloc, &mut core, &mut disk)
 }

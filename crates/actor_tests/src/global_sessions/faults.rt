@@ -151,7 +151,26 @@ fn mixed_manager<P: TakePolicy>(
     )
 }
 
-// A coordinator that a fault stops within one of the scripts comes up again as its records say. Says whether the scripts came to their end.
+// A new manager comes to the end of the scripts, or a fault stops it within one of them, and it comes up again as its records say. Says
+// whether it came to their end.
+fn ends_or_comes_up<P: TakePolicy>(
+    rt: &impl Abort,
+    alloc: Global,
+    manager: &mut GlobalManager<P>,
+    disk: &mut MemDisk,
+    scripts: &[&str],
+) -> Result<bool, Fail>
+    requires { IsOfThree P.policy manager.old disk.old }
+{
+    let mut channels = Channels::new(alloc);
+    let ended = play_each(rt, alloc, manager, disk, &mut channels, scripts)?;
+    if !ended {
+        comes_up(rt, alloc, manager, disk, &mut channels)?;
+    }
+    Ok(ended)
+}
+
+// The same of the session's manager, on this empty disk.
 fn comes_up_behind_a_fault(
     rt: &impl Abort,
     alloc: Global,
@@ -161,12 +180,7 @@ fn comes_up_behind_a_fault(
     requires { mem_image disk.old ≡ no_bytes }
 {
     let mut manager = mixed_manager(alloc, disk, Always)?;
-    let mut channels = Channels::new(alloc);
-    let ended = play_each(rt, alloc, &mut manager, disk, &mut channels, scripts)?;
-    if !ended {
-        comes_up(rt, alloc, &mut manager, disk, &mut channels)?;
-    }
-    Ok(ended)
+    ends_or_comes_up(rt, alloc, &mut manager, disk, scripts)
 }
 
 #[test]
@@ -330,24 +344,50 @@ fn asks_each<P: TakePolicy>(
     Ok(failed)
 }
 
-// A coordinator of which a command fails and is asked again carries the rest of the scripts out, and knows behind a stop what its records
-// say. Says whether none failed.
+// The manager carries both scripts out. Gives how many commands failed in them, which is one at most.
+fn asks_both<P: TakePolicy>(
+    rt: &impl Abort,
+    alloc: Global,
+    manager: &mut GlobalManager<P>,
+    disk: &mut MemDisk,
+    channels: &mut Channels,
+) -> Result<u32, Fail>
+    requires { IsOfThree P.policy manager.old disk.old }
+    ensures { IsOfThree P.policy manager.new disk.new }
+{
+    let before = asks_each(rt, alloc, manager, disk, channels, BEFORE)?;
+    let behind = asks_each(rt, alloc, manager, disk, channels, BEHIND)?;
+    let failed = before.saturating_add(behind);
+    assert!(rt; failed <= 1, "{failed}");
+    Ok(failed)
+}
+
+// A new manager carries both scripts out, and where a command failed and was asked again, it knows behind a stop what its records say. Says
+// whether none failed.
+fn ends_as_its_records_say<P: TakePolicy>(
+    rt: &impl Abort,
+    alloc: Global,
+    manager: &mut GlobalManager<P>,
+    disk: &mut MemDisk,
+) -> Result<bool, Fail>
+    requires { IsOfThree P.policy manager.old disk.old }
+{
+    let mut channels = Channels::new(alloc);
+    if asks_both(rt, alloc, manager, disk, &mut channels)? == 0 {
+        return Ok(true);
+    }
+    let halt = Command::Halt { actor: 0, cut: 0 };
+    assert!(rt; !is_stopped(alloc, manager, disk, &mut channels, halt)?);
+    comes_up(rt, alloc, manager, disk, &mut channels)?;
+    Ok(false)
+}
+
+// The same of the session's manager, on this empty disk.
 fn goes_on_behind_a_fault(rt: &impl Abort, alloc: Global, disk: &mut MemDisk) -> Result<bool, Fail>
     requires { mem_image disk.old ≡ no_bytes }
 {
     let mut manager = mixed_manager(alloc, disk, Always)?;
-    let mut channels = Channels::new(alloc);
-    let before = asks_each(rt, alloc, &mut manager, disk, &mut channels, BEFORE)?;
-    let behind = asks_each(rt, alloc, &mut manager, disk, &mut channels, BEHIND)?;
-    let failed = before.saturating_add(behind);
-    if failed == 0 {
-        return Ok(true);
-    }
-    assert!(rt; failed == 1, "{failed}");
-    let halt = Command::Halt { actor: 0, cut: 0 };
-    assert!(rt; !is_stopped(alloc, &mut manager, disk, &mut channels, halt)?);
-    comes_up(rt, alloc, &mut manager, disk, &mut channels)?;
-    Ok(false)
+    ends_as_its_records_say(rt, alloc, &mut manager, disk)
 }
 
 /// 21 failed calls, each in a session of its own. The first attempt makes 5, by an Initiation, a Commit and an End, and the Checkpoint within it

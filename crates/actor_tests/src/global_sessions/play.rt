@@ -186,7 +186,7 @@ pub(super) fn global(number: u32, steps: &[Step]) -> Declared {
 }
 
 // The line of a transaction.
-fn line(alloc: Global, declared: &Declared) -> Result<TxLine, Fail>
+fn line_of(alloc: Global, declared: &Declared) -> Result<TxLine, Fail>
     ensures { IfOk result IsOfThreeSites }
 {
     let Declared {
@@ -211,7 +211,8 @@ fn lines_of(alloc: Global, transactions: &[Declared]) -> Result<Vec<TxLine>, Fai
 {
     let mut lines = Vec::new(alloc);
     for declared in transactions {
-        lines.push(line(alloc, declared)?)?;
+        let line = line_of(alloc, declared)?;
+        lines.push(line)?;
     }
     Ok(lines)
 }
@@ -488,6 +489,21 @@ pub(super) fn play_each<P: TakePolicy>(
     Ok(true)
 }
 
+// A new manager comes to the end of these scripts. Gives what was sent.
+fn sends_in<P: TakePolicy>(
+    rt: &impl Abort,
+    alloc: Global,
+    manager: &mut GlobalManager<P>,
+    disk: &mut MemDisk,
+    scripts: &[&str],
+) -> Result<Vec<Sent>, Fail>
+    requires { IsOfThree P.policy manager.old disk.old }
+{
+    let mut channels = Channels::new(alloc);
+    assert!(rt; play_each(rt, alloc, manager, disk, &mut channels, scripts)?);
+    Ok(channels.sent)
+}
+
 /// Plays scripts, one behind the other, at a new manager of the sites 1 to 3 with these protocols and of these transactions, to their end,
 /// and gives what was sent.
 pub(super) fn plays<P: TakePolicy>(
@@ -500,7 +516,5 @@ pub(super) fn plays<P: TakePolicy>(
 ) -> Result<Vec<Sent>, Fail> {
     let mut disk = MemDisk::new(alloc)?;
     let mut manager = manager_of(alloc, &disk, policy, protocols, transactions)?;
-    let mut channels = Channels::new(alloc);
-    assert!(rt; play_each(rt, alloc, &mut manager, &mut disk, &mut channels, scripts)?);
-    Ok(channels.sent)
+    sends_in(rt, alloc, &mut manager, &mut disk, scripts)
 }

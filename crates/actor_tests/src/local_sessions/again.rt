@@ -158,7 +158,21 @@ fn rows_of(rt: &impl Abort, alloc: Global, dbms: &LocalDbms<AnyEngine>) -> Resul
     Ok(rows)
 }
 
-// Carries the session out on this disk, of which the calls of the set-up don't fail: how many of its commands failed, and the rows.
+// A new site carries the session out: how many of its commands failed, and the rows.
+fn ends(
+    rt: &impl Abort,
+    alloc: Global,
+    dbms: &mut LocalDbms<AnyEngine>,
+    disk: &mut MemDisk,
+) -> Result<(u32, Puts), Fail>
+    requires { IsOfLines 0 OTHER dbms.old disk.old }
+{
+    let failed = asks_each(rt, alloc, dbms, disk, OTHER, &LOCALS)?;
+    let rows = rows_of(rt, alloc, dbms)?;
+    Ok((failed, rows))
+}
+
+// The same on this disk, of which the calls of the set-up don't fail.
 fn ends_on(rt: &impl Abort, alloc: Global, disk: &mut MemDisk) -> Result<(u32, Puts), Fail>
     requires { mem_size disk.old ≡ 0 }
 {
@@ -166,9 +180,7 @@ fn ends_on(rt: &impl Abort, alloc: Global, disk: &mut MemDisk) -> Result<(u32, P
     let first = [SET_5_TO_7];
     let second = [GET_5, SET_6_TO_1];
     let mut dbms = local_site(alloc, disk, engine, Protocol::Nothing, &first, &second)?;
-    let failed = asks_each(rt, alloc, &mut dbms, disk, OTHER, &LOCALS)?;
-    let rows = rows_of(rt, alloc, &dbms)?;
-    Ok((failed, rows))
+    ends(rt, alloc, &mut dbms, disk)
 }
 
 // The rows at the end of the session in which no disk call fails.
@@ -233,8 +245,21 @@ fn is_settled(dbms: &LocalDbms<AnyEngine>) -> bool {
     !core.is_down() && !is_doubtful(core.records())
 }
 
-// Gives a site of this rule and protocol the messages, in a session in which this disk call fails, which is none of the set-up: at most one
-// of them failed, and nothing is in doubt then. Says whether one failed.
+// Gives a new site the messages: at most one of them failed, and nothing is in doubt then. Says whether one failed.
+fn settles(
+    rt: &impl Abort,
+    alloc: Global,
+    dbms: &mut LocalDbms<AnyEngine>,
+    disk: &mut MemDisk,
+) -> Result<bool, Fail>
+    requires { IsOfLines 0 GLOBAL dbms.old disk.old }
+{
+    let failed = asks_each(rt, alloc, dbms, disk, GLOBAL, &MESSAGES)?;
+    assert!(rt; failed <= 1 && is_settled(dbms), "{failed}");
+    Ok(failed == 1)
+}
+
+// The same at a site of this rule and protocol, in a session in which this disk call fails, which is none of the set-up.
 fn settles_behind(
     rt: &impl Abort,
     alloc: Global,
@@ -244,9 +269,7 @@ fn settles_behind(
 ) -> Result<bool, Fail> {
     let mut disk = MemDisk::failing(alloc, &[call])?;
     let mut dbms = global_site(alloc, &mut disk, engine, protocol)?;
-    let failed = asks_each(rt, alloc, &mut dbms, &mut disk, GLOBAL, &MESSAGES)?;
-    assert!(rt; failed <= 1 && is_settled(&dbms), "{call}");
-    Ok(failed == 1)
+    settles(rt, alloc, &mut dbms, &mut disk)
 }
 
 // At a site of this rule and protocol each call behind the three of the set-up fails in a session of its own; there are so many.

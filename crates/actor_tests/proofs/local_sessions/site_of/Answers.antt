@@ -1,7 +1,5 @@
-use Rattle.std.proofs.Common.{[], arith}
-use Rattle.actor_tests.specs.LocalSessions.{IsOfLines}
+use Rattle.actor_tests.proofs.LocalSessions.{set_up_on}
 use Rattle.actor_tests.proofs.local_sessions.site_of.Goals as goal
 
 pub returns : goal.returns
-unfolding IsOfLines
-returns c = ?
+returns c = set_up_on c.set_up.result c.set_up.new.disk _ c.args.transactions.now c.args.foreign c.requires.apart c.set_up.ensures.stands

@@ -2,7 +2,7 @@ use Rattle.std.proofs.Common.{◌≡◌, true, sym, ◌∙◌, subst, arith}
 use Rattle.actor_tests.specs.GlobalSessions.{three}
 use Rattle.global_manager.specs.Stands.{IsSited}
 use Rattle.actor_tests.proofs.GlobalSessions.{sited_from, sited_three}
-use Rattle.actor_tests.proofs.global_sessions.play.line.Goals as goal
+use Rattle.actor_tests.proofs.global_sessions.play.line_of.Goals as goal
 
 pub returns : goal.returns
 returns c first second third =
