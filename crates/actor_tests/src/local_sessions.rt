@@ -278,7 +278,7 @@ fn global_site(
     site_of(alloc, disk, engine, protocol, GLOBAL, &[])
 }
 
-// A new site comes to the end of this script.
+// A new site comes to the end of this script. Gives the length of its disk.
 fn plays(
     rt: &impl Abort,
     alloc: Global,
@@ -286,21 +286,21 @@ fn plays(
     disk: &mut MemDisk,
     foreign: Tx,
     script: &str,
-) -> Result<(), Fail>
+) -> Result<u64, Fail>
     requires { IsOfLines 0 foreign dbms.old disk.old }
 {
     assert!(rt; play(rt, alloc, dbms, disk, foreign, 0, script)?);
-    Ok(())
+    Ok(disk.len())
 }
 
-// Plays a script of messages about transaction 1 at a new site, to its end.
+// Plays a script of messages about transaction 1 at a new site, to its end, and gives the length of its disk.
 fn plays_messages(
     rt: &impl Abort,
     alloc: Global,
     engine: Engine,
     protocol: Protocol,
     script: &str,
-) -> Result<(), Fail> {
+) -> Result<u64, Fail> {
     let mut disk = MemDisk::new(alloc)?;
     let mut dbms = global_site(alloc, &mut disk, engine, protocol)?;
     plays(rt, alloc, &mut dbms, &mut disk, GLOBAL, script)
@@ -318,8 +318,7 @@ fn plays_locals(
 ) -> Result<u64, Fail> {
     let mut disk = MemDisk::new(alloc)?;
     let mut dbms = local_site(alloc, &mut disk, engine, protocol, first, second)?;
-    plays(rt, alloc, &mut dbms, &mut disk, OTHER, script)?;
-    Ok(disk.len())
+    plays(rt, alloc, &mut dbms, &mut disk, OTHER, script)
 }
 
 #[test]
@@ -336,7 +335,8 @@ back 1 => up epoch 2 doubtful 0
 give 1 0 => did 1.0 done sends 7
 give 1 1 => did 1.0 unknown sends 8
 give 1 2 => votes 1.0 no unknown sends 9";
-    plays_messages(&rt, rt.alloc(), Engine::Locking, Protocol::Nothing, script)
+    let _kept = plays_messages(&rt, rt.alloc(), Engine::Locking, Protocol::Nothing, script)?;
+    Ok(())
 }
 
 #[test]
@@ -349,9 +349,10 @@ back 1 => up epoch 2 doubtful 1
 ask 1 1.0 => asks 1.0 sends 3
 give 1 2 => votes 1.0 yes 1 sends 4
 give 1 4 => settles 1.0 abort";
-    let alloc = rt.alloc();
-    plays_messages(&rt, alloc, Engine::Timestamp, Protocol::Abort, script)?;
-    plays_messages(&rt, alloc, Engine::Locking, Protocol::Abort, script)
+    for engine in [Engine::Timestamp, Engine::Locking] {
+        let _kept = plays_messages(&rt, rt.alloc(), engine, Protocol::Abort, script)?;
+    }
+    Ok(())
 }
 
 #[test]
