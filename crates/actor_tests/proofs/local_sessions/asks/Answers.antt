@@ -1,4 +1,4 @@
-use Rattle.std.proofs.Common.{true}
+use Rattle.std.proofs.Common.{◌+◌, true, arith}
 use Rattle.fed_rules.specs.declared.events.SiteEvent.{SiteEvent}
 use Rattle.fed_rules.specs.declared.events.SiteEvent.TheVariants as Ev
 use Rattle.fed_rules.specs.Requests.{Request, Submits}
@@ -10,7 +10,7 @@ use Rattle.any_engine.specs.Stands as Engines
 use Rattle.site_core.specs.Sessions.{mem_seen}
 use Rattle.local_dbms.specs.Stands.{OwnPrograms, Stands}
 use Rattle.actor_tests.specs.LocalSessions.{IsOfLines}
-use Rattle.actor_tests.proofs.LocalSessions.{asked_on, can_give, given_on, served_on, short}
+use Rattle.actor_tests.proofs.LocalSessions.{asked_on, can_give, given_on, more_lines_of, served_on, short}
 use Rattle.actor_tests.proofs.local_sessions.asks.Goals as goal
 
 pub begin-requires-clause-stood : goal.begin-requires-clause-stood
@@ -178,3 +178,9 @@ returns-in-Some c =
     let K : Home → OwnPrograms → SitePast → Type 0 = Stands Engines.Stands true c.args.dbms.now (mem_seen c.args.disk.now) in
     let L : Home → OwnPrograms → SitePast → Type 0 = Stands Engines.Stands true c.give.new.self (mem_seen c.give.new.disk) in
     given_on K L c.args.lines c.args.foreign c.requires.few c.requires.stood c.give.result c.in-Some.message c.in-Some.ensures c.give.ensures.served c.give.ensures.failed
+
+pub returns-in-None : goal.returns-in-None
+returns-in-None c = more_lines_of c.args.lines (c.args.lines + 2) c.args.foreign c.args.dbms.now c.args.disk.now c.requires.stood (omega arith)
+
+pub returns-in_default : goal.returns-in_default
+returns-in_default c = more_lines_of c.args.lines (c.args.lines + 2) c.args.foreign c.args.dbms.now c.args.disk.now c.requires.stood (omega arith)

@@ -7,8 +7,15 @@ use Rattle.coord_core.specs.Terms.{Terms}
 use Rattle.site_core.specs.Sessions.{mem_seen}
 use Rattle.global_manager.specs.Stands.{OwnPrograms, Stands}
 use Rattle.actor_tests.specs.GlobalSessions.{IsOfThree}
-use Rattle.actor_tests.proofs.GlobalSessions.{takes_on}
+use Rattle.actor_tests.proofs.GlobalSessions.{from_site, takes_on}
 use Rattle.actor_tests.proofs.global_sessions.kept.tells.Goals as goal
+
+pub take-requires-clause-stood : goal.take-requires-clause-stood
+unfolding IsOfThree
+take-requires-clause-stood g c =
+    let K : Terms → OwnPrograms → CoordPast → Type 0 = Stands g.P.TakePolicy.policy true c.args.manager.now (mem_seen c.args.disk.now) in
+    let site : SiteId = record { 0 = c.args.place + 1 } in
+    from_site K K c.requires.stood site (omega arith) (omega arith)
 
 pub returns : goal.returns
 unfolding IsOfThree

@@ -1,7 +1,8 @@
-use Rattle.std.proofs.Common.{true, List, [], length, refl, sym, ap, subst, rules, arith}
+use Rattle.std.proofs.Common.{◌≡◌, true, List, [], length, refl, sym, ap, subst, rules, arith}
 use Rattle.mdb_base.specs.Words.{Each}
 use Rattle.mdb_base.proofs.ListLaws.{each_map}
 use Rattle.presumptions.specs.declared.Participant.{Participant}
+use Rattle.fed_rules.specs.declared.scenario.TxLine.{TxLine}
 use Rattle.journal_disk.specs.Disk.{Image, IsSound}
 use Rattle.coord_core.specs.Stands.{IsEmptyDisk}
 use Rattle.site_core.specs.Sessions.{mem_seen}
@@ -15,10 +16,11 @@ unfolding IsOfThree
 new-requires-clause-sites g c = sites_of_three c.in_ok-sites.sites c.in_ok-sites.ensures
 
 pub new-requires-clause-declared : goal.new-requires-clause-declared
-unfolding IsOfThree
 new-requires-clause-declared g c =
-    subst (λ (ps : List Participant). Each (IsDeclared ps) c.in_ok-lines.lines.items) (sym c.in_ok-sites.ensures)
-    (each_map IsOfThreeSites (IsDeclared (three _ _ _)) (λ line fits. fits _ _ _) c.in_ok-lines.lines.items c.in_ok-lines.ensures)
+    let is : c.deref.result.now ≡ c.in_ok-lines.lines.items = cc in
+    subst (λ (lines : List TxLine). Each (IsDeclared c.in_ok-sites.sites) lines) (sym is)
+    (subst (λ (ps : List Participant). Each (IsDeclared ps) c.in_ok-lines.lines.items) (sym c.in_ok-sites.ensures)
+    (each_map IsOfThreeSites (IsDeclared (three _ _ _)) (λ line fits. fits _ _ _) c.in_ok-lines.lines.items c.in_ok-lines.ensures))
 
 pub returns : goal.returns
 unfolding IsOfThree
