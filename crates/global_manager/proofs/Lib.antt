@@ -2,4 +2,3 @@ pub mod Asked
 pub mod Fit
 pub mod Lines
 pub mod Owned
-pub mod Sessions

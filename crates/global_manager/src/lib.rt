@@ -13,6 +13,3 @@ mod tx_commands;
 
 pub use coord_core::StepErr;
 pub use manager::GlobalManager;
-
-#[cfg(test)]
-mod tests;

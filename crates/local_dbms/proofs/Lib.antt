@@ -4,5 +4,4 @@ pub mod Fit
 pub mod Lines
 pub mod Numbers
 pub mod Owned
-pub mod Sessions
 pub mod Small

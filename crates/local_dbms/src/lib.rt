@@ -11,6 +11,3 @@ mod tx_commands;
 
 pub use dbms::LocalDbms;
 pub use site_core::StepErr;
-
-#[cfg(test)]
-mod tests;

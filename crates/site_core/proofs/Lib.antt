@@ -22,7 +22,6 @@ pub mod OverLaws
 pub mod RememberLaws
 pub mod RuleWalks
 pub mod SealingLaws
-pub mod SessionLaws
 pub mod SetUpLaws
 pub mod StepLaws
 pub mod StopLaws

@@ -26,6 +26,3 @@ pub use actor_store::StepErr;
 pub use fed_rules::{SiteEvent, SiteRecord, SiteStep};
 pub use laws::made_pasts_are_serial;
 pub use site::SiteCore;
-
-#[cfg(test)]
-mod tests;

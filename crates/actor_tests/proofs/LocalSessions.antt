@@ -1,0 +1,128 @@
+-- How a session goes on: a site that stands for few lines stands behind a command for at most two more, also where the command fails.
+use Rattle.std.proofs.Common.{true, List, [], ℕ, ◌+◌, ◌≤◌, ◌<◌, ◌^◌, Result, Ok, Err, IfOk, IfErr, length, ap, sym, ◌∙◌, subst, arith}
+use Rattle.mdb_base.specs.declared.names.Tx.{Tx}
+use Rattle.fed_rules.specs.declared.answers.Answer.{Answer}
+use Rattle.fed_rules.specs.declared.events.SiteEvent.{SiteEvent}
+use Rattle.fed_rules.specs.declared.events.SiteEvent.TheVariants as Ev
+use Rattle.fed_rules.specs.declared.events.SiteStep.{SiteStep}
+use Rattle.fed_rules.specs.declared.messages.ToSite.{ToSite}
+use Rattle.fed_rules.specs.declared.scenario.TxLine.{TxLine}
+use Rattle.fed_rules.specs.Requests.{Request, Submits, Declines}
+use Rattle.fed_rules.specs.SiteCommands.{past_behind}
+use Rattle.fed_rules.specs.SitePast.{SitePast}
+use Rattle.fed_rules.specs.SiteRecords.{Home}
+use Rattle.actor_store.specs.declared.errors.StepErr.{StepErr}
+use Rattle.actor_store.specs.declared.errors.StepErr.TheVariants as Err_is
+use Rattle.site_core.specs.Made.{about}
+use Rattle.site_core.specs.Stands.{Before, StopAt, Within, stopped_past}
+use Rattle.actor_tests.specs.LocalSessions.{IsAbout, IsApart, IsOfLines, IsWithin}
+use Rattle.journal_disk.specs.declared.mem_disk.MemDisk.{MemDisk}
+use Rattle.any_engine.specs.declared.engine.AnyEngine.{AnyEngine}
+use Rattle.any_engine.specs.Stands as Engines
+use Rattle.site_core.specs.Sessions.{mem_seen}
+use Rattle.local_dbms.specs.declared.dbms.LocalDbms.{LocalDbms}
+use Rattle.local_dbms.specs.Stands.{CanGive, Each_site, Fails, IsShort, OwnPrograms, Sends, Serves, Some_site, Stands, own_programs}
+
+-- a request adds at most one line, and a stop within an event two
+more_lines : (home : Home) (past : SitePast) (r : Request SiteEvent) (n : ℕ) → length past ≤ n → length (past_behind home past r) ≤ n + 2
+more_lines home past (Submits event) n le = omega arith
+more_lines home past (Declines answer) n le = omega arith
+
+stop_lines : (home : Home) (past : SitePast) (event : SiteEvent) (at : StopAt) (n : ℕ) → length past ≤ n → length (stopped_past home past event at) ≤ n + 2
+stop_lines home past event (Before cut) n le = omega arith
+stop_lines home past event (Within calls cut) n le = omega arith
+
+-- the same holds of a greater number of lines
+pub more_lines_of : (n m : ℕ) (foreign : Tx) (dbms : LocalDbms AnyEngine) (disk : MemDisk) → IsOfLines n foreign dbms disk → n ≤ m → IsOfLines m foreign dbms disk
+unfolding IsOfLines
+more_lines_of n m foreign dbms disk s le =
+    let few = s.holds.few in
+    record {
+      home = s.home;
+      programs = s.programs;
+      past = s.past;
+      stood = s.stood;
+      holds = record { few = omega arith; apart = s.holds.apart; least = s.holds.least; greatest = s.holds.greatest };
+    }
+
+-- a new site
+pub set_up_on : (result : Result (LocalDbms AnyEngine) StepErr) (disk : MemDisk) (home : Home) (transactions : List TxLine) (foreign : Tx) → IsApart foreign transactions
+    → IfOk result (λ dbms. Stands Engines.Stands true dbms (mem_seen disk) home (own_programs (record { 0 = 1 }) transactions) [])
+    → IfOk result (λ dbms. IsOfLines 0 foreign dbms disk)
+unfolding IsOfLines
+set_up_on (Ok dbms) disk home transactions foreign apart stands = record {
+  home = home;
+  programs = own_programs (record { 0 = 1 }) transactions;
+  past = [];
+  stood = stands;
+  holds = record { few = omega arith; apart = apart.apart; least = apart.least; greatest = apart.greatest };
+}
+set_up_on (Err why) disk home transactions foreign apart stands = tt
+
+module _ (K L : Home → OwnPrograms → SitePast → Type 0) (n : ℕ) (foreign : Tx) (few : n ≤ 1000) (s : Some_site K (IsWithin n foreign)) where
+  is_short : length s.past < 2 ^ 30
+  is_short = let le = s.holds.few in omega arith
+
+  pub short : Some_site K IsShort
+  short = record { home = s.home; programs = s.programs; past = s.past; stood = s.stood; holds = is_short }
+
+  -- a message about the foreign transaction may be given
+  may_give : (message : ToSite) → IsAbout foreign message → CanGive message s.home s.programs s.past
+  may_give message (of_tx, attempt) =
+      let below : (about message).attempt < 32 = omega arith in
+      let least : 1 ≤ (about message).tx.0 = subst (λ (tx : Tx). 1 ≤ tx.0) (sym of_tx) s.holds.least in
+      let greatest : (about message).tx.0 ≤ 1024 = subst (λ (tx : Tx). tx.0 ≤ 1024) (sym of_tx) s.holds.greatest in
+      record {
+        short = is_short;
+        foreign = ap s.programs of_tx ∙ s.holds.apart;
+        in_range = record { least = least; greatest = greatest; attempts = below };
+      }
+
+  pub can_give : (message : ToSite) → IsAbout foreign message → Some_site K (CanGive message)
+  can_give message is = record { home = s.home; programs = s.programs; past = s.past; stood = s.stood; holds = may_give message is }
+
+  -- it stands for this past, which isn't much longer
+  at : (past : SitePast) → length past ≤ n + 2 → L s.home s.programs past → Some_site L (IsWithin (n + 2) foreign)
+  at past le stood = record {
+    home = s.home;
+    programs = s.programs;
+    past = past;
+    stood = stood;
+    holds = record { few = le; apart = s.holds.apart; least = s.holds.least; greatest = s.holds.greatest };
+  }
+
+  failed_on : (r : Request SiteEvent) (why : StepErr) → Fails L why s.home s.programs s.past r → Some_site L (IsWithin (n + 2) foreign)
+  failed_on r Err_is.Memory stood = let le = s.holds.few in at s.past (omega arith) stood
+  failed_on (Submits event) Err_is.Disk (stop, stood, down) = at (stopped_past s.home s.past event stop) (stop_lines s.home s.past event stop n s.holds.few) stood
+  failed_on (Declines answer) Err_is.Disk none = absurd none
+
+  -- behind an answer to a request, or its failure
+  pub served_on : (result : Result Answer StepErr) (asked : Home → OwnPrograms → SitePast → Request SiteEvent)
+      → IfOk result (λ answer. Each_site K (λ home programs past. IsShort home programs past → Serves L answer home programs past (asked home programs past)))
+      → IfErr result (λ why. Each_site K (λ home programs past. IsShort home programs past → Fails L why home programs past (asked home programs past)))
+      → Some_site L (IsWithin (n + 2) foreign)
+  served_on (Ok answer) asked served failed =
+      let r : Request SiteEvent = asked s.home s.programs s.past in
+      at (past_behind s.home s.past r) (more_lines s.home s.past r n s.holds.few) (served s.home s.programs s.past s.stood is_short).next
+  served_on (Err why) asked served failed = failed_on (asked s.home s.programs s.past) why (failed s.home s.programs s.past s.stood is_short)
+
+  -- behind an answer to an event with what is sent, or its failure
+  pub sent_on : (result : Result SiteStep StepErr) (event : SiteEvent) (P : Home → OwnPrograms → SitePast → Type 0) → P s.home s.programs s.past
+      → IfOk result (λ step. Each_site K (λ home programs past. P home programs past → Sends L step home programs past event))
+      → IfErr result (λ why. Each_site K (λ home programs past. P home programs past → Fails L why home programs past (Submits event)))
+      → Some_site L (IsWithin (n + 2) foreign)
+  sent_on (Ok step) event P may served failed =
+      at (past_behind s.home s.past (Submits event)) (more_lines s.home s.past (Submits event) n s.holds.few) (served s.home s.programs s.past s.stood may).next
+  sent_on (Err why) event P may served failed = failed_on (Submits event) why (failed s.home s.programs s.past s.stood may)
+
+  pub asked_on : (result : Result SiteStep StepErr) (event : SiteEvent)
+      → IfOk result (λ step. Each_site K (λ home programs past. IsShort home programs past → Sends L step home programs past event))
+      → IfErr result (λ why. Each_site K (λ home programs past. IsShort home programs past → Fails L why home programs past (Submits event)))
+      → Some_site L (IsWithin (n + 2) foreign)
+  asked_on result event = sent_on result event IsShort is_short
+
+  pub given_on : (result : Result SiteStep StepErr) (message : ToSite) → IsAbout foreign message
+      → IfOk result (λ step. Each_site K (λ home programs past. CanGive message home programs past → Sends L step home programs past (Ev.Give message)))
+      → IfErr result (λ why. Each_site K (λ home programs past. CanGive message home programs past → Fails L why home programs past (Submits (Ev.Give message))))
+      → Some_site L (IsWithin (n + 2) foreign)
+  given_on result message is = sent_on result (Ev.Give message) (CanGive message) (may_give message is)

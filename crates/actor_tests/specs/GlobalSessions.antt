@@ -1,0 +1,35 @@
+-- The coordinator of the tests: three sites, on a disk in memory.
+use Rattle.std.specs.Prelude.{◌≤◌, ◌&&◌, nat_le, Bool, true, [], ◌∷◌, List}
+use Rattle.mdb_base.specs.declared.names.SiteId.{SiteId}
+use Rattle.presumptions.specs.declared.Participant.{Participant}
+use Rattle.presumptions.specs.declared.Protocol.{Protocol}
+use Rattle.fed_rules.specs.declared.scenario.TxLine.{TxLine}
+use Rattle.fed_rules.specs.CoordPast.{CoordPast}
+use Rattle.fed_rules.specs.Policies.{Policy}
+use Rattle.global_exec.specs.Pasts.{IsAmong}
+use Rattle.journal_disk.specs.declared.mem_disk.MemDisk.{MemDisk}
+use Rattle.site_core.specs.Sessions.{mem_seen}
+use Rattle.coord_core.specs.Terms.{Terms}
+use Rattle.global_manager.specs.declared.manager.GlobalManager.{GlobalManager}
+use Rattle.global_manager.specs.Stands.{IsDeclared, OwnPrograms, SomeManaged, Stands}
+
+abbrev pub is_of_three : SiteId → Bool
+is_of_three site = nat_le 1 site.0 && nat_le site.0 3
+
+-- the sites 1 to 3 with these protocols
+abbrev pub three : Protocol → Protocol → Protocol → List Participant
+three first second third =
+    record { site = record { 0 = 1 }; protocol = first } ∷ record { site = record { 0 = 2 }; protocol = second }
+    ∷ record { site = record { 0 = 3 }; protocol = third } ∷ []
+
+-- the line is one of such a coordinator's
+abbrev pub IsOfThreeSites : TxLine → Type 0
+IsOfThreeSites line = (first second third : Protocol) → IsDeclared (three first second third) line
+
+-- the coordinator has these sites
+abbrev pub HasThree : Terms → OwnPrograms → CoordPast → Type 0
+HasThree terms programs past = (site : SiteId) → 1 ≤ site.0 → site.0 ≤ 3 → IsAmong site terms.protocols
+
+-- a manager of such a coordinator on a disk in memory stands for something
+unfoldable pub IsOfThree : {P : Type 0} → (P → Policy) → GlobalManager P → MemDisk → Type 0
+IsOfThree test manager disk = SomeManaged (Stands test true manager (mem_seen disk)) HasThree

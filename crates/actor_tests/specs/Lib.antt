@@ -1,0 +1,3 @@
+pub mod GlobalSessions
+pub mod LocalSessions
+pub mod SiteSessions

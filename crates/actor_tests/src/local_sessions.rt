@@ -1,0 +1,604 @@
+//! Scripts at a site on a disk in memory: what it answers to one command after another.
+ghost use Rattle.std.specs.Prelude.{◌≡◌, ◌≤◌, ◌+◌, ◌<◌, IfOk, OnOk, IfSome};
+ghost use Rattle.journal_disk.specs.MemDisk.{mem_size};
+ghost use Rattle.mdb_base.specs.Words.{Each};
+ghost use Rattle.local_dbms.specs.Stands.{IsNamed};
+ghost use Rattle.actor_tests.specs.LocalSessions.{IsAbout, IsApart, IsOfLines};
+
+mod again;
+
+use crate::answers::{is_cut, same};
+use again::stand_twice;
+use any_engine::AnyEngine;
+use fed_rules::{Answer, Command, Line, SiteLine, SiteRecord, SiteStep, ToSite, TxLine};
+use journal_disk::{Disk, MemDisk};
+use local_dbms::{LocalDbms, StepErr};
+use mdb_base::{Act, Engine, Key, PlainAct, Program, Put, Puts, SiteId, Step, Tid, Tx};
+use presumptions::{Decision, Protocol};
+use std::alloc::Global;
+use std::process::Abort;
+use std::test::Fail;
+use trace_lines::read_line;
+
+const SITE: SiteId = SiteId(1);
+
+// The transaction of the messages.
+const GLOBAL: Tx = Tx(1);
+
+// A transaction that isn't the site's own, where 1 and 2 are.
+const OTHER: Tx = Tx(9);
+
+const GET_5: Step = Step {
+    site: SITE,
+    act: Act::Get(Key(5)),
+};
+
+const SET_5_TO_1: Step = Step {
+    site: SITE,
+    act: Act::Set(Key(5), 1),
+};
+
+const SET_5_TO_7: Step = Step {
+    site: SITE,
+    act: Act::Set(Key(5), 7),
+};
+
+const SET_5_TO_9: Step = Step {
+    site: SITE,
+    act: Act::Set(Key(5), 9),
+};
+
+const SET_6_TO_1: Step = Step {
+    site: SITE,
+    act: Act::Set(Key(6), 1),
+};
+
+// The message of this place about the transaction: first those of its attempt 0, and an act of its attempt 1 at the end.
+fn message(tx: Tx, place: u32) -> Option<ToSite>
+    ensures { IfSome result (IsAbout tx) }
+{
+    let act = PlainAct::Write(Key(1), 11);
+    let first = Tid { tx, attempt: 0 };
+    let second = Tid { tx, attempt: 1 };
+    match place {
+        0 => Some(ToSite::Work {
+            tid: first,
+            epoch: 0,
+            n: 0,
+            act,
+        }),
+        1 => Some(ToSite::Take {
+            tid: first,
+            epoch: 1,
+            n: 1,
+        }),
+        2 => Some(ToSite::Prepare {
+            tid: first,
+            epoch: 1,
+            n: 2,
+        }),
+        3 => Some(ToSite::Decide {
+            tid: first,
+            decision: Decision::Commit,
+        }),
+        4 => Some(ToSite::Decide {
+            tid: first,
+            decision: Decision::Abort,
+        }),
+        5 => Some(ToSite::Work {
+            tid: second,
+            epoch: 0,
+            n: 0,
+            act,
+        }),
+        _ => None,
+    }
+}
+
+// A step with this answer that sends nothing.
+fn alone(answer: Result<Answer, StepErr>) -> Result<SiteStep, StepErr> {
+    match answer {
+        Ok(answer) => Ok(SiteStep {
+            answer,
+            sends: None,
+        }),
+        Err(why) => Err(why),
+    }
+}
+
+// A site that stands for at most so many lines carries a command out; messages are about a transaction that isn't its own. It then
+// stands for at most two more, also where it fails: what a failed disk call leaves is a trip or a halt and a stopped line.
+fn asks(
+    dbms: &mut LocalDbms<AnyEngine>,
+    alloc: Global,
+    disk: &mut MemDisk,
+    foreign: Tx,
+    lines: u32,
+    command: Command,
+) -> Result<SiteStep, StepErr>
+    requires few { lines ≤ 1000 }
+    requires stood { IsOfLines lines foreign dbms.old disk.old }
+    ensures { IsOfLines (lines + 2) foreign dbms.new disk.new }
+{
+    match command {
+        Command::Begin(tx) => alone(dbms.begin(alloc, disk, tx)),
+        Command::Step(tx) => alone(dbms.step(alloc, disk, tx)),
+        Command::Commit(tx) => alone(dbms.commit(alloc, disk, tx)),
+        Command::Abort(tx) => alone(dbms.abort(alloc, disk, tx)),
+        Command::Fate(tx) => alone(dbms.fate(alloc, disk, tx)),
+        Command::Halt { cut, .. } => alone(dbms.halt(alloc, disk, cut)),
+        Command::Trip { calls, cut, .. } => alone(dbms.trip(alloc, disk, calls, cut)),
+        Command::Back { .. } => alone(dbms.back(alloc, disk)),
+        Command::Check { .. } => alone(dbms.check(alloc, disk)),
+        Command::Drop { tid, .. } => alone(dbms.drop(alloc, disk, tid)),
+        Command::Ask { tid, .. } => dbms.ask(alloc, disk, tid),
+        Command::Give { place, .. } => match message(foreign, place) {
+            Some(message) => dbms.give(alloc, disk, message),
+            None => alone(Ok(Answer::None)),
+        },
+        _ => alone(Ok(Answer::None)),
+    }
+}
+
+// What the site answers at a line of a script, and the number of what it sends, are what the line says; so many were sent before it. Gives
+// how many are sent then.
+fn answers_so(rt: &impl Abort, step: &SiteStep, line: &Line, sent: u32, text: &str) -> u32 {
+    assert!(rt; same(&step.answer, &line.answer), "{text}");
+    let place = line.sends.as_slice().first().map(|to| to.place);
+    if step.sends.is_none() {
+        assert!(rt; place.is_none(), "{text}");
+        return sent;
+    }
+    assert_eq!(rt; place, Some(sent), "{text}");
+    sent.saturating_add(1)
+}
+
+// The site carries a line of a script out, behind which so many messages are sent; says how many were sent then, unless the script ends
+// here: where a disk call fails, or where the site stops and the script says otherwise.
+fn play_line(
+    rt: &impl Abort,
+    alloc: Global,
+    dbms: &mut LocalDbms<AnyEngine>,
+    disk: &mut MemDisk,
+    foreign: Tx,
+    lines: u32,
+    sent: u32,
+    text: &str,
+) -> Result<Option<u32>, Fail>
+    requires few { lines ≤ 1000 }
+    requires stood { IsOfLines lines foreign dbms.old disk.old }
+    ensures { OnOk result (IsOfLines (lines + 2) foreign dbms.new disk.new) }
+{
+    let line = read_line(alloc, text.as_bytes())?;
+    let Ok(step) = asks(dbms, alloc, disk, foreign, lines, line.command) else {
+        return Ok(None);
+    };
+    if is_cut(&step.answer, &line.answer) {
+        return Ok(None);
+    }
+    Ok(Some(answers_so(rt, &step, &line, sent, text)))
+}
+
+// The site carries a script out: its lines are commands with their answers, and with the numbers of what is sent, counted from 0. Says
+// whether it came to the end.
+fn play(
+    rt: &impl Abort,
+    alloc: Global,
+    dbms: &mut LocalDbms<AnyEngine>,
+    disk: &mut MemDisk,
+    foreign: Tx,
+    start: u32,
+    script: &str,
+) -> Result<bool, Fail>
+    requires few { start ≤ 900 }
+    requires stood { IsOfLines start foreign dbms.old disk.old }
+    ensures { OnOk result (IsOfLines (start + 100) foreign dbms.new disk.new) }
+{
+    let mut sent: u32 = 0;
+    let mut lines = start;
+    for text in script.lines() {
+        if lines > start + 98 {
+            return Err(Fail::from("the script is too long"));
+        }
+        match play_line(rt, alloc, dbms, disk, foreign, lines, sent, text)? {
+            Some(more) => sent = more,
+            None => return Ok(false),
+        }
+        lines += 2;
+    }
+    Ok(true)
+}
+
+// A new site 1 with no rows and these local transactions, on this empty disk; one transaction isn't among them.
+fn site_of(
+    alloc: Global,
+    disk: &mut MemDisk,
+    engine: Engine,
+    protocol: Protocol,
+    foreign: Tx,
+    transactions: &[TxLine],
+) -> Result<LocalDbms<AnyEngine>, StepErr>
+    requires empty { mem_size disk.old ≡ 0 }
+    requires named { Each IsNamed transactions.now }
+    requires apart { IsApart foreign transactions.now }
+    ensures { IfOk result (λ dbms. IsOfLines 0 foreign dbms disk.new) }
+{
+    let items = Puts::of(Vec::new(alloc));
+    let line = SiteLine {
+        site: SITE,
+        engine,
+        protocol,
+    };
+    let local = AnyEngine::new(alloc, engine, &items)?;
+    LocalDbms::set_up(alloc, disk, line, items, local, transactions)
+}
+
+// The line of a local transaction of site 1.
+fn local_line(alloc: Global, tx: Tx, steps: &[Step]) -> Result<TxLine, Fail>
+    ensures { IfOk result (λ line. line.tx ≡ tx) }
+{
+    let program = Program::new(alloc, steps)?;
+    Ok(TxLine {
+        tx,
+        home: Some(SITE),
+        program,
+    })
+}
+
+// A new site 1 with the local transactions 1 and 2, on this empty disk; transaction 9 isn't its own.
+fn local_site(
+    alloc: Global,
+    disk: &mut MemDisk,
+    engine: Engine,
+    protocol: Protocol,
+    first: &[Step],
+    second: &[Step],
+) -> Result<LocalDbms<AnyEngine>, Fail>
+    requires { mem_size disk.old ≡ 0 }
+    ensures { IfOk result (λ dbms. IsOfLines 0 OTHER dbms disk.new) }
+{
+    let transactions = [
+        local_line(alloc, Tx(1), first)?,
+        local_line(alloc, Tx(2), second)?,
+    ];
+    let dbms = site_of(alloc, disk, engine, protocol, OTHER, &transactions)?;
+    Ok(dbms)
+}
+
+// A new site 1 with no local transaction, on this empty disk.
+fn global_site(
+    alloc: Global,
+    disk: &mut MemDisk,
+    engine: Engine,
+    protocol: Protocol,
+) -> Result<LocalDbms<AnyEngine>, StepErr>
+    requires { mem_size disk.old ≡ 0 }
+    ensures { IfOk result (λ dbms. IsOfLines 0 GLOBAL dbms disk.new) }
+{
+    site_of(alloc, disk, engine, protocol, GLOBAL, &[])
+}
+
+// A new site comes to the end of this script. Gives the length of its disk.
+fn plays(
+    rt: &impl Abort,
+    alloc: Global,
+    dbms: &mut LocalDbms<AnyEngine>,
+    disk: &mut MemDisk,
+    foreign: Tx,
+    script: &str,
+) -> Result<u64, Fail>
+    requires { IsOfLines 0 foreign dbms.old disk.old }
+{
+    assert!(rt; play(rt, alloc, dbms, disk, foreign, 0, script)?);
+    Ok(disk.len())
+}
+
+// Plays a script of messages about transaction 1 at a new site, to its end, and gives the length of its disk.
+fn plays_messages(
+    rt: &impl Abort,
+    alloc: Global,
+    engine: Engine,
+    protocol: Protocol,
+    script: &str,
+) -> Result<u64, Fail> {
+    let mut disk = MemDisk::new(alloc)?;
+    let mut dbms = global_site(alloc, &mut disk, engine, protocol)?;
+    plays(rt, alloc, &mut dbms, &mut disk, GLOBAL, script)
+}
+
+// Plays a script of the local transactions 1 and 2 at a new site, to its end, and gives the length of its disk.
+fn plays_locals(
+    rt: &impl Abort,
+    alloc: Global,
+    engine: Engine,
+    protocol: Protocol,
+    first: &[Step],
+    second: &[Step],
+    script: &str,
+) -> Result<u64, Fail> {
+    let mut disk = MemDisk::new(alloc)?;
+    let mut dbms = local_site(alloc, &mut disk, engine, protocol, first, second)?;
+    plays(rt, alloc, &mut dbms, &mut disk, OTHER, script)
+}
+
+#[test]
+fn old_messages_are_unknown_also_behind_a_stop(rt: HostRuntime) -> Result<(), Fail> {
+    let script = "give 1 0 => did 1.0 done sends 0
+give 1 1 => did 1.0 ticket 1 sends 1
+give 1 2 => votes 1.0 yes 1 sends 2
+give 1 3 => settles 1.0 commit sends 3
+give 1 0 => did 1.0 unknown sends 4
+give 1 2 => votes 1.0 no unknown sends 5
+give 1 3 => unheld 1.0 sends 6
+halt 1 0 => stopped kept 4
+back 1 => up epoch 2 doubtful 0
+give 1 0 => did 1.0 done sends 7
+give 1 1 => did 1.0 unknown sends 8
+give 1 2 => votes 1.0 no unknown sends 9";
+    let _kept = plays_messages(&rt, rt.alloc(), Engine::Locking, Protocol::Nothing, script)?;
+    Ok(())
+}
+
+#[test]
+fn a_prepared_one_is_in_doubt_behind_a_stop(rt: HostRuntime) -> Result<(), Fail> {
+    let script = "give 1 0 => did 1.0 done sends 0
+give 1 1 => did 1.0 ticket 1 sends 1
+give 1 2 => votes 1.0 yes 1 sends 2
+halt 1 0 => stopped kept 3
+back 1 => up epoch 2 doubtful 1
+ask 1 1.0 => asks 1.0 sends 3
+give 1 2 => votes 1.0 yes 1 sends 4
+give 1 4 => settles 1.0 abort";
+    for engine in [Engine::Timestamp, Engine::Locking] {
+        let _kept = plays_messages(&rt, rt.alloc(), engine, Protocol::Abort, script)?;
+    }
+    Ok(())
+}
+
+#[test]
+fn a_checkpoint_says_what_stood_before_it(rt: HostRuntime) -> Result<(), Fail> {
+    let script = "begin 1 => begun 1.0
+step 1 => wrote 5 7
+commit 1 => committed 1.0 number 2
+check 1 => checked
+halt 1 0 => stopped kept 1
+back 1 => up epoch 2 doubtful 0
+begin 1 => committed 1.0";
+    let kept = plays_locals(
+        &rt,
+        rt.alloc(),
+        Engine::Locking,
+        Protocol::Nothing,
+        &[SET_5_TO_7],
+        &[SET_5_TO_7],
+        script,
+    )?;
+    assert_eq!(rt; kept, 123);
+    Ok(())
+}
+
+#[test]
+fn a_checkpoint_that_a_stop_cuts_loses_nothing(rt: HostRuntime) -> Result<(), Fail> {
+    let torn = "begin 1 => begun 1.0
+step 1 => wrote 5 7
+commit 1 => committed 1.0 number 2
+trip 1 1 10 => set
+check 1 => stopped kept 3
+back 1 => up epoch 2 doubtful 0
+begin 1 => committed 1.0";
+    let untrimmed = "begin 1 => begun 1.0
+step 1 => wrote 5 7
+commit 1 => committed 1.0 number 2
+trip 1 2 0 => set
+check 1 => stopped kept 4
+back 1 => up epoch 2 doubtful 0
+begin 1 => committed 1.0";
+    for script in [torn, untrimmed] {
+        let _kept = plays_locals(
+            &rt,
+            rt.alloc(),
+            Engine::Locking,
+            Protocol::Nothing,
+            &[SET_5_TO_7],
+            &[SET_5_TO_7],
+            script,
+        )?;
+    }
+    Ok(())
+}
+
+#[test]
+fn a_commit_is_refused_by_validation(rt: HostRuntime) -> Result<(), Fail> {
+    let script = "begin 1 => begun 1.0
+begin 2 => begun 2.0
+step 1 => read 5 0
+step 2 => wrote 5 9
+commit 2 => committed 2.0 number 3
+step 1 => wrote 6 1
+commit 1 => invalid 2.0 5";
+    let _kept = plays_locals(
+        &rt,
+        rt.alloc(),
+        Engine::Validation,
+        Protocol::Abort,
+        &[GET_5, SET_6_TO_1],
+        &[SET_5_TO_9],
+        script,
+    )?;
+    Ok(())
+}
+
+#[test]
+fn a_commit_that_a_stop_cuts_is_kept_or_lost_whole(rt: HostRuntime) -> Result<(), Fail> {
+    let kept = "begin 1 => begun 1.0
+step 1 => wrote 5 1
+trip 1 1 65535 => set
+commit 1 => stopped kept 3
+begin 1 => down
+back 1 => up epoch 2 doubtful 0
+fate 1 => committed 1.0
+begin 1 => committed 1.0";
+    let lost = "begin 1 => begun 1.0
+step 1 => wrote 5 1
+trip 1 1 0 => set
+commit 1 => stopped kept 2
+back 1 => up epoch 2 doubtful 0
+fate 1 => aborted
+begin 1 => begun 1.1";
+    for script in [kept, lost] {
+        let _kept = plays_locals(
+            &rt,
+            rt.alloc(),
+            Engine::Locking,
+            Protocol::Abort,
+            &[SET_5_TO_1],
+            &[SET_5_TO_1],
+            script,
+        )?;
+    }
+    Ok(())
+}
+
+// The site has this row alone.
+fn has_row(
+    rt: &impl Abort,
+    alloc: Global,
+    dbms: &LocalDbms<AnyEngine>,
+    row: Put,
+) -> Result<(), Fail> {
+    let rows = dbms.core().rows(alloc)?;
+    assert!(rt; rows.as_slice() == [row].as_slice());
+    Ok(())
+}
+
+#[test]
+fn a_site_has_its_first_rows(rt: HostRuntime) -> Result<(), Fail> {
+    let alloc = rt.alloc();
+    let mut disk = MemDisk::new(alloc)?;
+    let row = Put {
+        key: Key(5),
+        value: 7,
+    };
+    let items = Puts::of(vec![in alloc; row]?);
+    let line = SiteLine {
+        site: SITE,
+        engine: Engine::Locking,
+        protocol: Protocol::Nothing,
+    };
+    let local = AnyEngine::new(alloc, Engine::Locking, &items)?;
+    let dbms = LocalDbms::set_up(alloc, &mut disk, line, items, local, &[])?;
+    has_row(&rt, alloc, &dbms, row)
+}
+
+// Whether the records leave the attempt 1.0 in doubt: it is prepared, also by a Checkpoint, and didn't end.
+fn is_doubtful(records: &[SiteRecord]) -> bool {
+    let mut doubtful = false;
+    for record in records {
+        match record {
+            SiteRecord::Prepared { .. } => doubtful = true,
+            SiteRecord::Ended { .. } => doubtful = false,
+            SiteRecord::Checkpoint(sum) => doubtful = !sum.doubtful.as_slice().is_empty(),
+            _ => {}
+        }
+    }
+    doubtful
+}
+
+// What a site that is down answers behind a start, as its records say: one in doubt votes yes again and settles, or there is none.
+fn rest_of(records: &[SiteRecord]) -> &'static str {
+    if is_doubtful(records) {
+        "back 1 => up epoch 2 doubtful 1
+give 1 2 => votes 1.0 yes 1 sends 0
+give 1 3 => settles 1.0 commit sends 1"
+    } else {
+        "back 1 => up epoch 2 doubtful 0
+give 1 2 => votes 1.0 no unknown sends 0
+give 1 3 => unheld 1.0 sends 1"
+    }
+}
+
+// A site that a fault stopped goes on as its records say, and none stands twice then.
+fn goes_on(
+    rt: &impl Abort,
+    alloc: Global,
+    dbms: &mut LocalDbms<AnyEngine>,
+    disk: &mut MemDisk,
+) -> Result<(), Fail>
+    requires { IsOfLines 100 GLOBAL dbms.old disk.old }
+{
+    assert!(rt; dbms.core().is_down());
+    let rest = rest_of(dbms.core().records());
+    assert!(rt; play(rt, alloc, dbms, disk, GLOBAL, 100, rest)?);
+    assert!(rt; !stand_twice(dbms.core().records()));
+    Ok(())
+}
+
+// A new site comes to the end of the script, or a fault stops it within it, and it goes on. Says whether it came to its end.
+fn ends_or_goes_on(
+    rt: &impl Abort,
+    alloc: Global,
+    dbms: &mut LocalDbms<AnyEngine>,
+    disk: &mut MemDisk,
+    script: &str,
+) -> Result<bool, Fail>
+    requires { IsOfLines 0 GLOBAL dbms.old disk.old }
+{
+    let ended = play(rt, alloc, dbms, disk, GLOBAL, 0, script)?;
+    if !ended {
+        goes_on(rt, alloc, dbms, disk)?;
+    }
+    Ok(ended)
+}
+
+// The same of a site on this empty disk, unless a fault stops its set-up.
+fn goes_on_behind_a_fault(
+    rt: &impl Abort,
+    alloc: Global,
+    disk: &mut MemDisk,
+    script: &str,
+) -> Result<bool, Fail>
+    requires { mem_size disk.old ≡ 0 }
+{
+    let Ok(mut dbms) = global_site(alloc, disk, Engine::Locking, Protocol::Nothing) else {
+        return Ok(false);
+    };
+    ends_or_goes_on(rt, alloc, &mut dbms, disk, script)
+}
+
+const FAULTY: &str = "give 1 5 => did 1.1 done sends 0
+drop 1 1.1 => dropped 1.1
+give 1 0 => did 1.0 done sends 1
+give 1 1 => did 1.0 ticket 1 sends 2
+check 1 => checked
+give 1 2 => votes 1.0 yes 1 sends 3
+ask 1 1.0 => asks 1.0 sends 4
+check 1 => checked
+give 1 3 => settles 1.0 commit sends 5
+check 1 => checked";
+
+#[test]
+fn each_disk_call_fails_once(rt: HostRuntime) -> Result<(), Fail> {
+    let alloc = rt.alloc();
+    for call in 1..100 {
+        let mut disk = MemDisk::failing(alloc, &[call])?;
+        if goes_on_behind_a_fault(&rt, alloc, &mut disk, FAULTY)? {
+            return Ok(());
+        }
+    }
+    Err(Fail::from("the script has no end"))
+}
+
+#[test]
+fn a_trip_stops_the_site_behind_each_disk_call(rt: HostRuntime) -> Result<(), Fail> {
+    let alloc = rt.alloc();
+    for calls in 1..100 {
+        for cut in [0, 65_535] {
+            let mut disk = MemDisk::new(alloc)?;
+            let script = format!(in alloc; "trip 1 {calls} {cut} => set\n{FAULTY}")?;
+            if goes_on_behind_a_fault(&rt, alloc, &mut disk, &script)? {
+                return Ok(());
+            }
+        }
+    }
+    Err(Fail::from("the script has no end"))
+}
