@@ -167,6 +167,40 @@ fn new_coordinator(alloc: Global, scenario: &Scenario) -> Result<GlobalManager<A
     }
 }
 
+/// What a world begins with beside its sites: who hears of a command, a channel and the marks of each site, and the coordinator.
+#[derive(Drop)]
+struct Beginning {
+    routes: Routes,
+    traffic: Vec<Traffic>,
+    marks: Vec<Marks>,
+    coordinator: GlobalManager<AnyPolicy>,
+}
+
+/// What the world of a scenario begins with, of which these are the sites.
+fn beginning_of(
+    alloc: Global,
+    scenario: &Scenario,
+    declared: &[SiteId],
+) -> Result<Beginning, Memory>
+    ensures routed { IfOk result (λ beginning. IsRouted beginning.routes scenario.now) }
+    ensures channels { IfOk result (λ beginning. length beginning.traffic.items ≡ length declared.now) }
+    ensures unsent { IfOk result (λ beginning. IsNewChannel declared.now beginning.traffic.items) }
+    ensures marks { IfOk result (λ beginning. length beginning.marks.items ≡ length declared.now) }
+    ensures unmarked { IfOk result (λ beginning. IsNewMarks declared.now beginning.marks.items) }
+    ensures manager { IfOk result (λ beginning. IsNewManager beginning.coordinator scenario.now) }
+{
+    let routes = routes_of(alloc, scenario)?;
+    let traffic = new_channels(alloc, declared)?;
+    let marks = new_marks(alloc, declared)?;
+    let coordinator = new_coordinator(alloc, scenario)?;
+    Ok(Beginning {
+        routes,
+        traffic,
+        marks,
+        coordinator,
+    })
+}
+
 impl World {
     /// The world of a scenario on nine empty disks: the coordinator's is disk 0, and a site's that of its number. The sites are set up by
     /// rising number. After a refusal those before the refused one are set up; on the disk of one whose disk call failed is what some stop
@@ -188,31 +222,30 @@ impl World {
         let Ok(declared) = declared_sites(alloc, &scenario) else {
             return Err(WorldErr::Memory);
         };
-        let Ok(routes) = routes_of(alloc, &scenario) else {
-            return Err(WorldErr::Memory);
-        };
-        let Ok(traffic) = new_channels(alloc, declared.as_slice()) else {
-            return Err(WorldErr::Memory);
-        };
-        let Ok(marks) = new_marks(alloc, declared.as_slice()) else {
-            return Err(WorldErr::Memory);
-        };
-        let Ok(coordinator) = new_coordinator(alloc, &scenario) else {
+        let Ok(beginning) = beginning_of(alloc, &scenario, declared.as_slice()) else {
             return Err(WorldErr::Memory);
         };
         match set_up_sites(alloc, &scenario, declared.as_slice(), disks) {
-            Ok(items) => Ok(World {
-                cores: Cores {
-                    scenario,
-                    coordinator,
-                    sites: SiteCores::of(items),
+            Ok(items) => {
+                let Beginning {
+                    routes,
+                    traffic,
                     marks,
-                },
-                routes,
-                traffic,
-                lines: Vec::new(alloc),
-                broken: false,
-            }),
+                    coordinator,
+                } = beginning;
+                Ok(World {
+                    cores: Cores {
+                        scenario,
+                        coordinator,
+                        sites: SiteCores::of(items),
+                        marks,
+                    },
+                    routes,
+                    traffic,
+                    lines: Vec::new(alloc),
+                    broken: false,
+                })
+            }
             Err(why) => Err(why),
         }
     }

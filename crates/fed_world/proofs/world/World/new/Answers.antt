@@ -23,47 +23,20 @@ returns-in_default-clause-cause g c = refl
 pub returns-in_default-clause-count : goal.returns-in_default-clause-count
 returns-in_default-clause-count g c = c.requires.nine
 
-pub returns-in_default-routes_of-clause-failed : goal.returns-in_default-routes_of-clause-failed
-returns-in_default-routes_of-clause-failed g c = stops_at_once g.D.Disk.tells (map g.D.Disk.seen c.args.disks.now.items) c.args.scenario c.requires.empty
+pub returns-in_default-beginning_of-clause-failed : goal.returns-in_default-beginning_of-clause-failed
+returns-in_default-beginning_of-clause-failed g c = stops_at_once g.D.Disk.tells (map g.D.Disk.seen c.args.disks.now.items) c.args.scenario c.requires.empty
 
-pub returns-in_default-routes_of-clause-cause : goal.returns-in_default-routes_of-clause-cause
-returns-in_default-routes_of-clause-cause g c = refl
+pub returns-in_default-beginning_of-clause-cause : goal.returns-in_default-beginning_of-clause-cause
+returns-in_default-beginning_of-clause-cause g c = refl
 
-pub returns-in_default-routes_of-clause-count : goal.returns-in_default-routes_of-clause-count
-returns-in_default-routes_of-clause-count g c = c.requires.nine
-
-pub returns-in_default-new_channels-clause-failed : goal.returns-in_default-new_channels-clause-failed
-returns-in_default-new_channels-clause-failed g c = stops_at_once g.D.Disk.tells (map g.D.Disk.seen c.args.disks.now.items) c.args.scenario c.requires.empty
-
-pub returns-in_default-new_channels-clause-cause : goal.returns-in_default-new_channels-clause-cause
-returns-in_default-new_channels-clause-cause g c = refl
-
-pub returns-in_default-new_channels-clause-count : goal.returns-in_default-new_channels-clause-count
-returns-in_default-new_channels-clause-count g c = c.requires.nine
-
-pub returns-in_default-new_marks-clause-failed : goal.returns-in_default-new_marks-clause-failed
-returns-in_default-new_marks-clause-failed g c = stops_at_once g.D.Disk.tells (map g.D.Disk.seen c.args.disks.now.items) c.args.scenario c.requires.empty
-
-pub returns-in_default-new_marks-clause-cause : goal.returns-in_default-new_marks-clause-cause
-returns-in_default-new_marks-clause-cause g c = refl
-
-pub returns-in_default-new_marks-clause-count : goal.returns-in_default-new_marks-clause-count
-returns-in_default-new_marks-clause-count g c = c.requires.nine
-
-pub returns-in_default-new_coordinator-clause-failed : goal.returns-in_default-new_coordinator-clause-failed
-returns-in_default-new_coordinator-clause-failed g c = stops_at_once g.D.Disk.tells (map g.D.Disk.seen c.args.disks.now.items) c.args.scenario c.requires.empty
-
-pub returns-in_default-new_coordinator-clause-cause : goal.returns-in_default-new_coordinator-clause-cause
-returns-in_default-new_coordinator-clause-cause g c = refl
-
-pub returns-in_default-new_coordinator-clause-count : goal.returns-in_default-new_coordinator-clause-count
-returns-in_default-new_coordinator-clause-count g c = c.requires.nine
+pub returns-in_default-beginning_of-clause-count : goal.returns-in_default-beginning_of-clause-count
+returns-in_default-beginning_of-clause-count g c = c.requires.nine
 
 pub set_up_sites-requires-clause-told : goal.set_up_sites-requires-clause-told
 set_up_sites-requires-clause-told g c = c.requires.told
 
 pub set_up_sites-requires-clause-declared : goal.set_up_sites-requires-clause-declared
-set_up_sites-requires-clause-declared g c = c.as_slice-3.ensures.value ∙ c.in-Ok.ensures.declared
+set_up_sites-requires-clause-declared g c = c.as_slice-2.ensures.value ∙ c.in-Ok.ensures.declared
 
 pub set_up_sites-requires-clause-nine : goal.set_up_sites-requires-clause-nine
 set_up_sites-requires-clause-nine g c = c.requires.nine
@@ -78,21 +51,22 @@ pub returns-in-Ok-set_up_sites-clause-stands : goal.returns-in-Ok-set_up_sites-c
 returns-in-Ok-set_up_sites-clause-stands g c =
     let scenario : Scenario = c.args.scenario in
     let disks = c.set_up_sites.new.disks.items in
-    let first : c.as_slice.result.now ≡ sites scenario = c.as_slice.ensures.value ∙ c.in-Ok.ensures.declared in
-    let second : c.as_slice-2.result.now ≡ sites scenario = c.as_slice-2.ensures.value ∙ c.in-Ok.ensures.declared in
+    let same : c.as_slice.result.now ≡ sites scenario = c.as_slice.ensures.value ∙ c.in-Ok.ensures.declared in
+    let beginning = c.in-Ok-beginning_of.beginning in
+    let begun = c.in-Ok-beginning_of.ensures in
     let world : World = record {
-      cores = record { scenario = c.args.scenario; coordinator = c.in-Ok-new_coordinator.coordinator; sites = c.of.result; marks = c.in-Ok-new_marks.marks };
-      routes = c.in-Ok-routes_of.routes;
-      traffic = c.in-Ok-new_channels.traffic;
+      cores = record { scenario = c.args.scenario; coordinator = beginning.coordinator; sites = c.of.result; marks = beginning.marks };
+      routes = beginning.routes;
+      traffic = beginning.traffic;
       lines = c.new.result;
       broken = false;
     } in
     new_stands g.D.Disk.tells world (map g.D.Disk.seen disks) scenario c.in-Ok.ensures.whole c.requires.told (length-map disks g.D.Disk.seen ∙ c.set_up_sites.ensures.count)
     (λ (seen : Seen) at. (let (disk, got, is) = made_of g.D.Disk.seen disks 0 seen at in subst (λ (s : Seen). TellsBytes s) is (record { bytes = g.met.D.Disk.told_size disk c.requires.told; sound = g.met.D.Disk.is_sound disk c.requires.told })))
-    refl c.new.ensures.items refl c.in-Ok-routes_of.ensures c.in-Ok-new_coordinator.ensures
+    refl c.new.ensures.items refl begun.routed begun.manager
     (subst (λ (ds : List (LocalDbms AnyEngine)). AreSetUp g.D.Disk.tells ds (map g.D.Disk.seen disks) scenario) (sym (ap (λ (v : Vec (LocalDbms AnyEngine)). v.items) c.of.ensures)) c.in-Ok-set_up_sites.ensures.stands)
-    (c.in-Ok-new_marks.ensures.count ∙ ap (λ (zs : List SiteId). length zs) second) (subst (λ (zs : List SiteId). IsNewMarks zs c.in-Ok-new_marks.marks.items) second c.in-Ok-new_marks.ensures.each)
-    (c.in-Ok-new_channels.ensures.count ∙ ap (λ (zs : List SiteId). length zs) first) (subst (λ (zs : List SiteId). IsNewChannel zs c.in-Ok-new_channels.traffic.items) first c.in-Ok-new_channels.ensures.each)
+    (begun.marks ∙ ap (λ (zs : List SiteId). length zs) same) (subst (λ (zs : List SiteId). IsNewMarks zs beginning.marks.items) same begun.unmarked)
+    (begun.channels ∙ ap (λ (zs : List SiteId). length zs) same) (subst (λ (zs : List SiteId). IsNewChannel zs beginning.traffic.items) same begun.unsent)
 
 pub returns-in-Ok-set_up_sites-clause-cause : goal.returns-in-Ok-set_up_sites-clause-cause
 returns-in-Ok-set_up_sites-clause-cause g c = c.in-Ok-set_up_sites.ensures.cause
