@@ -1,11 +1,12 @@
 //! Journals of site 2, with multiversion timestamps and presumed commit.
 ghost use Rattle.std.specs.Prelude.{◌≡◌};
 
-use fed_rules::{Doubt, DoubtfulSum, DoubtfulSums, SiteRecord, SiteSum};
+use fed_rules::{Doubt, DoubtfulSum, DoubtfulSums, Kept, SiteRecord, SiteSum};
 use journal_sums::{doubts_of, kept_of, read_sum};
 use mdb_base::{Engine, Key, Memory, Put, Puts, SiteId, Tid, Tids, Tx};
 use presumptions::{Decision, Protocol};
 use std::alloc::Global;
+use std::process::Abort;
 use std::test::Fail;
 
 // A record behind the set-up. Each Prepared record is of epoch 3.
@@ -107,82 +108,109 @@ fn sum_of(alloc: Global, steps: &[Step]) -> Result<SiteSum, Memory> {
     read_sum(alloc, records.as_slice())
 }
 
-#[test]
-fn the_records_of_a_site_give_its_checkpoint(rt: HostRuntime) -> Result<(), Fail> {
-    let sum = sum_of(
-        rt.alloc(),
-        &[
-            Step::Start(1),
-            Step::Prepare(attempt(7, 1), 3, 5, row(5, 7)),
-            Step::End(attempt(7, 1), Decision::Commit),
-            Step::Local(attempt(1, 1), 2, row(5, 2)),
-            Step::Local(attempt(1, 0), 1, row(5, 3)),
-            Step::Start(3),
-            Step::Prepare(attempt(2, 0), 4, 5, row(6, 9)),
-        ],
-    )?;
-    assert_eq!(rt;
-        (sum.site, sum.engine, sum.protocol),
-        (SiteId(2), Engine::Multiversion, Protocol::Commit)
-    );
+// One is in doubt, as the checkpoint says.
+fn expect_doubt(rt: &impl Abort, doubtful: &[DoubtfulSum]) {
+    let [held] = doubtful else {
+        panic!(rt; "one is in doubt");
+    };
+    assert_eq!(rt; (held.tid, held.epoch), (attempt(2, 0), 3));
+    assert_eq!(rt; (held.number, held.ticket), (4, 5));
+    assert_eq!(rt; held.writes.as_slice(), [row(6, 9)].as_slice());
+}
+
+// The Sum is the checkpoint.
+fn expect_checkpoint(rt: &impl Abort, sum: &SiteSum) {
+    assert_eq!(rt; (sum.site, sum.engine), (SiteId(2), Engine::Multiversion));
+    assert_eq!(rt; sum.protocol, Protocol::Commit);
     assert_eq!(rt; (sum.epoch, sum.counter, sum.published), (3, 4, 5));
     assert_eq!(rt; sum.owner, Some(attempt(7, 1)));
     assert_eq!(rt; sum.rows.as_slice(), [row(5, 7)].as_slice());
-    assert_eq!(rt;
-        sum.locals.as_slice(),
-        [attempt(1, 0), attempt(1, 1)].as_slice()
-    );
-    let [held] = sum.doubtful.as_slice() else {
-        return Err(Fail::from("one is in doubt"));
-    };
-    assert_eq!(rt;
-        (held.tid, held.epoch, held.number, held.ticket),
-        (attempt(2, 0), 3, 4, 5)
-    );
-    assert_eq!(rt; held.writes.as_slice(), [row(6, 9)].as_slice());
+    let locals = [attempt(1, 0), attempt(1, 1)];
+    assert_eq!(rt; sum.locals.as_slice(), locals.as_slice());
+    expect_doubt(rt, sum.doubtful.as_slice());
+}
+
+// The records before the checkpoint.
+fn records() -> [Step; 7] {
+    [
+        Step::Start(1),
+        Step::Prepare(attempt(7, 1), 3, 5, row(5, 7)),
+        Step::End(attempt(7, 1), Decision::Commit),
+        Step::Local(attempt(1, 1), 2, row(5, 2)),
+        Step::Local(attempt(1, 0), 1, row(5, 3)),
+        Step::Start(3),
+        Step::Prepare(attempt(2, 0), 4, 5, row(6, 9)),
+    ]
+}
+
+#[test]
+fn the_records_of_a_site_give_its_checkpoint(rt: HostRuntime) -> Result<(), Fail> {
+    let sum = sum_of(rt.alloc(), &records())?;
+    expect_checkpoint(&rt, &sum);
     Ok(())
+}
+
+// Records before and behind the checkpoint.
+fn beside_a_checkpoint() -> [Step; 7] {
+    [
+        Step::Local(attempt(3, 0), 9, row(1, 1)),
+        Step::Check,
+        Step::Start(4),
+        Step::End(attempt(2, 0), Decision::Commit),
+        Step::Local(attempt(1, 2), 6, row(5, 8)),
+        Step::Prepare(attempt(8, 0), 7, 6, row(6, 1)),
+        Step::End(attempt(8, 0), Decision::Abort),
+    ]
+}
+
+// The Sum of the checkpoint with the records behind it, and without those before.
+fn expect_later(rt: &impl Abort, sum: &SiteSum) {
+    assert_eq!(rt; (sum.epoch, sum.counter, sum.published), (4, 7, 6));
+    assert_eq!(rt; sum.owner, Some(attempt(8, 0)));
+    assert_eq!(rt; sum.rows.as_slice(), [row(5, 8), row(6, 9)].as_slice());
+    let locals = [attempt(1, 0), attempt(1, 1), attempt(1, 2)];
+    assert_eq!(rt; sum.locals.as_slice(), locals.as_slice());
+    assert!(rt; sum.doubtful.is_empty());
 }
 
 #[test]
 fn a_checkpoint_in_the_middle_stands_for_all_before_it(rt: HostRuntime) -> Result<(), Fail> {
-    let sum = sum_of(
-        rt.alloc(),
-        &[
-            Step::Local(attempt(3, 0), 9, row(1, 1)),
-            Step::Check,
-            Step::Start(4),
-            Step::End(attempt(2, 0), Decision::Commit),
-            Step::Local(attempt(1, 2), 6, row(5, 8)),
-            Step::Prepare(attempt(8, 0), 7, 6, row(6, 1)),
-            Step::End(attempt(8, 0), Decision::Abort),
-        ],
-    )?;
-    assert_eq!(rt; (sum.epoch, sum.counter, sum.published), (4, 7, 6));
-    assert_eq!(rt; sum.owner, Some(attempt(8, 0)));
-    assert_eq!(rt; sum.rows.as_slice(), [row(5, 8), row(6, 9)].as_slice());
-    assert_eq!(rt;
-        sum.locals.as_slice(),
-        [attempt(1, 0), attempt(1, 1), attempt(1, 2)].as_slice()
-    );
-    assert!(rt; sum.doubtful.is_empty());
+    let sum = sum_of(rt.alloc(), &beside_a_checkpoint())?;
+    expect_later(&rt, &sum);
     Ok(())
 }
 
-#[test]
-fn a_start_is_given_those_in_doubt(rt: HostRuntime) -> Result<(), Fail> {
-    let alloc = rt.alloc();
-    let doubtful = in_doubt(alloc)?;
+// What is told of the one in doubt at a start.
+fn expect_told(rt: &impl Abort, doubts: &[Doubt]) {
     let doubt = Doubt {
         tid: attempt(2, 0),
         epoch: 3,
         ticket: 5,
     };
-    assert_eq!(rt; doubts_of(alloc, &doubtful)?.as_slice(), [doubt].as_slice());
-    let kept = kept_of(alloc, doubtful)?;
-    let [kept] = kept.as_slice() else {
-        return Err(Fail::from("one is in doubt"));
+    assert_eq!(rt; doubts, [doubt].as_slice());
+}
+
+#[test]
+fn those_in_doubt_are_told_at_a_start(rt: HostRuntime) -> Result<(), Fail> {
+    let doubtful = in_doubt(rt.alloc())?;
+    let doubts = doubts_of(rt.alloc(), &doubtful)?;
+    expect_told(&rt, doubts.as_slice());
+    Ok(())
+}
+
+// What the engine starts from of the one in doubt.
+fn expect_kept(rt: &impl Abort, kept: &[Kept]) {
+    let [kept] = kept else {
+        panic!(rt; "one is in doubt");
     };
     assert_eq!(rt; (kept.tid, kept.number, kept.ticket), (attempt(2, 0), 4, 5));
     assert_eq!(rt; kept.writes.as_slice(), [row(6, 9)].as_slice());
+}
+
+#[test]
+fn a_start_is_given_those_in_doubt(rt: HostRuntime) -> Result<(), Fail> {
+    let doubtful = in_doubt(rt.alloc())?;
+    let kept = kept_of(rt.alloc(), doubtful)?;
+    expect_kept(&rt, kept.as_slice());
     Ok(())
 }
