@@ -8,6 +8,7 @@ use journal_sums::read_coord_sum;
 use mdb_base::{Memory, SiteId, SiteTicket, Tickets, Tid, Tx};
 use presumptions::{Participant, Participants, Protocol};
 use std::alloc::Global;
+use std::process::Abort;
 use std::test::Fail;
 
 const FIRST: Participant = Participant {
@@ -67,9 +68,8 @@ fn sum_of(alloc: Global, records: &[CoordRecord]) -> Result<CoordSum, Memory> {
     read_coord_sum(alloc, &protocols, records)
 }
 
-#[test]
-fn the_records_of_the_coordinator_give_its_checkpoint(rt: HostRuntime) -> Result<(), Fail> {
-    let alloc = rt.alloc();
+// 2.0 commits and is forgotten at once, 4.0 aborts and ends, and 1.1 commits and is open.
+fn records(alloc: Global) -> Result<Vec<CoordRecord>, Memory> {
     let both = Participants::of(vec![in alloc; FIRST, SECOND]?);
     let forgotten = CoordRecord::Initiation {
         tid: attempt(2, 0),
@@ -88,18 +88,28 @@ fn the_records_of_the_coordinator_give_its_checkpoint(rt: HostRuntime) -> Result
         tickets: Tickets::of(vec![in alloc; ticket(3, 7)]?),
     };
     let ends = CoordRecord::End { tid: attempt(4, 0) };
-    let records = vec![in alloc; forgotten, forgets, ended, commits, ends]?;
-    let sum = sum_of(alloc, records.as_slice())?;
+    Ok(vec![in alloc; forgotten, forgets, ended, commits, ends]?)
+}
+
+// One is open, and two are committed.
+fn expect_checkpoint(rt: &impl Abort, sum: &CoordSum) {
     let [open] = sum.open_attempts.as_slice() else {
-        return Err(Fail::from("one is open"));
+        panic!(rt; "one is open");
     };
     assert_eq!(rt; open.tid, attempt(1, 1));
     assert_eq!(rt; open.participants.as_slice(), [THIRD].as_slice());
     let [first, second] = sum.committed.as_slice() else {
-        return Err(Fail::from("two are committed"));
+        panic!(rt; "two are committed");
     };
     assert_eq!(rt; (first.tid, second.tid), (attempt(1, 1), attempt(2, 0)));
     assert_eq!(rt; first.tickets.as_slice(), [ticket(3, 7)].as_slice());
+}
+
+#[test]
+fn the_records_of_the_coordinator_give_its_checkpoint(rt: HostRuntime) -> Result<(), Fail> {
+    let records = records(rt.alloc())?;
+    let sum = sum_of(rt.alloc(), records.as_slice())?;
+    expect_checkpoint(&rt, &sum);
     Ok(())
 }
 

@@ -1,6 +1,7 @@
 //! Disks in memory, and frames on them.
 use journal_disk::{Disk, DiskErr, Failed, FrameErr, Frames, MemDisk, Version, append_frame};
 use std::alloc::Global;
+use std::process::Abort;
 use std::test::Fail;
 
 // Appends a piece with the room that it needs.
@@ -85,13 +86,8 @@ fn a_payload_of_65536_bytes_is_too_long(rt: HostRuntime) -> Result<(), Fail> {
     Ok(())
 }
 
-#[test]
-fn both_versions_are_read_and_a_torn_rest_is_no_frame(rt: HostRuntime) -> Result<(), Fail> {
-    let alloc = rt.alloc();
-    let mut disk = disk_with(alloc, &[0, 1, 9]).ok_or("no memory")?;
-    assert_eq!(rt; append(alloc, &mut disk, &FRAME), Some(Ok(())));
-    assert_eq!(rt; append(alloc, &mut disk, &FRAME[..42]), Some(Ok(())));
-    let frames = Frames::read(alloc, &mut disk).ok().ok_or("no memory")?;
+// A frame of each version, and nothing of what stands behind them.
+fn expect_both(rt: &impl Abort, frames: &Frames) {
     assert_eq!(rt; frames.whole(), 46);
     assert_eq!(rt; frames.len(), 2);
     if frames.len() == 2 {
@@ -100,6 +96,16 @@ fn both_versions_are_read_and_a_torn_rest_is_no_frame(rt: HostRuntime) -> Result
         assert_eq!(rt; frames.at(1), [4, 0, 0, 0, 1, 0, 1].as_slice());
         assert_eq!(rt; frames.version(1), Version::Second);
     }
+}
+
+#[test]
+fn both_versions_are_read_and_a_torn_rest_is_no_frame(rt: HostRuntime) -> Result<(), Fail> {
+    let alloc = rt.alloc();
+    let mut disk = disk_with(alloc, &[0, 1, 9]).ok_or("no memory")?;
+    assert_eq!(rt; append(alloc, &mut disk, &FRAME), Some(Ok(())));
+    assert_eq!(rt; append(alloc, &mut disk, &FRAME[..42]), Some(Ok(())));
+    let frames = Frames::read(alloc, &mut disk).ok().ok_or("no memory")?;
+    expect_both(&rt, &frames);
     Ok(())
 }
 
