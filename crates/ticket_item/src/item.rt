@@ -3,7 +3,7 @@ ghost use Rattle.std.specs.Prelude.{◌≡◌, ◌+◌, ◌^◌, ◌<◌, ◌≤
 ghost use Rattle.mdb_base.specs.Names.{same_tid};
 ghost use Rattle.ticket_item.specs.Item.{is_holder};
 
-use crate::holders::take_out;
+use crate::holders::{put_in, take_out};
 use mdb_base::{Memory, Tid};
 use std::alloc::Global;
 use std::marker::Model;
@@ -20,13 +20,13 @@ pub struct TicketItem {
 impl Model for TicketItem {
     ghost use Rattle.std.specs.Prelude.{◌-◌, vec_len};
     ghost use Rattle.std.specs.Vec.{vec_capacity};
-    ghost use Rattle.ticket_item.specs.Item.{Item, IsOnce};
+    ghost use Rattle.ticket_item.specs.Item.{Item, IsByTid};
 
     ghost Value = { Item };
 
     ghost view = { λ t. record { published = t.published; owner = t.owner; holders = t.holders.items; spare = vec_capacity t.holders - vec_len t.holders } };
 
-    ghost invariant = { λ t. IsOnce t.holders.items };
+    ghost invariant = { λ t. IsByTid t.holders.items };
 }
 
 impl TicketItem {
@@ -80,7 +80,7 @@ impl TicketItem {
         ensures published { self.new.published ≡ self.old.published }
         ensures owner { self.new.owner ≡ self.old.owner }
     {
-        self.holders.push_reserved(tid);
+        put_in(&mut self.holders, tid);
         self.published + 1
     }
 
@@ -107,7 +107,7 @@ impl TicketItem {
         ensures holders { (other : Tid) → is_holder self.new other ≡ (same_tid other tid || is_holder self.old other) }
         ensures room { self.new.spare + 1 ≡ self.old.spare }
     {
-        self.holders.push_reserved(tid);
+        put_in(&mut self.holders, tid);
         self.published = published;
         self.owner = owner;
     }

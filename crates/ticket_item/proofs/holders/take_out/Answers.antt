@@ -1,11 +1,11 @@
 use Rattle.std.proofs.Common.{cond, ap, ◌∙◌, ◌+◌, vec_len}
-use Rattle.ticket_item.proofs.Once.{is_among-at, is_among-remove, IsOnce-remove}
+use Rattle.ticket_item.proofs.ByTid.{is_among-at, is_among-remove, IsByTid-remove}
 use Rattle.ticket_item.proofs.holders.take_out.Goals as goal
 
-pub returns-in-Some-clause-once : goal.returns-in-Some-clause-once
-returns-in-Some-clause-once c =
+pub returns-in-Some-clause-order : goal.returns-in-Some-clause-order
+returns-in-Some-clause-order c =
     let at = rw c.deref.ensures.value at c.in-Some.ensures.found in
-    rw c.remove.ensures.items (IsOnce-remove c.args.tid _ _ c.requires at)
+    rw c.remove.ensures.items (IsByTid-remove c.args.tid _ _ c.requires at)
 
 pub returns-in-Some-clause-others : goal.returns-in-Some-clause-others
 returns-in-Some-clause-others c other =
