@@ -30,4 +30,3 @@ pub mod CoordHeard
 pub mod CoordTurning
 pub mod CoordEnding
 pub mod CoordViews
-pub mod CoordSessions

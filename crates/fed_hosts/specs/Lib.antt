@@ -15,4 +15,3 @@ pub mod CoordCarrying
 pub mod CoordViews
 pub mod CoordServing
 pub mod CoordHosts
-pub mod Sessions
