@@ -5,7 +5,7 @@ ghost use Rattle.fed_hosts.specs.Ports.{IsWritten};
 ghost use Rattle.fed_hosts.specs.CoordHosts.{CanOpenCoord, HasReturnedCoord, IsHeldCoord};
 ghost use Rattle.fed_hosts.specs.CoordViews.{HasCoordServed, HasCoordTurned};
 ghost use Rattle.fed_hosts.specs.declared.coord_asks.CoordCall.TheVariants as Asks;
-ghost use Rattle.client_drivers.specs.declared.doors.DoorErr.TheVariants as Err_is;
+ghost use Rattle.trace_lines.specs.declared.error.DoorErr.TheVariants as Err_is;
 
 use crate::coord_actor::CoordActor;
 use crate::coord_asks::CoordCall;

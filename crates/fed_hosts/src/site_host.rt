@@ -6,7 +6,7 @@ ghost use Rattle.host_laws.specs.Written.{FitsFromSite};
 ghost use Rattle.fed_hosts.specs.Hosts.{CanOpen, IsHeld, HasReturned};
 ghost use Rattle.fed_hosts.specs.Verbs.{command_of};
 ghost use Rattle.fed_hosts.specs.Views.{HasServed, HasTurned};
-ghost use Rattle.client_drivers.specs.declared.doors.DoorErr.TheVariants as Err_is;
+ghost use Rattle.trace_lines.specs.declared.error.DoorErr.TheVariants as Err_is;
 
 use crate::ends::HostEnds;
 use crate::gates::Gate;
