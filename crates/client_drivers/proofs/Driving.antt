@@ -5,7 +5,7 @@ use Rattle.std.proofs.lemmas.Bool.Decides.{leb_tells}
 use Rattle.mdb_base.proofs.Words.{cond-true, cond-false}
 use Rattle.fed_rules.specs.declared.answers.Answer.{Answer}
 use Rattle.fed_rules.specs.declared.commands.Command.{Command}
-use Rattle.client_drivers.specs.declared.doors.DoorErr.{DoorErr}
+use Rattle.trace_lines.specs.declared.error.DoorErr.{DoorErr}
 use Rattle.client_drivers.specs.declared.doors.Driven.{Driven}
 use Rattle.client_drivers.specs.Calls.{Called, Notes}
 use Rattle.client_drivers.specs.Table.{Turn, Makes, Ends, within}

@@ -5,16 +5,7 @@ ghost use Rattle.client_drivers.specs.Calls.{Called, Notes};
 
 use fed_rules::Answer;
 use mdb_base::{Tid, Tx};
-use thiserror::Error;
-
-/// Why a host carries nothing out.
-#[derive(Clone, Copy, Debug, PartialEq, Eq, Drop, Error)]
-pub enum DoorErr {
-    #[error("the disk failed")]
-    Disk,
-    #[error("no memory")]
-    Memory,
-}
+use trace_lines::DoorErr;
 
 /// What a client of a site calls.
 pub trait SiteDoor: Drop {

@@ -21,11 +21,12 @@ mod global;
 mod local;
 mod tape;
 
-pub use doors::{CoordDoor, DoorErr, Driven, SiteDoor};
+pub use doors::{CoordDoor, Driven, SiteDoor};
 pub use fed_rules::Answer;
 pub use global::drive_global;
 pub use local::drive_local;
 pub use tape::TapeDoor;
+pub use trace_lines::DoorErr;
 
 #[cfg(test)]
 mod tests;

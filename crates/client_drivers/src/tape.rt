@@ -4,10 +4,11 @@ ghost use Rattle.fed_rules.specs.declared.commands.Command.TheVariants as Call;
 ghost use Rattle.client_drivers.specs.Calls.{Notes};
 ghost use Rattle.client_drivers.specs.Tapes.{Gives, TapeTells};
 
-use crate::doors::{CoordDoor, DoorErr, SiteDoor};
+use crate::doors::{CoordDoor, SiteDoor};
 use fed_rules::{Answer, Command};
 use mdb_base::{Tid, Tx};
 use std::marker::Model;
+use trace_lines::DoorErr;
 
 /// A door of both kinds that gives the answers of a list, and then want of memory. It notes its calls.
 #[derive(Drop)]

@@ -1,8 +1,9 @@
 -- What is done to the items of a list one after another.
-use Rattle.std.proofs.Common.{◌≡◌, ℕ, ◌+◌, ◌<◌, ◌≤◌, ◌==◌, Bool, true, false, Option, Some, List, [], ◌∷◌, ◌++◌, length, map, slice_get, slice_set, suc, zero, refl, sym, ap, ap₂, ◌∙◌, subst, eqb-true, eq-eqb, arith}
+use Rattle.std.proofs.Common.{◌≡◌, ℕ, ◌+◌, ◌<◌, ◌≤◌, ◌==◌, Bool, true, false, Some, List, [], ◌∷◌, length, map, slice_get, slice_set, suc, zero, refl, sym, ap, ap₂, ◌∙◌, subst, eqb-true, eq-eqb, arith}
 use Rattle.std.proofs.lemmas.Option.{slice_get_within}
 use Rattle.session_routes.proofs.Posts.{get_other, get_put, length_set}
 use Rattle.fed_hosts.specs.Ports.{EachBecomes}
+use Rattle.fed_hosts.proofs.Words.{length_map}
 
 pub some_same : {A : Type 0} (a b : A) → Some a ≡ Some b → a ≡ b
 some_same a b e = cc
@@ -95,3 +96,18 @@ becomes_map {A} {B} R f old new same h = from old new h.count (λ place a b ea e
   from (x ∷ xs) [] count each = absurd (omega (arith, count))
   from (x ∷ xs) (y ∷ ys) count each =
       ap₂ (λ (b : B) (bs : List B). b ∷ bs) (each 0 x y refl refl) (from xs ys (omega (arith, count)) (λ place a b ea eb. each (suc place) a b ea eb))
+
+-- the item that one was made of
+pub map_get : {A B : Type 0} (f : A → B) (xs : List A) (place : ℕ) (y : B) → slice_get (map f xs) place ≡ Some y → (x : A) × (slice_get xs place ≡ Some x) × (f x ≡ y)
+map_get f [] place y at = cc
+map_get {A} {B} f (x ∷ xs) zero y at = (x, refl, cc)
+map_get f (x ∷ xs) (suc place) y at = map_get f xs place y at
+
+-- so it is with what is made of each item
+pub becomes_mapped : {A B : Type 0} (f : A → B) (R : ℕ → B → B → Type 0) (old new : List A) → EachBecomes (λ place a b. R place (f a) (f b)) old new → EachBecomes R (map f old) (map f new)
+becomes_mapped {A} {B} f R old new h = record {
+  count = length_map f new ∙ h.count ∙ sym (length_map f old);
+  each = λ place x y was is. from place x y (map_get f old place x was) (map_get f new place y is);
+} where
+  from : (place : ℕ) (x y : B) → (a : A) × (slice_get old place ≡ Some a) × (f a ≡ x) → (b : A) × (slice_get new place ≡ Some b) × (f b ≡ y) → R place x y
+  from place x y (a, was, first) (b, is, second) = subst (λ (z : B). R place z y) first (subst (λ (z : B). R place (f a) z) second (h.each place a b was is))

@@ -1,8 +1,8 @@
 -- What stays of the coordinator's host where room alone changed, or what a step leaves alone.
-use Rattle.std.proofs.Common.{◌≡◌, ◌<◌, ℕ, Bool, Some, List, length, slice_get, slice_set, refl, sym, ap, ◌∙◌, subst}
+use Rattle.std.proofs.Common.{◌≡◌, ◌<◌, ℕ, Bool, Some, List, length, slice_get, slice_set, refl, sym, ap, ap₂, ◌∙◌, subst}
 use Rattle.std.specs.Global.{Vec}
 use Rattle.mdb_base.specs.declared.names.SiteId.{SiteId}
-use Rattle.fed_rules.specs.declared.messages.ToSite.{ToSite}
+use Rattle.fed_rules.specs.declared.commands.Stamped.{Stamped}
 use Rattle.fed_messages.specs.declared.Packet.{Packet}
 use Rattle.global_manager.specs.declared.manager.GlobalManager.{GlobalManager}
 use Rattle.scripted_link.specs.declared.inlet.Inlet.{Inlet}
@@ -10,7 +10,7 @@ use Rattle.scripted_link.specs.Inlets.{empty_count, taken}
 use Rattle.scripted_link.specs.Outlets.{offered}
 use Rattle.fed_hosts.specs.declared.coord_actor.CoordActor.{CoordActor}
 use Rattle.fed_hosts.specs.declared.ports.Port.{Port}
-use Rattle.fed_hosts.specs.CoordKeeps.{HaveHeard, IsCoordKept, IsCoordLogged, IsPortLogged}
+use Rattle.fed_hosts.specs.CoordKeeps.{HaveHeard, IsCoordKept, IsPortLogged}
 use Rattle.host_laws.specs.CoordHearing.{HasHeardFrom}
 use Rattle.host_laws.specs.CoordPlans.{CoordPlan}
 use Rattle.fed_hosts.specs.CoordRooms.{IsSameCoord}
@@ -77,6 +77,13 @@ tooks_beside old new beside = becomes_map (λ place a b. IsBesidePort a b) (λ (
 pub empties_beside : (old new : List Port) → AreBesidePorts old new → empties_of new ≡ empties_of old
 empties_beside old new beside = becomes_map (λ place a b. IsBesidePort a b) (λ (port : Port). empty_count port.ends.inlet) old new (λ place a b is. ap (λ (i : Inlet). empty_count i) is.inlet) beside
 
+-- all of a view
+pub coord_view_from : (a b : CoordView) → a.lines ≡ b.lines → a.tooks ≡ b.tooks → a.empties ≡ b.empties → a.first ≡ b.first → a.failed ≡ b.failed → a ≡ b
+coord_view_from a b lines tooks empties first failed =
+    ap₂ (λ (ls : List Stamped) (ps : List (List Packet)). let view : CoordView = record { lines = ls; tooks = ps; empties = a.empties; first = a.first; failed = a.failed } in view) lines tooks
+    ∙ ap₂ (λ (ns : List ℕ) (n : ℕ). let view : CoordView = record { lines = b.lines; tooks = b.tooks; empties = ns; first = n; failed = a.failed } in view) empties first
+    ∙ ap (λ (f : Bool). let view : CoordView = record { lines = b.lines; tooks = b.tooks; empties = b.empties; first = b.first; failed = f } in view) failed
+
 module _ {P D : Type 0} (old new : CoordActor P D) (same : IsSameCoord old new) where
   pub coord_kept_same : (plan : CoordPlan) (turns : List CoordTurn) → IsCoordKept plan turns old → IsCoordKept plan turns new
   coord_kept_same plan turns k =
@@ -98,12 +105,10 @@ module _ {P D : Type 0} (old new : CoordActor P D) (same : IsSameCoord old new) 
         settled = k.settled;
       }
 
-  pub coord_view_same : (failed : Bool) → coord_view_of new failed ≡ coord_view_of old failed
-  coord_view_same failed =
+  pub coord_view_same : new.first ≡ old.first → (failed : Bool) → coord_view_of new failed ≡ coord_view_of old failed
+  coord_view_same first failed =
       let beside = same_beside old.ports.items new.ports.items same.ports in
-      ap (λ ls. let view : CoordView = record { lines = ls; tooks = tooks_of new.ports.items; empties = empties_of new.ports.items; failed = failed } in view) same.lines
-      ∙ ap (λ (ps : List (List Packet)). let view : CoordView = record { lines = old.lines.items; tooks = ps; empties = empties_of new.ports.items; failed = failed } in view) (tooks_beside old.ports.items new.ports.items beside)
-      ∙ ap (λ (ns : List ℕ). let view : CoordView = record { lines = old.lines.items; tooks = tooks_of old.ports.items; empties = ns; failed = failed } in view) (empties_beside old.ports.items new.ports.items beside)
+      coord_view_from (coord_view_of new failed) (coord_view_of old failed) same.lines (tooks_beside old.ports.items new.ports.items beside) (empties_beside old.ports.items new.ports.items beside) first refl
 
 -- the lines stay what they are whatever the ports become that have sent the same
 pub coord_kept_ports : {P D : Type 0} (old : CoordActor P D) (ports : Vec Port) (plan : CoordPlan) (turns : List CoordTurn) → EachBecomes (λ place a b. HasSentSame a b) old.ports.items ports.items → IsCoordKept plan turns old

@@ -1,7 +1,6 @@
 -- What a call of the coordinator's host leaves.
-use Rattle.std.proofs.Common.{Err, ◌≡◌, ℕ, suc, ◌≤◌, ◌<◌, ◌⊎◌, inl, inr, Bool, true, false, cond, Option, Some, None, List, [], ◌∷◌, ◌++◌, length, refl, sym, ap, ◌∙◌, subst, arith}
+use Rattle.std.proofs.Common.{Err, ◌≡◌, ℕ, ◌<◌, Bool, true, false, cond, Option, None, List, [], ◌∷◌, ◌++◌, length, refl, sym, ap, ◌∙◌, subst, arith}
 use Rattle.mdb_base.specs.declared.names.SiteId.{SiteId}
-use Rattle.mdb_base.specs.declared.names.Tx.{Tx}
 use Rattle.mdb_base.specs.Counts.{HasCauseOf}
 use Rattle.mdb_base.specs.Names.{same_site}
 use Rattle.mdb_base.specs.Words.{with_some}
@@ -14,7 +13,6 @@ use Rattle.fed_rules.specs.declared.messages.FromSite.{FromSite}
 use Rattle.fed_rules.specs.Policies.{Policy}
 use Rattle.fed_rules.specs.Requests.{Request, Submits, Declines}
 use Rattle.fed_messages.specs.declared.Envelope.{Envelope}
-use Rattle.fed_messages.specs.declared.Packet.{Packet}
 use Rattle.journal_disk.specs.Disk.{Seen}
 use Rattle.actor_store.specs.declared.errors.StepErr.{StepErr}
 use Rattle.actor_store.specs.declared.errors.StepErr.TheVariants as Err_is
@@ -34,13 +32,12 @@ use Rattle.host_laws.specs.CoordTurns.{CoordTurn, coord_behind, coord_past_of, c
 use Rattle.fed_hosts.specs.CoordViews.{CoordView, coord_view_of}
 use Rattle.fed_hosts.specs.Keeps.{IsCounting}
 use Rattle.host_laws.specs.Plans.{most_lines}
-use Rattle.fed_hosts.specs.Ports.{empties_of, tooks_of}
 use Rattle.fed_hosts.specs.Serving.{has_failed}
 use Rattle.host_laws.specs.Turns.{is_trip}
 use Rattle.fed_hosts.specs.Views.{Adds}
 use Rattle.fed_hosts.proofs.CoordAdding.{ports_planned}
 use Rattle.fed_hosts.proofs.CoordArmed.{coord_as_many}
-use Rattle.fed_hosts.proofs.CoordSame.{coord_kept_for, coord_kept_same, coord_view_same, empties_beside, heard_beside, same_beside, tooks_beside}
+use Rattle.fed_hosts.proofs.CoordSame.{coord_kept_for, coord_kept_same, coord_view_from, coord_view_same, empties_beside, heard_beside, same_beside, tooks_beside}
 use Rattle.fed_hosts.proofs.Faults.{counting}
 use Rattle.fed_hosts.proofs.Served.{adds}
 
@@ -70,6 +67,11 @@ CoordCarries test tells seen old new told =
     (rings : List Wire) (plan : CoordPlan) (turns : List CoordTurn) (took : Option (Envelope FromSite)) → IsCoordKept plan turns old → length turns < most_lines → IsCoordTold plan turns told took → is_trip told.command ≡ false
     → IsCoordPlanned rings plan old.ports.items → Stands test tells old.manager seen plan.terms plan.programs (coord_past_of plan (coord_turn_of old told took ∷ turns))
     → HasCoordArmed test tells seen plan (coord_turn_of old told took ∷ turns) (old.lines.items ++ (coord_turn_of old told took).line ∷ []) new
+
+-- what is seen of the host beside its lines
+pub coord_view_beside : {P D : Type 0} (old new : CoordActor P D) → IsBesideCoordLines old new → coord_view_of new false ≡ record (coord_view_of old false) { lines = new.lines.items }
+coord_view_beside old new beside =
+    coord_view_from (coord_view_of new false) (record (coord_view_of old false) { lines = new.lines.items }) refl (tooks_beside old.ports.items new.ports.items beside.ports) (empties_beside old.ports.items new.ports.items beside.ports) beside.first refl
 
 module _ {P D : Type 0} (test : P → Policy) (tells : Bool) (seen : D → Seen) (plan : CoordPlan) (rings : List Wire) where
   abbrev pub coord_keeps_for_same : (failed : Bool) (ports : List Port) (old new : CoordActor P D) → IsSameCoord old new → CoordKeepsFor test tells seen plan rings failed ports old → CoordKeepsFor test tells seen plan rings failed ports new
@@ -146,15 +148,13 @@ module _ {P D : Type 0} (test : P → Policy) (tells : Bool) (seen : D → Seen)
       let h = carries rings plan turns took (coord_kept_for old manager disk plan turns kept) (omega (arith, count, few)) is untripped planned stood in
       record {
         keeps = keeps_armed turn turns mid new (old.lines.items ++ turn.line ∷ []) planned h beside heard faults;
-        view = ap (λ (ps : List (List Packet)). let view : CoordView = record { lines = new.lines.items; tooks = ps; empties = empties_of new.ports.items; failed = false } in view) (tooks_beside old.ports.items new.ports.items beside.ports)
-            ∙ ap (λ (ns : List ℕ). let view : CoordView = record { lines = new.lines.items; tooks = tooks_of old.ports.items; empties = ns; failed = false } in view) (empties_beside old.ports.items new.ports.items beside.ports);
+        view = coord_view_beside mid new beside;
         adds = adds old.lines.items new.lines.items turn.line told.command told.answer h.arming h.is_arming refl refl h.lines;
       }
 
   -- seen from before room was made
-  pub coord_line_view : (old ready new : CoordActor P D) (told : CoordTold) → IsSameCoord old ready → HasCoordLine ready new told → coord_view_of new false ≡ record (coord_view_of old false) { lines = new.lines.items }
-  coord_line_view old ready new told same h =
-      h.view ∙ ap (λ (v : CoordView). let view : CoordView = record { lines = new.lines.items; tooks = v.tooks; empties = v.empties; failed = v.failed } in view) (coord_view_same old ready same false)
+  pub coord_line_view : (old ready new : CoordActor P D) (told : CoordTold) → IsSameCoord old ready → ready.first ≡ old.first → HasCoordLine ready new told → coord_view_of new false ≡ record (coord_view_of old false) { lines = new.lines.items }
+  coord_line_view old ready new told same first h = h.view ∙ ap (λ (v : CoordView). record v { lines = new.lines.items }) (coord_view_same old ready same first false)
 
   pub coord_line_adds : (old ready new : CoordActor P D) (told : CoordTold) (command : Command) (answer : Answer) → IsSameCoord old ready → HasCoordLine ready new told → told.command ≡ command → told.answer ≡ answer
       → Adds old.lines.items new.lines.items command answer

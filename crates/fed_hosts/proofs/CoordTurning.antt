@@ -4,21 +4,18 @@ use Rattle.std.specs.Global.{Vec}
 use Rattle.std.specs.Prelude.{option_to_list}
 use Rattle.std.specs.Vec.{vec_capacity, vec_len}
 use Rattle.mdb_base.specs.declared.names.SiteId.{SiteId}
-use Rattle.mdb_base.specs.declared.names.Tx.{Tx}
 use Rattle.mdb_base.specs.Names.{same_site}
 use Rattle.mdb_base.specs.Words.{some_of}
 use Rattle.presumptions.specs.declared.Participant.{Participant}
-use Rattle.fed_rules.specs.declared.answers.Answer.{Answer}
-use Rattle.fed_rules.specs.declared.commands.Command.{Command}
 use Rattle.fed_rules.specs.declared.commands.Command.TheVariants as Cmd
 use Rattle.fed_rules.specs.declared.commands.Place.{Place}
+use Rattle.fed_rules.specs.declared.commands.Stamped.{Stamped}
 use Rattle.fed_rules.specs.declared.events.CoordEvent.{CoordEvent}
 use Rattle.fed_rules.specs.declared.events.CoordEvent.TheVariants as Ev
 use Rattle.fed_rules.specs.declared.events.CoordStep.{CoordStep}
 use Rattle.fed_rules.specs.declared.messages.FromSite.{FromSite}
-use Rattle.fed_rules.specs.declared.messages.Sent.{Sent}
 use Rattle.fed_rules.specs.declared.messages.ToSite.{ToSite}
-use Rattle.fed_rules.specs.CoordPast.{CoordPast, attempts_of}
+use Rattle.fed_rules.specs.CoordPast.{attempts_of}
 use Rattle.fed_rules.specs.Policies.{Policy}
 use Rattle.fed_rules.specs.Requests.{Request, Submits}
 use Rattle.fed_rules.specs.Right.{MayPrint}
@@ -27,9 +24,9 @@ use Rattle.fed_messages.specs.declared.Envelope.{Envelope}
 use Rattle.fed_messages.specs.declared.Packet.{Packet}
 use Rattle.global_exec.specs.Pasts.{IsAmong}
 use Rattle.journal_disk.specs.Disk.{Seen}
-use Rattle.coord_core.specs.Terms.{Terms, line_of}
+use Rattle.coord_core.specs.Terms.{line_of}
 use Rattle.global_manager.specs.declared.manager.GlobalManager.{GlobalManager}
-use Rattle.global_manager.specs.Stands.{AsksNothing, HasSite, Sends, Serves, SomeManaged, Stands}
+use Rattle.global_manager.specs.Stands.{AsksNothing, Sends, SomeManaged, Stands}
 use Rattle.scripted_link.specs.declared.inlet.Inlet.{Inlet}
 use Rattle.scripted_link.specs.Inlets.{inlet_ring, taken}
 use Rattle.scripted_link.specs.declared.outlet.Outlet.{Outlet}
@@ -41,25 +38,25 @@ use Rattle.fed_hosts.specs.declared.ports.Port.{Port}
 use Rattle.fed_hosts.specs.declared.rounds.Arrived.{Arrived}
 use Rattle.fed_hosts.specs.CoordCarrying.{IsBesideCoordLines, IsCoordTold, coord_turn_of}
 use Rattle.host_laws.specs.CoordHearing.{BearsFrom, IsReadFrom}
-use Rattle.host_laws.specs.CoordHistory.{IsCoordCommand, IsTaken}
+use Rattle.host_laws.specs.CoordHistory.{IsCoordCommand}
 use Rattle.fed_hosts.specs.CoordKeeps.{CoordKeeps, CoordKeepsFor, IsCoordKept, IsCoordPlanned}
 use Rattle.host_laws.specs.CoordPlans.{CoordPlan}
 use Rattle.fed_hosts.specs.CoordRooms.{HasCoordRoom, IsCoordReady}
 use Rattle.fed_hosts.specs.CoordServing.{HoldsFrom}
+use Rattle.fed_hosts.specs.CoordTurns.{TakesFrom}
 use Rattle.host_laws.specs.CoordTurns.{CoordTurn, MayAnswer, coord_behind, coord_past_of, coord_request, coord_sends}
 use Rattle.host_laws.specs.Plans.{most_lines}
 use Rattle.host_laws.specs.Lines.{stamp_of}
 use Rattle.fed_hosts.specs.Ports.{EachBecomes, HaveFewSent, HasPortRoom, HavePortRoom}
 use Rattle.fed_hosts.specs.Rounds.{ArePolled, ArePutBack, IsBesideInlet, IsPolled, IsPutBack, arrived_at}
-use Rattle.fed_hosts.proofs.Changes.{became, becomes_into, changed_one, some_same}
+use Rattle.fed_hosts.proofs.Changes.{became, becomes_into, changed_one, item_there, some_same}
 use Rattle.fed_hosts.proofs.CoordAdding.{KeepsRings, rings_planned}
 use Rattle.fed_hosts.proofs.CoordAsked.{begins_printed, submit_counts}
 use Rattle.fed_hosts.proofs.CoordHeard.{heard_aside, heard_back, heard_none, heard_taken}
-use Rattle.fed_hosts.proofs.CoordOwn.{line_goes, line_heard}
-use Rattle.fed_hosts.proofs.CoordSame.{HasSentSame, coord_kept_ports, same_ports}
-use Rattle.fed_hosts.proofs.CoordServed.{CoordCarries, HasCoordLine, coord_keeps_for_same, coord_line_carried, heard_alone}
+use Rattle.fed_hosts.proofs.CoordOwn.{line_goes}
+use Rattle.fed_hosts.proofs.CoordSame.{HasSentSame, coord_kept_ports}
+use Rattle.fed_hosts.proofs.CoordServed.{CoordCarries, HasCoordLine, coord_line_carried, heard_alone}
 use Rattle.fed_hosts.proofs.Polled.{arrived_elsewhere, arrived_here, beside_inlet, with_inlet}
-use Rattle.fed_hosts.proofs.Words.{each_at}
 
 -- an event that begins no attempt
 abbrev pub GoesNot : CoordEvent → Type 0
@@ -140,6 +137,13 @@ port_among rings plan ports place port planned at =
     let p = planned.each place port at in
     some_at port.ends.site plan.terms.protocols place p.member p.at p.site
 
+-- a packet that is left aside makes no line
+pub leaves_aside : (rings : List Wire) (plan : CoordPlan) (ports : List Port) (arrived : Arrived) (lines : List Stamped) → IsCoordPlanned rings plan ports → arrived.place < length ports → IsReadFrom arrived.packet None
+    → TakesFrom plan arrived.place arrived.packet lines lines false
+leaves_aside rings plan ports arrived lines planned within none = from (item_there ports arrived.place within) where
+  from : (port : Port) × (slice_get ports arrived.place ≡ Some port) → TakesFrom plan arrived.place arrived.packet lines lines false
+  from (port, at) = let p = planned.each arrived.place port at in record { member = p.member; at = p.at; bears = None; read = none; taken = record { lines = refl; says = refl } }
+
 beside_inlets : (old new : List Port) → EachBecomes (λ place a b. IsBesideInlet a b) old new → EachBecomes (λ place a b. KeepsRings a b) old new
 beside_inlets old new beside = becomes_into (λ place a b. IsBesideInlet a b) (λ place a b. KeepsRings a b) old new (λ place a b is. record { site = is.site; ring = is.ring; wire = ap (λ (o : Outlet). outlet_wire o) is.outlet }) beside
 
@@ -212,16 +216,6 @@ module _ {P D : Type 0} (test : P → Policy) (tells : Bool) (seen : D → Seen)
   back_keeps failed arrived before actor ports polled back k =
       let kept = keeps_inlets failed before actor ports (becomes_into (λ place a b. IsPutBack (arrived_at (Some arrived) place) a b) (λ place a b. IsBesideInlet a b) actor.ports.items ports.items (λ place a b is. is.beside) back) k in
       record { turns = k.turns; planned = kept.planned; kept = kept.kept; heard = heard_back k.turns arrived before actor.ports.items ports.items polled back k.heard; standing = k.standing; faults = k.faults }
-
-  -- the host holds it whatever else of it changes that isn't kept
-  abbrev pub holds_same : (arrived : Arrived) (old new : CoordActor P D) → new ≡ record old { first = new.first } → HoldsFrom test tells seen plan rings arrived old → HoldsFrom test tells seen plan rings arrived new
-  holds_same arrived old new same h = subst (λ (actor : CoordActor P D). HoldsFrom test tells seen plan rings arrived actor) (sym same)
-      (record {
-        before = h.before;
-        polled = h.polled;
-        keeps = coord_keeps_for_same test tells seen plan rings false h.before old (record old { first = new.first })
-            (record { manager = refl; disk = refl; ports = same_ports old.ports.items; stops = refl; armed = refl; lines = refl; last = refl }) h.keeps;
-      })
 
   module _ (old : CoordActor P D) (manager : GlobalManager P) (disk : D) (new : CoordActor P D) (few : length old.lines.items < most_lines) (faults : (seen disk).faults ≡ (seen old.disk).faults)
       (beside : IsBesideCoordLines (record old { manager = manager; disk = disk }) new) where

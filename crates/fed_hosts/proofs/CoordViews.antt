@@ -1,16 +1,13 @@
 -- What is seen of a turn of the coordinator's host, from what is seen of its parts.
-use Rattle.std.proofs.Common.{◌≡◌, ℕ, zero, suc, ◌+◌, ◌-◌, ◌^◌, ◌<◌, ◌≤◌, min, inl, inr, arith, Bool, true, false, Option, Some, None, Result, Ok, Err, IfOk, IfErr, List, [], ◌∷◌, ◌++◌, length, map, slice_get, refl, sym, ap, ap₂, ◌∙◌, subst}
+use Rattle.std.proofs.Common.{◌≡◌, ◌==◌, ℕ, ◌+◌, Bool, true, false, cond, Some, None, List, [], ◌∷◌, ◌++◌, length, slice_get, append-nil, refl, sym, ap, ◌∙◌, subst, arith}
+use Rattle.std.specs.Global.{Vec}
 use Rattle.std.specs.Prelude.{option_to_list}
 use Rattle.std.proofs.lemmas.Option.{slice_get_within}
 use Rattle.mdb_base.specs.declared.names.SiteId.{SiteId}
 use Rattle.presumptions.specs.declared.Participant.{Participant}
-use Rattle.fed_rules.specs.declared.commands.Stamped.{Stamped}
-use Rattle.fed_rules.specs.Happenings.{is_down}
 use Rattle.fed_rules.specs.Policies.{Policy}
 use Rattle.fed_messages.specs.declared.Packet.{Packet}
 use Rattle.journal_disk.specs.Disk.{Seen}
-use Rattle.actor_store.specs.declared.errors.StepErr.{StepErr}
-use Rattle.scripted_link.specs.declared.inlet.Inlet.{Inlet}
 use Rattle.scripted_link.specs.Inlets.{empty_count, taken}
 use Rattle.scripted_link.specs.Rings.{Wire}
 use Rattle.fed_hosts.specs.declared.coord_actor.CoordActor.{CoordActor}
@@ -19,112 +16,86 @@ use Rattle.fed_hosts.specs.declared.rounds.Arrived.{Arrived}
 use Rattle.host_laws.specs.CoordHearing.{HasHeardFrom}
 use Rattle.fed_hosts.specs.CoordKeeps.{CoordKeeps}
 use Rattle.host_laws.specs.CoordPlans.{CoordPlan}
-use Rattle.host_laws.specs.CoordTurns.{coord_past_of, took_from}
-use Rattle.fed_hosts.specs.CoordViews.{CoordView, HasCoordMade, HasCoordTurned, HasTakenOne, HaveRisen, IsCoordIdle, IsCoordSeen, IsCoordTurn, IsCoordUp, coord_view_of}
-use Rattle.fed_hosts.specs.Ports.{AreSamePorts, empties_of, tooks_of}
+use Rattle.fed_hosts.specs.CoordRooms.{IsSameCoord}
+use Rattle.fed_hosts.specs.CoordTurns.{HavePassed, HaveTaken, HearsFrom, HearsNothing, TakesFrom}
+use Rattle.host_laws.specs.CoordTurns.{took_from}
+use Rattle.fed_hosts.specs.CoordViews.{CoordView, IsCoordSeen, coord_view_of}
+use Rattle.fed_hosts.specs.Ports.{AreSamePorts, EachBecomes, empties_of, tooks_of}
 use Rattle.fed_hosts.specs.Rounds.{ArePolled, ArePutBack, HaveGivenNone, IsPolled, arrived_at}
-use Rattle.fed_hosts.specs.Views.{Adds, IsCounted}
-use Rattle.fed_hosts.proofs.Changes.{became, becomes_map, item_there, some_same}
+use Rattle.fed_hosts.specs.Turns.{IsCounted}
+use Rattle.fed_hosts.proofs.Changes.{becomes_into, becomes_map, becomes_mapped, map_get, some_same}
 use Rattle.fed_hosts.proofs.CoordHeard.{HasReturned, all_returned}
-use Rattle.fed_hosts.proofs.CoordSame.{same_beside, tooks_beside}
-use Rattle.fed_hosts.proofs.Polled.{arrived_here}
+use Rattle.fed_hosts.proofs.CoordSame.{coord_view_from, same_beside, tooks_beside}
 use Rattle.fed_hosts.proofs.Views.{counted_once}
 use Rattle.fed_hosts.proofs.Words.{length_map}
 
-turned_more : (plan : CoordPlan) (old mid new : CoordView) (made : Bool) → mid.lines ≡ old.lines → HasCoordMade mid new made → IsCoordIdle plan old new → HasCoordTurned plan old new made
-turned_more plan old mid new true lines turn idle = record {
-  command = turn.command;
-  answer = turn.answer;
-  of_turn = turn.of_turn;
-  adds = subst (λ (ls : List Stamped). Adds ls new.lines turn.command turn.answer) lines turn.adds;
-}
-turned_more plan old mid new false lines same idle = (same ∙ lines, idle)
-
--- a part of a turn makes the turn, where it says why no line was made
-pub ok_coord_turned : {X : Type 0} (plan : CoordPlan) (r : Result Bool StepErr) (old mid new : CoordView) → mid.lines ≡ old.lines → IfOk r (HasCoordMade mid new) → IfOk r (λ made. X) → (X → IsCoordIdle plan old new)
-    → IfOk r (HasCoordTurned plan old new)
-ok_coord_turned plan (Ok made) old mid new lines turn x idle = turned_more plan old mid new made lines turn (idle x)
-ok_coord_turned plan (Err why) old mid new lines turn x idle = tt
-
-made_only : (plan : CoordPlan) (old mid new : CoordView) (made : Bool) → mid.lines ≡ old.lines → HasCoordMade mid new made → made ≡ true → HasCoordTurned plan old new made
-made_only plan old mid new true lines turn is = record {
-  command = turn.command;
-  answer = turn.answer;
-  of_turn = turn.of_turn;
-  adds = subst (λ (ls : List Stamped). Adds ls new.lines turn.command turn.answer) lines turn.adds;
-}
-made_only plan old mid new false lines turn is = cc
-
--- where a turn made a line in any case, nothing is to be said of why it made none
-pub ok_coord_turn : (plan : CoordPlan) (r : Result Bool StepErr) (old mid new : CoordView) → mid.lines ≡ old.lines → IfOk r (HasCoordMade mid new) → IfOk r (λ made. made ≡ true) → IfOk r (HasCoordTurned plan old new)
-ok_coord_turn plan (Ok made) old mid new lines turn is = made_only plan old mid new made lines turn is
-ok_coord_turn plan (Err why) old mid new lines turn is = tt
-
 -- only the counts of the inlets changed
-pub coord_counted : (old new : CoordView) → new.lines ≡ old.lines → new.tooks ≡ old.tooks → new.failed ≡ old.failed → new ≡ record old { empties = new.empties }
-coord_counted old new lines tooks failed =
-    ap₂ (λ (ls : List Stamped) (ps : List (List Packet)). let view : CoordView = record { lines = ls; tooks = ps; empties = new.empties; failed = new.failed } in view) lines tooks
-    ∙ ap (λ (b : Bool). let view : CoordView = record { lines = old.lines; tooks = old.tooks; empties = new.empties; failed = b } in view) failed
+pub coord_same_but : (a b : CoordView) → a ≡ b → a ≡ record b { empties = a.empties }
+coord_same_but a b same =
+    coord_view_from a (record b { empties = a.empties }) (ap (λ (v : CoordView). v.lines) same) (ap (λ (v : CoordView). v.tooks) same) refl (ap (λ (v : CoordView). v.first) same) (ap (λ (v : CoordView). v.failed) same)
 
-pub err_coord_counted : (r : Result Bool StepErr) (old new : CoordView) → new.failed ≡ old.failed → IfErr r (λ why. new.lines ≡ old.lines) → IfErr r (λ why. new.tooks ≡ old.tooks) → IfErr r (λ why. new ≡ record old { empties = new.empties })
-err_coord_counted (Ok made) old new failed lines tooks = tt
-err_coord_counted (Err why) old new failed lines tooks = coord_counted old new lines tooks failed
-
-get_map : {A B : Type 0} (f : A → B) (xs : List A) (place : ℕ) (x : A) → slice_get xs place ≡ Some x → slice_get (map f xs) place ≡ Some (f x)
-get_map f [] place x at = cc
-get_map {A} {B} f (y ∷ xs) zero x at = ap (λ (o : Option A). map_it o) at where
-  map_it : Option A → Option B
-  map_it None = None
-  map_it (Some z) = Some (f z)
-get_map f (y ∷ xs) (suc place) x at = get_map f xs place x at
-
-map_get : {A B : Type 0} (f : A → B) (xs : List A) (place : ℕ) (y : B) → slice_get (map f xs) place ≡ Some y → (x : A) × (slice_get xs place ≡ Some x) × (f x ≡ y)
-map_get f [] place y at = cc
-map_get {A} {B} f (x ∷ xs) zero y at = (x, refl, cc)
-map_get f (x ∷ xs) (suc place) y at = map_get f xs place y at
-
--- once round, each inlet counts that it gave none
-pub round_risen : (old ready mid : List Port) → AreSamePorts old ready → HaveGivenNone 0 (length ready) ready mid → HaveRisen (empties_of old) (empties_of mid)
-round_risen old ready mid same given place before after was is =
-    let f : Port → ℕ = λ (port : Port). empty_count port.ends.inlet in
-    from (map_get f old place before was) (map_get f mid place after is)
-  where
-    from : (a : Port) × (slice_get old place ≡ Some a) × (empty_count a.ends.inlet ≡ before) → (c : Port) × (slice_get mid place ≡ Some c) × (empty_count c.ends.inlet ≡ after) → IsCounted before after
-    from (a, at_old, is_before) (c, at_mid, is_after) =
-        let within : place < length ready = let less = slice_get_within old place a at_old in let count = same.count in omega (arith, less, count) in
-        by_ready (item_there ready place within)
-      where
-        by_ready : (b : Port) × (slice_get ready place ≡ Some b) → IsCounted before after
-        by_ready (b, at_ready) =
-            let within = slice_get_within ready place b at_ready in
-            let kept = ap (λ (i : Inlet). empty_count i) (same.each place a b at_old at_ready).inlet in
-            subst (λ (n : ℕ). IsCounted n after) is_before
-            (subst (λ (n : ℕ). IsCounted (empty_count a.ends.inlet) n) is_after
-            (counted_once (empty_count a.ends.inlet) (empty_count b.ends.inlet) (empty_count c.ends.inlet) kept (given.asked place b c (omega arith) within at_ready at_mid)))
+took_once : (test : Bool) (before : List Packet) (packet : Packet) → before ++ option_to_list (cond test (Some packet) None) ≡ cond test (before ++ packet ∷ []) before
+took_once true before packet = refl
+took_once false before packet = append-nil before
 
 -- one packet was taken
-pub taken_one : (old ready mid : List Port) (arrived : Arrived) → AreSamePorts old ready → ArePolled (Some arrived) ready mid → arrived.place < length mid → (tooks : List (List Packet)) → tooks ≡ tooks_of mid → HasTakenOne (tooks_of old) tooks
-taken_one old ready mid arrived same polled within tooks are = from (item_there mid arrived.place within) where
-  f : Port → List Packet
-  f port = taken port.ends.inlet
+pub taken_one : (old new : List Port) (arrived : Arrived) → ArePolled (Some arrived) old new → HaveTaken arrived.place arrived.packet (tooks_of old) (tooks_of new)
+taken_one old new arrived polled =
+    becomes_mapped (λ (port : Port). taken port.ends.inlet) (λ other before after. after ≡ cond (other == arrived.place) (before ++ arrived.packet ∷ []) before) old new
+    (becomes_into (λ place a b. IsPolled (arrived_at (Some arrived) place) a b) (λ place a b. taken b.ends.inlet ≡ cond (place == arrived.place) (taken a.ends.inlet ++ arrived.packet ∷ []) (taken a.ends.inlet)) old new
+    (λ place a b is. is.took ∙ took_once (place == arrived.place) (taken a.ends.inlet) arrived.packet) polled)
 
-  by_ready : (c : Port) → slice_get mid arrived.place ≡ Some c → (b : Port) × (slice_get ready arrived.place ≡ Some b) × IsPolled (arrived_at (Some arrived) arrived.place) b c → HasTakenOne (tooks_of old) tooks
-  by_ready c at_mid (b, at_ready, is) = record {
-    place = arrived.place;
-    packet = arrived.packet;
-    before = taken b.ends.inlet;
-    was = ap (λ (ps : List (List Packet)). slice_get ps arrived.place) (sym (tooks_beside old ready (same_beside old ready same))) ∙ get_map f ready arrived.place b at_ready;
-    is = ap (λ (ps : List (List Packet)). slice_get ps arrived.place) are ∙ get_map f mid arrived.place c at_mid
-        ∙ ap (λ (ps : List Packet). Some ps) (is.took ∙ ap (λ (o : Option Packet). taken b.ends.inlet ++ option_to_list o) (arrived_here arrived));
-  }
+-- what is seen where a packet was heard, from before room was made
+pub hears_from : (plan : CoordPlan) (ports place next : ℕ) (packet : Packet) (old ready heard : CoordView) (tooks : List (List Packet)) (empties : List ℕ) (made : Bool) → ready ≡ old
+    → heard ≡ record ready { lines = heard.lines; tooks = tooks; empties = empties } → ports ≡ length plan.terms.protocols → TakesFrom plan place packet ready.lines heard.lines made → HaveTaken place packet ready.tooks tooks
+    → HavePassed ports ready.first place ready.empties empties → next ≡ place + 1 → HearsFrom plan old (record heard { first = next }) made
+hears_from plan ports place next packet old ready heard tooks empties made same beside count takes took passed behind =
+    subst (λ (v : CoordView). HearsFrom plan v (record heard { first = next }) made) same
+    (record {
+      place = place;
+      packet = packet;
+      takes = takes;
+      took = subst (λ (ps : List (List Packet)). HaveTaken place packet ready.tooks ps) (sym (ap (λ (v : CoordView). v.tooks) beside)) took;
+      passed = subst (λ (n : ℕ). HavePassed n ready.first place ready.empties heard.empties) count
+          (subst (λ (ns : List ℕ). HavePassed ports ready.first place ready.empties ns) (sym (ap (λ (v : CoordView). v.empties) beside)) passed);
+      first = behind;
+      failed = ap (λ (v : CoordView). v.failed) beside;
+    })
 
-  from : (c : Port) × (slice_get mid arrived.place ≡ Some c) → HasTakenOne (tooks_of old) tooks
-  from (c, at_mid) = by_ready c at_mid (became (λ place a b. IsPolled (arrived_at (Some arrived) place) a b) ready mid polled arrived.place c at_mid)
+-- once round, each inlet counts that it gave none
+round_counted : (old new : List Port) → length new ≡ length old → HaveGivenNone 0 (length old) old new → EachBecomes (λ place before after. IsCounted before after) (empties_of old) (empties_of new)
+round_counted old new count given =
+    becomes_mapped (λ (port : Port). empty_count port.ends.inlet) (λ place before after. IsCounted before after) old new (record {
+      count = count;
+      each = λ place a b was is. counted_once (empty_count a.ends.inlet) (empty_count a.ends.inlet) (empty_count b.ends.inlet) refl (given.asked place a b (omega arith) (slice_get_within old place a was) was is);
+    })
+
+-- none gave a packet
+pub tooks_none : (old new : List Port) → ArePolled None old new → tooks_of new ≡ tooks_of old
+tooks_none old new polled = becomes_map (λ place a b. IsPolled (arrived_at None place) a b) (λ (port : Port). taken port.ends.inlet) old new (λ place a b is. is.took ∙ append-nil _) polled
+
+-- what is seen where nothing was heard, from before room was made
+pub hears_nothing : {P D : Type 0} (old : CoordView) (ready : CoordActor P D) (ports : Vec Port) → coord_view_of ready false ≡ old → ArePolled None ready.ports.items ports.items
+    → HaveGivenNone 0 (length ready.ports.items) ready.ports.items ports.items → HearsNothing old (coord_view_of (record ready { ports = ports }) false) false
+hears_nothing old ready ports same polled given =
+    subst (λ (v : CoordView). HearsNothing v (coord_view_of (record ready { ports = ports }) false) false) same
+    (record {
+      none = record { lines = refl; says = refl };
+      counted = round_counted ready.ports.items ports.items polled.count given;
+      others = coord_view_from (coord_view_of (record ready { ports = ports }) false) (record (coord_view_of ready false) { empties = empties_of ports.items }) refl (tooks_none ready.ports.items ports.items polled) refl refl refl;
+    })
 
 -- where it was put back, all packets that were taken are those from before
-pub tooks_back : (old ready mid new : List Port) (arrived : Arrived) → AreSamePorts old ready → ArePolled (Some arrived) ready mid → ArePutBack arrived mid new → tooks_of new ≡ tooks_of old
+tooks_back : (old ready mid new : List Port) (arrived : Arrived) → AreSamePorts old ready → ArePolled (Some arrived) ready mid → ArePutBack arrived mid new → tooks_of new ≡ tooks_of old
 tooks_back old ready mid new arrived same polled back =
     becomes_map (λ place a c. HasReturned a c) (λ (port : Port). taken port.ends.inlet) ready new (λ place a c is. is.took) (all_returned arrived ready mid new polled back) ∙ tooks_beside old ready (same_beside old ready same)
+
+-- what is seen then, from before room was made
+pub put_back_from : {P D : Type 0} (old ready new : CoordActor P D) (mid : List Port) (arrived : Arrived) → IsSameCoord old ready → ready.first ≡ old.first → ArePolled (Some arrived) ready.ports.items mid
+    → new.lines.items ≡ ready.lines.items → ArePutBack arrived mid new.ports.items → new.first ≡ ready.first → coord_view_of new false ≡ record (coord_view_of old false) { empties = empties_of new.ports.items }
+put_back_from old ready new mid arrived same begin polled lines back first =
+    coord_view_from (coord_view_of new false) (record (coord_view_of old false) { empties = empties_of new.ports.items }) (lines ∙ same.lines)
+    (tooks_back old.ports.items ready.ports.items mid new.ports.items arrived same.ports polled back) refl (first ∙ begin) refl
 
 module _ {P D : Type 0} (test : P → Policy) (tells : Bool) (seen : D → Seen) (plan : CoordPlan) (rings : List Wire) where
   -- what is seen of the host is of the lines that it keeps
@@ -133,6 +104,7 @@ module _ {P D : Type 0} (test : P → Policy) (tells : Bool) (seen : D → Seen)
     right = k.kept.logged.right;
     lines = k.kept.logged.lines;
     count = length_map (λ (port : Port). taken port.ends.inlet) actor.ports.items ∙ k.planned.count;
+    counts = length_map (λ (port : Port). empty_count port.ends.inlet) actor.ports.items ∙ k.planned.count;
     heard = λ place member took at_member at_took. from place member took at_member (map_get (λ (port : Port). taken port.ends.inlet) actor.ports.items place took at_took);
   } where
     from : (place : ℕ) (member : Participant) (took : List Packet) → slice_get plan.terms.protocols place ≡ Some member
@@ -143,7 +115,3 @@ module _ {P D : Type 0} (test : P → Policy) (tells : Bool) (seen : D → Seen)
         let site : port.ends.site ≡ member.site = p.site ∙ ap (λ (m : Participant). m.site) same in
         subst (λ (ps : List Packet). HasHeardFrom ps (took_from member.site k.turns)) is
         (subst (λ (s : SiteId). HasHeardFrom (taken port.ends.inlet) (took_from s k.turns)) site (k.heard place port at_port))
-
-  -- and a coordinator that isn't down is up
-  pub coord_keeps_up : (actor : CoordActor P D) (k : CoordKeeps test tells seen plan rings false actor) (down : Bool) → down ≡ is_down (coord_past_of plan k.turns) → down ≡ false → IsCoordUp plan (coord_view_of actor false)
-  coord_keeps_up actor k down is up = record { turns = k.turns; seen = coord_keeps_seen false false actor k; up = sym is ∙ up }

@@ -16,12 +16,14 @@ pub mod Turning
 pub mod Ending
 pub mod Views
 pub mod Changes
+pub mod Doubts
 pub mod PortPlaces
 pub mod Polled
 pub mod CoordTrips
 pub mod CoordAdding
 pub mod CoordArmed
 pub mod CoordSame
+pub mod CoordPassed
 pub mod CoordCarried
 pub mod CoordServed
 pub mod CoordOwn

@@ -1,13 +1,11 @@
 -- What a line that was carried leaves of all that a site's host keeps.
-use Rattle.std.proofs.Common.{◌≡◌, suc, ◌≤◌, ◌<◌, ◌^◌, Bool, false, Option, List, [], ◌∷◌, ◌++◌, length, refl, sym, ap, ◌∙◌, subst, arith}
-use Rattle.mdb_base.specs.declared.names.SiteId.{SiteId}
+use Rattle.std.proofs.Common.{◌≡◌, suc, ◌≤◌, ◌<◌, ◌^◌, Bool, false, Option, List, [], ◌∷◌, ◌++◌, length, refl, ap, ◌∙◌, subst, arith}
 use Rattle.mdb_base.specs.Words.{Each, found, with_some}
 use Rattle.fed_rules.specs.declared.answers.Answer.{Answer}
 use Rattle.fed_rules.specs.declared.commands.Command.{Command}
 use Rattle.fed_rules.specs.declared.commands.Stamped.{Stamped}
 use Rattle.fed_rules.specs.declared.events.SiteEvent.{SiteEvent}
 use Rattle.fed_rules.specs.declared.messages.ToSite.{ToSite}
-use Rattle.fed_rules.specs.Happenings.{is_down}
 use Rattle.fed_rules.specs.Requests.{Request, Submits, Declines}
 use Rattle.fed_rules.specs.Runs.{Start, EngineLine}
 use Rattle.fed_rules.specs.SiteCommands.{past_behind}
@@ -29,10 +27,11 @@ use Rattle.fed_hosts.specs.Keeps.{IsKept, IsPlanned, IsStop, Keeps, KeepsFor}
 use Rattle.host_laws.specs.Plans.{SitePlan, most_lines}
 use Rattle.fed_hosts.specs.Rooms.{IsSame}
 use Rattle.host_laws.specs.Turns.{SiteTurn, is_trip, past_of, request_at, request_of}
-use Rattle.fed_hosts.specs.Views.{Adds, IsSeen, IsUp, SiteView, view_of}
+use Rattle.fed_hosts.specs.Views.{Adds, IsSeen, SiteView, view_of}
 use Rattle.fed_hosts.proofs.Armed.{as_many}
 use Rattle.fed_hosts.proofs.Same.{view_same}
 use Rattle.fed_hosts.proofs.Served.{adds, keeps_armed, kept_beside}
+use Rattle.fed_hosts.proofs.Views.{view_from}
 
 behind_short : (home : Home) (past : SitePast) (r : Request SiteEvent) → length (past_behind home past r) ≤ suc (length past)
 behind_short home past (Submits event) = omega arith
@@ -52,6 +51,11 @@ Carries stands tells seen old new told =
     (plan : SitePlan) (turns : List SiteTurn) (took : Option (Envelope ToSite)) → IsKept plan turns old → length turns < most_lines → IsTold plan turns told took → is_trip told.command ≡ false
     → Each (IsStop plan.home.site.0) plan.stops → old.ends.site ≡ plan.home.site → Stands stands tells old.dbms seen plan.home plan.programs (past_of plan (turn_of old told took ∷ turns))
     → HasArmed stands tells seen plan (turn_of old told took ∷ turns) (old.lines.items ++ (turn_of old told took).line ∷ []) new
+
+-- what is seen of the host beside its lines
+pub view_beside : {E D : Type 0} (old new : SiteActor E D) → IsBesideLines old new → view_of new false ≡ record (view_of old false) { lines = new.lines.items }
+view_beside old new beside =
+    view_from (view_of new false) (record (view_of old false) { lines = new.lines.items }) beside.site refl (ap (λ (i : Inlet). taken i) beside.inlet) (ap (λ (i : Inlet). empty_count i) beside.inlet) beside.idle refl
 
 module _ {E D : Type 0} (stands : E → Start → List EngineLine → Type 0) (tells : Bool) (seen : D → Seen) (sites : List SitePlan) (rings : List Wire) where
   -- so the past is short enough
@@ -73,20 +77,11 @@ module _ {E D : Type 0} (stands : E → Start → List EngineLine → Type 0) (t
   abbrev pub keeps_seen : (failed shown : Bool) (actor : SiteActor E D) (k : Keeps stands tells seen sites rings failed actor) → IsSeen sites k.plan k.turns (view_of actor shown)
   keeps_seen failed shown actor k = record { place = k.planned.place; at = k.planned.at; site = k.planned.site; right = k.kept.logged.right; lines = k.kept.logged.lines; heard = k.heard }
 
-  -- and a site that isn't down is up
-  pub keeps_up : (actor : SiteActor E D) (k : Keeps stands tells seen sites rings false actor) (down : Bool) → down ≡ is_down (past_of k.plan k.turns) → down ≡ false → IsUp sites (view_of actor false)
-  keeps_up actor k down is up = record { plan = k.plan; turns = k.turns; seen = keeps_seen false false actor k; up = sym is ∙ up }
-
   -- what a line leaves
   pub record HasLine (old new : SiteActor E D) (told : Told) : Type 0 where
     pub keeps : Keeps stands tells seen sites rings false new
     pub view : view_of new false ≡ record (view_of old false) { lines = new.lines.items }
     pub adds : Adds old.lines.items new.lines.items told.command told.answer
-
-  view_beside : (old new : SiteActor E D) → IsBesideLines old new → view_of new false ≡ record (view_of old false) { lines = new.lines.items }
-  view_beside old new beside =
-      ap (λ (s : SiteId). let view : SiteView = record { site = s; lines = new.lines.items; took = taken new.ends.inlet; empties = empty_count new.ends.inlet; failed = false } in view) beside.site
-      ∙ ap (λ (i : Inlet). let view : SiteView = record { site = old.ends.site; lines = new.lines.items; took = taken i; empties = empty_count i; failed = false } in view) beside.inlet
 
   pub line_carried : (old : SiteActor E D) (dbms : LocalDbms E) (disk : D) (new : SiteActor E D) (plan : SitePlan) (turns : List SiteTurn) (told : Told) (took : Option (Envelope ToSite)) (packets : List Packet)
       → IsPlanned sites rings plan old.ends → IsKept plan turns old → length old.lines.items < most_lines → IsTold plan turns told took → is_trip told.command ≡ false
@@ -106,8 +101,8 @@ module _ {E D : Type 0} (stands : E → Start → List EngineLine → Type 0) (t
       }
 
   -- seen from before room was made
-  pub line_view : (old ready new : SiteActor E D) (told : Told) → IsSame old ready → HasLine ready new told → view_of new false ≡ record (view_of old false) { lines = new.lines.items }
-  line_view old ready new told same h = h.view ∙ ap (λ (v : SiteView). let view : SiteView = record { site = v.site; lines = new.lines.items; took = v.took; empties = v.empties; failed = v.failed } in view) (view_same old ready same false)
+  pub line_view : (old ready new : SiteActor E D) (told : Told) → IsSame old ready → ready.idle ≡ old.idle → HasLine ready new told → view_of new false ≡ record (view_of old false) { lines = new.lines.items }
+  line_view old ready new told same idle h = h.view ∙ ap (λ (v : SiteView). record v { lines = new.lines.items }) (view_same old ready same idle false)
 
   pub line_adds : (old ready new : SiteActor E D) (told : Told) (command : Command) (answer : Answer) → IsSame old ready → HasLine ready new told → told.command ≡ command → told.answer ≡ answer
       → Adds old.lines.items new.lines.items command answer

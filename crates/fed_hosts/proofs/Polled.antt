@@ -1,5 +1,5 @@
 -- What a round of the coordinator's inlets leaves of the ports.
-use Rattle.std.proofs.Common.{◌≡◌, ℕ, ◌+◌, ◌-◌, ◌^◌, ◌<◌, ◌≤◌, ◌==◌, ◌⊎◌, inl, inr, min, Bool, true, false, cond, Option, Some, None, List, [], ◌∷◌, ◌++◌, length, map, slice_get, slice_set, append-nil, eq-eqb, refl, sym, ap, ◌∙◌, subst, arith}
+use Rattle.std.proofs.Common.{◌≡◌, ℕ, ◌+◌, ◌-◌, ◌^◌, ◌<◌, ◌≤◌, ◌⊎◌, inl, inr, min, Bool, cond, Option, Some, None, List, [], ◌∷◌, ◌++◌, length, slice_get, slice_set, append-nil, eq-eqb, refl, sym, ap, ◌∙◌, subst, arith}
 use Rattle.std.specs.Prelude.{option_to_list, IfNone}
 use Rattle.std.proofs.lemmas.Bool.{cases_lt, ne_eqb}
 use Rattle.fed_messages.specs.declared.Packet.{Packet}
@@ -8,7 +8,7 @@ use Rattle.scripted_link.specs.declared.inlet.Inlet.{Inlet}
 use Rattle.scripted_link.specs.Inlets.{empty_count, inlet_ring, returned, taken}
 use Rattle.fed_hosts.specs.declared.ports.Port.{Port}
 use Rattle.fed_hosts.specs.declared.rounds.Arrived.{Arrived}
-use Rattle.fed_hosts.specs.Rounds.{ArePolled, HasArrived, HaveGivenNone, IsBesideInlet, IsPolled, arrived_at}
+use Rattle.fed_hosts.specs.Rounds.{ArePolled, HaveGivenNone, IsBesideInlet, IsPolled, arrived_at}
 use Rattle.fed_hosts.proofs.Changes.{became, becomes_self, becomes_through, changed_one, some_same}
 
 -- the port with this inlet
@@ -106,6 +106,23 @@ given_next from place old now before inlet h low within at counted = record {
   out_of : (p : ℕ) → (p < from) ⊎ (place + 1 ≤ p) → p ≡ place → ⊥
   out_of p (inl less) e = omega (arith, less, e, low)
   out_of p (inr most) e = omega (arith, most, e)
+
+-- the inlet at the place behind them gave a packet, and counts nothing
+pub given_before : (from place : ℕ) (old now : List Port) (before : Port) (inlet : Inlet) → HaveGivenNone from place old now → from ≤ place → place < length now → slice_get now place ≡ Some before
+    → empty_count inlet ≡ empty_count before.ends.inlet → HaveGivenNone from place old (slice_set now place (with_inlet before inlet))
+given_before from place old now before inlet h low within at counted = record {
+  asked = λ p a b low' less was is. h.asked p a b low' less was (sym (get_other now place p (with_inlet before inlet) (λ e. omega (arith, less, e))) ∙ is);
+  left = λ p a b out was is. by_place p a b out (cases_lt p place) (cases_lt place p) was is;
+} where
+  by_place : (p : ℕ) (a b : Port) → (p < from) ⊎ (place ≤ p) → (p < place) ⊎ (place ≤ p) → (place < p) ⊎ (p ≤ place) → slice_get old p ≡ Some a → slice_get (slice_set now place (with_inlet before inlet)) p ≡ Some b
+      → empty_count b.ends.inlet ≡ empty_count a.ends.inlet
+  by_place p a b out (inl less) more was is = h.left p a b out was (sym (get_other now place p (with_inlet before inlet) (λ e. omega (arith, less, e))) ∙ is)
+  by_place p a b out (inr most) (inl more) was is = h.left p a b out was (sym (get_other now place p (with_inlet before inlet) (λ e. omega (arith, more, e))) ∙ is)
+  by_place p a b out (inr most) (inr least) was is =
+      let same : p ≡ place = omega (arith, most, least) in
+      let new : with_inlet before inlet ≡ b = some_same (with_inlet before inlet) b (sym (get_put now place (with_inlet before inlet) within) ∙ ap (slice_get (slice_set now place (with_inlet before inlet))) (sym same) ∙ is) in
+      let old_is : empty_count before.ends.inlet ≡ empty_count a.ends.inlet = h.left place a before (inr (omega arith)) (ap (slice_get old) (sym same) ∙ was) at in
+      sym (ap (λ (port : Port). empty_count port.ends.inlet) new) ∙ counted ∙ old_is
 
 -- behind the last place
 pub given_end : (from place to : ℕ) (old now : List Port) → HaveGivenNone from place old now → to ≤ place → (place ≤ from) ⊎ (place ≤ to) → HaveGivenNone from to old now

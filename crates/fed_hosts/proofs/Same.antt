@@ -1,6 +1,5 @@
 -- What stays where room alone changed, or what a step leaves alone.
 use Rattle.std.proofs.Common.{◌≡◌, Bool, Some, List, refl, sym, ap, ◌∙◌}
-use Rattle.mdb_base.specs.declared.names.SiteId.{SiteId}
 use Rattle.scripted_link.specs.declared.inlet.Inlet.{Inlet}
 use Rattle.scripted_link.specs.Inlets.{empty_count, inlet_ring, taken}
 use Rattle.scripted_link.specs.Outlets.{outlet_wire}
@@ -12,6 +11,7 @@ use Rattle.host_laws.specs.Plans.{SitePlan}
 use Rattle.fed_hosts.specs.Rooms.{IsSame}
 use Rattle.host_laws.specs.Turns.{SiteTurn}
 use Rattle.fed_hosts.specs.Views.{view_of}
+use Rattle.fed_hosts.proofs.Views.{view_from}
 
 pub planned_same : (sites : List SitePlan) (rings : List Wire) (plan : SitePlan) (old new : HostEnds) → new.site ≡ old.site → inlet_ring new.inlet ≡ inlet_ring old.inlet
     → outlet_wire new.outlet ≡ outlet_wire old.outlet → IsPlanned sites rings plan old → IsPlanned sites rings plan new
@@ -49,11 +49,9 @@ module _ {E D : Type 0} (old new : SiteActor E D) (same : IsSame old new) where
   pub planned_kept : (sites : List SitePlan) (rings : List Wire) (plan : SitePlan) → IsPlanned sites rings plan old.ends → IsPlanned sites rings plan new.ends
   planned_kept sites rings plan p = planned_same sites rings plan old.ends new.ends same.site (ap (λ (i : Inlet). inlet_ring i) same.inlet) same.wire p
 
-  pub view_same : (failed : Bool) → view_of new failed ≡ view_of old failed
-  view_same failed =
-      ap (λ (s : SiteId). record { site = s; lines = new.lines.items; took = taken new.ends.inlet; empties = empty_count new.ends.inlet; failed = failed }) same.site
-      ∙ ap (λ (i : Inlet). record { site = old.ends.site; lines = new.lines.items; took = taken i; empties = empty_count i; failed = failed }) same.inlet
-      ∙ ap (λ l. record { site = old.ends.site; lines = l; took = taken old.ends.inlet; empties = empty_count old.ends.inlet; failed = failed }) same.lines
+  pub view_same : new.idle ≡ old.idle → (failed : Bool) → view_of new failed ≡ view_of old failed
+  view_same idle failed =
+      view_from (view_of new failed) (view_of old failed) same.site same.lines (ap (λ (i : Inlet). taken i) same.inlet) (ap (λ (i : Inlet). empty_count i) same.inlet) idle refl
 
 pub same_self : {E D : Type 0} (actor : SiteActor E D) → IsSame actor actor
 same_self actor = record { dbms = refl; disk = refl; site = refl; inlet = refl; wire = refl; offers = refl; stops = refl; armed = refl; lines = refl; sent = refl; last = refl }

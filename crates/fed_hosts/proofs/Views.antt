@@ -1,55 +1,38 @@
 -- What is seen of a turn, from what is seen of its parts.
-use Rattle.std.proofs.Common.{◌≡◌, ℕ, ◌+◌, ◌-◌, ◌^◌, min, inl, inr, arith, Bool, true, false, Result, Ok, Err, IfOk, IfErr, List, ap₂, ◌∙◌, subst}
+use Rattle.std.proofs.Common.{◌≡◌, ℕ, ◌+◌, ◌-◌, ◌^◌, min, inl, inr, arith, Bool, Result, Ok, Err, IfOk, IfErr, List, [], ◌∷◌, ◌++◌, refl, sym, ap, ap₂, ◌∙◌, subst}
 use Rattle.std.proofs.lemmas.Bool.{cases_lt}
 use Rattle.mdb_base.specs.declared.names.SiteId.{SiteId}
 use Rattle.fed_rules.specs.declared.commands.Stamped.{Stamped}
+use Rattle.fed_rules.specs.SitePast.{SitePast}
+use Rattle.fed_rules.specs.SiteRecords.{Home}
 use Rattle.fed_messages.specs.declared.Packet.{Packet}
 use Rattle.actor_store.specs.declared.errors.StepErr.{StepErr}
-use Rattle.host_laws.specs.Plans.{SitePlan}
-use Rattle.fed_hosts.specs.Views.{Adds, HasMade, HasTurned, IsCounted, IsIdle, IsOfTurn, SiteView}
+use Rattle.local_dbms.specs.Stands.{OwnPrograms}
+use Rattle.fed_hosts.specs.Turns.{Hears, Inquires, IsCounted, Takes, Waits}
+use Rattle.fed_hosts.specs.Views.{SiteView}
 
-turned_more : (sites : List SitePlan) (old mid new : SiteView) (made : Bool) → mid.site ≡ old.site → mid.lines ≡ old.lines → HasMade mid new made → IsIdle sites old new → HasTurned sites old new made
-turned_more sites old mid new true site lines turn idle = record {
-  command = turn.command;
-  answer = turn.answer;
-  of_turn = subst (λ (s : SiteId). IsOfTurn s turn.command) site turn.of_turn;
-  adds = subst (λ (ls : List Stamped). Adds ls new.lines turn.command turn.answer) lines turn.adds;
-}
-turned_more sites old mid new false site lines same idle = (same ∙ lines, idle)
+-- of a success more is said
+pub ok_map : {P Q : Bool → Type 0} (r : Result Bool StepErr) → ((made : Bool) → P made → Q made) → IfOk r P → IfOk r Q
+ok_map (Ok made) f p = f made p
+ok_map (Err why) f p = tt
 
--- a part of a turn makes the turn, where it says why no line was made
-pub ok_turned : {X : Type 0} (sites : List SitePlan) (r : Result Bool StepErr) (old mid new : SiteView) → mid.site ≡ old.site → mid.lines ≡ old.lines → IfOk r (HasMade mid new) → IfOk r (λ made. X) → (X → IsIdle sites old new)
-    → IfOk r (HasTurned sites old new)
-ok_turned sites (Ok made) old mid new site lines turn x idle = turned_more sites old mid new made site lines turn (idle x)
-ok_turned sites (Err why) old mid new site lines turn x idle = tt
+-- from two things that are said of it
+pub ok_both : {P Q R : Bool → Type 0} (r : Result Bool StepErr) → ((made : Bool) → P made → Q made → R made) → IfOk r P → IfOk r Q → IfOk r R
+ok_both (Ok made) f p q = f made p q
+ok_both (Err why) f p q = tt
 
--- where a turn made a line in any case, nothing is to be said of why it made none
-turn_only : (sites : List SitePlan) (old mid new : SiteView) (made : Bool) → mid.site ≡ old.site → mid.lines ≡ old.lines → HasMade mid new made → made ≡ true → HasTurned sites old new made
-turn_only sites old mid new true site lines turn is = record {
-  command = turn.command;
-  answer = turn.answer;
-  of_turn = subst (λ (s : SiteId). IsOfTurn s turn.command) site turn.of_turn;
-  adds = subst (λ (ls : List Stamped). Adds ls new.lines turn.command turn.answer) lines turn.adds;
-}
-turn_only sites old mid new false site lines turn is = cc
+-- all of a view
+pub view_from : (a b : SiteView) → a.site ≡ b.site → a.lines ≡ b.lines → a.took ≡ b.took → a.empties ≡ b.empties → a.idle ≡ b.idle → a.failed ≡ b.failed → a ≡ b
+view_from a b site lines took empties idle failed =
+    ap₂ (λ (s : SiteId) (ls : List Stamped). let view : SiteView = record { site = s; lines = ls; took = a.took; empties = a.empties; idle = a.idle; failed = a.failed } in view) site lines
+    ∙ ap₂ (λ (ps : List Packet) (n : ℕ). let view : SiteView = record { site = b.site; lines = b.lines; took = ps; empties = n; idle = a.idle; failed = a.failed } in view) took empties
+    ∙ ap₂ (λ (n : ℕ) (f : Bool). let view : SiteView = record { site = b.site; lines = b.lines; took = b.took; empties = b.empties; idle = n; failed = f } in view) idle failed
 
-pub ok_turn : (sites : List SitePlan) (r : Result Bool StepErr) (old mid new : SiteView) → mid.site ≡ old.site → mid.lines ≡ old.lines → IfOk r (HasMade mid new) → IfOk r (λ made. made ≡ true) → IfOk r (HasTurned sites old new)
-ok_turn sites (Ok made) old mid new site lines turn is = turn_only sites old mid new made site lines turn is
-ok_turn sites (Err why) old mid new site lines turn is = tt
-
--- only the count of the inlet changed
-pub view_counted : (old new : SiteView) → new.site ≡ old.site → new.lines ≡ old.lines → new.took ≡ old.took → new.failed ≡ old.failed → new ≡ record old { empties = new.empties }
-view_counted old new site lines took failed =
-    ap₂ (λ (s : SiteId) (ls : List Stamped). let view : SiteView = record { site = s; lines = ls; took = new.took; empties = new.empties; failed = new.failed } in view) site lines
-    ∙ ap₂ (λ (ps : List Packet) (b : Bool). let view : SiteView = record { site = old.site; lines = old.lines; took = ps; empties = new.empties; failed = b } in view) took failed
-
-pub err_counted : (r : Result Bool StepErr) (old new : SiteView) → new.site ≡ old.site → new.failed ≡ old.failed → IfErr r (λ why. new.lines ≡ old.lines) → IfErr r (λ why. new.took ≡ old.took) → IfErr r (λ why. new ≡ record old { empties = new.empties })
-err_counted (Ok made) old new site failed lines took = tt
-err_counted (Err why) old new site failed lines took = view_counted old new site lines took failed
-
-pub err_map : {X Y : Type 0} (r : Result Bool StepErr) → (X → Y) → IfErr r (λ why. X) → IfErr r (λ why. Y)
-err_map (Ok made) f x = tt
-err_map (Err why) f x = f x
+-- a turn without a message looks at no packets, and at no count of them
+pub inquires_beside : (home : Home) (past : SitePast) (old new : SiteView) (took : List Packet) (empties : ℕ) (made : Bool) → Inquires home past (record old { took = took; empties = empties }) new made → Inquires home past old new made
+inquires_beside home past old new took empties made (inl counts) = inl (record { few = counts.few; idle = counts.idle; none = counts.none })
+inquires_beside home past old new took empties made (inr (inl asks)) = inr (inl (record { eighth = asks.eighth; idle = asks.idle; tid = asks.tid; least = asks.least; line = asks.line }))
+inquires_beside home past old new took empties made (inr (inr nothing)) = inr (inr (record { eighth = nothing.eighth; idle = nothing.idle; sure = nothing.sure; none = nothing.none }))
 
 -- an inlet that gave nothing counts it
 pub counted_once : (old same new : ℕ) → same ≡ old → new ≡ min (same + 1) (2 ^ 64 - 1) → IsCounted old new
@@ -57,3 +40,39 @@ counted_once old same new is counted = elim (cases_lt old 18446744073709551615) 
   | inl less ↦ inl (omega (arith, is, counted, less))
   | inr most ↦ inr (omega (arith, is, counted, most))
 ]
+
+-- only the count of the inlet changed
+pub view_same_but : (a b : SiteView) → a ≡ b → a ≡ record b { empties = a.empties }
+view_same_but a b same =
+    view_from a (record b { empties = a.empties }) (ap (λ (v : SiteView). v.site) same) (ap (λ (v : SiteView). v.lines) same) (ap (λ (v : SiteView). v.took) same) refl (ap (λ (v : SiteView). v.idle) same) (ap (λ (v : SiteView). v.failed) same)
+
+-- what is seen where nothing was answered, from before room was made
+pub put_back_from : (old ready new : SiteView) → ready ≡ old → new.site ≡ ready.site → new.lines ≡ ready.lines → new.took ≡ ready.took → new.idle ≡ ready.idle → new.failed ≡ ready.failed → new ≡ record old { empties = new.empties }
+put_back_from old ready new same site lines took idle failed =
+    subst (λ (v : SiteView). new ≡ record v { empties = new.empties }) same (view_from new (record ready { empties = new.empties }) site lines took refl idle failed)
+
+-- what is seen where a packet was heard, from before room was made
+pub hears_from : (programs : OwnPrograms) (packet : Packet) (old ready new : SiteView) (took : List Packet) (empties : ℕ) (made : Bool) → ready ≡ old → took ≡ ready.took ++ packet ∷ [] → empties ≡ ready.empties
+    → new ≡ record ready { lines = new.lines; took = took; empties = empties } → Takes programs ready.site packet ready.lines new.lines made → Hears programs old new made
+hears_from programs packet old ready new took empties made same took_are counted beside takes =
+    subst (λ (v : SiteView). Hears programs v new made) same
+    (record { packet = packet; takes = takes; others = beside ∙ ap₂ (λ (ps : List Packet) (n : ℕ). record ready { lines = new.lines; took = ps; empties = n }) took_are counted })
+
+-- what is seen where nothing was heard, from before room was made
+pub waits_from : (home : Home) (past : SitePast) (old ready new : SiteView) (took : List Packet) (empties : ℕ) (made : Bool) → ready ≡ old → took ≡ ready.took → empties ≡ min (ready.empties + 1) (2 ^ 64 - 1)
+    → new ≡ record ready { lines = new.lines; took = took; empties = empties; idle = new.idle } → Inquires home past (record ready { took = took; empties = empties }) new made → Waits home past old new made
+waits_from home past old ready new took empties made same took_are counted beside inquires =
+    subst (λ (v : SiteView). Waits home past v new made) same
+    (record {
+      counted = subst (λ (n : ℕ). IsCounted ready.empties n) (sym (ap (λ (v : SiteView). v.empties) beside)) (counted_once ready.empties ready.empties empties refl counted);
+      inquires = inquires_beside home past ready new took empties made inquires;
+      others = view_from new (record ready { lines = new.lines; empties = new.empties; idle = new.idle }) (ap (λ (v : SiteView). v.site) beside) refl (ap (λ (v : SiteView). v.took) beside ∙ took_are) refl refl (ap (λ (v : SiteView). v.failed) beside);
+    })
+
+pub err_map : {X Y : Type 0} (r : Result Bool StepErr) → (X → Y) → IfErr r (λ why. X) → IfErr r (λ why. Y)
+err_map (Ok made) f x = tt
+err_map (Err why) f x = f x
+
+pub err_both : {X Y Z : Type 0} (r : Result Bool StepErr) → (X → Y → Z) → IfErr r (λ why. X) → IfErr r (λ why. Y) → IfErr r (λ why. Z)
+err_both (Ok made) f x y = tt
+err_both (Err why) f x y = f x y

@@ -52,3 +52,4 @@ pub record IsBesideLines {E D : Type 0} (old new : SiteActor E D) : Type 0 where
   pub site : new.ends.site ≡ old.ends.site
   pub inlet : new.ends.inlet ≡ old.ends.inlet
   pub wire : outlet_wire new.ends.outlet ≡ outlet_wire old.ends.outlet
+  pub idle : new.idle ≡ old.idle

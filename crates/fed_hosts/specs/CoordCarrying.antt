@@ -1,5 +1,5 @@
 -- A line that the coordinator's host adds, and the arming of a stop behind it.
-use Rattle.std.specs.Prelude.{◌≡◌, ◌<◌, ◌^◌, suc, cond, Bool, true, Option, List, ◌++◌, length}
+use Rattle.std.specs.Prelude.{◌≡◌, ◌<◌, ◌^◌, suc, cond, Bool, true, Option, List, ◌++◌}
 use Rattle.mdb_base.specs.declared.names.SiteId.{SiteId}
 use Rattle.mdb_base.specs.declared.names.Tx.{Tx}
 use Rattle.fed_rules.specs.declared.commands.Stamped.{Stamped}
@@ -8,10 +8,8 @@ use Rattle.fed_rules.specs.CoordPast.{attempts_of}
 use Rattle.fed_rules.specs.Policies.{Policy}
 use Rattle.fed_rules.specs.SitePast.{begins_tx}
 use Rattle.fed_messages.specs.declared.Envelope.{Envelope}
-use Rattle.fed_messages.specs.declared.Packet.{Packet}
 use Rattle.journal_disk.specs.Disk.{Seen}
 use Rattle.global_manager.specs.Stands.{Stands}
-use Rattle.scripted_link.specs.Rings.{Wire}
 use Rattle.fed_hosts.specs.declared.coord_actor.CoordActor.{CoordActor}
 use Rattle.fed_hosts.specs.declared.coord_actor.CoordTold.{CoordTold}
 use Rattle.host_laws.specs.CoordHistory.{IsCoordCommand}
@@ -53,3 +51,4 @@ pub record HasCoordArmed {P D : Type 0} (test : P → Policy) (tells : Bool) (se
 pub record IsBesideCoordLines {P D : Type 0} (old new : CoordActor P D) : Type 0 where
   pub disk : new.disk ≡ old.disk
   pub ports : AreBesidePorts old.ports.items new.ports.items
+  pub first : new.first ≡ old.first

@@ -57,3 +57,4 @@ pub record IsBesideCoord {P D : Type 0} (old new : CoordActor P D) : Type 0 wher
   pub disk : new.disk ≡ old.disk
   pub stops : new.stops ≡ old.stops
   pub armed : new.armed ≡ old.armed
+  pub first : new.first ≡ old.first

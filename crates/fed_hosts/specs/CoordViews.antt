@@ -1,13 +1,11 @@
 -- What contracts see of the coordinator's host, and what its calls do.
-use Rattle.std.specs.Prelude.{◌≡◌, ◌<◌, ◌⊎◌, ℕ, Bool, true, false, IsSome, None, Some, List, ◌∷◌, ◌++◌, [], length, map, reverse, slice_get}
-use Rattle.mdb_base.specs.declared.names.Tx.{Tx}
+use Rattle.std.specs.Prelude.{◌≡◌, ◌⊎◌, ℕ, Bool, IsSome, None, Some, List, length, map, reverse, slice_get}
 use Rattle.presumptions.specs.declared.Participant.{Participant}
 use Rattle.fed_rules.specs.declared.answers.Answer.{Answer}
 use Rattle.fed_rules.specs.declared.answers.Answer.TheVariants as Say
 use Rattle.fed_rules.specs.declared.commands.Command.{Command}
 use Rattle.fed_rules.specs.declared.commands.Command.TheVariants as Cmd
 use Rattle.fed_rules.specs.declared.commands.Stamped.{Stamped}
-use Rattle.fed_rules.specs.Happenings.{is_down}
 use Rattle.fed_rules.specs.Requests.{attempt}
 use Rattle.fed_messages.specs.declared.Packet.{Packet}
 use Rattle.global_manager.specs.Stands.{OwnPrograms}
@@ -20,19 +18,21 @@ use Rattle.host_laws.specs.CoordPlans.{CoordPlan}
 use Rattle.host_laws.specs.CoordTurns.{CoordTurn, MayAnswer, coord_past_of, coord_request, took_from}
 use Rattle.fed_hosts.specs.Keeps.{most_begun}
 use Rattle.host_laws.specs.Plans.{most_lines}
-use Rattle.fed_hosts.specs.Views.{Adds, IsCounted}
+use Rattle.fed_hosts.specs.Views.{Adds}
 use Rattle.fed_hosts.specs.Ports.{empties_of, tooks_of}
 
--- the lines in their order, by rising site the packets that were taken, oldest first, and how often the inlet gave none, and whether a disk call failed
+-- the lines in their order, by rising site the packets that were taken, oldest first, and how often the inlet gave none, the place of the port
+-- that the next turn asks first, and whether a disk call failed
 pub record CoordView : Type 0 where
   pub lines : List Stamped
   pub tooks : List (List Packet)
   pub empties : List ℕ
+  pub first : ℕ
   pub failed : Bool
 
 abbrev pub coord_view_of : {P D : Type 0} → CoordActor P D → Bool → CoordView
 coord_view_of actor failed =
-    record { lines = actor.lines.items; tooks = tooks_of actor.ports.items; empties = empties_of actor.ports.items; failed = failed }
+    record { lines = actor.lines.items; tooks = tooks_of actor.ports.items; empties = empties_of actor.ports.items; first = actor.first; failed = failed }
 
 -- what was seen of the host is what these turns of the coordinator make: its lines are theirs, right by its plan, with the envelopes that the
 -- packets of each site bear
@@ -40,6 +40,7 @@ pub record IsCoordSeen (plan : CoordPlan) (turns : List CoordTurn) (view : Coord
   pub right : IsCoordHistory plan turns
   pub lines : view.lines ≡ reverse (map (λ (turn : CoordTurn). turn.line) turns)
   pub count : length view.tooks ≡ length plan.terms.protocols
+  pub counts : length view.empties ≡ length plan.terms.protocols
   pub heard : (place : ℕ) (member : Participant) (took : List Packet) → slice_get plan.terms.protocols place ≡ Some member → slice_get view.tooks place ≡ Some took
       → HasHeardFrom took (took_from member.site turns)
 
@@ -92,47 +93,3 @@ pub record HasCoordServed (plan : CoordPlan) (old new : CoordView) (call : Coord
   pub turns : List CoordTurn
   pub seen : IsCoordSeen plan turns old
   pub served : IsCoordServed plan turns old new call answer
-
--- the command of a turn
-abbrev pub IsOfCoordTurn : Command → Type 0
-IsOfCoordTurn (Cmd.Back actor) = actor ≡ 0
-IsOfCoordTurn (Cmd.Take site place) = Unit {0}
-IsOfCoordTurn command = ⊥
-
--- every inlet gave nothing
-abbrev pub HaveRisen : List ℕ → List ℕ → Type 0
-HaveRisen old new = (place before after : ℕ) → slice_get old place ≡ Some before → slice_get new place ≡ Some after → IsCounted before after
-
--- a packet was taken from one site
-pub record HasTakenOne (old new : List (List Packet)) : Type 0 where
-  pub place : ℕ
-  pub packet : Packet
-  pub before : List Packet
-  pub was : slice_get old place ≡ Some before
-  pub is : slice_get new place ≡ Some (before ++ packet ∷ [])
-
--- the coordinator is up behind its lines
-pub record IsCoordUp (plan : CoordPlan) (view : CoordView) : Type 0 where
-  pub turns : List CoordTurn
-  pub seen : IsCoordSeen plan turns view
-  pub up : is_down (coord_past_of plan turns) ≡ false
-
--- why a turn made no line: the host has as many as it makes, or its coordinator is up, and each inlet gave nothing or a packet was left aside
-abbrev pub IsCoordIdle : CoordPlan → CoordView → CoordView → Type 0
-IsCoordIdle plan old new = (length old.lines ≡ most_lines) ⊎ (IsCoordUp plan old × (HaveRisen old.empties new.empties ⊎ HasTakenOne old.tooks new.tooks))
-
--- a line that a turn makes
-pub record IsCoordTurn (old new : CoordView) : Type 0 where
-  pub command : Command
-  pub answer : Answer
-  pub of_turn : IsOfCoordTurn command
-  pub adds : Adds old.lines new.lines command answer
-
--- what a turn did, and whether it made a line of its own, and why it made none
-abbrev pub HasCoordTurned : CoordPlan → CoordView → CoordView → Bool → Type 0
-HasCoordTurned plan old new true = IsCoordTurn old new
-HasCoordTurned plan old new false = (new.lines ≡ old.lines) × IsCoordIdle plan old new
-
-abbrev pub HasCoordMade : CoordView → CoordView → Bool → Type 0
-HasCoordMade old new true = IsCoordTurn old new
-HasCoordMade old new false = new.lines ≡ old.lines

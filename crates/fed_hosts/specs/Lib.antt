@@ -4,6 +4,7 @@ pub mod Lines
 pub mod Rooms
 pub mod Keeps
 pub mod Views
+pub mod Turns
 pub mod Carrying
 pub mod Serving
 pub mod Hosts
@@ -13,5 +14,6 @@ pub mod CoordRooms
 pub mod CoordKeeps
 pub mod CoordCarrying
 pub mod CoordViews
+pub mod CoordTurns
 pub mod CoordServing
 pub mod CoordHosts

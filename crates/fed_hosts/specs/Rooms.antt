@@ -62,3 +62,4 @@ pub record IsBeside {E D : Type 0} (old new : SiteActor E D) : Type 0 where
   pub wire : outlet_wire new.ends.outlet ≡ outlet_wire old.ends.outlet
   pub stops : new.stops ≡ old.stops
   pub armed : new.armed ≡ old.armed
+  pub idle : new.idle ≡ old.idle

@@ -38,6 +38,12 @@ pub record HaveGivenNone (from to : ℕ) (old new : List Port) : Type 0 where
       → empty_count b.ends.inlet ≡ min (empty_count a.ends.inlet + 1) (2 ^ 64 - 1)
   pub left : (place : ℕ) (a b : Port) → (place < from) ⊎ (to ≤ place) → slice_get old place ≡ Some a → slice_get new place ≡ Some b → empty_count b.ends.inlet ≡ empty_count a.ends.inlet
 
+-- the inlet at this place, between those two, gave a packet, and each one from the first of them to it gave none
+pub record HasComeFrom (from to place : ℕ) (old new : List Port) : Type 0 where
+  pub low : from ≤ place
+  pub high : place < to
+  pub none : HaveGivenNone from place old new
+
 -- the port's inlet has this packet again, where it gave it
 pub record IsPutBack (gave : Option Packet) (old new : Port) : Type 0 where
   pub beside : IsBesideInlet old new

@@ -1,15 +1,13 @@
 -- What contracts see of a site's host, and what its calls do.
-use Rattle.std.specs.Prelude.{◌≡◌, ◌<◌, ◌^◌, ◌-◌, ◌⊎◌, ℕ, Bool, true, false, IsSome, None, Some, List, [], ◌∷◌, ◌++◌, length, map, reverse, slice_get}
+use Rattle.std.specs.Prelude.{◌≡◌, ◌⊎◌, ℕ, Bool, true, IsSome, None, Some, List, [], ◌∷◌, ◌++◌, length, map, reverse, slice_get}
 use Rattle.mdb_base.specs.declared.names.SiteId.{SiteId}
 use Rattle.mdb_base.specs.declared.names.Tx.{Tx}
 use Rattle.mdb_base.specs.Words.{found}
 use Rattle.fed_rules.specs.declared.answers.Answer.{Answer}
 use Rattle.fed_rules.specs.declared.answers.Answer.TheVariants as Say
 use Rattle.fed_rules.specs.declared.commands.Command.{Command}
-use Rattle.fed_rules.specs.declared.commands.Command.TheVariants as Cmd
 use Rattle.fed_rules.specs.declared.commands.Place.{Place}
 use Rattle.fed_rules.specs.declared.commands.Stamped.{Stamped}
-use Rattle.fed_rules.specs.Happenings.{is_down}
 use Rattle.fed_rules.specs.Requests.{attempt}
 use Rattle.fed_rules.specs.SiteCommands.{answer_to}
 use Rattle.fed_messages.specs.declared.Packet.{Packet}
@@ -21,17 +19,19 @@ use Rattle.fed_hosts.specs.Keeps.{most_begun}
 use Rattle.host_laws.specs.Plans.{SitePlan, most_lines}
 use Rattle.host_laws.specs.Turns.{SiteTurn, is_trip, past_of, request_of}
 
--- the site's number, the lines in their order, the packets that were taken, oldest first, how often the inlet gave none, and whether a disk call failed
+-- the site's number, the lines in their order, the packets that were taken, oldest first, how often the inlet gave none, how many turns found no
+-- message since the last eighth, and whether a disk call failed
 pub record SiteView : Type 0 where
   pub site : SiteId
   pub lines : List Stamped
   pub took : List Packet
   pub empties : ℕ
+  pub idle : ℕ
   pub failed : Bool
 
 abbrev pub view_of : {E D : Type 0} → SiteActor E D → Bool → SiteView
 view_of actor failed =
-    record { site = actor.ends.site; lines = actor.lines.items; took = taken actor.ends.inlet; empties = empty_count actor.ends.inlet; failed = failed }
+    record { site = actor.ends.site; lines = actor.lines.items; took = taken actor.ends.inlet; empties = empty_count actor.ends.inlet; idle = actor.idle; failed = failed }
 
 -- a line that arms a stop, or none
 abbrev pub IsArming : List Stamped → Type 0
@@ -86,42 +86,3 @@ pub record HasServed (sites : List SitePlan) (old new : SiteView) (command : Com
   pub turns : List SiteTurn
   pub seen : IsSeen sites plan turns old
   pub served : IsServed plan turns old new command tx answer
-
--- the command of a turn
-abbrev pub IsOfTurn : SiteId → Command → Type 0
-IsOfTurn site (Cmd.Back actor) = actor ≡ site.0
-IsOfTurn site (Cmd.Give to place) = to ≡ site
-IsOfTurn site (Cmd.Ask of tid) = of ≡ site
-IsOfTurn site command = ⊥
-
--- the count rose, or stands at its last value
-abbrev pub IsCounted : ℕ → ℕ → Type 0
-IsCounted old new = (old < new) ⊎ (new ≡ 2 ^ 64 - 1)
-
--- the site is up behind its lines
-pub record IsUp (sites : List SitePlan) (view : SiteView) : Type 0 where
-  pub plan : SitePlan
-  pub turns : List SiteTurn
-  pub seen : IsSeen sites plan turns view
-  pub up : is_down (past_of plan turns) ≡ false
-
--- why a turn made no line: the host has as many as it makes, or its site is up, and its inlet gave nothing or a packet was left aside
-abbrev pub IsIdle : List SitePlan → SiteView → SiteView → Type 0
-IsIdle sites old new = (length old.lines ≡ most_lines) ⊎ (IsUp sites old × (IsCounted old.empties new.empties ⊎ ((packet : Packet) × (new.took ≡ old.took ++ packet ∷ []))))
-
--- a line that a turn makes
-pub record IsTurn (old new : SiteView) : Type 0 where
-  pub command : Command
-  pub answer : Answer
-  pub of_turn : IsOfTurn old.site command
-  pub adds : Adds old.lines new.lines command answer
-
--- what a turn did, and whether it made a line of its own
-abbrev pub HasMade : SiteView → SiteView → Bool → Type 0
-HasMade old new true = IsTurn old new
-HasMade old new false = new.lines ≡ old.lines
-
--- and why it made none
-abbrev pub HasTurned : List SitePlan → SiteView → SiteView → Bool → Type 0
-HasTurned sites old new true = IsTurn old new
-HasTurned sites old new false = (new.lines ≡ old.lines) × IsIdle sites old new

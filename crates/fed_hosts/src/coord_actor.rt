@@ -43,6 +43,7 @@ impl<P: TakePolicy, D: Disk> CoordActor<P, D> {
     pub(crate) fn reserve(&mut self) -> Result<(), Memory>
         ensures room { OnOk result (HasCoordRoom self.new) }
         ensures same { IsSameCoord self.old self.new }
+        ensures first { self.new.first ≡ self.old.first }
     {
         self.lines.try_reserve(2)?;
         make_room(&mut self.ports)

@@ -32,6 +32,7 @@ impl<P: TakePolicy, D: Disk> CoordActor<P, D> {
             → HasCoordArmed P.policy tells seen plan turns self.old.lines.items self.new }
         ensures disk { self.new.disk ≡ self.old.disk }
         ensures ports { self.new.ports ≡ self.old.ports }
+        ensures first { self.new.first ≡ self.old.first }
     {
         if self.lines.len() >= MOST_LINES || self.armed >= self.stops.len() {
             return;

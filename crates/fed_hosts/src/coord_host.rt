@@ -3,9 +3,10 @@ ghost use Rattle.std.specs.Prelude.{◌≡◌, [], true, false, IfOk, IsErrOf, I
 ghost use Rattle.mdb_base.specs.Words.{Each};
 ghost use Rattle.fed_hosts.specs.Ports.{IsWritten};
 ghost use Rattle.fed_hosts.specs.CoordHosts.{CanOpenCoord, HasReturnedCoord, IsHeldCoord};
-ghost use Rattle.fed_hosts.specs.CoordViews.{HasCoordServed, HasCoordTurned};
+ghost use Rattle.fed_hosts.specs.CoordTurns.{HasCoordTurned};
+ghost use Rattle.fed_hosts.specs.CoordViews.{HasCoordServed};
 ghost use Rattle.fed_hosts.specs.declared.coord_asks.CoordCall.TheVariants as Asks;
-ghost use Rattle.client_drivers.specs.declared.doors.DoorErr.TheVariants as Err_is;
+ghost use Rattle.trace_lines.specs.declared.error.DoorErr.TheVariants as Err_is;
 
 use crate::coord_actor::CoordActor;
 use crate::coord_asks::CoordCall;
@@ -57,6 +58,7 @@ impl<P: TakePolicy, D: Disk, N: Plan> CoordHost<P, D, N> {
         requires told { IsTrue D.tells }
         requires opens { CanOpenCoord P.policy D.tells N.coordinator N.rings manager (D.seen disk) stops.items ports.items }
         ensures lines { result.lines ≡ [] }
+        ensures first { result.first ≡ 0 }
         ensures failed { result.failed ≡ false }
     {
         CoordHost {
@@ -144,8 +146,8 @@ impl<P: TakePolicy, D: Disk, N: Plan> CoordHost<P, D, N> {
     }
 
     /// A turn of the coordinator's own, which makes at most one line: a start where it is down, else the taking of the next message, going
-    /// round its sites. Says whether it made one. `Disk` comes only where a disk call failed, and from then on always; without memory
-    /// nothing changes.
+    /// round its sites from the one behind that whose packet it took last. A packet that bears no message is left aside. Says whether it
+    /// made a line. `Disk` comes only where a disk call failed, and from then on always; without memory nothing changes.
     pub fn turn<G: Gate>(&mut self, gate: &G) -> Result<bool, DoorErr>
         ensures turned { IfOk result (HasCoordTurned N.coordinator self.old self.new) }
         ensures memory { IsErrOf result Err_is.Memory → self.new ≡ record self.old { empties = self.new.empties } }

@@ -4,9 +4,10 @@ ghost use Rattle.std.specs.Vec.{vec_capacity};
 ghost use Rattle.fed_hosts.specs.CoordKeeps.{CoordKeeps};
 ghost use Rattle.fed_hosts.specs.CoordRooms.{HasCoordRoom};
 ghost use Rattle.fed_hosts.specs.CoordServing.{HasCoordFailed, HoldsFrom};
-ghost use Rattle.fed_hosts.specs.CoordViews.{HasCoordMade, HasCoordTurned, coord_view_of};
+ghost use Rattle.fed_hosts.specs.CoordTurns.{HasCoordTurned, RestartsCoord, TakesFrom};
+ghost use Rattle.fed_hosts.specs.CoordViews.{coord_view_of};
 ghost use Rattle.host_laws.specs.Plans.{most_lines};
-ghost use Rattle.fed_hosts.specs.Ports.{empties_of, tooks_of};
+ghost use Rattle.fed_hosts.specs.Ports.{empties_of};
 ghost use Rattle.fed_hosts.specs.Rounds.{ArePutBack, HasArrived};
 
 use crate::coord_actor::{CoordActor, CoordTold};
@@ -22,7 +23,8 @@ use journal_disk::Disk;
 
 impl<P: TakePolicy, D: Disk> CoordActor<P, D> {
     /// A turn of the coordinator's own, which makes at most one line, and arms the next stop behind it. A coordinator that is down starts
-    /// again; one that is up takes the next message, going round its sites. Says whether a line was made.
+    /// again; one that is up takes the next message, going round its sites: behind a message the next turn goes on at the port behind the
+    /// one that gave it, and where none came, or it was put back, it begins where this one did. Says whether a line was made.
     pub(crate) fn turn<N: Plan>(&mut self) -> Result<bool, StepErr>
         requires told { IsTrue D.tells }
         requires keeps { CoordKeeps P.policy D.tells D.seen N.coordinator N.rings false self.old }
@@ -44,7 +46,13 @@ impl<P: TakePolicy, D: Disk> CoordActor<P, D> {
             return self.start::<N>(places);
         }
         match next_arrived(&mut self.ports, self.first) {
-            Some(arrived) => self.hear::<N>(arrived, places),
+            Some(arrived) => match self.hear::<N>(arrived, places) {
+                Ok(made) => {
+                    self.first = arrived.place + 1;
+                    Ok(made)
+                }
+                Err(why) => Err(why),
+            },
             None => Ok(false),
         }
     }
@@ -57,8 +65,7 @@ impl<P: TakePolicy, D: Disk> CoordActor<P, D> {
         requires places { (places.items ≡ []) × (length self.old.ports.items ≤ vec_capacity places) }
         requires keeps { CoordKeeps P.policy D.tells D.seen N.coordinator N.rings false self.old }
         ensures keeps { IfOk result (λ _. CoordKeeps P.policy D.tells D.seen N.coordinator N.rings false self.new) }
-        ensures made { IfOk result (λ made. made ≡ true) }
-        ensures turned { IfOk result (HasCoordMade (coord_view_of self.old false) (coord_view_of self.new false)) }
+        ensures turned { IfOk result (RestartsCoord (coord_view_of self.old false) (coord_view_of self.new false)) }
         ensures failed { IfErr result (HasCoordFailed P.policy D.tells D.seen N.coordinator N.rings self.new) }
         ensures same { IfErr result (λ _. coord_view_of self.new false ≡ coord_view_of self.old false) }
     {
@@ -73,8 +80,8 @@ impl<P: TakePolicy, D: Disk> CoordActor<P, D> {
         Ok(true)
     }
 
-    /// Takes a packet, and goes on at the next port at the next turn. One that spells no envelope, or has a stamp of 2^62 or more, is left
-    /// aside. Where the message isn't answered the packet is put back.
+    /// Takes a packet. One that spells no envelope, or has a stamp of 2^62 or more, is left aside. Where the message isn't answered the
+    /// packet is put back.
     fn hear<N: Plan>(&mut self, arrived: Arrived, places: Vec<Place>) -> Result<bool, StepErr>
         requires told { IsTrue D.tells }
         requires few { length self.old.lines.items < most_lines }
@@ -83,13 +90,13 @@ impl<P: TakePolicy, D: Disk> CoordActor<P, D> {
         requires arrived { HasArrived self.old.ports.items arrived }
         requires keeps { HoldsFrom P.policy D.tells D.seen N.coordinator N.rings arrived self.old }
         ensures keeps { IfOk result (λ _. CoordKeeps P.policy D.tells D.seen N.coordinator N.rings false self.new) }
-        ensures turned { IfOk result (HasCoordMade (coord_view_of self.old false) (coord_view_of self.new false)) }
-        ensures took { IfOk result (λ _. tooks_of self.new.ports.items ≡ tooks_of self.old.ports.items) }
+        ensures takes { IfOk result (TakesFrom N.coordinator arrived.place arrived.packet self.old.lines.items self.new.lines.items) }
+        ensures others { IfOk result (λ _. coord_view_of self.new false ≡ record (coord_view_of self.old false) { lines = self.new.lines.items }) }
         ensures failed { IfErr result (HasCoordFailed P.policy D.tells D.seen N.coordinator N.rings self.new) }
         ensures same { IfErr result (λ _. self.new.lines.items ≡ self.old.lines.items) }
         ensures back { IfErr result (λ _. ArePutBack arrived self.old.ports.items self.new.ports.items) }
+        ensures first { self.new.first ≡ self.old.first }
     {
-        self.first = arrived.place + 1;
         let Some(envelope) = decode_from(&arrived.packet) else {
             return Ok(false);
         };

@@ -1,6 +1,8 @@
 //! How the coordinator goes round its inlets.
 ghost use Rattle.std.specs.Prelude.{◌≡◌, ◌≤◌, ◌<◌, IfNone, IfSome, length};
-ghost use Rattle.fed_hosts.specs.Rounds.{ArePolled, HasArrived, HaveGivenNone};
+ghost use Rattle.fed_hosts.specs.CoordTurns.{HavePassed};
+ghost use Rattle.fed_hosts.specs.Ports.{empties_of};
+ghost use Rattle.fed_hosts.specs.Rounds.{ArePolled, HasArrived, HasComeFrom, HaveGivenNone};
 
 use crate::ports::Port;
 use fed_messages::Packet;
@@ -17,6 +19,7 @@ fn first_between(ports: &mut Vec<Port>, from: usize, to: usize) -> Option<Arrive
     requires { to ≤ length ports.old.items }
     ensures polled { ArePolled result ports.old.items ports.new.items }
     ensures arrived { IfSome result (HasArrived ports.new.items) }
+    ensures came { IfSome result (λ arrived. HasComeFrom from to arrived.place ports.old.items ports.new.items) }
     ensures none { IfNone result (HaveGivenNone from to ports.old.items ports.new.items) }
 {
     for place in from..to {
@@ -31,6 +34,7 @@ fn first_between(ports: &mut Vec<Port>, from: usize, to: usize) -> Option<Arrive
 pub(crate) fn next_arrived(ports: &mut Vec<Port>, from: usize) -> Option<Arrived>
     ensures polled { ArePolled result ports.old.items ports.new.items }
     ensures arrived { IfSome result (HasArrived ports.new.items) }
+    ensures passed { IfSome result (λ arrived. HavePassed (length ports.old.items) from arrived.place (empties_of ports.old.items) (empties_of ports.new.items)) }
     ensures none { IfNone result (HaveGivenNone 0 (length ports.old.items) ports.old.items ports.new.items) }
 {
     let all = ports.len();

@@ -48,6 +48,7 @@ impl<E: LocalEngine, D: Disk> SiteActor<E, D> {
     pub(crate) fn reserve(&mut self) -> Result<(), Memory>
         ensures room { OnOk result (HasRoom self.new) }
         ensures same { IsSame self.old self.new }
+        ensures idle { self.new.idle ≡ self.old.idle }
     {
         self.lines.try_reserve(2)?;
         self.sent.try_reserve(1)?;

@@ -5,8 +5,9 @@ ghost use Rattle.mdb_base.specs.Words.{Each};
 ghost use Rattle.host_laws.specs.Written.{FitsFromSite};
 ghost use Rattle.fed_hosts.specs.Hosts.{CanOpen, IsHeld, HasReturned};
 ghost use Rattle.fed_hosts.specs.Verbs.{command_of};
-ghost use Rattle.fed_hosts.specs.Views.{HasServed, HasTurned};
-ghost use Rattle.client_drivers.specs.declared.doors.DoorErr.TheVariants as Err_is;
+ghost use Rattle.fed_hosts.specs.Turns.{HasTurned};
+ghost use Rattle.fed_hosts.specs.Views.{HasServed};
+ghost use Rattle.trace_lines.specs.declared.error.DoorErr.TheVariants as Err_is;
 
 use crate::ends::HostEnds;
 use crate::gates::Gate;
@@ -57,7 +58,7 @@ impl<E: LocalEngine, D: Disk, N: Plan> SiteHost<E, D, N> {
     ) -> SiteHost<E, D, N>
         requires told { IsTrue D.tells }
         requires opens { CanOpen E.stands D.tells N.sites N.rings dbms (D.seen disk) stops.items ends }
-        ensures { result ≡ record { site = ends.site; lines = []; took = []; empties = 0; failed = false } }
+        ensures { result ≡ record { site = ends.site; lines = []; took = []; empties = 0; idle = 0; failed = false } }
     {
         SiteHost {
             actor: SiteActor {
@@ -158,8 +159,8 @@ impl<E: LocalEngine, D: Disk, N: Plan> SiteHost<E, D, N> {
     }
 
     /// A turn of the site's own, which makes at most one line: a start where it is down, else the taking of its next message, else at each
-    /// eighth turn that finds none an inquiry about its least attempt in doubt. Says whether it made one. `Disk` comes only where a disk
-    /// call failed, and from then on always; without memory nothing changes.
+    /// eighth turn that finds none an inquiry about its least attempt in doubt. A packet that bears no message for the site is left aside.
+    /// Says whether it made a line. `Disk` comes only where a disk call failed, and from then on always; without memory nothing changes.
     pub fn turn<G: Gate>(&mut self, gate: &G) -> Result<bool, DoorErr>
         ensures turned { IfOk result (HasTurned N.sites self.old self.new) }
         ensures memory { IsErrOf result Err_is.Memory → self.new ≡ record self.old { empties = self.new.empties } }

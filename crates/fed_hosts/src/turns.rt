@@ -1,5 +1,6 @@
 //! A turn of a site's host.
 ghost use Rattle.std.specs.Prelude.{◌≡◌, ◌<◌, ◌≤◌, ◌++◌, ◌∷◌, [], false, true, None, length, IfOk, IfErr, IsTrue};
+ghost use Rattle.fed_rules.specs.Happenings.{is_down};
 ghost use Rattle.site_core.specs.Made.{about};
 ghost use Rattle.scripted_link.specs.Inlets.{empty_count, returned, taken};
 ghost use Rattle.fed_hosts.specs.Keeps.{HoldsPacket, Keeps};
@@ -7,7 +8,9 @@ ghost use Rattle.host_laws.specs.Plans.{most_lines};
 ghost use Rattle.fed_hosts.specs.Rooms.{HasRoom};
 ghost use Rattle.std.specs.Vec.{vec_capacity};
 ghost use Rattle.fed_hosts.specs.Serving.{HasFailed};
-ghost use Rattle.fed_hosts.specs.Views.{HasMade, HasTurned, view_of};
+ghost use Rattle.local_dbms.specs.Stands.{Each_site, Stands};
+ghost use Rattle.fed_hosts.specs.Turns.{HasTurned, Inquires, Restarts, Takes};
+ghost use Rattle.fed_hosts.specs.Views.{view_of};
 
 use crate::plans::Plan;
 use crate::site_actor::{MOST_LINES, SiteActor, Told};
@@ -74,8 +77,7 @@ impl<E: LocalEngine, D: Disk> SiteActor<E, D> {
         requires places { (places.items ≡ []) × (1 ≤ vec_capacity places) }
         requires keeps { Keeps E.stands D.tells D.seen N.sites N.rings false self.old }
         ensures keeps { IfOk result (λ _. Keeps E.stands D.tells D.seen N.sites N.rings false self.new) }
-        ensures made { IfOk result (λ made. made ≡ true) }
-        ensures turned { IfOk result (HasMade (view_of self.old false) (view_of self.new false)) }
+        ensures turned { IfOk result (Restarts (view_of self.old false) (view_of self.new false)) }
         ensures failed { IfErr result (HasFailed E.stands D.tells D.seen N.sites N.rings self.new) }
         ensures same { IfErr result (λ _. view_of self.new false ≡ view_of self.old false) }
     {
@@ -102,12 +104,14 @@ impl<E: LocalEngine, D: Disk> SiteActor<E, D> {
         requires keeps { HoldsPacket E.stands D.tells D.seen N.sites N.rings packet self.old }
         requires back { returned self.old.ends.inlet ≡ None }
         ensures keeps { IfOk result (λ _. Keeps E.stands D.tells D.seen N.sites N.rings false self.new) }
-        ensures turned { IfOk result (HasMade (view_of self.old false) (view_of self.new false)) }
-        ensures took { IfOk result (λ _. taken self.new.ends.inlet ≡ taken self.old.ends.inlet) }
+        ensures takes { Each_site (Stands E.stands D.tells self.old.dbms (D.seen self.old.disk)) (λ home programs past.
+            IfOk result (Takes programs self.old.ends.site packet self.old.lines.items self.new.lines.items)) }
+        ensures others { IfOk result (λ _. view_of self.new false ≡ record (view_of self.old false) { lines = self.new.lines.items }) }
         ensures failed { IfErr result (HasFailed E.stands D.tells D.seen N.sites N.rings self.new) }
         ensures same { IfErr result (λ _. self.new.lines.items ≡ self.old.lines.items) }
         ensures back { IfErr result (λ _. taken self.old.ends.inlet ≡ taken self.new.ends.inlet ++ packet ∷ []) }
         ensures site { self.new.ends.site ≡ self.old.ends.site }
+        ensures idle { self.new.idle ≡ self.old.idle }
     {
         let Some(envelope) = decode_to(&packet) else {
             return Ok(false);
@@ -144,8 +148,9 @@ impl<E: LocalEngine, D: Disk> SiteActor<E, D> {
         requires places { (places.items ≡ []) × (1 ≤ vec_capacity places) }
         requires keeps { Keeps E.stands D.tells D.seen N.sites N.rings false self.old }
         ensures keeps { IfOk result (λ _. Keeps E.stands D.tells D.seen N.sites N.rings false self.new) }
-        ensures turned { IfOk result (HasMade (view_of self.old false) (view_of self.new false)) }
-        ensures inlet { IfOk result (λ _. self.new.ends.inlet ≡ self.old.ends.inlet) }
+        ensures inquires { Each_site (Stands E.stands D.tells self.old.dbms (D.seen self.old.disk)) (λ home programs past.
+            is_down past ≡ false → IfOk result (Inquires home past (view_of self.old false) (view_of self.new false))) }
+        ensures others { IfOk result (λ _. view_of self.new false ≡ record (view_of self.old false) { lines = self.new.lines.items; idle = self.new.idle }) }
         ensures failed { IfErr result (HasFailed E.stands D.tells D.seen N.sites N.rings self.new) }
         ensures same { IfErr result (λ _. view_of self.new false ≡ view_of self.old false) }
     {

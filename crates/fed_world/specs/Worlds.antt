@@ -1,5 +1,5 @@
 -- The scenarios and commands that a world stands for, and what a call does to them. Commands stand newest first.
-use Rattle.std.specs.Prelude.{ℕ, zero, suc, ◌≡◌, ◌≤◌, ◌<◌, ◌^◌, Bool, true, false, Some, None, List, ◌∷◌, length, map, reverse, slice_get}
+use Rattle.std.specs.Prelude.{ℕ, zero, suc, ◌≡◌, ◌≤◌, ◌<◌, ◌^◌, Bool, true, false, Some, None, List, [], ◌∷◌, ◌++◌, length, map, reverse, slice_get}
 use Rattle.mdb_base.specs.declared.names.SiteId.{SiteId}
 use Rattle.fed_rules.specs.declared.commands.Command.{Command}
 use Rattle.fed_rules.specs.declared.commands.Line.{Line}
@@ -221,6 +221,16 @@ pub record SomeCoordAsk (K : Scenario → List Command → Type 0) (ask : CoordA
 abbrev pub EachCoordAsk : (Scenario → List Command → Type 0) → CoordAsk → (Command → Scenario → List Command → Type 0) → Type 0
 EachCoordAsk K ask P = (scenario : Scenario) (commands : List Command) (command : Command) → K scenario commands
     → AsksCoordinator ask command scenario (story_of scenario commands) → HasRoom scenario commands → P command scenario commands
+
+-- the lines of the world, the first line first
+abbrev pub lines_of : World → List Line
+lines_of world = world.lines.items
+
+-- the lines made before stay as they are, and behind them stands that of the command
+pub record AddsLine (old new : World) (command : Command) : Type 0 where
+  pub line : Line
+  pub is : line.command ≡ command
+  pub lines : lines_of new ≡ lines_of old ++ line ∷ []
 
 -- what is heard is the answer of the line that the command becomes with its places, and the actors stand for the command too
 pub record IsHeard (tells : Bool) (world : World) (disks : List Seen) (heard : Heard) (command : Command) (scenario : Scenario) (commands : List Command) : Type 0 where

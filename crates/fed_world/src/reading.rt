@@ -5,7 +5,7 @@ ghost use Rattle.fed_rules.specs.Scenarios.{global_program, home_of};
 ghost use Rattle.fed_rules.specs.Story.{coord_past, sent_from, sent_to, story_of};
 ghost use Rattle.fed_world.specs.Asks.{terms_of};
 ghost use Rattle.fed_world.specs.Messages.{AreMessages};
-ghost use Rattle.fed_world.specs.Worlds.{ActorsRecall, AreLines, EachStory, HasLines, IsLocalAt, ManagerRecalls, Recalls};
+ghost use Rattle.fed_world.specs.Worlds.{ActorsRecall, AreLines, EachStory, HasLines, IsLocalAt, ManagerRecalls, Recalls, lines_of};
 
 use crate::cores::Cores;
 use crate::world::World;
@@ -27,7 +27,8 @@ impl World {
 
     /// The lines, the first one first: they are right, and of the commands.
     pub fn lines(&self) -> &[Line]
-        ensures { EachStory (HasLines self.now) (AreLines result.now) }
+        ensures lines { result.now ≡ lines_of self.now }
+        ensures right { EachStory (HasLines self.now) (AreLines result.now) }
     {
         self.lines.as_slice()
     }

@@ -1,7 +1,7 @@
 //! The world of a session.
-ghost use Rattle.std.specs.Prelude.{◌∷◌, IfErr, OnOk, IsTrue, map};
+ghost use Rattle.std.specs.Prelude.{◌≡◌, ◌∷◌, IfErr, OnErr, OnOk, IsTrue, map};
 ghost use Rattle.fed_world.specs.Faults.{CountsTell};
-ghost use Rattle.fed_world.specs.Worlds.{EachStory, FailsAt, HasRoom, SomeStory, Stands};
+ghost use Rattle.fed_world.specs.Worlds.{AddsLine, EachStory, FailsAt, HasRoom, SomeStory, Stands, lines_of};
 
 use crate::cores::Cores;
 use crate::errors::WorldErr;
@@ -22,9 +22,9 @@ pub struct World {
 }
 
 impl World {
-    /// Carries out a command, and adds its line. Without memory all stays as it was. Where a disk call of an actor fails, which is told with
-    /// the actor's number, the world is broken and there is no line: that actor, in memory and on its disk, is as some stop within the event
-    /// of this command leaves it, and each other one is as it was.
+    /// Carries out a command, and adds its line behind those made before, which stay as they are. Without memory all stays as it was. Where
+    /// a disk call of an actor fails, which is told with the actor's number, the world is broken and there is no line: that actor, in memory
+    /// and on its disk, is as some stop within the event of this command leaves it, and each other one is as it was.
     pub fn apply<D: Disk>(
         &mut self,
         alloc: Global,
@@ -37,6 +37,8 @@ impl World {
             (λ scenario commands. HasRoom scenario commands → Stands D.tells self.new (map D.seen disks.new.items) scenario (command ∷ commands))) }
         ensures failed { IfErr result (λ why. EachStory (Stands D.tells self.old (map D.seen disks.old.items))
             (λ scenario commands. HasRoom scenario commands → FailsAt D.tells why self.new (map D.seen disks.new.items) command scenario commands)) }
+        ensures added { OnOk result (AddsLine self.old self.new command) }
+        ensures kept { OnErr result (lines_of self.new ≡ lines_of self.old) }
         ensures cause { CountsTell result (map D.seen disks.old.items) (map D.seen disks.new.items) }
     {
         let Ok(()) = self.lines.reserve(1) else {

@@ -7,17 +7,17 @@ use Rattle.mdb_base.specs.declared.names.Tid.{Tid}
 use Rattle.mdb_base.specs.declared.acts.PlainAct.TheVariants.{Write}
 use Rattle.mdb_base.specs.declared.replies.Reply.{Reply}
 use Rattle.mdb_base.specs.declared.replies.Reply.TheVariants.{Refused}
-use Rattle.fed_rules.specs.Runs.{Start, EngineLine, Run, tid_of, run_at, gives_up}
+use Rattle.fed_rules.specs.Runs.{Start, EngineLine, Run, tid_of, run_at, gives_up, number}
 use Rattle.fed_rules.specs.EngineLines.{IsRightLine}
 use Rattle.fed_rules.specs.Replies.{has_written}
 use Rattle.access_ages.specs.Ages.{Ages, ages_of}
 use Rattle.access_ages.specs.Stops.{key_stop, writer_stop}
 use Rattle.access_ages.specs.Lines.{KeepsAges}
-use Rattle.run_book.specs.Held.{own_write}
+use Rattle.run_book.specs.Held.{Held, held_in, own_write}
 use Rattle.run_book.specs.Book.{Book}
 use Rattle.run_book.specs.Keeps.{KeepsRoomy}
 use Rattle.multiversion_engine.specs.Unended.{AreUnended}
-use Rattle.multiversion_engine.specs.OldVersions.{Olds}
+use Rattle.multiversion_engine.specs.OldVersions.{AllRead, Olds, writes_key}
 use Rattle.multiversion_engine.specs.Versions.{AreVersions, IsValueAt}
 use Rattle.multiversion_engine.specs.declared.engine.MultiversionEngine.{MultiversionEngine}
 
@@ -59,3 +59,8 @@ EndsRun old tid new =
 abbrev pub StopsRun : MultiversionEngine → Tid → Reply → MultiversionEngine → Type 0
 StopsRun old tid (Refused why) new = EndsRun old tid new
 StopsRun old tid reply new = new ≡ old
+
+-- behind the commit of a run, each version below its number that is left of a key that it wrote is one that an unended run may read
+abbrev pub HasDropped : MultiversionEngine → Tid → MultiversionEngine → Type 0
+HasDropped old tid new =
+    (held : Held) → held_in old.book.book.runs tid ≡ Some held → AllRead new.unended (writes_key held.run.acts) (number held.run) new.olds

@@ -131,7 +131,10 @@ impl MultiversionEngine {
 
 impl LocalEngine for MultiversionEngine {
     ghost use Rattle.mdb_base.specs.declared.names.Engine.TheVariants.{Multiversion};
-    ghost use Rattle.multiversion_engine.specs.Stands.{Stands};
+    ghost use Rattle.fed_rules.specs.Runs.{Commits};
+    ghost use Rattle.engine_contract.specs.Past.{AddsLine, SomePast};
+    ghost use Rattle.engine_contract.specs.Calls.{CanCommit};
+    ghost use Rattle.multiversion_engine.specs.Stands.{HasDropped, Stands};
 
     ghost kind = { λ _. Multiversion };
 
@@ -216,7 +219,11 @@ impl LocalEngine for MultiversionEngine {
         self.takers.withdraw(self.book.run(tid));
     }
 
-    fn commit(&mut self, tid: Tid) {
+    fn commit(&mut self, tid: Tid)
+        requires { SomePast Stands self.old (CanCommit tid) }
+        ensures line { AddsLine Stands self.old (Commits tid) self.new }
+        ensures dropped { HasDropped self.old tid self.new }
+    {
         let run = self.book.commit(tid);
         self.accesses.commit(&run);
         self.takers.commit(&run);

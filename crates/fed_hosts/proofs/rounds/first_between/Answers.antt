@@ -4,8 +4,7 @@ use Rattle.std.proofs.lemmas.Option.{slice_get_read}
 use Rattle.fed_messages.specs.declared.Packet.{Packet}
 use Rattle.scripted_link.specs.Inlets.{empty_count}
 use Rattle.fed_hosts.specs.declared.ports.Port.{Port}
-use Rattle.fed_hosts.specs.declared.rounds.Arrived.{Arrived}
-use Rattle.fed_hosts.proofs.Polled.{given_end, given_next, given_start, polled_none, polled_self, polled_some}
+use Rattle.fed_hosts.proofs.Polled.{given_before, given_end, given_next, given_start, polled_none, polled_self, polled_some}
 use Rattle.fed_hosts.proofs.Words.{if_none, not_some}
 use Rattle.fed_hosts.proofs.rounds.first_between.Goals as goal
 
@@ -39,6 +38,16 @@ returns-in-Some-clause-polled c =
     let port : Port = c.index_mut.result.now in
     let at : slice_get now p ≡ Some port = slice_get_read now (length now) p port refl within c.index_mut.ensures.value in
     polled_some c.args.ports.now.items now port c.next.new.self (record { place = p; packet = c.in-Some.packet }) c.loop-place.invariant.polled within at c.next.ensures.ring c.in-Some.ensures.some
+
+pub returns-in-Some-clause-came : goal.returns-in-Some-clause-came
+returns-in-Some-clause-came c =
+    let now = c.loop-place.ports.items in
+    let p = c.loop-place.place in
+    let count = c.loop-place.invariant.polled.count in
+    let within : p < length now = omega (arith, count, c.requires) in
+    let port : Port = c.index_mut.result.now in
+    let at : slice_get now p ≡ Some port = slice_get_read now (length now) p port refl within c.index_mut.ensures.value in
+    record { low = c.loop-place.auto.place; high = omega arith; none = given_before c.args.from p c.args.ports.now.items now port c.next.new.self c.loop-place.invariant.none c.loop-place.auto.place within at c.in-Some.ensures.empties }
 
 pub returns-clause-none : goal.returns-clause-none
 returns-clause-none c = given_end c.args.from c.loop-place.place c.args.to c.args.ports.now.items c.loop-place.ports.items c.loop-place.invariant.none (omega arith) c.loop-place.invariant.within

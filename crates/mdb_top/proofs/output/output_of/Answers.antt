@@ -102,7 +102,7 @@ broken-requires-in-Err-Disk-play g c =
     let front = front_before (commands_of session) b.command (b.done ++ []) (b.left, sym same ∙ b.of_whole) in
     lines_fit c.right_lines_fit.ensures session.scenario (b.done ++ []) c.lines.result.now whole
     (front_heard session.scenario.sites (commands_of session) (b.done ++ []) (session_heard session whole c.requires.commands c.closing_is_heard.ensures) front)
-    (c.lines.ensures session.scenario (b.done ++ []) b.broken.has)
+    (c.lines.ensures.right session.scenario (b.done ++ []) b.broken.has)
 
 pub returns-in-Err-Disk-play-clause-output : goal.returns-in-Err-Disk-play-clause-output
 returns-in-Err-Disk-play-clause-output g c =
@@ -118,7 +118,7 @@ returns-in-Err-Disk-play-clause-output g c =
     let rose = subst (λ (why : WorldErr). FailedAs why old new) c.in-Err-Disk-play.field-0-is
     (failed_later c.in-Err-Disk-play.field-0 old (map disk.seen c.new.new.disks.items) new c.in-Ok.ensures.cause c.in-Err-Disk-play.ensures.cause) in
     broken_output c.broken-in-Err-Disk-play.result old new session c.in-Err-Disk-play.number (b.done ++ []) c.lines.result.now
-    (c.lines.ensures session.scenario (b.done ++ []) b.broken.has)
+    (c.lines.ensures.right session.scenario (b.done ++ []) b.broken.has)
     (play_breaks disk.tells c.play.new.world old new session c.as_slice.result.now same sized c.in-Err-Disk-play.number rose b)
     c.broken-in-Err-Disk-play.ensures
 

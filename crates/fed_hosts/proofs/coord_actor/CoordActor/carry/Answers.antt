@@ -20,5 +20,6 @@ returns-clause-beside g c =
     let flushed' = subst (λ (ports : List Port). AreBesidePorts ports new) (ap (λ v. v.items) c.arm_next.ensures.ports) flushed in
     record {
       disk = c.arm_next.ensures.disk ∙ c.keep.ensures.beside.disk;
+      first = c.arm_next.ensures.first ∙ c.keep.ensures.beside.first;
       ports = beside_through old mid new (posted_beside c.args.told.sends _ old mid c.keep.ensures.added.ports) flushed';
     }

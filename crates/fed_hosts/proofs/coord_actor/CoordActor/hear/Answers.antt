@@ -1,5 +1,6 @@
-use Rattle.std.proofs.Common.{◌≡◌, ◌<◌, ◌≤◌, ◌+◌, ◌^◌, Some, slice_get, length, refl, sym, ap, ◌∙◌, subst, arith}
+use Rattle.std.proofs.Common.{◌≡◌, true, Some, slice_get, length, refl, subst, arith}
 use Rattle.std.proofs.lemmas.Option.{slice_get_read}
+use Rattle.mdb_base.specs.declared.names.SiteId.{SiteId}
 use Rattle.fed_rules.specs.declared.commands.Command.TheVariants as Cmd
 use Rattle.fed_rules.specs.declared.events.CoordEvent.TheVariants as Ev
 use Rattle.fed_rules.specs.Requests.{Submits}
@@ -8,10 +9,11 @@ use Rattle.fed_hosts.specs.declared.ports.Port.{Port}
 use Rattle.host_laws.specs.CoordHearing.{BearsFrom}
 use Rattle.host_laws.specs.CoordTurns.{coord_past_of}
 use Rattle.fed_hosts.specs.Serving.{has_failed}
+use Rattle.fed_hosts.specs.Turns.{MakesOne}
 use Rattle.fed_hosts.proofs.CoordHeard.{late_from, unread_from}
-use Rattle.fed_hosts.proofs.CoordSame.{coord_kept_for, same_coord, tooks_beside}
-use Rattle.fed_hosts.proofs.CoordServed.{coord_keeps_failed}
-use Rattle.fed_hosts.proofs.CoordTurning.{aside_keeps, back_keeps, coord_last_fits, coord_line_ready, coord_take_line, holds_same, port_among, was_put_back}
+use Rattle.fed_hosts.proofs.CoordSame.{coord_kept_for, same_coord}
+use Rattle.fed_hosts.proofs.CoordServed.{coord_keeps_failed, coord_view_beside}
+use Rattle.fed_hosts.proofs.CoordTurning.{aside_keeps, back_keeps, coord_last_fits, coord_line_ready, coord_take_line, leaves_aside, port_among, was_put_back}
 use Rattle.fed_hosts.proofs.Faults.{clean}
 use Rattle.fed_hosts.proofs.Polled.{arrived_last}
 use Rattle.fed_hosts.proofs.Words.{not_some}
@@ -24,9 +26,8 @@ returns-in_default-clause-keeps g c =
     let seen = g.D.Disk.seen in
     let plan = g.N.Plan.coordinator in
     let rings = g.N.Wires.rings in
-    let h = c.requires.keeps in
-    let old = record c.args.self.now { first = c.args.arrived.place + 1 } in
-    let held = holds_same test tells seen plan rings c.args.arrived c.args.self.now old refl h in
+    let old = c.args.self.now in
+    let held = c.requires.keeps in
     let k = held.keeps in
     aside_keeps test tells seen plan rings c.args.arrived old held (unread_from c.args.arrived.packet c.decode_from.result c.decode_from.ensures.only (not_some c.decode_from.result c.in_default.not-Some))
 
@@ -37,11 +38,22 @@ returns-then-envelope-ge-MOST_STAMP-clause-keeps g c =
     let seen = g.D.Disk.seen in
     let plan = g.N.Plan.coordinator in
     let rings = g.N.Wires.rings in
-    let h = c.requires.keeps in
-    let old = record c.args.self.now { first = c.args.arrived.place + 1 } in
-    let held = holds_same test tells seen plan rings c.args.arrived c.args.self.now old refl h in
+    let old = c.args.self.now in
+    let held = c.requires.keeps in
     let k = held.keeps in
     aside_keeps test tells seen plan rings c.args.arrived old held
+    (late_from c.args.arrived.packet c.decode_from.result c.in-Some.envelope c.decode_from.ensures.only c.in-Some.is (omega (arith, c.if-envelope-ge-MOST_STAMP.true)))
+
+pub returns-in_default-clause-takes : goal.returns-in_default-clause-takes
+returns-in_default-clause-takes g c =
+    let old = c.args.self.now in
+    leaves_aside g.N.Wires.rings g.N.Plan.coordinator old.ports.items c.args.arrived old.lines.items c.requires.keeps.keeps.planned c.requires.arrived.within
+    (unread_from c.args.arrived.packet c.decode_from.result c.decode_from.ensures.only (not_some c.decode_from.result c.in_default.not-Some))
+
+pub returns-then-envelope-ge-MOST_STAMP-clause-takes : goal.returns-then-envelope-ge-MOST_STAMP-clause-takes
+returns-then-envelope-ge-MOST_STAMP-clause-takes g c =
+    let old = c.args.self.now in
+    leaves_aside g.N.Wires.rings g.N.Plan.coordinator old.ports.items c.args.arrived old.lines.items c.requires.keeps.keeps.planned c.requires.arrived.within
     (late_from c.args.arrived.packet c.decode_from.result c.in-Some.envelope c.decode_from.ensures.only c.in-Some.is (omega (arith, c.if-envelope-ge-MOST_STAMP.true)))
 
 pub take-requires-clause-stood : goal.take-requires-clause-stood
@@ -52,8 +64,8 @@ take-requires-clause-stood g c =
     let plan = g.N.Plan.coordinator in
     let rings = g.N.Wires.rings in
     let arrived = c.args.arrived in
-    let old = record c.args.self.now { first = arrived.place + 1 } in
-    let held = holds_same test tells seen plan rings arrived c.args.self.now old refl c.requires.keeps in
+    let old = c.args.self.now in
+    let held = c.requires.keeps in
     let k = held.keeps in
     let past = coord_past_of plan k.turns in
     let ports = c.args.self.now.ports.items in
@@ -74,8 +86,8 @@ carry-requires-clause-ready g c =
     let plan = g.N.Plan.coordinator in
     let rings = g.N.Wires.rings in
     let arrived = c.args.arrived in
-    let old = record c.args.self.now { first = arrived.place + 1 } in
-    let held = holds_same test tells seen plan rings arrived c.args.self.now old refl c.requires.keeps in
+    let old = c.args.self.now in
+    let held = c.requires.keeps in
     let k = held.keeps in
     let past = coord_past_of plan k.turns in
     let ports = c.args.self.now.ports.items in
@@ -100,8 +112,8 @@ put_back-requires-clause-last g c =
     let plan = g.N.Plan.coordinator in
     let rings = g.N.Wires.rings in
     let arrived = c.args.arrived in
-    let old = record c.args.self.now { first = arrived.place + 1 } in
-    let held = holds_same test tells seen plan rings arrived c.args.self.now old refl c.requires.keeps in
+    let old = c.args.self.now in
+    let held = c.requires.keeps in
     let k = held.keeps in
     let past = coord_past_of plan k.turns in
     let ports = c.args.self.now.ports.items in
@@ -129,8 +141,8 @@ returns-in-Ok-clause-keeps g c =
     let plan = g.N.Plan.coordinator in
     let rings = g.N.Wires.rings in
     let arrived = c.args.arrived in
-    let old = record c.args.self.now { first = arrived.place + 1 } in
-    let held = holds_same test tells seen plan rings arrived c.args.self.now old refl c.requires.keeps in
+    let old = c.args.self.now in
+    let held = c.requires.keeps in
     let k = held.keeps in
     let past = coord_past_of plan k.turns in
     let ports = c.args.self.now.ports.items in
@@ -146,16 +158,16 @@ returns-in-Ok-clause-keeps g c =
     (c.carry.ensures.carried tells (seen c.take.new.disk)) in
     line.keeps
 
-pub returns-in-Ok-clause-turned : goal.returns-in-Ok-clause-turned
-returns-in-Ok-clause-turned g c =
+pub returns-in-Ok-clause-takes : goal.returns-in-Ok-clause-takes
+returns-in-Ok-clause-takes g c =
     let test = g.P.TakePolicy.policy in
     let tells = g.D.Disk.tells in
     let seen = g.D.Disk.seen in
     let plan = g.N.Plan.coordinator in
     let rings = g.N.Wires.rings in
     let arrived = c.args.arrived in
-    let old = record c.args.self.now { first = arrived.place + 1 } in
-    let held = holds_same test tells seen plan rings arrived c.args.self.now old refl c.requires.keeps in
+    let old = c.args.self.now in
+    let held = c.requires.keeps in
     let k = held.keeps in
     let past = coord_past_of plan k.turns in
     let ports = c.args.self.now.ports.items in
@@ -169,10 +181,17 @@ returns-in-Ok-clause-turned g c =
     let told : CoordTold = record { command = Cmd.Take from.ends.site envelope.index; answer = step.answer; sends = step.sends; after = envelope.stamp; places = c.args.places } in
     let line = coord_take_line test tells seen plan rings old c.take.new.self c.take.new.disk c.carry.new.self c.requires.few (clean _ _ step c.in-Ok.ensures.cause) c.carry.ensures.beside arrived held from envelope step c.args.places at bears sends told refl
     (c.carry.ensures.carried tells (seen c.take.new.disk)) in
-    record { command = told.command; answer = step.answer; of_turn = tt; adds = line.adds }
+    let p = k.planned.each arrived.place from at in
+    record {
+      member = p.member;
+      at = p.at;
+      bears = Some envelope;
+      read = bears;
+      taken = subst (λ (site : SiteId). MakesOne old.lines.items c.carry.new.self.lines.items (Cmd.Take site envelope.index) true) p.site (record { answer = step.answer; adds = line.adds; says = refl });
+    }
 
-pub returns-in-Ok-clause-took : goal.returns-in-Ok-clause-took
-returns-in-Ok-clause-took g c = tooks_beside c.args.self.now.ports.items c.carry.new.self.ports.items c.carry.ensures.beside.ports
+pub returns-in-Ok-clause-others : goal.returns-in-Ok-clause-others
+returns-in-Ok-clause-others g c = coord_view_beside (record c.args.self.now { manager = c.take.new.self; disk = c.take.new.disk }) c.carry.new.self c.carry.ensures.beside
 
 pub returns-in-Err-clause-failed : goal.returns-in-Err-clause-failed
 returns-in-Err-clause-failed g c =
@@ -182,8 +201,8 @@ returns-in-Err-clause-failed g c =
     let plan = g.N.Plan.coordinator in
     let rings = g.N.Wires.rings in
     let arrived = c.args.arrived in
-    let old = record c.args.self.now { first = arrived.place + 1 } in
-    let held = holds_same test tells seen plan rings arrived c.args.self.now old refl c.requires.keeps in
+    let old = c.args.self.now in
+    let held = c.requires.keeps in
     let k = held.keeps in
     let past = coord_past_of plan k.turns in
     let ports = c.args.self.now.ports.items in

@@ -1,6 +1,5 @@
-use Rattle.std.proofs.Common.{◌≡◌, ◌≤◌, ◌<◌, false, length, IfErr, inl, inr, refl, sym, ap, ◌∙◌, subst, arith}
+use Rattle.std.proofs.Common.{◌≡◌, false, length, IfErr, inl, inr, refl, sym, ap, ◌∙◌, subst, arith}
 use Rattle.fed_rules.specs.declared.answers.Answer.{Answer}
-use Rattle.actor_store.specs.declared.errors.StepErr.{StepErr}
 use Rattle.global_manager.proofs.Fit.{recalled}
 use Rattle.global_manager.specs.Stands.{Stands}
 use Rattle.fed_hosts.specs.declared.coord_actor.CoordTold.{CoordTold}
@@ -8,7 +7,6 @@ use Rattle.fed_hosts.specs.CoordRooms.{HasCoordRoom}
 use Rattle.fed_hosts.specs.CoordServing.{HasCoordFailed, request_of_call}
 use Rattle.host_laws.specs.CoordTurns.{coord_past_of}
 use Rattle.fed_hosts.specs.CoordViews.{MayAnswerNext, command_of_call, coord_view_of}
-use Rattle.host_laws.specs.Plans.{most_lines}
 use Rattle.fed_hosts.proofs.CoordArmed.{coord_as_many}
 use Rattle.fed_hosts.proofs.CoordAsked.{call_right, call_short, call_unspent, coord_call_line, full_spent, last_spent, may_answer, unknown_unspent}
 use Rattle.fed_hosts.proofs.CoordOwn.{soft_call}
@@ -194,7 +192,7 @@ returns-clause-served g c =
         inr (
           known,
           record {
-            others = coord_line_view test tells seen plan rings old ready c.carry.new.self told c.reserve.ensures.same line;
+            others = coord_line_view test tells seen plan rings old ready c.carry.new.self told c.reserve.ensures.same c.reserve.ensures.first line;
             adds = coord_line_adds test tells seen plan rings old ready c.carry.new.self told (command_of_call c.args.call) c.again-copy.result c.reserve.ensures.same line c.command.ensures (sym c.again-copy.ensures);
             right = subst (λ (a : Answer). MayAnswerNext plan k.turns c.args.call a) (sym c.again-copy.ensures)
                 (call_right plan k.turns c.args.call step.answer (may_answer plan.terms plan.programs past (Stands test tells c.ask.new.manager (seen c.ask.new.disk)) (request_of_call plan.terms plan.programs past c.args.call) step served));
@@ -208,14 +206,14 @@ returns-then-is_err-clause-failed g c =
     coord_keeps_same g.P.TakePolicy.policy g.D.Disk.tells g.D.Disk.seen g.N.Plan.coordinator g.N.Wires.rings false c.args.self.now c.reserve.new.self c.reserve.ensures.same c.requires.keeps
 
 pub returns-then-is_err-clause-same : goal.returns-then-is_err-clause-same
-returns-then-is_err-clause-same g c = coord_view_same c.args.self.now c.reserve.new.self c.reserve.ensures.same false
+returns-then-is_err-clause-same g c = coord_view_same c.args.self.now c.reserve.new.self c.reserve.ensures.same c.reserve.ensures.first false
 
 pub returns-in_err-step-clause-same : goal.returns-in_err-step-clause-same
 returns-in_err-step-clause-same g c =
     let old = c.args.self.now in
     let ready = c.reserve.new.self in
     let why = c.in_err-step.field-0.0 in
-    subst (λ r. IfErr r (λ w. coord_view_of ready false ≡ coord_view_of old false)) (sym (handed_on c.from_residual.result why c.from_residual.ensures)) (coord_view_same old ready c.reserve.ensures.same false)
+    subst (λ r. IfErr r (λ w. coord_view_of ready false ≡ coord_view_of old false)) (sym (handed_on c.from_residual.result why c.from_residual.ensures)) (coord_view_same old ready c.reserve.ensures.same c.reserve.ensures.first false)
 
 pub carry-requires-clause-room : goal.carry-requires-clause-room
 carry-requires-clause-room g c =

@@ -1,4 +1,4 @@
-use Rattle.std.proofs.Common.{◌≡◌, ◌<◌, IfErr, refl, sym, subst, arith}
+use Rattle.std.proofs.Common.{IfErr, refl, sym, subst, arith}
 use Rattle.fed_rules.specs.declared.commands.Command.TheVariants as Cmd
 use Rattle.fed_rules.specs.declared.events.CoordEvent.TheVariants as Ev
 use Rattle.fed_rules.specs.Requests.{Submits}
@@ -73,10 +73,6 @@ returns-clause-turned g c =
     let step = c.in_ok-step.step in
     let served = c.in_ok-step.ensures.served plan.terms plan.programs (coord_past_of plan k.turns) k.standing in
     let told : CoordTold = record { command = Cmd.Back 0; answer = step.answer; sends = step.sends; after = 0; places = c.args.places } in
-    record {
-      command = Cmd.Back 0;
-      answer = step.answer;
-      of_turn = refl;
-      adds = (coord_start_line test tells seen plan rings old c.back.new.self c.back.new.disk c.carry.new.self c.requires.few (clean _ _ step c.in_ok-step.ensures.cause) c.carry.ensures.beside k step c.args.places served told refl
-          (c.carry.ensures.carried tells (seen c.back.new.disk))).adds;
-    }
+    let line = coord_start_line test tells seen plan rings old c.back.new.self c.back.new.disk c.carry.new.self c.requires.few (clean _ _ step c.in_ok-step.ensures.cause) c.carry.ensures.beside k step c.args.places served told refl
+    (c.carry.ensures.carried tells (seen c.back.new.disk)) in
+    record { line = record { answer = step.answer; adds = line.adds; says = refl }; others = line.view }

@@ -1,5 +1,6 @@
 use Rattle.std.proofs.Common.{◌≡◌, Bool, false, sym, ap, ◌∙◌, subst}
-use Rattle.fed_hosts.specs.CoordViews.{CoordView, HasCoordTurned, coord_view_of}
+use Rattle.fed_hosts.specs.CoordTurns.{HasCoordTurned}
+use Rattle.fed_hosts.specs.CoordViews.{CoordView, coord_view_of}
 use Rattle.fed_hosts.proofs.coord_host.CoordHost.turn.Goals as goal
 
 pub returns-in-Ok-clause-turned : goal.returns-in-Ok-clause-turned

@@ -1,16 +1,15 @@
-use Rattle.std.proofs.Common.{false, is_some, refl, sym, ap, ◌∙◌, arith}
+use Rattle.std.proofs.Common.{false, is_some, Some, None, refl, sym, ap, ◌∙◌, arith}
 use Rattle.mdb_base.specs.declared.names.Tid.{Tid}
 use Rattle.fed_rules.specs.declared.commands.Command.TheVariants as Cmd
 use Rattle.fed_rules.specs.declared.events.SiteEvent.TheVariants as Ev
 use Rattle.fed_rules.specs.Requests.{Submits}
 use Rattle.local_dbms.proofs.Fit.{recalled}
 use Rattle.site_core.specs.Made.{about}
-use Rattle.scripted_link.specs.Inlets.{taken}
 use Rattle.fed_hosts.specs.declared.site_actor.Told.{Told}
 use Rattle.host_laws.specs.Hearing.{Bears}
 use Rattle.fed_hosts.specs.Serving.{has_failed}
 use Rattle.host_laws.specs.Turns.{past_of}
-use Rattle.fed_hosts.proofs.Lines.{short_past}
+use Rattle.fed_hosts.proofs.Lines.{short_past, view_beside}
 use Rattle.fed_hosts.proofs.Same.{same_self}
 use Rattle.fed_hosts.proofs.Faults.{clean}
 use Rattle.fed_hosts.proofs.Served.{keeps_failed, kept_beside}
@@ -103,8 +102,29 @@ returns-in-Ok-clause-keeps g c =
     (give_line stands tells seen g.N.Plan.sites g.N.Wires.rings old c.give.new.self c.give.new.disk c.carry.new.self c.requires.few (clean _ _ c.in-Ok.step c.in-Ok.ensures.cause) c.carry.ensures.beside c.args.packet h envelope c.in-Ok.step c.args.places bears sends
     (c.carry.ensures.carried tells (seen c.give.new.disk))).keeps
 
-pub returns-in-Ok-clause-turned : goal.returns-in-Ok-clause-turned
-returns-in-Ok-clause-turned g c =
+pub returns-in_default-clause-takes : goal.returns-in_default-clause-takes
+returns-in_default-clause-takes g c home programs past stood =
+    record { bears = None; read = unread_none programs c.args.packet c.decode_to.result c.decode_to.ensures.only (not_some c.decode_to.result c.in_default.not-Some); given = record { lines = refl; says = refl } }
+
+pub returns-then-envelope-ge-MOST_STAMP-clause-takes : goal.returns-then-envelope-ge-MOST_STAMP-clause-takes
+returns-then-envelope-ge-MOST_STAMP-clause-takes g c home programs past stood =
+    let old = c.args.self.now in
+    let envelope = c.in-Some.envelope in
+    record {
+      bears = None;
+      read = elim c.then-envelope-ge-MOST_STAMP.branch [
+        | then-envelope-ge-MOST_STAMP-via-then-envelope-ge-MOST_STAMP w ↦
+            unread_late programs c.args.packet c.decode_to.result envelope c.decode_to.ensures.only c.in-Some.is (omega (arith, w.if-envelope-ge-MOST_STAMP.true))
+        | then-envelope-ge-MOST_STAMP-via-else-envelope-ge-MOST_STAMP+then-is_own w ↦
+            unread_own programs c.args.packet c.decode_to.result envelope c.decode_to.ensures.only c.in-Some.is
+            (ap (λ (t : Tid). is_some (programs t.tx)) (sym w.about.ensures)
+            ∙ sym (w.is_own.ensures home programs past (recalled g.E.LocalEngine.stands g.D.Disk.tells old.dbms (g.D.Disk.seen old.disk) home programs past stood)) ∙ w.if-is_own.true)
+      ];
+      given = record { lines = refl; says = refl };
+    }
+
+pub returns-in-Ok-clause-takes : goal.returns-in-Ok-clause-takes
+returns-in-Ok-clause-takes g c home programs past' stood =
     let stands = g.E.LocalEngine.stands in
     let tells = g.D.Disk.tells in
     let seen = g.D.Disk.seen in
@@ -120,16 +140,23 @@ returns-in-Ok-clause-turned g c =
     record { in_range = c.in-Some.ensures.in_range; spelled = c.in-Some.ensures.spelled; small = omega (arith, c.if-envelope-ge-MOST_STAMP.false); foreign = foreign } in
     let short = short_past stands tells seen g.N.Plan.sites g.N.Wires.rings false h.before old k in
     let sends = c.in-Ok.ensures.served k.plan.home k.plan.programs past k.standing (record { short = short; foreign = foreign; in_range = about_named envelope.message c.in-Some.ensures.in_range.message }) in
+    let line = give_line stands tells seen g.N.Plan.sites g.N.Wires.rings old c.give.new.self c.give.new.disk c.carry.new.self c.requires.few (clean _ _ c.in-Ok.step c.in-Ok.ensures.cause) c.carry.ensures.beside c.args.packet h envelope c.in-Ok.step c.args.places bears sends
+    (c.carry.ensures.carried tells (seen c.give.new.disk)) in
     record {
-      command = Cmd.Give old.ends.site envelope.index;
-      answer = c.in-Ok.step.answer;
-      of_turn = refl;
-      adds = (give_line stands tells seen g.N.Plan.sites g.N.Wires.rings old c.give.new.self c.give.new.disk c.carry.new.self c.requires.few (clean _ _ c.in-Ok.step c.in-Ok.ensures.cause) c.carry.ensures.beside c.args.packet h envelope c.in-Ok.step c.args.places bears sends
-          (c.carry.ensures.carried tells (seen c.give.new.disk))).adds;
+      bears = Some envelope;
+      read = record {
+        in_range = bears.in_range;
+        spelled = bears.spelled;
+        small = bears.small;
+        foreign = none_of (programs (about envelope.message).tx)
+            (ap (λ (t : Tid). is_some (programs t.tx)) (sym c.about.ensures)
+            ∙ sym (c.is_own.ensures home programs past' (recalled stands tells old.dbms (seen old.disk) home programs past' stood)) ∙ c.if-is_own.false);
+      };
+      given = record { answer = c.in-Ok.step.answer; adds = line.adds; says = refl };
     }
 
-pub returns-in-Ok-clause-took : goal.returns-in-Ok-clause-took
-returns-in-Ok-clause-took g c = ap taken c.carry.ensures.beside.inlet
+pub returns-in-Ok-clause-others : goal.returns-in-Ok-clause-others
+returns-in-Ok-clause-others g c = view_beside (record c.args.self.now { dbms = c.give.new.self; disk = c.give.new.disk }) c.carry.new.self c.carry.ensures.beside
 
 pub returns-in-Err-clause-failed : goal.returns-in-Err-clause-failed
 returns-in-Err-clause-failed g c =

@@ -1,4 +1,4 @@
-use Rattle.std.proofs.Common.{false, IfErr, refl, sym, subst, arith}
+use Rattle.std.proofs.Common.{ℕ, false, IfErr, inl, inr, refl, sym, ap, ◌∙◌, subst, arith}
 use Rattle.fed_rules.specs.declared.commands.Command.TheVariants as Cmd
 use Rattle.fed_rules.specs.declared.events.SiteEvent.TheVariants as Ev
 use Rattle.fed_rules.specs.Requests.{Submits}
@@ -6,7 +6,9 @@ use Rattle.scripted_link.specs.Inlets.{taken}
 use Rattle.fed_hosts.specs.declared.site_actor.Told.{Told}
 use Rattle.fed_hosts.specs.Serving.{HasFailed}
 use Rattle.host_laws.specs.Turns.{past_of}
-use Rattle.fed_hosts.proofs.Lines.{short_past, stood_short}
+use Rattle.fed_hosts.specs.Views.{view_of}
+use Rattle.fed_hosts.proofs.Doubts.{first_in_doubt, none_in_doubt}
+use Rattle.fed_hosts.proofs.Lines.{short_past, stood_short, view_beside}
 use Rattle.fed_hosts.proofs.Same.{kept_same, same_self}
 use Rattle.fed_hosts.proofs.Faults.{clean}
 use Rattle.fed_hosts.proofs.Served.{keeps_failed, keeps_same, kept_beside}
@@ -78,8 +80,22 @@ returns-clause-keeps g c =
     (ask_line stands tells seen sites rings old c.ask.new.self c.ask.new.disk c.carry.new.self c.requires.few (clean _ _ c.in_ok-step.step c.in_ok-step.ensures.cause) c.carry.ensures.beside now c.at.result.now.tid c.in_ok-step.step c.args.places sends
     (c.carry.ensures.carried tells (seen c.ask.new.disk))).keeps
 
-pub returns-clause-turned : goal.returns-clause-turned
-returns-clause-turned g c =
+pub returns-then-self-clause-inquires : goal.returns-then-self-clause-inquires
+returns-then-self-clause-inquires g c home programs past stood up = inl (record { few = omega (arith, c.if-self.true); idle = refl; none = record { lines = refl; says = refl } })
+
+pub returns-then-len-eq0-clause-inquires : goal.returns-then-len-eq0-clause-inquires
+returns-then-len-eq0-clause-inquires g c home programs past stood up =
+    let old = c.args.self.now in
+    let doubts = c.doubts-doubts.ensures home past (c.core.ensures.stood g.D.Disk.tells (g.D.Disk.seen old.disk) home programs past stood).holds up in
+    inr (inr (record {
+      eighth = omega (arith, c.if-self.false);
+      idle = refl;
+      sure = none_in_doubt home past c.doubts-doubts.result.now.doubts doubts (omega (arith, c.len.ensures.count, c.if-len-eq0.true));
+      none = record { lines = refl; says = refl };
+    }))
+
+pub returns-clause-inquires : goal.returns-clause-inquires
+returns-clause-inquires g c home programs past stood up =
     let stands = g.E.LocalEngine.stands in
     let tells = g.D.Disk.tells in
     let seen = g.D.Disk.seen in
@@ -90,13 +106,19 @@ returns-clause-turned g c =
     let now = keeps_same stands tells seen sites rings false c.args.self.now old (record { dbms = refl; disk = refl; site = refl; inlet = refl; wire = refl; offers = refl; stops = refl; armed = refl; lines = refl; sent = refl; last = refl }) k in
     let short = short_past stands tells seen sites rings false (taken c.args.self.now.ends.inlet) c.args.self.now k in
     let sends = c.in_ok-step.ensures.served k.plan.home k.plan.programs (past_of k.plan k.turns) k.standing short in
-    record {
-      command = Cmd.Ask old.ends.site c.at.result.now.tid;
-      answer = c.in_ok-step.step.answer;
-      of_turn = refl;
-      adds = (ask_line stands tells seen sites rings old c.ask.new.self c.ask.new.disk c.carry.new.self c.requires.few (clean _ _ c.in_ok-step.step c.in_ok-step.ensures.cause) c.carry.ensures.beside now c.at.result.now.tid c.in_ok-step.step c.args.places sends
-          (c.carry.ensures.carried tells (seen c.ask.new.disk))).adds;
-    }
+    let doubts = c.doubts-doubts.ensures home past (c.core.ensures.stood tells (seen old.disk) home programs past stood).holds up in
+    let line = ask_line stands tells seen sites rings old c.ask.new.self c.ask.new.disk c.carry.new.self c.requires.few (clean _ _ c.in_ok-step.step c.in_ok-step.ensures.cause) c.carry.ensures.beside now c.at.result.now.tid c.in_ok-step.step c.args.places sends
+    (c.carry.ensures.carried tells (seen c.ask.new.disk)) in
+    inr (inl (record {
+      eighth = omega (arith, c.if-self.false);
+      idle = c.carry.ensures.beside.idle;
+      tid = c.at.result.now.tid;
+      least = first_in_doubt home past c.doubts-doubts.result.now.doubts c.at.result.now doubts c.len.ensures.order c.at.ensures;
+      line = record { answer = c.in_ok-step.step.answer; adds = line.adds; says = refl };
+    }))
 
-pub returns-clause-inlet : goal.returns-clause-inlet
-returns-clause-inlet g c = c.carry.ensures.beside.inlet
+pub returns-clause-others : goal.returns-clause-others
+returns-clause-others g c =
+    let mid = record c.args.self.now { idle = 0; dbms = c.ask.new.self; disk = c.ask.new.disk } in
+    let new = c.carry.new.self in
+    view_beside mid new c.carry.ensures.beside ∙ ap (λ (n : ℕ). record (view_of c.args.self.now false) { lines = new.lines.items; idle = n }) (sym c.carry.ensures.beside.idle)

@@ -151,7 +151,7 @@ returns-clause-served g c =
         inr (
           own,
           record {
-            others = line_view stands tells seen sites rings old ready c.carry.new.self told c.reserve.ensures.same line;
+            others = line_view stands tells seen sites rings old ready c.carry.new.self told c.reserve.ensures.same c.reserve.ensures.idle line;
             adds = line_adds stands tells seen sites rings old ready c.carry.new.self told (command_of c.args.verb c.args.tx) c.again-copy.result c.reserve.ensures.same line c.command.ensures (sym c.again-copy.ensures);
             right = c.again-copy.ensures ∙ served.said ∙ sym (next_is k.plan k.turns c.args.verb c.args.tx);
           },

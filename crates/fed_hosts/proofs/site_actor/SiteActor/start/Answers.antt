@@ -1,5 +1,4 @@
 use Rattle.std.proofs.Common.{false, IfErr, refl, sym, subst}
-use Rattle.fed_rules.specs.declared.commands.Command.TheVariants as Cmd
 use Rattle.fed_rules.specs.declared.events.SiteEvent.TheVariants as Ev
 use Rattle.fed_rules.specs.Requests.{Submits}
 use Rattle.scripted_link.specs.Inlets.{taken}
@@ -54,10 +53,6 @@ returns-clause-turned g c =
     let old = c.args.self.now in
     let short = short_past stands tells seen g.N.Plan.sites g.N.Wires.rings false (taken old.ends.inlet) old k in
     let served = c.in_ok-answer.ensures.served k.plan.home k.plan.programs (past_of k.plan k.turns) k.standing short in
-    record {
-      command = Cmd.Back old.ends.site.0;
-      answer = c.in_ok-answer.answer;
-      of_turn = refl;
-      adds = (start_line stands tells seen g.N.Plan.sites g.N.Wires.rings old c.back.new.self c.back.new.disk c.carry.new.self c.requires.few (clean _ _ c.in_ok-answer.answer c.in_ok-answer.ensures.cause) c.carry.ensures.beside k c.in_ok-answer.answer c.args.places served
-          (c.carry.ensures.carried tells (seen c.back.new.disk))).adds;
-    }
+    let line = start_line stands tells seen g.N.Plan.sites g.N.Wires.rings old c.back.new.self c.back.new.disk c.carry.new.self c.requires.few (clean _ _ c.in_ok-answer.answer c.in_ok-answer.ensures.cause) c.carry.ensures.beside k c.in_ok-answer.answer c.args.places served
+    (c.carry.ensures.carried tells (seen c.back.new.disk)) in
+    record { line = record { answer = c.in_ok-answer.answer; adds = line.adds; says = refl }; others = line.view }

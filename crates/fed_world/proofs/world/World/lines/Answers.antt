@@ -3,5 +3,5 @@ use Rattle.fed_rules.specs.declared.commands.Line.{Line}
 use Rattle.fed_world.specs.Worlds.{AreLines}
 use Rattle.fed_world.proofs.world.World.lines.Goals as goal
 
-pub returns : goal.returns
-returns c scenario commands h = subst (λ (ls : List Line). AreLines ls scenario commands) (sym c.as_slice.ensures.value) (record { commands_are = h.commands_are; right = h.right })
+pub returns-clause-right : goal.returns-clause-right
+returns-clause-right c scenario commands h = subst (λ (ls : List Line). AreLines ls scenario commands) (sym c.as_slice.ensures.value) (record { commands_are = h.commands_are; right = h.right })
