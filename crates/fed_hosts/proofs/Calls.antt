@@ -9,6 +9,7 @@ use Rattle.journal_disk.specs.Disk.{Seen}
 use Rattle.local_dbms.specs.declared.dbms.LocalDbms.{LocalDbms}
 use Rattle.local_dbms.specs.Stands.{Serves, Stands}
 use Rattle.scripted_link.specs.Inlets.{taken}
+use Rattle.scripted_link.specs.Outlets.{HasMovedOn}
 use Rattle.scripted_link.specs.Rings.{Wire}
 use Rattle.fed_hosts.specs.declared.site_actor.SiteActor.{SiteActor}
 use Rattle.fed_hosts.specs.declared.site_actor.Told.{Told}
@@ -29,8 +30,8 @@ module _ {E D : Type 0} (stands : E → Start → List EngineLine → Type 0) (t
       → Serves (Stands stands tells dbms (seen disk)) told.answer k.plan.home k.plan.programs (past_of k.plan k.turns) (own_request (rule_of verb) k.plan.home (k.plan.programs tx) (past_of k.plan k.turns) tx)
       → IsSome (k.plan.programs tx) → (verb ≡ Asks.Begin → MayBegin k.plan.home (past_of k.plan k.turns) tx) → length old.lines.items < most_lines → (seen disk).faults ≡ (seen old.disk).faults
       → Carries stands tells (seen disk) (record old { dbms = dbms; disk = disk }) new told
-      → IsBesideLines (record old { dbms = dbms; disk = disk }) new → HasLine stands tells seen sites rings old new told
-  call_line old dbms disk new verb tx told k shape command serves own may few faults carries beside =
+      → IsBesideLines (record old { dbms = dbms; disk = disk }) new → HasMovedOn new.ends.outlet → HasLine stands tells seen sites rings old new told
+  call_line old dbms disk new verb tx told k shape command serves own may few faults carries beside moved_on =
       let plan = k.plan in
       let turns = k.turns in
       let past = past_of plan turns in
@@ -40,4 +41,4 @@ module _ {E D : Type 0} (stands : E → Start → List EngineLine → Type 0) (t
       let stood : Stands stands tells dbms (seen disk) plan.home plan.programs (past_behind plan.home past (request_of plan past told.command None)) =
       subst (λ (c : Command). Stands stands tells dbms (seen disk) plan.home plan.programs (past_behind plan.home past (request_of plan past c None))) (sym command)
       (subst (λ (p : SitePast). Stands stands tells dbms (seen disk) plan.home plan.programs p) (asked_past plan turns verb tx told (Stands stands tells dbms (seen disk)) serves) serves.next) in
-      line_carried stands tells seen sites rings old dbms disk new plan turns told None (taken old.ends.inlet) k.planned k.kept few is (ap is_trip command ∙ command_untripped verb tx) stood refl k.heard (faults ∙ k.faults) carries beside
+      line_carried stands tells seen sites rings old dbms disk new plan turns told None (taken old.ends.inlet) k.planned k.kept few is (ap is_trip command ∙ command_untripped verb tx) stood refl k.heard (faults ∙ k.faults) carries beside moved_on

@@ -42,6 +42,7 @@ use Rattle.fed_hosts.specs.CoordServing.{IsLastAttempt, IsLastGo, MayCall, MayGo
 use Rattle.host_laws.specs.CoordTurns.{CoordTurn, MayAnswer, coord_behind, coord_past_of, coord_request, coord_sends}
 use Rattle.fed_hosts.specs.CoordViews.{IsCoordSpent, IsKnown, IsUnknown, MayAnswerNext, command_of_call}
 use Rattle.fed_hosts.specs.Keeps.{most_begun}
+use Rattle.fed_hosts.specs.Ports.{HaveMovedOn}
 use Rattle.host_laws.specs.Plans.{most_lines}
 use Rattle.host_laws.specs.Turns.{is_trip}
 use Rattle.fed_hosts.proofs.CoordOwn.{GoesNext, IsSoftCall, attempts_more, go_begins, known_go, line_goes, line_heard, soft_call, unknown_go}
@@ -242,8 +243,8 @@ module _ {P D : Type 0} (test : P → Policy) (tells : Bool) (seen : D → Seen)
       (request_of_call plan.terms plan.programs (coord_past_of plan k.turns) call)
       → IsKnown plan.programs call → MayCall plan.terms (coord_past_of plan k.turns) call → length old.lines.items < most_lines → (seen disk).faults ≡ (seen old.disk).faults
       → CoordCarries test tells (seen disk) (record old { manager = manager; disk = disk }) new told
-      → IsBesideCoordLines (record old { manager = manager; disk = disk }) new → HasCoordLine test tells seen plan rings old new told
-  coord_call_line old manager disk new call told k shape command serves known may few faults carries beside =
+      → IsBesideCoordLines (record old { manager = manager; disk = disk }) new → HaveMovedOn new.ports.items → HasCoordLine test tells seen plan rings old new told
+  coord_call_line old manager disk new call told k shape command serves known may few faults carries beside moved_on =
       let turns = k.turns in
       let past = coord_past_of plan turns in
       let same : told ≡ record told { command = command_of_call call; after = 0 } =
@@ -253,4 +254,4 @@ module _ {P D : Type 0} (test : P → Policy) (tells : Bool) (seen : D → Seen)
       subst (λ (c : Command). Stands test tells manager (seen disk) plan.terms plan.programs (coord_behind plan.terms past (coord_request plan past c None))) (sym command)
       (call_next plan turns call told (Stands test tells manager (seen disk)) serves) in
       coord_line_carried test tells seen plan rings old manager disk new turns told None k.planned k.kept few is (ap is_trip command ∙ call_untripped call) stood
-      (heard_alone (coord_turn_of (record old { manager = manager; disk = disk }) told None) turns old.ports.items refl k.heard) (faults ∙ k.faults) carries beside
+      (heard_alone (coord_turn_of (record old { manager = manager; disk = disk }) told None) turns old.ports.items refl k.heard) (faults ∙ k.faults) carries beside moved_on

@@ -8,6 +8,7 @@ use Rattle.fed_messages.specs.declared.Packet.{Packet}
 use Rattle.journal_disk.specs.Disk.{Seen}
 use Rattle.scripted_link.specs.Inlets.{taken}
 use Rattle.scripted_link.specs.Rings.{Wire}
+use Rattle.scripted_link.proofs.Waiting.{unoffered_moved}
 use Rattle.fed_hosts.specs.declared.coord_actor.CoordActor.{CoordActor}
 use Rattle.fed_hosts.specs.declared.coord_parts.CoordParts.{CoordParts}
 use Rattle.fed_hosts.specs.declared.ports.Port.{Port}
@@ -54,6 +55,7 @@ module _ {P D : Type 0} (test : P → Policy) (tells : Bool) (seen : D → Seen)
       };
       settled = λ less. refl;
     };
+    moved_on = λ place port at. unoffered_moved port.ends.outlet (can.new place port at).offered_none;
     heard = λ place port at. subst (λ (ps : List Packet). HasHeardFrom ps []) (sym (can.new place port at).taken_none) (record { takings = []; packets_are = refl; read = tt; envelopes_are = refl });
     standing = can.stood;
     faults = can.faults;
@@ -70,6 +72,7 @@ module _ {P D : Type 0} (test : P → Policy) (tells : Bool) (seen : D → Seen)
         lines = lines_are ∙ l.lines;
         rise = subst (λ (ls : List Stamped). IsRising (λ (line : Stamped). line.stamp) ls) (sym (lines_are ∙ l.lines)) (rise_turned (map (λ (turn : CoordTurn). turn.line) k.turns) (stamps_rise plan k.turns l.right));
         ports = l.ports;
+        moved_on = k.moved_on;
         heard = k.heard;
         short = l.short;
         few = l.few;

@@ -7,7 +7,7 @@ use Rattle.fed_messages.specs.declared.Packet.{Packet}
 use Rattle.global_manager.specs.declared.manager.GlobalManager.{GlobalManager}
 use Rattle.scripted_link.specs.declared.inlet.Inlet.{Inlet}
 use Rattle.scripted_link.specs.Inlets.{empty_count, taken}
-use Rattle.scripted_link.specs.Outlets.{offered}
+use Rattle.scripted_link.specs.Outlets.{HasMovedOn, offered}
 use Rattle.fed_hosts.specs.declared.coord_actor.CoordActor.{CoordActor}
 use Rattle.fed_hosts.specs.declared.ports.Port.{Port}
 use Rattle.fed_hosts.specs.CoordKeeps.{HaveHeard, IsCoordKept, IsPortLogged}
@@ -16,7 +16,7 @@ use Rattle.host_laws.specs.CoordPlans.{CoordPlan}
 use Rattle.fed_hosts.specs.CoordRooms.{IsSameCoord}
 use Rattle.host_laws.specs.CoordTurns.{CoordTurn, offered_to, sent_to, took_from}
 use Rattle.fed_hosts.specs.CoordViews.{CoordView, coord_view_of}
-use Rattle.fed_hosts.specs.Ports.{AreBesidePorts, AreSamePorts, EachBecomes, IsBesidePort, IsSamePort, empties_of, tooks_of}
+use Rattle.fed_hosts.specs.Ports.{AreBesidePorts, AreSamePorts, EachBecomes, HaveMovedOn, IsBesidePort, IsSamePort, empties_of, tooks_of}
 use Rattle.fed_hosts.proofs.Changes.{became, becomes_into, becomes_map, becomes_self, becomes_through, changed_one}
 
 -- the same was sent to the site of the port, and offered
@@ -43,12 +43,21 @@ same_sent old new same = becomes_into (λ place a b. IsSamePort a b) (λ place a
 pub same_beside : (old new : List Port) → AreSamePorts old new → AreBesidePorts old new
 same_beside old new same = becomes_into (λ place a b. IsSamePort a b) (λ place a b. IsBesidePort a b) old new (λ place a b is. record { site = is.site; inlet = is.inlet; wire = is.wire }) same
 
+-- what had moved on still has
+pub moved_ports : (R : ℕ → Port → Port → Type 0) (old new : List Port) → ((place : ℕ) (a b : Port) → R place a b → HasMovedOn a.ends.outlet → HasMovedOn b.ends.outlet) → EachBecomes R old new → HaveMovedOn old → HaveMovedOn new
+moved_ports R old new keeps become had place port at = from (became R old new become place port at) where
+  from : (before : Port) × (slice_get old place ≡ Some before) × R place before port → HasMovedOn port.ends.outlet
+  from (before, was, is) = keeps place before port is (had place before was)
+
+pub moved_same_ports : (old new : List Port) → AreSamePorts old new → HaveMovedOn old → HaveMovedOn new
+moved_same_ports old new same had = moved_ports (λ place a b. IsSamePort a b) old new (λ place a b is. is.moved_on) same had
+
 pub beside_through : (old mid new : List Port) → AreBesidePorts old mid → AreBesidePorts mid new → AreBesidePorts old new
 beside_through old mid new first second =
     becomes_through (λ place a b. IsBesidePort a b) (λ place a b. IsBesidePort a b) (λ place a b. IsBesidePort a b) old mid new (λ place a b c is next. record { site = next.site ∙ is.site; inlet = next.inlet ∙ is.inlet; wire = next.wire ∙ is.wire }) first second
 
 pub same_ports : (ports : List Port) → AreSamePorts ports ports
-same_ports ports = becomes_self (λ place a b. IsSamePort a b) ports (λ place port at. record { site = refl; inlet = refl; wire = refl; offers = refl; sent = refl })
+same_ports ports = becomes_self (λ place a b. IsSamePort a b) ports (λ place port at. record { site = refl; inlet = refl; wire = refl; offers = refl; moved_on = λ h. h; sent = refl })
 
 -- one port more that is the same
 pub same_written : (old now : List Port) (place : ℕ) (before new : Port) → AreSamePorts old now → place < length now → slice_get now place ≡ Some before → IsSamePort before new → AreSamePorts old (slice_set now place new)
@@ -59,9 +68,10 @@ same_written old now place before new h within at is =
       inlet = second.inlet ∙ first.inlet;
       wire = second.wire ∙ first.wire;
       offers = second.offers ∙ first.offers;
+      moved_on = λ h. second.moved_on (first.moved_on h);
       sent = second.sent ∙ first.sent;
     }) h
-    (changed_one (λ p a b. IsSamePort a b) now place before new within at is (λ p port apart was. record { site = refl; inlet = refl; wire = refl; offers = refl; sent = refl }))
+    (changed_one (λ p a b. IsSamePort a b) now place before new within at is (λ p port apart was. record { site = refl; inlet = refl; wire = refl; offers = refl; moved_on = λ h. h; sent = refl }))
 
 -- what was heard stays so beside the ports that took it
 pub heard_beside : (turns : List CoordTurn) (old new : List Port) → AreBesidePorts old new → HaveHeard turns old → HaveHeard turns new

@@ -31,13 +31,14 @@ use Rattle.fed_hosts.specs.CoordRooms.{IsSameCoord}
 use Rattle.host_laws.specs.CoordTurns.{CoordTurn, coord_behind, coord_past_of, coord_request, from_site, took_from}
 use Rattle.fed_hosts.specs.CoordViews.{CoordView, coord_view_of}
 use Rattle.fed_hosts.specs.Keeps.{IsCounting}
+use Rattle.fed_hosts.specs.Ports.{HaveMovedOn}
 use Rattle.host_laws.specs.Plans.{most_lines}
 use Rattle.fed_hosts.specs.Serving.{has_failed}
 use Rattle.host_laws.specs.Turns.{is_trip}
 use Rattle.fed_hosts.specs.Views.{Adds}
 use Rattle.fed_hosts.proofs.CoordAdding.{ports_planned}
 use Rattle.fed_hosts.proofs.CoordArmed.{coord_as_many}
-use Rattle.fed_hosts.proofs.CoordSame.{coord_kept_for, coord_kept_same, coord_view_from, coord_view_same, empties_beside, heard_beside, same_beside, tooks_beside}
+use Rattle.fed_hosts.proofs.CoordSame.{coord_kept_for, coord_kept_same, coord_view_from, coord_view_same, empties_beside, heard_beside, moved_same_ports, same_beside, tooks_beside}
 use Rattle.fed_hosts.proofs.Faults.{counting}
 use Rattle.fed_hosts.proofs.Served.{adds}
 
@@ -80,6 +81,7 @@ module _ {P D : Type 0} (test : P → Policy) (tells : Bool) (seen : D → Seen)
         turns = k.turns;
         planned = ports_planned rings plan old.ports.items new.ports.items (same_beside old.ports.items new.ports.items same.ports) k.planned;
         kept = coord_kept_same old new same plan k.turns k.kept;
+        moved_on = moved_same_ports old.ports.items new.ports.items same.ports k.moved_on;
         heard = k.heard;
         standing = subst (λ (d : D). IsCoordStanding test tells failed new.manager (seen d) plan k.turns) (sym same.disk)
             (subst (λ (m : GlobalManager P). IsCoordStanding test tells failed m (seen old.disk) plan k.turns) (sym same.manager) k.standing);
@@ -89,7 +91,7 @@ module _ {P D : Type 0} (test : P → Policy) (tells : Bool) (seen : D → Seen)
   -- what other ports heard
   abbrev pub coord_keeps_heard : (failed : Bool) (ports others : List Port) (actor : CoordActor P D) (k : CoordKeepsFor test tells seen plan rings failed ports actor) → HaveHeard k.turns others
       → CoordKeepsFor test tells seen plan rings failed others actor
-  coord_keeps_heard failed ports others actor k heard = record { turns = k.turns; planned = k.planned; kept = k.kept; heard = heard; standing = k.standing; faults = k.faults }
+  coord_keeps_heard failed ports others actor k heard = record { turns = k.turns; planned = k.planned; kept = k.kept; moved_on = k.moved_on; heard = heard; standing = k.standing; faults = k.faults }
 
   abbrev pub coord_keeps_same : (failed : Bool) (old new : CoordActor P D) → IsSameCoord old new → CoordKeeps test tells seen plan rings failed old → CoordKeeps test tells seen plan rings failed new
   coord_keeps_same failed old new same k =
@@ -98,11 +100,12 @@ module _ {P D : Type 0} (test : P → Policy) (tells : Bool) (seen : D → Seen)
 
   -- behind a line that was carried
   keeps_armed : (turn : CoordTurn) (turns : List CoordTurn) (old new : CoordActor P D) (lines : List Stamped) → IsCoordPlanned rings plan old.ports.items → HasCoordArmed test tells (seen old.disk) plan (turn ∷ turns) lines new
-      → IsBesideCoordLines old new → HaveHeard (turn ∷ turns) old.ports.items → (seen old.disk).faults ≡ plan.faults → CoordKeeps test tells seen plan rings false new
-  keeps_armed turn turns old new lines planned h beside heard faults = record {
+      → IsBesideCoordLines old new → HaveMovedOn new.ports.items → HaveHeard (turn ∷ turns) old.ports.items → (seen old.disk).faults ≡ plan.faults → CoordKeeps test tells seen plan rings false new
+  keeps_armed turn turns old new lines planned h beside moved_on heard faults = record {
     turns = h.more;
     planned = ports_planned rings plan old.ports.items new.ports.items beside.ports planned;
     kept = h.kept;
+    moved_on = moved_on;
     heard = heard_took (turn ∷ turns) h.more new.ports.items h.took (heard_beside (turn ∷ turns) old.ports.items new.ports.items beside.ports heard);
     standing = subst (λ (d : D). Stands test tells new.manager (seen d) plan.terms plan.programs (coord_past_of plan h.more)) (sym beside.disk) h.stood;
     faults = subst (λ (d : D). (seen d).faults ≡ plan.faults) (sym beside.disk) faults;
@@ -118,6 +121,7 @@ module _ {P D : Type 0} (test : P → Policy) (tells : Bool) (seen : D → Seen)
         turns = k.turns;
         planned = ports_planned rings plan old.ports.items new.ports.items beside k.planned;
         kept = coord_kept_same (record old { manager = manager; disk = disk }) new same plan k.turns (coord_kept_for old manager disk plan k.turns k.kept);
+        moved_on = moved_same_ports old.ports.items new.ports.items same.ports k.moved_on;
         heard = k.heard;
         standing = subst (λ (d : D). IsCoordStanding test tells (has_failed why) new.manager (seen d) plan k.turns) (sym same.disk)
             (subst (λ (m : GlobalManager P). IsCoordStanding test tells (has_failed why) m (seen disk) plan k.turns) (sym same.manager) (standing why request fails));
@@ -140,14 +144,14 @@ module _ {P D : Type 0} (test : P → Policy) (tells : Bool) (seen : D → Seen)
       → Stands test tells manager (seen disk) plan.terms plan.programs (coord_behind plan.terms (coord_past_of plan turns) (coord_request plan (coord_past_of plan turns) told.command took))
       → HaveHeard (coord_turn_of (record old { manager = manager; disk = disk }) told took ∷ turns) old.ports.items → (seen disk).faults ≡ plan.faults
       → CoordCarries test tells (seen disk) (record old { manager = manager; disk = disk }) new told
-      → IsBesideCoordLines (record old { manager = manager; disk = disk }) new → HasCoordLine old new told
-  coord_line_carried old manager disk new turns told took planned kept few is untripped stood heard faults carries beside =
+      → IsBesideCoordLines (record old { manager = manager; disk = disk }) new → HaveMovedOn new.ports.items → HasCoordLine old new told
+  coord_line_carried old manager disk new turns told took planned kept few is untripped stood heard faults carries beside moved_on =
       let mid : CoordActor P D = record old { manager = manager; disk = disk } in
       let count = coord_as_many plan turns old kept.logged in
       let turn = coord_turn_of mid told took in
       let h = carries rings plan turns took (coord_kept_for old manager disk plan turns kept) (omega (arith, count, few)) is untripped planned stood in
       record {
-        keeps = keeps_armed turn turns mid new (old.lines.items ++ turn.line ∷ []) planned h beside heard faults;
+        keeps = keeps_armed turn turns mid new (old.lines.items ++ turn.line ∷ []) planned h beside moved_on heard faults;
         view = coord_view_beside mid new beside;
         adds = adds old.lines.items new.lines.items turn.line told.command told.answer h.arming h.is_arming refl refl h.lines;
       }

@@ -30,7 +30,7 @@ use Rattle.global_manager.specs.Stands.{AsksNothing, Sends, SomeManaged, Stands}
 use Rattle.scripted_link.specs.declared.inlet.Inlet.{Inlet}
 use Rattle.scripted_link.specs.Inlets.{inlet_ring, taken}
 use Rattle.scripted_link.specs.declared.outlet.Outlet.{Outlet}
-use Rattle.scripted_link.specs.Outlets.{IsReserved, offered, outlet_wire}
+use Rattle.scripted_link.specs.Outlets.{HasMovedOn, IsReserved, offered, outlet_wire}
 use Rattle.scripted_link.specs.Rings.{Wire}
 use Rattle.fed_hosts.specs.declared.coord_actor.CoordActor.{CoordActor}
 use Rattle.fed_hosts.specs.declared.coord_actor.CoordTold.{CoordTold}
@@ -47,14 +47,14 @@ use Rattle.fed_hosts.specs.CoordTurns.{TakesFrom}
 use Rattle.host_laws.specs.CoordTurns.{CoordTurn, MayAnswer, coord_behind, coord_past_of, coord_request, coord_sends}
 use Rattle.host_laws.specs.Plans.{most_lines}
 use Rattle.host_laws.specs.Lines.{stamp_of}
-use Rattle.fed_hosts.specs.Ports.{EachBecomes, HaveFewSent, HasPortRoom, HavePortRoom}
+use Rattle.fed_hosts.specs.Ports.{EachBecomes, HaveFewSent, HaveMovedOn, HasPortRoom, HavePortRoom}
 use Rattle.fed_hosts.specs.Rounds.{ArePolled, ArePutBack, IsBesideInlet, IsPolled, IsPutBack, arrived_at}
 use Rattle.fed_hosts.proofs.Changes.{became, becomes_into, changed_one, item_there, some_same}
 use Rattle.fed_hosts.proofs.CoordAdding.{KeepsRings, rings_planned}
 use Rattle.fed_hosts.proofs.CoordAsked.{begins_printed, submit_counts}
 use Rattle.fed_hosts.proofs.CoordHeard.{heard_aside, heard_back, heard_none, heard_taken}
 use Rattle.fed_hosts.proofs.CoordOwn.{line_goes}
-use Rattle.fed_hosts.proofs.CoordSame.{HasSentSame, coord_kept_ports}
+use Rattle.fed_hosts.proofs.CoordSame.{HasSentSame, coord_kept_ports, moved_ports}
 use Rattle.fed_hosts.proofs.CoordServed.{CoordCarries, HasCoordLine, coord_line_carried, heard_alone}
 use Rattle.fed_hosts.proofs.Polled.{arrived_elsewhere, arrived_here, beside_inlet, with_inlet}
 
@@ -150,6 +150,10 @@ beside_inlets old new beside = becomes_into (λ place a b. IsBesideInlet a b) (�
 sent_inlets : (old new : List Port) → EachBecomes (λ place a b. IsBesideInlet a b) old new → EachBecomes (λ place a b. HasSentSame a b) old new
 sent_inlets old new beside = becomes_into (λ place a b. IsBesideInlet a b) (λ place a b. HasSentSame a b) old new (λ place a b is. record { site = is.site; offers = ap (λ (o : Outlet). offered o) is.outlet; sent = ap (λ v. v.items) is.sent }) beside
 
+-- no outlet was touched
+moved_inlets : (old new : List Port) → EachBecomes (λ place a b. IsBesideInlet a b) old new → HaveMovedOn old → HaveMovedOn new
+moved_inlets old new beside had = moved_ports (λ place a b. IsBesideInlet a b) old new (λ place a b is had. subst (λ (o : Outlet). HasMovedOn o) (sym is.outlet) had) beside had
+
 -- the ports that were asked have the room that they had
 pub room_polled : (arrived : Option Arrived) (old now : List Port) → ArePolled arrived old now → HavePortRoom old → HavePortRoom now
 room_polled arrived old now polled room place port at = from (became (λ place a b. IsPolled (arrived_at arrived place) a b) old now polled place port at) where
@@ -184,6 +188,7 @@ module _ {P D : Type 0} (test : P → Policy) (tells : Bool) (seen : D → Seen)
     turns = k.turns;
     planned = rings_planned rings plan old.ports.items ports.items (beside_inlets old.ports.items ports.items beside) k.planned;
     kept = coord_kept_ports old ports plan k.turns (sent_inlets old.ports.items ports.items beside) k.kept;
+    moved_on = moved_inlets old.ports.items ports.items beside k.moved_on;
     heard = k.heard;
     standing = k.standing;
     faults = k.faults;
@@ -196,7 +201,7 @@ module _ {P D : Type 0} (test : P → Policy) (tells : Bool) (seen : D → Seen)
   pub keeps_none : (old : CoordActor P D) (ports : Vec Port) → ArePolled None old.ports.items ports.items → CoordKeeps test tells seen plan rings false old → CoordKeeps test tells seen plan rings false (record old { ports = ports })
   keeps_none old ports polled k =
       let kept = keeps_inlets false old.ports.items old ports (polled_inlets None old.ports.items ports.items polled) k in
-      record { turns = k.turns; planned = kept.planned; kept = kept.kept; heard = heard_none k.turns old.ports.items ports.items polled k.heard; standing = k.standing; faults = k.faults }
+      record { turns = k.turns; planned = kept.planned; kept = kept.kept; moved_on = kept.moved_on; heard = heard_none k.turns old.ports.items ports.items polled k.heard; standing = k.standing; faults = k.faults }
 
   -- where a packet came in
   pub holds_arrived : (old : CoordActor P D) (ports : Vec Port) (arrived : Arrived) → ArePolled (Some arrived) old.ports.items ports.items → CoordKeeps test tells seen plan rings false old
@@ -208,17 +213,17 @@ module _ {P D : Type 0} (test : P → Policy) (tells : Bool) (seen : D → Seen)
   pub aside_keeps : (arrived : Arrived) (actor : CoordActor P D) → HoldsFrom test tells seen plan rings arrived actor → IsReadFrom arrived.packet None → CoordKeeps test tells seen plan rings false actor
   aside_keeps arrived actor h none =
       let k = h.keeps in
-      record { turns = k.turns; planned = k.planned; kept = k.kept; heard = heard_aside k.turns h.before actor.ports.items arrived h.polled k.heard none; standing = k.standing; faults = k.faults }
+      record { turns = k.turns; planned = k.planned; kept = k.kept; moved_on = k.moved_on; heard = heard_aside k.turns h.before actor.ports.items arrived h.polled k.heard none; standing = k.standing; faults = k.faults }
 
   -- one that was put back
   pub back_keeps : (failed : Bool) (arrived : Arrived) (before : List Port) (actor : CoordActor P D) (ports : Vec Port) → ArePolled (Some arrived) before actor.ports.items → ArePutBack arrived actor.ports.items ports.items
       → CoordKeepsFor test tells seen plan rings failed before actor → CoordKeeps test tells seen plan rings failed (record actor { ports = ports })
   back_keeps failed arrived before actor ports polled back k =
       let kept = keeps_inlets failed before actor ports (becomes_into (λ place a b. IsPutBack (arrived_at (Some arrived) place) a b) (λ place a b. IsBesideInlet a b) actor.ports.items ports.items (λ place a b is. is.beside) back) k in
-      record { turns = k.turns; planned = kept.planned; kept = kept.kept; heard = heard_back k.turns arrived before actor.ports.items ports.items polled back k.heard; standing = k.standing; faults = k.faults }
+      record { turns = k.turns; planned = kept.planned; kept = kept.kept; moved_on = kept.moved_on; heard = heard_back k.turns arrived before actor.ports.items ports.items polled back k.heard; standing = k.standing; faults = k.faults }
 
   module _ (old : CoordActor P D) (manager : GlobalManager P) (disk : D) (new : CoordActor P D) (few : length old.lines.items < most_lines) (faults : (seen disk).faults ≡ (seen old.disk).faults)
-      (beside : IsBesideCoordLines (record old { manager = manager; disk = disk }) new) where
+      (beside : IsBesideCoordLines (record old { manager = manager; disk = disk }) new) (moved_on : HaveMovedOn new.ports.items) where
     -- the line of a start
     pub coord_start_line : (k : CoordKeeps test tells seen plan rings false old) (step : CoordStep) (places : Vec Place)
         → Sends (Stands test tells manager (seen disk)) step plan.terms plan.programs (coord_past_of plan k.turns) Ev.Back → (told : CoordTold)
@@ -230,7 +235,7 @@ module _ {P D : Type 0} (test : P → Policy) (tells : Bool) (seen : D → Seen)
         subst (λ (t : CoordTold). HasCoordLine test tells seen plan rings old new t) (sym told_is)
         (coord_line_carried test tells seen plan rings old manager disk new k.turns made None k.planned k.kept few is refl sends.next
         (heard_alone (coord_turn_of (record old { manager = manager; disk = disk }) made None) k.turns old.ports.items refl k.heard) (faults ∙ k.faults)
-        (subst (λ (t : CoordTold). CoordCarries test tells (seen disk) (record old { manager = manager; disk = disk }) new t) told_is carries) beside)
+        (subst (λ (t : CoordTold). CoordCarries test tells (seen disk) (record old { manager = manager; disk = disk }) new t) told_is carries) beside moved_on)
 
     -- the line of a message that is taken
     pub coord_take_line : (arrived : Arrived) (h : HoldsFrom test tells seen plan rings arrived old) (from : Port) (envelope : Envelope FromSite) (step : CoordStep) (places : Vec Place)
@@ -246,4 +251,4 @@ module _ {P D : Type 0} (test : P → Policy) (tells : Bool) (seen : D → Seen)
         subst (λ (t : CoordTold). HasCoordLine test tells seen plan rings old new t) (sym told_is)
         (coord_line_carried test tells seen plan rings old manager disk new k.turns made (Some envelope) k.planned k.kept few is refl sends.next
         (heard_taken rings plan (coord_turn_of (record old { manager = manager; disk = disk }) made (Some envelope)) k.turns h.before old.ports.items arrived envelope from k.planned k.standing.core.holds.sound.rising h.polled k.heard bears at refl refl)
-        (faults ∙ k.faults) (subst (λ (t : CoordTold). CoordCarries test tells (seen disk) (record old { manager = manager; disk = disk }) new t) told_is carries) beside)
+        (faults ∙ k.faults) (subst (λ (t : CoordTold). CoordCarries test tells (seen disk) (record old { manager = manager; disk = disk }) new t) told_is carries) beside moved_on)

@@ -7,6 +7,7 @@ use Rattle.fed_rules.specs.Runs.{Start, EngineLine}
 use Rattle.fed_messages.specs.declared.Packet.{Packet}
 use Rattle.journal_disk.specs.Disk.{Seen}
 use Rattle.scripted_link.specs.Rings.{Wire}
+use Rattle.scripted_link.proofs.Waiting.{unoffered_moved}
 use Rattle.fed_hosts.specs.declared.site_actor.SiteActor.{SiteActor}
 use Rattle.host_laws.specs.Hearing.{HasHeard}
 use Rattle.host_laws.specs.History.{IsHistory}
@@ -40,6 +41,7 @@ module _ {E D : Type 0} (stands : E → Start → List EngineLine → Type 0) (t
       logged = record { right = tt; lines = lines; sent = sent; offers = can.offered_none; stops = can.stops_are; armed = armed; last = last; low = omega arith; short = omega arith; few_sent = omega arith; counted = λ tx. refl; few = λ tx. omega arith };
       settled = λ less. refl;
     };
+    moved_on = unoffered_moved actor.ends.outlet can.offered_none;
     heard = subst (λ (ps : List Packet). HasHeard can.plan.programs ps []) (sym can.taken_none) (record { takings = []; packets_are = refl; read = tt; envelopes_are = refl });
     standing = can.stood;
     faults = can.faults;
@@ -58,6 +60,7 @@ module _ {E D : Type 0} (stands : E → Start → List EngineLine → Type 0) (t
         rise = subst (λ (ls : List Stamped). IsRising (λ (line : Stamped). line.stamp) ls) (sym (lines_are ∙ l.lines)) (rise_turned (map (λ (turn : SiteTurn). turn.line) k.turns) (stamps_rise k.plan k.turns l.right));
         sent = sent_are ∙ l.sent;
         offers = l.offers;
+        moved_on = k.moved_on;
         heard = k.heard;
         short = l.short;
         few = l.few;

@@ -18,6 +18,7 @@ use Rattle.local_dbms.specs.declared.dbms.LocalDbms.{LocalDbms}
 use Rattle.local_dbms.specs.Stands.{IsShort, Some_site, Stands}
 use Rattle.scripted_link.specs.declared.inlet.Inlet.{Inlet}
 use Rattle.scripted_link.specs.Inlets.{empty_count, taken}
+use Rattle.scripted_link.specs.Outlets.{HasMovedOn}
 use Rattle.scripted_link.specs.Rings.{Wire}
 use Rattle.fed_hosts.specs.declared.site_actor.SiteActor.{SiteActor}
 use Rattle.fed_hosts.specs.declared.site_actor.Told.{Told}
@@ -88,14 +89,14 @@ module _ {E D : Type 0} (stands : E → Start → List EngineLine → Type 0) (t
       → Stands stands tells dbms (seen disk) plan.home plan.programs (past_behind plan.home (past_of plan turns) (request_of plan (past_of plan turns) told.command took))
       → taken old.ends.inlet ≡ packets → HasHeard plan.programs packets (with_some took (found (λ (turn : SiteTurn). turn.took) turns)) → (seen disk).faults ≡ plan.faults
       → Carries stands tells (seen disk) (record old { dbms = dbms; disk = disk }) new told
-      → IsBesideLines (record old { dbms = dbms; disk = disk }) new → HasLine old new told
-  line_carried old dbms disk new plan turns told took packets planned kept few is untripped stood took_are heard faults carries beside =
+      → IsBesideLines (record old { dbms = dbms; disk = disk }) new → HasMovedOn new.ends.outlet → HasLine old new told
+  line_carried old dbms disk new plan turns told took packets planned kept few is untripped stood took_are heard faults carries beside moved_on =
       let mid : SiteActor E D = record old { dbms = dbms; disk = disk } in
       let count = as_many plan turns old kept.logged in
       let turn = turn_of mid told took in
       let h = carries plan turns took (kept_beside old dbms disk plan turns kept) (omega (arith, count, few)) is untripped planned.stops planned.site stood in
       record {
-        keeps = keeps_armed stands tells seen sites rings plan turns turn mid new packets (old.lines.items ++ turn.line ∷ []) planned h beside took_are heard faults;
+        keeps = keeps_armed stands tells seen sites rings plan turns turn mid new packets (old.lines.items ++ turn.line ∷ []) planned h beside moved_on took_are heard faults;
         view = view_beside mid new beside;
         adds = adds old.lines.items new.lines.items turn.line told.command told.answer h.arming h.is_arming refl refl h.lines;
       }

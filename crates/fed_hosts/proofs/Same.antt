@@ -54,4 +54,4 @@ module _ {E D : Type 0} (old new : SiteActor E D) (same : IsSame old new) where
       view_from (view_of new failed) (view_of old failed) same.site same.lines (ap (λ (i : Inlet). taken i) same.inlet) (ap (λ (i : Inlet). empty_count i) same.inlet) idle refl
 
 pub same_self : {E D : Type 0} (actor : SiteActor E D) → IsSame actor actor
-same_self actor = record { dbms = refl; disk = refl; site = refl; inlet = refl; wire = refl; offers = refl; stops = refl; armed = refl; lines = refl; sent = refl; last = refl }
+same_self actor = record { dbms = refl; disk = refl; site = refl; inlet = refl; wire = refl; offers = refl; waiting = refl; free = refl; stops = refl; armed = refl; lines = refl; sent = refl; last = refl }

@@ -18,7 +18,9 @@ use Rattle.local_dbms.specs.declared.dbms.LocalDbms.{LocalDbms}
 use Rattle.local_dbms.specs.Stands.{Fails, OwnPrograms, Stands}
 use Rattle.scripted_link.specs.declared.inlet.Inlet.{Inlet}
 use Rattle.scripted_link.specs.Inlets.{inlet_ring, taken}
+use Rattle.scripted_link.specs.Outlets.{HasMovedOn}
 use Rattle.scripted_link.specs.Rings.{Wire}
+use Rattle.scripted_link.proofs.Waiting.{moved_same}
 use Rattle.fed_hosts.specs.declared.site_actor.SiteActor.{SiteActor}
 use Rattle.fed_hosts.specs.Carrying.{HasArmed, IsBesideLines}
 use Rattle.host_laws.specs.Hearing.{HasHeard, IsRead, Taking}
@@ -73,6 +75,7 @@ module _ {E D : Type 0} (stands : E → Start → List EngineLine → Type 0) (t
     turns = k.turns;
     planned = planned_kept old new same sites rings k.plan k.planned;
     kept = kept_same old new same k.plan k.turns k.kept;
+    moved_on = moved_same old.ends.outlet new.ends.outlet same.waiting same.free k.moved_on;
     heard = subst (λ (i : Inlet). HasHeard k.plan.programs (taken i) (found (λ (t : SiteTurn). t.took) k.turns)) (sym same.inlet) k.heard;
     standing = subst (λ (d : D). IsStanding stands tells failed new.dbms (seen d) k.plan k.turns) (sym same.disk)
         (subst (λ (m : LocalDbms E). IsStanding stands tells failed m (seen old.disk) k.plan k.turns) (sym same.dbms) k.standing);
@@ -81,13 +84,14 @@ module _ {E D : Type 0} (stands : E → Start → List EngineLine → Type 0) (t
 
   -- behind a line that was carried
   pub keeps_armed : (plan : SitePlan) (turns : List SiteTurn) (turn : SiteTurn) (old new : SiteActor E D) (packets : List Packet) (lines : List Stamped) → IsPlanned sites rings plan old.ends
-      → HasArmed stands tells (seen old.disk) plan (turn ∷ turns) lines new → IsBesideLines old new → taken old.ends.inlet ≡ packets
+      → HasArmed stands tells (seen old.disk) plan (turn ∷ turns) lines new → IsBesideLines old new → HasMovedOn new.ends.outlet → taken old.ends.inlet ≡ packets
       → HasHeard plan.programs packets (found (λ (t : SiteTurn). t.took) (turn ∷ turns)) → (seen old.disk).faults ≡ plan.faults → Keeps stands tells seen sites rings false new
-  keeps_armed plan turns turn old new packets lines planned h beside took heard faults = record {
+  keeps_armed plan turns turn old new packets lines planned h beside moved_on took heard faults = record {
     plan = plan;
     turns = h.more;
     planned = planned_same sites rings plan old.ends new.ends beside.site (ap (λ (i : Inlet). inlet_ring i) beside.inlet) beside.wire planned;
     kept = h.kept;
+    moved_on = moved_on;
     heard = subst (λ (es : List (Envelope ToSite)). HasHeard plan.programs (taken new.ends.inlet) es) (sym h.took)
         (subst (λ (ps : List Packet). HasHeard plan.programs ps (found (λ (t : SiteTurn). t.took) (turn ∷ turns))) (sym (ap taken beside.inlet ∙ took)) heard);
     standing = subst (λ (d : D). Stands stands tells new.dbms (seen d) plan.home plan.programs (past_of plan h.more)) (sym beside.disk) h.stood;
@@ -104,6 +108,7 @@ module _ {E D : Type 0} (stands : E → Start → List EngineLine → Type 0) (t
     turns = k.turns;
     planned = planned_kept (record old { dbms = dbms; disk = disk }) new same sites rings k.plan k.planned;
     kept = kept_same (record old { dbms = dbms; disk = disk }) new same k.plan k.turns (kept_beside old dbms disk k.plan k.turns k.kept);
+    moved_on = moved_same old.ends.outlet new.ends.outlet same.waiting same.free k.moved_on;
     heard = k.heard;
     standing = subst (λ (d : D). IsStanding stands tells (has_failed why) new.dbms (seen d) k.plan k.turns) (sym same.disk)
         (subst (λ (m : LocalDbms E). IsStanding stands tells (has_failed why) m (seen disk) k.plan k.turns) (sym same.dbms) (standing why request fails));

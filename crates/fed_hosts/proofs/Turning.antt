@@ -25,6 +25,7 @@ use Rattle.local_dbms.specs.Stands.{OwnPrograms, Sends, Serves, Stands}
 use Rattle.site_core.specs.Made.{about}
 use Rattle.scripted_link.specs.declared.inlet.Inlet.{Inlet}
 use Rattle.scripted_link.specs.Inlets.{inlet_ring, taken}
+use Rattle.scripted_link.specs.Outlets.{HasMovedOn}
 use Rattle.scripted_link.specs.Rings.{Wire}
 use Rattle.fed_hosts.specs.declared.site_actor.SiteActor.{SiteActor}
 use Rattle.fed_hosts.specs.declared.site_actor.Told.{Told}
@@ -89,6 +90,7 @@ module _ {E D : Type 0} (stands : E → Start → List EngineLine → Type 0) (t
           logged = record { right = l.right; lines = l.lines; sent = l.sent; offers = l.offers; stops = l.stops; armed = l.armed; last = l.last; low = l.low; short = l.short; few_sent = l.few_sent; counted = l.counted; few = l.few };
           settled = k.kept.settled;
         };
+        moved_on = k.moved_on;
         heard = k.heard;
         standing = k.standing;
         faults = k.faults;
@@ -111,6 +113,7 @@ module _ {E D : Type 0} (stands : E → Start → List EngineLine → Type 0) (t
         turns = k.turns;
         planned = k.planned;
         kept = k.kept;
+        moved_on = k.moved_on;
         heard = subst (λ (ps : List Packet). HasHeard k.plan.programs ps (found (λ (t : SiteTurn). t.took) k.turns)) (sym h.took)
             (heard_more k.plan.programs h.before (found (λ (t : SiteTurn). t.took) k.turns) packet None k.heard none);
         standing = k.standing;
@@ -124,7 +127,7 @@ module _ {E D : Type 0} (stands : E → Start → List EngineLine → Type 0) (t
       keeps_as failed before (taken inlet) (record old { ends = record old.ends { inlet = inlet } }) (snoc_same before (taken inlet) packet (sym took ∙ back)) (keeps_polled failed before old inlet ring k)
 
   module _ (old : SiteActor E D) (dbms : LocalDbms E) (disk : D) (new : SiteActor E D) (few : length old.lines.items < most_lines) (faults : (seen disk).faults ≡ (seen old.disk).faults)
-      (beside : IsBesideLines (record old { dbms = dbms; disk = disk }) new) where
+      (beside : IsBesideLines (record old { dbms = dbms; disk = disk }) new) (moved_on : HasMovedOn new.ends.outlet) where
     -- the line of a start
     pub start_line : (k : Keeps stands tells seen sites rings false old) (answer : Answer) (places : Vec Place)
         → Serves (Stands stands tells dbms (seen disk)) answer k.plan.home k.plan.programs (past_of k.plan k.turns) (Submits Ev.Back)
@@ -134,7 +137,7 @@ module _ {E D : Type 0} (stands : E → Start → List EngineLine → Type 0) (t
         let told : Told = record { command = Cmd.Back old.ends.site.0; answer = answer; send = None; after = 0; places = places } in
         let none = (line_back k.plan.home (past_of k.plan k.turns)).0 in
         let is = event_told k.plan k.turns told None Ev.Back (ap (λ (s : SiteId). s.0) k.planned.site, refl) refl (omega arith) refl k.standing.core.holds.made tt serves.said (sym none) in
-        line_carried stands tells seen sites rings old dbms disk new k.plan k.turns told None (taken old.ends.inlet) k.planned k.kept few is refl serves.next refl k.heard (faults ∙ k.faults) carries beside
+        line_carried stands tells seen sites rings old dbms disk new k.plan k.turns told None (taken old.ends.inlet) k.planned k.kept few is refl serves.next refl k.heard (faults ∙ k.faults) carries beside moved_on
 
     -- the line of an inquiry
     pub ask_line : (k : Keeps stands tells seen sites rings false old) (tid : Tid) (step : SiteStep) (places : Vec Place)
@@ -144,7 +147,7 @@ module _ {E D : Type 0} (stands : E → Start → List EngineLine → Type 0) (t
     ask_line k tid step places sends carries =
         let told : Told = record { command = Cmd.Ask old.ends.site tid; answer = step.answer; send = step.sends; after = 0; places = places } in
         let is = event_told k.plan k.turns told None (Ev.Ask tid) (k.planned.site, refl) refl (omega arith) refl k.standing.core.holds.made tt sends.said sends.sent in
-        line_carried stands tells seen sites rings old dbms disk new k.plan k.turns told None (taken old.ends.inlet) k.planned k.kept few is refl sends.next refl k.heard (faults ∙ k.faults) carries beside
+        line_carried stands tells seen sites rings old dbms disk new k.plan k.turns told None (taken old.ends.inlet) k.planned k.kept few is refl sends.next refl k.heard (faults ∙ k.faults) carries beside moved_on
 
     -- the line of a message that is taken
     pub give_line : (packet : Packet) (h : HoldsPacket stands tells seen sites rings packet old) (envelope : Envelope ToSite) (step : SiteStep) (places : Vec Place)
@@ -156,7 +159,7 @@ module _ {E D : Type 0} (stands : E → Start → List EngineLine → Type 0) (t
         let told : Told = record { command = Cmd.Give old.ends.site envelope.index; answer = step.answer; send = step.sends; after = envelope.stamp; places = places } in
         let is = event_told k.plan k.turns told (Some envelope) (Ev.Give envelope.message) (k.planned.site, record { envelope = envelope; is = refl; place_is = refl }) refl bears.small refl k.standing.core.holds.made tt sends.said sends.sent in
         line_carried stands tells seen sites rings old dbms disk new k.plan k.turns told (Some envelope) (h.before ++ packet ∷ []) k.planned k.kept few is refl sends.next h.took
-        (heard_more k.plan.programs h.before (found (λ (t : SiteTurn). t.took) k.turns) packet (Some envelope) k.heard bears) (faults ∙ k.faults) carries beside
+        (heard_more k.plan.programs h.before (found (λ (t : SiteTurn). t.took) k.turns) packet (Some envelope) k.heard bears) (faults ∙ k.faults) carries beside moved_on
 
   -- the room and the numbers of a line that may send a message
   pub line_ready : (actor : SiteActor E D) (plan : SitePlan) (turns : List SiteTurn) (told : Told) → IsKept plan turns actor → HasRoom actor → told.after < 2 ^ 62 → (told.places.items ≡ []) × (1 ≤ vec_capacity told.places) → IsReady actor told

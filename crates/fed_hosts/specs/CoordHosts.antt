@@ -20,7 +20,7 @@ use Rattle.host_laws.specs.CoordTurns.{CoordTurn, coord_begun_in, coord_is_due}
 use Rattle.fed_hosts.specs.CoordViews.{CoordView}
 use Rattle.fed_hosts.specs.Keeps.{IsCounting, most_begun}
 use Rattle.host_laws.specs.Plans.{most_lines}
-use Rattle.fed_hosts.specs.Ports.{tooks_of}
+use Rattle.fed_hosts.specs.Ports.{HaveMovedOn, tooks_of}
 
 -- nothing was sent to the site of the port or taken from it
 pub record IsNewPort (port : Port) : Type 0 where
@@ -37,8 +37,9 @@ pub record CanOpenCoord {P : Type 0} (test : P → Policy) (tells : Bool) (plan 
   pub new : (place : ℕ) (port : Port) → slice_get ports place ≡ Some port → IsNewPort port
 
 -- What a host leaves: its lines, with the packets that it took, are what the rules make of its past; its stamps rise, at most 31 of them begin
--- an attempt of a transaction, and no stop has still to be armed; its outlets were offered what they sent; and until a disk call failed its
--- coordinator stands for what the events of the lines made, and its disk's count stands where it stood.
+-- an attempt of a transaction, and no stop has still to be armed; its outlets were offered what they sent, and no packet waits at one while
+-- a slot of its ring is known to be free; and until a disk call failed its coordinator stands for what the events of the lines made, and its
+-- disk's count stands where it stood.
 pub record IsHeldCoord {P D : Type 0} (test : P → Policy) (tells : Bool) (seen : D → Seen) (plan : CoordPlan) (rings : List Wire) (parts : CoordParts P D) : Type 0 where
   pub turns : List CoordTurn
   pub planned : IsCoordPlanned rings plan parts.ports.items
@@ -46,6 +47,7 @@ pub record IsHeldCoord {P D : Type 0} (test : P → Policy) (tells : Bool) (seen
   pub lines : parts.lines ≡ reverse (map (λ (turn : CoordTurn). turn.line) turns)
   pub rise : IsRising (λ (line : Stamped). line.stamp) parts.lines
   pub ports : (place : ℕ) (port : Port) → slice_get parts.ports.items place ≡ Some port → IsPortLogged plan turns port
+  pub moved_on : HaveMovedOn parts.ports.items
   pub heard : HaveHeard turns parts.ports.items
   pub short : length turns ≤ most_lines
   pub few : (tx : Tx) → coord_begun_in tx turns ≤ most_begun

@@ -21,6 +21,7 @@ use Rattle.host_laws.specs.CoordHistory.{IsCoordHistory}
 use Rattle.host_laws.specs.CoordPlans.{CoordPlan}
 use Rattle.host_laws.specs.CoordTurns.{CoordTurn, coord_begun_in, coord_is_due, coord_last_stamp, coord_past_of, coord_trips_of, offered_to, sent_to, took_from}
 use Rattle.fed_hosts.specs.Keeps.{IsCounting, IsStop, most_begun}
+use Rattle.fed_hosts.specs.Ports.{HaveMovedOn}
 use Rattle.host_laws.specs.Plans.{most_lines}
 
 -- the port is that of the site at its place, and its rings are those of the ends: first the one to the site, then the one from it
@@ -81,6 +82,7 @@ pub record CoordKeepsFor {P D : Type 0} (test : P → Policy) (tells : Bool) (se
   pub turns : List CoordTurn
   pub planned : IsCoordPlanned rings plan actor.ports.items
   pub kept : IsCoordKept plan turns actor
+  pub moved_on : HaveMovedOn actor.ports.items
   pub heard : HaveHeard turns ports
   pub standing : IsCoordStanding test tells failed actor.manager (seen actor.disk) plan turns
   pub faults : IsCounting failed plan.faults (seen actor.disk).faults

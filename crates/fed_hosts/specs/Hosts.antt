@@ -10,7 +10,7 @@ use Rattle.journal_disk.specs.Disk.{Seen}
 use Rattle.local_dbms.specs.declared.dbms.LocalDbms.{LocalDbms}
 use Rattle.local_dbms.specs.Stands.{Stands}
 use Rattle.scripted_link.specs.Inlets.{empty_count, taken}
-use Rattle.scripted_link.specs.Outlets.{offered}
+use Rattle.scripted_link.specs.Outlets.{HasMovedOn, offered}
 use Rattle.scripted_link.specs.Rings.{Wire}
 use Rattle.fed_hosts.specs.declared.ends.HostEnds.{HostEnds}
 use Rattle.fed_hosts.specs.declared.parts.SiteParts.{SiteParts}
@@ -33,8 +33,9 @@ pub record CanOpen {E : Type 0} (stands : E → Start → List EngineLine → Ty
   pub uncounted : empty_count ends.inlet ≡ 0
 
 -- What a host leaves: its lines, with the packets that it took, are what the rules make of its past; its stamps rise, at most 31 of them begin
--- an attempt of a transaction, and no stop has still to be armed; its outlet was offered what they sent; and until a disk call failed its
--- site stands for what the events of the lines made, and its disk's count stands where it stood.
+-- an attempt of a transaction, and no stop has still to be armed; its outlet was offered what they sent, and no packet waits there while a
+-- slot of its ring is known to be free; and until a disk call failed its site stands for what the events of the lines made, and its disk's
+-- count stands where it stood.
 pub record IsHeld {E D : Type 0} (stands : E → Start → List EngineLine → Type 0) (tells : Bool) (seen : D → Seen) (sites : List SitePlan) (rings : List Wire) (parts : SiteParts E D) : Type 0 where
   pub plan : SitePlan
   pub turns : List SiteTurn
@@ -44,6 +45,7 @@ pub record IsHeld {E D : Type 0} (stands : E → Start → List EngineLine → T
   pub rise : IsRising (λ (line : Stamped). line.stamp) parts.lines
   pub sent : parts.sent ≡ sent_by plan turns
   pub offers : offered parts.ends.outlet ≡ packets_by plan turns
+  pub moved_on : HasMovedOn parts.ends.outlet
   pub heard : HasHeard plan.programs (taken parts.ends.inlet) (found (λ (turn : SiteTurn). turn.took) turns)
   pub short : length turns ≤ most_lines
   pub few : (tx : Tx) → begun_in tx turns ≤ most_begun

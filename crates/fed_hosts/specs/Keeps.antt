@@ -13,7 +13,7 @@ use Rattle.site_core.specs.Stands.{StopAt, stopped_past}
 use Rattle.local_dbms.specs.declared.dbms.LocalDbms.{LocalDbms}
 use Rattle.local_dbms.specs.Stands.{Stands}
 use Rattle.scripted_link.specs.Inlets.{inlet_ring, taken}
-use Rattle.scripted_link.specs.Outlets.{offered, outlet_wire}
+use Rattle.scripted_link.specs.Outlets.{HasMovedOn, offered, outlet_wire}
 use Rattle.scripted_link.specs.Rings.{Wire}
 use Rattle.fed_hosts.specs.declared.ends.HostEnds.{HostEnds}
 use Rattle.fed_hosts.specs.declared.site_actor.SiteActor.{SiteActor}
@@ -82,6 +82,7 @@ pub record KeepsFor {E D : Type 0} (stands : E → Start → List EngineLine →
   pub turns : List SiteTurn
   pub planned : IsPlanned sites rings plan actor.ends
   pub kept : IsKept plan turns actor
+  pub moved_on : HasMovedOn actor.ends.outlet
   pub heard : HasHeard plan.programs took (found (λ (turn : SiteTurn). turn.took) turns)
   pub standing : IsStanding stands tells failed actor.dbms (seen actor.disk) plan turns
   pub faults : IsCounting failed plan.faults (seen actor.disk).faults

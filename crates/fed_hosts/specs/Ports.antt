@@ -7,7 +7,7 @@ use Rattle.fed_rules.specs.declared.messages.Sent.{Sent}
 use Rattle.session_routes.specs.Posting.{message_to}
 use Rattle.fed_messages.specs.declared.Packet.{Packet}
 use Rattle.scripted_link.specs.Inlets.{empty_count, taken}
-use Rattle.scripted_link.specs.Outlets.{IsReserved, offered, outlet_wire}
+use Rattle.scripted_link.specs.Outlets.{HasMovedOn, IsReserved, offered, outlet_wire}
 use Rattle.fed_hosts.specs.declared.ports.Port.{Port}
 use Rattle.host_laws.specs.CoordLines.{packets_to}
 use Rattle.host_laws.specs.Written.{FitsToSite}
@@ -26,12 +26,13 @@ pub record HasPortRoom (port : Port) : Type 0 where
   pub sent : vec_len port.to < vec_capacity port.to
   pub outlet : IsReserved port.ends.outlet
 
--- nothing but room changed
+-- nothing but room changed, or what moved on at the outlet
 pub record IsSamePort (old new : Port) : Type 0 where
   pub site : new.ends.site ≡ old.ends.site
   pub inlet : new.ends.inlet ≡ old.ends.inlet
   pub wire : outlet_wire new.ends.outlet ≡ outlet_wire old.ends.outlet
   pub offers : offered new.ends.outlet ≡ offered old.ends.outlet
+  pub moved_on : HasMovedOn old.ends.outlet → HasMovedOn new.ends.outlet
   pub sent : new.to.items ≡ old.to.items
 
 -- the port with what a line with this stamp sends to its site
@@ -60,6 +61,10 @@ AreBesidePorts old new = EachBecomes (λ place a b. IsBesidePort a b) old new
 
 abbrev pub HavePortRoom : List Port → Type 0
 HavePortRoom ports = (place : ℕ) (port : Port) → slice_get ports place ≡ Some port → HasPortRoom port
+
+-- no packet waits at a port's outlet while a slot of its ring is known to be free
+abbrev pub HaveMovedOn : List Port → Type 0
+HaveMovedOn ports = (place : ℕ) (port : Port) → slice_get ports place ≡ Some port → HasMovedOn port.ends.outlet
 
 abbrev pub HaveFewSent : List Port → Type 0
 HaveFewSent ports = (place : ℕ) (port : Port) → slice_get ports place ≡ Some port → length port.to.items < 2 ^ 32

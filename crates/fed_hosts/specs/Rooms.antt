@@ -1,7 +1,7 @@
 -- The room that a host has for its next lines, and what a step of its bookkeeping leaves alone.
 use Rattle.std.specs.Prelude.{ℕ, ◌≡◌, ◌+◌, ◌<◌, ◌≤◌, ◌^◌, [], ◌∷◌, ◌++◌, IsSome, length, option_to_list}
 use Rattle.std.specs.Vec.{vec_len, vec_capacity}
-use Rattle.scripted_link.specs.Outlets.{IsReserved, offered, outlet_wire}
+use Rattle.scripted_link.specs.Outlets.{IsReserved, free_slots, offered, outlet_wire, queued}
 use Rattle.fed_hosts.specs.declared.site_actor.SiteActor.{SiteActor}
 use Rattle.fed_hosts.specs.declared.site_actor.Told.{Told}
 use Rattle.host_laws.specs.Lines.{next_stamp, packets_at}
@@ -47,6 +47,8 @@ pub record IsSame {E D : Type 0} (old new : SiteActor E D) : Type 0 where
   pub inlet : new.ends.inlet ≡ old.ends.inlet
   pub wire : outlet_wire new.ends.outlet ≡ outlet_wire old.ends.outlet
   pub offers : offered new.ends.outlet ≡ offered old.ends.outlet
+  pub waiting : queued new.ends.outlet ≡ queued old.ends.outlet
+  pub free : free_slots new.ends.outlet ≡ free_slots old.ends.outlet
   pub stops : new.stops ≡ old.stops
   pub armed : new.armed ≡ old.armed
   pub lines : new.lines.items ≡ old.lines.items

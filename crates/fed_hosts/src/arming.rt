@@ -5,6 +5,7 @@ ghost use Rattle.fed_rules.specs.declared.messages.ToSite.{ToSite};
 ghost use Rattle.fed_messages.specs.declared.Envelope.{Envelope};
 ghost use Rattle.journal_disk.specs.Disk.{Seen};
 ghost use Rattle.local_dbms.specs.Stands.{Stands};
+ghost use Rattle.scripted_link.specs.Outlets.{HasMovedOn};
 ghost use Rattle.fed_hosts.specs.Carrying.{HasArmed, IsBesideLines, IsTold, turn_of};
 ghost use Rattle.fed_hosts.specs.Keeps.{IsKept, IsLogged, IsStop};
 ghost use Rattle.host_laws.specs.Plans.{SitePlan, most_lines};
@@ -67,6 +68,7 @@ impl<E: LocalEngine, D: Disk> SiteActor<E, D> {
             → IsKept plan turns self.old → length turns < most_lines → IsTold plan turns told took → is_trip told.command ≡ false → Each (IsStop plan.home.site.0) plan.stops → self.old.ends.site ≡ plan.home.site
             → Stands E.stands tells self.old.dbms seen plan.home plan.programs (past_of plan (turn_of self.old told took ∷ turns))
             → HasArmed E.stands tells seen plan (turn_of self.old told took ∷ turns) (self.old.lines.items ++ (turn_of self.old told took).line ∷ []) self.new }
+        ensures moved_on { HasMovedOn self.new.ends.outlet }
         ensures beside { IsBesideLines self.old self.new }
     {
         self.keep(told);

@@ -9,6 +9,7 @@ ghost use Rattle.fed_hosts.specs.CoordCarrying.{HasCoordArmed, IsBesideCoordLine
 ghost use Rattle.fed_hosts.specs.CoordKeeps.{IsCoordKept, IsCoordLogged, IsCoordPlanned};
 ghost use Rattle.host_laws.specs.CoordPlans.{CoordPlan};
 ghost use Rattle.fed_hosts.specs.CoordRooms.{HasCoordLineRoom, HasCoordRoom, IsCoordReady};
+ghost use Rattle.fed_hosts.specs.Ports.{HaveMovedOn};
 ghost use Rattle.host_laws.specs.CoordTurns.{CoordTurn, coord_past_of};
 ghost use Rattle.host_laws.specs.Plans.{most_lines};
 ghost use Rattle.host_laws.specs.Turns.{is_trip};
@@ -61,6 +62,7 @@ impl<P: TakePolicy, D: Disk> CoordActor<P, D> {
             → IsCoordKept plan turns self.old → length turns < most_lines → IsCoordTold plan turns told took → is_trip told.command ≡ false → IsCoordPlanned rings plan self.old.ports.items
             → Stands P.policy tells self.old.manager seen plan.terms plan.programs (coord_past_of plan (coord_turn_of self.old told took ∷ turns))
             → HasCoordArmed P.policy tells seen plan (coord_turn_of self.old told took ∷ turns) (self.old.lines.items ++ (coord_turn_of self.old told took).line ∷ []) self.new }
+        ensures moved_on { HaveMovedOn self.new.ports.items }
         ensures beside { IsBesideCoordLines self.old self.new }
     {
         self.keep(told);

@@ -1,6 +1,6 @@
 //! What a line of the coordinator sends to all sites.
 ghost use Rattle.std.specs.Prelude.{◌≡◌, ◌≤◌, [], OnOk, length, vec_capacity};
-ghost use Rattle.fed_hosts.specs.Ports.{ArePosted, AreSamePorts, HaveFewSent, HavePortRoom, places_at};
+ghost use Rattle.fed_hosts.specs.Ports.{ArePosted, AreSamePorts, HaveFewSent, HaveMovedOn, HavePortRoom, places_at};
 
 use crate::ports::Port;
 use fed_rules::{Place, Sent};
@@ -34,6 +34,7 @@ pub(crate) fn post_all(ports: &mut Vec<Port>, sends: &[Sent], stamp: u64, places
 /// Moves what is queued at each outlet on its way.
 pub(crate) fn flush_all(ports: &mut Vec<Port>)
     ensures same { AreSamePorts ports.old.items ports.new.items }
+    ensures moved_on { HaveMovedOn ports.new.items }
 {
     for place in 0..ports.len() {
         ports[place].ends.outlet.flush();

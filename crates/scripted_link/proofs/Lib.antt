@@ -1,3 +1,4 @@
 pub mod Queues
 pub mod Made
 pub mod Scripts
+pub mod Waiting

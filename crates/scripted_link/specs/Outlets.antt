@@ -1,5 +1,5 @@
 -- What contracts see of an outlet.
-use Rattle.std.specs.Prelude.{ℕ, ◌+◌, ◌<◌, ◌≤◌, List, length}
+use Rattle.std.specs.Prelude.{ℕ, ◌≡◌, ◌+◌, ◌<◌, ◌≤◌, ◌⊎◌, List, [], length}
 use Rattle.std.specs.Vec.{vec_len, vec_capacity}
 use Rattle.std.specs.VecDeque.{deque_len, deque_capacity}
 use Rattle.rtrb.specs.Ring.{sent, known_free}
@@ -30,3 +30,7 @@ free_slots o = known_free o.producer
 -- one offer takes no memory
 abbrev pub IsReserved : Outlet → Type 0
 IsReserved o = (vec_len o.offered < vec_capacity o.offered) × (deque_len o.queued + (length o.script + 2) ≤ deque_capacity o.queued)
+
+-- no packet waits at the outlet while a slot of its ring is known to be free
+abbrev pub HasMovedOn : Outlet → Type 0
+HasMovedOn o = (queued o ≡ []) ⊎ (free_slots o ≡ 0)

@@ -54,6 +54,7 @@ impl Outlet {
         ensures offered { offered self.new ≡ offered self.old }
         ensures moved { moved self.new ≡ moved self.old }
         ensures queued { queued self.new ≡ queued self.old }
+        ensures room { free_slots self.new ≡ free_slots self.old }
     {
         let copies = self.script.len().checked_add(2).ok_or(Memory)?;
         self.offered.try_reserve(1)?;

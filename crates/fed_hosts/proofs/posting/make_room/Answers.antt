@@ -1,8 +1,9 @@
 use Rattle.std.proofs.Common.{◌≡◌, ◌<◌, Some, length, slice_get, refl, arith}
 use Rattle.std.proofs.lemmas.Option.{slice_get_read, slice_get_within}
 use Rattle.fed_hosts.specs.declared.ports.Port.{Port}
+use Rattle.fed_hosts.specs.Ports.{HasPortRoom}
 use Rattle.fed_hosts.proofs.CoordSame.{same_ports, same_written}
-use Rattle.fed_hosts.proofs.PortPlaces.{room_next}
+use Rattle.fed_hosts.proofs.PortPlaces.{next_port}
 use Rattle.fed_hosts.proofs.posting.make_room.Goals as goal
 
 pub loop-place-init : goal.loop-place-init
@@ -18,7 +19,7 @@ loop-place-preserved c =
     let at : slice_get now p ≡ Some port = slice_get_read now (length now) p port refl within c.index_mut.ensures.value in
     record {
       same = same_written c.args.ports.now.items now p port c.reserve.new.self c.loop-place.invariant.same within at c.reserve.ensures.same;
-      room = room_next p now c.reserve.new.self within c.in_ok-reserve.ensures.room c.loop-place.invariant.room;
+      room = next_port HasPortRoom p now c.reserve.new.self within c.in_ok-reserve.ensures.room c.loop-place.invariant.room;
     }
 
 pub returns-in_err-reserve-clause-same : goal.returns-in_err-reserve-clause-same

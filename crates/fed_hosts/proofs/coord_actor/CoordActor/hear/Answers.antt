@@ -154,7 +154,7 @@ returns-in-Ok-clause-keeps g c =
     let bears : BearsFrom arrived.packet envelope = record { in_range = c.in-Some.ensures.in_range; spelled = c.in-Some.ensures.spelled; small = omega (arith, c.if-envelope-ge-MOST_STAMP.false) } in
     let sends = c.in-Ok.ensures.served plan.terms plan.programs past k.standing among in
     let told : CoordTold = record { command = Cmd.Take from.ends.site envelope.index; answer = step.answer; sends = step.sends; after = envelope.stamp; places = c.args.places } in
-    let line = coord_take_line test tells seen plan rings old c.take.new.self c.take.new.disk c.carry.new.self c.requires.few (clean _ _ step c.in-Ok.ensures.cause) c.carry.ensures.beside arrived held from envelope step c.args.places at bears sends told refl
+    let line = coord_take_line test tells seen plan rings old c.take.new.self c.take.new.disk c.carry.new.self c.requires.few (clean _ _ step c.in-Ok.ensures.cause) c.carry.ensures.beside c.carry.ensures.moved_on arrived held from envelope step c.args.places at bears sends told refl
     (c.carry.ensures.carried tells (seen c.take.new.disk)) in
     line.keeps
 
@@ -179,7 +179,7 @@ returns-in-Ok-clause-takes g c =
     let bears : BearsFrom arrived.packet envelope = record { in_range = c.in-Some.ensures.in_range; spelled = c.in-Some.ensures.spelled; small = omega (arith, c.if-envelope-ge-MOST_STAMP.false) } in
     let sends = c.in-Ok.ensures.served plan.terms plan.programs past k.standing among in
     let told : CoordTold = record { command = Cmd.Take from.ends.site envelope.index; answer = step.answer; sends = step.sends; after = envelope.stamp; places = c.args.places } in
-    let line = coord_take_line test tells seen plan rings old c.take.new.self c.take.new.disk c.carry.new.self c.requires.few (clean _ _ step c.in-Ok.ensures.cause) c.carry.ensures.beside arrived held from envelope step c.args.places at bears sends told refl
+    let line = coord_take_line test tells seen plan rings old c.take.new.self c.take.new.disk c.carry.new.self c.requires.few (clean _ _ step c.in-Ok.ensures.cause) c.carry.ensures.beside c.carry.ensures.moved_on arrived held from envelope step c.args.places at bears sends told refl
     (c.carry.ensures.carried tells (seen c.take.new.disk)) in
     let p = k.planned.each arrived.place from at in
     record {

@@ -160,7 +160,7 @@ returns-clause-keeps g c =
     let count = ap length c.reserve.ensures.same.lines in
     let told : CoordTold = record { command = c.command.result; answer = step.answer; sends = step.sends; after = 0; places = c.in-Ok.places } in
     let line = coord_call_line test tells seen plan rings ready c.ask.new.manager c.ask.new.disk c.carry.new.self c.args.call told k refl c.command.ensures served known may
-    (omega (arith, count, old.lines.ok.0, c.len.ensures, c.if-len-ge-MOST_LINES.false)) (clean _ _ step c.in_ok-step.ensures.cause) (c.carry.ensures.carried tells (seen c.ask.new.disk)) c.carry.ensures.beside in
+    (omega (arith, count, old.lines.ok.0, c.len.ensures, c.if-len-ge-MOST_LINES.false)) (clean _ _ step c.in_ok-step.ensures.cause) (c.carry.ensures.carried tells (seen c.ask.new.disk)) c.carry.ensures.beside c.carry.ensures.moved_on in
     line.keeps
 
 pub returns-clause-served : goal.returns-clause-served
@@ -183,7 +183,7 @@ returns-clause-served g c =
     let count = ap length c.reserve.ensures.same.lines in
     let told : CoordTold = record { command = c.command.result; answer = step.answer; sends = step.sends; after = 0; places = c.in-Ok.places } in
     let line = coord_call_line test tells seen plan rings ready c.ask.new.manager c.ask.new.disk c.carry.new.self c.args.call told k refl c.command.ensures served known may
-    (omega (arith, count, old.lines.ok.0, c.len.ensures, c.if-len-ge-MOST_LINES.false)) (clean _ _ step c.in_ok-step.ensures.cause) (c.carry.ensures.carried tells (seen c.ask.new.disk)) c.carry.ensures.beside in
+    (omega (arith, count, old.lines.ok.0, c.len.ensures, c.if-len-ge-MOST_LINES.false)) (clean _ _ step c.in_ok-step.ensures.cause) (c.carry.ensures.carried tells (seen c.ask.new.disk)) c.carry.ensures.beside c.carry.ensures.moved_on in
     record {
       turns = k.turns;
       seen = coord_keeps_seen test tells seen plan rings false false old now;

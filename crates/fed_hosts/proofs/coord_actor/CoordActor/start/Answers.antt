@@ -58,7 +58,7 @@ returns-clause-keeps g c =
     let step = c.in_ok-step.step in
     let served = c.in_ok-step.ensures.served plan.terms plan.programs (coord_past_of plan k.turns) k.standing in
     let told : CoordTold = record { command = Cmd.Back 0; answer = step.answer; sends = step.sends; after = 0; places = c.args.places } in
-    (coord_start_line test tells seen plan rings old c.back.new.self c.back.new.disk c.carry.new.self c.requires.few (clean _ _ step c.in_ok-step.ensures.cause) c.carry.ensures.beside k step c.args.places served told refl
+    (coord_start_line test tells seen plan rings old c.back.new.self c.back.new.disk c.carry.new.self c.requires.few (clean _ _ step c.in_ok-step.ensures.cause) c.carry.ensures.beside c.carry.ensures.moved_on k step c.args.places served told refl
     (c.carry.ensures.carried tells (seen c.back.new.disk))).keeps
 
 pub returns-clause-turned : goal.returns-clause-turned
@@ -73,6 +73,6 @@ returns-clause-turned g c =
     let step = c.in_ok-step.step in
     let served = c.in_ok-step.ensures.served plan.terms plan.programs (coord_past_of plan k.turns) k.standing in
     let told : CoordTold = record { command = Cmd.Back 0; answer = step.answer; sends = step.sends; after = 0; places = c.args.places } in
-    let line = coord_start_line test tells seen plan rings old c.back.new.self c.back.new.disk c.carry.new.self c.requires.few (clean _ _ step c.in_ok-step.ensures.cause) c.carry.ensures.beside k step c.args.places served told refl
+    let line = coord_start_line test tells seen plan rings old c.back.new.self c.back.new.disk c.carry.new.self c.requires.few (clean _ _ step c.in_ok-step.ensures.cause) c.carry.ensures.beside c.carry.ensures.moved_on k step c.args.places served told refl
     (c.carry.ensures.carried tells (seen c.back.new.disk)) in
     record { line = record { answer = step.answer; adds = line.adds; says = refl }; others = line.view }

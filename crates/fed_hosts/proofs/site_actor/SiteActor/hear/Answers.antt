@@ -99,7 +99,7 @@ returns-in-Ok-clause-keeps g c =
     record { in_range = c.in-Some.ensures.in_range; spelled = c.in-Some.ensures.spelled; small = omega (arith, c.if-envelope-ge-MOST_STAMP.false); foreign = foreign } in
     let short = short_past stands tells seen g.N.Plan.sites g.N.Wires.rings false h.before old k in
     let sends = c.in-Ok.ensures.served k.plan.home k.plan.programs past k.standing (record { short = short; foreign = foreign; in_range = about_named envelope.message c.in-Some.ensures.in_range.message }) in
-    (give_line stands tells seen g.N.Plan.sites g.N.Wires.rings old c.give.new.self c.give.new.disk c.carry.new.self c.requires.few (clean _ _ c.in-Ok.step c.in-Ok.ensures.cause) c.carry.ensures.beside c.args.packet h envelope c.in-Ok.step c.args.places bears sends
+    (give_line stands tells seen g.N.Plan.sites g.N.Wires.rings old c.give.new.self c.give.new.disk c.carry.new.self c.requires.few (clean _ _ c.in-Ok.step c.in-Ok.ensures.cause) c.carry.ensures.beside c.carry.ensures.moved_on c.args.packet h envelope c.in-Ok.step c.args.places bears sends
     (c.carry.ensures.carried tells (seen c.give.new.disk))).keeps
 
 pub returns-in_default-clause-takes : goal.returns-in_default-clause-takes
@@ -140,7 +140,7 @@ returns-in-Ok-clause-takes g c home programs past' stood =
     record { in_range = c.in-Some.ensures.in_range; spelled = c.in-Some.ensures.spelled; small = omega (arith, c.if-envelope-ge-MOST_STAMP.false); foreign = foreign } in
     let short = short_past stands tells seen g.N.Plan.sites g.N.Wires.rings false h.before old k in
     let sends = c.in-Ok.ensures.served k.plan.home k.plan.programs past k.standing (record { short = short; foreign = foreign; in_range = about_named envelope.message c.in-Some.ensures.in_range.message }) in
-    let line = give_line stands tells seen g.N.Plan.sites g.N.Wires.rings old c.give.new.self c.give.new.disk c.carry.new.self c.requires.few (clean _ _ c.in-Ok.step c.in-Ok.ensures.cause) c.carry.ensures.beside c.args.packet h envelope c.in-Ok.step c.args.places bears sends
+    let line = give_line stands tells seen g.N.Plan.sites g.N.Wires.rings old c.give.new.self c.give.new.disk c.carry.new.self c.requires.few (clean _ _ c.in-Ok.step c.in-Ok.ensures.cause) c.carry.ensures.beside c.carry.ensures.moved_on c.args.packet h envelope c.in-Ok.step c.args.places bears sends
     (c.carry.ensures.carried tells (seen c.give.new.disk)) in
     record {
       bears = Some envelope;

@@ -119,7 +119,7 @@ returns-clause-keeps g c =
     let told : Told = record { command = c.command.result; answer = c.in_ok-answer.answer; send = None; after = 0; places = c.new.result } in
     (call_line stands tells seen sites rings ready c.ask.new.dbms c.ask.new.disk c.carry.new.self c.args.verb c.args.tx told k refl c.command.ensures served own
     (λ begin. c.if-is_spent.ensures.left refl tells (seen old.disk) k.plan.home k.plan.programs past now.standing own begin)
-    (omega (arith, count, old.lines.ok.0, c.len.ensures, c.if-len-ge-MOST_LINES.false)) (clean _ _ c.in_ok-answer.answer c.in_ok-answer.ensures.cause) (c.carry.ensures.carried tells (seen c.ask.new.disk)) c.carry.ensures.beside).keeps
+    (omega (arith, count, old.lines.ok.0, c.len.ensures, c.if-len-ge-MOST_LINES.false)) (clean _ _ c.in_ok-answer.answer c.in_ok-answer.ensures.cause) (c.carry.ensures.carried tells (seen c.ask.new.disk)) c.carry.ensures.beside c.carry.ensures.moved_on).keeps
 
 pub returns-clause-served : goal.returns-clause-served
 returns-clause-served g c =
@@ -140,7 +140,7 @@ returns-clause-served g c =
     let told : Told = record { command = c.command.result; answer = c.in_ok-answer.answer; send = None; after = 0; places = c.new.result } in
     let line = call_line stands tells seen sites rings ready c.ask.new.dbms c.ask.new.disk c.carry.new.self c.args.verb c.args.tx told k refl c.command.ensures served own
     (λ begin. c.if-is_spent.ensures.left refl tells (seen old.disk) k.plan.home k.plan.programs past now.standing own begin)
-    (omega (arith, count, old.lines.ok.0, c.len.ensures, c.if-len-ge-MOST_LINES.false)) (clean _ _ c.in_ok-answer.answer c.in_ok-answer.ensures.cause) (c.carry.ensures.carried tells (seen c.ask.new.disk)) c.carry.ensures.beside in
+    (omega (arith, count, old.lines.ok.0, c.len.ensures, c.if-len-ge-MOST_LINES.false)) (clean _ _ c.in_ok-answer.answer c.in_ok-answer.ensures.cause) (c.carry.ensures.carried tells (seen c.ask.new.disk)) c.carry.ensures.beside c.carry.ensures.moved_on in
     record {
       plan = k.plan;
       turns = k.turns;
