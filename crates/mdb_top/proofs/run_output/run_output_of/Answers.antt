@@ -76,7 +76,7 @@ broken-requires-in-Ok-Broken g c =
     let world = c.in-Ok-Broken.world in
     let b = subst (λ (ended : Ended). ComesToEnd disk.tells old new scenario ended) c.in-Ok-Broken.field-0-is c.in-Ok-Broken.ensures.ended in
     off_fit disk.tells old new scenario number world b c.right_lines_fit.ensures c.closing_is_heard.ensures c.lines-in-Ok-Broken.result.now
-    (c.lines-in-Ok-Broken.ensures scenario (before disk.tells old new scenario number world b) b.breaks.broken.has)
+    (c.lines-in-Ok-Broken.ensures.right scenario (before disk.tells old new scenario number world b) b.breaks.broken.has)
 
 pub returns-in-Ok-Broken-clause-output : goal.returns-in-Ok-Broken-clause-output
 returns-in-Ok-Broken-clause-output g c =
@@ -90,5 +90,5 @@ returns-in-Ok-Broken-clause-output g c =
     let sized = all_sized disk.seen (λ one. (g.met.D.Disk g.world.𝓛 g.world.𝓜 g.world.𝓡 (λ s ok. ok, λ p. p, λ f. f, λ q. q)).told_size one c.requires.told) c.run_to_end.new.disks.items in
     let b = subst (λ (ended : Ended). ComesToEnd disk.tells old new scenario ended) c.in-Ok-Broken.field-0-is c.in-Ok-Broken.ensures.ended in
     let done = before disk.tells old new scenario number world b in
-    failed_output disk.tells old new scenario number done lines (c.lines-in-Ok-Broken.ensures scenario done b.breaks.broken.has) (off_breaks disk.tells old new scenario number world b sized lines)
+    failed_output disk.tells old new scenario number done lines (c.lines-in-Ok-Broken.ensures.right scenario done b.breaks.broken.has) (off_breaks disk.tells old new scenario number world b sized lines)
     c.broken-in-Ok-Broken.result c.broken-in-Ok-Broken.ensures
