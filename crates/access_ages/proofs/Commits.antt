@@ -1,8 +1,9 @@
 -- The committed runs through each line, and the youngest of them that passes a test.
-use Rattle.std.proofs.Common.{◌≡◌, ℕ, ◌⊎◌, Bool, true, false, cond, Option, Some, None, List, [], ◌∷◌, inl, inr, refl, sym, ap, subst, arith}
+use Rattle.std.proofs.Common.{◌≡◌, ℕ, Bool, true, false, cond, Option, Some, None, List, [], ◌∷◌, inl, inr, refl, sym, ap, subst, arith}
 use Rattle.mdb_base.specs.declared.names.Tid.{Tid}
-use Rattle.mdb_base.specs.Words.{Each, Among, inserted}
+use Rattle.mdb_base.specs.Words.{Each}
 use Rattle.mdb_base.proofs.ListLaws.{each_map}
+use Rattle.mdb_base.proofs.EachLaws.{among_inserted}
 use Rattle.fed_rules.specs.Runs.{Start, EngineLine, Commits, Run, tid_of, run_at, committed}
 use Rattle.fed_rules.specs.Replies.{age_of}
 use Rattle.fed_rules.specs.EngineLines.{IsRightLine, IsRight}
@@ -14,16 +15,6 @@ use Rattle.run_book.specs.Rivals.{rival_by}
 use Rattle.access_ages.specs.Ages.{younger_of}
 use Rattle.access_ages.specs.Lines.{committed_by, youngest_committed}
 use Rattle.access_ages.proofs.Youngest.{IsUpTo, up_left, up_right, one_of}
-
-among_inserted : {A : Type 0} (Q : A → Type 0) (before : A → A → Bool) (x : A) (ys : List A) → Among Q (x ∷ ys) → Among Q (inserted before x ys)
-among_inserted Q before x [] h = h
-among_inserted Q before x (y ∷ ys) h = by_test (before y x) h (among_inserted Q before x ys)
-  where
-    by_test : (b : Bool) → Q x ⊎ (Q y ⊎ Among Q ys) → (Q x ⊎ Among Q ys → Among Q (inserted before x ys)) → Among Q (cond b (y ∷ inserted before x ys) (x ∷ y ∷ ys))
-    by_test true (inl first) rest = inr (rest (inl first))
-    by_test true (inr (inl second)) rest = inl second
-    by_test true (inr (inr more)) rest = inr (rest (inr more))
-    by_test false h rest = h
 
 -- a committed run stays one, and the one that a line commits is one
 pub among_committed : (start : Start) (older : List EngineLine) (line : EngineLine) (run : Run) → IsRightLine start older line → IsAmong run (committed start older) → IsAmong run (committed start (line ∷ older))

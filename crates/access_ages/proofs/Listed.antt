@@ -1,6 +1,7 @@
 -- The youngest run of which a fact holds is the one that the rules look for.
 use Rattle.std.proofs.Common.{◌≡◌, ℕ, ◌≤◌, ◌<◌, Bool, true, false, cond, nat_lt, Option, Some, None, List, refl, sym, ap, ◌∙◌, arith}
 use Rattle.std.proofs.lemmas.Bool.{ltb-true, ltb-false}
+use Rattle.std.proofs.lemmas.Option.{same_Some}
 use Rattle.mdb_base.specs.declared.names.Tid.{Tid}
 use Rattle.mdb_base.specs.Words.{map_some, greatest}
 use Rattle.mdb_base.proofs.ListLaws.{each_among}
@@ -9,7 +10,6 @@ use Rattle.fed_rules.specs.Replies.{age_of, late_or_wait}
 use Rattle.engine_laws.proofs.Relations.{Lists, OfOneAge}
 use Rattle.run_book.specs.declared.rival.Rival.{Rival}
 use Rattle.run_book.specs.Rivals.{rival_by}
-use Rattle.run_book.proofs.Ages.{some_inj}
 use Rattle.run_book.proofs.Best.{greatest-is, greatest-none}
 use Rattle.access_ages.specs.Stops.{above, below, stop_by}
 use Rattle.access_ages.proofs.Youngest.{IsUpTo}
@@ -67,7 +67,7 @@ youngest_below P Q age None split join only is = λ run p. let bad = only run (s
 youngest_below P Q age (Some rival) split join only is = by_test (nat_lt rival.rank age) refl
   where
     same_rank : (run : Run) → P run → rival.rank ≡ run.age
-    same_rank run p = ap (λ (r : Rival). r.rank) (some_inj _ _ (only run (split run p).1))
+    same_rank run p = ap (λ (r : Rival). r.rank) (same_Some _ _ (only run (split run p).1))
 
     by_test : (b : Bool) → nat_lt rival.rank age ≡ b → IsYoungest P (cond b (Some rival) None)
     by_test true e =

@@ -1,6 +1,7 @@
 -- The live taker is the one live run that has taken the ticket.
 use Rattle.std.proofs.Common.{◌≡◌, ℕ, Bool, true, false, not, ◌&&◌, cond, is_some, Option, Some, None, List, [], ◌∷◌, inl, inr, refl, sym, ap, ◌∙◌, true≢false}
 use Rattle.std.proofs.lemmas.Bool.{cases_Bool, and_parts}
+use Rattle.std.proofs.lemmas.Option.{same_Some}
 use Rattle.mdb_base.specs.declared.names.Engine.{Engine}
 use Rattle.mdb_base.specs.declared.names.Tid.{Tid}
 use Rattle.mdb_base.specs.declared.replies.Reply.TheVariants as Reply_is
@@ -8,18 +9,18 @@ use Rattle.mdb_base.specs.Names.{same_tid}
 use Rattle.mdb_base.specs.Words.{holds_of, map_some}
 use Rattle.mdb_base.proofs.NameLaws.{same_tid-equal}
 use Rattle.mdb_base.proofs.ListLaws.{each_all}
+use Rattle.mdb_base.proofs.BoolLaws.{and_false}
 use Rattle.fed_rules.specs.Runs.{Start, EngineLine, Begins, Acts, Takes, Seals, Refuses, Commits, Aborts, Run, tid_of, restored, run_at, has_ticket, is_sealed}
 use Rattle.fed_rules.specs.Replies.{age_of}
 use Rattle.fed_rules.specs.EngineLines.{IsStart, IsRightLine, IsRight}
-use Rattle.engine_contract.proofs.Follows.{run_at-own, run_at-other}
 use Rattle.engine_laws.specs.Unended.{EachRun}
 use Rattle.engine_laws.proofs.Runs.{may_wait, Own, begins, stays, got, wrote, takes, seals, own, each_run, each_restored, tid_is}
 use Rattle.engine_laws.proofs.Takers.{IsTaker, HasOneTaker}
 use Rattle.engine_laws.proofs.AgeRuns.{IsByAge}
 use Rattle.engine_laws.proofs.AgeTickets.{age_one_taker}
+use Rattle.engine_laws.proofs.RunLines.{run_at_own, run_at_other}
 use Rattle.run_book.specs.declared.rival.Rival.{Rival}
 use Rattle.run_book.specs.Rivals.{rival_by}
-use Rattle.run_book.proofs.Ages.{some_inj}
 use Rattle.access_ages.specs.Takers.{takes_ticket}
 use Rattle.access_ages.specs.Lines.{rival_at, ends, live_taker}
 use Rattle.access_ages.proofs.Outcomes.{Outcome, outcome, is_sealing, left-going, ended_run, gives_up-ends}
@@ -47,7 +48,7 @@ taker_takes run h = ap (λ (o : Option ℕ). is_some o && not (is_sealed run)) h
 live_on : (start : Start) (older : List EngineLine) (line : EngineLine) (rival : Rival) → IsRightLine start older line → is_sealing line ≡ false → (ends line && holds_of takes_ticket (run_at start older (tid_of line))) ≡ false →
     IsLiveTaker start older rival → IsLiveTaker start (line ∷ older) rival
 live_on start older line rival right unsealing lasting h = elim (cases_Bool (same_tid (tid_of line) rival.tid)) [
-  | inr other ↦ record { run = h.run; at = run_at-other start older line rival.tid other ∙ h.at; taken = h.taken; age = h.age }
+  | inr other ↦ record { run = h.run; at = run_at_other start older line rival.tid other ∙ h.at; taken = h.taken; age = h.age }
   | inl same ↦ own_on (same_tid-equal (tid_of line) rival.tid same)
 ]
   where
@@ -63,7 +64,7 @@ live_on start older line rival right unsealing lasting h = elim (cases_Bool (sam
         let parts = and_parts (has_ticket h.run) (not (is_sealed h.run)) h.taken in
         record {
           run = on.now;
-          at = ap (λ (t : Tid). run_at start (line ∷ older) t) (sym is) ∙ (run_at-own start older line (Some h.run) here ∙ on.is);
+          at = ap (λ (t : Tid). run_at start (line ∷ older) t) (sym is) ∙ (run_at_own start older line (Some h.run) here ∙ on.is);
           taken = ap (λ (b : Bool). b && not (is_sealed on.now)) (a.takes parts.0) ∙ (ap (λ (o : Option ℕ). not (is_some o)) (on.open_still unsealing) ∙ parts.1);
           age = a.age ∙ h.age;
         }
@@ -84,7 +85,7 @@ live_beside start older tid n rival none h = by_tid (same_tid tid rival.tid) ref
         let here : run_at start older tid ≡ Some h.run = ap (λ (t : Tid). run_at start older t) (same_tid-equal tid rival.tid e) ∙ h.at in
         let parts = and_parts (has_ticket h.run) (not (is_sealed h.run)) h.taken in
         absurd (true≢false (sym (ap (λ (o : Option Run). holds_of has_ticket o) here ∙ parts.0) ∙ none))
-    by_tid false e = record { run = h.run; at = run_at-other start older (Seals tid n) rival.tid e ∙ h.at; taken = h.taken; age = h.age }
+    by_tid false e = record { run = h.run; at = run_at_other start older (Seals tid n) rival.tid e ∙ h.at; taken = h.taken; age = h.age }
 
 live_new : (start : Start) (older : List EngineLine) (tid : Tid) (n : ℕ) (rival : Rival) → IsRight start (Takes tid (Reply_is.Ticket n) ∷ older) → rival_at start older tid ≡ Some rival → IsLiveTaker start (Takes tid (Reply_is.Ticket n) ∷ older) rival
 live_new start older tid n rival right is =
@@ -93,10 +94,10 @@ live_new start older tid n rival right is =
     let at = right.0.1.0.0 in
     let now : Run = record was { ticket = Some n } in
     let named = tid_is start older right.1 tid was at in
-    let mine : rival_by age_of was ≡ rival = some_inj _ _ (sym (ap (λ (o : Option Run). map_some (rival_by age_of) o) at) ∙ is) in
+    let mine : rival_by age_of was ≡ rival = same_Some _ _ (sym (ap (λ (o : Option Run). map_some (rival_by age_of) o) at) ∙ is) in
     record {
       run = now;
-      at = ap (λ (t : Tid). run_at start (line ∷ older) t) (sym (ap (λ (r : Rival). r.tid) mine) ∙ named) ∙ run_at-own start older line (Some was) at;
+      at = ap (λ (t : Tid). run_at start (line ∷ older) t) (sym (ap (λ (r : Rival). r.tid) mine) ∙ named) ∙ run_at_own start older line (Some was) at;
       taken = ap (λ (o : Option ℕ). not (is_some o)) right.0.1.0.1;
       age = ap (λ (r : Rival). r.rank) mine;
     }
@@ -118,10 +119,6 @@ live_is start (line ∷ older) rival right is =
 -- where the run is a live one that has taken the ticket, there is a live taker
 abbrev HasLive : Option Rival → Run → Type 0
 HasLive o run = takes_ticket run ≡ true → is_some o ≡ true
-
-never : (b : Bool) → (b && false) ≡ false
-never true = refl
-never false = refl
 
 cond_some : (b : Bool) (o : Option Rival) → b ≡ false → is_some o ≡ true → is_some (cond b None o) ≡ true
 cond_some true o e some = cc
@@ -175,7 +172,7 @@ own_live start older line r right going h (stays waits at) has = still_live star
 own_live start older line r right going h (got run live is) has = h _ run live.0 has
 own_live start older line r right going h (wrote run live is) has = h _ run live.0 has
 own_live start older line r right going h (takes run live is) has = ap (λ (o : Option Run). is_some (map_some (rival_by age_of) o)) live.0
-own_live start older line r right going h (seals run live stop next) has = absurd (true≢false (sym has ∙ never (has_ticket run)))
+own_live start older line r right going h (seals run live stop next) has = absurd (true≢false (sym has ∙ and_false (has_ticket run)))
 
 pub has_live : (kind : Engine) (start : Start) (lines : List EngineLine) → IsByAge kind → start.kind ≡ kind → IsStart start → IsRight start lines → EachRun start lines (λ run. takes_ticket run ≡ true → is_some (live_taker start lines) ≡ true)
 has_live kind start [] by is_kind begun right =
@@ -203,6 +200,6 @@ live_of kind start lines t run by is_kind begun right at has = by_taker (live_ta
     by_taker (Some rival) is some =
         let h = live_is start lines rival right is in
         let name = same_taker rival h (same_tid rival.tid t) refl in
-        let same : h.run ≡ run = some_inj h.run run (sym h.at ∙ (ap (λ (x : Tid). run_at start lines x) name ∙ at)) in
+        let same : h.run ≡ run = same_Some h.run run (sym h.at ∙ (ap (λ (x : Tid). run_at start lines x) name ∙ at)) in
         ap (λ (x : Tid). let r : Rival = record { tid = x; rank = rival.rank } in Some r) name
         ∙ ap (λ (n : ℕ). let r : Rival = record { tid = t; rank = n } in Some r) (sym h.age ∙ ap (λ (r : Run). r.age) same)

@@ -1,5 +1,6 @@
 -- What a line leaves of its unended run: the run goes on, or it ends by commit or otherwise.
-use Rattle.std.proofs.Common.{◌≡◌, ◌⊎◌, Bool, true, false, ◌||◌, Option, Some, None, List, ◌∷◌, inl, inr, refl, sym, ◌∙◌}
+use Rattle.std.proofs.Common.{◌≡◌, ◌⊎◌, Bool, true, false, Option, Some, None, List, ◌∷◌, inl, inr, refl, sym, ◌∙◌}
+use Rattle.std.proofs.lemmas.Bool.{or_right}
 use Rattle.mdb_base.specs.declared.names.Key.{Key}
 use Rattle.mdb_base.specs.declared.names.Tid.{Tid}
 use Rattle.mdb_base.specs.declared.acts.PlainAct.{PlainAct}
@@ -38,10 +39,6 @@ Outcome line run = Continues line run ⊎ (line ≡ Commits (tid_of line)) ⊎ (
 same_run : (run : Run) → GoesOnAs run run
 same_run run = record { tid = refl; age = refl; reads = λ key h. h; writes = λ key h. h; takes = λ h. h }
 
-later : (x y : Bool) → y ≡ true → (x || y) ≡ true
-later true y e = refl
-later false y e = e
-
 stays : (line : EngineLine) (run : Run) → changed line (Some run) ≡ Some run → ends line ≡ false → Outcome line run
 stays line run is going = inl (record { now = run; is = is; going = going; open_still = λ e. refl; as_it_was = same_run run })
 
@@ -56,7 +53,7 @@ acted_out tid (Reply_is.Value value) (Read key) run =
       is = refl;
       going = refl;
       open_still = λ e. refl;
-      as_it_was = record { tid = refl; age = refl; reads = λ q h. later (same_key key q) (has_read q run) h; writes = λ q h. h; takes = λ h. h };
+      as_it_was = record { tid = refl; age = refl; reads = λ q h. or_right (same_key key q) (has_read q run) h; writes = λ q h. h; takes = λ h. h };
     })
 acted_out tid (Reply_is.Value value) (Write key v) run = stays _ run refl refl
 acted_out tid Reply_is.Done (Read key) run = stays _ run refl refl
@@ -66,7 +63,7 @@ acted_out tid Reply_is.Done (Write key value) run =
       is = refl;
       going = refl;
       open_still = λ e. refl;
-      as_it_was = record { tid = refl; age = refl; reads = λ q h. h; writes = λ q h. later (same_key key q) (has_written q run) h; takes = λ h. h };
+      as_it_was = record { tid = refl; age = refl; reads = λ q h. h; writes = λ q h. or_right (same_key key q) (has_written q run) h; takes = λ h. h };
     })
 
 took_out : (tid : Tid) (reply : Reply) (run : Run) → Outcome (Takes tid reply) run

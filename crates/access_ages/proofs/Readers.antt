@@ -1,30 +1,30 @@
 -- The youngest reader of a key is the youngest of all runs that were granted a read of it: unended, committed and aborted ones.
 use Rattle.std.proofs.Common.{◌≡◌, ℕ, ◌⊎◌, Bool, true, false, ◌||◌, cond, Option, Some, None, List, [], ◌∷◌, inl, inr, refl, sym, ap, ◌∙◌, subst, arith}
 use Rattle.std.proofs.lemmas.Bool.{cond-true, cases_Bool}
+use Rattle.std.proofs.lemmas.Option.{same_Some}
 use Rattle.mdb_base.specs.declared.names.Key.{Key}
 use Rattle.mdb_base.specs.declared.names.Tid.{Tid}
-use Rattle.mdb_base.specs.declared.rows.Put.{Put}
 use Rattle.mdb_base.specs.declared.acts.PlainAct.{PlainAct}
 use Rattle.mdb_base.specs.declared.acts.PlainAct.TheVariants.{Read, Write}
 use Rattle.mdb_base.specs.declared.replies.Reply.{Reply}
 use Rattle.mdb_base.specs.declared.replies.Reply.TheVariants as Reply_is
 use Rattle.mdb_base.specs.Names.{same_tid, same_key}
-use Rattle.mdb_base.specs.Words.{Each, some_of, with_some, map_some}
+use Rattle.mdb_base.specs.Words.{Each, with_some, map_some}
 use Rattle.mdb_base.proofs.NameLaws.{same_tid-equal}
 use Rattle.mdb_base.proofs.ListLaws.{each_map, each_all}
-use Rattle.fed_rules.specs.Runs.{Start, EngineLine, Begins, Acts, Takes, Seals, Refuses, Commits, Aborts, Got, Run, tid_of, written, restored, run_at, committed, aborted, gives_up}
+use Rattle.fed_rules.specs.Runs.{Start, EngineLine, Begins, Acts, Takes, Seals, Refuses, Commits, Aborts, Got, Run, tid_of, restored, run_at, committed, aborted, gives_up}
 use Rattle.fed_rules.specs.Replies.{age_of, reads, has_read}
 use Rattle.fed_rules.specs.EngineLines.{IsRightLine, IsRight}
-use Rattle.engine_contract.proofs.Follows.{run_at-own, run_at-other}
 use Rattle.engine_laws.specs.ReplyLaws.{IsUnended, IsAmong}
 use Rattle.engine_laws.specs.Unended.{EachRun}
 use Rattle.engine_laws.proofs.Runs.{Own, begins, stays, got, wrote, takes, seals, own, each_run, each_restored, each_committed, tid_is}
 use Rattle.engine_laws.proofs.Drawers.{each_aborted}
+use Rattle.engine_laws.proofs.RunLines.{run_at_own, run_at_other}
+use Rattle.engine_laws.proofs.Conflicts.{read_none}
 use Rattle.run_book.specs.declared.rival.Rival.{Rival}
 use Rattle.run_book.specs.Rivals.{rival_by}
 use Rattle.access_ages.specs.Ages.{younger_of}
 use Rattle.access_ages.specs.Lines.{rival_at, read_by, reader}
-use Rattle.run_book.proofs.Ages.{some_inj}
 use Rattle.access_ages.proofs.Commits.{among_committed, committed_own}
 use Rattle.access_ages.proofs.Youngest.{IsUpTo, up_left, up_right, one_of}
 use Rattle.access_ages.proofs.Outcomes.{Outcome, outcome}
@@ -38,10 +38,6 @@ pub record ReadersUpTo (start : Start) (lines : List EngineLine) (key : Key) (o 
   pub unended : EachRun start lines (λ run. has_read key run ≡ true → IsUpTo run.age o)
   pub committed : Each (λ run. has_read key run ≡ true → IsUpTo run.age o) (committed start lines)
   pub aborted : Each (λ run. has_read key run ≡ true → IsUpTo run.age o) (aborted start lines)
-
-read_none : (key : Key) (puts : List Put) → some_of (reads key) (written puts) ≡ false
-read_none key [] = refl
-read_none key (put ∷ puts) = read_none key puts
 
 -- the youngest reader only gets younger
 read_by-up : (age : ℕ) (reply : Reply) (act : PlainAct) (key : Key) (run o : Option Rival) → IsUpTo age o → IsUpTo age (read_by reply act key run o)
@@ -149,7 +145,7 @@ counts_on : (start : Start) (older : List EngineLine) (line : EngineLine) (run :
 counts_on start older line run right (inr (inl among)) = as_now start (line ∷ older) run (inr (inl (among_committed start older line run right among)))
 counts_on start older line run right (inr (inr among)) = as_now start (line ∷ older) run (inr (inr (among_aborted start older line run among)))
 counts_on start older line run right (inl at) = elim (cases_Bool (same_tid (tid_of line) run.tid)) [
-  | inr other ↦ as_now start (line ∷ older) run (inl (run_at-other start older line run.tid other ∙ at))
+  | inr other ↦ as_now start (line ∷ older) run (inl (run_at_other start older line run.tid other ∙ at))
   | inl same ↦ own_counts (same_tid-equal (tid_of line) run.tid same)
 ]
   where
@@ -158,7 +154,7 @@ counts_on start older line run right (inl at) = elim (cases_Bool (same_tid (tid_
         let a = on.as_it_was in
         record {
           now = on.now;
-          counts = inl (ap (λ (t : Tid). run_at start (line ∷ older) t) (a.tid ∙ sym is) ∙ (run_at-own start older line (Some run) here ∙ on.is));
+          counts = inl (ap (λ (t : Tid). run_at start (line ∷ older) t) (a.tid ∙ sym is) ∙ (run_at_own start older line (Some run) here ∙ on.is));
           tid = a.tid;
           age = a.age;
           reads = a.reads;
@@ -183,9 +179,9 @@ new_reader start older tid k key value rival right same is =
     let was = right.0.0 in
     let at = right.0.1.0.0 in
     let now : Run = record was { acts = Got k value ∷ was.acts } in
-    let there = run_at-own start older line (Some was) at in
+    let there = run_at_own start older line (Some was) at in
     let named = tid_is start older right.1 tid was at in
-    let mine : rival_by age_of was ≡ rival = some_inj _ _ (sym (ap (λ (o : Option Run). map_some (rival_by age_of) o) at) ∙ is) in
+    let mine : rival_by age_of was ≡ rival = same_Some _ _ (sym (ap (λ (o : Option Run). map_some (rival_by age_of) o) at) ∙ is) in
     record {
       run = now;
       counts = inl (ap (λ (t : Tid). run_at start (line ∷ older) t) named ∙ there);

@@ -1,5 +1,6 @@
 -- What the ages say stops an access is what the rules say.
 use Rattle.std.proofs.Common.{◌≡◌, ℕ, ◌⊎◌, Bool, true, false, ◌||◌, Option, Some, None, List, [], ◌∷◌, inl, inr, refl, sym, ap, ◌∙◌, subst, arith}
+use Rattle.std.proofs.lemmas.Bool.{or_cases, or_left, or_right}
 use Rattle.mdb_base.specs.declared.names.Engine.{Engine}
 use Rattle.mdb_base.specs.declared.names.Key.{Key}
 use Rattle.mdb_base.specs.declared.names.Tid.{Tid}
@@ -16,6 +17,7 @@ use Rattle.engine_laws.proofs.Drawers.{all_drew, same_age}
 use Rattle.engine_laws.proofs.AgeRuns.{IsByAge, age_sound}
 use Rattle.engine_laws.proofs.Runs.{tid_is}
 use Rattle.engine_laws.proofs.TimestampReplies.{lists_younger, lists_older, drew_younger, one_writer}
+use Rattle.engine_laws.proofs.Conflicts.{read_conflicts, write_conflicts}
 use Rattle.run_book.specs.declared.rival.Rival.{Rival}
 use Rattle.run_book.specs.Rivals.{rival_by}
 use Rattle.access_ages.specs.declared.key_ages.KeyAges.{KeyAges}
@@ -29,29 +31,6 @@ use Rattle.access_ages.proofs.Commits.{committed_up_to, committed_is_one}
 use Rattle.access_ages.proofs.Readers.{readers_up_to, Counts, reader_is}
 use Rattle.access_ages.proofs.Writers.{writer_is, writer_of}
 
--- an access that conflicts with a read is a write of the key, and one that conflicts with a write any access of it
-read_conflicts : (key : Key) (acts : List Access) → some_of (conflicts (Read key)) acts ≡ some_of (writes key) acts
-read_conflicts key [] = refl
-read_conflicts key (Got k value ∷ acts) = read_conflicts key acts
-read_conflicts key (Wrote k value ∷ acts) = ap (λ (b : Bool). same_key k key || b) (read_conflicts key acts)
-
-write_conflicts : (key : Key) (v : ℕ) (acts : List Access) → some_of (conflicts (Write key v)) acts ≡ (some_of (reads key) acts || some_of (writes key) acts)
-write_conflicts key v [] = refl
-write_conflicts key v (Got k value ∷ acts) =
-    ap (λ (b : Bool). same_key k key || b) (write_conflicts key v acts) ∙ joined (same_key k key) (some_of (reads key) acts) (some_of (writes key) acts)
-  where
-    joined : (x r w : Bool) → (x || (r || w)) ≡ ((x || r) || w)
-    joined true r w = refl
-    joined false r w = refl
-write_conflicts key v (Wrote k value ∷ acts) =
-    ap (λ (b : Bool). same_key k key || b) (write_conflicts key v acts) ∙ joined (same_key k key) (some_of (reads key) acts) (some_of (writes key) acts)
-  where
-    joined : (x r w : Bool) → (x || (r || w)) ≡ (r || (x || w))
-    joined true true w = refl
-    joined true false w = refl
-    joined false true w = refl
-    joined false false w = refl
-
 no_read_conflict : (key : Key) (acts : List Access) → some_of (conflicts_with_read (Read key)) acts ≡ false
 no_read_conflict key [] = refl
 no_read_conflict key (Got k value ∷ acts) = no_read_conflict key acts
@@ -61,18 +40,6 @@ write_read_conflicts : (key : Key) (v : ℕ) (acts : List Access) → some_of (c
 write_read_conflicts key v [] = refl
 write_read_conflicts key v (Got k value ∷ acts) = ap (λ (b : Bool). same_key k key || b) (write_read_conflicts key v acts)
 write_read_conflicts key v (Wrote k value ∷ acts) = write_read_conflicts key v acts
-
-either_true : (x y : Bool) → (x || y) ≡ true → (x ≡ true) ⊎ (y ≡ true)
-either_true true y e = inl refl
-either_true false y e = inr e
-
-or_left : (x y : Bool) → x ≡ true → (x || y) ≡ true
-or_left true y e = refl
-or_left false y e = cc
-
-or_right : (x y : Bool) → y ≡ true → (x || y) ≡ true
-or_right true y e = refl
-or_right false y e = e
 
 -- a run with an access that counts against an act
 abbrev Against : Start → List EngineLine → PlainAct → Run → Type 0
@@ -87,7 +54,7 @@ module _ (kind : Engine) (by : IsByAge kind) (start : Start) (lines : List Engin
   conflict_writes key run h = sym (read_conflicts key run.acts) ∙ among_some (conflicts (Read key)) run.acts h
 
   conflict_either : (key : Key) (v : ℕ) (run : Run) → HasConflict (Write key v) run → (has_read key run ≡ true) ⊎ (has_written key run ≡ true)
-  conflict_either key v run h = either_true (has_read key run) (has_written key run) (sym (write_conflicts key v run.acts) ∙ among_some (conflicts (Write key v)) run.acts h)
+  conflict_either key v run h = or_cases (has_read key run) (has_written key run) (sym (write_conflicts key v run.acts) ∙ among_some (conflicts (Write key v)) run.acts h)
 
   -- an unended or a committed run that has written the key is up to the youngest of these
   unended_writes : (key : Key) (run : Run) → IsUnended start lines run → has_written key run ≡ true → IsUpTo run.age (younger_of (ages key).last (ages key).writer)

@@ -1,6 +1,7 @@
 -- The ages and the takers through each line.
 use Rattle.std.proofs.Common.{◌≡◌, ℕ, ◌⊎◌, inl, inr, Bool, true, false, not, ◌&&◌, cond, is_some, Option, Some, None, List, ◌∷◌, refl, sym, ap, ◌∙◌}
 use Rattle.std.specs.FinMap.{remove}
+use Rattle.std.proofs.lemmas.Option.{same_Some}
 use Rattle.mdb_base.specs.declared.names.Engine.{Engine}
 use Rattle.mdb_base.specs.declared.names.Key.{Key}
 use Rattle.mdb_base.specs.declared.names.Tid.{Tid}
@@ -16,7 +17,6 @@ use Rattle.fed_rules.specs.EngineLines.{IsStart, IsRight}
 use Rattle.engine_laws.proofs.AgeRuns.{IsByAge}
 use Rattle.run_book.specs.declared.rival.Rival.{Rival}
 use Rattle.run_book.specs.Rivals.{rival_by}
-use Rattle.run_book.proofs.Ages.{some_inj}
 use Rattle.engine_laws.proofs.Runs.{tid_is}
 use Rattle.access_ages.specs.declared.key_ages.KeyAges.{KeyAges}
 use Rattle.access_ages.specs.Ages.{Ages, ages_of, younger_of, with_reader, with_writer, settled, unwritten}
@@ -184,7 +184,7 @@ follows_unseals kind by ages was now start older tid n run is_kind begun right a
 }
   where
     was_live : run.sealed ≡ None
-    was_live = ap (λ (r : Run). r.sealed) (some_inj run right.0.0 (sym at ∙ right.0.1.0.0)) ∙ right.0.1.0.1
+    was_live = ap (λ (r : Run). r.sealed) (same_Some run right.0.0 (sym at ∙ right.0.1.0.0)) ∙ right.0.1.0.1
 
     by_ticket : (b : Bool) → has_ticket run ≡ b → was.live ≡ cond b None (live_taker start older) → cond b (Some (rival_by age_of run)) was.live ≡ live_taker start older
     by_ticket true has was_is =

@@ -3,20 +3,22 @@ use Rattle.std.proofs.Common.{◌≡◌, ℕ, ◌⊎◌, Bool, true, false, cond
 use Rattle.std.specs.Ordering.{nat_cmp}
 use Rattle.std.specs.FinMap.{empty, get, get-empty}
 use Rattle.std.proofs.lemmas.Bool.{cond-true, cond-false, cases_Bool, eqb-true, eq-eqb}
+use Rattle.std.proofs.lemmas.Option.{same_Some}
 use Rattle.mdb_base.specs.declared.names.Tid.{Tid}
 use Rattle.mdb_base.specs.declared.replies.Reply.TheVariants as Reply_is
 use Rattle.mdb_base.specs.Names.{same_tid}
 use Rattle.mdb_base.specs.Words.{Each, map_some}
 use Rattle.mdb_base.proofs.NameLaws.{same_tid-equal, same_tid-refl}
+use Rattle.mdb_base.proofs.NumberLaws.{not_equal}
 use Rattle.fed_rules.specs.declared.runs.Kept.{Kept}
 use Rattle.fed_rules.specs.Runs.{Start, EngineLine, Takes, Run, tid_of, restored, restored_at, run_at, has_ticket}
 use Rattle.fed_rules.specs.Replies.{age_of}
 use Rattle.fed_rules.specs.EngineLines.{IsStart, IsRightLine, IsRight, AreApart, AllApart}
-use Rattle.engine_contract.proofs.Follows.{run_at-own, run_at-other}
 use Rattle.engine_laws.specs.Unended.{EachRun}
 use Rattle.engine_laws.proofs.Runs.{Own, begins, stays, got, wrote, takes, seals, own, each_run, tid_is}
+use Rattle.engine_laws.proofs.RunLines.{run_at_own, run_at_other}
 use Rattle.run_book.specs.Rivals.{rival_by}
-use Rattle.run_book.proofs.Ages.{some_inj, ages-differ}
+use Rattle.run_book.proofs.Ages.{ages-differ}
 use Rattle.access_ages.specs.Ages.{rival_of}
 use Rattle.access_ages.specs.Takers.{ByAge, with_taker, restored_takers}
 use Rattle.access_ages.specs.Lines.{rival_at, ends, taken_by, taken_at, left_by, unended_takers}
@@ -49,30 +51,23 @@ restored_there (kept ∷ more) m age t apart at = by_age (nat_eq kept.number age
         inr (record { run = restored kept; at = ap (λ (x : Tid). restored_at (kept ∷ more) x) (sym one) ∙ restored_first kept more; taken = refl; aged = eqb-true kept.number age e })
     by_age false e (inl there) = inl (sym (get-put m kept.number kept.tid age ∙ cond-false _ _ _ e) ∙ there)
 
-not_equal : (x y : ℕ) → (x ≡ y → ⊥) → nat_eq x y ≡ false
-not_equal x y apart = by_test (nat_eq x y) refl
-  where
-    by_test : (b : Bool) → nat_eq x y ≡ b → b ≡ false
-    by_test true e = absurd (apart (eqb-true x y e))
-    by_test false e = refl
-
 numbers_differ : (kept other : Kept) → AreApart kept other → other.number ≡ kept.number → ⊥
 numbers_differ kept other apart same = elim apart.order [ inl lt ↦ let l = lt.0 in omega arith | inr gt ↦ let l = gt.0 in omega arith ]
 
-restored_other : (kept : Kept) (more : List Kept) (m : ByAge) → Each (AreApart kept) more → get (restored_takers more m) kept.number ≡ get m kept.number
+pub restored_other : (kept : Kept) (more : List Kept) (m : ByAge) → Each (AreApart kept) more → get (restored_takers more m) kept.number ≡ get m kept.number
 restored_other kept [] m apart = refl
 restored_other kept (other ∷ more) m apart =
     restored_other kept more (with_taker (rival_of other) m) apart.1
     ∙ (get-put m other.number other.tid kept.number ∙ cond-false _ _ _ (not_equal other.number kept.number (numbers_differ kept other apart.0)))
 
-restored_back : (doubtful : List Kept) (m : ByAge) (t : Tid) (run : Run) → AllApart doubtful → restored_at doubtful t ≡ Some run → get (restored_takers doubtful m) run.age ≡ Some t
+pub restored_back : (doubtful : List Kept) (m : ByAge) (t : Tid) (run : Run) → AllApart doubtful → restored_at doubtful t ≡ Some run → get (restored_takers doubtful m) run.age ≡ Some t
 restored_back [] m t run apart at = cc
 restored_back (kept ∷ more) m t run apart at = by_tid (same_tid kept.tid t) refl at (restored_back more (with_taker (rival_of kept) m) t run apart.1)
   where
     by_tid : (b : Bool) → same_tid kept.tid t ≡ b → cond b (Some (restored kept)) (restored_at more t) ≡ Some run → (restored_at more t ≡ Some run → get (restored_takers (kept ∷ more) m) run.age ≡ Some t) →
         get (restored_takers (kept ∷ more) m) run.age ≡ Some t
     by_tid true e is rest =
-        let one = some_inj (restored kept) run is in
+        let one = same_Some (restored kept) run is in
         ap (λ (r : Run). get (restored_takers (kept ∷ more) m) r.age) (sym one)
         ∙ (restored_other kept more (with_taker (rival_of kept) m) apart.0
         ∙ (get-put m kept.number kept.tid kept.number ∙ (cond-true _ _ _ (eq-eqb kept.number kept.number refl) ∙ ap (λ (x : Tid). Some x) (same_tid-equal kept.tid t e))))
@@ -81,7 +76,7 @@ restored_back (kept ∷ more) m t run apart at = by_tid (same_tid kept.tid t) re
 -- a taker whose run the line doesn't end
 ticketed_on : (start : Start) (older : List EngineLine) (line : EngineLine) (age : ℕ) (t : Tid) → IsRightLine start older line → ends line ≡ false → IsTicketed (run_at start older) age t → IsTicketed (run_at start (line ∷ older)) age t
 ticketed_on start older line age t right going h = elim (cases_Bool (same_tid (tid_of line) t)) [
-  | inr other ↦ record { run = h.run; at = run_at-other start older line t other ∙ h.at; taken = h.taken; aged = h.aged }
+  | inr other ↦ record { run = h.run; at = run_at_other start older line t other ∙ h.at; taken = h.taken; aged = h.aged }
   | inl same ↦ own_on (same_tid-equal (tid_of line) t same)
 ]
   where
@@ -93,7 +88,7 @@ ticketed_on start older line age t right going h = elim (cases_Bool (same_tid (t
         let a = on.as_it_was in
         record {
           run = on.now;
-          at = ap (λ (x : Tid). run_at start (line ∷ older) x) (sym is) ∙ (run_at-own start older line (Some h.run) here ∙ on.is);
+          at = ap (λ (x : Tid). run_at start (line ∷ older) x) (sym is) ∙ (run_at_own start older line (Some h.run) here ∙ on.is);
           taken = a.takes h.taken;
           aged = a.age ∙ h.aged;
         }
@@ -111,10 +106,10 @@ ticketed_left start older line run age t at apart h = by_tid (same_tid (tid_of l
   where
     by_tid : (b : Bool) → same_tid (tid_of line) t ≡ b → IsTicketed (run_at start (line ∷ older)) age t
     by_tid true e =
-        let one : run ≡ h.run = some_inj run h.run (sym at ∙ (ap (λ (x : Tid). run_at start older x) (same_tid-equal (tid_of line) t e) ∙ h.at)) in
+        let one : run ≡ h.run = same_Some run h.run (sym at ∙ (ap (λ (x : Tid). run_at start older x) (same_tid-equal (tid_of line) t e) ∙ h.at)) in
         let same : nat_eq run.age age ≡ true = eq-eqb run.age age (ap (λ (r : Run). r.age) one ∙ h.aged) in
         absurd (true≢false (sym same ∙ apart))
-    by_tid false e = record { run = h.run; at = run_at-other start older line t e ∙ h.at; taken = h.taken; aged = h.aged }
+    by_tid false e = record { run = h.run; at = run_at_other start older line t e ∙ h.at; taken = h.taken; aged = h.aged }
 
 -- who takes the ticket
 ticketed_new : (start : Start) (older : List EngineLine) (tid : Tid) (n age : ℕ) (t : Tid) (runs : ByAge) → IsRight start (Takes tid (Reply_is.Ticket n) ∷ older) → (get runs age ≡ Some t → IsTicketed (run_at start (Takes tid (Reply_is.Ticket n) ∷ older)) age t) →
@@ -139,7 +134,7 @@ ticketed_new start older tid n age t runs right rest is = by_age (nat_eq was.age
         let same : was.tid ≡ t = cc in
         record {
           run = record was { ticket = Some n };
-          at = ap (λ (x : Tid). run_at start (line ∷ older) x) (sym same ∙ named) ∙ run_at-own start older line (Some was) right.0.1.0.0;
+          at = ap (λ (x : Tid). run_at start (line ∷ older) x) (sym same ∙ named) ∙ run_at_own start older line (Some was) right.0.1.0.0;
           taken = refl;
           aged = eqb-true was.age age e;
         }
@@ -248,6 +243,6 @@ unlisted start lines t run begun right at ticketless = by_taker (get (unended_ta
     by_taker (Some u) is =
         let h = ticketed_is start lines run.age u begun right is in
         let one = ages-differ start lines u t h.run run begun right h.at at h.aged in
-        let same = some_inj h.run run (sym h.at ∙ (ap (λ (x : Tid). run_at start lines x) one ∙ at)) in
+        let same = same_Some h.run run (sym h.at ∙ (ap (λ (x : Tid). run_at start lines x) one ∙ at)) in
         let none : has_ticket h.run ≡ false = ap (λ (r : Run). has_ticket r) same ∙ ap (λ (o : Option ℕ). is_some o) ticketless in
         absurd (true≢false (sym h.taken ∙ none))

@@ -11,6 +11,7 @@ use Rattle.mdb_base.specs.declared.names.Key.{Key}
 use Rattle.mdb_base.specs.declared.names.Tid.{Tid}
 use Rattle.mdb_base.specs.Names.{same_key}
 use Rattle.mdb_base.specs.Words.{or_else}
+use Rattle.mdb_base.proofs.OptionLaws.{is_some-true}
 use Rattle.access_ages.specs.declared.key_ages.KeyAges.{KeyAges}
 use Rattle.access_ages.specs.Ages.{no_ages, ages_of}
 use Rattle.access_ages.specs.Takers.{IsYoungestOf}
@@ -61,10 +62,6 @@ entries_gone es fs k h =
     same_numbers _ _ (λ q. get_look fs q ∙ (h q ∙ (ap (λ (b : Bool). cond b None (look es q)) (at_is k q)
     ∙ sym (get-gone (from_entries es) k q ∙ ap (cond (nat_eq k q) None) (get_look es q)))))
 
-pub some_true : {A : Type 0} (o : Option A) → is_some o ≡ true → IsSome o
-some_true None e = cc
-some_true (Some x) e = refl
-
 pub true_some : {A : Type 0} (o : Option A) → IsSome o → is_some o ≡ true
 true_some None e = cc
 true_some (Some x) e = refl
@@ -108,7 +105,7 @@ pub youngest_is : (es : List (ℕ × Tid)) (age : ℕ) (tid : Tid) → look es a
     IsYoungestOf (from_entries es) (Some (record { tid = tid; rank = age }))
 youngest_is es age tid at most = (
   get_look es age ∙ at,
-  λ q t there. not_above age q (most q (some_true (look es q) (ap (λ (o : Option Tid). is_some o) (sym (get_look es q) ∙ there)))),
+  λ q t there. not_above age q (most q (is_some-true (look es q) (ap (λ (o : Option Tid). is_some o) (sym (get_look es q) ∙ there)))),
 )
 
 pub none_in : (es : List (ℕ × Tid)) → es ≡ [] → IsYoungestOf (from_entries es) None

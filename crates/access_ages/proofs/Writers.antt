@@ -1,30 +1,30 @@
 -- The writer of a key is the one unended run that wrote it.
 use Rattle.std.proofs.Common.{◌≡◌, ℕ, ◌⊎◌, Bool, true, false, ◌&&◌, ◌||◌, cond, is_some, Option, Some, None, List, [], ◌∷◌, inl, inr, refl, sym, ap, ◌∙◌, subst, true≢false}
 use Rattle.std.proofs.lemmas.Bool.{cond-true, cond-false, cases_Bool}
+use Rattle.std.proofs.lemmas.Option.{same_Some}
 use Rattle.mdb_base.specs.declared.names.Engine.{Engine}
 use Rattle.mdb_base.specs.declared.names.Key.{Key}
 use Rattle.mdb_base.specs.declared.names.Tid.{Tid}
-use Rattle.mdb_base.specs.declared.rows.Put.{Put}
 use Rattle.mdb_base.specs.declared.acts.PlainAct.{PlainAct}
 use Rattle.mdb_base.specs.declared.acts.PlainAct.TheVariants.{Read, Write}
 use Rattle.mdb_base.specs.declared.replies.Reply.{Reply}
 use Rattle.mdb_base.specs.declared.replies.Reply.TheVariants as Reply_is
 use Rattle.mdb_base.specs.Names.{same_tid, same_key}
-use Rattle.mdb_base.specs.Words.{Each, some_of, holds_of, map_some}
+use Rattle.mdb_base.specs.Words.{Each, holds_of, map_some}
 use Rattle.mdb_base.proofs.NameLaws.{same_tid-equal, same_tid-refl}
 use Rattle.mdb_base.proofs.ListLaws.{some_among}
 use Rattle.fed_rules.specs.declared.runs.Kept.{Kept}
-use Rattle.fed_rules.specs.Runs.{Start, EngineLine, Begins, Acts, Takes, Seals, Refuses, Commits, Aborts, Wrote, Run, tid_of, written, restored, restored_at, run_at}
+use Rattle.fed_rules.specs.Runs.{Start, EngineLine, Begins, Acts, Takes, Seals, Refuses, Commits, Aborts, Wrote, Run, tid_of, restored, restored_at, run_at}
 use Rattle.fed_rules.specs.Replies.{age_of, writes, has_written}
 use Rattle.fed_rules.specs.EngineLines.{IsStart, IsRightLine, IsRight, AreApart, AllApart, has_row}
-use Rattle.engine_contract.proofs.Follows.{run_at-own, run_at-other}
 use Rattle.engine_laws.specs.Unended.{EachRun}
 use Rattle.engine_laws.proofs.Runs.{Own, begins, stays, got, wrote, takes, seals, own, each_run, tid_is}
 use Rattle.engine_laws.proofs.AgeRuns.{IsByAge, age_sound}
 use Rattle.engine_laws.proofs.TimestampReplies.{one_writer}
+use Rattle.engine_laws.proofs.RunLines.{run_at_own, run_at_other}
+use Rattle.engine_laws.proofs.Conflicts.{written_rows}
 use Rattle.run_book.specs.declared.rival.Rival.{Rival}
 use Rattle.run_book.specs.Rivals.{rival_by}
-use Rattle.run_book.proofs.Ages.{some_inj}
 use Rattle.access_ages.specs.Ages.{rival_of, restored_writer}
 use Rattle.access_ages.specs.Lines.{rival_at, ends, written_by, written_at, writer}
 use Rattle.access_ages.proofs.Outcomes.{Outcome, outcome, left-going, ended_run, gives_up-ends}
@@ -35,11 +35,6 @@ pub record IsWriter (start : Start) (lines : List EngineLine) (key : Key) (rival
   pub at : run_at start lines rival.tid ≡ Some run
   pub wrote : has_written key run ≡ true
   pub age : run.age ≡ rival.rank
-
--- a restored run has written the rows of its record
-written_rows : (key : Key) (puts : List Put) → some_of (writes key) (written puts) ≡ has_row key puts
-written_rows key [] = refl
-written_rows key (put ∷ puts) = ap (λ (b : Bool). same_key put.key key || b) (written_rows key puts)
 
 -- a transaction in doubt is the restored run of its attempt
 pub restored_first : (kept : Kept) (more : List Kept) → restored_at (kept ∷ more) kept.tid ≡ Some (restored kept)
@@ -100,7 +95,7 @@ restored_writer_there (kept ∷ more) key o t run at has =
   where
     by_tid : (b : Bool) → cond b (Some (restored kept)) (restored_at more t) ≡ Some run → (restored_at more t ≡ Some run → is_some (restored_writer (kept ∷ more) key o) ≡ true) → is_some (restored_writer (kept ∷ more) key o) ≡ true
     by_tid true is rest =
-        let one = some_inj (restored kept) run is in
+        let one = same_Some (restored kept) run is in
         let row : has_row key kept.writes ≡ true = sym (written_rows key kept.writes) ∙ (ap (λ (r : Run). has_written key r) one ∙ has) in
         restored_writer_some more key _ (ap (λ (b : Bool). is_some (cond b (Some (rival_of kept)) o)) row)
     by_tid false is rest = rest is
@@ -113,7 +108,7 @@ own_wrote start older line key = holds_of (has_written key) (run_at start older 
 writer_on : (start : Start) (older : List EngineLine) (line : EngineLine) (key : Key) (rival : Rival) → IsRightLine start older line → (ends line && own_wrote start older line key) ≡ false →
     IsWriter start older key rival → IsWriter start (line ∷ older) key rival
 writer_on start older line key rival right lasts h = elim (cases_Bool (same_tid (tid_of line) rival.tid)) [
-  | inr other ↦ record { run = h.run; at = run_at-other start older line rival.tid other ∙ h.at; wrote = h.wrote; age = h.age }
+  | inr other ↦ record { run = h.run; at = run_at_other start older line rival.tid other ∙ h.at; wrote = h.wrote; age = h.age }
   | inl same ↦ own_on (same_tid-equal (tid_of line) rival.tid same)
 ]
   where
@@ -128,7 +123,7 @@ writer_on start older line key rival right lasts h = elim (cases_Bool (same_tid 
         let a = on.as_it_was in
         record {
           run = on.now;
-          at = ap (λ (t : Tid). run_at start (line ∷ older) t) (sym is) ∙ (run_at-own start older line (Some h.run) here ∙ on.is);
+          at = ap (λ (t : Tid). run_at start (line ∷ older) t) (sym is) ∙ (run_at_own start older line (Some h.run) here ∙ on.is);
           wrote = a.writes key h.wrote;
           age = a.age ∙ h.age;
         }
@@ -149,10 +144,10 @@ new_writer start older tid k key value rival right same is =
     let at = right.0.1.0.0 in
     let now : Run = record was { acts = Wrote k value ∷ was.acts } in
     let named = tid_is start older right.1 tid was at in
-    let mine : rival_by age_of was ≡ rival = some_inj _ _ (sym (ap (λ (o : Option Run). map_some (rival_by age_of) o) at) ∙ is) in
+    let mine : rival_by age_of was ≡ rival = same_Some _ _ (sym (ap (λ (o : Option Run). map_some (rival_by age_of) o) at) ∙ is) in
     record {
       run = now;
-      at = ap (λ (t : Tid). run_at start (line ∷ older) t) (sym (ap (λ (r : Rival). r.tid) mine) ∙ named) ∙ run_at-own start older line (Some was) at;
+      at = ap (λ (t : Tid). run_at start (line ∷ older) t) (sym (ap (λ (r : Rival). r.tid) mine) ∙ named) ∙ run_at_own start older line (Some was) at;
       wrote = ap (λ (b : Bool). b || has_written key was) same;
       age = ap (λ (r : Rival). r.rank) mine;
     }
@@ -285,6 +280,6 @@ writer_of kind start lines key t run by is_kind begun right at has = by_writer (
     by_writer (Some rival) is some =
         let h = writer_is start lines key rival begun right is in
         let one : rival.tid ≡ t = one_wrote kind start lines key rival.tid t h.run run by is_kind begun right h.at at h.wrote has in
-        let same : h.run ≡ run = some_inj h.run run (sym h.at ∙ (ap (λ (x : Tid). run_at start lines x) one ∙ at)) in
+        let same : h.run ≡ run = same_Some h.run run (sym h.at ∙ (ap (λ (x : Tid). run_at start lines x) one ∙ at)) in
         ap (λ (x : Tid). let r : Rival = record { tid = x; rank = rival.rank } in Some r) one
         ∙ ap (λ (n : ℕ). let r : Rival = record { tid = t; rank = n } in Some r) (sym h.age ∙ ap (λ (r : Run). r.age) same)

@@ -6,8 +6,6 @@ mod accesses;
 mod key_ages;
 mod laws;
 mod takers;
-#[cfg(test)]
-mod tests;
 
 pub use accesses::AccessAges;
 pub use key_ages::KeyAges;

@@ -3,3 +3,4 @@ pub mod CutLaws
 pub mod EndsLaws
 pub mod TrimLaws
 pub mod NewLaws
+pub mod TripLaws

@@ -1,6 +1,5 @@
 -- How a session goes on: a manager of three sites that stands for something does behind a command, also where the command fails.
-use Rattle.std.proofs.Common.{◌≡◌, ℕ, zero, suc, ◌≤◌, ◌||◌, ◌&&◌, ◌==◌, Bool, true, false, Result, Ok, Err, IfOk, IfErr, Option, Some, None, List, [], ◌∷◌, ◌++◌, inl, inr, refl, sym, ap, subst, arith}
-use Rattle.std.specs.List.{list_all}
+use Rattle.std.proofs.Common.{◌≡◌, ℕ, zero, suc, ◌≤◌, ◌||◌, ◌==◌, true, false, Result, Ok, Err, IfOk, IfErr, Option, Some, None, List, [], ◌∷◌, inl, inr, refl, sym, subst, arith}
 use Rattle.std.proofs.lemmas.Bool.{and_parts, leb-true}
 use Rattle.mdb_base.specs.declared.acts.Step.{Step}
 use Rattle.mdb_base.specs.declared.names.SiteId.{SiteId}
@@ -16,7 +15,7 @@ use Rattle.global_exec.specs.Pasts.{IsAmong}
 use Rattle.actor_store.specs.declared.errors.StepErr.{StepErr}
 use Rattle.actor_store.specs.declared.errors.StepErr.TheVariants as Err_is
 use Rattle.coord_core.specs.Stands.{stopped_before, stopped_within}
-use Rattle.coord_core.specs.Terms.{Terms, line_of}
+use Rattle.coord_tables.specs.Terms.{Terms, line_of}
 use Rattle.actor_tests.specs.GlobalSessions.{HasThree, is_of_three, three}
 use Rattle.global_manager.specs.Stands.{AsksNothing, EachManaged, Fails, HasSite, IsSited, IsSitedFrom, OwnPrograms, Serves, SomeManaged}
 
@@ -50,15 +49,6 @@ sited_three first second third (step ∷ steps) e =
 pub sited_from : (protocols : List Participant) (home : Option SiteId) (steps : List Step) → IsSited protocols steps → IsSitedFrom protocols home steps
 sited_from protocols None steps sited = sited
 sited_from protocols (Some home) steps sited = tt
-
--- one more
-pub each_pushed : {A : Type 0} (P : A → Type 0) (xs : List A) (x : A) → Each P xs → P x → Each P (xs ++ x ∷ [])
-each_pushed P [] x h p = (p, tt)
-each_pushed P (y ∷ xs) x h p = (h.0, each_pushed P xs x h.1 p)
-
-pub each_of-list_all : {A : Type 0} (test : A → Bool) (xs : List A) → each_of test xs ≡ list_all test xs
-each_of-list_all test [] = refl
-each_of-list_all test (x ∷ xs) = ap (λ b. test x && b) (each_of-list_all test xs)
 
 module _ (K L : Terms → OwnPrograms → CoordPast → Type 0) (s : SomeManaged K HasThree) where
   -- a command that asks nothing may come, and a message of one of the sites

@@ -9,7 +9,7 @@ use Rattle.fed_rules.specs.Policies.{Policy}
 use Rattle.global_exec.specs.Pasts.{IsAmong}
 use Rattle.journal_disk.specs.declared.mem_disk.MemDisk.{MemDisk}
 use Rattle.site_core.specs.Sessions.{mem_seen}
-use Rattle.coord_core.specs.Terms.{Terms}
+use Rattle.coord_tables.specs.Terms.{Terms}
 use Rattle.global_manager.specs.declared.manager.GlobalManager.{GlobalManager}
 use Rattle.global_manager.specs.Stands.{IsDeclared, OwnPrograms, SomeManaged, Stands}
 

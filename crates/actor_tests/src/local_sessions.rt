@@ -7,7 +7,7 @@ ghost use Rattle.actor_tests.specs.LocalSessions.{IsAbout, IsApart, IsOfLines};
 
 mod again;
 
-use crate::answers::{is_cut, same};
+use crate::answers::is_cut;
 use again::stand_twice;
 use any_engine::AnyEngine;
 use fed_rules::{Answer, Command, Line, SiteLine, SiteRecord, SiteStep, ToSite, TxLine};
@@ -143,7 +143,7 @@ fn asks(
 // What the site answers at a line of a script, and the number of what it sends, are what the line says; so many were sent before it. Gives
 // how many are sent then.
 fn answers_so(rt: &impl Abort, step: &SiteStep, line: &Line, sent: u32, text: &str) -> u32 {
-    assert!(rt; same(&step.answer, &line.answer), "{text}");
+    assert!(rt; step.answer == line.answer, "{text}");
     let place = line.sends.as_slice().first().map(|to| to.place);
     if step.sends.is_none() {
         assert!(rt; place.is_none(), "{text}");

@@ -3,7 +3,6 @@ ghost use Rattle.std.specs.Prelude.{◌≡◌, [], IfOk, OnOk};
 ghost use Rattle.journal_disk.specs.MemDisk.{mem_size};
 ghost use Rattle.actor_tests.specs.SiteSessions.{MayStep, StepsOn, TestStands, locking_home, stopped_past};
 
-use crate::answers::same;
 use fed_rules::{Answer, FromSite, SiteEvent, ToSite};
 use journal_disk::{Disk, MemDisk};
 use locking_engine::LockingEngine;
@@ -107,7 +106,7 @@ fn answers(
     ensures { OnOk result (StepsOn core.old disk.old event core.new disk.new) }
 {
     let step = core.step(alloc, disk, event)?;
-    assert!(rt; same(&step.answer, &answer), "{event:?}");
+    assert!(rt; step.answer == answer, "{event:?}");
     Ok(step.sends)
 }
 

@@ -1,11 +1,11 @@
 -- The steps of a driver.
-use Rattle.std.proofs.Common.{◌≡◌, ℕ, suc, ◌+◌, ◌<◌, ◌≤◌, inl, inr, false, nat_lt, List, [], ◌∷◌, ◌++◌, length, Result, Ok, Err, IsErr, IsErrAnd, refl, ap, ◌∙◌, arith}
+use Rattle.std.proofs.Common.{◌≡◌, ℕ, ◌+◌, ◌<◌, false, List, [], ◌∷◌, ◌++◌, length, Result, Ok, Err, IsErr, IsErrAnd, refl, ap, ◌∙◌, arith}
 use Rattle.std.proofs.lemmas.Bool.{lt-ltb}
-use Rattle.std.proofs.lemmas.Bool.Decides.{leb_tells}
 use Rattle.mdb_base.proofs.Words.{cond-true, cond-false}
+use Rattle.mdb_base.proofs.NumberLaws.{not_below}
 use Rattle.fed_rules.specs.declared.answers.Answer.{Answer}
 use Rattle.fed_rules.specs.declared.commands.Command.{Command}
-use Rattle.trace_lines.specs.declared.error.DoorErr.{DoorErr}
+use Rattle.line_text.specs.declared.error.DoorErr.{DoorErr}
 use Rattle.client_drivers.specs.declared.doors.Driven.{Driven}
 use Rattle.client_drivers.specs.Calls.{Called, Notes}
 use Rattle.client_drivers.specs.Table.{Turn, Makes, Ends, within}
@@ -27,9 +27,6 @@ pub record IsGoing {D : Type 0} (tells : D → List Called → Type 0) (next : L
 pub starts : {D : Type 0} (tells : D → List Called → Type 0) (next : List Called → Turn) (turns : ℕ) (known : List Called → Type 0) (door : D) (call : Command) →
     next [] ≡ Makes call → known [] → IsGoing tells next turns known door door call 0
 starts tells next turns known door call first knows = record { calls = []; told = λ before h. h; follows = tt; next_is = first; count = refl; knows = knows }
-
-not_below : (a b : ℕ) → b ≤ a → nat_lt a b ≡ false
-not_below a b h = elim (leb_tells (suc a) b) [ inl (is, le) ↦ absurd (omega arith) | inr (isnt, lt) ↦ isnt ]
 
 -- within the turns the next call is the table's
 asks : (turns : ℕ) (next : List Called → Turn) (calls : List Called) (call : Command) → next calls ≡ Makes call → length calls < turns → limited turns next calls ≡ Makes call

@@ -1,6 +1,6 @@
 -- The steps of a global driver.
 use Rattle.std.proofs.Common.{◌≡◌, ◌≢◌, ℕ, zero, suc, ◌+◌, ◌<◌, ◌≤◌, ◌^◌, inl, inr, ◌&&◌, ◌==◌, Bool, true, false, cond, List, [], ◌∷◌, length, get_or, set, replicate, Option, Some, None, Result, Ok, Err, refl, ap, sym, ◌∙◌, subst, arith}
-use Rattle.std.proofs.lemmas.Bool.{eq-eqb, eqb-true}
+use Rattle.std.proofs.lemmas.Bool.{eq-eqb}
 use Rattle.std.proofs.lemmas.Bool.Decides.{eqb_tells}
 use Rattle.std.proofs.Math.ListN.{length-set}
 use Rattle.std.proofs.lemmas.List.{get_or-set_same, get_or-set_other}
@@ -8,11 +8,12 @@ use Rattle.mdb_base.proofs.Words.{cond-true, cond-false}
 use Rattle.mdb_base.specs.Names.{same_tid, same_tx}
 use Rattle.mdb_base.specs.declared.names.Tid.{Tid}
 use Rattle.mdb_base.specs.declared.names.Tx.{Tx}
+use Rattle.mdb_base.proofs.NameLaws.{same_tid-refl, same_tx-equal}
 use Rattle.fed_rules.specs.declared.answers.Answer.{Answer}
 use Rattle.fed_rules.specs.declared.answers.Answer.TheVariants as Say
 use Rattle.fed_rules.specs.declared.commands.Command.{Command}
 use Rattle.fed_rules.specs.declared.commands.Command.TheVariants as Call
-use Rattle.trace_lines.specs.declared.error.DoorErr.{DoorErr}
+use Rattle.line_text.specs.declared.error.DoorErr.{DoorErr}
 use Rattle.client_drivers.specs.declared.global.CoordCall.{CoordCall}
 use Rattle.client_drivers.specs.declared.global.CoordCall.TheVariants as To
 use Rattle.client_drivers.specs.Calls.{Called, Notes}
@@ -61,9 +62,6 @@ few_agains tells tries turns tx old new call agains made h lt fits attempt =
     let m = at_most (attempt_of tx attempt) h.going.calls in
     omega arith
 
-same_self : (tid : Tid) → same_tid tid tid ≡ true
-same_self tid = ap (λ (b : Bool). b && (tid.attempt == tid.attempt)) (eq-eqb tid.tx.0 tid.tx.0 refl) ∙ eq-eqb tid.attempt tid.attempt refl
-
 not_same : (tx : Tx) (a b : ℕ) → a ≢ b → same_tid (attempt_of tx a) (attempt_of tx b) ≡ false
 not_same tx a b ne = elim (eqb_tells a b) [
   | inl (is, same) ↦ absurd (ne same)
@@ -85,14 +83,11 @@ counts_more tx agains calls (To.Again n) answer size fits h attempt = elim (eqb_
       let inside : n < length agains = let f : n < 256 = fits in omega arith in
       subst (λ (k : ℕ). get_or (set agains n (get_or agains n 0 + 1)) k 0 ≡ agains_of (called (Call.Again (attempt_of tx n)) answer ∷ calls) (attempt_of tx k)) same
       (get_or-set_same agains n (get_or agains n 0 + 1) 0 inside
-      ∙ (ap (λ (m : ℕ). m + 1) (h n) ∙ (omega arith ∙ sym (cond-true _ (suc (agains_of calls (attempt_of tx n))) (agains_of calls (attempt_of tx n)) (same_self (attempt_of tx n))))))
+      ∙ (ap (λ (m : ℕ). m + 1) (h n) ∙ (omega arith ∙ sym (cond-true _ (suc (agains_of calls (attempt_of tx n))) (agains_of calls (attempt_of tx n)) (same_tid-refl (attempt_of tx n))))))
   | inr (isnt, ne) ↦
       get_or-set_other agains n attempt (get_or agains n 0 + 1) 0 (λ e. ne (sym e))
       ∙ (h attempt ∙ sym (cond-false _ (suc (agains_of calls (attempt_of tx attempt))) (agains_of calls (attempt_of tx attempt)) (not_same tx n attempt ne)))
 ]
-
-same_tx_is : (a b : Tx) → same_tx a b ≡ true → a ≡ b
-same_tx_is a b e = let numbered : ℕ → Tx = λ n. record { 0 = n } in ap numbered (eqb-true a.0 b.0 e)
 
 of_test : {A : Type 0} (b : Bool) (x y z : A) → (b ≡ true → x ≡ y) → cond b x z ≡ cond b y z
 of_test true x y z f = f refl
@@ -103,7 +98,7 @@ fate_counts : (tries : ℕ) (tx : Tx) (agains : List ℕ) (calls : List Called) 
     cond (same_tx tid.tx tx) (behind_running tries (get_or agains tid.attempt 0) tid) (Call.Fate tx) ≡ cond (same_tx tid.tx tx) (behind_running tries (agains_of calls tid) tid) (Call.Fate tx)
 fate_counts tries tx agains calls tid h =
     of_test (same_tx tid.tx tx) _ _ (Call.Fate tx)
-    (λ e. ap (λ (n : ℕ). behind_running tries n tid) (h tid.attempt ∙ ap (λ (t : Tx). agains_of calls (attempt_of t tid.attempt)) (sym (same_tx_is tid.tx tx e))))
+    (λ e. ap (λ (n : ℕ). behind_running tries n tid) (h tid.attempt ∙ ap (λ (t : Tx). agains_of calls (attempt_of t tid.attempt)) (sym (same_tx-equal tid.tx tx e))))
 
 row_counts : (tries : ℕ) (tx : Tx) (agains : List ℕ) (calls : List Called) (answer : Answer) → Counts tx agains calls →
     behind_global_fate tries (λ (tid : Tid). get_or agains tid.attempt 0) tx answer ≡ behind_global_fate tries (agains_of calls) tx answer

@@ -3,7 +3,7 @@ use Rattle.std.proofs.Common.{◌≡◌, ℕ, suc, ◌+◌, ◌<◌, ◌≤◌, 
 use Rattle.mdb_base.specs.declared.names.Tx.{Tx}
 use Rattle.fed_rules.specs.declared.answers.Answer.{Answer}
 use Rattle.fed_rules.specs.declared.commands.Command.{Command}
-use Rattle.trace_lines.specs.declared.error.DoorErr.{DoorErr}
+use Rattle.line_text.specs.declared.error.DoorErr.{DoorErr}
 use Rattle.client_drivers.specs.declared.local.SiteCall.{SiteCall}
 use Rattle.client_drivers.specs.declared.local.SiteCall.TheVariants as To
 use Rattle.client_drivers.specs.Calls.{Called, Notes}

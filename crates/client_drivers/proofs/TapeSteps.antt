@@ -3,7 +3,7 @@ use Rattle.std.proofs.Common.{◌≡◌, ◌≢◌, List, [], ◌∷◌, ◌++�
 use Rattle.std.proofs.lemmas.List.{reverse-append}
 use Rattle.fed_rules.specs.declared.answers.Answer.{Answer}
 use Rattle.fed_rules.specs.declared.commands.Command.{Command}
-use Rattle.trace_lines.specs.declared.error.DoorErr.TheVariants as Fails
+use Rattle.line_text.specs.declared.error.DoorErr.TheVariants as Fails
 use Rattle.client_drivers.specs.Calls.{Called, Notes}
 use Rattle.client_drivers.specs.Tapes.{Tape, TapeTells}
 use Rattle.client_drivers.proofs.Driving.{called}

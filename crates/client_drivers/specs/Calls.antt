@@ -2,7 +2,7 @@
 use Rattle.std.specs.Prelude.{List, ◌∷◌, Result}
 use Rattle.fed_rules.specs.declared.answers.Answer.{Answer}
 use Rattle.fed_rules.specs.declared.commands.Command.{Command}
-use Rattle.trace_lines.specs.declared.error.DoorErr.{DoorErr}
+use Rattle.line_text.specs.declared.error.DoorErr.{DoorErr}
 
 -- a call of a door, named as the command that it stands for, with its answer
 pub record Called : Type 0 where

@@ -1,6 +1,6 @@
 -- What a driver did: its calls are those of a table, and so is its end.
 use Rattle.std.specs.Prelude.{◌≡◌, List, [], ◌∷◌, ◌++◌, Result}
-use Rattle.trace_lines.specs.declared.error.DoorErr.{DoorErr}
+use Rattle.line_text.specs.declared.error.DoorErr.{DoorErr}
 use Rattle.client_drivers.specs.declared.doors.Driven.{Driven}
 use Rattle.client_drivers.specs.Calls.{Called}
 use Rattle.client_drivers.specs.Table.{Turn, Makes, Ends}

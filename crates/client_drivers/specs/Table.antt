@@ -7,7 +7,7 @@ use Rattle.fed_rules.specs.declared.answers.Answer.{Answer}
 use Rattle.fed_rules.specs.declared.answers.Answer.TheVariants as Say
 use Rattle.fed_rules.specs.declared.commands.Command.{Command}
 use Rattle.fed_rules.specs.declared.commands.Command.TheVariants as Call
-use Rattle.trace_lines.specs.declared.error.DoorErr.{DoorErr}
+use Rattle.line_text.specs.declared.error.DoorErr.{DoorErr}
 use Rattle.client_drivers.specs.declared.doors.Driven.{Driven}
 use Rattle.client_drivers.specs.Calls.{Called}
 

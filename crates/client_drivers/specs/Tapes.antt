@@ -3,8 +3,8 @@ use Rattle.std.specs.Prelude.{◌≡◌, ◌≢◌, List, [], ◌∷◌, ◌++�
 use Rattle.mdb_base.specs.Words.{Each}
 use Rattle.fed_rules.specs.declared.answers.Answer.{Answer}
 use Rattle.fed_rules.specs.declared.commands.Command.{Command}
-use Rattle.trace_lines.specs.declared.error.DoorErr.{DoorErr}
-use Rattle.trace_lines.specs.declared.error.DoorErr.TheVariants as Fails
+use Rattle.line_text.specs.declared.error.DoorErr.{DoorErr}
+use Rattle.line_text.specs.declared.error.DoorErr.TheVariants as Fails
 use Rattle.client_drivers.specs.Calls.{Called}
 
 -- the answers that are left, and the calls that were answered from the tape, oldest first

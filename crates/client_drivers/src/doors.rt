@@ -4,8 +4,8 @@ ghost use Rattle.fed_rules.specs.declared.commands.Command.TheVariants as Call;
 ghost use Rattle.client_drivers.specs.Calls.{Called, Notes};
 
 use fed_rules::Answer;
+use line_text::DoorErr;
 use mdb_base::{Tid, Tx};
-use trace_lines::DoorErr;
 
 /// What a client of a site calls.
 pub trait SiteDoor: Drop {

@@ -9,8 +9,8 @@ ghost use Rattle.client_drivers.specs.CoordCalls.{command_of, counted, IsByte};
 use crate::doors::{CoordDoor, Driven};
 use crate::local::end_of;
 use fed_rules::Answer;
+use line_text::DoorErr;
 use mdb_base::{Tid, Tx};
-use trace_lines::DoorErr;
 
 /// Calls the door until the transaction is committed, the attempts are spent, or `turns` calls were made. After each answer
 /// the next call is that of the crate's table: an attempt that runs is asked again, and given up after `tries` agains of it. A

@@ -24,9 +24,6 @@ mod tape;
 pub use doors::{CoordDoor, Driven, SiteDoor};
 pub use fed_rules::Answer;
 pub use global::drive_global;
+pub use line_text::DoorErr;
 pub use local::drive_local;
 pub use tape::TapeDoor;
-pub use trace_lines::DoorErr;
-
-#[cfg(test)]
-mod tests;

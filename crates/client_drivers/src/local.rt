@@ -8,8 +8,8 @@ ghost use Rattle.client_drivers.specs.SiteCalls.{command_of, is_step};
 
 use crate::doors::{Driven, SiteDoor};
 use fed_rules::Answer;
+use line_text::DoorErr;
 use mdb_base::Tx;
-use trace_lines::DoorErr;
 
 /// Calls the door until the transaction is committed, the attempts are spent, or `turns` calls were made. After each answer
 /// the next call is that of the crate's table: an attempt that is refused is begun again, and one that waits `tries` times in a

@@ -6,9 +6,9 @@ ghost use Rattle.client_drivers.specs.Tapes.{Gives, TapeTells};
 
 use crate::doors::{CoordDoor, SiteDoor};
 use fed_rules::{Answer, Command};
+use line_text::DoorErr;
 use mdb_base::{Tid, Tx};
 use std::marker::Model;
-use trace_lines::DoorErr;
 
 /// A door of both kinds that gives the answers of a list, and then want of memory. It notes its calls.
 #[derive(Drop)]

@@ -5,7 +5,7 @@ use Rattle.std.proofs.lemmas.List.{map-append, take_more}
 use Rattle.mdb_base.specs.declared.names.SiteId.{SiteId}
 use Rattle.mdb_base.specs.declared.names.Tid.{Tid}
 use Rattle.mdb_base.specs.Words.{those}
-use Rattle.order_laws.proofs.Lists.{those-append}
+use Rattle.mdb_base.proofs.TestLaws.{those_append}
 use Rattle.fed_rules.specs.declared.commands.Command.TheVariants as Cmd
 use Rattle.fed_rules.specs.SitePast.{SitePast, attempts_of, begins_tx, is_local}
 use Rattle.fed_rules.specs.declared.scenario.Scenario.{Scenario}
@@ -36,7 +36,7 @@ begun_local (x ∷ past) tid = by_test (begins_tx tid.tx x.answer) (begun_local 
 
 module _ {A : Type 0} (xs : List A) (i : ℕ) (d : A) (lt : i < length xs) where
   pub pass_next : (test : A → Bool) → those test (take (i + 1) xs) ≡ those test (take i xs) ++ cond (test (get_or xs i d)) (get_or xs i d ∷ []) []
-  pass_next test = ap (those test) (take_more xs i d lt) ∙ those-append test (take i xs) (get_or xs i d ∷ [])
+  pass_next test = ap (those test) (take_more xs i d lt) ∙ those_append test (take i xs) (get_or xs i d ∷ [])
 
 -- the numbers of the sites that pass
 abbrev pub numbers : (SiteId → Bool) → List SiteId → List ℕ

@@ -12,6 +12,7 @@ use Rattle.fed_rules.specs.declared.scenario.Scenario.{Scenario}
 use Rattle.fed_rules.specs.declared.scenario.TxLine.{TxLine}
 use Rattle.fed_rules.specs.Closing as rules
 use Rattle.fed_rules.specs.Closing.{deliver_all, for_each, last_sends, sent_next, taken}
+use Rattle.fed_rules.specs.Sessions.{fresh}
 use Rattle.fed_rules.specs.Story.{story_of}
 use Rattle.journal_disk.specs.Disk.{Seen}
 use Rattle.fed_world.specs.declared.world.World.{World}
@@ -65,21 +66,21 @@ module _ (scenario : Scenario) where
   pub next_grows : (place : Place) (commands : List Command) → Extends (delivered_next place scenario commands) commands
   next_grows place commands =
       let one : List Command = Cmd.Give place.site place.place ∷ commands in
-      extends_twice commands one (taken scenario one) (taken_grows scenario one) (extends_one (Cmd.Give place.site place.place) commands)
+      extends_twice commands one (taken (fresh scenario) one) (taken_grows scenario one) (extends_one (Cmd.Give place.site place.place) commands)
 
   pub delivers_grow : (n : ℕ) (places : List Place) (commands : List Command) → Extends (deliver_all scenario n places commands) commands
   delivers_grow zero places commands = extends_here commands
   delivers_grow (suc n) [] commands = extends_here commands
   delivers_grow (suc n) (place ∷ places) commands =
       let given : List Command = Cmd.Give place.site place.place ∷ commands in
-      let answered = taken scenario given in
-      let more = places ++ sent_next scenario answered (last_sends scenario given) in
+      let answered = taken (fresh scenario) given in
+      let more = places ++ sent_next scenario answered (last_sends (fresh scenario) given) in
       extends_twice commands answered (deliver_all scenario n more answered) (delivers_grow n more answered) (next_grows place commands)
 
   pub global_grows : (tx : Tx) (steps : List Step) (commands : List Command) → Extends (rules.global_alone scenario tx steps commands) commands
   global_grows tx steps commands =
       let one : List Command = Cmd.Go tx ∷ commands in
-      extends_twice commands one (rules.global_alone scenario tx steps commands) (delivers_grow (4 * length steps) (last_sends scenario one) one) (extends_one (Cmd.Go tx) commands)
+      extends_twice commands one (rules.global_alone scenario tx steps commands) (delivers_grow (4 * length steps) (last_sends (fresh scenario) one) one) (extends_one (Cmd.Go tx) commands)
 
   pub local_grows : (tx : Tx) (steps : List Step) (commands : List Command) → Extends (rules.local_alone tx steps commands) commands
   local_grows tx steps commands =

@@ -5,7 +5,7 @@ use Rattle.mdb_base.specs.declared.names.Tid.{Tid}
 use Rattle.mdb_base.specs.Names.{tid_before}
 use Rattle.mdb_base.specs.Words.{Each, found, inserted, those, with_some}
 use Rattle.order_laws.specs.Chains.{Distinct, In}
-use Rattle.order_laws.proofs.Names.{ranks_tids}
+use Rattle.order_laws.proofs.InLaws.{before_irreflexive, inserted_first}
 use Rattle.fed_rules.specs.declared.commands.Command.{Command}
 use Rattle.fed_rules.specs.declared.records.SiteRecord.{SiteRecord}
 use Rattle.fed_rules.specs.declared.runs.Kept.{Kept}
@@ -26,26 +26,19 @@ use Rattle.site_book.specs.Listing.{AreRising, Lists}
 use Rattle.closing_laws.specs.Runs.{SitesBeginOnce}
 use Rattle.closing_laws.proofs.BegunOnce.{once_distinct, restored_some}
 
-irreflexive : (t : Tid) → tid_before t t ≡ true → ⊥
-irreflexive t e = let f = ranks_tids.one_way t t e in cc
-
 -- none of a rising list stands behind itself
 not_behind : (t : Tid) (tids : List Tid) → Each (λ later. tid_before t later ≡ true) tids → In t tids → ⊥
 not_behind t [] h i = i
-not_behind t (u ∷ tids) h (inl e) = irreflexive t (subst (λ v. tid_before t v ≡ true) e h.0)
+not_behind t (u ∷ tids) h (inl e) = before_irreflexive t (subst (λ v. tid_before t v ≡ true) e h.0)
 not_behind t (u ∷ tids) h (inr i) = not_behind t tids h.1 i
 
 rises_distinct : (tids : List Tid) → AreRising tids → Distinct tids
 rises_distinct [] h = tt
 rises_distinct (t ∷ tids) h = (not_behind t tids h.0, rises_distinct tids h.1)
 
-put_first : (t : Tid) (tids : List Tid) → Each (λ later. tid_before t later ≡ true) tids → inserted tid_before t tids ≡ t ∷ tids
-put_first t [] h = refl
-put_first t (u ∷ tids) h = ap (λ b. cond b (u ∷ inserted tid_before t tids) (t ∷ u ∷ tids)) (ranks_tids.one_way t u h.0)
-
 rises_same : (tids : List Tid) → AreRising tids → rising tids ≡ tids
 rises_same [] h = refl
-rises_same (t ∷ tids) h = ap (inserted tid_before t) (rises_same tids h.1) ∙ put_first t tids h.0
+rises_same (t ∷ tids) h = ap (inserted tid_before t) (rises_same tids h.1) ∙ inserted_first t tids h.0
 
 -- a list told by its members, which rises, is that of the members by rising attempt
 pub listed_is : (test : Tid → Bool) (tids xs : List Tid) → Lists test tids → Distinct xs → ((t : Tid) → In t xs → test t ≡ true) → ((t : Tid) → test t ≡ true → In t xs) → tids ≡ rising xs

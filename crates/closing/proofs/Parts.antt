@@ -4,23 +4,24 @@ use Rattle.fed_rules.specs.declared.commands.Command.{Command}
 use Rattle.fed_rules.specs.declared.scenario.Scenario.{Scenario}
 use Rattle.fed_rules.specs.Closing as rules
 use Rattle.fed_rules.specs.Closing.{closed}
+use Rattle.fed_rules.specs.Sessions.{fresh}
 use Rattle.closing.proofs.Grows.{ask_all_grows, bring_up_grows, clear_grows, disarm_grows, end_known_grows, give_up_grows}
 use Rattle.closing.proofs.Towards.{Extends, extends_twice}
 
 abbrev pub first : Scenario → List Command → List Command
-first scenario commands = rules.disarm scenario commands
+first scenario commands = rules.disarm (fresh scenario) commands
 
 abbrev pub second : Scenario → List Command → List Command
-second scenario commands = rules.bring_up scenario (first scenario commands)
+second scenario commands = rules.bring_up (fresh scenario) (first scenario commands)
 
 abbrev pub third : Scenario → List Command → List Command
-third scenario commands = rules.give_up scenario (second scenario commands)
+third scenario commands = rules.give_up (fresh scenario) (second scenario commands)
 
 abbrev pub fourth : Scenario → List Command → List Command
-fourth scenario commands = rules.clear scenario (third scenario commands)
+fourth scenario commands = rules.clear (fresh scenario) (third scenario commands)
 
 abbrev pub fifth : Scenario → List Command → List Command
-fifth scenario commands = rules.end_known scenario (fourth scenario commands)
+fifth scenario commands = rules.end_known (fresh scenario) (fourth scenario commands)
 
 module _ (scenario : Scenario) (commands : List Command) where
   -- each is a front of the closed session

@@ -4,16 +4,11 @@ use Rattle.fed_rules.specs.declared.commands.Command.{Command}
 use Rattle.fed_rules.specs.declared.scenario.Scenario.{Scenario}
 use Rattle.journal_disk.specs.Disk.{Seen}
 use Rattle.fed_world.specs.declared.world.World.{World}
-use Rattle.fed_world.specs.Worlds.{HasLines, Recalls, Stands}
-use Rattle.fed_world.proofs.Recalled.{recalls as world_recalls}
+use Rattle.fed_world.specs.Worlds.{HasLines, Stands}
 
 -- there are nine disks
 pub nine : (tells : Bool) (world : World) (disks : List Seen) (scenario : Scenario) (commands : List Command) → Stands tells world disks scenario commands → length disks ≡ 9
 nine tells world disks scenario commands s = s.stand.others.nine
-
--- whatever is on the disks
-pub recalls : (tells : Bool) (world : World) (disks : List Seen) (scenario : Scenario) (commands : List Command) → Stands tells world disks scenario commands → Recalls world scenario commands
-recalls tells world disks scenario commands s = world_recalls tells world disks scenario commands s
 
 pub has_lines : (tells : Bool) (world : World) (disks : List Seen) (scenario : Scenario) (commands : List Command) → Stands tells world disks scenario commands → HasLines world scenario commands
 has_lines tells world disks scenario commands s = s.has

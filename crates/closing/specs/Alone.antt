@@ -6,18 +6,19 @@ use Rattle.fed_rules.specs.declared.commands.Place.{Place}
 use Rattle.fed_rules.specs.declared.scenario.Scenario.{Scenario}
 use Rattle.fed_rules.specs.declared.scenario.TxLine.{TxLine}
 use Rattle.fed_rules.specs.Closing.{for_each, last_sends, one_alone, sent_next, taken}
+use Rattle.fed_rules.specs.Sessions.{fresh}
 use Rattle.fed_rules.specs.Story.{story_of}
 use Rattle.closing_laws.specs.Finished.{AllFinished, HaveAttemptsLeft}
 use Rattle.fed_world.specs.Worlds.{Rests}
 
 -- a message is given, and what the site sends is taken
 abbrev pub delivered_next : Place → Scenario → List Command → List Command
-delivered_next place scenario commands = taken scenario (Cmd.Give place.site place.place ∷ commands)
+delivered_next place scenario commands = taken (fresh scenario) (Cmd.Give place.site place.place ∷ commands)
 
 -- the places of what the coordinator sends at that
 abbrev pub queue_after : Scenario → Place → List Command → List Place
 queue_after scenario place commands =
-    sent_next scenario (delivered_next place scenario commands) (last_sends scenario (Cmd.Give place.site place.place ∷ commands))
+    sent_next scenario (delivered_next place scenario commands) (last_sends (fresh scenario) (Cmd.Give place.site place.place ∷ commands))
 
 -- each of these transactions alone
 abbrev pub all_alone : List TxLine → Scenario → List Command → List Command

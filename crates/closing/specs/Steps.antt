@@ -10,11 +10,16 @@ use Rattle.fed_rules.specs.declared.scenario.Scenario.{Scenario}
 use Rattle.fed_rules.specs.Closing.{closed, deliver, for_each, in_doubt_at, inquire, last_sends, live, send_again}
 use Rattle.fed_rules.specs.Plans.{IsScenario}
 use Rattle.fed_rules.specs.Scenarios.{home_of}
+use Rattle.fed_rules.specs.Sessions.{Session, fresh}
 use Rattle.fed_rules.specs.SitePast.{is_local}
 use Rattle.fed_rules.specs.Story.{Story, past_of, story_of}
 use Rattle.closing_laws.specs.AtRest.{AllUp}
 use Rattle.closing.specs.declared.actors.SiteTids.{SiteTids}
 use Rattle.closing.specs.Towards.{Fits}
+
+-- a step of closing, of a session that begins with empty disks
+abbrev pub afresh : (Session → List Command → List Command) → Scenario → List Command → List Command
+afresh step scenario = step (fresh scenario)
 
 -- the commands with these behind them, the first one first
 abbrev pub with_commands : List Command → List Command → List Command
@@ -53,15 +58,15 @@ take_of place = Cmd.Take place.site place.place
 
 -- what the coordinator just sent is given
 abbrev pub given : Scenario → List Command → List Command
-given scenario commands = for_each (λ place more. Cmd.Give place.site place.place ∷ more) (last_sends scenario commands) commands
+given scenario commands = for_each (λ place more. Cmd.Give place.site place.place ∷ more) (last_sends (fresh scenario) commands) commands
 
 -- the messages at these places are delivered
 abbrev pub deliver_all : List Place → Scenario → List Command → List Command
-deliver_all places scenario = for_each (deliver scenario) places
+deliver_all places scenario = for_each (deliver (fresh scenario)) places
 
 -- a site asks about each of these attempts
 abbrev pub asks_about : SiteId → List Tid → Scenario → List Command → List Command
-asks_about site tids scenario = for_each (inquire scenario site) tids
+asks_about site tids scenario = for_each (inquire (fresh scenario) site) tids
 
 -- the commands of the first steps
 abbrev pub disarm_of : ℕ → Command
@@ -75,11 +80,11 @@ late_of tid = Cmd.Late tid
 
 -- each of these decisions is sent again
 abbrev pub sent_for : List Tid → Scenario → List Command → List Command
-sent_for tids scenario = for_each (send_again scenario) tids
+sent_for tids scenario = for_each (send_again (fresh scenario)) tids
 
 -- each of these sites asks about its attempts
 abbrev pub asks_all : List SiteTids → Scenario → List Command → List Command
-asks_all sites scenario = for_each (λ at. for_each (inquire scenario at.site) at.tids.items) sites
+asks_all sites scenario = for_each (λ at. for_each (inquire (fresh scenario) at.site) at.tids.items) sites
 
 -- the command that ends a local attempt, or another one
 abbrev pub end_of : SiteId → Bool → Tid → Command

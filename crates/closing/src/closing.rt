@@ -4,7 +4,7 @@ ghost use Rattle.fed_rules.specs.Closing as rules;
 ghost use Rattle.fed_rules.specs.Closing.{closed};
 ghost use Rattle.fed_world.specs.Faults.{CountsTell};
 ghost use Rattle.fed_world.specs.Worlds.{EachStory, Rests, SomeStory, Stands};
-ghost use Rattle.closing.specs.Steps.{CanClose, MayClose, MayStep};
+ghost use Rattle.closing.specs.Steps.{CanClose, MayClose, MayStep, afresh};
 ghost use Rattle.closing.specs.Towards.{FallsShort, Reaches, WillFit};
 
 use crate::actors::{armed_actors, clearing, doubtful, down_actors, known, undecided};
@@ -19,9 +19,9 @@ use std::alloc::Global;
 /// Each armed trip is disarmed.
 fn disarm<D: Disk>(alloc: Global, world: &mut World, disks: &mut Vec<D>) -> Result<(), WorldErr>
     requires told { IsTrue D.tells }
-    requires stood { SomeStory (Stands D.tells world.old (map D.seen disks.old.items)) (WillFit rules.disarm) }
-    ensures done { OnOk result (Reaches D.tells world.old (map D.seen disks.old.items) world.new (map D.seen disks.new.items) (WillFit rules.disarm) rules.disarm) }
-    ensures failed { IfErr result (λ why. FallsShort D.tells world.old (map D.seen disks.old.items) why world.new (map D.seen disks.new.items) (WillFit rules.disarm) rules.disarm) }
+    requires stood { SomeStory (Stands D.tells world.old (map D.seen disks.old.items)) (WillFit (afresh rules.disarm)) }
+    ensures done { OnOk result (Reaches D.tells world.old (map D.seen disks.old.items) world.new (map D.seen disks.new.items) (WillFit (afresh rules.disarm)) (afresh rules.disarm)) }
+    ensures failed { IfErr result (λ why. FallsShort D.tells world.old (map D.seen disks.old.items) why world.new (map D.seen disks.new.items) (WillFit (afresh rules.disarm)) (afresh rules.disarm)) }
     ensures cause { CountsTell result (map D.seen disks.old.items) (map D.seen disks.new.items) }
 {
     let Ok(armed) = armed_actors(alloc, world) else {
@@ -36,9 +36,9 @@ fn disarm<D: Disk>(alloc: Global, world: &mut World, disks: &mut Vec<D>) -> Resu
 /// Each actor that is down comes back.
 fn bring_up<D: Disk>(alloc: Global, world: &mut World, disks: &mut Vec<D>) -> Result<(), WorldErr>
     requires told { IsTrue D.tells }
-    requires stood { SomeStory (Stands D.tells world.old (map D.seen disks.old.items)) (WillFit rules.bring_up) }
-    ensures done { OnOk result (Reaches D.tells world.old (map D.seen disks.old.items) world.new (map D.seen disks.new.items) (WillFit rules.bring_up) rules.bring_up) }
-    ensures failed { IfErr result (λ why. FallsShort D.tells world.old (map D.seen disks.old.items) why world.new (map D.seen disks.new.items) (WillFit rules.bring_up) rules.bring_up) }
+    requires stood { SomeStory (Stands D.tells world.old (map D.seen disks.old.items)) (WillFit (afresh rules.bring_up)) }
+    ensures done { OnOk result (Reaches D.tells world.old (map D.seen disks.old.items) world.new (map D.seen disks.new.items) (WillFit (afresh rules.bring_up)) (afresh rules.bring_up)) }
+    ensures failed { IfErr result (λ why. FallsShort D.tells world.old (map D.seen disks.old.items) why world.new (map D.seen disks.new.items) (WillFit (afresh rules.bring_up)) (afresh rules.bring_up)) }
     ensures cause { CountsTell result (map D.seen disks.old.items) (map D.seen disks.new.items) }
 {
     let Ok(down) = down_actors(alloc, world) else {
@@ -53,9 +53,9 @@ fn bring_up<D: Disk>(alloc: Global, world: &mut World, disks: &mut Vec<D>) -> Re
 /// Each attempt that is known without a decision is given up.
 fn give_up<D: Disk>(alloc: Global, world: &mut World, disks: &mut Vec<D>) -> Result<(), WorldErr>
     requires told { IsTrue D.tells }
-    requires stood { SomeStory (Stands D.tells world.old (map D.seen disks.old.items)) (MayStep rules.give_up) }
-    ensures done { OnOk result (Reaches D.tells world.old (map D.seen disks.old.items) world.new (map D.seen disks.new.items) (MayStep rules.give_up) rules.give_up) }
-    ensures failed { IfErr result (λ why. FallsShort D.tells world.old (map D.seen disks.old.items) why world.new (map D.seen disks.new.items) (MayStep rules.give_up) rules.give_up) }
+    requires stood { SomeStory (Stands D.tells world.old (map D.seen disks.old.items)) (MayStep (afresh rules.give_up)) }
+    ensures done { OnOk result (Reaches D.tells world.old (map D.seen disks.old.items) world.new (map D.seen disks.new.items) (MayStep (afresh rules.give_up)) (afresh rules.give_up)) }
+    ensures failed { IfErr result (λ why. FallsShort D.tells world.old (map D.seen disks.old.items) why world.new (map D.seen disks.new.items) (MayStep (afresh rules.give_up)) (afresh rules.give_up)) }
     ensures cause { CountsTell result (map D.seen disks.old.items) (map D.seen disks.new.items) }
 {
     let Ok(tids) = undecided(alloc, world) else {
@@ -70,9 +70,9 @@ fn give_up<D: Disk>(alloc: Global, world: &mut World, disks: &mut Vec<D>) -> Res
 /// At each site each live local transaction is aborted, and then each live subtransaction dropped.
 fn clear<D: Disk>(alloc: Global, world: &mut World, disks: &mut Vec<D>) -> Result<(), WorldErr>
     requires told { IsTrue D.tells }
-    requires stood { SomeStory (Stands D.tells world.old (map D.seen disks.old.items)) (MayStep rules.clear) }
-    ensures done { OnOk result (Reaches D.tells world.old (map D.seen disks.old.items) world.new (map D.seen disks.new.items) (MayStep rules.clear) rules.clear) }
-    ensures failed { IfErr result (λ why. FallsShort D.tells world.old (map D.seen disks.old.items) why world.new (map D.seen disks.new.items) (MayStep rules.clear) rules.clear) }
+    requires stood { SomeStory (Stands D.tells world.old (map D.seen disks.old.items)) (MayStep (afresh rules.clear)) }
+    ensures done { OnOk result (Reaches D.tells world.old (map D.seen disks.old.items) world.new (map D.seen disks.new.items) (MayStep (afresh rules.clear)) (afresh rules.clear)) }
+    ensures failed { IfErr result (λ why. FallsShort D.tells world.old (map D.seen disks.old.items) why world.new (map D.seen disks.new.items) (MayStep (afresh rules.clear)) (afresh rules.clear)) }
     ensures cause { CountsTell result (map D.seen disks.old.items) (map D.seen disks.new.items) }
 {
     let Ok(commands) = clearing(alloc, world) else {
@@ -84,9 +84,9 @@ fn clear<D: Disk>(alloc: Global, world: &mut World, disks: &mut Vec<D>) -> Resul
 /// Each known attempt is ended.
 fn end_known<D: Disk>(alloc: Global, world: &mut World, disks: &mut Vec<D>) -> Result<(), WorldErr>
     requires told { IsTrue D.tells }
-    requires stood { SomeStory (Stands D.tells world.old (map D.seen disks.old.items)) (MayStep rules.end_known) }
-    ensures done { OnOk result (Reaches D.tells world.old (map D.seen disks.old.items) world.new (map D.seen disks.new.items) (MayStep rules.end_known) rules.end_known) }
-    ensures failed { IfErr result (λ why. FallsShort D.tells world.old (map D.seen disks.old.items) why world.new (map D.seen disks.new.items) (MayStep rules.end_known) rules.end_known) }
+    requires stood { SomeStory (Stands D.tells world.old (map D.seen disks.old.items)) (MayStep (afresh rules.end_known)) }
+    ensures done { OnOk result (Reaches D.tells world.old (map D.seen disks.old.items) world.new (map D.seen disks.new.items) (MayStep (afresh rules.end_known)) (afresh rules.end_known)) }
+    ensures failed { IfErr result (λ why. FallsShort D.tells world.old (map D.seen disks.old.items) why world.new (map D.seen disks.new.items) (MayStep (afresh rules.end_known)) (afresh rules.end_known)) }
     ensures cause { CountsTell result (map D.seen disks.old.items) (map D.seen disks.new.items) }
 {
     let Ok(tids) = known(alloc, world) else {
@@ -98,9 +98,9 @@ fn end_known<D: Disk>(alloc: Global, world: &mut World, disks: &mut Vec<D>) -> R
 /// Each doubt of each site is cleared.
 fn ask_all<D: Disk>(alloc: Global, world: &mut World, disks: &mut Vec<D>) -> Result<(), WorldErr>
     requires told { IsTrue D.tells }
-    requires stood { SomeStory (Stands D.tells world.old (map D.seen disks.old.items)) (MayStep rules.ask_all) }
-    ensures done { OnOk result (Reaches D.tells world.old (map D.seen disks.old.items) world.new (map D.seen disks.new.items) (MayStep rules.ask_all) rules.ask_all) }
-    ensures failed { IfErr result (λ why. FallsShort D.tells world.old (map D.seen disks.old.items) why world.new (map D.seen disks.new.items) (MayStep rules.ask_all) rules.ask_all) }
+    requires stood { SomeStory (Stands D.tells world.old (map D.seen disks.old.items)) (MayStep (afresh rules.ask_all)) }
+    ensures done { OnOk result (Reaches D.tells world.old (map D.seen disks.old.items) world.new (map D.seen disks.new.items) (MayStep (afresh rules.ask_all)) (afresh rules.ask_all)) }
+    ensures failed { IfErr result (λ why. FallsShort D.tells world.old (map D.seen disks.old.items) why world.new (map D.seen disks.new.items) (MayStep (afresh rules.ask_all)) (afresh rules.ask_all)) }
     ensures cause { CountsTell result (map D.seen disks.old.items) (map D.seen disks.new.items) }
 {
     let Ok(sites) = doubtful(alloc, world) else {

@@ -8,9 +8,10 @@ use Rattle.mdb_base.specs.Names.{same_site, same_tx}
 use Rattle.mdb_base.specs.Programs.{IsProgram}
 use Rattle.mdb_base.specs.Words.{Each, each_of, first_where, inserted, map_some, some_of, those}
 use Rattle.mdb_base.proofs.ListLaws.{each_inserted}
+use Rattle.mdb_base.proofs.NameLaws.{same_tx-equal, same_tx-refl}
 use Rattle.order_laws.specs.Chains.{In}
-use Rattle.order_laws.proofs.Alike.{same_tx_alike, same_tx_self}
 use Rattle.order_laws.proofs.Lists.{each_at, each_from, each_of_at, those_in, in_those}
+use Rattle.order_laws.proofs.InLaws.{same_tx-false_back}
 use Rattle.fed_rules.specs.declared.commands.Command.{Command}
 use Rattle.fed_rules.specs.declared.commands.Command.TheVariants as Cmd
 use Rattle.fed_rules.specs.declared.commands.Place.{Place}
@@ -21,6 +22,7 @@ use Rattle.fed_rules.specs.declared.scenario.TxLine.{TxLine}
 use Rattle.fed_rules.specs.Closing.{by_number, deliver_all, finished_alone, for_each, global_alone, is_done, last_sends, local_alone, one_alone, sent_next, steps_alone, take_answers, taken}
 use Rattle.fed_rules.specs.Plans.{IsScenario, all_differ, is_between, is_declared, is_in_place, is_transaction, one_transaction}
 use Rattle.fed_rules.specs.Scenarios.{global_line, global_program, home_at, home_in, home_of_line, items_of, local_home, local_site, program_of, program_of_line, transaction}
+use Rattle.fed_rules.specs.Sessions.{fresh}
 use Rattle.fed_rules.specs.SiteRecords.{Home}
 use Rattle.fed_rules.specs.Story.{Story, story_of, most_attempts}
 use Rattle.coord_laws.proofs.Facts.{is_undecided}
@@ -64,15 +66,15 @@ module _ (scenario : Scenario) (other tx : Tx) (apart : same_tx other tx ≡ fal
   delivers_leave (suc n) [] commands d = stays_here scenario tx (story_of scenario commands) d
   delivers_leave (suc n) (place ∷ places) commands d =
       let given : List Command = Cmd.Give place.site place.place ∷ commands in
-      let answered = taken scenario given in
-      let all = deliver_all scenario n (places ++ sent_next scenario answered (last_sends scenario given)) answered in
+      let answered = taken (fresh scenario) given in
+      let all = deliver_all scenario n (places ++ sent_next scenario answered (last_sends (fresh scenario) given)) answered in
       on commands given all (stays_one scenario commands (Cmd.Give place.site place.place) tx tt)
-      (on given answered all (takes_leave (last_sends scenario given) given) (delivers_leave n (places ++ sent_next scenario answered (last_sends scenario given)) answered)) d
+      (on given answered all (takes_leave (last_sends (fresh scenario) given) given) (delivers_leave n (places ++ sent_next scenario answered (last_sends (fresh scenario) given)) answered)) d
 
   global_leaves : (steps : List Step) (commands : List Command) → Leaves commands (global_alone scenario other steps commands)
   global_leaves steps commands =
       let first = Cmd.Go other ∷ commands in
-      on commands first (global_alone scenario other steps commands) (stays_one scenario commands (Cmd.Go other) tx apart) (delivers_leave (4 * length steps) (last_sends scenario first) first)
+      on commands first (global_alone scenario other steps commands) (stays_one scenario commands (Cmd.Go other) tx apart) (delivers_leave (4 * length steps) (last_sends (fresh scenario) first) first)
 
 one_leaves : (scenario : Scenario) (line : TxLine) (home : Option SiteId) (tx : Tx) → same_tx line.tx tx ≡ false → (commands : List Command) → AreDecided scenario tx (story_of scenario commands)
     → Stays scenario tx (story_of scenario commands) (story_of scenario (one_alone scenario line home commands))
@@ -95,7 +97,7 @@ none_alike l (m ∷ ls) k i e = by_test (same_tx l.tx m.tx) refl e (λ j f. none
 
 first_is : (lines : List TxLine) (line : TxLine) → all_differ one_transaction lines ≡ true → In line lines → first_where (λ (l : TxLine). same_tx l.tx line.tx) lines ≡ Some line
 first_is [] line d i = absurd i
-first_is (l ∷ lines) line d (inl e) = ap (λ b. cond b (Some l) (first_where (λ (k : TxLine). same_tx k.tx line.tx) lines)) (ap (λ (k : TxLine). same_tx k.tx line.tx) e ∙ same_tx_self line.tx) ∙ ap (λ k. Some k) e
+first_is (l ∷ lines) line d (inl e) = ap (λ b. cond b (Some l) (first_where (λ (k : TxLine). same_tx k.tx line.tx) lines)) (ap (λ (k : TxLine). same_tx k.tx line.tx) e ∙ same_tx-refl line.tx) ∙ ap (λ k. Some k) e
 first_is (l ∷ lines) line d (inr i) =
     ap (λ b. cond b (Some l) (first_where (λ (k : TxLine). same_tx k.tx line.tx) lines)) (none_alike l lines line i parts.0) ∙ first_is lines line parts.1 i
   where
@@ -171,13 +173,6 @@ AreApart (line ∷ lines) = Each (λ (other : TxLine). same_tx line.tx other.tx 
 abbrev before : TxLine → TxLine → Bool
 before a b = nat_lt a.tx.0 b.tx.0
 
-flip : (a b : Tx) → same_tx a b ≡ false → same_tx b a ≡ false
-flip a b e = by_test (same_tx b a) refl
-  where
-    by_test : (c : Bool) → same_tx b a ≡ c → same_tx b a ≡ false
-    by_test false q = q
-    by_test true q = (let same = same_tx_alike b a q in let yes : same_tx a b ≡ true = subst (λ t. same_tx a t ≡ true) (sym same) (same_tx_self a) in let clash = sym e ∙ yes in cc)
-
 lines_apart : (lines : List TxLine) → all_differ one_transaction lines ≡ true → AreApart lines
 lines_apart [] d = tt
 lines_apart (line ∷ lines) d =
@@ -189,7 +184,7 @@ put_apart line [] e a = (tt, tt)
 put_apart line (l ∷ lines) e a = by_test (before l line) (put_apart line lines e.1 a.1)
   where
     by_test : (b : Bool) → AreApart (inserted before line lines) → AreApart (cond b (l ∷ inserted before line lines) (line ∷ l ∷ lines))
-    by_test true rest = (each_inserted (λ (other : TxLine). same_tx l.tx other.tx ≡ false) before line lines (flip line.tx l.tx e.0) a.0, rest)
+    by_test true rest = (each_inserted (λ (other : TxLine). same_tx l.tx other.tx ≡ false) before line lines (same_tx-false_back line.tx l.tx e.0) a.0, rest)
     by_test false rest = (e, a)
 
 numbered_apart : (lines : List TxLine) → AreApart lines → AreApart (by_number lines)
@@ -257,7 +252,7 @@ module _ (rights : StoriesHaveRightLines) (locals : LocalsCommitAlone) (globals 
     with_first d = record {
       rest = d.rest;
       done = (
-        d.others line.tx (each_from (λ (l : TxLine). same_tx l.tx line.tx ≡ false) lines (λ l i. flip line.tx l.tx (each_at (λ (o : TxLine). same_tx line.tx o.tx ≡ false) l lines a.0 i))) ∙ first.done,
+        d.others line.tx (each_from (λ (l : TxLine). same_tx l.tx line.tx ≡ false) lines (λ l i. same_tx-false_back line.tx l.tx (each_at (λ (o : TxLine). same_tx line.tx o.tx ≡ false) l lines a.0 i))) ∙ first.done,
         d.done,
       );
       others = λ tx e. d.others tx e.1 ∙ (stays tx e.0).done;
@@ -311,6 +306,6 @@ sessions_finished rights locals globals scenario commands whole r left = record 
                 by_same false p = p
                 by_same true p =
                     let no = (may l i).undone in
-                    let same = same_tx_alike l.tx line.tx p in
+                    let same = same_tx-equal l.tx line.tx p in
                     let yes : is_done scenario story l.tx ≡ true = subst (λ t. is_done scenario story t ≡ true) (sym same) q in
                     let clash = sym no ∙ yes in cc

@@ -5,6 +5,7 @@ use Rattle.mdb_base.specs.declared.names.SiteId.{SiteId}
 use Rattle.mdb_base.specs.declared.names.Tx.{Tx}
 use Rattle.mdb_base.specs.Programs.{IsProgram}
 use Rattle.mdb_base.specs.Words.{inserted, those}
+use Rattle.mdb_base.proofs.TestLaws.{length_those}
 use Rattle.order_laws.specs.Chains.{In}
 use Rattle.order_laws.proofs.Lists.{each_at, those_in}
 use Rattle.fed_rules.specs.declared.commands.Command.{Command}
@@ -13,11 +14,12 @@ use Rattle.fed_rules.specs.declared.commands.Place.{Place}
 use Rattle.fed_rules.specs.declared.scenario.Scenario.{Scenario}
 use Rattle.fed_rules.specs.declared.scenario.TxLine.{TxLine}
 use Rattle.fed_rules.specs.Closing.{by_number, deliver_all, is_done, last_sends, one_alone, sent_next, steps_alone, taken}
+use Rattle.fed_rules.specs.Sessions.{fresh}
 use Rattle.fed_rules.specs.Story.{story_of}
 use Rattle.closing_laws.specs.Bound.{FinishingIsShort}
 use Rattle.closing_laws.proofs.SentPlaces.{give_places, taken_many}
 use Rattle.closing_laws.proofs.FewAttempts.{few_transactions}
-use Rattle.closing_laws.proofs.Lengths.{adds_each, length_inserted, length_those}
+use Rattle.closing_laws.proofs.Lengths.{adds_each, length_inserted}
 
 steps_many : (tx : Tx) (steps : List Step) (commands : List Command) → length (steps_alone tx steps commands) ≡ length steps + length commands
 steps_many tx [] commands = omega arith
@@ -29,16 +31,16 @@ deliver_few scenario zero places commands = omega arith
 deliver_few scenario (suc n) [] commands = omega arith
 deliver_few scenario (suc n) (place ∷ places) commands =
     let given : List Command = Cmd.Give place.site place.place ∷ commands in
-    let answered = taken scenario given in
-    let many = taken_many (last_sends scenario given) given in
+    let answered = taken (fresh scenario) given in
+    let many = taken_many (last_sends (fresh scenario) given) given in
     let few = give_places scenario commands place in
-    let rest = deliver_few scenario n (places ++ sent_next scenario answered (last_sends scenario given)) answered in
+    let rest = deliver_few scenario n (places ++ sent_next scenario answered (last_sends (fresh scenario) given)) answered in
     omega (arith, many, few, rest)
 
 one_few : (scenario : Scenario) (line : TxLine) (home : Option SiteId) → length line.program ≤ 32 → (commands : List Command)
     → length (one_alone scenario line home commands) ≤ 257 + length commands
 one_few scenario line None few commands =
-    let all = deliver_few scenario (4 * length line.program) (last_sends scenario (Cmd.Go line.tx ∷ commands)) (Cmd.Go line.tx ∷ commands) in omega (arith, all, few)
+    let all = deliver_few scenario (4 * length line.program) (last_sends (fresh scenario) (Cmd.Go line.tx ∷ commands)) (Cmd.Go line.tx ∷ commands) in omega (arith, all, few)
 one_few scenario line (Some site) few commands =
     let all = steps_many line.tx line.program (Cmd.Begin line.tx ∷ commands) in omega (arith, all, few)
 

@@ -8,6 +8,7 @@ use Rattle.mdb_base.specs.declared.replies.Reply.TheVariants as Reply_is
 use Rattle.mdb_base.specs.Names.{same_tid}
 use Rattle.mdb_base.specs.Words.{Each}
 use Rattle.mdb_base.proofs.Words.{when-true, when-false, cond-true, cond-false}
+use Rattle.mdb_base.proofs.OptionLaws.{pick_some, pick_none}
 use Rattle.fed_rules.specs.declared.messages.FromSite.{FromSite}
 use Rattle.fed_rules.specs.declared.messages.FromSite.TheVariants as From
 use Rattle.fed_rules.specs.declared.messages.ToSite.TheVariants as To
@@ -17,9 +18,8 @@ use Rattle.fed_rules.specs.Runs.{Start, EngineLine, Begins, Acts, Takes, Seals, 
 use Rattle.fed_rules.specs.Site.{did, first_work, next_work, next_take, is_over, work_live, of_work, take_live, of_take, votes_yes, seals_global, prepare_live, of_prepare, next_number, number_of, done}
 use Rattle.fed_rules.specs.SitePast.{SiteHappening, SitePast, records, epoch, epoch_start, engine_lines, run_of, live_one, live, is_closed, ends, trip_of}
 use Rattle.fed_rules.specs.SiteRecords.{Home, Held, doubt_of}
-use Rattle.closing_laws.proofs.AloneAt.{IsAlone, access_granted, ticket_granted, seal_free, access_of, acts_alone, takes_alone, begins_alone}
-use Rattle.closing_laws.proofs.Clear.{pick_some}
-use Rattle.closing_laws.proofs.LocalAlone.{pick_none, alone_live}
+use Rattle.engine_laws.proofs.AloneAt.{IsAlone, access_granted, ticket_granted, seal_free, access_of, acts_alone, takes_alone, begins_alone}
+use Rattle.closing_laws.proofs.LocalAlone.{alone_live}
 
 -- no run is unended, and what ended is older than what begins next
 pub record IsIdle (home : Home) (past : SitePast) : Type 0 where

@@ -1,17 +1,16 @@
 -- No attempt begins twice at a site within an epoch: local ones are numbered, and a global one begins only where none of its runs ended there.
-use Rattle.std.proofs.Common.{◌≡◌, ◌⊎◌, ◌<◌, ◌≤◌, ℕ, suc, Bool, true, false, cond, ◌||◌, is_some, Option, Some, None, List, [], ◌∷◌, ◌++◌, map, inl, inr, refl, sym, ◌∙◌, ap, ap₂, subst, arith}
-use Rattle.std.proofs.lemmas.Bool.{cond-true, cond-false}
+use Rattle.std.proofs.Common.{◌≡◌, ◌⊎◌, ◌<◌, ℕ, suc, Bool, true, false, cond, ◌||◌, is_some, Option, Some, None, List, [], ◌∷◌, ◌++◌, map, inl, inr, refl, sym, ◌∙◌, ap, ap₂, subst, arith}
+use Rattle.std.proofs.lemmas.Bool.{cond-true, cond-false, or_left, or_right}
 use Rattle.mdb_base.specs.declared.acts.PlainAct.TheVariants.{Read, Write}
-use Rattle.mdb_base.specs.declared.names.SiteId.{SiteId}
 use Rattle.mdb_base.specs.declared.names.Tid.{Tid}
 use Rattle.mdb_base.specs.declared.names.Tx.{Tx}
 use Rattle.mdb_base.specs.declared.replies.Reply.TheVariants as Reply_is
 use Rattle.mdb_base.specs.Names.{same_tid}
 use Rattle.mdb_base.specs.Words.{Each, some_of}
+use Rattle.mdb_base.proofs.NameLaws.{same_tx-refl, same_tid-refl}
 use Rattle.order_laws.specs.Chains.{In, Distinct}
-use Rattle.order_laws.proofs.Alike.{same_tx_self}
 use Rattle.order_laws.proofs.Lists.{each_at}
-use Rattle.order_laws.proofs.Names.{same_tid_self}
+use Rattle.order_laws.proofs.InLaws.{item_at-in}
 use Rattle.fed_rules.specs.declared.commands.Command.{Command}
 use Rattle.fed_rules.specs.declared.commands.Command.TheVariants as Cmd
 use Rattle.fed_rules.specs.declared.events.SiteEvent.{SiteEvent}
@@ -21,24 +20,24 @@ use Rattle.fed_rules.specs.declared.runs.Kept.{Kept}
 use Rattle.fed_rules.specs.declared.scenario.Scenario.{Scenario}
 use Rattle.fed_rules.specs.Happenings.{comes_up}
 use Rattle.fed_rules.specs.Runs.{Start, EngineLine, Begins, Acts, Takes, Seals, Refuses, Commits, Aborts, Run, attempts, begun, changed, restored, restored_at, run_at, tid_of}
-use Rattle.fed_rules.specs.Scenarios.{home_at, home_of, local_home, local_site}
+use Rattle.fed_rules.specs.Scenarios.{home_of}
 use Rattle.fed_rules.specs.Site.{site_line, site_past}
 use Rattle.fed_rules.specs.SitePast.{SiteHappening, SitePast, attempts_of, begins_tx, decides_on, ends, engine_lines, epoch_start, is_closed, records, run_of}
 use Rattle.fed_rules.specs.SiteRecords.{Home, doubts, kept_held, start_of}
 use Rattle.fed_rules.specs.Story.{past_of, sent_to, story_of}
 use Rattle.engine_laws.specs.Laws.{EachOnce}
 use Rattle.rules_laws.proofs.Declared.{home-again}
-use Rattle.local_laws.proofs.About.{engine_lines-next, epoch_start-next, run_of-next}
-use Rattle.local_laws.proofs.Led.{pasts_led}
-use Rattle.local_laws.specs.Led.{Allows, AllAllow, IsAsked, IsLed}
-use Rattle.commit_laws.proofs.Links.{item-in}
+use Rattle.rules_laws.proofs.SitePasts.{attempts_grow}
+use Rattle.site_history.proofs.About.{engine_lines-next, epoch_start-next, run_of-next}
+use Rattle.site_history.proofs.Led.{pasts_led}
+use Rattle.site_history.specs.Led.{Allows, AllAllow, IsAsked, IsLed}
 use Rattle.site_history.specs.Events.{AreSorted, IsSorted}
 use Rattle.site_history.specs.Stories.{is_local}
 use Rattle.site_history.proofs.Agreement.{IsKept}
 use Rattle.site_history.proofs.Histories.{IsSortedRecord, no_local_doubt}
 use Rattle.site_history.proofs.Restarts.{once_doubts}
 use Rattle.site_history.proofs.SortedPasts.{sorted_past}
-use Rattle.site_history.proofs.SortedStories.{sorted_story}
+use Rattle.site_history.proofs.SortedStories.{sorted_story, local_is}
 use Rattle.site_history.proofs.Starts.{restored_doubt, restored_held}
 use Rattle.closing_laws.specs.Runs.{SitesBeginOnce}
 use Rattle.closing_laws.proofs.Growth.{Growth, Renews, Stays, Next, First, IsNumbered, IsPlain, line_grows}
@@ -74,14 +73,6 @@ run_line start older l tid some = by_run (run_at start older tid) some (same_tid
     by_run (Some run) s true e = keeps_or_ends l tid run e
     by_run (Some run) s false e = inl refl
 
-or_first : (a b : Bool) → a ≡ true → (a || b) ≡ true
-or_first true b e = refl
-or_first false b e = cc
-
-or_second : (a b : Bool) → b ≡ true → (a || b) ≡ true
-or_second true b e = refl
-or_second false b e = e
-
 either : (a b c : Bool) → (b ≡ true) ⊎ (c ≡ true) → (a || b || c) ≡ true
 either true b c h = refl
 either false true c h = refl
@@ -93,8 +84,8 @@ run_lines : (start : Start) (older lines : List EngineLine) (tid : Tid) → is_s
     → (is_some (run_at start (lines ++ older) tid) ≡ true) ⊎ (some_of (ends tid) lines ≡ true)
 run_lines start older [] tid some = inl some
 run_lines start older (l ∷ lines) tid some = elim (run_lines start older lines tid some) [
-  | inl kept ↦ elim (run_line start (lines ++ older) l tid kept) [ inl now ↦ inl now | inr ended ↦ inr (or_first (ends tid l) (some_of (ends tid) lines) ended) ]
-  | inr ended ↦ inr (or_second (ends tid l) (some_of (ends tid) lines) ended)
+  | inl kept ↦ elim (run_line start (lines ++ older) l tid kept) [ inl now ↦ inl now | inr ended ↦ inr (or_left (ends tid l) (some_of (ends tid) lines) ended) ]
+  | inr ended ↦ inr (or_right (ends tid l) (some_of (ends tid) lines) ended)
 ]
 
 -- each attempt of the epoch has its run, or it is closed; local ones are numbered below what is counted; and none stands twice
@@ -106,7 +97,7 @@ record IsCounted (home : Home) (past : SitePast) (local : Tx → Bool) : Type 0 
 -- the attempts that the records restore
 none_same : (kept : Kept) (more : List Kept) → Each (λ other. same_tid kept.tid other.tid ≡ false) more → In kept.tid (map (λ (k : Kept). k.tid) more) → ⊥
 none_same kept [] h i = i
-none_same kept (k ∷ more) h (inl e) = let self = subst (λ t. same_tid kept.tid t ≡ true) (sym e) (same_tid_self kept.tid) in let apart = h.0 in cc
+none_same kept (k ∷ more) h (inl e) = let self = subst (λ t. same_tid kept.tid t ≡ true) (sym e) (same_tid-refl kept.tid) in let apart = h.0 in cc
 none_same kept (k ∷ more) h (inr i) = none_same kept more h.1 i
 
 pub once_distinct : (ks : List Kept) → EachOnce ks → Distinct (map (λ (k : Kept). k.tid) ks)
@@ -120,7 +111,7 @@ restored_some (k ∷ ks) tid i = by_test (same_tid k.tid tid) refl i (restored_s
     by_test : (b : Bool) → same_tid k.tid tid ≡ b → (k.tid ≡ tid) ⊎ In tid (map (λ (k : Kept). k.tid) ks) → (In tid (map (λ (k : Kept). k.tid) ks) → is_some (restored_at ks tid) ≡ true)
         → is_some (cond b (Some (restored k)) (restored_at ks tid)) ≡ true
     by_test true q i rest = refl
-    by_test false q (inl e) rest = let self = subst (λ t. same_tid k.tid t ≡ true) e (same_tid_self k.tid) in cc
+    by_test false q (inl e) rest = let self = subst (λ t. same_tid k.tid t ≡ true) e (same_tid-refl k.tid) in cc
     by_test false q (inr j) rest = rest j
 
 -- a new epoch
@@ -144,13 +135,6 @@ counted_start home past local sorted e f = record {
 
     some : (tid : Tid) → In tid (attempts (epoch_start home past) (engine_lines past)) → is_some (run_of home past tid) ≡ true
     some tid i = ap is_some (ap₂ (λ start lines. run_at start lines tid) e f) ∙ restored_some (map kept_held (doubts rs)) tid (subst (In tid) all i)
-
-attempts_grow : (past : SitePast) (x : SiteHappening) (tx : Tx) → attempts_of past tx ≤ attempts_of (x ∷ past) tx
-attempts_grow past x tx = by_test (begins_tx tx x.answer)
-  where
-    by_test : (b : Bool) → attempts_of past tx ≤ cond b (suc (attempts_of past tx)) (attempts_of past tx)
-    by_test true = omega arith
-    by_test false = omega arith
 
 -- what was closed stays closed within the epoch, and what ends is closed
 stays_closed : (past : SitePast) (x : SiteHappening) (tid : Tid) → comes_up x.answer ≡ false → (some_of (ends tid) x.lines ≡ true) ⊎ (is_closed past tid ≡ true)
@@ -219,7 +203,7 @@ module _ (home : Home) (past : SitePast) (local : Tx → Bool) (x : SiteHappenin
   ]
     where
       start : is_some (run_at (epoch_start home past) (Begins tid n ∷ engine_lines past) tid) ≡ true
-      start = ap (λ b. is_some (cond b (Some (begun tid n)) (run_at (epoch_start home past) (engine_lines past) tid))) (same_tid_self tid)
+      start = ap (λ b. is_some (cond b (Some (begun tid n)) (run_at (epoch_start home past) (engine_lines past) tid))) (same_tid-refl tid)
 
       joined : (ls : List EngineLine) → (ls ++ Begins tid n ∷ []) ++ engine_lines past ≡ ls ++ Begins tid n ∷ engine_lines past
       joined [] = refl
@@ -239,7 +223,7 @@ counted_line : (home : Home) (past : SitePast) (local : Tx → Bool) (x : SiteHa
 counted_line home past local x sorted (Renews e) c = counted_start home (x ∷ past) local sorted (cond-true _ _ _ e) (cond-true _ _ _ e)
 counted_line home past local x sorted (Stays plain same) c = counted_stays home past local x plain same c
 counted_line home past local x sorted (Next plain tid n is mine next answer) c =
-    let counts : attempts_of (x ∷ past) tid.tx ≡ suc (attempts_of past tid.tx) = cond-true _ _ _ (ap (begins_tx tid.tx) answer ∙ same_tx_self tid.tx) in
+    let counts : attempts_of (x ∷ past) tid.tx ≡ suc (attempts_of past tid.tx) = cond-true _ _ _ (ap (begins_tx tid.tx) answer ∙ same_tx-refl tid.tx) in
     counted_more home past local x plain tid (ap (λ ls. attempts (epoch_start home past) (ls ++ engine_lines past)) is) (λ i. let less = c.below tid i mine in absurd (omega (arith, less, next))) (first_run home past local x plain tid [] n is)
     (λ mine. omega (arith, counts, next)) c
 counted_line home past local x sorted (First plain tid act reply n is others unclosed free) c =
@@ -252,17 +236,9 @@ abbrev pub IsOthers : Scenario → SiteEvent → Type 0
 IsOthers scenario (Ev.Give message) = IsSorted (is_local scenario) (Ev.Give message)
 IsOthers scenario event = Unit {0}
 
--- who has a home is local
-homed_local : (scenario : Scenario) (tx : Tx) (home : Home) → local_home scenario tx ≡ Some home → is_local scenario tx ≡ true
-homed_local scenario tx home e = by_site (local_site scenario tx) e
-  where
-    by_site : (o : Option SiteId) → home_at scenario o ≡ Some home → is_some o ≡ true
-    by_site None e = cc
-    by_site (Some site) e = refl
-
 asked_sorted : (scenario : Scenario) (home : Home) (past : SitePast) (event : SiteEvent) → IsOthers scenario event → IsAsked scenario home past event → IsSorted (is_local scenario) event
-asked_sorted scenario home past (Ev.Begin tid) others a = homed_local scenario tid.tx home a.homed
-asked_sorted scenario home past (Ev.Commit tid) others a = homed_local scenario tid.tx home a.homed
+asked_sorted scenario home past (Ev.Begin tid) others a = local_is scenario tid.tx home a.homed
+asked_sorted scenario home past (Ev.Commit tid) others a = local_is scenario tid.tx home a.homed
 asked_sorted scenario home past (Ev.Give message) others a = others
 asked_sorted scenario home past (Ev.Act tid act) others a = tt
 asked_sorted scenario home past (Ev.Abort tid) others a = tt
@@ -330,7 +306,7 @@ led_counted scenario home (x ∷ past) (line, led) =
 others_allowed : (scenario : Scenario) (commands : List Command) (command : Command) → Allows (IsOthers scenario) (story_of scenario commands) command
 others_allowed scenario commands (Cmd.Give site place) = λ message at.
     each_at (λ m. IsSorted (is_local scenario) (Ev.Give m)) message (sent_to site (story_of scenario commands)) ((sorted_story scenario commands).sent site)
-    (item-in (sent_to site (story_of scenario commands)) place message at)
+    (item_at-in (sent_to site (story_of scenario commands)) place message at)
 others_allowed scenario commands (Cmd.Begin tx) = λ tid. tt
 others_allowed scenario commands (Cmd.Step tx) = λ tid act. tt
 others_allowed scenario commands (Cmd.Commit tx) = λ tid. tt

@@ -11,7 +11,6 @@ use Rattle.mdb_base.proofs.Words.{when-false, cond-true, cond-false}
 use Rattle.presumptions.specs.declared.Decision.{Decision}
 use Rattle.presumptions.specs.declared.Decision.TheVariants as Decided_as
 use Rattle.presumptions.specs.declared.Participant.{Participant}
-use Rattle.presumptions.specs.Table.{forces}
 use Rattle.fed_rules.specs.declared.answers.Answer.{Answer}
 use Rattle.fed_rules.specs.declared.answers.Answer.TheVariants as Say
 use Rattle.fed_rules.specs.declared.events.CoordEvent.{CoordEvent}
@@ -27,7 +26,6 @@ use Rattle.fed_rules.specs.Coord.{coord_line}
 use Rattle.fed_rules.specs.CoordPast as Coordinator
 use Rattle.fed_rules.specs.CoordPast.{CoordHappening, CoordPast, Undecided, Decided, Gone, standing}
 use Rattle.fed_rules.specs.CoordRecords.{coord_frame}
-use Rattle.fed_rules.specs.Disk.{Append, after_call}
 use Rattle.fed_rules.specs.Happenings.{Happening, Trip, quiet, stops, comes_up, is_down, used, set, armed, tripped}
 use Rattle.fed_rules.specs.Runs.{EngineLine, Aborts, Run, changed, run_at, tid_of}
 use Rattle.fed_rules.specs.Site.{site_line, answered, of_give, of_abort, of_drop, of_ask, with_lines, settling_line, settles, unheld, of_decide}
@@ -37,9 +35,11 @@ use Rattle.rules_laws.specs.Durable.{IsFirm}
 use Rattle.coord_laws.specs.Records.{IsEnd}
 use Rattle.coord_laws.proofs.Facts.{Same, Starts, Decides, Forgets, Restarts, is_undecided}
 use Rattle.coord_laws.proofs.Lines.{Stood, Stopped, Through, coord_lines}
-use Rattle.federation_laws.proofs.SiteAbout.{sync-records}
 use Rattle.federation_laws.proofs.SiteMoves.{live-next}
 use Rattle.fed_rules.specs.Policies.{Policy}
+use Rattle.engine_laws.proofs.RunLines.{abort_ends}
+use Rattle.rules_laws.proofs.CoordPasts.{IsNoGo}
+use Rattle.commit_laws.proofs.SiteEnds.{settling-ends, settles-records}
 
 -- an actor is up, and no trip is armed
 pub record IsReady {Event Message Record : Type 0} (trip_in : Event → Option Trip) (past : List (Happening Event Message Record)) : Type 0 where
@@ -138,21 +138,6 @@ end_quiets home past x line tid p e ends none = by_test (same_tid (tid_of line) 
     by_test true q = ended_run home past x line tid p e ends q
     by_test false q = other_run home past x line tid p e q ∙ none
 
--- an abort ends its run
-pub abort_ends : (tid : Tid) (old : Option Run) → changed (Aborts tid) old ≡ None
-abort_ends tid None = refl
-abort_ends tid (Some run) = refl
-
-pub settling_ends : (tid : Tid) (decision : Decision) (old : Option Run) → changed (settling_line tid decision) old ≡ None
-settling_ends tid Decided_as.Commit None = refl
-settling_ends tid Decided_as.Commit (Some run) = refl
-settling_ends tid Decided_as.Abort None = refl
-settling_ends tid Decided_as.Abort (Some run) = refl
-
-pub settling_of : (tid : Tid) (decision : Decision) → tid_of (settling_line tid decision) ≡ tid
-settling_of tid Decided_as.Commit = refl
-settling_of tid Decided_as.Abort = refl
-
 pub aborting_mild : (home : Home) (past : SitePast) (event : SiteEvent) (answer : Answer) (tid : Tid) → IsPlain answer → trip_of event ≡ None → ((tx : Tx) → begins_tx tx answer ≡ false) → IsMild home past (with_lines event answer (Aborts tid ∷ []))
 aborting_mild home past event answer tid p t u = record {
   stays = plain_stays _ _ p;
@@ -162,19 +147,13 @@ aborting_mild home past event answer tid p t u = record {
   unbegun = u;
 }
 
--- the records behind a settling
-pub settled_records : (home : Home) (past : SitePast) (tid : Tid) (decision : Decision) → records home (settles home tid decision ∷ past) ≡ Rec.Ended tid decision ∷ records home past
-unfolding settles
-settled_records home past tid decision =
-    sync-records (after_call site_frame (disk home past) (Append (Rec.Ended tid decision))) (forces home.protocol decision)
-
 pub settling_mild : (home : Home) (past : SitePast) (tid : Tid) (decision : Decision) → IsMild home past (settles home tid decision)
 unfolding settles
 settling_mild home past tid decision = record {
   stays = refl;
   unarmed = refl;
-  quiets = λ other e. end_quiets home past (settles home tid decision) (settling_line tid decision) other refl refl (settling_ends tid decision) e;
-  settles = λ other e. ap (λ rs. doubt_of rs other) (settled_records home past tid decision) ∙ both_none (same_tid tid other) (doubt_of (records home past) other) e;
+  quiets = λ other e. end_quiets home past (settles home tid decision) (settling_line tid decision) other refl refl (settling-ends tid decision) e;
+  settles = λ other e. ap (λ rs. doubt_of rs other) (settles-records home past tid decision) ∙ both_none (same_tid tid other) (doubt_of (records home past) other) e;
   unbegun = λ tx. refl;
 }
   where
@@ -256,11 +235,6 @@ pub record IsCoordMild (protocols : List Participant) (past : CoordPast) (x : Co
   pub unarmed : Coordinator.trip_of x.event ≡ None
   pub gone : (tid : Tid) → standing protocols past tid ≡ Gone → standing protocols (x ∷ past) tid ≡ Gone
   pub decided : (tid : Tid) → is_undecided (standing protocols past tid) ≡ false → is_undecided (standing protocols (x ∷ past) tid) ≡ false
-
--- so is each plain line that is no `go`
-abbrev pub IsNoGo : CoordEvent → Type 0
-IsNoGo (To_coord.Go tid steps) = ⊥
-IsNoGo event = Unit {0}
 
 pub plain_mild : (protocols : List Participant) (policy : Policy) (past : CoordPast) (event : CoordEvent) (x : CoordHappening) → IsFirm coord_frame IsEnd (Coordinator.disk past)
     → x ≡ coord_line protocols policy past event → x.event ≡ event → IsPlain x.answer → IsNoGo event → Coordinator.trip_of event ≡ None → IsCoordMild protocols past x

@@ -2,12 +2,12 @@
 use Rattle.std.proofs.Common.{◌≡◌, Bool, true, false, cond, not, is_some, Option, Some, None, List, [], ◌∷◌, inl, inr, refl, sym, ap, subst, ◌∙◌}
 use Rattle.mdb_base.specs.declared.names.SiteId.{SiteId}
 use Rattle.mdb_base.specs.declared.names.Tid.{Tid}
-use Rattle.mdb_base.specs.Words.{Each, pick, those}
-use Rattle.mdb_base.proofs.NameLaws.{same_tid-refl}
+use Rattle.mdb_base.specs.Words.{Each, those}
+use Rattle.mdb_base.proofs.NameLaws.{same_tid-refl, same_site-refl}
 use Rattle.mdb_base.proofs.Words.{when-false}
+use Rattle.mdb_base.proofs.OptionLaws.{pick_some}
 use Rattle.order_laws.specs.Chains.{In}
 use Rattle.order_laws.proofs.Lists.{in_those, those_in, each_from}
-use Rattle.order_laws.proofs.Names.{same_site_self}
 use Rattle.fed_rules.specs.declared.answers.Answer.TheVariants as Say
 use Rattle.fed_rules.specs.declared.commands.Command.{Command}
 use Rattle.fed_rules.specs.declared.commands.Command.TheVariants as Cmd
@@ -18,6 +18,7 @@ use Rattle.fed_rules.specs.EngineLines.{IsRight}
 use Rattle.fed_rules.specs.Plans.{IsScenario}
 use Rattle.fed_rules.specs.Runs.{Run, Aborts, attempts, run_at}
 use Rattle.fed_rules.specs.Scenarios.{home_of, local_home, sites}
+use Rattle.fed_rules.specs.Sessions.{fresh}
 use Rattle.fed_rules.specs.Site.{with_lines, of_abort, of_drop}
 use Rattle.fed_rules.specs.SitePast.{SiteHappening, SitePast, epoch_start, engine_lines, live, live_of_tx, is_local}
 use Rattle.fed_rules.specs.SiteRecords.{Home}
@@ -25,20 +26,16 @@ use Rattle.fed_rules.specs.Story.{Story, AtSite, past_of, with_site, happens, st
 use Rattle.commit_laws.proofs.Links.{its-site, home-again}
 use Rattle.engine_laws.proofs.Runs.{tid_is, attempts_have}
 use Rattle.site_history.specs.Stories.{StoriesHaveRightLines}
-use Rattle.local_laws.proofs.OpenRuns.{in_open}
+use Rattle.closing_laws.proofs.OpenRuns.{in_open}
 use Rattle.rules_laws.proofs.RisingLists.{rising_in}
 use Rattle.site_history.proofs.Agreement.{live_is}
 use Rattle.federation_laws.proofs.Told.{local_home-declared}
-use Rattle.closing_laws.proofs.Calm.{aborts_here, drops, ended_run, abort_ends}
+use Rattle.closing_laws.proofs.Calm.{aborts_here, drops, ended_run}
 use Rattle.closing_laws.proofs.Declared.{listed}
 use Rattle.closing_laws.proofs.Locals.{local_at_home, live_is_found}
 use Rattle.closing_laws.proofs.Onward.{IsCalm, Onward, onward_here, onward_on, onward_next, at_home, gentle_abort, gentle_drop}
 use Rattle.fed_rules.specs.SiteCommands.{request, with_live}
-
--- a value that is there decides a branch
-pub pick_some : {A B : Type 0} (o : Option A) (none : B) (some : A → B) (x : A) → o ≡ Some x → pick o none some ≡ some x
-unfolding pick
-pick_some o none some x e = ap (λ q. pick q none some) e
+use Rattle.engine_laws.proofs.RunLines.{abort_ends}
 
 -- what an abort and a drop make happen
 abort_told : (scenario : Scenario) (story : Story) (home : Home) (tid : Tid) (run : Run) → IsCalm story → local_home scenario tid.tx ≡ Some home
@@ -76,7 +73,7 @@ module _ (rights : StoriesHaveRightLines) (scenario : Scenario) where
       by_live (Some run) e =
           subst (λ h. live home (with_site home.site h (past_of home.site story)) tid ≡ None)
           (sym (abort_told scenario story home tid run c here (live_is_found rights scenario commands home tid run whole here e) e))
-          (subst (λ b. live home (cond b (x ∷ past_of home.site story) (past_of home.site story)) tid ≡ None) (sym (same_site_self home.site))
+          (subst (λ b. live home (cond b (x ∷ past_of home.site story) (past_of home.site story)) tid ≡ None) (sym (same_site-refl home.site))
           (ended_run home (past_of home.site story) x (Aborts tid) tid refl refl (abort_ends tid) (same_tid-refl tid)))
 
   drops_clear : (commands : List Command) (home : Home) (tid : Tid) → IsCalm (story_of scenario commands) → home_of scenario home.site ≡ Some home → is_local (past_of home.site (story_of scenario commands)) tid ≡ false
@@ -93,7 +90,7 @@ module _ (rights : StoriesHaveRightLines) (scenario : Scenario) where
       by_live None e = (onward_next scenario story (Cmd.Drop home.site tid) (happens scenario story (Cmd.Drop home.site tid)) c (gentle_drop scenario story home.site tid c)).quiets home tid d e
       by_live (Some run) e =
           subst (λ h. live home (with_site home.site h (past_of home.site story)) tid ≡ None) (sym (drop_told scenario story home tid run c d global e))
-          (subst (λ b. live home (cond b (x ∷ past_of home.site story) (past_of home.site story)) tid ≡ None) (sym (same_site_self home.site))
+          (subst (λ b. live home (cond b (x ∷ past_of home.site story) (past_of home.site story)) tid ≡ None) (sym (same_site-refl home.site))
           (ended_run home (past_of home.site story) x (Aborts tid) tid refl refl (abort_ends tid) (same_tid-refl tid)))
 
   -- behind these commands these attempts aren't live at the site
@@ -250,7 +247,7 @@ module _ (rights : StoriesHaveRightLines) (scenario : Scenario) where
     pub onward : Onward scenario before now
     pub clear : (home : Home) (tid : Tid) → home_of scenario home.site ≡ Some home → live home (past_of home.site now) tid ≡ None
 
-  pub cleared : (commands : List Command) → IsScenario scenario → IsCalm (story_of scenario commands) → IsClear (story_of scenario commands) (story_of scenario (clear scenario commands))
+  pub cleared : (commands : List Command) → IsScenario scenario → IsCalm (story_of scenario commands) → IsClear (story_of scenario commands) (story_of scenario (clear (fresh scenario) commands))
   cleared commands whole c =
       let all = all_cleared commands (sites scenario) commands whole (onward_here scenario (story_of scenario commands) c) in
       record { onward = all.onward; clear = λ home tid d. all.clear home tid d (listed scenario home d) }

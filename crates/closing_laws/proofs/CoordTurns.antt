@@ -6,8 +6,9 @@ use Rattle.mdb_base.specs.Names.{same_tid}
 use Rattle.mdb_base.specs.Words.{when, pick, item_at, some_of}
 use Rattle.mdb_base.proofs.NameLaws.{same_tid-refl}
 use Rattle.mdb_base.proofs.Words.{when-true}
+use Rattle.mdb_base.proofs.ListLaws.{among_some}
 use Rattle.presumptions.specs.declared.Decision.TheVariants as Decided_as
-use Rattle.order_laws.proofs.Lists.{some_of_true, is_among}
+use Rattle.order_laws.proofs.Lists.{is_among}
 use Rattle.fed_rules.specs.declared.answers.Answer.TheVariants as Say
 use Rattle.fed_rules.specs.declared.answers.Cause.TheVariants as For
 use Rattle.fed_rules.specs.declared.commands.Command.{Command}
@@ -20,18 +21,21 @@ use Rattle.fed_rules.specs.declared.scenario.Scenario.{Scenario}
 use Rattle.fed_rules.specs.Coord.{coord_line, sends_dues, aborts, ack_counts, acked_while, of_ack, asked_while, of_inquiry, of_take, again_while, of_again, of_late, forgets_at_once, sends_all, abort_records, defers_some, defers_all}
 use Rattle.fed_rules.specs.CoordPast.{CoordHappening, CoordPast, Standing, Undecided, Decided, Gone, standing, begun_tids, trip_of, is_open, known_decision, standing_of, records}
 use Rattle.fed_rules.specs.Scenarios.{protocols, policy}
-use Rattle.fed_rules.specs.Story.{Story, AtCoordinator, Nowhere, coord_past, sent_from, at_coordinator, on_attempt, on_take, happens, story_of, coord_requested}
-use Rattle.commit_laws.proofs.Agreed.{coord-sound}
+use Rattle.fed_rules.specs.Sessions.{Session}
+use Rattle.fed_rules.specs.Story.{Story, AtCoordinator, Nowhere, coord_past, sent_from, at_coordinator, on_attempt, on_take, happens, story_in, coord_requested}
+use Rattle.commit_laws.proofs.FoundSessions.{CoordinatorFits, session_sound}
 use Rattle.coord_laws.proofs.Begun.{begun_in}
 use Rattle.coord_laws.proofs.Lines.{coord_lines}
 use Rattle.coord_laws.proofs.Sound.{IsBegun}
 use Rattle.commit_laws.proofs.PreparedLaws.{nowhere}
-use Rattle.closing_laws.proofs.Calm.{lates, agains, takes, IsPlain, IsNoGo, plain_mild, undecided_open}
+use Rattle.closing_laws.proofs.Calm.{lates, agains, takes, IsPlain, plain_mild, undecided_open}
 use Rattle.closing_laws.proofs.Onward.{IsCalm, IsGentle, gentle_nowhere, onward_next}
 use Rattle.coord_laws.proofs.Facts.{is_undecided}
 use Rattle.fed_rules.specs.declared.messages.Due.{Due}
 use Rattle.fed_rules.specs.CoordCommands.{attempt_request}
 use Rattle.fed_rules.specs.Requests.{Submits, Declines}
+use Rattle.rules_laws.proofs.CoordPasts.{IsNoGo}
+use Rattle.commit_laws.proofs.Links.{member_of}
 
 -- branches of a rule
 plain_when : (t : Bool) (a b : CoordHappening) → IsPlain a.answer → IsPlain b.answer → IsPlain (when t a b).answer
@@ -79,12 +83,12 @@ plain_inquiry scenario past site tid = by_standing (standing (protocols scenario
     by_standing Gone = refl
 
 -- a plain line of the coordinator, no `go`, is gentle
-gentle_line : (scenario : Scenario) (commands : List Command) (event : CoordEvent) (tid : Tid) → IsPlain (coord_line (protocols scenario) (policy scenario) (coord_past (story_of scenario commands)) event).answer
-    → IsNoGo event → trip_of event ≡ None → IsGentle scenario (story_of scenario commands) (at_coordinator scenario (story_of scenario commands) event)
-gentle_line scenario commands event tid p calm t =
-    let past = coord_past (story_of scenario commands) in
-    let firm = (coord-sound scenario nowhere tid commands).firm in
-    record { mildly = plain_mild (protocols scenario) (policy scenario) past event (coord_line (protocols scenario) (policy scenario) past event) firm refl (coord_lines (protocols scenario) (policy scenario) tid past event firm).is p calm t }
+gentle_line : (session : Session) (fits : CoordinatorFits session) (commands : List Command) (event : CoordEvent) (tid : Tid) → IsPlain (coord_line (protocols session.plan) (policy session.plan) (coord_past (story_in session commands)) event).answer
+    → IsNoGo event → trip_of event ≡ None → IsGentle session.plan (story_in session commands) (at_coordinator session.plan (story_in session commands) event)
+gentle_line session fits commands event tid p calm t =
+    let past = coord_past (story_in session commands) in
+    let firm = (session_sound session fits (member_of nowhere) tid commands).firm in
+    record { mildly = plain_mild (protocols session.plan) (policy session.plan) past event (coord_line (protocols session.plan) (policy session.plan) past event) firm refl (coord_lines (protocols session.plan) (policy session.plan) tid past event firm).is p calm t }
 
 -- an event about an attempt, where its line is gentle
 gentle_attempt : (scenario : Scenario) (story : Story) (tid : Tid) (event : CoordEvent) → IsGentle scenario story (at_coordinator scenario story event)
@@ -96,19 +100,19 @@ gentle_attempt scenario story tid event g = by_test (some_of (same_tid tid) (beg
     by_test true = g
     by_test false = gentle_nowhere scenario story Say.None
 
-pub gentle_late : (scenario : Scenario) (commands : List Command) (tid : Tid) → IsCalm (story_of scenario commands) → IsGentle scenario (story_of scenario commands) (happens scenario (story_of scenario commands) (Cmd.Late tid))
+pub gentle_late : (session : Session) (fits : CoordinatorFits session) (commands : List Command) (tid : Tid) → IsCalm (story_in session commands) → IsGentle session.plan (story_in session commands) (happens session.plan (story_in session commands) (Cmd.Late tid))
 unfolding happens
-gentle_late scenario commands tid c =
-    let past = coord_past (story_of scenario commands) in
-    gentle_attempt scenario (story_of scenario commands) tid (Ev.Late tid)
-    (gentle_line scenario commands (Ev.Late tid) tid (subst (λ x. IsPlain x.answer) (sym (lates (protocols scenario) (policy scenario) past tid c.coordinator)) (plain_late scenario past tid)) tt refl)
+gentle_late session fits commands tid c =
+    let past = coord_past (story_in session commands) in
+    gentle_attempt session.plan (story_in session commands) tid (Ev.Late tid)
+    (gentle_line session fits commands (Ev.Late tid) tid (subst (λ x. IsPlain x.answer) (sym (lates (protocols session.plan) (policy session.plan) past tid c.coordinator)) (plain_late session.plan past tid)) tt refl)
 
-pub gentle_again : (scenario : Scenario) (commands : List Command) (tid : Tid) → IsCalm (story_of scenario commands) → IsGentle scenario (story_of scenario commands) (happens scenario (story_of scenario commands) (Cmd.Again tid))
+pub gentle_again : (session : Session) (fits : CoordinatorFits session) (commands : List Command) (tid : Tid) → IsCalm (story_in session commands) → IsGentle session.plan (story_in session commands) (happens session.plan (story_in session commands) (Cmd.Again tid))
 unfolding happens
-gentle_again scenario commands tid c =
-    let past = coord_past (story_of scenario commands) in
-    gentle_attempt scenario (story_of scenario commands) tid (Ev.Again tid)
-    (gentle_line scenario commands (Ev.Again tid) tid (subst (λ x. IsPlain x.answer) (sym (agains (protocols scenario) (policy scenario) past tid c.coordinator)) (plain_again scenario past tid)) tt refl)
+gentle_again session fits commands tid c =
+    let past = coord_past (story_in session commands) in
+    gentle_attempt session.plan (story_in session commands) tid (Ev.Again tid)
+    (gentle_line session fits commands (Ev.Again tid) tid (subst (λ x. IsPlain x.answer) (sym (agains (protocols session.plan) (policy session.plan) past tid c.coordinator)) (plain_again session.plan past tid)) tt refl)
 
 -- what the coordinator takes at a place
 pub takes_there : (scenario : Scenario) (story : Story) (site : SiteId) (n : ℕ) (message : FromSite) → item_at (sent_from site story) n ≡ Some message
@@ -116,27 +120,27 @@ pub takes_there : (scenario : Scenario) (story : Story) (site : SiteId) (n : ℕ
 unfolding happens on_take pick
 takes_there scenario story site n message e = ap (λ o. pick o (Nowhere Say.None) (λ m. at_coordinator scenario story (Ev.Take site m))) e
 
-pub gentle_ack : (scenario : Scenario) (commands : List Command) (site : SiteId) (n : ℕ) (tid : Tid) → IsCalm (story_of scenario commands) → item_at (sent_from site (story_of scenario commands)) n ≡ Some (From.Ack tid)
-    → IsGentle scenario (story_of scenario commands) (happens scenario (story_of scenario commands) (Cmd.Take site n))
+pub gentle_ack : (session : Session) (fits : CoordinatorFits session) (commands : List Command) (site : SiteId) (n : ℕ) (tid : Tid) → IsCalm (story_in session commands) → item_at (sent_from site (story_in session commands)) n ≡ Some (From.Ack tid)
+    → IsGentle session.plan (story_in session commands) (happens session.plan (story_in session commands) (Cmd.Take site n))
 unfolding of_take
-gentle_ack scenario commands site n tid c e =
-    let past = coord_past (story_of scenario commands) in
-    subst (IsGentle scenario (story_of scenario commands)) (sym (takes_there scenario (story_of scenario commands) site n (From.Ack tid) e))
-    (gentle_line scenario commands (Ev.Take site (From.Ack tid)) tid (subst (λ x. IsPlain x.answer) (sym (takes (protocols scenario) (policy scenario) past site (From.Ack tid) c.coordinator)) (plain_ack scenario past site tid)) tt refl)
+gentle_ack session fits commands site n tid c e =
+    let past = coord_past (story_in session commands) in
+    subst (IsGentle session.plan (story_in session commands)) (sym (takes_there session.plan (story_in session commands) site n (From.Ack tid) e))
+    (gentle_line session fits commands (Ev.Take site (From.Ack tid)) tid (subst (λ x. IsPlain x.answer) (sym (takes (protocols session.plan) (policy session.plan) past site (From.Ack tid) c.coordinator)) (plain_ack session.plan past site tid)) tt refl)
 
-pub gentle_inquiry : (scenario : Scenario) (commands : List Command) (site : SiteId) (n : ℕ) (tid : Tid) → IsCalm (story_of scenario commands) → item_at (sent_from site (story_of scenario commands)) n ≡ Some (From.Inquiry tid)
-    → IsGentle scenario (story_of scenario commands) (happens scenario (story_of scenario commands) (Cmd.Take site n))
+pub gentle_inquiry : (session : Session) (fits : CoordinatorFits session) (commands : List Command) (site : SiteId) (n : ℕ) (tid : Tid) → IsCalm (story_in session commands) → item_at (sent_from site (story_in session commands)) n ≡ Some (From.Inquiry tid)
+    → IsGentle session.plan (story_in session commands) (happens session.plan (story_in session commands) (Cmd.Take site n))
 unfolding of_take
-gentle_inquiry scenario commands site n tid c e =
-    let past = coord_past (story_of scenario commands) in
-    subst (IsGentle scenario (story_of scenario commands)) (sym (takes_there scenario (story_of scenario commands) site n (From.Inquiry tid) e))
-    (gentle_line scenario commands (Ev.Take site (From.Inquiry tid)) tid (subst (λ x. IsPlain x.answer) (sym (takes (protocols scenario) (policy scenario) past site (From.Inquiry tid) c.coordinator)) (plain_inquiry scenario past site tid)) tt refl)
+gentle_inquiry session fits commands site n tid c e =
+    let past = coord_past (story_in session commands) in
+    subst (IsGentle session.plan (story_in session commands)) (sym (takes_there session.plan (story_in session commands) site n (From.Inquiry tid) e))
+    (gentle_line session fits commands (Ev.Take site (From.Inquiry tid)) tid (subst (λ x. IsPlain x.answer) (sym (takes (protocols session.plan) (policy session.plan) past site (From.Inquiry tid) c.coordinator)) (plain_inquiry session.plan past site tid)) tt refl)
 
 -- so the coordinator hears of it
 pub hears_of : (scenario : Scenario) (story : Story) (tid : Tid) (event : CoordEvent) → IsBegun (coord_past story) tid → on_attempt scenario story tid event ≡ at_coordinator scenario story event
 unfolding on_attempt attempt_request
 hears_of scenario story tid event b =
-    ap (coord_requested scenario story) (when-true _ _ _ (some_of_true (same_tid tid) (begun_tids (coord_past story)) (is_among (λ t. same_tid tid t ≡ true) tid (begun_tids (coord_past story)) (begun_in (coord_past story) tid b) (same_tid-refl tid))))
+    ap (coord_requested scenario story) (when-true _ _ _ (among_some (same_tid tid) (begun_tids (coord_past story)) (is_among (λ t. same_tid tid t ≡ true) tid (begun_tids (coord_past story)) (begun_in (coord_past story) tid b) (same_tid-refl tid))))
 
 -- an abort leaves it decided or forgotten
 aborted_decided : (scenario : Scenario) (past : CoordPast) (tid : Tid) → is_undecided (standing (protocols scenario) (aborts (protocols scenario) past (Ev.Late tid) tid For.Late ∷ past) tid) ≡ false
@@ -153,23 +157,23 @@ aborted_decided scenario past tid =
     by_test false = refl
 
 -- an attempt that is given up is decided then
-pub late_decides : (scenario : Scenario) (commands : List Command) (tid : Tid) → IsCalm (story_of scenario commands)
-    → is_undecided (standing (protocols scenario) (coord_past (story_of scenario (Cmd.Late tid ∷ commands))) tid) ≡ false
+pub late_decides : (session : Session) (fits : CoordinatorFits session) (commands : List Command) (tid : Tid) → IsCalm (story_in session commands)
+    → is_undecided (standing (protocols session.plan) (coord_past (story_in session (Cmd.Late tid ∷ commands))) tid) ≡ false
 unfolding happens of_late
-late_decides scenario commands tid c = by_test (is_undecided (standing (protocols scenario) past tid)) refl
+late_decides session fits commands tid c = by_test (is_undecided (standing (protocols session.plan) past tid)) refl
   where
     story : Story
-    story = story_of scenario commands
+    story = story_in session commands
 
     past : CoordPast
     past = coord_past story
 
-    by_test : (b : Bool) → is_undecided (standing (protocols scenario) past tid) ≡ b → is_undecided (standing (protocols scenario) (coord_past (story_of scenario (Cmd.Late tid ∷ commands))) tid) ≡ false
-    by_test false e = (onward_next scenario story (Cmd.Late tid) (happens scenario story (Cmd.Late tid)) c (gentle_late scenario commands tid c)).decided tid e
+    by_test : (b : Bool) → is_undecided (standing (protocols session.plan) past tid) ≡ b → is_undecided (standing (protocols session.plan) (coord_past (story_in session (Cmd.Late tid ∷ commands))) tid) ≡ false
+    by_test false e = (onward_next session.plan story (Cmd.Late tid) (happens session.plan story (Cmd.Late tid)) c (gentle_late session fits commands tid c)).decided tid e
     by_test true e =
-        let begun = (coord-sound scenario nowhere tid commands).undecided e in
-        let line : coord_line (protocols scenario) (policy scenario) past (Ev.Late tid) ≡ aborts (protocols scenario) past (Ev.Late tid) tid For.Late =
-        lates (protocols scenario) (policy scenario) past tid c.coordinator ∙ when-true _ _ _ (undecided_open (is_open past tid) (known_decision (protocols scenario) past tid) e) in
-        let told : happens scenario story (Cmd.Late tid) ≡ AtCoordinator (aborts (protocols scenario) past (Ev.Late tid) tid For.Late) =
-        hears_of scenario story tid (Ev.Late tid) begun ∙ ap (λ x. AtCoordinator x) line in
-        subst (λ h. is_undecided (standing (protocols scenario) (coord_past (record { command = Cmd.Late tid; happened = h } ∷ story)) tid) ≡ false) (sym told) (aborted_decided scenario past tid)
+        let begun = (session_sound session fits (member_of nowhere) tid commands).undecided e in
+        let line : coord_line (protocols session.plan) (policy session.plan) past (Ev.Late tid) ≡ aborts (protocols session.plan) past (Ev.Late tid) tid For.Late =
+        lates (protocols session.plan) (policy session.plan) past tid c.coordinator ∙ when-true _ _ _ (undecided_open (is_open past tid) (known_decision (protocols session.plan) past tid) e) in
+        let told : happens session.plan story (Cmd.Late tid) ≡ AtCoordinator (aborts (protocols session.plan) past (Ev.Late tid) tid For.Late) =
+        hears_of session.plan story tid (Ev.Late tid) begun ∙ ap (λ x. AtCoordinator x) line in
+        subst (λ h. is_undecided (standing (protocols session.plan) (coord_past (record { command = Cmd.Late tid; happened = h } ∷ story)) tid) ≡ false) (sym told) (aborted_decided session.plan past tid)

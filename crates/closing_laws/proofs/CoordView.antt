@@ -1,5 +1,6 @@
 -- What a line of the coordinator that takes a reply or a vote leaves of an undecided attempt, and what it sends.
-use Rattle.coord_laws.proofs.Rules.{cond_same, calm_standing}
+use Rattle.mdb_base.proofs.BoolLaws.{cond_same}
+use Rattle.coord_laws.proofs.Rules.{calm_standing}
 use Rattle.std.proofs.Common.{◌≡◌, ℕ, ◌⊎◌, Bool, true, false, cond, not, ◌&&◌, ◌||◌, is_none, Option, Some, None, List, [], ◌∷◌, map, drop, inl, inr, refl, sym, ap, ap₂, subst, ◌∙◌, nat_lt}
 use Rattle.std.proofs.lemmas.Bool.{and_parts}
 use Rattle.mdb_base.specs.declared.names.SiteId.{SiteId}
@@ -8,11 +9,10 @@ use Rattle.mdb_base.specs.declared.replies.Reply.{Reply}
 use Rattle.mdb_base.specs.Names.{same_site, same_tid}
 use Rattle.mdb_base.specs.Words.{Each, when, those, found, with_some, some_of, inserted, item_at}
 use Rattle.mdb_base.proofs.ListLaws.{each_inserted}
-use Rattle.mdb_base.proofs.NameLaws.{same_tid-refl}
+use Rattle.mdb_base.proofs.NameLaws.{same_tid-refl, same_site-equal, same_site-refl}
 use Rattle.presumptions.specs.declared.Participant.{Participant}
 use Rattle.order_laws.specs.Chains.{In}
 use Rattle.order_laws.proofs.Lists.{each_at, each_from, those_in}
-use Rattle.order_laws.proofs.Names.{same_site_alike, same_site_self}
 use Rattle.fed_rules.specs.declared.answers.Answer.TheVariants as Say
 use Rattle.fed_rules.specs.declared.events.CoordEvent.{CoordEvent}
 use Rattle.fed_rules.specs.declared.events.CoordEvent.TheVariants as Ev
@@ -32,8 +32,8 @@ use Rattle.fed_rules.specs.Happenings.{quiet, stops}
 use Rattle.fed_rules.specs.Plans.{IsScenario, all_differ, one_site}
 use Rattle.fed_rules.specs.Scenarios.{protocols_in, protocols}
 use Rattle.fed_rules.specs.Site_of.{due_site}
-use Rattle.closing_laws.proofs.Dues.{count_of, epoch_of, ticketed, work_of, prepare_of, due_of, due_is}
-use Rattle.federation_laws.proofs.Dues.{steps_of}
+use Rattle.closing_laws.proofs.Dues.{work_of, prepare_of, due_of, due_is}
+use Rattle.federation_laws.proofs.Dues.{steps_of, count_of, epoch_of, ticket_of}
 
 -- what is left: the program, these replies and votes; it is still undecided, and no other attempt is known
 pub record Views (g : Tid) (past : CoordPast) (x : CoordHappening) (replies : List Counted) (votes : SiteId → Option ℕ) : Type 0 where
@@ -121,7 +121,7 @@ due_now g past x replies votes site v =
     ∙ (ap (λ rs. due_of (program past g) rs (vote_at (x ∷ past) g) site) v.counted_is
     ∙ ap (λ o. cond (visits site (program past g))
     (cond (visits site (drop (steps_of replies) (program past g))) (work_of replies site (item_at (program past g) (steps_of replies)))
-    (cond (ticketed replies site) (prepare_of replies o site) (Some (Due_is.Take site (epoch_of replies site) (count_of replies site)))))
+    (cond (ticket_of replies site) (prepare_of replies o site) (Some (Due_is.Take site (epoch_of replies site) (count_of replies site)))))
     None) (v.votes_are site)))
 
 -- items at sites of their own
@@ -134,7 +134,7 @@ same_site-sym a b e = by_test (same_site b a) refl
   where
     by_test : (c : Bool) → same_site b a ≡ c → same_site b a ≡ false
     by_test false q = q
-    by_test true q = (let t : same_site a b ≡ true = subst (λ s. same_site s b ≡ true) (same_site_alike b a q) (same_site_self b) in let clash = sym e ∙ t in cc)
+    by_test true q = (let t : same_site a b ≡ true = subst (λ s. same_site s b ≡ true) (same_site-equal b a q) (same_site-refl b) in let clash = sym e ∙ t in cc)
 
 pub apart_those : {A : Type 0} (at : A → SiteId) (test : A → Bool) (xs : List A) → Apart at xs → Apart at (those test xs)
 apart_those at test [] h = tt
@@ -235,7 +235,7 @@ first_due g (d ∷ dues) due i h = by_in i (first_due g dues due)
         → (rest : List ToSite) × (map (λ (sent : Sent). sent.message) (cond (same_site (due_site d) (due_site due)) (send_due g d ∷ there) there) ≡ message_of g due ∷ rest)
     by_in (inl same) k = (
       map (λ (sent : Sent). sent.message) there,
-      ap (λ b. map (λ (sent : Sent). sent.message) (cond b (send_due g d ∷ there) there)) (ap (λ z. same_site (due_site d) (due_site z)) (sym same) ∙ same_site_self (due_site d)) ∙ ap (λ z. message_of g z ∷ map (λ (sent : Sent). sent.message) there) same,
+      ap (λ b. map (λ (sent : Sent). sent.message) (cond b (send_due g d ∷ there) there)) (ap (λ z. same_site (due_site d) (due_site z)) (sym same) ∙ same_site-refl (due_site d)) ∙ ap (λ z. message_of g z ∷ map (λ (sent : Sent). sent.message) there) same,
     )
     by_in (inr j) k =
         let r = k j h.1 in

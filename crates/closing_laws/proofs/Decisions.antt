@@ -5,7 +5,7 @@ use Rattle.mdb_base.specs.declared.names.SiteId.{SiteId}
 use Rattle.mdb_base.specs.declared.names.Tid.{Tid}
 use Rattle.mdb_base.specs.Names.{same_tid, same_tx}
 use Rattle.mdb_base.specs.Words.{Each, Among, when, pick, item_at}
-use Rattle.mdb_base.proofs.NameLaws.{same_tid-equal}
+use Rattle.mdb_base.proofs.NameLaws.{same_tid-equal, same_tx-refl}
 use Rattle.mdb_base.proofs.Words.{cond-false}
 use Rattle.presumptions.specs.declared.Decision.TheVariants as Decided_as
 use Rattle.presumptions.specs.declared.Participant.{Participant}
@@ -30,22 +30,23 @@ use Rattle.fed_rules.specs.CoordRecords.{committed_of, is_nobody}
 use Rattle.fed_rules.specs.Happenings.{quiet}
 use Rattle.fed_rules.specs.Plans.{IsScenario}
 use Rattle.fed_rules.specs.Scenarios.{home_of, protocols, policy}
+use Rattle.fed_rules.specs.Sessions.{fresh}
 use Rattle.fed_rules.specs.Site.{of_decide}
 use Rattle.fed_rules.specs.SitePast.{SiteHappening, records, live}
 use Rattle.fed_rules.specs.SiteRecords.{Home, doubt_of}
 use Rattle.fed_rules.specs.Story.{Story, Happened, AtSite, AtCoordinator, Nowhere, past_of, coord_past, with_site, with_coordinator, sent_to, sent_from, at_coordinator, on_take, happens, place_from, places_of, story_of}
 use Rattle.coord_laws.specs.Records.{IsCommit}
 use Rattle.commit_laws.proofs.Agreed.{coord-sound}
+use Rattle.commit_laws.proofs.FoundSessions.{fresh_fits}
 use Rattle.coord_laws.proofs.Lines.{coord_lines}
 use Rattle.coord_laws.proofs.Sound.{kept_stays, end_commit}
 use Rattle.commit_laws.proofs.Links.{Linked, linked}
 use Rattle.commit_laws.proofs.PreparedLaws.{nowhere}
-use Rattle.order_laws.proofs.Alike.{same_tx_self}
 use Rattle.closing_laws.proofs.Calm.{takes}
 use Rattle.closing_laws.proofs.CoordTurns.{takes_there}
 use Rattle.closing_laws.proofs.Declared.{IsMemberHome}
 use Rattle.closing_laws.proofs.Delivered.{give_told, decide_sends, acks_so, sent_behind, IsWaiting, delivered}
-use Rattle.closing_laws.proofs.EndKnown.{missing_acks, none_missing}
+use Rattle.closing_laws.proofs.EndKnown.{missing_acks, none_missing, place_at}
 use Rattle.closing_laws.proofs.Inquire.{give_settles}
 use Rattle.closing_laws.proofs.Onward.{IsCalm, Onward, onward_next, gentle_give, one_home}
 use Rattle.closing_laws.proofs.Quiet.{IsQuiet}
@@ -83,7 +84,7 @@ commit_of g (Rec.Abort t ms ∷ rs) (inr m) = commit_of g rs m
 commit_of g (Rec.Checkpoint sum ∷ rs) (inl m) = absurd m
 commit_of g (Rec.Checkpoint sum ∷ rs) (inr m) = commit_of g rs m
 commit_of g (Rec.End t ∷ rs) (inr m) = commit_of g rs m
-commit_of g (Rec.Commit t ks ∷ rs) (inl m) = ap (λ b. is_some (cond b (Some t) (committed_of rs g.tx))) (ap (λ (z : Tid). same_tx z.tx g.tx) m ∙ same_tx_self g.tx)
+commit_of g (Rec.Commit t ks ∷ rs) (inl m) = ap (λ b. is_some (cond b (Some t) (committed_of rs g.tx))) (ap (λ (z : Tid). same_tx z.tx g.tx) m ∙ same_tx-refl g.tx)
 commit_of g (Rec.Commit t ks ∷ rs) (inr m) = by_test (same_tx t.tx g.tx) (commit_of g rs m)
   where
     by_test : (b : Bool) → is_some (committed_of rs g.tx) ≡ true → is_some (cond b (Some t) (committed_of rs g.tx)) ≡ true
@@ -131,10 +132,10 @@ ack_sends protocols past site tid = by_standing (standing protocols past tid)
 
 -- the commit is given at one site, and acknowledged where its protocol does that
 record OneSettled (scenario : Scenario) (g : Tid) (ss : List SiteId) (home : Home) (n : ℕ) (commands : List Command) : Type 0 where
-  onward : Onward scenario (story_of scenario commands) (story_of scenario (deliver scenario (record { site = home.site; place = n }) commands))
-  settled : doubt_of (records home (past_of home.site (story_of scenario (deliver scenario (record { site = home.site; place = n }) commands)))) g ≡ None
-  waits : IsWaiting (protocols scenario) (coord_past (story_of scenario (deliver scenario (record { site = home.site; place = n }) commands))) g Decided_as.Commit ss
-  ends : sent_next scenario (deliver scenario (record { site = home.site; place = n }) commands) (last_sends scenario (Cmd.Give home.site n ∷ commands)) ≡ []
+  onward : Onward scenario (story_of scenario commands) (story_of scenario (deliver (fresh scenario) (record { site = home.site; place = n }) commands))
+  settled : doubt_of (records home (past_of home.site (story_of scenario (deliver (fresh scenario) (record { site = home.site; place = n }) commands)))) g ≡ None
+  waits : IsWaiting (protocols scenario) (coord_past (story_of scenario (deliver (fresh scenario) (record { site = home.site; place = n }) commands))) g Decided_as.Commit ss
+  ends : sent_next scenario (deliver (fresh scenario) (record { site = home.site; place = n }) commands) (last_sends (fresh scenario) (Cmd.Give home.site n ∷ commands)) ≡ []
 
 module _ (scenario : Scenario) (whole : IsScenario scenario) (g : Tid) where
   one_settled : (commands : List Command) (home : Home) (n : ℕ) (ss : List SiteId) → IsCalm (story_of scenario commands) → home_of scenario home.site ≡ Some home
@@ -155,17 +156,17 @@ module _ (scenario : Scenario) (whole : IsScenario scenario) (g : Tid) where
       told : happens scenario story (Cmd.Give home.site n) ≡ AtSite home.site x
       told = give_told scenario story home n g Decided_as.Commit c d e
 
-      settled_so : doubt_of (records home (past_of home.site (story_of scenario (deliver scenario (record { site = home.site; place = n }) commands)))) g ≡ None
-      settled_so = ap (λ p. doubt_of (records home p) g) (takes_leave scenario (last_sends scenario given) given home.site) ∙ give_settles scenario commands home n g Decided_as.Commit c d e
+      settled_so : doubt_of (records home (past_of home.site (story_of scenario (deliver (fresh scenario) (record { site = home.site; place = n }) commands)))) g ≡ None
+      settled_so = ap (λ p. doubt_of (records home p) g) (takes_leave scenario (last_sends (fresh scenario) given) given home.site) ∙ give_settles (fresh scenario) (fresh_fits scenario) commands home n g Decided_as.Commit c d e
 
       first : Onward scenario story (story_of scenario given)
       first = onward_next scenario story (Cmd.Give home.site n) (happens scenario story (Cmd.Give home.site n)) c (gentle_give scenario story home.site n g Decided_as.Commit c e)
 
       by_acks : (b : Bool) → acks home.protocol Decided_as.Commit ≡ b → OneSettled scenario g ss home n commands
       by_acks true a =
-          let del = delivered scenario commands home n g Decided_as.Commit ss c d a e waits in
+          let del = delivered (fresh scenario) (fresh_fits scenario) commands home n g Decided_as.Commit ss c d a e waits in
           let sends : x.sends ≡ From.Ack g ∷ [] = decide_sends home (past_of home.site story) g Decided_as.Commit ∙ acks_so home g Decided_as.Commit a in
-          let places : last_sends scenario given ≡ record { site = home.site; place = length (sent_from home.site story) } ∷ [] = ap (places_of story) told ∙ ap (place_from home.site (length (sent_from home.site story))) sends in
+          let places : last_sends (fresh scenario) given ≡ record { site = home.site; place = length (sent_from home.site story) } ∷ [] = ap (places_of story) told ∙ ap (place_from home.site (length (sent_from home.site story))) sends in
           let there : item_at (sent_from home.site (story_of scenario given)) (length (sent_from home.site story)) ≡ Some (From.Ack g) =
           ap (λ h. item_at (sent_from home.site (record { command = Cmd.Give home.site n; happened = h } ∷ story)) (length (sent_from home.site story))) told
           ∙ sent_behind story (Cmd.Give home.site n) home.site x (From.Ack g) sends in
@@ -181,7 +182,7 @@ module _ (scenario : Scenario) (whole : IsScenario scenario) (g : Tid) where
           }
       by_acks false a =
           let sends : x.sends ≡ [] = decide_sends home (past_of home.site story) g Decided_as.Commit ∙ cond-false _ _ _ a in
-          let places : last_sends scenario given ≡ [] = ap (places_of story) told ∙ ap (place_from home.site (length (sent_from home.site story))) sends in
+          let places : last_sends (fresh scenario) given ≡ [] = ap (places_of story) told ∙ ap (place_from home.site (length (sent_from home.site story))) sends in
           record {
             onward = subst (λ ps. Onward scenario story (story_of scenario (take_answers ps given))) (sym places) first;
             settled = settled_so;
@@ -196,17 +197,13 @@ module _ (scenario : Scenario) (whole : IsScenario scenario) (g : Tid) where
             known,
             λ m i. elim (w m i) [
               | inl same ↦
-                  let can = missing_acks scenario commands g Decided_as.Commit m whole i in
+                  let can = missing_acks (fresh scenario) (fresh_fits scenario) commands g Decided_as.Commit m whole.sites i in
                   let one : can.at.home ≡ home = one_home scenario can.at.home home can.at.declared d (can.at.here ∙ sym same) in
                   let yes : acks home.protocol Decided_as.Commit ≡ true = ap (λ (h : Home). acks h.protocol Decided_as.Commit) (sym one) ∙ (ap (λ p. acks p Decided_as.Commit) can.at.protocol ∙ can.acks) in
                   let clash = sym a ∙ yes in cc
               | inr j ↦ j
             ],
           )
-
-  -- the place of what was sent to a participant by the line behind a story
-  abbrev pub place_at : Story → Participant → Place
-  place_at first member = record { site = member.site; place = length (sent_to member.site first) }
 
   -- the commit is on its way to these participants
   pub record IsTold (first : Story) (ms : List Participant) (story : Story) : Type 0 where
@@ -221,9 +218,9 @@ module _ (scenario : Scenario) (whole : IsScenario scenario) (g : Tid) where
     pub homes : Each (IsMemberHome scenario) ms
 
   told_on : (first : Story) (m : Participant) (ms : List Participant) (commands : List Command) → IsTold first (m ∷ ms) (story_of scenario commands)
-      → IsTold first ms (story_of scenario (deliver scenario (place_at first m) commands)) × (sent_next scenario (deliver scenario (place_at first m) commands) (last_sends scenario (Cmd.Give m.site (length (sent_to m.site first)) ∷ commands)) ≡ [])
+      → IsTold first ms (story_of scenario (deliver (fresh scenario) (place_at first m) commands)) × (sent_next scenario (deliver (fresh scenario) (place_at first m) commands) (last_sends (fresh scenario) (Cmd.Give m.site (length (sent_to m.site first)) ∷ commands)) ≡ [])
   told_on first m ms commands t =
-      subst (λ s. IsTold first ms (story_of scenario (deliver scenario (record { site = s; place = n }) commands)) × (sent_next scenario (deliver scenario (record { site = s; place = n }) commands) (last_sends scenario (Cmd.Give s n ∷ commands)) ≡ [])) here (
+      subst (λ s. IsTold first ms (story_of scenario (deliver (fresh scenario) (record { site = s; place = n }) commands)) × (sent_next scenario (deliver (fresh scenario) (record { site = s; place = n }) commands) (last_sends (fresh scenario) (Cmd.Give s n ∷ commands)) ≡ [])) here (
         record {
           calm = one.onward.calm;
           clear = λ other tid d. one.onward.quiets other tid d (t.clear other tid d);
@@ -231,7 +228,7 @@ module _ (scenario : Scenario) (whole : IsScenario scenario) (g : Tid) where
           settled = λ other d. settled_at other d (t.settled other d);
           others = λ tid q. one.onward.gone tid (t.others tid q);
           waits = one.waits;
-          kept = commit_takes scenario (last_sends scenario (Cmd.Give home.site n ∷ commands)) (Cmd.Give home.site n ∷ commands) g (commit_kept scenario commands (Cmd.Give home.site n) g t.kept);
+          kept = commit_takes scenario (last_sends (fresh scenario) (Cmd.Give home.site n ∷ commands)) (Cmd.Give home.site n ∷ commands) g (commit_kept scenario commands (Cmd.Give home.site n) g t.kept);
           sent = still ms t.sent.1;
           homes = t.homes.1;
         },
@@ -253,7 +250,7 @@ module _ (scenario : Scenario) (whole : IsScenario scenario) (g : Tid) where
           (subst (λ s. IsWaiting (protocols scenario) (coord_past (story_of scenario commands)) g Decided_as.Commit (s ∷ map (λ (k : Participant). k.site) ms)) (sym here) t.waits)
 
       next : Story
-      next = story_of scenario (deliver scenario (record { site = home.site; place = n }) commands)
+      next = story_of scenario (deliver (fresh scenario) (record { site = home.site; place = n }) commands)
 
       still : (ks : List Participant) → Each (λ (k : Participant). item_at (sent_to k.site (story_of scenario commands)) (length (sent_to k.site first)) ≡ Some (To.Decide g Decided_as.Commit)) ks
           → Each (λ (k : Participant). item_at (sent_to k.site next) (length (sent_to k.site first)) ≡ Some (To.Decide g Decided_as.Commit)) ks
@@ -275,9 +272,9 @@ module _ (scenario : Scenario) (whole : IsScenario scenario) (g : Tid) where
   all_told first (m ∷ ms) zero commands le t = absurd (omega (arith, le))
   all_told first (m ∷ ms) (suc fuel) commands le t =
       let step = told_on first m ms commands t in
-      subst (λ ps. IsTold first [] (story_of scenario (deliver_all scenario fuel (map (place_at first) ms ++ ps) (deliver scenario (place_at first m) commands)))) (sym step.1)
-      (subst (λ ps. IsTold first [] (story_of scenario (deliver_all scenario fuel ps (deliver scenario (place_at first m) commands)))) (sym (append-nil (map (place_at first) ms)))
-      (all_told first ms fuel (deliver scenario (place_at first m) commands) (omega (arith, le)) step.0))
+      subst (λ ps. IsTold first [] (story_of scenario (deliver_all scenario fuel (map (place_at first) ms ++ ps) (deliver (fresh scenario) (place_at first m) commands)))) (sym step.1)
+      (subst (λ ps. IsTold first [] (story_of scenario (deliver_all scenario fuel ps (deliver (fresh scenario) (place_at first m) commands)))) (sym (append-nil (map (place_at first) ms)))
+      (all_told first ms fuel (deliver (fresh scenario) (place_at first m) commands) (omega (arith, le)) step.0))
 
   -- then nothing is left open
   pub told_quiet : (first : Story) (commands : List Command) → IsTold first [] (story_of scenario commands) → IsQuiet scenario (story_of scenario commands)
@@ -297,4 +294,4 @@ module _ (scenario : Scenario) (whole : IsScenario scenario) (g : Tid) where
 
       gone_at : (tid : Tid) (b : Bool) → same_tid g tid ≡ b → standing (protocols scenario) (coord_past (story_of scenario commands)) tid ≡ Gone
       gone_at tid false q = t.others tid q
-      gone_at tid true q = subst (λ z. standing (protocols scenario) (coord_past (story_of scenario commands)) z ≡ Gone) (same_tid-equal g tid q) (none_missing scenario commands g Decided_as.Commit t.waits)
+      gone_at tid true q = subst (λ z. standing (protocols scenario) (coord_past (story_of scenario commands)) z ≡ Gone) (same_tid-equal g tid q) (none_missing (fresh scenario) (fresh_fits scenario) commands g Decided_as.Commit t.waits)

@@ -4,17 +4,17 @@ use Rattle.std.proofs.lemmas.Bool.{and_parts}
 use Rattle.mdb_base.specs.declared.names.SiteId.{SiteId}
 use Rattle.mdb_base.specs.Names.{same_site}
 use Rattle.mdb_base.specs.Words.{Among, pick, some_of, each_of, inserted}
+use Rattle.mdb_base.proofs.NameLaws.{same_site-equal, same_site-refl}
 use Rattle.presumptions.specs.declared.Participant.{Participant}
 use Rattle.order_laws.specs.Chains.{In}
 use Rattle.order_laws.proofs.Lists.{among_weaker, map_among}
-use Rattle.order_laws.proofs.Names.{same_site_alike, same_site_self}
 use Rattle.fed_rules.specs.declared.answers.Answer.TheVariants as Say
 use Rattle.fed_rules.specs.declared.events.CoordEvent.{CoordEvent}
 use Rattle.fed_rules.specs.declared.events.SiteEvent.{SiteEvent}
 use Rattle.fed_rules.specs.declared.scenario.ItemLine.{ItemLine}
 use Rattle.fed_rules.specs.declared.scenario.Scenario.{Scenario}
 use Rattle.fed_rules.specs.declared.scenario.SiteLine.{SiteLine}
-use Rattle.fed_rules.specs.Plans.{IsScenario, is_between, all_differ, one_site}
+use Rattle.fed_rules.specs.Plans.{AreSites, is_between, all_differ, one_site}
 use Rattle.fed_rules.specs.Scenarios.{home_in, home_of, items_of, protocols_in, protocols, sites}
 use Rattle.fed_rules.specs.SiteRecords.{Home}
 use Rattle.fed_rules.specs.Story.{Story, Nowhere, at_site, on_site, on_actor}
@@ -40,14 +40,14 @@ numbered (line ∷ lines) items site home r e = by_test (same_site line.site sit
     by_test : (b : Bool) → same_site line.site site ≡ b
         → cond b (Some (record { site = line.site; engine = line.engine; protocol = line.protocol; items = items_of items site })) (home_in lines items site) ≡ Some home
         → (each_of (λ l. is_between 1 8 l.site.0) lines ≡ true → home_in lines items site ≡ Some home → 0 < site.0) → 0 < site.0
-    by_test true q e k = subst (λ s. 0 < s.0) (same_site_alike line.site site q) some
+    by_test true q e k = subst (λ s. 0 < s.0) (same_site-equal line.site site q) some
     by_test false q e k = k parts.1 e
 
-pub number_some : (scenario : Scenario) (site : SiteId) (home : Home) → IsScenario scenario → home_of scenario site ≡ Some home → 0 < site.0
-number_some scenario site home whole d = numbered scenario.sites scenario.items site home whole.sites.range d
+pub number_some : (scenario : Scenario) (site : SiteId) (home : Home) → AreSites scenario.sites → home_of scenario site ≡ Some home → 0 < site.0
+number_some scenario site home whole d = numbered scenario.sites scenario.items site home whole.range d
 
 -- an event of the actor with a declared site's number is that site's
-pub actor_hears : (scenario : Scenario) (home : Home) (story : Story) (c : CoordEvent) (s : SiteEvent) → IsScenario scenario → home_of scenario home.site ≡ Some home
+pub actor_hears : (scenario : Scenario) (home : Home) (story : Story) (c : CoordEvent) (s : SiteEvent) → AreSites scenario.sites → home_of scenario home.site ≡ Some home
     → on_actor scenario story home.site.0 c s ≡ at_site home story s
 unfolding on_actor on_site pick
 actor_hears scenario home story c s whole d = by_number home.site.0 refl
@@ -55,7 +55,7 @@ actor_hears scenario home story c s whole d = by_number home.site.0 refl
     by_number : (n : ℕ) → home.site.0 ≡ n → on_actor scenario story n c s ≡ at_site home story s
     by_number zero e = (let some = number_some scenario home.site home whole d in absurd (omega (arith, some, e)))
     by_number (suc n) e =
-        let here : home.site ≡ record { 0 = suc n } = same_site_alike home.site (record { 0 = suc n }) (eq-eqb home.site.0 (suc n) e) in
+        let here : home.site ≡ record { 0 = suc n } = same_site-equal home.site (record { 0 = suc n }) (eq-eqb home.site.0 (suc n) e) in
         ap (λ o. pick o (Nowhere Say.None) (λ h. at_site h story s)) (ap (home_of scenario) (sym here) ∙ d)
 
 -- no two lines are of one site, so each participant is a declared site with its protocol
@@ -112,7 +112,7 @@ line_home (line ∷ lines) items member d i =
     own : record { site = line.site; protocol = line.protocol } ≡ member → IsLineHome (line ∷ lines) items member
     own e = subst (IsLineHome (line ∷ lines) items) e (record {
       home = at_line line.site;
-      found = ap (λ b. cond b (Some (at_line line.site)) (home_in lines items line.site)) (same_site_self line.site);
+      found = ap (λ b. cond b (Some (at_line line.site)) (home_in lines items line.site)) (same_site-refl line.site);
       here = refl;
       protocol = refl;
     })
@@ -131,8 +131,8 @@ line_home (line ∷ lines) items member d i =
             by_test : (c e : Bool) → same_site a b ≡ c → same_site b a ≡ e → c ≡ e
             by_test true true p q = refl
             by_test false false p q = refl
-            by_test true false p q = (let t : same_site b a ≡ true = subst (λ s. same_site s a ≡ true) (same_site_alike a b p) (same_site_self a) in cc)
-            by_test false true p q = (let t : same_site a b ≡ true = subst (λ s. same_site s b ≡ true) (same_site_alike b a q) (same_site_self b) in cc)
+            by_test true false p q = (let t : same_site b a ≡ true = subst (λ s. same_site s a ≡ true) (same_site-equal a b p) (same_site-refl a) in cc)
+            by_test false true p q = (let t : same_site a b ≡ true = subst (λ s. same_site s b ≡ true) (same_site-equal b a q) (same_site-refl b) in cc)
 
         same_tests : (ls : List SiteLine) → some_of (one_site line) ls ≡ false → some_of (λ l. same_site l.site line.site) ls ≡ false
         same_tests [] e = refl
@@ -150,7 +150,7 @@ line_home (line ∷ lines) items member d i =
         differs : In member (protocols_in lines) → same_site line.site member.site ≡ false
         differs j = flip line.site member.site ∙ line_of_member lines member j line.site (same_tests lines (not_false _ parts.0))
 
-pub member_home : (scenario : Scenario) (member : Participant) → IsScenario scenario → In member (protocols scenario) → IsMemberHome scenario member
+pub member_home : (scenario : Scenario) (member : Participant) → AreSites scenario.sites → In member (protocols scenario) → IsMemberHome scenario member
 member_home scenario member whole i =
-    let h = line_home scenario.sites scenario.items member whole.sites.differ i in
+    let h = line_home scenario.sites scenario.items member whole.differ i in
     record { home = h.home; here = h.here; declared = ap (home_of scenario) h.here ∙ h.found; protocol = h.protocol }

@@ -1,17 +1,18 @@
 -- A decision that is sent to a site is given there, and its acknowledgement is taken.
-use Rattle.order_laws.proofs.Lists.{not_true, in_those, those_in, is_among, some_of_true}
+use Rattle.std.proofs.lemmas.Bool.{not-true}
+use Rattle.order_laws.proofs.Lists.{in_those, those_in, is_among}
 use Rattle.std.proofs.Common.{◌≡◌, ℕ, ◌⊎◌, Bool, true, false, cond, not, ◌&&◌, ◌||◌, Option, Some, None, List, [], ◌∷◌, ◌++◌, length, inl, inr, refl, sym, ap, subst, ◌∙◌}
 use Rattle.mdb_base.specs.declared.names.SiteId.{SiteId}
 use Rattle.mdb_base.specs.declared.names.Tid.{Tid}
 use Rattle.mdb_base.specs.Names.{same_site, same_tid}
 use Rattle.mdb_base.specs.Words.{when, pick, item_at}
-use Rattle.mdb_base.proofs.NameLaws.{same_tid-refl}
+use Rattle.mdb_base.proofs.NameLaws.{same_tid-refl, same_site-refl}
 use Rattle.mdb_base.proofs.Words.{cond-true}
+use Rattle.mdb_base.proofs.ListLaws.{among_some}
 use Rattle.presumptions.specs.declared.Decision.{Decision}
 use Rattle.presumptions.specs.declared.Participant.{Participant}
 use Rattle.presumptions.specs.Table.{acks}
 use Rattle.order_laws.specs.Chains.{In}
-use Rattle.order_laws.proofs.Names.{same_site_self}
 use Rattle.fed_rules.specs.declared.answers.Answer.TheVariants as Say
 use Rattle.fed_rules.specs.declared.commands.Command.{Command}
 use Rattle.fed_rules.specs.declared.commands.Command.TheVariants as Cmd
@@ -30,16 +31,18 @@ use Rattle.fed_rules.specs.CoordRecords.{required, is_nobody}
 use Rattle.fed_rules.specs.Happenings.{quiet}
 use Rattle.fed_rules.specs.Runs.{Run, Aborts}
 use Rattle.fed_rules.specs.Scenarios.{home_of, protocols, policy}
+use Rattle.fed_rules.specs.Sessions.{Session}
 use Rattle.fed_rules.specs.Site.{ack_of, settles, unheld, of_decide, of_give}
 use Rattle.fed_rules.specs.SitePast.{SiteHappening, SitePast, live}
 use Rattle.fed_rules.specs.SitePast as Site_past
 use Rattle.fed_rules.specs.SiteRecords.{Home, Held, doubt_of}
-use Rattle.fed_rules.specs.Story.{Story, AtSite, Nowhere, past_of, coord_past, with_coordinator, sent_to, sent_from, on_site, on_give, happens, place_from, places_of, story_of}
+use Rattle.fed_rules.specs.Story.{Story, AtSite, Nowhere, past_of, coord_past, with_coordinator, sent_to, sent_from, on_site, on_give, happens, place_from, places_of, story_in}
 use Rattle.closing_laws.proofs.Calm.{gives, takes}
 use Rattle.closing_laws.proofs.CoordTurns.{takes_there, gentle_ack}
 use Rattle.closing_laws.proofs.Onward.{IsCalm, Onward, onward_on, onward_next, at_home, gentle_give}
 use Rattle.fed_rules.specs.Disk.{Append}
 use Rattle.coord_laws.proofs.Rules.{calm_standing}
+use Rattle.commit_laws.proofs.FoundSessions.{CoordinatorFits}
 
 -- what comes behind a list stands at its length
 pub item_behind : {A : Type 0} (xs ys : List A) (y : A) → item_at (xs ++ y ∷ ys) (length xs) ≡ Some y
@@ -76,7 +79,7 @@ acks_so home tid decision a = cond-true _ _ _ a
 pub sent_behind : (story : Story) (command : Command) (site : SiteId) (x : SiteHappening) (message : FromSite) → x.sends ≡ message ∷ []
     → item_at (sent_from site (record { command = command; happened = AtSite site x } ∷ story)) (length (sent_from site story)) ≡ Some message
 sent_behind story command site x message e =
-    ap (λ b. item_at (sent_from site story ++ cond b x.sends []) (length (sent_from site story))) (same_site_self site)
+    ap (λ b. item_at (sent_from site story ++ cond b x.sends []) (length (sent_from site story))) (same_site-refl site)
     ∙ (ap (λ ms. item_at (sent_from site story ++ ms) (length (sent_from site story))) e ∙ item_behind (sent_from site story) [] message)
 
 -- how the coordinator waits for the acknowledgements of these sites: none is missing from another one
@@ -138,9 +141,9 @@ ack_taken protocols past tid site decision ss known waits =
         found = those_in (λ m. not (has_acked (quiet event Say.Acked ∷ past) tid m.site)) member (required protocols (records past) tid decision) i
 
         by_site : (b : Bool) → same_site site member.site ≡ b → In member.site ss
-        by_site true q = (let yes = acked_here past tid site member.site q in let no_ack = not_true _ found.1 in let clash = sym no_ack ∙ yes in cc)
+        by_site true q = (let yes = acked_here past tid site member.site q in let no_ack = not-true _ found.1 in let clash = sym no_ack ∙ yes in cc)
         by_site false q = elim (waits member (in_those (λ m. not (has_acked past tid m.site)) member (required protocols (records past) tid decision) found.0 (ap not (sym (acked_there past tid site member.site q)) ∙ found.1))) [
-          | inl same ↦ (let yes = same_site_self site in let t : same_site site site ≡ false = ap (same_site site) same ∙ q in let clash = sym t ∙ yes in cc)
+          | inl same ↦ (let yes = same_site-refl site in let t : same_site site site ≡ false = ap (same_site site) same ∙ q in let clash = sym t ∙ yes in cc)
           | inr j ↦ j
         ]
 
@@ -150,7 +153,7 @@ ack_taken protocols past tid site decision ss known waits =
         let old = in_those (λ m. not (has_acked past tid m.site)) member (required protocols (records past) tid decision) found.0 (ap not (sym (not_acked_here past tid site member.site)) ∙ found.1) in
         elim (waits member old) [
           | inl same ↦
-              let yes = some_of_true (λ m. same_site m.site site) (missing protocols past tid decision) (is_among (λ m. same_site m.site site ≡ true) member (missing protocols past tid decision) old (ap (λ s. same_site s site) (sym same) ∙ same_site_self site)) in
+              let yes = among_some (λ m. same_site m.site site) (missing protocols past tid decision) (is_among (λ m. same_site m.site site ≡ true) member (missing protocols past tid decision) old (ap (λ s. same_site s site) (sym same) ∙ same_site-refl site)) in
               let clash = sym none ∙ yes in cc
           | inr j ↦ j
         ]
@@ -174,16 +177,16 @@ pub record IsDelivered (scenario : Scenario) (tid : Tid) (decision : Decision) (
   pub onward : Onward scenario before now
   pub waits : IsWaiting (protocols scenario) (coord_past now) tid decision ss
 
-pub delivered : (scenario : Scenario) (commands : List Command) (home : Home) (n : ℕ) (tid : Tid) (decision : Decision) (ss : List SiteId) → IsCalm (story_of scenario commands)
-    → home_of scenario home.site ≡ Some home → acks home.protocol decision ≡ true → item_at (sent_to home.site (story_of scenario commands)) n ≡ Some (To.Decide tid decision)
-    → IsWaiting (protocols scenario) (coord_past (story_of scenario commands)) tid decision (home.site ∷ ss)
-    → IsDelivered scenario tid decision ss (story_of scenario commands) (story_of scenario (deliver scenario (record { site = home.site; place = n }) commands))
+pub delivered : (session : Session) (fits : CoordinatorFits session) (commands : List Command) (home : Home) (n : ℕ) (tid : Tid) (decision : Decision) (ss : List SiteId) → IsCalm (story_in session commands)
+    → home_of session.plan home.site ≡ Some home → acks home.protocol decision ≡ true → item_at (sent_to home.site (story_in session commands)) n ≡ Some (To.Decide tid decision)
+    → IsWaiting (protocols session.plan) (coord_past (story_in session commands)) tid decision (home.site ∷ ss)
+    → IsDelivered session.plan tid decision ss (story_in session commands) (story_in session (deliver session (record { site = home.site; place = n }) commands))
 unfolding of_take
-delivered scenario commands home n tid decision ss c d a e waits =
-    subst (λ cs. IsDelivered scenario tid decision ss story (story_of scenario cs)) (sym made) (record { onward = onward_on scenario story (story_of scenario given) (story_of scenario both) first second; waits = now })
+delivered session fits commands home n tid decision ss c d a e waits =
+    subst (λ cs. IsDelivered session.plan tid decision ss story (story_in session cs)) (sym made) (record { onward = onward_on session.plan story (story_in session given) (story_in session both) first second; waits = now })
   where
     story : Story
-    story = story_of scenario commands
+    story = story_in session commands
 
     given : List Command
     given = Cmd.Give home.site n ∷ commands
@@ -191,8 +194,8 @@ delivered scenario commands home n tid decision ss c d a e waits =
     x : SiteHappening
     x = of_decide home (past_of home.site story) tid decision
 
-    told : happens scenario story (Cmd.Give home.site n) ≡ AtSite home.site x
-    told = give_told scenario story home n tid decision c d e
+    told : happens session.plan story (Cmd.Give home.site n) ≡ AtSite home.site x
+    told = give_told session.plan story home n tid decision c d e
 
     sends : x.sends ≡ From.Ack tid ∷ []
     sends = decide_sends home (past_of home.site story) tid decision ∙ acks_so home tid decision a
@@ -203,34 +206,34 @@ delivered scenario commands home n tid decision ss c d a e waits =
     both : List Command
     both = Cmd.Take home.site place ∷ given
 
-    places : last_sends scenario given ≡ record { site = home.site; place = place } ∷ []
+    places : last_sends session given ≡ record { site = home.site; place = place } ∷ []
     places = ap (places_of story) told ∙ ap (place_from home.site place) sends
 
-    made : deliver scenario (record { site = home.site; place = n }) commands ≡ both
+    made : deliver session (record { site = home.site; place = n }) commands ≡ both
     made = ap (λ ps. take_answers ps given) places
 
-    first : Onward scenario story (story_of scenario given)
-    first = onward_next scenario story (Cmd.Give home.site n) (happens scenario story (Cmd.Give home.site n)) c (gentle_give scenario story home.site n tid decision c e)
+    first : Onward session.plan story (story_in session given)
+    first = onward_next session.plan story (Cmd.Give home.site n) (happens session.plan story (Cmd.Give home.site n)) c (gentle_give session.plan story home.site n tid decision c e)
 
-    there : item_at (sent_from home.site (story_of scenario given)) place ≡ Some (From.Ack tid)
+    there : item_at (sent_from home.site (story_in session given)) place ≡ Some (From.Ack tid)
     there =
         ap (λ h. item_at (sent_from home.site (record { command = Cmd.Give home.site n; happened = h } ∷ story)) place) told
         ∙ sent_behind story (Cmd.Give home.site n) home.site x (From.Ack tid) sends
 
-    second : Onward scenario (story_of scenario given) (story_of scenario both)
-    second = onward_next scenario (story_of scenario given) (Cmd.Take home.site place) (happens scenario (story_of scenario given) (Cmd.Take home.site place)) first.calm (gentle_ack scenario given home.site place tid first.calm there)
+    second : Onward session.plan (story_in session given) (story_in session both)
+    second = onward_next session.plan (story_in session given) (Cmd.Take home.site place) (happens session.plan (story_in session given) (Cmd.Take home.site place)) first.calm (gentle_ack session fits given home.site place tid first.calm there)
 
-    same_past : coord_past (story_of scenario given) ≡ coord_past story
+    same_past : coord_past (story_in session given) ≡ coord_past story
     same_past = ap (λ h. with_coordinator h (coord_past story)) told
 
-    taken_so : coord_past (story_of scenario both) ≡ of_ack (protocols scenario) (coord_past (story_of scenario given)) home.site tid ∷ coord_past (story_of scenario given)
+    taken_so : coord_past (story_in session both) ≡ of_ack (protocols session.plan) (coord_past (story_in session given)) home.site tid ∷ coord_past (story_in session given)
     taken_so =
-        ap (λ h. with_coordinator h (coord_past (story_of scenario given))) (takes_there scenario (story_of scenario given) home.site place (From.Ack tid) there)
-        ∙ ap (λ y. y ∷ coord_past (story_of scenario given)) (takes (protocols scenario) (policy scenario) (coord_past (story_of scenario given)) home.site (From.Ack tid) first.calm.coordinator)
+        ap (λ h. with_coordinator h (coord_past (story_in session given))) (takes_there session.plan (story_in session given) home.site place (From.Ack tid) there)
+        ∙ ap (λ y. y ∷ coord_past (story_in session given)) (takes (protocols session.plan) (policy session.plan) (coord_past (story_in session given)) home.site (From.Ack tid) first.calm.coordinator)
 
-    gone : standing (protocols scenario) (coord_past (story_of scenario given)) tid ≡ Gone → standing (protocols scenario) (of_ack (protocols scenario) (coord_past (story_of scenario given)) home.site tid ∷ coord_past (story_of scenario given)) tid ≡ Gone
-    gone g = ap (λ past. standing (protocols scenario) past tid) (sym taken_so) ∙ second.gone tid g
+    gone : standing (protocols session.plan) (coord_past (story_in session given)) tid ≡ Gone → standing (protocols session.plan) (of_ack (protocols session.plan) (coord_past (story_in session given)) home.site tid ∷ coord_past (story_in session given)) tid ≡ Gone
+    gone g = ap (λ past. standing (protocols session.plan) past tid) (sym taken_so) ∙ second.gone tid g
 
-    now : IsWaiting (protocols scenario) (coord_past (story_of scenario both)) tid decision ss
-    now = subst (λ past. IsWaiting (protocols scenario) past tid decision ss) (sym taken_so)
-        (ack_waits (protocols scenario) (coord_past (story_of scenario given)) tid home.site decision ss gone (subst (λ past. IsWaiting (protocols scenario) past tid decision (home.site ∷ ss)) (sym same_past) waits))
+    now : IsWaiting (protocols session.plan) (coord_past (story_in session both)) tid decision ss
+    now = subst (λ past. IsWaiting (protocols session.plan) past tid decision ss) (sym taken_so)
+        (ack_waits (protocols session.plan) (coord_past (story_in session given)) tid home.site decision ss gone (subst (λ past. IsWaiting (protocols session.plan) past tid decision (home.site ∷ ss)) (sym same_past) waits))

@@ -1,6 +1,6 @@
 -- What is outstanding of an attempt, by its program, the replies that counted and the votes; and what one more reply changes.
-use Rattle.order_laws.proofs.Alike.{some_parts}
-use Rattle.federation_laws.proofs.Dues.{of_site, steps_of}
+use Rattle.mdb_base.proofs.OptionLaws.{some_parts}
+use Rattle.federation_laws.proofs.Dues.{of_site, steps_of, count_of, epoch_of, ticket_of}
 use Rattle.std.proofs.Common.{◌≡◌, ℕ, zero, suc, Bool, true, false, cond, not, ◌&&◌, ◌||◌, is_none, Option, Some, None, List, [], ◌∷◌, drop, refl, sym, ap, ap₂, ◌∙◌}
 use Rattle.mdb_base.specs.declared.acts.Step.{Step}
 use Rattle.mdb_base.specs.declared.acts.PlainAct.{PlainAct}
@@ -11,21 +11,11 @@ use Rattle.mdb_base.specs.Names.{same_site}
 use Rattle.mdb_base.specs.Programs.{plain_act}
 use Rattle.mdb_base.specs.Words.{found, how_many, some_of, item_at}
 use Rattle.mdb_base.proofs.Words.{cond-true, cond-false}
-use Rattle.order_laws.proofs.Names.{same_site_alike, same_site_self}
+use Rattle.mdb_base.proofs.NameLaws.{same_site-equal, same_site-refl}
 use Rattle.fed_rules.specs.declared.messages.Due.{Due}
 use Rattle.fed_rules.specs.declared.messages.Due.TheVariants as Due_is
 use Rattle.fed_rules.specs.CoordPast.{CoordPast, Counted, counted, is_wait, is_ticket, last_epoch, value_in, oldest_first, program, vote_at, visits, outstanding, work_at, next_step}
 use Rattle.fed_rules.specs.Site_of.{due_site}
-
--- how many operations of a site were answered, in which epoch, and whether its ticket was
-abbrev pub count_of : List Counted → SiteId → ℕ
-count_of replies site = how_many (λ reply. not (is_wait reply.reply)) (of_site replies site)
-
-abbrev pub epoch_of : List Counted → SiteId → ℕ
-epoch_of replies site = last_epoch (of_site replies site)
-
-abbrev pub ticketed : List Counted → SiteId → Bool
-ticketed replies site = some_of (λ reply. is_ticket reply.reply) (of_site replies site)
 
 abbrev pub act_of : List Counted → Step → PlainAct
 act_of replies step = plain_act (oldest_first (found value_in replies)) step.act
@@ -41,7 +31,7 @@ abbrev pub due_of : List Step → List Counted → (SiteId → Option ℕ) → S
 due_of prog replies votes site =
     cond (visits site prog)
     (cond (visits site (drop (steps_of replies) prog)) (work_of replies site (item_at prog (steps_of replies)))
-    (cond (ticketed replies site) (prepare_of replies (votes site) site) (Some (Due_is.Take site (epoch_of replies site) (count_of replies site)))))
+    (cond (ticket_of replies site) (prepare_of replies (votes site) site) (Some (Due_is.Take site (epoch_of replies site) (count_of replies site)))))
     None
 
 -- the same, from the vote of the site alone
@@ -49,7 +39,7 @@ abbrev pub due_by : List Step → List Counted → Option ℕ → SiteId → Opt
 due_by prog replies vote site =
     cond (visits site prog)
     (cond (visits site (drop (steps_of replies) prog)) (work_of replies site (item_at prog (steps_of replies)))
-    (cond (ticketed replies site) (prepare_of replies vote site) (Some (Due_is.Take site (epoch_of replies site) (count_of replies site)))))
+    (cond (ticket_of replies site) (prepare_of replies vote site) (Some (Due_is.Take site (epoch_of replies site) (count_of replies site)))))
     None
 
 pub due_is : (past : CoordPast) (g : Tid) (site : SiteId) → outstanding past g site ≡ due_of (program past g) (counted past g) (vote_at past g) site
@@ -58,11 +48,11 @@ due_is past g site = by_step (next_step past g)
     by_step : (o : Option Step) →
         cond (visits site (program past g))
         (cond (visits site (drop (steps_of (counted past g)) (program past g))) (work_at past g site o)
-        (cond (ticketed (counted past g) site) (prepare_of (counted past g) (vote_at past g site) site) (Some (Due_is.Take site (epoch_of (counted past g) site) (count_of (counted past g) site)))))
+        (cond (ticket_of (counted past g) site) (prepare_of (counted past g) (vote_at past g site) site) (Some (Due_is.Take site (epoch_of (counted past g) site) (count_of (counted past g) site)))))
         None
         ≡ cond (visits site (program past g))
         (cond (visits site (drop (steps_of (counted past g)) (program past g))) (work_of (counted past g) site o)
-        (cond (ticketed (counted past g) site) (prepare_of (counted past g) (vote_at past g site) site) (Some (Due_is.Take site (epoch_of (counted past g) site) (count_of (counted past g) site)))))
+        (cond (ticket_of (counted past g) site) (prepare_of (counted past g) (vote_at past g site) site) (Some (Due_is.Take site (epoch_of (counted past g) site) (count_of (counted past g) site)))))
         None
     by_step None = refl
     by_step (Some step) = refl
@@ -71,9 +61,9 @@ due_is past g site = by_step (next_step past g)
 pub data IsDue (prog : List Step) (replies : List Counted) (vote : Option ℕ) (site : SiteId) (due : Due) : Type 0 where
   AtWork : (step : Step) → visits site prog ≡ true → visits site (drop (steps_of replies) prog) ≡ true → item_at prog (steps_of replies) ≡ Some step → same_site step.site site ≡ true
       → due ≡ Due_is.Work site (epoch_of replies site) (count_of replies site) (act_of replies step) → IsDue prog replies vote site due
-  AtTake : visits site prog ≡ true → visits site (drop (steps_of replies) prog) ≡ false → ticketed replies site ≡ false
+  AtTake : visits site prog ≡ true → visits site (drop (steps_of replies) prog) ≡ false → ticket_of replies site ≡ false
       → due ≡ Due_is.Take site (epoch_of replies site) (count_of replies site) → IsDue prog replies vote site due
-  AtPrepare : visits site prog ≡ true → visits site (drop (steps_of replies) prog) ≡ false → ticketed replies site ≡ true → vote ≡ None
+  AtPrepare : visits site prog ≡ true → visits site (drop (steps_of replies) prog) ≡ false → ticket_of replies site ≡ true → vote ≡ None
       → due ≡ Due_is.Prepare site (epoch_of replies site) (count_of replies site) → IsDue prog replies vote site due
 
 pub due_kind : (prog : List Step) (replies : List Counted) (votes : SiteId → Option ℕ) (site : SiteId) (due : Due) → due_of prog replies votes site ≡ Some due → IsDue prog replies (votes site) site due
@@ -86,13 +76,13 @@ due_kind prog replies votes site due e = by_visit (visits site prog) refl e
     work = work_of replies site (item_at prog (steps_of replies))
 
     later : Option Due
-    later = cond (ticketed replies site) (prepare_of replies (votes site) site) (Some (Due_is.Take site (epoch_of replies site) (count_of replies site)))
+    later = cond (ticket_of replies site) (prepare_of replies (votes site) site) (Some (Due_is.Take site (epoch_of replies site) (count_of replies site)))
 
-    by_vote : (o : Option ℕ) → votes site ≡ o → visits site prog ≡ true → visits site left ≡ false → ticketed replies site ≡ true → prepare_of replies o site ≡ Some due → IsDue prog replies (votes site) site due
+    by_vote : (o : Option ℕ) → votes site ≡ o → visits site prog ≡ true → visits site left ≡ false → ticket_of replies site ≡ true → prepare_of replies o site ≡ Some due → IsDue prog replies (votes site) site due
     by_vote None q v l t f = AtPrepare v l t q (sym (some_parts f))
     by_vote (Some n) q v l t f = cc
 
-    by_ticket : (b : Bool) → ticketed replies site ≡ b → visits site prog ≡ true → visits site left ≡ false
+    by_ticket : (b : Bool) → ticket_of replies site ≡ b → visits site prog ≡ true → visits site left ≡ false
         → cond b (prepare_of replies (votes site) site) (Some (Due_is.Take site (epoch_of replies site) (count_of replies site))) ≡ Some due → IsDue prog replies (votes site) site due
     by_ticket true t v l f = by_vote (votes site) refl v l t f
     by_ticket false t v l f = AtTake v l t (sym (some_parts f))
@@ -108,7 +98,7 @@ due_kind prog replies votes site due e = by_visit (visits site prog) refl e
 
     by_left : (b : Bool) → visits site left ≡ b → visits site prog ≡ true → cond b work later ≡ Some due → IsDue prog replies (votes site) site due
     by_left true l v f = by_step (item_at prog (steps_of replies)) refl v l f
-    by_left false l v f = by_ticket (ticketed replies site) refl v l f
+    by_left false l v f = by_ticket (ticket_of replies site) refl v l f
 
     by_visit : (b : Bool) → visits site prog ≡ b → cond b (cond (visits site left) work later) None ≡ Some due → IsDue prog replies (votes site) site due
     by_visit true v f = by_left (visits site left) refl v f
@@ -143,7 +133,7 @@ module _ (reply : Counted) (replies : List Counted) (site : SiteId) (other : sam
   other_prepare : Due_is.Prepare site (epoch_of replies site) (count_of replies site) ≡ Due_is.Prepare site (epoch_of (reply ∷ replies) site) (count_of (reply ∷ replies) site)
   other_prepare = ap (λ rs. Due_is.Prepare site (last_epoch rs) (how_many (λ r. not (is_wait r.reply)) rs)) (sym other_at)
 
-  pub other_ticketed : ticketed (reply ∷ replies) site ≡ ticketed replies site
+  pub other_ticketed : ticket_of (reply ∷ replies) site ≡ ticket_of replies site
   other_ticketed = ap (some_of (λ r. is_ticket r.reply)) other_at
 
 -- a site that has no step left has none later
@@ -169,7 +159,7 @@ step_keeps prog reply replies votes step site due answered next here other e = b
     by_kind : IsDue prog replies (votes site) site due → due_of prog (reply ∷ replies) votes site ≡ Some due
     by_kind (AtWork there v l i q f) =
         let same : step ≡ there = some_parts (sym next ∙ i) in
-        let site_is : same_site reply.site site ≡ true = ap (λ s. same_site s site) (sym (same_site_alike step.site reply.site here)) ∙ (ap (λ (s : Step). same_site s.site site) same ∙ q) in
+        let site_is : same_site reply.site site ≡ true = ap (λ s. same_site s site) (sym (same_site-equal step.site reply.site here)) ∙ (ap (λ (s : Step). same_site s.site site) same ∙ q) in
         let clash = sym other ∙ site_is in cc
     by_kind (AtTake v l t f) = kind_due prog (reply ∷ replies) votes site due
         (AtTake v (ap (λ d. visits site (drop d prog)) more ∙ no_more site prog (steps_of replies) l) (other_ticketed reply replies site other ∙ t) (f ∙ other_take reply replies site other))
@@ -212,7 +202,7 @@ unvoted_due prog replies votes site v none = by_left (visits site (drop (steps_o
     item_visits [] d step e = cc
     item_visits (s ∷ steps) zero step e =
         let same : s ≡ step = some_parts e in
-        let own : same_site s.site step.site ≡ true = ap (λ (z : Step). same_site z.site step.site) same ∙ same_site_self step.site in
+        let own : same_site s.site step.site ≡ true = ap (λ (z : Step). same_site z.site step.site) same ∙ same_site-refl step.site in
         (ap (λ b. b || visits step.site steps) own, ap (λ b. b || visits step.site steps) own)
     item_visits (s ∷ steps) (suc d) step e = ((item_visits steps d step e).0, or_true (same_site s.site step.site) (visits step.site steps) (item_visits steps d step e).1)
       where
@@ -220,12 +210,12 @@ unvoted_due prog replies votes site v none = by_left (visits site (drop (steps_o
         or_true true b f = refl
         or_true false b f = f
 
-    by_ticket : (b : Bool) → ticketed replies site ≡ b → visits site (drop (steps_of replies) prog) ≡ false → Outstanding prog replies votes
+    by_ticket : (b : Bool) → ticket_of replies site ≡ b → visits site (drop (steps_of replies) prog) ≡ false → Outstanding prog replies votes
     by_ticket true t l = record { site = site; due = _; is_due = kind_due prog replies votes site (Due_is.Prepare site (epoch_of replies site) (count_of replies site)) (AtPrepare v l t none refl) }
     by_ticket false t l = record { site = site; due = _; is_due = kind_due prog replies votes site (Due_is.Take site (epoch_of replies site) (count_of replies site)) (AtTake v l t refl) }
 
     by_left : (b : Bool) → visits site (drop (steps_of replies) prog) ≡ b → Outstanding prog replies votes
-    by_left false l = by_ticket (ticketed replies site) refl l
+    by_left false l = by_ticket (ticket_of replies site) refl l
     by_left true l =
         let (step, f) = first_left (drop (steps_of replies) prog) l in
         let i = sym (item_drop prog (steps_of replies)) ∙ f in
@@ -233,5 +223,5 @@ unvoted_due prog replies votes site v none = by_left (visits site (drop (steps_o
         record {
           site = step.site;
           due = Due_is.Work step.site (epoch_of replies step.site) (count_of replies step.site) (act_of replies step);
-          is_due = kind_due prog replies votes step.site (Due_is.Work step.site (epoch_of replies step.site) (count_of replies step.site) (act_of replies step)) (AtWork step w.1 w.0 i (same_site_self step.site) refl);
+          is_due = kind_due prog replies votes step.site (Due_is.Work step.site (epoch_of replies step.site) (count_of replies step.site) (act_of replies step)) (AtWork step w.1 w.0 i (same_site-refl step.site) refl);
         }

@@ -5,7 +5,7 @@ use Rattle.mdb_base.specs.declared.names.SiteId.{SiteId}
 use Rattle.mdb_base.specs.Names.{same_site}
 use Rattle.mdb_base.specs.Words.{pick, item_at}
 use Rattle.mdb_base.proofs.Words.{cond-false}
-use Rattle.order_laws.proofs.Names.{same_site_alike, same_site_self}
+use Rattle.mdb_base.proofs.NameLaws.{same_site-equal, same_site-refl}
 use Rattle.fed_rules.specs.declared.answers.Answer.TheVariants as Say
 use Rattle.fed_rules.specs.declared.commands.Command.{Command}
 use Rattle.fed_rules.specs.declared.commands.Command.TheVariants as Cmd
@@ -62,7 +62,7 @@ module _ (scenario : Scenario) (commands : List Command) (home : Home) (place : 
   pub past_given : past_of home.site (story_of scenario given) ≡ x ∷ past_of home.site before
   past_given =
       ap (λ h. with_site home.site h (past_of home.site before)) give_so
-      ∙ ap (λ b. cond b (x ∷ past_of home.site before) (past_of home.site before)) (same_site_self home.site)
+      ∙ ap (λ b. cond b (x ∷ past_of home.site before) (past_of home.site before)) (same_site-refl home.site)
 
   pub other_given : (site : SiteId) → same_site home.site site ≡ false → past_of site (story_of scenario given) ≡ past_of site before
   other_given site e = ap (λ h. with_site site h (past_of site before)) give_so ∙ cond-false _ _ _ e
@@ -80,7 +80,7 @@ module _ (scenario : Scenario) (commands : List Command) (home : Home) (place : 
   }
     where
       by_test : (site : SiteId) (b : Bool) → same_site home.site site ≡ b → IsReady trip_of (past_of site (story_of scenario given))
-      by_test site true q = subst (λ s. IsReady trip_of (past_of s (story_of scenario given))) (same_site_alike home.site site q)
+      by_test site true q = subst (λ s. IsReady trip_of (past_of s (story_of scenario given))) (same_site-equal home.site site q)
           (subst (IsReady trip_of) (sym past_given) (ready_next trip_of (past_of home.site before) x ex.stays ex.unarmed (ex.calm.sites home.site)))
       by_test site false q = subst (IsReady trip_of) (sym (other_given site q)) (ex.calm.sites site)
 

@@ -7,9 +7,10 @@ use Rattle.mdb_base.specs.declared.names.Tid.{Tid}
 use Rattle.mdb_base.specs.declared.names.Tx.{Tx}
 use Rattle.mdb_base.specs.Names.{same_tx}
 use Rattle.mdb_base.specs.Words.{Among, each_of, found, how_many, map_some, pick, those, when, with_some}
+use Rattle.mdb_base.proofs.NameLaws.{same_tx-equal}
+use Rattle.mdb_base.proofs.EachLaws.{among_append, among_behind}
+use Rattle.mdb_base.proofs.JoinLaws.{length-append, length-map}
 use Rattle.order_laws.specs.Chains.{Distinct, In}
-use Rattle.order_laws.proofs.Alike.{same_tx_alike}
-use Rattle.order_laws.proofs.Joined.{among_left, among_right}
 use Rattle.order_laws.proofs.Lists.{among_is, among_map, each_of_at, first_where_some, is_among}
 use Rattle.fed_rules.specs.declared.commands.Command.{Command}
 use Rattle.fed_rules.specs.declared.commands.Command.TheVariants as Cmd
@@ -41,12 +42,12 @@ use Rattle.coord_laws.proofs.Past.{begin_in_order, begin_once}
 use Rattle.coord_laws.proofs.Sound.{begins_go}
 use Rattle.commit_laws.proofs.Agreed.{agreed, coord-sound}
 use Rattle.commit_laws.proofs.ForgettingProofs.{next-turn}
-use Rattle.commit_laws.proofs.Links.{home-again, story_made}
+use Rattle.commit_laws.proofs.Links.{home-again, story_goes_on}
 use Rattle.commit_laws.proofs.PreparedLaws.{nowhere}
 use Rattle.commit_laws.proofs.SiteWork.{held-prepared}
-use Rattle.local_laws.specs.Led.{IsAsked, IsLed}
+use Rattle.site_history.specs.Led.{IsAsked, IsLed}
 use Rattle.closing_laws.proofs.BegunOnce.{IsOthers, led_story, locals_numbered, sites_begin_once}
-use Rattle.closing_laws.proofs.Lengths.{distinct_in_others, few_numbers, found_in_others, length_append, length_map, length_rising, length_sorted, numbers_differ}
+use Rattle.closing_laws.proofs.Lengths.{distinct_in_others, few_numbers, found_in_others, length_rising, length_sorted, numbers_differ}
 use Rattle.closing_laws.proofs.Locals.{Begins, IsBeginOf, by_line}
 use Rattle.closing_laws.proofs.Unbegun.{unbegun_none}
 
@@ -57,7 +58,7 @@ IsListed scenario tx = Among (λ (line : TxLine). line.tx ≡ tx) scenario.trans
 first_listed : (scenario : Scenario) (tx : Tx) (line : TxLine) → transaction scenario tx ≡ Some line → IsListed scenario tx
 first_listed scenario tx line e =
     let (listed, own) = first_where_some (λ (l : TxLine). same_tx l.tx tx) scenario.transactions line e in
-    is_among (λ (l : TxLine). l.tx ≡ tx) line scenario.transactions listed (same_tx_alike line.tx tx own)
+    is_among (λ (l : TxLine). l.tx ≡ tx) line scenario.transactions listed (same_tx-equal line.tx tx own)
 
 global_listed : (scenario : Scenario) (tx : Tx) (steps : List Step) → global_program scenario tx ≡ Some steps → IsListed scenario tx
 global_listed scenario tx steps program = by_line (transaction scenario tx) refl program
@@ -161,7 +162,7 @@ coord_few scenario (command ∷ commands) tx = more (happens scenario story comm
             by_test : (b : Bool) → same_tx t.tx tx ≡ b → AreFew scenario tx (cond b (suc (Coordinator.attempts_of past tx)) (Coordinator.attempts_of past tx))
             by_test false e = old
             by_test true e =
-                let can = subst (CanGo scenario story) (same_tx_alike t.tx tx e) (goes t q) in
+                let can = subst (CanGo scenario story) (same_tx-equal t.tx tx e) (goes t q) in
                 record { most = (let few = can.few in omega (arith, few)); listed = λ some. can.listed }
 
 -- and a site at most 32 of each local one
@@ -171,7 +172,7 @@ led_few scenario home (x ∷ past) (line, led) tx = by_begun (begins_tx tx x.ans
   where
     begins : (event : SiteEvent) → IsAsked scenario home past event → IsBeginOf tx event → AreFew scenario tx (suc (Site.attempts_of past tx))
     begins (Ev.Begin t) asked own =
-        let same = same_tx_alike t.tx tx own in
+        let same = same_tx-equal t.tx tx own in
         record {
           most = (let few = leb-false most_attempts t.attempt asked.few in let next = asked.next ∙ ap (Site.attempts_of past) same in omega (arith, few, next));
           listed = λ some. subst (IsListed scenario) same (local_listed scenario t.tx home asked.homed);
@@ -208,7 +209,7 @@ all_many : (lines : List TxLine) → length (all_attempts lines) ≡ 32 * length
 unfolding all_attempts
 all_many [] = refl
 all_many (line ∷ lines) =
-    let both = length_append (attempts_below line.tx 32) (all_attempts lines) in
+    let both = length-append (attempts_below line.tx 32) (all_attempts lines) in
     let own = below_many line.tx 32 in
     let rest = all_many lines in omega (arith, both, own, rest)
 
@@ -224,8 +225,8 @@ in_all : (tid : Tid) (lines : List TxLine) → tid.attempt < 32 → Among (λ (l
 unfolding all_attempts
 in_all tid [] few listed = absurd listed
 in_all tid (line ∷ lines) few (inl own) =
-    among_left (λ t. t ≡ tid) (attempts_below line.tx 32) (all_attempts lines) (subst (λ tx. In tid (attempts_below tx 32)) (sym own) (in_below tid 32 few))
-in_all tid (line ∷ lines) few (inr other) = among_right (λ t. t ≡ tid) (attempts_below line.tx 32) (all_attempts lines) (in_all tid lines few other)
+    among_append (λ t. t ≡ tid) (attempts_below line.tx 32) (all_attempts lines) (subst (λ tx. In tid (attempts_below tx 32)) (sym own) (in_below tid 32 few))
+in_all tid (line ∷ lines) few (inr other) = among_behind (λ t. t ≡ tid) (attempts_below line.tx 32) (all_attempts lines) (in_all tid lines few other)
 
 -- a scenario has at most 1,024 transactions
 module _ (scenario : Scenario) (whole : IsScenario scenario) where
@@ -245,7 +246,7 @@ module _ (scenario : Scenario) (whole : IsScenario scenario) where
   few_transactions =
       let numbers = numbers_differ one_transaction (λ (l : TxLine). l.tx.0) (λ a b e. eq-eqb a.tx.0 b.tx.0 e) scenario.transactions whole.transactions.differ in
       let few = few_numbers (map (λ (l : TxLine). l.tx.0) scenario.transactions) 1024 numbers in_range in
-      let all = length_map (λ (l : TxLine). l.tx.0) scenario.transactions in omega (arith, few, all)
+      let all = length-map (λ (l : TxLine). l.tx.0) scenario.transactions in omega (arith, few, all)
 
   -- so it has at most 32,768 attempts
   all_few : length (all_attempts scenario.transactions) ≤ 32768
@@ -265,7 +266,7 @@ module _ (scenario : Scenario) (whole : IsScenario scenario) where
     -- an attempt that was begun is numbered below what was begun of its transaction
     pub begun_few : length (begun_tids (coord_past story)) ≤ 32768
     begun_few =
-        let made = story_made scenario commands in
+        let made = story_goes_on scenario commands in
         let within = distinct_in_others (begun_tids (coord_past story)) (all_attempts scenario.transactions) (begin_once (protocols scenario) (policy scenario) (coord_past story) made)
         (λ tid i.
         let less = (begin_in_order (protocols scenario) (policy scenario) (coord_past story) made tid).0 i in
@@ -321,7 +322,7 @@ module _ (scenario : Scenario) (whole : IsScenario scenario) where
             let lines = engine_lines (past_of home.site story) in
             let runs = those (λ (run : Run). not (is_sealed run)) (unended start lines) in
             let sorted = length_rising (map (λ (run : Run). run.tid) runs) in
-            let named = length_map (λ (run : Run). run.tid) runs in
+            let named = length-map (λ (run : Run). run.tid) runs in
             let open_ones = live_many (run_at start lines) (attempts start lines) in
             let few = few_found (Site.live home (past_of home.site story)) (attempts start lines) (sites_begin_once scenario commands site home e) (live_attempt home declared) in
             omega (arith, sorted, named, open_ones, few)
@@ -335,7 +336,7 @@ module _ (scenario : Scenario) (whole : IsScenario scenario) where
             let rs = records home (past_of home.site story) in
             let looked = found (doubt_of rs) (each_attempt (prepared_tids rs)) in
             let sorted = length_rising (map (λ (held : Held). held.tid) (doubts rs)) in
-            let named = length_map (λ (held : Held). held.tid) (doubts rs) in
+            let named = length-map (λ (held : Held). held.tid) (doubts rs) in
             let listed = length_sorted looked in
             let few = few_found (doubt_of rs) (each_attempt (prepared_tids rs)) (each_distinct (prepared_tids rs)) (λ tid held i d. doubt_attempt home (home-again scenario site home e) tid held d) in
             omega (arith, sorted, named, listed, few)

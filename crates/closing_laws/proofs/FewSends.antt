@@ -4,6 +4,8 @@ use Rattle.std.proofs.Common.{◌≡◌, ℕ, ◌≤◌, Bool, true, false, not,
 use Rattle.mdb_base.specs.declared.names.SiteId.{SiteId}
 use Rattle.mdb_base.specs.declared.names.Tid.{Tid}
 use Rattle.mdb_base.specs.Words.{some_of, when}
+use Rattle.mdb_base.proofs.JoinLaws.{length-map}
+use Rattle.mdb_base.proofs.TestLaws.{length_those}
 use Rattle.presumptions.specs.Table.{acks}
 use Rattle.presumptions.specs.declared.Decision.{Decision}
 use Rattle.presumptions.specs.declared.Participant.{Participant}
@@ -21,7 +23,7 @@ use Rattle.fed_rules.specs.CoordRecords.{coord_frame, named, required_of}
 use Rattle.fed_rules.specs.Disk.{Disk, Stops}
 use Rattle.fed_rules.specs.Happenings.{Trip, is_down, quiet, stopped, tripped}
 use Rattle.fed_rules.specs.Policies.{Policy}
-use Rattle.closing_laws.proofs.Lengths.{length_found, length_map, length_those}
+use Rattle.closing_laws.proofs.Lengths.{length_found}
 
 sent_of : Tid → Decision → Participant → Sent
 sent_of tid decision member = record { site = member.site; message = To.Decide tid decision }
@@ -69,7 +71,7 @@ module _ (protocols : List Participant) (past : CoordPast) (tid : Tid) where
   few_dues : (event : CoordEvent) (answer : Answer) (dues : List Due) → length dues ≤ length protocols → SendsFew (length protocols) (sends_dues protocols past event tid answer dues)
   unfolding sends_dues
   few_dues event answer dues h =
-      let n = length_map (send_due tid) dues in
+      let n = length-map (send_due tid) dues in
       few_when (length protocols) (some_of is_prepare dues && lacks_initiation protocols past tid) _ _ (record { few = omega (arith, n, h) }) (record { few = omega (arith, n, h) })
 
   few_through : (policy : Policy) (dues : List Due) → length dues ≤ length protocols → length (let_through protocols policy past tid dues) ≤ length protocols
@@ -101,7 +103,7 @@ module _ (protocols : List Participant) (past : CoordPast) (tid : Tid) where
       few_dues (Ev.Again tid) (defers_all (held_back protocols policy past tid dues) (let_through protocols policy past tid dues))
       (let_through protocols policy past tid dues) (few_through policy dues few_outstanding)
   few_again policy (Decided decision) h =
-      record { few = (let n = length_map (sent_of tid decision) (missing protocols past tid decision) in let few = few_missing decision h in omega (arith, n, few)) }
+      record { few = (let n = length-map (sent_of tid decision) (missing protocols past tid decision) in let few = few_missing decision h in omega (arith, n, few)) }
   few_again policy Gone h = few_quiet (length protocols) _ _
 
   pub agains_few : (policy : Policy) → ((ms : List Participant) → named protocols (records past) tid ≡ Some ms → length ms ≤ length protocols)

@@ -1,19 +1,17 @@
 -- The declared sites are at most eight.
-use Rattle.std.proofs.Common.{◌≡◌, ℕ, suc, ◌<◌, ◌≤◌, Bool, List, [], ◌∷◌, map, length, refl, ap, ◌∙◌, arith, nat_lt, eq-eqb}
+use Rattle.std.proofs.Common.{◌≡◌, ℕ, suc, ◌<◌, ◌≤◌, List, [], ◌∷◌, map, length, refl, ap, ◌∙◌, arith, eq-eqb}
 use Rattle.std.proofs.lemmas.Bool.{and_parts, leb-true}
 use Rattle.std.specs.Prelude.{nat_le}
 use Rattle.mdb_base.specs.Words.{Among}
-use Rattle.presumptions.specs.declared.Participant.{Participant}
+use Rattle.mdb_base.proofs.JoinLaws.{length-map}
 use Rattle.order_laws.specs.Chains.{Distinct, In}
 use Rattle.order_laws.proofs.Lists.{among_is, among_map, each_of_at}
 use Rattle.fed_rules.specs.declared.scenario.Scenario.{Scenario}
 use Rattle.fed_rules.specs.declared.scenario.SiteLine.{SiteLine}
 use Rattle.fed_rules.specs.Plans.{IsScenario, is_between, one_site}
 use Rattle.fed_rules.specs.Scenarios.{protocols, protocols_in}
-use Rattle.closing_laws.proofs.Lengths.{few_numbers, length_inserted, length_map, numbers_differ}
-
-abbrev by_site : Participant → Participant → Bool
-by_site a b = nat_lt a.site.0 b.site.0
+use Rattle.commit_laws.proofs.Declared.{by_site}
+use Rattle.closing_laws.proofs.Lengths.{few_numbers, length_inserted, numbers_differ}
 
 protocols_many : (lines : List SiteLine) → length (protocols_in lines) ≡ length lines
 protocols_many [] = refl
@@ -35,5 +33,5 @@ in_range scenario whole k i = of_line (among_map (λ n. n ≡ k) (λ (l : SiteLi
 pub at_most_eight : (scenario : Scenario) → IsScenario scenario → length (protocols scenario) ≤ 8
 at_most_eight scenario whole =
     let few = few_numbers (map (λ (l : SiteLine). l.site.0) scenario.sites) 8 (numbers scenario whole) (in_range scenario whole) in
-    let all = length_map (λ (l : SiteLine). l.site.0) scenario.sites in
+    let all = length-map (λ (l : SiteLine). l.site.0) scenario.sites in
     let same = protocols_many scenario.sites in omega (arith, few, all, same)

@@ -12,7 +12,6 @@ use Rattle.order_laws.specs.Chains.{In}
 use Rattle.order_laws.specs.Tickets.{Ticketed}
 use Rattle.mdb_base.specs.declared.names.SiteTicket.{SiteTicket}
 use Rattle.order_laws.proofs.Lists.{each_at, each_from, in_those, among_is, among_weaker}
-use Rattle.order_laws.proofs.Names.{same_site_alike, same_site_self}
 use Rattle.fed_rules.specs.declared.answers.Answer.TheVariants as Say
 use Rattle.fed_rules.specs.declared.commands.Command.{Command}
 use Rattle.fed_rules.specs.declared.commands.Place.{Place}
@@ -32,20 +31,22 @@ use Rattle.fed_rules.specs.SitePast.{SiteHappening, records, live}
 use Rattle.fed_rules.specs.SiteRecords.{Home, doubt_of}
 use Rattle.fed_rules.specs.Site_of.{due_site}
 use Rattle.fed_rules.specs.Story.{Story, AtCoordinator, past_of, coord_past, sent_to, sends_to, places_of, story_of}
-use Rattle.order_laws.proofs.Joined.{among_right, among_left}
 use Rattle.closing_laws.proofs.AloneSites.{Stage}
 use Rattle.closing_laws.proofs.CoordView.{Views, did_event, reply_of, only_views, SendsDues, due_now, Apart, apart_those, protocols_apart, found_where, found_apart, IsNew, new_from, new_to, first_due}
 use Rattle.closing_laws.proofs.Delivered.{item_behind}
-use Rattle.closing_laws.proofs.Dues.{count_of, epoch_of, ticketed, due_of, due_is, IsDue, AtWork, AtTake, AtPrepare, due_kind, due_there, other_at, other_ticketed}
-use Rattle.federation_laws.proofs.Dues.{of_site, steps_of}
+use Rattle.closing_laws.proofs.Dues.{due_of, due_is, IsDue, AtWork, AtTake, AtPrepare, due_kind, due_there, other_at, other_ticketed}
+use Rattle.federation_laws.proofs.Dues.{of_site, steps_of, count_of, epoch_of, ticket_of}
 use Rattle.closing_laws.proofs.Exchange.{IsExchange, given, both, past_given, other_given, coord_both, past_both, sent_given, sent_both, calm_both, goes_on}
-use Rattle.closing_laws.proofs.Locals.{found_in}
-use Rattle.closing_laws.proofs.Onward.{IsCalm, item_more, one_home}
+use Rattle.closing_laws.proofs.Onward.{IsCalm, one_home}
 use Rattle.fed_rules.specs.Policies.{Policy, policy_of}
-use Rattle.mdb_base.proofs.NameLaws.{same_tid-refl, same_tid-equal}
+use Rattle.mdb_base.proofs.NameLaws.{same_tid-refl, same_tid-equal, same_site-equal, same_site-refl}
+use Rattle.mdb_base.proofs.EachLaws.{among_behind, among_append}
+use Rattle.mdb_base.proofs.PlaceLaws.{item_at-front}
+use Rattle.mdb_base.proofs.ListLaws.{append_each}
 use Rattle.presumptions.specs.declared.Decision.{Decision}
 use Rattle.closing_laws.proofs.Quiet.{nothing_passes}
 use Rattle.fed_rules.specs.declared.events.CoordEvent.{CoordEvent}
+use Rattle.site_history.proofs.LiveOnes.{found_in}
 
 -- a message that is outstanding, with its place
 pub record Entry : Type 0 where
@@ -73,12 +74,12 @@ pub record Flow (scenario : Scenario) (g : Tid) (prog : List Step) (story : Stor
   pub program_is : program (coord_past story) g ≡ prog
   pub others : (tid : Tid) → same_tid g tid ≡ false → standing (protocols scenario) (coord_past story) tid ≡ Gone
   pub stages : (home : Home) → home_of scenario home.site ≡ Some home → visits home.site prog ≡ true
-      → Stage home (past_of home.site story) g (count_of (counted (coord_past story) g) home.site) (epoch_of (counted (coord_past story) g) home.site) (ticketed (counted (coord_past story) g) home.site) (vote_at (coord_past story) g home.site)
+      → Stage home (past_of home.site story) g (count_of (counted (coord_past story) g) home.site) (epoch_of (counted (coord_past story) g) home.site) (ticket_of (counted (coord_past story) g) home.site) (vote_at (coord_past story) g home.site)
   pub doubts : (home : Home) (tid : Tid) → home_of scenario home.site ≡ Some home → same_tid g tid ≡ false → doubt_of (records home (past_of home.site story)) tid ≡ None
   pub away : (home : Home) (tid : Tid) → home_of scenario home.site ≡ Some home → visits home.site prog ≡ false → (live home (past_of home.site story) tid ≡ None) × (doubt_of (records home (past_of home.site story)) tid ≡ None)
   pub above : (site : SiteId) (n : ℕ) (commit : Ticketed) (k : SiteTicket) → vote_at (coord_past story) g site ≡ Some n → In commit (commits (Coordinator.records (coord_past story))) → In k commit.tickets → k.site ≡ site → k.ticket < n
-  pub finished : (site : SiteId) (n : ℕ) → vote_at (coord_past story) g site ≡ Some n → (visits site (drop (steps_of (counted (coord_past story) g)) prog) ≡ false) × (ticketed (counted (coord_past story) g) site ≡ true)
-  pub tickets_last : (site : SiteId) → ticketed (counted (coord_past story) g) site ≡ true → visits site (drop (steps_of (counted (coord_past story) g)) prog) ≡ false
+  pub finished : (site : SiteId) (n : ℕ) → vote_at (coord_past story) g site ≡ Some n → (visits site (drop (steps_of (counted (coord_past story) g)) prog) ≡ false) × (ticket_of (counted (coord_past story) g) site ≡ true)
+  pub tickets_last : (site : SiteId) → ticket_of (counted (coord_past story) g) site ≡ true → visits site (drop (steps_of (counted (coord_past story) g)) prog) ≡ false
   pub worked : (site : SiteId) → visits site prog ≡ true → visits site (drop (steps_of (counted (coord_past story) g)) prog) ≡ false → 1 ≤ count_of (counted (coord_past story) g) site
   pub queued : Each (IsQueued g story) queue
   pub apart : Apart site_of queue
@@ -147,10 +148,6 @@ apart_append (x ∷ xs) ys h k d = (each_both xs h.0, apart_append xs ys h.1 k (
     each_both [] e = each_from (λ z. same_site (site_of x) (site_of z) ≡ false) ys (λ y j. d x y (inl refl) j)
     each_both (z ∷ zs) e = (e.0, each_both zs e.1)
 
-each_append : {A : Type 0} (P : A → Type 0) (xs ys : List A) → Each P xs → Each P ys → Each P (xs ++ ys)
-each_append P [] ys h k = k
-each_append P (x ∷ xs) ys h k = (h.0, each_append P xs ys h.1 k)
-
 -- the entries of what is sent in a line behind a story
 abbrev pub entry_for : Story → Due → Entry
 entry_for story due = record { due = due; place = length (sent_to (due_site due) story) }
@@ -193,7 +190,7 @@ pub record Answered (scenario : Scenario) (g : Tid) (prog : List Step) (commands
   pub no_wait : is_wait reply ≡ false
   pub sends : SendsDues g (coord_past (story_of scenario commands)) home.site e n reply y (news (protocols scenario) (coord_past (story_of scenario commands)) (quiet (did_event g (coord_past (story_of scenario commands)) home.site e n reply) Say.Only ∷ coord_past (story_of scenario commands)) g home.site)
   pub stage : Stage home (x ∷ past_of home.site (story_of scenario commands)) g (suc (count_of (counted (coord_past (story_of scenario commands)) g) home.site)) e
-      (is_ticket reply || ticketed (counted (coord_past (story_of scenario commands)) g) home.site) (vote_at (coord_past (story_of scenario commands)) g home.site)
+      (is_ticket reply || ticket_of (counted (coord_past (story_of scenario commands)) g) home.site) (vote_at (coord_past (story_of scenario commands)) g home.site)
   pub same_records : records home (x ∷ past_of home.site (story_of scenario commands)) ≡ records home (past_of home.site (story_of scenario commands))
   pub keeps : (site : SiteId) (due : Due) → same_site home.site site ≡ false → due_of prog (counted (coord_past (story_of scenario commands)) g) (vote_at (coord_past (story_of scenario commands)) g) site ≡ Some due
       → due_of prog (reply_of g (coord_past (story_of scenario commands)) home.site e n reply ∷ counted (coord_past (story_of scenario commands)) g) (vote_at (coord_past (story_of scenario commands)) g) site ≡ Some due
@@ -291,7 +288,7 @@ module _ (scenario : Scenario) (whole : IsScenario scenario) (g : Tid) (prog : L
       record {
         is_due = due_after (site_of entry) ∙ a.keeps (site_of entry) entry.due (elsewhere entry i) (sym (due_before (site_of entry)) ∙ was.is_due);
         there = ap (λ ms. item_at ms entry.place) (sent_both scenario commands home en.place (message_of g en.due) x (From.Did g e n reply) y ex (site_of entry))
-            ∙ item_more (sent_to (site_of entry) story) (sends_to (site_of entry) (AtCoordinator y)) entry.place (message_of g entry.due) was.there;
+            ∙ item_at-front (sent_to (site_of entry) story) (sends_to (site_of entry) (AtCoordinator y)) entry.place (message_of g entry.due) was.there;
       }
 
   new_queued : (due : Due) → In due dues → IsQueued g (story_of scenario answered) (entry_for mid due)
@@ -308,7 +305,7 @@ module _ (scenario : Scenario) (whole : IsScenario scenario) (g : Tid) (prog : L
 
   all_queued : Each (IsQueued g (story_of scenario answered)) (queue ++ sent_entries)
   all_queued =
-      each_append (IsQueued g (story_of scenario answered)) queue sent_entries (each_from (IsQueued g (story_of scenario answered)) queue old_queued)
+      append_each (IsQueued g (story_of scenario answered)) queue sent_entries (each_from (IsQueued g (story_of scenario answered)) queue old_queued)
       (each_from (IsQueued g (story_of scenario answered)) sent_entries (λ entry i. (let (due, j, same) = in_entries mid dues entry i in subst (IsQueued g (story_of scenario answered)) same (new_queued due j))))
 
   all_apart : Apart site_of (queue ++ sent_entries)
@@ -319,13 +316,13 @@ module _ (scenario : Scenario) (whole : IsScenario scenario) (g : Tid) (prog : L
       apart_of old i due k false q = q
       apart_of old i due k true q =
           let w = sent_new due k in
-          let there : site_of old ≡ w.member.site = same_site_alike (site_of old) (due_site due) q ∙ w.named in
+          let there : site_of old ≡ w.member.site = same_site-equal (site_of old) (due_site due) q ∙ w.named in
           elim w.is_new.fresh [
             | inl own ↦
                 let off = elsewhere old i in
-                let at : w.member.site ≡ home.site = same_site_alike w.member.site home.site own in
+                let at : w.member.site ≡ home.site = same_site-equal w.member.site home.site own in
                 let t : same_site home.site home.site ≡ false = ap (same_site home.site) (sym (there ∙ at)) ∙ off in
-                let yes = same_site_self home.site in
+                let yes = same_site-refl home.site in
                 let clash = sym t ∙ yes in cc
             | inr none ↦ (let some = is_out old i in let clash = sym some ∙ (ap (outstanding past g) there ∙ none) in cc)
           ]
@@ -347,7 +344,7 @@ module _ (scenario : Scenario) (whole : IsScenario scenario) (g : Tid) (prog : L
           let here_too : news_at past (quiet (did_event g past home.site e n reply) Say.Only ∷ past) g home.site m.site ≡ Some due =
           ap (news_at past (quiet (did_event g past home.site e n reply) Say.Only ∷ past) g home.site) same
           ∙ new_to past (quiet (did_event g past home.site e n reply) Say.Only ∷ past) g home.site site due (record { is_now = due_within site ∙ out; fresh = w }) in
-          among_right (λ entry. site_of entry ≡ site) queue sent_entries
+          among_behind (λ entry. site_of entry ≡ site) queue sent_entries
           (entry_among mid dues due site
           (found_in (λ (k : Participant). news_at past (quiet (did_event g past home.site e n reply) Say.Only ∷ past) g home.site k.site) (participants (protocols scenario) past g) m due
           (subst (λ p. In m (participants_of (protocols scenario) p)) (sym flow.program_is) i) here_too)
@@ -359,9 +356,9 @@ module _ (scenario : Scenario) (whole : IsScenario scenario) (g : Tid) (prog : L
       by_old v false q (Some d) h = elim (flow.whole site d h) [
         | inl same ↦
             let t : same_site site site ≡ false = ap (same_site site) (sym (here ∙ same)) ∙ q in
-            let yes = same_site_self site in
+            let yes = same_site-refl site in
             let clash = sym t ∙ yes in cc
-        | inr i ↦ among_left (λ entry. site_of entry ≡ site) queue sent_entries i
+        | inr i ↦ among_append (λ entry. site_of entry ≡ site) queue sent_entries i
       ]
 
       by_kind : IsDue prog (answer ∷ replies) (votes site) site due → Among (λ entry. site_of entry ≡ site) (queue ++ sent_entries)
@@ -369,7 +366,7 @@ module _ (scenario : Scenario) (whole : IsScenario scenario) (g : Tid) (prog : L
 
   -- what the coordinator counted of the site and of the others
   own_at : of_site (answer ∷ replies) home.site ≡ answer ∷ of_site replies home.site
-  own_at = cond-true _ _ _ (same_site_self home.site)
+  own_at = cond-true _ _ _ (same_site-refl home.site)
 
   own_count : count_of (answer ∷ replies) home.site ≡ suc (count_of replies home.site)
   own_count = ap (how_many (λ (r : Counted). not (is_wait r.reply))) own_at ∙ ap (λ b. cond (not b) (suc (count_of replies home.site)) (count_of replies home.site)) a.no_wait
@@ -387,36 +384,36 @@ module _ (scenario : Scenario) (whole : IsScenario scenario) (g : Tid) (prog : L
   past_there site q = past_both scenario commands home en.place (message_of g en.due) x (From.Did g e n reply) y ex site ∙ other_given scenario commands home en.place (message_of g en.due) x (From.Did g e n reply) y ex site q
 
   stage_here : Stage home (past_of home.site (story_of scenario answered)) g (count_of (counted (coord_past (story_of scenario answered)) g) home.site) (epoch_of (counted (coord_past (story_of scenario answered)) g) home.site)
-      (ticketed (counted (coord_past (story_of scenario answered)) g) home.site) (vote_at (coord_past (story_of scenario answered)) g home.site)
+      (ticket_of (counted (coord_past (story_of scenario answered)) g) home.site) (vote_at (coord_past (story_of scenario answered)) g home.site)
   stage_here =
-      subst (λ rs. Stage home (past_of home.site (story_of scenario answered)) g (count_of rs home.site) (epoch_of rs home.site) (ticketed rs home.site) (vote_at (coord_past (story_of scenario answered)) g home.site)) (sym counted_now)
-      (subst (λ v. Stage home (past_of home.site (story_of scenario answered)) g (count_of (answer ∷ replies) home.site) (epoch_of (answer ∷ replies) home.site) (ticketed (answer ∷ replies) home.site) v) (sym (vote_now home.site))
-      (subst (λ p. Stage home p g (count_of (answer ∷ replies) home.site) (epoch_of (answer ∷ replies) home.site) (ticketed (answer ∷ replies) home.site) (votes home.site)) (sym past_here)
-      (subst (λ c. Stage home (x ∷ past_of home.site story) g c (epoch_of (answer ∷ replies) home.site) (ticketed (answer ∷ replies) home.site) (votes home.site)) (sym own_count)
+      subst (λ rs. Stage home (past_of home.site (story_of scenario answered)) g (count_of rs home.site) (epoch_of rs home.site) (ticket_of rs home.site) (vote_at (coord_past (story_of scenario answered)) g home.site)) (sym counted_now)
+      (subst (λ v. Stage home (past_of home.site (story_of scenario answered)) g (count_of (answer ∷ replies) home.site) (epoch_of (answer ∷ replies) home.site) (ticket_of (answer ∷ replies) home.site) v) (sym (vote_now home.site))
+      (subst (λ p. Stage home p g (count_of (answer ∷ replies) home.site) (epoch_of (answer ∷ replies) home.site) (ticket_of (answer ∷ replies) home.site) (votes home.site)) (sym past_here)
+      (subst (λ c. Stage home (x ∷ past_of home.site story) g c (epoch_of (answer ∷ replies) home.site) (ticket_of (answer ∷ replies) home.site) (votes home.site)) (sym own_count)
       (subst (λ rs. Stage home (x ∷ past_of home.site story) g (suc (count_of replies home.site)) (last_epoch rs) (some_of (λ (r : Counted). is_ticket r.reply) rs) (votes home.site)) (sym own_at) a.stage))))
 
   stage_there : (other : Home) → home_of scenario other.site ≡ Some other → visits other.site prog ≡ true → same_site home.site other.site ≡ false
       → Stage other (past_of other.site (story_of scenario answered)) g (count_of (counted (coord_past (story_of scenario answered)) g) other.site) (epoch_of (counted (coord_past (story_of scenario answered)) g) other.site)
-      (ticketed (counted (coord_past (story_of scenario answered)) g) other.site) (vote_at (coord_past (story_of scenario answered)) g other.site)
+      (ticket_of (counted (coord_past (story_of scenario answered)) g) other.site) (vote_at (coord_past (story_of scenario answered)) g other.site)
   stage_there other d v q =
-      subst (λ rs. Stage other (past_of other.site (story_of scenario answered)) g (count_of rs other.site) (epoch_of rs other.site) (ticketed rs other.site) (vote_at (coord_past (story_of scenario answered)) g other.site)) (sym counted_now)
+      subst (λ rs. Stage other (past_of other.site (story_of scenario answered)) g (count_of rs other.site) (epoch_of rs other.site) (ticket_of rs other.site) (vote_at (coord_past (story_of scenario answered)) g other.site)) (sym counted_now)
       (subst (λ rs. Stage other (past_of other.site (story_of scenario answered)) g (how_many (λ (r : Counted). not (is_wait r.reply)) rs) (last_epoch rs) (some_of (λ (r : Counted). is_ticket r.reply) rs) (vote_at (coord_past (story_of scenario answered)) g other.site)) (sym (other_at answer replies other.site q))
-      (subst (λ z. Stage other (past_of other.site (story_of scenario answered)) g (count_of replies other.site) (epoch_of replies other.site) (ticketed replies other.site) z) (sym (vote_now other.site))
-      (subst (λ p. Stage other p g (count_of replies other.site) (epoch_of replies other.site) (ticketed replies other.site) (votes other.site)) (sym (past_there other.site q)) (flow.stages other d v))))
+      (subst (λ z. Stage other (past_of other.site (story_of scenario answered)) g (count_of replies other.site) (epoch_of replies other.site) (ticket_of replies other.site) z) (sym (vote_now other.site))
+      (subst (λ p. Stage other p g (count_of replies other.site) (epoch_of replies other.site) (ticket_of replies other.site) (votes other.site)) (sym (past_there other.site q)) (flow.stages other d v))))
 
-  pub ticket_stays : (site : SiteId) → ticketed replies site ≡ true → ticketed (answer ∷ replies) site ≡ true
+  pub ticket_stays : (site : SiteId) → ticket_of replies site ≡ true → ticket_of (answer ∷ replies) site ≡ true
   ticket_stays site t = by_test (same_site home.site site) refl
     where
       or_true : (b c : Bool) → c ≡ true → (b || c) ≡ true
       or_true true c k = refl
       or_true false c k = k
 
-      by_test : (b : Bool) → same_site home.site site ≡ b → ticketed (answer ∷ replies) site ≡ true
-      by_test true q = ap (some_of (λ (r : Counted). is_ticket r.reply)) (cond-true _ _ _ q) ∙ or_true (is_ticket reply) (ticketed replies site) t
+      by_test : (b : Bool) → same_site home.site site ≡ b → ticket_of (answer ∷ replies) site ≡ true
+      by_test true q = ap (some_of (λ (r : Counted). is_ticket r.reply)) (cond-true _ _ _ q) ∙ or_true (is_ticket reply) (ticket_of replies site) t
       by_test false q = other_ticketed answer replies site q ∙ t
 
   same_home : (other : Home) → home_of scenario other.site ≡ Some other → same_site home.site other.site ≡ true → home ≡ other
-  same_home other d q = one_home scenario home other a.declared d (same_site_alike home.site other.site q)
+  same_home other d q = one_home scenario home other a.declared d (same_site-equal home.site other.site q)
 
   pub advance : Flow scenario g prog (story_of scenario answered) (queue ++ sent_entries)
   advance = record {
@@ -430,8 +427,8 @@ module _ (scenario : Scenario) (whole : IsScenario scenario) (g : Tid) (prog : L
     above = λ site m commit k v i j f. flow.above site m commit k (sym (vote_now site) ∙ v) (subst (λ cs. In commit cs) (ap (λ p. commits (Coordinator.records p)) coord_now ∙ views.commits_are) i) j f;
     finished = λ site m v.
         (let f = flow.finished site m (sym (vote_now site) ∙ v) in
-        (ap (λ rs. visits site (drop (steps_of rs) prog)) counted_now ∙ a.left site f.0, ap (λ rs. ticketed rs site) counted_now ∙ ticket_stays site f.1));
-    tickets_last = λ site t. ap (λ rs. visits site (drop (steps_of rs) prog)) counted_now ∙ last_at site (sym (ap (λ rs. ticketed rs site) counted_now) ∙ t) (same_site home.site site) refl;
+        (ap (λ rs. visits site (drop (steps_of rs) prog)) counted_now ∙ a.left site f.0, ap (λ rs. ticket_of rs site) counted_now ∙ ticket_stays site f.1));
+    tickets_last = λ site t. ap (λ rs. visits site (drop (steps_of rs) prog)) counted_now ∙ last_at site (sym (ap (λ rs. ticket_of rs site) counted_now) ∙ t) (same_site home.site site) refl;
     worked = λ site v l. subst (λ rs. 1 ≤ count_of rs site) (sym counted_now) (worked_at site v (sym (ap (λ rs. visits site (drop (steps_of rs) prog)) counted_now) ∙ l) (same_site home.site site) refl);
     queued = all_queued;
     apart = all_apart;
@@ -444,23 +441,23 @@ module _ (scenario : Scenario) (whole : IsScenario scenario) (g : Tid) (prog : L
       either true c k = inl refl
       either false c k = inr k
 
-      last_at : (site : SiteId) → ticketed (answer ∷ replies) site ≡ true → (b : Bool) → same_site home.site site ≡ b → visits site (drop (steps_of (answer ∷ replies)) prog) ≡ false
+      last_at : (site : SiteId) → ticket_of (answer ∷ replies) site ≡ true → (b : Bool) → same_site home.site site ≡ b → visits site (drop (steps_of (answer ∷ replies)) prog) ≡ false
       last_at site t false q = a.left site (flow.tickets_last site (sym (other_ticketed answer replies site q) ∙ t))
-      last_at site t true q = elim (either (is_ticket reply) (ticketed replies site) (sym (ap (some_of (λ (r : Counted). is_ticket r.reply)) (cond-true _ _ _ q)) ∙ t)) [
-        | inl new ↦ ap (λ s. visits s (drop (steps_of (answer ∷ replies)) prog)) (sym (same_site_alike home.site site q)) ∙ a.last new
+      last_at site t true q = elim (either (is_ticket reply) (ticket_of replies site) (sym (ap (some_of (λ (r : Counted). is_ticket r.reply)) (cond-true _ _ _ q)) ∙ t)) [
+        | inl new ↦ ap (λ s. visits s (drop (steps_of (answer ∷ replies)) prog)) (sym (same_site-equal home.site site q)) ∙ a.last new
         | inr old ↦ a.left site (flow.tickets_last site old)
       ]
 
       worked_at : (site : SiteId) → visits site prog ≡ true → visits site (drop (steps_of (answer ∷ replies)) prog) ≡ false → (b : Bool) → same_site home.site site ≡ b → 1 ≤ count_of (answer ∷ replies) site
       worked_at site v l false q = subst (λ rs. 1 ≤ how_many (λ (r : Counted). not (is_wait r.reply)) rs) (sym (other_at answer replies site q)) (flow.worked site v (a.back site q l))
-      worked_at site v l true q = subst (λ s. 1 ≤ count_of (answer ∷ replies) s) (same_site_alike home.site site q) (let c = own_count in omega (arith, c))
+      worked_at site v l true q = subst (λ s. 1 ≤ count_of (answer ∷ replies) s) (same_site-equal home.site site q) (let c = own_count in omega (arith, c))
 
       stage_at : (other : Home) → home_of scenario other.site ≡ Some other → visits other.site prog ≡ true → (b : Bool) → same_site home.site other.site ≡ b
           → Stage other (past_of other.site (story_of scenario answered)) g (count_of (counted (coord_past (story_of scenario answered)) g) other.site) (epoch_of (counted (coord_past (story_of scenario answered)) g) other.site)
-          (ticketed (counted (coord_past (story_of scenario answered)) g) other.site) (vote_at (coord_past (story_of scenario answered)) g other.site)
+          (ticket_of (counted (coord_past (story_of scenario answered)) g) other.site) (vote_at (coord_past (story_of scenario answered)) g other.site)
       stage_at other d v true q =
           subst (λ h. Stage h (past_of h.site (story_of scenario answered)) g (count_of (counted (coord_past (story_of scenario answered)) g) h.site) (epoch_of (counted (coord_past (story_of scenario answered)) g) h.site)
-          (ticketed (counted (coord_past (story_of scenario answered)) g) h.site) (vote_at (coord_past (story_of scenario answered)) g h.site)) (same_home other d q) stage_here
+          (ticket_of (counted (coord_past (story_of scenario answered)) g) h.site) (vote_at (coord_past (story_of scenario answered)) g h.site)) (same_home other d q) stage_here
       stage_at other d v false q = stage_there other d v q
 
       doubt_at : (other : Home) (tid : Tid) → home_of scenario other.site ≡ Some other → doubt_of (records other (past_of other.site story)) tid ≡ None → (b : Bool) → same_site home.site other.site ≡ b
@@ -477,7 +474,7 @@ module _ (scenario : Scenario) (whole : IsScenario scenario) (g : Tid) (prog : L
       away_at other tid d v true q = absurd (visited_here (due_kind prog replies votes home.site en.due (sym (due_before home.site) ∙ (ap (outstanding past g) here ∙ flow.queued.0.is_due))))
         where
           off : visits home.site prog ≡ false
-          off = ap (λ s. visits s prog) (same_site_alike home.site other.site q) ∙ v
+          off = ap (λ s. visits s prog) (same_site-equal home.site other.site q) ∙ v
 
           visited_here : IsDue prog replies (votes home.site) home.site en.due → ⊥
           visited_here (AtWork step w l i r h) = (let clash = sym off ∙ w in cc)

@@ -1,5 +1,6 @@
 -- Each operation of an attempt that is alone is granted: the queue goes on with what becomes outstanding then.
-use Rattle.std.proofs.Common.{◌≡◌, ℕ, zero, suc, ◌+◌, ◌<◌, ◌≤◌, Bool, true, false, cond, not, ◌&&◌, ◌||◌, ◌==◌, is_some, Option, Some, None, List, [], ◌∷◌, ◌++◌, map, length, drop, inl, inr, refl, sym, ap, ap₂, subst, ◌∙◌, arith, eq-eqb}
+use Rattle.std.proofs.Common.{◌≡◌, ℕ, zero, suc, ◌+◌, ◌≤◌, Bool, true, false, cond, not, ◌&&◌, ◌||◌, ◌==◌, is_some, Option, Some, None, List, [], ◌∷◌, ◌++◌, map, length, drop, inl, inr, refl, sym, ap, ap₂, subst, ◌∙◌, arith, eq-eqb}
+use Rattle.std.proofs.lemmas.Bool.{or_right, or_from}
 use Rattle.mdb_base.specs.declared.acts.PlainAct.{PlainAct}
 use Rattle.mdb_base.specs.declared.acts.PlainAct.TheVariants.{Read, Write}
 use Rattle.mdb_base.specs.declared.acts.Step.{Step}
@@ -11,10 +12,11 @@ use Rattle.mdb_base.specs.Names.{same_site}
 use Rattle.mdb_base.specs.Programs.{IsProgram}
 use Rattle.mdb_base.specs.Words.{Among, some_of, how_many, item_at}
 use Rattle.mdb_base.proofs.Words.{when-true, cond-true, cond-false}
+use Rattle.mdb_base.proofs.NameLaws.{same_site-equal, same_site-refl}
+use Rattle.mdb_base.proofs.PlaceLaws.{item_at-below}
 use Rattle.presumptions.specs.declared.Participant.{Participant}
 use Rattle.order_laws.specs.Chains.{In}
-use Rattle.order_laws.proofs.Lists.{those_in, or_second}
-use Rattle.order_laws.proofs.Names.{same_site_alike, same_site_self}
+use Rattle.order_laws.proofs.Lists.{those_in}
 use Rattle.fed_rules.specs.declared.answers.Answer.TheVariants as Say
 use Rattle.fed_rules.specs.declared.commands.Command.{Command}
 use Rattle.fed_rules.specs.declared.events.CoordEvent.TheVariants as Ev
@@ -40,15 +42,15 @@ use Rattle.fed_rules.specs.Story.{Story, past_of, coord_past, sent_to, story_of}
 use Rattle.closing_laws.proofs.AloneSites.{Stage, NotYet, Running, Sealed, Sends, first_line, first_is, first_stage, first_sends, next_line, next_is, next_stage, next_sends, ticket_line, ticket_is, ticket_stage, ticket_sends}
 use Rattle.closing_laws.proofs.CoordView.{did_event, reply_of, SendsDues, dues_sent}
 use Rattle.closing_laws.proofs.Declared.{member_home}
-use Rattle.closing_laws.proofs.Dues.{count_of, epoch_of, ticketed, act_of, due_of, due_is, step_keeps, ticket_keeps, no_more}
-use Rattle.federation_laws.proofs.Dues.{of_site, steps_of}
+use Rattle.closing_laws.proofs.Dues.{act_of, due_of, due_is, step_keeps, ticket_keeps, no_more}
+use Rattle.federation_laws.proofs.Dues.{of_site, steps_of, count_of, epoch_of, ticket_of}
 use Rattle.closing_laws.proofs.Exchange.{IsExchange}
 use Rattle.closing_laws.proofs.Flow.{Entry, site_of, place_of, members_of, Flow, Answered, member_there, answered, sent_entries, advance, advanced, counted_now, vote_now, alone_takes, news_alone}
 use Rattle.fed_rules.specs.Policies.{Policy}
 
 -- how far an attempt has come: its steps, tickets and votes
 abbrev pub weight : List Counted → (SiteId → Option ℕ) → List Participant → ℕ
-weight replies votes members = steps_of replies + how_many (λ (m : Participant). ticketed replies m.site) members + how_many (λ (m : Participant). is_some (votes m.site)) members
+weight replies votes members = steps_of replies + how_many (λ (m : Participant). ticket_of replies m.site) members + how_many (λ (m : Participant). is_some (votes m.site)) members
 
 abbrev pub weight_of : Tid → Story → List Participant → ℕ
 weight_of g story members = weight (counted (coord_past story) g) (vote_at (coord_past story) g) members
@@ -102,7 +104,7 @@ granted_good start lines me (Read key) = record { no_wait = refl; no_ticket = re
 granted_good start lines me (Write key value) = record { no_wait = refl; no_ticket = refl; fits_it = refl; says = λ protocols policy past site message tid. refl }
 
 -- the operations of a site without its ticket are steps
-few_counted : (replies : List Counted) (site : SiteId) → ticketed replies site ≡ false → count_of replies site ≤ steps_of replies
+few_counted : (replies : List Counted) (site : SiteId) → ticket_of replies site ≡ false → count_of replies site ≤ steps_of replies
 few_counted [] site t = omega arith
 few_counted (r ∷ replies) site t = by_site (same_site r.site site) t (few_counted replies site)
   where
@@ -116,30 +118,21 @@ few_counted (r ∷ replies) site t = by_site (same_site r.site site) t (few_coun
         by_test true = omega arith
         by_test false = omega arith
 
-    by_reply : (w k : Bool) → (k || ticketed replies site) ≡ false → (ticketed replies site ≡ false → count_of replies site ≤ steps_of replies)
+    by_reply : (w k : Bool) → (k || ticket_of replies site) ≡ false → (ticket_of replies site ≡ false → count_of replies site ≤ steps_of replies)
         → cond (not w) (suc (count_of replies site)) (count_of replies site) ≤ cond (not w && not k) (suc (steps_of replies)) (steps_of replies)
     by_reply true false e h = h e
     by_reply true true e h = cc
     by_reply false false e h = (let less = h e in omega (arith, less))
     by_reply false true e h = cc
 
-    by_site : (b : Bool) → some_of (λ (z : Counted). is_ticket z.reply) (cond b (r ∷ of_site replies site) (of_site replies site)) ≡ false → (ticketed replies site ≡ false → count_of replies site ≤ steps_of replies)
+    by_site : (b : Bool) → some_of (λ (z : Counted). is_ticket z.reply) (cond b (r ∷ of_site replies site) (of_site replies site)) ≡ false → (ticket_of replies site ≡ false → count_of replies site ≤ steps_of replies)
         → how_many (λ (z : Counted). not (is_wait z.reply)) (cond b (r ∷ of_site replies site) (of_site replies site)) ≤ cond step (suc (steps_of replies)) (steps_of replies)
     by_site false e h = (let less = h e in let big = more in omega (arith, less, big))
     by_site true e h = by_reply (is_wait r.reply) (is_ticket r.reply) e h
 
-pub item_below : {A : Type 0} (xs : List A) (n : ℕ) (x : A) → item_at xs n ≡ Some x → n < length xs
-item_below [] n x e = cc
-item_below (y ∷ xs) zero x e = omega arith
-item_below (y ∷ xs) (suc n) x e = (let less = item_below xs n x e in omega (arith, less))
-
 stage_as : (home : Home) (past : SitePast) (g : Tid) (c d e f : ℕ) (t u : Bool) (v w : Option ℕ) → c ≡ d → e ≡ f → t ≡ u → v ≡ w → Stage home past g c e t v → Stage home past g d f u w
 stage_as home past g c d e f t u v w p q r s h =
     subst (λ z. Stage home past g z f u w) p (subst (λ z. Stage home past g c z u w) q (subst (λ z. Stage home past g c e z w) r (subst (λ z. Stage home past g c e t z) s h)))
-
-none_before : (a b : Bool) → a ≡ false → b ≡ false → (a || b) ≡ false
-none_before true b e f = cc
-none_before false b e f = f
 
 module _ (scenario : Scenario) (whole : IsScenario scenario) (g : Tid) (prog : List Step) (fits_prog : IsProgram prog) (all_declared : (site : SiteId) → visits site prog ≡ true → Among (λ (p : Participant). p.site ≡ site) (protocols scenario))
     (commands : List Command) (en : Entry) (queue : List Entry) (flow : Flow scenario g prog (story_of scenario commands) (en ∷ queue)) where
@@ -161,7 +154,7 @@ module _ (scenario : Scenario) (whole : IsScenario scenario) (g : Tid) (prog : L
   pub home_here : visits (site_of en) prog ≡ true → IsHomeOf
   home_here v =
       let (m, i, e) = member_there scenario prog (site_of en) (all_declared (site_of en) v) v in
-      let at = member_home scenario m whole (in_protocols m i) in
+      let at = member_home scenario m whole.sites (in_protocols m i) in
       record { home = at.home; declared = at.declared; here = at.here ∙ e }
     where
       in_protocols : (m : Participant) → In m (members_of scenario prog) → In m (protocols scenario)
@@ -178,7 +171,7 @@ module _ (scenario : Scenario) (whole : IsScenario scenario) (g : Tid) (prog : L
     epoch_fits : ((epoch_of replies home.site == 0) || (e == epoch_of replies home.site)) ≡ true
     says : (protocols : List Participant) (policy : Policy) (p : CoordPast) (site : SiteId) (message : FromSite) (tid : Tid)
         → did_reply protocols policy p site message tid reply ≡ sends_news protocols policy p (Ev.Take site message) tid (news protocols p (quiet (Ev.Take site message) Say.Only ∷ p) tid site)
-    stage : Stage home (x ∷ past_of home.site (story_of scenario commands)) g (suc (count_of replies home.site)) e (is_ticket reply || ticketed replies home.site) (votes home.site)
+    stage : Stage home (x ∷ past_of home.site (story_of scenario commands)) g (suc (count_of replies home.site)) e (is_ticket reply || ticket_of replies home.site) (votes home.site)
     keeps : (site : SiteId) (due : Due) → same_site home.site site ≡ false → due_of prog replies votes site ≡ Some due → due_of prog (reply_of g past home.site e n reply ∷ replies) votes site ≡ Some due
     left : (site : SiteId) → visits site (drop (steps_of replies) prog) ≡ false → visits site (drop (steps_of (reply_of g past home.site e n reply ∷ replies)) prog) ≡ false
     back : (site : SiteId) → same_site home.site site ≡ false → visits site (drop (steps_of (reply_of g past home.site e n reply ∷ replies)) prog) ≡ false → visits site (drop (steps_of replies) prog) ≡ false
@@ -257,7 +250,7 @@ module _ (scenario : Scenario) (whole : IsScenario scenario) (g : Tid) (prog : L
   pub due_at_home : (home : Home) → home.site ≡ site_of en → due_of prog replies votes home.site ≡ Some en.due
   due_at_home home here = ap (λ p. due_of p replies votes home.site) (sym flow.program_is) ∙ (sym (due_is past g home.site) ∙ (ap (outstanding past g) here ∙ flow.queued.0.is_due))
 
-  ticket_more : (r : Counted) (site : SiteId) → ticketed replies site ≡ true → ticketed (r ∷ replies) site ≡ true
+  ticket_more : (r : Counted) (site : SiteId) → ticket_of replies site ≡ true → ticket_of (r ∷ replies) site ≡ true
   ticket_more r site t = by_test (same_site r.site site) refl
     where
       or_true : (b c : Bool) → c ≡ true → (b || c) ≡ true
@@ -265,7 +258,7 @@ module _ (scenario : Scenario) (whole : IsScenario scenario) (g : Tid) (prog : L
       or_true false c k = k
 
       by_test : (b : Bool) → same_site r.site site ≡ b → some_of (λ (z : Counted). is_ticket z.reply) (cond b (r ∷ of_site replies site) (of_site replies site)) ≡ true
-      by_test true q = or_true (is_ticket r.reply) (ticketed replies site) t
+      by_test true q = or_true (is_ticket r.reply) (ticket_of replies site) t
       by_test false q = t
 
   -- the act of a step is granted
@@ -273,7 +266,7 @@ module _ (scenario : Scenario) (whole : IsScenario scenario) (g : Tid) (prog : L
       → item_at prog (steps_of replies) ≡ Some step → same_site step.site home.site ≡ true → en.due ≡ Due_is.Work home.site (epoch_of replies home.site) (count_of replies home.site) (act_of replies step)
       → of_give home (past_of home.site (story_of scenario commands)) (message_of g en.due) ≡ x → Sends x (From.Did g e (count_of replies home.site) (granted start lines me (act_of replies step)))
       → ((epoch_of replies home.site == 0) || (e == epoch_of replies home.site)) ≡ true
-      → (ticketed replies home.site ≡ false → Stage home (x ∷ past_of home.site (story_of scenario commands)) g (suc (count_of replies home.site)) e false None) → ticketed replies home.site ≡ false → votes home.site ≡ None
+      → (ticket_of replies home.site ≡ false → Stage home (x ∷ past_of home.site (story_of scenario commands)) g (suc (count_of replies home.site)) e false None) → ticket_of replies home.site ≡ false → votes home.site ≡ None
       → IsGranted home e (count_of replies home.site) (granted start lines me (act_of replies step)) x
   step_granted home e step start lines me x d here i q due gives sends ep stage t v = record {
     declared = d;
@@ -284,15 +277,15 @@ module _ (scenario : Scenario) (whole : IsScenario scenario) (g : Tid) (prog : L
     fits_it = ap (λ o. fits (Some o) (count_of replies home.site) reply) due ∙ ap₂ (λ (a b : Bool). a && b) (eq-eqb (count_of replies home.site) (count_of replies home.site) refl) good.fits_it;
     epoch_fits = ep;
     says = good.says;
-    stage = stage_as home (x ∷ past_of home.site (story_of scenario commands)) g (suc (count_of replies home.site)) (suc (count_of replies home.site)) e e false (is_ticket reply || ticketed replies home.site) None (votes home.site)
-        refl refl (sym (none_before (is_ticket reply) (ticketed replies home.site) good.no_ticket t)) (sym v) (stage t);
+    stage = stage_as home (x ∷ past_of home.site (story_of scenario commands)) g (suc (count_of replies home.site)) (suc (count_of replies home.site)) e e false (is_ticket reply || ticket_of replies home.site) None (votes home.site)
+        refl refl (sym (or_from (is_ticket reply) (ticket_of replies home.site) good.no_ticket t)) (sym v) (stage t);
     keeps = λ site o other f. step_keeps prog answer replies votes step site o answered_step i q other f;
     left = λ site l. ap (λ k. visits site (drop k prog)) more ∙ no_more site prog (steps_of replies) l;
     back = λ site other l. not_last site other (sym (ap (λ k. visits site (drop k prog)) more) ∙ l);
     last = λ k. (let no_ticket = good.no_ticket in let clash = sym no_ticket ∙ k in cc);
-    few = (let less = item_below prog (steps_of replies) step i in let m = more in omega (arith, less, m));
+    few = (let less = item_at-below prog (steps_of replies) step i in let m = more in omega (arith, less, m));
     heavier =
-        (let tickets = more_pass (λ (m : Participant). ticketed replies m.site) (λ (m : Participant). ticketed (answer ∷ replies) m.site) (members_of scenario prog) (λ m k. ticket_more answer m.site k) in
+        (let tickets = more_pass (λ (m : Participant). ticket_of replies m.site) (λ (m : Participant). ticket_of (answer ∷ replies) m.site) (members_of scenario prog) (λ m k. ticket_more answer m.site k) in
         let m = more in omega (arith, tickets, m));
   }
     where
@@ -315,7 +308,7 @@ module _ (scenario : Scenario) (whole : IsScenario scenario) (g : Tid) (prog : L
       not_last site other l = walk prog (steps_of replies) i l
         where
           apart : same_site step.site site ≡ false
-          apart = ap (λ s. same_site s site) (same_site_alike step.site home.site q) ∙ other
+          apart = ap (λ s. same_site s site) (same_site-equal step.site home.site q) ∙ other
 
           some_same : {x y : Step} → Some x ≡ Some y → x ≡ y
           some_same f = cc
@@ -338,14 +331,14 @@ module _ (scenario : Scenario) (whole : IsScenario scenario) (g : Tid) (prog : L
       act : PlainAct
       act = act_of replies step
 
-      ticketless : ticketed replies home.site ≡ false
-      ticketless = by_test (ticketed replies home.site) refl
+      ticketless : ticket_of replies home.site ≡ false
+      ticketless = by_test (ticket_of replies home.site) refl
         where
-          by_test : (b : Bool) → ticketed replies home.site ≡ b → ticketed replies home.site ≡ false
+          by_test : (b : Bool) → ticket_of replies home.site ≡ b → ticket_of replies home.site ≡ false
           by_test false t = t
           by_test true t = (let none = flow.tickets_last home.site t in let clash = sym none ∙ l in cc)
 
-      by_stage : Stage home here_past g (count_of replies home.site) (epoch_of replies home.site) (ticketed replies home.site) (votes home.site) → Advances scenario g prog commands en queue
+      by_stage : Stage home here_past g (count_of replies home.site) (epoch_of replies home.site) (ticket_of replies home.site) (votes home.site) → Advances scenario g prog commands en queue
       by_stage (NotYet idle over c e t w) =
           let number = next_number home here_past in
           let lines = Begins g number ∷ engine_lines here_past in
@@ -358,20 +351,20 @@ module _ (scenario : Scenario) (whole : IsScenario scenario) (g : Tid) (prog : L
           ticketless w)
       by_stage (Running me named alone over c e t w) =
           let no_ticket = t ∙ ticketless in
-          let below = item_below prog (steps_of replies) step i in
+          let below = item_at-below prog (steps_of replies) step i in
           let counted_few = few_counted replies home.site ticketless in
           let most = fits_prog.few in
           granted_on home (epoch home here_past) (count_of replies home.site) (granted (epoch_start home here_past) (engine_lines here_past) me act) (next_line home here_past g me act)
           (step_granted home (epoch home here_past) step (epoch_start home here_past) (engine_lines here_past) me (next_line home here_past g me act) d here i q due
           (ap (λ o. of_give home here_past (message_of g o)) due ∙ (ap₂ (λ a b. of_give home here_past (To.Work g a b act)) (sym e) (sym c) ∙ next_is home here_past g me act named alone over no_ticket (omega (arith, below, counted_few, most, c))))
           (subst (λ k. Sends (next_line home here_past g me act) (From.Did g (epoch home here_past) k (granted (epoch_start home here_past) (engine_lines here_past) me act))) c (next_sends home here_past g me act))
-          (or_second (epoch_of replies home.site == 0) (epoch home here_past == epoch_of replies home.site) (eq-eqb (epoch home here_past) (epoch_of replies home.site) e))
+          (or_right (epoch_of replies home.site == 0) (epoch home here_past == epoch_of replies home.site) (eq-eqb (epoch home here_past) (epoch_of replies home.site) e))
           (λ k. stage_as home (next_line home here_past g me act ∷ here_past) g (suc (done me)) (suc (count_of replies home.site)) (epoch home here_past) (epoch home here_past) false false None None (ap suc c) refl refl refl (next_stage home here_past g me act named alone over no_ticket))
           ticketless w)
       by_stage (Sealed none n w) = (let gone = (flow.finished home.site n w).0 in let clash = sym gone ∙ l in cc)
 
   -- the taking of the ticket
-  pub take_on : (home : Home) → home_of scenario home.site ≡ Some home → home.site ≡ site_of en → visits home.site prog ≡ true → visits home.site (drop (steps_of replies) prog) ≡ false → ticketed replies home.site ≡ false
+  pub take_on : (home : Home) → home_of scenario home.site ≡ Some home → home.site ≡ site_of en → visits home.site prog ≡ true → visits home.site (drop (steps_of replies) prog) ≡ false → ticket_of replies home.site ≡ false
       → en.due ≡ Due_is.Take home.site (epoch_of replies home.site) (count_of replies home.site) → Advances scenario g prog commands en queue
   unfolding of_give did_reply
   take_on home d here v l t due = by_stage (flow.stages home d v)
@@ -379,7 +372,7 @@ module _ (scenario : Scenario) (whole : IsScenario scenario) (g : Tid) (prog : L
       here_past : SitePast
       here_past = past_of home.site (story_of scenario commands)
 
-      by_stage : Stage home here_past g (count_of replies home.site) (epoch_of replies home.site) (ticketed replies home.site) (votes home.site) → Advances scenario g prog commands en queue
+      by_stage : Stage home here_past g (count_of replies home.site) (epoch_of replies home.site) (ticket_of replies home.site) (votes home.site) → Advances scenario g prog commands en queue
       by_stage (NotYet idle over c e k w) = (let some = flow.worked home.site v l in absurd (omega (arith, some, c)))
       by_stage (Sealed none n w) = (let has = (flow.finished home.site n w).1 in let clash = sym t ∙ has in cc)
       by_stage (Running me named alone over c e k w) =
@@ -390,7 +383,7 @@ module _ (scenario : Scenario) (whole : IsScenario scenario) (g : Tid) (prog : L
             sends = subst (λ n. Sends (ticket_line home here_past g me) (From.Did g (epoch home here_past) n ticket_reply_is)) c (ticket_sends home here_past g me);
             no_wait = refl;
             fits_it = ap (λ o. fits (Some o) (count_of replies home.site) ticket_reply_is) due ∙ ap (λ b. b && true) (eq-eqb (count_of replies home.site) (count_of replies home.site) refl);
-            epoch_fits = or_second (epoch_of replies home.site == 0) (epoch home here_past == epoch_of replies home.site) (eq-eqb (epoch home here_past) (epoch_of replies home.site) e);
+            epoch_fits = or_right (epoch_of replies home.site == 0) (epoch home here_past == epoch_of replies home.site) (eq-eqb (epoch home here_past) (epoch_of replies home.site) e);
             says = λ protocols policy p site message tid. refl;
             stage = stage_as home (ticket_line home here_past g me ∷ here_past) g (suc (done me)) (suc (count_of replies home.site)) (epoch home here_past) (epoch home here_past) true true None (votes home.site)
                 (ap suc c) refl refl (sym w) (ticket_stage home here_past g me named alone over (k ∙ t));
@@ -411,7 +404,7 @@ module _ (scenario : Scenario) (whole : IsScenario scenario) (g : Tid) (prog : L
           heavier_ticket : weight replies votes (members_of scenario prog) + 1 ≤ weight (answer ∷ replies) votes (members_of scenario prog)
           heavier_ticket =
               let (m, i, same) = member_there scenario prog home.site (all_declared home.site v) v in
-              let new : ticketed (answer ∷ replies) home.site ≡ true = ap (some_of (λ (z : Counted). is_ticket z.reply)) (cond-true _ _ _ (same_site_self home.site)) in
-              let tickets = one_more_passes (λ (p : Participant). ticketed replies p.site) (λ (p : Participant). ticketed (answer ∷ replies) p.site) (members_of scenario prog) m (λ p f. ticket_more answer p.site f) i
-              (ap (ticketed replies) same ∙ t) (ap (ticketed (answer ∷ replies)) same ∙ new) in
+              let new : ticket_of (answer ∷ replies) home.site ≡ true = ap (some_of (λ (z : Counted). is_ticket z.reply)) (cond-true _ _ _ (same_site-refl home.site)) in
+              let tickets = one_more_passes (λ (p : Participant). ticket_of replies p.site) (λ (p : Participant). ticket_of (answer ∷ replies) p.site) (members_of scenario prog) m (λ p f. ticket_more answer p.site f) i
+              (ap (ticket_of replies) same ∙ t) (ap (ticket_of (answer ∷ replies)) same ∙ new) in
               omega (arith, tickets)

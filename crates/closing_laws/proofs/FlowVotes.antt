@@ -9,12 +9,13 @@ use Rattle.mdb_base.specs.declared.replies.Edge.{Edge}
 use Rattle.mdb_base.specs.Names.{same_site, same_tid}
 use Rattle.mdb_base.specs.Words.{Among, pick, item_at}
 use Rattle.mdb_base.proofs.Words.{when-true, when-false, cond-false}
+use Rattle.mdb_base.proofs.NameLaws.{same_site-equal, same_site-refl}
+use Rattle.mdb_base.proofs.PlaceLaws.{item_at-front}
 use Rattle.presumptions.specs.declared.Participant.{Participant}
 use Rattle.order_laws.specs.Chains.{In}
 use Rattle.order_laws.specs.Search.{cycle_through}
 use Rattle.order_laws.specs.Tickets.{Ticketed, IsCycle, IsEdge, Precedes, edge_between}
 use Rattle.order_laws.proofs.Lists.{each_at, each_from, each_of_false, each_of_at, among_weaker}
-use Rattle.order_laws.proofs.Names.{same_site_alike, same_site_self}
 use Rattle.order_laws.proofs.Tickets.{cycle_found}
 use Rattle.fed_rules.specs.declared.answers.Answer.TheVariants as Say
 use Rattle.fed_rules.specs.declared.answers.Cause.TheVariants as For
@@ -45,16 +46,17 @@ use Rattle.coord_laws.proofs.Sound.{commit_mark}
 use Rattle.commit_laws.proofs.PreparedLaws.{nowhere}
 use Rattle.coord_laws.specs.Records.{IsCommit}
 use Rattle.closing_laws.specs.Given.{CommittedTicketsArePublished}
-use Rattle.closing_laws.proofs.AloneAt.{IsAlone}
+use Rattle.engine_laws.proofs.AloneAt.{IsAlone}
 use Rattle.closing_laws.proofs.AloneSites.{Stage, prepare_stage}
 use Rattle.closing_laws.proofs.CoordView.{Views, voted, vote_views, due_now, found_where}
-use Rattle.closing_laws.proofs.Dues.{count_of, epoch_of, ticketed, due_of, due_by, due_is, IsDue, AtWork, AtTake, AtPrepare, due_kind}
-use Rattle.federation_laws.proofs.Dues.{steps_of}
+use Rattle.closing_laws.proofs.Dues.{due_of, due_by, due_is, IsDue, AtWork, AtTake, AtPrepare, due_kind}
+use Rattle.federation_laws.proofs.Dues.{steps_of, count_of, epoch_of, ticket_of}
 use Rattle.closing_laws.proofs.Exchange.{IsExchange, given, both, past_given, other_given, coord_both, past_both, sent_both, calm_both, goes_on}
 use Rattle.closing_laws.proofs.Flow.{Entry, site_of, place_of, IsQueued, members_of, Flow, member_there}
 use Rattle.closing_laws.proofs.FlowSteps.{weight, weight_of, Advances, one_more_passes}
-use Rattle.closing_laws.proofs.Onward.{item_more, one_home}
+use Rattle.closing_laws.proofs.Onward.{one_home}
 use Rattle.coord_laws.proofs.Rules.{open_undecided}
+use Rattle.federation_laws.proofs.CommitOnce.{ticket-vote}
 
 -- a commit of an attempt is its record
 pub commit_in : (g : Tid) (rs : List CoordRecord) (c : Ticketed) → In c (commits rs) → c.tid ≡ g → Among (IsCommit g) rs
@@ -66,15 +68,10 @@ commit_in g (Rec.Checkpoint sum ∷ rs) c i e = inr (commit_in g rs c i e)
 commit_in g (Rec.Commit t ks ∷ rs) c (inl same) e = inl (ap (λ (z : Ticketed). z.tid) same ∙ e)
 commit_in g (Rec.Commit t ks ∷ rs) c (inr i) e = inr (commit_in g rs c i e)
 
--- the tickets that are named are those of the votes
-named_vote : (site : SiteId) (o : Option ℕ) (k : SiteTicket) → vote_ticket site o ≡ Some k → (o ≡ Some k.ticket) × (site ≡ k.site)
-named_vote site None k e = cc
-named_vote site (Some n) k e = (let same : record { site = site; ticket = n } ≡ k = cc in (ap (λ (z : SiteTicket). Some z.ticket) same, ap (λ (z : SiteTicket). z.site) same))
-
 pub named_votes : (past : CoordPast) (g : Tid) (members : List Participant) (k : SiteTicket) → In k (vote_tickets past g members) → vote_at past g k.site ≡ Some k.ticket
 named_votes past g members k i =
     let (m, j, e) = found_where' in
-    let n = named_vote m.site (vote_at past g m.site) k e in ap (vote_at past g) (sym n.1) ∙ n.0
+    let n = ticket-vote m.site (vote_at past g m.site) k e in ap (vote_at past g) (sym n.1) ∙ n.0
   where
     found_where' : (m : Participant) × In m members × (vote_ticket m.site (vote_at past g m.site) ≡ Some k)
     found_where' = found_where (λ (m : Participant). vote_ticket m.site (vote_at past g m.site)) members k i
@@ -123,7 +120,7 @@ module _ (published_law : CommittedTicketsArePublished) (scenario : Scenario) (w
     (me : Run) (n : ℕ) (own : me.tid ≡ g) (alone : IsAlone (epoch_start home (past_of home.site (story_of scenario commands))) (engine_lines (past_of home.site (story_of scenario commands))) me)
     (gives : of_give home (past_of home.site (story_of scenario commands)) (message_of g en.due) ≡ votes_yes home (past_of home.site (story_of scenario commands)) g (epoch home (past_of home.site (story_of scenario commands))) (done me) me n)
     (ticket : me.ticket ≡ Some n) (visited : visits home.site prog ≡ true) (none_left : visits home.site (drop (steps_of (counted (coord_past (story_of scenario commands)) g)) prog) ≡ false)
-    (has_ticket_here : ticketed (counted (coord_past (story_of scenario commands)) g) home.site ≡ true) (unvoted_here : vote_at (coord_past (story_of scenario commands)) g home.site ≡ None)
+    (has_ticket_here : ticket_of (counted (coord_past (story_of scenario commands)) g) home.site ≡ true) (unvoted_here : vote_at (coord_past (story_of scenario commands)) g home.site ≡ None)
     (due : en.due ≡ Due_is.Prepare home.site (epoch_of (counted (coord_past (story_of scenario commands)) g) home.site) (count_of (counted (coord_past (story_of scenario commands)) g) home.site)) where
   abbrev story : Story
   story = story_of scenario commands
@@ -175,13 +172,13 @@ module _ (published_law : CommittedTicketsArePublished) (scenario : Scenario) (w
   }
 
   vote_own : now_votes home.site ≡ Some n
-  vote_own = ap (λ b. or_vote (cond b (Some n) None) (votes home.site)) (same_site_self home.site)
+  vote_own = ap (λ b. or_vote (cond b (Some n) None) (votes home.site)) (same_site-refl home.site)
 
   vote_other : (site : SiteId) → same_site home.site site ≡ false → now_votes site ≡ votes site
   vote_other site q = ap (λ b. or_vote (cond b (Some n) None) (votes site)) q
 
   same_home : (other : Home) → home_of scenario other.site ≡ Some other → same_site home.site other.site ≡ true → home ≡ other
-  same_home other d q = one_home scenario home other declared d (same_site_alike home.site other.site q)
+  same_home other d q = one_home scenario home other declared d (same_site-equal home.site other.site q)
 
   not_away : visits home.site prog ≡ false → ⊥
   not_away v = (let clash = sym visited ∙ v in cc)
@@ -201,22 +198,22 @@ module _ (published_law : CommittedTicketsArePublished) (scenario : Scenario) (w
       by_test : (b : Bool) → same_site home.site site ≡ b → k.ticket < m
       by_test false q = flow.above site m commit k (sym (vote_other site q) ∙ v) i j f
       by_test true q =
-          let at = same_site_alike home.site site q in
+          let at = same_site-equal home.site site q in
           let same : n ≡ m = some_same (sym vote_own ∙ (ap now_votes at ∙ v)) in
           subst (λ z. k.ticket < z) same (own_above commit k i j (f ∙ sym at))
 
   -- who has voted is done
-  all_finished : (site : SiteId) (m : ℕ) → now_votes site ≡ Some m → (visits site (drop (steps_of replies) prog) ≡ false) × (ticketed replies site ≡ true)
+  all_finished : (site : SiteId) (m : ℕ) → now_votes site ≡ Some m → (visits site (drop (steps_of replies) prog) ≡ false) × (ticket_of replies site ≡ true)
   all_finished site m v = by_test (same_site home.site site) refl
     where
-      by_test : (b : Bool) → same_site home.site site ≡ b → (visits site (drop (steps_of replies) prog) ≡ false) × (ticketed replies site ≡ true)
+      by_test : (b : Bool) → same_site home.site site ≡ b → (visits site (drop (steps_of replies) prog) ≡ false) × (ticket_of replies site ≡ true)
       by_test false q = flow.finished site m (sym (vote_other site q) ∙ v)
-      by_test true q = subst (λ s. (visits s (drop (steps_of replies) prog) ≡ false) × (ticketed replies s ≡ true)) (same_site_alike home.site site q) (none_left, has_ticket_here)
+      by_test true q = subst (λ s. (visits s (drop (steps_of replies) prog) ≡ false) × (ticket_of replies s ≡ true)) (same_site-equal home.site site q) (none_left, has_ticket_here)
 
   not_due : (site : SiteId) (m : ℕ) (o : Due) → now_votes site ≡ Some m → due_of prog replies now_votes site ≡ Some o → ⊥
   not_due site m o v f = by_kind (due_kind prog replies now_votes site o f)
     where
-      done_there : (visits site (drop (steps_of replies) prog) ≡ false) × (ticketed replies site ≡ true)
+      done_there : (visits site (drop (steps_of replies) prog) ≡ false) × (ticket_of replies site ≡ true)
       done_there = all_finished site m v
 
       by_kind : IsDue prog replies (now_votes site) site o → ⊥
@@ -241,18 +238,18 @@ module _ (published_law : CommittedTicketsArePublished) (scenario : Scenario) (w
     pub past_there : (site : SiteId) → same_site home.site site ≡ false → past_of site (story_of scenario answered) ≡ past_of site story
     past_there site q = past_both scenario commands home en.place (message_of g en.due) x (From.Vote g (Some n)) y ex site ∙ other_given scenario commands home en.place (message_of g en.due) x (From.Vote g (Some n)) y ex site q
 
-    pub stage_at : (other : Home) → home_of scenario other.site ≡ Some other → visits other.site prog ≡ true → Stage other (past_of other.site (story_of scenario answered)) g (count_of replies other.site) (epoch_of replies other.site) (ticketed replies other.site) (now_votes other.site)
+    pub stage_at : (other : Home) → home_of scenario other.site ≡ Some other → visits other.site prog ≡ true → Stage other (past_of other.site (story_of scenario answered)) g (count_of replies other.site) (epoch_of replies other.site) (ticket_of replies other.site) (now_votes other.site)
     stage_at other d v = by_test (same_site home.site other.site) refl
       where
-        by_test : (b : Bool) → same_site home.site other.site ≡ b → Stage other (past_of other.site (story_of scenario answered)) g (count_of replies other.site) (epoch_of replies other.site) (ticketed replies other.site) (now_votes other.site)
+        by_test : (b : Bool) → same_site home.site other.site ≡ b → Stage other (past_of other.site (story_of scenario answered)) g (count_of replies other.site) (epoch_of replies other.site) (ticket_of replies other.site) (now_votes other.site)
         by_test true q =
-            subst (λ h. Stage h (past_of h.site (story_of scenario answered)) g (count_of replies h.site) (epoch_of replies h.site) (ticketed replies h.site) (now_votes h.site)) (same_home other d q)
-            (subst (λ p. Stage home p g (count_of replies home.site) (epoch_of replies home.site) (ticketed replies home.site) (now_votes home.site)) (sym past_here)
-            (subst (λ z. Stage home (x ∷ here_past) g (count_of replies home.site) (epoch_of replies home.site) (ticketed replies home.site) z) (sym vote_own)
-            (prepare_stage home here_past g me n (count_of replies home.site) (epoch_of replies home.site) (ticketed replies home.site) own alone)))
+            subst (λ h. Stage h (past_of h.site (story_of scenario answered)) g (count_of replies h.site) (epoch_of replies h.site) (ticket_of replies h.site) (now_votes h.site)) (same_home other d q)
+            (subst (λ p. Stage home p g (count_of replies home.site) (epoch_of replies home.site) (ticket_of replies home.site) (now_votes home.site)) (sym past_here)
+            (subst (λ z. Stage home (x ∷ here_past) g (count_of replies home.site) (epoch_of replies home.site) (ticket_of replies home.site) z) (sym vote_own)
+            (prepare_stage home here_past g me n (count_of replies home.site) (epoch_of replies home.site) (ticket_of replies home.site) own alone)))
         by_test false q =
-            subst (λ p. Stage other p g (count_of replies other.site) (epoch_of replies other.site) (ticketed replies other.site) (now_votes other.site)) (sym (past_there other.site q))
-            (subst (λ z. Stage other (past_of other.site story) g (count_of replies other.site) (epoch_of replies other.site) (ticketed replies other.site) z) (sym (vote_other other.site q)) (flow.stages other d v))
+            subst (λ p. Stage other p g (count_of replies other.site) (epoch_of replies other.site) (ticket_of replies other.site) (now_votes other.site)) (sym (past_there other.site q))
+            (subst (λ z. Stage other (past_of other.site story) g (count_of replies other.site) (epoch_of replies other.site) (ticket_of replies other.site) z) (sym (vote_other other.site q)) (flow.stages other d v))
 
     pub doubt_at : (other : Home) (tid : Tid) → home_of scenario other.site ≡ Some other → same_tid g tid ≡ false → doubt_of (records other (past_of other.site (story_of scenario answered))) tid ≡ None
     unfolding votes_yes
@@ -270,7 +267,7 @@ module _ (published_law : CommittedTicketsArePublished) (scenario : Scenario) (w
       where
         by_test : (b : Bool) → same_site home.site other.site ≡ b → (live other (past_of other.site (story_of scenario answered)) tid ≡ None) × (doubt_of (records other (past_of other.site (story_of scenario answered))) tid ≡ None)
         by_test false q = let f = flow.away other tid d v in (ap (λ p. live other p tid) (past_there other.site q) ∙ f.0, ap (λ p. doubt_of (records other p) tid) (past_there other.site q) ∙ f.1)
-        by_test true q = absurd (not_away (ap (λ s. visits s prog) (same_site_alike home.site other.site q) ∙ v))
+        by_test true q = absurd (not_away (ap (λ s. visits s prog) (same_site-equal home.site other.site q) ∙ v))
 
     pub delivered_on : (m : ℕ) → deliver_all scenario (suc m) (map place_of (en ∷ queue)) commands ≡ deliver_all scenario m (map place_of queue ++ places_of mid (AtCoordinator y)) answered
     delivered_on m =
@@ -289,13 +286,13 @@ module _ (published_law : CommittedTicketsArePublished) (scenario : Scenario) (w
       program_is = ap (λ p. program p g) (coord_now y ex) ∙ flow.program_is;
       others = λ tid q. ap (λ p. standing (protocols scenario) p tid) (coord_now y ex) ∙ views.others (protocols scenario) tid (flow.others tid q);
       stages = λ other d v.
-          subst (λ rs. Stage other (past_of other.site (story_of scenario (answered y ex))) g (count_of rs other.site) (epoch_of rs other.site) (ticketed rs other.site) (vote_at (coord_past (story_of scenario (answered y ex))) g other.site)) (sym counted_now)
-          (subst (λ z. Stage other (past_of other.site (story_of scenario (answered y ex))) g (count_of replies other.site) (epoch_of replies other.site) (ticketed replies other.site) z) (sym (vote_now other.site)) (stage_at y ex other d v));
+          subst (λ rs. Stage other (past_of other.site (story_of scenario (answered y ex))) g (count_of rs other.site) (epoch_of rs other.site) (ticket_of rs other.site) (vote_at (coord_past (story_of scenario (answered y ex))) g other.site)) (sym counted_now)
+          (subst (λ z. Stage other (past_of other.site (story_of scenario (answered y ex))) g (count_of replies other.site) (epoch_of replies other.site) (ticket_of replies other.site) z) (sym (vote_now other.site)) (stage_at y ex other d v));
       doubts = doubt_at y ex;
       away = away_at y ex;
       above = λ site m commit k v i j f. all_above site m commit k (sym (vote_now site) ∙ v) (subst (λ cs. In commit cs) (ap (λ p. commits (Coordinator.records p)) (coord_now y ex) ∙ views.commits_are) i) j f;
-      finished = λ site m v. subst (λ rs. (visits site (drop (steps_of rs) prog) ≡ false) × (ticketed rs site ≡ true)) (sym counted_now) (all_finished site m (sym (vote_now site) ∙ v));
-      tickets_last = λ site t. subst (λ rs. visits site (drop (steps_of rs) prog) ≡ false) (sym counted_now) (flow.tickets_last site (sym (ap (λ rs. ticketed rs site) counted_now) ∙ t));
+      finished = λ site m v. subst (λ rs. (visits site (drop (steps_of rs) prog) ≡ false) × (ticket_of rs site ≡ true)) (sym counted_now) (all_finished site m (sym (vote_now site) ∙ v));
+      tickets_last = λ site t. subst (λ rs. visits site (drop (steps_of rs) prog) ≡ false) (sym counted_now) (flow.tickets_last site (sym (ap (λ rs. ticket_of rs site) counted_now) ∙ t));
       worked = λ site v l. subst (λ rs. 1 ≤ count_of rs site) (sym counted_now) (flow.worked site v (sym (ap (λ rs. visits site (drop (steps_of rs) prog)) counted_now) ∙ l));
       queued = each_from (IsQueued g (story_of scenario (answered y ex))) queue queued_now;
       apart = flow.apart.1;
@@ -347,18 +344,18 @@ module _ (published_law : CommittedTicketsArePublished) (scenario : Scenario) (w
           record {
             is_due = same_due (site_of entry) (elsewhere entry i) ∙ was.is_due;
             there = ap (λ ms. item_at ms entry.place) (sent_both scenario commands home en.place (message_of g en.due) x (From.Vote g (Some n)) y ex (site_of entry))
-                ∙ item_more (sent_to (site_of entry) story) [] entry.place (message_of g entry.due) was.there;
+                ∙ item_at-front (sent_to (site_of entry) story) [] entry.place (message_of g entry.due) was.there;
           }
 
       whole_now : (site : SiteId) (o : Due) → outstanding (coord_past (story_of scenario (answered y ex))) g site ≡ Some o → Among (λ entry. site_of entry ≡ site) queue
       whole_now site o f = by_test (same_site home.site site) refl
         where
           by_test : (b : Bool) → same_site home.site site ≡ b → Among (λ entry. site_of entry ≡ site) queue
-          by_test true q = absurd (not_due site n o (ap now_votes (sym (same_site_alike home.site site q)) ∙ vote_own) (sym (due_after site) ∙ f))
+          by_test true q = absurd (not_due site n o (ap now_votes (sym (same_site-equal home.site site q)) ∙ vote_own) (sym (due_after site) ∙ f))
           by_test false q = elim (flow.whole site o (sym (same_due site q) ∙ f)) [
             | inl at ↦
                 let t : same_site site site ≡ false = ap (λ s. same_site s site) (sym (here ∙ at)) ∙ q in
-                let yes = same_site_self site in
+                let yes = same_site-refl site in
                 let clash = sym t ∙ yes in cc
             | inr i ↦ i
           ]

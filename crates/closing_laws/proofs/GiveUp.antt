@@ -8,8 +8,10 @@ use Rattle.fed_rules.specs.declared.commands.Command.TheVariants as Cmd
 use Rattle.fed_rules.specs.declared.scenario.Scenario.{Scenario}
 use Rattle.fed_rules.specs.Closing.{for_each, undecided, give_up}
 use Rattle.fed_rules.specs.CoordPast.{standing, begun_tids, is_open, known_decision}
-use Rattle.fed_rules.specs.Story.{Story, coord_past, happens, story_of}
-use Rattle.commit_laws.proofs.Agreed.{coord-sound}
+use Rattle.fed_rules.specs.Sessions.{Session}
+use Rattle.fed_rules.specs.Story.{Story, coord_past, happens, story_in}
+use Rattle.commit_laws.proofs.FoundSessions.{CoordinatorFits, session_sound}
+use Rattle.commit_laws.proofs.Links.{member_of}
 use Rattle.commit_laws.proofs.PreparedLaws.{nowhere}
 use Rattle.rules_laws.proofs.RisingLists.{rising_in}
 use Rattle.closing_laws.proofs.CoordTurns.{gentle_late, late_decides}
@@ -27,17 +29,17 @@ record GivesUp (scenario : Scenario) (tids : List Tid) (before now : Story) : Ty
   onward : Onward scenario before now
   decided : (tid : Tid) → In tid tids → undecided_in scenario now tid ≡ false
 
-gives_up : (scenario : Scenario) (tids : List Tid) (commands : List Command) → IsCalm (story_of scenario commands)
-    → GivesUp scenario tids (story_of scenario commands) (story_of scenario (for_each (λ tid more. Cmd.Late tid ∷ more) tids commands))
-gives_up scenario [] commands c = record { onward = onward_here scenario (story_of scenario commands) c; decided = λ tid i. absurd i }
-gives_up scenario (tid ∷ tids) commands c =
-    let story = story_of scenario commands in
-    let first = onward_next scenario story (Cmd.Late tid) (happens scenario story (Cmd.Late tid)) c (gentle_late scenario commands tid c) in
-    let rest = gives_up scenario tids (Cmd.Late tid ∷ commands) first.calm in
+gives_up : (session : Session) (fits : CoordinatorFits session) (tids : List Tid) (commands : List Command) → IsCalm (story_in session commands)
+    → GivesUp session.plan tids (story_in session commands) (story_in session (for_each (λ tid more. Cmd.Late tid ∷ more) tids commands))
+gives_up session fits [] commands c = record { onward = onward_here session.plan (story_in session commands) c; decided = λ tid i. absurd i }
+gives_up session fits (tid ∷ tids) commands c =
+    let story = story_in session commands in
+    let first = onward_next session.plan story (Cmd.Late tid) (happens session.plan story (Cmd.Late tid)) c (gentle_late session fits commands tid c) in
+    let rest = gives_up session fits tids (Cmd.Late tid ∷ commands) first.calm in
     record {
-      onward = onward_on scenario story (story_of scenario (Cmd.Late tid ∷ commands)) _ first rest.onward;
+      onward = onward_on session.plan story (story_in session (Cmd.Late tid ∷ commands)) _ first rest.onward;
       decided = λ other i. elim i [
-        | inl e ↦ rest.onward.decided other (subst (λ t. undecided_in scenario (story_of scenario (Cmd.Late tid ∷ commands)) t ≡ false) e (late_decides scenario commands tid c))
+        | inl e ↦ rest.onward.decided other (subst (λ t. undecided_in session.plan (story_in session (Cmd.Late tid ∷ commands)) t ≡ false) e (late_decides session fits commands tid c))
         | inr j ↦ rest.decided other j
       ];
     }
@@ -47,15 +49,15 @@ pub record IsDecided (scenario : Scenario) (before now : Story) : Type 0 where
   pub onward : Onward scenario before now
   pub decided : (tid : Tid) → is_undecided (standing (protocols scenario) (coord_past now) tid) ≡ false
 
-pub given_up : (scenario : Scenario) (commands : List Command) → IsCalm (story_of scenario commands) → IsDecided scenario (story_of scenario commands) (story_of scenario (give_up scenario commands))
-given_up scenario commands c = record { onward = all.onward; decided = λ tid. by_test tid (undecided_in scenario (story_of scenario commands) tid) refl }
+pub given_up : (session : Session) (fits : CoordinatorFits session) (commands : List Command) → IsCalm (story_in session commands) → IsDecided session.plan (story_in session commands) (story_in session (give_up session commands))
+given_up session fits commands c = record { onward = all.onward; decided = λ tid. by_test tid (undecided_in session.plan (story_in session commands) tid) refl }
   where
-    all : GivesUp scenario (undecided (story_of scenario commands)) (story_of scenario commands) (story_of scenario (give_up scenario commands))
-    all = gives_up scenario (undecided (story_of scenario commands)) commands c
+    all : GivesUp session.plan (undecided (story_in session commands)) (story_in session commands) (story_in session (give_up session commands))
+    all = gives_up session fits (undecided (story_in session commands)) commands c
 
-    by_test : (tid : Tid) (b : Bool) → undecided_in scenario (story_of scenario commands) tid ≡ b → undecided_in scenario (story_of scenario (give_up scenario commands)) tid ≡ false
+    by_test : (tid : Tid) (b : Bool) → undecided_in session.plan (story_in session commands) tid ≡ b → undecided_in session.plan (story_in session (give_up session commands)) tid ≡ false
     by_test tid false e = all.onward.decided tid e
     by_test tid true e =
-        all.decided tid (rising_in _ tid (in_those (is_open (coord_past (story_of scenario commands))) tid (begun_tids (coord_past (story_of scenario commands)))
-        (begun_in (coord_past (story_of scenario commands)) tid ((coord-sound scenario nowhere tid commands).undecided e))
-        (undecided_open (is_open (coord_past (story_of scenario commands)) tid) (known_decision (protocols scenario) (coord_past (story_of scenario commands)) tid) e)))
+        all.decided tid (rising_in _ tid (in_those (is_open (coord_past (story_in session commands))) tid (begun_tids (coord_past (story_in session commands)))
+        (begun_in (coord_past (story_in session commands)) tid ((session_sound session fits (member_of nowhere) tid commands).undecided e))
+        (undecided_open (is_open (coord_past (story_in session commands)) tid) (known_decision (protocols session.plan) (coord_past (story_in session commands)) tid) e)))

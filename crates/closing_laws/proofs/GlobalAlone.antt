@@ -8,12 +8,12 @@ use Rattle.mdb_base.specs.Names.{same_site, same_tx}
 use Rattle.mdb_base.specs.Programs.{IsProgram}
 use Rattle.mdb_base.specs.Words.{Each, Among, those, first_where, item_at}
 use Rattle.mdb_base.proofs.ListLaws.{each_map}
-use Rattle.mdb_base.proofs.NameLaws.{same_tid-refl}
+use Rattle.mdb_base.proofs.NameLaws.{same_tid-refl, same_site-equal, same_site-refl}
 use Rattle.mdb_base.proofs.Words.{when-false, cond-true, cond-false}
+use Rattle.mdb_base.proofs.OptionLaws.{pick_some, pick_none}
 use Rattle.presumptions.specs.declared.Participant.{Participant}
 use Rattle.order_laws.specs.Chains.{In}
 use Rattle.order_laws.proofs.Lists.{each_at, each_from, those_in, is_among}
-use Rattle.order_laws.proofs.Names.{same_site_alike, same_site_self}
 use Rattle.fed_rules.specs.declared.answers.Answer.TheVariants as Say
 use Rattle.fed_rules.specs.declared.commands.Command.{Command}
 use Rattle.fed_rules.specs.declared.commands.Command.TheVariants as Cmd
@@ -30,6 +30,7 @@ use Rattle.fed_rules.specs.EngineLines.{IsRight}
 use Rattle.fed_rules.specs.Happenings.{quiet, tripped}
 use Rattle.fed_rules.specs.Runs.{Start, EngineLine, Run, run_at, committed, aborted}
 use Rattle.fed_rules.specs.Scenarios.{home_of, home_at, local_home, protocols, global_program, policy}
+use Rattle.fed_rules.specs.Sessions.{fresh}
 use Rattle.fed_rules.specs.Site.{next_number, is_over}
 use Rattle.fed_rules.specs.SitePast.{SitePast, records, epoch_start, engine_lines, live_one, live, is_closed}
 use Rattle.fed_rules.specs.SitePast as Site_past
@@ -45,18 +46,16 @@ use Rattle.closing_laws.specs.Alone.{IsFinished, GlobalsCommitAlone}
 use Rattle.closing_laws.specs.Given.{UnbegunAreOpen, CommittedTicketsArePublished}
 use Rattle.closing_laws.proofs.AloneSites.{IsIdle, Stage, NotYet}
 use Rattle.closing_laws.proofs.Calm.{IsReady, ready_next}
-use Rattle.closing_laws.proofs.Clear.{pick_some}
 use Rattle.closing_laws.proofs.CoordView.{Apart, apart_those, protocols_apart, found_where, found_apart, first_due}
 use Rattle.closing_laws.proofs.Delivered.{item_behind}
-use Rattle.closing_laws.proofs.Dues.{count_of, epoch_of, ticketed, due_is, IsDue, AtWork, AtTake, AtPrepare, due_kind, due_there}
-use Rattle.federation_laws.proofs.Dues.{steps_of}
+use Rattle.closing_laws.proofs.Dues.{due_is, IsDue, AtWork, AtTake, AtPrepare, due_kind, due_there}
+use Rattle.federation_laws.proofs.Dues.{steps_of, count_of, epoch_of, ticket_of}
 use Rattle.closing_laws.proofs.Flow.{site_of, place_of, IsQueued, members_of, Flow, entry_for, places_for, apart_entries, in_entries, entry_among, member_there, gone_closed}
 use Rattle.closing_laws.proofs.GlobalFlow.{flows}
-use Rattle.closing_laws.proofs.LocalAlone.{pick_none}
-use Rattle.closing_laws.proofs.Locals.{found_in}
 use Rattle.closing_laws.proofs.Quiet.{IsQuiet, rests_quiet}
 use Rattle.fed_rules.specs.Policies.{Policy}
 use Rattle.fed_rules.specs.CoordCommands.{go_request, go_next}
+use Rattle.site_history.proofs.LiveOnes.{found_in}
 
 go_here : (protocols : List Participant) (policy : Policy) (past : CoordPast) (tid : Tid) (steps : List Step) → IsReady Coordinator.trip_of past → coord_line protocols policy past (Ev.Go tid steps) ≡ of_go protocols past tid steps
 unfolding coord_line answered tripped
@@ -124,7 +123,7 @@ few_members (step ∷ steps) ms h v =
             → suc (length ks) ≤ suc (length (cond (not b) (k ∷ those (λ (z : Participant). not (same_site step.site z.site)) ks) (those (λ (z : Participant). not (same_site step.site z.site)) ks)))
         by_test false q less = omega (arith, less)
         by_test true q less =
-            let far = all_off ks (each_from (λ (z : Participant). same_site step.site z.site ≡ false) ks (λ z i. ap (λ s. same_site s z.site) (same_site_alike step.site k.site q) ∙ each_at (λ (w : Participant). same_site k.site w.site ≡ false) z ks e.0 i)) in
+            let far = all_off ks (each_from (λ (z : Participant). same_site step.site z.site ≡ false) ks (λ z i. ap (λ s. same_site s z.site) (same_site-equal step.site k.site q) ∙ each_at (λ (w : Participant). same_site k.site w.site ≡ false) z ks e.0 i)) in
             omega (arith, far)
 
 first_none : {A : Type 0} (test : A → Bool) (xs : List A) → ((x : A) → test x ≡ false) → first_where test xs ≡ None
@@ -203,7 +202,7 @@ global_commits unbegun published_law rights epochs scenario commands tx steps wh
     past_is : (site : SiteId) → past_of site (story_of scenario begun) ≡ past_of site story
     past_is site = ap (λ h. with_site site h (past_of site story)) told
 
-    places : last_sends scenario begun ≡ map place_of (map (entry_for story) dues)
+    places : last_sends (fresh scenario) begun ≡ map place_of (map (entry_for story) dues)
     places = ap (places_of story) told ∙ places_for g story y dues refl
 
     program_first : program first g ≡ steps
@@ -262,7 +261,7 @@ global_commits unbegun published_law rights epochs scenario commands tx steps wh
         by_steps : (ss : List Step) → steps ≡ ss → Among (λ (m : Participant). vote_at (coord_past (story_of scenario begun)) g m.site ≡ None) (members_of scenario steps)
         by_steps [] e = (let some = fits_it.some in let none = ap length e in absurd (omega (arith, some, none)))
         by_steps (step ∷ ss) e =
-            let v : visits step.site steps ≡ true = ap (visits step.site) e ∙ ap (λ b. b || visits step.site ss) (same_site_self step.site) in
+            let v : visits step.site steps ≡ true = ap (visits step.site) e ∙ ap (λ b. b || visits step.site ss) (same_site-refl step.site) in
             let (m, i, at) = member_there scenario steps step.site (all_declared step.site v) v in
             is_among (λ (k : Participant). vote_at (coord_past (story_of scenario begun)) g k.site ≡ None) m (members_of scenario steps) i (ap (λ p. vote_at p g m.site) now_is ∙ vote_first m.site)
 
@@ -284,14 +283,14 @@ global_commits unbegun published_law rights epochs scenario commands tx steps wh
           ap (λ p. standing (protocols scenario) p tid) now_is
           ∙ (ap (λ b. standing_of (cond b true (is_open past tid)) (cond b None (known_decision (protocols scenario) past tid))) r ∙ q.gone tid);
       stages = λ home d v.
-          subst (λ rs. Stage home (past_of home.site (story_of scenario begun)) g (count_of rs home.site) (epoch_of rs home.site) (ticketed rs home.site) (vote_at (coord_past (story_of scenario begun)) g home.site)) (sym counted_now)
+          subst (λ rs. Stage home (past_of home.site (story_of scenario begun)) g (count_of rs home.site) (epoch_of rs home.site) (ticket_of rs home.site) (vote_at (coord_past (story_of scenario begun)) g home.site)) (sym counted_now)
           (subst (λ p. Stage home p g 0 0 false (vote_at (coord_past (story_of scenario begun)) g home.site)) (sym (past_is home.site))
           (NotYet (idle_site rights epochs scenario commands home d q) (over_none home d) refl refl refl (vote_now home.site)));
       doubts = λ home tid d r. ap (λ p. doubt_of (records home p) tid) (past_is home.site) ∙ q.settled home tid d;
       away = λ home tid d v. (ap (λ p. live home p tid) (past_is home.site) ∙ q.clear home tid d, ap (λ p. doubt_of (records home p) tid) (past_is home.site) ∙ q.settled home tid d);
       above = λ site n commit k v i j f. (let none = vote_now site in let clash = sym none ∙ v in cc);
       finished = λ site n v. (let none = vote_now site in let clash = sym none ∙ v in cc);
-      tickets_last = λ site t. (let none = ap (λ rs. ticketed rs site) counted_now in let clash = sym none ∙ t in cc);
+      tickets_last = λ site t. (let none = ap (λ rs. ticket_of rs site) counted_now in let clash = sym none ∙ t in cc);
       worked = λ site v l. (let at_first = sym (ap (λ rs. visits site (drop (steps_of rs) steps)) counted_now) ∙ l in let clash = sym v ∙ at_first in cc);
       queued = each_from (IsQueued g (story_of scenario begun)) (map (entry_for story) dues) (λ en i. (let (due, j, same) = in_entries story dues en i in subst (IsQueued g (story_of scenario begun)) same (queued_one due j)));
       apart = apart_entries story dues dues_apart;

@@ -7,6 +7,7 @@ use Rattle.mdb_base.specs.Names.{same_site, same_tid}
 use Rattle.mdb_base.specs.Programs.{IsProgram}
 use Rattle.mdb_base.specs.Words.{Among, those, how_many, item_at}
 use Rattle.mdb_base.proofs.NameLaws.{same_tid-refl}
+use Rattle.mdb_base.proofs.TestLaws.{how_many_at_most}
 use Rattle.presumptions.specs.declared.Decision.TheVariants as Decided_as
 use Rattle.presumptions.specs.declared.Participant.{Participant}
 use Rattle.presumptions.specs.Table.{acks}
@@ -43,16 +44,16 @@ use Rattle.coord_laws.proofs.Lines.{coord_lines}
 use Rattle.commit_laws.proofs.PreparedLaws.{nowhere}
 use Rattle.closing_laws.specs.Alone.{IsFinished}
 use Rattle.closing_laws.specs.Given.{CommittedTicketsArePublished}
-use Rattle.closing_laws.proofs.AloneAt.{IsAlone}
+use Rattle.engine_laws.proofs.AloneAt.{IsAlone}
 use Rattle.closing_laws.proofs.AloneSites.{Stage, NotYet, Running, Sealed, prepare_is}
 use Rattle.closing_laws.proofs.Calm.{takes}
 use Rattle.closing_laws.proofs.CoordView.{voted, vote_views}
 use Rattle.closing_laws.proofs.Declared.{IsMemberHome, member_home}
-use Rattle.closing_laws.proofs.Decisions.{commit_of, place_at, IsTold, all_told, told_quiet}
+use Rattle.closing_laws.proofs.Decisions.{commit_of, IsTold, all_told, told_quiet}
 use Rattle.closing_laws.proofs.Delivered.{item_behind, IsWaiting}
-use Rattle.closing_laws.proofs.Dues.{count_of, epoch_of, ticketed, IsDue, AtWork, AtTake, AtPrepare, due_of, due_kind, unvoted_due, due_is}
-use Rattle.federation_laws.proofs.Dues.{steps_of}
-use Rattle.closing_laws.proofs.EndKnown.{first_sent}
+use Rattle.closing_laws.proofs.Dues.{IsDue, AtWork, AtTake, AtPrepare, due_of, due_kind, unvoted_due, due_is}
+use Rattle.federation_laws.proofs.Dues.{steps_of, count_of, epoch_of, ticket_of}
+use Rattle.closing_laws.proofs.EndKnown.{first_sent, place_at}
 use Rattle.closing_laws.proofs.Exchange.{IsExchange, sent_both, calm_both, sent_given}
 use Rattle.closing_laws.proofs.Flow.{Entry, site_of, place_of, members_of, Flow, member_there}
 use Rattle.closing_laws.proofs.FlowSteps.{weight_of, Advances, one_more_passes, home_here, due_at_home, work_on, take_on}
@@ -74,20 +75,12 @@ missing_members scenario commands tid m i =
         let same : members ≡ participants (protocols scenario) past tid = ((coord-sound scenario nowhere tid commands).names members e).1 in
         subst (λ ms. In m ms) same (those_in (λ (k : Participant). acks k.protocol Decided_as.Commit) m members j).0
 
-at_most : {A : Type 0} (f : A → Bool) (xs : List A) → how_many f xs ≤ length xs
-at_most f [] = omega arith
-at_most f (x ∷ xs) = by_test (f x) (at_most f xs)
-  where
-    by_test : (b : Bool) → how_many f xs ≤ length xs → cond b (suc (how_many f xs)) (how_many f xs) ≤ suc (length xs)
-    by_test true le = omega (arith, le)
-    by_test false le = omega (arith, le)
-
 -- an attempt isn't heavier than all that it has to do, while a vote is missing
 not_all : (votes : SiteId → Option ℕ) (ms : List Participant) → Among (λ (m : Participant). votes m.site ≡ None) ms → how_many (λ (m : Participant). is_some (votes m.site)) ms + 1 ≤ length ms
 not_all votes ms a =
     let (m, i, e) = among_is (λ (m : Participant). votes m.site ≡ None) ms a in
     let more = one_more_passes (λ (k : Participant). is_some (votes k.site)) (λ (k : Participant). true) ms m (λ k f. refl) i (ap is_some e) refl in
-    let most = at_most (λ (k : Participant). true) ms in omega (arith, more, most)
+    let most = how_many_at_most (λ (k : Participant). true) ms in omega (arith, more, most)
 
 module _ (published_law : CommittedTicketsArePublished) (scenario : Scenario) (whole : IsScenario scenario) (g : Tid) (global : local_home scenario g.tx ≡ None) (prog : List Step) (fits_prog : IsProgram prog)
     (all_declared : (site : SiteId) → visits site prog ≡ true → Among (λ (p : Participant). p.site ≡ site) (protocols scenario)) where
@@ -102,7 +95,7 @@ module _ (published_law : CommittedTicketsArePublished) (scenario : Scenario) (w
       (me : Run) (n : ℕ) (own : me.tid ≡ g) (alone : IsAlone (epoch_start home (past_of home.site (story_of scenario commands))) (engine_lines (past_of home.site (story_of scenario commands))) me)
       (gives : of_give home (past_of home.site (story_of scenario commands)) (message_of g en.due) ≡ votes_yes home (past_of home.site (story_of scenario commands)) g (epoch home (past_of home.site (story_of scenario commands))) (done me) me n)
       (ticket : me.ticket ≡ Some n) (visited : visits home.site prog ≡ true) (none_left : visits home.site (drop (steps_of (counted (coord_past (story_of scenario commands)) g)) prog) ≡ false)
-      (has_ticket_here : ticketed (counted (coord_past (story_of scenario commands)) g) home.site ≡ true) (unvoted_here : vote_at (coord_past (story_of scenario commands)) g home.site ≡ None)
+      (has_ticket_here : ticket_of (counted (coord_past (story_of scenario commands)) g) home.site ≡ true) (unvoted_here : vote_at (coord_past (story_of scenario commands)) g home.site ≡ None)
       (due : en.due ≡ Due_is.Prepare home.site (epoch_of (counted (coord_past (story_of scenario commands)) g) home.site) (count_of (counted (coord_past (story_of scenario commands)) g) home.site))
       (all : all_voted (quiet (Ev.Take home.site (From.Vote g (Some n))) Say.Voted ∷ coord_past (story_of scenario commands)) g (participants (protocols scenario) (coord_past (story_of scenario commands)) g) ≡ true) where
     abbrev past : CoordPast
@@ -134,10 +127,6 @@ module _ (published_law : CommittedTicketsArePublished) (scenario : Scenario) (w
     forgets : Bool
     forgets = forgets_at_once (protocols scenario) (Rec.Commit g (vote_tickets (quiet event Say.Voted ∷ past) g (participants (protocols scenario) past g)) ∷ Coordinator.records past) g Decided_as.Commit
 
-    cond_same : {A : Type 0} (b : Bool) (z : A) → cond b z z ≡ z
-    cond_same true z = refl
-    cond_same false z = refl
-
     members_same : participants (protocols scenario) past g ≡ members_of scenario prog
     members_same = ap (participants_of (protocols scenario)) flow.program_is
 
@@ -162,7 +151,7 @@ module _ (published_law : CommittedTicketsArePublished) (scenario : Scenario) (w
     clear_now : (other : Home) (tid : Tid) → home_of scenario other.site ≡ Some other → live other (past_of other.site (story_of scenario after)) tid ≡ None
     clear_now other tid d = by_visit (visits other.site prog) refl
       where
-        by_stage : (v : Option ℕ) → (k : ℕ) → v ≡ Some k → Stage other (past_of other.site (story_of scenario after)) g (count_of (counted past g) other.site) (epoch_of (counted past g) other.site) (ticketed (counted past g) other.site) v → live other (past_of other.site (story_of scenario after)) tid ≡ None
+        by_stage : (v : Option ℕ) → (k : ℕ) → v ≡ Some k → Stage other (past_of other.site (story_of scenario after)) g (count_of (counted past g) other.site) (epoch_of (counted past g) other.site) (ticket_of (counted past g) other.site) v → live other (past_of other.site (story_of scenario after)) tid ≡ None
         by_stage v k e (NotYet idle over c f t w) = (let clash = sym w ∙ e in cc)
         by_stage v k e (Running r named al over c f t w) = (let clash = sym w ∙ e in cc)
         by_stage v k e (Sealed none j w) = none tid
@@ -230,7 +219,7 @@ module _ (published_law : CommittedTicketsArePublished) (scenario : Scenario) (w
       waits = waits_now;
       kept = kept_now;
       sent = each_from (λ (m : Participant). item_at (sent_to m.site (story_of scenario after)) (length (sent_to m.site sent_in)) ≡ Some (To.Decide g Decided_as.Commit)) (members_of scenario prog) sent_at;
-      homes = each_from (IsMemberHome scenario) (members_of scenario prog) (λ m i. member_home scenario m whole (those_in (λ (p : Participant). visits p.site prog) m (protocols scenario) i).0);
+      homes = each_from (IsMemberHome scenario) (members_of scenario prog) (λ m i. member_home scenario m whole.sites (those_in (λ (p : Participant). visits p.site prog) m (protocols scenario) i).0);
     }
       where
         sent_at : (m : Participant) → In m (members_of scenario prog) → item_at (sent_to m.site (story_of scenario after)) (length (sent_to m.site sent_in)) ≡ Some (To.Decide g Decided_as.Commit)
@@ -243,19 +232,19 @@ module _ (published_law : CommittedTicketsArePublished) (scenario : Scenario) (w
             ∙ (ap (λ ms. item_at (sent_to m.site (story_of scenario commands) ++ ms) (length (sent_to m.site (story_of scenario commands)))) f.1
             ∙ item_behind (sent_to m.site (story_of scenario commands)) f.0 (To.Decide g Decided_as.Commit))))
 
-    places_are : places_of sent_in (AtCoordinator y) ≡ map (place_at scenario whole g sent_in) (members_of scenario prog)
+    places_are : places_of sent_in (AtCoordinator y) ≡ map (place_at sent_in) (members_of scenario prog)
     places_are = ap (map (λ (sent : Sent). record { site = sent.site; place = length (sent_to sent.site sent_in) })) sends_are ∙ fuse (members_of scenario prog)
       where
-        fuse : (ms : List Participant) → map (λ (sent : Sent). record { site = sent.site; place = length (sent_to sent.site sent_in) }) (decide_to g Decided_as.Commit ms) ≡ map (place_at scenario whole g sent_in) ms
+        fuse : (ms : List Participant) → map (λ (sent : Sent). record { site = sent.site; place = length (sent_to sent.site sent_in) }) (decide_to g Decided_as.Commit ms) ≡ map (place_at sent_in) ms
         fuse [] = refl
-        fuse (m ∷ ms) = ap (λ ps. place_at scenario whole g sent_in m ∷ ps) (fuse ms)
+        fuse (m ∷ ms) = ap (λ ps. place_at sent_in m ∷ ps) (fuse ms)
 
     pub last_finishes : (fuel : ℕ) → length (members_of scenario prog) ≤ fuel → IsFinished scenario g.tx (story_of scenario (deliver_all scenario (suc fuel) (map place_of (en ∷ queue)) commands))
     last_finishes fuel enough =
         subst (λ cs. IsFinished scenario g.tx (story_of scenario cs)) (sym so)
-        (told_finished sent_in (deliver_all scenario fuel (map (place_at scenario whole g sent_in) (members_of scenario prog)) after) (all_told scenario whole g sent_in (members_of scenario prog) fuel after enough told_now))
+        (told_finished sent_in (deliver_all scenario fuel (map (place_at sent_in) (members_of scenario prog)) after) (all_told scenario whole g sent_in (members_of scenario prog) fuel after enough told_now))
       where
-        so : deliver_all scenario (suc fuel) (map place_of (en ∷ queue)) commands ≡ deliver_all scenario fuel (map (place_at scenario whole g sent_in) (members_of scenario prog)) after
+        so : deliver_all scenario (suc fuel) (map place_of (en ∷ queue)) commands ≡ deliver_all scenario fuel (map (place_at sent_in) (members_of scenario prog)) after
         so =
             delivered_on published_law scenario whole g prog all_declared commands en queue flow home declared here me n own alone gives ticket visited none_left has_ticket_here unvoted_here due y ex fuel
             ∙ (ap (λ q. deliver_all scenario fuel (map place_of q ++ places_of sent_in (AtCoordinator y)) after) (none_queued published_law scenario whole g prog all_declared commands en queue flow home declared here me n own alone gives ticket visited none_left has_ticket_here unvoted_here due all)
@@ -267,7 +256,7 @@ module _ (published_law : CommittedTicketsArePublished) (scenario : Scenario) (w
   enough_left commands queue fuel flow le =
       let few = flow.few in
       let votes = not_all (vote_at (coord_past (story_of scenario commands)) g) (members_of scenario prog) flow.unvoted in
-      let tickets = at_most (λ (m : Participant). ticketed (counted (coord_past (story_of scenario commands)) g) m.site) (members_of scenario prog) in
+      let tickets = how_many_at_most (λ (m : Participant). ticket_of (counted (coord_past (story_of scenario commands)) g) m.site) (members_of scenario prog) in
       omega (arith, few, votes, tickets, le)
 
   -- the next message of the queue
@@ -299,9 +288,9 @@ module _ (published_law : CommittedTicketsArePublished) (scenario : Scenario) (w
       visited (AtTake v l t e) = v
       visited (AtPrepare v l t k e) = v
 
-      by_vote : (home : Home) → home_of scenario home.site ≡ Some home → home.site ≡ site_of en → visits home.site prog ≡ true → visits home.site (drop (steps_of replies) prog) ≡ false → ticketed replies home.site ≡ true → votes home.site ≡ None
+      by_vote : (home : Home) → home_of scenario home.site ≡ Some home → home.site ≡ site_of en → visits home.site prog ≡ true → visits home.site (drop (steps_of replies) prog) ≡ false → ticket_of replies home.site ≡ true → votes home.site ≡ None
           → en.due ≡ Due_is.Prepare home.site (epoch_of replies home.site) (count_of replies home.site)
-          → Stage home (past_of home.site (story_of scenario commands)) g (count_of replies home.site) (epoch_of replies home.site) (ticketed replies home.site) (votes home.site)
+          → Stage home (past_of home.site (story_of scenario commands)) g (count_of replies home.site) (epoch_of replies home.site) (ticket_of replies home.site) (votes home.site)
           → IsFinished scenario g.tx (story_of scenario (deliver_all scenario (suc fuel) (map place_of (en ∷ queue)) commands))
       by_vote home d here v l t w due (NotYet idle over c e k z) = (let clash = sym k ∙ t in cc)
       by_vote home d here v l t w due (Sealed none n z) = (let clash = sym w ∙ z in cc)
@@ -338,7 +327,7 @@ module _ (published_law : CommittedTicketsArePublished) (scenario : Scenario) (w
   flows zero queue commands flow le =
       let few = flow.few in
       let votes = not_all (vote_at (coord_past (story_of scenario commands)) g) (members_of scenario prog) flow.unvoted in
-      let tickets = at_most (λ (m : Participant). ticketed (counted (coord_past (story_of scenario commands)) g) m.site) (members_of scenario prog) in
+      let tickets = how_many_at_most (λ (m : Participant). ticket_of (counted (coord_past (story_of scenario commands)) g) m.site) (members_of scenario prog) in
       absurd (omega (arith, few, votes, tickets, le))
   flows (suc fuel) [] commands flow le =
       let past = coord_past (story_of scenario commands) in

@@ -21,7 +21,7 @@ use Rattle.fed_rules.specs.SiteRecords.{Home, doubt_of, local_of, site_frame}
 use Rattle.site_history.specs.Events.{IsSorted}
 use Rattle.site_history.proofs.Agreement.{IsKept, free_here}
 use Rattle.site_history.proofs.MessageLines.{not_over}
-use Rattle.local_laws.proofs.LineAnswers.{acts_about, refused_about}
+use Rattle.site_history.proofs.LineAnswers.{acts_about, refused_about}
 
 -- the line neither stops the site nor starts it
 pub record IsPlain (x : SiteHappening) : Type 0 where

@@ -1,5 +1,5 @@
 -- How long lists are: those that are sorted, found and picked out, those of different numbers, and the commands that each item of a list adds.
-use Rattle.std.proofs.Common.{◌≡◌, ℕ, zero, suc, ◌+◌, ◌*◌, ◌≤◌, ◌<◌, ◌⊎◌, Bool, true, false, cond, not, ◌||◌, Option, Some, None, List, [], ◌∷◌, ◌++◌, map, length, inl, inr, refl, sym, ap, subst, ◌∙◌, arith}
+use Rattle.std.proofs.Common.{◌≡◌, ℕ, zero, suc, ◌+◌, ◌*◌, ◌≤◌, ◌<◌, ◌⊎◌, Bool, true, false, cond, not, ◌||◌, Option, Some, None, List, [], ◌∷◌, map, length, inl, inr, refl, sym, ap, subst, ◌∙◌, arith}
 use Rattle.std.proofs.lemmas.Bool.{and_parts}
 use Rattle.std.proofs.Math.Nat.{mul-suc}
 use Rattle.mdb_base.specs.declared.names.Tid.{Tid}
@@ -10,13 +10,6 @@ use Rattle.fed_rules.specs.declared.commands.Command.{Command}
 use Rattle.fed_rules.specs.Closing.{for_each, rising}
 use Rattle.fed_rules.specs.Plans.{all_differ}
 use Rattle.fed_rules.specs.SiteRecords.{Held, by_tid, held_before}
-
-pub length_those : {A : Type 0} (test : A → Bool) (xs : List A) → length (those test xs) ≤ length xs
-length_those test [] = omega arith
-length_those {A = A} test (x ∷ xs) = by_test (test x) (length_those test xs) where
-  by_test : (b : Bool) → length (those test xs) ≤ length xs → length (cond b (x ∷ those test xs) (those test xs)) ≤ suc (length xs)
-  by_test true h = omega (arith, h)
-  by_test false h = omega (arith, h)
 
 -- those of which the test holds, and the others
 pub length_parts : {A : Type 0} (test : A → Bool) (xs : List A) → length (those (λ x. not (test x)) xs) + length (those test xs) ≤ length xs
@@ -33,14 +26,6 @@ length_found {A = A} {B = B} look (x ∷ xs) = by_look (look x) (length_found lo
   by_look : (o : Option B) → length (found look xs) ≤ length xs → length (with_some o (found look xs)) ≤ suc (length xs)
   by_look None h = omega (arith, h)
   by_look (Some y) h = omega (arith, h)
-
-pub length_map : {A B : Type 0} (f : A → B) (xs : List A) → length (map f xs) ≡ length xs
-length_map f [] = refl
-length_map f (x ∷ xs) = ap suc (length_map f xs)
-
-pub length_append : {A : Type 0} (xs ys : List A) → length (xs ++ ys) ≡ length xs + length ys
-length_append [] ys = omega arith
-length_append (x ∷ xs) ys = let rest = length_append xs ys in omega (arith, rest)
 
 pub length_inserted : {A : Type 0} (before : A → A → Bool) (x : A) (ys : List A) → length (inserted before x ys) ≡ suc (length ys)
 length_inserted before x [] = refl

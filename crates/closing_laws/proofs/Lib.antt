@@ -1,5 +1,4 @@
 pub mod AllAlone
-pub mod AloneAt
 pub mod AloneBound
 pub mod AloneSites
 pub mod BegunOnce
@@ -36,3 +35,4 @@ pub mod Quiet
 pub mod Ready
 pub mod Unbegun
 pub mod SentPlaces
+pub mod OpenRuns

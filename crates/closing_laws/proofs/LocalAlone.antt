@@ -10,10 +10,11 @@ use Rattle.mdb_base.specs.declared.names.Tid.{Tid}
 use Rattle.mdb_base.specs.declared.names.Tx.{Tx}
 use Rattle.mdb_base.specs.Names.{same_site, same_tx}
 use Rattle.mdb_base.specs.Programs.{plain_act}
-use Rattle.mdb_base.specs.Words.{Each, pick, item_at}
+use Rattle.mdb_base.specs.Words.{Each, item_at}
 use Rattle.mdb_base.proofs.ListLaws.{each_map}
 use Rattle.mdb_base.proofs.Words.{when-false, cond-false}
-use Rattle.order_laws.proofs.Names.{same_site_alike, same_site_self}
+use Rattle.mdb_base.proofs.NameLaws.{same_site-equal, same_site-refl, same_tx-refl}
+use Rattle.mdb_base.proofs.OptionLaws.{pick_some, pick_none}
 use Rattle.fed_rules.specs.declared.answers.Answer.TheVariants as Say
 use Rattle.fed_rules.specs.declared.commands.Command.{Command}
 use Rattle.fed_rules.specs.declared.commands.Command.TheVariants as Cmd
@@ -36,22 +37,15 @@ use Rattle.engine_laws.proofs.Drawers.{IsDrawer, AllDrew, all_drew}
 use Rattle.site_history.specs.Lines.{Agrees}
 use Rattle.site_history.specs.SiteOrders.{HasEpochs}
 use Rattle.site_history.specs.Stories.{StoriesHaveRightLines, OfSites}
-use Rattle.order_laws.proofs.Alike.{same_tx_self}
 use Rattle.federation_laws.proofs.Told.{local_home-declared}
 use Rattle.closing_laws.specs.Alone.{IsFinished, LocalsCommitAlone}
-use Rattle.closing_laws.proofs.AloneAt.{IsAlone, access_granted, seal_free, access_of, acts_alone, begins_alone, commits_alone}
+use Rattle.engine_laws.proofs.AloneAt.{IsAlone, access_granted, seal_free, access_of, acts_alone, begins_alone, commits_alone}
 use Rattle.closing_laws.proofs.Calm.{IsReady, ready_next}
-use Rattle.closing_laws.proofs.Clear.{pick_some}
 use Rattle.closing_laws.proofs.Delivered.{item_behind}
 use Rattle.closing_laws.proofs.Locals.{found_live, live_is_found}
 use Rattle.closing_laws.proofs.Onward.{IsCalm, one_home}
 use Rattle.closing_laws.proofs.Quiet.{IsQuiet, quiet_rests, rests_quiet}
 use Rattle.fed_rules.specs.SiteCommands.{request, begin_next, with_live, next_step, when_done}
-
--- a value that isn't there decides a branch
-pub pick_none : {A B : Type 0} (o : Option A) (none : B) (some : A → B) → o ≡ None → pick o none some ≡ none
-unfolding pick
-pick_none o none some e = ap (λ q. pick q none some) e
 
 -- what a ready site makes of the events of a local attempt
 begin_here : (home : Home) (past : SitePast) (tid : Tid) → IsReady trip_of past → site_line home past (Ev.Begin tid) ≡ of_begin home past tid
@@ -82,7 +76,7 @@ module _ (scenario : Scenario) (commands : List Command) (command : Command) (ho
   past_now : past_of home.site (story_of scenario (command ∷ commands)) ≡ x ∷ past_of home.site (story_of scenario commands)
   past_now =
       ap (λ h. with_site home.site h (past_of home.site (story_of scenario commands))) line.told
-      ∙ ap (λ b. cond b (x ∷ past_of home.site (story_of scenario commands)) (past_of home.site (story_of scenario commands))) (same_site_self home.site)
+      ∙ ap (λ b. cond b (x ∷ past_of home.site (story_of scenario commands)) (past_of home.site (story_of scenario commands))) (same_site-refl home.site)
 
   line_elsewhere : IsElsewhere home.site (story_of scenario commands) (story_of scenario (command ∷ commands))
   line_elsewhere = subst (λ h. IsElsewhere home.site (story_of scenario commands) (record { command = command; happened = h } ∷ story_of scenario commands)) (sym line.told)
@@ -95,7 +89,7 @@ module _ (scenario : Scenario) (commands : List Command) (command : Command) (ho
   }
     where
       by_test : (site : SiteId) (b : Bool) → same_site home.site site ≡ b → IsReady trip_of (past_of site (story_of scenario (command ∷ commands)))
-      by_test site true q = subst (λ s. IsReady trip_of (past_of s (story_of scenario (command ∷ commands)))) (same_site_alike home.site site q) (subst (IsReady trip_of) (sym past_now) r)
+      by_test site true q = subst (λ s. IsReady trip_of (past_of s (story_of scenario (command ∷ commands)))) (same_site-equal home.site site q) (subst (IsReady trip_of) (sym past_now) r)
       by_test site false q = subst (IsReady trip_of) (sym (line_elsewhere.others site q)) (c.sites site)
 
 -- the attempt of a transaction is alone at its home, and so many of its steps are done
@@ -335,10 +329,10 @@ module _ (rights : StoriesHaveRightLines) (epochs : OfSites HasEpochs) (scenario
       away = elsewhere_on home.site (story_of scenario first) story after u.elsewhere (line_elsewhere scenario commands (Cmd.Commit tid.tx) home x line)
 
       same_one : same_tx me.tid.tx tid.tx ≡ true
-      same_one = ap (λ (t : Tid). same_tx t.tx tid.tx) u.named ∙ same_tx_self tid.tx
+      same_one = ap (λ (t : Tid). same_tx t.tx tid.tx) u.named ∙ same_tx-refl tid.tx
 
       one : (other : Home) → home_of scenario other.site ≡ Some other → same_site home.site other.site ≡ true → home ≡ other
-      one other d e = one_home scenario home other (local_home-declared scenario tid.tx home here) d (same_site_alike home.site other.site e)
+      one other d e = one_home scenario home other (local_home-declared scenario tid.tx home here) d (same_site-equal home.site other.site e)
 
       clear_at : (other : Home) (t : Tid) → home_of scenario other.site ≡ Some other → (b : Bool) → same_site home.site other.site ≡ b → live other (past_of other.site after) t ≡ None
       clear_at other t d false e = ap (λ p. live other p t) (away.others other.site e) ∙ q.clear other t d

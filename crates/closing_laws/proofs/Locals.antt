@@ -1,16 +1,16 @@
 -- Local attempts at a site: they are of transactions that are at home there, and no two of one transaction are live.
-use Rattle.std.proofs.Common.{◌≡◌, ℕ, ◌⊎◌, Bool, true, false, cond, not, ◌&&◌, ◌||◌, ◌==◌, is_some, Option, Some, None, List, [], ◌∷◌, inl, inr, refl, sym, ap, ap₂, subst, ◌∙◌}
+use Rattle.std.proofs.Common.{◌≡◌, ℕ, ◌⊎◌, Bool, true, false, cond, not, ◌&&◌, ◌||◌, ◌==◌, is_some, Option, Some, None, List, [], ◌∷◌, inl, inr, refl, sym, ap, subst, ◌∙◌}
 use Rattle.mdb_base.specs.declared.acts.PlainAct.{PlainAct}
 use Rattle.mdb_base.specs.declared.names.SiteId.{SiteId}
 use Rattle.mdb_base.specs.declared.names.Tid.{Tid}
 use Rattle.mdb_base.specs.declared.names.Tx.{Tx}
 use Rattle.mdb_base.specs.Names.{same_site, same_tx}
-use Rattle.mdb_base.specs.Words.{when, pick, found, first_where, map_some, with_some}
+use Rattle.mdb_base.specs.Words.{when, pick, first_where, map_some}
 use Rattle.mdb_base.specs.declared.replies.Reply.TheVariants as Reply_is
+use Rattle.mdb_base.proofs.NameLaws.{same_site-equal, same_tx-equal}
+use Rattle.mdb_base.proofs.OptionLaws.{some_parts}
 use Rattle.presumptions.specs.declared.Decision.{Decision}
-use Rattle.order_laws.specs.Chains.{In}
-use Rattle.order_laws.proofs.Lists.{first_where_some, first_where_none}
-use Rattle.order_laws.proofs.Names.{same_site_alike}
+use Rattle.order_laws.proofs.Lists.{first_where_some}
 use Rattle.fed_rules.specs.declared.answers.Answer.TheVariants as Say
 use Rattle.fed_rules.specs.declared.commands.Command.{Command}
 use Rattle.fed_rules.specs.declared.events.SiteEvent.{SiteEvent}
@@ -27,14 +27,15 @@ use Rattle.fed_rules.specs.Site.{site_line, answered, of_begin, reply_to, of_act
 use Rattle.fed_rules.specs.SitePast.{SiteHappening, SitePast, disk, trip, epoch_start, engine_lines, live, live_of_tx, attempts_of, begins_tx, is_local}
 use Rattle.fed_rules.specs.SiteRecords.{Home, site_frame}
 use Rattle.fed_rules.specs.Story.{Story, Happened, AtSite, AtCoordinator, Nowhere, past_of, with_site, happens, story_of}
-use Rattle.engine_laws.proofs.Runs.{tid_is, attempts_have}
+use Rattle.engine_laws.proofs.Runs.{tid_is}
+use Rattle.engine_laws.proofs.AloneAt.{found_from}
+use Rattle.engine_laws.proofs.RunLines.{is_live_of}
 use Rattle.site_history.specs.Stories.{StoriesHaveRightLines}
-use Rattle.order_laws.proofs.Alike.{same_tx_alike, same_tx_self, some_parts}
-use Rattle.local_laws.proofs.LineAnswers.{act_begins-none, refusal_answer-is}
+use Rattle.site_history.proofs.LineAnswers.{act_begins-none, refusal_answer-is}
+use Rattle.site_history.proofs.LiveOnes.{none_live}
 use Rattle.federation_laws.proofs.LocalLines.{local-made}
 use Rattle.federation_laws.proofs.LocalMoves.{LocalMove, Made, Opens, Rests, Gone, Opening, Granting, Closing}
 use Rattle.federation_laws.proofs.LocalStories.{not-asked}
-use Rattle.site_history.proofs.Agreement.{live_is}
 use Rattle.federation_laws.proofs.Told.{local_home-declared, SiteCause, IsSiteLine, IsLine, line_is}
 
 -- what begins an attempt of the transaction is a `begin` of it
@@ -154,7 +155,7 @@ module _ (tx : Tx) (home : Home) (past : SitePast) where
 
 -- what a site begins as a local attempt is at home there
 home_of_begun : (scenario : Scenario) (story : Story) (home : Home) (event : SiteEvent) (tx : Tx) → SiteCause scenario story home event → IsBeginOf tx event → local_home scenario tx ≡ Some home
-home_of_begun scenario story home (Ev.Begin tid) tx c b = sym (ap (local_home scenario) (same_tx_alike tid.tx tx b)) ∙ c.here
+home_of_begun scenario story home (Ev.Begin tid) tx c b = sym (ap (local_home scenario) (same_tx-equal tid.tx tx b)) ∙ c.here
 home_of_begun scenario story home (Ev.Act tid act) tx c b = absurd b
 home_of_begun scenario story home (Ev.Commit tid) tx c b = absurd b
 home_of_begun scenario story home (Ev.Abort tid) tx c b = absurd b
@@ -175,7 +176,7 @@ pub record IsHere (scenario : Scenario) (story : Story) (home : Home) (x : SiteH
 
 pub line_here : (scenario : Scenario) (story : Story) (home : Home) (s : SiteId) (x : SiteHappening) → home_of scenario home.site ≡ Some home → same_site s home.site ≡ true → IsSiteLine scenario story s x → IsHere scenario story home x
 line_here scenario story home s x d q line =
-    let own : line.home.site ≡ home.site = sym line.here ∙ same_site_alike s home.site q in
+    let own : line.home.site ≡ home.site = sym line.here ∙ same_site-equal s home.site q in
     let same : line.home ≡ home = some_parts (sym line.declared ∙ (ap (home_of scenario) own ∙ d)) in
     record {
       event = line.event;
@@ -212,49 +213,6 @@ local_at_home scenario (command ∷ commands) home tid d e =
           | inr old ↦ k old
         ]
 
--- a run that is found
-pub found_in : {A B : Type 0} (look : A → Option B) (xs : List A) (x : A) (y : B) → In x xs → look x ≡ Some y → In y (found look xs)
-found_in look [] x y i e = absurd i
-found_in look (z ∷ xs) x y (inl same) e = here (look z) (ap look same ∙ e)
-  where
-    here : (o : Option _) → o ≡ Some y → In y (with_some o (found look xs))
-    here None f = cc
-    here (Some w) f = inl (some_parts f)
-found_in look (z ∷ xs) x y (inr i) e = there (look z) (found_in look xs x y i e)
-  where
-    there : (o : Option _) → In y (found look xs) → In y (with_some o (found look xs))
-    there None j = j
-    there (Some w) j = inr j
-
--- and is found somewhere
-pub found_from : {A B : Type 0} (look : A → Option B) (xs : List A) (y : B) → In y (found look xs) → (x : A) × (look x ≡ Some y)
-found_from look [] y i = absurd i
-found_from look (z ∷ xs) y i = by_look (look z) refl i (found_from look xs y)
-  where
-    by_look : (o : Option _) → look z ≡ o → In y (with_some o (found look xs)) → (In y (found look xs) → (x : _) × (look x ≡ Some y)) → (x : _) × (look x ≡ Some y)
-    by_look None e i k = k i
-    by_look (Some w) e (inl same) k = (z, e ∙ ap (λ v. Some v) same)
-    by_look (Some w) e (inr i) k = k i
-
--- the test of a live one of the transaction
-abbrev is_live_one : Tx → Run → Bool
-is_live_one tx run = same_tx run.tid.tx tx && not (is_sealed run)
-
--- who is live is found
-none_live : (home : Home) (past : SitePast) (tid : Tid) (run : Run) → IsRight (epoch_start home past) (engine_lines past) → live home past tid ≡ Some run → live_of_tx home past tid.tx ≡ None → ⊥
-none_live home past tid run right e none =
-    let at = live_is (run_at (epoch_start home past) (engine_lines past) tid) run e in
-    let own : run.tid ≡ tid = tid_is (epoch_start home past) (engine_lines past) right tid run at.0 in
-    let i : In run (unended (epoch_start home past) (engine_lines past)) =
-    found_in (run_at (epoch_start home past) (engine_lines past)) (attempts (epoch_start home past) (engine_lines past)) tid run (attempts_have (epoch_start home past) (engine_lines past) right tid run at.0) at.0 in
-    let fails : is_live_one tid.tx run ≡ false = first_where_none (is_live_one tid.tx) (unended (epoch_start home past) (engine_lines past)) run (no_first _ none) i in
-    let passes : is_live_one tid.tx run ≡ true = ap₂ (λ (a b : Bool). a && not b) (ap (λ (t : Tid). same_tx t.tx tid.tx) own ∙ same_tx_self tid.tx) (ap is_some at.1) in
-    (let clash = sym fails ∙ passes in cc)
-  where
-    no_first : (o : Option Run) → map_some (λ (r : Run). r.tid) o ≡ None → o ≡ None
-    no_first None e = refl
-    no_first (Some r) e = cc
-
 -- who is found is live
 pub record IsFoundLive (home : Home) (past : SitePast) (tx : Tx) (tid : Tid) : Type 0 where
   pub run : Run
@@ -262,7 +220,7 @@ pub record IsFoundLive (home : Home) (past : SitePast) (tx : Tx) (tid : Tid) : T
   pub of_tx : tid.tx ≡ tx
 
 pub found_live : (home : Home) (past : SitePast) (tx : Tx) (tid : Tid) → IsRight (epoch_start home past) (engine_lines past) → live_of_tx home past tx ≡ Some tid → IsFoundLive home past tx tid
-found_live home past tx tid right e = by_first (first_where (is_live_one tx) (unended (epoch_start home past) (engine_lines past))) refl e
+found_live home past tx tid right e = by_first (first_where (is_live_of tx) (unended (epoch_start home past) (engine_lines past))) refl e
   where
     parts : (a b : Bool) → (a && b) ≡ true → (a ≡ true) × (b ≡ true)
     parts true b t = (refl, t)
@@ -272,10 +230,10 @@ found_live home past tx tid right e = by_first (first_where (is_live_one tx) (un
     open_one run None q t = ap (λ s. cond (is_some s) None (Some run)) q
     open_one run (Some n) q t = cc
 
-    by_first : (o : Option Run) → first_where (is_live_one tx) (unended (epoch_start home past) (engine_lines past)) ≡ o → map_some (λ (r : Run). r.tid) o ≡ Some tid → IsFoundLive home past tx tid
+    by_first : (o : Option Run) → first_where (is_live_of tx) (unended (epoch_start home past) (engine_lines past)) ≡ o → map_some (λ (r : Run). r.tid) o ≡ Some tid → IsFoundLive home past tx tid
     by_first None f g = cc
     by_first (Some run) f g =
-        let first = first_where_some (is_live_one tx) (unended (epoch_start home past) (engine_lines past)) run f in
+        let first = first_where_some (is_live_of tx) (unended (epoch_start home past) (engine_lines past)) run f in
         let (at, was) = found_from (run_at (epoch_start home past) (engine_lines past)) (attempts (epoch_start home past) (engine_lines past)) run first.0 in
         let tests = parts (same_tx run.tid.tx tx) (not (is_sealed run)) first.1 in
         let own : run.tid ≡ at = tid_is (epoch_start home past) (engine_lines past) right at run was in
@@ -283,7 +241,7 @@ found_live home past tx tid right e = by_first (first_where (is_live_one tx) (un
         record {
           run = run;
           is_live = ap (live home past) (sym named ∙ own) ∙ (ap (λ o. live_here o) was ∙ open_one run run.sealed refl tests.1);
-          of_tx = ap (λ (t : Tid). t.tx) (sym named) ∙ same_tx_alike run.tid.tx tx tests.0;
+          of_tx = ap (λ (t : Tid). t.tx) (sym named) ∙ same_tx-equal run.tid.tx tx tests.0;
         }
       where
         live_here : Option Run → Option Run

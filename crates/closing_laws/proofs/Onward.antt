@@ -1,12 +1,14 @@
 -- Commands behind which every actor is still ready, and nothing came up anew.
-use Rattle.std.proofs.Common.{◌≡◌, ℕ, zero, suc, Bool, true, false, cond, ◌||◌, Option, Some, None, List, [], ◌∷◌, ◌++◌, refl, sym, ap, subst, ◌∙◌}
+use Rattle.std.proofs.Common.{◌≡◌, ℕ, Bool, true, false, cond, ◌||◌, Option, Some, None, [], ◌∷◌, refl, sym, ap, subst, ◌∙◌}
 use Rattle.mdb_base.specs.declared.names.SiteId.{SiteId}
 use Rattle.mdb_base.specs.declared.names.Tid.{Tid}
 use Rattle.mdb_base.specs.declared.names.Tx.{Tx}
 use Rattle.mdb_base.specs.Names.{same_site}
 use Rattle.mdb_base.specs.Words.{when, pick, item_at}
+use Rattle.mdb_base.proofs.NameLaws.{same_site-equal}
+use Rattle.mdb_base.proofs.OptionLaws.{some_parts}
+use Rattle.mdb_base.proofs.PlaceLaws.{item_at-front}
 use Rattle.presumptions.specs.declared.Decision.{Decision}
-use Rattle.order_laws.proofs.Names.{same_site_alike}
 use Rattle.fed_rules.specs.declared.answers.Answer.{Answer}
 use Rattle.fed_rules.specs.declared.answers.Answer.TheVariants as Say
 use Rattle.fed_rules.specs.declared.commands.Command.{Command}
@@ -24,7 +26,6 @@ use Rattle.fed_rules.specs.SitePast.{SiteHappening, records, live, trip_of, is_l
 use Rattle.fed_rules.specs.SiteRecords.{Home, doubt_of}
 use Rattle.fed_rules.specs.Story.{Story, Happened, AtSite, AtCoordinator, Nowhere, past_of, coord_past, sent_to, sends_to, at_site, on_site, on_give, happens}
 use Rattle.commit_laws.proofs.Links.{home-again}
-use Rattle.order_laws.proofs.Alike.{some_parts}
 use Rattle.closing_laws.proofs.Calm.{IsReady, ready_next, gives, aborts_here, drops, asks, IsMild, decide_mild, abort_mild, drop_mild, ask_mild, IsCoordMild}
 use Rattle.coord_laws.proofs.Facts.{is_undecided}
 use Rattle.rules_laws.specs.Lines.{IsLine}
@@ -69,12 +70,6 @@ onward_on scenario a b c p q = record {
   sent = λ site n m e. q.sent site n m (p.sent site n m e);
 }
 
--- what stands at a place stays there when more comes behind
-pub item_more : {A : Type 0} (xs ys : List A) (n : ℕ) (x : A) → item_at xs n ≡ Some x → item_at (xs ++ ys) n ≡ Some x
-item_more [] ys n x e = cc
-item_more (y ∷ xs) ys zero x e = e
-item_more (y ∷ xs) ys (suc n) x e = item_more xs ys n x e
-
 -- one home for a site
 pub one_home : (scenario : Scenario) (a b : Home) → home_of scenario a.site ≡ Some a → home_of scenario b.site ≡ Some b → a.site ≡ b.site → a ≡ b
 one_home scenario a b e f same = some_parts (sym e ∙ (ap (home_of scenario) same ∙ f))
@@ -89,7 +84,7 @@ onward_next scenario story command (Nowhere answer) c g = record {
   gone = λ tid e. e;
   decided = λ tid e. e;
   locals = λ site tid. refl;
-  sent = λ site n m e. item_more (sent_to site story) [] n m e;
+  sent = λ site n m e. item_at-front (sent_to site story) [] n m e;
 }
 onward_next scenario story command (AtCoordinator x) c g = record {
   calm = record { coordinator = ready_next Coordinator.trip_of (coord_past story) x g.mildly.stays g.mildly.unarmed c.coordinator; sites = c.sites };
@@ -98,7 +93,7 @@ onward_next scenario story command (AtCoordinator x) c g = record {
   gone = λ tid e. g.mildly.gone tid e;
   decided = λ tid e. g.mildly.decided tid e;
   locals = λ site tid. refl;
-  sent = λ site n m e. item_more (sent_to site story) (sends_to site (AtCoordinator x)) n m e;
+  sent = λ site n m e. item_at-front (sent_to site story) (sends_to site (AtCoordinator x)) n m e;
 }
 onward_next scenario story command (AtSite at x) c g = record {
   calm = record { coordinator = c.coordinator; sites = λ site. ready site (same_site at site) refl };
@@ -107,7 +102,7 @@ onward_next scenario story command (AtSite at x) c g = record {
   gone = λ tid e. e;
   decided = λ tid e. e;
   locals = λ site tid. same_locals site tid (same_site at site);
-  sent = λ site n m e. item_more (sent_to site story) [] n m e;
+  sent = λ site n m e. item_at-front (sent_to site story) [] n m e;
 }
   where
     own : Home
@@ -117,7 +112,7 @@ onward_next scenario story command (AtSite at x) c g = record {
     mild = g.mildly.3
 
     same_home : (home : Home) → home_of scenario home.site ≡ Some home → same_site at home.site ≡ true → own ≡ home
-    same_home home d q = one_home scenario own home g.mildly.1 d (sym g.mildly.2 ∙ same_site_alike at home.site q)
+    same_home home d q = one_home scenario own home g.mildly.1 d (sym g.mildly.2 ∙ same_site-equal at home.site q)
 
     same_locals : (site : SiteId) (tid : Tid) (b : Bool) → is_local (cond b (x ∷ past_of site story) (past_of site story)) tid ≡ is_local (past_of site story) tid
     same_locals site tid false = refl

@@ -6,13 +6,12 @@ use Rattle.mdb_base.specs.declared.names.Tid.{Tid}
 use Rattle.mdb_base.specs.declared.names.Tx.{Tx}
 use Rattle.mdb_base.specs.Names.{same_site, same_tid, same_tx}
 use Rattle.mdb_base.specs.Words.{Among, how_many, with_some}
-use Rattle.mdb_base.proofs.NameLaws.{same_tid-refl}
+use Rattle.mdb_base.proofs.NameLaws.{same_tid-refl, same_tx-equal, same_site-equal, tests_agree}
+use Rattle.mdb_base.proofs.OptionLaws.{some_parts}
+use Rattle.mdb_base.proofs.EachLaws.{among_split}
 use Rattle.presumptions.specs.declared.Decision.{Decision}
 use Rattle.order_laws.specs.Chains.{In}
-use Rattle.order_laws.proofs.Alike.{same_tx_alike, some_parts}
-use Rattle.order_laws.proofs.Joined.{among_split}
 use Rattle.order_laws.proofs.Lists.{among_is, is_among}
-use Rattle.order_laws.proofs.Names.{same_site_alike}
 use Rattle.fed_rules.specs.declared.answers.Answer.{Answer}
 use Rattle.fed_rules.specs.declared.answers.Answer.TheVariants as Say
 use Rattle.fed_rules.specs.declared.commands.Command.{Command}
@@ -78,17 +77,12 @@ stays_here scenario tx story d = record { done = refl; attempts = refl; decided 
 pub stays_on : (scenario : Scenario) (tx : Tx) (a b c : Story) → Stays scenario tx a b → Stays scenario tx b c → Stays scenario tx a c
 stays_on scenario tx a b c p q = record { done = q.done ∙ p.done; attempts = q.attempts ∙ p.attempts; decided = q.decided }
 
-both_ways : (a b : Bool) → (a ≡ true → b ≡ true) → (b ≡ true → a ≡ true) → a ≡ b
-both_ways true b f g = sym (f refl)
-both_ways false true f g = g refl
-both_ways false false f g = refl
-
 -- the Local record of an attempt of the transaction
-abbrev IsLocalOf : Tx → SiteRecord → Type 0
+abbrev pub IsLocalOf : Tx → SiteRecord → Type 0
 IsLocalOf tx (Rec.Local tid number writes) = same_tx tid.tx tx ≡ true
 IsLocalOf tx kept = ⊥
 
-local_among : (tx : Tx) (rs : List SiteRecord) → is_some (local_of rs tx) ≡ true → Among (IsLocalOf tx) rs
+pub local_among : (tx : Tx) (rs : List SiteRecord) → is_some (local_of rs tx) ≡ true → Among (IsLocalOf tx) rs
 local_among tx [] e = cc
 local_among tx (Rec.Local t n w ∷ rs) e = by_test (same_tx t.tx tx) refl e (local_among tx rs)
   where
@@ -98,7 +92,7 @@ local_among tx (Rec.Local t n w ∷ rs) e = by_test (same_tx t.tx tx) refl e (lo
     by_test false q e k = inr (k e)
 local_among tx (r ∷ rs) e = inr (local_among tx rs e)
 
-among_local : (tx : Tx) (rs : List SiteRecord) → Among (IsLocalOf tx) rs → is_some (local_of rs tx) ≡ true
+pub among_local : (tx : Tx) (rs : List SiteRecord) → Among (IsLocalOf tx) rs → is_some (local_of rs tx) ≡ true
 among_local tx [] i = absurd i
 among_local tx (Rec.Local t n w ∷ rs) (inl q) = ap (λ b. is_some (cond b (Some t) (local_of rs tx))) q
 among_local tx (Rec.Local t n w ∷ rs) (inr i) = by_test (same_tx t.tx tx) (among_local tx rs i)
@@ -109,7 +103,7 @@ among_local tx (Rec.Local t n w ∷ rs) (inr i) = by_test (same_tx t.tx tx) (amo
 among_local tx (r ∷ rs) (inl q) = absurd q
 among_local tx (r ∷ rs) (inr i) = among_local tx rs i
 
-forced_local : (home : Home) (tx : Tx) (r : SiteRecord) → IsLooseEnded home.protocol r → IsLocalOf tx r → ⊥
+pub forced_local : (home : Home) (tx : Tx) (r : SiteRecord) → IsLooseEnded home.protocol r → IsLocalOf tx r → ⊥
 forced_local home tx (Rec.Local t n w) l e = l
 forced_local home tx (Rec.Prepared t k n ticket w) l e = e
 forced_local home tx (Rec.Ended t d) l e = e
@@ -117,7 +111,7 @@ forced_local home tx (Rec.Start k) l e = e
 forced_local home tx (Rec.Setup site engine protocol items) l e = e
 forced_local home tx (Rec.Checkpoint sum) l e = e
 
-committed_among : (tx : Tx) (rs : List CoordRecord) → is_some (committed_of rs tx) ≡ true → (t : Tid) × (same_tx t.tx tx ≡ true) × Among (IsCommit t) rs
+pub committed_among : (tx : Tx) (rs : List CoordRecord) → is_some (committed_of rs tx) ≡ true → (t : Tid) × (same_tx t.tx tx ≡ true) × Among (IsCommit t) rs
 committed_among tx [] e = cc
 committed_among tx (Coord_record.Commit t tickets ∷ rs) e = by_test (same_tx t.tx tx) refl e (committed_among tx rs)
   where
@@ -128,8 +122,8 @@ committed_among tx (Coord_record.Commit t tickets ∷ rs) e = by_test (same_tx t
     by_test false q e k = let r = k e in (r.0, r.1, inr r.2)
 committed_among tx (r ∷ rs) e = let k = committed_among tx rs e in (k.0, k.1, inr k.2)
 
-among_committed : (tx : Tx) (t : Tid) (rs : List CoordRecord) → same_tx t.tx tx ≡ true → Among (IsCommit t) rs → is_some (committed_of rs tx) ≡ true
-among_committed tx t rs same i = subst (λ z. is_some (committed_of rs z) ≡ true) (same_tx_alike t.tx tx same) (commit_of t rs i)
+pub among_committed : (tx : Tx) (t : Tid) (rs : List CoordRecord) → same_tx t.tx tx ≡ true → Among (IsCommit t) rs → is_some (committed_of rs tx) ≡ true
+among_committed tx t rs same i = subst (λ z. is_some (committed_of rs z) ≡ true) (same_tx-equal t.tx tx same) (commit_of t rs i)
 
 -- a Commit record is appended of an undecided attempt
 wrote_commit : (scenario : Scenario) (g : Tid) (past : CoordPast) (event : CoordEvent) (news : List CoordRecord) → WroteAll (protocols scenario) g past event news → Among (IsCommit g) news
@@ -153,7 +147,7 @@ module _ (scenario : Scenario) (story : Story) (command : Command) (tx : Tx) (ot
       by_command (Cmd.Commit other) o c =
           let is = c.asks.is in
           let own : t ≡ c.asks.tid = cc in
-          let of_other = same_tx_alike c.asks.tid.tx other (live_of_tx-is home (past_of home.site story) other c.asks.tid c.asks.is_live.found) in
+          let of_other = same_tx-equal c.asks.tid.tx other (live_of_tx-is home (past_of home.site story) other c.asks.tid c.asks.is_live.found) in
           clash other o (subst (λ z. same_tx z tx ≡ true) (ap (λ (u : Tid). u.tx) own ∙ of_other) same)
       by_command (Cmd.Abort other) o c = let is = c.asks.is in cc
       by_command (Cmd.Fate other) o c = let is = c.asks in cc
@@ -218,7 +212,7 @@ unopened : (o : Option Decision) → is_undecided (standing_of false o) ≡ fals
 unopened None = refl
 unopened (Some decision) = refl
 
-begun_is : (a : Answer) (t : Tid) → begun_by a ≡ Some t → begins t a ≡ true
+pub begun_is : (a : Answer) (t : Tid) → begun_by a ≡ Some t → begins t a ≡ true
 begun_is (Say.Begun u) t e = let same : u ≡ t = cc in subst (λ v. same_tid v t ≡ true) (sym same) (same_tid-refl t)
 begun_is a t e = cc
 
@@ -258,7 +252,7 @@ module _ (scenario : Scenario) (commands : List Command) (command : Command) (tx
 
     same_local : is_some (local_of (records home (x ∷ past)) tx) ≡ is_some (local_of (records home past) tx)
     same_local =
-        both_ways _ _ (λ e. among_local tx (records home past) (local_was (local_among tx (records home (x ∷ past)) e)))
+        tests_agree _ _ (λ e. among_local tx (records home past) (local_was (local_among tx (records home (x ∷ past)) e)))
         (λ e. among_local tx (records home (x ∷ past)) (local_stays (local_among tx (records home past) e)))
 
     same_begun : attempts_of (x ∷ past) tx ≡ attempts_of past tx
@@ -306,7 +300,7 @@ module _ (scenario : Scenario) (commands : List Command) (command : Command) (tx
         by_kept (inr cut) = cut_old IsEnd (IsCommit t) (Coordinator.records own) (Coordinator.records (x ∷ own)) cut i
 
     same_committed : is_some (committed_of (Coordinator.records (x ∷ own)) tx) ≡ is_some (committed_of (Coordinator.records own) tx)
-    same_committed = both_ways _ _ back on
+    same_committed = tests_agree _ _ back on
       where
         back : is_some (committed_of (Coordinator.records (x ∷ own)) tx) ≡ true → is_some (committed_of (Coordinator.records own) tx) ≡ true
         back e = let (t, same, i) = committed_among tx (Coordinator.records (x ∷ own)) e in among_committed tx t (Coordinator.records own) same (commit_was t same i)
@@ -355,10 +349,10 @@ module _ (scenario : Scenario) (commands : List Command) (command : Command) (tx
       by_case (AtSite at x) told line = record { done = by_home (local_home scenario tx) refl; attempts = as_many (local_home scenario tx) refl; decided = closed }
         where
           here : (home : Home) → same_site at home.site ≡ true → happens scenario story command ≡ AtSite home.site x
-          here home q = told ∙ ap (λ s. AtSite s x) (same_site_alike at home.site q)
+          here home q = told ∙ ap (λ s. AtSite s x) (same_site-equal at home.site q)
 
           same_home : (home : Home) → home_of scenario home.site ≡ Some home → same_site at home.site ≡ true → line.home ≡ home
-          same_home home declared q = some_parts (sym line.declared ∙ (ap (home_of scenario) (sym line.here ∙ same_site_alike at home.site q) ∙ declared))
+          same_home home declared q = some_parts (sym line.declared ∙ (ap (home_of scenario) (sym line.here ∙ same_site-equal at home.site q) ∙ declared))
 
           next_here : (home : Home) → line.home ≡ home → x ≡ site_line home (past_of home.site story) line.event
           next_here home same = subst (λ (z : Home). x ≡ site_line z (past_of z.site story) line.event) same line.is_next

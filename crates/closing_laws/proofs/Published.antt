@@ -6,11 +6,12 @@ use Rattle.mdb_base.specs.declared.names.SiteTicket.{SiteTicket}
 use Rattle.mdb_base.specs.declared.names.Tid.{Tid}
 use Rattle.mdb_base.specs.Names.{same_site}
 use Rattle.mdb_base.specs.Words.{Each, Among, when, pick, or_else}
+use Rattle.mdb_base.proofs.NameLaws.{same_site-equal}
+use Rattle.mdb_base.proofs.EachLaws.{among_append}
 use Rattle.presumptions.specs.declared.Decision.{Decision}
 use Rattle.order_laws.specs.Chains.{In}
 use Rattle.order_laws.specs.Tickets.{Ticketed}
 use Rattle.order_laws.proofs.Lists.{each_at}
-use Rattle.order_laws.proofs.Names.{same_site_alike}
 use Rattle.fed_rules.specs.declared.answers.Answer.TheVariants as Say
 use Rattle.fed_rules.specs.declared.commands.Command.{Command}
 use Rattle.fed_rules.specs.declared.events.SiteEvent.{SiteEvent}
@@ -41,7 +42,6 @@ use Rattle.rules_laws.specs.Pasts.{PastsAreMadeByEvents}
 use Rattle.site_history.specs.Records.{IsPrepared}
 use Rattle.engine_laws.proofs.Tickets.{published_grows, published_at}
 use Rattle.coord_laws.proofs.RecordLists.{among_commit}
-use Rattle.order_laws.proofs.Joined.{among_left}
 use Rattle.federation_laws.proofs.Agreement.{IsSaid}
 use Rattle.federation_laws.proofs.CommitOnce.{votes-sent}
 use Rattle.coord_laws.proofs.Made.{IsLastVote, Writes}
@@ -49,9 +49,9 @@ use Rattle.site_history.proofs.LocalLines.{refusal_plain, act_plain}
 use Rattle.site_history.proofs.Agreement.{live_is}
 use Rattle.federation_laws.proofs.StoryGlobals.{story-holds, story-agrees, coord-made}
 use Rattle.coord_laws.proofs.Cycles.{commits_whole}
+use Rattle.commit_laws.proofs.SiteEnds.{settles-records}
 use Rattle.federation_laws.proofs.Told.{CoordCause, IsLine, line_is}
 use Rattle.closing_laws.specs.Given.{CommittedTicketsArePublished}
-use Rattle.closing_laws.proofs.Calm.{settled_records}
 use Rattle.closing_laws.proofs.CoordView.{voted, vote_views}
 use Rattle.closing_laws.proofs.FlowVotes.{commit_in, named_votes}
 
@@ -131,7 +131,7 @@ module _ (home : Home) (past : SitePast) (h : IsPublished home past) where
 
   by_settles : (tid : Tid) (decision : Decision) → IsPublished home (settles home tid decision ∷ past)
   unfolding settles
-  by_settles tid decision = unprepared (settles home tid decision) refl (ap last_ticket (settled_records home past tid decision))
+  by_settles tid decision = unprepared (settles home tid decision) refl (ap last_ticket (settles-records home past tid decision))
 
   by_decide : (tid : Tid) (decision : Decision) → IsPublished home (of_decide home past tid decision ∷ past)
   unfolding of_decide unheld
@@ -240,16 +240,16 @@ ticket_sent scenario whole (command ∷ commands) node k i j =
         by_site : (b : Bool) → same_site l.site k.site ≡ b → In (From.Vote node.tid (Some k.ticket)) (sent_from k.site story)
         by_site true q =
             let same : l.ticket ≡ k.ticket = some_same (sym (ap (λ b. or_vote (cond b (Some l.ticket) None) (vote_at past node.tid k.site)) q) ∙ is_vote_of) in
-            subst (λ s. In (From.Vote node.tid (Some k.ticket)) (sent_from s story)) (same_site_alike l.site k.site q)
+            subst (λ s. In (From.Vote node.tid (Some k.ticket)) (sent_from s story)) (same_site-equal l.site k.site q)
             (subst (λ t. In (From.Vote node.tid (Some t)) (sent_from l.site story)) same (subst (CoordCause scenario story) l.is_vote c))
         by_site false q =
             (votes-sent scenario whole commands).votes node.tid k.site k.ticket (sym (ap (λ b. or_vote (cond b (Some l.ticket) None) (vote_at past node.tid k.site)) q) ∙ is_vote_of)
 
     by_case : (happened : Happened) → IsLine scenario story happened → In node (commits (Coordinator.records (with_coordinator happened past)))
         → (In node (commits (Coordinator.records past)) → In (From.Vote node.tid (Some k.ticket)) (sent_from k.site story)) → In (From.Vote node.tid (Some k.ticket)) (sent_from k.site story ++ sends_from k.site happened)
-    by_case (Nowhere answer) line i old = among_left (λ m. m ≡ From.Vote node.tid (Some k.ticket)) (sent_from k.site story) [] (old i)
-    by_case (AtSite at x) line i old = among_left (λ m. m ≡ From.Vote node.tid (Some k.ticket)) (sent_from k.site story) (sends_from k.site (AtSite at x)) (old i)
-    by_case (AtCoordinator x) line i old = among_left (λ m. m ≡ From.Vote node.tid (Some k.ticket)) (sent_from k.site story) []
+    by_case (Nowhere answer) line i old = among_append (λ m. m ≡ From.Vote node.tid (Some k.ticket)) (sent_from k.site story) [] (old i)
+    by_case (AtSite at x) line i old = among_append (λ m. m ≡ From.Vote node.tid (Some k.ticket)) (sent_from k.site story) (sends_from k.site (AtSite at x)) (old i)
+    by_case (AtCoordinator x) line i old = among_append (λ m. m ≡ From.Vote node.tid (Some k.ticket)) (sent_from k.site story) []
         (elim (commit_from x.calls (Coordinator.disk past) node i) [
           | inl before ↦ old before
           | inr new ↦ vote_sent line.event line.cause (last_vote_of scenario past line.event node x.calls (coord-made scenario story x line).writes new)

@@ -48,6 +48,13 @@ pub nothing_passes : (test : Tid → Bool) (xs : List Tid) → ((x : Tid) → te
 nothing_passes test [] none = refl
 nothing_passes test (x ∷ xs) none = ap (λ b. cond b (x ∷ those test xs) (those test xs)) (none x) ∙ nothing_passes test xs none
 
+-- what isn't live at a site isn't listed there
+pub none_live_at : (home : Home) (story : Story) → ((tid : Tid) → live home (past_of home.site story) tid ≡ None) → live_at (Some home) story ≡ []
+none_live_at home story none =
+    ap (λ rs. rising (map (λ (run : Run). run.tid) rs))
+    (nothing_open (run_at (epoch_start home (past_of home.site story)) (engine_lines (past_of home.site story)))
+    (attempts (epoch_start home (past_of home.site story)) (engine_lines (past_of home.site story))) none)
+
 -- every actor is ready, and nothing is live, in doubt or known
 pub record IsQuiet (scenario : Scenario) (story : Story) : Type 0 where
   pub calm : IsCalm story
@@ -68,10 +75,7 @@ quiet_rests scenario story q = record {
   where
     lives : (site : SiteId) (o : Option Home) → home_of scenario site ≡ o → live_at o story ≡ []
     lives site None e = refl
-    lives site (Some home) e =
-        ap (λ rs. rising (map (λ (run : Run). run.tid) rs))
-        (nothing_open (run_at (epoch_start home (past_of home.site story)) (engine_lines (past_of home.site story))) (attempts (epoch_start home (past_of home.site story)) (engine_lines (past_of home.site story)))
-        (λ tid. q.clear home tid (home-again scenario site home e)))
+    lives site (Some home) e = none_live_at home story (λ tid. q.clear home tid (home-again scenario site home e))
 
     doubted : (site : SiteId) (o : Option Home) → home_of scenario site ≡ o → in_doubt_at o story ≡ []
     doubted site None e = refl

@@ -3,6 +3,7 @@ use Rattle.std.proofs.Common.{◌≡◌, ◌⊎◌, ℕ, suc, ◌+◌, ◌≤◌
 use Rattle.mdb_base.specs.declared.names.SiteId.{SiteId}
 use Rattle.mdb_base.specs.declared.names.Tid.{Tid}
 use Rattle.mdb_base.specs.Words.{pick, when}
+use Rattle.mdb_base.proofs.TestLaws.{length_those}
 use Rattle.presumptions.specs.declared.Participant.{Participant}
 use Rattle.fed_rules.specs.declared.answers.Answer.TheVariants as Say
 use Rattle.fed_rules.specs.declared.commands.Command.{Command}
@@ -23,6 +24,7 @@ use Rattle.fed_rules.specs.CoordRecords.{named}
 use Rattle.fed_rules.specs.Disk.{Disk}
 use Rattle.fed_rules.specs.Happenings.{Trip, is_down, quiet, stopped, tripped}
 use Rattle.fed_rules.specs.Scenarios.{policy, protocols}
+use Rattle.fed_rules.specs.Sessions.{fresh}
 use Rattle.fed_rules.specs.Site.{answered, of_ask, site_line}
 use Rattle.fed_rules.specs.SitePast.{SiteHappening, SitePast, disk, records, trip}
 use Rattle.fed_rules.specs.SiteRecords.{Held, Home, doubt_of, site_frame}
@@ -34,7 +36,6 @@ use Rattle.commit_laws.proofs.PreparedLaws.{nowhere}
 use Rattle.closing_laws.proofs.CoordTurns.{takes_there}
 use Rattle.closing_laws.proofs.Delivered.{sent_behind}
 use Rattle.closing_laws.proofs.FewSends.{SendsFew, agains_few, inquiries_few}
-use Rattle.closing_laws.proofs.Lengths.{length_those}
 
 -- what a line of a site sends
 place_few : (site : SiteId) (sent : ℕ) (messages : List FromSite) → length (place_from site sent messages) ≤ 1
@@ -42,7 +43,7 @@ place_few site sent [] = omega arith
 place_few site sent (message ∷ messages) = omega arith
 
 site_places : (scenario : Scenario) (commands : List Command) (command : Command)
-    → ((x : CoordEvent) → CoordCause scenario (story_of scenario commands) command x → ⊥) → length (last_sends scenario (command ∷ commands)) ≤ 1
+    → ((x : CoordEvent) → CoordCause scenario (story_of scenario commands) command x → ⊥) → length (last_sends (fresh scenario) (command ∷ commands)) ≤ 1
 site_places scenario commands command none = by_line (happens scenario story command) (line_is scenario story command)
   where
     story : Story
@@ -53,10 +54,10 @@ site_places scenario commands command none = by_line (happens scenario story com
     by_line (AtSite site x) line = place_few site (length (sent_from site story)) x.sends
     by_line (AtCoordinator x) line = absurd (none line.event line.cause)
 
-pub give_places : (scenario : Scenario) (commands : List Command) (place : Place) → length (last_sends scenario (Cmd.Give place.site place.place ∷ commands)) ≤ 1
+pub give_places : (scenario : Scenario) (commands : List Command) (place : Place) → length (last_sends (fresh scenario) (Cmd.Give place.site place.place ∷ commands)) ≤ 1
 give_places scenario commands place = site_places scenario commands (Cmd.Give place.site place.place) (λ x c. c)
 
-pub ask_places : (scenario : Scenario) (commands : List Command) (site : SiteId) (tid : Tid) → length (last_sends scenario (Cmd.Ask site tid ∷ commands)) ≤ 1
+pub ask_places : (scenario : Scenario) (commands : List Command) (site : SiteId) (tid : Tid) → length (last_sends (fresh scenario) (Cmd.Ask site tid ∷ commands)) ≤ 1
 ask_places scenario commands site tid = site_places scenario commands (Cmd.Ask site tid) (λ x c. c)
 
 abbrev place_of : Story → Sent → Place
@@ -95,7 +96,7 @@ asks home past tid = asks_when tid (is_down past) _ _ (record { sends = inl refl
 
 -- so the line that takes what a site just sent when it asked sends one message at most
 pub answer_places : (scenario : Scenario) (commands : List Command) (site : SiteId) (tid : Tid) (place : Place)
-    → last_sends scenario (Cmd.Ask site tid ∷ commands) ≡ place ∷ [] → length (last_sends scenario (Cmd.Take place.site place.place ∷ Cmd.Ask site tid ∷ commands)) ≤ 1
+    → last_sends (fresh scenario) (Cmd.Ask site tid ∷ commands) ≡ place ∷ [] → length (last_sends (fresh scenario) (Cmd.Take place.site place.place ∷ Cmd.Ask site tid ∷ commands)) ≤ 1
 answer_places scenario commands site tid place only = by_line (happens scenario story (Cmd.Ask site tid)) refl (line_is scenario story (Cmd.Ask site tid)) only
   where
     story : Story
@@ -117,7 +118,7 @@ answer_places scenario commands site tid place only = by_line (happens scenario 
         subst (λ h. length (places_of (now (AtSite s x)) h) ≤ 1) (sym told) (omega (arith, few, same))
 
     by_line : (happened : Happened) → happens scenario story (Cmd.Ask site tid) ≡ happened → IsLine scenario story (Cmd.Ask site tid) happened → places_of story happened ≡ place ∷ []
-        → length (last_sends scenario (Cmd.Take place.site place.place ∷ Cmd.Ask site tid ∷ commands)) ≤ 1
+        → length (last_sends (fresh scenario) (Cmd.Take place.site place.place ∷ Cmd.Ask site tid ∷ commands)) ≤ 1
     by_line (Nowhere answer) told line at = cc
     by_line (AtCoordinator x) told line at = absurd line.cause
     by_line (AtSite s x) told line at =
@@ -129,7 +130,7 @@ answer_places scenario commands site tid place only = by_line (happens scenario 
               subst (λ h. length (taken_at h place) ≤ 1) (sym told) (subst (λ p. length (taken_at (AtSite s x) p) ≤ 1) here (answered_at s x inquiry))
         ]
 
-pub again_places : (scenario : Scenario) (commands : List Command) (tid : Tid) → length (last_sends scenario (Cmd.Again tid ∷ commands)) ≤ length (protocols scenario)
+pub again_places : (scenario : Scenario) (commands : List Command) (tid : Tid) → length (last_sends (fresh scenario) (Cmd.Again tid ∷ commands)) ≤ length (protocols scenario)
 again_places scenario commands tid = by_line (happens scenario story (Cmd.Again tid)) (line_is scenario story (Cmd.Again tid))
   where
     story : Story

@@ -4,7 +4,7 @@ use Rattle.mdb_base.specs.declared.names.Tid.{Tid}
 use Rattle.mdb_base.specs.declared.names.Tx.{Tx}
 use Rattle.mdb_base.specs.Names.{same_site, same_tid}
 use Rattle.mdb_base.specs.Words.{Each, when, pick, some_of}
-use Rattle.mdb_base.proofs.NameLaws.{same_tid-equal, same_tid-refl}
+use Rattle.mdb_base.proofs.NameLaws.{same_tid-equal, same_tid-refl, same_tx-equal}
 use Rattle.presumptions.specs.declared.Decision.{Decision}
 use Rattle.order_laws.specs.Chains.{In}
 use Rattle.order_laws.proofs.Lists.{each_at}
@@ -33,7 +33,7 @@ use Rattle.federation_laws.proofs.CoordHolds.{is_begun}
 use Rattle.federation_laws.proofs.LocalLines.{NotAsked, local-made}
 use Rattle.federation_laws.proofs.LocalMoves.{LocalMove, Made, Rests, Gone, Opening, Granting, Closing}
 use Rattle.federation_laws.proofs.SiteAbout.{IsAbout, begin_about, act_about, commit_about, abort_about, work_about, take_about, prepare_about, decide_about, drop_about}
-use Rattle.federation_laws.proofs.StoryGlobals.{story-holds, story-agrees, live_of_tx-is, same_tx_alike}
+use Rattle.federation_laws.proofs.StoryGlobals.{story-holds, story-agrees, live_of_tx-is}
 use Rattle.federation_laws.proofs.Told.{SiteCause, IsLine, line_is}
 use Rattle.closing_laws.specs.Given.{UnbegunAreOpen}
 use Rattle.closing_laws.proofs.Locals.{IsHere, line_here}
@@ -196,9 +196,9 @@ unopened scenario (command ∷ commands) home g whole d global unbegun =
 
     off : (event : SiteEvent) → SiteCause scenario story home event → IsOff g event
     off (Ev.Begin t) c = other_tid t t.tx c.here refl
-    off (Ev.Act t act) c = other_tid t c.tx c.here (same_tx_alike t.tx c.tx (live_of_tx-is home past c.tx t c.found_live))
-    off (Ev.Commit t) c = other_tid t c.tx c.here (same_tx_alike t.tx c.tx (live_of_tx-is home past c.tx t c.found_live))
-    off (Ev.Abort t) c = other_tid t c.tx c.here (same_tx_alike t.tx c.tx (live_of_tx-is home past c.tx t c.found_live))
+    off (Ev.Act t act) c = other_tid t c.tx c.here (same_tx-equal t.tx c.tx (live_of_tx-is home past c.tx t c.found_live))
+    off (Ev.Commit t) c = other_tid t c.tx c.here (same_tx-equal t.tx c.tx (live_of_tx-is home past c.tx t c.found_live))
+    off (Ev.Abort t) c = other_tid t c.tx c.here (same_tx-equal t.tx c.tx (live_of_tx-is home past c.tx t c.found_live))
     off (Ev.Give message) c = off_message message c
     off (Ev.Fate tx) c = tt
     off (Ev.Ask t) c = tt

@@ -8,8 +8,9 @@ use Rattle.fed_rules.specs.CoordPast as Coordinator
 use Rattle.fed_rules.specs.Happenings.{is_down}
 use Rattle.fed_rules.specs.Plans.{IsScenario}
 use Rattle.fed_rules.specs.Scenarios.{home_of}
+use Rattle.fed_rules.specs.Sessions.{Session, fresh}
 use Rattle.fed_rules.specs.SitePast.{trip}
-use Rattle.fed_rules.specs.Story.{Story, coord_past, past_of, story_of}
+use Rattle.fed_rules.specs.Story.{Story, coord_past, past_of, story_in, story_of}
 
 -- every actor is up and no trip is armed; no attempt is live or in doubt at any site, and the coordinator knows none
 pub record IsAtRest (scenario : Scenario) (story : Story) : Type 0 where
@@ -28,15 +29,15 @@ pub record AllUp (story : Story) : Type 0 where
 
 -- so it is behind the actors that were down came back, behind those undecided were given up, behind the live ones ended, and behind the known ones
 -- ended
-pub record StaysUp (scenario : Scenario) (commands : List Command) : Type 0 where
-  pub brought_up : AllUp (story_of scenario (bring_up scenario (disarm scenario commands)))
-  pub given_up : AllUp (story_of scenario (give_up scenario (bring_up scenario (disarm scenario commands))))
-  pub cleared : AllUp (story_of scenario (clear scenario (give_up scenario (bring_up scenario (disarm scenario commands)))))
-  pub ended : AllUp (story_of scenario (end_known scenario (clear scenario (give_up scenario (bring_up scenario (disarm scenario commands))))))
+pub record StaysUp (session : Session) (commands : List Command) : Type 0 where
+  pub brought_up : AllUp (story_in session (bring_up session (disarm session commands)))
+  pub given_up : AllUp (story_in session (give_up session (bring_up session (disarm session commands))))
+  pub cleared : AllUp (story_in session (clear session (give_up session (bring_up session (disarm session commands)))))
+  pub ended : AllUp (story_in session (end_known session (clear session (give_up session (bring_up session (disarm session commands))))))
 
 -- whatever happened before, closing keeps every actor up from its second step on
 abbrev pub ClosingStaysUp : Type 0
-ClosingStaysUp = (scenario : Scenario) (commands : List Command) → IsScenario scenario → StaysUp scenario commands
+ClosingStaysUp = (scenario : Scenario) (commands : List Command) → IsScenario scenario → StaysUp (fresh scenario) commands
 
 -- whatever happened before, a closed session is at rest
 abbrev pub ClosedSessionsRest : Type 0

@@ -1,15 +1,15 @@
 -- A line of the coordinator keeps the invariant.
 use Rattle.std.proofs.Common.{◌≡◌, ℕ, ◌<◌, ◌≤◌, ◌⊎◌, inl, inr, Bool, true, false, cond, ◌&&◌, ◌||◌, ◌==◌, is_some, None, List, [], ◌∷◌, ◌++◌, map, refl, sym, ap, subst, ◌∙◌, arith}
-use Rattle.std.proofs.lemmas.Bool.{and_parts, eqb-true}
+use Rattle.std.proofs.lemmas.Bool.{and_parts, eqb-true, or_cases}
 use Rattle.mdb_base.specs.declared.acts.Step.{Step}
 use Rattle.mdb_base.specs.declared.names.SiteId.{SiteId}
 use Rattle.mdb_base.specs.declared.names.Tid.{Tid}
 use Rattle.mdb_base.specs.declared.replies.Reply.{Reply}
 use Rattle.mdb_base.specs.Names.{same_site}
 use Rattle.mdb_base.specs.Words.{Each, Among, those}
-use Rattle.mdb_base.proofs.NameLaws.{same_tid-refl}
+use Rattle.mdb_base.proofs.NameLaws.{same_tid-refl, same_site-equal}
+use Rattle.mdb_base.proofs.EachLaws.{among_append, among_split}
 use Rattle.order_laws.specs.Chains.{In}
-use Rattle.order_laws.proofs.Lists.{or_cases}
 use Rattle.presumptions.specs.declared.Decision.{Decision}
 use Rattle.presumptions.specs.declared.Decision.TheVariants as Decided
 use Rattle.presumptions.specs.declared.Participant.{Participant}
@@ -41,9 +41,7 @@ use Rattle.coord_laws.proofs.RecordLists.{commit_named, decided_outcome}
 use Rattle.coord_laws.proofs.Rules.{open_undecided}
 use Rattle.coord_laws.proofs.Sound.{begins_go, Declared, IsBegun, named_stays_some, decided_not_open, program_stays}
 use Rattle.coord_laws.proofs.Turns.{Turn, fresh, same_program, same_outcome, stays_closed, uncommitted_of, is_participant}
-use Rattle.order_laws.proofs.Joined.{among_left, among_split}
 use Rattle.coord_laws.proofs.Taken.{Counting, Unchanged, Cleared, Adds, counting, ticket_counted}
-use Rattle.order_laws.proofs.Names.{same_site_alike}
 
 -- the next line of the coordinator, where the invariant holds
 pub record CoordNext (scenario : Scenario) (home : Home) (g : Tid) (past : CoordPast) (here : SitePast) (sent : List ToSite)
@@ -59,7 +57,7 @@ pub record CoordNext (scenario : Scenario) (home : Home) (g : Tid) (past : Coord
 abbrev pub to_site : SiteId → List Sent → List ToSite
 to_site site sends = map (λ s. s.message) (those (λ s. same_site s.site site) sends)
 
-told-to : (protocols : List Participant) (g : Tid) (past : CoordPast) (x : CoordHappening) (site : SiteId) (sends : List Sent)
+pub told-to : (protocols : List Participant) (g : Tid) (past : CoordPast) (x : CoordHappening) (site : SiteId) (sends : List Sent)
     (m : ToSite) → Each (Tells protocols g past x) sends → In m (to_site site sends) → Says protocols g past x site m
 told-to protocols g past x site [] m h i = absurd i
 told-to protocols g past x site (s ∷ sends) m h i = by_test (same_site s.site site) refl i
@@ -69,7 +67,7 @@ told-to protocols g past x site (s ∷ sends) m h i = by_test (same_site s.site 
           (cond b (s ∷ those (λ k. same_site k.site site) sends) (those (λ k. same_site k.site site) sends)))
           → (In m (to_site site sends) → Says protocols g past x site m) → Says protocols g past x site m
       by_test true q (inl e) k = subst (Says protocols g past x site) e
-          (subst (λ at. Says protocols g past x at s.message) (same_site_alike s.site site q) h.0)
+          (subst (λ at. Says protocols g past x at s.message) (same_site-equal s.site site q) h.0)
       by_test true q (inr j) k = k j
       by_test false q j k = k j
 
@@ -149,7 +147,7 @@ among-commit-protocol home c (m ∷ ms) (inl is) = inl (is.1 ∙ c)
 among-commit-protocol home c (m ∷ ms) (inr i) = inr (among-commit-protocol home c ms i)
 
 -- the presumption of an attempt that isn't known is its outcome, or the attempt has a record, and the site acknowledges the outcome
-presumed-or-kept : (scenario : Scenario) (home : Home) (g : Tid) (past : CoordPast) (e : ℕ) → Prepares scenario home g past e
+pub presumed-or-kept : (scenario : Scenario) (home : Home) (g : Tid) (past : CoordPast) (e : ℕ) → Prepares scenario home g past e
     → (presumed home.protocol ≡ outcome (Coordinator.records past) g)
     ⊎ ((acks home.protocol (outcome (Coordinator.records past) g) ≡ true)
     × (is_some (named (protocols scenario) (Coordinator.records past) g) ≡ true))
@@ -187,14 +185,14 @@ coord-next scenario home g past here sent back event x n = record {
   global = global;
   firm = a.firm;
   shut = a.shut;
-  given = (λ m i. among_left (λ y. y ≡ m) sent (to_site home.site x.sends) (a.given m i));
+  given = (λ m i. among_append (λ y. y ≡ m) sent (to_site home.site x.sends) (a.given m i));
   taken = taken;
   preparing = preparing;
   telling = telling;
   replied = a.replied;
   voted = a.voted;
   acked = a.acked;
-  asked = (λ i. let r = a.asked i in (r.0, r.1, among_left (λ y. y ≡ To.Prepare g r.0 r.1) sent (to_site home.site x.sends) r.2));
+  asked = (λ i. let r = a.asked i in (r.0, r.1, among_append (λ y. y ≡ To.Prepare g r.0 r.1) sent (to_site home.site x.sends) r.2));
   started = a.started;
   known = known (counting past g home.site x);
   counted = counted (counting past g home.site x);
@@ -202,7 +200,7 @@ coord-next scenario home g past here sent back event x n = record {
       (sym (epoch-stays scenario home g past event x t d.begun d.closed)) (a.barred got));
   ended = (λ d m. let r = a.ended d m in (r.0, r.1 ∙ still r.0));
   settled = (λ d m. let r = a.settled d m in (r.0, r.1 ∙ still r.0));
-  prepared = (λ e m. let r = a.prepared e m in (r.0, among_left (λ y. y ≡ To.Prepare g e r.0) sent (to_site home.site x.sends) r.1));
+  prepared = (λ e m. let r = a.prepared e m in (r.0, among_append (λ y. y ≡ To.Prepare g e r.0) sent (to_site home.site x.sends) r.1));
   sealed = sealed;
   tidy = a.tidy;
 } where
@@ -224,7 +222,7 @@ coord-next scenario home g past here sent back event x n = record {
       record {
         e = r.e;
         n = r.n;
-        taken = among_left (λ y. y ≡ To.Prepare g r.e r.n) sent (to_site home.site x.sends) r.taken;
+        taken = among_append (λ y. y ≡ To.Prepare g r.e r.n) sent (to_site home.site x.sends) r.taken;
         left = elim r.left [ inl o ↦ inl o | inr less ↦ inr (omega (arith, same, less)) ];
       }
 

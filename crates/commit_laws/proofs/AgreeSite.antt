@@ -5,6 +5,7 @@ use Rattle.mdb_base.specs.declared.names.Tid.{Tid}
 use Rattle.mdb_base.specs.declared.replies.Reply.{Reply}
 use Rattle.mdb_base.specs.Words.{Each, Among, some_of}
 use Rattle.mdb_base.proofs.NameLaws.{same_tid-refl}
+use Rattle.mdb_base.proofs.EachLaws.{among_append, among_split}
 use Rattle.order_laws.specs.Chains.{In}
 use Rattle.order_laws.proofs.Lists.{each_at}
 use Rattle.presumptions.specs.declared.Decision.{Decision}
@@ -29,7 +30,6 @@ use Rattle.commit_laws.specs.Records.{IsPrepared, IsEnded, IsLooseEnded}
 use Rattle.commit_laws.specs.Seals.{seals}
 use Rattle.commit_laws.proofs.Agree.{IsGot, IsOver, HasSealed, Agree}
 use Rattle.rules_laws.proofs.Disks.{cut_stays, cut_old}
-use Rattle.order_laws.proofs.Joined.{among_left, among_split}
 use Rattle.commit_laws.proofs.Links.{IsGlobal}
 use Rattle.commit_laws.proofs.SiteFacts.{IsSealing, IsSettling, IsAcking, Wrote, Says, Settled, NotBegun}
 use Rattle.commit_laws.proofs.SiteLines.{Kept, Line}
@@ -84,7 +84,7 @@ site-stays home g here event now P firm (inl (r, w, is)) m = subst (Among P) (sy
 site-stays home g here event now P firm (inr c) m = cut_stays (IsLooseEnded home.protocol) P firm (records home here) now c m
 
 -- the epoch never falls
-epoch-grows : (home : Home) (g : Tid) (here : SitePast) (event : SiteEvent) (now : List SiteRecord) → Kept home g here event now
+pub epoch-grows : (home : Home) (g : Tid) (here : SitePast) (event : SiteEvent) (now : List SiteRecord) → Kept home g here event now
     → epoch home here ≤ epoch_of now
 epoch-grows home g here event now (inr (newer, each, e)) =
     let same : epoch home here ≡ epoch_of now = ap epoch_of e ∙ epoch-cut home.protocol newer now each in omega (arith, same)
@@ -211,7 +211,7 @@ site-turn scenario home g past here sent back event x t = record {
   firm = t.line.firm;
   shut = (λ global. t.line.shut (t.global global) (a.shut global));
   given = given;
-  taken = (λ m i. among_left (λ y. y ≡ m) back x.sends (a.taken m i));
+  taken = (λ m i. among_append (λ y. y ≡ m) back x.sends (a.taken m i));
   preparing = a.preparing;
   telling = (λ d i. let o = a.telling d i in record {
     begun = o.begun;

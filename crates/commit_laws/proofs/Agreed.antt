@@ -4,6 +4,7 @@ use Rattle.mdb_base.specs.declared.names.SiteId.{SiteId}
 use Rattle.mdb_base.specs.declared.names.Tid.{Tid}
 use Rattle.mdb_base.specs.Names.{same_tid, same_site}
 use Rattle.mdb_base.proofs.NameLaws.{same_tid-equal}
+use Rattle.mdb_base.proofs.JoinLaws.{append_nil}
 use Rattle.fed_rules.specs.declared.commands.Command.{Command}
 use Rattle.fed_rules.specs.declared.events.CoordEvent.{CoordEvent}
 use Rattle.fed_rules.specs.declared.events.SiteEvent.{SiteEvent}
@@ -18,7 +19,7 @@ use Rattle.fed_rules.specs.SiteRecords.{Home, site_frame}
 use Rattle.fed_rules.specs.Story.{Story, Happened, AtSite, AtCoordinator, Nowhere, past_of, coord_past, with_site, with_coordinator, sent_to, sent_from, sends_to, sends_from, happens, story_of}
 use Rattle.rules_laws.specs.Durable.{IsFirm}
 use Rattle.commit_laws.specs.Records.{IsLooseEnded}
-use Rattle.commit_laws.proofs.Links.{story_made, numbered, member_of, IsGlobal, SiteCame, CoordCame, Linked, linked, linked-here, not-both}
+use Rattle.commit_laws.proofs.Links.{story_goes_on, numbered, member_of, IsGlobal, SiteCame, CoordCame, Linked, linked, linked-here, not-both}
 use Rattle.coord_laws.proofs.Past.{past_sound, any_member}
 use Rattle.coord_laws.proofs.Sound.{IsBegun, begins_go, CoordSound}
 use Rattle.fed_rules.specs.CoordPast.{begins}
@@ -29,7 +30,6 @@ use Rattle.coord_laws.proofs.Lines.{coord_lines}
 use Rattle.coord_laws.proofs.Turns.{Turn}
 use Rattle.commit_laws.proofs.Declared.{is-declared}
 use Rattle.rules_laws.proofs.Disks.{firm_quiet}
-use Rattle.order_laws.proofs.Joined.{append_nil}
 use Rattle.commit_laws.proofs.SiteFacts.{NotBegun}
 use Rattle.commit_laws.proofs.SiteLines.{site-lines}
 
@@ -171,7 +171,7 @@ agreed scenario home g (command ∷ commands) declared =
 pub coord-sound : (scenario : Scenario) (home : Home) (g : Tid) (commands : List Command)
     → CoordSound (protocols scenario) (member_of home) g (coord_past (story_of scenario commands))
 coord-sound scenario home g commands =
-    past_sound (protocols scenario) (policy scenario) (member_of home) g (coord_past (story_of scenario commands)) (story_made scenario commands)
+    past_sound (protocols scenario) (policy scenario) (member_of home) g (coord_past (story_of scenario commands)) (story_goes_on scenario commands)
 
 -- what was begun is an attempt of a global transaction
 pub begun_global : (scenario : Scenario) (g : Tid) (commands : List Command) → IsBegun (coord_past (story_of scenario commands)) g
@@ -190,7 +190,7 @@ begun_global scenario g (command ∷ commands) b =
     more (AtCoordinator x) l old (inr b) = old b
     more (AtCoordinator x) l old (inl b) =
         let (event, is, came) = l.next in
-        let firm = (past_sound (protocols scenario) (policy scenario) any_member g (coord_past story) (story_made scenario commands)).firm in
+        let firm = (past_sound (protocols scenario) (policy scenario) any_member g (coord_past story) (story_goes_on scenario commands)).firm in
         let line = coord_lines (protocols scenario) (policy scenario) g (coord_past story) event firm in
         let go = begins_go (protocols scenario) g (coord_past story) (coord_line (protocols scenario) (policy scenario) (coord_past story) event) line.stood
         (subst (λ y. begins g y.answer ≡ true) is b) in

@@ -38,7 +38,8 @@ use Rattle.coord_laws.proofs.Turns.{Turn, same_outcome, uncommitted_of}
 use Rattle.commit_laws.proofs.Declared.{is-declared}
 use Rattle.rules_laws.proofs.Disks.{appended}
 use Rattle.order_laws.proofs.Lists.{those_same}
-use Rattle.commit_laws.proofs.PreparedLaws.{nowhere, in-those}
+use Rattle.order_laws.proofs.InLaws.{those-in}
+use Rattle.commit_laws.proofs.PreparedLaws.{nowhere}
 use Rattle.commit_laws.proofs.SealProofs.{over-free}
 use Rattle.commit_laws.proofs.SiteWork.{held-prepared}
 
@@ -200,9 +201,9 @@ acknowledged scenario commands home declared tid gone i = by_named (named (proto
       → In (From.Ack tid) (sent_from home.site (story_of scenario commands))
   by_named None e i = absurd i
   by_named (Some ms) e i =
-      let acking = in-those (λ p. acks p.protocol (outcome kept tid)) member ms i in
+      let acking = those-in (λ p. acks p.protocol (outcome kept tid)) member ms i in
       let names = (a.sound.names ms e).1 in
-      let visiting = in-those (λ p. visits p.site (program (coord_past (story_of scenario commands)) tid)) member (protocols scenario)
+      let visiting = those-in (λ p. visits p.site (program (coord_past (story_of scenario commands)) tid)) member (protocols scenario)
       (subst (In member) names acking.1) in
       a.taken (From.Ack tid)
       (a.sound.gone gone (ap is_some e) (is-declared scenario home.site home declared).0 acking.0 visiting.0)

@@ -1,14 +1,14 @@
 -- A later run of an attempt that is finished at a site comes to nothing.
 use Rattle.std.proofs.Common.{◌≡◌, ℕ, inl, inr, ◌⊎◌, Bool, true, false, cond, ◌||◌, is_some, Option, Some, None, List, [], ◌∷◌, ◌++◌, refl, sym, ap, subst, ◌∙◌}
-use Rattle.std.proofs.lemmas.Bool.{or_right}
+use Rattle.std.proofs.lemmas.Bool.{or_right, or_cases}
 use Rattle.mdb_base.specs.declared.acts.Step.{Step}
 use Rattle.mdb_base.specs.declared.names.Tid.{Tid}
 use Rattle.mdb_base.specs.Names.{same_site}
 use Rattle.mdb_base.specs.Words.{Among, pick}
-use Rattle.mdb_base.proofs.NameLaws.{same_tid-equal}
+use Rattle.mdb_base.proofs.NameLaws.{same_tid-equal, same_site-refl, same_site-equal}
 use Rattle.mdb_base.proofs.Words.{when-false}
 use Rattle.presumptions.specs.declared.Decision.{Decision}
-use Rattle.order_laws.proofs.Lists.{or_cases, some_of_is, is_among}
+use Rattle.order_laws.proofs.Lists.{some_of_is, is_among}
 use Rattle.fed_rules.specs.declared.answers.Answer.TheVariants as Say
 use Rattle.fed_rules.specs.declared.commands.Command.{Command}
 use Rattle.fed_rules.specs.declared.events.SiteEvent.{SiteEvent}
@@ -30,10 +30,9 @@ use Rattle.commit_laws.proofs.Agree.{IsGot}
 use Rattle.commit_laws.proofs.AgreeSite.{bars, new-prepared}
 use Rattle.commit_laws.proofs.Agreed.{agreed, at-site}
 use Rattle.commit_laws.proofs.Links.{IsNext, linked, linked-here}
-use Rattle.order_laws.proofs.Names.{same_site_self}
 use Rattle.commit_laws.proofs.SealProofs.{Next, next-line, sealed-twice}
 use Rattle.commit_laws.proofs.SiteFacts.{IsSealing, Shut}
-use Rattle.rules_laws.proofs.Declared.{home-again, its-site, same-site}
+use Rattle.rules_laws.proofs.Declared.{home-again, its-site}
 use Rattle.commit_laws.proofs.Trips.{HasCalls, trips_have_calls, uncalled}
 
 -- the event is a decision on the attempt
@@ -152,7 +151,7 @@ old_records scenario (command ∷ commands) home declared tid =
         by_test : (b : Bool) → same_site at home.site ≡ b → OldRecords home (cond b (x ∷ past) past) tid
         by_test false q = rest
         by_test true q =
-            let here : happens scenario (story_of scenario commands) command ≡ AtSite home.site x = e ∙ ap (λ s. AtSite s x) (same-site at home.site q) in
+            let here : happens scenario (story_of scenario commands) command ≡ AtSite home.site x = e ∙ ap (λ s. AtSite s x) (same_site-equal at home.site q) in
             old_behind home tid x past (next_record scenario commands home declared x (command, here) tid) rest
 
 pub later-runs-leave-no-record : LaterRunsLeaveNoRecord
@@ -195,7 +194,7 @@ unheld_next scenario commands home declared x (command, e) tid program global ru
     let past = past_of home.site (story_of scenario commands) in
     let l : IsNext scenario (story_of scenario commands) (AtSite home.site x) = subst (IsNext scenario (story_of scenario commands)) e
     (linked scenario (story_of scenario commands) command).next in
-    let (event, made, came) = linked-here scenario home (story_of scenario commands) x home.site declared (same_site_self home.site) l in
+    let (event, made, came) = linked-here scenario home (story_of scenario commands) x home.site declared (same_site-refl home.site) l in
     let t = at-site scenario home tid (story_of scenario commands) event came (agreed scenario home tid commands declared) in
     let named : event ≡ Ev.Give (To.Decide tid decision) = sym t.line.is ∙ (ap (λ y. y.event) (sym made) ∙ is) in
     let line : x ≡ site_line home past (Ev.Give (To.Decide tid decision)) = made ∙ ap (site_line home past) named in

@@ -6,12 +6,14 @@ pub mod Declared
 pub mod EndingProofs
 pub mod ForgettingProofs
 pub mod LaterRunProofs
+pub mod FoundSessions
 pub mod Links
 pub mod OutcomeLaws
 pub mod PreparedLaws
 pub mod Refuted
 pub mod RightRules
 pub mod SealProofs
+pub mod Silent
 pub mod SiteEnds
 pub mod SiteFacts
 pub mod SiteLines

@@ -1,13 +1,16 @@
 -- What happens in a story is the next line of a site or of the coordinator; what is given or taken there was sent, and what begins is new.
-use Rattle.std.proofs.Common.{◌≡◌, ℕ, zero, suc, inl, inr, true, Option, Some, None, List, [], ◌∷◌, refl, sym, ◌∙◌, ap, ap₂, subst}
+use Rattle.std.proofs.Common.{◌≡◌, true, Option, Some, None, List, [], ◌∷◌, refl, sym, ◌∙◌, ap, ap₂, subst}
 use Rattle.mdb_base.specs.declared.acts.Step.{Step}
 use Rattle.mdb_base.specs.declared.names.SiteId.{SiteId}
 use Rattle.mdb_base.specs.declared.names.Tid.{Tid}
 use Rattle.mdb_base.specs.declared.names.Tx.{Tx}
 use Rattle.mdb_base.specs.Names.{same_site}
-use Rattle.mdb_base.specs.Words.{item_at, map_some}
+use Rattle.mdb_base.specs.Words.{map_some}
+use Rattle.mdb_base.proofs.NameLaws.{same_site-equal}
+use Rattle.mdb_base.proofs.OptionLaws.{some_parts}
 use Rattle.order_laws.specs.Chains.{In}
 use Rattle.presumptions.specs.declared.Participant.{Participant}
+use Rattle.order_laws.proofs.InLaws.{item_at-in}
 use Rattle.fed_rules.specs.declared.commands.Command.{Command}
 use Rattle.fed_rules.specs.declared.commands.Command.TheVariants as Cmd
 use Rattle.fed_rules.specs.declared.events.CoordEvent.{CoordEvent}
@@ -23,13 +26,12 @@ use Rattle.fed_rules.specs.Site.{site_line}
 use Rattle.fed_rules.specs.SitePast.{SiteHappening}
 use Rattle.fed_rules.specs.SiteRecords.{Home}
 use Rattle.fed_rules.specs.Story.{Story, Happened, AtSite, AtCoordinator, Nowhere, past_of, coord_past, story_of, with_coordinator, sent_to, sent_from, happens}
-use Rattle.coord_laws.specs.Pasts.{IsNumbered, IsMadeByEvents}
+use Rattle.coord_laws.specs.Pasts.{IsGoingOn, IsNumbered, IsMadeByEvents}
+use Rattle.coord_laws.proofs.Past.{going_on}
 use Rattle.commit_laws.specs.Pasts.{CoordinatorsAreMadeByEvents}
 use Rattle.rules_laws.specs.Lines.{SiteCause, CoordCause, IsLine}
 pub use Rattle.rules_laws.proofs.Declared.{home-again, its-site}
 use Rattle.rules_laws.proofs.Lines.{line_is}
-use Rattle.order_laws.proofs.Names.{same_site_alike}
-use Rattle.order_laws.proofs.Alike.{some_parts}
 
 -- the attempt is one of a global transaction
 abbrev pub IsGlobal : Scenario → Tid → Type 0
@@ -77,11 +79,6 @@ IsNext scenario story (Nowhere answer) = Unit {0}
 pub record Linked (scenario : Scenario) (story : Story) (happened : Happened) : Type 0 where
   pub next : IsNext scenario story happened
 
-pub item-in : {A : Type 0} (xs : List A) (n : ℕ) (x : A) → item_at xs n ≡ Some x → In x xs
-item-in [] n x e = cc
-item-in (y ∷ ys) zero x e = inl (some_parts e)
-item-in (y ∷ ys) (suc n) x e = inr (item-in ys n x e)
-
 site_came : (scenario : Scenario) (home : Home) (story : Story) (command : Command) (event : SiteEvent) → SiteCause scenario home story command event
     → SiteCame scenario home.site story event
 site_came scenario home story (Cmd.Begin tx) event c = subst (λ e. SiteCame scenario home.site story e) (sym c.asks.is) (home, c.here)
@@ -90,7 +87,7 @@ site_came scenario home story (Cmd.Commit tx) event c = subst (λ e. SiteCame sc
 site_came scenario home story (Cmd.Abort tx) event c = subst (λ e. SiteCame scenario home.site story e) (sym c.asks.is) tt
 site_came scenario home story (Cmd.Fate tx) event c = subst (λ e. SiteCame scenario home.site story e) (sym c.asks) tt
 site_came scenario home story (Cmd.Give site place) event c =
-    subst (λ e. SiteCame scenario home.site story e) (sym c.1.is) (item-in (sent_to home.site story) place c.1.message c.1.at)
+    subst (λ e. SiteCame scenario home.site story e) (sym c.1.is) (item_at-in (sent_to home.site story) place c.1.message c.1.at)
 site_came scenario home story (Cmd.Ask site tid) event c = subst (λ e. SiteCame scenario home.site story e) (sym c.1) tt
 site_came scenario home story (Cmd.Drop site tid) event c = subst (λ e. SiteCame scenario home.site story e) (sym c.1) tt
 site_came scenario home story (Cmd.Halt actor cut) event c = subst (λ e. SiteCame scenario home.site story e) (sym c.1) tt
@@ -109,7 +106,7 @@ coord_came scenario story (Cmd.Fate tx) event c = subst (λ e. CoordCame scenari
 coord_came scenario story (Cmd.Again tid) event c = subst (λ e. CoordCame scenario story e) (sym c) tt
 coord_came scenario story (Cmd.Late tid) event c = subst (λ e. CoordCame scenario story e) (sym c) tt
 coord_came scenario story (Cmd.Take site place) event c =
-    subst (λ e. CoordCame scenario story e) (sym c.is) (item-in (sent_from site story) place c.message c.at)
+    subst (λ e. CoordCame scenario story e) (sym c.is) (item_at-in (sent_from site story) place c.message c.at)
 coord_came scenario story (Cmd.Halt actor cut) event c = subst (λ e. CoordCame scenario story e) (sym c.1) tt
 coord_came scenario story (Cmd.Trip actor calls cut) event c = subst (λ e. CoordCame scenario story e) (sym c.1) tt
 coord_came scenario story (Cmd.Back actor) event c = subst (λ e. CoordCame scenario story e) (sym c.1) tt
@@ -143,7 +140,7 @@ pub linked-here : (scenario : Scenario) (home : Home) (story : Story) (x : SiteH
     → home_of scenario home.site ≡ Some home → same_site at home.site ≡ true → IsNext scenario story (AtSite at x)
     → (event : SiteEvent) × (x ≡ site_line home (past_of home.site story) event) × SiteCame scenario home.site story event
 linked-here scenario home story x at declared q (other, found, event, is, came) =
-    let site : at ≡ home.site = same_site_alike at home.site q in
+    let site : at ≡ home.site = same_site-equal at home.site q in
     let same : other ≡ home = some_parts (sym found ∙ ap (home_of scenario) site ∙ declared) in
     (event, is ∙ ap₂ (λ h s. site_line h (past_of s story) event) same site, subst (λ s. SiteCame scenario s story event) site came)
 
@@ -170,3 +167,7 @@ story_made scenario (command ∷ commands) =
     more (Nowhere answer) l m = m
     more (AtSite at x) l m = m
     more (AtCoordinator x) l m = (l.next.0, l.next.1, numbered scenario (story_of scenario commands) l.next.0 l.next.2, m)
+
+-- and so one that goes on
+pub story_goes_on : (scenario : Scenario) (commands : List Command) → IsGoingOn (protocols scenario) (policy scenario) (coord_past (story_of scenario commands))
+story_goes_on scenario commands = going_on (protocols scenario) (policy scenario) (coord_past (story_of scenario commands)) (story_made scenario commands)

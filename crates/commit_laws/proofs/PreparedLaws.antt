@@ -4,12 +4,14 @@ use Rattle.mdb_base.specs.declared.names.Engine.TheVariants.{Locking}
 use Rattle.mdb_base.specs.declared.names.SiteId.{SiteId}
 use Rattle.mdb_base.specs.declared.names.Tid.{Tid}
 use Rattle.mdb_base.specs.Names.{same_site}
-use Rattle.mdb_base.specs.Words.{Among, those, inserted}
+use Rattle.mdb_base.specs.Words.{Among, inserted}
+use Rattle.mdb_base.proofs.NameLaws.{same_site-refl}
 use Rattle.order_laws.specs.Chains.{In}
 use Rattle.order_laws.proofs.Lists.{among_is}
 use Rattle.presumptions.specs.declared.Decision.TheVariants as Decided
 use Rattle.presumptions.specs.declared.Participant.{Participant}
 use Rattle.presumptions.specs.declared.Protocol.TheVariants.{Nothing}
+use Rattle.order_laws.proofs.InLaws.{those-in}
 use Rattle.fed_rules.specs.declared.answers.Answer.{Answer}
 use Rattle.fed_rules.specs.declared.answers.Answer.TheVariants as Say
 use Rattle.fed_rules.specs.declared.commands.Command.{Command}
@@ -42,7 +44,6 @@ use Rattle.coord_laws.proofs.Turns.{Turn}
 use Rattle.commit_laws.proofs.Declared.{is-declared, by_site}
 use Rattle.rules_laws.proofs.Durable.{safe_or_loose}
 use Rattle.commit_laws.proofs.SiteLists.{loose-prepared}
-use Rattle.order_laws.proofs.Names.{same_site_self}
 
 yes-ticket : (g : Tid) (site : SiteId) (past : CoordPast) → Among (λ x. IsYes g site x.event) past
     → (ticket : ℕ) × Among (λ x. x.event ≡ Coord_event.Take site (From.Vote g (Some ticket))) past
@@ -70,16 +71,6 @@ committed-prepared scenario commands tid home declared m v =
     let yes = yes-ticket tid home.site (coord_past (story_of scenario commands))
     (a.sound.voted (is-declared scenario home.site home declared).0 m v) in
     a.voted yes.0 (a.taken (From.Vote tid (Some yes.0)) yes.1)
-
--- one of those passes the test and is one of them
-pub in-those : {A : Type 0} (test : A → Bool) (x : A) (xs : List A) → In x (those test xs) → (test x ≡ true) × In x xs
-in-those test x [] i = absurd i
-in-those test x (y ∷ ys) i = by_test (test y) refl i (in-those test x ys) where
-  by_test : (b : Bool) → test y ≡ b → In x (cond b (y ∷ those test ys) (those test ys))
-      → (In x (those test ys) → (test x ≡ true) × In x ys) → (test x ≡ true) × In x (y ∷ ys)
-  by_test true q (inl e) k = (ap test (sym e) ∙ q, inl e)
-  by_test true q (inr i) k = let r = k i in (r.0, inr r.1)
-  by_test false q i k = let r = k i in (r.0, inr r.1)
 
 in-inserted : (m x : Participant) (ys : List Participant) → In m (inserted by_site x ys) → (x ≡ m) ⊎ In m ys
 in-inserted m x [] (inl e) = inl e
@@ -109,12 +100,12 @@ declared-home (line ∷ lines) items m i = by_test (same_site line.site m.site) 
           → (home : Home) × (cond b (Some here) (home_in lines items m.site) ≡ Some home)
       by_test true q o k = (here, refl)
       by_test false q (inl e) k = let same : same_site line.site m.site ≡ true = subst (λ n. same_site line.site n.site ≡ true) e
-          (same_site_self line.site) in cc
+          (same_site-refl line.site) in cc
       by_test false q (inr i) k = k i
 
 pub commit-records-find-all-prepared : CommitRecordsFindAllPrepared
 commit-records-find-all-prepared scenario commands tid m member i =
-    let visited = in-those (λ p. visits p.site (program (coord_past (story_of scenario commands)) tid)) member (protocols scenario) i in
+    let visited = those-in (λ p. visits p.site (program (coord_past (story_of scenario commands)) tid)) member (protocols scenario) i in
     let (home, declared) = declared-home scenario.sites scenario.items member visited.1 in
     let site = its-site scenario member.site home declared in
     let again = home-again scenario member.site home declared in

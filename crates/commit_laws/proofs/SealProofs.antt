@@ -4,6 +4,7 @@ use Rattle.std.proofs.lemmas.Bool.{or_left, or_right}
 use Rattle.mdb_base.specs.declared.acts.Step.{Step}
 use Rattle.mdb_base.specs.declared.names.Tid.{Tid}
 use Rattle.mdb_base.specs.Words.{Each, Among, how_many}
+use Rattle.mdb_base.proofs.NameLaws.{same_site-refl}
 use Rattle.order_laws.specs.Chains.{In}
 use Rattle.order_laws.proofs.Lists.{each_from, is_among}
 use Rattle.presumptions.specs.declared.Decision.{Decision}
@@ -34,7 +35,6 @@ use Rattle.commit_laws.proofs.PreparedLaws.{committed-prepared}
 use Rattle.commit_laws.proofs.SiteFacts.{IsSealing}
 use Rattle.commit_laws.proofs.SiteLists.{tidy-doubt, settled-ended, tidy-once}
 use Rattle.commit_laws.proofs.SiteWork.{held-prepared}
-use Rattle.order_laws.proofs.Names.{same_site_self}
 
 -- the next line of the site, with the invariant before it
 abbrev pub Next : Scenario → List Command → Home → Tid → SiteEvent → SiteHappening → Type 0
@@ -49,7 +49,7 @@ next-line scenario commands home declared x (command, e) tid =
     let l : IsNext scenario (story_of scenario commands) (AtSite home.site x) = subst (IsNext scenario (story_of scenario commands)) e
     (linked scenario (story_of scenario commands) command).next in
     let (event, is, came) = linked-here scenario home (story_of scenario commands) x home.site declared
-    (same_site_self home.site) l in (
+    (same_site-refl home.site) l in (
       event,
       subst (λ y. Next scenario commands home tid event y) (sym is)
           (at-site scenario home tid (story_of scenario commands) event came (agreed scenario home tid commands declared)),

@@ -31,16 +31,16 @@ use Rattle.commit_laws.proofs.SiteWork.{by-work, by-take, by-prepare}
 use Rattle.order_laws.proofs.Alike.{of_same}
 use Rattle.std.specs.Prelude.{nat_lt}
 
-settling-tid : (tid : Tid) (d : Decision) → tid_of (settling_line tid d) ≡ tid
+pub settling-tid : (tid : Tid) (d : Decision) → tid_of (settling_line tid d) ≡ tid
 settling-tid tid Decided.Commit = refl
 settling-tid tid Decided.Abort = refl
 
-settling-ends : (tid : Tid) (d : Decision) (old : Option Run) → changed (settling_line tid d) old ≡ None
+pub settling-ends : (tid : Tid) (d : Decision) (old : Option Run) → changed (settling_line tid d) old ≡ None
 settling-ends tid Decided.Commit old = refl
 settling-ends tid Decided.Abort old = refl
 
 -- a line that settles appends the Ended record
-settles-records : (home : Home) (past : SitePast) (tid : Tid) (d : Decision)
+pub settles-records : (home : Home) (past : SitePast) (tid : Tid) (d : Decision)
     → records home (settles home tid d ∷ past) ≡ Rec.Ended tid d ∷ records home past
 unfolding settles
 settles-records home past tid d = by_test (forces home.protocol d) where

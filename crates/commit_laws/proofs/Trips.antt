@@ -1,9 +1,10 @@
 -- A trip in force at a site has calls left, so it stops no line without disk calls.
-use Rattle.std.proofs.Common.{◌≡◌, ℕ, ◌<◌, ◌==◌, ◌-◌, Bool, true, false, cond, ◌++◌, nat_le, zero, suc, Option, Some, None, List, [], ◌∷◌, length, take, refl, sym, ap, subst, ◌∙◌, arith}
+use Rattle.std.proofs.Common.{◌≡◌, ◌<◌, ◌==◌, ◌-◌, Bool, true, false, cond, ◌++◌, nat_le, Option, Some, None, List, [], ◌∷◌, length, take, refl, sym, ap, subst, ◌∙◌, arith}
 use Rattle.std.proofs.lemmas.Bool.{leb-false, leb-true}
 use Rattle.mdb_base.specs.Names.{same_site}
 use Rattle.mdb_base.specs.Words.{when}
-use Rattle.order_laws.proofs.Names.{same_site_alike}
+use Rattle.mdb_base.proofs.NameLaws.{same_site-equal}
+use Rattle.mdb_base.proofs.NumberLaws.{positive}
 use Rattle.fed_rules.specs.declared.answers.Answer.{Answer}
 use Rattle.fed_rules.specs.declared.answers.Answer.TheVariants as Say
 use Rattle.fed_rules.specs.declared.commands.Command.{Command}
@@ -72,10 +73,6 @@ line_outlasts home past (Ev.Ask tid) h = up_outlasts home past (Ev.Ask tid) h
 line_outlasts home past (Ev.Drop tid) h = up_outlasts home past (Ev.Drop tid) h
 line_outlasts home past Ev.Check h = up_outlasts home past Ev.Check h
 
-positive : (n : ℕ) → (n == 0) ≡ false → 0 < n
-positive zero e = cc
-positive (suc n) e = omega arith
-
 -- so what is left of the trip has calls
 left_calls : (past : SitePast) (x : SiteHappening) → Outlasts past x → HasCalls (trip (x ∷ past))
 left_calls past x outlasts = by_stop (stops x.answer) refl
@@ -120,7 +117,7 @@ trips_have_calls scenario home (command ∷ commands) =
         by_test : (b : Bool) → same_site at home.site ≡ b → HasCalls (trip (cond b (x ∷ past) past))
         by_test false q = h
         by_test true q =
-            let here : line.home.site ≡ home.site = sym line.here ∙ same_site_alike at home.site q in
+            let here : line.home.site ≡ home.site = sym line.here ∙ same_site-equal at home.site q in
             let made : x ≡ site_line line.home past line.event = line.is_next ∙ ap (λ s. site_line line.home (past_of s (story_of scenario commands)) line.event) here in
             left_calls past x (subst (Outlasts past) (sym made) (line_outlasts line.home past line.event h))
 

@@ -2,6 +2,7 @@
 use Rattle.std.proofs.Common.{◌≡◌, Bool, true, false, cond, Some, None, List, [], ◌∷◌, refl, subst}
 use Rattle.mdb_base.specs.declared.names.SiteId.{SiteId}
 use Rattle.mdb_base.specs.Names.{same_site}
+use Rattle.mdb_base.proofs.NameLaws.{same_site-equal}
 use Rattle.fed_rules.specs.declared.commands.Command.{Command}
 use Rattle.fed_rules.specs.declared.scenario.Scenario.{Scenario}
 use Rattle.fed_rules.specs.CoordPast.{CoordHappening, CoordPast}
@@ -10,7 +11,6 @@ use Rattle.fed_rules.specs.Scenarios.{home_of}
 use Rattle.fed_rules.specs.Story.{Story, Told, Happened, AtSite, AtCoordinator, Nowhere, coord_past, past_of, with_coordinator, with_site, tell, happens, story_of}
 use Rattle.commit_laws.specs.Forgetting.{IsNextOfCoordinator}
 use Rattle.commit_laws.proofs.Links.{Linked, linked}
-use Rattle.order_laws.proofs.Names.{same_site_alike}
 
 -- what holds at each line holds of whatever follows from it
 pub at-each : {A : Type 0} {P Q : A → List A → Type 0} → ((x : A) (xs : List A) → P x xs → Q x xs) → (xs : List A) → AtEach P xs → AtEach Q xs
@@ -66,4 +66,4 @@ undeclared scenario site (command ∷ commands) none =
       where
         by_test : (b : Bool) → same_site at site ≡ b → cond b (x ∷ past_of site story) (past_of site story) ≡ []
         by_test false q = e
-        by_test true q = (let found : home_of scenario site ≡ Some l.next.0 = subst (λ s. home_of scenario s ≡ Some l.next.0) (same_site_alike at site q) l.next.1 in cc)
+        by_test true q = (let found : home_of scenario site ≡ Some l.next.0 = subst (λ s. home_of scenario s ≡ Some l.next.0) (same_site-equal at site q) l.next.1 in cc)

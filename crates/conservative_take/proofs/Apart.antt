@@ -7,10 +7,11 @@ use Rattle.std.proofs.lemmas.Nat.{and_le_l}
 use Rattle.mdb_base.specs.declared.names.SiteId.{SiteId}
 use Rattle.mdb_base.specs.Names.{same_site}
 use Rattle.mdb_base.specs.Words.{some_of, each_of}
+use Rattle.mdb_base.proofs.ListLaws.{among_some}
+use Rattle.mdb_base.proofs.NameLaws.{same_site-equal, same_site-refl}
 use Rattle.fed_rules.specs.Policies.{conservatively, share_site}
 use Rattle.order_laws.specs.Chains.{In}
-use Rattle.order_laws.proofs.Lists.{bool_is, some_of_is, some_of_true, is_among, those_in, in_those}
-use Rattle.order_laws.proofs.Names.{same_site_alike, same_site_self}
+use Rattle.order_laws.proofs.Lists.{bool_is, some_of_is, is_among, those_in, in_those}
 use Rattle.global_exec.specs.declared.policy.SiteSet.{SiteSet}
 use Rattle.global_exec.specs.Live.{all_sites}
 use Rattle.global_exec.specs.Sets.{has_site, sites_in}
@@ -43,7 +44,7 @@ none_shared : (a b : SiteSet) → bit_and a.0 b.0 ≡ 0 → share_site (sites_in
 none_shared a b none e =
     let s = some_of_is (λ site. some_of (same_site site) (sites_in b)) (sites_in a) e in
     let t = some_of_is (same_site s.0) (sites_in b) s.2 in
-    let same : s.0 ≡ t.0 = same_site_alike s.0 t.0 t.2 in
+    let same : s.0 ≡ t.0 = same_site-equal s.0 t.0 t.2 in
     let bit = shared_bit a b s.0 s.1 (subst (λ x. In x (sites_in b)) (sym same) t.1) in
     let off : bit_at (bit_and a.0 b.0) ((s.0).0 - 1) ≡ 0 = ap (λ n. bit_at n ((s.0).0 - 1)) none ∙ bit_at-zero ((s.0).0 - 1) in
     let no : 1 ≡ 0 = sym bit ∙ off in
@@ -57,9 +58,9 @@ bit_shared a b k h x y =
     let first : has_site a site ≡ true = has (bit_at a.0 (k + 1 - 1)) (ap (bit_at a.0) place ∙ x) in
     let second : has_site b site ≡ true = has (bit_at b.0 (k + 1 - 1)) (ap (bit_at b.0) place ∙ y) in
     let here : some_of (same_site site) (sites_in b) ≡ true =
-    some_of_true (same_site site) (sites_in b)
-    (is_among (λ t. same_site site t ≡ true) site (sites_in b) (in_those (has_site b) site all_sites (site_in k h) second) (same_site_self site)) in
-    some_of_true (λ s. some_of (same_site s) (sites_in b)) (sites_in a)
+    among_some (same_site site) (sites_in b)
+    (is_among (λ t. same_site site t ≡ true) site (sites_in b) (in_those (has_site b) site all_sites (site_in k h) second) (same_site-refl site)) in
+    among_some (λ s. some_of (same_site s) (sites_in b)) (sites_in a)
     (is_among (λ s. some_of (same_site s) (sites_in b) ≡ true) site (sites_in a) (in_those (has_site a) site all_sites (site_in k h) first) here)
   where
     has : (n : ℕ) → n ≡ 1 → (n == 1) ≡ true

@@ -33,6 +33,3 @@ fn have_no_bit(own: u8, others: &[SiteSet]) -> bool
 {
     others.iter().all(|other| own & other.0 == 0)
 }
-
-#[cfg(test)]
-mod tests;

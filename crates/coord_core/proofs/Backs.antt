@@ -23,15 +23,16 @@ use Rattle.actor_store.specs.declared.store.Standing.{Standing}
 use Rattle.actor_store.specs.declared.store.Standing.TheVariants.{Up, Down, Failing}
 use Rattle.actor_store.specs.Store.{Ends, IsInOrder, Passes, cut_calls, is_up}
 use Rattle.coord_core.specs.declared.coord.CoordCore.{CoordCore}
-use Rattle.coord_core.specs.Trees.{noted}
+use Rattle.coord_tables.specs.Trees.{noted}
 use Rattle.coord_core.specs.Stands.{Fails, Stands, Steps, StopsBefore, StopsWithin, TablesStand}
 use Rattle.coord_core.specs.Store.{Keeps, Store}
-use Rattle.coord_core.specs.Tables.{IsServing}
-use Rattle.coord_core.specs.Terms.{Terms, IsSound, line_of}
+use Rattle.coord_tables.specs.Tables.{IsServing}
+use Rattle.coord_tables.specs.Terms.{Terms, IsSound, line_of}
 use Rattle.coord_core.proofs.Endings.{passes_is, stop_prints, trip_line, trips_is}
 use Rattle.coord_core.proofs.Events.{down_line}
-use Rattle.coord_core.proofs.Serving.{sound_more}
+use Rattle.coord_tables.proofs.Serving.{sound_more}
 use Rattle.coord_core.proofs.Still.{down_is, kept_records, stands_stop, stop_line}
+use Rattle.coord_tables.proofs.GoesOn.{goes_on}
 
 abbrev no_cut : List (Call CoordRecord)
 no_cut = []
@@ -79,7 +80,7 @@ settled Down store rules e o = o
 settled Failing store rules e o = o
 
 all_within : (terms : Terms) (past : CoordPast) → IsSound terms past → bytes_of coord_frame (Past.records past) ≤ (Past.disk past).length
-all_within terms past s = (past_sound terms.protocols terms.policy any_member (record { tx = record { 0 = 0 }; attempt = 0 }) past s.made).firm.sound.frames
+all_within terms past s = (past_sound terms.protocols terms.policy any_member (record { tx = record { 0 = 0 }; attempt = 0 }) past (goes_on terms past s)).firm.sound.frames
 
 module _ {P : Type 0} (test : P → Policy) (tells : Bool) where
   -- a core that is down stands for a past whose disk its store keeps

@@ -26,22 +26,24 @@ use Rattle.frame_journal.specs.Journal.{records}
 use Rattle.coord_journal.specs.PayloadSizes.{payload_has_size}
 use Rattle.coord_journal.specs.Spelling.{spelling}
 use Rattle.actor_store.specs.declared.store.Standing.TheVariants.{Up}
-use Rattle.sum_laws.proofs.CoordRestarts.{made_journals_say_all}
+use Rattle.coord_laws.proofs.CoordRestarts.{made_journals_say_all}
+use Rattle.coord_laws.proofs.CoordRestarts.{going_journals_say_all}
 use Rattle.global_exec.specs.Live.{live_of}
 use Rattle.protocol_table.specs.Attempts.{known_of}
 use Rattle.coord_core.specs.declared.coord.CoordCore.{CoordCore}
-use Rattle.coord_core.specs.declared.tables.Tables.{Tables}
+use Rattle.coord_tables.specs.declared.tables.Tables.{Tables}
 use Rattle.coord_core.specs.Pending.{IsPending}
 use Rattle.coord_core.specs.Stands.{Holds, Stands, Steps}
 use Rattle.coord_core.specs.Store.{Keeps, Store}
-use Rattle.coord_core.specs.Tables.{IsServing}
-use Rattle.coord_core.specs.Terms.{Terms, answer_of, line_of}
-use Rattle.coord_core.proofs.Calm.{quiet_calm}
+use Rattle.coord_tables.specs.Tables.{IsServing}
+use Rattle.coord_tables.specs.Terms.{Terms, answer_of, line_of}
+use Rattle.coord_tables.proofs.Calm.{quiet_calm}
 use Rattle.coord_core.proofs.Events.{calm_steps}
-use Rattle.coord_core.proofs.Lines.{IsAsBefore, elsewhere, known_stays, live_stays, sent_as}
-use Rattle.coord_core.proofs.Waiting.{held_still}
-use Rattle.coord_core.proofs.Serving.{stages_stay}
+use Rattle.coord_tables.proofs.Lines.{IsAsBefore, elsewhere, known_stays, live_stays, sent_as}
+use Rattle.coord_tables.proofs.Waiting.{held_still}
+use Rattle.coord_tables.proofs.Serving.{stages_stay}
 use Rattle.coord_core.proofs.Still.{serves, up_is}
+use Rattle.coord_tables.proofs.GoesOn.{goes_on}
 
 -- ---- the journal
 
@@ -53,7 +55,7 @@ sum_is test core terms past slice sum h read is =
     ∙ ap (λ (rs : List CoordRecord). coord_journal_sum core.protocols (reverse rs)) (read ∙ h.records)
     ∙ ap (coord_journal_sum core.protocols) (reverse-reverse (Past.journal past))
     ∙ ap (λ (ps : List Participant). coord_journal_sum ps (Past.journal past)) h.protocols
-    ∙ made_journals_say_all terms.protocols terms.policy past h.sound.made
+    ∙ going_journals_say_all terms.protocols terms.policy past (goes_on terms past h.sound)
 
 -- ---- the line
 

@@ -1,8 +1,10 @@
 -- How a line ends whose tables stand already: all of its disk calls are made, or the trip comes within them, or one fails.
-use Rattle.std.proofs.Common.{◌≡◌, ℕ, zero, suc, ◌≤◌, ◌==◌, ◌⊎◌, Bool, true, false, leb, not, Option, Some, None, Err, List, [], ◌∷◌, ◌++◌, length, take, refl, sym, ap, subst, ◌∙◌, arith, eqb-true, inl, inr}
+use Rattle.std.proofs.Common.{◌≡◌, ℕ, zero, suc, ◌≤◌, ◌⊎◌, Bool, true, false, leb, not, Option, Some, None, Err, List, [], ◌∷◌, ◌++◌, length, take, refl, sym, ap, subst, ◌∙◌, arith, inl, inr}
 use Rattle.std.proofs.lemmas.Bool.{cases_lt, cond-false, le-leb, leb-true}
 use Rattle.mdb_base.specs.declared.names.Tx.{Tx}
 use Rattle.mdb_base.specs.Words.{when}
+use Rattle.mdb_base.proofs.NumberLaws.{suc_not_zero}
+use Rattle.mdb_base.proofs.PlaceLaws.{take_none}
 use Rattle.presumptions.specs.declared.Participant.{Participant}
 use Rattle.fed_rules.specs.declared.answers.Answer.{Answer}
 use Rattle.fed_rules.specs.declared.answers.Answer.TheVariants as Say
@@ -28,13 +30,13 @@ use Rattle.actor_store.specs.declared.store.Standing.TheVariants.{Up}
 use Rattle.actor_store.specs.Store.{Ends, Passes, is_up, stopped_disk}
 use Rattle.actor_store.proofs.EndsLaws.{passes_none, stopped_disk-all, used_none}
 use Rattle.coord_core.specs.declared.coord.CoordCore.{CoordCore}
-use Rattle.coord_core.specs.declared.tables.Tables.{Tables}
-use Rattle.coord_core.specs.Trees.{noted}
-use Rattle.coord_core.specs.Pending.{IsAnswered, IsPending, IsReady, IsUsual}
+use Rattle.coord_tables.specs.declared.tables.Tables.{Tables}
+use Rattle.coord_tables.specs.Trees.{noted}
+use Rattle.coord_core.specs.Pending.{IsAnswered, IsPending, IsReady}
+use Rattle.coord_tables.specs.Terms.{IsSound, IsUsual, Terms, answer_of, line_of}
 use Rattle.coord_core.specs.Stands.{Fails, Stands, Steps, StopsBefore, StopsWithin, TablesStand}
 use Rattle.coord_core.specs.Store.{Keeps}
-use Rattle.coord_core.specs.Terms.{Terms, IsSound, answer_of, line_of}
-use Rattle.coord_core.proofs.Serving.{attempts_same, sound_more}
+use Rattle.coord_tables.proofs.Serving.{attempts_same, sound_more}
 use Rattle.coord_core.proofs.Still.{kept_records, stands_stop, stop_line, stopped_is}
 use Rattle.coord_core.proofs.Trips.{trip_hidden}
 
@@ -109,16 +111,6 @@ stop_prints protocols past event calls kept answer said count =
     subst (λ (a : Answer). MayPrint protocols past (stop_line past event calls) event a) (sym said)
     (prints_stop protocols past (stop_line past event calls) event kept (ap (λ (n : ℕ). Say.Stopped n) count))
 
-not_zero : (n : ℕ) → (suc n == 0) ≡ false
-not_zero n = by_test (suc n == 0) refl where
-  by_test : (b : Bool) → (suc n == 0) ≡ b → b ≡ false
-  by_test true e = let zeroed : suc n ≡ 0 = eqb-true (suc n) 0 e in absurd (omega arith)
-  by_test false e = refl
-
-take_none : {A : Type 0} (xs : List A) → take 0 xs ≡ []
-take_none [] = refl
-take_none (x ∷ xs) = refl
-
 -- an event that comes where it came comes behind a trip too
 numbered_behind : (past : CoordPast) (calls cut : ℕ) (event : CoordEvent) → IsNumbered past event → IsNumbered (quiet (Ev.Trip calls cut) Say.Set ∷ past) event
 numbered_behind past calls cut (Ev.Go tid steps) n = n
@@ -161,7 +153,7 @@ module _ {P : Type 0} (test : P → Policy) (tells : Bool) (terms : Terms) (past
         let line : line_of terms (y ∷ past) event ≡ stop_line (y ∷ past) event calls =
         usual_line terms (y ∷ past) event usual up
         ∙ ap (unless_tripped (y ∷ past)) (trip_hidden terms.protocols terms.policy past (suc n) cut event usual ∙ is)
-        ∙ trips_is (y ∷ past) x (record { calls = suc n; cut = cut }) (cond-false _ _ _ (not_zero n)) few
+        ∙ trips_is (y ∷ past) x (record { calls = suc n; cut = cut }) (cond-false _ _ _ (suc_not_zero n)) few
         ∙ ap (λ e. stop_line (y ∷ past) e calls) heard in
         let stood = stands_stop test tells core seen terms (y ∷ past) event calls line (numbered_behind past (suc n) cut event numbered) (sound_trip (suc n) cut sound) sites policy begun k down in
         let told = subst (λ (h : CoordHappening). Stands test tells core seen terms (h ∷ y ∷ past)) (sym line) stood in

@@ -1,5 +1,5 @@
 -- What a new coordinator stands for.
-use Rattle.std.proofs.Common.{◌≡◌, ℕ, Bool, false, not, None, List, [], refl, sym, ap, subst}
+use Rattle.std.proofs.Common.{◌≡◌, ℕ, Bool, not, None, List, [], refl, sym, ap, subst}
 use Rattle.mdb_base.specs.declared.names.Tx.{Tx}
 use Rattle.mdb_base.specs.Rising.{IsRising}
 use Rattle.mdb_base.specs.Words.{Each}
@@ -7,11 +7,8 @@ use Rattle.presumptions.specs.declared.Participant.{Participant}
 use Rattle.record_fields.specs.Named.{IsSite}
 use Rattle.fed_rules.specs.declared.records.CoordRecord.{CoordRecord}
 use Rattle.fed_rules.specs.CoordRecords.{coord_frame}
-use Rattle.fed_rules.specs.CoordPast.{Gone}
 use Rattle.fed_rules.specs.Disk.{empty_disk}
 use Rattle.fed_rules.specs.Policies.{Policy}
-use Rattle.order_laws.specs.Chains.{In}
-use Rattle.order_laws.specs.Tickets.{Ticketed}
 use Rattle.journal_disk.specs.Disk.{Seen}
 use Rattle.frame_journal.specs.Journal.{new_journal}
 use Rattle.coord_journal.specs.Exact.{spelled_is_read}
@@ -21,46 +18,13 @@ use Rattle.actor_store.specs.declared.store.Standing.{Standing}
 use Rattle.actor_store.specs.declared.store.Standing.TheVariants.{Up}
 use Rattle.actor_store.specs.Store.{Stored, Keeps, is_up, stored}
 use Rattle.actor_store.proofs.NewLaws.{new_keeps}
-use Rattle.global_exec.specs.Live.{Live, live_of}
-use Rattle.protocol_table.specs.declared.known.Known.{Known}
-use Rattle.protocol_table.specs.Agreement.{IsKnownAs}
-use Rattle.protocol_table.specs.Attempts.{known_of}
-use Rattle.ticket_graph.specs.Graph.{Graph, StandsFor}
 use Rattle.coord_core.specs.declared.coord.CoordCore.{CoordCore}
-use Rattle.coord_core.specs.declared.stages.Stage.{Stage}
-use Rattle.coord_core.specs.declared.tables.Tables.{Tables}
-use Rattle.coord_core.specs.Attempts.{IsLiveAs}
-use Rattle.coord_core.specs.Trees.{committed_in, noted}
-use Rattle.coord_core.specs.Stages.{AreStagesOf}
+use Rattle.coord_tables.specs.Trees.{noted}
 use Rattle.coord_core.specs.Stands.{IsEmptyDisk, Stands, TablesStand}
-use Rattle.coord_core.specs.Tables.{IsServing}
-use Rattle.coord_core.specs.Terms.{Terms}
+use Rattle.coord_tables.specs.Terms.{Terms}
 use Rattle.coord_core.proofs.Still.{kept_records}
-
--- tables of nothing
-pub record AreEmpty (tables : Tables) : Type 0 where
-  pub known : tables.known ≡ []
-  pub exec : tables.exec ≡ []
-  pub stages : tables.stages.listed ≡ []
-  pub committed : (tx : Tx) → committed_in tables.committed.listed tx ≡ None
-  pub graph : tables.graph.kept ≡ []
-
-no_graph : (graph : Graph) → graph.kept ≡ [] → StandsFor [] graph
-no_graph graph e = record {
-  kept = λ a i. absurd (subst (λ (xs : List Ticketed). In a xs) e i);
-  closed = λ a b s i j apart p. absurd j;
-  below = λ b i apart. absurd i;
-}
-
-pub nothing_served : (tables : Tables) (terms : Terms) → AreEmpty tables → IsServing tables terms []
-nothing_served tables terms e = record {
-  known = λ tid. subst (λ (ks : List Known). IsKnownAs terms.protocols [] tid Gone (known_of tid ks)) (sym e.known) tt;
-  live = λ tid. subst (λ (ls : List Live). IsLiveAs terms.protocols [] tid false (live_of tid ls)) (sym e.exec) tt;
-  stages = subst (λ (ss : List Stage). AreStagesOf terms.protocols [] ss) (sym e.stages) (record { order = refl; each = tt });
-  committed = e.committed;
-  graph = no_graph tables.graph e.graph;
-  pruned = λ a i. absurd (subst (λ (xs : List Ticketed). In a xs) e.graph i);
-}
+use Rattle.coord_tables.specs.Tables.{AreEmpty}
+use Rattle.coord_tables.proofs.Empty.{nothing_served}
 
 pub new_stands : {P : Type 0} (test : P → Policy) (core : CoordCore P) (protocols : List Participant) → IsRising (λ (m : Participant). m.site.0) protocols → Each (λ (m : Participant). IsSite m.site) protocols
     → core.protocols ≡ protocols → AreEmpty core.tables → core.begun.listed ≡ [] → stored core.store ≡ record { journal = new_journal; trip = None; standing = Up }

@@ -12,7 +12,7 @@ use Rattle.actor_store.specs.Store.{is_up}
 use Rattle.coord_core.specs.declared.coord.CoordCore.{CoordCore}
 use Rattle.coord_core.specs.Stands.{Stands, TablesStand}
 use Rattle.coord_core.specs.Store.{Keeps, Store}
-use Rattle.coord_core.specs.Terms.{Terms}
+use Rattle.coord_tables.specs.Terms.{Terms}
 use Rattle.coord_core.proofs.Still.{kept_records}
 
 pub stands_roomed : {P : Type 0} (test : P → Policy) (tells : Bool) (old : CoordCore P) (store : Store) (before after : Seen) (terms : Terms) (past : CoordPast)

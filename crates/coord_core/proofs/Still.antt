@@ -1,5 +1,5 @@
 -- What a core stands for after a line that says nothing new, which may set a trip, and after a stop.
-use Rattle.std.proofs.Common.{◌≡◌, ℕ, zero, suc, ◌<◌, ◌==◌, Bool, true, false, cond, not, Option, Some, None, List, [], ◌∷◌, length, map, refl, sym, ap, ap₂, subst, ◌∙◌, arith}
+use Rattle.std.proofs.Common.{◌≡◌, Bool, true, false, not, Option, None, List, [], ◌∷◌, length, map, refl, sym, ap, ap₂, subst, ◌∙◌}
 use Rattle.std.specs.Prelude.{reverse}
 use Rattle.std.proofs.lemmas.Bool.{cond-false}
 use Rattle.mdb_base.specs.declared.names.Tx.{Tx}
@@ -21,17 +21,17 @@ use Rattle.frame_journal.specs.Records.{as_written, values}
 use Rattle.actor_store.specs.declared.store.SetTrip.{SetTrip}
 use Rattle.actor_store.specs.declared.store.Standing.{Standing}
 use Rattle.actor_store.specs.declared.store.Standing.TheVariants.{Up, Down, Failing}
-use Rattle.actor_store.specs.Store.{IsArmed, is_up, trip_of_rules, trip_to}
+use Rattle.actor_store.specs.Store.{IsArmed, is_up, trip_of_rules}
 use Rattle.actor_store.proofs.EndsLaws.{used_none}
 use Rattle.coord_core.specs.declared.coord.CoordCore.{CoordCore}
-use Rattle.coord_core.specs.declared.tables.Tables.{Tables}
-use Rattle.coord_core.specs.Trees.{noted}
+use Rattle.coord_tables.specs.declared.tables.Tables.{Tables}
+use Rattle.coord_tables.specs.Trees.{noted}
 use Rattle.coord_core.specs.Stands.{Holds, Stands, TablesStand}
 use Rattle.coord_core.specs.Store.{Keeps, Store}
-use Rattle.coord_core.specs.Tables.{IsServing}
-use Rattle.coord_core.specs.Terms.{Terms, IsSound, line_of}
-use Rattle.coord_core.proofs.Lines.{IsCalm}
-use Rattle.coord_core.proofs.Serving.{attempts_same, range_same, serving_calm, sound_more}
+use Rattle.coord_tables.specs.Tables.{IsServing}
+use Rattle.coord_tables.specs.Terms.{Terms, IsSound, line_of}
+use Rattle.coord_tables.proofs.Lines.{IsCalm}
+use Rattle.coord_tables.proofs.Serving.{attempts_same, range_same, serving_calm, sound_more}
 
 written_values : (entries : List CoordRecord) → values (map as_written entries) ≡ entries
 written_values [] = refl
@@ -49,23 +49,6 @@ stop_line past event calls =
 pub stopped_is : (past : CoordPast) (event : CoordEvent) (calls : List (Call CoordRecord)) → stopped coord_frame (Past.disk past) event calls ≡ stop_line past event calls
 unfolding stopped
 stopped_is past event calls = refl
-
--- what a trip sets, as the rules speak of it
-pub trip_to-rules : (calls cut : ℕ) (old : Option Trip) → map_some trip_of_rules (trip_to calls cut) ≡ set (Some (record { calls = calls; cut = cut })) old
-trip_to-rules calls cut old = by_test (calls == 0) refl where
-  by_test : (t : Bool) → (calls == 0) ≡ t → map_some trip_of_rules (cond (calls == 0) None (Some (record { calls = calls; cut = cut }))) ≡ cond (calls == 0) None (Some (record { calls = calls; cut = cut }))
-  by_test true e = rw e refl
-  by_test false e = rw e refl
-
-positive : (n : ℕ) → (n == 0) ≡ false → 0 < n
-positive zero e = cc
-positive (suc n) e = omega arith
-
-pub trip_to-armed : (calls cut : ℕ) → IsArmed (trip_to calls cut)
-trip_to-armed calls cut = by_test (calls == 0) refl where
-  by_test : (t : Bool) → (calls == 0) ≡ t → IsArmed (cond (calls == 0) None (Some (record { calls = calls; cut = cut })))
-  by_test true e = rw e tt
-  by_test false e = rw e (positive calls e)
 
 module _ {P : Type 0} (test : P → Policy) (tells : Bool) where
   pub up_is : (core : CoordCore P) (terms : Terms) (past : CoordPast) → Holds test core terms past → core.store.standing ≡ Up → is_down past ≡ false

@@ -9,7 +9,7 @@ use Rattle.fed_rules.specs.Happenings.{quiet}
 use Rattle.fed_rules.specs.Policies.{Policy}
 use Rattle.fed_rules.specs.Coord.{sends_dues, sends_news, sends_all, aborts, commits_it, of_go, did_reply, of_did, last_vote, yes_vote, vote_counted, of_vote, ack_counts, acked_while, of_ack, asked_while, of_inquiry, of_take, again_while, of_again, of_late, of_fate, of_check, answered}
 use Rattle.fed_rules.specs.CoordPast.{CoordPast}
-use Rattle.coord_core.specs.Pending.{IsUsual}
+use Rattle.coord_tables.specs.Terms.{IsUsual}
 
 pub trip_hidden : (protocols : List Participant) (policy : Policy) (past : CoordPast) (calls cut : ℕ) (event : CoordEvent) → IsUsual event
     → answered protocols policy (quiet (Ev.Trip calls cut) Say.Set ∷ past) event ≡ answered protocols policy past event

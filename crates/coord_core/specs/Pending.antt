@@ -4,7 +4,6 @@ use Rattle.mdb_base.specs.declared.names.Tx.{Tx}
 use Rattle.mdb_base.specs.Words.{Each}
 use Rattle.field_bytes.specs.Fields.{IsTid}
 use Rattle.fed_rules.specs.declared.events.CoordEvent.{CoordEvent}
-use Rattle.fed_rules.specs.declared.events.CoordEvent.TheVariants as Ev
 use Rattle.fed_rules.specs.declared.events.CoordStep.{CoordStep}
 use Rattle.fed_rules.specs.declared.records.CoordRecord.{CoordRecord}
 use Rattle.fed_rules.specs.Disk.{Call}
@@ -16,17 +15,10 @@ use Rattle.fed_rules.specs.Right.{MayPrint}
 use Rattle.coord_laws.specs.Pasts.{IsNumbered}
 use Rattle.journal_disk.specs.Disk.{Seen}
 use Rattle.coord_core.specs.declared.coord.CoordCore.{CoordCore}
-use Rattle.coord_core.specs.Trees.{noted}
+use Rattle.coord_tables.specs.Trees.{noted}
 use Rattle.coord_core.specs.Store.{Keeps}
-use Rattle.coord_core.specs.Tables.{IsServing}
-use Rattle.coord_core.specs.Terms.{Terms, IsSound, answer_of}
-
--- an event that a coordinator that is up answers, and a trip may stop
-abbrev pub IsUsual : CoordEvent → Type 0
-IsUsual (Ev.Halt cut) = ⊥
-IsUsual (Ev.Trip calls cut) = ⊥
-IsUsual Ev.Back = ⊥
-IsUsual event = Unit {0}
+use Rattle.coord_tables.specs.Tables.{IsServing}
+use Rattle.coord_tables.specs.Terms.{Terms, IsSound, IsUsual, answer_of}
 
 -- the line is the answer to the event, and the step what it says and sends, but that another cycle may be printed
 pub record IsAnswered (step : CoordStep) (terms : Terms) (past : CoordPast) (event : CoordEvent) (x : CoordHappening) : Type 0 where

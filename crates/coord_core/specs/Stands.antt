@@ -18,11 +18,11 @@ use Rattle.actor_store.specs.declared.store.Standing.{Standing}
 use Rattle.actor_store.specs.declared.store.Standing.TheVariants.{Up, Down, Failing}
 use Rattle.actor_store.specs.Store.{IsArmed, is_up, trip_of_rules}
 use Rattle.coord_core.specs.declared.coord.CoordCore.{CoordCore}
-use Rattle.coord_core.specs.declared.tables.Tables.{Tables}
-use Rattle.coord_core.specs.Trees.{noted}
+use Rattle.coord_tables.specs.declared.tables.Tables.{Tables}
+use Rattle.coord_tables.specs.Trees.{noted}
 use Rattle.coord_core.specs.Store.{Keeps}
-use Rattle.coord_core.specs.Tables.{IsServing}
-use Rattle.coord_core.specs.Terms.{Terms, IsSound, line_of}
+use Rattle.coord_tables.specs.Tables.{IsServing}
+use Rattle.coord_tables.specs.Terms.{Terms, IsSound, line_of}
 
 -- while the coordinator is down, its tables say nothing
 abbrev pub TablesStand : Tables → Standing → Terms → CoordPast → Type 0

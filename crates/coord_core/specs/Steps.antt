@@ -1,21 +1,20 @@
 -- What a step of a core asks, and what it does to the pasts that the core stands for.
-use Rattle.std.specs.Prelude.{◌≡◌, Bool, true, List}
-use Rattle.mdb_base.specs.declared.acts.Step.{Step}
+use Rattle.std.specs.Prelude.{◌≡◌, Bool, true}
 use Rattle.mdb_base.specs.declared.names.Tid.{Tid}
 use Rattle.mdb_base.specs.Names.{same_tid}
-use Rattle.mdb_base.specs.Words.{Each, some_of}
-use Rattle.field_bytes.specs.Fields.{IsTid}
+use Rattle.mdb_base.specs.Words.{some_of}
 use Rattle.fed_rules.specs.declared.events.CoordEvent.{CoordEvent}
 use Rattle.fed_rules.specs.declared.events.CoordEvent.TheVariants as Ev
 use Rattle.fed_rules.specs.declared.events.CoordStep.{CoordStep}
-use Rattle.fed_rules.specs.CoordPast.{CoordHappening, CoordPast, attempts_of, begun_tids}
+use Rattle.fed_rules.specs.CoordPast.{CoordHappening, CoordPast, begun_tids}
 use Rattle.fed_rules.specs.Policies.{Policy}
 use Rattle.journal_disk.specs.Disk.{Seen}
 use Rattle.actor_store.specs.declared.errors.StepErr.{StepErr}
 use Rattle.global_exec.specs.Pasts.{IsAmong}
 use Rattle.coord_core.specs.declared.coord.CoordCore.{CoordCore}
 use Rattle.coord_core.specs.Stands.{Fails, Stands, Steps}
-use Rattle.coord_core.specs.Terms.{Terms, line_of}
+use Rattle.coord_tables.specs.Beginning.{CanGo}
+use Rattle.coord_tables.specs.Terms.{Terms, line_of}
 
 -- for some past that it stands for the fact holds
 pub record SomePast (K : Terms → CoordPast → Type 0) (P : Terms → CoordPast → Type 0) : Type 0 where
@@ -27,12 +26,6 @@ pub record SomePast (K : Terms → CoordPast → Type 0) (P : Terms → CoordPas
 -- for every past that it stands for the fact holds
 abbrev pub EachPast : (Terms → CoordPast → Type 0) → (Terms → CoordPast → Type 0) → Type 0
 EachPast K P = (terms : Terms) (past : CoordPast) → K terms past → P terms past
-
--- the attempt is the next one of its transaction, in its range, and its sites are declared
-pub record CanGo (tid : Tid) (program : List Step) (terms : Terms) (past : CoordPast) : Type 0 where
-  pub in_range : IsTid tid
-  pub next : tid.attempt ≡ attempts_of past tid.tx
-  pub sites : Each (λ step. IsAmong step.site terms.protocols) program
 
 -- the attempt was begun
 abbrev pub WasBegun : Tid → CoordPast → Type 0

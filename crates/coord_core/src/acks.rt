@@ -1,19 +1,14 @@
 //! Acknowledgements of sites.
 ghost use Rattle.std.specs.Prelude.{◌≡◌, IfErr, IfOk, IsTrue};
 ghost use Rattle.mdb_base.specs.Counts.{HasCauseOf};
-ghost use Rattle.mdb_base.specs.Words.{holds_of, map_some, or_else};
 ghost use Rattle.fed_rules.specs.declared.messages.FromSite.TheVariants as From;
 ghost use Rattle.fed_rules.specs.CoordPast.{CoordPast, Decided, standing};
-ghost use Rattle.protocol_table.specs.declared.ends.AckEnd.TheVariants as Ack;
-ghost use Rattle.protocol_table.specs.Attempts.{known_of};
-ghost use Rattle.protocol_table.specs.Ends.{ack_counts, ack_end, after_ack};
 ghost use Rattle.coord_core.specs.Stands.{Fails, Stands, Steps};
 ghost use Rattle.coord_core.specs.Steps.{Answers, CanStep, Refuses, SomePast};
-ghost use Rattle.coord_core.specs.Terms.{Terms, line_of};
+ghost use Rattle.coord_tables.specs.Terms.{Terms, line_of};
 
 use crate::coord::{CoordCore, silent};
 use crate::ending::room_for;
-use crate::tables::Tables;
 use actor_store::{Standing, StepErr};
 use fed_rules::{Answer, CoordEvent, CoordRecord, CoordStep};
 use global_exec::TakePolicy;
@@ -22,26 +17,6 @@ use mdb_base::{SiteId, Tid};
 use presumptions::{Decision, Protocol};
 use protocol_table::{AckEnd, Said};
 use std::alloc::Global;
-
-impl Tables {
-    /// Whether a site's acknowledgement of a decision counts: it is required and missing.
-    fn awaits_ack(&self, tid: Tid, site: SiteId) -> bool
-        ensures { result ≡ holds_of (ack_counts site) (known_of tid self.now.known) }
-    {
-        match self.known.known(tid) {
-            None => false,
-            Some(known) => known.awaits_ack(site),
-        }
-    }
-
-    /// Counts a site's acknowledgement of a decision, where it is required and missing. The last one takes the attempt out.
-    fn ack(&mut self, tid: Tid, site: SiteId) -> AckEnd
-        ensures end { result ≡ or_else (map_some (ack_end site) (known_of tid self.old.known)) Ack.Ignored }
-        ensures tables { self.new ≡ record self.old { known = after_ack result tid site self.old.known } }
-    {
-        self.known.ack(tid, site)
-    }
-}
 
 impl<P: TakePolicy> CoordCore<P> {
     /// An acknowledgement of a decision that is known: it counts where it is required and missing, and the last one forgets the attempt, with

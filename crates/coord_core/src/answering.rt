@@ -6,15 +6,14 @@ ghost use Rattle.global_exec.specs.Counted.{is_answer};
 ghost use Rattle.mdb_base.specs.declared.names.Tid.{Tid as TheTid};
 ghost use Rattle.global_exec.specs.Pasts.{IsAmong};
 ghost use Rattle.journal_disk.specs.Disk.{Seen};
-ghost use Rattle.coord_core.specs.Replies.{CountsReply, reply_event};
+ghost use Rattle.coord_tables.specs.Replies.{CountsReply, reply_event};
 ghost use Rattle.coord_core.specs.Stands.{Fails, Stands, Steps};
 ghost use Rattle.coord_core.specs.Steps.{Answers, CanStep, Refuses, SomePast};
-ghost use Rattle.coord_core.specs.Terms.{Terms, line_of};
+ghost use Rattle.coord_tables.specs.Terms.{Terms, line_of};
 
 use crate::coord::{CoordCore, silent};
-use crate::outgoing::{passed, some_held};
-use crate::sending::Taken;
 use actor_store::{Standing, StepErr};
+use coord_tables::{Taken, passed, some_held};
 use fed_rules::{Answer, Cause, CoordEvent, CoordStep, FromSite};
 use global_exec::{DidEnd, TakePolicy};
 use journal_disk::Disk;

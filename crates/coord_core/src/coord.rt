@@ -15,17 +15,13 @@ ghost use Rattle.ticket_graph.specs.Graph.{AreHeld, StandsFor};
 ghost use Rattle.actor_store.specs.Store.{is_up, trip_to};
 ghost use Rattle.coord_core.specs.Stands.{Holds, IsEmptyDisk, Stands};
 ghost use Rattle.coord_core.specs.Steps.{Answers, CanStep, EachPast, Refuses, SomePast};
-ghost use Rattle.coord_core.specs.Waiting.{waiting};
+ghost use Rattle.coord_tables.specs.Waiting.{waiting};
 
-use crate::begun::Begun;
-use crate::commit_graph::CommitGraph;
-use crate::committed::Committed;
-use crate::stages::Stages;
-use crate::tables::Tables;
 use actor_store::{Standing, StepErr, Store};
 use coord_journal::{CoordFormat, CoordRecord};
+use coord_tables::{Begun, Tables};
 use fed_rules::{Answer, CoordEvent, CoordStep, Sends};
-use global_exec::{GlobalExec, TakePolicy};
+use global_exec::TakePolicy;
 use journal_disk::Disk;
 use mdb_base::{Memory, Tid, Tx};
 use presumptions::Participants;
@@ -65,20 +61,12 @@ impl<P: TakePolicy> CoordCore<P> {
         ensures { IfOk result (λ core. (tells : Bool) (seen : Seen) → IsEmptyDisk tells seen
             → Stands P.policy tells core seen (record { protocols = protocols; policy = P.policy policy }) []) }
     {
-        let known = ProtocolTable::new(alloc)?;
-        let exec = GlobalExec::new(alloc)?;
-        let graph = CommitGraph::new(alloc)?;
+        let tables = Tables::new(alloc)?;
         let _ = protocols.len();
         Ok(CoordCore {
             protocols,
             policy,
-            tables: Tables {
-                known,
-                exec,
-                stages: Stages::new(alloc),
-                committed: Committed::new(alloc),
-                graph,
-            },
+            tables,
             begun: Begun::new(alloc),
             store: CoordStore::create(alloc),
         })

@@ -13,7 +13,7 @@ ghost use Rattle.actor_store.specs.Store.{SomeKept};
 ghost use Rattle.coord_core.specs.Pending.{EachLine, IsPending};
 ghost use Rattle.coord_core.specs.Stands.{Fails, Steps};
 ghost use Rattle.coord_core.specs.Store.{Keeps};
-ghost use Rattle.coord_core.specs.Terms.{line_of};
+ghost use Rattle.coord_tables.specs.Terms.{line_of};
 
 use crate::coord::{CoordCore, CoordStore, silent};
 use actor_store::{Break, Standing, StepErr};

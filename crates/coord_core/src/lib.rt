@@ -11,34 +11,22 @@
 //! cycle to come by the tickets that counted of the undecided attempts (this project's profile). Where a ticket of an attempt that is
 //! tried lies below what was dropped, the graph is made anew from all Commit records, so every decision is exact whatever messages come.
 //!
-//! The committed attempts and the transactions that were begun are kept in trees by transaction, and the undecided attempts in maps by name or
-//! by transaction, in the order in which they were begun. A call finds its attempt without a scan of the others. Over all undecided attempts
-//! go the policy's look at those that take their tickets, before a Take is sent and at each repeat, the least tickets at a decision, and the
-//! closing of the order where an attempt ends.
+//! Its tables, with their agreement with that list, are those of `coord_tables`.
 #![tactic(auto)]
 
 mod acks;
 mod answering;
 mod arming;
-mod begun;
 mod checking;
-mod commit_graph;
-mod committed;
 mod coord;
 mod deciding;
 mod ending;
 mod going;
 mod listing;
-mod messages;
-mod outgoing;
 mod quiet;
 mod repeating;
-mod restoring;
 mod sending;
-mod sites;
-mod stages;
 mod starting;
-mod tables;
 mod trying;
 mod votes;
 

@@ -1,7 +1,7 @@
 //! What the coordinator answers without a change: how a transaction ended, and inquiries.
 ghost use Rattle.std.specs.Prelude.{◌≡◌, ◌==◌, ◌∷◌, [], cond, IfOk};
 ghost use Rattle.fed_rules.specs.Coord.{of_fate, of_inquiry, protocol_of};
-ghost use Rattle.coord_core.specs.Trees.{noted};
+ghost use Rattle.coord_tables.specs.Trees.{noted};
 ghost use Rattle.coord_core.specs.Stands.{Holds};
 ghost use Rattle.coord_core.specs.Steps.{EachPast, Says};
 

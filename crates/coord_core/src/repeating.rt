@@ -8,12 +8,11 @@ ghost use Rattle.fed_rules.specs.CoordPast.{CoordPast, Decided, is_open, standin
 ghost use Rattle.protocol_table.specs.Attempts.{lacks_ack, missing, participant_of};
 ghost use Rattle.coord_core.specs.Stands.{Fails, Holds, Stands, Steps};
 ghost use Rattle.coord_core.specs.Steps.{Answers, CanStep, EachPast, Refuses, SomePast};
-ghost use Rattle.coord_core.specs.Terms.{Terms, line_of};
+ghost use Rattle.coord_tables.specs.Terms.{Terms, line_of};
 
 use crate::coord::{CoordCore, silent};
-use crate::messages::decide_to;
-use crate::outgoing::{passed, some_held};
 use actor_store::{Standing, StepErr};
+use coord_tables::{decide_to, passed, some_held};
 use fed_rules::{Answer, CoordEvent, CoordStep};
 use global_exec::TakePolicy;
 use journal_disk::Disk;

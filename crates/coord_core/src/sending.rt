@@ -4,30 +4,20 @@ ghost use Rattle.mdb_base.specs.Counts.{HasCauseOf};
 ghost use Rattle.fed_rules.specs.declared.events.CoordEvent.{CoordEvent as TheEvent};
 ghost use Rattle.fed_rules.specs.Coord.{may_take as rules_may_take};
 ghost use Rattle.fed_rules.specs.CoordPast.{CoordPast, is_open};
-ghost use Rattle.coord_core.specs.Sending.{HoldsTheSame, IsSending, after_taken, says_sent};
+ghost use Rattle.coord_tables.specs.Sending.{HoldsTheSame, IsSending, after_taken, says_sent};
 ghost use Rattle.coord_core.specs.Stands.{Fails, Stands, Steps};
 ghost use Rattle.coord_core.specs.Steps.{Answers, CanStep, EachPast, Refuses, SomePast};
-ghost use Rattle.coord_core.specs.Terms.{Terms, line_of};
+ghost use Rattle.coord_tables.specs.Terms.{Terms, line_of};
 
 use crate::coord::{CoordCore, silent};
 use crate::ending::room_for;
-use crate::messages::send_dues;
-use crate::outgoing::{passed, some_held, some_take};
 use actor_store::{Standing, StepErr};
+use coord_tables::{Taken, send_dues, some_take};
 use fed_rules::{Answer, CoordEvent, CoordStep, Dues};
 use global_exec::TakePolicy;
 use journal_disk::Disk;
 use mdb_base::{Memory, Reply, SiteId, Tid};
 use std::alloc::Global;
-
-/// A reply of a site.
-#[derive(Clone, Copy)]
-pub struct Taken {
-    pub site: SiteId,
-    pub epoch: u32,
-    pub n: u8,
-    pub reply: Reply,
-}
 
 impl<P: TakePolicy> CoordCore<P> {
     /// Whether an undecided attempt may take tickets beside the others in their phases.

@@ -5,11 +5,11 @@ ghost use Rattle.fed_rules.specs.CoordRecords.{commits};
 ghost use Rattle.ticket_graph.specs.Graph.{IsVerdict, StandsFor, attempts_after};
 ghost use Rattle.coord_core.specs.Stands.{Stands};
 ghost use Rattle.coord_core.specs.Steps.{EachPast, SomePast};
-ghost use Rattle.coord_core.specs.Voting.{IsFresh, IsKeptAt};
+ghost use Rattle.coord_tables.specs.Voting.{IsFresh, IsKeptAt};
 
 use crate::coord::CoordCore;
-use crate::restoring::tickets_of;
 use actor_store::Standing;
+use coord_tables::tickets_of;
 use global_exec::TakePolicy;
 use journal_disk::Disk;
 use journal_sums::read_coord_sum;

@@ -1,92 +1,31 @@
 //! Votes of sites.
-ghost use Rattle.std.specs.Prelude.{Bool, ◌≡◌, false, true, None, Some, map, IfErr, IfOk, IfSome, IsSome, IsTrue, OnOk};
+ghost use Rattle.std.specs.Prelude.{Bool, ◌≡◌, true, None, Some, IfErr, IfOk, IfSome, IsSome, IsTrue, OnOk};
 ghost use Rattle.mdb_base.specs.Counts.{HasCauseOf};
-ghost use Rattle.mdb_base.specs.Rising.{IsRising};
-ghost use Rattle.mdb_base.specs.Words.{each_of};
 ghost use Rattle.journal_disk.specs.Disk.{Seen};
 ghost use Rattle.journal_disk.specs.Frames.{IsPayload};
 ghost use Rattle.frame_journal.specs.Journal.{HasRoom, written_size};
 ghost use Rattle.coord_journal.specs.Spelling.{spelling};
 ghost use Rattle.actor_store.specs.Store.{SomeKept};
 ghost use Rattle.fed_rules.specs.declared.messages.FromSite.TheVariants as From;
-ghost use Rattle.fed_rules.specs.CoordPast.{CoordPast, is_open};
-ghost use Rattle.global_exec.specs.Firsts.{replaced};
-ghost use Rattle.global_exec.specs.Live as live;
-ghost use Rattle.protocol_table.specs.declared.members.Member.{Member as TheMember};
-ghost use Rattle.protocol_table.specs.Attempts.{changed, with_vote};
-ghost use Rattle.protocol_table.specs.Ends.{after_vote};
+ghost use Rattle.fed_rules.specs.CoordPast.{CoordPast};
 ghost use Rattle.coord_core.specs.Stands.{Fails, Stands, Steps};
 ghost use Rattle.coord_core.specs.Steps.{Answers, CanStep, EachPast, Refuses, SomePast};
 ghost use Rattle.coord_core.specs.Store.{Keeps};
-ghost use Rattle.coord_core.specs.Tables.{EachServed, SomeServed};
-ghost use Rattle.coord_core.specs.Terms.{Terms, line_of};
-ghost use Rattle.coord_core.specs.Trees.{entry_of};
-ghost use Rattle.coord_core.specs.Voting as spec;
-ghost use Rattle.coord_core.specs.Voting.{CountsVote, IsLastVote, vote_event};
+ghost use Rattle.coord_tables.specs.Terms.{Terms, line_of};
+ghost use Rattle.coord_tables.specs.Trees.{entry_of};
+ghost use Rattle.coord_tables.specs.Voting as spec;
+ghost use Rattle.coord_tables.specs.Voting.{CountsVote, IsLastVote, vote_event};
 
 use crate::coord::{CoordCore, silent};
 use crate::ending::room_for;
-use crate::messages::decide_to;
-use crate::tables::Tables;
 use actor_store::{Standing, StepErr};
 use fed_rules::{Answer, Cause, CoordEvent, CoordRecord, CoordStep};
 use global_exec::TakePolicy;
 use journal_disk::Disk;
-use mdb_base::{Memory, SiteId, SiteTicket, Tickets, Tid, Tx};
+use mdb_base::{Memory, SiteId, Tickets, Tid, Tx};
 use presumptions::Decision;
-use protocol_table::{Member, Members};
 use std::alloc::Global;
 use ticket_graph::Verdict;
-
-/// The vote of a member, once this yes vote of the site counts.
-fn vote_with(member: &Member, site: SiteId, ticket: u64) -> Option<u64>
-    ensures { result ≡ (with_vote site ticket member.now).vote }
-{
-    if member.site == site {
-        Some(ticket)
-    } else {
-        member.vote
-    }
-}
-
-/// Whether each member voted, once this yes vote of the site counts.
-fn all_vote_with(members: &[Member], site: SiteId, ticket: u64) -> bool
-    ensures { result ≡ each_of (spec.votes_with site ticket) members.now }
-{
-    for member in members {
-        if vote_with(member, site, ticket).is_none() {
-            return false;
-        }
-    }
-    true
-}
-
-/// The ticket of a member's yes vote, once this one of the site counts, or 0 where it didn't vote.
-fn ticket_with(member: &Member, site: SiteId, ticket: u64) -> SiteTicket
-    ensures { result ≡ spec.ticket_with site ticket member.now }
-{
-    SiteTicket {
-        site: member.site,
-        ticket: vote_with(member, site, ticket).unwrap_or(0),
-    }
-}
-
-/// The tickets of the members' yes votes, once this one of the site counts.
-fn tickets_with(
-    alloc: Global,
-    members: &Members,
-    site: SiteId,
-    ticket: u64,
-) -> Result<Tickets, Memory>
-    requires { IsRising (λ (member : TheMember). member.site.0) members.now }
-    ensures { IfOk result (λ tickets. tickets ≡ map (spec.ticket_with site ticket) members.now) }
-{
-    let mut tickets = Vec::with_capacity(alloc, members.len())?;
-    for member in members.as_slice() {
-        tickets.push(ticket_with(member, site, ticket))?;
-    }
-    Ok(Tickets::of(tickets))
-}
 
 /// The same tickets.
 fn same_tickets(alloc: Global, tickets: &Tickets) -> Result<Tickets, Memory>
@@ -94,42 +33,6 @@ fn same_tickets(alloc: Global, tickets: &Tickets) -> Result<Tickets, Memory>
 {
     let items = Vec::from_slice(alloc, tickets.as_slice())?;
     Ok(Tickets::of(items))
-}
-
-impl Tables {
-    /// The tickets of all votes by rising site, where this yes vote is the last one of an undecided attempt.
-    fn last_tickets(
-        &self,
-        alloc: Global,
-        site: SiteId,
-        tid: Tid,
-        ticket: u64,
-    ) -> Result<Option<Tickets>, Memory>
-        requires { SomeServed self.now (λ terms past. is_open past tid ≡ true) }
-        ensures { IfOk result (λ last. EachServed self.now (λ terms past. CountsVote site tid terms past → last ≡ spec.last_tickets terms.protocols past site tid ticket)) }
-    {
-        match self.known.known(tid) {
-            None => unreachable!(),
-            Some(known) => {
-                if !all_vote_with(known.members.as_slice(), site, ticket) {
-                    return Ok(None);
-                }
-                let tickets = tickets_with(alloc, &known.members, site, ticket)?;
-                Ok(Some(tickets))
-            }
-        }
-    }
-
-    /// Notes a yes vote that counts.
-    fn vote(&mut self, site: SiteId, tid: Tid, ticket: u64)
-        ensures { self.new ≡ record self.old {
-          known = changed tid (after_vote site ticket) self.old.known;
-          exec = replaced (live.is_of tid) (live.voted site) self.old.exec;
-        } }
-    {
-        let _ = self.known.vote(tid, site, ticket);
-        self.exec.voted(tid, site);
-    }
 }
 
 impl<P: TakePolicy> CoordCore<P> {
@@ -186,10 +89,7 @@ impl<P: TakePolicy> CoordCore<P> {
             → Fails P.policy D.tells why self.new (D.seen disk.new) terms past (vote_event site tid (Some ticket))) }
         ensures cause { HasCauseOf StepErr.Disk (D.seen disk.old).faults (D.seen disk.new).faults result }
     {
-        let Ok(members) = self.tables.members(alloc, tid) else {
-            return Err(StepErr::Memory);
-        };
-        let Ok(sends) = decide_to(alloc, tid, Decision::Commit, &members) else {
+        let Ok(sends) = self.tables.decisions(alloc, tid, Decision::Commit) else {
             return Err(StepErr::Memory);
         };
         let Ok(recorded) = same_tickets(alloc, tickets) else {

@@ -14,8 +14,3 @@ pub use laws::{frames_have_the_lengths_of_the_rules, payloads_have_the_lengths_o
 
 /// The records of the coordinator on its disk.
 pub type CoordJournal = Journal<CoordRecord, CoordFormat>;
-
-#[cfg(test)]
-mod payload_tests;
-#[cfg(test)]
-mod tests;

@@ -5,8 +5,7 @@ use Rattle.mdb_base.specs.declared.names.Tid.{Tid}
 use Rattle.mdb_base.specs.declared.names.Tx.{Tx}
 use Rattle.mdb_base.specs.Names.{same_tx}
 use Rattle.mdb_base.specs.Words.{Among, how_many, with_some}
-use Rattle.mdb_base.proofs.NameLaws.{same_tid-equal, same_tid-refl}
-use Rattle.order_laws.proofs.Alike.{same_tx_self, same_tx_alike}
+use Rattle.mdb_base.proofs.NameLaws.{same_tid-equal, same_tid-refl, same_tx-refl, same_tx-equal}
 use Rattle.order_laws.specs.Chains.{In, Distinct}
 use Rattle.fed_rules.specs.declared.answers.Answer.{Answer}
 use Rattle.fed_rules.specs.declared.answers.Answer.TheVariants as Say
@@ -25,7 +24,7 @@ more_attempts tx (Some u) tids = by_test (same_tx u.tx tx) where
   by_test false = omega arith
 
 pub one_attempt : (g : Tid) (tids : List Tid) → of_tx (g ∷ tids) g.tx ≡ suc (of_tx tids g.tx)
-one_attempt g tids = ap (λ b. cond b (suc (of_tx tids g.tx)) (of_tx tids g.tx)) (same_tx_self g.tx)
+one_attempt g tids = ap (λ b. cond b (suc (of_tx tids g.tx)) (of_tx tids g.tx)) (same_tx-refl g.tx)
 
 -- the answer that begins the attempt
 pub begun_answer : (g : Tid) (a : Answer) → begins g a ≡ true → a ≡ Say.Begun g
@@ -74,7 +73,7 @@ pub below_listed : (tids : List Tid) (g : Tid) → AreNumbered tids → g.attemp
 below_listed [] g n less = absurd (omega (arith, less))
 below_listed (t ∷ tids) g n less = by_test (same_tx t.tx g.tx) refl less (cases_lt g.attempt (of_tx tids g.tx)) (below_listed tids g n.1) where
   number : same_tx t.tx g.tx ≡ true → t.attempt ≡ of_tx tids g.tx
-  number s = subst (λ u. t.attempt ≡ of_tx tids u) (same_tx_alike t.tx g.tx s) n.0
+  number s = subst (λ u. t.attempt ≡ of_tx tids u) (same_tx-equal t.tx g.tx s) n.0
 
   by_test : (b : Bool) → same_tx t.tx g.tx ≡ b → g.attempt < cond b (suc (of_tx tids g.tx)) (of_tx tids g.tx)
       → (g.attempt < of_tx tids g.tx) ⊎ (of_tx tids g.tx ≤ g.attempt) → (g.attempt < of_tx tids g.tx → In g tids) → In g (t ∷ tids)

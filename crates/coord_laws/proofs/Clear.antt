@@ -20,13 +20,14 @@ use Rattle.rules_laws.proofs.Disks.{appended}
 use Rattle.order_laws.proofs.Lists.{those_same}
 use Rattle.coord_laws.proofs.Facts.{is_undecided, kept_standing, IsOpen, IsEnding, WroteAll, Same, Starts, Decides, Forgets, Restarts}
 use Rattle.coord_laws.proofs.Lines.{Kept, Stood, Stopped, Through}
-use Rattle.coord_laws.proofs.RecordLists.{IsEndOf, IsSilent, end_among, named_behind, named_some, ends_silent, decided_outcome, those_among, nobody_none, is_required}
+use Rattle.coord_laws.proofs.RecordLists.{IsSilent, end_among, named_behind, named_some, ends_silent, decided_outcome, those_among, nobody_none, is_required}
 use Rattle.fed_rules.specs.Happenings.{quiet}
 use Rattle.coord_laws.proofs.Sound.{IsBegun, IsAcked, IsClear, CoordSound, kept_from, end_mark}
 use Rattle.coord_laws.proofs.Taken.{acked_taken}
 use Rattle.mdb_base.proofs.ListLaws.{those_all, each_all}
 use Rattle.coord_laws.proofs.Turns.{Turn, same_program, same_outcome, turn_numbered, turn_undecided, turn_named, turn_marked, turn_decided, turn_voted, is_participant, uncommitted_of}
 use Rattle.order_laws.proofs.Alike.{same_of}
+use Rattle.fed_rules.specs.Usable.{IsEndOf}
 
 -- what is required of the site, where the records name the participants
 pub required_here : (protocols : List Participant) (member : Participant) (g : Tid) (past : CoordPast) (d : Decision)

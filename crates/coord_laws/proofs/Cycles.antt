@@ -24,7 +24,7 @@ fewer some all sub free =
     (λ a b e. record { edge = e.edge; from = sub a e.from; to = sub b e.to }) free
 
 -- a record more is a commit more or none
-commit_behind : (newest : CoordRecord) (rs : List CoordRecord) (a : Ticketed) → In a (commits rs) → In a (commits (newest ∷ rs))
+pub commit_behind : (newest : CoordRecord) (rs : List CoordRecord) (a : Ticketed) → In a (commits rs) → In a (commits (newest ∷ rs))
 commit_behind (Rec.Commit tid tickets) rs a i = inr i
 commit_behind (Rec.Initiation tid members) rs a i = i
 commit_behind (Rec.Abort tid members) rs a i = i

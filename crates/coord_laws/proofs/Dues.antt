@@ -1,6 +1,6 @@
 -- Operations and inquiries at the coordinator: the facts on one attempt hold of their lines.
 use Rattle.std.proofs.Common.{◌≡◌, inl, inr, Bool, true, false, cond, not, ◌&&◌, ◌||◌, ◌==◌, is_some, is_none, Option, Some, None, List, [], ◌∷◌, map, drop, refl, sym, ap, ap₂, subst, ◌∙◌}
-use Rattle.std.proofs.lemmas.Bool.{and_right}
+use Rattle.std.proofs.lemmas.Bool.{and_parts, and_right}
 use Rattle.mdb_base.specs.declared.acts.Step.{Step}
 use Rattle.mdb_base.specs.declared.names.SiteId.{SiteId}
 use Rattle.mdb_base.specs.declared.names.Tid.{Tid}
@@ -11,6 +11,8 @@ use Rattle.mdb_base.specs.Words.{Each, some_of, how_many, those, found, with_som
 use Rattle.mdb_base.proofs.NameLaws.{same_tid-equal, same_tid-refl}
 use Rattle.order_laws.specs.Chains.{In}
 use Rattle.mdb_base.proofs.ListLaws.{each_map}
+use Rattle.mdb_base.proofs.OptionLaws.{some_parts, is_none-true}
+use Rattle.mdb_base.proofs.EachLaws.{each_of_mapped}
 use Rattle.order_laws.proofs.Lists.{each_from, each_at}
 use Rattle.presumptions.specs.declared.Participant.{Participant}
 use Rattle.presumptions.specs.Table.{presumed}
@@ -26,10 +28,11 @@ use Rattle.fed_rules.specs.Disk.{Append, Sync}
 use Rattle.fed_rules.specs.Happenings.{quiet}
 use Rattle.fed_rules.specs.Coord.{send_due, is_prepare, lacks_initiation, sends_dues, all_outstanding, news, news_at, of_go, of_fate, asked_while, of_inquiry, tells, protocol_of}
 use Rattle.fed_rules.specs.CoordPast.{CoordHappening, CoordPast, records, Standing, Undecided, Decided, Gone, standing, reads, participants, program, program_in, or_steps, visits, counted, did_in, last_epoch, epoch_at, count_at, has_ticket_at, is_wait, is_ticket, has_step_left, vote_at, outstanding, outstanding_at, work_at, take_at, prepare_at, next_step, attempts_of, undecided_of}
-use Rattle.fed_rules.specs.CoordRecords.{named, committed_of}
+use Rattle.fed_rules.specs.CoordRecords.{class_of, has_initiation, named, committed_of}
 use Rattle.coord_laws.proofs.Facts.{IsOpen, Stands, Same, Starts, IsPreparing, IsTelling, Known, Presumed, Tells, Counted, Goes}
-use Rattle.coord_laws.proofs.Rules.{goes_when, goes_pick, IsCalm, IsSending, Sending, sending_answer, calm_committed, standing_on, acked_on, IsNoAck, calm_standing, calm_acked, silently, no_ack}
-use Rattle.order_laws.proofs.Alike.{of_same, some_parts}
+use Rattle.rules_laws.proofs.Sending.{IsSending}
+use Rattle.coord_laws.proofs.Rules.{goes_when, goes_pick, IsCalm, Sending, sending_answer, calm_committed, standing_on, acked_on, IsNoAck, calm_standing, calm_acked, silently, no_ack}
+use Rattle.order_laws.proofs.Alike.{of_same}
 
 pub each_found : {A B : Type 0} (P : B → Type 0) (look : A → Option B) → ((x : A) (b : B) → look x ≡ Some b → P b) → (xs : List A)
     → Each P (found look xs)
@@ -38,10 +41,6 @@ each_found P look k (x ∷ xs) = by_look (look x) refl (each_found P look k xs) 
   by_look : (o : Option _) → look x ≡ o → Each P (found look xs) → Each P (with_some o (found look xs))
   by_look None e rest = rest
   by_look (Some b) e rest = (k x b e, rest)
-
-pub each_of_mapped : {A B : Type 0} (P : B → Type 0) (f : A → B) (xs : List A) → Each (λ x. P (f x)) xs → Each P (map f xs)
-each_of_mapped P f [] h = tt
-each_of_mapped P f (x ∷ xs) h = (h.0, each_of_mapped P f xs h.1)
 
 -- what an outstanding Prepare says
 abbrev pub IsOwed : CoordPast → Tid → Due → Type 0
@@ -224,7 +223,7 @@ pub by_dues : (protocols : List Participant) (g : Tid) (past : CoordPast) (event
 unfolding sends_dues
 by_dues protocols g past event t answer dues undecided s n k each =
     goes_when protocols g past event (some_of is_prepare dues && lacks_initiation protocols past t) initiates only
-    (λ b. by_initiation) (λ b. by_only b)
+    (λ b. by_initiation b) (λ b. by_only b)
   where
     initiates : CoordHappening
     initiates = record {
@@ -265,13 +264,18 @@ by_dues protocols g past event t answer dues undecided s n k each =
               (sym (ap (λ w. w && is_none (named protocols (records past) t)) c) ∙ kept));
         }) q
 
-    by_initiation : Goes protocols g past event initiates
-    by_initiation = record {
+    nobody_named : (some_of is_prepare dues && lacks_initiation protocols past t) ≡ true → named protocols (records past) t ≡ None
+    nobody_named b =
+        is_none-true (named protocols (records past) t)
+        (and_parts (has_initiation (class_of (participants protocols past t))) _ (and_parts (some_of is_prepare dues) (lacks_initiation protocols past t) b).1).1
+
+    by_initiation : (some_of is_prepare dues && lacks_initiation protocols past t) ≡ true → Goes protocols g past event initiates
+    by_initiation b = record {
       is = refl;
       quiet = inr tt;
       wrote = (
-        (λ q. of_same (λ u. IsOpen protocols past u × (participants protocols past t ≡ participants protocols past u)) t g
-            (undecided, refl) q),
+        (λ q. of_same (λ u. IsOpen protocols past u × (participants protocols past t ≡ participants protocols past u) × (named protocols (records past) u ≡ None)) t g
+            (undecided, refl, nobody_named b) q),
         tt,
       );
       stands = Same (calm_standing protocols g past initiates tt) refl (tt, tt)

@@ -6,6 +6,7 @@ use Rattle.mdb_base.specs.Names.{same_tid}
 use Rattle.mdb_base.specs.Words.{Each}
 use Rattle.mdb_base.proofs.ListLaws.{each_all}
 use Rattle.mdb_base.proofs.NameLaws.{same_tid-refl}
+use Rattle.mdb_base.proofs.EachLaws.{each_of_mapped}
 use Rattle.presumptions.specs.declared.Decision.{Decision}
 use Rattle.presumptions.specs.declared.Decision.TheVariants as Decided
 use Rattle.presumptions.specs.declared.Participant.{Participant}
@@ -22,7 +23,6 @@ use Rattle.coord_laws.specs.Records.{IsEnd}
 use Rattle.rules_laws.proofs.Disks.{appended, IsQuiet, quiet_plain, plain_records}
 use Rattle.coord_laws.proofs.Facts.{moved, IsOpen, IsUnmarked, IsUncommitted, WroteAll, Stands, Same, Decides, IsTelling, Now, Tells, Counted, Goes}
 use Rattle.coord_laws.proofs.Rules.{standing_on, acked_on, IsNoAck}
-use Rattle.coord_laws.proofs.Dues.{each_of_mapped}
 use Rattle.order_laws.proofs.Alike.{of_same}
 
 -- since a decision nothing is acknowledged
@@ -116,5 +116,5 @@ by_aborts protocols g past event t cause undecided about n noack k = record {
       (λ site. acked_off g past y site (about g ∙ q) refl)
   stands false q =
       Same (other_standing protocols g past y Decided.Abort (Some cause) f refl (about g ∙ q)) refl
-      (abort_part (λ rs. Each (IsUnmarked g) (appended (forced rs) [])) protocols past t tt (tt, tt))
+      (abort_part (λ rs. Each (IsUnmarked g) (appended (forced rs) [])) protocols past t tt (q, tt))
       (inl (λ site. acked_on g past y site refl refl (ap (λ b. b && true) (about g ∙ q)) (noack site)))

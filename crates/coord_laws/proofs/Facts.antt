@@ -1,5 +1,5 @@
 -- What a line of the coordinator does about one attempt: what it appends, sends and makes of its standing, as facts on the line.
-use Rattle.std.proofs.Common.{◌≡◌, ℕ, ◌⊎◌, Bool, true, false, cond, ◌||◌, is_some, Some, List, [], ◌∷◌, ◌++◌}
+use Rattle.std.proofs.Common.{◌≡◌, ℕ, ◌⊎◌, Bool, true, false, cond, ◌||◌, is_some, Some, None, List, [], ◌∷◌, ◌++◌}
 use Rattle.mdb_base.specs.declared.acts.Step.{Step}
 use Rattle.mdb_base.specs.declared.names.SiteId.{SiteId}
 use Rattle.mdb_base.specs.declared.names.Tid.{Tid}
@@ -26,6 +26,7 @@ use Rattle.fed_rules.specs.CoordRecords.{class_of, has_initiation, ticketed, nam
 use Rattle.coord_laws.specs.Records.{IsCommit, IsEnd}
 use Rattle.rules_laws.proofs.Disks.{appended, IsQuiet}
 use Rattle.fed_rules.specs.CoordSums.{coord_sum}
+use Rattle.fed_rules.specs.Usable.{IsDeclaredAt}
 
 abbrev pub is_undecided : Standing → Bool
 is_undecided Undecided = true
@@ -46,10 +47,11 @@ kept_standing protocols kept g = standing_of false (kept_decision protocols kept
 abbrev pub IsOpen : List Participant → CoordPast → Tid → Type 0
 IsOpen protocols past g = is_undecided (standing protocols past g) ≡ true
 
--- neither a Commit nor an End record of the attempt
+-- neither a Commit, nor an Abort, nor an End record of the attempt
 abbrev pub IsUnmarked : Tid → CoordRecord → Type 0
 IsUnmarked g (Rec.Commit tid tickets) = same_tid tid g ≡ false
 IsUnmarked g (Rec.End tid) = same_tid tid g ≡ false
+IsUnmarked g (Rec.Abort tid members) = same_tid tid g ≡ false
 IsUnmarked g kept = Unit {0}
 
 -- no Commit record of the attempt
@@ -77,9 +79,9 @@ pub record IsEnding (protocols : List Participant) (g : Tid) (past : CoordPast) 
 -- why a record is appended, behind these other records of the line
 abbrev pub Wrote : List Participant → Tid → CoordPast → CoordEvent → List CoordRecord → CoordRecord → Type 0
 Wrote protocols g past event before (Rec.Initiation tid members) = same_tid tid g ≡ true → IsOpen protocols past g ×
-    (members ≡ participants protocols past g)
+    (members ≡ participants protocols past g) × (named protocols (records past) g ≡ None)
 Wrote protocols g past event before (Rec.Commit tid tickets) = same_tid tid g ≡ true → IsCommitting protocols g past event ×
-    (before ≡ []) × (ticketed protocols tickets ≡ participants protocols past g)
+    (before ≡ []) × (ticketed protocols tickets ≡ participants protocols past g) × Each (IsDeclaredAt (participants protocols past g)) tickets
 Wrote protocols g past event before (Rec.Abort tid members) = same_tid tid g ≡ true → IsOpen protocols past g ×
     (members ≡ participants protocols past g)
 Wrote protocols g past event before (Rec.End tid) = same_tid tid g ≡ true → IsEnding protocols g past event before

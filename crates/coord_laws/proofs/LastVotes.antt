@@ -1,6 +1,6 @@
 -- Commits, votes and replies at the coordinator: the facts on one attempt hold of their lines.
 use Rattle.std.proofs.Common.{◌≡◌, ℕ, inl, inr, Bool, true, false, not, ◌&&◌, ◌||◌, ◌==◌, is_some, Option, Some, None, List, [], ◌∷◌, refl, sym, ap, ◌∙◌}
-use Rattle.std.proofs.lemmas.Bool.{and_parts}
+use Rattle.std.proofs.lemmas.Bool.{and_parts, or_cases}
 use Rattle.mdb_base.specs.declared.acts.Step.{Step}
 use Rattle.mdb_base.specs.declared.names.SiteId.{SiteId}
 use Rattle.mdb_base.specs.declared.names.SiteTicket.{SiteTicket}
@@ -11,9 +11,11 @@ use Rattle.mdb_base.specs.declared.replies.Why.TheVariants as Because
 use Rattle.mdb_base.specs.Names.{same_site, same_tid}
 use Rattle.mdb_base.specs.Words.{Each, with_some}
 use Rattle.mdb_base.proofs.ListLaws.{each_all, each_filtered, those_pass}
-use Rattle.mdb_base.proofs.NameLaws.{same_tid-equal, same_tid-refl, tests_agree}
+use Rattle.mdb_base.proofs.NameLaws.{same_tid-equal, same_tid-refl, tests_agree, same_site-refl, same_site-equal}
+use Rattle.mdb_base.proofs.EachLaws.{each_of_mapped}
+use Rattle.mdb_base.proofs.BoolLaws.{or_true}
 use Rattle.order_laws.specs.Chains.{In}
-use Rattle.order_laws.proofs.Lists.{or_cases, in_those, those_same}
+use Rattle.order_laws.proofs.Lists.{is_among, in_those, those_same}
 use Rattle.order_laws.specs.Search.{cycle_through}
 use Rattle.order_laws.specs.Tickets.{edge_between}
 use Rattle.presumptions.specs.declared.Decision.TheVariants as Decided
@@ -32,11 +34,12 @@ use Rattle.fed_rules.specs.CoordRecords.{has_ticket, ticketed, required, is_nobo
 use Rattle.fed_rules.specs.Policies.{Policy}
 use Rattle.rules_laws.proofs.Disks.{appended}
 use Rattle.coord_laws.proofs.Facts.{IsOpen, IsCommitting, Stands, Same, Decides, IsTelling, Now, Tells, Counted, Goes}
-use Rattle.coord_laws.proofs.Rules.{goes_when, goes_pick, some_sending, open_undecided, acked_on, silently, ignored}
-use Rattle.coord_laws.proofs.Dues.{each_of_mapped, IsOwed, news_owed, by_dues}
+use Rattle.rules_laws.proofs.Sending.{some_sending}
+use Rattle.coord_laws.proofs.Rules.{goes_when, goes_pick, open_undecided, acked_on, silently, ignored}
+use Rattle.coord_laws.proofs.Dues.{IsOwed, news_owed, by_dues}
 use Rattle.coord_laws.proofs.Ends.{acked_off, decided_standing, other_standing, by_aborts}
-use Rattle.order_laws.proofs.Names.{same_site_self, same_site_alike}
 use Rattle.order_laws.proofs.Alike.{of_same}
+use Rattle.fed_rules.specs.Usable.{IsDeclaredAt}
 
 -- a ticket of these votes is of a site that the program visits
 ticket_visits : (past : CoordPast) (t : Tid) (site : SiteId) (program : List Step) (members : List Participant)
@@ -51,13 +54,9 @@ ticket_visits past t site program (m ∷ members) each h = by_vote (vote_at past
         → (has_ticket (vote_tickets past t members) site ≡ true → visits site program ≡ true) → visits site program ≡ true
     by_vote None h k = k h
     by_vote (Some n) h k = elim (or_cases (same_site m.site site) (has_ticket (vote_tickets past t members) site) h) [
-      | inl here ↦ ap (λ s. visits s program) (sym (same_site_alike m.site site here)) ∙ each.0
+      | inl here ↦ ap (λ s. visits s program) (sym (same_site-equal m.site site here)) ∙ each.0
       | inr more ↦ k more
     ]
-
-or_true : (b : Bool) → (b || true) ≡ true
-or_true true = refl
-or_true false = refl
 
 -- and where all members voted, each of them has a ticket
 voted_ticket : (past : CoordPast) (t : Tid) (member : Participant) (members : List Participant) → all_voted past t members ≡ true
@@ -72,7 +71,7 @@ voted_ticket past t member (m ∷ members) all i =
         → has_ticket (with_some (vote_ticket m.site o) (vote_tickets past t members)) member.site ≡ true
     by_vote None s i k = cc
     by_vote (Some n) s (inl same) k = ap (λ b. b || has_ticket (vote_tickets past t members) member.site)
-        (ap (λ p. same_site m.site p.site) (sym same) ∙ same_site_self m.site)
+        (ap (λ p. same_site m.site p.site) (sym same) ∙ same_site-refl m.site)
     by_vote (Some n) s (inr i) k = ap (λ b. same_site m.site member.site || b) (k i) ∙ or_true (same_site m.site member.site)
 
 -- so the sites of the last votes' tickets are the participants
@@ -87,22 +86,33 @@ tickets_name protocols before now t all =
     (those_pass (λ m. visits m.site (program before t)) protocols) h)
     (λ v. voted_ticket now t p (participants protocols before t) all (in_those (λ m. visits m.site (program before t)) p protocols i v)))
 
+-- and each of these tickets is of a site of theirs
+sited : (past : CoordPast) (t : Tid) (all members : List Participant) → ((m : Participant) → In m members → In m all)
+    → Each (IsDeclaredAt all) (vote_tickets past t members)
+sited past t all [] sub = tt
+sited past t all (m ∷ members) sub = by_vote (vote_at past t m.site) (sited past t all members (λ n i. sub n (inr i)))
+  where
+    by_vote : (o : Option ℕ) → Each (IsDeclaredAt all) (vote_tickets past t members)
+        → Each (IsDeclaredAt all) (with_some (vote_ticket m.site o) (vote_tickets past t members))
+    by_vote None rest = rest
+    by_vote (Some n) rest = (is_among (λ (member : Participant). member.site ≡ m.site) m all (sub m (inl refl)) refl, rest)
+
 -- a commit at the last yes vote
 by_commits_it : (protocols : List Participant) (g : Tid) (past : CoordPast) (site : SiteId) (t : Tid) (ticket : ℕ)
     (tickets : List SiteTicket) → IsOpen protocols past t
     → all_voted (quiet (Ev.Take site (From.Vote t (Some ticket))) Say.Voted ∷ past) t (participants protocols past t) ≡ true
-    → ticketed protocols tickets ≡ participants protocols past t
+    → ticketed protocols tickets ≡ participants protocols past t → Each (IsDeclaredAt (participants protocols past t)) tickets
     → Goes protocols g past (Ev.Take site (From.Vote t (Some ticket)))
     (commits_it protocols past (Ev.Take site (From.Vote t (Some ticket))) t tickets)
 unfolding commits_it
-by_commits_it protocols g past site t ticket tickets undecided all names = record {
+by_commits_it protocols g past site t ticket tickets undecided all names places = record {
   is = refl;
   quiet = inr tt;
   wrote = (
     (λ q. of_same
         (λ u. IsCommitting protocols u past (Ev.Take site (From.Vote t (Some ticket))) × (before ≡ []) ×
-        (ticketed protocols tickets ≡ participants protocols past u)) t g
-        (record { undecided = undecided; site = site; ticket = ticket; taken = refl; all = all }, refl, names) q),
+        (ticketed protocols tickets ≡ participants protocols past u) × Each (IsDeclaredAt (participants protocols past u)) tickets) t g
+        (record { undecided = undecided; site = site; ticket = ticket; taken = refl; all = all }, refl, names, places) q),
     tt,
   );
   stands = stands (same_tid t g) refl;
@@ -140,14 +150,14 @@ by_commits_it protocols g past site t ticket tickets undecided all names = recor
 by_last_vote : (protocols : List Participant) (g : Tid) (past : CoordPast) (site : SiteId) (t : Tid) (ticket : ℕ)
     (tickets : List SiteTicket) → IsOpen protocols past t
     → all_voted (quiet (Ev.Take site (From.Vote t (Some ticket))) Say.Voted ∷ past) t (participants protocols past t) ≡ true
-    → ticketed protocols tickets ≡ participants protocols past t
+    → ticketed protocols tickets ≡ participants protocols past t → Each (IsDeclaredAt (participants protocols past t)) tickets
     → Goes protocols g past (Ev.Take site (From.Vote t (Some ticket)))
     (last_vote protocols past (Ev.Take site (From.Vote t (Some ticket))) t tickets)
 unfolding last_vote aborts
-by_last_vote protocols g past site t ticket tickets undecided all names =
+by_last_vote protocols g past site t ticket tickets undecided all names places =
     goes_pick protocols g past (Ev.Take site (From.Vote t (Some ticket)))
     (cycle_through edge_between (record { tid = t; tickets = tickets }) (commits (records past))) _ _
-    (λ e. by_commits_it protocols g past site t ticket tickets undecided all names)
+    (λ e. by_commits_it protocols g past site t ticket tickets undecided all names places)
     (λ edges e. by_aborts protocols g past (Ev.Take site (From.Vote t (Some ticket))) t (For.Cycle edges) undecided (λ u. refl) tt
     (λ at. refl) tt)
 
@@ -159,7 +169,7 @@ unfolding yes_vote
 by_yes_vote protocols g past site t ticket undecided =
     goes_when protocols g past (Ev.Take site (From.Vote t (Some ticket))) (all_voted now t members) _ _
     (λ all. by_last_vote protocols g past site t ticket (vote_tickets now t members) undecided all
-    (tickets_name protocols past now t all))
+    (tickets_name protocols past now t all) (sited now t members members (λ m i. i)))
     (λ e. silently protocols g past (Ev.Take site (From.Vote t (Some ticket))) Say.Voted tt tt tt)
   where
     now : CoordPast

@@ -1,3 +1,4 @@
+pub mod Begins
 pub mod Begun
 pub mod Clear
 pub mod Cycles
@@ -9,6 +10,7 @@ pub mod Lines
 pub mod Made
 pub mod MadeLines
 pub mod OneEach
+pub mod OpenedPasts
 pub mod Past
 pub mod RecordLists
 pub mod Refuted
@@ -19,3 +21,12 @@ pub mod Standings
 pub mod Taken
 pub mod Turns
 pub mod Unsent
+pub mod CoordPasts
+pub mod CoordTold
+pub mod CoordRead
+pub mod CoordJournals
+pub mod CoordOpened
+pub mod CoordRestarts
+pub mod CoordCalls
+pub mod CoordTrims
+pub mod UsableCoordinators

@@ -3,6 +3,7 @@ use Rattle.std.proofs.Common.{◌≡◌, ℕ, ◌⊎◌, inl, inr, Bool, true, f
 use Rattle.mdb_base.specs.declared.names.SiteId.{SiteId}
 use Rattle.mdb_base.specs.declared.names.Tid.{Tid}
 use Rattle.mdb_base.specs.Words.{Each, Among, when}
+use Rattle.mdb_base.proofs.EachLaws.{among_append}
 use Rattle.presumptions.specs.declared.Decision.TheVariants as Decided
 use Rattle.presumptions.specs.declared.Participant.{Participant}
 use Rattle.fed_rules.specs.declared.answers.Answer.{Answer}
@@ -18,7 +19,6 @@ use Rattle.fed_rules.specs.CoordRecords.{coord_frame}
 use Rattle.fed_rules.specs.Policies.{Policy}
 use Rattle.rules_laws.specs.Durable.{IsFirm}
 use Rattle.coord_laws.specs.Records.{IsCommit, IsEnd}
-use Rattle.order_laws.proofs.Joined.{among_left}
 use Rattle.rules_laws.proofs.Disks.{appended, IsCut, Keeps, left_by_line, left_by_stop, quiet_plain, plain_records}
 use Rattle.coord_laws.proofs.Facts.{kept_standing, WroteAll, Stands, Tells, Counted, Committed, Goes}
 use Rattle.coord_laws.proofs.Rules.{silently, uncounted}
@@ -61,7 +61,7 @@ keeps_written protocols g past event news now w (inr c) = inr c
 committed_kept : (g : Tid) (event : CoordEvent) (a : Answer) (news old now : List CoordRecord) → now ≡ news ++ old
     → Committed g event a news → Committed g event a now
 committed_kept g event (Say.Decides Decided.Commit cause forgets) news old now e c = λ about. subst (Among (IsCommit g)) (sym e)
-    (among_left (IsCommit g) news old (c about))
+    (among_append (IsCommit g) news old (c about))
 committed_kept g event (Say.Decides Decided.Abort cause forgets) news old now e c = tt
 committed_kept g event a news old now e c = tt
 

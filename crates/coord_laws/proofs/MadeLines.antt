@@ -1,5 +1,6 @@
 -- Each line of the coordinator is made so, by whichever rule it goes.
-use Rattle.coord_laws.proofs.Rules.{all_sending, some_sending, IsSending}
+use Rattle.mdb_base.proofs.OptionLaws.{some_parts}
+use Rattle.rules_laws.proofs.Sending.{all_sending, some_sending, IsSending}
 use Rattle.std.proofs.Common.{◌≡◌, ℕ, zero, suc, Bool, true, false, cond, not, ◌&&◌, ◌||◌, is_none, Option, Some, None, List, [], ◌∷◌, ◌++◌, take, map, refl, sym, ap, ◌∙◌}
 use Rattle.mdb_base.specs.declared.acts.Step.{Step}
 use Rattle.mdb_base.specs.declared.names.SiteId.{SiteId}
@@ -11,8 +12,9 @@ use Rattle.mdb_base.specs.declared.replies.Reply.TheVariants as Reply_is
 use Rattle.mdb_base.specs.declared.replies.Why.TheVariants as Because
 use Rattle.mdb_base.specs.Names.{same_site}
 use Rattle.mdb_base.specs.Programs.{plain_act}
-use Rattle.mdb_base.specs.Words.{Each, when, found, with_some}
+use Rattle.mdb_base.specs.Words.{Each, when}
 use Rattle.mdb_base.proofs.ListLaws.{each_filtered}
+use Rattle.mdb_base.proofs.EachLaws.{each_of_found}
 use Rattle.presumptions.specs.declared.Decision.{Decision}
 use Rattle.presumptions.specs.declared.Decision.TheVariants as Decide_is
 use Rattle.presumptions.specs.declared.Participant.{Participant}
@@ -36,15 +38,14 @@ use Rattle.fed_rules.specs.Policies.{Policy}
 use Rattle.fed_rules.specs.Disk.{Call, Append, Sync, CutBack, TrimFront, Stops, is_torn}
 use Rattle.fed_rules.specs.Happenings.{Trip, quiet, is_down, stopped, tripped}
 use Rattle.fed_rules.specs.Site_of.{due_site}
-use Rattle.order_laws.proofs.Alike.{some_parts}
 use Rattle.coord_laws.proofs.Made.{CommitsNobody, IsAccepted, IsLastVote, Writes, IsAsked, Counts, is_refusal, Decides, Begins, IsFirst, IsMade, uncounted_counts, uncounted_decides, quiet_plain, quiet_uncounted, made_when, made_pick}
 use Rattle.order_laws.proofs.Joined.{each_cut}
 
-due_same : (d due : Due) → Some d ≡ Some due → due_site due ≡ due_site d
+pub due_same : (d due : Due) → Some d ≡ Some due → due_site due ≡ due_site d
 due_same d due e = let p : d ≡ due = some_parts e in sym (ap due_site p)
 
 -- what is outstanding names its site
-work_site : (past : CoordPast) (tid : Tid) (site : SiteId) (step : Option Step) (due : Due) → work_at past tid site step ≡ Some due → due_site due ≡ site
+pub work_site : (past : CoordPast) (tid : Tid) (site : SiteId) (step : Option Step) (due : Due) → work_at past tid site step ≡ Some due → due_site due ≡ site
 work_site past tid site None due e = cc
 work_site past tid site (Some step) due e = by_test (same_site step.site site) e
   where
@@ -52,14 +53,14 @@ work_site past tid site (Some step) due e = by_test (same_site step.site site) e
     by_test true e = due_same _ due e
     by_test false e = cc
 
-prepare_site : (past : CoordPast) (tid : Tid) (site : SiteId) (due : Due) → prepare_at past tid site ≡ Some due → due_site due ≡ site
+pub prepare_site : (past : CoordPast) (tid : Tid) (site : SiteId) (due : Due) → prepare_at past tid site ≡ Some due → due_site due ≡ site
 prepare_site past tid site due e = by_test (is_none (vote_at past tid site)) e
   where
     by_test : (t : Bool) → cond t (Some (Due_is.Prepare site (epoch_at past tid site) (count_at past tid site))) None ≡ Some due → due_site due ≡ site
     by_test true e = due_same _ due e
     by_test false e = cc
 
-outstanding_site : (past : CoordPast) (tid : Tid) (site : SiteId) (due : Due) → outstanding past tid site ≡ Some due → due_site due ≡ site
+pub outstanding_site : (past : CoordPast) (tid : Tid) (site : SiteId) (due : Due) → outstanding past tid site ≡ Some due → due_site due ≡ site
 outstanding_site past tid site due e =
     by_tests (visits site (program past tid)) (has_step_left past tid site) (has_ticket_at past tid site) e
   where
@@ -82,22 +83,14 @@ asks past tid site due e = asks_due past tid due (ap (outstanding past tid) (out
 abbrev AreDue : CoordPast → Tid → List Due → Type 0
 AreDue past tid dues = Each (λ due. (site : SiteId) × (outstanding past tid site ≡ Some due)) dues
 
-each_found : {A B : Type 0} (P : B → Type 0) (look : A → Option B) (xs : List A) → ((x : A) (y : B) → look x ≡ Some y → P y) → Each P (found look xs)
-each_found P look [] h = tt
-each_found {A} {B} P look (x ∷ xs) h = with-one (look x) (h x) (each_found P look xs h)
-  where
-    with-one : (o : Option B) → ((y : B) → o ≡ Some y → P y) → Each P (found look xs) → Each P (with_some o (found look xs))
-    with-one None f rest = rest
-    with-one (Some y) f rest = (f y refl, rest)
-
 all_due : (protocols : List Participant) (past : CoordPast) (tid : Tid) → AreDue past tid (all_outstanding protocols past tid)
 all_due protocols past tid =
-    each_found (λ due. (site : SiteId) × (outstanding past tid site ≡ Some due)) (λ member. outstanding past tid member.site) (participants protocols past tid)
+    each_of_found (λ due. (site : SiteId) × (outstanding past tid site ≡ Some due)) (λ member. outstanding past tid member.site) (participants protocols past tid)
     (λ member due e. (member.site, e))
 
 news_due : (protocols : List Participant) (before now : CoordPast) (tid : Tid) (site : SiteId) → AreDue now tid (news protocols before now tid site)
 news_due protocols before now tid site =
-    each_found (λ due. (s : SiteId) × (outstanding now tid s ≡ Some due)) (λ member. news_at before now tid site member.site) (participants protocols before tid)
+    each_of_found (λ due. (s : SiteId) × (outstanding now tid s ≡ Some due)) (λ member. news_at before now tid site member.site) (participants protocols before tid)
     (λ member due e. (member.site, by_test (same_site member.site site || is_none (outstanding before tid member.site)) (outstanding now tid member.site) due e))
   where
     by_test : (t : Bool) (o : Option Due) (due : Due) → cond t o None ≡ Some due → o ≡ Some due

@@ -3,9 +3,9 @@ use Rattle.std.proofs.Common.{◌≡◌, ℕ, Bool, true, false, cond, nat_le, L
 use Rattle.mdb_base.specs.declared.names.Tid.{Tid}
 use Rattle.mdb_base.specs.Names.{same_tid}
 use Rattle.mdb_base.specs.Words.{Each, Among}
+use Rattle.mdb_base.proofs.NameLaws.{same_tid-equal, same_tid-refl}
 use Rattle.order_laws.specs.Chains.{In, Distinct}
 use Rattle.order_laws.specs.Tickets.{Ticketed}
-use Rattle.order_laws.proofs.Names.{same_tid_alike, same_tid_self}
 use Rattle.fed_rules.specs.declared.records.CoordRecord.{CoordRecord}
 use Rattle.fed_rules.specs.declared.records.CoordRecord.TheVariants as Rec
 use Rattle.fed_rules.specs.CoordRecords.{coord_frame, has_commit, commits}
@@ -19,7 +19,7 @@ tids_of rs = map (λ node. node.tid) (commits rs)
 
 pub committed_tid : (rs : List CoordRecord) (t : Tid) → In t (tids_of rs) → has_commit rs t ≡ true
 committed_tid [] t i = absurd i
-committed_tid (Rec.Commit tid tickets ∷ rs) t (inl e) = ap (λ b. cond b true (has_commit rs t)) (subst (λ u. same_tid tid u ≡ true) e (same_tid_self tid))
+committed_tid (Rec.Commit tid tickets ∷ rs) t (inl e) = ap (λ b. cond b true (has_commit rs t)) (subst (λ u. same_tid tid u ≡ true) e (same_tid-refl tid))
 committed_tid (Rec.Commit tid tickets ∷ rs) t (inr i) = by_test (same_tid tid t) (committed_tid rs t i)
   where
     by_test : (b : Bool) → has_commit rs t ≡ true → cond b true (has_commit rs t) ≡ true
@@ -37,7 +37,7 @@ commit_node (Rec.Commit tid tickets ∷ rs) t e = by_test (same_tid tid t) refl 
   where
     by_test : (b : Bool) → same_tid tid t ≡ b → cond b true (has_commit rs t) ≡ true → (has_commit rs t ≡ true → (node : Ticketed) × In node (commits rs) × (node.tid ≡ t))
         → (node : Ticketed) × In node (record { tid = tid; tickets = tickets } ∷ commits rs) × (node.tid ≡ t)
-    by_test true q e h = (record { tid = tid; tickets = tickets }, inl refl, same_tid_alike tid t q)
+    by_test true q e h = (record { tid = tid; tickets = tickets }, inl refl, same_tid-equal tid t q)
     by_test false q e h = let r = h e in (r.0, inr r.1, r.2)
 commit_node (Rec.Initiation tid members ∷ rs) t e = commit_node rs t e
 commit_node (Rec.Abort tid members ∷ rs) t e = commit_node rs t e

@@ -7,7 +7,7 @@ use Rattle.mdb_base.proofs.ListLaws.{each_self, each_filtered}
 use Rattle.order_laws.specs.Chains.{In, Distinct}
 use Rattle.order_laws.proofs.Alike.{same_of}
 use Rattle.order_laws.proofs.Lists.{bool_is, each_from}
-use Rattle.order_laws.proofs.Tickets.{acyclic_no_cycle}
+use Rattle.order_laws.proofs.Tickets.{acyclic_no_cycle, no_cycle_acyclic}
 use Rattle.presumptions.specs.declared.Participant.{Participant}
 use Rattle.presumptions.specs.declared.Protocol.TheVariants as By
 use Rattle.fed_rules.specs.declared.events.CoordEvent.{CoordEvent}
@@ -18,7 +18,8 @@ use Rattle.fed_rules.specs.CoordRecords.{named, has_end, commits, recorded}
 use Rattle.fed_rules.specs.Policies.{Policy}
 use Rattle.rules_laws.proofs.EachAttempt.{with_in, with_distinct}
 use Rattle.coord_laws.specs.Laws.{BeginOnce, BeginInOrder, KnownAreBegun, UndecidedAreUnmarked, DecisionsAreOutcomes, DecidedAreAwaited, RecordsNameParticipants, RecordedAreBegun, ParticipantsAreDeclared, CommitOnce, CommitsCloseNoCycle}
-use Rattle.coord_laws.specs.Pasts.{IsMadeByEvents, OfPasts}
+use Rattle.coord_laws.specs.Pasts.{IsGoingOn, IsMadeByEvents, IsNextLine, OfPasts}
+use Rattle.coord_laws.proofs.OpenedPasts.{is_cycle_free, is_numbered, is_once, is_sound}
 use Rattle.coord_laws.proofs.Begun.{AreNumbered, begun_in, begins_some, numbered_below, below_listed, numbered_distinct}
 use Rattle.coord_laws.proofs.Clear.{coord_turn}
 use Rattle.coord_laws.proofs.Cycles.{IsFree, free_line, nothing_free}
@@ -50,32 +51,40 @@ nothing_sound protocols member g = record {
 
 -- the next line of a past
 pub next_turn : (protocols : List Participant) (policy : Policy) (member : Participant) (g : Tid) (past : CoordPast) (x : CoordHappening)
-    → (made : IsMadeByEvents protocols policy (x ∷ past)) → CoordSound protocols member g past → Turn protocols member g past made.0 x
-next_turn protocols policy member g past x (event, is, numbered, made) s =
-    subst (Turn protocols member g past event) (sym is)
-    (record { sound = s; line = coord_lines protocols policy g past event s.firm; numbered = numbered })
+    → (made : IsNextLine protocols policy past x) → CoordSound protocols member g past → Turn protocols member g past made.event x
+next_turn protocols policy member g past x made s =
+    subst (Turn protocols member g past made.event) (sym made.is)
+    (record { sound = s; line = coord_lines protocols policy g past made.event s.firm; numbered = made.numbered })
 
 -- what holds of one attempt and one member holds of every past
 pub past_sound : (protocols : List Participant) (policy : Policy) (member : Participant) (g : Tid) (past : CoordPast)
-    → IsMadeByEvents protocols policy past → CoordSound protocols member g past
+    → IsGoingOn protocols policy past → CoordSound protocols member g past
 past_sound protocols policy member g [] made = nothing_sound protocols member g
-past_sound protocols policy member g (x ∷ past) made =
-    coord_turn protocols member g past made.0 x
-    (next_turn protocols policy member g past x made (past_sound protocols policy member g past made.3))
+past_sound protocols policy member g (x ∷ past) (inl opened) = is_sound protocols (x ∷ past) opened member g
+past_sound protocols policy member g (x ∷ past) (inr (next, made)) =
+    coord_turn protocols member g past next.event x
+    (next_turn protocols policy member g past x next (past_sound protocols policy member g past made))
+
+-- what events make of nothing goes on
+pub going_on : (protocols : List Participant) (policy : Policy) (past : CoordPast) → IsMadeByEvents protocols policy past → IsGoingOn protocols policy past
+going_on protocols policy [] made = tt
+going_on protocols policy (x ∷ past) (event, is, numbered, made) =
+    inr (record { event = event; is = is; numbered = numbered }, going_on protocols policy past made)
 
 -- any site, where nothing depends on it
 pub any_member : Participant
 any_member = record { site = record { 0 = 0 }; protocol = By.Nothing }
 
-begun_numbered : (protocols : List Participant) (policy : Policy) (past : CoordPast) → IsMadeByEvents protocols policy past
+begun_numbered : (protocols : List Participant) (policy : Policy) (past : CoordPast) → IsGoingOn protocols policy past
     → AreNumbered (begun_tids past)
 begun_numbered protocols policy [] made = tt
-begun_numbered protocols policy (x ∷ past) made = by_answer (begun_by x.answer) refl (begun_numbered protocols policy past made.3) where
+begun_numbered protocols policy (x ∷ past) (inl opened) = is_numbered protocols (x ∷ past) opened
+begun_numbered protocols policy (x ∷ past) (inr (next, made)) = by_answer (begun_by x.answer) refl (begun_numbered protocols policy past made) where
   by_answer : (o : Option Tid) → begun_by x.answer ≡ o → AreNumbered (begun_tids past) → AreNumbered (with_some o (begun_tids past))
   by_answer None e n = n
   by_answer (Some g) e n = (
-    begins_new protocols any_member g past made.0 x
-        (next_turn protocols policy any_member g past x made (past_sound protocols policy any_member g past made.3))
+    begins_new protocols any_member g past next.event x
+        (next_turn protocols policy any_member g past x next (past_sound protocols policy any_member g past made))
         (begins_some g x.answer e),
     n,
   )
@@ -171,7 +180,7 @@ participants_declared protocols policy past made g =
 
 -- who is about to be committed has no Commit record
 new_commit : (protocols : List Participant) (policy : Policy) (past : CoordPast) (event : CoordEvent) (x : CoordHappening)
-    → IsMadeByEvents protocols policy past → IsMade protocols past event x → (g : Tid) → Among (AppendsCommit g) x.calls
+    → IsGoingOn protocols policy past → IsMade protocols past event x → (g : Tid) → Among (AppendsCommit g) x.calls
     → In g (tids_of (records past)) → ⊥
 new_commit protocols policy past event x before made g i old =
     let v = (last_vote_of protocols past event g x.calls made.writes i).1 in
@@ -182,21 +191,23 @@ new_commit protocols policy past event x before made g i old =
 
 -- what a line of such a past records, sends and counts
 pub past_made : (protocols : List Participant) (policy : Policy) (past : CoordPast) (x : CoordHappening)
-    → (made : IsMadeByEvents protocols policy (x ∷ past)) → IsMade protocols past made.0 x
+    → (made : IsNextLine protocols policy past x) → IsMade protocols past made.event x
 past_made protocols policy past x made =
-    subst (IsMade protocols past made.0) (sym made.1) (coord_made protocols policy past made.0)
+    subst (IsMade protocols past made.event) (sym made.is) (coord_made protocols policy past made.event)
 
 pub commits_once : OfPasts CommitOnce
 commits_once protocols policy [] made = tt
-commits_once protocols policy (x ∷ past) made =
-    accepted_distinct x.calls (disk past) (commits (records past)) (tids_of (records past)) (past_made protocols policy past x made).accepted
-    (new_commit protocols policy past made.0 x made.3 (past_made protocols policy past x made)) (λ t i. i)
-    (commits_once protocols policy past made.3)
+commits_once protocols policy (x ∷ past) (inl opened) = is_once protocols (x ∷ past) opened
+commits_once protocols policy (x ∷ past) (inr (next, made)) =
+    accepted_distinct x.calls (disk past) (commits (records past)) (tids_of (records past)) (past_made protocols policy past x next).accepted
+    (new_commit protocols policy past next.event x made (past_made protocols policy past x next)) (λ t i. i)
+    (commits_once protocols policy past made)
 
 pub commits_free : OfPasts (λ protocols past. IsFree (commits (records past)))
 commits_free protocols policy [] made = nothing_free
-commits_free protocols policy (x ∷ past) made =
-    free_line past x (past_made protocols policy past x made).accepted (commits_free protocols policy past made.3)
+commits_free protocols policy (x ∷ past) (inl opened) = no_cycle_acyclic (commits (records (x ∷ past))) (is_cycle_free protocols (x ∷ past) opened)
+commits_free protocols policy (x ∷ past) (inr (next, made)) =
+    free_line past x (past_made protocols policy past x next).accepted (commits_free protocols policy past made)
 
 pub commits_close_none : OfPasts CommitsCloseNoCycle
 commits_close_none protocols policy past made =

@@ -16,11 +16,8 @@ use Rattle.fed_rules.specs.CoordRecords.{ticketed, named, has_commit, has_end, o
 use Rattle.coord_laws.specs.Records.{IsCommit, IsEnd}
 use Rattle.coord_laws.proofs.Facts.{IsUncommitted, IsDecidedBy}
 use Rattle.order_laws.proofs.Alike.{same_of}
-
--- an End record of the attempt
-abbrev pub IsEndOf : Tid → CoordRecord → Type 0
-IsEndOf g (Rec.End tid) = tid ≡ g
-IsEndOf g kept = ⊥
+use Rattle.fed_rules.specs.Usable.{IsEndOf}
+use Rattle.fed_rules.specs.declared.records.CoordRecord.TheVariants.{Initiation, Commit, Abort, End, Checkpoint}
 
 pub commit_among : (g : Tid) (rs : List CoordRecord) → has_commit rs g ≡ true → Among (IsCommit g) rs
 commit_among g [] e = cc
@@ -184,3 +181,20 @@ pub is_required : (protocols : List Participant) (g : Tid) (d : Decision) (site 
 is_required protocols g d site p rs ms e a m =
     subst (λ o. Among (λ k. (k.site ≡ site) × (k.protocol ≡ p)) (required_of d o)) (sym e)
     (those_among (λ k. (k.site ≡ site) × (k.protocol ≡ p)) (λ k. acks k.protocol d) (λ k is. ap (λ q. acks q d) is.1 ∙ a) ms m)
+
+pub among_end : (g : Tid) (rs : List CoordRecord) → Among (IsEndOf g) rs → has_end rs g ≡ true
+among_end g [] m = absurd m
+among_end g (End t ∷ rs) (inl e) = ap (λ b. cond b true (has_end rs g)) (same_of t g e)
+among_end g (End t ∷ rs) (inr m) = by_test (same_tid t g) (among_end g rs m)
+  where
+    by_test : (b : Bool) → has_end rs g ≡ true → cond b true (has_end rs g) ≡ true
+    by_test true h = refl
+    by_test false h = h
+among_end g (Initiation t ms ∷ rs) (inl e) = absurd e
+among_end g (Initiation t ms ∷ rs) (inr m) = among_end g rs m
+among_end g (Commit t ks ∷ rs) (inl e) = absurd e
+among_end g (Commit t ks ∷ rs) (inr m) = among_end g rs m
+among_end g (Abort t ms ∷ rs) (inl e) = absurd e
+among_end g (Abort t ms ∷ rs) (inr m) = among_end g rs m
+among_end g (Checkpoint sum ∷ rs) (inl e) = absurd e
+among_end g (Checkpoint sum ∷ rs) (inr m) = among_end g rs m

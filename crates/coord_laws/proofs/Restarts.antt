@@ -26,12 +26,14 @@ use Rattle.fed_rules.specs.Policies.{Policy}
 use Rattle.coord_laws.specs.Records.{IsEnd}
 use Rattle.rules_laws.proofs.Disks.{appended, IsQuiet}
 use Rattle.coord_laws.proofs.Facts.{is_undecided, IsEnding, WroteAll, Stands, Same, Forgets, Restarts, IsTelling, Known, Tells, Goes}
-use Rattle.coord_laws.proofs.Rules.{goes_when, all_sending, open_undecided, standing_on, acked_on, calm_standing, calm_acked, silently, ignored, no_ack}
-use Rattle.coord_laws.proofs.Dues.{each_of_mapped, IsOwed, all_owed, by_go, by_dues, by_inquiry, by_fate}
+use Rattle.rules_laws.proofs.Sending.{all_sending}
+use Rattle.coord_laws.proofs.Rules.{goes_when, open_undecided, standing_on, acked_on, calm_standing, calm_acked, silently, ignored, no_ack}
+use Rattle.coord_laws.proofs.Dues.{IsOwed, all_owed, by_go, by_dues, by_inquiry, by_fate}
 use Rattle.coord_laws.proofs.Ends.{by_aborts}
 use Rattle.coord_laws.proofs.LastVotes.{at_vote, by_did}
 use Rattle.order_laws.proofs.Alike.{of_same}
 use Rattle.std.specs.Prelude.{nat_lt}
+use Rattle.mdb_base.proofs.EachLaws.{each_of_mapped}
 
 -- where an acknowledgement is missing the attempt has a record
 missing_recorded : (protocols : List Participant) (past : CoordPast) (t : Tid) (decision : Decision) (site : SiteId)

@@ -4,18 +4,18 @@ use Rattle.std.proofs.lemmas.Bool.{and_right}
 use Rattle.mdb_base.specs.declared.names.SiteId.{SiteId}
 use Rattle.mdb_base.specs.declared.names.Tid.{Tid}
 use Rattle.mdb_base.specs.Words.{when, pick}
+use Rattle.mdb_base.proofs.BoolLaws.{cond_same}
 use Rattle.presumptions.specs.declared.Decision.{Decision}
 use Rattle.presumptions.specs.declared.Participant.{Participant}
 use Rattle.fed_rules.specs.declared.answers.Answer.{Answer}
 use Rattle.fed_rules.specs.declared.answers.Answer.TheVariants as Say
 use Rattle.fed_rules.specs.declared.events.CoordEvent.{CoordEvent}
 use Rattle.fed_rules.specs.declared.events.CoordEvent.TheVariants as Ev
-use Rattle.fed_rules.specs.declared.messages.Due.{Due}
 use Rattle.fed_rules.specs.declared.messages.FromSite.TheVariants as From
 use Rattle.fed_rules.specs.declared.records.CoordRecord.{CoordRecord}
 use Rattle.fed_rules.specs.Happenings.{quiet, stops, comes_up}
-use Rattle.fed_rules.specs.Coord.{defers_some, defers_all}
 use Rattle.fed_rules.specs.CoordPast.{CoordHappening, CoordPast, records, Standing, standing_of, standing, opened, is_open, decided, kept_decision, known_decision, is_about, begins, counts, decides, acks_in, has_acked}
+use Rattle.rules_laws.proofs.Sending.{IsSending}
 use Rattle.coord_laws.proofs.Facts.{is_undecided, moved, IsOpen, Same, Counted, Committed, Goes}
 
 pub goes_when : (protocols : List Participant) (g : Tid) (past : CoordPast) (event : CoordEvent) (b : Bool) (x y : CoordHappening)
@@ -31,10 +31,6 @@ pub goes_pick : {A : Type 0} (protocols : List Participant) (g : Tid) (past : Co
 unfolding pick
 goes_pick protocols g past event None x y p q = p refl
 goes_pick protocols g past event (Some a) x y p q = q a refl
-
-pub cond_same : {A : Type 0} (b : Bool) (x : A) → cond b x x ≡ x
-cond_same true x = refl
-cond_same false x = refl
 
 -- an answer that leaves the standing of every attempt as it was
 abbrev pub IsCalm : Answer → Type 0
@@ -66,12 +62,7 @@ pub calm_committed : (g : Tid) (event : CoordEvent) (a : Answer) (news : List Co
 calm_committed g event (Say.Decides decision cause forgets) news c = absurd c
 calm_committed g event a news c = tt
 
--- an answer with which operations are sent
-abbrev pub IsSending : Answer → Type 0
-IsSending Say.Only = Unit {0}
-IsSending Say.Defers = Unit {0}
-IsSending answer = ⊥
-
+-- such an answer moves no standing, begins nothing, and counts
 pub record Sending (g : Tid) (a : Answer) : Type 0 where
   pub calm : IsCalm a
   pub begins : begins g a ≡ false
@@ -81,14 +72,6 @@ pub sending_answer : (g : Tid) (a : Answer) → IsSending a → Sending g a
 sending_answer g Say.Only s = record { calm = tt; begins = refl; counts = refl }
 sending_answer g Say.Defers s = record { calm = tt; begins = refl; counts = refl }
 sending_answer g a s = absurd s
-
-pub some_sending : (held : List Due) → IsSending (defers_some held)
-some_sending [] = tt
-some_sending (due ∷ held) = tt
-
-pub all_sending : (held sent : List Due) → IsSending (defers_all held sent)
-all_sending held [] = some_sending held
-all_sending held (due ∷ sent) = tt
 
 -- an attempt that is open is known without a decision, and the other way round
 pub open_undecided : (protocols : List Participant) (past : CoordPast) (g : Tid) → is_open past g ≡ true → IsOpen protocols past g

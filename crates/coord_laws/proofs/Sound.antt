@@ -5,6 +5,8 @@ use Rattle.mdb_base.specs.declared.names.SiteId.{SiteId}
 use Rattle.mdb_base.specs.declared.names.Tid.{Tid}
 use Rattle.mdb_base.specs.Names.{same_tid}
 use Rattle.mdb_base.specs.Words.{Among, or_else}
+use Rattle.mdb_base.proofs.EachLaws.{among_behind, among_split}
+use Rattle.mdb_base.proofs.OptionLaws.{some_parts}
 use Rattle.presumptions.specs.declared.Decision.{Decision}
 use Rattle.presumptions.specs.declared.Participant.{Participant}
 use Rattle.presumptions.specs.Table.{acks}
@@ -19,11 +21,11 @@ use Rattle.fed_rules.specs.CoordRecords.{coord_frame, ticketed, named, outcome, 
 use Rattle.rules_laws.specs.Durable.{IsFirm}
 use Rattle.coord_laws.specs.Records.{IsCommit, IsEnd}
 use Rattle.rules_laws.proofs.Disks.{cut_stays, cut_old}
-use Rattle.order_laws.proofs.Joined.{among_right, among_split}
 use Rattle.coord_laws.proofs.Facts.{is_undecided, kept_standing, IsOpen, IsCommitting, WroteAll, Same, Starts, Decides, Forgets, Restarts}
 use Rattle.coord_laws.proofs.Lines.{Kept, Stood, Stopped, Through}
-use Rattle.coord_laws.proofs.RecordLists.{IsEndOf, named_behind, named_more, ends_silent}
-use Rattle.order_laws.proofs.Alike.{same_of, some_parts}
+use Rattle.coord_laws.proofs.RecordLists.{named_behind, named_more, ends_silent}
+use Rattle.order_laws.proofs.Alike.{same_of}
+use Rattle.fed_rules.specs.Usable.{IsEndOf}
 
 -- the attempt was begun
 abbrev pub IsBegun : CoordPast → Tid → Type 0
@@ -83,7 +85,7 @@ kept_from protocols g past event now P (inr c) m = inl (cut_old IsEnd P (records
 pub kept_stays : (protocols : List Participant) (g : Tid) (past : CoordPast) (event : CoordEvent) (now : List CoordRecord)
     (P : CoordRecord → Type 0) → ((r : CoordRecord) → IsEnd r → P r → ⊥) → Kept protocols g past event now → Among P (records past)
     → Among P now
-kept_stays protocols g past event now P no-end (inl (kept, w, e)) m = subst (Among P) (sym e) (among_right P kept (records past) m)
+kept_stays protocols g past event now P no-end (inl (kept, w, e)) m = subst (Among P) (sym e) (among_behind P kept (records past) m)
 kept_stays protocols g past event now P no-end (inr c) m = cut_stays IsEnd P no-end (records past) now c m
 
 pub end_commit : (g : Tid) (r : CoordRecord) → IsEnd r → IsCommit g r → ⊥

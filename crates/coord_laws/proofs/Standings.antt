@@ -4,7 +4,7 @@ use Rattle.mdb_base.specs.declared.names.SiteTicket.{SiteTicket}
 use Rattle.mdb_base.specs.declared.names.Tid.{Tid}
 use Rattle.mdb_base.specs.Words.{Each, Among}
 use Rattle.mdb_base.specs.Names.{same_tid}
-use Rattle.order_laws.proofs.Names.{same_tid_alike}
+use Rattle.mdb_base.proofs.NameLaws.{same_tid-equal}
 use Rattle.presumptions.specs.declared.Participant.{Participant}
 use Rattle.fed_rules.specs.declared.events.CoordEvent.{CoordEvent}
 use Rattle.fed_rules.specs.declared.answers.Answer.{Answer}
@@ -72,7 +72,7 @@ commit_more : (g tid : Tid) (tickets : List SiteTicket) (rs : List CoordRecord) 
 commit_more g tid tickets rs e = by_own (same_tid tid g) refl e
   where
     by_own : (t : Bool) → same_tid tid g ≡ t → cond t true (has_commit rs g) ≡ true → (tid ≡ g) ⊎ (has_commit rs g ≡ true)
-    by_own true q e = inl (same_tid_alike tid g q)
+    by_own true q e = inl (same_tid-equal tid g q)
     by_own false q e = inr e
 
 -- a Commit that is kept after some calls was kept before, or one of them appended it

@@ -6,7 +6,7 @@ use Rattle.mdb_base.specs.declared.names.Tid.{Tid}
 use Rattle.mdb_base.specs.declared.replies.Reply.{Reply}
 use Rattle.mdb_base.specs.Names.{same_tid, same_site}
 use Rattle.mdb_base.specs.Words.{Among, each_of, some_of, those, with_some}
-use Rattle.mdb_base.proofs.NameLaws.{same_tid-equal}
+use Rattle.mdb_base.proofs.NameLaws.{same_tid-equal, same_site-equal}
 use Rattle.presumptions.specs.declared.Participant.{Participant}
 use Rattle.fed_rules.specs.declared.events.CoordEvent.{CoordEvent}
 use Rattle.fed_rules.specs.declared.events.CoordEvent.TheVariants as Ev
@@ -15,7 +15,6 @@ use Rattle.fed_rules.specs.CoordPast as Past
 use Rattle.fed_rules.specs.CoordPast.{CoordHappening, CoordPast, is_ticket, is_about, decides, begins, counts, acks_in, has_acked, vote_in, or_vote, vote_at, did_in, counted, counted_at, last_epoch, epoch_at, has_ticket_at}
 use Rattle.fed_rules.specs.Happenings.{stops, comes_up}
 use Rattle.coord_laws.proofs.Sound.{IsYes, IsAcked}
-use Rattle.order_laws.proofs.Names.{same_site_alike}
 
 -- an acknowledgement that counts at a line is taken there
 acks_event : (g : Tid) (site : SiteId) (x : CoordHappening) → acks_in g site x ≡ true → x.event ≡ Ev.Take site (From.Ack g)
@@ -24,7 +23,7 @@ acks_event g site x e = by_event x.event e where
   by_event (Ev.Take from (From.Ack tid)) e =
       let both = (and_parts (same_tid tid g && same_site from site) (counts x.answer) e).0 in
       let parts = and_parts (same_tid tid g) (same_site from site) both in
-      ap₂ (λ s t. Ev.Take s (From.Ack t)) (same_site_alike from site parts.1) (same_tid-equal tid g parts.0)
+      ap₂ (λ s t. Ev.Take s (From.Ack t)) (same_site-equal from site parts.1) (same_tid-equal tid g parts.0)
   by_event (Ev.Take from (From.Did tid e k reply)) h = cc
   by_event (Ev.Take from (From.Vote tid vote)) h = cc
   by_event (Ev.Take from (From.Inquiry tid)) h = cc
@@ -55,7 +54,7 @@ vote_event g site (Ev.Take from (From.Vote tid vote)) ticket e = by_test (same_t
   by_test true q h =
       let parts = and_parts (same_tid tid g) (same_site from site) q in (
         ticket,
-        ap₂ (λ s t. Ev.Take s (From.Vote t vote)) (same_site_alike from site parts.1) (same_tid-equal tid g parts.0) ∙ ap
+        ap₂ (λ s t. Ev.Take s (From.Vote t vote)) (same_site-equal from site parts.1) (same_tid-equal tid g parts.0) ∙ ap
             (λ v. Ev.Take site (From.Vote g v)) h,
       )
   by_test false q h = cc
@@ -110,7 +109,7 @@ same_reply g site (Ev.Take from (From.Did tid e n reply)) c h s = by_test (same_
       let same : made ≡ c = cc in (
         n,
         reply,
-        ap₂ (λ at t. Ev.Take at (From.Did t e n reply)) (ap (λ y. y.site) same ∙ same_site_alike c.site site s)
+        ap₂ (λ at t. Ev.Take at (From.Did t e n reply)) (ap (λ y. y.site) same ∙ same_site-equal c.site site s)
             (same_tid-equal tid g q) ∙ ap (λ y. Ev.Take site (From.Did g y.epoch n reply)) same,
       )
   by_test false q h = cc

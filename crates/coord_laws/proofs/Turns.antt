@@ -4,6 +4,7 @@ use Rattle.std.proofs.lemmas.Bool.{and_parts, not-true}
 use Rattle.mdb_base.specs.declared.names.Tid.{Tid}
 use Rattle.mdb_base.specs.Words.{Among}
 use Rattle.mdb_base.proofs.NameLaws.{tests_agree}
+use Rattle.mdb_base.proofs.EachLaws.{among_split}
 use Rattle.presumptions.specs.declared.Decision.{Decision}
 use Rattle.presumptions.specs.declared.Decision.TheVariants as Decided
 use Rattle.presumptions.specs.declared.Participant.{Participant}
@@ -16,7 +17,7 @@ use Rattle.fed_rules.specs.CoordRecords.{named, has_commit, has_end, outcome, re
 use Rattle.coord_laws.specs.Pasts.{IsNumbered}
 use Rattle.coord_laws.specs.Records.{IsCommit}
 use Rattle.rules_laws.proofs.Disks.{appended}
-use Rattle.order_laws.proofs.Joined.{each_not, among_split}
+use Rattle.order_laws.proofs.Joined.{each_not}
 use Rattle.coord_laws.proofs.Begun.{begun_number, more_attempts}
 use Rattle.coord_laws.proofs.Facts.{is_undecided, IsOpen, IsUnmarked, IsCommitting, WroteAll, Same, Starts, Decides, Forgets, Restarts}
 use Rattle.coord_laws.proofs.Lines.{Kept, Stood, Stopped, Through, Line}

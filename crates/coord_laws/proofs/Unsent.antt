@@ -1,5 +1,5 @@
 -- Nothing is sent of an attempt that wasn't begun.
-use Rattle.std.proofs.Common.{◌≡◌, ◌||◌, Bool, true, false, cond, Some, None, List, [], ◌∷◌, inl, refl, sym, ap, ap₂, subst, ◌∙◌}
+use Rattle.std.proofs.Common.{◌≡◌, ◌||◌, Bool, true, false, cond, Some, None, List, [], ◌∷◌, inl, inr, refl, sym, ap, ap₂, subst, ◌∙◌}
 use Rattle.mdb_base.specs.declared.acts.Step.{Step}
 use Rattle.mdb_base.specs.declared.names.SiteId.{SiteId}
 use Rattle.mdb_base.specs.declared.names.Tid.{Tid}
@@ -17,6 +17,7 @@ use Rattle.coord_laws.specs.Laws.{UnbegunAreUnsent}
 use Rattle.coord_laws.specs.Pasts.{OfPasts}
 use Rattle.coord_laws.proofs.Begun.{begun_answer, in_more}
 use Rattle.coord_laws.proofs.Made.{IsAsked}
+use Rattle.coord_laws.proofs.OpenedPasts.{is_silent}
 use Rattle.coord_laws.proofs.Past.{past_made}
 
 -- an attempt that wasn't begun has no program
@@ -62,8 +63,10 @@ module _ (past : CoordPast) (tid : Tid) (none : program past tid ≡ []) where
 
 pub unbegun_unsent : OfPasts UnbegunAreUnsent
 unbegun_unsent protocols policy [] made tid free = (refl, refl)
-unbegun_unsent protocols policy (x ∷ past) made tid free =
-    let asked = (past_made protocols policy past x made).sends in
+unbegun_unsent protocols policy (x ∷ past) (inl opened) tid free =
+    (is_silent protocols (x ∷ past) opened (is_take_of tid), is_silent protocols (x ∷ past) opened (is_prepare_of tid))
+unbegun_unsent protocols policy (x ∷ past) (inr (next, made)) tid free =
+    let asked = (past_made protocols policy past x next).sends in
     let none = unbegun_program (x ∷ past) tid free in
-    let old = unbegun_unsent protocols policy past made.3 tid (λ i. free (in_more tid (begun_by x.answer) (begun_tids past) i)) in
+    let old = unbegun_unsent protocols policy past made tid (λ i. free (in_more tid (begun_by x.answer) (begun_tids past) i)) in
     (ap₂ (λ a b. a || b) (no_takes (x ∷ past) tid none x.sends asked) old.0, ap₂ (λ a b. a || b) (no_prepares (x ∷ past) tid none x.sends asked) old.1)

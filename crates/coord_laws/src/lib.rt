@@ -5,6 +5,7 @@
 
 mod attempts;
 mod records;
+mod sums;
 mod wrong_pasts;
 
 pub use attempts::{
@@ -13,5 +14,8 @@ pub use attempts::{
 };
 pub use records::{
     commits_close_no_cycle, recorded_attempts_were_begun, records_name_the_participants,
+};
+pub use sums::{
+    coordinators_checkpoints_are_sums, coordinators_disks_say_all, coordinators_journals_say_all,
 };
 pub use wrong_pasts::repeated_attempts_begin_twice;

@@ -13,12 +13,12 @@ use Rattle.engine_laws.proofs.Runs.{Own, begins, stays, got, wrote, takes, seals
 use Rattle.engine_laws.proofs.Counted.{counter_grows}
 
 -- the attempt of a restored run with this number
-abbrev drawer_among : List Kept → ℕ → Option Tid
+abbrev pub drawer_among : List Kept → ℕ → Option Tid
 drawer_among [] n = None
 drawer_among (kept ∷ more) n = cond (kept.number == n) (Some kept.tid) (drawer_among more n)
 
 -- the attempt that drew the number
-abbrev drawer : Start → List EngineLine → ℕ → Option Tid
+abbrev pub drawer : Start → List EngineLine → ℕ → Option Tid
 drawer start [] n = drawer_among start.doubtful n
 drawer start (Begins tid m ∷ older) n = cond (m == n) (Some tid) (drawer start older n)
 drawer start (Seals tid m ∷ older) n = cond (m == n) (Some tid) (drawer start older n)
@@ -60,7 +60,7 @@ sealing_keeps AtBegin start older tid t run m n drew is_tid next kept e = by_tes
         ap Some (sym is_tid) ∙ sym drew.age ∙ ap (drawer start older) age ∙ e
     by_test false is = e
 
-drawer_keeps : (start : Start) (older : List EngineLine) (line : EngineLine) (t : Tid) (n : ℕ) → IsRightLine start older line
+pub drawer_keeps : (start : Start) (older : List EngineLine) (line : EngineLine) (t : Tid) (n : ℕ) → IsRightLine start older line
     → IsRight start older → EachRun start older (IsDrawer start older)
     → n ≤ counter start older → drawer start older n ≡ Some t → drawer start (line ∷ older) n ≡ Some t
 drawer_keeps start older (Begins tid m) t n (free, next) right drew kept e =

@@ -2,17 +2,20 @@ pub mod AgeRuns
 pub mod AgeTickets
 pub mod ByNumber
 pub mod Commits
+pub mod Conflicts
 pub mod Counted
 pub mod Drawers
 pub mod EachRule
 pub mod Epochs
 pub mod Forms
 pub mod Granted
+pub mod Keeps
 pub mod LockingReplies
 pub mod LockingRuns
 pub mod LockingTickets
 pub mod MultiversionReplies
 pub mod MultiversionRuns
+pub mod Numbers
 pub mod Origins
 pub mod Refuted
 pub mod Relations
@@ -30,3 +33,6 @@ pub mod TimestampRuns
 pub mod ValidationReplies
 pub mod ValidationRuns
 pub mod ValidationTickets
+pub mod AloneAt
+pub mod SealedTickets
+pub mod StopReplies

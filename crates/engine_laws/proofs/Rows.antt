@@ -4,11 +4,15 @@ use Rattle.std.specs.Prelude.{nat_lt}
 use Rattle.std.proofs.lemmas.Bool.{eqb-false}
 use Rattle.mdb_base.specs.declared.names.Key.{Key}
 use Rattle.mdb_base.specs.declared.rows.Put.{Put}
-use Rattle.mdb_base.specs.Names.{same_key}
+use Rattle.mdb_base.specs.Names.{same_key, same_site}
 use Rattle.mdb_base.specs.Rows.{Table, look_up, with_row, with_rows}
 use Rattle.mdb_base.specs.Rising.{IsRising}
+use Rattle.mdb_base.specs.declared.names.SiteId.{SiteId}
 use Rattle.mdb_base.proofs.NameLaws.{same_key-refl, same_key-equal}
 use Rattle.fed_rules.specs.Runs.{Start, EngineLine, Access, Got, Wrote, Run, committed, written, after, table_of, puts_of, rows_of}
+use Rattle.fed_rules.specs.declared.scenario.ItemLine.{ItemLine}
+use Rattle.fed_rules.specs.Scenarios.{items_of}
+use Rattle.fed_rules.specs.SiteRecords.{Install, rows_after}
 use Rattle.engine_laws.specs.Laws.{HasRowsOfTable}
 use Rattle.engine_laws.proofs.Tables.{after_same}
 
@@ -180,3 +184,15 @@ puts_of_written (put ∷ puts) rising =
         ap (λ b. cond b (put ∷ others) (cond (nat_lt other.key.0 put.key.0) (other ∷ with_row put others) (put ∷ other ∷ others)))
         differ
         ∙ ap (λ b. cond b (other ∷ with_row put others) (put ∷ other ∷ others)) greater
+
+pub rising_items : (items : List ItemLine) (site : SiteId) → IsRising (λ row. row.key.0) (items_of items site)
+rising_items [] site = tt
+rising_items (item ∷ items) site = by_site (same_site item.site site) (rising_items items site)
+  where
+    by_site : (b : Bool) → IsRising (λ (row : Put). row.key.0) (items_of items site) → IsRising (λ (row : Put). row.key.0) (cond b (with_row item.put (items_of items site)) (items_of items site))
+    by_site true rest = rising_with_row item.put (items_of items site) rest
+    by_site false rest = rest
+
+pub rising_rows_after : (items : List Put) (xs : List Install) → IsRising (λ put. put.key.0) items → IsRising (λ put. put.key.0) (rows_after items xs)
+rising_rows_after items [] r = r
+rising_rows_after items (x ∷ xs) r = rising_with_rows x.writes (rows_after items xs) (rising_rows_after items xs r)

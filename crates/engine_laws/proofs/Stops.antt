@@ -9,6 +9,7 @@ use Rattle.mdb_base.specs.Names.{same_tid, same_key}
 use Rattle.mdb_base.specs.Rows.{with_row}
 use Rattle.mdb_base.specs.Words.{Each}
 use Rattle.mdb_base.proofs.NameLaws.{same_key-equal, same_tid-equal, same_tid-sym}
+use Rattle.mdb_base.proofs.RowLaws.{each_with_row}
 use Rattle.fed_rules.specs.declared.runs.Kept.{Kept}
 use Rattle.fed_rules.specs.Runs.{Start, EngineLine, Access, Got, Wrote, Run, run_at, published, written, restored, restored_at, table, after, puts_of}
 use Rattle.fed_rules.specs.Replies.{Drawn, rule}
@@ -23,20 +24,6 @@ use Rattle.engine_laws.proofs.Counted.{IsCounted, counted}
 use Rattle.engine_laws.proofs.Sound.{IsPlaced, IsSound, IsApart}
 use Rattle.engine_laws.proofs.Tickets.{IsInOrder, Agrees}
 use Rattle.engine_laws.proofs.Commits.{run_beside, commits_right, writes_last}
-
--- a fact of each row is kept by one more
-each_with_row : (P : Put → Type 0) (row : Put) (puts : List Put) → P row → Each P puts → Each P (with_row row puts)
-each_with_row P row [] here h = (here, tt)
-each_with_row P row (other ∷ puts) here h = by_same (same_key other.key row.key) (each_with_row P row puts here h.1)
-  where
-    by_less : (b : Bool) → Each P (with_row row puts) → Each P (cond b (other ∷ with_row row puts) (row ∷ other ∷ puts))
-    by_less true rest = (h.0, rest)
-    by_less false rest = (here, h)
-
-    by_same : (b : Bool) → Each P (with_row row puts)
-        → Each P (cond b (row ∷ puts) (cond (nat_lt other.key.0 row.key.0) (other ∷ with_row row puts) (row ∷ other ∷ puts)))
-    by_same true rest = (here, h.1)
-    by_same false rest = by_less (nat_lt other.key.0 row.key.0) rest
 
 or_over : (x y z : Bool) → (y || (x || z)) ≡ (x || (y || z))
 or_over true true z = refl

@@ -1,6 +1,6 @@
 -- What the test of a start tells: the epoch may start from it.
-use Rattle.std.proofs.Common.{◌≡◌, ℕ, ◌<◌, ◌≤◌, ◌⊎◌, Bool, true, false, not, ◌&&◌, ◌||◌, nat_lt, nat_le, List, [], ◌∷◌, arith}
-use Rattle.std.proofs.lemmas.Bool.{and_parts, or_cases}
+use Rattle.std.proofs.Common.{◌≡◌, ℕ, ◌<◌, ◌≤◌, ◌⊎◌, Bool, true, not, ◌&&◌, ◌||◌, nat_lt, nat_le, List, [], ◌∷◌, arith}
+use Rattle.std.proofs.lemmas.Bool.{and_parts, or_cases, not-true}
 use mathlib.Core.Logic.{inl, inr}
 use Rattle.mdb_base.specs.Names.{same_tid}
 use Rattle.mdb_base.specs.Words.{Each, each_of}
@@ -13,9 +13,6 @@ use Rattle.engine_tests.specs.Starts.{apart, all_apart, numbered, may_start}
 each_from : {A : Type 0} {P : A → Type 0} (test : A → Bool) → ((x : A) → test x ≡ true → P x) → (xs : List A) → each_of test xs ≡ true → Each P xs
 each_from test tells [] h = tt
 each_from test tells (x ∷ xs) h = let parts = and_parts (test x) (each_of test xs) h in (tells x parts.0, each_from test tells xs parts.1)
-
-is_false : (b : Bool) → not b ≡ true → b ≡ false
-is_false b h = grind arith
 
 less : (a b : ℕ) → nat_lt a b ≡ true → a < b
 less a b h = grind arith
@@ -38,8 +35,8 @@ apart_from a b h =
     let parts = and_parts (not (same_tid a.tid b.tid)) _ h in
     let more = and_parts (each_of (λ put. not (has_row put.key b.writes)) a.writes) _ parts.1 in
     record {
-      tids = is_false (same_tid a.tid b.tid) parts.0;
-      keys = each_from (λ (put : Put). not (has_row put.key b.writes)) (λ put e. is_false (has_row put.key b.writes) e) a.writes more.0;
+      tids = not-true (same_tid a.tid b.tid) parts.0;
+      keys = each_from (λ (put : Put). not (has_row put.key b.writes)) (λ put e. not-true (has_row put.key b.writes) e) a.writes more.0;
       order = in_order a b more.1;
     }
 

@@ -3,6 +3,7 @@ use Rattle.std.proofs.Common.{◌≡◌, ℕ, suc, ◌+◌, ◌≤◌, ◌<◌, 
 use Rattle.std.specs.Prelude.{option_to_list}
 use Rattle.mdb_base.specs.declared.names.SiteId.{SiteId}
 use Rattle.mdb_base.specs.declared.names.Tx.{Tx}
+use Rattle.mdb_base.proofs.JoinLaws.{length-append, length-option, reverse_more}
 use Rattle.fed_rules.specs.declared.messages.FromSite.{FromSite}
 use Rattle.fed_rules.specs.declared.messages.ToSite.{ToSite}
 use Rattle.fed_rules.specs.SitePast.{attempts_of, begins_tx}
@@ -18,7 +19,7 @@ use Rattle.host_laws.specs.Lines.{next_stamp, packets_at, stamp_of}
 use Rattle.host_laws.specs.Plans.{SitePlan, most_lines}
 use Rattle.fed_hosts.specs.Rooms.{HasAdded}
 use Rattle.host_laws.specs.Turns.{SiteTurn, begun_in, is_due, is_trip, last_stamp, past_of, sends_at, sent_by, trips_of}
-use Rattle.fed_hosts.proofs.Words.{length_joined, length_option, max_below, reverse_more}
+use Rattle.fed_hosts.proofs.Words.{max_below}
 
 module _ {E D : Type 0} (plan : SitePlan) (turns : List SiteTurn) (told : Told) (took : Option (Envelope ToSite)) (old new : SiteActor E D)
     (logged : IsLogged plan turns old) (is : IsTold plan turns told took) (site : old.ends.site ≡ plan.home.site) (arms : is_trip told.command ≡ is_due plan turns)
@@ -53,9 +54,9 @@ module _ {E D : Type 0} (plan : SitePlan) (turns : List SiteTurn) (told : Told) 
 
   few_more : length (sent_by plan turns ++ sends_at plan turns (turn_of old told took)) ≤ suc (length turns)
   few_more =
-      let one = subst (λ (m : List FromSite). length m ≤ 1) sends_is (length_option told.send) in
+      let one = subst (λ (m : List FromSite). length m ≤ 1) sends_is (length-option told.send) in
       let few = logged.few_sent in
-      omega (arith, length_joined (sent_by plan turns) (sends_at plan turns (turn_of old told took)))
+      omega (arith, length-append (sent_by plan turns) (sends_at plan turns (turn_of old told took)))
 
   low_more : next_stamp old.last told.after ≤ 2 ^ 62 + suc (length turns)
   low_more =

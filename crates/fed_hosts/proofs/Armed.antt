@@ -1,6 +1,7 @@
 -- The arming of a stop behind the lines, where one has to be armed.
 use Rattle.std.proofs.Common.{◌≡◌, ℕ, suc, ◌≤◌, ◌<◌, Bool, true, false, cond, is_some, Some, None, List, [], ◌∷◌, length, slice_get, append-nil, refl, sym, ap, ◌∙◌, subst, arith}
 use Rattle.mdb_base.specs.Words.{Each}
+use Rattle.mdb_base.proofs.EachLaws.{each_at_place}
 use Rattle.fed_rules.specs.declared.answers.Answer.{Answer}
 use Rattle.fed_rules.specs.declared.answers.Answer.TheVariants as Say
 use Rattle.fed_rules.specs.declared.commands.Command.TheVariants as Cmd
@@ -27,7 +28,7 @@ use Rattle.host_laws.specs.Turns.{SiteTurn, is_due, past_of, trips_of}
 use Rattle.fed_hosts.proofs.Adding.{logged_more}
 use Rattle.fed_hosts.proofs.Own.{line_trip}
 use Rattle.fed_hosts.proofs.Trips.{none_left, one_due, one_set, settles}
-use Rattle.fed_hosts.proofs.Words.{each_at, length_turned}
+use Rattle.fed_hosts.proofs.Words.{length_turned}
 
 -- as many lines as turns
 pub as_many : {E D : Type 0} (plan : SitePlan) (turns : List SiteTurn) (actor : SiteActor E D) → IsLogged plan turns actor → length actor.lines.items ≡ length turns
@@ -92,7 +93,7 @@ module _ {E D : Type 0} (stands : E → Start → List EngineLine → Type 0) (t
       let told' = record told { command = Cmd.Trip stop.actor stop.calls stop.cut; send = None; after = 0 } in
       let added' : HasAdded old new told' = subst (λ (t : Told). HasAdded old new t) is added in
       let turn = turn_of old told' None in
-      let one = each_at (IsStop plan.home.site.0) plan.stops (trips_of turns) stop stops at' in
+      let one = each_at_place (IsStop plan.home.site.0) plan.stops (trips_of turns) stop stops at' in
       record {
         more = turn ∷ turns;
         arming = turn.line ∷ [];

@@ -15,7 +15,6 @@ use Rattle.fed_rules.specs.SiteCommands.{answer_to, own_request, past_behind}
 use Rattle.fed_rules.specs.SitePast.{SitePast, attempts_of, begins_tx}
 use Rattle.fed_rules.specs.SiteRecords.{Home}
 use Rattle.site_core.specs.Made.{IsMade}
-use Rattle.site_core.proofs.NameLaws.{same_tx-equal}
 use Rattle.site_core.proofs.RuleWalks.{line_event}
 use Rattle.local_dbms.specs.Stands.{OwnPrograms, Serves}
 use Rattle.local_dbms.proofs.Bounds.{made_small}
@@ -23,7 +22,8 @@ use Rattle.local_dbms.proofs.Small.{IsBegunBy}
 use Rattle.fed_hosts.specs.declared.site_actor.Told.{Told}
 use Rattle.fed_hosts.specs.declared.verbs.Verb.{Verb}
 use Rattle.fed_hosts.specs.declared.verbs.Verb.TheVariants as Asks
-use Rattle.fed_hosts.specs.Answers.{IsShortAnswer}
+use Rattle.fed_rules.specs.Short.{IsShortAnswer}
+use Rattle.local_dbms.proofs.Owned.{begun_tx}
 use Rattle.fed_hosts.specs.Carrying.{IsTold}
 use Rattle.host_laws.specs.History.{IsCommand}
 use Rattle.fed_hosts.specs.Keeps.{most_begun}
@@ -34,16 +34,11 @@ use Rattle.fed_hosts.specs.Verbs.{command_of, rule_of}
 use Rattle.fed_hosts.specs.Views.{IsSpent, answer_next}
 use Rattle.fed_hosts.proofs.Own.{BeginsNext, IsSoft, begin_begins, own_begin, own_none, own_soft}
 
--- an answer that begins an attempt of the transaction is one to the begin of this attempt
-begun_of : (event : SiteEvent) (answer : Answer) (tx : Tx) → IsBegunBy event answer → begins_tx tx answer ≡ true → (tid : Tid) × (event ≡ Ev.Begin tid) × (tid.tx ≡ tx)
-begun_of event (Say.Begun tid) tx by e = (tid, by, same_tx-equal tid.tx tx e)
-begun_of event answer tx by e = cc
-
 -- the line of an event that begins an attempt is that of its begin
 pub line_begins : (home : Home) (past : SitePast) (event : SiteEvent) (tx : Tx) → IsMade home past → begins_tx tx (site_line home past event).answer ≡ true → (tid : Tid) × (event ≡ Ev.Begin tid) × (tid.tx ≡ tx)
 line_begins home past event tx made e =
     let by = (made_small home past made event).begun in
-    begun_of event (site_line home past event).answer tx (subst (λ (v : SiteEvent). IsBegunBy v (site_line home past event).answer) (line_event home past event) by) e
+    begun_tx event (site_line home past event).answer tx (subst (λ (v : SiteEvent). IsBegunBy v (site_line home past event).answer) (line_event home past event) by) e
 
 pub command_untripped : (verb : Verb) (tx : Tx) → is_trip (command_of verb tx) ≡ false
 command_untripped Asks.Begin tx = refl

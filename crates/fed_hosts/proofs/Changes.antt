@@ -1,27 +1,19 @@
 -- What is done to the items of a list one after another.
-use Rattle.std.proofs.Common.{◌≡◌, ℕ, ◌+◌, ◌<◌, ◌≤◌, ◌==◌, Bool, true, false, Some, List, [], ◌∷◌, length, map, slice_get, slice_set, suc, zero, refl, sym, ap, ap₂, ◌∙◌, subst, eqb-true, eq-eqb, arith}
-use Rattle.std.proofs.lemmas.Option.{slice_get_within}
+use Rattle.std.proofs.Common.{◌≡◌, ℕ, ◌+◌, ◌<◌, ◌≤◌, ◌==◌, Bool, true, false, Some, List, [], ◌∷◌, length, map, slice_get, slice_set, suc, refl, sym, ap, ap₂, ◌∙◌, subst, eqb-true, eq-eqb, arith}
+use Rattle.std.proofs.lemmas.Option.{slice_get_within, same_Some}
+use Rattle.mdb_base.proofs.JoinLaws.{length-map}
+use Rattle.mdb_base.proofs.PlaceLaws.{slice_get-there, made_of}
 use Rattle.session_routes.proofs.Posts.{get_other, get_put, length_set}
 use Rattle.fed_hosts.specs.Ports.{EachBecomes}
-use Rattle.fed_hosts.proofs.Words.{length_map}
-
-pub some_same : {A : Type 0} (a b : A) → Some a ≡ Some b → a ≡ b
-some_same a b e = cc
-
--- an item that stands at a place of the list
-pub item_there : {A : Type 0} (xs : List A) (place : ℕ) → place < length xs → (x : A) × (slice_get xs place ≡ Some x)
-item_there [] place less = absurd (omega (arith, less))
-item_there (x ∷ xs) zero less = (x, refl)
-item_there (x ∷ xs) (suc place) less = item_there xs place (omega (arith, less))
 
 -- the item that one of the new ones was
 pub became : {A : Type 0} (R : ℕ → A → A → Type 0) (old new : List A) → EachBecomes R old new → (place : ℕ) (b : A) → slice_get new place ≡ Some b → (a : A) × (slice_get old place ≡ Some a) × R place a b
-became {A} R old new h place b at = from (item_there old place (let within = slice_get_within new place b at in let count = h.count in omega (arith, within, count))) where
+became {A} R old new h place b at = from (slice_get-there old place (let within = slice_get_within new place b at in let count = h.count in omega (arith, within, count))) where
   from : (a : A) × (slice_get old place ≡ Some a) → (a : A) × (slice_get old place ≡ Some a) × R place a b
   from (a, was) = (a, was, h.each place a b was at)
 
 pub becomes_self : {A : Type 0} (R : ℕ → A → A → Type 0) (xs : List A) → ((place : ℕ) (x : A) → slice_get xs place ≡ Some x → R place x x) → EachBecomes R xs xs
-becomes_self {A} R xs self = record { count = refl; each = λ place a b was at. subst (λ (x : A). R place a x) (some_same a b (sym was ∙ at)) (self place a was) }
+becomes_self {A} R xs self = record { count = refl; each = λ place a b was at. subst (λ (x : A). R place a x) (same_Some a b (sym was ∙ at)) (self place a was) }
 
 pub becomes_into : {A : Type 0} (R S : ℕ → A → A → Type 0) (old new : List A) → ((place : ℕ) (a b : A) → R place a b → S place a b) → EachBecomes R old new → EachBecomes S old new
 becomes_into R S old new into h = record { count = h.count; each = λ place a b was at. into place a b (h.each place a b was at) }
@@ -55,8 +47,8 @@ changed_next {A} R place old now before new h within at changed = record {
     by_test : (p : ℕ) (a b : A) → p < place + 1 → slice_get old p ≡ Some a → slice_get (slice_set now place new) p ≡ Some b → (t : Bool) → (p == place) ≡ t → R p a b
     by_test p a b less ea eb true is =
         let same : p ≡ place = eqb-true p place is in
-        let first : a ≡ before = some_same a before (sym ea ∙ ap (slice_get old) same ∙ sym (h.left place (omega arith)) ∙ at) in
-        let last : new ≡ b = some_same new b (sym (get_put now place new within) ∙ ap (slice_get (slice_set now place new)) (sym same) ∙ eb) in
+        let first : a ≡ before = same_Some a before (sym ea ∙ ap (slice_get old) same ∙ sym (h.left place (omega arith)) ∙ at) in
+        let last : new ≡ b = same_Some new b (sym (get_put now place new within) ∙ ap (slice_get (slice_set now place new)) (sym same) ∙ eb) in
         subst (λ (n : ℕ). R n a b) (sym same) (subst (λ (z : A). R place a z) last (subst (λ (z : A). R place z new) (sym first) changed))
     by_test p a b less ea eb false is =
         let apart : p ≡ place → ⊥ = λ e. (let yes : (p == place) ≡ true = eq-eqb p place e in let no : true ≡ false = sym yes ∙ is in cc) in
@@ -79,12 +71,12 @@ changed_one {A} R old place before new within at changed others = record {
   by_test : (p : ℕ) (a b : A) → slice_get old p ≡ Some a → slice_get (slice_set old place new) p ≡ Some b → (t : Bool) → (p == place) ≡ t → R p a b
   by_test p a b ea eb true is =
       let same : p ≡ place = eqb-true p place is in
-      let first : a ≡ before = some_same a before (sym ea ∙ ap (slice_get old) same ∙ at) in
-      let last : new ≡ b = some_same new b (sym (get_put old place new within) ∙ ap (slice_get (slice_set old place new)) (sym same) ∙ eb) in
+      let first : a ≡ before = same_Some a before (sym ea ∙ ap (slice_get old) same ∙ at) in
+      let last : new ≡ b = same_Some new b (sym (get_put old place new within) ∙ ap (slice_get (slice_set old place new)) (sym same) ∙ eb) in
       subst (λ (n : ℕ). R n a b) (sym same) (subst (λ (z : A). R place a z) last (subst (λ (z : A). R place z new) (sym first) changed))
   by_test p a b ea eb false is =
       let apart : p ≡ place → ⊥ = λ e. (let yes : (p == place) ≡ true = eq-eqb p place e in let no : true ≡ false = sym yes ∙ is in cc) in
-      let same : a ≡ b = some_same a b (sym ea ∙ sym (get_other old place p new apart) ∙ eb) in
+      let same : a ≡ b = same_Some a b (sym ea ∙ sym (get_other old place p new apart) ∙ eb) in
       subst (λ (z : A). R p a z) same (others p a apart ea)
 
 -- what is made of the items stays where each item's stays
@@ -97,17 +89,11 @@ becomes_map {A} {B} R f old new same h = from old new h.count (λ place a b ea e
   from (x ∷ xs) (y ∷ ys) count each =
       ap₂ (λ (b : B) (bs : List B). b ∷ bs) (each 0 x y refl refl) (from xs ys (omega (arith, count)) (λ place a b ea eb. each (suc place) a b ea eb))
 
--- the item that one was made of
-pub map_get : {A B : Type 0} (f : A → B) (xs : List A) (place : ℕ) (y : B) → slice_get (map f xs) place ≡ Some y → (x : A) × (slice_get xs place ≡ Some x) × (f x ≡ y)
-map_get f [] place y at = cc
-map_get {A} {B} f (x ∷ xs) zero y at = (x, refl, cc)
-map_get f (x ∷ xs) (suc place) y at = map_get f xs place y at
-
 -- so it is with what is made of each item
 pub becomes_mapped : {A B : Type 0} (f : A → B) (R : ℕ → B → B → Type 0) (old new : List A) → EachBecomes (λ place a b. R place (f a) (f b)) old new → EachBecomes R (map f old) (map f new)
 becomes_mapped {A} {B} f R old new h = record {
-  count = length_map f new ∙ h.count ∙ sym (length_map f old);
-  each = λ place x y was is. from place x y (map_get f old place x was) (map_get f new place y is);
+  count = length-map f new ∙ h.count ∙ sym (length-map f old);
+  each = λ place x y was is. from place x y (made_of f old place x was) (made_of f new place y is);
 } where
   from : (place : ℕ) (x y : B) → (a : A) × (slice_get old place ≡ Some a) × (f a ≡ x) → (b : A) × (slice_get new place ≡ Some b) × (f b ≡ y) → R place x y
   from place x y (a, was, first) (b, is, second) = subst (λ (z : B). R place z y) first (subst (λ (z : B). R place (f a) z) second (h.each place a b was is))

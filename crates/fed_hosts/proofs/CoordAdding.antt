@@ -1,9 +1,11 @@
 -- A line that is added to right ones of the coordinator is right, and what is kept beside the lines stays theirs.
 use Rattle.std.proofs.Common.{◌≡◌, ℕ, suc, ◌+◌, ◌≤◌, ◌<◌, ◌^◌, Bool, true, false, cond, Option, Some, None, List, [], ◌∷◌, ◌++◌, length, reverse, map, slice_get, refl, sym, ap, ap₂, ◌∙◌, subst, arith}
 use Rattle.std.specs.Prelude.{max, option_to_list}
+use Rattle.std.proofs.lemmas.Option.{same_Some}
 use Rattle.mdb_base.specs.declared.names.SiteId.{SiteId}
 use Rattle.mdb_base.specs.declared.names.Tx.{Tx}
 use Rattle.mdb_base.specs.Words.{found, map_some, with_some}
+use Rattle.mdb_base.proofs.JoinLaws.{length-append, length-option, reverse_more}
 use Rattle.presumptions.specs.declared.Participant.{Participant}
 use Rattle.fed_rules.specs.declared.commands.Place.{Place}
 use Rattle.fed_rules.specs.declared.messages.FromSite.{FromSite}
@@ -33,8 +35,8 @@ use Rattle.host_laws.specs.Plans.{most_lines}
 use Rattle.host_laws.specs.Lines.{next_stamp, stamp_of}
 use Rattle.fed_hosts.specs.Ports.{AreBesidePorts, ArePosted, EachBecomes, IsBesidePort, IsPosted, place_at, places_at}
 use Rattle.host_laws.specs.Turns.{is_trip}
-use Rattle.fed_hosts.proofs.Changes.{became, becomes_into, some_same}
-use Rattle.fed_hosts.proofs.Words.{length_joined, length_option, max_below, reverse_more}
+use Rattle.fed_hosts.proofs.Changes.{became, becomes_into}
+use Rattle.fed_hosts.proofs.Words.{max_below}
 
 -- the same is found in two lists whose items at each place give the same
 found_along : {A B C : Type 0} (f : A → Option C) (g : B → Option C) (xs : List A) (ys : List B) → length xs ≡ length ys
@@ -56,7 +58,7 @@ places_are rings plan turns ports sends planned logged =
         → place_at sends port ≡ place_sent plan turns sends member.site
     at_place place port member at_port at_member =
         let p = planned.each place port at_port in
-        let same : p.member ≡ member = some_same p.member member (sym p.at ∙ at_member) in
+        let same : p.member ≡ member = same_Some p.member member (sym p.at ∙ at_member) in
         let site : port.ends.site ≡ member.site = p.site ∙ ap (λ (m : Participant). m.site) same in
         let sent = ap (λ (ms : List ToSite). length ms) (logged place port at_port).sent in
         ap (λ (n : ℕ). map_some (λ (message : ToSite). let place : Place = record { site = port.ends.site; place = n } in place) (message_to port.ends.site sends)) sent
@@ -129,9 +131,9 @@ module _ {P D : Type 0} (rings : List Wire) (plan : CoordPlan) (turns : List Coo
   few_more : (site : SiteId) → length (sent_to plan site (coord_turn_of old told took ∷ turns)) ≤ suc (length turns)
   few_more site =
       let message = message_to site (coord_sends_at plan turns (coord_turn_of old told took)) in
-      let one = length_option message in
+      let one = length-option message in
       let few = logged.few_sent site in
-      omega (arith, one, few, length_joined (sent_to plan site turns) (option_to_list message))
+      omega (arith, one, few, length-append (sent_to plan site turns) (option_to_list message))
 
   low_more : next_stamp old.last told.after ≤ 2 ^ 62 + suc (length turns)
   low_more =

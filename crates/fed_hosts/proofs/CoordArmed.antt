@@ -1,6 +1,7 @@
 -- The arming of a stop behind the lines of the coordinator's host, where one has to be armed.
 use Rattle.std.proofs.Common.{◌≡◌, ℕ, suc, ◌+◌, ◌≤◌, ◌<◌, Bool, true, false, cond, is_some, Option, Some, None, List, [], ◌∷◌, ◌++◌, length, slice_get, append-nil, refl, sym, ap, ap₂, ◌∙◌, subst, arith}
 use Rattle.mdb_base.specs.Words.{Each, found}
+use Rattle.mdb_base.proofs.EachLaws.{each_at_place}
 use Rattle.presumptions.specs.declared.Participant.{Participant}
 use Rattle.fed_rules.specs.declared.answers.Answer.{Answer}
 use Rattle.fed_rules.specs.declared.answers.Answer.TheVariants as Say
@@ -18,7 +19,7 @@ use Rattle.fed_rules.specs.Right.{MayPrint}
 use Rattle.fed_rules.specs.SitePast.{begins_tx}
 use Rattle.fed_messages.specs.declared.Packet.{Packet}
 use Rattle.journal_disk.specs.Disk.{Seen}
-use Rattle.coord_core.specs.Terms.{line_of}
+use Rattle.coord_tables.specs.Terms.{line_of}
 use Rattle.coord_core.proofs.Endings.{trip_line}
 use Rattle.global_manager.specs.declared.manager.GlobalManager.{GlobalManager}
 use Rattle.global_manager.specs.Stands.{Sends, Serves, Stands}
@@ -38,7 +39,7 @@ use Rattle.fed_hosts.specs.Ports.{ArePosted, IsPosted, places_at}
 use Rattle.fed_hosts.proofs.Changes.{became, becomes_self}
 use Rattle.fed_hosts.proofs.CoordAdding.{coord_logged_more}
 use Rattle.fed_hosts.proofs.CoordTrips.{coord_none_left, coord_one_due, coord_one_set, coord_settles}
-use Rattle.fed_hosts.proofs.Words.{each_at, length_turned}
+use Rattle.fed_hosts.proofs.Words.{length_turned}
 
 -- as many lines as turns
 pub coord_as_many : {P D : Type 0} (plan : CoordPlan) (turns : List CoordTurn) (actor : CoordActor P D) → IsCoordLogged plan turns actor → length actor.lines.items ≡ length turns
@@ -117,7 +118,7 @@ module _ {P D : Type 0} (test : P → Policy) (tells : Bool) (seen : Seen) (plan
       let due = coord_one_due plan turns some unset left' in
       let added' : HasCoordAdded old new told' = subst (λ (t : CoordTold). HasCoordAdded old new t) is added in
       let turn = coord_turn_of old told' None in
-      let one = each_at (IsStop 0) plan.stops (coord_trips_of turns) stop planned.stops at' in
+      let one = each_at_place (IsStop 0) plan.stops (coord_trips_of turns) stop planned.stops at' in
       record {
         more = turn ∷ turns;
         arming = turn.line ∷ [];

@@ -23,7 +23,7 @@ use Rattle.fed_rules.specs.SitePast.{begins_tx}
 use Rattle.fed_messages.specs.declared.Envelope.{Envelope}
 use Rattle.journal_disk.specs.Disk.{Seen}
 use Rattle.mdb_base.specs.declared.replies.Edge.{Edge}
-use Rattle.coord_core.specs.Terms.{Terms, line_of}
+use Rattle.coord_tables.specs.Terms.{Terms, line_of}
 use Rattle.coord_laws.proofs.Made.{Begins}
 use Rattle.coord_laws.proofs.MadeLines.{coord_made}
 use Rattle.global_manager.specs.declared.manager.GlobalManager.{GlobalManager}
@@ -33,7 +33,7 @@ use Rattle.fed_hosts.specs.declared.coord_actor.CoordActor.{CoordActor}
 use Rattle.fed_hosts.specs.declared.coord_actor.CoordTold.{CoordTold}
 use Rattle.fed_hosts.specs.declared.coord_asks.CoordCall.{CoordCall}
 use Rattle.fed_hosts.specs.declared.coord_asks.CoordCall.TheVariants as Call
-use Rattle.fed_hosts.specs.Answers.{IsShortAnswer}
+use Rattle.fed_rules.specs.Short.{IsShortAnswer}
 use Rattle.fed_hosts.specs.CoordCarrying.{IsBesideCoordLines, IsCoordTold, coord_turn_of}
 use Rattle.host_laws.specs.CoordHistory.{IsCoordCommand}
 use Rattle.fed_hosts.specs.CoordKeeps.{CoordKeeps, IsCoordLogged}

@@ -2,10 +2,14 @@
 use Rattle.std.proofs.Common.{◌≡◌, ℕ, zero, suc, ◌≤◌, ◌<◌, ◌^◌, ◌==◌, ◌⊎◌, inl, inr, Bool, true, false, cond, Option, Some, None, List, [], ◌∷◌, ◌++◌, length, map, slice_get, append-nil, eqb-true, eq-eqb, refl, sym, ap, ◌∙◌, subst, arith}
 use Rattle.std.specs.Prelude.{option_to_list}
 use Rattle.std.proofs.lemmas.Bool.{cases_lt, ne_eqb}
+use Rattle.std.proofs.lemmas.Option.{same_Some}
 use Rattle.mdb_base.specs.declared.names.SiteId.{SiteId}
 use Rattle.mdb_base.specs.Names.{same_site}
 use Rattle.mdb_base.specs.Rising.{IsRising}
 use Rattle.mdb_base.specs.Words.{Each, found, with_some}
+use Rattle.mdb_base.proofs.EachLaws.{each_at_place}
+use Rattle.mdb_base.proofs.JoinLaws.{reverse_more}
+use Rattle.mdb_base.proofs.RisingLaws.{rising_rest}
 use Rattle.presumptions.specs.declared.Participant.{Participant}
 use Rattle.fed_rules.specs.declared.commands.Command.TheVariants as Cmd
 use Rattle.fed_rules.specs.declared.messages.FromSite.{FromSite}
@@ -23,10 +27,9 @@ use Rattle.host_laws.specs.CoordPlans.{CoordPlan}
 use Rattle.host_laws.specs.CoordTurns.{CoordTurn, from_site, took_from}
 use Rattle.fed_hosts.specs.Ports.{EachBecomes}
 use Rattle.fed_hosts.specs.Rounds.{ArePolled, ArePutBack, IsPolled, IsPutBack, arrived_at}
-use Rattle.fed_hosts.proofs.Changes.{became, becomes_through, some_same}
+use Rattle.fed_hosts.proofs.Changes.{became, becomes_through}
 use Rattle.fed_hosts.proofs.Polled.{arrived_elsewhere, arrived_here}
 use Rattle.fed_hosts.proofs.Turning.{snoc_same}
-use Rattle.fed_hosts.proofs.Words.{each_at, reverse_more}
 
 -- a packet more that is taken
 heard_next : (packets : List Packet) (envelopes : List (Envelope FromSite)) (packet : Packet) (read : Option (Envelope FromSite)) → HasHeardFrom packets envelopes → IsReadFrom packet read
@@ -104,16 +107,12 @@ rising_above number x [] rising = tt
 rising_above number x (y ∷ ys) rising =
     (rising.0, each_map (λ z. number y < number z) (λ z. number x < number z) ys (λ z more. let less = rising.0 in omega (arith, less, more)) (rising_above number y ys rising.1))
 
-rising_tail : {A : Type 0} (number : A → ℕ) (x : A) (xs : List A) → IsRising number (x ∷ xs) → IsRising number xs
-rising_tail number x [] rising = tt
-rising_tail number x (y ∷ ys) rising = rising.1
-
 rising_at : {A : Type 0} (number : A → ℕ) (xs : List A) (p q : ℕ) (a b : A) → IsRising number xs → p < q → slice_get xs p ≡ Some a → slice_get xs q ≡ Some b → number a < number b
 rising_at number [] p q a b rising less ea eb = cc
 rising_at number (x ∷ xs) p zero a b rising less ea eb = absurd (omega (arith, less))
 rising_at {A} number (x ∷ xs) zero (suc q) a b rising less ea eb =
-    subst (λ (y : A). number y < number b) (some_same x a ea) (each_at (λ (y : A). number x < number y) xs q b (rising_above number x xs rising) eb)
-rising_at number (x ∷ xs) (suc p) (suc q) a b rising less ea eb = rising_at number xs p q a b (rising_tail number x xs rising) (omega (arith, less)) ea eb
+    subst (λ (y : A). number y < number b) (same_Some x a ea) (each_at_place (λ (y : A). number x < number y) xs q b (rising_above number x xs rising) eb)
+rising_at number (x ∷ xs) (suc p) (suc q) a b rising less ea eb = rising_at number xs p q a b (rising_rest number x xs rising) (omega (arith, less)) ea eb
 
 -- the sites at different places differ
 sites_apart : (rings : List Wire) (plan : CoordPlan) (ports : List Port) → IsCoordPlanned rings plan ports → IsRising (λ (member : Participant). member.site.0) plan.terms.protocols
@@ -155,7 +154,7 @@ heard_taken rings plan turn turns old now arrived envelope from planned rising p
     by_other b e = ap (λ (t : Bool). cond t (Some envelope) None) e
 
     same_here : (port : Port) → slice_get now arrived.place ≡ Some port → same_site from.ends.site port.ends.site ≡ true
-    same_here port at = let same = some_same from port (sym there ∙ at) in eq-eqb from.ends.site.0 port.ends.site.0 (ap (λ (p : Port). p.ends.site.0) same)
+    same_here port at = let same = same_Some from port (sym there ∙ at) in eq-eqb from.ends.site.0 port.ends.site.0 (ap (λ (p : Port). p.ends.site.0) same)
 
     other_there : (place : ℕ) (port : Port) → (place ≡ arrived.place → ⊥) → slice_get now place ≡ Some port → same_site from.ends.site port.ends.site ≡ false
     other_there place port apart at = ne_eqb from.ends.site.0 port.ends.site.0 (sites_apart rings plan now planned rising arrived.place place from port apart there at)

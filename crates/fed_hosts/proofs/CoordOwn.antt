@@ -6,6 +6,7 @@ use Rattle.mdb_base.specs.declared.names.Tid.{Tid}
 use Rattle.mdb_base.specs.declared.names.Tx.{Tx}
 use Rattle.mdb_base.specs.Names.{same_tid, same_tx}
 use Rattle.mdb_base.specs.Words.{how_many, pick, some_of, when, with_some}
+use Rattle.mdb_base.proofs.NameLaws.{same_tx-equal}
 use Rattle.fed_rules.specs.declared.answers.Answer.{Answer}
 use Rattle.fed_rules.specs.declared.answers.Answer.TheVariants as Say
 use Rattle.fed_rules.specs.declared.answers.Cause.{Cause}
@@ -20,14 +21,13 @@ use Rattle.fed_rules.specs.CoordRecords.{coord_frame}
 use Rattle.fed_rules.specs.Happenings.{Trip, is_down, quiet, stopped, tripped}
 use Rattle.fed_rules.specs.Requests.{Request, Submits, Declines, attempt, unless_begun}
 use Rattle.fed_rules.specs.SitePast.{begins_tx}
-use Rattle.coord_core.specs.Terms.{Terms, line_of}
+use Rattle.coord_tables.specs.Terms.{Terms, line_of}
 use Rattle.coord_laws.proofs.Made.{Begins}
 use Rattle.coord_laws.proofs.MadeLines.{coord_made}
-use Rattle.site_core.proofs.NameLaws.{same_tx-equal}
 use Rattle.global_manager.specs.Stands.{OwnPrograms}
 use Rattle.fed_hosts.specs.declared.coord_asks.CoordCall.{CoordCall}
 use Rattle.fed_hosts.specs.declared.coord_asks.CoordCall.TheVariants as Call
-use Rattle.fed_hosts.specs.Answers.{IsShortAnswer}
+use Rattle.fed_rules.specs.Short.{IsShortAnswer}
 use Rattle.fed_hosts.specs.CoordServing.{request_of_call}
 use Rattle.fed_hosts.proofs.Own.{unbegun_unless}
 

@@ -3,9 +3,11 @@ use Rattle.std.proofs.Common.{◌≡◌, ℕ, zero, suc, ◌||◌, ◌+◌, ◌�
 use Rattle.std.specs.Global.{Vec}
 use Rattle.std.specs.Prelude.{option_to_list}
 use Rattle.std.specs.Vec.{vec_capacity, vec_len}
+use Rattle.std.proofs.lemmas.Option.{same_Some}
 use Rattle.mdb_base.specs.declared.names.SiteId.{SiteId}
 use Rattle.mdb_base.specs.Names.{same_site}
 use Rattle.mdb_base.specs.Words.{some_of}
+use Rattle.mdb_base.proofs.PlaceLaws.{slice_get-there}
 use Rattle.presumptions.specs.declared.Participant.{Participant}
 use Rattle.fed_rules.specs.declared.commands.Command.TheVariants as Cmd
 use Rattle.fed_rules.specs.declared.commands.Place.{Place}
@@ -24,7 +26,8 @@ use Rattle.fed_messages.specs.declared.Envelope.{Envelope}
 use Rattle.fed_messages.specs.declared.Packet.{Packet}
 use Rattle.global_exec.specs.Pasts.{IsAmong}
 use Rattle.journal_disk.specs.Disk.{Seen}
-use Rattle.coord_core.specs.Terms.{line_of}
+use Rattle.rules_laws.proofs.CoordPasts.{BeginsNothing}
+use Rattle.coord_tables.specs.Terms.{line_of}
 use Rattle.global_manager.specs.declared.manager.GlobalManager.{GlobalManager}
 use Rattle.global_manager.specs.Stands.{AsksNothing, Sends, SomeManaged, Stands}
 use Rattle.scripted_link.specs.declared.inlet.Inlet.{Inlet}
@@ -49,7 +52,7 @@ use Rattle.host_laws.specs.Plans.{most_lines}
 use Rattle.host_laws.specs.Lines.{stamp_of}
 use Rattle.fed_hosts.specs.Ports.{EachBecomes, HaveFewSent, HaveMovedOn, HasPortRoom, HavePortRoom}
 use Rattle.fed_hosts.specs.Rounds.{ArePolled, ArePutBack, IsBesideInlet, IsPolled, IsPutBack, arrived_at}
-use Rattle.fed_hosts.proofs.Changes.{became, becomes_into, changed_one, item_there, some_same}
+use Rattle.fed_hosts.proofs.Changes.{became, becomes_into, changed_one}
 use Rattle.fed_hosts.proofs.CoordAdding.{KeepsRings, rings_planned}
 use Rattle.fed_hosts.proofs.CoordAsked.{begins_printed, submit_counts}
 use Rattle.fed_hosts.proofs.CoordHeard.{heard_aside, heard_back, heard_none, heard_taken}
@@ -58,13 +61,8 @@ use Rattle.fed_hosts.proofs.CoordSame.{HasSentSame, coord_kept_ports, moved_port
 use Rattle.fed_hosts.proofs.CoordServed.{CoordCarries, HasCoordLine, coord_line_carried, heard_alone}
 use Rattle.fed_hosts.proofs.Polled.{arrived_elsewhere, arrived_here, beside_inlet, with_inlet}
 
--- an event that begins no attempt
-abbrev pub GoesNot : CoordEvent → Type 0
-GoesNot (Ev.Go tid steps) = ⊥
-GoesNot event = Unit {0}
-
 module _ (plan : CoordPlan) (turns : List CoordTurn) (told : CoordTold) (took : Option (Envelope FromSite)) (event : CoordEvent) where
-  event_told : IsCoordCommand plan turns told.command took → told.after ≡ stamp_of took → stamp_of took < 2 ^ 62 → coord_request plan (coord_past_of plan turns) told.command took ≡ Submits event → GoesNot event
+  event_told : IsCoordCommand plan turns told.command took → told.after ≡ stamp_of took → stamp_of took < 2 ^ 62 → coord_request plan (coord_past_of plan turns) told.command took ≡ Submits event → BeginsNothing event
       → MayPrint plan.terms.protocols (coord_past_of plan turns) (line_of plan.terms (coord_past_of plan turns) event) (line_of plan.terms (coord_past_of plan turns) event).event told.answer
       → told.sends ≡ (line_of plan.terms (coord_past_of plan turns) event).sends → IsCoordTold plan turns told took
   event_told command after small request not said sent =
@@ -81,7 +79,7 @@ module _ (plan : CoordPlan) (turns : List CoordTurn) (told : CoordTold) (took : 
         few = λ tx e.
             let begins = sym (begins_printed tx plan.terms past (line_of plan.terms past event) (line_of plan.terms past event).event told.answer said) ∙ e in
             let (tid, steps, event_is, of) = line_goes plan.terms past event tx begins in
-            let none : ⊥ = subst GoesNot event_is not in
+            let none : ⊥ = subst BeginsNothing event_is not in
             absurd none;
       }
 
@@ -123,7 +121,7 @@ coord_last_fits actor plan turns kept =
 some_at : (site : SiteId) (protocols : List Participant) (place : ℕ) (member : Participant) → slice_get protocols place ≡ Some member → site ≡ member.site → IsAmong site protocols
 some_at site [] place member at is = cc
 some_at site (x ∷ xs) zero member at is =
-    let same : x ≡ member = some_same x member at in
+    let same : x ≡ member = same_Some x member at in
     let test : same_site x.site site ≡ true = eq-eqb x.site.0 site.0 (ap (λ (m : Participant). m.site.0) same ∙ ap (λ (s : SiteId). s.0) (sym is)) in
     ap (λ (b : Bool). b || some_of (λ member. same_site member.site site) xs) test
 some_at site (x ∷ xs) (suc place) member at is = or_true (same_site x.site site) (some_of (λ member. same_site member.site site) xs) (some_at site xs place member at is) where
@@ -140,7 +138,7 @@ port_among rings plan ports place port planned at =
 -- a packet that is left aside makes no line
 pub leaves_aside : (rings : List Wire) (plan : CoordPlan) (ports : List Port) (arrived : Arrived) (lines : List Stamped) → IsCoordPlanned rings plan ports → arrived.place < length ports → IsReadFrom arrived.packet None
     → TakesFrom plan arrived.place arrived.packet lines lines false
-leaves_aside rings plan ports arrived lines planned within none = from (item_there ports arrived.place within) where
+leaves_aside rings plan ports arrived lines planned within none = from (slice_get-there ports arrived.place within) where
   from : (port : Port) × (slice_get ports arrived.place ≡ Some port) → TakesFrom plan arrived.place arrived.packet lines lines false
   from (port, at) = let p = planned.each arrived.place port at in record { member = p.member; at = p.at; bears = None; read = none; taken = record { lines = refl; says = refl } }
 

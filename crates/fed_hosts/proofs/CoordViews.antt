@@ -2,8 +2,10 @@
 use Rattle.std.proofs.Common.{◌≡◌, ◌==◌, ℕ, ◌+◌, Bool, true, false, cond, Some, None, List, [], ◌∷◌, ◌++◌, length, slice_get, append-nil, refl, sym, ap, ◌∙◌, subst, arith}
 use Rattle.std.specs.Global.{Vec}
 use Rattle.std.specs.Prelude.{option_to_list}
-use Rattle.std.proofs.lemmas.Option.{slice_get_within}
+use Rattle.std.proofs.lemmas.Option.{slice_get_within, same_Some}
 use Rattle.mdb_base.specs.declared.names.SiteId.{SiteId}
+use Rattle.mdb_base.proofs.PlaceLaws.{made_of}
+use Rattle.mdb_base.proofs.JoinLaws.{length-map}
 use Rattle.presumptions.specs.declared.Participant.{Participant}
 use Rattle.fed_rules.specs.Policies.{Policy}
 use Rattle.fed_messages.specs.declared.Packet.{Packet}
@@ -23,11 +25,10 @@ use Rattle.fed_hosts.specs.CoordViews.{CoordView, IsCoordSeen, coord_view_of}
 use Rattle.fed_hosts.specs.Ports.{AreSamePorts, EachBecomes, empties_of, tooks_of}
 use Rattle.fed_hosts.specs.Rounds.{ArePolled, ArePutBack, HaveGivenNone, IsPolled, arrived_at}
 use Rattle.fed_hosts.specs.Turns.{IsCounted}
-use Rattle.fed_hosts.proofs.Changes.{becomes_into, becomes_map, becomes_mapped, map_get, some_same}
+use Rattle.fed_hosts.proofs.Changes.{becomes_into, becomes_map, becomes_mapped}
 use Rattle.fed_hosts.proofs.CoordHeard.{HasReturned, all_returned}
 use Rattle.fed_hosts.proofs.CoordSame.{coord_view_from, same_beside, tooks_beside}
 use Rattle.fed_hosts.proofs.Views.{counted_once}
-use Rattle.fed_hosts.proofs.Words.{length_map}
 
 -- only the counts of the inlets changed
 pub coord_same_but : (a b : CoordView) → a ≡ b → a ≡ record b { empties = a.empties }
@@ -103,15 +104,15 @@ module _ {P D : Type 0} (test : P → Policy) (tells : Bool) (seen : D → Seen)
   coord_keeps_seen failed shown actor k = record {
     right = k.kept.logged.right;
     lines = k.kept.logged.lines;
-    count = length_map (λ (port : Port). taken port.ends.inlet) actor.ports.items ∙ k.planned.count;
-    counts = length_map (λ (port : Port). empty_count port.ends.inlet) actor.ports.items ∙ k.planned.count;
-    heard = λ place member took at_member at_took. from place member took at_member (map_get (λ (port : Port). taken port.ends.inlet) actor.ports.items place took at_took);
+    count = length-map (λ (port : Port). taken port.ends.inlet) actor.ports.items ∙ k.planned.count;
+    counts = length-map (λ (port : Port). empty_count port.ends.inlet) actor.ports.items ∙ k.planned.count;
+    heard = λ place member took at_member at_took. from place member took at_member (made_of (λ (port : Port). taken port.ends.inlet) actor.ports.items place took at_took);
   } where
     from : (place : ℕ) (member : Participant) (took : List Packet) → slice_get plan.terms.protocols place ≡ Some member
         → (port : Port) × (slice_get actor.ports.items place ≡ Some port) × (taken port.ends.inlet ≡ took) → HasHeardFrom took (took_from member.site k.turns)
     from place member took at_member (port, at_port, is) =
         let p = k.planned.each place port at_port in
-        let same : p.member ≡ member = some_same p.member member (sym p.at ∙ at_member) in
+        let same : p.member ≡ member = same_Some p.member member (sym p.at ∙ at_member) in
         let site : port.ends.site ≡ member.site = p.site ∙ ap (λ (m : Participant). m.site) same in
         subst (λ (ps : List Packet). HasHeardFrom ps (took_from member.site k.turns)) is
         (subst (λ (s : SiteId). HasHeardFrom (taken port.ends.inlet) (took_from s k.turns)) site (k.heard place port at_port))

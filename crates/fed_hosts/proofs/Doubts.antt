@@ -1,28 +1,23 @@
 -- The least attempt in doubt stands first in the book of doubts.
-use Rattle.std.proofs.Common.{◌≡◌, Bool, true, false, cond, is_some, Option, Some, None, List, [], ◌∷◌, length, slice_get, refl, sym, ap, ◌∙◌, subst, arith}
+use Rattle.std.proofs.Common.{◌≡◌, Bool, true, false, cond, is_some, Option, Some, List, [], ◌∷◌, length, slice_get, refl, sym, ap, ◌∙◌, subst, arith}
+use Rattle.std.proofs.lemmas.Option.{same_Some}
 use Rattle.mdb_base.specs.declared.names.Tid.{Tid}
 use Rattle.mdb_base.specs.Names.{same_tid, tid_before}
 use Rattle.mdb_base.specs.Words.{Each, map_some}
+use Rattle.mdb_base.proofs.NameLaws.{same_tid-refl}
+use Rattle.mdb_base.proofs.OptionLaws.{some_mapped}
 use Rattle.fed_rules.specs.declared.runs.Doubt.{Doubt}
 use Rattle.fed_rules.specs.SitePast.{SitePast, records}
 use Rattle.fed_rules.specs.SiteRecords.{Home, doubt_of}
 use Rattle.journal_sums.specs.Starts.{doubt_held}
 use Rattle.prepared_state.specs.Book.{IsByTid, doubt_about, stands_before}
 use Rattle.fed_hosts.specs.Turns.{IsLeastInDoubt, is_in_doubt}
-use Rattle.fed_hosts.proofs.Changes.{some_same}
-
-same_self : (tid : Tid) → same_tid tid tid ≡ true
-same_self tid = grind arith
 
 same_unbefore : (a b : Tid) → same_tid a b ≡ true → tid_before b a ≡ false
 same_unbefore a b same = grind arith
 
 before_unbefore : (a b c : Tid) → tid_before a b ≡ true → same_tid b c ≡ true → tid_before c a ≡ false
 before_unbefore a b c before same = grind arith
-
-some_mapped : {A B : Type 0} (f : A → B) (o : Option A) → is_some (map_some f o) ≡ is_some o
-some_mapped f None = refl
-some_mapped f (Some x) = refl
 
 -- an attempt that is listed behind another isn't before it
 behind : (first : Doubt) (doubts : List Doubt) (other : Tid) → Each (λ later. stands_before first later ≡ true) doubts → is_some (doubt_about other doubts) ≡ true → tid_before other first.tid ≡ false
@@ -55,8 +50,8 @@ none_in_doubt home past (doubt ∷ doubts) are none tid = absurd (omega (arith, 
 pub first_in_doubt : (home : Home) (past : SitePast) (doubts : List Doubt) (first : Doubt) → AreItsDoubts home past doubts → IsByTid doubts → slice_get doubts 0 ≡ Some first → IsLeastInDoubt home past first.tid
 first_in_doubt home past [] first are order at = cc
 first_in_doubt home past (doubt ∷ doubts) first are order at =
-    subst (λ (d : Doubt). IsLeastInDoubt home past d.tid) (some_same doubt first at)
+    subst (λ (d : Doubt). IsLeastInDoubt home past d.tid) (same_Some doubt first at)
     (record {
-      doubtful = listed_in_doubt home past (doubt ∷ doubts) are doubt.tid ∙ ap (λ (b : Bool). is_some (cond b (Some doubt) (doubt_about doubt.tid doubts))) (same_self doubt.tid);
+      doubtful = listed_in_doubt home past (doubt ∷ doubts) are doubt.tid ∙ ap (λ (b : Bool). is_some (cond b (Some doubt) (doubt_about doubt.tid doubts))) (same_tid-refl doubt.tid);
       least = λ other is. listed_first doubt doubts other order (sym (listed_in_doubt home past (doubt ∷ doubts) are other) ∙ is);
     })

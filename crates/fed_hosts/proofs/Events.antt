@@ -12,6 +12,7 @@ use Rattle.fed_rules.specs.Site.{site_line}
 use Rattle.fed_rules.specs.SiteCommands.{answer_to, past_behind}
 use Rattle.fed_rules.specs.SitePast.{attempts_of, begins_tx}
 use Rattle.fed_messages.specs.declared.Envelope.{Envelope}
+use Rattle.rules_laws.proofs.SitePasts.{BeginsNone}
 use Rattle.site_core.specs.Made.{IsMade}
 use Rattle.fed_hosts.specs.declared.site_actor.Told.{Told}
 use Rattle.fed_hosts.specs.Carrying.{IsTold}
@@ -21,11 +22,6 @@ use Rattle.host_laws.specs.Lines.{stamp_of}
 use Rattle.host_laws.specs.Plans.{SitePlan}
 use Rattle.host_laws.specs.Turns.{SiteTurn, past_of, request_of, sends_of}
 use Rattle.fed_hosts.proofs.Asked.{line_begins}
-
--- an event that begins no attempt
-abbrev pub BeginsNone : SiteEvent → Type 0
-BeginsNone (Ev.Begin tid) = ⊥
-BeginsNone event = Unit {0}
 
 none_begun : (event : SiteEvent) (tid : Tid) → BeginsNone event → event ≡ Ev.Begin tid → ⊥
 none_begun event tid none is = subst BeginsNone is none

@@ -25,7 +25,7 @@ use Rattle.fed_rules.specs.SiteCommands.{answer_to, begin_next, next_step, own_r
 use Rattle.fed_rules.specs.SitePast.{SiteHappening, SitePast, attempts_of, begins_tx, disk, trip}
 use Rattle.fed_rules.specs.SiteRecords.{Home, site_frame}
 use Rattle.site_core.proofs.RuleWalks.{by_pick, by_when}
-use Rattle.fed_hosts.specs.Answers.{IsShortAnswer}
+use Rattle.fed_rules.specs.Short.{IsShortAnswer}
 
 -- a line that sends nothing and answers no cycle
 abbrev pub IsAlone : SiteHappening → Type 0

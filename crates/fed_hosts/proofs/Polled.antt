@@ -2,6 +2,7 @@
 use Rattle.std.proofs.Common.{◌≡◌, ℕ, ◌+◌, ◌-◌, ◌^◌, ◌<◌, ◌≤◌, ◌⊎◌, inl, inr, min, Bool, cond, Option, Some, None, List, [], ◌∷◌, ◌++◌, length, slice_get, slice_set, append-nil, eq-eqb, refl, sym, ap, ◌∙◌, subst, arith}
 use Rattle.std.specs.Prelude.{option_to_list, IfNone}
 use Rattle.std.proofs.lemmas.Bool.{cases_lt, ne_eqb}
+use Rattle.std.proofs.lemmas.Option.{same_Some}
 use Rattle.fed_messages.specs.declared.Packet.{Packet}
 use Rattle.session_routes.proofs.Posts.{get_other, get_put}
 use Rattle.scripted_link.specs.declared.inlet.Inlet.{Inlet}
@@ -9,7 +10,7 @@ use Rattle.scripted_link.specs.Inlets.{empty_count, inlet_ring, returned, taken}
 use Rattle.fed_hosts.specs.declared.ports.Port.{Port}
 use Rattle.fed_hosts.specs.declared.rounds.Arrived.{Arrived}
 use Rattle.fed_hosts.specs.Rounds.{ArePolled, HaveGivenNone, IsBesideInlet, IsPolled, arrived_at}
-use Rattle.fed_hosts.proofs.Changes.{became, becomes_self, becomes_through, changed_one, some_same}
+use Rattle.fed_hosts.proofs.Changes.{became, becomes_self, becomes_through, changed_one}
 
 -- the port with this inlet
 abbrev pub with_inlet : Port → Inlet → Port
@@ -59,7 +60,7 @@ polled_some old now before inlet arrived polled within at ring took =
 pub arrived_kept : (now : List Port) (before : Port) (inlet : Inlet) (arrived : Arrived) → arrived.place < length now → returned inlet ≡ None → (port : Port)
     → slice_get (slice_set now arrived.place (with_inlet before inlet)) arrived.place ≡ Some port → returned port.ends.inlet ≡ None
 arrived_kept now before inlet arrived within none port at =
-    let same = some_same (with_inlet before inlet) port (sym (get_put now arrived.place (with_inlet before inlet) within) ∙ at) in
+    let same = same_Some (with_inlet before inlet) port (sym (get_put now arrived.place (with_inlet before inlet) within) ∙ at) in
     subst (λ (p : Port). returned p.ends.inlet ≡ None) same none
 
 -- the packet that came in is the last one that was taken at its place
@@ -79,7 +80,7 @@ polled_none old now place before inlet polled within at ring took =
 pub given_start : (from : ℕ) (ports : List Port) → HaveGivenNone from from ports ports
 given_start from ports = record {
   asked = λ place a b low high was at. absurd (omega (arith, low, high));
-  left = λ place a b out was at. ap (λ (port : Port). empty_count port.ends.inlet) (some_same b a (sym at ∙ was));
+  left = λ place a b out was at. ap (λ (port : Port). empty_count port.ends.inlet) (same_Some b a (sym at ∙ was));
 }
 
 pub given_next : (from place : ℕ) (old now : List Port) (before : Port) (inlet : Inlet) → HaveGivenNone from place old now → from ≤ place → place < length now → slice_get now place ≡ Some before
@@ -95,7 +96,7 @@ given_next from place old now before inlet h low within at counted = record {
       → empty_count b.ends.inlet ≡ min (empty_count a.ends.inlet + 1) (2 ^ 64 - 1)
   by_place p a b low' (inl less) was is = h.asked p a b low' less was (sym (get_other now place p (with_inlet before inlet) (λ e. omega (arith, less, e))) ∙ is)
   by_place p a b low' (inr same) was is =
-      let new : with_inlet before inlet ≡ b = some_same (with_inlet before inlet) b (sym (get_put now place (with_inlet before inlet) within) ∙ ap (slice_get (slice_set now place (with_inlet before inlet))) (sym same) ∙ is) in
+      let new : with_inlet before inlet ≡ b = same_Some (with_inlet before inlet) b (sym (get_put now place (with_inlet before inlet) within) ∙ ap (slice_get (slice_set now place (with_inlet before inlet))) (sym same) ∙ is) in
       let old_is : empty_count before.ends.inlet ≡ empty_count a.ends.inlet = h.left place a before (inr (omega arith)) (ap (slice_get old) (sym same) ∙ was) at in
       sym (ap (λ (port : Port). empty_count port.ends.inlet) new) ∙ counted ∙ ap (λ (n : ℕ). min (n + 1) (2 ^ 64 - 1)) old_is
 
@@ -120,7 +121,7 @@ given_before from place old now before inlet h low within at counted = record {
   by_place p a b out (inr most) (inl more) was is = h.left p a b out was (sym (get_other now place p (with_inlet before inlet) (λ e. omega (arith, more, e))) ∙ is)
   by_place p a b out (inr most) (inr least) was is =
       let same : p ≡ place = omega (arith, most, least) in
-      let new : with_inlet before inlet ≡ b = some_same (with_inlet before inlet) b (sym (get_put now place (with_inlet before inlet) within) ∙ ap (slice_get (slice_set now place (with_inlet before inlet))) (sym same) ∙ is) in
+      let new : with_inlet before inlet ≡ b = same_Some (with_inlet before inlet) b (sym (get_put now place (with_inlet before inlet) within) ∙ ap (slice_get (slice_set now place (with_inlet before inlet))) (sym same) ∙ is) in
       let old_is : empty_count before.ends.inlet ≡ empty_count a.ends.inlet = h.left place a before (inr (omega arith)) (ap (slice_get old) (sym same) ∙ was) at in
       sym (ap (λ (port : Port). empty_count port.ends.inlet) new) ∙ counted ∙ old_is
 

@@ -2,9 +2,9 @@
 use Rattle.std.proofs.Common.{ℕ, ◌≤◌, ◌<◌, List, [], ◌∷◌, ◌++◌, reverse, sym, subst, arith}
 use Rattle.mdb_base.specs.Rising.{IsRising}
 use Rattle.mdb_base.specs.Words.{Each}
+use Rattle.mdb_base.proofs.JoinLaws.{reverse_more}
 use Rattle.fed_rules.specs.declared.commands.Stamped.{Stamped}
 use Rattle.host_laws.specs.Lines.{next_stamp}
-use Rattle.fed_hosts.proofs.Words.{reverse_more}
 
 rising_more : {A : Type 0} (number : A → ℕ) (xs : List A) (x : A) → IsRising number xs → Each (λ (y : A). number y < number x) xs → IsRising number (xs ++ x ∷ [])
 rising_more number [] x rising below = tt

@@ -2,6 +2,7 @@
 use Rattle.std.proofs.Common.{Err, ◌≡◌, ℕ, Bool, false, Option, List, [], ◌∷◌, ◌++◌, map, append_assoc, sym, ap, ◌∙◌, subst}
 use Rattle.mdb_base.specs.Counts.{HasCauseOf}
 use Rattle.mdb_base.specs.Words.{found, with_some}
+use Rattle.mdb_base.proofs.JoinLaws.{reverse_more}
 use Rattle.fed_rules.specs.declared.answers.Answer.{Answer}
 use Rattle.fed_rules.specs.declared.commands.Command.{Command}
 use Rattle.fed_rules.specs.declared.commands.Stamped.{Stamped}
@@ -32,7 +33,6 @@ use Rattle.host_laws.specs.Turns.{SiteTurn, past_of}
 use Rattle.fed_hosts.specs.Views.{Adds, IsArming}
 use Rattle.fed_hosts.proofs.Faults.{counting}
 use Rattle.fed_hosts.proofs.Same.{kept_same, planned_kept, planned_same}
-use Rattle.fed_hosts.proofs.Words.{reverse_more}
 
 -- a packet more that is taken
 pub heard_more : (programs : OwnPrograms) (packets : List Packet) (envelopes : List (Envelope ToSite)) (packet : Packet) (read : Option (Envelope ToSite)) → HasHeard programs packets envelopes → IsRead programs packet read

@@ -5,6 +5,7 @@ use Rattle.std.specs.Vec.{vec_capacity}
 use Rattle.mdb_base.specs.declared.names.SiteId.{SiteId}
 use Rattle.mdb_base.specs.declared.names.Tid.{Tid}
 use Rattle.mdb_base.specs.Words.{found}
+use Rattle.mdb_base.proofs.JoinLaws.{length-append}
 use Rattle.fed_rules.specs.declared.answers.Answer.{Answer}
 use Rattle.fed_rules.specs.declared.commands.Command.TheVariants as Cmd
 use Rattle.fed_rules.specs.declared.commands.Place.{Place}
@@ -14,7 +15,6 @@ use Rattle.fed_rules.specs.declared.messages.ToSite.{ToSite}
 use Rattle.fed_rules.specs.declared.messages.ToSite.TheVariants as To
 use Rattle.fed_rules.specs.Requests.{Submits}
 use Rattle.fed_rules.specs.Runs.{Start, EngineLine}
-use Rattle.field_bytes.specs.Fields.{IsTid}
 use Rattle.fed_messages.specs.declared.Envelope.{Envelope}
 use Rattle.fed_messages.specs.declared.Packet.{Packet}
 use Rattle.fed_messages.specs.Packets.{IsEnvelope, Spells, envelope_bytes}
@@ -40,12 +40,11 @@ use Rattle.fed_hosts.proofs.Lines.{Carries, HasLine, line_carried}
 use Rattle.fed_hosts.proofs.Own.{line_back}
 use Rattle.fed_hosts.proofs.Same.{planned_same}
 use Rattle.fed_hosts.proofs.Served.{heard_more}
-use Rattle.fed_hosts.proofs.Words.{length_joined}
 
 pub snoc_same : {A : Type 0} (xs ys : List A) (x : A) → xs ++ x ∷ [] ≡ ys ++ x ∷ [] → xs ≡ ys
 snoc_same [] [] x e = refl
-snoc_same [] (y ∷ ys) x e = absurd (let n = ap length e in let m = length_joined ys (x ∷ []) in omega (arith, n, m))
-snoc_same (z ∷ zs) [] x e = absurd (let n = ap length e in let m = length_joined zs (x ∷ []) in omega (arith, n, m))
+snoc_same [] (y ∷ ys) x e = absurd (let n = ap length e in let m = length-append ys (x ∷ []) in omega (arith, n, m))
+snoc_same (z ∷ zs) [] x e = absurd (let n = ap length e in let m = length-append zs (x ∷ []) in omega (arith, n, m))
 snoc_same {A} (z ∷ zs) (y ∷ ys) x e =
     let head : z ≡ y = cc in
     let tail : zs ++ x ∷ [] ≡ ys ++ x ∷ [] = cc in
@@ -185,10 +184,3 @@ module _ {E D : Type 0} (stands : E → Start → List EngineLine → Type 0) (t
       let low = kept.logged.low in
       let short = kept.logged.short in
       omega (arith, last, low, short)
-
--- the attempt that a message in its range is about is in its range
-pub about_named : (message : ToSite) → IsToSite message → IsTid (about message)
-about_named (To.Work tid epoch n act) is = is.0.attempt
-about_named (To.Take tid epoch n) is = is.attempt
-about_named (To.Prepare tid epoch n) is = is.attempt
-about_named (To.Decide tid decision) is = is

@@ -8,7 +8,7 @@ use Rattle.fed_rules.specs.declared.events.CoordEvent.{CoordEvent}
 use Rattle.fed_rules.specs.CoordPast.{CoordPast, attempts_of}
 use Rattle.fed_rules.specs.Policies.{Policy}
 use Rattle.journal_disk.specs.Disk.{Seen}
-use Rattle.coord_core.specs.Terms.{Terms}
+use Rattle.coord_tables.specs.Terms.{Terms}
 use Rattle.global_manager.specs.declared.manager.GlobalManager.{GlobalManager}
 use Rattle.global_manager.specs.Stands.{OwnPrograms, Stands, StopsBefore, StopsWithin}
 use Rattle.scripted_link.specs.Inlets.{inlet_ring, taken}

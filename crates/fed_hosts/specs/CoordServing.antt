@@ -12,7 +12,7 @@ use Rattle.fed_rules.specs.Requests.{Request, attempt, unless_begun}
 use Rattle.fed_rules.specs.SitePast.{begins_tx}
 use Rattle.journal_disk.specs.Disk.{Seen}
 use Rattle.actor_store.specs.declared.errors.StepErr.{StepErr}
-use Rattle.coord_core.specs.Terms.{Terms, line_of}
+use Rattle.coord_tables.specs.Terms.{Terms, line_of}
 use Rattle.global_manager.specs.Stands.{OwnPrograms}
 use Rattle.scripted_link.specs.Rings.{Wire}
 use Rattle.fed_hosts.specs.declared.coord_actor.CoordActor.{CoordActor}

@@ -1,5 +1,4 @@
 pub mod Verbs
-pub mod Answers
 pub mod Lines
 pub mod Rooms
 pub mod Keeps

@@ -6,7 +6,7 @@ ghost use Rattle.fed_hosts.specs.CoordHosts.{CanOpenCoord, HasReturnedCoord, IsH
 ghost use Rattle.fed_hosts.specs.CoordTurns.{HasCoordTurned};
 ghost use Rattle.fed_hosts.specs.CoordViews.{HasCoordServed};
 ghost use Rattle.fed_hosts.specs.declared.coord_asks.CoordCall.TheVariants as Asks;
-ghost use Rattle.trace_lines.specs.declared.error.DoorErr.TheVariants as Err_is;
+ghost use Rattle.line_text.specs.declared.error.DoorErr.TheVariants as Err_is;
 
 use crate::coord_actor::CoordActor;
 use crate::coord_asks::CoordCall;

@@ -7,7 +7,7 @@ ghost use Rattle.fed_hosts.specs.Hosts.{CanOpen, IsHeld, HasReturned};
 ghost use Rattle.fed_hosts.specs.Verbs.{command_of};
 ghost use Rattle.fed_hosts.specs.Turns.{HasTurned};
 ghost use Rattle.fed_hosts.specs.Views.{HasServed};
-ghost use Rattle.trace_lines.specs.declared.error.DoorErr.TheVariants as Err_is;
+ghost use Rattle.line_text.specs.declared.error.DoorErr.TheVariants as Err_is;
 
 use crate::ends::HostEnds;
 use crate::gates::Gate;

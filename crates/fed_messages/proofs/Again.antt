@@ -22,10 +22,10 @@ use Rattle.fed_messages.specs.Reading.{Reading, Kinds, by_kind, kind_at, act_at,
 use Rattle.fed_messages.proofs.ByKind.{found_then}
 
 -- a first byte that was written says what stands behind it
-kind_again : {A : Type 0} (kinds : Kinds A) (kind : ℕ) (rest : List ℕ) → kind < 256 → kind_at kinds (number 1 kind ++ rest) ≡ by_kind kinds kind rest
+pub kind_again : {A : Type 0} (kinds : Kinds A) (kind : ℕ) (rest : List ℕ) → kind < 256 → kind_at kinds (number 1 kind ++ rest) ≡ by_kind kinds kind rest
 kind_again kinds kind rest low = number_then 1 kind rest _ low
 
-act_again : (act : PlainAct) (rest : List ℕ) → IsAct act → act_at (act_bytes act ++ rest) ≡ Some (act, rest)
+pub act_again : (act : PlainAct) (rest : List ℕ) → IsAct act → act_at (act_bytes act ++ rest) ≡ Some (act, rest)
 unfolding act_at read_at write_at
 act_again (Read key) rest fits = kind_again act_kinds 1 (number 2 key.0 ++ rest) (omega arith) ∙ number_then 2 key.0 rest _ (omega (arith, fits))
 act_again (Write key value) rest fits =
@@ -98,7 +98,7 @@ reply_again (Reply_is.Refused (Because.TicketMoved by)) rest fits =
     kind_again reply_kinds 7 (tid_bytes by ++ rest) (omega arith) ∙ tid_then by rest _ fits
 reply_again Reply_is.Unknown rest fits = kind_again reply_kinds 8 rest (omega arith)
 
-vote_again : (vote : Option ℕ) (rest : List ℕ) → IsVote vote → vote_at (vote_bytes vote ++ rest) ≡ Some (vote, rest)
+pub vote_again : (vote : Option ℕ) (rest : List ℕ) → IsVote vote → vote_at (vote_bytes vote ++ rest) ≡ Some (vote, rest)
 unfolding vote_at nothing_at yes_at
 vote_again None rest fits = kind_again vote_kinds 0 rest (omega arith)
 vote_again (Some ticket) rest fits =

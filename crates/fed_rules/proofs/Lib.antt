@@ -14,7 +14,7 @@ mod ReadUnderAPreparedIsInvalid
 mod SumWrapsAround
 mod AttemptsAreSpent
 mod ThreeProtocolsCommit
-mod OppositeTickets
+pub mod OppositeTickets
 mod CycleThroughLocals
 mod CommitsOutOfTicketOrder
 mod TicketIsHeld
@@ -34,3 +34,5 @@ mod CheckpointIsTooLong
 mod CheckpointIsTorn
 mod CheckpointIsNotTrimmed
 mod CommitIsInACheckpoint
+mod SessionGoesOn
+mod JournalIsFound

@@ -23,7 +23,7 @@ use Rattle.fed_rules.specs.Story.{Story, lines_of}
 use Rattle.fed_rules.proofs.Opened.{opened}
 use Rattle.fed_rules.proofs.Spelled.{at, key, tid, edge, get, set, site, step_at, global, scenario_of, go, again, give, take, place, line, entry, read_by, ended, table, ticket, voted, before}
 
-abbrev scenario : Scenario
+abbrev pub scenario : Scenario
 scenario =
     scenario_of
     (site 1 Validation By.Nothing ∷ site 2 Validation By.Nothing ∷ [])
@@ -32,7 +32,7 @@ scenario =
     ∷ global 2 (step_at 2 (get 2) ∷ step_at 1 (set 1 7) ∷ []) ∷ [])
 
 -- the lines of the commands, the first one first
-abbrev printed : List Line
+abbrev pub printed : List Line
 printed =
     line (go 1) (Say.Begun (tid 1 0)) (place 1 0 ∷ [])
     ∷ line (go 2) (Say.Begun (tid 2 0)) (place 2 0 ∷ [])
@@ -63,7 +63,7 @@ printed =
     ∷ []
 
 -- the lines that closing adds
-abbrev closing : List Line
+abbrev pub closing : List Line
 closing =
     line (again (tid 1 0)) Say.Only (place 1 8 ∷ place 2 8 ∷ [])
     ∷ line (give 1 8) (Say.Settles (tid 1 0) Decided.Commit) (place 1 6 ∷ [])
@@ -89,10 +89,10 @@ unfolding opened
 lines_are_right = refl
 
 -- the refused attempt and the committed ones, with the tickets of their votes
-abbrev attempts : List Ticketed
+abbrev pub attempts : List Ticketed
 attempts = voted (tid 2 0) (ticket 1 2 ∷ ticket 2 1 ∷ []) ∷ voted (tid 1 0) (ticket 1 1 ∷ ticket 2 2 ∷ []) ∷ []
 
-edge_1 : IsEdge attempts (edge (tid 2 0) (tid 1 0) 2)
+pub edge_1 : IsEdge attempts (edge (tid 2 0) (tid 1 0) 2)
 edge_1 =
     record {
       from = voted (tid 2 0) (ticket 1 2 ∷ ticket 2 1 ∷ []);
@@ -104,7 +104,7 @@ edge_1 =
       precedes = record { smaller = ticket 2 1; greater = ticket 2 2; first = inr (inl refl); second = inr (inl refl); there = refl; here = refl; less = omega arith };
     }
 
-edge_2 : IsEdge attempts (edge (tid 1 0) (tid 2 0) 1)
+pub edge_2 : IsEdge attempts (edge (tid 1 0) (tid 2 0) 1)
 edge_2 =
     record {
       from = voted (tid 1 0) (ticket 1 1 ∷ ticket 2 2 ∷ []);
@@ -119,7 +119,7 @@ edge_2 =
 abbrev cycle : List Edge
 cycle = edge (tid 2 0) (tid 1 0) 2 ∷ edge (tid 1 0) (tid 2 0) 1 ∷ []
 
-cycle_is_one : IsCycle attempts (tid 2 0) cycle
+pub cycle_is_one : IsCycle attempts (tid 2 0) cycle
 cycle_is_one = record { some = λ e. cc; edges = (edge_1, (edge_2, tt)); round = (refl, (refl, refl)) }
 
 -- so the refusal may be printed
@@ -139,7 +139,7 @@ closing_is_right = refl
 abbrev order : List Tid
 order = tid 1 0 ∷ []
 
-abbrev report : Report
+abbrev pub report : Report
 report =
     record {
       order = order;

@@ -20,7 +20,7 @@ use Rattle.fed_rules.specs.Story.{Story, lines_of}
 use Rattle.fed_rules.proofs.Opened.{opened}
 use Rattle.fed_rules.proofs.Spelled.{at, key, tid, set, site, step_at, global, scenario_of, go, give, take, ask, halt, back, place, line, entry, read_by, ended, table}
 
-abbrev scenario : Scenario
+abbrev pub scenario : Scenario
 scenario =
     scenario_of
     (site 1 Locking By.Nothing ∷ site 2 Timestamp By.Abort ∷ site 3 Validation By.Commit ∷ [])
@@ -28,7 +28,7 @@ scenario =
     (global 1 (step_at 1 (set 1 11) ∷ step_at 2 (set 2 22) ∷ step_at 3 (set 3 33) ∷ []) ∷ [])
 
 -- the lines of the commands, the first one first
-abbrev printed : List Line
+abbrev pub printed : List Line
 printed =
     line (go 1) (Say.Begun (tid 1 0)) (place 1 0 ∷ [])
     ∷ line (give 1 0) (Say.Did (tid 1 0) Reply_is.Done) (place 1 0 ∷ [])

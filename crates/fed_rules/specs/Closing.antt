@@ -21,7 +21,8 @@ use Rattle.fed_rules.specs.Runs.{unended, is_sealed}
 use Rattle.fed_rules.specs.Scenarios.{home_of, local_home, protocols, sites}
 use Rattle.fed_rules.specs.SitePast.{SitePast, epoch_start, engine_lines, is_local, trip, records}
 use Rattle.fed_rules.specs.SiteRecords.{Home, doubts, local_of}
-use Rattle.fed_rules.specs.Story.{Story, story_of, past_of, coord_past, lines_of}
+use Rattle.fed_rules.specs.Sessions.{Session, fresh}
+use Rattle.fed_rules.specs.Story.{Story, coord_past, lines_of, past_of, story_in, story_of}
 
 -- the commands with those that each item adds in its turn
 abbrev pub for_each : {A : Type 0} → (A → List Command → List Command) → List A → List Command → List Command
@@ -44,24 +45,24 @@ actors of_coordinator of_site scenario story =
     (map (λ site. site.0) (those (λ site. of_site (past_of site story)) (sites scenario)))
 
 -- each armed trip is disarmed
-abbrev pub disarm : Scenario → List Command → List Command
-disarm scenario commands =
+abbrev pub disarm : Session → List Command → List Command
+disarm session commands =
     for_each (λ actor more. Cmd.Trip actor 0 0 ∷ more)
-    (actors (λ past. is_some (Coordinator.trip past)) (λ past. is_some (trip past)) scenario (story_of scenario commands)) commands
+    (actors (λ past. is_some (Coordinator.trip past)) (λ past. is_some (trip past)) session.plan (story_in session commands)) commands
 
 -- each actor that is down comes back
-abbrev pub bring_up : Scenario → List Command → List Command
-bring_up scenario commands =
+abbrev pub bring_up : Session → List Command → List Command
+bring_up session commands =
     for_each (λ actor more. Cmd.Back actor ∷ more)
-    (actors (λ past. is_down past) (λ past. is_down past) scenario (story_of scenario commands)) commands
+    (actors (λ past. is_down past) (λ past. is_down past) session.plan (story_in session commands)) commands
 
 -- the attempts that are known without a decision
 abbrev pub undecided : Story → List Tid
 undecided story = rising (those (is_open (coord_past story)) (begun_tids (coord_past story)))
 
 -- each of them is given up
-abbrev pub give_up : Scenario → List Command → List Command
-give_up scenario commands = for_each (λ tid more. Cmd.Late tid ∷ more) (undecided (story_of scenario commands)) commands
+abbrev pub give_up : Session → List Command → List Command
+give_up session commands = for_each (λ tid more. Cmd.Late tid ∷ more) (undecided (story_in session commands)) commands
 
 abbrev pub live_at : Option Home → Story → List Tid
 live_at None story = []
@@ -79,33 +80,33 @@ clear_site scenario story site commands =
     for_each (λ tid more. Cmd.Drop site tid ∷ more) (those (λ tid. not (is_local (past_of site story) tid)) (live scenario story site))
     (for_each (λ tid more. Cmd.Abort tid.tx ∷ more) (those (is_local (past_of site story)) (live scenario story site)) commands)
 
-abbrev pub clear : Scenario → List Command → List Command
-clear scenario commands = for_each (clear_site scenario (story_of scenario commands)) (sites scenario) commands
+abbrev pub clear : Session → List Command → List Command
+clear session commands = for_each (clear_site session.plan (story_in session commands)) (sites session.plan) commands
 
 abbrev pub sends_of_last : List Line → List Place
 sends_of_last [] = []
 sends_of_last (line ∷ lines) = line.sends
 
 -- the places of what the last command sent
-abbrev pub last_sends : Scenario → List Command → List Place
-last_sends scenario commands = sends_of_last (lines_of (story_of scenario commands))
+abbrev pub last_sends : Session → List Command → List Place
+last_sends session commands = sends_of_last (lines_of (story_in session commands))
 
 -- what a site just sent is taken
 abbrev pub take_answers : List Place → List Command → List Command
 take_answers [] commands = commands
 take_answers (place ∷ places) commands = take_answers places (Cmd.Take place.site place.place ∷ commands)
 
-abbrev pub taken : Scenario → List Command → List Command
-taken scenario commands = take_answers (last_sends scenario commands) commands
+abbrev pub taken : Session → List Command → List Command
+taken session commands = take_answers (last_sends session commands) commands
 
 -- a message is given, and what the site sends is taken
-abbrev pub deliver : Scenario → Place → List Command → List Command
-deliver scenario place commands = taken scenario (Cmd.Give place.site place.place ∷ commands)
+abbrev pub deliver : Session → Place → List Command → List Command
+deliver session place commands = taken session (Cmd.Give place.site place.place ∷ commands)
 
 -- a decision is sent again, and each of its messages delivered
-abbrev pub send_again : Scenario → Tid → List Command → List Command
-send_again scenario tid commands =
-    let again = Cmd.Again tid ∷ commands in for_each (deliver scenario) (last_sends scenario again) again
+abbrev pub send_again : Session → Tid → List Command → List Command
+send_again session tid commands =
+    let again = Cmd.Again tid ∷ commands in for_each (deliver session) (last_sends session again) again
 
 -- the attempts that are known
 abbrev pub known : Scenario → Story → List Tid
@@ -113,30 +114,36 @@ known scenario story =
     rising (those (λ tid. is_known (standing (protocols scenario) (coord_past story) tid)) (begun_tids (coord_past story)))
 
 -- each known attempt is ended
-abbrev pub end_known : Scenario → List Command → List Command
-end_known scenario commands = for_each (send_again scenario) (known scenario (story_of scenario commands)) commands
+abbrev pub end_known : Session → List Command → List Command
+end_known session commands = for_each (send_again session) (known session.plan (story_in session commands)) commands
 
 abbrev pub in_doubt_at : Option Home → Story → List Tid
 in_doubt_at None story = []
 in_doubt_at (Some home) story = rising (map (λ held. held.tid) (doubts (records home (past_of home.site story))))
 
 -- a site asks about an attempt, and is given the answer
-abbrev pub inquire : Scenario → SiteId → Tid → List Command → List Command
-inquire scenario site tid commands =
-    let asked = taken scenario (Cmd.Ask site tid ∷ commands) in
-    for_each (λ place more. Cmd.Give place.site place.place ∷ more) (last_sends scenario asked) asked
+abbrev pub inquire : Session → SiteId → Tid → List Command → List Command
+inquire session site tid commands =
+    let asked = taken session (Cmd.Ask site tid ∷ commands) in
+    for_each (λ place more. Cmd.Give place.site place.place ∷ more) (last_sends session asked) asked
 
 -- each doubt of a site is cleared
-abbrev pub ask_site : Scenario → Story → SiteId → List Command → List Command
-ask_site scenario story site commands = for_each (inquire scenario site) (in_doubt_at (home_of scenario site) story) commands
+abbrev pub ask_site : Session → Story → SiteId → List Command → List Command
+ask_site session story site commands = for_each (inquire session site) (in_doubt_at (home_of session.plan site) story) commands
 
-abbrev pub ask_all : Scenario → List Command → List Command
-ask_all scenario commands = for_each (ask_site scenario (story_of scenario commands)) (sites scenario) commands
+abbrev pub ask_all : Session → List Command → List Command
+ask_all session commands = for_each (ask_site session (story_in session commands)) (sites session.plan) commands
 
 -- a session with the commands that close it
+abbrev pub closed_in : Session → List Command → List Command
+closed_in session commands =
+    ask_all session (end_known session (clear session (give_up session (bring_up session (disarm session commands)))))
+
+-- so it is for one that begins with empty disks
 abbrev pub closed : Scenario → List Command → List Command
-closed scenario commands =
-    ask_all scenario (end_known scenario (clear scenario (give_up scenario (bring_up scenario (disarm scenario commands)))))
+closed scenario commands = closed_in (fresh scenario) commands
+
+-- ---- what finishes a transaction alone, in a session that begins with empty disks
 
 -- a local transaction alone: begin, each step, commit
 abbrev pub steps_alone : Tx → List Step → List Command → List Command
@@ -149,7 +156,7 @@ local_alone tx steps commands = Cmd.Commit tx ∷ steps_alone tx steps (Cmd.Begi
 -- what a site just sent is taken; the places of what the coordinator sends at that
 abbrev pub sent_next : Scenario → List Command → List Place → List Place
 sent_next scenario commands [] = []
-sent_next scenario commands (place ∷ places) = last_sends scenario commands
+sent_next scenario commands (place ∷ places) = last_sends (fresh scenario) commands
 
 -- the earliest message that wasn't given is delivered, at most so many times, until nothing is left; what is sent at that stands behind
 abbrev pub deliver_all : Scenario → ℕ → List Place → List Command → List Command
@@ -157,13 +164,13 @@ deliver_all scenario zero places commands = commands
 deliver_all scenario (suc n) [] commands = commands
 deliver_all scenario (suc n) (place ∷ places) commands =
     let given = Cmd.Give place.site place.place ∷ commands in
-    let answered = taken scenario given in
-    deliver_all scenario n (places ++ sent_next scenario answered (last_sends scenario given)) answered
+    let answered = taken (fresh scenario) given in
+    deliver_all scenario n (places ++ sent_next scenario answered (last_sends (fresh scenario) given)) answered
 
 -- a global transaction alone: each of its messages is delivered in the order of sending
 abbrev pub global_alone : Scenario → Tx → List Step → List Command → List Command
 global_alone scenario tx steps commands =
-    let begun = Cmd.Go tx ∷ commands in deliver_all scenario (4 * length steps) (last_sends scenario begun) begun
+    let begun = Cmd.Go tx ∷ commands in deliver_all scenario (4 * length steps) (last_sends (fresh scenario) begun) begun
 
 -- the site at which a transaction committed as a local one
 abbrev pub is_done_at : Option Home → Story → Tx → Bool

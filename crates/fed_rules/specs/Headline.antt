@@ -39,19 +39,24 @@ LeavesTables scenario story order =
     (site : SiteId) (home : Home) → home_of scenario site ≡ Some home → in_doubt_at (home_of scenario site) story ≡ [] →
     (key : Key) → serial_tables (programs_of scenario order) (first_tables scenario) site key ≡ look_up (table_of scenario story site) key
 
--- the headline of a story. The printed order holds whatever is committed and names it once; it is a merge of the site orders, so it holds
--- nothing else and keeps their order; its programs, one at a time, give every read that is printed of a member and what is due at each site,
--- which is the site's table where the site isn't in doubt; every line that settles an attempt says its outcome; and the coordinator
--- forgets it exactly when its required acknowledgements are in, and answers an inquiry afterwards from a site in doubt by its outcome
-pub record Headline (scenario : Scenario) (story : Story) : Type 0 where
-  pub holds_committed : HoldsCommitted scenario story (printed_order scenario story)
-  pub names_once : NamesOnce (printed_order scenario story)
-  pub is_merge : IsMerge scenario story (printed_order scenario story)
-  pub gives_reads_and_dues : IsSerial scenario story (printed_order scenario story)
-  pub leaves_tables : LeavesTables scenario story (printed_order scenario story)
+-- the headline of a story with this order, which an audited run may print in place of the least one. The order holds whatever is committed and
+-- names it once; it is a merge of the site orders, so it holds nothing else and keeps their order; its programs, one at a time, give every read
+-- that is due of a member and what is due at each site, which is the site's table where the site isn't in doubt; every line that settles an
+-- attempt says its outcome; and the coordinator forgets it exactly when its required acknowledgements are in, and answers an inquiry
+-- afterwards from a site in doubt by its outcome
+pub record HeadlineOf (scenario : Scenario) (story : Story) (order : List Tid) : Type 0 where
+  pub holds_committed : HoldsCommitted scenario story order
+  pub names_once : NamesOnce order
+  pub is_merge : IsMerge scenario story order
+  pub gives_reads_and_dues : IsSerial scenario story order
+  pub leaves_tables : LeavesTables scenario story order
   pub ends_alike : EndsAlike story
   pub forgets_exactly : ForgetsExactly scenario story
   pub answers_in_doubt : AtEach (AnswersInDoubt scenario (outcome_in story)) story
+
+-- the headline of a story, with the order that is printed: the least merge
+abbrev pub Headline : Scenario → Story → Type 0
+Headline scenario story = HeadlineOf scenario story (printed_order scenario story)
 
 -- the fact holds of the story of any commands of every scenario
 abbrev pub OfStories : (Scenario → Story → Type 0) → Type 0

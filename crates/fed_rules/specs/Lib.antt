@@ -5,8 +5,12 @@
 pub mod Attempts
 -- the site of an outstanding operation
 pub mod Site_of
+-- answers that name no cycle
+pub mod Short
 -- what a command to an actor comes to: an event, or an answer without a line
 pub mod Requests
+-- what a session that goes on finds on its disks
+pub mod Found
 -- scenarios: their lines, the settings of a run, and what every scenario keeps
 pub mod Plans
 -- what a scenario says of its sites, participants, policy and transactions
@@ -49,6 +53,13 @@ pub mod Policies
 pub mod Coord
 -- what it makes of the commands of global transactions
 pub mod CoordCommands
+-- Sessions that go on.
+-- the past of an actor on whose disk a journal is found
+pub mod Reopened
+-- a scenario with what is found
+pub mod Sessions
+-- when a session may go on from the journals that it finds
+pub mod Usable
 -- The federation.
 -- what each command makes happen, what was sent, and which line is printed
 pub mod Story
@@ -62,7 +73,13 @@ pub mod Serial
 pub mod Reports
 -- the commands that close a session, and those that finish a transaction alone
 pub mod Closing
+-- what a session finds on the disks that another one left, and what it makes of them
+pub mod Resumed
+-- that it goes on rightly
+pub mod GoingOn
 -- how a global attempt ends
 pub mod Endings
 -- the headline
 pub mod Headline
+pub mod OwnPrograms
+pub mod Terms

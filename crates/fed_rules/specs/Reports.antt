@@ -39,10 +39,9 @@ forgotten scenario story = those (is_forgotten scenario story) (begun story)
 abbrev pub tables : Scenario → Story → List SiteRows
 tables scenario story = map (λ site. record { site = site; rows = table_of scenario story site }) (sites scenario)
 
--- the report of a session
-abbrev pub report_of : Scenario → Story → Report
-report_of scenario story =
-    let order = printed_order scenario story in
+-- the report of a session in this order, which may be any merge of the site orders
+abbrev pub report_in : Scenario → Story → List Tid → Report
+report_in scenario story order =
     record {
       order = order;
       reads = map (λ tid. record { tid = tid; values = reads_of scenario story tid }) order;
@@ -50,3 +49,7 @@ report_of scenario story =
       forgotten = forgotten scenario story;
       tables = tables scenario story;
     }
+
+-- the report of a session, in the printed order
+abbrev pub report_of : Scenario → Story → Report
+report_of scenario story = report_in scenario story (printed_order scenario story)

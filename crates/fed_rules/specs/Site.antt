@@ -368,7 +368,11 @@ site_line home past (Ev.Halt cut) =
 site_line home past Ev.Back = when (is_down past) (unless_tripped home past (of_back home past)) (quiet Ev.Back Say.Awake)
 site_line home past event = when (is_down past) (quiet event Say.Down) (unless_tripped home past (answered home past event))
 
+-- a past with what these events add, the last one first
+abbrev pub site_past_on : Home → SitePast → List SiteEvent → SitePast
+site_past_on home past [] = past
+site_past_on home past (event ∷ events) = site_line home (site_past_on home past events) event ∷ site_past_on home past events
+
 -- the past of a site after these events, the last one first
 abbrev pub site_past : Home → List SiteEvent → SitePast
-site_past home [] = []
-site_past home (event ∷ events) = site_line home (site_past home events) event ∷ site_past home events
+site_past home events = site_past_on home [] events

@@ -1,6 +1,6 @@
 -- The story of a scenario and its commands: what each command makes happen, which messages were sent, and which line is printed.
 -- The story is kept newest first. Any message that was sent may be taken at any time, any number of times, or never.
-use Rattle.std.specs.Prelude.{ℕ, zero, suc, cond, List, [], ◌∷◌, ◌++◌, length, map}
+use Rattle.std.specs.Prelude.{ℕ, zero, suc, cond, Option, Some, None, List, [], ◌∷◌, ◌++◌, length, map}
 use Rattle.mdb_base.specs.declared.names.SiteId.{SiteId}
 use Rattle.mdb_base.specs.declared.names.Tid.{Tid}
 use Rattle.mdb_base.specs.declared.names.Tx.{Tx}
@@ -23,12 +23,18 @@ use Rattle.fed_rules.specs.Coord.{coord_line}
 use Rattle.fed_rules.specs.CoordCommands.{go_request, fate_request, attempt_request}
 use Rattle.fed_rules.specs.CoordPast.{CoordHappening, CoordPast}
 pub use Rattle.fed_rules.specs.Requests.{Request, Submits, Declines, most_attempts, unless_begun, attempt}
+use Rattle.fed_rules.specs.Sessions.{Session, fresh}
 use Rattle.fed_rules.specs.Scenarios.{home_of, local_home, global_program, program_of, policy, protocols}
 use Rattle.fed_rules.specs.Site.{site_line}
 pub use Rattle.fed_rules.specs.SiteCommands.{value_of, run_reads}
 use Rattle.fed_rules.specs.SiteCommands.{Verb, Begin, Step_on, Commit, Abort, Fate, request}
 use Rattle.fed_rules.specs.SitePast.{SiteHappening, SitePast}
 use Rattle.fed_rules.specs.SiteRecords.{Home}
+use Rattle.presumptions.specs.declared.Participant.{Participant}
+use Rattle.fed_rules.specs.declared.records.CoordRecord.{CoordRecord}
+use Rattle.fed_rules.specs.declared.records.SiteRecord.{SiteRecord}
+use Rattle.fed_rules.specs.Found.{Journal}
+use Rattle.fed_rules.specs.Reopened.{first_of, home_by, opened_coordinator, opened_site}
 
 -- who makes a line: a site, the coordinator, or nobody, where no actor hears of the command
 pub data Happened : Type 0 where
@@ -167,10 +173,39 @@ happens scenario story (Cmd.Check actor) = on_actor scenario story actor Coord_e
 abbrev pub tell : Scenario → Story → Command → Told
 tell scenario story command = record { command = command; happened = happens scenario story command }
 
+-- lines that no command made
+abbrev pub untold : Happened → Told
+untold happened = record { command = Cmd.Back 0; happened = happened }
+
+abbrev pub found_site : Option Home → Journal SiteRecord → Story → Story
+found_site None journal story = story
+found_site (Some home) journal story = map (λ x. untold (AtSite home.site x)) (opened_site journal) ++ story
+
+abbrev pub home_found : Option SiteRecord → Option Home
+home_found None = None
+home_found (Some first) = home_by first
+
+-- the pasts of the sites whose journals are found
+abbrev pub found_sites : List (Journal SiteRecord) → Story
+found_sites [] = []
+found_sites (journal ∷ journals) = found_site (home_found (first_of journal.records)) journal (found_sites journals)
+
+abbrev pub found_coordinator : List Participant → Option (Journal CoordRecord) → Story → Story
+found_coordinator protocols None story = story
+found_coordinator protocols (Some journal) story = map (λ x. untold (AtCoordinator x)) (opened_coordinator protocols journal) ++ story
+
+-- what a session begins with: nothing, or where it goes on from disks the pasts that their journals stand for
+abbrev pub first_story : Session → Story
+first_story session = found_coordinator (protocols session.plan) session.found.coordinator (found_sites session.found.sites)
+
 -- the story of these commands, the last one first
+abbrev pub story_in : Session → List Command → Story
+story_in session [] = first_story session
+story_in session (command ∷ commands) = tell session.plan (story_in session commands) command ∷ story_in session commands
+
+-- and of a session that begins with empty disks
 abbrev pub story_of : Scenario → List Command → Story
-story_of scenario [] = []
-story_of scenario (command ∷ commands) = tell scenario (story_of scenario commands) command ∷ story_of scenario commands
+story_of scenario commands = story_in (fresh scenario) commands
 
 abbrev pub answer_of : Happened → Answer
 answer_of (AtSite site x) = x.answer

@@ -3,7 +3,7 @@ use mdb_base::{Edges, Key, Reply, SiteId, Tid, Why};
 use presumptions::Decision;
 
 /// Why an attempt is decided abort.
-#[derive(Drop)]
+#[derive(PartialEq, Eq, Drop)]
 pub enum Cause {
     /// It was given up from outside.
     Late,
@@ -20,7 +20,7 @@ pub enum Cause {
 }
 
 /// The answer of a line. Fields stand in the order in which they are printed.
-#[derive(Drop)]
+#[derive(PartialEq, Eq, Drop)]
 pub enum Answer {
     /// There is no such transaction, attempt or message.
     None,

@@ -36,7 +36,7 @@ pub struct Place {
 }
 
 /// One command with its answer and the places of what it sent.
-#[derive(Drop)]
+#[derive(PartialEq, Eq, Drop)]
 pub struct Line {
     pub command: Command,
     pub answer: Answer,
@@ -44,7 +44,7 @@ pub struct Line {
 }
 
 /// A line with its stamp (Lamport 1978).
-#[derive(Drop)]
+#[derive(PartialEq, Eq, Drop)]
 pub struct Stamped {
     pub stamp: u64,
     pub line: Line,

@@ -4,6 +4,7 @@
 
 mod answers;
 mod commands;
+mod copies;
 mod events;
 mod messages;
 mod records;
@@ -15,7 +16,7 @@ mod sums;
 pub use answers::{Answer, Cause};
 pub use commands::{Command, Line, Place, Stamped};
 pub use events::{CoordEvent, CoordStep, SiteEvent, SiteStep};
-use mdb_base::{ListOf, Rising, SiteRows};
+use mdb_base::{Few, FewRising, ListOf, SiteRows};
 pub use messages::{Due, FromSite, Sent, ToSite};
 pub use records::{CoordRecord, SiteRecord};
 pub use report::{Outcome, Report, TxReads};
@@ -24,7 +25,7 @@ pub use scenario::{ItemLine, LinkLine, Scenario, SiteLine, StopLine, TxLine};
 pub use sums::{CommittedAttempt, CoordSum, DoubtfulSum, OpenAttempt, SiteSum};
 
 /// Places of sent messages, in the order in which they are printed.
-pub type Places = ListOf<Place>;
+pub type Places = Few<Place>;
 
 /// Lines in the order in which they were made.
 pub type Lines = ListOf<Line>;
@@ -33,10 +34,10 @@ pub type Lines = ListOf<Line>;
 pub type StampedLines = ListOf<Stamped>;
 
 /// Messages to sites by rising site.
-pub type Sends = Rising<Sent>;
+pub type Sends = FewRising<Sent>;
 
 /// The operations and Prepares that are outstanding, by rising site.
-pub type Dues = Rising<Due>;
+pub type Dues = FewRising<Due>;
 
 /// Messages to one site in the order of sending.
 pub type ToMessages = ListOf<ToSite>;

@@ -6,13 +6,11 @@ use Rattle.mdb_base.specs.declared.names.Tid.{Tid}
 use Rattle.mdb_base.specs.declared.names.Tx.{Tx}
 use Rattle.mdb_base.specs.Names.{same_site}
 use Rattle.mdb_base.specs.Words.{item_at, map_some, pick}
+use Rattle.mdb_base.proofs.OptionLaws.{some_parts, pick_some, pick_none}
+use Rattle.mdb_base.proofs.NameLaws.{same_site-refl}
 use Rattle.order_laws.specs.Chains.{In}
-use Rattle.order_laws.proofs.Alike.{some_parts}
-use Rattle.order_laws.proofs.Names.{same_site_self}
+use Rattle.order_laws.proofs.InLaws.{item_at-in}
 use Rattle.rules_laws.proofs.Declared.{home-again, its-site}
-use Rattle.commit_laws.proofs.Links.{item-in}
-use Rattle.closing_laws.proofs.Clear.{pick_some}
-use Rattle.closing_laws.proofs.LocalAlone.{pick_none}
 use Rattle.fed_rules.specs.declared.answers.Answer.TheVariants as Say
 use Rattle.fed_rules.specs.declared.commands.Command.{Command}
 use Rattle.fed_rules.specs.declared.commands.Command.TheVariants as Cmd
@@ -32,12 +30,12 @@ use Rattle.fed_rules.specs.SiteCommands.{Verb, Abort, Begin, Commit, Fate, Step_
 use Rattle.fed_rules.specs.SitePast.{SitePast}
 use Rattle.fed_rules.specs.SiteRecords.{Home}
 use Rattle.fed_rules.specs.Story.{Story, Happened, Nowhere, at_coordinator, coord_past, coord_requested, happens, on_actor, on_attempt, on_fate, on_give, on_go, on_local, on_site, on_take, past_of, requested, sent_from, sent_to}
-use Rattle.coord_core.specs.Terms.{Terms}
+use Rattle.coord_tables.specs.Terms.{Terms}
 use Rattle.local_dbms.specs.Stands.{OwnPrograms, own_programs, program_at}
 use Rattle.session_routes.specs.Routes.{place_in}
-use Rattle.site_seats.specs.Asks.{site_request}
-use Rattle.site_seats.specs.declared.asks.SiteAsk.{SiteAsk}
-use Rattle.site_seats.specs.declared.asks.SiteAsk.TheVariants as At
+use Rattle.fed_world.specs.SiteAsks.{site_request}
+use Rattle.fed_world.specs.declared.site_asks.SiteAsk.{SiteAsk}
+use Rattle.fed_world.specs.declared.site_asks.SiteAsk.TheVariants as At
 use Rattle.fed_world.specs.declared.asks.Asked.{Asked}
 use Rattle.fed_world.specs.declared.asks.Asked.TheVariants.{Coordinator, Nobody}
 use Rattle.fed_world.specs.declared.asks.CoordAsk.{CoordAsk}
@@ -50,7 +48,7 @@ use Rattle.fed_world.proofs.DeclaredPlaces.{among_sites, at_its_place, home_at_p
 program_at_home : (site : SiteId) (tx : Tx) (home : Option SiteId) (program : List Step) → home ≡ Some site → program_at site (Some (record { tx = tx; home = home; program = program })) ≡ Some program
 program_at_home site tx None program e = cc
 program_at_home site tx (Some home) program e =
-    ap (λ (b : Bool). cond b (Some program) None) (ap (λ (s : SiteId). same_site s site) (some_parts e) ∙ same_site_self site)
+    ap (λ (b : Bool). cond b (Some program) None) (ap (λ (s : SiteId). same_site s site) (some_parts e) ∙ same_site-refl site)
 
 program_of_home : (site : SiteId) (o : Option TxLine) → home_of_line o ≡ Some site → program_at site o ≡ Some (program_of_line o)
 program_of_home site None e = cc
@@ -182,7 +180,7 @@ module _ (scenario : Scenario) (story : Story) where
       by_message None e = give_happens site n ∙ pick_none (item_at (sent_to site story) n) _ _ e
       by_message (Some message) e =
           event_asked site (At.Give message) (Cmd.Give site n) (Site_event.Give message) (give_happens site n ∙ pick_some (item_at (sent_to site story) n) _ _ message e) (λ home programs past. refl)
-          (item-in (sent_to site story) n message e)
+          (item_at-in (sent_to site story) n message e)
 
   take_happens : (site : SiteId) (n : ℕ) → happens scenario story (Cmd.Take site n) ≡ pick (item_at (sent_from site story) n) (Nowhere Say.None) (λ message. at_coordinator scenario story (Coord_event.Take site message))
   unfolding happens on_take
@@ -193,7 +191,7 @@ module _ (scenario : Scenario) (story : Story) where
   take_asked site n none = by_message (item_at (sent_from site story) n) refl
     where
       by_home : (message : FromSite) → item_at (sent_from site story) n ≡ Some message → (o : Option Home) → home_of scenario site ≡ o → IsFromSite (Coord.Take site message) scenario
-      by_home message e None is = absurd (subst (λ (ms : List FromSite). In message ms) (none is) (item-in (sent_from site story) n message e))
+      by_home message e None is = absurd (subst (λ (ms : List FromSite). In message ms) (none is) (item_at-in (sent_from site story) n message e))
       by_home message e (Some home) is = among_sites scenario site home is
 
       by_message : (o : Option FromSite) → item_at (sent_from site story) n ≡ o → IsAsked (to_take site o) (Cmd.Take site n) scenario story

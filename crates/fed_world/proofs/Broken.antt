@@ -9,7 +9,7 @@ use Rattle.fed_rules.specs.Story.{Story, coord_past, story_of}
 use Rattle.journal_disk.specs.Disk.{Seen}
 use Rattle.actor_store.specs.declared.errors.StepErr.TheVariants as Step_err
 use Rattle.global_manager.specs.Stands as Manager
-use Rattle.site_seats.specs.Seats.{SitesAt}
+use Rattle.fed_world.specs.Seats.{SitesAt}
 use Rattle.session_routes.specs.declared.traffic.Traffic.{Traffic}
 use Rattle.session_routes.specs.declared.routes.Routes.{Routes}
 use Rattle.session_routes.specs.Routes.{IsRouted}

@@ -6,6 +6,7 @@ use Rattle.mdb_base.specs.declared.names.SiteId.{SiteId}
 use Rattle.mdb_base.specs.Names.{same_site}
 use Rattle.mdb_base.specs.Rising.{IsRising}
 use Rattle.mdb_base.specs.Words.{Each, those}
+use Rattle.mdb_base.proofs.JoinLaws.{length-option}
 use Rattle.order_laws.specs.Chains.{In}
 use Rattle.fed_rules.specs.declared.answers.Answer.{Answer}
 use Rattle.fed_rules.specs.declared.commands.Command.{Command}
@@ -30,18 +31,19 @@ use Rattle.any_engine.specs.Stands as Engines
 use Rattle.conservative_take.specs.declared.any_policy.AnyPolicy.{AnyPolicy}
 use Rattle.conservative_take.specs.AnyPolicies.{policy_is}
 use Rattle.commit_laws.proofs.Links.{Linked, linked}
-use Rattle.coord_core.specs.Terms.{Terms}
+use Rattle.coord_tables.specs.Terms.{Terms}
 use Rattle.global_manager.specs.declared.manager.GlobalManager.{GlobalManager}
 use Rattle.global_manager.specs.Stands as Manager
-use Rattle.global_manager.specs.Stands.{EachManaged, OwnPrograms, SomeManaged}
+use Rattle.global_manager.specs.Stands.{EachManaged, SomeManaged}
 use Rattle.local_dbms.specs.declared.dbms.LocalDbms.{LocalDbms}
 use Rattle.local_dbms.specs.Stands as Dbms
+use Rattle.fed_rules.specs.OwnPrograms.{OwnPrograms}
 use Rattle.session_routes.specs.declared.traffic.Traffic.{Traffic}
 use Rattle.session_routes.specs.Posting.{ArePosted, AreSameTraffic, message_to, places_to}
-use Rattle.site_seats.specs.declared.asks.Heard.{Heard}
-use Rattle.site_seats.specs.Seats.{SitesAt}
-use Rattle.site_seats.proofs.SeatLines.{Moves, one_message, sites_told}
-use Rattle.site_seats.proofs.SentPlaces.{sent_places}
+use Rattle.fed_world.specs.declared.site_asks.Heard.{Heard}
+use Rattle.fed_world.specs.Seats.{SitesAt}
+use Rattle.fed_world.proofs.SeatLines.{Moves, one_message, sites_told}
+use Rattle.fed_world.proofs.SentPlaces.{sent_places}
 use Rattle.world_laws.proofs.Members.{SendsAmong}
 use Rattle.world_laws.proofs.Sent.{coordinator_sends}
 use Rattle.fed_world.specs.declared.asks.CoordAsk.{CoordAsk}
@@ -51,7 +53,7 @@ use Rattle.fed_world.specs.declared.world.World.{World}
 use Rattle.fed_world.specs.Asks.{AsksCoordinator, CanTellCoord, IsFromSite, coord_request, terms_of}
 use Rattle.fed_world.specs.Worlds.{ActorsStand, AreDisks, DbmsStands, IsHeard, IsUnheard, ManagerStands, error_of}
 use Rattle.fed_world.proofs.Disks.{on_other, on_own, on_put, put_disks, seen_at}
-use Rattle.fed_world.proofs.Growing.{at_most_one, coord_sends_from, few_behind, numbers_fit}
+use Rattle.fed_world.proofs.Growing.{coord_sends_from, few_behind, numbers_fit}
 use Rattle.fed_world.proofs.SeatsKept.{channel_counts, channel_sites, channel_to, rising_by, sites_keep, sites_same}
 use Rattle.fed_world.proofs.SiteHeard.{declared_named, declared_rise}
 
@@ -194,7 +196,7 @@ module _ (tells : Bool) (world : World) (disks : List Seen) (scenario : Scenario
 
       pub coord_hears : (now : List Seen) (next : World) (roomed : List Traffic) (step : CoordStep) (heard : Heard) → now ≡ slice_set disks 0 new → IsPostedTo world next roomed step.sends
           → Manager.Serves (Manager.Stands policy_is tells next.cores.coordinator new) step (terms_of scenario) (global_program scenario) (coord_past (story_of scenario commands)) asked
-          → IsRising (λ (z : Sent). z.site.0) step.sends → heard.answer ≡ step.answer → heard.sends.items ≡ places_to step.sends roomed → IsHeard tells next now heard command scenario commands
+          → IsRising (λ (z : Sent). z.site.0) step.sends → heard.answer ≡ step.answer → heard.sends ≡ places_to step.sends roomed → IsHeard tells next now heard command scenario commands
       coord_hears now next roomed step heard is put s rises said places = subst (λ (ds : List Seen). IsHeard tells next ds heard command scenario commands) (sym is) (record {
         answer = subst (λ (a : Answer). IsAnswer (protocols scenario) story (happens scenario story command) a) (sym said)
             (subst (λ (h : Happened). IsAnswer (protocols scenario) story h step.answer) (sym asks.happens) (right_answer K scenario story (global_program scenario) step asked s));
@@ -203,7 +205,7 @@ module _ (tells : Bool) (world : World) (disks : List Seen) (scenario : Scenario
         next = record {
           actors = record { coordinator = coordinator; sites = sites_next };
           few = few_behind story (tell scenario story command) (length commands) stand.few
-              (λ site. subst (λ (ms : List ToSite). length ms ≤ 1) (messages site) (at_most_one (message_to site step.sends)))
+              (λ site. subst (λ (ms : List ToSite). length ms ≤ 1) (messages site) (length-option (message_to site step.sends)))
               (λ site. subst (λ (h : Happened). length (sends_from site h) ≤ 1) (sym asks.happens) (coord_sends_from scenario story asked site));
           others = others_empty;
         };
@@ -212,7 +214,7 @@ module _ (tells : Bool) (world : World) (disks : List Seen) (scenario : Scenario
           K : Terms → OwnPrograms → CoordPast → Type 0
           K = Manager.Stands policy_is tells next.cores.coordinator new
 
-          L : LocalDbms AnyEngine → Home → Dbms.OwnPrograms → SitePast → Type 0
+          L : LocalDbms AnyEngine → Home → OwnPrograms → SitePast → Type 0
           L = DbmsStands tells behind
 
           sited : SitesAt L world.cores.sites.items.items world.cores.marks.items roomed scenario story
@@ -251,7 +253,7 @@ module _ (tells : Bool) (world : World) (disks : List Seen) (scenario : Scenario
       pub hears_told : (now : List Seen) (next : World) (roomed : List Traffic) (sends : List Sent) (step : CoordStep) (heard : Heard) → now ≡ slice_set disks 0 new → IsPostedTo world next roomed sends → sends ≡ step.sends
           → EachManaged (Manager.Stands policy_is tells world.cores.coordinator old) (λ terms programs past. CanTellCoord ask terms programs past
           → Manager.Serves (Manager.Stands policy_is tells next.cores.coordinator new) step terms programs past (coord_request ask terms programs past))
-          → IsRising (λ (z : Sent). z.site.0) step.sends → heard.answer ≡ step.answer → heard.sends.items ≡ places_to sends roomed → IsHeard tells next now heard command scenario commands
+          → IsRising (λ (z : Sent). z.site.0) step.sends → heard.answer ≡ step.answer → heard.sends ≡ places_to sends roomed → IsHeard tells next now heard command scenario commands
       hears_told now next roomed sends step heard is put same served rises said places =
           coord_hears now next roomed step heard is (subst (λ (xs : List Sent). IsPostedTo world next roomed xs) same put)
           (served (terms_of scenario) (global_program scenario) (coord_past (story_of scenario commands)) coordinator_at (can_tell_coord ask scenario (global_program scenario) (coord_past (story_of scenario commands)) asks.from))

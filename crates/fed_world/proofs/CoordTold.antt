@@ -3,7 +3,7 @@ use Rattle.std.proofs.Common.{◌≡◌, Result, Ok, Err, IfOk, IfErr, sym, subs
 use Rattle.fed_rules.specs.declared.events.CoordStep.{CoordStep}
 use Rattle.fed_rules.specs.CoordPast.{CoordPast}
 use Rattle.actor_store.specs.declared.errors.StepErr.{StepErr}
-use Rattle.coord_core.specs.Terms.{Terms}
+use Rattle.coord_tables.specs.Terms.{Terms}
 use Rattle.global_manager.specs.Stands.{EachManaged, Fails, OwnPrograms, Serves, SomeManaged}
 use Rattle.fed_world.specs.declared.asks.CoordAsk.{CoordAsk}
 use Rattle.fed_world.specs.Asks.{CanTellCoord, coord_request}

@@ -3,11 +3,13 @@ use Rattle.std.proofs.Common.{◌≡◌, ℕ, zero, suc, Bool, true, false, cond
 use Rattle.mdb_base.specs.declared.names.SiteId.{SiteId}
 use Rattle.mdb_base.specs.Names.{same_site}
 use Rattle.mdb_base.specs.Words.{map_some}
+use Rattle.mdb_base.proofs.OptionLaws.{some_parts}
+use Rattle.mdb_base.proofs.ListLaws.{among_some}
+use Rattle.mdb_base.proofs.NameLaws.{same_site-equal, same_site-refl}
 use Rattle.presumptions.specs.declared.Participant.{Participant}
 use Rattle.order_laws.specs.Chains.{In}
-use Rattle.order_laws.proofs.Alike.{some_parts}
-use Rattle.order_laws.proofs.Lists.{among_map, some_of_true, among_weaker}
-use Rattle.order_laws.proofs.Names.{same_site_alike, same_site_self}
+use Rattle.order_laws.proofs.Lists.{among_map, among_weaker}
+use Rattle.order_laws.proofs.InLaws.{slice_get-in}
 use Rattle.fed_rules.specs.declared.scenario.Scenario.{Scenario}
 use Rattle.fed_rules.specs.Scenarios.{home_of, protocols, sites}
 use Rattle.fed_rules.specs.SiteRecords.{Home}
@@ -26,14 +28,8 @@ at_its_place (other ∷ ss) site place e = by_test (same_site other site) refl e
 
     by_test : (b : Bool) → same_site other site ≡ b → cond b (Some zero) (map_some (λ (n : ℕ). suc n) (place_in ss site)) ≡ Some place → ((n : ℕ) → place_in ss site ≡ Some n → slice_get ss n ≡ Some site)
         → slice_get (other ∷ ss) place ≡ Some site
-    by_test true is e k = subst (λ (m : ℕ). slice_get (other ∷ ss) m ≡ Some site) (some_parts e) (ap (λ (s : SiteId). Some s) (same_site_alike other site is))
+    by_test true is e k = subst (λ (m : ℕ). slice_get (other ∷ ss) m ≡ Some site) (some_parts e) (ap (λ (s : SiteId). Some s) (same_site-equal other site is))
     by_test false is e k = by_rest (place_in ss site) e k
-
--- what stands at a place is among them
-pub in_by_place : {A : Type 0} (xs : List A) (n : ℕ) (x : A) → slice_get xs n ≡ Some x → In x xs
-in_by_place [] n x e = cc
-in_by_place (y ∷ xs) zero x e = inl (some_parts e)
-in_by_place (y ∷ xs) (suc n) x e = inr (in_by_place xs n x e)
 
 -- a site without a place isn't
 placeless : (ss : List SiteId) (site : SiteId) → place_in ss site ≡ None → In site ss → ⊥
@@ -46,7 +42,7 @@ placeless (other ∷ ss) site e i = by_test (same_site other site) refl e i (pla
 
     by_test : (b : Bool) → same_site other site ≡ b → cond b (Some zero) (map_some (λ (n : ℕ). suc n) (place_in ss site)) ≡ None → In site (other ∷ ss) → (place_in ss site ≡ None → In site ss → ⊥) → ⊥
     by_test true is e i k = cc
-    by_test false is e (inl same) k = (let self : same_site other site ≡ true = ap (λ (s : SiteId). same_site other s) (sym same) ∙ same_site_self other in let no : true ≡ false = sym self ∙ is in cc)
+    by_test false is e (inl same) k = (let self : same_site other site ≡ true = ap (λ (s : SiteId). same_site other s) (sym same) ∙ same_site-refl other in let no : true ≡ false = sym self ∙ is in cc)
     by_test false is e (inr i) k = by_rest (place_in ss site) e k i
 
 -- a site that stands among the declared ones has a home
@@ -54,7 +50,7 @@ pub home_at_place : (scenario : Scenario) (site : SiteId) (place : ℕ) → slic
 home_at_place scenario site place e = by_home (home_of scenario site) refl
   where
     by_home : (o : Option Home) → home_of scenario site ≡ o → (home : Home) × (home_of scenario site ≡ Some home)
-    by_home None is = absurd (homeless scenario.sites scenario.items site is (in_by_place (sites scenario) place site e))
+    by_home None is = absurd (homeless scenario.sites scenario.items site is (slice_get-in (sites scenario) place site e))
     by_home (Some home) is = (home, is)
 
 -- a site without a place has none
@@ -68,6 +64,6 @@ no_home_placeless scenario site e = by_home (home_of scenario site) refl
 -- a declared site is one of the coordinator's
 pub among_sites : (scenario : Scenario) (site : SiteId) (home : Home) → home_of scenario site ≡ Some home → IsAmong site (protocols scenario)
 among_sites scenario site home is =
-    some_of_true (λ (member : Participant). same_site member.site site) (protocols scenario)
-    (among_weaker (λ (p : Participant). p.site ≡ site) (λ (p : Participant). same_site p.site site ≡ true) (λ p e. ap (λ (s : SiteId). same_site p.site s) (sym e) ∙ same_site_self p.site) (protocols scenario)
+    among_some (λ (member : Participant). same_site member.site site) (protocols scenario)
+    (among_weaker (λ (p : Participant). p.site ≡ site) (λ (p : Participant). same_site p.site site ≡ true) (λ p e. ap (λ (s : SiteId). same_site p.site s) (sym e) ∙ same_site-refl p.site) (protocols scenario)
     (among_map (λ (s : SiteId). s ≡ site) (λ (p : Participant). p.site) (protocols scenario) (homed scenario.sites scenario.items site home is)))

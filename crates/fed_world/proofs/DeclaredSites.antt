@@ -1,27 +1,28 @@
 -- The declared sites of a scenario: they rise, their numbers are in their range, and each has its line and its home.
-use Rattle.std.proofs.Common.{◌≡◌, suc, ◌≤◌, ◌<◌, ◌||◌, Bool, true, false, cond, not, nat_lt, Option, Some, None, List, [], ◌∷◌, length, refl, sym, ◌∙◌, ap, subst, eq-eqb, ltb-true, ltb-false, arith}
+use Rattle.std.proofs.Common.{◌≡◌, suc, ◌≤◌, Bool, true, false, cond, nat_lt, Option, Some, None, List, [], ◌∷◌, length, refl, sym, ◌∙◌, ap, subst, arith}
 use Rattle.std.proofs.lemmas.Bool.{and_parts, leb-true}
 use Rattle.mdb_base.specs.declared.names.SiteId.{SiteId}
 use Rattle.mdb_base.specs.declared.rows.Put.{Put}
 use Rattle.mdb_base.specs.Names.{same_key, same_site}
 use Rattle.mdb_base.specs.Rising.{IsRising}
 use Rattle.mdb_base.specs.Rows.{with_row}
-use Rattle.mdb_base.specs.Words.{Each, each_of, first_where, how_many, inserted, some_of}
+use Rattle.mdb_base.specs.Words.{Each, each_of, first_where, how_many}
 use Rattle.mdb_base.proofs.ListLaws.{each_inserted}
+use Rattle.mdb_base.proofs.NameLaws.{same_site-equal}
+use Rattle.mdb_base.proofs.EachLaws.{each_of_mapped}
 use Rattle.presumptions.specs.declared.Participant.{Participant}
 use Rattle.order_laws.specs.Chains.{In}
-use Rattle.order_laws.proofs.Lists.{each_at, first_where_some, not_true}
-use Rattle.order_laws.proofs.Names.{same_site_alike}
-use Rattle.coord_laws.proofs.Dues.{each_of_mapped}
+use Rattle.order_laws.proofs.Lists.{each_at, first_where_some}
 use Rattle.record_fields.specs.Named.{IsSite}
 use Rattle.fed_rules.specs.declared.scenario.ItemLine.{ItemLine}
 use Rattle.fed_rules.specs.declared.scenario.Scenario.{Scenario}
 use Rattle.fed_rules.specs.declared.scenario.SiteLine.{SiteLine}
-use Rattle.fed_rules.specs.Plans.{IsScenario, all_differ, declares, has_site, is_between, one_site}
+use Rattle.fed_rules.specs.Plans.{IsScenario, declares, has_site, is_between}
 use Rattle.fed_rules.specs.Scenarios.{home_in, home_of, items_of, protocols, protocols_in, sites}
 use Rattle.fed_rules.specs.SiteRecords.{Home}
 use Rattle.world_laws.proofs.Sent.{homed, homeless}
-use Rattle.coord_core.proofs.Phases.{sites_rise}
+use Rattle.rules_laws.proofs.SendsRise.{sites_rise}
+use Rattle.commit_laws.proofs.Declared.{by_site, members_rise}
 use Rattle.local_dbms.specs.Stands.{home_from}
 
 -- ---- lines and homes
@@ -49,7 +50,7 @@ no_home (other ∷ lines) items site e = by_test (same_site other.site site) e (
 
 -- a line that is found is of the site
 pub line_site : (lines : List SiteLine) (site : SiteId) (line : SiteLine) → first_where (declares site) lines ≡ Some line → line.site ≡ site
-line_site lines site line e = same_site_alike line.site site (first_where_some (declares site) lines line e).1
+line_site lines site line e = same_site-equal line.site site (first_where_some (declares site) lines line e).1
 
 -- so it is found by its own site
 pub line_homed : (lines : List SiteLine) (site : SiteId) (line : SiteLine) → first_where (declares site) lines ≡ Some line → first_where (declares line.site) lines ≡ Some line
@@ -68,56 +69,6 @@ site_home scenario site i = by_line (first_where (declares site) scenario.sites)
     by_line (Some line) e = (home_from line (items_of scenario.items site), line_home scenario.sites scenario.items site line e)
 
 -- ---- their order
-
-rising_over : (p : Participant) (ps : List Participant) → IsRising (λ (m : Participant). m.site.0) (p ∷ ps) → Each (λ (m : Participant). p.site.0 < m.site.0) ps
-rising_over p [] r = tt
-rising_over p (q ∷ ps) r = (r.0, over q ps r.0 r.1)
-  where
-    over : (q : Participant) (qs : List Participant) → p.site.0 < q.site.0 → IsRising (λ (m : Participant). m.site.0) (q ∷ qs) → Each (λ (m : Participant). p.site.0 < m.site.0) qs
-    over q [] h r = tt
-    over q (z ∷ zs) h r = (let more = r.0 in let less : p.site.0 < z.site.0 = omega (arith, h, more) in (less, over z zs less r.1))
-
-rising_on : (p : Participant) (ps : List Participant) → IsRising (λ (m : Participant). m.site.0) (p ∷ ps) → IsRising (λ (m : Participant). m.site.0) ps
-rising_on p [] r = tt
-rising_on p (q ∷ ps) r = r.1
-
-rising_from : (p : Participant) (ps : List Participant) → Each (λ (m : Participant). p.site.0 < m.site.0) ps → IsRising (λ (m : Participant). m.site.0) ps → IsRising (λ (m : Participant). m.site.0) (p ∷ ps)
-rising_from p [] h r = tt
-rising_from p (q ∷ ps) h r = (h.0, r)
-
-abbrev by_site : Participant → Participant → Bool
-by_site a b = nat_lt a.site.0 b.site.0
-
-put_rises : (p : Participant) (ps : List Participant) → IsRising (λ (m : Participant). m.site.0) ps → Each (λ (m : Participant). same_site p.site m.site ≡ false) ps → IsRising (λ (m : Participant). m.site.0) (inserted by_site p ps)
-put_rises p [] r apart = tt
-put_rises p (q ∷ ps) r apart = by_test (nat_lt q.site.0 p.site.0) refl (put_rises p ps (rising_on q ps r) apart.1)
-  where
-    by_test : (b : Bool) → nat_lt q.site.0 p.site.0 ≡ b → IsRising (λ (m : Participant). m.site.0) (inserted by_site p ps) → IsRising (λ (m : Participant). m.site.0) (cond b (q ∷ inserted by_site p ps) (p ∷ q ∷ ps))
-    by_test true e rest = rising_from q (inserted by_site p ps) (each_inserted (λ (m : Participant). q.site.0 < m.site.0) by_site p ps (ltb-true q.site.0 p.site.0 e) (rising_over q ps r)) rest
-    by_test false e rest =
-        (let most = ltb-false q.site.0 p.site.0 e in
-        let other : p.site.0 ≡ q.site.0 → ⊥ = λ same. (let yes : same_site p.site q.site ≡ true = eq-eqb p.site.0 q.site.0 same in let no : true ≡ false = sym yes ∙ apart.0 in cc) in
-        ((omega (arith, most, other)), r))
-
-or_none : (a b : Bool) → (a || b) ≡ false → (a ≡ false) × (b ≡ false)
-or_none true b e = cc
-or_none false b e = (refl, e)
-
-others : (line : SiteLine) (lines : List SiteLine) → some_of (one_site line) lines ≡ false → Each (λ (m : Participant). same_site line.site m.site ≡ false) (protocols_in lines)
-others line [] e = tt
-others line (l ∷ lines) e =
-    let parts = or_none (same_site line.site l.site) (some_of (one_site line) lines) e in
-    each_inserted (λ (m : Participant). same_site line.site m.site ≡ false) by_site (record { site = l.site; protocol = l.protocol }) (protocols_in lines) parts.0 (others line lines parts.1)
-
-lines_rise : (lines : List SiteLine) → all_differ one_site lines ≡ true → IsRising (λ (m : Participant). m.site.0) (protocols_in lines)
-lines_rise [] d = tt
-lines_rise (line ∷ lines) d =
-    let parts = and_parts (not (some_of (one_site line) lines)) (all_differ one_site lines) d in
-    put_rises (record { site = line.site; protocol = line.protocol }) (protocols_in lines) (lines_rise lines parts.1) (others line lines (not_true _ parts.0))
-
--- the participants rise by their sites
-pub members_rise : (scenario : Scenario) → IsScenario scenario → IsRising (λ (m : Participant). m.site.0) (protocols scenario)
-members_rise scenario whole = lines_rise scenario.sites whole.sites.differ
 
 -- so do the sites
 pub declared_rise : (scenario : Scenario) → IsScenario scenario → IsRising (λ (z : SiteId). z.0) (sites scenario)

@@ -8,6 +8,7 @@ use Rattle.mdb_base.specs.Words.{Each, when}
 use Rattle.order_laws.specs.Chains.{In}
 use Rattle.order_laws.proofs.Lists.{each_at, each_from}
 use Rattle.presumptions.specs.declared.Decision.TheVariants as Decided
+use Rattle.order_laws.proofs.InLaws.{in_inserted}
 use Rattle.fed_rules.specs.declared.answers.Answer.TheVariants as Say
 use Rattle.fed_rules.specs.declared.events.SiteEvent.{SiteEvent}
 use Rattle.fed_rules.specs.declared.events.SiteEvent.TheVariants as Ev
@@ -22,13 +23,12 @@ use Rattle.fed_rules.specs.SitePast.{SiteHappening, SitePast, disk, engine_lines
 use Rattle.fed_rules.specs.SiteRecords.{Held, Home, Install, by_number, doubt_of, install_held, installs, rows_after, site_frame, site_rows, start_of}
 use Rattle.engine_laws.proofs.RunLines.{run_at_own}
 use Rattle.engine_laws.proofs.Runs.{number_is, tid_is}
-use Rattle.local_laws.specs.Locals.{install_of}
-use Rattle.local_laws.proofs.LocalInstalls.{installed_inserted}
+use Rattle.fed_world.proofs.LocalInstalls.{install_of, installed_inserted}
 use Rattle.site_history.specs.Events.{AreSorted, IsFresh, IsSorted}
 use Rattle.site_history.specs.Lines.{Agrees}
 use Rattle.site_history.specs.SiteOrders.{OfSortedEvents}
 use Rattle.site_history.proofs.Agreement.{IsGoodLine, IsKept, still}
-use Rattle.site_history.proofs.AsSealed.{in_inserted, inserted_in}
+use Rattle.site_history.proofs.AsSealed.{inserted_in}
 use Rattle.site_history.proofs.Backed.{appended}
 use Rattle.site_history.proofs.Histories.{no_local_doubt}
 use Rattle.site_history.proofs.HistoryMoves.{calm_committed, synced_append}
@@ -39,9 +39,9 @@ use Rattle.site_history.proofs.Records.{due_install}
 use Rattle.site_history.proofs.RightLines.{good_answered, is_back}
 use Rattle.site_history.proofs.Starts.{doubt_tid}
 use Rattle.site_history.proofs.WellKept.{IsWellKept, well_past}
-use Rattle.sum_laws.specs.Sums.{ComeInOrder, HeldComes, StaysBelow}
-use Rattle.sum_laws.proofs.InOrderPasts.{comes_in_order}
-use Rattle.sum_laws.proofs.RowsOnTop.{rows_on_top}
+use Rattle.site_history.specs.Sums.{ComeInOrder, HeldComes, StaysBelow}
+use Rattle.site_history.proofs.InOrderPasts.{comes_in_order}
+use Rattle.site_history.proofs.RowsOnTop.{rows_on_top}
 
 -- the rows of the runs that committed are those of the records, and each of these runs is installed there
 record IsTabled (home : Home) (rs : List SiteRecord) (start : Start) (lines : List EngineLine) : Type 0 where

@@ -3,6 +3,7 @@ use Rattle.std.proofs.Common.{◌≡◌, ℕ, ◌+◌, Bool, false, Some, List, 
 use Rattle.std.proofs.lemmas.List.{length_push}
 use Rattle.std.proofs.lemmas.Option.{slice_get_within}
 use Rattle.mdb_base.specs.declared.names.SiteId.{SiteId}
+use Rattle.mdb_base.proofs.PlaceLaws.{slice_get-there}
 use Rattle.fed_rules.specs.declared.commands.Command.{Command}
 use Rattle.fed_rules.specs.declared.commands.Line.{Line}
 use Rattle.fed_rules.specs.declared.scenario.Scenario.{Scenario}
@@ -16,12 +17,12 @@ use Rattle.session_report.specs.declared.marks.Marks.{Marks}
 use Rattle.session_report.specs.declared.session.Channel.{Channel}
 use Rattle.session_routes.specs.declared.traffic.Traffic.{Traffic}
 use Rattle.session_routes.specs.Routes.{IsRouted}
-use Rattle.site_seats.specs.Seats.{OfDbms, SiteAt}
+use Rattle.fed_world.specs.Seats.{OfDbms, SiteAt}
 use Rattle.fed_world.specs.declared.world.World.{World}
 use Rattle.fed_world.specs.declared.cores.Cores.{Cores}
 use Rattle.fed_world.specs.Gathering.{AreTraffic, Gathers, GathersAt, GathersOn, IsGathered, IsTraffic}
 use Rattle.fed_world.specs.Worlds.{ActorsAt, AreLines, DbmsRecalls, DbmsStands, HasLines, ManagerRecalls, ManagerStands, OfManager, Recalls, Stands}
-use Rattle.fed_world.proofs.Pairs.{item_there, pair_both}
+use Rattle.fed_world.proofs.Pairs.{pair_both}
 
 -- the lines of a world are those that it was made with
 told_lines : (world : World) (lines : List Line) (scenario : Scenario) (commands : List Command) → world.cores.scenario ≡ scenario → world.lines.items ≡ lines → AreLines lines scenario commands → HasLines world scenario commands
@@ -75,7 +76,7 @@ seats M K cores lines channels all scenario commands g made = record {
     one place site dbms own traffic at got kept sent =
         let within = slice_get_within all place traffic sent in
         let count = made.count in
-        let (channel, there) = item_there channels place (omega (arith, within, count)) in
+        let (channel, there) = slice_get-there channels place (omega (arith, within, count)) in
         seated K dbms own channel traffic scenario site (story_of scenario commands) (g.each place site dbms own channel at got kept there) (made.each place channel traffic there sent)
 
 module _ (world : World) (lines : List Line) (channels : List Channel) (is : world.lines.items ≡ lines) (made : AreTraffic channels world.traffic.items) (routed : IsRouted world.routes world.cores.scenario) where

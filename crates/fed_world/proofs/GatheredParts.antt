@@ -1,6 +1,7 @@
 -- The parts of a world are those that it may be made of again.
-use Rattle.std.proofs.Common.{◌≡◌, ℕ, zero, suc, Bool, true, Option, Some, None, Result, Ok, Err, IfOk, List, [], ◌∷◌, length, map, slice_get, refl, sym, ◌∙◌, ap, subst}
+use Rattle.std.proofs.Common.{◌≡◌, ℕ, zero, suc, Bool, true, Option, Some, None, Result, Ok, Err, IfOk, List, [], ◌∷◌, map, slice_get, sym, ◌∙◌, ap, subst}
 use Rattle.mdb_base.specs.declared.names.SiteId.{SiteId}
+use Rattle.mdb_base.proofs.JoinLaws.{length-map}
 use Rattle.fed_rules.specs.declared.commands.Command.{Command}
 use Rattle.fed_rules.specs.declared.commands.Line.{Line}
 use Rattle.fed_rules.specs.declared.scenario.Scenario.{Scenario}
@@ -9,7 +10,7 @@ use Rattle.fed_rules.specs.Story.{story_of}
 use Rattle.journal_disk.specs.Disk.{Seen}
 use Rattle.session_report.specs.declared.session.Channel.{Channel}
 use Rattle.session_routes.specs.declared.traffic.Traffic.{Traffic}
-use Rattle.site_seats.specs.Seats.{OfDbms}
+use Rattle.fed_world.specs.Seats.{OfDbms}
 use Rattle.fed_world.specs.declared.cores.Cores.{Cores}
 use Rattle.fed_world.specs.declared.world.World.{World}
 use Rattle.fed_world.specs.Gathering.{Gathers, GathersAt, GathersOn, IsChannel}
@@ -21,10 +22,6 @@ mapped : {A B : Type 0} (f : A → B) (xs : List A) (n : ℕ) (x : A) → slice_
 mapped f [] n x e = cc
 mapped f (y ∷ xs) zero x e = let same : y ≡ x = cc in ap (λ z. Some (f z)) same
 mapped f (y ∷ xs) (suc n) x e = mapped f xs n x e
-
-as_many : {A B : Type 0} (f : A → B) (xs : List A) → length (map f xs) ≡ length xs
-as_many f [] = refl
-as_many f (x ∷ xs) = ap (λ n. suc n) (as_many f xs)
 
 some_is : {A : Type 0} (x y : A) (o : Option A) → o ≡ Some x → o ≡ Some y → x ≡ y
 some_is x y o p q = let e : Some x ≡ Some y = sym p ∙ q in cc
@@ -39,7 +36,7 @@ parts_of M K cores traffic lines scenario commands is told a =
       coordinator = a.coordinator;
       all_cores = a.sites.all_cores;
       all_marks = a.sites.all_marks;
-      all_channels = as_many channel_of traffic ∙ a.sites.all_channels;
+      all_channels = length-map channel_of traffic ∙ a.sites.all_channels;
       each = λ place site dbms own channel e core marks sent.
           let t = there K cores.sites.items.items cores.marks.items traffic scenario story a.sites place site e in
           let same = some_is (channel_of t.traffic) channel (slice_get (map channel_of traffic) place) (mapped channel_of traffic place t.traffic t.traffic_is) sent in

@@ -1,32 +1,17 @@
 -- How much one line adds to the pasts and channels of a story.
-use Rattle.std.proofs.Common.{ℕ, suc, ◌≤◌, ◌<◌, ◌^◌, Bool, true, false, cond, Option, Some, None, List, [], ◌∷◌, length, option_to_list, arith}
+use Rattle.std.proofs.Common.{ℕ, suc, ◌≤◌, ◌<◌, ◌^◌, Bool, true, false, cond, [], ◌∷◌, length, arith}
 use Rattle.std.proofs.lemmas.List.{length-append}
 use Rattle.mdb_base.specs.declared.names.SiteId.{SiteId}
 use Rattle.mdb_base.specs.Names.{same_site}
-use Rattle.fed_rules.specs.declared.commands.Command.{Command}
 use Rattle.fed_rules.specs.declared.events.CoordEvent.{CoordEvent}
 use Rattle.fed_rules.specs.declared.events.SiteEvent.{SiteEvent}
 use Rattle.fed_rules.specs.declared.scenario.Scenario.{Scenario}
 use Rattle.fed_rules.specs.Requests.{Request, Submits, Declines}
 use Rattle.fed_rules.specs.Site.{site_line}
 use Rattle.fed_rules.specs.SiteRecords.{Home}
-use Rattle.fed_rules.specs.Story.{Story, Told, Happened, AtSite, AtCoordinator, Nowhere, coord_requested, happens, past_of, requested, sends_from, sends_to, sent_from, sent_to, story_of, with_site}
+use Rattle.fed_rules.specs.Story.{Story, Told, coord_requested, past_of, requested, sends_from, sends_to, sent_from, sent_to}
 use Rattle.world_laws.proofs.SiteSays.{sites_few}
-use Rattle.site_seats.specs.Seats.{AreFew}
-
--- the past of a site has at most as many lines as there are commands
-pub past_short : (scenario : Scenario) (commands : List Command) (site : SiteId) → length (past_of site (story_of scenario commands)) ≤ length commands
-past_short scenario [] site = omega arith
-past_short scenario (command ∷ commands) site = by_line (happens scenario (story_of scenario commands) command) (past_short scenario commands site)
-  where
-    by_line : (h : Happened) → length (past_of site (story_of scenario commands)) ≤ length commands → length (with_site site h (past_of site (story_of scenario commands))) ≤ length (command ∷ commands)
-    by_line (AtCoordinator x) less = omega (arith, less)
-    by_line (Nowhere answer) less = omega (arith, less)
-    by_line (AtSite at x) less = by_test (same_site at site)
-      where
-        by_test : (b : Bool) → length (cond b (x ∷ past_of site (story_of scenario commands)) (past_of site (story_of scenario commands))) ≤ length (command ∷ commands)
-        by_test true = omega (arith, less)
-        by_test false = omega (arith, less)
+use Rattle.fed_world.specs.Seats.{AreFew}
 
 -- one line more, with at most one message to each site and from it
 pub few_behind : (story : Story) (told : Told) (most : ℕ) → AreFew story most → ((site : SiteId) → length (sends_to site told.happened) ≤ 1) → ((site : SiteId) → length (sends_from site told.happened) ≤ 1) → AreFew (told ∷ story) (suc most)
@@ -53,11 +38,6 @@ site_sends_to home story (Submits event) site = omega arith
 pub coord_sends_from : (scenario : Scenario) (story : Story) (r : Request CoordEvent) (site : SiteId) → length (sends_from site (coord_requested scenario story r)) ≤ 1
 coord_sends_from scenario story (Declines answer) site = omega arith
 coord_sends_from scenario story (Submits event) site = omega arith
-
--- a message that may be there is at most one
-pub at_most_one : {A : Type 0} (o : Option A) → length (option_to_list o) ≤ 1
-at_most_one None = omega arith
-at_most_one (Some x) = omega arith
 
 -- where there is room for one more line, the numbers of so many messages fit
 pub numbers_fit : (n most : ℕ) → n ≤ most → most < 2 ^ 30 → n < 2 ^ 32

@@ -26,3 +26,9 @@ pub mod SetUpSteps
 pub mod SetUps
 pub mod SiteAsked
 pub mod SiteHeard
+pub mod LocalInstalls
+pub mod Quiet
+pub mod SeatHears
+pub mod SeatLines
+pub mod SentPlaces
+pub mod SeatTold

@@ -1,8 +1,10 @@
 -- A world whose sites were just set up stands for no line.
 use Rattle.std.proofs.Common.{◌≡◌, Bool, false, IsTrue, Some, List, [], length, map, reverse, slice_get, refl, sym, ◌∙◌, ap, subst, arith}
 use Rattle.mdb_base.specs.declared.names.SiteId.{SiteId}
+use Rattle.mdb_base.proofs.PlaceLaws.{slice_get-there}
 use Rattle.order_laws.specs.Chains.{In}
 use Rattle.order_laws.proofs.Lists.{each_at}
+use Rattle.order_laws.proofs.InLaws.{slice_get-in}
 use Rattle.record_fields.specs.Named.{IsSite}
 use Rattle.fed_rules.specs.declared.commands.Line.{Line}
 use Rattle.fed_rules.specs.declared.scenario.Scenario.{Scenario}
@@ -20,12 +22,11 @@ use Rattle.session_report.specs.declared.marks.Marks.{Marks}
 use Rattle.session_report.specs.Marks.{kept_marks}
 use Rattle.session_routes.specs.declared.traffic.Traffic.{Traffic}
 use Rattle.session_routes.specs.Routes.{IsRouted}
-use Rattle.site_seats.specs.Seats.{SiteAt}
+use Rattle.fed_world.specs.Seats.{SiteAt}
 use Rattle.fed_world.specs.declared.world.World.{World}
 use Rattle.fed_world.specs.SettingUp.{AreSetUp, EmptyBut, IsNewChannel, IsNewManager, IsNewMarks}
 use Rattle.fed_world.specs.Worlds.{ActorsStand, AreDisks, DbmsStands, HasLines, Stands}
 use Rattle.fed_world.proofs.DeclaredSites.{declared_ranged, site_home}
-use Rattle.fed_world.proofs.Pairs.{at_in, item_there}
 
 -- a site that was set up has no marks
 no_marks : (home : Home) → kept_marks home [] ≡ []
@@ -87,7 +88,7 @@ new_stands tells world disks scenario whole told nine bytes same none unbroken r
   where
     stand : ActorsStand tells world disks scenario []
     stand =
-        let (seen, own) = item_there disks 0 (omega (arith, nine)) in
+        let (seen, own) = slice_get-there disks 0 (omega (arith, nine)) in
         let b = bytes seen own in
         record {
           actors = record {
@@ -101,7 +102,7 @@ new_stands tells world disks scenario whole told nine bytes same none unbroken r
               all_marks = all_marks;
               all_channels = all_channels;
               each = λ place site dbms marked traffic at got kept sent.
-                  new_site tells disks dbms marked traffic scenario site (at_in (sites scenario) place site at)
+                  new_site tells disks dbms marked traffic scenario site (slice_get-in (sites scenario) place site at)
                   (λ home declared. up.each place site home dbms at declared got) (marks place site marked at kept) (channels place site traffic at sent);
             };
           };

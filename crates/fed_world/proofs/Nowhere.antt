@@ -17,9 +17,9 @@ use Rattle.journal_disk.specs.Disk.{Seen}
 use Rattle.local_dbms.specs.Stands.{OwnPrograms}
 use Rattle.session_report.specs.declared.marks.Marks.{Marks}
 use Rattle.session_routes.specs.declared.traffic.Traffic.{Traffic}
-use Rattle.site_seats.specs.declared.asks.Heard.{Heard}
-use Rattle.site_seats.specs.Parts.{PartAt}
-use Rattle.site_seats.specs.Seats.{AreFew, OfDbms}
+use Rattle.fed_world.specs.declared.site_asks.Heard.{Heard}
+use Rattle.fed_world.specs.SeatParts.{PartAt}
+use Rattle.fed_world.specs.Seats.{AreFew, OfDbms}
 use Rattle.fed_world.specs.declared.cores.Cores.{Cores}
 use Rattle.fed_world.specs.declared.world.World.{World}
 use Rattle.fed_world.specs.Asks.{terms_of}
@@ -93,7 +93,7 @@ actors_stay tells world disks scenario commands command is s =
 
 -- and it is answered by none
 pub nobody_hears : (tells : Bool) (world : World) (disks : List Seen) (heard : Heard) (scenario : Scenario) (commands : List Command) (command : Command)
-    → happens scenario (story_of scenario commands) command ≡ Nowhere Say.None → heard.answer ≡ Say.None → heard.sends.items ≡ []
+    → happens scenario (story_of scenario commands) command ≡ Nowhere Say.None → heard.answer ≡ Say.None → heard.sends ≡ []
     → ActorsStand tells world disks scenario commands → IsHeard tells world disks heard command scenario commands
 nobody_hears tells world disks heard scenario commands command is answer sends s = record {
   answer = subst (λ (h : Happened). IsAnswer (protocols scenario) (story_of scenario commands) h heard.answer) (sym is) answer;

@@ -2,9 +2,10 @@
 use Rattle.std.proofs.Common.{◌≡◌, ℕ, zero, suc, ◌+◌, ◌<◌, Some, List, [], ◌∷◌, ◌++◌, length, take, drop, slice_get, inl, inr, refl, sym, ◌∙◌, ap, subst, add-one, arith}
 use Rattle.std.proofs.lemmas.Option.{slice_get_within}
 use Rattle.std.proofs.lemmas.List.{length_push}
+use Rattle.mdb_base.proofs.PlaceLaws.{slice_get-one}
 use Rattle.order_laws.specs.Chains.{In}
 use Rattle.session_routes.proofs.Places.{snoc_before, snoc_get}
-use Rattle.fed_world.proofs.SeenDisks.{by_place, one_item}
+use Rattle.fed_world.proofs.SeenDisks.{by_place}
 
 -- the fact holds of the items at each place
 abbrev pub EachPair : {A B : Type 0} → (A → B → Type 0) → List A → List B → Type 0
@@ -20,8 +21,8 @@ pair_more P xs ys all x y so_far own fact is place a b at got =
     let more : slice_get (ys ++ y ∷ []) place ≡ Some b = subst (λ zs. slice_get zs place ≡ Some b) is got in
     by_place (P a b) place (length ys)
     (λ here.
-    let first : x ≡ a = one_item xs place x a (subst (λ p. slice_get xs p ≡ Some x) (sym here) own) at in
-    let last : y ≡ b = one_item (ys ++ y ∷ []) place y b (snoc_get ys y place here) more in
+    let first : x ≡ a = slice_get-one xs place x a (subst (λ p. slice_get xs p ≡ Some x) (sym here) own) at in
+    let last : y ≡ b = slice_get-one (ys ++ y ∷ []) place y b (snoc_get ys y place here) more in
     subst (λ z. P z b) first (subst (λ z. P x z) last fact))
     (λ there.
     let most = slice_get_within (ys ++ y ∷ []) place b more in
@@ -39,18 +40,6 @@ pair_both P xs ys all x y so_far many fact is =
     (snoc_get xs x (length ys) many) fact is
 
 -- ---- fronts
-
--- an item within a list
-pub item_there : {A : Type 0} (xs : List A) (place : ℕ) → place < length xs → (x : A) × (slice_get xs place ≡ Some x)
-item_there [] place h = absurd (omega (arith, h))
-item_there (x ∷ xs) zero h = (x, refl)
-item_there (x ∷ xs) (suc place) h = item_there xs place (omega (arith, h))
-
--- an item at a place stands in the list
-pub at_in : {A : Type 0} (xs : List A) (place : ℕ) (x : A) → slice_get xs place ≡ Some x → In x xs
-at_in [] place x e = cc
-at_in (y ∷ xs) zero x e = (let same : y ≡ x = cc in inl same)
-at_in (y ∷ xs) (suc place) x e = inr (at_in xs place x e)
 
 -- one of a front has a place there
 pub front_place : {A : Type 0} (n : ℕ) (xs : List A) (x : A) → In x (take n xs) → (place : ℕ) × (place < n) × (slice_get xs place ≡ Some x)

@@ -16,7 +16,7 @@ use Rattle.local_dbms.specs.Stands.{OwnPrograms}
 use Rattle.local_dbms.proofs.Fit as Dbms
 use Rattle.session_report.specs.declared.marks.Marks.{Marks}
 use Rattle.session_routes.specs.declared.traffic.Traffic.{Traffic}
-use Rattle.site_seats.specs.Seats.{OfDbms, SitesAt}
+use Rattle.fed_world.specs.Seats.{OfDbms, SitesAt}
 use Rattle.fed_world.specs.declared.world.World.{World}
 use Rattle.fed_world.specs.Asks.{terms_of}
 use Rattle.fed_world.specs.Worlds.{DbmsRecalls, DbmsStands, Recalls, Stands}

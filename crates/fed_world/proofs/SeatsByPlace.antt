@@ -9,7 +9,7 @@ use Rattle.any_engine.specs.declared.engine.AnyEngine.{AnyEngine}
 use Rattle.local_dbms.specs.declared.dbms.LocalDbms.{LocalDbms}
 use Rattle.session_report.specs.declared.marks.Marks.{Marks}
 use Rattle.session_routes.specs.declared.traffic.Traffic.{Traffic}
-use Rattle.site_seats.specs.Seats.{OfDbms, SiteAt, SitesAt}
+use Rattle.fed_world.specs.Seats.{OfDbms, SiteAt, SitesAt}
 use Rattle.fed_world.specs.Messages.{AreMessages}
 use Rattle.fed_world.specs.Worlds.{DbmsRecalls, IsLocalAt}
 

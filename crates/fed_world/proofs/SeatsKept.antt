@@ -1,10 +1,12 @@
 -- The sites of a story in their seats, where the story stays.
-use Rattle.std.proofs.Common.{◌≡◌, ℕ, zero, suc, ◌<◌, Some, List, [], ◌∷◌, length, map, get_or, slice_get, slice_set, refl, sym, ap, ap₂, ◌∙◌, subst, arith}
+use Rattle.std.proofs.Common.{◌≡◌, ℕ, zero, suc, Some, List, [], ◌∷◌, length, map, get_or, slice_get, slice_set, refl, sym, ap, ◌∙◌, subst, arith}
 use Rattle.std.proofs.lemmas.List.{append-nil, length-map}
 use Rattle.std.proofs.lemmas.Option.{same_Some, slice_get-get_or, slice_get_within}
 use Rattle.mdb_base.specs.declared.names.SiteId.{SiteId}
 use Rattle.mdb_base.specs.Rising.{IsRising}
 use Rattle.mdb_base.specs.Words.{Each}
+use Rattle.mdb_base.proofs.PlaceLaws.{slice_get-there, made_of, same_lists}
+use Rattle.mdb_base.proofs.EachLaws.{each_by_place}
 use Rattle.presumptions.specs.declared.Participant.{Participant}
 use Rattle.record_fields.specs.Named.{IsSite}
 use Rattle.fed_rules.specs.declared.answers.Answer.TheVariants as Say
@@ -22,31 +24,9 @@ use Rattle.local_dbms.specs.Stands.{OwnPrograms, own_programs}
 use Rattle.session_report.specs.declared.marks.Marks.{Marks}
 use Rattle.session_routes.specs.declared.traffic.Traffic.{Traffic}
 use Rattle.session_routes.specs.Posting.{AreSameTraffic}
-use Rattle.site_seats.specs.Parts.{PartAt}
-use Rattle.site_seats.specs.Seats.{OfDbms, SiteAt, SitesAt}
-use Rattle.site_seats.proofs.SeatLines.{Frame, sites_hear}
-
--- the item at a place within the list
-item_there : {A : Type 0} (xs : List A) (n : ℕ) → n < length xs → (x : A) × (slice_get xs n ≡ Some x)
-item_there [] n h = absurd (omega (arith, h))
-item_there (x ∷ xs) zero h = (x, refl)
-item_there (x ∷ xs) (suc n) h = item_there xs n (omega (arith, h))
-
--- the item that an image is of
-map_at : {A B : Type 0} (f : A → B) (xs : List A) (n : ℕ) (y : B) → slice_get (map f xs) n ≡ Some y → (x : A) × (slice_get xs n ≡ Some x) × (f x ≡ y)
-map_at f [] n y e = cc
-map_at f (x ∷ xs) zero y e = (x, refl, same_Some (f x) y e)
-map_at f (x ∷ xs) (suc n) y e = map_at f xs n y e
-
-same_lists : {A : Type 0} (xs ys : List A) → length xs ≡ length ys → ((n : ℕ) (x y : A) → slice_get xs n ≡ Some x → slice_get ys n ≡ Some y → x ≡ y) → xs ≡ ys
-same_lists [] [] e h = refl
-same_lists [] (y ∷ ys) e h = absurd (omega (arith, e))
-same_lists (x ∷ xs) [] e h = absurd (omega (arith, e))
-same_lists {A} (x ∷ xs) (y ∷ ys) e h = ap₂ (λ (z : A) (zs : List A). z ∷ zs) (h zero x y refl refl) (same_lists xs ys (omega (arith, e)) (λ n a b ea eb. h (suc n) a b ea eb))
-
-each_place : {A : Type 0} (P : A → Type 0) (xs : List A) → ((n : ℕ) (x : A) → slice_get xs n ≡ Some x → P x) → Each P xs
-each_place P [] h = tt
-each_place P (x ∷ xs) h = (h zero x refl, each_place P xs (λ n y e. h (suc n) y e))
+use Rattle.fed_world.specs.SeatParts.{PartAt}
+use Rattle.fed_world.specs.Seats.{OfDbms, SiteAt, SitesAt}
+use Rattle.fed_world.proofs.SeatLines.{Frame, sites_hear}
 
 -- a site that is declared is one of 1 to 8
 pub site_in_range : (ps : List Participant) → Each (λ (m : Participant). IsSite m.site) ps → (n : ℕ) (site : SiteId) → slice_get (map (λ (m : Participant). m.site) ps) n ≡ Some site → IsSite site
@@ -151,8 +131,8 @@ module _ (K : OfDbms) (cores : List (LocalDbms AnyEngine)) (marks : List Marks) 
       let inside = slice_get_within (sites scenario) place site es in
       let many = were.all_cores in
       let marked = were.all_marks in
-      let core = item_there cores place (omega (arith, inside, many)) in
-      let mark = item_there marks place (omega (arith, inside, marked)) in
+      let core = slice_get-there cores place (omega (arith, inside, many)) in
+      let mark = slice_get-there marks place (omega (arith, inside, marked)) in
       (core.0, mark.0, were.each place site core.0 mark.0 traffic es core.1 mark.1 et)
 
   -- its channel bears its number
@@ -164,7 +144,7 @@ module _ (K : OfDbms) (cores : List (LocalDbms AnyEngine)) (marks : List Marks) 
   site_of_channel place traffic et =
       let inside = slice_get_within channels place traffic et in
       let many = were.all_channels in
-      item_there (sites scenario) place (omega (arith, inside, many))
+      slice_get-there (sites scenario) place (omega (arith, inside, many))
 
   -- the channels are those of the declared sites, in their order
   pub channel_sites : map (λ (t : Traffic). t.site) channels ≡ sites scenario
@@ -172,7 +152,7 @@ module _ (K : OfDbms) (cores : List (LocalDbms AnyEngine)) (marks : List Marks) 
     where
       by_place : (n : ℕ) (x y : SiteId) → slice_get (map (λ (t : Traffic). t.site) channels) n ≡ Some x → slice_get (sites scenario) n ≡ Some y → x ≡ y
       by_place n x y ex ey =
-          let channel = map_at (λ (t : Traffic). t.site) channels n x ex in
+          let channel = made_of (λ (t : Traffic). t.site) channels n x ex in
           sym channel.2 ∙ channel_named n y channel.0 ey channel.1
 
   -- each holds the messages to its site
@@ -183,4 +163,4 @@ module _ (K : OfDbms) (cores : List (LocalDbms AnyEngine)) (marks : List Marks) 
       seat.2.part.to ∙ ap (λ (s : SiteId). sent_to s story) (sym (channel_named place named.0 traffic named.1 et))
 
   pub channel_counts : Each (λ (t : Traffic). length t.to.items ≡ length (sent_to t.site story)) channels
-  channel_counts = each_place _ channels (λ n t e. ap (λ (ms : List ToSite). length ms) (channel_to n t e))
+  channel_counts = each_by_place _ channels (λ n t e. ap (λ (ms : List ToSite). length ms) (channel_to n t e))

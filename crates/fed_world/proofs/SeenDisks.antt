@@ -1,12 +1,9 @@
 -- What is seen of disks of which one changed.
-use Rattle.std.proofs.Common.{◌≡◌, ℕ, ◌==◌, Bool, true, false, Option, Some, None, List, map, slice_get, slice_set, refl, sym, ◌∙◌, ap, eqb-true, eq-eqb}
+use Rattle.std.proofs.Common.{◌≡◌, ℕ, ◌==◌, Bool, true, false, Some, List, map, slice_get, slice_set, refl, sym, ◌∙◌, ap, eqb-true, eq-eqb}
 use Rattle.std.proofs.lemmas.Option.{slice_get-map, slice_get_within}
 use Rattle.std.specs.Prelude.{option_map}
+use Rattle.mdb_base.proofs.PlaceLaws.{slice_get-one}
 use Rattle.session_routes.proofs.Posts.{get_other, get_put}
-
--- one place has one item
-pub one_item : {A : Type 0} (xs : List A) (place : ℕ) (a b : A) → slice_get xs place ≡ Some a → slice_get xs place ≡ Some b → a ≡ b
-one_item xs place a b at got = let both : Some a ≡ Some b = sym at ∙ got in cc
 
 -- a place is the one or another
 pub by_place : (P : Type 0) (place number : ℕ) → (place ≡ number → P) → ((place ≡ number → ⊥) → P) → P
@@ -18,7 +15,7 @@ by_place P place number here there = by_test (place == number) refl
 
 -- the changed item is the new one
 pub set_here : {A : Type 0} (xs : List A) (number : ℕ) (old new got : A) → slice_get xs number ≡ Some old → slice_get (slice_set xs number new) number ≡ Some got → new ≡ got
-set_here xs number old new got own at = one_item (slice_set xs number new) number new got (get_put xs number new (slice_get_within xs number old own)) at
+set_here xs number old new got own at = slice_get-one (slice_set xs number new) number new got (get_put xs number new (slice_get_within xs number old own)) at
 
 -- an item at another place is the old one
 pub set_there : {A : Type 0} (xs : List A) (number place : ℕ) (new got : A) → (place ≡ number → ⊥) → slice_get (slice_set xs number new) place ≡ Some got → slice_get xs place ≡ Some got
@@ -27,11 +24,3 @@ set_there xs number place new got apart at = sym (get_other xs number place new 
 -- an item of the list of what a function makes of each
 pub mapped_at : {A B : Type 0} (f : A → B) (xs : List A) (place : ℕ) (x : A) → slice_get xs place ≡ Some x → slice_get (map f xs) place ≡ Some (f x)
 mapped_at f xs place x at = slice_get-map f xs place ∙ ap (option_map f) at
-
--- and what it is made of
-pub made_of : {A B : Type 0} (f : A → B) (xs : List A) (place : ℕ) (y : B) → slice_get (map f xs) place ≡ Some y → (x : A) × (slice_get xs place ≡ Some x) × (f x ≡ y)
-made_of {A} f xs place y at = by_item (slice_get xs place) refl (sym (slice_get-map f xs place) ∙ at)
-  where
-    by_item : (o : Option A) → slice_get xs place ≡ o → option_map f o ≡ Some y → (x : A) × (slice_get xs place ≡ Some x) × (f x ≡ y)
-    by_item None e is = cc
-    by_item (Some x) e is = (x, e, (cc))

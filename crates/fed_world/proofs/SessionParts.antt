@@ -1,5 +1,5 @@
 -- What a world hands to the report of its session is that of its story.
-use Rattle.std.proofs.Common.{◌≡◌, ℕ, zero, suc, ◌+◌, ◌<◌, false, Option, Some, List, [], ◌∷◌, ◌++◌, length, map, take, reverse, slice_get, refl, sym, ◌∙◌, ap, ap₂, subst, add-one, arith}
+use Rattle.std.proofs.Common.{◌≡◌, ℕ, zero, suc, ◌+◌, false, Option, Some, List, [], ◌∷◌, ◌++◌, length, map, take, reverse, slice_get, refl, sym, ◌∙◌, ap, ap₂, subst, add-one, arith}
 use Rattle.std.proofs.lemmas.Option.{slice_get_within}
 use Rattle.mdb_base.specs.declared.names.SiteId.{SiteId}
 use Rattle.mdb_base.specs.declared.names.Tid.{Tid}
@@ -7,6 +7,7 @@ use Rattle.mdb_base.specs.declared.names.Tx.{Tx}
 use Rattle.mdb_base.specs.declared.rows.Put.{Put}
 use Rattle.mdb_base.specs.declared.rows.SiteRows.{SiteRows}
 use Rattle.mdb_base.specs.Words.{Each}
+use Rattle.mdb_base.proofs.PlaceLaws.{slice_get-there}
 use Rattle.fed_rules.specs.declared.commands.Command.{Command}
 use Rattle.fed_rules.specs.declared.commands.Line.{Line}
 use Rattle.fed_rules.specs.declared.scenario.Scenario.{Scenario}
@@ -31,19 +32,13 @@ use Rattle.session_report.specs.declared.session.Channel.{Channel}
 use Rattle.session_report.specs.Marks.{kept_marks}
 use Rattle.session_report.specs.Session.{HoldsMarks, HoldsMessages, IsOver, IsSession, marks_at, marks_of, story_of_lines}
 use Rattle.session_routes.specs.declared.traffic.Traffic.{Traffic}
-use Rattle.site_seats.specs.Seats.{OfDbms, SiteAt, SitesAt}
+use Rattle.fed_world.specs.Seats.{OfDbms, SiteAt, SitesAt}
 use Rattle.fed_world.specs.declared.world.World.{World}
 use Rattle.fed_world.specs.Reporting.{channel_of, rows_at}
 use Rattle.fed_world.specs.Worlds.{DbmsRecalls, HasLines, ManagerRecalls, Recalls}
 use Rattle.fed_world.proofs.EngineRows.{engine_rows}
 
 -- ---- lists place by place
-
--- what stands at a place within the list
-pub got : {A : Type 0} (xs : List A) (n : ℕ) → n < length xs → (x : A) × (slice_get xs n ≡ Some x)
-got [] n h = absurd (omega arith)
-got (x ∷ xs) zero h = (x, refl)
-got (x ∷ xs) (suc n) h = got xs n (omega arith)
 
 -- each item of one list with that of the other at its place
 abbrev pub AllPairs : {A B : Type 0} → (A → B → Type 0) → List A → List B → Type 0
@@ -84,9 +79,9 @@ module _ (K : OfDbms) (cores : List (LocalDbms AnyEngine)) (marks : List Marks) 
   pub there : (place : ℕ) (site : SiteId) → slice_get (sites scenario) place ≡ Some site → StandsThere K cores marks channels scenario story place site
   there place site e =
       let within = slice_get_within (sites scenario) place site e in
-      let (dbms, core_is) = got cores place (let n = all.all_cores in omega (arith, within, n)) in
-      let (own, marks_are) = got marks place (let n = all.all_marks in omega (arith, within, n)) in
-      let (traffic, traffic_is) = got channels place (let n = all.all_channels in omega (arith, within, n)) in
+      let (dbms, core_is) = slice_get-there cores place (let n = all.all_cores in omega (arith, within, n)) in
+      let (own, marks_are) = slice_get-there marks place (let n = all.all_marks in omega (arith, within, n)) in
+      let (traffic, traffic_is) = slice_get-there channels place (let n = all.all_channels in omega (arith, within, n)) in
       record {
         dbms = dbms;
         own = own;

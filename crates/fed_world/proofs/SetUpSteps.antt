@@ -6,6 +6,7 @@ use Rattle.mdb_base.specs.Counts.{HasCauseOf}
 use Rattle.mdb_base.specs.declared.names.SiteId.{SiteId}
 use Rattle.order_laws.specs.Chains.{In}
 use Rattle.order_laws.proofs.Lists.{each_at}
+use Rattle.order_laws.proofs.InLaws.{slice_get-in}
 use Rattle.record_fields.specs.Named.{IsSite}
 use Rattle.fed_rules.specs.declared.scenario.Scenario.{Scenario}
 use Rattle.fed_rules.specs.Disk.{empty_disk}
@@ -22,20 +23,20 @@ use Rattle.local_dbms.specs.declared.dbms.LocalDbms.{LocalDbms}
 use Rattle.local_dbms.specs.Stands as Dbms
 use Rattle.local_dbms.specs.Stands.{own_programs}
 use Rattle.site_core.specs.Store.{SomeStop}
-use Rattle.site_seats.proofs.SeatLines.{one_place}
+use Rattle.fed_world.proofs.SeatLines.{one_place}
 use Rattle.fed_world.specs.SettingUp.{StopsForDisk, StopsForMemory}
 use Rattle.fed_world.specs.Faults.{FailedAs, faults_of}
 use Rattle.fed_world.specs.Worlds.{error_of}
 use Rattle.fed_world.proofs.DeclaredSites.{declared_ranged, declared_rise}
 use Rattle.fed_world.proofs.Faults.{failed_later, failure_told, line_told}
-use Rattle.fed_world.proofs.Pairs.{at_in, front_place}
+use Rattle.fed_world.proofs.Pairs.{front_place}
 use Rattle.fed_world.proofs.SeenDisks.{mapped_at}
 use Rattle.fed_world.proofs.SetUps.{IsUpTo, one_more_up, stops_for_disk, stops_for_memory}
 
 -- a declared site has one of nine disks
 pub disk_within : (scenario : Scenario) → IsScenario scenario → (n : ℕ) (site : SiteId) → slice_get (sites scenario) n ≡ Some site → site.0 < 9
 disk_within scenario whole n site own =
-    let range = each_at IsSite site (sites scenario) (declared_ranged scenario whole) (at_in (sites scenario) n site own) in
+    let range = each_at IsSite site (sites scenario) (declared_ranged scenario whole) (slice_get-in (sites scenario) n site own) in
     let most = range.greatest in omega (arith, most)
 
 -- none of the sites before it is the same

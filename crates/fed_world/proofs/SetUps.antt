@@ -4,8 +4,10 @@ use Rattle.std.proofs.lemmas.List.{length_push, take_all}
 use Rattle.std.proofs.lemmas.Option.{slice_get_within}
 use Rattle.mdb_base.specs.declared.names.SiteId.{SiteId}
 use Rattle.mdb_base.specs.Words.{Each}
+use Rattle.mdb_base.proofs.PlaceLaws.{slice_get-there, slice_get-one}
 use Rattle.order_laws.specs.Chains.{In}
 use Rattle.order_laws.proofs.Lists.{each_from}
+use Rattle.order_laws.proofs.InLaws.{slice_get-in}
 use Rattle.fed_rules.specs.declared.scenario.Scenario.{Scenario}
 use Rattle.fed_rules.specs.Disk.{empty_disk}
 use Rattle.fed_rules.specs.Plans.{IsScenario}
@@ -22,12 +24,12 @@ use Rattle.local_dbms.specs.Stands.{OwnPrograms, own_programs}
 use Rattle.site_core.specs.Store.{SomeStop}
 use Rattle.session_routes.proofs.Places.{snoc_before, snoc_get}
 use Rattle.session_routes.proofs.Posts.{get_other, get_put}
-use Rattle.site_seats.proofs.SeatLines.{one_place}
+use Rattle.fed_world.proofs.SeatLines.{one_place}
 use Rattle.fed_world.specs.SettingUp.{AreEmpty, AreSetUp, EmptyBut, IsSetUp, StopsForDisk, StopsForMemory}
 use Rattle.fed_world.specs.Worlds.{DbmsStands}
 use Rattle.fed_world.proofs.DeclaredSites.{declared_rise, site_home}
-use Rattle.fed_world.proofs.Pairs.{at_in, front_and_rest, front_grows, front_item_rest, front_next, front_place, item_there}
-use Rattle.fed_world.proofs.SeenDisks.{by_place, one_item, set_here, set_there}
+use Rattle.fed_world.proofs.Pairs.{front_and_rest, front_grows, front_item_rest, front_next, front_place}
+use Rattle.fed_world.proofs.SeenDisks.{by_place, set_here, set_there}
 
 -- each of these local database systems stands for no line of the site at its place
 abbrev pub EachStands : Bool → List (LocalDbms AnyEngine) → List Seen → Scenario → Type 0
@@ -97,8 +99,8 @@ module _ (tells : Bool) (scenario : Scenario) (whole : IsScenario scenario) wher
       each place other home d at declared got =
           by_place (DbmsStands tells (slice_set disks site.0 new) d home (own_programs other scenario.transactions) []) place n
           (λ here.
-          let same : site ≡ other = one_item (sites scenario) place site other (subst (λ p. slice_get (sites scenario) p ≡ Some site) (sym here) own) at in
-          let one : dbms ≡ d = one_item (cores ++ dbms ∷ []) place dbms d (snoc_get cores dbms place (here ∙ sym up.all)) got in
+          let same : site ≡ other = slice_get-one (sites scenario) place site other (subst (λ p. slice_get (sites scenario) p ≡ Some site) (sym here) own) at in
+          let one : dbms ≡ d = slice_get-one (cores ++ dbms ∷ []) place dbms d (snoc_get cores dbms place (here ∙ sym up.all)) got in
           subst (λ (z : LocalDbms AnyEngine). DbmsStands tells (slice_set disks site.0 new) z home (own_programs other scenario.transactions) []) one
           (subst (λ (z : SiteId). DbmsStands tells (slice_set disks site.0 new) dbms home (own_programs z scenario.transactions) []) same (mine home (ap (home_of scenario) same ∙ declared))))
           (λ elsewhere.
@@ -113,8 +115,8 @@ module _ (tells : Bool) (scenario : Scenario) (whole : IsScenario scenario) wher
   first_ones cores disks n all each =
       each_from (IsSetUp tells disks scenario) (take n (sites scenario)) (λ site i.
       let (place, less, at) = front_place n (sites scenario) site i in
-      let (home, declared) = site_home scenario site (at_in (sites scenario) place site at) in
-      let (dbms, got) = item_there cores place (omega (arith, less, all)) in
+      let (home, declared) = site_home scenario site (slice_get-in (sites scenario) place site at) in
+      let (dbms, got) = slice_get-there cores place (omega (arith, less, all)) in
       record { home = home; declared = declared; dbms = dbms; stood = each place site home dbms at declared got })
 
   -- want of memory at a site leaves its disk empty
@@ -134,7 +136,7 @@ module _ (tells : Bool) (scenario : Scenario) (whole : IsScenario scenario) wher
   pub stops_for_disk : (cores : List (LocalDbms AnyEngine)) (disks : List Seen) (n : ℕ) (site : SiteId) (old new : Seen) → IsUpTo tells cores disks scenario n → slice_get (sites scenario) n ≡ Some site
       → slice_get disks site.0 ≡ Some old → ((home : Home) → home_of scenario site ≡ Some home → SomeStop new.image empty_disk (set_up_calls home)) → StopsForDisk site.0 tells (slice_set disks site.0 new) scenario
   stops_for_disk cores disks n site old new up own there stop =
-      let (home, declared) = site_home scenario site (at_in (sites scenario) n site own) in
+      let (home, declared) = site_home scenario site (slice_get-in (sites scenario) n site own) in
       let same : home.site ≡ site = its-site scenario site home declared in
       record {
         done = take n (sites scenario);

@@ -1,13 +1,10 @@
 -- A site that a command asks something may be told it.
-use Rattle.std.proofs.Common.{◌≡◌, ℕ, ◌<◌, ◌≤◌, ◌^◌, Option, Some, None, List, length, refl, subst, IsSome, arith}
+use Rattle.std.proofs.Common.{◌≡◌, ℕ, ◌<◌, ◌≤◌, ◌^◌, Option, Some, None, List, length, refl, IsSome, arith}
 use Rattle.mdb_base.specs.declared.names.SiteId.{SiteId}
-use Rattle.mdb_base.specs.declared.names.Tid.{Tid}
 use Rattle.mdb_base.specs.Words.{Each, map_some}
 use Rattle.field_bytes.specs.Fields.{IsTid}
 use Rattle.order_laws.proofs.Lists.{each_at}
 use Rattle.fed_rules.specs.declared.commands.Command.{Command}
-use Rattle.fed_rules.specs.declared.messages.ToSite.{ToSite}
-use Rattle.fed_rules.specs.declared.messages.ToSite.TheVariants as To
 use Rattle.fed_rules.specs.declared.scenario.Scenario.{Scenario}
 use Rattle.fed_rules.specs.declared.scenario.TxLine.{TxLine}
 use Rattle.fed_rules.specs.CoordPast.{begun_tids}
@@ -15,15 +12,14 @@ use Rattle.fed_rules.specs.Scenarios.{global_line, home_of, transaction}
 use Rattle.fed_rules.specs.SiteRecords.{Home}
 use Rattle.fed_rules.specs.Story.{coord_past, past_of, story_of}
 use Rattle.local_dbms.specs.Stands.{own_programs, program_at}
-use Rattle.site_core.specs.Made.{about}
-use Rattle.site_seats.specs.declared.asks.SiteAsk.{SiteAsk}
-use Rattle.site_seats.specs.declared.asks.SiteAsk.TheVariants as At
-use Rattle.site_seats.specs.Asks.{CanTell}
-use Rattle.world_laws.specs.Messages.{tid_to}
+use Rattle.fed_rules.specs.Site_of.{about}
+use Rattle.fed_world.specs.declared.site_asks.SiteAsk.{SiteAsk}
+use Rattle.fed_world.specs.declared.site_asks.SiteAsk.TheVariants as At
+use Rattle.fed_world.specs.SiteAsks.{CanTell}
 use Rattle.world_laws.proofs.Sent.{messages_of_begun}
 use Rattle.fed_world.specs.Asks.{WasSent}
 use Rattle.fed_world.specs.Worlds.{HasRoom}
-use Rattle.fed_world.proofs.Growing.{past_short}
+use Rattle.rules_laws.proofs.PastLengths.{past_short}
 
 -- a global transaction is none of a site's own
 not_own : (site : SiteId) (o : Option TxLine) → IsSome (map_some (λ (l : TxLine). l.program) (global_line o)) → program_at site o ≡ None
@@ -33,12 +29,6 @@ not_own site (Some line) h = by_home line.home h
     by_home : (o : Option SiteId) → IsSome (map_some (λ (l : TxLine). l.program) (global_line (Some (record line { home = o })))) → program_at site (Some (record line { home = o })) ≡ None
     by_home None h = refl
     by_home (Some home) h = cc
-
-about_is : (message : ToSite) → tid_to message ≡ about message
-about_is (To.Work tid epoch n act) = refl
-about_is (To.Take tid epoch n) = refl
-about_is (To.Prepare tid epoch n) = refl
-about_is (To.Decide tid decision) = refl
 
 less_than : (a b c : ℕ) → a ≤ b → b < c → a < c
 less_than a b c le lt = omega (arith, le, lt)
@@ -53,11 +43,10 @@ can_tell ask scenario commands home begun declared sent room = by_ask ask sent
     by_ask : (a : SiteAsk) → WasSent a home.site (story_of scenario commands) → CanTell a home (own_programs home.site scenario.transactions) (past_of home.site (story_of scenario commands))
     by_ask (At.Give message) sent =
         let law = messages_of_begun scenario commands home message declared sent in
-        let same : tid_to message ≡ about message = about_is message in
         record {
           short = short;
-          foreign = subst (λ (t : Tid). own_programs home.site scenario.transactions t.tx ≡ None) same (not_own home.site (transaction scenario (tid_to message).tx) law.global);
-          in_range = subst (λ (t : Tid). IsTid t) same (each_at IsTid (tid_to message) (begun_tids (coord_past (story_of scenario commands))) begun law.begun);
+          foreign = not_own home.site (transaction scenario (about message).tx) law.global;
+          in_range = each_at IsTid (about message) (begun_tids (coord_past (story_of scenario commands))) begun law.begun;
         }
     by_ask (At.Begin tx) sent = short
     by_ask (At.Step tx) sent = short

@@ -4,8 +4,8 @@ use Rattle.std.proofs.lemmas.List.{length-map}
 use Rattle.std.proofs.lemmas.Option.{slice_get_read, slice_get_within}
 use Rattle.mdb_base.specs.declared.names.SiteId.{SiteId}
 use Rattle.mdb_base.specs.Rising.{IsRising}
+use Rattle.mdb_base.proofs.OptionLaws.{some_parts}
 use Rattle.record_fields.specs.Named.{IsSite}
-use Rattle.order_laws.proofs.Alike.{some_parts}
 use Rattle.fed_rules.specs.declared.commands.Command.{Command}
 use Rattle.fed_rules.specs.declared.answers.Answer.{Answer}
 use Rattle.fed_rules.specs.declared.events.SiteEvent.{SiteEvent}
@@ -27,7 +27,7 @@ use Rattle.any_engine.specs.declared.engine.AnyEngine.{AnyEngine}
 use Rattle.any_engine.specs.Stands as Engines
 use Rattle.conservative_take.specs.AnyPolicies.{policy_is}
 use Rattle.conservative_take.specs.declared.any_policy.AnyPolicy.{AnyPolicy}
-use Rattle.coord_core.proofs.Phases.{sites_rise}
+use Rattle.rules_laws.proofs.SendsRise.{sites_rise}
 use Rattle.global_manager.specs.declared.manager.GlobalManager.{GlobalManager}
 use Rattle.global_manager.specs.Stands as Manager
 use Rattle.local_dbms.specs.declared.dbms.LocalDbms.{LocalDbms}
@@ -35,11 +35,11 @@ use Rattle.local_dbms.specs.Stands as Dbms
 use Rattle.local_dbms.specs.Stands.{OwnPrograms, own_programs}
 use Rattle.session_report.specs.declared.marks.Marks.{Marks}
 use Rattle.session_routes.specs.declared.traffic.Traffic.{Traffic}
-use Rattle.site_seats.specs.declared.asks.Heard.{Heard}
-use Rattle.site_seats.specs.declared.asks.SiteAsk.{SiteAsk}
-use Rattle.site_seats.specs.Asks.{CanTell, sends_of, site_request}
-use Rattle.site_seats.specs.Parts.{PartAt, PartFails, PartHears}
-use Rattle.site_seats.proofs.SeatLines.{Frame, sites_hear}
+use Rattle.fed_world.specs.declared.site_asks.Heard.{Heard}
+use Rattle.fed_world.specs.declared.site_asks.SiteAsk.{SiteAsk}
+use Rattle.fed_world.specs.SiteAsks.{CanTell, sends_of, site_request}
+use Rattle.fed_world.specs.SeatParts.{PartAt, PartFails, PartHears}
+use Rattle.fed_world.proofs.SeatLines.{Frame, sites_hear}
 use Rattle.session_routes.proofs.Posts.{get_put}
 use Rattle.fed_world.specs.declared.errors.WorldErr.{WorldErr}
 use Rattle.fed_world.specs.declared.world.World.{World}

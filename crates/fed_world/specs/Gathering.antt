@@ -17,7 +17,7 @@ use Rattle.session_report.specs.Marks.{kept_marks}
 use Rattle.session_routes.specs.declared.traffic.Traffic.{Traffic}
 use Rattle.fed_world.specs.declared.cores.Cores.{Cores}
 use Rattle.fed_world.specs.Asks.{terms_of}
-use Rattle.site_seats.specs.Seats.{AreFew, OfDbms}
+use Rattle.fed_world.specs.Seats.{AreFew, OfDbms}
 use Rattle.fed_world.specs.Worlds.{AreDisks, AreLines, DbmsRecalls, DbmsStands, ManagerRecalls, ManagerStands, OfManager}
 
 -- the channel holds the messages to and from the site

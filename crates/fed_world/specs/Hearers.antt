@@ -7,8 +7,8 @@ use Rattle.fed_rules.specs.declared.messages.ToSite.{ToSite}
 use Rattle.fed_rules.specs.declared.scenario.Scenario.{Scenario}
 use Rattle.fed_rules.specs.Scenarios.{local_site, sites}
 use Rattle.session_routes.specs.Routes.{place_in}
-use Rattle.site_seats.specs.declared.asks.SiteAsk.{SiteAsk}
-use Rattle.site_seats.specs.declared.asks.SiteAsk.TheVariants as At
+use Rattle.fed_world.specs.declared.site_asks.SiteAsk.{SiteAsk}
+use Rattle.fed_world.specs.declared.site_asks.SiteAsk.TheVariants as At
 use Rattle.fed_world.specs.declared.asks.Asked.{Asked}
 use Rattle.fed_world.specs.declared.asks.Asked.TheVariants.{Site, Coordinator, Nobody}
 use Rattle.fed_world.specs.declared.asks.CoordAsk.{CoordAsk}

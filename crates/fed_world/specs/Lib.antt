@@ -6,3 +6,6 @@ pub mod Messages
 pub mod Reporting
 pub mod SettingUp
 pub mod Worlds
+pub mod SiteAsks
+pub mod SeatParts
+pub mod Seats

@@ -20,22 +20,22 @@ use Rattle.any_engine.specs.Stands as Engines
 use Rattle.conservative_take.specs.declared.any_policy.AnyPolicy.{AnyPolicy}
 use Rattle.conservative_take.specs.AnyPolicies.{policy_is}
 use Rattle.closing_laws.specs.AtRest.{IsAtRest}
-use Rattle.coord_core.specs.Terms.{Terms}
+use Rattle.coord_tables.specs.Terms.{Terms}
 use Rattle.global_manager.specs.declared.manager.GlobalManager.{GlobalManager}
 use Rattle.global_manager.specs.Stands as Manager
 use Rattle.local_dbms.specs.declared.dbms.LocalDbms.{LocalDbms}
 use Rattle.local_dbms.specs.Stands as Dbms
 use Rattle.local_dbms.specs.Stands.{OwnPrograms, own_programs}
-use Rattle.site_seats.specs.declared.asks.Heard.{Heard}
+use Rattle.fed_world.specs.declared.site_asks.Heard.{Heard}
 use Rattle.fed_world.specs.declared.cores.Cores.{Cores}
 use Rattle.fed_world.specs.declared.errors.WorldErr.{WorldErr}
 use Rattle.fed_world.specs.declared.errors.WorldErr.TheVariants as Err_is
 use Rattle.session_routes.specs.declared.traffic.Traffic.{Traffic}
 use Rattle.fed_world.specs.declared.world.World.{World}
 use Rattle.fed_world.specs.declared.asks.CoordAsk.{CoordAsk}
-use Rattle.site_seats.specs.declared.asks.SiteAsk.{SiteAsk}
+use Rattle.fed_world.specs.declared.site_asks.SiteAsk.{SiteAsk}
 use Rattle.fed_world.specs.Asks.{AsksCoordinator, AsksSite, terms_of}
-use Rattle.site_seats.specs.Seats.{AreFew, OfDbms, SitesAt}
+use Rattle.fed_world.specs.Seats.{AreFew, OfDbms, SitesAt}
 use Rattle.session_routes.specs.Routes.{IsRouted}
 
 -- ---- which fact holds of an actor
@@ -235,7 +235,7 @@ pub record AddsLine (old new : World) (command : Command) : Type 0 where
 -- what is heard is the answer of the line that the command becomes with its places, and the actors stand for the command too
 pub record IsHeard (tells : Bool) (world : World) (disks : List Seen) (heard : Heard) (command : Command) (scenario : Scenario) (commands : List Command) : Type 0 where
   pub answer : IsAnswer (protocols scenario) (story_of scenario commands) (tell scenario (story_of scenario commands) command).happened heard.answer
-  pub sends : heard.sends.items ≡ places_of (story_of scenario commands) (tell scenario (story_of scenario commands) command).happened
+  pub sends : heard.sends ≡ places_of (story_of scenario commands) (tell scenario (story_of scenario commands) command).happened
   pub next : ActorsStand tells world disks scenario (command ∷ commands)
 
 -- what isn't heard: want of memory changes nothing, and a failed disk call breaks an actor

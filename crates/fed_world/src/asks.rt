@@ -1,7 +1,7 @@
 //! Who hears of a command, and what is asked of the coordinator.
+use crate::site_asks::SiteAsk;
 use fed_rules::FromSite;
 use mdb_base::{SiteId, Tid, Tx};
-use site_seats::SiteAsk;
 
 /// What is asked of the coordinator.
 #[derive(Clone, Copy, Debug, PartialEq, Eq)]

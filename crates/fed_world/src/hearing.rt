@@ -5,13 +5,14 @@ ghost use Rattle.fed_world.specs.Worlds.{EachCoordAsk, EachSiteAsk, EachStory, H
 
 use crate::asks::{Asked, CoordAsk};
 use crate::errors::WorldErr;
+use crate::seats::tell_seat;
+use crate::site_asks::{Heard, SiteAsk};
 use crate::telling::tell_coordinator;
 use crate::world::World;
-use fed_rules::{Answer, Command};
+use fed_rules::{Answer, Command, Places};
 use journal_disk::Disk;
 use local_dbms::StepErr;
 use session_routes::{make_room, post};
-use site_seats::{Heard, SiteAsk, tell_seat};
 use std::alloc::Global;
 
 /// Why the disk of this actor gave no line.
@@ -72,8 +73,8 @@ impl World {
         ensures keeps { KeepsLines self.old self.new }
         ensures cause { CountsTell result (map D.seen disks.old.items) (map D.seen disks.new.items) }
     {
-        let mut sends = Vec::new(alloc);
-        let Ok(()) = sends.reserve(self.traffic.len()) else {
+        let mut places = Vec::new(alloc);
+        let Ok(()) = places.reserve(self.traffic.len()) else {
             return Err(WorldErr::Memory);
         };
         let Ok(()) = make_room(&mut self.traffic) else {
@@ -81,10 +82,10 @@ impl World {
         };
         match tell_coordinator(&mut self.cores.coordinator, alloc, &mut disks[0], ask) {
             Ok(step) => {
-                post(&mut self.traffic, step.sends.as_slice(), &mut sends);
+                post(&mut self.traffic, step.sends.as_slice(), &mut places);
                 Ok(Heard {
                     answer: step.answer,
-                    sends,
+                    sends: Places::taken(alloc, &mut places),
                 })
             }
             Err(why) => Err(world_err(0, why)),
@@ -112,7 +113,7 @@ impl World {
             Asked::Coordinator(ask) => self.at_coordinator(alloc, disks, ask),
             Asked::Nobody => Ok(Heard {
                 answer: Answer::None,
-                sends: Vec::new(alloc),
+                sends: Places::none(),
             }),
         }
     }

@@ -10,7 +10,10 @@ mod gathering;
 mod hearing;
 mod reading;
 mod reporting;
+mod seat_telling;
+mod seats;
 mod setting_up;
+mod site_asks;
 mod telling;
 mod world;
 

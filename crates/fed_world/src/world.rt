@@ -5,7 +5,7 @@ ghost use Rattle.fed_world.specs.Worlds.{AddsLine, EachStory, FailsAt, HasRoom, 
 
 use crate::cores::Cores;
 use crate::errors::WorldErr;
-use fed_rules::{Command, Line, Places};
+use fed_rules::{Command, Line};
 use journal_disk::Disk;
 use session_routes::{Routes, Traffic};
 use std::alloc::Global;
@@ -49,7 +49,7 @@ impl World {
                 self.lines.push_reserved(Line {
                     command,
                     answer: heard.answer,
-                    sends: Places::of(heard.sends),
+                    sends: heard.sends,
                 });
                 Ok(())
             }

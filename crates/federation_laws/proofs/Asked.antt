@@ -10,7 +10,8 @@ use Rattle.mdb_base.specs.Names.{same_site}
 use Rattle.mdb_base.specs.Programs.{plain_act}
 use Rattle.mdb_base.specs.Words.{Each, those, how_many, item_at}
 use Rattle.mdb_base.proofs.ListLaws.{append_each}
-use Rattle.order_laws.proofs.Names.{same_site_alike, same_site_self}
+use Rattle.mdb_base.proofs.NameLaws.{same_site-equal, same_site-refl}
+use Rattle.mdb_base.proofs.OptionLaws.{some_parts}
 use Rattle.fed_rules.specs.declared.messages.Due.{Due}
 use Rattle.fed_rules.specs.declared.messages.Due.TheVariants as Due_is
 use Rattle.fed_rules.specs.declared.messages.Sent.{Sent}
@@ -23,7 +24,6 @@ use Rattle.coord_laws.proofs.Made.{IsAsked}
 use Rattle.federation_laws.proofs.CoordOps.{Matches, matches-ends, count-wait, count-elsewhere}
 use Rattle.federation_laws.specs.Accesses.{act_of}
 use Rattle.fed_rules.specs.Coord.{fits}
-use Rattle.order_laws.proofs.Alike.{some_parts}
 use Rattle.federation_laws.proofs.CountedReplies.{is_dead, Progress, Waiting, Working, Taking, progress}
 use Rattle.federation_laws.proofs.Dues.{of_site, count_of, epoch_of, ticket_of, steps_of, reads_of, left_at, IsWork, IsTake, IsPrepare, due-is}
 
@@ -177,7 +177,7 @@ other-work program replies now site at epoch m done e o due n act w =
           let k = w.next (q ∙ same) in
           let step : due.step ≡ k.step = some_parts (sym due.next ∙ k.next) in
           let where_ : at ≡ site = sym due.its_site ∙ (ap (λ (x : Step). x.site) step ∙ k.its_site) in
-          let yes : same_site at site ≡ true = subst (λ z. same_site at z ≡ true) where_ (same_site_self at) in
+          let yes : same_site at site ≡ true = subst (λ z. same_site at z ≡ true) where_ (same_site-refl at) in
           absurd (let clash = sym e ∙ yes in cc);
     }
 
@@ -204,7 +204,7 @@ asked-reply : (past : CoordPast) (g : Tid) (x : CoordHappening) (site : SiteId) 
     → (t : Bool) → same_site r.site site ≡ t → AreOld past g (record { site = r.site; epoch = r.epoch; reply = r.reply } ∷ counted past g) site sent
 asked-reply past g x site sent r (Waiting w) old true e =
     let now = record { site = r.site; epoch = r.epoch; reply = r.reply } ∷ counted past g in
-    let own : r.site ≡ site = same_site_alike r.site site e in
+    let own : r.site ≡ site = same_site-equal r.site site e in
     let same : Same (counted past g) now site = record { count = count-wait (record { site = r.site; epoch = r.epoch; reply = r.reply }) (counted past g) site w.waits; steps = wait-steps (record { site = r.site; epoch = r.epoch; reply = r.reply }) (counted past g) w.waits; reads = wait-reads r.site r.epoch r.reply (counted past g) w.waits } in
     work-old g (program past g) (counted past g) now site (same-work (program past g) (counted past g) now site same) (same-take (program past g) (counted past g) now site same)
     (λ epoch n v. absurd (no-vote-fits past g site w.due r.n r.reply (subst (λ z. outstanding past g z ≡ Some w.due) own w.is_due) w.fit v.done)) sent old
@@ -216,7 +216,7 @@ asked-reply past g x site sent r (Waiting w) old false e =
     (stays-vote (program past g) (counted past g) reply site (site-elsewhere (counted past g) reply site e)) sent old
 asked-reply past g x site sent r (Working w) old true e =
     let reply : Counted = record { site = r.site; epoch = r.epoch; reply = r.reply } in
-    let own : r.site ≡ site = same_site_alike r.site site e in
+    let own : r.site ≡ site = same_site-equal r.site site e in
     let more = count-more reply (counted past g) site (matches-ends r.reply (Some w.access) w.answers) e in
     work-old g (program past g) (counted past g) (reply ∷ counted past g) site (passed-work (program past g) (counted past g) (reply ∷ counted past g) site more) (passed-take (program past g) (counted past g) (reply ∷ counted past g) site more)
     (λ epoch n v. absurd (let left : left_at (program past g) (counted past g) site ≡ true = subst (λ z. left_at (program past g) (counted past g) z ≡ true) own w.facts.left in let clash = sym left ∙ v.done.left in cc)) sent old
@@ -227,7 +227,7 @@ asked-reply past g x site sent r (Working w) old false e =
     (stays-vote (program past g) (counted past g) reply site there) sent old
 asked-reply past g x site sent r (Taking k) old true e =
     let reply : Counted = record { site = r.site; epoch = r.epoch; reply = r.reply } in
-    let own : r.site ≡ site = same_site_alike r.site site e in
+    let own : r.site ≡ site = same_site-equal r.site site e in
     let more = count-more reply (counted past g) site (matches-ends r.reply None k.answers) e in
     work-old g (program past g) (counted past g) (reply ∷ counted past g) site (passed-work (program past g) (counted past g) (reply ∷ counted past g) site more) (passed-take (program past g) (counted past g) (reply ∷ counted past g) site more)
     (λ epoch n v. absurd (let ticket : ticket_of (counted past g) site ≡ false = subst (λ z. ticket_of (counted past g) z ≡ false) own k.facts.ticket in let clash = sym ticket ∙ v.done.ticket in cc)) sent old
@@ -311,7 +311,7 @@ each-here P past site f [] h = tt
 each-here P past site f (sent ∷ sends) h = by_test (same_site sent.site site) refl (each-here P past site f sends h.1)
   where
     by_test : (t : Bool) → same_site sent.site site ≡ t → Each P (sent_here site sends) → Each P (map (λ (s : Sent). s.message) (cond t (sent ∷ those (λ s. same_site s.site site) sends) (those (λ s. same_site s.site site) sends)))
-    by_test true e rest = (f sent.message (subst (λ z. IsAsked past z sent.message) (same_site_alike sent.site site e) h.0), rest)
+    by_test true e rest = (f sent.message (subst (λ z. IsAsked past z sent.message) (same_site-equal sent.site site e) h.0), rest)
     by_test false e rest = rest
 
 -- what was asked of a site, after the next line

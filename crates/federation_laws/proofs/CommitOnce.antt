@@ -6,12 +6,13 @@ use Rattle.mdb_base.specs.declared.names.SiteTicket.{SiteTicket}
 use Rattle.mdb_base.specs.declared.names.Tid.{Tid}
 use Rattle.mdb_base.specs.Names.{same_site, same_tid}
 use Rattle.mdb_base.specs.Words.{Each, Among, found, with_some}
+use Rattle.mdb_base.proofs.NameLaws.{same_site-equal, same_tid-equal}
+use Rattle.mdb_base.proofs.OptionLaws.{some_parts, some_number}
 use Rattle.presumptions.specs.declared.Participant.{Participant}
 use Rattle.order_laws.specs.Chains.{In}
 use Rattle.order_laws.specs.Tickets.{Ticketed, OneEach}
 use Rattle.order_laws.proofs.Lists.{among_is, in_those, one_image, each_of_at, those_in}
 use Rattle.order_laws.proofs.Tickets.{acyclic_no_cycle}
-use Rattle.order_laws.proofs.Names.{same_site_alike, same_tid_alike}
 use Rattle.fed_rules.specs.declared.answers.Answer.TheVariants as Say
 use Rattle.fed_rules.specs.declared.commands.Command.{Command}
 use Rattle.fed_rules.specs.declared.events.CoordEvent.{CoordEvent}
@@ -34,17 +35,17 @@ use Rattle.federation_laws.proofs.CoordHolds.{starts-novote, fresh-begun}
 use Rattle.coord_laws.proofs.Made.{IsLastVote, Writes}
 use Rattle.coord_laws.proofs.OneEach.{tids_of, committed_tid}
 use Rattle.coord_laws.proofs.Past.{commits_once}
-use Rattle.commit_laws.proofs.Links.{story_made}
+use Rattle.commit_laws.proofs.Links.{story_goes_on}
 use Rattle.federation_laws.proofs.StoryGlobals.{StoryHolds, story-holds, coord-made, fresh-line, declared-program}
 use Rattle.federation_laws.proofs.Told.{IsCoordLine, IsLine, CoordCause, line_is}
-use Rattle.order_laws.proofs.Alike.{some_parts}
 use Rattle.federation_laws.proofs.TicketCycles.{free-story}
 use Rattle.coord_laws.proofs.Cycles.{commits_whole}
 use Rattle.order_laws.proofs.Joined.{in_more}
+use Rattle.order_laws.proofs.InLaws.{found_there}
 
 -- no attempt has two Commit records
 pub commits-once : (scenario : Scenario) (commands : List Command) → OneEach (committed (story_of scenario commands))
-commits-once scenario commands = commits_once _ _ (coord_past (story_of scenario commands)) (story_made scenario commands)
+commits-once scenario commands = commits_once _ _ (coord_past (story_of scenario commands)) (story_goes_on scenario commands)
 
 pub one-commit : (scenario : Scenario) → IsScenario scenario → (commands : List Command) → (a b : Ticketed) → In a (committed (story_of scenario commands)) → In b (committed (story_of scenario commands)) → a.tid ≡ b.tid → a ≡ b
 one-commit scenario good commands a b i j e = one_image (λ (node : Ticketed). node.tid) (committed (story_of scenario commands)) (commits-once scenario commands) a b i j e
@@ -97,23 +98,6 @@ pub record VotesSent (story : Story) : Type 0 where
   pub nodes : (node : Ticketed) → In node (commits (records (coord_past story))) → IsVoted story node
   pub tickets : (node : Ticketed) → In node (commits (records (coord_past story))) → (k : SiteTicket) → In k node.tickets → IsVote story node.tid k
 
-some-value : (o : Option ℕ) → is_some o ≡ true → (n : ℕ) × (o ≡ Some n)
-some-value None e = cc
-some-value (Some n) e = (n, refl)
-
-in-found : {A B : Type 0} (look : A → Option B) (x : A) (y : B) (xs : List A) → In x xs → look x ≡ Some y → In y (found look xs)
-in-found look x y [] i e = absurd i
-in-found {A} {B} look x y (z ∷ xs) (inl p) e = first (look z) (ap look p ∙ e)
-  where
-    first : (o : Option B) → o ≡ Some y → In y (with_some o (found look xs))
-    first None q = cc
-    first (Some w) q = inl (let same : w ≡ y = cc in same)
-in-found {A} {B} look x y (z ∷ xs) (inr i) e = later (look z) (in-found look x y xs i e)
-  where
-    later : (o : Option B) → In y (found look xs) → In y (with_some o (found look xs))
-    later None j = j
-    later (Some w) j = inr j
-
 found-from : {A B : Type 0} (look : A → Option B) (y : B) (xs : List A) → In y (found look xs) → (x : A) × In x xs × (look x ≡ Some y)
 found-from look y [] i = absurd i
 found-from {A} {B} look y (x ∷ xs) i = first (look x) refl i (found-from look y xs)
@@ -123,7 +107,7 @@ found-from {A} {B} look y (x ∷ xs) i = first (look x) refl i (found-from look 
     first (Some w) q (inl p) k = (x, inl refl, q ∙ ap Some p)
     first (Some w) q (inr j) k = let r = k j in (r.0, inr r.1, r.2)
 
-ticket-vote : (site : SiteId) (o : Option ℕ) (k : SiteTicket) → vote_ticket site o ≡ Some k → (o ≡ Some k.ticket) × (site ≡ k.site)
+pub ticket-vote : (site : SiteId) (o : Option ℕ) (k : SiteTicket) → vote_ticket site o ≡ Some k → (o ≡ Some k.ticket) × (site ≡ k.site)
 ticket-vote site None k e = cc
 ticket-vote site (Some ticket) k e =
     let same : record { site = site; ticket = ticket } ≡ k = some_parts e in
@@ -142,8 +126,8 @@ vote-sent scenario story g s (Ev.Take site (From.Vote tid (Some vote))) ticket c
     by_test true q e =
         let parts = and_parts (same_tid tid g) (same_site site s) q in
         let value : vote ≡ ticket = cc in
-        subst (λ z. In (From.Vote g (Some ticket)) (sent_from z story)) (same_site_alike site s parts.1)
-        (subst (λ t. In (From.Vote t (Some ticket)) (sent_from site story)) (same_tid_alike tid g parts.0)
+        subst (λ z. In (From.Vote g (Some ticket)) (sent_from z story)) (same_site-equal site s parts.1)
+        (subst (λ t. In (From.Vote t (Some ticket)) (sent_from site story)) (same_tid-equal tid g parts.0)
         (subst (λ k. In (From.Vote tid (Some k)) (sent_from site story)) value c))
     by_test false q e = v.votes g s ticket e
 vote-sent scenario story g s (Ev.Take site (From.Did tid epoch n reply)) ticket c v e = v.votes g s ticket e
@@ -186,8 +170,8 @@ new-node scenario good story x line holds votes node v s visited =
     let (p, i, at) = among_is (λ (p : Participant). p.site ≡ s) (protocols scenario) (declared-program scenario good story node.tid (holds node.tid) s was) in
     let member = in_those (λ (p : Participant). visits p.site (program (coord_past story) node.tid)) p (protocols scenario) i (subst (λ z. visits z (program (coord_past story) node.tid) ≡ true) (sym at) was) in
     let vote = each_of_at (λ (m : Participant). is_some (vote_at (quiet line.event Say.Voted ∷ coord_past story) node.tid m.site)) (participants (protocols scenario) (coord_past story) node.tid) p v.all member in
-    let (ticket, is) = some-value (vote_at (quiet line.event Say.Voted ∷ coord_past story) node.tid p.site) vote in
-    let named = in-found (λ (m : Participant). vote_ticket m.site (vote_at (quiet line.event Say.Voted ∷ coord_past story) node.tid m.site)) p (record { site = p.site; ticket = ticket }) (participants (protocols scenario) (coord_past story) node.tid) member (ap (vote_ticket p.site) is) in
+    let (ticket, is) = some_number (vote_at (quiet line.event Say.Voted ∷ coord_past story) node.tid p.site) vote in
+    let named = found_there (λ (m : Participant). vote_ticket m.site (vote_at (quiet line.event Say.Voted ∷ coord_past story) node.tid m.site)) p (record { site = p.site; ticket = ticket }) (participants (protocols scenario) (coord_past story) node.tid) member (ap (vote_ticket p.site) is) in
     let sent = vote-sent scenario story node.tid p.site line.event ticket line.cause votes is in (
       ticket,
       subst (λ z. In (record { site = z; ticket = ticket }) node.tickets) at (subst (In (record { site = p.site; ticket = ticket })) (sym v.theirs) named),

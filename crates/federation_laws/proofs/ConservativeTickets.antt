@@ -1,6 +1,7 @@
 -- Where tickets are taken conservatively, an attempt in its phase has at each site a greater ticket than each committed one, so that no ticket
 -- edge leads from it to a committed one, and no cycle goes through it.
-use Rattle.std.proofs.Common.{◌≡◌, ◌⊎◌, ℕ, ◌<◌, Bool, true, false, cond, ◌||◌, is_some, Option, Some, None, List, [], ◌∷◌, ◌++◌, map, inl, inr, refl, sym, ap, subst, ◌∙◌, arith}
+use Rattle.std.proofs.Common.{◌≡◌, ◌⊎◌, ℕ, ◌<◌, Bool, true, false, cond, ◌||◌, is_some, Option, Some, None, List, [], ◌∷◌, map, inl, inr, refl, sym, ap, subst, ◌∙◌, arith}
+use Rattle.std.proofs.lemmas.Bool.{and_from, and_parts, or_right}
 use Rattle.mdb_base.specs.declared.names.SiteId.{SiteId}
 use Rattle.mdb_base.specs.declared.names.SiteTicket.{SiteTicket}
 use Rattle.mdb_base.specs.declared.names.Tid.{Tid}
@@ -8,14 +9,15 @@ use Rattle.mdb_base.specs.declared.replies.Edge.{Edge}
 use Rattle.mdb_base.specs.declared.rows.Put.{Put}
 use Rattle.mdb_base.specs.Names.{same_site}
 use Rattle.mdb_base.specs.Words.{Among, Each, some_of, those}
+use Rattle.mdb_base.proofs.NameLaws.{same_tid-refl}
 use Rattle.presumptions.specs.declared.Participant.{Participant}
 use Rattle.order_laws.specs.Chains.{In}
 use Rattle.order_laws.specs.Search.{Walk}
 use Rattle.order_laws.specs.Tickets.{Precedes, Ticketed, edge_between}
-use Rattle.order_laws.proofs.Lists.{among_is, and_both, and_cases, each_at, in_those, is_among, map_among, or_second}
-use Rattle.order_laws.proofs.Names.{same_tid_self}
+use Rattle.order_laws.proofs.Lists.{among_is, each_at, in_those, is_among, map_among}
 use Rattle.order_laws.proofs.Search.{found}
 use Rattle.order_laws.proofs.Tickets.{edge_some}
+use Rattle.order_laws.proofs.InLaws.{in_append}
 use Rattle.fed_rules.specs.declared.answers.Answer.{Answer}
 use Rattle.fed_rules.specs.declared.answers.Answer.TheVariants as Say
 use Rattle.fed_rules.specs.declared.answers.Cause.TheVariants as For
@@ -46,6 +48,7 @@ use Rattle.site_history.specs.Records.{BindOnce, Binds, IsBound, IsPrepared, Pre
 use Rattle.site_history.specs.SiteOrders.{IsSerialPast}
 use Rattle.site_history.specs.Stories.{OfSites, StoriesHaveRightLines}
 use Rattle.site_history.specs.Tickets.{HasTicket, TicketsRise}
+use Rattle.site_history.proofs.Records.{once_behind}
 use Rattle.federation_laws.specs.Conservative.{ConservativeTicketsCloseNoCycle, RefusesForCycle}
 use Rattle.federation_laws.proofs.Agreement.{IsSaid, WereAsked}
 use Rattle.federation_laws.proofs.CommitOnce.{IsVote, node-tid, tickets-voted, votes-sent}
@@ -69,23 +72,18 @@ message_sent g epoch n site [] i = absurd i
 message_sent g epoch n site (sent ∷ sends) i = by_test (same_site sent.site site) i (message_sent g epoch n site sends)
   where
     by_message : (m : ToSite) → m ≡ To.Take g epoch n → is_take_of g (record { site = sent.site; message = m }) ≡ true
-    by_message m e = ap (λ k. is_take_of g (record { site = sent.site; message = k })) e ∙ same_tid_self g
+    by_message m e = ap (λ k. is_take_of g (record { site = sent.site; message = k })) e ∙ same_tid-refl g
 
     by_test : (t : Bool) → In (To.Take g epoch n) (map (λ sent. sent.message) (cond t (sent ∷ those (λ sent. same_site sent.site site) sends) (those (λ sent. same_site sent.site site) sends)))
         → (In (To.Take g epoch n) (map (λ sent. sent.message) (those (λ sent. same_site sent.site site) sends)) → some_of (is_take_of g) sends ≡ true)
         → (is_take_of g sent || some_of (is_take_of g) sends) ≡ true
     by_test true (inl e) k = ap (λ b. b || some_of (is_take_of g) sends) (by_message sent.message e)
-    by_test true (inr j) k = or_second (is_take_of g sent) (some_of (is_take_of g) sends) (k j)
-    by_test false j k = or_second (is_take_of g sent) (some_of (is_take_of g) sends) (k j)
-
-in_append : {A : Type 0} (y : A) (xs ys : List A) → In y (xs ++ ys) → In y xs ⊎ In y ys
-in_append y [] ys i = inr i
-in_append y (x ∷ xs) ys (inl e) = inl (inl e)
-in_append y (x ∷ xs) ys (inr i) = elim (in_append y xs ys i) [ inl j ↦ inl (inr j) | inr j ↦ inr j ]
+    by_test true (inr j) k = or_right (is_take_of g sent) (some_of (is_take_of g) sends) (k j)
+    by_test false j k = or_right (is_take_of g sent) (some_of (is_take_of g) sends) (k j)
 
 later_sent : (g : Tid) (past : CoordPast) (happened : Happened) → has_sent (is_take_of g) past ≡ true → has_sent (is_take_of g) (with_coordinator happened past) ≡ true
 later_sent g past (AtSite s x) e = e
-later_sent g past (AtCoordinator x) e = or_second (some_of (is_take_of g) x.sends) (has_sent (is_take_of g) past) e
+later_sent g past (AtCoordinator x) e = or_right (some_of (is_take_of g) x.sends) (has_sent (is_take_of g) past) e
 later_sent g past (Nowhere answer) e = e
 
 now_sent : (g : Tid) (epoch n : ℕ) (site : SiteId) (past : CoordPast) (happened : Happened) → In (To.Take g epoch n) (sends_to site happened) → has_sent (is_take_of g) (with_coordinator happened past) ≡ true
@@ -104,20 +102,12 @@ take_was_sent g epoch n site (told ∷ story) i = elim (in_append (To.Take g epo
 prepared_bound : (rs : List SiteRecord) (g : Tid) (epoch number ticket : ℕ) (writes : List Put) → In (Rec.Prepared g epoch number ticket writes) rs → IsBound g rs
 prepared_bound rs g epoch number ticket writes i = is_among (Binds g) (Rec.Prepared g epoch number ticket writes) rs i refl
 
-one_behind : (r : SiteRecord) (rs : List SiteRecord) → BindOnce (r ∷ rs) → BindOnce rs
-one_behind (Rec.Prepared t d n k w) rs once = once.1
-one_behind (Rec.Local t n w) rs once = once.1
-one_behind (Rec.Setup site engine protocol items) rs once = once
-one_behind (Rec.Start e) rs once = once
-one_behind (Rec.Ended t decision) rs once = once
-one_behind (Rec.Checkpoint sum) rs once = once
-
 prepared_same : (rs : List SiteRecord) (g : Tid) (d e m n j k : ℕ) (v w : List Put) → BindOnce rs → In (Rec.Prepared g d m j v) rs → In (Rec.Prepared g e n k w) rs → j ≡ k
 prepared_same [] g d e m n j k v w once i o = absurd i
 prepared_same (r ∷ rs) g d e m n j k v w once (inl p) (inl q) = (let same = sym p ∙ q in cc)
 prepared_same (r ∷ rs) g d e m n j k v w once (inl p) (inr o) = absurd ((subst (λ z. BindOnce (z ∷ rs)) p once).0 (prepared_bound rs g e n k w o))
 prepared_same (r ∷ rs) g d e m n j k v w once (inr i) (inl q) = absurd ((subst (λ z. BindOnce (z ∷ rs)) q once).0 (prepared_bound rs g d m j v i))
-prepared_same (r ∷ rs) g d e m n j k v w once (inr i) (inr o) = prepared_same rs g d e m n j k v w (one_behind r rs once) i o
+prepared_same (r ∷ rs) g d e m n j k v w once (inr i) (inr o) = prepared_same rs g d e m n j k v w (once_behind r rs once) i o
 
 prepared_one : (rs : List SiteRecord) (g : Tid) (j k : ℕ) → BindOnce rs → IsPrepared rs g j → IsPrepared rs g k → j ≡ k
 prepared_one rs g j k once p q = prepared_same rs g p.epoch q.epoch p.number q.number j k p.writes q.writes once p.kept q.kept
@@ -151,7 +141,7 @@ module _ (scenario : Scenario) (good : IsScenario scenario) (right : StoriesHave
       → (IsPrepared (records home (past_of home.site (story_of scenario commands))) g ticket → has_sent (is_take_of g) (coord_past (story_of scenario commands)) ≡ true)
       → has_sent (is_take_of g) (with_coordinator happened (coord_past (story_of scenario commands))) ≡ true
   prepared_happened commands home declared g none ticket (AtSite s x) r p before = prepared_now commands home declared g none ticket x (same_site s home.site) r p before
-  prepared_happened commands home declared g none ticket (AtCoordinator x) r p before = or_second (some_of (is_take_of g) x.sends) (has_sent (is_take_of g) (coord_past (story_of scenario commands))) (before p)
+  prepared_happened commands home declared g none ticket (AtCoordinator x) r p before = or_right (some_of (is_take_of g) x.sends) (has_sent (is_take_of g) (coord_past (story_of scenario commands))) (before p)
   prepared_happened commands home declared g none ticket (Nowhere answer) r p before = before p
 
   prepared_sent : (commands : List Command) (home : Home) → home_of scenario home.site ≡ Some home → (g : Tid) → local_site scenario g.tx ≡ None → (ticket : ℕ) → IsPrepared (records home (past_of home.site (story_of scenario commands))) g ticket → has_sent (is_take_of g) (coord_past (story_of scenario commands)) ≡ true
@@ -250,11 +240,11 @@ module _ (scenario : Scenario) (good : IsScenario scenario) (right : StoriesHave
           (story-phased scenario good careful commands) g phase
 
       opened : is_open (coord_past (story_of scenario commands)) g ≡ true
-      opened = elim from.1 [ inl was ↦ (and_cases (is_open past g) (has_sent (is_take_of g) past) was).0 | inr may ↦ may.opened ]
+      opened = elim from.1 [ inl was ↦ (and_parts (is_open past g) (has_sent (is_take_of g) past) was).0 | inr may ↦ may.opened ]
 
       -- it was in its phase before, as it has a ticket
       phase_before : in_phase (coord_past (story_of scenario commands)) g ≡ true
-      phase_before = and_both (is_open past g) (has_sent (is_take_of g) past) opened (ticket_sent commands home declared g (begun_global commands g (open_begun commands g opened)) k h)
+      phase_before = and_from (is_open past g) (has_sent (is_take_of g) past) opened (ticket_sent commands home declared g (begun_global commands g (open_begun commands g opened)) k h)
 
       visited : visits home.site (program (coord_past (story_of scenario commands)) g) ≡ true
       visited = ap (visits home.site) (sym (program-stays past g x from.0)) ∙ v
@@ -264,11 +254,11 @@ module _ (scenario : Scenario) (good : IsScenario scenario) (right : StoriesHave
           before phase_before old visited (ap (visits home.site) (sym (program-stays past b x (fresh b (committed_begun commands b old)))) ∙ w) p h
       by_commit (inr new) =
           let vote = (last_vote_of (protocols scenario) past line.event b x.calls (coord-made scenario (story_of scenario commands) x line).writes new).1 in
-          let open_b = (and_cases (is_open past b) (is_due_vote (outstanding past b vote.site)) vote.is_counted).0 in
+          let open_b = (and_parts (is_open past b) (is_due_vote (outstanding past b vote.site)) vote.is_counted).0 in
           let known = open_begun commands b open_b in
-          let phase_b = and_both (is_open past b) (has_sent (is_take_of b) past) open_b (prepared_sent commands home declared b (begun_global commands b known) t p) in
+          let phase_b = and_from (is_open past b) (has_sent (is_take_of b) past) open_b (prepared_sent commands home declared b (begun_global commands b known) t p) in
           let visited_b = ap (visits home.site) (sym (program-stays past b x (fresh b known))) ∙ w in
-          let apart : g ≡ b → ⊥ = λ same. (let still = subst (λ u. is_open (x ∷ past) u ≡ true) same (and_cases (is_open (x ∷ past) g) (has_sent (is_take_of g) (x ∷ past)) phase).0 in
+          let apart : g ≡ b → ⊥ = λ same. (let still = subst (λ u. is_open (x ∷ past) u ≡ true) same (and_parts (is_open (x ∷ past) g) (has_sent (is_take_of g) (x ∷ past)) phase).0 in
           let clash = sym still ∙ over commit in cc) in
           absurd ((story-phased scenario good careful commands).apart g b phase_before phase_b apart home.site (site_among commands home g visited) (site_among commands home b visited_b))
 
@@ -320,7 +310,7 @@ module _ (scenario : Scenario) (good : IsScenario scenario) (right : StoriesHave
       let (home, declared, at) = declared_site commands g.tid p.smaller.site mine.visited in
       let here = voted commands g.tid p.smaller home declared at (open_begun commands g.tid opened) mine in
       let there = voted commands b.tid p.greater home declared (p.here ∙ (sym p.there ∙ at)) (committed_begun commands b.tid commit) theirs in
-      let phase = and_both (is_open past g.tid) (has_sent (is_take_of g.tid) past) opened (prepared_sent commands home declared g.tid (begun_global commands g.tid (open_begun commands g.tid opened)) p.smaller.ticket here.prepared) in
+      let phase = and_from (is_open past g.tid) (has_sent (is_take_of g.tid) past) opened (prepared_sent commands home declared g.tid (begun_global commands g.tid (open_begun commands g.tid opened)) p.smaller.ticket here.prepared) in
       let less = later careful commands home declared g.tid b.tid p.greater.ticket p.smaller.ticket phase commit here.visited there.visited there.prepared (inr here.prepared) in
       let more = p.less in
       omega (arith, less, more)
@@ -354,7 +344,7 @@ module _ (scenario : Scenario) (good : IsScenario scenario) (right : StoriesHave
       let past = coord_past story in
       let g : Ticketed = record { tid = on.tid; tickets = vote_tickets (quiet line.event Say.Voted ∷ past) on.tid (participants (protocols scenario) past on.tid) } in
       let f = found edge_between (commits (Coordinator.records past)) g g edges on.cycle in
-      no_cycle serial careful commands g (and_cases (is_open past on.tid) (is_due_vote (outstanding past on.tid on.site)) on.is_counted).0
+      no_cycle serial careful commands g (and_parts (is_open past on.tid) (is_due_vote (outstanding past on.tid on.site)) on.is_counted).0
       (λ k i. tickets-voted scenario story on.tid line.event line.cause (votes-sent scenario good commands) k i) f.middle edges f.among f.walk
 
 refusal : (protocols : List Participant) (past : CoordPast) (event : CoordEvent) (answer : Answer) → RefusesForCycle answer → Refuses protocols past event answer → (edges : List Edge) × IsOnCycle protocols past event edges

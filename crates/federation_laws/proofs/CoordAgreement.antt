@@ -11,7 +11,6 @@ use Rattle.mdb_base.specs.Words.{Each}
 use Rattle.mdb_base.proofs.Words.{cond-true}
 use Rattle.order_laws.specs.Chains.{In}
 use Rattle.order_laws.proofs.Lists.{each_at}
-use Rattle.order_laws.proofs.Names.{same_site_alike}
 use Rattle.fed_rules.specs.declared.events.CoordEvent.TheVariants as Ev
 use Rattle.fed_rules.specs.declared.messages.FromSite.{FromSite}
 use Rattle.fed_rules.specs.declared.messages.FromSite.TheVariants as From
@@ -32,8 +31,10 @@ use Rattle.federation_laws.proofs.CountedReplies.{is_dead, Works, Progress, Wait
 use Rattle.federation_laws.proofs.Dues.{of_site, epoch_of, left_at, ticket_of, count_of, reads_of}
 use Rattle.federation_laws.proofs.SiteMoves.{IsNth, finishes}
 use Rattle.federation_laws.proofs.SiteRuns.{site_ops, RunsHold}
-use Rattle.order_laws.proofs.Alike.{some_parts}
 use Rattle.std.proofs.lemmas.List.{append-nil, length-append}
+use Rattle.mdb_base.proofs.NameLaws.{same_site-equal}
+use Rattle.mdb_base.proofs.OptionLaws.{some_parts}
+use Rattle.mdb_base.proofs.JoinLaws.{nothing_left}
 use Rattle.order_laws.proofs.Joined.{in_more}
 
 was-more : (g : Tid) (sent more : List ToSite) (op : Option Access) (n : ℕ) → WasAsked g sent op n → WasAsked g (sent ++ more) op n
@@ -55,17 +56,13 @@ nth-below [] n x i = absurd i
 nth-below (y ∷ all) n x (inl e) = let k = e.0 in omega (arith, k)
 nth-below (y ∷ all) n x (inr i) = let k = nth-below all n x i in omega (arith, k)
 
-empty-of : {A : Type 0} (xs : List A) → length xs ≡ 0 → xs ≡ []
-empty-of [] e = refl
-empty-of (x ∷ xs) e = absurd (omega (arith, e))
-
 -- the one behind which these are the first
 nth-behind : {A : Type 0} (newer first : List A) (x : A) → IsNth (newer ++ first) (length first) x → (more : List A) × (newer ++ first ≡ more ++ x ∷ first)
 nth-behind [] first x i = (let k = nth-below first (length first) x i in absurd (omega (arith, k)))
 nth-behind (y ∷ newer) first x (inl e) =
     let k = e.0 in
     let l = length-append newer first in
-    let none : newer ≡ [] = empty-of newer (omega (arith, k, l)) in
+    let none : newer ≡ [] = nothing_left newer (omega (arith, k, l)) in
     ([], ap (λ ys. y ∷ ys ++ first) none ∙ ap (λ z. z ∷ first) e.1)
 nth-behind (y ∷ newer) first x (inr i) = let r = nth-behind newer first x i in (y ∷ r.0, ap (λ ys. y ∷ ys) r.1)
 
@@ -163,7 +160,7 @@ said-op home past g answered e n reply said i f = ((each_at (IsSaid home past g)
 behind-reply : (home : Home) (past : SitePast) (coordinator : CoordPast) (g : Tid) (x : CoordHappening) (sent : List ToSite) (answered : List FromSite) (r : CountsReply coordinator g x) → Holds coordinator g → Agrees home past coordinator sent answered g → (r.site ≡ home.site → In (From.Did g r.epoch r.n r.reply) answered) → is_dead (counted coordinator g) ≡ false → Progress coordinator g x r
     → (t : Bool) → same_site r.site home.site ≡ t → IsBehind (site_ops home past g (epoch_of (counted (x ∷ coordinator) g) home.site)) (ops_at home.site (ops (x ∷ coordinator) g))
 behind-reply home past coordinator g x sent answered r holds a heard alive p true q =
-    let own = same_site_alike r.site home.site q in
+    let own = same_site-equal r.site home.site q in
     let now : epoch_of (counted (x ∷ coordinator) g) home.site ≡ r.epoch = ap (λ cs. epoch_of cs home.site) r.replies ∙ epoch-own (counted coordinator g) (record { site = r.site; epoch = r.epoch; reply = r.reply }) home.site q in
     let b = behind-then home past coordinator g x r own a.runs (a.behind alive) in
     let count : count_of (counted coordinator g) home.site ≡ length (ops_at home.site (ops coordinator g)) = agree-count (counted coordinator g) (ops coordinator g) home.site (holds.agree alive) in
@@ -225,9 +222,9 @@ sealed-ops home past coordinator g x sent fresh a e n i (Replies r) d =
 
     of_progress : is_dead (counted coordinator g) ≡ false → Progress coordinator g x r → (t : Bool) → same_site r.site home.site ≡ t → ops_at home.site (ops (x ∷ coordinator) g) ≡ ops_at home.site (ops coordinator g)
     of_progress alive (Waiting w) t q = ap (ops_at home.site) w.done
-    of_progress alive (Working w) true q = absurd (let own = same_site_alike r.site home.site q in let left = subst (λ z. left_at (program coordinator g) (counted coordinator g) z ≡ true) own w.facts.left in let clash = sym left ∙ (done alive).left in cc)
+    of_progress alive (Working w) true q = absurd (let own = same_site-equal r.site home.site q in let left = subst (λ z. left_at (program coordinator g) (counted coordinator g) z ≡ true) own w.facts.left in let clash = sym left ∙ (done alive).left in cc)
     of_progress alive (Working w) false q = ap (ops_at home.site) w.done ∙ ops-other home.site r.site (Some w.access) (ops coordinator g) q
-    of_progress alive (Taking t) true q = absurd (let own = same_site_alike r.site home.site q in let ticket = subst (λ z. ticket_of (counted coordinator g) z ≡ false) own t.facts.ticket in let clash = sym ticket ∙ (done alive).ticket in cc)
+    of_progress alive (Taking t) true q = absurd (let own = same_site-equal r.site home.site q in let ticket = subst (λ z. ticket_of (counted coordinator g) z ≡ false) own t.facts.ticket in let clash = sym ticket ∙ (done alive).ticket in cc)
     of_progress alive (Taking t) false q = ap (ops_at home.site) t.done ∙ ops-other home.site r.site None (ops coordinator g) q
 sealed-ops home past coordinator g x sent fresh a e n i (Votes v) d = (sym (ap is_dead v.replies) ∙ d, ap (ops_at home.site) v.done)
 sealed-ops home past coordinator g x sent fresh a e n i (Still q) d = (sym (ap is_dead q.replies) ∙ d, ap (ops_at home.site) q.done)

@@ -5,7 +5,7 @@ use Rattle.mdb_base.specs.declared.names.Tid.{Tid}
 use Rattle.mdb_base.specs.declared.replies.Reply.{Reply}
 use Rattle.mdb_base.specs.Names.{same_site, same_tid}
 use Rattle.mdb_base.specs.Words.{with_some, map_some}
-use Rattle.order_laws.proofs.Names.{same_tid_alike}
+use Rattle.mdb_base.proofs.NameLaws.{same_tid-equal}
 use Rattle.fed_rules.specs.declared.events.CoordEvent.{CoordEvent}
 use Rattle.fed_rules.specs.declared.events.CoordEvent.TheVariants as Ev
 use Rattle.fed_rules.specs.declared.messages.FromSite.TheVariants as From
@@ -94,7 +94,7 @@ still-other past g x e f d o v = Still (record {
 of-did : (past : CoordPast) (g : Tid) (x : CoordHappening) (site : SiteId) (tid : Tid) (epoch n : ℕ) (reply : Reply) → x.event ≡ Ev.Take site (From.Did tid epoch n reply) → begins g x.answer ≡ false → counts x.answer ≡ true
     → did_counts past site tid epoch n reply ≡ true → (t : Bool) → same_tid tid g ≡ t → Effect past g x
 of-did past g x site tid epoch n reply h e f may true q =
-    let own = same_tid_alike tid g q in
+    let own = same_tid-equal tid g q in
     Replies (record {
       site = site;
       epoch = epoch;
@@ -118,7 +118,7 @@ of-did past g x site tid epoch n reply h e f may false q =
 of-vote : (past : CoordPast) (g : Tid) (x : CoordHappening) (site : SiteId) (tid : Tid) (ticket : ℕ) → x.event ≡ Ev.Take site (From.Vote tid (Some ticket)) → begins g x.answer ≡ false → counts x.answer ≡ true
     → vote_counts past site tid ≡ true → (t : Bool) → same_tid tid g ≡ t → Effect past g x
 of-vote past g x site tid ticket h e f may true q =
-    let own = same_tid_alike tid g q in
+    let own = same_tid-equal tid g q in
     Votes (record {
       site = site;
       ticket = ticket;

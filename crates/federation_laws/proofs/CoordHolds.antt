@@ -10,9 +10,8 @@ use Rattle.mdb_base.specs.Programs.{plain_act}
 use Rattle.mdb_base.specs.Words.{Each, Among, some_of, item_at, with_some}
 use Rattle.presumptions.specs.declared.Participant.{Participant}
 use Rattle.order_laws.proofs.Lists.{each_of_at, among_is, in_those}
-use Rattle.mdb_base.proofs.NameLaws.{same_tid-sym}
+use Rattle.mdb_base.proofs.NameLaws.{same_tid-sym, same_site-equal, same_tid-refl}
 use Rattle.mdb_base.proofs.Words.{cond-true}
-use Rattle.order_laws.proofs.Names.{same_site_alike, same_tid_self}
 use Rattle.fed_rules.specs.declared.answers.Answer.{Answer}
 use Rattle.fed_rules.specs.declared.events.CoordEvent.{CoordEvent}
 use Rattle.fed_rules.specs.declared.events.CoordEvent.TheVariants as Ev
@@ -162,7 +161,7 @@ last-finished protocols past event g tickets h declared v =
 
     voted-at : (s : SiteId) (t : Bool) → (same_tid g g && same_site v.site s) ≡ t → is_some (or_vote (cond t (Some v.ticket) None) (vote_at past g s)) ≡ true → IsDone (program past g) (counted past g) s
     voted-at s true e k =
-        let same : v.site ≡ s = same_site_alike v.site s (and_parts _ _ e).1 in
+        let same : v.site ≡ s = same_site-equal v.site s (and_parts _ _ e).1 in
         subst (IsDone (program past g) (counted past g)) same (record { left = here.1; ticket = here.2 })
     voted-at s false e k = h.voted s k
 
@@ -278,7 +277,7 @@ alive-next past g x b d h effects u = by_case effects (undecided_from past g x b
         goes : (t : Bool) → is_refusal r.reply ≡ t → (is_refusal r.reply || is_dead (counted past g)) ≡ false
         goes true e =
             let decided : decides x.answer ≡ true = (subst (λ ev. Decides ev x.answer) r.heard d) r.taken e in
-            let not_decided : decides x.answer ≡ false = k.1 (ap (is_about g) r.heard ∙ same_tid_self g) in cc
+            let not_decided : decides x.answer ≡ false = k.1 (ap (is_about g) r.heard ∙ same_tid-refl g) in cc
         goes false e = ap (λ t. t || is_dead (counted past g)) e ∙ h.alive k.0
     by_case (Votes v) (inr k) = ap is_dead v.replies ∙ h.alive k.0
     by_case (Still q) (inr k) = ap is_dead q.replies ∙ h.alive k.0
@@ -298,7 +297,7 @@ voted-next past g x s h (Votes v) e = done-same past g x s v.begun v.replies (by
     by_test : (t : Bool) → same_site v.site s ≡ t → is_some (or_vote (cond (same_site v.site s) (Some v.ticket) None) (vote_at past g s)) ≡ true → IsDone (program past g) (counted past g) s
     by_test true q k =
         let here = voting (program past g) (counted past g) (vote_at past g v.site) v.site (and_parts _ _ v.may).1 in
-        subst (IsDone (program past g) (counted past g)) (same_site_alike v.site s q) (record { left = here.1; ticket = here.2 })
+        subst (IsDone (program past g) (counted past g)) (same_site-equal v.site s q) (record { left = here.1; ticket = here.2 })
     by_test false q k = h.voted s (sym (ap (λ t. is_some (or_vote (cond t (Some v.ticket) None) (vote_at past g s))) q) ∙ k)
 voted-next past g x s h (Still q) e = done-same past g x s q.begun q.replies (h.voted s (ap is_some (sym (q.votes s)) ∙ e))
 
@@ -330,7 +329,7 @@ over-next protocols past g event x made fresh h e = by_test (is_open (x ∷ past
     going (inl old) k = let clash = sym k.0 ∙ h.over old in cc
     going (inr new) k =
         let (tickets, v) = last_vote_of protocols past event g x.calls made.writes new in
-        let about : is_about g x.event ≡ true = ap (is_about g) (made.heard ∙ v.is_vote) ∙ same_tid_self g in
+        let about : is_about g x.event ≡ true = ap (is_about g) (made.heard ∙ v.is_vote) ∙ same_tid-refl g in
         let up : stops x.answer ≡ false = first (stops x.answer) (comes_up x.answer) k.2 in
         nobody-else x.calls (made.commits_by (none (decides x.answer) (stops x.answer) (k.1 about) up)) new
       where

@@ -12,7 +12,7 @@ use Rattle.mdb_base.specs.Words.{some_of, with_some, map_some}
 use Rattle.fed_rules.specs.declared.messages.Due.{Due}
 use Rattle.fed_rules.specs.declared.messages.Due.TheVariants as Due_is
 use Rattle.fed_rules.specs.Coord.{did_counts, fits, fits_act, fits_take}
-use Rattle.fed_rules.specs.CoordPast.{CoordHappening, CoordPast, Counted, is_open, program, counted, vote_at, outstanding, epoch_at, is_wait}
+use Rattle.fed_rules.specs.CoordPast.{CoordHappening, CoordPast, Counted, program, counted, vote_at, outstanding, epoch_at, is_wait}
 use Rattle.fed_rules.specs.Runs.{Access, Got, Wrote}
 use Rattle.federation_laws.specs.Accesses.{act_of}
 use Rattle.federation_laws.proofs.CoordEffects.{CountsReply}
@@ -99,10 +99,6 @@ pub data Progress (past : CoordPast) (g : Tid) (x : CoordHappening) (r : CountsR
   Waiting : Waits past g x r → Progress past g x r
   Working : Works past g x r → Progress past g x r
   Taking : Takes past g x r → Progress past g x r
-
--- what may count: the attempt is undecided, the reply fits, and its epoch is the known one
-pub counts-undecided : (past : CoordPast) (site : SiteId) (g : Tid) (epoch n : ℕ) (reply : Reply) → did_counts past site g epoch n reply ≡ true → is_open past g ≡ true
-counts-undecided past site g epoch n reply e = (and_parts _ _ (and_parts _ _ e).0).0
 
 pub counts-fits : (past : CoordPast) (site : SiteId) (g : Tid) (epoch n : ℕ) (reply : Reply) → did_counts past site g epoch n reply ≡ true → fits (outstanding past g site) n reply ≡ true
 counts-fits past site g epoch n reply e = (and_parts _ _ (and_parts _ _ e).0).1

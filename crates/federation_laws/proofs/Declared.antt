@@ -4,10 +4,11 @@ use Rattle.mdb_base.specs.declared.names.SiteId.{SiteId}
 use Rattle.mdb_base.specs.declared.names.Tid.{Tid}
 use Rattle.mdb_base.specs.Names.{same_site}
 use Rattle.mdb_base.specs.Words.{Among, inserted}
+use Rattle.mdb_base.proofs.NameLaws.{same_site-equal, same_site-refl}
+use Rattle.mdb_base.proofs.OptionLaws.{some_parts}
 use Rattle.presumptions.specs.declared.Participant.{Participant}
 use Rattle.order_laws.specs.Chains.{In}
 use Rattle.order_laws.proofs.Lists.{map_among}
-use Rattle.order_laws.proofs.Names.{same_site_alike, same_site_self}
 use Rattle.fed_rules.specs.declared.scenario.ItemLine.{ItemLine}
 use Rattle.fed_rules.specs.declared.scenario.Scenario.{Scenario}
 use Rattle.fed_rules.specs.declared.scenario.SiteLine.{SiteLine}
@@ -15,7 +16,6 @@ use Rattle.fed_rules.specs.Orders.{is_committed, records_at, order_at, orders}
 use Rattle.fed_rules.specs.Scenarios.{home_in, home_of, items_of, protocols_in, protocols, sites}
 use Rattle.fed_rules.specs.SiteRecords.{Home, order_of}
 use Rattle.fed_rules.specs.Story.{Story}
-use Rattle.order_laws.proofs.Alike.{some_parts}
 
 -- a declared site has the first rows of its number
 home-items : (lines : List SiteLine) (items : List ItemLine) (s : SiteId) (h : Home) → home_in lines items s ≡ Some h → h.items ≡ items_of items s
@@ -56,7 +56,7 @@ participant (line ∷ lines) items s h e = by_test (same_site line.site s) refl 
     by_test : (t : Bool) → same_site line.site s ≡ t → cond t (Some (record { site = line.site; engine = line.engine; protocol = line.protocol; items = items_of items s })) (home_in lines items s) ≡ Some h
         → (home_in lines items s ≡ Some h → Among (λ p. p.site ≡ s) (protocols_in lines)) → Among (λ p. p.site ≡ s) (protocols_in (line ∷ lines))
     by_test true q e k =
-        put-in (λ (p : Participant). p.site ≡ s) (λ a b. nat_lt a.site.0 b.site.0) (record { site = line.site; protocol = line.protocol }) (protocols_in lines) (same_site_alike line.site s q)
+        put-in (λ (p : Participant). p.site ≡ s) (λ a b. nat_lt a.site.0 b.site.0) (record { site = line.site; protocol = line.protocol }) (protocols_in lines) (same_site-equal line.site s q)
     by_test false q e k =
         put-kept (λ (p : Participant). p.site ≡ s) (λ a b. nat_lt a.site.0 b.site.0) (record { site = line.site; protocol = line.protocol }) (protocols_in lines) (k e)
 
@@ -113,5 +113,5 @@ undeclared (line ∷ lines) items s e i = by_test (same_site line.site s) refl e
     by_test : (t : Bool) → same_site line.site s ≡ t → cond t (Some (record { site = line.site; engine = line.engine; protocol = line.protocol; items = items_of items s })) (home_in lines items s) ≡ None
         → (home_in lines items s ≡ None → Among (λ p. p.site ≡ s) (protocols_in lines) → ⊥) → (line.site ≡ s) ⊎ Among (λ p. p.site ≡ s) (protocols_in lines) → ⊥
     by_test true q e h c = cc
-    by_test false q e h (inl own) = (let yes : same_site line.site s ≡ true = subst (λ z. same_site line.site z ≡ true) own (same_site_self line.site) in let clash = sym yes ∙ q in cc)
+    by_test false q e h (inl own) = (let yes : same_site line.site s ≡ true = subst (λ z. same_site line.site z ≡ true) own (same_site-refl line.site) in let clash = sym yes ∙ q in cc)
     by_test false q e h (inr j) = h e j

@@ -8,12 +8,12 @@ use Rattle.mdb_base.specs.declared.replies.Reply.{Reply}
 use Rattle.mdb_base.specs.Names.{same_site}
 use Rattle.mdb_base.specs.Programs.{plain_act}
 use Rattle.mdb_base.specs.Words.{some_of, how_many, those, found, item_at}
-use Rattle.order_laws.proofs.Names.{same_site_alike}
+use Rattle.mdb_base.proofs.NameLaws.{same_site-equal}
+use Rattle.mdb_base.proofs.OptionLaws.{some_parts}
 use Rattle.fed_rules.specs.declared.messages.Due.{Due}
 use Rattle.fed_rules.specs.declared.messages.Due.TheVariants as Due_is
 use Rattle.fed_rules.specs.Coord.{fits, fits_act, fits_take, is_due_vote}
 use Rattle.fed_rules.specs.CoordPast.{Counted, visits, is_wait, is_ticket, last_epoch, value_in, oldest_first}
-use Rattle.order_laws.proofs.Alike.{some_parts}
 
 -- those of one site, how many of them are no waits, their epoch, and whether a ticket is among them
 abbrev pub of_site : List Counted → SiteId → List Counted
@@ -105,7 +105,7 @@ work-is program replies site due v l (Some step) i e = by_test (same_site step.s
       left = l;
       step = step;
       next = i;
-      its_site = same_site_alike step.site site q;
+      its_site = same_site-equal step.site site q;
       its_act = refl;
     })
     by_test false q e = cc

@@ -1,14 +1,16 @@
 -- A global member of a site's order: it did there what its program says, and its Commit record has the ticket of its Prepared record.
-use Rattle.std.proofs.Common.{◌≡◌, ℕ, zero, suc, ◌≤◌, ◌<◌, Bool, true, false, cond, ◌||◌, Option, Some, None, List, [], ◌∷◌, drop, length, refl, sym, ap, subst, ◌∙◌, arith}
+use Rattle.std.proofs.Common.{◌≡◌, ℕ, zero, suc, ◌≤◌, Bool, true, false, cond, ◌||◌, Option, Some, None, List, [], ◌∷◌, drop, length, refl, sym, ap, subst, ◌∙◌, arith}
 use Rattle.mdb_base.specs.declared.acts.Step.{Step}
 use Rattle.mdb_base.specs.declared.names.SiteId.{SiteId}
 use Rattle.mdb_base.specs.declared.names.Tid.{Tid}
 use Rattle.mdb_base.specs.Names.{same_site, same_tid}
 use Rattle.mdb_base.specs.Words.{item_at}
+use Rattle.mdb_base.proofs.NameLaws.{same_site-equal, same_site-refl}
+use Rattle.mdb_base.proofs.PlaceLaws.{item_at-below}
 use Rattle.order_laws.specs.Chains.{In}
 use Rattle.order_laws.specs.Orders.{is_in}
 use Rattle.order_laws.proofs.Lists.{each_at, in_is_true}
-use Rattle.order_laws.proofs.Names.{same_site_alike, same_site_self, tells_tids}
+use Rattle.order_laws.proofs.Names.{tells_tids}
 use Rattle.fed_rules.specs.declared.commands.Command.{Command}
 use Rattle.fed_rules.specs.declared.messages.FromSite.TheVariants as From
 use Rattle.fed_rules.specs.declared.messages.ToSite.TheVariants as To
@@ -57,7 +59,7 @@ none-left program n h = of_rest (drop n program) refl
     dropped (suc n) (step ∷ steps) s v = second (same_site step.site s) (visits s steps) (dropped n steps s v)
 
     first : (step : Step) (steps : List Step) → visits step.site (step ∷ steps) ≡ true
-    first step steps = ap (λ t. t || visits step.site steps) (same_site_self step.site)
+    first step steps = ap (λ t. t || visits step.site steps) (same_site-refl step.site)
 
     of_rest : (rest : List Step) → drop n program ≡ rest → length program ≤ n
     of_rest [] e = longer n program e
@@ -65,15 +67,10 @@ none-left program n h = of_rest (drop n program) refl
         let here : visits step.site (drop n program) ≡ true = ap (visits step.site) e ∙ first step steps in
         absurd (let gone = h step.site (dropped n program step.site here) in let clash = sym here ∙ gone in cc)
 
-item-below : {A : Type 0} (xs : List A) (n : ℕ) (x : A) → item_at xs n ≡ Some x → n < length xs
-item-below [] n x e = cc
-item-below (y ∷ ys) zero x e = omega arith
-item-below (y ∷ ys) (suc n) x e = let k = item-below ys n x e in omega (arith, k)
-
 -- accesses that follow a program are no more than its steps
 pub follows-below : (program : List Step) (xs : List SiteAccess) → Follows program xs → length xs ≤ length program
 follows-below program [] f = omega arith
-follows-below program (x ∷ xs) f = let k = item-below program (length xs) f.0.step f.0.place in omega (arith, k)
+follows-below program (x ∷ xs) f = let k = item_at-below program (length xs) f.0.step f.0.place in omega (arith, k)
 
 equal-by : (a b : ℕ) → a ≤ b → b ≤ a → a ≡ b
 equal-by a b le ge = omega (arith, le, ge)
@@ -81,7 +78,7 @@ equal-by a b le ge = omega (arith, le, ge)
 -- an item at a place is one of the list
 at-visits : (program : List Step) (n : ℕ) (step : Step) (s : SiteId) → item_at program n ≡ Some step → step.site ≡ s → visits s program ≡ true
 at-visits [] n step s e h = cc
-at-visits (x ∷ program) zero step s e h = (let same : x ≡ step = cc in ap (λ t. t || visits s program) (ap (λ (y : Step). same_site y.site s) same ∙ (ap (λ z. same_site z s) h ∙ same_site_self s)))
+at-visits (x ∷ program) zero step s e h = (let same : x ≡ step = cc in ap (λ t. t || visits s program) (ap (λ (y : Step). same_site y.site s) same ∙ (ap (λ z. same_site z s) h ∙ same_site-refl s)))
 at-visits (x ∷ program) (suc n) step s e h = second (same_site x.site s) (visits s program) (at-visits program n step s e h)
   where
     second : (a b : Bool) → b ≡ true → (a || b) ≡ true
@@ -95,7 +92,7 @@ unvisited-none program (x ∷ xs) s f v = by_test (same_site x.site s) refl (unv
   where
     by_test : (t : Bool) → same_site x.site s ≡ t → at s xs ≡ [] → cond t (x.access ∷ at s xs) (at s xs) ≡ []
     by_test true q h =
-        let here : f.0.step.site ≡ s = f.0.site ∙ same_site_alike x.site s q in
+        let here : f.0.step.site ≡ s = f.0.site ∙ same_site-equal x.site s q in
         let yes = at-visits program (length xs) f.0.step s f.0.place here in let clash = sym yes ∙ v in cc
     by_test false q h = h
 

@@ -91,7 +91,7 @@ none_inserted before x (y ∷ ys) e = by_test (before y x) e where
   by_test true f = cc
   by_test false f = cc
 
-none_rising : (tids : List Tid) → rising tids ≡ [] → tids ≡ []
+pub none_rising : (tids : List Tid) → rising tids ≡ [] → tids ≡ []
 none_rising [] e = refl
 none_rising (tid ∷ tids) e = absurd (none_inserted tid_before tid (rising tids) e)
 

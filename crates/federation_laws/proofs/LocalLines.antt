@@ -3,7 +3,7 @@ use Rattle.std.proofs.Common.{◌≡◌, ℕ, Bool, true, false, Option, Some, N
 use Rattle.mdb_base.specs.declared.names.Tid.{Tid}
 use Rattle.mdb_base.specs.Names.{same_tid}
 use Rattle.mdb_base.specs.Words.{some_of, when}
-use Rattle.order_laws.proofs.Names.{same_tid_alike}
+use Rattle.mdb_base.proofs.NameLaws.{same_tid-equal}
 use Rattle.fed_rules.specs.declared.answers.Answer.TheVariants as Say
 use Rattle.fed_rules.specs.declared.events.SiteEvent.{SiteEvent}
 use Rattle.fed_rules.specs.declared.events.SiteEvent.TheVariants as Ev
@@ -33,7 +33,7 @@ by-tid : (t tid : Tid) (P : Tid → Type 0) → (tid ≡ t → P t) → (same_ti
 by-tid t tid P own other = by_test (same_tid tid t) refl
   where
     by_test : (b : Bool) → same_tid tid t ≡ b → P tid
-    by_test true e = let same = same_tid_alike tid t e in subst P (sym same) (own same)
+    by_test true e = let same = same_tid-equal tid t e in subst P (sym same) (own same)
     by_test false e = other e
 
 give-made : (home : Home) (past : SitePast) (t : Tid) (message : ToSite) → (IsOf t message → ⊥) → (answered home past (Ev.Give message)).event ≡ Ev.Give message → Made home past t (Ev.Give message) (answered home past (Ev.Give message))

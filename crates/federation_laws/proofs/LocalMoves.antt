@@ -10,9 +10,9 @@ use Rattle.mdb_base.specs.declared.replies.Why.{Why}
 use Rattle.mdb_base.specs.declared.replies.Why.TheVariants as Because
 use Rattle.mdb_base.specs.Names.{same_tid, same_tx}
 use Rattle.mdb_base.specs.Words.{some_of, when, pick}
+use Rattle.mdb_base.proofs.NameLaws.{same_tid-refl}
 use Rattle.presumptions.specs.declared.Decision.{Decision}
 use Rattle.presumptions.specs.Table.{forces}
-use Rattle.order_laws.proofs.Names.{same_tid_self}
 use Rattle.fed_rules.specs.declared.answers.Answer.{Answer}
 use Rattle.fed_rules.specs.declared.answers.Answer.TheVariants as Say
 use Rattle.fed_rules.specs.declared.events.SiteEvent.{SiteEvent}
@@ -30,10 +30,11 @@ use Rattle.fed_rules.specs.Story.{value_of}
 use Rattle.commit_laws.proofs.SiteShut.{restored-sealed, given-up}
 use Rattle.site_history.specs.Accesses.{seals}
 use Rattle.federation_laws.specs.Accesses.{act_of}
-use Rattle.federation_laws.proofs.SiteAbout.{IsAbout, settling-tid}
+use Rattle.federation_laws.proofs.SiteAbout.{IsAbout}
 use Rattle.site_history.proofs.LocalLines.{refusal_plain, act_plain}
 use Rattle.federation_laws.proofs.SiteMoves.{Fits, access-fits, others-run, live-next, unsealed-live}
 use Rattle.site_history.proofs.Agreement.{live_is}
+use Rattle.commit_laws.proofs.SiteEnds.{settling-tid}
 use Rattle.federation_laws.proofs.SiteSteps.{no-seals, own-line, settled-none}
 
 -- the line reads nothing for the attempt, and doesn't seal it
@@ -180,7 +181,7 @@ acts-made home past t (Read key) (Reply_is.Value value) run f alive =
         was = alive;
         now = act-line home past t (Read key) (Reply_is.Value value) run at.0 ∙ unsealed-live (record run { acts = Got key value ∷ run.acts }) at.1;
         its = refl;
-        reads = ap (λ b. cond b (Some value) None) (same_tid_self t);
+        reads = ap (λ b. cond b (Some value) None) (same_tid-refl t);
         unsealed = refl;
       });
     }

@@ -8,7 +8,9 @@ use Rattle.mdb_base.specs.declared.names.Tx.{Tx}
 use Rattle.mdb_base.specs.Names.{same_site}
 use Rattle.mdb_base.specs.Programs.{plain_act}
 use Rattle.mdb_base.specs.Words.{some_of, with_some, found, item_at}
-use Rattle.order_laws.proofs.Names.{same_site_self}
+use Rattle.mdb_base.proofs.NameLaws.{same_site-refl}
+use Rattle.mdb_base.proofs.JoinLaws.{length-map}
+use Rattle.mdb_base.proofs.OptionLaws.{some_parts}
 use Rattle.fed_rules.specs.declared.events.SiteEvent.{SiteEvent}
 use Rattle.fed_rules.specs.declared.events.SiteEvent.TheVariants as Ev
 use Rattle.fed_rules.specs.CoordPast.{oldest_first}
@@ -23,8 +25,6 @@ use Rattle.federation_laws.specs.Accesses.{SiteAccess, at, reads_in, IsStep, Fol
 use Rattle.federation_laws.proofs.Agreement.{has_sealed}
 use Rattle.federation_laws.proofs.Globals.{follows-below}
 use Rattle.federation_laws.proofs.LocalMoves.{Idle, Opens, Grants, Closes, LocalMove, Rests, Gone, Opening, Granting, Closing}
-use Rattle.federation_laws.proofs.SiteMoves.{length-map}
-use Rattle.order_laws.proofs.Alike.{some_parts}
 
 -- the accesses of a site
 abbrev pub tagged : SiteId → List Access → List SiteAccess
@@ -39,7 +39,7 @@ tagged-reads site run = ap oldest_first (tagged-values site run.acts)
 
 pub tagged-here : (site : SiteId) (acts : List Access) → at site (tagged site acts) ≡ acts
 tagged-here site [] = refl
-tagged-here site (a ∷ acts) = ap (λ t. cond t (a ∷ at site (tagged site acts)) (at site (tagged site acts))) (same_site_self site) ∙ ap (λ xs. a ∷ xs) (tagged-here site acts)
+tagged-here site (a ∷ acts) = ap (λ t. cond t (a ∷ at site (tagged site acts)) (at site (tagged site acts))) (same_site-refl site) ∙ ap (λ xs. a ∷ xs) (tagged-here site acts)
 
 pub tagged-elsewhere : (site other : SiteId) (acts : List Access) → same_site site other ≡ false → at other (tagged site acts) ≡ []
 tagged-elsewhere site other [] e = refl

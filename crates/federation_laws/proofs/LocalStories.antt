@@ -10,7 +10,6 @@ use Rattle.fed_rules.specs.Disk.{Append}
 use Rattle.fed_rules.specs.Runs.{Run}
 use Rattle.order_laws.specs.Chains.{In}
 use Rattle.order_laws.proofs.Lists.{each_at}
-use Rattle.order_laws.proofs.Names.{same_site_alike}
 use Rattle.fed_rules.specs.declared.commands.Command.{Command}
 use Rattle.fed_rules.specs.declared.events.SiteEvent.{SiteEvent}
 use Rattle.fed_rules.specs.declared.events.SiteEvent.TheVariants as Ev
@@ -31,10 +30,12 @@ use Rattle.federation_laws.proofs.LocalRuns.{LocalHolds, local-first, Cause, loc
 use Rattle.federation_laws.proofs.Members.{IsLocal, record-from}
 use Rattle.federation_laws.proofs.ScenarioFacts.{local-at-home}
 use Rattle.federation_laws.proofs.SiteLocals.{local-by-commit}
-use Rattle.federation_laws.proofs.StoryGlobals.{StoryHolds, story-holds, coord-made, fresh-line, live_of_tx-is, same_tx_alike}
-use Rattle.federation_laws.proofs.Told.{home_is-site, local_home-declared, SiteCause, IsSiteLine, IsLine, line_is, item-in}
-use Rattle.order_laws.proofs.Alike.{some_parts}
+use Rattle.federation_laws.proofs.StoryGlobals.{StoryHolds, story-holds, coord-made, fresh-line, live_of_tx-is}
+use Rattle.federation_laws.proofs.Told.{home_is-site, local_home-declared, SiteCause, IsSiteLine, IsLine, line_is}
 use Rattle.std.proofs.lemmas.List.{append-nil}
+use Rattle.mdb_base.proofs.NameLaws.{same_site-equal, same_tx-equal}
+use Rattle.mdb_base.proofs.OptionLaws.{some_parts}
+use Rattle.order_laws.proofs.InLaws.{item_at-in}
 
 -- what was sent to a site was asked of begun attempts
 asked-happened : (scenario : Scenario) (story : Story) (command : Command) (happened : Happened) (site : SiteId) (g : Tid) → IsLine scenario story happened → StoryHolds scenario story g → StoryHolds scenario (record { command = command; happened = happened } ∷ story) g → Asked (coord_past story) g site (sent_to site story)
@@ -87,17 +88,17 @@ local-cause scenario good story home t event here c =
       begins = λ e. let k = subst (SiteCause scenario story home) e c in k.next;
       acts = λ act run e alive.
           let k = subst (SiteCause scenario story home) e c in
-          let tx : t.tx ≡ k.tx = same_tx_alike t.tx k.tx (live_of_tx-is home (past_of home.site story) k.tx t k.found_live) in
+          let tx : t.tx ≡ k.tx = same_tx-equal t.tx k.tx (live_of_tx-is home (past_of home.site story) k.tx t k.found_live) in
           let same : k.run ≡ run = some_parts (sym k.is_live ∙ alive) in
           let place = subst (λ z. item_at (program_of scenario z) (done k.run) ≡ Some k.step) (sym tx) k.is_next in (
             k.step,
             subst (λ (r : Run). item_at (program_of scenario t.tx) (done r) ≡ Some k.step) same place,
             subst (λ (r : Run). act ≡ plain_act (run_reads r) k.step.act) same k.is_act,
-            local-at-home scenario good t.tx home.site (local-site-of scenario t.tx home here) k.step (item-in (program_of scenario t.tx) (done k.run) k.step place),
+            local-at-home scenario good t.tx home.site (local-site-of scenario t.tx home here) k.step (item_at-in (program_of scenario t.tx) (done k.run) k.step place),
           );
       commits = λ run e alive.
           let k = subst (SiteCause scenario story home) e c in
-          let tx : t.tx ≡ k.tx = same_tx_alike t.tx k.tx (live_of_tx-is home (past_of home.site story) k.tx t k.found_live) in
+          let tx : t.tx ≡ k.tx = same_tx-equal t.tx k.tx (live_of_tx-is home (past_of home.site story) k.tx t k.found_live) in
           let same : k.run ≡ run = some_parts (sym k.is_live ∙ alive) in
           subst (λ (r : Run). nat_lt (done r) (length (program_of scenario t.tx)) ≡ false) same
           (subst (λ z. nat_lt (done k.run) (length (program_of scenario z)) ≡ false) (sym tx) k.all);
@@ -115,7 +116,7 @@ local-site-line : (scenario : Scenario) → IsScenario scenario → (commands : 
     → LocalHolds home (past_of home.site (story_of scenario commands)) t (program_of scenario t.tx) → (b : Bool) → same_site s home.site ≡ b
     → LocalHolds home (cond b (x ∷ past_of home.site (story_of scenario commands)) (past_of home.site (story_of scenario commands))) t (program_of scenario t.tx)
 local-site-line scenario good commands home t s x declared here line h true q =
-    let own : line.home.site ≡ home.site = sym line.here ∙ same_site_alike s home.site q in
+    let own : line.home.site ≡ home.site = sym line.here ∙ same_site-equal s home.site q in
     let same : line.home ≡ home = some_parts (sym line.declared ∙ (ap (home_of scenario) own ∙ declared)) in
     local-here scenario good commands home t x line.event here
     (subst (λ (z : Home). x ≡ site_line z (past_of z.site (story_of scenario commands)) line.event) same line.is_next)
@@ -144,13 +145,13 @@ record-here scenario story home x event t is c l old = of_case (record-from x.ca
     of_case (inr new) =
         let commit = local-by-commit home (past_of home.site story) event t l.number l.writes (subst (λ (y : SiteHappening). Among (λ call. call ≡ Append (Rec.Local t l.number l.writes)) y.calls) is new) in
         let k = subst (SiteCause scenario story home) commit c in
-        let tx : t.tx ≡ k.tx = same_tx_alike t.tx k.tx (live_of_tx-is home (past_of home.site story) k.tx t k.found_live) in
+        let tx : t.tx ≡ k.tx = same_tx-equal t.tx k.tx (live_of_tx-is home (past_of home.site story) k.tx t k.found_live) in
         ap (local_home scenario) tx ∙ k.here
 
 record-site-line : (scenario : Scenario) (story : Story) (home : Home) (s : SiteId) (x : SiteHappening) (t : Tid) → home_of scenario home.site ≡ Some home → IsSiteLine scenario story s x → (IsLocal (records home (past_of home.site story)) t → local_home scenario t.tx ≡ Some home) → (b : Bool) → same_site s home.site ≡ b
     → IsLocal (records home (cond b (x ∷ past_of home.site story) (past_of home.site story))) t → local_home scenario t.tx ≡ Some home
 record-site-line scenario story home s x t declared line old true q l =
-    let own : line.home.site ≡ home.site = sym line.here ∙ same_site_alike s home.site q in
+    let own : line.home.site ≡ home.site = sym line.here ∙ same_site-equal s home.site q in
     let same : line.home ≡ home = some_parts (sym line.declared ∙ (ap (home_of scenario) own ∙ declared)) in
     record-here scenario story home x line.event t
     (subst (λ (z : Home). x ≡ site_line z (past_of z.site story) line.event) same line.is_next)

@@ -1,12 +1,13 @@
 -- Who is a member of a site's order: it has a Local record there, or a Prepared one, and its outcome is commit.
+use Rattle.mdb_base.proofs.JoinLaws.{reverse_more}
 use Rattle.site_history.proofs.Installs.{install_before}
-use Rattle.order_laws.proofs.Reversed.{reverse_more}
-use Rattle.std.proofs.Common.{◌≡◌, ◌⊎◌, ℕ, Bool, true, false, cond, ◌||◌, nat_le, List, [], ◌∷◌, ◌++◌, map, reverse, inl, inr, refl, sym, ap, subst, ◌∙◌}
+use Rattle.std.proofs.Common.{◌≡◌, ◌⊎◌, ℕ, Bool, true, false, cond, ◌||◌, nat_le, List, [], ◌∷◌, map, reverse, inl, inr, refl, sym, ap, subst, ◌∙◌}
 use Rattle.mdb_base.specs.declared.names.Tid.{Tid}
 use Rattle.mdb_base.specs.declared.rows.Put.{Put}
 use Rattle.mdb_base.specs.Words.{Among, some_of, inserted}
+use Rattle.mdb_base.proofs.NameLaws.{same_tid-refl}
 use Rattle.order_laws.specs.Chains.{In}
-use Rattle.order_laws.proofs.Names.{same_tid_self}
+use Rattle.order_laws.proofs.InLaws.{in_inserted, append_in, in_reverse}
 use Rattle.fed_rules.specs.declared.records.SiteRecord.{SiteRecord}
 use Rattle.fed_rules.specs.declared.records.SiteRecord.TheVariants as Rec
 use Rattle.fed_rules.specs.Disk.{Disk, Call, Append, Sync, CutBack, TrimFront, Stops, bytes_of, whole, after_calls}
@@ -37,21 +38,10 @@ member-behind commits r rs tid (AsLocal l) = AsLocal (record { number = l.number
 member-behind commits r rs tid (AsGlobal c) =
     AsGlobal (record { ticket = c.ticket; prepared = record { epoch = c.prepared.epoch; number = c.prepared.number; writes = c.prepared.writes; kept = inr c.prepared.kept }; commit = c.commit })
 
-in-inserted : {A : Type 0} (before : A → A → Bool) (x y : A) (xs : List A) → In y (inserted before x xs) → (x ≡ y) ⊎ In y xs
-in-inserted before x y [] (inl e) = inl e
-in-inserted before x y [] (inr i) = absurd i
-in-inserted {A} before x y (z ∷ zs) i = by_test (before z x) i (in-inserted before x y zs)
-  where
-    by_test : (t : Bool) → In y (cond t (z ∷ inserted before x zs) (x ∷ z ∷ zs)) → (In y (inserted before x zs) → (x ≡ y) ⊎ In y zs) → (x ≡ y) ⊎ In y (z ∷ zs)
-    by_test true (inl e) h = inr (inl e)
-    by_test true (inr j) h = elim (h j) [ inl e ↦ inl e | inr k ↦ inr (inr k) ]
-    by_test false (inl e) h = inl e
-    by_test false (inr j) h = inr j
-
 install-member : (commits : Tid → Bool) (rs : List SiteRecord) (install : Install) → In install (due_installs commits rs) → IsMember commits rs install.tid
 install-member commits [] install i = absurd i
 install-member commits (Rec.Local tid number writes ∷ rs) install i =
-    elim (in-inserted install_before (record { tid = tid; number = number; writes = writes }) install (due_installs commits rs) i) [
+    elim (in_inserted install_before (record { tid = tid; number = number; writes = writes }) install (due_installs commits rs) i) [
       | inl e ↦ subst (λ (x : Install). IsMember commits (Rec.Local tid number writes ∷ rs) x.tid) e (AsLocal (record { number = number; writes = writes; kept = inl refl }))
       | inr j ↦ member-behind commits _ rs install.tid (install-member commits rs install j)
     ]
@@ -60,7 +50,7 @@ install-member commits (Rec.Prepared tid epoch number ticket writes ∷ rs) inst
     by_test : (t : Bool) → commits tid ≡ t → In install (cond t (by_number (record { tid = tid; number = number; writes = writes }) (due_installs commits rs)) (due_installs commits rs))
         → (In install (due_installs commits rs) → IsMember commits rs install.tid) → IsMember commits (Rec.Prepared tid epoch number ticket writes ∷ rs) install.tid
     by_test true q i h =
-        elim (in-inserted install_before (record { tid = tid; number = number; writes = writes }) install (due_installs commits rs) i) [
+        elim (in_inserted install_before (record { tid = tid; number = number; writes = writes }) install (due_installs commits rs) i) [
           | inl e ↦ subst (λ (x : Install). IsMember commits (Rec.Prepared tid epoch number ticket writes ∷ rs) x.tid) e
               (AsGlobal (record { ticket = ticket; prepared = record { epoch = epoch; number = number; writes = writes; kept = inl refl }; commit = q }))
           | inr j ↦ member-behind commits (Rec.Prepared tid epoch number ticket writes) rs install.tid (h j)
@@ -71,35 +61,14 @@ install-member commits (Rec.Checkpoint sum ∷ rs) install i = member-behind com
 install-member commits (Rec.Start epoch ∷ rs) install i = member-behind commits _ rs install.tid (install-member commits rs install i)
 install-member commits (Rec.Ended tid decision ∷ rs) install i = member-behind commits _ rs install.tid (install-member commits rs install i)
 
-in-append : {A : Type 0} (x : A) (xs ys : List A) → In x (xs ++ ys) → In x xs ⊎ In x ys
-in-append x [] ys i = inr i
-in-append x (y ∷ xs) ys (inl e) = inl (inl e)
-in-append x (y ∷ xs) ys (inr i) = elim (in-append x xs ys i) [ inl j ↦ inl (inr j) | inr j ↦ inr j ]
-
-append-in : {A : Type 0} (x : A) (xs ys : List A) → In x xs ⊎ In x ys → In x (xs ++ ys)
-append-in x [] ys (inl i) = absurd i
-append-in x [] ys (inr i) = i
-append-in x (y ∷ xs) ys (inl (inl e)) = inl e
-append-in x (y ∷ xs) ys (inl (inr i)) = inr (append-in x xs ys (inl i))
-append-in x (y ∷ xs) ys (inr i) = inr (append-in x xs ys (inr i))
-
-in-reverse : {A : Type 0} (x : A) (xs : List A) → In x (reverse xs) → In x xs
-in-reverse x [] i = i
-in-reverse {A} x (y ∷ xs) i = by_place (in-append x (reverse xs) (y ∷ []) (subst (In x) (reverse_more y xs) i)) (in-reverse x xs)
-  where
-    by_place : In x (reverse xs) ⊎ In x (y ∷ []) → (In x (reverse xs) → In x xs) → In x (y ∷ xs)
-    by_place (inl j) h = inr (h j)
-    by_place (inr (inl e)) h = inl e
-    by_place (inr (inr j)) h = absurd j
-
 reverse-in : {A : Type 0} (x : A) (xs : List A) → In x xs → In x (reverse xs)
 reverse-in x [] i = i
-reverse-in x (y ∷ xs) (inl e) = subst (In x) (sym (reverse_more y xs)) (append-in x (reverse xs) (y ∷ []) (inr (inl e)))
-reverse-in x (y ∷ xs) (inr i) = subst (In x) (sym (reverse_more y xs)) (append-in x (reverse xs) (y ∷ []) (inl (reverse-in x xs i)))
+reverse-in x (y ∷ xs) (inl e) = subst (In x) (sym (reverse_more y xs)) (append_in x (reverse xs) (y ∷ []) (inr (inl e)))
+reverse-in x (y ∷ xs) (inr i) = subst (In x) (sym (reverse_more y xs)) (append_in x (reverse xs) (y ∷ []) (inl (reverse-in x xs i)))
 
 -- a member of the order has its record
 pub member-of : (commits : Tid → Bool) (rs : List SiteRecord) (tid : Tid) → In tid (order_of commits rs) → IsMember commits rs tid
-member-of commits rs tid i = image (due_installs commits rs) (in-reverse tid (map (λ install. install.tid) (due_installs commits rs)) i) (λ install j. install-member commits rs install j)
+member-of commits rs tid i = image (due_installs commits rs) (in_reverse tid (map (λ install. install.tid) (due_installs commits rs)) i) (λ install j. install-member commits rs install j)
   where
     image : (installs : List Install) → In tid (map (λ install. install.tid) installs) → ((install : Install) → In install installs → IsMember commits rs install.tid) → IsMember commits rs tid
     image [] i h = absurd i
@@ -222,8 +191,8 @@ kept-sealed home (x ∷ past) g r s i = by_case (record-from x.calls (disk home 
 
 -- so a prepared attempt was sealed
 pub prepared-sealed : (home : Home) (past : SitePast) (g : Tid) (ticket : ℕ) → IsPrepared (records home past) g ticket → has_sealed past g ≡ true
-prepared-sealed home past g ticket p = kept-sealed home past g (Rec.Prepared g p.epoch p.number ticket p.writes) (same_tid_self g) p.kept
+prepared-sealed home past g ticket p = kept-sealed home past g (Rec.Prepared g p.epoch p.number ticket p.writes) (same_tid-refl g) p.kept
 
 -- and so was a local one that committed
 pub local-sealed : (home : Home) (past : SitePast) (g : Tid) → IsLocal (records home past) g → has_sealed past g ≡ true
-local-sealed home past g l = kept-sealed home past g (Rec.Local g l.number l.writes) (same_tid_self g) l.kept
+local-sealed home past g l = kept-sealed home past g (Rec.Local g l.number l.writes) (same_tid-refl g) l.kept

@@ -3,10 +3,12 @@ use Rattle.std.proofs.Common.{◌≡◌, ℕ, Bool, true, false, Some, None, Lis
 use Rattle.mdb_base.specs.declared.names.SiteId.{SiteId}
 use Rattle.mdb_base.specs.declared.names.Tid.{Tid}
 use Rattle.mdb_base.specs.Names.{same_site, same_tid}
+use Rattle.mdb_base.proofs.NameLaws.{same_site-equal}
+use Rattle.mdb_base.proofs.OptionLaws.{some_parts}
 use Rattle.order_laws.specs.Chains.{In}
 use Rattle.order_laws.specs.Orders.{is_in}
 use Rattle.order_laws.proofs.Lists.{in_is_true}
-use Rattle.order_laws.proofs.Names.{same_site_alike, tells_tids}
+use Rattle.order_laws.proofs.Names.{tells_tids}
 use Rattle.fed_rules.specs.declared.commands.Command.{Command}
 use Rattle.fed_rules.specs.declared.scenario.Scenario.{Scenario}
 use Rattle.fed_rules.specs.Orders.{is_committed, records_at, records_of, order_at, reads_at}
@@ -28,7 +30,6 @@ use Rattle.federation_laws.proofs.LocalStories.{local-site-of, local-story, loca
 use Rattle.federation_laws.proofs.Members.{IsLocal, IsMember, AsLocal, AsGlobal, member-of, prepared-sealed, local-sealed}
 use Rattle.federation_laws.proofs.StoryGlobals.{story-holds}
 use Rattle.federation_laws.proofs.Told.{home_is-site, home-again}
-use Rattle.order_laws.proofs.Alike.{some_parts}
 
 -- a member of a declared site: a local one at its home, or a global one that is prepared there and commits
 pub record LocalMember (scenario : Scenario) (commands : List Command) (home : Home) (tid : Tid) : Type 0 where
@@ -97,7 +98,7 @@ local-program scenario good commands home tid declared i m =
 
     elsewhere : (site : SiteId) → is_in same_tid (order_at scenario (story_of scenario commands) site) tid ≡ false → (b : Bool) → same_site home.site site ≡ b → at site (tagged home.site (acts_at home (past_of home.site (story_of scenario commands)) tid)) ≡ []
     elsewhere site out true q =
-        let member = subst (λ z. In tid (order_at scenario (story_of scenario commands) z)) (same_site_alike home.site site q) i in
+        let member = subst (λ z. In tid (order_at scenario (story_of scenario commands) z)) (same_site-equal home.site site q) i in
         let inside = in_is_true same_tid tells_tids (order_at scenario (story_of scenario commands) site) tid member in
         (let clash = sym inside ∙ out in cc)
     elsewhere site out false q = tagged-elsewhere home.site site (acts_at home (past_of home.site (story_of scenario commands)) tid) q

@@ -4,6 +4,7 @@ use Rattle.std.proofs.Common.{◌≡◌, Bool, true, false, cond, Option, Some, 
 use Rattle.mdb_base.specs.declared.names.SiteId.{SiteId}
 use Rattle.mdb_base.specs.declared.names.Tid.{Tid}
 use Rattle.mdb_base.specs.Names.{same_tid, tid_before}
+use Rattle.mdb_base.proofs.NameLaws.{same_tid-equal, same_tid-refl}
 use Rattle.order_laws.specs.Chains.{In, Distinct, Acyclic, Within}
 use Rattle.order_laws.specs.Merge.{IsLeastOrder}
 use Rattle.order_laws.specs.Orders.{Before, Union}
@@ -14,7 +15,7 @@ use Rattle.order_laws.proofs.Least.{least_is_merge, least_merge_one}
 use Rattle.order_laws.proofs.LeastFound.{merged_is_least}
 use Rattle.order_laws.proofs.Lists.{among_is, each_from}
 use Rattle.order_laws.proofs.Merge.{merge_distinct}
-use Rattle.order_laws.proofs.Names.{same_tid_alike, same_tid_self, tells_tids, ranks_tids}
+use Rattle.order_laws.proofs.Names.{tells_tids, ranks_tids}
 use Rattle.order_laws.proofs.Orders.{before_in}
 use Rattle.order_laws.proofs.Placed.{least_merge_placed, least_order_left}
 use Rattle.order_laws.proofs.Sites.{sites_acyclic}
@@ -53,12 +54,12 @@ commit_is [] node tid i e = absurd i
 commit_is (x ∷ nodes) node tid i e = by_test (same_tid x.tid tid) refl i (λ j. commit_is nodes node tid j e)
   where
     first : In node (x ∷ nodes) → same_tid x.tid tid ≡ false → In node nodes
-    first (inl p) f = let t : same_tid x.tid tid ≡ true = subst (λ (y : Ticketed). same_tid y.tid tid ≡ true) (sym p) (subst (λ u. same_tid u tid ≡ true) (sym e) (same_tid_self tid)) in cc
+    first (inl p) f = let t : same_tid x.tid tid ≡ true = subst (λ (y : Ticketed). same_tid y.tid tid ≡ true) (sym p) (subst (λ u. same_tid u tid ≡ true) (sym e) (same_tid-refl tid)) in cc
     first (inr j) f = j
 
     by_test : (t : Bool) → same_tid x.tid tid ≡ t → In node (x ∷ nodes) → (In node nodes → In (commit_of nodes tid) nodes × ((commit_of nodes tid).tid ≡ tid))
         → In (cond t x (commit_of nodes tid)) (x ∷ nodes) × ((cond t x (commit_of nodes tid)).tid ≡ tid)
-    by_test true q i rest = (inl refl, same_tid_alike x.tid tid q)
+    by_test true q i rest = (inl refl, same_tid-equal x.tid tid q)
     by_test false q i rest = let found = rest (first i q) in (inr found.0, found.1)
 
 -- where no attempt has two Commit records, edges between attempts have no cycle either

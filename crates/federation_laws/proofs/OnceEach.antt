@@ -1,6 +1,7 @@
 -- Of each transaction at most one attempt stands in the orders of the sites.
 use Rattle.std.proofs.Common.{◌≡◌, inr, List, sym, ap, subst, ◌∙◌}
 use Rattle.mdb_base.specs.declared.names.Tid.{Tid}
+use Rattle.mdb_base.proofs.OptionLaws.{some_parts}
 use Rattle.fed_rules.specs.declared.commands.Command.{Command}
 use Rattle.fed_rules.specs.declared.scenario.Scenario.{Scenario}
 use Rattle.fed_rules.specs.Plans.{IsScenario}
@@ -15,7 +16,6 @@ use Rattle.federation_laws.proofs.Memberships.{Kind, AtHome, Roaming, kind-of}
 use Rattle.federation_laws.proofs.OnceGlobal.{global-once}
 use Rattle.federation_laws.proofs.OnceLocal.{local-once}
 use Rattle.federation_laws.proofs.Told.{local_home-declared}
-use Rattle.order_laws.proofs.Alike.{some_parts}
 use Rattle.fed_rules.specs.SitePast.{records}
 
 -- two members of one transaction are one attempt: both local, at one home, or both global

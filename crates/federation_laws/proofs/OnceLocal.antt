@@ -6,9 +6,10 @@ use Rattle.mdb_base.specs.declared.names.Tx.{Tx}
 use Rattle.mdb_base.specs.declared.rows.Put.{Put}
 use Rattle.mdb_base.specs.Names.{same_site, same_tx}
 use Rattle.mdb_base.specs.Words.{first_where, map_some, some_of}
+use Rattle.mdb_base.proofs.NameLaws.{same_site-equal, same_tid-refl, same_tx-from}
+use Rattle.mdb_base.proofs.OptionLaws.{some_parts}
 use Rattle.order_laws.specs.Chains.{In}
 use Rattle.order_laws.proofs.Lists.{each_from, first_where_none}
-use Rattle.order_laws.proofs.Names.{same_site_alike, same_tid_self}
 use Rattle.fed_rules.specs.declared.commands.Command.{Command}
 use Rattle.fed_rules.specs.declared.events.SiteEvent.{SiteEvent}
 use Rattle.fed_rules.specs.declared.events.SiteEvent.TheVariants as Ev
@@ -30,10 +31,8 @@ use Rattle.federation_laws.proofs.LocalLines.{local-made}
 use Rattle.federation_laws.proofs.LocalMoves.{Opens, LocalMove, Rests, Gone, Opening, Granting, Closing, Made}
 use Rattle.federation_laws.proofs.LocalStories.{not-asked}
 use Rattle.federation_laws.proofs.Members.{IsLocal, record-from, sealing-call}
-use Rattle.federation_laws.proofs.OnceGlobal.{same_tx-true}
 use Rattle.site_history.proofs.Agreement.{live_is}
 use Rattle.federation_laws.proofs.Told.{SiteCause, IsSiteLine, IsLine, line_is}
-use Rattle.order_laws.proofs.Alike.{some_parts}
 
 -- a run of the attempt is live, or a Local record of it is kept
 abbrev pub IsActive : Home → SitePast → Tid → Type 0
@@ -53,7 +52,7 @@ active-from home past event x t (Granting g) (inl l) = inl (inl (g.run, g.was))
 active-from home past event x t (Closing k) (inl l) = (let none = k.now in let found = l.1 in let clash = sym none ∙ found in cc)
 active-from home past event x t move (inr l) = elim (record-from x.calls (disk home past) (Rec.Local t l.number l.writes) l.kept) [
   | inl old ↦ inl (inr (record { number = l.number; writes = l.writes; kept = old }))
-  | inr new ↦ inl (inl (by_move move (sealing-call t (Rec.Local t l.number l.writes) x.calls (same_tid_self t) new)))
+  | inr new ↦ inl (inl (by_move move (sealing-call t (Rec.Local t l.number l.writes) x.calls (same_tid-refl t) new)))
 ]
   where
     by_move : LocalMove home past t event x → some_of (seals t) x.calls ≡ true → (run : Run) × (live home past t ≡ Some run)
@@ -68,7 +67,7 @@ none-local : (rs : List SiteRecord) (tx : Tx) (t : Tid) (number : ℕ) (writes :
 none-local [] tx t number writes e s i = i
 none-local (r ∷ rs) tx t number writes e s (inl own) =
     (let shown : local_of (Rec.Local t number writes ∷ rs) tx ≡ None = subst (λ q. local_of (q ∷ rs) tx ≡ None) own e in
-    let yes : local_of (Rec.Local t number writes ∷ rs) tx ≡ Some t = ap (λ b. cond b (Some t) (local_of rs tx)) (same_tx-true t.tx tx s) in
+    let yes : local_of (Rec.Local t number writes ∷ rs) tx ≡ Some t = ap (λ b. cond b (Some t) (local_of rs tx)) (same_tx-from t.tx tx s) in
     let clash = sym yes ∙ shown in cc)
 none-local (r ∷ rs) tx t number writes e s (inr i) = none-local rs tx t number writes (behind r e) s i
   where
@@ -108,7 +107,7 @@ none-live home past tx t run right none s alive = (let clash = sym passes ∙ fa
     own = tid_is (epoch_start home past) (engine_lines past) right t run at.0
 
     passes : (same_tx run.tid.tx tx && not (is_sealed run)) ≡ true
-    passes = ap (λ b. b && not (is_sealed run)) (same_tx-true run.tid.tx tx (ap (λ (u : Tid). u.tx) own ∙ s)) ∙ ap (λ (o : Option ℕ). not (is_some o)) at.1
+    passes = ap (λ b. b && not (is_sealed run)) (same_tx-from run.tid.tx tx (ap (λ (u : Tid). u.tx) own ∙ s)) ∙ ap (λ (o : Option ℕ). not (is_some o)) at.1
 
 -- where an attempt begins, no other one of its transaction is active
 opens-alone : (home : Home) (past : SitePast) (event : SiteEvent) (x : SiteHappening) (a b : Tid) → IsRight (epoch_start home past) (engine_lines past) → Opens home past a event x → b.tx ≡ a.tx → IsActive home past b → ⊥
@@ -138,7 +137,7 @@ once-here scenario good commands home x event right is c h =
 once-site-line : (scenario : Scenario) → IsScenario scenario → (commands : List Command) (home : Home) (s : SiteId) (x : SiteHappening) → home_of scenario home.site ≡ Some home → IsRight (epoch_start home (past_of home.site (story_of scenario commands))) (engine_lines (past_of home.site (story_of scenario commands)))
     → IsSiteLine scenario (story_of scenario commands) s x → LocalOnce scenario home (past_of home.site (story_of scenario commands)) → (b : Bool) → same_site s home.site ≡ b → LocalOnce scenario home (cond b (x ∷ past_of home.site (story_of scenario commands)) (past_of home.site (story_of scenario commands)))
 once-site-line scenario good commands home s x declared right line h true q =
-    let own : line.home.site ≡ home.site = sym line.here ∙ same_site_alike s home.site q in
+    let own : line.home.site ≡ home.site = sym line.here ∙ same_site-equal s home.site q in
     let same : line.home ≡ home = some_parts (sym line.declared ∙ (ap (home_of scenario) own ∙ declared)) in
     once-here scenario good commands home x line.event right
     (subst (λ (z : Home). x ≡ site_line z (past_of z.site (story_of scenario commands)) line.event) same line.is_next)

@@ -2,8 +2,8 @@
 use Rattle.std.proofs.Common.{◌≡◌, Bool, true, false, ◌||◌, List, [], ◌∷◌, inl, inr, refl, sym, ap, subst, ◌∙◌}
 use Rattle.mdb_base.specs.declared.acts.Step.{Step}
 use Rattle.mdb_base.specs.Names.{same_site}
+use Rattle.mdb_base.proofs.NameLaws.{same_site-refl}
 use Rattle.order_laws.specs.Chains.{In}
-use Rattle.order_laws.proofs.Names.{same_site_self}
 use Rattle.fed_rules.specs.declared.commands.Command.{Command}
 use Rattle.fed_rules.specs.declared.scenario.Scenario.{Scenario}
 use Rattle.fed_rules.specs.CoordPast.{visits}
@@ -19,7 +19,7 @@ use Rattle.federation_laws.proofs.StoryGlobals.{story-holds}
 -- the steps of a list visit the site of each of them
 step-visits : (steps : List Step) (step : Step) → In step steps → visits step.site steps ≡ true
 step-visits [] step i = absurd i
-step-visits (s ∷ steps) step (inl own) = ap (λ b. b || visits step.site steps) (ap (λ (x : Step). same_site x.site step.site) own ∙ same_site_self step.site)
+step-visits (s ∷ steps) step (inl own) = ap (λ b. b || visits step.site steps) (ap (λ (x : Step). same_site x.site step.site) own ∙ same_site-refl step.site)
 step-visits (s ∷ steps) step (inr i) = second (same_site s.site step.site) (visits step.site steps) (step-visits steps step i)
   where
     second : (a b : Bool) → b ≡ true → (a || b) ≡ true

@@ -16,11 +16,11 @@ use Rattle.mdb_base.specs.Programs.{plain_act}
 use Rattle.mdb_base.specs.Words.{Each, when, pick, how_many, found, with_some}
 use Rattle.mdb_base.proofs.ListLaws.{each_map, those_pass}
 use Rattle.mdb_base.proofs.Words.{cond-true}
+use Rattle.mdb_base.proofs.NameLaws.{same_tid-refl}
 use Rattle.presumptions.specs.declared.Decision.{Decision}
 use Rattle.presumptions.specs.declared.Participant.{Participant}
 use Rattle.order_laws.specs.Search.{cycle_through}
 use Rattle.order_laws.specs.Tickets.{edge_between}
-use Rattle.order_laws.proofs.Names.{same_tid_self}
 use Rattle.fed_rules.specs.declared.answers.Answer.{Answer}
 use Rattle.fed_rules.specs.declared.answers.Answer.TheVariants as Say
 use Rattle.fed_rules.specs.declared.answers.Cause.{Cause}
@@ -34,10 +34,11 @@ use Rattle.fed_rules.specs.declared.messages.FromSite.TheVariants as From
 use Rattle.fed_rules.specs.declared.messages.ToSite.{ToSite}
 use Rattle.fed_rules.specs.declared.messages.ToSite.TheVariants as To
 use Rattle.fed_rules.specs.Coord.{message_of, send_due, is_take, decide_to, may_take, held_back, let_through, defers_some, defers_all, sends_dues, sends_news, sends_all, all_outstanding, news, aborts, commits_it, of_go, fits, did_reply, of_did, vote_tickets, last_vote, yes_vote, vote_counts, vote_counted, of_vote, missing, ack_counts, acked_while, of_ack, asked_while, of_inquiry, of_take, again_while, of_again, of_late, of_fate, of_back, answered, unless_tripped, coord_line, of_check}
-use Rattle.fed_rules.specs.CoordPast.{CoordHappening, CoordPast, Standing, Undecided, Decided, Gone, disk, records, trip, is_open, is_about, known_decision, standing_of, standing, program, visits, participants, counted, reads, epoch_at, count_at, next_step, has_step_left, has_ticket_at, work_at, take_at, prepare_at, outstanding, is_wait, is_ticket}
+use Rattle.fed_rules.specs.CoordPast.{CoordHappening, CoordPast, Standing, Undecided, Decided, Gone, disk, records, trip, is_open, is_about, known_decision, standing, program, visits, participants, counted, reads, epoch_at, count_at, next_step, has_step_left, has_ticket_at, work_at, take_at, prepare_at, outstanding, is_wait, is_ticket}
 use Rattle.fed_rules.specs.CoordRecords.{coord_frame, commits}
 use Rattle.fed_rules.specs.Happenings.{Trip, quiet, is_down, stopped, tripped}
 use Rattle.fed_rules.specs.Policies.{Policy}
+use Rattle.rules_laws.proofs.Scenarios.{undecided_open}
 
 -- the attempt that the line is about is undecided, and may take tickets
 pub record MayTake (protocols : List Participant) (policy : Policy) (past : CoordPast) (event : CoordEvent) (tid : Tid) : Type 0 where
@@ -151,7 +152,7 @@ first-no_take past tid steps site due e = by_tests (visits site (program now tid
     now = quiet (Ev.Go tid steps) (Say.Begun tid) ∷ past
 
     none : counted (quiet (Ev.Go tid steps) (Say.Begun tid) ∷ past) tid ≡ []
-    none = cond-true _ _ _ (same_tid_self tid)
+    none = cond-true _ _ _ (same_tid-refl tid)
 
     left : has_step_left (quiet (Ev.Go tid steps) (Say.Begun tid) ∷ past) tid site ≡ visits site (program (quiet (Ev.Go tid steps) (Say.Begun tid) ∷ past) tid)
     left = ap (λ replies. visits site (drop (how_many (λ reply. not (is_wait reply.reply) && not (is_ticket reply.reply)) replies) (program (quiet (Ev.Go tid steps) (Say.Begun tid) ∷ past) tid))) none
@@ -160,11 +161,6 @@ first-no_take past tid steps site due e = by_tests (visits site (program now tid
     by_tests true true t p q e = work-no_take now tid site (next_step now tid) due e
     by_tests true false t p q e = (let clash = sym q ∙ (left ∙ p) in cc)
     by_tests false l t p q e = cc
-
-open-undecided : (opened : Bool) (decision : Option Decision) → standing_of opened decision ≡ Undecided → opened ≡ true
-open-undecided true decision e = refl
-open-undecided false (Some decision) e = cc
-open-undecided false None e = cc
 
 module _ (protocols : List Participant) (policy : Policy) (past : CoordPast) where
   first_checked : (tid : Tid) (steps : List Step) (due : Due) → is_take due ≡ false → MayBeSent protocols policy past (Ev.Go tid steps) (message_of tid due)
@@ -206,7 +202,7 @@ module _ (protocols : List Participant) (policy : Policy) (past : CoordPast) whe
   reply_checked site tid epoch n (Reply_is.Refused (Because.Die by)) opened = aborts_checked protocols policy past _ tid (For.Dies site by) tt
   reply_checked site tid epoch n (Reply_is.Refused (Because.Late by)) opened = aborts_checked protocols policy past _ tid (For.TooLate site by) tt
   reply_checked site tid epoch n Reply_is.Unknown opened = aborts_checked protocols policy past _ tid (For.Unknown site) tt
-  reply_checked site tid epoch n reply opened = news_checked site (From.Did tid epoch n reply) tid (same_tid_self tid) opened
+  reply_checked site tid epoch n reply opened = news_checked site (From.Did tid epoch n reply) tid (same_tid-refl tid) opened
 
   did_checked : (site : SiteId) (tid : Tid) (epoch n : ℕ) (reply : Reply) → IsChecked protocols policy past (Ev.Take site (From.Did tid epoch n reply)) (of_did protocols policy past site tid epoch n reply)
   unfolding of_did
@@ -264,11 +260,11 @@ module _ (protocols : List Participant) (policy : Policy) (past : CoordPast) whe
       let dues = all_outstanding protocols past tid in
       dues_checked protocols policy past (Ev.Again tid) tid (defers_all (held_back protocols policy past tid dues) (let_through protocols policy past tid dues)) (let_through protocols policy past tid dues)
       (all_refuses protocols policy past (Ev.Again tid) (held_back protocols policy past tid dues) (let_through protocols policy past tid dues))
-      (through_checked protocols policy past (Ev.Again tid) tid dues (same_tid_self tid) opened)
+      (through_checked protocols policy past (Ev.Again tid) tid dues (same_tid-refl tid) opened)
 
   again_checked : (tid : Tid) (s : Standing) → standing protocols past tid ≡ s → IsChecked protocols policy past (Ev.Again tid) (again_while protocols policy past tid s)
   unfolding again_while
-  again_checked tid Undecided is = all_checked tid (open-undecided (is_open past tid) (known_decision protocols past tid) is)
+  again_checked tid Undecided is = all_checked tid (undecided_open (is_open past tid) (known_decision protocols past tid) is)
   again_checked tid (Decided decision) is = record { takes = decides_checked protocols policy past (Ev.Again tid) tid decision (missing protocols past tid decision); refuses = tt }
   again_checked tid Gone is = quiet_checked protocols policy past _ _ tt
 

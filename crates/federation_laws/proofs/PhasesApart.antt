@@ -1,13 +1,16 @@
 -- Where tickets are taken conservatively, attempts that are in their phases at the same time have no site in common.
 use Rattle.std.proofs.Common.{◌≡◌, ◌⊎◌, true, false, not, ◌&&◌, List, [], ◌∷◌, ◌++◌, map, inl, inr, refl, sym, ap, subst, ◌∙◌}
+use Rattle.std.proofs.lemmas.Bool.{and_from, and_parts, not-true, or_cases}
 use Rattle.mdb_base.specs.declared.names.SiteId.{SiteId}
 use Rattle.mdb_base.specs.declared.names.Tid.{Tid}
 use Rattle.mdb_base.specs.Names.{same_site, same_tid}
 use Rattle.mdb_base.specs.Words.{Each, some_of, those}
+use Rattle.mdb_base.proofs.ListLaws.{among_some}
+use Rattle.mdb_base.proofs.NameLaws.{same_site-refl, same_tid-equal}
 use Rattle.presumptions.specs.declared.Participant.{Participant}
 use Rattle.order_laws.specs.Chains.{In}
-use Rattle.order_laws.proofs.Lists.{and_both, and_cases, bool_is, each_of_at, in_front, in_last, in_those, is_among, is_in_true, map_among, not_true, or_cases, some_of_true}
-use Rattle.order_laws.proofs.Names.{same_site_self, same_tid_alike, tells_tids}
+use Rattle.order_laws.proofs.Lists.{bool_is, each_of_at, in_front, in_last, in_those, is_among, is_in_true, map_among}
+use Rattle.order_laws.proofs.Names.{tells_tids}
 use Rattle.fed_rules.specs.declared.commands.Command.{Command}
 use Rattle.fed_rules.specs.declared.events.CoordEvent.{CoordEvent}
 use Rattle.fed_rules.specs.declared.events.CoordEvent.TheVariants as Ev
@@ -39,17 +42,17 @@ take_sent protocols policy past event g (sent ∷ sends) h e = elim (or_cases (i
 ]
   where
     by_message : (m : ToSite) → MayBeSent protocols policy past event m → is_take_of g (record { site = sent.site; message = m }) ≡ true → MayTake protocols policy past event g
-    by_message (To.Take tid epoch n) may q = subst (MayTake protocols policy past event) (same_tid_alike tid g q) may
+    by_message (To.Take tid epoch n) may q = subst (MayTake protocols policy past event) (same_tid-equal tid g q) may
     by_message (To.Work tid epoch n act) may q = cc
     by_message (To.Prepare tid epoch n) may q = cc
     by_message (To.Decide tid decision) may q = cc
 
 -- an event is about one attempt
 about_one : (event : CoordEvent) (a b : Tid) → is_about a event ≡ true → is_about b event ≡ true → a ≡ b
-about_one (Ev.Go tid steps) a b p q = sym (same_tid_alike tid a p) ∙ same_tid_alike tid b q
-about_one (Ev.Take site message) a b p q = sym (same_tid_alike (message_tid message) a p) ∙ same_tid_alike (message_tid message) b q
-about_one (Ev.Again tid) a b p q = sym (same_tid_alike tid a p) ∙ same_tid_alike tid b q
-about_one (Ev.Late tid) a b p q = sym (same_tid_alike tid a p) ∙ same_tid_alike tid b q
+about_one (Ev.Go tid steps) a b p q = sym (same_tid-equal tid a p) ∙ same_tid-equal tid b q
+about_one (Ev.Take site message) a b p q = sym (same_tid-equal (message_tid message) a p) ∙ same_tid-equal (message_tid message) b q
+about_one (Ev.Again tid) a b p q = sym (same_tid-equal tid a p) ∙ same_tid-equal tid b q
+about_one (Ev.Late tid) a b p q = sym (same_tid-equal tid a p) ∙ same_tid-equal tid b q
 about_one (Ev.Fate tx) a b p q = cc
 about_one (Ev.Halt cut) a b p q = cc
 about_one (Ev.Trip calls cut) a b p q = cc
@@ -63,13 +66,13 @@ in_oldest t (u ∷ ts) (inr i) = in_front t u (oldest_first ts) (in_oldest t ts 
 
 shares : (own other : List SiteId) (s : SiteId) → In s own → In s other → share_site own other ≡ true
 shares own other s i j =
-    some_of_true (λ site. some_of (same_site site) other) own
+    among_some (λ site. some_of (same_site site) other) own
     (is_among (λ site. some_of (same_site site) other ≡ true) s own i
-    (some_of_true (same_site s) other (is_among (λ site. same_site s site ≡ true) s other j (same_site_self s))))
+    (among_some (same_site s) other (is_among (λ site. same_site s site ≡ true) s other j (same_site-refl s))))
 
 other_tid : (a b : Tid) → (a ≡ b → ⊥) → not (same_tid b a) ≡ true
 other_tid a b apart = elim (bool_is (same_tid b a)) [
-  | inl same ↦ absurd (apart (sym (same_tid_alike b a same)))
+  | inl same ↦ absurd (apart (sym (same_tid-equal b a same)))
   | inr other ↦ ap not other
 ]
 
@@ -77,11 +80,11 @@ other_tid a b apart = elim (bool_is (same_tid b a)) [
 enters_apart : (protocols : List Participant) (past : CoordPast) (a b : Tid) → may_take protocols conservatively past a ≡ true → in_phase past b ≡ true → is_begun past b ≡ true → (a ≡ b → ⊥) → (s : SiteId) → In s (sites_of protocols past a) → In s (sites_of protocols past b) → ⊥
 enters_apart protocols past a b may phase begun apart s i j =
     let listed = in_oldest b (begun_tids past) (is_in_true same_tid tells_tids (begun_tids past) b begun) in
-    let test = and_both (not (same_tid b a)) (in_phase past b) (other_tid a b apart) phase in
+    let test = and_from (not (same_tid b a)) (in_phase past b) (other_tid a b apart) phase in
     let among = in_those (λ other. not (same_tid other a) && in_phase past other) b (oldest_first (begun_tids past)) listed test in
     let beside = map_among (λ sites. sites ≡ sites_of protocols past b) (sites_of protocols past) (those (λ other. not (same_tid other a) && in_phase past other) (oldest_first (begun_tids past)))
     (is_among (λ other. sites_of protocols past other ≡ sites_of protocols past b) b (those (λ other. not (same_tid other a) && in_phase past other) (oldest_first (begun_tids past))) among refl) in
-    let none = not_true (share_site (sites_of protocols past a) (sites_of protocols past b))
+    let none = not-true (share_site (sites_of protocols past a) (sites_of protocols past b))
     (each_of_at (λ other. not (share_site (sites_of protocols past a) other)) (others_in_phase protocols past a) (sites_of protocols past b) may beside) in
     let some = shares (sites_of protocols past a) (sites_of protocols past b) s i j in
     let clash = sym some ∙ none in cc
@@ -108,14 +111,14 @@ module _ (protocols : List Participant) (past : CoordPast) (event : CoordEvent) 
   -- who is in its phase was so, or may enter it
   pub phase_from : (g : Tid) → in_phase (x ∷ past) g ≡ true → (begins g x.answer ≡ false) × ((in_phase past g ≡ true) ⊎ MayTake protocols conservatively past event g)
   phase_from g e =
-      let (opened, sent) = and_cases (is_open (x ∷ past) g) (has_sent (is_take_of g) (x ∷ past)) e in
+      let (opened, sent) = and_parts (is_open (x ∷ past) g) (has_sent (is_take_of g) (x ∷ past)) e in
       let none = not_begins g (take_begun g sent) in (
         none,
         elim (or_cases (some_of (is_take_of g) x.sends) (has_sent (is_take_of g) past) sent) [
           | inl now ↦ inr (take_sent protocols conservatively past event g x.sends checked.takes now)
           | inr before ↦ elim (undecided_from past g x (subst (λ ev. Begins ev x.answer) (sym made.heard) made.begun) opened) [
             | inl does ↦ absurd (let clash = sym does ∙ none in cc)
-            | inr was ↦ inl (and_both (is_open past g) (has_sent (is_take_of g) past) was.0 before)
+            | inr was ↦ inl (and_from (is_open past g) (has_sent (is_take_of g) past) was.0 before)
           ]
         ],
       )
@@ -124,7 +127,7 @@ module _ (protocols : List Participant) (past : CoordPast) (event : CoordEvent) 
   same_sites g e = ap (λ steps. map (λ (p : Participant). p.site) (participants_of protocols steps)) (program-stays past g x e)
 
   phase_begun : (g : Tid) → in_phase past g ≡ true → is_begun past g ≡ true
-  phase_begun g e = once.begun g (and_cases (is_open past g) (has_sent (is_take_of g) past) e).0
+  phase_begun g e = once.begun g (and_parts (is_open past g) (has_sent (is_take_of g) past) e).0
 
   apart_from : (a b : Tid) → (a ≡ b → ⊥) → (s : SiteId) → In s (sites_of protocols past a) → In s (sites_of protocols past b) → (in_phase past a ≡ true) ⊎ MayTake protocols conservatively past event a → (in_phase past b ≡ true) ⊎ MayTake protocols conservatively past event b → ⊥
   apart_from a b other s i j (inl p) (inl q) = h.apart a b p q other s i j

@@ -7,10 +7,11 @@ use Rattle.mdb_base.specs.declared.names.Tx.{Tx}
 use Rattle.mdb_base.specs.Names.{same_site, same_tx}
 use Rattle.mdb_base.specs.Programs.{IsProgram}
 use Rattle.mdb_base.specs.Words.{Among, each_of, map_some}
+use Rattle.mdb_base.proofs.NameLaws.{same_site-equal}
+use Rattle.mdb_base.proofs.OptionLaws.{some_parts}
 use Rattle.presumptions.specs.declared.Participant.{Participant}
 use Rattle.order_laws.specs.Chains.{In}
 use Rattle.order_laws.proofs.Lists.{each_at, each_of_at, first_where_some, some_of_is}
-use Rattle.order_laws.proofs.Names.{same_site_alike}
 use Rattle.fed_rules.specs.declared.scenario.Scenario.{Scenario}
 use Rattle.fed_rules.specs.declared.scenario.SiteLine.{SiteLine}
 use Rattle.fed_rules.specs.declared.scenario.TxLine.{TxLine}
@@ -18,7 +19,6 @@ use Rattle.fed_rules.specs.CoordPast.{visits}
 use Rattle.fed_rules.specs.Plans.{IsScenario, is_declared, is_in_place, is_transaction, is_between}
 use Rattle.fed_rules.specs.Scenarios.{protocols_in, protocols, transaction, program_of_line, program_of, home_of_line, local_site, global_line, global_program}
 use Rattle.federation_laws.proofs.Declared.{put-in, put-kept}
-use Rattle.order_laws.proofs.Alike.{some_parts}
 
 global-is : (o : Option TxLine) (steps : List Step) → map_some (λ line. line.program) (global_line o) ≡ Some steps → (program_of_line o ≡ steps) × (home_of_line o ≡ None)
 global-is None steps e = cc
@@ -38,7 +38,7 @@ declared-participant [] s e = cc
 declared-participant (line ∷ lines) s e = by_test (same_site line.site s) refl e (declared-participant lines s)
   where
     by_test : (t : Bool) → same_site line.site s ≡ t → (t || is_declared lines s) ≡ true → (is_declared lines s ≡ true → Among (λ p. p.site ≡ s) (protocols_in lines)) → Among (λ p. p.site ≡ s) (protocols_in (line ∷ lines))
-    by_test true q e k = put-in (λ (p : Participant). p.site ≡ s) (λ a b. nat_lt a.site.0 b.site.0) (record { site = line.site; protocol = line.protocol }) (protocols_in lines) (same_site_alike line.site s q)
+    by_test true q e k = put-in (λ (p : Participant). p.site ≡ s) (λ a b. nat_lt a.site.0 b.site.0) (record { site = line.site; protocol = line.protocol }) (protocols_in lines) (same_site-equal line.site s q)
     by_test false q e k = put-kept (λ (p : Participant). p.site ≡ s) (λ a b. nat_lt a.site.0 b.site.0) (record { site = line.site; protocol = line.protocol }) (protocols_in lines) (k e)
 
 -- the sites of a program in place are declared
@@ -47,7 +47,7 @@ visited-declared lines home steps s none e v =
     let (step, i, q) = some_of_is (λ (step : Step). same_site step.site s) steps v in
     let in_place : is_in_place lines home step ≡ true = each_of_at (is_in_place lines home) steps step e i in
     let declared : is_declared lines step.site ≡ true = sym (ap (λ h. is_in_place lines h step) none) ∙ in_place in
-    subst (λ z. is_declared lines z ≡ true) (same_site_alike step.site s q) declared
+    subst (λ z. is_declared lines z ≡ true) (same_site-equal step.site s q) declared
 
 line-declared : (scenario : Scenario) → IsScenario scenario → (tx : Tx) (o : Option TxLine) → transaction scenario tx ≡ o → home_of_line o ≡ None → (s : SiteId) → visits s (program_of_line o) ≡ true → is_declared scenario.sites s ≡ true
 line-declared scenario good tx None e none s v = cc
@@ -61,7 +61,7 @@ pub global-declared : (scenario : Scenario) → IsScenario scenario → (tx : Tx
 global-declared scenario good tx none s v = declared-participant scenario.sites s (line-declared scenario good tx (transaction scenario tx) refl none s v)
 
 local-steps : (lines : List SiteLine) (home : SiteId) (steps : List Step) → each_of (is_in_place lines (Some home)) steps ≡ true → (step : Step) → In step steps → step.site ≡ home
-local-steps lines home steps e step i = same_site_alike step.site home (and_parts (is_declared lines home) (same_site step.site home) (each_of_at (is_in_place lines (Some home)) steps step e i)).1
+local-steps lines home steps e step i = same_site-equal step.site home (and_parts (is_declared lines home) (same_site step.site home) (each_of_at (is_in_place lines (Some home)) steps step e i)).1
 
 line-local : (scenario : Scenario) → IsScenario scenario → (tx : Tx) (o : Option TxLine) → transaction scenario tx ≡ o → (home : SiteId) → home_of_line o ≡ Some home → (step : Step) → In step (program_of_line o) → step.site ≡ home
 line-local scenario good tx None e home h step i = cc

@@ -6,7 +6,7 @@ use Rattle.mdb_base.specs.Names.{same_site}
 use Rattle.mdb_base.specs.Programs.{plain_act}
 use Rattle.mdb_base.specs.Rows.{Table}
 use Rattle.mdb_base.specs.Words.{item_at}
-use Rattle.order_laws.proofs.Names.{same_site_self}
+use Rattle.mdb_base.proofs.NameLaws.{same_site-refl}
 use Rattle.fed_rules.specs.Runs.{Access, Got, Wrote, after}
 use Rattle.fed_rules.specs.Serial.{Tables, update, Ran, reads_after, tables_after, run_steps, alone}
 use Rattle.fed_rules.specs.SerialRuns.{ReadsAlone}
@@ -101,7 +101,7 @@ here site (Wrote key value) xs tables h = refl
 pub gives-reads : (xs : List SiteAccess) (tables : Tables) → ((site : SiteId) → ReadsAlone (at site xs) (tables site)) → GivesReads xs tables
 gives-reads [] tables h = tt
 gives-reads (x ∷ xs) tables h = (
-  here x.site x.access xs tables (let e : same_site x.site x.site ≡ true = same_site_self x.site in let k : ReadsAlone (cond (same_site x.site x.site) (x.access ∷ at x.site xs) (at x.site xs)) (tables x.site) = h x.site in
+  here x.site x.access xs tables (let e : same_site x.site x.site ≡ true = same_site-refl x.site in let k : ReadsAlone (cond (same_site x.site x.site) (x.access ∷ at x.site xs) (at x.site xs)) (tables x.site) = h x.site in
       subst (λ t. ReadsAlone (cond t (x.access ∷ at x.site xs) (at x.site xs)) (tables x.site)) e k),
   gives-reads xs tables (λ site. behind site x xs (tables site) (same_site x.site site) (h site)),
 )

@@ -20,12 +20,14 @@ use Rattle.fed_rules.specs.declared.messages.ToSite.{ToSite}
 use Rattle.fed_rules.specs.declared.messages.ToSite.TheVariants as To
 use Rattle.fed_rules.specs.declared.records.SiteRecord.{SiteRecord}
 use Rattle.fed_rules.specs.declared.records.SiteRecord.TheVariants as Rec
-use Rattle.fed_rules.specs.Disk.{Disk, Call, Append, Sync, after_call, after_calls}
+use Rattle.fed_rules.specs.Disk.{Call, Append, Sync, after_call}
 use Rattle.fed_rules.specs.Happenings.{stops, comes_up}
 use Rattle.fed_rules.specs.Runs.{EngineLine, Run, tid_of}
-use Rattle.fed_rules.specs.Site.{with_lines, of_begin, of_act, seals_local, of_commit, of_abort, of_fate, did, unknown, first_work, next_work, next_take, repeated, work_live, of_work, take_live, of_take, votes_again, votes_no, votes_yes, seals_global, prepare_live, of_prepare, ack_of, settling_line, settles, unheld, of_decide, of_ask, of_drop}
+use Rattle.fed_rules.specs.Site.{with_lines, of_begin, of_act, seals_local, of_commit, of_abort, of_fate, did, unknown, first_work, next_work, next_take, repeated, work_live, of_work, take_live, of_take, votes_again, votes_no, votes_yes, seals_global, prepare_live, of_prepare, ack_of, settles, unheld, of_decide, of_ask, of_drop}
 use Rattle.fed_rules.specs.SitePast.{SiteHappening, SitePast, disk, epoch}
 use Rattle.fed_rules.specs.SiteRecords.{Home, site_frame, epoch_of}
+use Rattle.site_history.proofs.MessageLines.{ended_records}
+use Rattle.commit_laws.proofs.SiteEnds.{settling-tid}
 
 -- the message is of this attempt, or no reply or vote
 abbrev pub Speaks : Tid → FromSite → Type 0
@@ -149,15 +151,6 @@ ack-speaks home tid decision = by_test (acks home.protocol decision)
     by_test true = (tt, tt)
     by_test false = tt
 
-pub settling-tid : (tid : Tid) (decision : Decision) → tid_of (settling_line tid decision) ≡ tid
-settling-tid tid Decided.Commit = refl
-settling-tid tid Decided.Abort = refl
-
--- a sync leaves the records
-pub sync-records : (d : Disk SiteRecord) (t : Bool) → (after_calls site_frame d (cond t (Sync ∷ []) [])).records ≡ d.records
-sync-records d true = refl
-sync-records d false = refl
-
 pub decide_about : (home : Home) (past : SitePast) (tid : Tid) (decision : Decision) → IsAbout home past tid (of_decide home past tid decision)
 unfolding of_decide settles unheld
 decide_about home past tid decision =
@@ -165,7 +158,7 @@ decide_about home past tid decision =
     (about_pick home past tid _ _ _
     (record { plain = refl; lines = tt; sends = ack-speaks home tid decision; calls = tt; calm = refl; locals = tt })
     (λ run. record { plain = refl; lines = (refl, tt); sends = ack-speaks home tid decision; calls = tt; calm = refl; locals = tt }))
-    (λ held. record { plain = refl; lines = (settling-tid tid decision, tt); sends = ack-speaks home tid decision; calls = forced (forces home.protocol decision); calm = ap epoch_of (sync-records (after_call site_frame (disk home past) (Append (Rec.Ended tid decision))) (forces home.protocol decision)); locals = plain (forces home.protocol decision) })
+    (λ held. record { plain = refl; lines = (settling-tid tid decision, tt); sends = ack-speaks home tid decision; calls = forced (forces home.protocol decision); calm = ap epoch_of (ended_records (after_call site_frame (disk home past) (Append (Rec.Ended tid decision))) (forces home.protocol decision)); locals = plain (forces home.protocol decision) })
   where
     plain : (t : Bool) → Each (LocalAt (Ev.Give (To.Decide tid decision))) (Append (Rec.Ended tid decision) ∷ cond t (Sync ∷ []) [])
     plain true = (tt, (tt, tt))

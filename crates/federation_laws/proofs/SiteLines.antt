@@ -4,7 +4,7 @@ use Rattle.mdb_base.specs.declared.names.Tid.{Tid}
 use Rattle.mdb_base.specs.declared.names.Tx.{Tx}
 use Rattle.mdb_base.specs.Names.{same_tid}
 use Rattle.mdb_base.specs.Words.{some_of, when}
-use Rattle.order_laws.proofs.Names.{same_tid_alike}
+use Rattle.mdb_base.proofs.NameLaws.{same_tid-equal}
 use Rattle.fed_rules.specs.declared.answers.Answer.TheVariants as Say
 use Rattle.fed_rules.specs.declared.events.SiteEvent.{SiteEvent}
 use Rattle.fed_rules.specs.declared.events.SiteEvent.TheVariants as Ev
@@ -49,7 +49,7 @@ by-tid : (g tid : Tid) (P : Tid → Type 0) → P g → (same_tid tid g ≡ fals
 by-tid g tid P own other = by_test (same_tid tid g) refl
   where
     by_test : (t : Bool) → same_tid tid g ≡ t → P tid
-    by_test true e = subst P (sym (same_tid_alike tid g e)) own
+    by_test true e = subst P (sym (same_tid-equal tid g e)) own
     by_test false e = other e
 
 give_moves : (home : Home) (g : Tid) (past : SitePast) (message : ToSite) → is_down past ≡ false → (answered home past (Ev.Give message)).event ≡ Ev.Give message → Moves home g past (Ev.Give message) (answered home past (Ev.Give message))

@@ -1,7 +1,6 @@
 -- Operations at a site: what an act and the taking of the ticket make of the attempt's run.
-use Rattle.site_history.proofs.ShutLines.{plain_parts}
 use Rattle.std.proofs.Common.{◌≡◌, ℕ, ◌+◌, ◌==◌, Bool, true, false, cond, not, ◌&&◌, ◌||◌, nat_lt, is_some, Option, Some, None, List, [], ◌∷◌, length, map, inl, inr, refl, sym, ap, subst, ◌∙◌, eqb-true, arith}
-use Rattle.std.proofs.lemmas.Bool.{or_left, or_right, and_parts}
+use Rattle.std.proofs.lemmas.Bool.{or_left, or_right, and_parts, or_parts}
 use Rattle.mdb_base.specs.declared.acts.PlainAct.{PlainAct}
 use Rattle.mdb_base.specs.declared.acts.PlainAct.TheVariants.{Read, Write}
 use Rattle.mdb_base.specs.declared.names.Tid.{Tid}
@@ -9,7 +8,8 @@ use Rattle.mdb_base.specs.declared.replies.Reply.{Reply}
 use Rattle.mdb_base.specs.declared.replies.Reply.TheVariants as Reply_is
 use Rattle.mdb_base.specs.Names.{same_tid}
 use Rattle.mdb_base.specs.Words.{some_of, when, pick}
-use Rattle.order_laws.proofs.Names.{same_tid_self}
+use Rattle.mdb_base.proofs.NameLaws.{same_tid-refl}
+use Rattle.mdb_base.proofs.JoinLaws.{length-map}
 use Rattle.fed_rules.specs.declared.events.SiteEvent.{SiteEvent}
 use Rattle.fed_rules.specs.declared.events.SiteEvent.TheVariants as Ev
 use Rattle.fed_rules.specs.declared.messages.ToSite.{ToSite}
@@ -21,7 +21,7 @@ use Rattle.fed_rules.specs.Site.{done, is_over, is_of_epoch, kept_reply_of, kept
 use Rattle.fed_rules.specs.SitePast.{SiteHappening, SitePast, records, epoch_start, engine_lines, run_of, live, live_one, ends, decides_on, is_closed}
 use Rattle.fed_rules.specs.SiteRecords.{Home, doubt_of}
 use Rattle.federation_laws.proofs.CoordOps.{Matches}
-use Rattle.federation_laws.proofs.SiteMoves.{run_ops, ops_of, length-map, done-ops, IsNth, IsFrom, Move, Same, Going, Ending, finishes, Moves, Fits, access-fits, FitsTicket, ticket-fits, unsealed-live}
+use Rattle.federation_laws.proofs.SiteMoves.{run_ops, ops_of, done-ops, IsNth, IsFrom, Move, Same, Going, Ending, finishes, Moves, Fits, access-fits, FitsTicket, ticket-fits, unsealed-live}
 use Rattle.site_history.proofs.Agreement.{live_is}
 
 pub moves_when : (home : Home) (g : Tid) (past : SitePast) (event : SiteEvent) (t : Bool) (a b : SiteHappening) → (t ≡ true → Moves home g past event a) → (t ≡ false → Moves home g past event b) → Moves home g past event (when t a b)
@@ -149,14 +149,14 @@ one-line : (home : Home) (g : Tid) (past : SitePast) (message : ToSite) (n : ℕ
 unfolding did
 one-line home g past message n reply line old t e =
     ap (λ z. live_one (cond (same_tid z g) (changed line (run_of home past g)) (run_of home past g))) t
-    ∙ (ap (λ b. live_one (cond b (changed line (run_of home past g)) (run_of home past g))) (same_tid_self g) ∙ ap (λ o. live_one (changed line o)) e)
+    ∙ (ap (λ b. live_one (cond b (changed line (run_of home past g)) (run_of home past g))) (same_tid-refl g) ∙ ap (λ o. live_one (changed line o)) e)
 
 two-lines : (home : Home) (g : Tid) (past : SitePast) (message : ToSite) (n number : ℕ) (reply : Reply) (act : PlainAct)
     → live home (did home past message g n reply (Acts g act reply ∷ Begins g number ∷ []) ∷ past) g ≡ live_one (acted reply act (begun g number))
 unfolding did
 two-lines home g past message n number reply act =
-    ap (λ b. live_one (cond b (changed (Acts g act reply) (cond (same_tid g g) (Some (begun g number)) (run_of home past g))) (cond (same_tid g g) (Some (begun g number)) (run_of home past g)))) (same_tid_self g)
-    ∙ ap (λ b. live_one (changed (Acts g act reply) (cond b (Some (begun g number)) (run_of home past g)))) (same_tid_self g)
+    ap (λ b. live_one (cond b (changed (Acts g act reply) (cond (same_tid g g) (Some (begun g number)) (run_of home past g))) (cond (same_tid g g) (Some (begun g number)) (run_of home past g)))) (same_tid-refl g)
+    ∙ ap (λ b. live_one (changed (Acts g act reply) (cond b (Some (begun g number)) (run_of home past g)))) (same_tid-refl g)
 
 -- an act of a live run
 doing-run : (home : Home) (g : Tid) (past : SitePast) (n : ℕ) (run : Run) → live home past g ≡ Some run → has_ticket run ≡ false → n ≡ done run → Doing home g past n run
@@ -171,7 +171,7 @@ doing-run home g past n run alive t e =
     }
 
 act-ends : (g : Tid) (act : PlainAct) (reply : Reply) (me : Run) (rest : List EngineLine) → Fits act reply → finishes reply ≡ false → acted reply act me ≡ None → some_of (ends g) (Acts g act reply ∷ rest) ≡ true
-act-ends g act (Reply_is.Refused why) me rest f e n = ap (λ b. b || some_of (ends g) rest) (same_tid_self g)
+act-ends g act (Reply_is.Refused why) me rest f e n = ap (λ b. b || some_of (ends g) rest) (same_tid-refl g)
 act-ends g act (Reply_is.Wait by) me rest f e n = cc
 act-ends g act (Reply_is.Value value) me rest f e n = cc
 act-ends g act Reply_is.Done me rest f e n = cc
@@ -180,7 +180,7 @@ act-ends g (Read key) Reply_is.Unknown me rest f e n = absurd f
 act-ends g (Write key value) Reply_is.Unknown me rest f e n = absurd f
 
 take-ends : (g : Tid) (reply : Reply) (me : Run) → FitsTicket reply → finishes reply ≡ false → took reply me ≡ None → some_of (ends g) (Takes g reply ∷ []) ≡ true
-take-ends g (Reply_is.Refused why) me f e n = ap (λ b. b || false) (same_tid_self g)
+take-ends g (Reply_is.Refused why) me f e n = ap (λ b. b || false) (same_tid-refl g)
 take-ends g (Reply_is.Wait by) me f e n = cc
 take-ends g (Reply_is.Value value) me f e n = cc
 take-ends g Reply_is.Done me f e n = cc
@@ -216,7 +216,7 @@ work_moves home g past e n act up =
     (λ none. moves_when home g past _ _ _ _ (λ t. first_moves home g past e n act none over up (eqb-true n 0 (and_parts (e == 0) (n == 0) t).1)) (λ t. unknown_moves home g past message n))
     (λ run alive. moves_when home g past _ _ _ _ (λ t. unknown_moves home g past message n) (λ may.
     moves_when home g past _ _ _ _
-    (λ t. next_moves home g past e n act run alive (plain_parts (not (is_of_epoch home past e n)) (has_ticket run) (plain_parts (not (is_of_epoch home past e n) || has_ticket run) (nat_lt 31 n) may).0).1 (eqb-true n (done run) t))
+    (λ t. next_moves home g past e n act run alive (or_parts (not (is_of_epoch home past e n)) (has_ticket run) (or_parts (not (is_of_epoch home past e n) || has_ticket run) (nat_lt 31 n) may).0).1 (eqb-true n (done run) t))
     (λ t. repeated_moves home g past message n run alive))))
 
 take-next_moves : (home : Home) (g : Tid) (past : SitePast) (e n : ℕ) (run : Run) → live home past g ≡ Some run → has_ticket run ≡ false → n ≡ done run → Moves home g past (Ev.Give (To.Take g e n)) (next_take home past (To.Take g e n) g n run)

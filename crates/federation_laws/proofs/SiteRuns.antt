@@ -1,10 +1,11 @@
 -- The operations that a site finished for an attempt, epoch by epoch: in each epoch it has one run at most, which only grows.
 use Rattle.std.proofs.Common.{◌≡◌, ◌⊎◌, ℕ, ◌≤◌, ◌<◌, ◌==◌, Bool, true, false, cond, ◌||◌, is_some, Option, Some, None, List, [], ◌∷◌, ◌++◌, length, inl, inr, refl, sym, ap, subst, ◌∙◌, eqb-true, eq-eqb, arith}
-use Rattle.std.proofs.lemmas.Bool.{or_left, or_right}
+use Rattle.std.proofs.lemmas.Bool.{or_left, or_right, or_cases}
 use Rattle.mdb_base.specs.declared.names.Tid.{Tid}
 use Rattle.mdb_base.specs.Names.{same_tid}
 use Rattle.mdb_base.specs.Words.{Each, some_of}
-use Rattle.order_laws.proofs.Names.{same_tid_self}
+use Rattle.mdb_base.proofs.NameLaws.{same_tid-refl}
+use Rattle.mdb_base.proofs.NumberLaws.{not_same_after}
 use Rattle.presumptions.specs.declared.Protocol.{Protocol}
 use Rattle.fed_rules.specs.declared.events.SiteEvent.{SiteEvent}
 use Rattle.fed_rules.specs.declared.records.SiteRecord.{SiteRecord}
@@ -19,8 +20,8 @@ use Rattle.commit_laws.specs.Records.{IsLooseEnded}
 use Rattle.commit_laws.proofs.SiteFacts.{Wrote}
 use Rattle.commit_laws.proofs.SiteLines.{Kept, Line}
 use Rattle.commit_laws.proofs.SiteShut.{restored-sealed}
+use Rattle.commit_laws.proofs.AgreeSite.{epoch-grows}
 use Rattle.federation_laws.proofs.SiteMoves.{run_ops, ops_of, IsFrom, Grown, Goes, Move, Same, Going, Ending, Moves}
-use Rattle.order_laws.proofs.Lists.{or_cases}
 
 abbrev pub ops_or : Option Run → List (Option Access) → List (Option Access)
 ops_or None old = old
@@ -40,16 +41,6 @@ pub record RunsHold (home : Home) (past : SitePast) (g : Tid) : Type 0 where
   pub quiet : live home past g ≡ None → is_over home past g ≡ false → is_down past ≡ false → site_ops home past g (epoch home past) ≡ []
   pub now : (run : Run) → live home past g ≡ Some run → site_ops home past g (epoch home past) ≡ run_ops run
 
--- epochs don't fall
-ended-epoch : (protocol : Protocol) (newer now : List SiteRecord) → Each (IsLooseEnded protocol) newer → epoch_of (newer ++ now) ≡ epoch_of now
-ended-epoch protocol [] now h = refl
-ended-epoch protocol (Rec.Ended tid decision ∷ newer) now h = ended-epoch protocol newer now h.1
-ended-epoch protocol (Rec.Setup site engine p items ∷ newer) now h = absurd h.0
-ended-epoch protocol (Rec.Checkpoint sum ∷ newer) now h = absurd h.0
-ended-epoch protocol (Rec.Start e ∷ newer) now h = absurd h.0
-ended-epoch protocol (Rec.Prepared tid e number ticket writes ∷ newer) now h = absurd h.0
-ended-epoch protocol (Rec.Local tid number writes ∷ newer) now h = absurd h.0
-
 wrote-epoch : (home : Home) (g : Tid) (past : SitePast) (event : SiteEvent) (r : SiteRecord) → Wrote home g past event r → epoch home past ≤ epoch_of (r ∷ records home past)
 wrote-epoch home g past event (Rec.Start e) w = omega (arith, w)
 wrote-epoch home g past event (Rec.Setup site engine p items) w = omega arith
@@ -57,11 +48,6 @@ wrote-epoch home g past event (Rec.Checkpoint sum) w = omega arith
 wrote-epoch home g past event (Rec.Prepared tid e number ticket writes) w = omega arith
 wrote-epoch home g past event (Rec.Ended tid decision) w = omega arith
 wrote-epoch home g past event (Rec.Local tid number writes) w = omega arith
-
-pub epoch-stays : (home : Home) (g : Tid) (past : SitePast) (event : SiteEvent) (now : List SiteRecord) → Kept home g past event now → epoch home past ≤ epoch_of now
-epoch-stays home g past event now (inl (r, w, e)) = subst (λ rs. epoch home past ≤ epoch_of rs) (sym e) (wrote-epoch home g past event r w)
-epoch-stays home g past event now (inr (newer, loose, e)) =
-    let same : epoch home past ≡ epoch_of now = ap epoch_of e ∙ ended-epoch home.protocol newer now loose in omega (arith, same)
 
 -- a doubt stays, but where the attempt is decided on
 ended-doubt : (protocol : Protocol) (newer now : List SiteRecord) (g : Tid) → Each (IsLooseEnded protocol) newer → is_some (doubt_of (newer ++ now) g) ≡ true → is_some (doubt_of now g) ≡ true
@@ -90,7 +76,7 @@ wrote-doubt home g past event (Rec.Prepared tid e number ticket writes) w d = in
 wrote-doubt home g past event (Rec.Ended tid decision) w d = by_test (same_tid tid g) refl
   where
     by_test : (t : Bool) → same_tid tid g ≡ t → (is_some (cond (same_tid tid g) None (doubt_of (records home past) g)) ≡ true) ⊎ (decides_on g event ≡ true)
-    by_test true q = inr (let settling = w q in ap (decides_on g) settling.taken ∙ same_tid_self g)
+    by_test true q = inr (let settling = w q in ap (decides_on g) settling.taken ∙ same_tid-refl g)
     by_test false q = inl (ap (λ b. is_some (cond b None (doubt_of (records home past) g))) q ∙ d)
 
 kept-doubt : (home : Home) (g : Tid) (past : SitePast) (event : SiteEvent) (now : List SiteRecord) → Kept home g past event now → is_some (doubt_of (records home past) g) ≡ true → (is_some (doubt_of now g) ≡ true) ⊎ (decides_on g event ≡ true)
@@ -231,22 +217,15 @@ quiet-next home past g event x h m line none over up = ops-none home past x g (e
     by_test true c = h.future (epoch home (x ∷ past)) (line.rises c)
     by_test false c = ap (site_ops home past g) (m.calm (plain (stops x.answer) (comes_up x.answer) going c)) ∙ of_move c m.move
 
-not-epoch : (e now : ℕ) → now < e → (e == now) ≡ false
-not-epoch e now less = by_test (e == now) refl
-  where
-    by_test : (t : Bool) → (e == now) ≡ t → (e == now) ≡ false
-    by_test true q = (let same = eqb-true e now q in absurd (omega (arith, less, same)))
-    by_test false q = q
-
 pub runs-next : (home : Home) (past : SitePast) (g : Tid) (event : SiteEvent) (x : SiteHappening) → Moves home g past event x → Line home g past event x → RunsHold home past g → RunsHold home (x ∷ past) g
 runs-next home past g event x m line h =
-    let rises = epoch-stays home g past event (records home (x ∷ past)) line.kept in
+    let rises = epoch-grows home g past event (records home (x ∷ past)) line.kept in
     let first = h.some in
     record {
       firm = line.firm;
       some = omega (arith, rises, first);
       zeroth = ops-elsewhere home past x g 0 (by_test (0 == epoch home (x ∷ past)) refl (omega (arith, rises, first))) ∙ h.zeroth;
-      future = λ e less. ops-elsewhere home past x g e (not-epoch e (epoch home (x ∷ past)) less) ∙ h.future e (omega (arith, less, rises));
+      future = λ e less. ops-elsewhere home past x g e (not_same_after e (epoch home (x ∷ past)) less) ∙ h.future e (omega (arith, less, rises));
       quiet = quiet-next home past g event x h m line;
       now = λ run alive. ops-here home past x g ∙ ap (λ o. ops_or o (site_ops home past g (epoch home (x ∷ past)))) alive;
     }

@@ -5,10 +5,10 @@ use Rattle.mdb_base.specs.declared.names.Tid.{Tid}
 use Rattle.mdb_base.specs.declared.replies.Why.{Why}
 use Rattle.mdb_base.specs.Names.{same_tid}
 use Rattle.mdb_base.specs.Words.{Each, some_of}
+use Rattle.mdb_base.proofs.NameLaws.{same_tid-refl, same_tid-equal}
 use Rattle.presumptions.specs.declared.Decision.{Decision}
 use Rattle.presumptions.specs.declared.Decision.TheVariants as Decided
 use Rattle.presumptions.specs.Table.{forces, acks}
-use Rattle.order_laws.proofs.Names.{same_tid_self, same_tid_alike}
 use Rattle.fed_rules.specs.declared.answers.Answer.{Answer}
 use Rattle.fed_rules.specs.declared.events.SiteEvent.{SiteEvent}
 use Rattle.fed_rules.specs.declared.events.SiteEvent.TheVariants as Ev
@@ -26,9 +26,11 @@ use Rattle.fed_rules.specs.SiteRecords.{Home, Held, site_frame, epoch_of, doubt_
 use Rattle.commit_laws.proofs.SiteShut.{given-up}
 use Rattle.site_history.specs.Accesses.{seals}
 use Rattle.site_history.specs.Records.{IsPrepared}
-use Rattle.federation_laws.proofs.SiteAbout.{Speaks, SealsOnly, IsAbout, sync-records, settling-tid}
+use Rattle.federation_laws.proofs.SiteAbout.{Speaks, SealsOnly, IsAbout}
 use Rattle.federation_laws.proofs.SiteMoves.{Same, Ending, Says, IsSealing, Moves, others-run, live-next}
 use Rattle.site_history.proofs.Agreement.{live_is}
+use Rattle.site_history.proofs.MessageLines.{ended_records}
+use Rattle.commit_laws.proofs.SiteEnds.{settling-tid}
 use Rattle.federation_laws.proofs.SiteOperations.{moves_when, moves_pick}
 
 -- a record of another attempt doesn't seal this one
@@ -47,9 +49,9 @@ no-seals tid g (Stops cut ∷ calls) e h = no-seals tid g calls e h.1
 
 no-says : (home : Home) (past : SitePast) (x : SiteHappening) (tid g : Tid) (sends : List FromSite) → same_tid tid g ≡ false → Each (Speaks tid) sends → Each (Says home g past x) sends
 no-says home past x tid g [] e h = tt
-no-says home past x tid g (From.Did of epoch n reply ∷ sends) e h = ((λ own. absurd (let same : same_tid tid g ≡ true = subst (λ t. same_tid t g ≡ true) (h.0) (subst (λ t. same_tid of t ≡ true) own (same_tid_self of)) in cc)), no-says home past x tid g sends e h.1)
+no-says home past x tid g (From.Did of epoch n reply ∷ sends) e h = ((λ own. absurd (let same : same_tid tid g ≡ true = subst (λ t. same_tid t g ≡ true) (h.0) (subst (λ t. same_tid of t ≡ true) own (same_tid-refl of)) in cc)), no-says home past x tid g sends e h.1)
 no-says home past x tid g (From.Vote of None ∷ sends) e h = (tt, no-says home past x tid g sends e h.1)
-no-says home past x tid g (From.Vote of (Some ticket) ∷ sends) e h = ((λ own. absurd (let same : same_tid tid g ≡ true = subst (λ t. same_tid t g ≡ true) (h.0) (subst (λ t. same_tid of t ≡ true) own (same_tid_self of)) in cc)), no-says home past x tid g sends e h.1)
+no-says home past x tid g (From.Vote of (Some ticket) ∷ sends) e h = ((λ own. absurd (let same : same_tid tid g ≡ true = subst (λ t. same_tid t g ≡ true) (h.0) (subst (λ t. same_tid of t ≡ true) own (same_tid-refl of)) in cc)), no-says home past x tid g sends e h.1)
 no-says home past x tid g (From.Ack of ∷ sends) e h = (tt, no-says home past x tid g sends e h.1)
 no-says home past x tid g (From.Inquiry of ∷ sends) e h = (tt, no-says home past x tid g sends e h.1)
 
@@ -72,7 +74,7 @@ doubt-prepared (Rec.Prepared tid epoch number ticket writes ∷ rs) g held e = b
     by_test : (t : Bool) → same_tid tid g ≡ t → cond t (Some (record { tid = tid; epoch = epoch; number = number; ticket = ticket; writes = writes })) (doubt_of rs g) ≡ Some held
         → (doubt_of rs g ≡ Some held → IsPrepared rs g held.ticket) → IsPrepared (Rec.Prepared tid epoch number ticket writes ∷ rs) g held.ticket
     by_test true q e k =
-        let same = same_tid_alike tid g q in
+        let same = same_tid-equal tid g q in
         let is : record { tid = tid; epoch = epoch; number = number; ticket = ticket; writes = writes } ≡ held = cc in
         record { epoch = epoch; number = number; writes = writes; kept = inl (ap (λ t. Rec.Prepared t epoch number ticket writes) same ∙ ap (λ (h : Held). Rec.Prepared g epoch number h.ticket writes) is) }
     by_test false q e k = let p = k e in record { epoch = p.epoch; number = p.number; writes = p.writes; kept = inr p.kept }
@@ -92,7 +94,7 @@ unfolding votes_no
 no_moves home g past e n why = record { heard = refl; move = Same refl; says = (tt, tt); sealing = λ s. cc; calm = λ p. refl }
 
 pub own-line : (g : Tid) (line : EngineLine) (old : Option Run) → tid_of line ≡ g → live_one (cond (same_tid (tid_of line) g) (changed line old) old) ≡ live_one (changed line old)
-own-line g line old t = ap (λ z. live_one (cond (same_tid z g) (changed line old) old)) t ∙ ap (λ b. live_one (cond b (changed line old) old)) (same_tid_self g)
+own-line g line old t = ap (λ z. live_one (cond (same_tid z g) (changed line old) old)) t ∙ ap (λ b. live_one (cond b (changed line old) old)) (same_tid-refl g)
 
 -- a refused sealing
 refuses_moves : (home : Home) (g : Tid) (past : SitePast) (e n : ℕ) (why : Why) → Moves home g past (Ev.Give (To.Prepare g e n)) (votes_no g e n (Some why) (Refuses g why ∷ []))
@@ -102,7 +104,7 @@ refuses_moves home g past e n why =
       heard = refl;
       move = Ending (record {
         none = own-line g (Refuses g why) (run_of home past g) refl ∙ given-up (Refuses g why) (run_of home past g) refl;
-        shut = inl (or_left ((same_tid g g || false) || is_closed past g) (is_some (doubt_of (records home past) g)) (or_left (same_tid g g || false) (is_closed past g) (or_left (same_tid g g) false (same_tid_self g))));
+        shut = inl (or_left ((same_tid g g || false) || is_closed past g) (is_some (doubt_of (records home past) g)) (or_left (same_tid g g || false) (is_closed past g) (or_left (same_tid g g) false (same_tid-refl g))));
       });
       says = (tt, tt);
       sealing = λ s. cc;
@@ -117,7 +119,7 @@ yes_moves home g past e n run ticket alive known all =
       heard = refl;
       move = Ending (record {
         none = own-line g (Seals g (number_of home past run)) (run_of home past g) refl ∙ ap (λ o. live_one (changed (Seals g (number_of home past run)) o)) (live_is (run_of home past g) run alive).0;
-        shut = inl (or_right (is_closed (votes_yes home past g e n run ticket ∷ past) g) _ (ap (λ t. is_some (cond t (Some held) (doubt_of (records home past) g))) (same_tid_self g)));
+        shut = inl (or_right (is_closed (votes_yes home past g e n run ticket ∷ past) g) _ (ap (λ t. is_some (cond t (Some held) (doubt_of (records home past) g))) (same_tid-refl g)));
       });
       says = ((λ own. record { epoch = epoch home past; number = number_of home past run; writes = _; kept = inl refl }), tt);
       sealing = λ s. record { e = e; n = n; taken = refl; epoch_is = known; run = run; is_live = alive; all = all };
@@ -160,7 +162,7 @@ unheld_moves home g past decision = record { heard = refl; move = Same refl; say
 
 closed-decided : (home : Home) (g : Tid) (past : SitePast) (lines closed doubt : Bool) → (((same_tid g g || lines) || closed) || doubt) ≡ true
 closed-decided home g past lines closed doubt =
-    or_left ((same_tid g g || lines) || closed) doubt (or_left (same_tid g g || lines) closed (or_left (same_tid g g) lines (same_tid_self g)))
+    or_left ((same_tid g g || lines) || closed) doubt (or_left (same_tid g g || lines) closed (or_left (same_tid g g) lines (same_tid-refl g)))
 
 unheld_aborts : (home : Home) (g : Tid) (past : SitePast) (decision : Decision) → Moves home g past (Ev.Give (To.Decide g decision)) (unheld home g decision (Aborts g ∷ []))
 unfolding unheld
@@ -193,7 +195,7 @@ settles_moves home g past decision =
       });
       says = ack-says home g past (settles home g decision) g decision;
       sealing = λ s. by_test (forces home.protocol decision) s;
-      calm = λ p. ap epoch_of (sync-records (after_call site_frame (disk home past) (Append (Rec.Ended g decision))) (forces home.protocol decision));
+      calm = λ p. ap epoch_of (ended_records (after_call site_frame (disk home past) (Append (Rec.Ended g decision))) (forces home.protocol decision));
     }
   where
     by_test : (t : Bool) → some_of (seals g) (cond t (Sync ∷ []) []) ≡ true → IsSealing home g past (Ev.Give (To.Decide g decision))
@@ -227,7 +229,7 @@ drop_moves home g past =
       heard = refl;
       move = Ending (record {
         none = own-line g (Aborts g) (run_of home past g) refl ∙ given-up (Aborts g) (run_of home past g) refl;
-        shut = inl (or_left ((same_tid g g || false) || is_closed past g) (is_some (doubt_of (records home past) g)) (or_left (same_tid g g || false) (is_closed past g) (or_left (same_tid g g) false (same_tid_self g))));
+        shut = inl (or_left ((same_tid g g || false) || is_closed past g) (is_some (doubt_of (records home past) g)) (or_left (same_tid g g || false) (is_closed past g) (or_left (same_tid g g) false (same_tid-refl g))));
       });
       says = tt;
       sealing = λ s. cc;

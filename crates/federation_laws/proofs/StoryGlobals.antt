@@ -1,5 +1,5 @@
 -- In every story the coordinator holds each attempt to its program, and agrees with each site on a global one.
-use Rattle.std.proofs.Common.{◌≡◌, ◌⊎◌, ℕ, ◌<◌, Bool, true, false, cond, not, ◌&&◌, Option, Some, None, List, [], ◌∷◌, ◌++◌, inl, inr, refl, sym, ap, subst, ◌∙◌, eqb-true, arith}
+use Rattle.std.proofs.Common.{◌≡◌, ◌⊎◌, ℕ, ◌<◌, Bool, true, false, cond, not, ◌&&◌, Option, Some, None, List, [], ◌∷◌, ◌++◌, inl, inr, refl, sym, ap, subst, ◌∙◌, arith}
 use Rattle.std.proofs.lemmas.Bool.{and_parts}
 use Rattle.mdb_base.specs.declared.acts.Step.{Step}
 use Rattle.mdb_base.specs.declared.names.SiteId.{SiteId}
@@ -10,7 +10,6 @@ use Rattle.mdb_base.specs.Names.{same_site, same_tid, same_tx}
 use Rattle.mdb_base.specs.Words.{Among, map_some, first_where}
 use Rattle.order_laws.specs.Chains.{In}
 use Rattle.order_laws.proofs.Lists.{first_where_some}
-use Rattle.order_laws.proofs.Names.{same_site_alike, same_tid_alike, same_tid_self}
 use Rattle.fed_rules.specs.declared.commands.Command.{Command}
 use Rattle.fed_rules.specs.declared.events.CoordEvent.TheVariants as To_coord
 use Rattle.fed_rules.specs.declared.events.SiteEvent.{SiteEvent}
@@ -42,8 +41,10 @@ use Rattle.federation_laws.proofs.SiteLines.{IsForeign, site_moves}
 use Rattle.federation_laws.proofs.SiteMoves.{Moves}
 use Rattle.federation_laws.proofs.SiteRuns.{RunsHold}
 use Rattle.federation_laws.proofs.Told.{CoordCause, SiteCause, IsCoordLine, IsSiteLine, IsLine, line_is}
-use Rattle.order_laws.proofs.Alike.{some_parts, first_or_second}
+use Rattle.order_laws.proofs.Alike.{first_or_second}
 use Rattle.std.proofs.lemmas.List.{append-nil}
+use Rattle.mdb_base.proofs.NameLaws.{same_site-equal, same_tid-equal, same_tid-refl, same_tx-equal}
+use Rattle.mdb_base.proofs.OptionLaws.{some_parts}
 
 -- what holds of an attempt at the coordinator of a story
 pub record StoryHolds (scenario : Scenario) (story : Story) (g : Tid) : Type 0 where
@@ -62,7 +63,7 @@ record Beginning (scenario : Scenario) (story : Story) (g : Tid) (x : CoordHappe
 beginning : (scenario : Scenario) (story : Story) (g : Tid) (x : CoordHappening) (line : IsCoordLine scenario story x) → IsMade (protocols scenario) (coord_past story) line.event x → begins g x.answer ≡ true → Beginning scenario story g x
 beginning scenario story g x line made e =
     let (tid, is) = begins-answer g x.answer e in
-    let own : tid ≡ g = same_tid_alike tid g (sym (ap (begins g) is) ∙ e) in
+    let own : tid ≡ g = same_tid-equal tid g (sym (ap (begins g) is) ∙ e) in
     let go = subst (Begins line.event) is made.begun in
     let at : line.event ≡ To_coord.Go g go.0 = go.1 ∙ ap (λ t. To_coord.Go t go.0) own in
     let cause : CoordCause scenario story (To_coord.Go g go.0) = subst (CoordCause scenario story) at line.cause in
@@ -112,7 +113,7 @@ coord-holds scenario good story g x line h = (
         let b = beginning scenario story g x line made e in
         let steps_are : program (x ∷ coord_past story) g ≡ b.steps =
         ap (λ t. cond t (or_steps (program_in g x.event) []) (program (coord_past story) g)) e
-        ∙ (ap (λ ev. or_steps (program_in g ev) []) b.heard ∙ ap (λ t. or_steps (cond t (Some b.steps) None) []) (same_tid_self g)) in
+        ∙ (ap (λ ev. or_steps (program_in g ev) []) b.heard ∙ ap (λ t. or_steps (cond t (Some b.steps) None) []) (same_tid-refl g)) in
         (steps_are ∙ sym b.known.0, b.known.1)
     programmed (inr e) = let p = h.programmed e.1 in (program-stays (coord_past story) g x e.0 ∙ p.0, p.1)
 
@@ -156,23 +157,20 @@ live_of_tx-is home past tx tid e = of_first (first_where (λ run. same_tx run.ti
         let is : run.tid ≡ tid = some_parts e in
         subst (λ (t : Tid). same_tx t.tx tx ≡ true) is (and_parts (same_tx run.tid.tx tx) (not (is_sealed run)) test).0
 
-pub same_tx_alike : (a b : Tx) → same_tx a b ≡ true → a ≡ b
-same_tx_alike a b e = let P : ℕ → Tx = λ n. record { 0 = n } in ap P (eqb-true a.0 b.0 e)
-
 -- an attempt of a local transaction is no global one
 local-other : (scenario : Scenario) (g tid : Tid) (home : Home) → local_site scenario g.tx ≡ None → local_home scenario tid.tx ≡ Some home → same_tid tid g ≡ false
 local-other scenario g tid home none here = by_test (same_tid tid g) refl
   where
     by_test : (t : Bool) → same_tid tid g ≡ t → same_tid tid g ≡ false
-    by_test true q = (let own = same_tid_alike tid g q in let clash = sym (ap (λ (t : Tid). local_home scenario t.tx) own ∙ ap (home_at scenario) none) ∙ here in cc)
+    by_test true q = (let own = same_tid-equal tid g q in let clash = sym (ap (λ (t : Tid). local_home scenario t.tx) own ∙ ap (home_at scenario) none) ∙ here in cc)
     by_test false q = q
 
 -- no event of a site is one of a global attempt as a local one
 foreign : (scenario : Scenario) (story : Story) (home : Home) (g : Tid) (event : SiteEvent) → local_site scenario g.tx ≡ None → SiteCause scenario story home event → IsForeign g event
 foreign scenario story home g (To_site.Begin tid) none c = local-other scenario g tid home none c.here
-foreign scenario story home g (To_site.Act tid act) none c = local-other scenario g tid home none (ap (local_home scenario) (same_tx_alike tid.tx c.tx (live_of_tx-is home (past_of home.site story) c.tx tid c.found_live)) ∙ c.here)
-foreign scenario story home g (To_site.Commit tid) none c = local-other scenario g tid home none (ap (local_home scenario) (same_tx_alike tid.tx c.tx (live_of_tx-is home (past_of home.site story) c.tx tid c.found_live)) ∙ c.here)
-foreign scenario story home g (To_site.Abort tid) none c = local-other scenario g tid home none (ap (local_home scenario) (same_tx_alike tid.tx c.tx (live_of_tx-is home (past_of home.site story) c.tx tid c.found_live)) ∙ c.here)
+foreign scenario story home g (To_site.Act tid act) none c = local-other scenario g tid home none (ap (local_home scenario) (same_tx-equal tid.tx c.tx (live_of_tx-is home (past_of home.site story) c.tx tid c.found_live)) ∙ c.here)
+foreign scenario story home g (To_site.Commit tid) none c = local-other scenario g tid home none (ap (local_home scenario) (same_tx-equal tid.tx c.tx (live_of_tx-is home (past_of home.site story) c.tx tid c.found_live)) ∙ c.here)
+foreign scenario story home g (To_site.Abort tid) none c = local-other scenario g tid home none (ap (local_home scenario) (same_tx-equal tid.tx c.tx (live_of_tx-is home (past_of home.site story) c.tx tid c.found_live)) ∙ c.here)
 foreign scenario story home g (To_site.Fate tx) none c = tt
 foreign scenario story home g (To_site.Give message) none c = tt
 foreign scenario story home g (To_site.Ask tid) none c = tt
@@ -197,7 +195,7 @@ agrees-here scenario story home g x event none h is c a =
 agrees-site-line : (scenario : Scenario) (story : Story) (home : Home) (g : Tid) (s : SiteId) (x : SiteHappening) → home_of scenario home.site ≡ Some home → local_site scenario g.tx ≡ None → StoryHolds scenario story g → IsSiteLine scenario story s x → AgreesIn story home g → (t : Bool) → same_site s home.site ≡ t
     → Agrees home (cond t (x ∷ past_of home.site story) (past_of home.site story)) (coord_past story) (sent_to home.site story) (sent_from home.site story ++ cond t x.sends []) g
 agrees-site-line scenario story home g s x declared none h line a true q =
-    let own : line.home.site ≡ home.site = sym line.here ∙ same_site_alike s home.site q in
+    let own : line.home.site ≡ home.site = sym line.here ∙ same_site-equal s home.site q in
     let same : line.home ≡ home = some_parts (sym line.declared ∙ (ap (home_of scenario) own ∙ declared)) in
     agrees-here scenario story home g x line.event none h
     (subst (λ (z : Home). x ≡ site_line z (past_of z.site story) line.event) same line.is_next)

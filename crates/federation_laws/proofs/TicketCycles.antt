@@ -11,10 +11,10 @@ use Rattle.fed_rules.specs.Story.{coord_past, story_of}
 use Rattle.federation_laws.specs.Edges.{committed, HasEdge, TicketsAreCycleFree}
 use Rattle.coord_laws.proofs.Cycles.{IsFree}
 use Rattle.coord_laws.proofs.Past.{commits_free}
-use Rattle.commit_laws.proofs.Links.{story_made}
+use Rattle.commit_laws.proofs.Links.{story_goes_on}
 
 pub free-story : (scenario : Scenario) (commands : List Command) → IsFree (committed (story_of scenario commands))
-free-story scenario commands = commits_free _ _ (coord_past (story_of scenario commands)) (story_made scenario commands)
+free-story scenario commands = commits_free _ _ (coord_past (story_of scenario commands)) (story_goes_on scenario commands)
 
 -- the ticket edges between committed attempts have no cycle
 pub tickets_cycle_free : TicketsAreCycleFree

@@ -1,5 +1,5 @@
 -- What each line of a story is: the next line of a site or of the coordinator, at an event with a cause.
-use Rattle.std.proofs.Common.{◌≡◌, ℕ, zero, suc, false, nat_lt, Some, List, [], ◌∷◌, length, inl, inr, refl, sym, subst}
+use Rattle.std.proofs.Common.{◌≡◌, false, nat_lt, Some, length, refl, sym, subst}
 use Rattle.mdb_base.specs.declared.acts.PlainAct.{PlainAct}
 use Rattle.mdb_base.specs.declared.acts.Step.{Step}
 use Rattle.mdb_base.specs.declared.names.SiteId.{SiteId}
@@ -8,6 +8,7 @@ use Rattle.mdb_base.specs.declared.names.Tx.{Tx}
 use Rattle.mdb_base.specs.Programs.{plain_act}
 use Rattle.mdb_base.specs.Words.{item_at}
 use Rattle.order_laws.specs.Chains.{In}
+use Rattle.order_laws.proofs.InLaws.{item_at-in}
 use Rattle.fed_rules.specs.declared.commands.Command.{Command}
 use Rattle.fed_rules.specs.declared.commands.Command.TheVariants as Cmd
 use Rattle.fed_rules.specs.declared.events.CoordEvent.{CoordEvent}
@@ -26,7 +27,6 @@ use Rattle.fed_rules.specs.SiteRecords.{Home}
 use Rattle.fed_rules.specs.Story.{Story, Happened, AtSite, AtCoordinator, Nowhere, past_of, coord_past, sent_to, sent_from, happens, run_reads}
 use Rattle.rules_laws.specs.Lines as Lines
 pub use Rattle.rules_laws.proofs.Declared.{home-again, its-site as home_is-site, local-declared as local_home-declared}
-pub use Rattle.order_laws.proofs.Alike.{some_parts}
 use Rattle.rules_laws.proofs.Lines as Asked
 
 -- what makes an event of the coordinator come
@@ -98,12 +98,6 @@ IsLine scenario story (AtSite site x) = IsSiteLine scenario story site x
 IsLine scenario story (AtCoordinator x) = IsCoordLine scenario story x
 IsLine scenario story (Nowhere answer) = Unit {0}
 
--- an item at a place stands in the list
-pub item-in : {A : Type 0} (xs : List A) (n : ℕ) (x : A) → item_at xs n ≡ Some x → In x xs
-item-in [] n x e = cc
-item-in (y ∷ ys) zero x e = inl (some_parts e)
-item-in (y ∷ ys) (suc n) x e = inr (item-in ys n x e)
-
 module _ (scenario : Scenario) (story : Story) where
   site_cause : (home : Home) (event : SiteEvent) (command : Command) → Lines.SiteCause scenario home story command event → SiteCause scenario story home event
   site_cause home event (Cmd.Begin tx) c = subst (SiteCause scenario story home) (sym c.asks.is) (record { here = c.here; next = refl })
@@ -117,7 +111,7 @@ module _ (scenario : Scenario) (story : Story) where
       subst (SiteCause scenario story home) (sym c.asks.is)
       (record { tx = tx; here = c.here; found_live = c.asks.is_live.found; run = c.asks.run; is_live = c.asks.is_live.own })
   site_cause home event (Cmd.Fate tx) c = subst (SiteCause scenario story home) (sym c.asks) tt
-  site_cause home event (Cmd.Give s place) c = subst (SiteCause scenario story home) (sym c.1.is) (item-in (sent_to home.site story) place c.1.message c.1.at)
+  site_cause home event (Cmd.Give s place) c = subst (SiteCause scenario story home) (sym c.1.is) (item_at-in (sent_to home.site story) place c.1.message c.1.at)
   site_cause home event (Cmd.Ask s tid) c = subst (SiteCause scenario story home) (sym c.1) tt
   site_cause home event (Cmd.Drop s tid) c = subst (SiteCause scenario story home) (sym c.1) tt
   site_cause home event (Cmd.Halt actor cut) c = subst (SiteCause scenario story home) (sym c.1) tt
@@ -134,7 +128,7 @@ module _ (scenario : Scenario) (story : Story) where
   coord_cause event (Cmd.Fate tx) c = subst (CoordCause scenario story) (sym c.is) tt
   coord_cause event (Cmd.Again tid) c = subst (CoordCause scenario story) (sym c) tt
   coord_cause event (Cmd.Late tid) c = subst (CoordCause scenario story) (sym c) tt
-  coord_cause event (Cmd.Take s place) c = subst (CoordCause scenario story) (sym c.is) (item-in (sent_from s story) place c.message c.at)
+  coord_cause event (Cmd.Take s place) c = subst (CoordCause scenario story) (sym c.is) (item_at-in (sent_from s story) place c.message c.at)
   coord_cause event (Cmd.Halt actor cut) c = subst (CoordCause scenario story) (sym c.1) tt
   coord_cause event (Cmd.Trip actor calls cut) c = subst (CoordCause scenario story) (sym c.1) tt
   coord_cause event (Cmd.Back actor) c = subst (CoordCause scenario story) (sym c.1) tt

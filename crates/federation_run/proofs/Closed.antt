@@ -7,6 +7,7 @@ use Rattle.std.proofs.lemmas.List.{length-map, map-append}
 use Rattle.std.proofs.lemmas.Option.{slice_get_past}
 use Rattle.std.proofs.lemmas.Result.{IfErr-weaker, IfOk-weaker}
 use Rattle.mdb_base.specs.declared.names.SiteId.{SiteId}
+use Rattle.mdb_base.proofs.PlaceLaws.{slice_get-there}
 use Rattle.fed_rules.specs.declared.scenario.Scenario.{Scenario}
 use Rattle.fed_rules.specs.Scenarios.{home_of, sites}
 use Rattle.fed_rules.specs.SiteRecords.{Home}
@@ -19,7 +20,6 @@ use Rattle.scripted_link.specs.Rings.{Wire}
 use Rattle.fed_world.specs.declared.world.World.{World}
 use Rattle.fed_world.specs.Faults.{faults_of}
 use Rattle.fed_world.proofs.DeclaredPlaces.{home_at_place}
-use Rattle.fed_world.proofs.Pairs.{item_there}
 use Rattle.fed_world.proofs.SeatsByPlace.{has_item}
 use Rattle.fed_world.proofs.SeenDisks.{mapped_at}
 use Rattle.host_laws.specs.CoordPlans.{CoordPlan}
@@ -116,8 +116,8 @@ idle_back {D} {N} tells seen scenario crew old new seats c nine nine_new s back 
         slice_get_past new site.0 (omega (arith, more, nine_new)) ∙ sym (slice_get_past (map seen old) site.0 (let e = length-map old seen in omega (arith, more, nine, e)))
     by_range true is =
         let most = leb-true site.0 8 is in
-        let seat = item_there seats index (let e = s.count in omega (arith, e, least)) in
-        let disk = item_there old site.0 (omega (arith, nine, most)) in
+        let seat = slice_get-there seats index (let e = s.count in omega (arith, e, least)) in
+        let disk = slice_get-there old site.0 (omega (arith, nine, most)) in
         let number : 8 - index ≡ site.0 = omega (arith, most) in
         of_seat most seat.0 seat.1 disk.0 disk.1 (subst (λ (n : ℕ). IsSeat n crew.berths.items disk.0 seat.0) number (s.each index seat.0 disk.0 seat.1 (subst (λ (n : ℕ). slice_get old n ≡ Some disk.0) (sym number) disk.1)))
 

@@ -1,5 +1,5 @@
 -- What the hosts of a run left, as the histories of its hosts.
-use Rattle.std.proofs.Common.{◌≡◌, ℕ, zero, suc, ◌+◌, ◌*◌, ◌≤◌, ◌<◌, Bool, true, false, Option, Some, None, List, [], ◌∷◌, length, map, reverse, slice_get, slice_index_or, refl, sym, ap, ◌∙◌, subst, arith}
+use Rattle.std.proofs.Common.{◌≡◌, ℕ, zero, ◌+◌, ◌*◌, ◌≤◌, ◌<◌, Bool, true, false, Option, Some, None, List, [], length, map, reverse, slice_get, slice_index_or, refl, sym, ap, ◌∙◌, subst, arith}
 use Rattle.std.specs.Prelude.{nat_le, option_map}
 use mathlib.Core.List.{IsPrefix}
 use Rattle.std.proofs.lemmas.Bool.{leb-false, leb-true}
@@ -8,6 +8,10 @@ use Rattle.std.proofs.lemmas.Option.{get_or_from_slice_get, slice_get_past, slic
 use Rattle.mdb_base.specs.declared.names.SiteId.{SiteId}
 use Rattle.mdb_base.specs.Rising.{IsRising}
 use Rattle.mdb_base.specs.Words.{Each, found}
+use Rattle.mdb_base.proofs.PlaceLaws.{made_of, slice_get-one}
+use Rattle.mdb_base.proofs.EachLaws.{each_at_place}
+use Rattle.mdb_base.proofs.RisingLaws.{one_place}
+use Rattle.mdb_base.proofs.JoinLaws.{length-map}
 use Rattle.presumptions.specs.declared.Participant.{Participant}
 use Rattle.fed_rules.specs.declared.commands.Stamped.{Stamped}
 use Rattle.fed_rules.specs.declared.messages.FromSite.{FromSite}
@@ -29,7 +33,7 @@ use Rattle.trace_merge.specs.Traces.{list_of}
 use Rattle.fed_world.proofs.DeclaredPlaces.{home_at_place}
 use Rattle.fed_world.proofs.DeclaredSites.{declared_ranged, declared_rise}
 use Rattle.fed_world.proofs.SeatsByPlace.{has_item}
-use Rattle.fed_world.proofs.SeenDisks.{made_of, mapped_at}
+use Rattle.fed_world.proofs.SeenDisks.{mapped_at}
 use Rattle.host_laws.specs.CoordHearing.{HasHeardFrom}
 use Rattle.host_laws.specs.Hearing.{HasHeard}
 use Rattle.host_laws.specs.CoordPlans.{CoordPlan}
@@ -51,11 +55,7 @@ use Rattle.federation_run.specs.Plans.{coord_plan, site_plan, stops_in}
 use Rattle.federation_run.specs.Sorting.{AllFit, AreListed, AreSortable, HaveMet, IsPair}
 use Rattle.federation_run.proofs.Homes.{home_site}
 use Rattle.federation_run.proofs.Owned.{IsOwnLog, own_log}
-use Rattle.federation_run.proofs.Places.{each_at_place, made_list, one_place, same_item}
-
-length_mapped : {A B : Type 0} (f : A → B) (xs : List A) → length (map f xs) ≡ length xs
-length_mapped f [] = refl
-length_mapped f (x ∷ xs) = ap (λ (n : ℕ). suc n) (length_mapped f xs)
+use Rattle.federation_run.proofs.Places.{made_list}
 
 module _ (tells : Bool) (counts : List ℕ) (disks : List Seen) (scenario : Scenario) (whole : IsScenario scenario) (left : Left) (l : IsLeft tells counts disks scenario left)
     (placed : ArePlaced (sites scenario) left.sites.items) (fits : AllFit left.sites.items left.coordinator.ports.items) where
@@ -74,7 +74,7 @@ module _ (tells : Bool) (counts : List ℕ) (disks : List Seen) (scenario : Scen
 
   -- there are as many ports as sites
   pub ports_count : length ports ≡ length (sites scenario)
-  ports_count = coord_held.planned.count ∙ sym (length_mapped (λ (m : Participant). m.site) (protocols scenario))
+  ports_count = coord_held.planned.count ∙ sym (length-map (λ (m : Participant). m.site) (protocols scenario))
 
   port_planned : (place : ℕ) (port : Port) → slice_get ports place ≡ Some port → IsPortPlanned l.rings (coord_plan scenario counts) place port
   port_planned place port at = coord_held.planned.each place port at
@@ -83,7 +83,7 @@ module _ (tells : Bool) (counts : List ℕ) (disks : List Seen) (scenario : Scen
   pub port_site : (place : ℕ) (site : SiteId) (port : Port) → slice_get (sites scenario) place ≡ Some site → slice_get ports place ≡ Some port → port.ends.site ≡ site
   port_site place site port there at =
       let p = port_planned place port at in
-      p.site ∙ same_item (sites scenario) place p.member.site site (mapped_at (λ (m : Participant). m.site) (protocols scenario) place p.member p.at) there
+      p.site ∙ slice_get-one (sites scenario) place p.member.site site (mapped_at (λ (m : Participant). m.site) (protocols scenario) place p.member p.at) there
 
   -- the site at the place of what is left
   pub site_at : (place : ℕ) (one : SiteLeft) → slice_get left.sites.items place ≡ Some one → (site : SiteId) × (slice_get (sites scenario) place ≡ Some site)
@@ -114,7 +114,7 @@ module _ (tells : Bool) (counts : List ℕ) (disks : List Seen) (scenario : Scen
   own_is place site log there at =
       let one = left_of place log at in
       let o = own place one.0 log one.1 at in
-      (one.0, one.1, o, same_item (sites scenario) place o.site site o.at there)
+      (one.0, one.1, o, slice_get-one (sites scenario) place o.site site o.at there)
 
   -- ---- what the ends have to do with each other
 
@@ -188,7 +188,7 @@ module _ (tells : Bool) (counts : List ℕ) (disks : List Seen) (scenario : Scen
     stops = refl;
     right = coord_held.right;
     fit = port_fits;
-    count = length_mapped (λ (port : Port). taken port.ends.inlet) ports ∙ ports_count;
+    count = length-map (λ (port : Port). taken port.ends.inlet) ports ∙ ports_count;
     heard = port_heard;
   }
 

@@ -3,6 +3,7 @@ use Rattle.std.proofs.Common.{◌≡◌, Bool, ℕ, zero, suc, ◌+◌, ◌<◌,
 use Rattle.std.proofs.lemmas.List.{length-append}
 use Rattle.std.proofs.lemmas.Option.{slice_get_within}
 use Rattle.mdb_base.specs.declared.names.SiteId.{SiteId}
+use Rattle.mdb_base.proofs.PlaceLaws.{slice_get-one}
 use Rattle.fed_rules.specs.declared.scenario.Scenario.{Scenario}
 use Rattle.fed_rules.specs.Scenarios.{global_program, sites}
 use Rattle.journal_disk.specs.Disk.{Seen}
@@ -18,7 +19,7 @@ use Rattle.federation_run.specs.declared.crews.Berth.{Berth}
 use Rattle.federation_run.specs.declared.crews.Crew.{Crew}
 use Rattle.federation_run.specs.Crews.{AreMoored, IsCrew, IsManned, IsMoored, IsStood}
 use Rattle.federation_run.specs.Plans.{stops_in}
-use Rattle.federation_run.proofs.Places.{before_or_last, same_item}
+use Rattle.federation_run.proofs.Places.{before_or_last}
 
 -- so many sites have their rings, and the local database systems of the others are left
 pub record AreMooredTo (scenario : Scenario) (sites : List SiteId) (cores rest : List (LocalDbms AnyEngine)) (index : ℕ) (berths : List Berth) (ports : List Port) : Type 0 where
@@ -68,8 +69,8 @@ moored_next scenario sites cores rest now index berths berths_now ports ports_no
         (let w = slice_get_within ports place p pat in let n = m.berths_count in let k = m.ports_count in let e = last.0 in absurd (omega (arith, w, n, k, e)))
     by_place place s d b p at dat (inr one) (inr two) =
         let here : place ≡ index = one.0 ∙ m.berths_count in
-        let sites_same : site ≡ s = same_item sites index site s there (subst (λ (n : ℕ). slice_get sites n ≡ Some s) here at) in
-        let cores_same : dbms ≡ d = same_item cores index dbms d core_at (subst (λ (n : ℕ). slice_get cores n ≡ Some d) here dat) in
+        let sites_same : site ≡ s = slice_get-one sites index site s there (subst (λ (n : ℕ). slice_get sites n ≡ Some s) here at) in
+        let cores_same : dbms ≡ d = slice_get-one cores index dbms d core_at (subst (λ (n : ℕ). slice_get cores n ≡ Some d) here dat) in
         subst (λ (z : SiteId). IsMoored scenario z d b p) sites_same (subst (λ (z : LocalDbms AnyEngine). IsMoored scenario site z b p) cores_same
         (subst (λ (z : Berth). IsMoored scenario site dbms z p) one.1 (subst (λ (z : Port). IsMoored scenario site dbms berth z) two.1 own)))
 

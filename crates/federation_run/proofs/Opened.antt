@@ -1,11 +1,12 @@
 -- The hosts of a crew may begin with their disks.
 use Rattle.std.proofs.Common.{◌≡◌, ℕ, zero, suc, ◌+◌, ◌*◌, ◌<◌, ◌≤◌, ◌==◌, ◌&&◌, Bool, true, false, cond, Option, Some, None, List, [], ◌∷◌, length, map, slice_get, refl, sym, ap, ◌∙◌, subst, eqb-true, arith}
 use Rattle.std.specs.Prelude.{nat_le, option_map}
-use Rattle.std.proofs.lemmas.Bool.{leb-true}
+use Rattle.std.proofs.lemmas.Bool.{leb-true, and_parts}
 use Rattle.std.proofs.lemmas.List.{length-map}
 use Rattle.std.proofs.lemmas.Option.{get_or_from_slice_get}
 use Rattle.mdb_base.specs.declared.names.SiteId.{SiteId}
 use Rattle.mdb_base.specs.Words.{Each, each_of, or_else, those}
+use Rattle.mdb_base.proofs.PlaceLaws.{made_of, slice_get-one}
 use Rattle.presumptions.specs.declared.Participant.{Participant}
 use Rattle.fed_rules.specs.declared.scenario.Scenario.{Scenario}
 use Rattle.fed_rules.specs.declared.scenario.SiteLine.{SiteLine}
@@ -25,7 +26,7 @@ use Rattle.scripted_link.specs.Rings.{Ring, Wire}
 use Rattle.fed_world.specs.Asks.{terms_of}
 use Rattle.fed_world.specs.Faults.{faults_of}
 use Rattle.fed_world.proofs.SeatsByPlace.{has_item}
-use Rattle.fed_world.proofs.SeenDisks.{made_of, mapped_at}
+use Rattle.fed_world.proofs.SeenDisks.{mapped_at}
 use Rattle.host_laws.specs.CoordPlans.{CoordPlan}
 use Rattle.host_laws.specs.Links.{script_of}
 use Rattle.host_laws.specs.Plans.{SitePlan}
@@ -40,7 +41,6 @@ use Rattle.federation_run.specs.Crews.{AreRinged, IsCrew, IsStood}
 use Rattle.federation_run.specs.Lefts.{AreScripted}
 use Rattle.federation_run.specs.Plans.{bare_home, coord_plan, count_at, in_turn, site_plan, site_plans, stops_in, wires_of}
 use Rattle.federation_run.specs.Seats.{CanSeatAll, IsNamed}
-use Rattle.federation_run.proofs.Places.{same_item}
 
 -- ---- the rings by the places of their sites
 
@@ -72,22 +72,18 @@ wire_from ports berths place port berth at bat = second_in_turn (λ (p : Port). 
 
 -- ---- scripted stops
 
-and_both : (a b : Bool) → (a && b) ≡ true → (a ≡ true) × (b ≡ true)
-and_both true b e = (refl, e)
-and_both false b e = cc
-
 stop_lines : (lines : List SiteLine) (stops : List StopLine) (actor : ℕ) → each_of (is_stop lines) stops ≡ true → Each (IsStop actor) (those (stops_actor actor) stops)
 stop_lines lines [] actor e = tt
 stop_lines lines (stop ∷ stops) actor e = by_test (stops_actor actor stop) refl (stop_lines lines stops actor parts.1)
   where
     parts : (is_stop lines stop ≡ true) × (each_of (is_stop lines) stops ≡ true)
-    parts = and_both (is_stop lines stop) (each_of (is_stop lines) stops) e
+    parts = and_parts (is_stop lines stop) (each_of (is_stop lines) stops) e
 
     calls : 1 ≤ stop.calls
     calls =
-        let inner = and_both (is_actor lines stop.actor && is_between 1 1000 stop.calls) (nat_le stop.cut 65535) parts.0 in
-        let between = and_both (is_actor lines stop.actor) (is_between 1 1000 stop.calls) inner.0 in
-        let low = and_both (nat_le 1 stop.calls) (nat_le stop.calls 1000) between.1 in
+        let inner = and_parts (is_actor lines stop.actor && is_between 1 1000 stop.calls) (nat_le stop.cut 65535) parts.0 in
+        let between = and_parts (is_actor lines stop.actor) (is_between 1 1000 stop.calls) inner.0 in
+        let low = and_parts (nat_le 1 stop.calls) (nat_le stop.calls 1000) between.1 in
         leb-true 1 stop.calls low.0
 
     by_test : (b : Bool) → stops_actor actor stop ≡ b → Each (IsStop actor) (those (stops_actor actor) stops) → Each (IsStop actor) (cond b (stop ∷ those (stops_actor actor) stops) (those (stops_actor actor) stops))
@@ -160,7 +156,7 @@ module _ (tells : Bool) (disks : List Seen) (scenario : Scenario) (whole : IsSce
       site_disk = subst (λ (z : SiteId). slice_get disks z.0 ≡ Some disk) r.at_site disk_at
 
       own_disk : s.stood.disk ≡ disk
-      own_disk = same_item disks site.0 s.stood.disk disk (subst (λ (z : SiteId). slice_get disks z.0 ≡ Some s.stood.disk) s.is s.stood.own) site_disk
+      own_disk = slice_get-one disks site.0 s.stood.disk disk (subst (λ (z : SiteId). slice_get disks z.0 ≡ Some s.stood.disk) s.is s.stood.own) site_disk
 
   port_planned : (place : ℕ) (port : Port) → slice_get crew.ports.items place ≡ Some port → IsPortPlanned rings plan place port
   port_planned place port at =
@@ -186,7 +182,7 @@ module _ (tells : Bool) (disks : List Seen) (scenario : Scenario) (whole : IsSce
       stops = stops_are scenario 0 whole;
     };
     stops_are = c.stops;
-    stood = subst (λ (d : Seen). Manager.Stands policy_is tells crew.manager d (terms_of scenario) (global_program scenario) []) (same_item disks 0 c.manager.disk first c.manager.own at) c.manager.holds;
+    stood = subst (λ (d : Seen). Manager.Stands policy_is tells crew.manager d (terms_of scenario) (global_program scenario) []) (slice_get-one disks 0 c.manager.disk first c.manager.own at) c.manager.holds;
     faults = counted disks 0 first at;
     new = λ place port pat. (let there = has_item (sites scenario) crew.ports.items place port (sym c.ports_count) pat in
         let berth = has_item crew.berths.items (sites scenario) place there.0 c.berths_count there.1 in
@@ -204,11 +200,11 @@ module _ (tells : Bool) (disks : List Seen) (scenario : Scenario) (crew : Crew) 
           let port = has_item crew.ports.items (sites scenario) place site c.ports_count there in
           let berth = has_item crew.berths.items (sites scenario) place site c.berths_count there in
           let made = subst (λ (ws : List Wire). slice_get ws (2 * place) ≡ Some (outlet_wire port.0.ends.outlet)) (sym named.rings_are) (wire_to crew.ports.items crew.berths.items place port.0 berth.0 port.1 berth.1) in
-          ap (λ (w : Wire). w.script) (same_item rings (2 * place) wire (outlet_wire port.0.ends.outlet) at made) ∙ (c.ringed place site berth.0 port.0 there berth.1 port.1).to_script
+          ap (λ (w : Wire). w.script) (slice_get-one rings (2 * place) wire (outlet_wire port.0.ends.outlet) at made) ∙ (c.ringed place site berth.0 port.0 there berth.1 port.1).to_script
 
       from : (place : ℕ) (site : SiteId) (wire : Wire) → slice_get (sites scenario) place ≡ Some site → slice_get rings (2 * place + 1) ≡ Some wire → wire.script ≡ script_of scenario false site
       from place site wire there at =
           let port = has_item crew.ports.items (sites scenario) place site c.ports_count there in
           let berth = has_item crew.berths.items (sites scenario) place site c.berths_count there in
           let made = subst (λ (ws : List Wire). slice_get ws (2 * place + 1) ≡ Some (outlet_wire berth.0.ends.outlet)) (sym named.rings_are) (wire_from crew.ports.items crew.berths.items place port.0 berth.0 port.1 berth.1) in
-          ap (λ (w : Wire). w.script) (same_item rings (2 * place + 1) wire (outlet_wire berth.0.ends.outlet) at made) ∙ (c.ringed place site berth.0 port.0 there berth.1 port.1).from_script
+          ap (λ (w : Wire). w.script) (slice_get-one rings (2 * place + 1) wire (outlet_wire berth.0.ends.outlet) at made) ∙ (c.ringed place site berth.0 port.0 there berth.1 port.1).from_script

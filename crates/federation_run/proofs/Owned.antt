@@ -5,6 +5,8 @@ use Rattle.mdb_base.specs.declared.names.SiteId.{SiteId}
 use Rattle.mdb_base.specs.declared.names.Tx.{Tx}
 use Rattle.mdb_base.specs.Rising.{IsRising}
 use Rattle.mdb_base.specs.Words.{found, or_else}
+use Rattle.mdb_base.proofs.PlaceLaws.{made_of}
+use Rattle.mdb_base.proofs.RisingLaws.{one_place}
 use Rattle.fed_rules.specs.declared.commands.Stamped.{Stamped}
 use Rattle.fed_rules.specs.declared.scenario.Scenario.{Scenario}
 use Rattle.fed_rules.specs.Plans.{IsScenario}
@@ -18,7 +20,6 @@ use Rattle.scripted_link.specs.Outlets.{offered, outlet_wire}
 use Rattle.scripted_link.specs.Rings.{Ring, Wire}
 use Rattle.fed_world.proofs.DeclaredPlaces.{home_at_place}
 use Rattle.fed_world.proofs.DeclaredSites.{declared_rise}
-use Rattle.fed_world.proofs.SeenDisks.{made_of}
 use Rattle.host_laws.specs.Hearing.{HasHeard}
 use Rattle.host_laws.specs.History.{IsHistory}
 use Rattle.host_laws.specs.Logs.{SiteLog}
@@ -31,7 +32,6 @@ use Rattle.federation_run.specs.declared.lefts.SiteLeft.{SiteLeft}
 use Rattle.federation_run.specs.Lefts.{ArePlaced, IsHeldAt, IsLeft, itself, parts_of}
 use Rattle.federation_run.specs.Plans.{bare_home, count_at, site_plan, site_plans, stops_in}
 use Rattle.federation_run.proofs.Homes.{home_site}
-use Rattle.federation_run.proofs.Places.{one_place}
 
 -- the log of the site at a place, with its disk
 pub record IsOwnLog (tells : Bool) (counts : List ℕ) (disks : List Seen) (scenario : Scenario) (rings : List Wire) (place : ℕ) (one : SiteLeft) (log : SiteLog) : Type 0 where

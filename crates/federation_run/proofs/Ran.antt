@@ -7,17 +7,18 @@ use Rattle.std.proofs.lemmas.Option.{get_or_from_slice_get}
 use Rattle.mdb_base.specs.declared.names.SiteId.{SiteId}
 use Rattle.mdb_base.specs.declared.names.Tx.{Tx}
 use Rattle.mdb_base.specs.Counts.{HasRisen}
+use Rattle.mdb_base.proofs.PlaceLaws.{made_of, slice_get-one, same_lists}
+use Rattle.mdb_base.proofs.RisingLaws.{rises_by_place}
+use Rattle.mdb_base.proofs.JoinLaws.{length-map, length-option}
 use Rattle.fed_rules.specs.declared.commands.Command.{Command}
 use Rattle.fed_rules.specs.declared.commands.Line.{Line}
 use Rattle.fed_rules.specs.declared.commands.Stamped.{Stamped}
-use Rattle.fed_rules.specs.declared.events.SiteEvent.{SiteEvent}
 use Rattle.fed_rules.specs.declared.messages.FromSite.{FromSite}
 use Rattle.fed_rules.specs.declared.messages.ToSite.{ToSite}
 use Rattle.fed_rules.specs.declared.scenario.Scenario.{Scenario}
 use Rattle.fed_rules.specs.declared.scenario.StopLine.{StopLine}
 use Rattle.fed_rules.specs.CoordPast.{CoordPast}
 use Rattle.fed_rules.specs.Plans.{IsScenario}
-use Rattle.fed_rules.specs.Requests.{Request, Submits, Declines}
 use Rattle.fed_rules.specs.Scenarios.{global_program, home_of, sites}
 use Rattle.fed_rules.specs.SitePast.{SitePast}
 use Rattle.fed_rules.specs.SiteRecords.{Home}
@@ -37,10 +38,9 @@ use Rattle.session_report.specs.declared.marks.Marks.{Marks}
 use Rattle.session_report.specs.declared.session.Channel.{Channel}
 use Rattle.session_report.specs.Marks.{kept_marks}
 use Rattle.session_routes.specs.Posting.{message_to}
-use Rattle.site_seats.specs.Seats.{AreFew}
+use Rattle.fed_world.specs.Seats.{AreFew}
 use Rattle.trace_merge.specs.Traces.{Entry, IsTrace, lines_of, list_of}
 use Rattle.world_laws.proofs.Sent.{messages_declared}
-use Rattle.world_laws.proofs.SiteSays.{sites_few}
 use Rattle.fed_world.specs.declared.cores.Cores.{Cores}
 use Rattle.fed_world.specs.Asks.{terms_of}
 use Rattle.fed_world.specs.Faults.{faults_of}
@@ -48,7 +48,6 @@ use Rattle.fed_world.specs.Gathering.{Gathers, GathersAt, GathersOn, IsChannel, 
 use Rattle.fed_world.specs.Worlds.{AreDisks, DbmsRecalls, DbmsStands, ManagerRecalls, ManagerStands, OfManager, OnDisk}
 use Rattle.fed_world.proofs.DeclaredPlaces.{at_its_place, no_home_placeless}
 use Rattle.fed_world.proofs.DeclaredSites.{declared_rise}
-use Rattle.fed_world.proofs.SeenDisks.{made_of}
 use Rattle.session_routes.specs.Routes.{place_in}
 use Rattle.fed_world.proofs.SeatsByPlace.{has_item}
 use Rattle.host_laws.specs.CoordTurns.{CoordTurn, coord_past_of, coord_sends_at, sent_to}
@@ -58,7 +57,8 @@ use Rattle.host_laws.specs.Merged.{AreShort, CarriesSite, MergedLinesAreRight, M
 use Rattle.host_laws.specs.Plans.{SitePlan, most_lines}
 use Rattle.host_laws.specs.Stops.{AreSettled, StopsAreArmed}
 use Rattle.host_laws.specs.Turns as Turns
-use Rattle.host_laws.specs.Turns.{SiteTurn, begun_in, request_at, sends_at, sends_of, sent_by}
+use Rattle.host_laws.specs.Turns.{SiteTurn, begun_in, request_at, sends_at, sent_by}
+use Rattle.host_laws.proofs.Sides.{few_sent}
 use Rattle.fed_hosts.specs.declared.ports.Port.{Port}
 use Rattle.fed_hosts.specs.CoordKeeps.{IsCoordStanding, IsPortLogged}
 use Rattle.fed_hosts.specs.Keeps.{IsCounting, IsStanding, most_begun}
@@ -72,7 +72,6 @@ use Rattle.federation_run.specs.Sorting.{AllFit, AreMarks, AreSorted, FailedAt, 
 use Rattle.federation_run.proofs.Counted.{few_begun, few_lines}
 use Rattle.federation_run.proofs.Logged.{are_lists, are_logs, coord_at, coord_held, coord_log, left_of, logs, logs_count, own, own_is, port_site, ports_count}
 use Rattle.federation_run.proofs.Owned.{IsOwnLog}
-use Rattle.federation_run.proofs.Places.{rises_by_place, same_item, same_lists}
 use Rattle.federation_run.proofs.Unchecked.{marks_kept}
 
 -- ---- how many lines and messages there are
@@ -86,42 +85,30 @@ lines_few actor (e ∷ es) = by_test (nat_eq e.actor actor) (lines_few actor es)
     by_test true less = omega (arith, less)
     by_test false less = omega (arith, less)
 
-length_mapped : {A B : Type 0} (f : A → B) (xs : List A) → length (map f xs) ≡ length xs
-length_mapped f [] = refl
-length_mapped f (x ∷ xs) = ap (λ (n : ℕ). suc n) (length_mapped f xs)
-
 pub list_few : (lists : List (List Stamped)) (merged : List Stamped) (actor : ℕ) → IsTrace lists merged → length (list_of lists actor) ≤ length (commands_of (lines_in merged))
 list_few lists merged actor trace =
     let few = lines_few actor trace.entries in
     let here : length (lines_of actor trace.entries) ≡ length (list_of lists actor) = ap (λ (ls : List Stamped). length ls) (trace.each_list actor) in
-    let all : length merged ≡ length trace.entries = ap (λ (ls : List Stamped). length ls) trace.lines ∙ length_mapped (λ (e : Entry). e.line) trace.entries in
+    let all : length merged ≡ length trace.entries = ap (λ (ls : List Stamped). length ls) trace.lines ∙ length-map (λ (e : Entry). e.line) trace.entries in
     let told : length (commands_of (lines_in merged)) ≡ length merged =
-    length_mapped (λ (line : Line). line.command) (reverse (lines_in merged)) ∙ (length-reverse (lines_in merged) ∙ length_mapped (λ (s : Stamped). s.line) merged) in
+    length-map (λ (line : Line). line.command) (reverse (lines_in merged)) ∙ (length-reverse (lines_in merged) ∙ length-map (λ (s : Stamped). s.line) merged) in
     omega (arith, few, here, all, told)
-
-one_message : {A : Type 0} (o : Option A) → length (option_to_list o) ≤ 1
-one_message None = omega arith
-one_message (Some x) = omega arith
 
 -- the coordinator sends a site at most one message in a line
 to_few : (log : CoordLog) (site : SiteId) (turns : List CoordTurn) → length (sent_to log.plan site turns) ≤ length turns
 to_few log site [] = omega arith
 to_few log site (turn ∷ turns) =
     let rest = to_few log site turns in
-    let one = one_message (message_to site (coord_sends_at log.plan turns turn)) in
+    let one = length-option (message_to site (coord_sends_at log.plan turns turn)) in
     let both = length-append (sent_to log.plan site turns) (option_to_list (message_to site (coord_sends_at log.plan turns turn))) in
     omega (arith, rest, one, both)
-
-request_few : (home : Home) (past : SitePast) (r : Request SiteEvent) → length (sends_of home past r) ≤ 1
-request_few home past (Submits event) = sites_few home past event
-request_few home past (Declines answer) = omega arith
 
 -- and a site the coordinator
 from_few : (plan : SitePlan) (turns : List SiteTurn) → length (sent_by plan turns) ≤ length turns
 from_few plan [] = omega arith
 from_few plan (turn ∷ turns) =
     let rest = from_few plan turns in
-    let one = request_few plan.home (Turns.past_of plan turns) (request_at plan turns turn) in
+    let one = few_sent plan.home (Turns.past_of plan turns) (request_at plan turns turn) in
     let both = length-append (sent_by plan turns) (sends_at plan turns turn) in
     omega (arith, rest, one, both)
 
@@ -230,7 +217,7 @@ module _ (right : MergedLinesAreRight) (carries : MessagesAreCarried) (arms : St
   calm_at zero disk at runs sites_run =
       let c = coord_at tells counts disks scenario whole left l placed fits in
       let held = coord_held tells counts disks scenario whole left l placed fits in
-      let same : c.disk ≡ disk = same_item disks 0 c.disk disk c.own at in
+      let same : c.disk ≡ disk = slice_get-one disks 0 c.disk disk c.own at in
       let counting : c.disk.faults ≡ count_at counts 0 = subst (λ (b : Bool). IsCounting b (count_at counts 0) c.disk.faults) (runs refl) held.faults in
       ap (λ (d : Seen). d.faults) (sym same) ∙ counting
   calm_at (suc n) disk at runs sites_run = by_place (place_in (sites scenario) site) refl
@@ -246,7 +233,7 @@ module _ (right : MergedLinesAreRight) (carries : MessagesAreCarried) (arms : St
           let f = own_is tells counts disks scenario whole left l placed fits place site log.0 there log.1 in
           let o = f.2 in
           let actor : f.0.actor ≡ suc n = o.own_actor ∙ ap (λ (z : SiteId). z.0) f.3 in
-          let same : o.disk ≡ disk = same_item disks (suc n) o.disk disk (subst (λ (z : SiteId). slice_get disks z.0 ≡ Some o.disk) f.3 o.own) at in
+          let same : o.disk ≡ disk = slice_get-one disks (suc n) o.disk disk (subst (λ (z : SiteId). slice_get disks z.0 ≡ Some o.disk) f.3 o.own) at in
           let counting : o.disk.faults ≡ log.0.plan.faults = subst (λ (b : Bool). IsCounting b log.0.plan.faults o.disk.faults) (sites_run place f.0 f.1 actor) o.faults in
           ap (λ (d : Seen). d.faults) (sym same) ∙ (counting ∙ (ap (λ (p : SitePlan). p.faults) o.plan_is ∙ ap (λ (z : SiteId). count_at counts z.0) f.3))
 
@@ -254,7 +241,7 @@ module _ (right : MergedLinesAreRight) (carries : MessagesAreCarried) (arms : St
 
   module _ (none : NoneFailed left.coordinator left.sites.items) where
     pub all_calm : faults_of disks ≡ counts
-    all_calm = same_lists (faults_of disks) counts (length_mapped (λ (d : Seen). d.faults) disks ∙ (l.nine ∙ sym l.counted)) each
+    all_calm = same_lists (faults_of disks) counts (length-map (λ (d : Seen). d.faults) disks ∙ (l.nine ∙ sym l.counted)) each
       where
         each : (n x y : ℕ) → slice_get (faults_of disks) n ≡ Some x → slice_get counts n ≡ Some y → x ≡ y
         each n x y at count =
@@ -343,7 +330,7 @@ module _ (right : MergedLinesAreRight) (carries : MessagesAreCarried) (arms : St
               let log = has_item sites_logs (sites scenario) place site (logs_count tells counts disks scenario whole left l placed fits) there in
               let same = ap (λ (ms : List ToSite). length ms) (told.each place site log.0 there log.1).to in
               let few = to_few coordinator site coordinator.turns in
-              let listed_all = ap (λ (ls : List Stamped). length ls) listed.coordinator_is ∙ (length-reverse (map (λ (turn : CoordTurn). turn.line) coordinator.turns) ∙ length_mapped (λ (turn : CoordTurn). turn.line) coordinator.turns) in
+              let listed_all = ap (λ (ls : List Stamped). length ls) listed.coordinator_is ∙ (length-reverse (map (λ (turn : CoordTurn). turn.line) coordinator.turns) ∙ length-map (λ (turn : CoordTurn). turn.line) coordinator.turns) in
               let all = list_few sorted.lists.items merged 0 traced in
               omega (arith, same, few, listed_all, all)
 
@@ -357,7 +344,7 @@ module _ (right : MergedLinesAreRight) (carries : MessagesAreCarried) (arms : St
               let log = has_item sites_logs (sites scenario) place site (logs_count tells counts disks scenario whole left l placed fits) there in
               let same = ap (λ (ms : List FromSite). length ms) (told.each place site log.0 there log.1).from in
               let few = from_few log.0.plan log.0.turns in
-              let listed_all = ap (λ (ls : List Stamped). length ls) (listed.site_is place site log.0 there log.1) ∙ (length-reverse (map (λ (turn : SiteTurn). turn.line) log.0.turns) ∙ length_mapped (λ (turn : SiteTurn). turn.line) log.0.turns) in
+              let listed_all = ap (λ (ls : List Stamped). length ls) (listed.site_is place site log.0 there log.1) ∙ (length-reverse (map (λ (turn : SiteTurn). turn.line) log.0.turns) ∙ length-map (λ (turn : SiteTurn). turn.line) log.0.turns) in
               let all = list_few sorted.lists.items merged site.0 traced in
               omega (arith, same, few, listed_all, all)
 
@@ -455,7 +442,7 @@ module _ (right : MergedLinesAreRight) (carries : MessagesAreCarried) (arms : St
                 (let one_way = ltb-false place b.place is in
                 let other_way = ltb-false b.place place k in
                 let here_too : place ≡ b.place = omega (arith, one_way, other_way) in
-                let same : one ≡ b.left = same_item left.sites.items b.place one b.left (subst (λ (n : ℕ). slice_get left.sites.items n ≡ Some one) here_too here) b.at in
+                let same : one ≡ b.left = slice_get-one left.sites.items b.place one b.left (subst (λ (n : ℕ). slice_get left.sites.items n ≡ Some one) here_too here) b.at in
                 let actors = ap (λ (z : SiteLeft). z.actor) same in
                 let is_number = b.actor in
                 absurd (omega (arith, actors, is_number, less)))

@@ -5,6 +5,7 @@ use mathlib.Core.List.{IsPrefix}
 use Rattle.std.proofs.lemmas.Bool.{leb-false, leb-true}
 use Rattle.std.proofs.lemmas.List.{append-nil, length-append}
 use Rattle.std.proofs.lemmas.Option.{slice_get_within}
+use Rattle.mdb_base.proofs.PlaceLaws.{slice_get-front, slice_get-one}
 use Rattle.journal_disk.specs.Disk.{Seen}
 use Rattle.any_engine.specs.Stands as Engines
 use Rattle.scripted_link.specs.Rings.{Wire}
@@ -17,11 +18,11 @@ use Rattle.federation_run.specs.declared.seats.Seat.{Seat}
 use Rattle.federation_run.specs.declared.seats.Seat.TheVariants.{Hosted, Idle}
 use Rattle.federation_run.specs.Lefts.{AreBack, AreHeldAt, HasRisenFrom, IsHeldAt, IsTakenOut}
 use Rattle.federation_run.specs.Seats.{AreSeats, CanSeat, CanSeatAll, HasBerth, IsLastBerth, IsSeat}
-use Rattle.federation_run.proofs.Places.{at_end, before_or_last, kept_at, of_prefix, same_item}
+use Rattle.federation_run.proofs.Places.{at_end, before_or_last, of_prefix}
 
 -- the last item of a beginning of a list
 pub last_out : {A : Type 0} (all old new : List A) (x : A) → IsPrefix old all → old ≡ new ++ x ∷ [] → IsPrefix new all × (slice_get all (length new) ≡ Some x)
-last_out {A} all old new x front is = ((x ∷ front.0, whole), subst (λ (zs : List A). slice_get zs (length new) ≡ Some x) front.1 (kept_at old front.0 (length new) x (subst (λ (zs : List A). slice_get zs (length new) ≡ Some x) (sym is) (at_end new x))))
+last_out {A} all old new x front is = ((x ∷ front.0, whole), subst (λ (zs : List A). slice_get zs (length new) ≡ Some x) front.1 (slice_get-front old front.0 (length new) x (subst (λ (zs : List A). slice_get zs (length new) ≡ Some x) (sym is) (at_end new x))))
   where
     whole : new ++ x ∷ front.0 ≡ all
     whole = sym (append_assoc new (x ∷ []) front.0) ∙ (ap (λ (zs : List A). zs ++ front.0) (sym is) ∙ front.1)
@@ -38,7 +39,7 @@ length_out {A} old new x is = ap (λ (zs : List A). length zs) is ∙ length-app
 pub last_is : {A : Type 0} (old new : List A) (x y : A) → old ≡ new ++ x ∷ [] → slice_get old (length old - 1) ≡ Some y → x ≡ y
 last_is {A} old new x y out at =
     let place : length old - 1 ≡ length new = (let e = length_out old new x out in omega (arith, e)) in
-    same_item old (length new) x y (subst (λ (zs : List A). slice_get zs (length new) ≡ Some x) (sym out) (at_end new x)) (subst (λ (n : ℕ). slice_get old n ≡ Some y) place at)
+    slice_get-one old (length new) x y (subst (λ (zs : List A). slice_get zs (length new) ≡ Some x) (sym out) (at_end new x)) (subst (λ (n : ℕ). slice_get old n ≡ Some y) place at)
 
 -- so many actors are seated
 pub record AreSeatedTo {D N : Type 0} (berths_then : List Berth) (disks_then : List D) (berths : List Berth) (disks : List D) (seats : List (Seat D N)) : Type 0 where
@@ -94,7 +95,7 @@ seated_next {D} {N} berths_then disks_then berths berths_now disks disks_now sea
     by_place index one d at_disk (inl before) = s.each index one d before at_disk
     by_place index one d at_disk (inr new) =
         let number : 8 - index ≡ length disks_now = ap (λ (n : ℕ). 8 - n) new.0 ∙ actor in
-        let same : disk ≡ d = same_item disks_then (length disks_now) disk d last.1 (subst (λ (n : ℕ). slice_get disks_then n ≡ Some d) number at_disk) in
+        let same : disk ≡ d = slice_get-one disks_then (length disks_now) disk d last.1 (subst (λ (n : ℕ). slice_get disks_then n ≡ Some d) number at_disk) in
         subst (λ (n : ℕ). IsSeat n berths_then d one) (sym number) (subst (λ (z : Seat D N). IsSeat (length disks_now) berths_then d z) new.1
         (subst (λ (z : D). IsSeat (length disks_now) berths_then z seat) same (seat_then (length disks_now) berths berths_then disk seat s.left own)))
 
@@ -142,7 +143,7 @@ more_or_same index least most next less = by_test (nat_le most index) refl
 held_more : (tells : Bool) (plans : List SitePlan) (rings : List Wire) (disks behind more : List Seen) (lefts : List SiteLeft) → behind ≡ disks ++ more → AreHeldAt tells plans rings disks lefts → AreHeldAt tells plans rings behind lefts
 held_more tells plans rings disks behind more lefts is held place one at =
     let h = held place one at in
-    record { disk = h.disk; own = subst (λ (ds : List Seen). slice_get ds one.actor ≡ Some h.disk) (sym is) (kept_at disks more one.actor h.disk h.own); held = h.held }
+    record { disk = h.disk; own = subst (λ (ds : List Seen). slice_get ds one.actor ≡ Some h.disk) (sym is) (slice_get-front disks more one.actor h.disk h.own); held = h.held }
 
 first_kept : (disks more : List Seen) (first : Option Seen) → 1 ≤ length disks → slice_get disks 0 ≡ first → slice_get (disks ++ more) 0 ≡ first
 first_kept [] more first least is = absurd (omega (arith, least))
@@ -169,7 +170,7 @@ module _ {D N : Type 0} (tells : Bool) (seen : D → Seen) (plans : List SitePla
       before_or_there index most = (let b = length_out seats seats_now (Idle disk) out in more_or_same index (length seats_now) (length seats) b most)
 
       by_index : (index : ℕ) (d : D) → slice_get seats_then index ≡ Some (Idle d) → (length seats ≤ index) ⊎ (index ≡ length seats_now) → slice_get behind (8 - index) ≡ Some (seen d)
-      by_index index d at (inl most) = subst (λ (ds : List Seen). slice_get ds (8 - index) ≡ Some (seen d)) (sym is.0) (kept_at disks (seen disk ∷ []) (8 - index) (seen d) (o.back index d most at))
+      by_index index d at (inl most) = subst (λ (ds : List Seen). slice_get ds (8 - index) ≡ Some (seen d)) (sym is.0) (slice_get-front disks (seen disk ∷ []) (8 - index) (seen d) (o.back index d most at))
       by_index index d at (inr here) =
           let there : slice_get seats_then (length seats_now) ≡ Some (Idle d) = subst (λ (n : ℕ). slice_get seats_then n ≡ Some (Idle d)) here at in
           let same : disk ≡ d = one_disk seats_then (length seats_now) disk d last.1 there in
@@ -200,7 +201,7 @@ module _ {D N : Type 0} (tells : Bool) (seen : D → Seen) (plans : List SitePla
       })
 
       by_index : (index : ℕ) (d : D) → slice_get seats_then index ≡ Some (Idle d) → (length seats ≤ index) ⊎ (index ≡ length seats_now) → slice_get behind (8 - index) ≡ Some (seen d)
-      by_index index d at (inl most) = subst (λ (ds : List Seen). slice_get ds (8 - index) ≡ Some (seen d)) (sym r.disks_are) (kept_at disks (r.disk ∷ []) (8 - index) (seen d) (o.back index d most at))
+      by_index index d at (inl most) = subst (λ (ds : List Seen). slice_get ds (8 - index) ≡ Some (seen d)) (sym r.disks_are) (slice_get-front disks (r.disk ∷ []) (8 - index) (seen d) (o.back index d most at))
       by_index index d at (inr here) =
           let there : slice_get seats_then (length seats_now) ≡ Some (Idle d) = subst (λ (n : ℕ). slice_get seats_then n ≡ Some (Idle d)) here at in
           let both : Some (Hosted host) ≡ Some (Idle d) = sym last.1 ∙ there in

@@ -5,6 +5,7 @@ use Rattle.mdb_base.specs.declared.acts.Step.{Step}
 use Rattle.mdb_base.specs.declared.names.Tx.{Tx}
 use Rattle.mdb_base.specs.declared.names.Tid.{Tid}
 use Rattle.mdb_base.specs.Words.{found, pick, when, with_some}
+use Rattle.mdb_base.proofs.JoinLaws.{found_append}
 use Rattle.fed_rules.specs.declared.commands.Command.{Command}
 use Rattle.fed_rules.specs.declared.commands.Command.TheVariants as Cmd
 use Rattle.fed_rules.specs.declared.events.SiteEvent.{SiteEvent}
@@ -88,18 +89,10 @@ none_trimmed plan [] = refl
 none_trimmed plan (turn ∷ turns) =
     none_behind plan.home (past_of plan turns) (request_of plan (past_of plan turns) turn.line.line.command turn.took) (asks_none plan (past_of plan turns) turn.line.line.command turn.took) (none_trimmed plan turns)
 
-found_joined : {A B : Type 0} (look : A → Option B) (xs ys : List A) → found look (xs ++ ys) ≡ found look xs ++ found look ys
-found_joined look [] ys = refl
-found_joined {A} {B} look (x ∷ xs) ys = by_look (look x) (found_joined look xs ys)
-  where
-    by_look : (o : Option B) → found look (xs ++ ys) ≡ found look xs ++ found look ys → with_some o (found look (xs ++ ys)) ≡ with_some o (found look xs) ++ found look ys
-    by_look None h = h
-    by_look (Some b) h = ap (λ (bs : List B). b ∷ bs) h
-
 -- what is found in a list that is turned round
 found_turned : (rs : List SiteRecord) → found mark_of (reverse rs) ≡ oldest_first (found mark_of rs)
 found_turned [] = refl
-found_turned (r ∷ rs) = ap (λ (zs : List SiteRecord). found mark_of zs) (reverse-append (r ∷ []) rs) ∙ (found_joined mark_of (reverse rs) (r ∷ []) ∙ by_look (mark_of r) (found_turned rs))
+found_turned (r ∷ rs) = ap (λ (zs : List SiteRecord). found mark_of zs) (reverse-append (r ∷ []) rs) ∙ (found_append mark_of (reverse rs) (r ∷ []) ∙ by_look (mark_of r) (found_turned rs))
   where
     by_look : (o : Option Mark) → found mark_of (reverse rs) ≡ oldest_first (found mark_of rs) → found mark_of (reverse rs) ++ with_some o [] ≡ oldest_first (with_some o (found mark_of rs))
     by_look None h = append-nil (found mark_of (reverse rs)) ∙ h

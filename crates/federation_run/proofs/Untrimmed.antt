@@ -1,7 +1,6 @@
 -- A site that writes no Checkpoint trims nothing, so all its records stand on its disk.
-use Rattle.std.proofs.Common.{◌≡◌, ℕ, zero, suc, Bool, true, false, cond, ◌==◌, Option, Some, None, List, [], ◌∷◌, ◌++◌, take, refl, sym, ◌∙◌, ap, subst, arith}
+use Rattle.std.proofs.Common.{◌≡◌, ℕ, zero, suc, Bool, true, false, cond, ◌==◌, Option, Some, None, List, [], ◌∷◌, ◌++◌, take, refl, sym, subst, arith}
 use Rattle.std.specs.Prelude.{nat_le}
-use Rattle.std.proofs.lemmas.Bool.{cond-true}
 use Rattle.std.proofs.lemmas.Bool.Decides.{nat_tests}
 use Rattle.mdb_base.specs.declared.acts.PlainAct.{PlainAct}
 use Rattle.mdb_base.specs.declared.names.Tid.{Tid}
@@ -14,12 +13,13 @@ use Rattle.fed_rules.specs.declared.messages.ToSite.{ToSite}
 use Rattle.fed_rules.specs.declared.messages.ToSite.TheVariants as To
 use Rattle.fed_rules.specs.declared.records.SiteRecord.{SiteRecord}
 use Rattle.fed_rules.specs.Disk as Disk
-use Rattle.fed_rules.specs.Disk.{Call, Append, Sync, CutBack, TrimFront, Stops, after_calls, bytes_of, is_torn, standing}
+use Rattle.fed_rules.specs.Disk.{Call, Append, Sync, CutBack, TrimFront, Stops, after_calls, is_torn, standing}
 use Rattle.fed_rules.specs.Happenings.{Trip, is_down, quiet, stopped, tripped}
 use Rattle.fed_rules.specs.Site.{answered, site_line, of_begin, of_act, seals_local, of_commit, of_abort, of_fate, did, unknown, first_work, next_work, next_take, repeated, work_live, of_work, take_live, of_take, votes_again, votes_no, votes_yes, seals_global, prepare_live, of_prepare, settles, unheld, of_decide, of_give, of_ask, of_drop, of_back, ended_calls, with_lines, unless_tripped}
 use Rattle.presumptions.specs.Table.{forces}
 use Rattle.fed_rules.specs.SitePast.{SiteHappening, SitePast, disk, journal, records, trip}
 use Rattle.fed_rules.specs.SiteRecords.{Home, site_frame}
+use Rattle.rules_laws.proofs.SiteRecords.{standing_all}
 
 -- none of the calls trims
 abbrev pub TrimNone : List (Call SiteRecord) → Type 0
@@ -143,11 +143,6 @@ module _ (home : Home) (past : SitePast) where
 
 nothing_before : (n : ℕ) → nat_le 0 n ≡ true
 nothing_before n = grind (arith, nat_tests)
-
--- where nothing was trimmed all records stand
-standing_all : (rs : List SiteRecord) → standing site_frame 0 rs ≡ rs
-standing_all [] = refl
-standing_all (r ∷ rs) = cond-true _ _ _ (nothing_before (bytes_of site_frame rs)) ∙ ap (λ (xs : List SiteRecord). r ∷ xs) (standing_all rs)
 
 pub all_stand : (home : Home) (past : SitePast) → (disk home past).trimmed ≡ 0 → journal home past ≡ records home past
 all_stand home past none = subst (λ (n : ℕ). standing site_frame n (records home past) ≡ records home past) (sym none) (standing_all (records home past))

@@ -1,21 +1,19 @@
 -- Records that are spelled alike are one record.
 use Rattle.std.proofs.Common.{◌≡◌, ℕ, List, ◌++◌, map, take, Option, Some, Result, Ok, sym, ap, ◌∙◌}
 use Rattle.std.specs.List.{AllByRecursion}
+use Rattle.std.proofs.lemmas.Option.{same_Some}
 use Rattle.journal_disk.specs.Frames.{Frame, IsPayload, written, frame}
 use Rattle.journal_disk.proofs.Whole.{one_frame, one_reading, payload_is, whole_left, written_is_frame}
 use Rattle.frame_journal.specs.Records.{Entry, values, entry_frame, AreRecordsOf, entries_at, records_within}
 use Rattle.frame_journal.proofs.ReadOn.{records_again}
 use Rattle.frame_journal.proofs.Within.{map-within}
 
-some_is : {A : Type 0} (x y : A) → ◌≡◌ {A = Option A} (Some x) (Some y) → x ≡ y
-some_is x y e = cc
-
 ok_is : {A : Type 0} (x y : A) → ◌≡◌ {A = Result A ℕ} (Ok x) (Ok y) → x ≡ y
 ok_is x y e = cc
 
 module _ {R : Type 0} (spelling : R → List ℕ) (reading : List ℕ → Option R) (is_record : R → Type 0) (again : (entry : R) → is_record entry → reading (spelling entry) ≡ Some entry) where
   pub one_spelling : (a b : R) → is_record a → is_record b → spelling a ≡ spelling b → a ≡ b
-  one_spelling a b ra rb e = some_is a b (sym (again a ra) ∙ ap reading e ∙ again b rb)
+  one_spelling a b ra rb e = same_Some a b (sym (again a ra) ∙ ap reading e ∙ again b rb)
 
   pub none_begins : (a b : R) (x y : List ℕ) → is_record a → is_record b → IsPayload (spelling a) → IsPayload (spelling b) → frame (spelling a) ++ x ≡ frame (spelling b) ++ y → (a ≡ b) × (x ≡ y)
   none_begins a b x y ra rb pa pb e =

@@ -1,5 +1,5 @@
 -- Entries: versions and records side by side, and the frames that they have.
-use Rattle.std.proofs.Common.{◌≡◌, ℕ, zero, suc, ◌+◌, ◌-◌, ◌<◌, get_or, List, [], ◌∷◌, ◌++◌, length, map, Option, Some, refl, sym, ap, ◌∙◌, arith}
+use Rattle.std.proofs.Common.{◌≡◌, ℕ, zero, suc, ◌+◌, ◌-◌, ◌<◌, get_or, List, [], ◌∷◌, ◌++◌, length, map, Some, refl, sym, ap, ◌∙◌, arith}
 use Rattle.std.specs.List.{slice_get}
 use Rattle.mdb_base.specs.Words.{map_some}
 use Rattle.journal_disk.specs.declared.frames.Version.{Version}
@@ -10,6 +10,7 @@ use Rattle.frame_journal.specs.Records.{Entry, entry_frame, entries_of, last_alo
 use Rattle.frame_journal.specs.Journal.{EndsWith}
 use Rattle.frame_journal.proofs.Sizes.{right_last}
 use Rattle.std.proofs.lemmas.List.{length-append}
+use Rattle.std.proofs.lemmas.Option.{same_Some}
 use Rattle.byte_numbers.proofs.Numbers.{length-number}
 use Rattle.byte_numbers.specs.Numbers.{number}
 
@@ -44,17 +45,14 @@ pub record Got (fs : List Frame) (i : ℕ) (payload : List ℕ) (version : Versi
   pub payload_is : payload_of frame ≡ payload
   pub version_is : version_of frame ≡ version
 
-some_is : {A : Type 0} (x y : A) → ◌≡◌ {A = Option A} (Some x) (Some y) → x ≡ y
-some_is x y e = cc
-
 pub got : (fs : List Frame) (i : ℕ) (payload : List ℕ) (version : Version) → map_some payload_of (slice_get fs i) ≡ Some payload → map_some version_of (slice_get fs i) ≡ Some version → Got fs i payload version
 got [] i payload version e v = absurd cc
-got (f ∷ fs) zero payload version e v = record { frame = f; here = refl; payload_is = some_is (payload_of f) payload e; version_is = some_is (version_of f) version v }
+got (f ∷ fs) zero payload version e v = record { frame = f; here = refl; payload_is = same_Some (payload_of f) payload e; version_is = same_Some (version_of f) version v }
 got (f ∷ fs) (suc i) payload version e v = let g = got fs i payload version e v in record { frame = g.frame; here = g.here; payload_is = g.payload_is; version_is = g.version_is }
 
 pub right_at : (fs : List Frame) (i : ℕ) (f : Frame) → AreRight fs → slice_get fs i ≡ Some f → IsFrame f × IsRight f
 right_at [] i f right e = absurd cc
-right_at (g ∷ fs) zero f right e = let same : g ≡ f = some_is g f e in rw (← same) (right.are_frames.0, right.are_right.0)
+right_at (g ∷ fs) zero f right e = let same : g ≡ f = same_Some g f e in rw (← same) (right.are_frames.0, right.are_right.0)
 right_at (g ∷ fs) (suc i) f right e = right_at fs i f (record { are_frames = right.are_frames.1; are_right = right.are_right.1 }) e
 
 -- ---- side by side

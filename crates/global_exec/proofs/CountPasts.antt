@@ -1,5 +1,5 @@
 -- A reply counts in the table where it counts by the past.
-use Rattle.std.proofs.Common.{◌≡◌, ℕ, ◌==◌, Bool, true, false, cond, ◌&&◌, ◌||◌, Option, Some, None, List, [], ◌∷◌, map, refl, sym, ap, ◌∙◌, eqb-true}
+use Rattle.std.proofs.Common.{◌≡◌, ℕ, ◌==◌, Bool, true, false, cond, ◌&&◌, ◌||◌, Option, Some, None, List, [], ◌∷◌, map, refl, sym, ap, ◌∙◌}
 use Rattle.std.proofs.lemmas.Bool.{cond-true, cond-false, false≢true}
 use Rattle.mdb_base.specs.declared.acts.Step.{Step}
 use Rattle.mdb_base.specs.declared.names.SiteId.{SiteId}
@@ -7,6 +7,7 @@ use Rattle.mdb_base.specs.declared.names.Tid.{Tid}
 use Rattle.mdb_base.specs.declared.replies.Reply.{Reply}
 use Rattle.mdb_base.specs.Names.{same_site}
 use Rattle.mdb_base.specs.Words.{first_where, holds_of, some_of, those}
+use Rattle.mdb_base.proofs.NameLaws.{same_site-equal}
 use Rattle.presumptions.specs.declared.Participant.{Participant}
 use Rattle.presumptions.specs.declared.Protocol.TheVariants as By
 use Rattle.fed_rules.specs.declared.messages.Due.{Due}
@@ -17,9 +18,6 @@ use Rattle.global_exec.specs.Agreement.{IsOfPast, progress_in}
 use Rattle.global_exec.specs.Counted.{counts, counts_at, knows}
 use Rattle.global_exec.specs.Live.{Live, awaits_vote, due_in, is_at, progress_at}
 use Rattle.global_exec.proofs.Agrees.{due-at}
-
-sites_same : (a b : SiteId) → same_site a b ≡ true → a ≡ b
-sites_same a b e = ap {A = ℕ} (λ n. record { 0 = n }) (eqb-true a.0 b.0 e)
 
 module _ (past : CoordPast) (tid : Tid) (site : SiteId) (steps : List Step) where
   -- how far the attempt has come at the site
@@ -36,7 +34,7 @@ module _ (past : CoordPast) (tid : Tid) (site : SiteId) (steps : List Step) wher
         → first_where (is_at site) (map (progress_in past tid) (cond v (m ∷ those (λ p. visits p.site steps) ms) (those (λ p. visits p.site steps) ms))) ≡ None
     by_test b same false v rest = rest
     by_test false same true v rest = cond-false _ _ _ same ∙ rest
-    by_test true same true v rest = absurd (false≢true (sym off ∙ ap (λ s. visits s steps) (sym (sites_same m.site site same)) ∙ v))
+    by_test true same true v rest = absurd (false≢true (sym off ∙ ap (λ s. visits s steps) (sym (same_site-equal m.site site same)) ∙ v))
 
   abbrev AtFirst : Participant → List Participant → Bool → Type 0
   AtFirst m ms v = first_where (is_at site) (map (progress_in past tid) (cond v (m ∷ those (λ p. visits p.site steps) ms) (those (λ p. visits p.site steps) ms))) ≡ cond (visits site steps) (Some here) None
@@ -50,10 +48,10 @@ module _ (past : CoordPast) (tid : Tid) (site : SiteId) (steps : List Step) wher
         → AtFirst m ms v
     by_test true same true v rest =
         cond-true _ _ _ same
-        ∙ ap (λ (s : SiteId). Some (progress_in past tid (record { site = s; protocol = By.Nothing }))) (sites_same m.site site same)
-        ∙ sym (cond-true _ _ _ (ap (λ (s : SiteId). visits s steps) (sym (sites_same m.site site same)) ∙ v))
+        ∙ ap (λ (s : SiteId). Some (progress_in past tid (record { site = s; protocol = By.Nothing }))) (same_site-equal m.site site same)
+        ∙ sym (cond-true _ _ _ (ap (λ (s : SiteId). visits s steps) (sym (same_site-equal m.site site same)) ∙ v))
     by_test true same false v rest =
-        let off : visits site steps ≡ false = ap (λ (s : SiteId). visits s steps) (sym (sites_same m.site site same)) ∙ v in
+        let off : visits site steps ≡ false = ap (λ (s : SiteId). visits s steps) (sym (same_site-equal m.site site same)) ∙ v in
         none_there off ms ∙ sym (cond-false _ _ _ off)
     by_test false same true v rest = cond-false _ _ _ same ∙ rest (sym (ap (λ b. b || some_of (λ p. same_site p.site site) ms) same) ∙ among)
     by_test false same false v rest = rest (sym (ap (λ b. b || some_of (λ p. same_site p.site site) ms) same) ∙ among)

@@ -9,13 +9,11 @@ use Rattle.fed_rules.specs.Site_of.{due_site}
 use Rattle.fed_rules.specs.declared.messages.Due.{Due}
 use Rattle.fed_rules.specs.declared.messages.Due.TheVariants as Due_is
 use Rattle.fed_rules.specs.CoordPast.{visits}
+use Rattle.rules_laws.proofs.Dues.{due_number}
 use Rattle.global_exec.specs.declared.progress.Progress.{Progress}
 use Rattle.global_exec.specs.Counted.{is_news, news_at}
 use Rattle.global_exec.specs.Due.{due, prepare, work, take as take_due}
 use Rattle.global_exec.specs.Live.{Live, due_in, site_number}
-
-abbrev due_number : Due → ℕ
-due_number b = (due_site b).0
 
 same_due : (n : ℕ) (x b : Due) → Some x ≡ Some b → due_number x ≡ n → due_number b ≡ n
 same_due n x b e is = let same : x ≡ b = cc in subst (λ (d : Due). due_number d ≡ n) same is

@@ -9,6 +9,7 @@ use Rattle.mdb_base.specs.declared.replies.Reply.TheVariants as Reply_is
 use Rattle.mdb_base.specs.Names.{same_site}
 use Rattle.mdb_base.specs.Words.{Each, found, those, how_many, some_of, with_some}
 use Rattle.mdb_base.proofs.NameLaws.{same_tid-refl, tests_agree}
+use Rattle.mdb_base.proofs.BoolLaws.{or_true, or_false}
 use Rattle.presumptions.specs.declared.Participant.{Participant}
 use Rattle.fed_rules.specs.declared.messages.FromSite.TheVariants as From
 use Rattle.fed_rules.specs.declared.events.CoordEvent.TheVariants as Ev
@@ -116,14 +117,6 @@ done_with (Reply_is.Ticket ticket) site epoch cs e = omega arith
 done_with (Reply_is.Wait by) site epoch cs e = absurd (false≢true e)
 done_with (Reply_is.Refused why) site epoch cs e = absurd (false≢true e)
 done_with Reply_is.Unknown site epoch cs e = absurd (false≢true e)
-
-or_true : (b : Bool) → (b || true) ≡ true
-or_true true = refl
-or_true false = refl
-
-or_false : (b : Bool) → (b || false) ≡ b
-or_false true = refl
-or_false false = refl
 
 -- a participant with these replies
 abbrev progress_of : List Counted → Option ℕ → Participant → Progress

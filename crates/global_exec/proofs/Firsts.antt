@@ -4,6 +4,7 @@ use Rattle.std.specs.Prelude.{reverse}
 use Rattle.std.proofs.lemmas.List.{map-append, reverse-append}
 use Rattle.std.specs.List.{remove}
 use Rattle.mdb_base.specs.Words.{Each, first_where, map_some}
+use Rattle.mdb_base.proofs.PlaceLaws.{take_none}
 use Rattle.global_exec.specs.Firsts.{place_where, replaced, taken_out}
 
 module _ {A : Type 0} (test : A → Bool) where
@@ -89,21 +90,11 @@ module _ {A : Type 0} (test : A → Bool) where
   pub each_more : (xs : List A) (i : ℕ) (d : A) → Each (λ x. test x ≡ false) (take i xs) → i < length xs → test (get_or xs i d) ≡ false → Each (λ x. test x ≡ false) (take (i + 1) xs)
   each_more xs i d h lt is = subst (λ (n : ℕ). Each (λ x. test x ≡ false) (take n xs)) (sym (add-one i)) (each_suc xs i d h lt is)
 
--- what holds of each item holds of the one at a place
-pub each_at : {A : Type 0} (P : A → Type 0) (xs : List A) (i : ℕ) (d : A) → Each P xs → i < length xs → P (get_or xs i d)
-each_at P [] i d h lt = absurd (omega arith)
-each_at P (x ∷ xs) zero d h lt = h.0
-each_at P (x ∷ xs) (suc i) d h lt = each_at P xs i d h.1 (omega arith)
-
 -- a write of what stands there changes nothing
 pub set_same : {A : Type 0} (xs : List A) (i : ℕ) (d : A) → slice_set xs i (get_or xs i d) ≡ xs
 set_same [] i d = refl
 set_same (x ∷ xs) zero d = refl
 set_same (x ∷ xs) (suc i) d = ap (λ ys. x ∷ ys) (set_same xs i d)
-
-take_none : {A : Type 0} (xs : List A) → take 0 xs ≡ []
-take_none [] = refl
-take_none (x ∷ xs) = refl
 
 take_whole : {A : Type 0} (ys zs : List A) → take (length ys) (ys ++ zs) ≡ ys
 take_whole [] zs = take_none zs

@@ -10,7 +10,6 @@ pub mod Keeps
 pub mod Lives
 pub mod Named
 pub mod Written
-pub mod Words
 pub mod ExecPasts
 pub mod CountPasts
 pub mod NewsPasts

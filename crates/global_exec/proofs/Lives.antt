@@ -1,5 +1,5 @@
 -- What is true of each attempt stays true.
-use Rattle.std.proofs.Common.{◌≡◌, ℕ, suc, ◌+◌, ◌<◌, ◌≤◌, ◌⊎◌, Bool, true, false, cond, ◌||◌, Option, Some, None, List, [], ◌∷◌, ◌++◌, length, take, refl, sym, ap, ◌∙◌, subst, inl, inr, arith, add-one, length-append}
+use Rattle.std.proofs.Common.{◌≡◌, ℕ, ◌+◌, ◌<◌, ◌≤◌, ◌⊎◌, Bool, true, false, cond, ◌||◌, Option, Some, None, List, [], ◌∷◌, ◌++◌, length, take, refl, sym, ap, ◌∙◌, subst, inl, inr, arith, add-one, length-append}
 use Rattle.std.proofs.lemmas.Bool.{and_parts, false≢true}
 use Rattle.mdb_base.specs.declared.acts.Step.{Step}
 use Rattle.mdb_base.specs.declared.names.SiteId.{SiteId}
@@ -7,9 +7,10 @@ use Rattle.mdb_base.specs.declared.names.Tid.{Tid}
 use Rattle.mdb_base.specs.declared.replies.Reply.{Reply}
 use Rattle.mdb_base.specs.declared.replies.Reply.TheVariants as Reply_is
 use Rattle.mdb_base.specs.Programs.{IsProgram, is_get, reads_of}
-use Rattle.mdb_base.specs.Words.{Each, first_where, found, holds_of, how_many, with_some}
+use Rattle.mdb_base.specs.Words.{Each, first_where, found, holds_of, with_some}
 use Rattle.std.proofs.lemmas.List.{length-take}
 use Rattle.mdb_base.proofs.ListLaws.{each_map}
+use Rattle.mdb_base.proofs.TestLaws.{how_many_at_most}
 use Rattle.fed_rules.specs.CoordPast.{visits}
 use Rattle.global_exec.specs.declared.progress.Progress.{Progress}
 use Rattle.global_exec.specs.Counted.{HasRoom, advanced, answered, counts, counts_at, is_answer, knows, steps_of, value_of, waited, with_epoch}
@@ -185,14 +186,6 @@ live_submitted tid program is = record {
     no_reads (s ∷ ss) = refl
 
 -- ---- room for what is read
-
-how_many_at_most : {A : Type 0} (test : A → Bool) (xs : List A) → how_many test xs ≤ length xs
-how_many_at_most test [] = omega arith
-how_many_at_most test (x ∷ xs) = by_test (test x) (how_many_at_most test xs)
-  where
-    by_test : (b : Bool) → how_many test xs ≤ length xs → cond b (suc (how_many test xs)) (how_many test xs) ≤ suc (length xs)
-    by_test true h = omega arith
-    by_test false h = omega arith
 
 take_at_most : {A : Type 0} (n : ℕ) (xs : List A) → length (take n xs) ≤ length xs
 take_at_most n xs = rw (length-take n xs) (omega arith)

@@ -3,6 +3,7 @@ use Rattle.std.proofs.Common.{◌≡◌, ℕ, ◌<◌, Bool, true, false, cond, 
 use Rattle.mdb_base.specs.Rising.{IsRising}
 use Rattle.mdb_base.specs.Words.{Each, found, with_some}
 use Rattle.mdb_base.proofs.ListLaws.{each_map}
+use Rattle.mdb_base.proofs.RisingLaws.{rising_rest}
 use Rattle.global_exec.specs.Firsts.{replaced}
 
 to_numbers : {A : Type 0} (number : A → ℕ) (xs : List A) → IsRising number xs → IsRising (λ (n : ℕ). n) (map number xs)
@@ -39,10 +40,6 @@ each_above number x [] h = tt
 each_above number x (y ∷ ys) h =
     (h.0, each_map (λ z. number y < number z) (λ z. number x < number z) (λ z less. omega (arith, h.0)) ys (each_above number y ys h.1))
 
-pub tail_rises : {A : Type 0} (number : A → ℕ) (x : A) (xs : List A) → IsRising number (x ∷ xs) → IsRising number xs
-tail_rises number x [] h = tt
-tail_rises number x (y ∷ ys) h = h.1
-
 rises_behind : {B : Type 0} (key : B → ℕ) (y : B) (ys : List B) → Above key (key y) ys → IsRising key ys → IsRising key (y ∷ ys)
 rises_behind key y [] above h = tt
 rises_behind key y (z ∷ zs) above h = (above, h)
@@ -59,7 +56,7 @@ module _ {A B : Type 0} (number : A → ℕ) (key : B → ℕ) (look : A → Opt
   -- what is found in a rising list rises
   pub found_rises : (xs : List A) → IsRising number xs → IsRising key (found look xs)
   found_rises [] h = tt
-  found_rises (x ∷ xs) h = by_look (look x) refl (found_rises xs (tail_rises number x xs h)) (above_found (number x) xs (each_above number x xs h))
+  found_rises (x ∷ xs) h = by_look (look x) refl (found_rises xs (rising_rest number x xs h)) (above_found (number x) xs (each_above number x xs h))
     where
       by_look : (o : Option B) → look x ≡ o → IsRising key (found look xs) → Above key (number x) (found look xs) → IsRising key (with_some o (found look xs))
       by_look None is rest above = rest

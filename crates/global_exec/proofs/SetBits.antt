@@ -4,6 +4,7 @@ use Rattle.std.specs.Prelude.{◌^◌}
 use Rattle.std.specs.Int.{bit_at}
 use Rattle.std.specs.Int.RustNames.{bit_or}
 use Rattle.std.proofs.lemmas.Nat.Bits.{bit_at_or, bit_at-pow_same, bit_at-pow_other, bit_at-lt}
+use Rattle.mdb_base.proofs.BoolLaws.{or_true, or_false}
 
 small_power : (s : ℕ) → 1 ≤ s → s ≤ 8 → 1 * 2 ^ (s - 1) % 256 ≡ 2 ^ (s - 1)
 small_power zero a b = absurd (omega arith)
@@ -16,14 +17,6 @@ small_power (suc (suc (suc (suc (suc (suc zero)))))) a b = refl
 small_power (suc (suc (suc (suc (suc (suc (suc zero))))))) a b = refl
 small_power (suc (suc (suc (suc (suc (suc (suc (suc zero)))))))) a b = refl
 small_power (suc (suc (suc (suc (suc (suc (suc (suc (suc s))))))))) a b = absurd (omega arith)
-
-or_true : (b : Bool) → (b || true) ≡ true
-or_true true = refl
-or_true false = refl
-
-or_false : (b : Bool) → (b || false) ≡ b
-or_false true = refl
-or_false false = refl
 
 pub with_site : (a s o : ℕ) → 1 ≤ s → s ≤ 8 → 1 ≤ o → o ≤ 8 →
     (bit_at (bit_or a (1 * 2 ^ (s - 1) % 256)) (o - 1) == 1) ≡ ((bit_at a (o - 1) == 1) || (s == o))

@@ -4,10 +4,12 @@ use Rattle.mdb_base.specs.declared.names.SiteId.{SiteId}
 use Rattle.mdb_base.specs.Names.{same_site}
 use Rattle.mdb_base.specs.Rising.{IsRising}
 use Rattle.mdb_base.specs.Words.{Each, those, some_of}
+use Rattle.mdb_base.proofs.RisingLaws.{rising_rest}
+use Rattle.mdb_base.proofs.NameLaws.{same_site-below}
 use Rattle.global_exec.specs.declared.policy.SiteSet.{SiteSet}
 use Rattle.global_exec.specs.Live.{all_sites}
 use Rattle.global_exec.specs.Sets.{IsSite, has_site, sites_in}
-use Rattle.global_exec.proofs.Rises.{each_above, tail_rises}
+use Rattle.global_exec.proofs.Rises.{each_above}
 
 -- so many sites from this number on
 abbrev sites_from : ℕ → ℕ → List SiteId
@@ -46,9 +48,6 @@ same_by_number a b e = grind arith
 
 other_number : (a b : SiteId) → b.0 < a.0 → same_site a b ≡ false
 other_number a b h = grind arith
-
-behind_number : (a b : SiteId) → a.0 < b.0 → same_site a b ≡ false
-behind_number a b h = grind arith
 
 -- none of these has a smaller number
 no_member : (n : ℕ) (xs : List SiteId) → Each (λ s. n < s.0) xs → member xs (record { 0 = n }) ≡ false
@@ -91,9 +90,9 @@ members_of (suc k) n (x ∷ xs) h = by_order (order n x.0 h.low.0) (members_of k
         let site : record { 0 = n } ≡ x = ap (λ m. record { 0 = m }) e in
         let others : those (member (x ∷ xs)) (sites_from k (n + 1)) ≡ those (member xs) (sites_from k (n + 1)) =
         same_on (λ s. n + 1 ≤ s.0) (member (x ∷ xs)) (member xs) (sites_from k (n + 1)) (from_low k (n + 1))
-        (λ s p. ap (λ b. b || member xs s) (behind_number x s (omega arith))) in
+        (λ s p. ap (λ b. b || member xs s) (same_site-below x s (omega arith))) in
         let left : AreFrom k (n + 1) xs = record {
-          rising = tail_rises number x xs h.rising;
+          rising = rising_rest number x xs h.rising;
           low = each_weaker (λ s. x.0 < s.0) (λ s. n + 1 ≤ s.0) (λ s p. omega arith) xs above;
           high = each_weaker (λ s. s.0 < n + suc k) (λ s. s.0 < n + 1 + k) (λ s p. omega arith) xs h.high.1;
         } in

@@ -5,13 +5,14 @@ use Rattle.mdb_base.specs.declared.names.Tid.{Tid}
 use Rattle.mdb_base.specs.declared.replies.Reply.{Reply}
 use Rattle.mdb_base.specs.declared.replies.Reply.TheVariants.{Wait}
 use Rattle.mdb_base.specs.Names.{same_site}
-use Rattle.mdb_base.specs.Words.{Each, some_of}
+use Rattle.mdb_base.specs.Words.{Each}
 use Rattle.presumptions.specs.declared.Participant.{Participant}
 use Rattle.fed_rules.specs.declared.messages.FromSite.{FromSite}
 use Rattle.fed_rules.specs.declared.messages.FromSite.TheVariants as From
 use Rattle.fed_rules.specs.declared.events.CoordEvent.TheVariants as Ev
 use Rattle.fed_rules.specs.CoordPast.{CoordHappening, CoordPast, begins, counts, epoch_at, outstanding, participants_of}
 use Rattle.fed_rules.specs.Coord.{fits, is_due_vote, news as past_news}
+pub use Rattle.fed_rules.specs.Terms.{IsAmong}
 use Rattle.global_exec.specs.Agreement.{IsOfPast, progress_in}
 use Rattle.global_exec.specs.Counted.{advanced, counts as counts_in, is_answer, news, waited}
 use Rattle.global_exec.specs.Live.{Live, awaits_vote, voted}
@@ -45,10 +46,6 @@ abbrev pub VotesGo : Type 0
 VotesGo = (protocols : List Participant) (past : CoordPast) (tid : Tid) (live : Live) → IsOfPast protocols past tid live
     → (site : SiteId) (ticket : ℕ) (x : CoordHappening) → Takes site tid (From.Vote tid (Some ticket)) x → HasEachOnce protocols site live
     → IsOfPast protocols (x ∷ past) tid (voted site live)
-
--- the site is one of these
-abbrev pub IsAmong : SiteId → List Participant → Type 0
-IsAmong site protocols = some_of (λ member. same_site member.site site) protocols ≡ true
 
 -- a reply counts in the table where it counts by the past
 abbrev pub RepliesAgree : Type 0

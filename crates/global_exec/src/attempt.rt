@@ -14,7 +14,7 @@ use crate::news::{news, put_some};
 use crate::policy::SiteSet;
 use crate::progress::{Progress, fits, is_due_vote, steps_of, visits};
 use fed_rules::Dues;
-use mdb_base::{Memory, Program, Reply, SiteId, Step, Tid};
+use mdb_base::{Few, Memory, Program, Reply, SiteId, Step, Tid};
 use std::alloc::Global;
 use std::marker::Model;
 
@@ -185,12 +185,12 @@ impl Attempt {
     pub(crate) fn outstanding(&self, alloc: Global) -> Result<Dues, Memory>
         ensures { IfOk result (λ dues. dues ≡ spec.all_due self.now) }
     {
-        let mut dues = Vec::with_capacity(alloc, self.sites.len())?;
+        let mut dues = Few::none();
         for progress in &self.sites {
             let due = progress.due(&self.program, self.done, self.reads.as_slice());
-            put_some(&mut dues, due);
+            put_some(alloc, &mut dues, due)?;
         }
-        Ok(Dues::of(dues))
+        Ok(Dues::of_few(dues))
     }
 
     /// The sites of its participants, of 1 to 8.

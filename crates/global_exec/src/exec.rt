@@ -103,7 +103,7 @@ impl GlobalExec {
     {
         match find(&self.attempts, tid) {
             Some(attempt) => attempt.outstanding(alloc),
-            None => Ok(Dues::of(Vec::new(alloc))),
+            None => Ok(Dues::none()),
         }
     }
 

@@ -1,6 +1,5 @@
 //! What became outstanding.
-ghost use Rattle.std.specs.Prelude.{◌≡◌, ◌<◌, ◌≤◌, ◌+◌, ◌++◌, length, take, vec_len, option_to_list, IfOk};
-ghost use Rattle.std.specs.Vec.{vec_capacity};
+ghost use Rattle.std.specs.Prelude.{◌≡◌, ◌≤◌, ◌++◌, length, take, option_to_list, IfOk, OnOk};
 ghost use Rattle.mdb_base.specs.Programs.{reads_of};
 ghost use Rattle.mdb_base.specs.Rising.{IsRising};
 ghost use Rattle.mdb_base.specs.Words.{found};
@@ -9,7 +8,7 @@ ghost use Rattle.global_exec.specs.Live.{site_number};
 
 use crate::progress::Progress;
 use fed_rules::{Due, Dues};
-use mdb_base::{Memory, Program, SiteId, Step};
+use mdb_base::{Few, Memory, Program, SiteId, Step};
 use std::alloc::Global;
 
 /// Whether what is outstanding at a participant became so by an answer of the site: it is at this site, or nothing was outstanding.
@@ -23,16 +22,13 @@ fn is_news(progress: &Progress, steps: &[Step], site: SiteId, before: usize) -> 
     progress.is_idle(steps, before)
 }
 
-/// Adds what is outstanding, if it is something, where there is room.
-pub fn put_some(dues: &mut Vec<Due>, due: Option<Due>)
-    requires { vec_len dues.old < vec_capacity dues.old }
-    ensures items { dues.new.items ≡ dues.old.items ++ option_to_list due }
-    ensures count { vec_len dues.new ≤ vec_len dues.old + 1 }
-    ensures room { vec_capacity dues.new ≡ vec_capacity dues.old }
+/// Adds what is outstanding, if it is something.
+pub fn put_some(alloc: Global, dues: &mut Few<Due>, due: Option<Due>) -> Result<(), Memory>
+    ensures { OnOk result (dues.new ≡ dues.old ++ option_to_list due) }
 {
     match due {
-        Some(due) => dues.push_reserved(due),
-        None => {}
+        Some(due) => dues.push(alloc, due),
+        None => Ok(()),
     }
 }
 
@@ -73,12 +69,10 @@ pub fn news(
     requires rising { IsRising site_number sites.now }
     ensures { IfOk result (λ dues. dues ≡ found (counted.news_in program.now done reads.now site before) sites.now) }
 {
-    let mut dues = Vec::with_capacity(alloc, sites.len())?;
+    let mut dues = Few::none();
     for progress in sites {
-        put_some(
-            &mut dues,
-            news_at(progress, program, done, reads, site, before),
-        );
+        let due = news_at(progress, program, done, reads, site, before);
+        put_some(alloc, &mut dues, due)?;
     }
-    Ok(Dues::of(dues))
+    Ok(Dues::of_few(dues))
 }

@@ -1,6 +1,6 @@
 -- What the rules make of the commands of a coordinator, in each case.
 use Rattle.std.proofs.Common.{◌≡◌, ℕ, ◌≤◌, ◌<◌, ◌||◌, leb, ltb, Bool, true, false, Option, Some, None, List, [], ◌∷◌, length, inl, inr, refl, sym, ap, ◌∙◌, subst}
-use Rattle.std.proofs.lemmas.Bool.{le-leb, lt-leb, lt-ltb, ltb-true}
+use Rattle.std.proofs.lemmas.Bool.{le-leb, lt-leb, lt-ltb, ltb-true, or_right}
 use Rattle.mdb_base.specs.declared.acts.Step.{Step}
 use Rattle.mdb_base.specs.declared.names.Tid.{Tid}
 use Rattle.mdb_base.specs.declared.names.Tx.{Tx}
@@ -22,9 +22,9 @@ use Rattle.fed_rules.specs.Happenings.{is_down}
 use Rattle.fed_rules.specs.Policies.{Policy}
 use Rattle.fed_rules.specs.Requests.{Submits, Declines, attempt, unless_begun}
 use Rattle.coord_laws.specs.Pasts.{IsMadeByEvents}
-use Rattle.coord_laws.proofs.Past.{begin_in_order}
+use Rattle.coord_laws.proofs.Past.{begin_in_order, going_on}
 use Rattle.actor_store.specs.Store.{Passes}
-use Rattle.coord_core.specs.Terms.{Terms, line_of}
+use Rattle.coord_tables.specs.Terms.{Terms, line_of}
 use Rattle.coord_core.proofs.Endings.{passes_is, usual_line}
 
 module _ (protocols : List Participant) (policy : Policy) (program : Option (List Step)) (past : CoordPast) (tx : Tx) where
@@ -69,10 +69,6 @@ pub attempt_none : (past : CoordPast) (tid : Tid) (event : CoordEvent) → some_
 unfolding attempt_request when
 attempt_none past tid event e = rw e refl
 
-or_right : (a b : Bool) → b ≡ true → (a || b) ≡ true
-or_right true b e = refl
-or_right false b e = e
-
 in_some : (tid : Tid) (tids : List Tid) → In tid tids → some_of (same_tid tid) tids ≡ true
 in_some tid [] i = absurd i
 in_some tid (t ∷ tids) (inl e) = let is : same_tid tid t ≡ true = ap (same_tid tid) e ∙ same_tid-refl tid in ap (λ b. b || some_of (same_tid tid) tids) is
@@ -88,7 +84,7 @@ some_in tid (t ∷ tids) e = by_test (same_tid tid t) refl e (some_in tid tids) 
 -- an attempt was begun exactly where its number is below the count of its transaction
 pub begun_test : (terms : Terms) (past : CoordPast) (tid : Tid) (n : ℕ) → IsMadeByEvents terms.protocols terms.policy past → n ≡ attempts_of past tid.tx → ltb tid.attempt n ≡ some_of (same_tid tid) (begun_tids past)
 begun_test terms past tid n made is =
-    let (below, listed) = begin_in_order terms.protocols terms.policy past made tid in
+    let (below, listed) = begin_in_order terms.protocols terms.policy past (going_on terms.protocols terms.policy past made) tid in
     tests_agree (ltb tid.attempt n) (some_of (same_tid tid) (begun_tids past))
     (λ e. in_some tid (begun_tids past) (listed (subst (λ (m : ℕ). tid.attempt < m) is (ltb-true _ _ e))))
     (λ e. lt-ltb _ _ (subst (λ (m : ℕ). tid.attempt < m) (sym is) (below (some_in tid (begun_tids past) e))))
@@ -135,8 +131,3 @@ module _ (terms : Terms) (past : CoordPast) (tid : Tid) (steps : List Step) wher
 
     pub spent_all : committed_of (records past) tid.tx ≡ None → undecided_of past tid.tx ≡ None → Say.Spent ≡ unless_begun (line_of terms past (Ev.Go tid steps)).answer
     spent_all e f = sym (ap (λ (x : CoordHappening). unless_begun x.answer) (go_up passes up) ∙ ap unless_begun (go_begun e f))
-
--- nothing is there where no value is
-pub none_left : {A : Type 0} (o : Option A) → ((x : A) → o ≡ Some x → ⊥) → o ≡ None
-none_left None e = refl
-none_left (Some x) e = absurd (e x refl)

@@ -3,6 +3,7 @@ use Rattle.std.proofs.Common.{◌≡◌, ◌<◌, Bool, Result, IfErr, IfOk, IsS
 use Rattle.std.specs.FinMap.{from_entries}
 use Rattle.mdb_base.specs.declared.acts.Step.{Step}
 use Rattle.mdb_base.specs.declared.names.Tx.{Tx}
+use Rattle.mdb_base.proofs.ResultLaws.{map_err, map_ok}
 use Rattle.fed_rules.specs.declared.events.CoordEvent.{CoordEvent}
 use Rattle.fed_rules.specs.declared.events.CoordEvent.TheVariants as Ev
 use Rattle.fed_rules.specs.declared.events.CoordStep.{CoordStep}
@@ -16,9 +17,8 @@ use Rattle.actor_store.specs.Store.{Passes}
 use Rattle.actor_store.proofs.EndsLaws.{passes_none}
 use Rattle.coord_core.specs.declared.coord.CoordCore.{CoordCore}
 use Rattle.coord_core.specs.Stands.{Fails as CoreFails, Holds, Steps, StopsBefore as CoreBefore, StopsWithin as CoreWithin}
-use Rattle.coord_core.specs.Terms.{Terms, line_of}
+use Rattle.coord_tables.specs.Terms.{Terms, line_of}
 use Rattle.global_manager.specs.declared.manager.GlobalManager.{GlobalManager}
-use Rattle.coord_core.proofs.Outcomes.{map_err, map_ok}
 use Rattle.global_manager.specs.declared.requests.Request.{Request as Asked}
 use Rattle.global_manager.specs.Stands.{CanHand, CanServe, EachManaged, Fails, FitsPrograms, OwnPrograms, Owns, Recalls, Sends, Serves, SomeManaged, Stands, StopsBefore, StopsWithin, request_of}
 use Rattle.global_manager.proofs.Owned.{down_before, down_within, owned_before, owned_more, owned_within}

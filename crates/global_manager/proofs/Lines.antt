@@ -1,5 +1,5 @@
 -- The programs of the global transactions by their lines.
-use Rattle.std.proofs.Common.{◌≡◌, ℕ, suc, ◌≤◌, ◌<◌, Bool, true, false, cond, IsSome, Option, Some, None, List, [], ◌∷◌, length, drop, drop-cons, eqb-true, get_or, refl, sym, ap, ap₂, ◌∙◌, subst}
+use Rattle.std.proofs.Common.{◌≡◌, ℕ, ◌≤◌, Bool, true, false, cond, IsSome, Option, Some, None, List, [], ◌∷◌, eqb-true, refl, ap, ◌∙◌, subst}
 use Rattle.std.specs.FinMap.{FinMap, get}
 use Rattle.mdb_base.specs.declared.acts.Step.{Step}
 use Rattle.mdb_base.specs.declared.names.SiteId.{SiteId}
@@ -61,11 +61,3 @@ own_fits protocols lines declared tx steps is = found_program (Fits protocols) l
 pub there : {A : Type 0} (o : Option A) → IsSome o → (x : A) × (o ≡ Some x)
 there None some = cc
 there (Some x) some = (x, refl)
-
--- the list from a place on
-pub drop_before : {A : Type 0} (xs : List A) (i left : ℕ) (x : A) → left ≡ suc i → i < length xs → x ≡ get_or xs i x → drop i xs ≡ x ∷ drop left xs
-drop_before xs i left x next within at = drop-cons xs i x within ∙ ap₂ (λ y n. y ∷ drop n xs) (sym at) (sym next)
-
-pub drop_all : {A : Type 0} (xs : List A) → drop (length xs) xs ≡ []
-drop_all [] = refl
-drop_all (x ∷ xs) = drop_all xs

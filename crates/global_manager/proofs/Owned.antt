@@ -12,7 +12,8 @@ use Rattle.fed_rules.specs.Disk.{Stops}
 use Rattle.fed_rules.specs.Happenings.{is_down, quiet, stopped, stops}
 use Rattle.coord_laws.proofs.MadeLines.{coord_made}
 use Rattle.coord_core.specs.Stands.{stopped_before, stopped_within, with_trip}
-use Rattle.coord_core.specs.Terms.{Terms, line_of}
+use Rattle.coord_tables.specs.Terms.{Terms, line_of}
+use Rattle.coord_core.proofs.Endings.{trip_line}
 use Rattle.global_manager.specs.Stands.{FitsPrograms, IsOwned, OwnPrograms}
 
 -- a past goes on with the line of an event that fits
@@ -31,10 +32,6 @@ still_fits programs past (Ev.Halt cut') calls cut f = f
 still_fits programs past (Ev.Trip calls' cut') calls cut f = f
 still_fits programs past Ev.Back calls cut f = f
 still_fits programs past Ev.Check calls cut f = f
-
-trip_line : (terms : Terms) (past : CoordPast) (calls cut : ℕ) → line_of terms past (Ev.Trip calls cut) ≡ quiet (Ev.Trip calls cut) Say.Set
-unfolding coord_line
-trip_line terms past calls cut = refl
 
 -- so what a stop before the event, or within it, leaves is of events that fit
 pub owned_before : (terms : Terms) (programs : OwnPrograms) (past : CoordPast) (cut : ℕ) → IsOwned programs past → IsOwned programs (stopped_before terms past cut)

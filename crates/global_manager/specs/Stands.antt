@@ -15,6 +15,7 @@ use Rattle.fed_rules.specs.declared.events.CoordStep.{CoordStep}
 use Rattle.fed_rules.specs.declared.scenario.TxLine.{TxLine}
 use Rattle.fed_rules.specs.CoordPast.{CoordPast, attempts_of}
 use Rattle.fed_rules.specs.Happenings.{is_down, stops}
+pub use Rattle.fed_rules.specs.OwnPrograms.{OwnPrograms}
 use Rattle.fed_rules.specs.Policies.{Policy}
 use Rattle.fed_rules.specs.Requests.{Request, Submits, Declines, most_attempts}
 use Rattle.fed_rules.specs.Right.{MayPrint}
@@ -22,18 +23,14 @@ use Rattle.fed_rules.specs.Scenarios.{global_line}
 use Rattle.journal_disk.specs.Disk.{Seen}
 use Rattle.actor_store.specs.declared.errors.StepErr.{StepErr}
 use Rattle.actor_store.specs.declared.errors.StepErr.TheVariants as Err_is
-use Rattle.global_exec.specs.Pasts.{IsAmong}
+use Rattle.fed_rules.specs.Terms.{IsAmong}
 use Rattle.site_book.specs.Book.{tx_cmp}
 use Rattle.coord_core.specs.Stands.{Holds, Stands as CoreStands, stopped_before, stopped_within, with_trip}
 use Rattle.coord_core.specs.Steps.{CanStep}
-use Rattle.coord_core.specs.Terms.{Terms, line_of}
+use Rattle.coord_tables.specs.Terms.{Terms, line_of}
 use Rattle.global_manager.specs.declared.manager.GlobalManager.{GlobalManager}
 use Rattle.global_manager.specs.declared.requests.Request.{Request as Asked}
 use Rattle.global_manager.specs.declared.requests.Request.TheVariants as Asked_is
-
--- the program of a transaction, where it is a global one
-abbrev pub OwnPrograms : Type 0
-OwnPrograms = Tx → Option (List Step)
 
 -- a `go` is of the next attempt of a global transaction, of at most 32, with its program
 pub record IsNextAttempt (programs : OwnPrograms) (past : CoordPast) (tid : Tid) (steps : List Step) : Type 0 where

@@ -6,7 +6,7 @@ ghost use Rattle.fed_rules.specs.declared.answers.Answer.TheVariants as Say;
 ghost use Rattle.fed_rules.specs.declared.events.CoordEvent.TheVariants as Ev;
 ghost use Rattle.fed_rules.specs.Requests.{Submits, unless_begun};
 ghost use Rattle.journal_disk.specs.Disk.{Seen};
-ghost use Rattle.coord_core.specs.Terms.{line_of};
+ghost use Rattle.coord_tables.specs.Terms.{line_of};
 ghost use Rattle.global_manager.specs.Stands.{EachManaged, Recalls, Serves, Stands};
 
 use crate::manager::GlobalManager;

@@ -17,16 +17,6 @@ pub(crate) fn find(programs: &BTreeMap<Tx, Program>, tx: Tx) -> Option<&Program>
     programs.get(&tx)
 }
 
-/// The same program again.
-pub(crate) fn copied(alloc: Global, program: &Program) -> Result<Program, Memory>
-    ensures { IfOk result (λ copy. copy ≡ program.now) }
-{
-    match Program::new(alloc, program.steps()) {
-        Ok(copy) => Ok(copy),
-        Err(_) => Err(Memory),
-    }
-}
-
 /// Keeps a program under its transaction, in place of another one.
 fn put(programs: &mut BTreeMap<Tx, Program>, tx: Tx, program: Program) -> Result<(), Memory>
     ensures { OnOk result (from_entries {R = tx_cmp} programs.new.entries ≡ insert (from_entries programs.old.entries) tx program) }
@@ -43,11 +33,11 @@ fn take_out(programs: &mut BTreeMap<Tx, Program>, tx: Tx)
 }
 
 /// Keeps the program of a line, where its transaction is global, and else nothing under its number.
-fn note(alloc: Global, programs: &mut BTreeMap<Tx, Program>, line: &TxLine) -> Result<(), Memory>
+fn note(programs: &mut BTreeMap<Tx, Program>, line: &TxLine) -> Result<(), Memory>
     ensures { OnOk result (from_entries {R = tx_cmp} programs.new.entries ≡ noted line.now.tx (program_at (Some line.now)) (from_entries programs.old.entries)) }
 {
     match line.home {
-        None => put(programs, line.tx, copied(alloc, &line.program)?),
+        None => put(programs, line.tx, line.program.clone()?),
         Some(_) => {
             take_out(programs, line.tx);
             Ok(())
@@ -63,7 +53,7 @@ pub(crate) fn programs_of(alloc: Global, lines: &[TxLine]) -> Result<BTreeMap<Tx
     let mut left = lines.len();
     while left > 0 {
         left -= 1;
-        note(alloc, &mut programs, &lines[left])?;
+        note(&mut programs, &lines[left])?;
     }
     Ok(programs)
 }

@@ -6,11 +6,11 @@ ghost use Rattle.mdb_base.specs.Counts.{HasCauseOf};
 ghost use Rattle.fed_rules.specs.declared.events.CoordEvent.TheVariants as Ev;
 ghost use Rattle.fed_rules.specs.CoordCommands.{fate_request, go_request};
 ghost use Rattle.fed_rules.specs.Requests.{unless_begun};
-ghost use Rattle.coord_core.specs.Terms.{line_of};
+ghost use Rattle.coord_tables.specs.Terms.{line_of};
 ghost use Rattle.global_manager.specs.Stands.{AsksNothing, CanServe, EachManaged, Fails, Recalls, Serves, SomeManaged, Stands, request_of};
 
 use crate::manager::GlobalManager;
-use crate::programs::{copied, find};
+use crate::programs::find;
 use crate::requests::Request;
 use coord_core::StepErr;
 use fed_rules::{Answer, CoordEvent, CoordStep};
@@ -42,7 +42,7 @@ impl<P: TakePolicy> GlobalManager<P> {
     }
 
     /// What `go` comes to.
-    fn asks_go(&self, alloc: Global, tx: Tx) -> Result<Request, Memory>
+    fn asks_go(&self, tx: Tx) -> Result<Request, Memory>
         ensures asked { IfOk result (λ request. EachManaged (Recalls P.policy self.now) (λ terms programs past.
             request_of request ≡ go_request terms.protocols terms.policy (programs tx) past tx)) }
         ensures may { IfOk result (λ request. EachManaged (Recalls P.policy self.now) (λ terms programs past. CanServe request terms programs past)) }
@@ -54,7 +54,7 @@ impl<P: TakePolicy> GlobalManager<P> {
         if begun >= MOST_ATTEMPTS {
             return Ok(Request::Declines(self.spent(tx)));
         }
-        let program = copied(alloc, program)?;
+        let program = program.clone()?;
         let tid = Tid { tx, attempt: begun };
         Ok(Request::Submits(CoordEvent::Go { tid, program }))
     }
@@ -80,7 +80,7 @@ impl<P: TakePolicy> GlobalManager<P> {
             Fails (Stands P.policy D.tells self.new (D.seen disk.new)) why terms programs past (go_request terms.protocols terms.policy (programs tx) past tx))) }
         ensures cause { HasCauseOf StepErr.Disk (D.seen disk.old).faults (D.seen disk.new).faults result }
     {
-        let Ok(request) = self.asks_go(alloc, tx) else {
+        let Ok(request) = self.asks_go(tx) else {
             return Err(StepErr::Memory);
         };
         self.serve(alloc, disk, request)

@@ -5,13 +5,14 @@ use Rattle.std.specs.Option.{IsSome}
 use Rattle.mdb_base.specs.declared.acts.Step.{Step}
 use Rattle.mdb_base.specs.declared.names.SiteId.{SiteId}
 use Rattle.mdb_base.specs.declared.names.Tx.{Tx}
-use Rattle.mdb_base.specs.Words.{Each, item_at, map_some, pick}
+use Rattle.mdb_base.specs.Words.{Each, item_at, map_some}
+use Rattle.mdb_base.proofs.OptionLaws.{some_parts, pick_some, pick_none}
 use Rattle.order_laws.specs.Chains.{In}
-use Rattle.order_laws.proofs.Alike.{some_parts}
 use Rattle.order_laws.proofs.Lists.{each_at, each_from}
 use Rattle.presumptions.specs.declared.Participant.{Participant}
+use Rattle.order_laws.proofs.InLaws.{slice_get-in}
 use Rattle.commit_laws.proofs.Links.{IsNext, linked, story_made}
-use Rattle.coord_laws.proofs.Past.{records_name}
+use Rattle.coord_laws.proofs.Past.{records_name, going_on}
 use Rattle.fed_rules.specs.declared.answers.Answer.{Answer}
 use Rattle.fed_rules.specs.declared.commands.Command.{Command}
 use Rattle.fed_rules.specs.declared.commands.Command.TheVariants as Cmd
@@ -32,25 +33,20 @@ use Rattle.fed_rules.specs.SiteCommands as Rule
 use Rattle.fed_rules.specs.SiteCommands.{Verb, request}
 use Rattle.fed_rules.specs.SitePast.{SitePast}
 use Rattle.fed_rules.specs.Story.{Story, Happened, AtCoordinator, at_coordinator, coord_past, coord_requested, happens, on_actor, on_attempt, on_fate, on_go, on_local, on_take, places_of, sends_from, sends_to, sent_from, sent_to, story_of, with_coordinator, with_site}
-use Rattle.journal_sums.proofs.CoordReadingLaws.{those_rise}
+use Rattle.mdb_base.proofs.RisingLaws.{those_rise}
 use Rattle.world_laws.proofs.Members.{SendsAmong, sites_in}
 use Rattle.world_laws.proofs.Sent.{coordinator_sends}
-use Rattle.coord_core.specs.Terms.{Terms, line_of}
-use Rattle.session_routes.specs.Posting.{message_to}
+use Rattle.fed_rules.specs.Terms.{Terms, line_of}
+use Rattle.fed_rules.specs.Site_of.{message_to}
+use Rattle.coord_tables.specs.Terms.{Terms, line_of}
 use Rattle.fed_messages.specs.declared.Envelope.{Envelope}
+use Rattle.rules_laws.proofs.Scenarios.{MembersRise}
+use Rattle.commit_laws.proofs.Declared.{members_rise}
 use Rattle.host_laws.specs.CoordHistory.{IsCoordCommand}
 use Rattle.host_laws.specs.CoordPlans.{CoordPlan}
 use Rattle.host_laws.specs.CoordTurns.{CoordTurn, MayAnswer, coord_behind, coord_request, coord_sends, coord_trips_of, places_sent, taken_from, sent_to as sent_by_coordinator}
-use Rattle.host_laws.proofs.AtSite.{pick_some}
-use Rattle.host_laws.proofs.DeclaredSites.{in_by_place, members_rise}
-use Rattle.host_laws.proofs.SendsRise.{BySite, MembersRise, NamesRise, line_rises}
+use Rattle.host_laws.proofs.SendsRise.{BySite, NamesRise, line_rises}
 use Rattle.host_laws.proofs.SentPlaces.{no_places, one_message, places_same, sent_places}
-
--- without a value
-pick_none : {A B : Type 0} (o : Option A) (none : B) (some : A → B) → o ≡ None → pick o none some ≡ none
-unfolding pick
-pick_none None none some e = refl
-pick_none (Some y) none some e = cc
 
 -- ---- global transactions
 
@@ -109,7 +105,7 @@ module _ (scenario : Scenario) (story : Story) (stops : List StopLine) (faults :
       let taken = is.1 in
       take_happens scenario story site place taken.envelope.message (sent site place taken.envelope refl taken.is taken.place_is) ∙ sym (taken_is scenario story site took taken.envelope taken.is)
   command_happens turns (Cmd.Trip actor calls cut) took own is sent =
-      actor_happens scenario story actor (Ev.Trip calls cut) _ (each_at (λ (stop : StopLine). stop.actor ≡ 0) _ stops own (in_by_place stops (coord_trips_of turns) _ is.0))
+      actor_happens scenario story actor (Ev.Trip calls cut) _ (each_at (λ (stop : StopLine). stop.actor ≡ 0) _ stops own (slice_get-in stops (coord_trips_of turns) _ is.0))
   command_happens turns (Cmd.Back actor) took own is sent = actor_happens scenario story actor Ev.Back _ is.0
   command_happens turns (Cmd.Begin tx) took own is sent = absurd is
   command_happens turns (Cmd.Step tx) took own is sent = absurd is
@@ -166,7 +162,7 @@ module _ (scenario : Scenario) (commands : List Command) where
   -- the records name participants by rising site
   names_rise : IsScenario scenario → NamesRise (protocols scenario) (coord_past told)
   names_rise whole tid members e =
-      subst (λ (ms : List Participant). MembersRise ms) (sym (records_name (protocols scenario) (policy scenario) (coord_past told) (story_made scenario commands) tid members e))
+      subst (λ (ms : List Participant). MembersRise ms) (sym (records_name (protocols scenario) (policy scenario) (coord_past told) (going_on (protocols scenario) (policy scenario) (coord_past told) (story_made scenario commands)) tid members e))
       (those_rise (λ (p : Participant). p.site.0) _ (protocols scenario) (members_rise scenario whole))
 
   -- what a request sends goes to rising sites

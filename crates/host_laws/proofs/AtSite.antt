@@ -5,11 +5,11 @@ use Rattle.mdb_base.specs.declared.acts.Step.{Step}
 use Rattle.mdb_base.specs.declared.names.SiteId.{SiteId}
 use Rattle.mdb_base.specs.declared.names.Tx.{Tx}
 use Rattle.mdb_base.specs.Names.{same_site}
-use Rattle.mdb_base.specs.Words.{Each, item_at, pick}
+use Rattle.mdb_base.specs.Words.{Each, item_at}
 use Rattle.mdb_base.proofs.Words.{cond-true, cond-false}
-use Rattle.order_laws.proofs.Alike.{some_parts}
+use Rattle.mdb_base.proofs.OptionLaws.{some_parts, pick_some}
+use Rattle.mdb_base.proofs.NameLaws.{same_site-equal, same_site-refl}
 use Rattle.order_laws.proofs.Lists.{each_at}
-use Rattle.order_laws.proofs.Names.{same_site_alike, same_site_self}
 use Rattle.fed_rules.specs.declared.answers.Answer.TheVariants as Say
 use Rattle.fed_rules.specs.declared.commands.Command.{Command}
 use Rattle.fed_rules.specs.declared.commands.Command.TheVariants as Cmd
@@ -29,19 +29,13 @@ use Rattle.fed_rules.specs.SiteCommands.{Verb, answer_to, own_request, past_behi
 use Rattle.fed_rules.specs.SitePast.{SitePast}
 use Rattle.fed_rules.specs.SiteRecords.{Home}
 use Rattle.fed_rules.specs.Story.{Story, Happened, Nowhere, at_site, happens, on_actor, on_fate, on_give, on_local, on_site, past_of, place_from, places_of, requested, sends_from, sends_to, sent_from, sent_to, with_coordinator, with_site}
-use Rattle.local_dbms.specs.Stands.{own_programs, program_at}
+use Rattle.fed_rules.specs.OwnPrograms.{own_programs, program_at}
 use Rattle.presumptions.specs.declared.Participant.{Participant}
-use Rattle.host_laws.proofs.DeclaredSites.{in_by_place}
+use Rattle.order_laws.proofs.InLaws.{slice_get-in}
 use Rattle.fed_messages.specs.declared.Envelope.{Envelope}
 use Rattle.host_laws.specs.History.{IsCommand}
 use Rattle.host_laws.specs.Plans.{SitePlan}
 use Rattle.host_laws.specs.Turns.{SiteTurn, given, request_of, sends_of, trips_of}
-
--- what is made of a value that is there
-pub pick_some : {A B : Type 0} (o : Option A) (none : B) (some : A → B) (x : A) → o ≡ Some x → pick o none some ≡ some x
-unfolding pick
-pick_some None none some x e = cc
-pick_some (Some y) none some x e = ap some (some_parts e)
 
 -- ---- transactions of the site's own
 
@@ -56,7 +50,7 @@ own_here site tx None program some = cc
 own_here site tx (Some home) program some = by_test (same_site home site) refl some
   where
     by_test : (b : Bool) → same_site home site ≡ b → IsSome (cond b (Some program) None) → IsOwn site (Some (record { tx = tx; home = Some home; program = program }))
-    by_test true is some = record { home = ap (λ (s : SiteId). Some s) (same_site_alike home site is); program = cond-true (same_site home site) (Some program) None is }
+    by_test true is some = record { home = ap (λ (s : SiteId). Some s) (same_site-equal home site is); program = cond-true (same_site home site) (Some program) None is }
     by_test false is some = cc
 
 own_line : (site : SiteId) (line : Option TxLine) → IsSome (program_at site line) → IsOwn site line
@@ -129,7 +123,7 @@ module _ (scenario : Scenario) (story : Story) (plan : SitePlan) (declared : hom
       give_happens scenario story home declared site place given.envelope.message is.0 at ∙ sym (given_is home story took given.envelope given.is)
   command_happens turns (Cmd.Ask site tid) took is sent = site_happens scenario story home declared site (Ev.Ask tid) is.0
   command_happens turns (Cmd.Trip actor calls cut) took is sent =
-      let actor_is = each_at (λ (stop : StopLine). stop.actor ≡ plan.home.site.0) _ plan.stops stops (in_by_place plan.stops (trips_of turns) _ is.0) in
+      let actor_is = each_at (λ (stop : StopLine). stop.actor ≡ plan.home.site.0) _ plan.stops stops (slice_get-in plan.stops (trips_of turns) _ is.0) in
       own_happens scenario story home declared actor _ (Ev.Trip calls cut) least actor_is
   command_happens turns (Cmd.Back actor) took is sent = own_happens scenario story home declared actor _ Ev.Back least is.0
   command_happens turns (Cmd.Go tx) took is sent = absurd is
@@ -152,11 +146,11 @@ module _ (story : Story) (home : Home) where
   site_places (Declines answer) = refl
 
   pub site_behind : (r : Request SiteEvent) → with_site home.site (requested home story r) (past_of home.site story) ≡ past_behind home (past_of home.site story) r
-  site_behind (Submits event) = cond-true (same_site home.site home.site) _ _ (same_site_self home.site)
+  site_behind (Submits event) = cond-true (same_site home.site home.site) _ _ (same_site-refl home.site)
   site_behind (Declines answer) = refl
 
   pub site_sends : (r : Request SiteEvent) → sends_from home.site (requested home story r) ≡ sends_of home (past_of home.site story) r
-  site_sends (Submits event) = cond-true (same_site home.site home.site) _ _ (same_site_self home.site)
+  site_sends (Submits event) = cond-true (same_site home.site home.site) _ _ (same_site-refl home.site)
   site_sends (Declines answer) = refl
 
   pub none_from_others : (other : SiteId) (r : Request SiteEvent) → same_site home.site other ≡ false → sends_from other (requested home story r) ≡ []

@@ -5,15 +5,16 @@ use Rattle.std.proofs.lemmas.List.{length-map, length-reverse}
 use mathlib.Core.List.{IsPrefix}
 use Rattle.mdb_base.specs.declared.acts.Step.{Step}
 use Rattle.mdb_base.specs.declared.names.SiteId.{SiteId}
-use Rattle.mdb_base.specs.declared.names.Tid.{Tid}
 use Rattle.mdb_base.specs.declared.names.Tx.{Tx}
 use Rattle.mdb_base.specs.Names.{same_site}
 use Rattle.mdb_base.specs.Words.{Each, found, some_of}
 use Rattle.mdb_base.proofs.ListLaws.{each_all, each_map, each_of_map}
+use Rattle.mdb_base.proofs.EachLaws.{each_of_mapped}
 use Rattle.order_laws.specs.Chains.{In}
 use Rattle.order_laws.proofs.Lists.{each_at}
 use Rattle.order_laws.proofs.Reversed.{map_reverse}
 use Rattle.presumptions.specs.declared.Participant.{Participant}
+use Rattle.order_laws.proofs.InLaws.{each_reverse as reverse_each}
 use Rattle.rules_laws.proofs.Declared.{home-again, its-site}
 use Rattle.fed_rules.specs.declared.commands.Line.{Line}
 use Rattle.fed_rules.specs.declared.commands.Stamped.{Stamped}
@@ -24,19 +25,17 @@ use Rattle.fed_rules.specs.Scenarios.{home_of, protocols, sites}
 use Rattle.fed_rules.specs.CoordPast.{CoordPast, begun_tids}
 use Rattle.fed_rules.specs.Story as Told
 use Rattle.fed_rules.specs.Story.{coord_past}
-use Rattle.coord_laws.proofs.Dues.{each_of_mapped}
-use Rattle.coord_core.specs.Terms.{Terms}
+use Rattle.fed_rules.specs.Terms.{Terms, IsAmong}
+use Rattle.coord_tables.specs.Terms.{Terms}
 use Rattle.field_bytes.specs.Fields.{IsTid}
 use Rattle.fed_messages.specs.declared.Envelope.{Envelope}
 use Rattle.fed_messages.specs.declared.Packet.{Packet}
 use Rattle.fed_messages.specs.Spelling.{IsFromSite, from_site_bytes, to_site_bytes}
-use Rattle.global_exec.specs.Pasts.{IsAmong}
-use Rattle.local_dbms.specs.Stands.{own_programs}
 use Rattle.scripted_link.specs.Script.{let_through}
-use Rattle.site_core.specs.Made.{about}
+use Rattle.fed_rules.specs.Site_of.{about}
 use Rattle.trace_merge.specs.Traces.{Entry, IsTrace, list_of, lines_of}
 use Rattle.world_laws.proofs.Sent.{messages_of_begun}
-use Rattle.world_laws.specs.Messages.{IsBegunGlobal, tid_to}
+use Rattle.world_laws.specs.Messages.{IsBegunGlobal}
 use Rattle.host_laws.specs.CoordHearing.{HasHeardFrom, TakingFrom, IsReadFrom}
 use Rattle.host_laws.specs.CoordPlans.{CoordPlan}
 use Rattle.host_laws.specs.CoordTurns.{CoordTurn, coord_last_stamp, from_site, took_from}
@@ -50,9 +49,9 @@ use Rattle.host_laws.proofs.CarriedChannels.{DoesBear, MayBear, WasSent, carried
 use Rattle.host_laws.proofs.CarriedClocks.{Follows, stamps_follow}
 use Rattle.host_laws.proofs.CarriedFrom.{does_bear_from, from_length, from_offered, from_sent, from_stamps, may_bear_from, places_taken, said_from, sent_bears_from, site_takes_none, stamps_found, stamps_taken}
 use Rattle.host_laws.proofs.CarriedHosts.{by_list, host_at, site_low}
-use Rattle.host_laws.proofs.CarriedLists.{each_both, each_reverse, found_map, found_reverse, found_some, reverse_each}
+use Rattle.host_laws.proofs.CarriedLists.{each_both, each_reverse, found_map, found_reverse, found_some}
 use Rattle.host_laws.proofs.CarriedPackets.{index_in}
-use Rattle.host_laws.proofs.CarriedTo.{about_same, coordinator_gives_none, does_bear_to, foreign_global, may_bear_to, nothing_given, places_given, said_to, sent_bears, to_length, to_offered, to_sent, to_stamps}
+use Rattle.host_laws.proofs.CarriedTo.{coordinator_gives_none, does_bear_to, foreign_global, may_bear_to, nothing_given, places_given, said_to, sent_bears, to_length, to_offered, to_sent, to_stamps}
 use Rattle.host_laws.proofs.CoordRanges.{begun_in_range, global_named, to_in_range}
 use Rattle.host_laws.proofs.DeclaredSites.{beside}
 use Rattle.host_laws.proofs.Stamps.{among_in, coord_paced, coord_stamp, coord_stamps, site_paced, site_stamp, site_stamps}
@@ -257,25 +256,24 @@ module _ (scripts : Scripts) (scenario : Scenario) (coordinator : CoordLog) (log
     own_site = its-site scenario site log.plan.home (are.site_is place site log at there).home
 
     -- a message to the site is about an attempt that was begun, of a global transaction
-    begun_global : (message : ToSite) → In message (sent_in (said_to plan site coordinator.turns)) → IsBegunGlobal scenario (commands_of (lines_in merged)) (tid_to message)
+    begun_global : (message : ToSite) → In message (sent_in (said_to plan site coordinator.turns)) → IsBegunGlobal scenario (commands_of (lines_in merged)) (about message)
     begun_global message i =
         let story = story_in scenario (lines_in merged) in
         messages_of_begun scenario (commands_of (lines_in merged)) log.plan.home message its_home
         (subst (λ (s : SiteId). In message (Told.sent_to s story)) (sym own_site)
         (subst (In message) (sym ((right.each place site log at there).to ∙ to_sent plan site coordinator.turns)) i))
 
-    tid_in_range : (message : ToSite) → In message (sent_in (said_to plan site coordinator.turns)) → IsTid (tid_to message)
+    tid_in_range : (message : ToSite) → In message (sent_in (said_to plan site coordinator.turns)) → IsTid (about message)
     tid_in_range message i =
         let named : AreNamed plan.programs = subst AreNamed (sym are.coordinator_is.programs) (global_named scenario are.whole) in
-        each_at IsTid (tid_to message) (begun_tids (coord_past (story_in scenario (lines_in merged))))
+        each_at IsTid (about message) (begun_tids (coord_past (story_in scenario (lines_in merged))))
         (subst (λ (past : CoordPast). Each IsTid (begun_tids past)) (sym right.coordinator_is) (begun_in_range plan named coordinator.turns)) (begun_global message i).begun
 
     foreign : (message : ToSite) → In message (sent_in (said_to plan site coordinator.turns)) → log.plan.programs (about message).tx ≡ None
     foreign message i =
         let global = (begun_global message i).global in
         ap (λ (programs : Tx → Option (List Step)). programs (about message).tx) (are.site_is place site log at there).programs
-        ∙ ap (λ (tid : Tid). own_programs site scenario.transactions tid.tx) (about_same message)
-        ∙ foreign_global site scenario (tid_to message).tx global
+        ∙ foreign_global site scenario (about message).tx global
 
     to_borne : (taking : Taking) → IsRead log.plan.programs taking.packet taking.bears → WasSent to_site_bytes (said_to plan site coordinator.turns) taking.packet → DoesBear to_site_bytes taking.packet taking.bears
     to_borne taking read w =

@@ -3,7 +3,7 @@ use Rattle.std.proofs.Common.{◌≡◌, ℕ, ◌<◌, ◌^◌, ◌⊎◌, cond,
 use Rattle.mdb_base.specs.declared.names.SiteId.{SiteId}
 use Rattle.mdb_base.specs.Names.{same_site}
 use Rattle.mdb_base.specs.Words.{Each, found, map_some, with_some}
-use Rattle.order_laws.proofs.Names.{same_site_self}
+use Rattle.mdb_base.proofs.NameLaws.{same_site-refl}
 use Rattle.fed_rules.specs.declared.answers.Answer.{Answer}
 use Rattle.fed_rules.specs.declared.commands.Command.{Command}
 use Rattle.fed_rules.specs.declared.commands.Command.TheVariants as Cmd
@@ -14,7 +14,7 @@ use Rattle.fed_messages.specs.declared.Envelope.{Envelope}
 use Rattle.fed_messages.specs.declared.Packet.{Packet}
 use Rattle.fed_messages.specs.Packets.{Spells, envelope_bytes}
 use Rattle.fed_messages.specs.Spelling.{IsFromSite, from_site_bytes}
-use Rattle.global_exec.specs.Pasts.{IsAmong}
+use Rattle.fed_rules.specs.Terms.{IsAmong}
 use Rattle.host_laws.specs.CoordHearing.{BearsFrom, IsReadFrom}
 use Rattle.host_laws.specs.CoordHistory.{IsCoordCommand, IsCoordHistory}
 use Rattle.host_laws.specs.CoordPlans.{CoordPlan}
@@ -146,7 +146,7 @@ module _ (plan : CoordPlan) (P : ℕ → Type 0) where
   stamp_taken turns (Cmd.Again tid) took h all = none_taken took h
   stamp_taken turns (Cmd.Late tid) took h all = none_taken took h
   stamp_taken turns (Cmd.Take site place) took h all =
-      let own : cond (same_site site site) took None ≡ Some h.1.envelope = ap (λ (b : Bool). cond b took None) (same_site_self site) ∙ h.1.is in
+      let own : cond (same_site site site) took None ≡ Some h.1.envelope = ap (λ (b : Bool). cond b took None) (same_site-refl site) ∙ h.1.is in
       let each = subst (λ (o : Option (Envelope FromSite)). Each (λ (envelope : Envelope FromSite). P envelope.stamp) (with_some o (took_from site turns))) own (all site h.0) in
       inr (subst P (sym (ap stamp_of h.1.is)) each.0)
   stamp_taken turns (Cmd.Trip actor calls cut) took h all = none_taken took h.1

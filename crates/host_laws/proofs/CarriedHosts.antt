@@ -1,12 +1,11 @@
 -- The hosts of a run: where each stands, and what holds of the lists of all actors.
 use Rattle.std.proofs.Common.{◌≡◌, ℕ, zero, suc, ◌≤◌, Bool, true, false, cond, Option, Some, None, List, [], ◌∷◌, map, reverse, slice_get, refl, sym, subst, arith}
-use Rattle.std.proofs.lemmas.Bool.{leb-true}
+use Rattle.std.proofs.lemmas.Bool.{leb-true, and_parts}
 use Rattle.mdb_base.specs.declared.names.SiteId.{SiteId}
 use Rattle.mdb_base.specs.Names.{same_site}
 use Rattle.mdb_base.specs.Words.{each_of}
+use Rattle.mdb_base.proofs.NameLaws.{same_site-equal}
 use Rattle.order_laws.specs.Chains.{In}
-use Rattle.order_laws.proofs.Lists.{and_cases}
-use Rattle.order_laws.proofs.Names.{same_site_alike}
 use Rattle.fed_rules.specs.declared.commands.Stamped.{Stamped}
 use Rattle.fed_rules.specs.declared.scenario.ItemLine.{ItemLine}
 use Rattle.fed_rules.specs.declared.scenario.Scenario.{Scenario}
@@ -27,13 +26,13 @@ line_low [] items site home range e = cc
 line_low (line ∷ lines) items site home range e = by_test (same_site line.site site) refl e (line_low lines items site home parts.1)
   where
     parts : (is_between 1 8 line.site.0 ≡ true) × (each_of (λ (l : SiteLine). is_between 1 8 l.site.0) lines ≡ true)
-    parts = and_cases (is_between 1 8 line.site.0) (each_of (λ (l : SiteLine). is_between 1 8 l.site.0) lines) range
+    parts = and_parts (is_between 1 8 line.site.0) (each_of (λ (l : SiteLine). is_between 1 8 l.site.0) lines) range
 
     here : Home
     here = record { site = line.site; engine = line.engine; protocol = line.protocol; items = items_of items site }
 
     by_test : (b : Bool) → same_site line.site site ≡ b → cond b (Some here) (home_in lines items site) ≡ Some home → (home_in lines items site ≡ Some home → site.0 ≤ 8) → site.0 ≤ 8
-    by_test true is e rest = subst (λ (s : SiteId). s.0 ≤ 8) (same_site_alike line.site site is) (leb-true line.site.0 8 (and_cases _ _ parts.0).1)
+    by_test true is e rest = subst (λ (s : SiteId). s.0 ≤ 8) (same_site-equal line.site site is) (leb-true line.site.0 8 (and_parts _ _ parts.0).1)
     by_test false is e rest = rest e
 
 -- a declared site is at most the eighth

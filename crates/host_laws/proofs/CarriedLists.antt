@@ -2,8 +2,8 @@
 use Rattle.std.proofs.Common.{◌≡◌, Option, Some, None, List, [], ◌∷◌, ◌++◌, map, reverse, refl, sym, ap, ◌∙◌, subst}
 use Rattle.std.proofs.lemmas.List.{append-nil}
 use Rattle.mdb_base.specs.Words.{Each, found, map_some, with_some}
-use Rattle.mdb_base.proofs.ListLaws.{append_each, each_append}
-use Rattle.order_laws.proofs.Reversed.{reverse_more}
+use Rattle.mdb_base.proofs.ListLaws.{each_append}
+use Rattle.mdb_base.proofs.JoinLaws.{reverse_more, found_append}
 
 pub each_reverse : {A : Type 0} (P : A → Type 0) (xs : List A) → Each P (reverse xs) → Each P xs
 each_reverse P [] h = tt
@@ -11,22 +11,10 @@ each_reverse P (x ∷ xs) h =
     let both = each_append P (reverse xs) (x ∷ []) (subst (Each P) (reverse_more x xs) h) in
     (both.1.0, each_reverse P xs both.0)
 
-pub reverse_each : {A : Type 0} (P : A → Type 0) (xs : List A) → Each P xs → Each P (reverse xs)
-reverse_each P [] h = tt
-reverse_each P (x ∷ xs) h = subst (Each P) (sym (reverse_more x xs)) (append_each P (reverse xs) (x ∷ []) (reverse_each P xs h.1) (h.0, tt))
-
 -- two facts of each item
 pub each_both : {A : Type 0} (P Q : A → Type 0) (xs : List A) → Each P xs → Each Q xs → Each (λ x. P x × Q x) xs
 each_both P Q [] p q = tt
 each_both P Q (x ∷ xs) p q = ((p.0, q.0), each_both P Q xs p.1 q.1)
-
-found_append : {A B : Type 0} (look : A → Option B) (xs ys : List A) → found look (xs ++ ys) ≡ found look xs ++ found look ys
-found_append look [] ys = refl
-found_append {A} {B} look (x ∷ xs) ys = by_value (look x) (found_append look xs ys)
-  where
-    by_value : (o : Option B) → found look (xs ++ ys) ≡ found look xs ++ found look ys → with_some o (found look (xs ++ ys)) ≡ with_some o (found look xs) ++ found look ys
-    by_value None e = e
-    by_value (Some b) e = ap (λ (bs : List B). b ∷ bs) e
 
 -- what is found in a list that is turned round
 pub found_reverse : {A B : Type 0} (look : A → Option B) (xs : List A) → found look (reverse xs) ≡ reverse (found look xs)

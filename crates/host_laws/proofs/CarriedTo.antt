@@ -5,14 +5,14 @@ use Rattle.mdb_base.specs.declared.names.SiteId.{SiteId}
 use Rattle.mdb_base.specs.declared.names.Tx.{Tx}
 use Rattle.mdb_base.specs.Names.{same_site, same_tx}
 use Rattle.mdb_base.specs.Words.{Each, first_where, map_some}
-use Rattle.order_laws.proofs.Names.{same_site_self}
+use Rattle.mdb_base.proofs.NameLaws.{same_site-refl}
+use Rattle.mdb_base.proofs.JoinLaws.{length-option}
 use Rattle.fed_rules.specs.declared.answers.Answer.{Answer}
 use Rattle.fed_rules.specs.declared.commands.Command.{Command}
 use Rattle.fed_rules.specs.declared.commands.Command.TheVariants as Cmd
 use Rattle.fed_rules.specs.declared.commands.Place.{Place}
 use Rattle.fed_rules.specs.declared.messages.FromSite.{FromSite}
 use Rattle.fed_rules.specs.declared.messages.ToSite.{ToSite}
-use Rattle.fed_rules.specs.declared.messages.ToSite.TheVariants as To
 use Rattle.fed_rules.specs.declared.scenario.Scenario.{Scenario}
 use Rattle.fed_rules.specs.declared.scenario.TxLine.{TxLine}
 use Rattle.fed_rules.specs.Scenarios.{global_line, global_program}
@@ -20,10 +20,8 @@ use Rattle.fed_messages.specs.declared.Envelope.{Envelope}
 use Rattle.fed_messages.specs.declared.Packet.{Packet}
 use Rattle.fed_messages.specs.Packets.{Spells, envelope_bytes}
 use Rattle.fed_messages.specs.Spelling.{IsToSite, to_site_bytes}
-use Rattle.local_dbms.specs.Stands.{OwnPrograms, own_programs, program_at}
-use Rattle.session_routes.specs.Posting.{message_to}
-use Rattle.site_core.specs.Made.{about}
-use Rattle.world_laws.specs.Messages.{tid_to}
+use Rattle.fed_rules.specs.OwnPrograms.{OwnPrograms, own_programs, program_at}
+use Rattle.fed_rules.specs.Site_of.{about, message_to}
 use Rattle.host_laws.specs.CoordHistory.{IsCoordCommand, IsCoordHistory}
 use Rattle.host_laws.specs.CoordPlans.{CoordPlan}
 use Rattle.host_laws.specs.CoordTurns.{CoordTurn, coord_sends_at, offered_to, sent_to}
@@ -34,7 +32,6 @@ use Rattle.host_laws.specs.Plans.{SitePlan}
 use Rattle.host_laws.specs.Turns.{SiteTurn}
 use Rattle.host_laws.proofs.CarriedChannels.{DoesBear, IsBorne, MayBear, Said, WasSent, offered_in, packet_at, sent_in}
 use Rattle.host_laws.proofs.CarriedPackets.{spells_text}
-use Rattle.host_laws.proofs.Sides.{few_option}
 
 -- What the coordinator's lines say.
 
@@ -43,7 +40,7 @@ module _ (plan : CoordPlan) (site : SiteId) where
   abbrev pub said_to : List CoordTurn → List (Said ToSite)
   said_to [] = []
   said_to (turn ∷ turns) =
-      record { stamp = turn.line.stamp; messages = option_to_list (message_to site (coord_sends_at plan turns turn)); few = few_option (message_to site (coord_sends_at plan turns turn)) } ∷ said_to turns
+      record { stamp = turn.line.stamp; messages = option_to_list (message_to site (coord_sends_at plan turns turn)); few = length-option (message_to site (coord_sends_at plan turns turn)) } ∷ said_to turns
 
   pub to_sent : (turns : List CoordTurn) → sent_to plan site turns ≡ sent_in (said_to turns)
   to_sent [] = refl
@@ -91,12 +88,6 @@ module _ (site : SiteId) where
   pub foreign_global : (scenario : Scenario) (tx : Tx) → IsSome (global_program scenario tx) → own_programs site scenario.transactions tx ≡ None
   foreign_global scenario tx h = not_own (first_where (λ (line : TxLine). same_tx line.tx tx) scenario.transactions) h
 
-pub about_same : (message : ToSite) → about message ≡ tid_to message
-about_same (To.Work tid epoch n act) = refl
-about_same (To.Take tid epoch n) = refl
-about_same (To.Prepare tid epoch n) = refl
-about_same (To.Decide tid decision) = refl
-
 -- What the site's host takes.
 
 borne_to : (programs : OwnPrograms) (packet : Packet) (envelope : Envelope ToSite) → Bears programs packet envelope → IsBorne to_site_bytes packet envelope
@@ -125,7 +116,7 @@ module _ (site : SiteId) (plan : SitePlan) (turns : List SiteTurn) (own : plan.h
   place_given answer sends (Cmd.Abort tx) took h = no_place took h.1
   place_given answer sends (Cmd.Fate tx) took h = no_place took h.1
   place_given answer sends (Cmd.Give at place) took h =
-      ap (λ (b : Bool). cond b (Some place) None) (ap (λ (s : SiteId). same_site s site) (h.0 ∙ own) ∙ same_site_self site)
+      ap (λ (b : Bool). cond b (Some place) None) (ap (λ (s : SiteId). same_site s site) (h.0 ∙ own) ∙ same_site-refl site)
       ∙ ap (λ (n : ℕ). Some n) h.1.place_is
       ∙ sym (ap (map_some (λ (envelope : Envelope ToSite). envelope.index)) h.1.is)
   place_given answer sends (Cmd.Ask at tid) took h = no_place took h.1

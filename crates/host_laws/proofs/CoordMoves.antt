@@ -4,7 +4,7 @@ use Rattle.std.proofs.lemmas.List.{append-nil}
 use Rattle.mdb_base.specs.declared.names.SiteId.{SiteId}
 use Rattle.std.specs.Prelude.{option_to_list}
 use Rattle.fed_rules.specs.declared.messages.Sent.{Sent}
-use Rattle.session_routes.specs.Posting.{message_to}
+use Rattle.fed_rules.specs.Site_of.{message_to}
 use Rattle.mdb_base.specs.Words.{Each}
 use Rattle.order_laws.specs.Chains.{In}
 use Rattle.fed_rules.specs.declared.commands.Command.{Command}

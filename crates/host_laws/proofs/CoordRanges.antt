@@ -6,9 +6,11 @@ use Rattle.mdb_base.specs.declared.acts.Step.{Step}
 use Rattle.mdb_base.specs.declared.names.Tid.{Tid}
 use Rattle.mdb_base.specs.declared.names.Tx.{Tx}
 use Rattle.mdb_base.specs.Words.{Each, map_some, with_some}
+use Rattle.mdb_base.proofs.OptionLaws.{by_pick}
 use Rattle.coord_laws.proofs.Made.{Begins}
 use Rattle.coord_laws.proofs.MadeLines.{coord_made}
-use Rattle.coord_core.specs.Terms.{Terms, line_of}
+use Rattle.fed_rules.specs.Terms.{Terms, line_of}
+use Rattle.coord_tables.specs.Terms.{Terms, line_of}
 use Rattle.field_bytes.specs.Fields.{IsTid}
 use Rattle.fed_rules.specs.declared.answers.Answer.{Answer}
 use Rattle.fed_rules.specs.declared.answers.Answer.TheVariants as Say
@@ -26,13 +28,13 @@ use Rattle.fed_rules.specs.CoordPast.{CoordPast, attempts_of, begun_by, begun_ti
 use Rattle.fed_rules.specs.Plans.{IsScenario}
 use Rattle.fed_rules.specs.Requests.{Declines, Request, Submits, most_attempts}
 use Rattle.fed_rules.specs.Scenarios.{global_line, global_program, transaction}
+use Rattle.fed_rules.specs.Site_of.{about}
 use Rattle.fed_messages.specs.declared.Envelope.{Envelope}
 use Rattle.fed_messages.specs.Spelling.{IsToSite}
-use Rattle.world_laws.specs.Messages.{tid_to}
 use Rattle.host_laws.specs.CoordPlans.{CoordPlan}
 use Rattle.host_laws.specs.CoordTurns.{CoordTurn, coord_behind, coord_past_of, coord_request, coord_request_at}
 use Rattle.host_laws.specs.Written.{FitsToSite}
-use Rattle.host_laws.proofs.SiteNames.{by_pick, by_when}
+use Rattle.host_laws.proofs.SiteNames.{by_when}
 use Rattle.host_laws.proofs.SiteRanges.{AreNamed, line_named}
 
 -- an attempt that goes is in its range
@@ -106,7 +108,7 @@ begun_in_range plan are (turn ∷ turns) =
     behind_begun plan.terms (coord_past_of plan turns) (coord_request_at plan turns turn) (command_goes plan are (coord_past_of plan turns) turn.line.line.command turn.took) (begun_in_range plan are turns)
 
 -- a message about an attempt in its range, whose numbers have their bytes, is in range
-pub to_in_range : (message : ToSite) → IsTid (tid_to message) → FitsToSite message → IsToSite message
+pub to_in_range : (message : ToSite) → IsTid (about message) → FitsToSite message → IsToSite message
 to_in_range (To.Work tid epoch n act) h f = (record { attempt = h; epochs = f.0.epochs; count = f.0.count }, f.1)
 to_in_range (To.Take tid epoch n) h f = record { attempt = h; epochs = f.epochs; count = f.count }
 to_in_range (To.Prepare tid epoch n) h f = record { attempt = h; epochs = f.epochs; count = f.count }

@@ -10,12 +10,10 @@ use Rattle.mdb_base.specs.declared.replies.Reply.{Reply}
 use Rattle.mdb_base.specs.declared.replies.Reply.TheVariants as Reply_is
 use Rattle.mdb_base.specs.declared.replies.Why.TheVariants as Because
 use Rattle.mdb_base.specs.Names.{same_site}
-use Rattle.mdb_base.specs.Programs.{plain_act}
 use Rattle.mdb_base.specs.Rising.{IsRising}
 use Rattle.mdb_base.specs.Words.{found, pick, some_of, when}
 use Rattle.order_laws.specs.Search.{cycle_through}
 use Rattle.order_laws.specs.Tickets.{edge_between}
-use Rattle.order_laws.proofs.Alike.{some_parts}
 use Rattle.presumptions.specs.declared.Decision.{Decision}
 use Rattle.presumptions.specs.declared.Decision.TheVariants as Decision_is
 use Rattle.presumptions.specs.declared.Participant.{Participant}
@@ -34,20 +32,21 @@ use Rattle.fed_rules.specs.declared.messages.Sent.{Sent}
 use Rattle.fed_rules.specs.Disk.{longest}
 use Rattle.fed_rules.specs.Happenings.{Trip, is_down, quiet, stopped, tripped}
 use Rattle.fed_rules.specs.Coord.{aborts, ack_counts, acked_while, again_while, all_outstanding, all_voted, answered, asked_while, commits_it, coord_line, defers_all, defers_some, did_counts, did_reply, held_back, is_member, is_prepare, is_take, lacks_initiation, last_vote, let_through, may_take, missing, news, news_at, of_ack, of_again, of_back, of_did, of_fate, of_go, of_inquiry, of_late, of_take, of_vote, sends_all, sends_dues, sends_news, unless_tripped, vote_tickets, vote_counted, vote_counts, yes_vote, of_check, checkpoint}
-use Rattle.fed_rules.specs.CoordPast.{CoordHappening, CoordPast, Standing, Undecided, Decided, Gone, disk, is_open, count_at, epoch_at, has_acked, has_step_left, has_ticket_at, next_step, outstanding, participants, prepare_at, reads, take_at, vote_at, work_at, program, records, standing, trip, undecided_of, visits}
+use Rattle.fed_rules.specs.CoordPast.{CoordHappening, CoordPast, Standing, Undecided, Decided, Gone, disk, is_open, has_acked, outstanding, participants, program, records, standing, trip, undecided_of, visits}
 use Rattle.fed_rules.specs.CoordRecords.{commits, committed_of, named, required_of, coord_frame, is_nobody, coord_payload}
 use Rattle.fed_rules.specs.Policies.{Policy}
 use Rattle.fed_rules.specs.Site_of.{due_site}
-use Rattle.journal_sums.proofs.CoordReadingLaws.{those_rise}
-use Rattle.coord_core.proofs.Rises.{decisions_rise, sends_rise}
-use Rattle.coord_core.proofs.Voting.{found_rise}
+use Rattle.mdb_base.proofs.RisingLaws.{those_rise}
+use Rattle.rules_laws.proofs.SendsRise.{decisions_rise, sends_rise}
+use Rattle.global_exec.proofs.Rises.{found_rises}
+use Rattle.rules_laws.proofs.SendsRise.{decisions_rise, sends_rise}
+use Rattle.rules_laws.proofs.Scenarios.{MembersRise}
+use Rattle.coord_laws.proofs.MadeLines.{outstanding_site}
+use Rattle.coord_tables.proofs.Voting.{found_rise}
 
 -- by rising site
 abbrev pub BySite : List Sent → Type 0
 BySite sends = IsRising (λ (sent : Sent). sent.site.0) sends
-
-abbrev pub MembersRise : List Participant → Type 0
-MembersRise members = IsRising (λ (member : Participant). member.site.0) members
 
 abbrev DuesRise : List Due → Type 0
 DuesRise dues = IsRising (λ (due : Due). (due_site due).0) dues
@@ -59,35 +58,6 @@ pub record SendsRise (x : CoordHappening) : Type 0 where
 -- the records name participants by rising site
 abbrev pub NamesRise : List Participant → CoordPast → Type 0
 NamesRise protocols past = (tid : Tid) (members : List Participant) → named protocols (records past) tid ≡ Some members → MembersRise members
-
-due_same : (d due : Due) → Some d ≡ Some due → due_site due ≡ due_site d
-due_same d due e = let p : d ≡ due = some_parts e in sym (ap due_site p)
-
--- what is outstanding names its site
-work_site : (past : CoordPast) (tid : Tid) (site : SiteId) (step : Option Step) (due : Due) → work_at past tid site step ≡ Some due → due_site due ≡ site
-work_site past tid site None due e = cc
-work_site past tid site (Some step) due e = by_test (same_site step.site site) e
-  where
-    by_test : (t : Bool) → cond t (Some (Due_is.Work site (epoch_at past tid site) (count_at past tid site) (plain_act (reads past tid) step.act))) None ≡ Some due → due_site due ≡ site
-    by_test true e = due_same _ due e
-    by_test false e = cc
-
-prepare_site : (past : CoordPast) (tid : Tid) (site : SiteId) (due : Due) → prepare_at past tid site ≡ Some due → due_site due ≡ site
-prepare_site past tid site due e = by_test (is_none (vote_at past tid site)) e
-  where
-    by_test : (t : Bool) → cond t (Some (Due_is.Prepare site (epoch_at past tid site) (count_at past tid site))) None ≡ Some due → due_site due ≡ site
-    by_test true e = due_same _ due e
-    by_test false e = cc
-
-outstanding_site : (past : CoordPast) (tid : Tid) (site : SiteId) (due : Due) → outstanding past tid site ≡ Some due → due_site due ≡ site
-outstanding_site past tid site due e =
-    by_tests (visits site (program past tid)) (has_step_left past tid site) (has_ticket_at past tid site) e
-  where
-    by_tests : (v l t : Bool) → cond v (cond l (work_at past tid site (next_step past tid)) (cond t (prepare_at past tid site) (take_at past tid site))) None ≡ Some due → due_site due ≡ site
-    by_tests true true t e = work_site past tid site (next_step past tid) due e
-    by_tests true false true e = prepare_site past tid site due e
-    by_tests true false false e = due_same _ due e
-    by_tests false l t e = cc
 
 news_site : (before now : CoordPast) (tid : Tid) (site other : SiteId) (due : Due) → news_at before now tid site other ≡ Some due → due_site due ≡ other
 news_site before now tid site other due e = by_test (same_site other site || is_none (outstanding before tid other)) e
@@ -131,12 +101,12 @@ module _ (protocols : List Participant) (rising : MembersRise protocols) where
 
   all_rise : (past now : CoordPast) (tid : Tid) → DuesRise (found (λ (m : Participant). outstanding now tid m.site) (participants protocols past tid))
   all_rise past now tid =
-      found_rise (λ (m : Participant). m.site.0) (λ (due : Due). (due_site due).0) (λ (m : Participant). outstanding now tid m.site)
+      found_rises (λ (m : Participant). m.site.0) (λ (due : Due). (due_site due).0) (λ (m : Participant). outstanding now tid m.site)
       (λ m due e. ap (λ (s : SiteId). s.0) (outstanding_site now tid m.site due e)) (participants protocols past tid) (participants_rise past tid)
 
   news_rise : (before now : CoordPast) (tid : Tid) (site : SiteId) → DuesRise (news protocols before now tid site)
   news_rise before now tid site =
-      found_rise (λ (m : Participant). m.site.0) (λ (due : Due). (due_site due).0) (λ (m : Participant). news_at before now tid site m.site)
+      found_rises (λ (m : Participant). m.site.0) (λ (due : Due). (due_site due).0) (λ (m : Participant). news_at before now tid site m.site)
       (λ m due e. ap (λ (s : SiteId). s.0) (news_site before now tid site m.site due e)) (participants protocols before tid) (participants_rise before tid)
 
   through_rise : (policy : Policy) (past : CoordPast) (tid : Tid) (dues : List Due) → DuesRise dues → DuesRise (let_through protocols policy past tid dues)

@@ -5,18 +5,17 @@ use Rattle.std.proofs.lemmas.Bool.{cond-true, cond-false, ne_eqb}
 use Rattle.mdb_base.specs.declared.names.SiteId.{SiteId}
 use Rattle.mdb_base.specs.Names.{same_site}
 use Rattle.mdb_base.specs.Words.{Each, first_where, found, map_some, those, with_some}
+use Rattle.mdb_base.proofs.NameLaws.{same_site-equal, same_site-refl}
+use Rattle.mdb_base.proofs.RisingLaws.{rising_rest}
 use Rattle.presumptions.specs.declared.Participant.{Participant}
 use Rattle.order_laws.specs.Chains.{In}
-use Rattle.order_laws.proofs.Names.{same_site_alike, same_site_self}
 use Rattle.fed_rules.specs.declared.commands.Place.{Place}
 use Rattle.fed_rules.specs.declared.messages.Sent.{Sent}
 use Rattle.fed_rules.specs.declared.messages.ToSite.{ToSite}
-use Rattle.session_routes.specs.Posting.{message_to}
-use Rattle.journal_sums.proofs.CoordReadingLaws.{rising_rest}
-use Rattle.host_laws.proofs.SendsRise.{BySite, MembersRise}
-
-abbrev OverSends : SiteId → List Sent → Type 0
-OverSends site sends = Each (λ (sent : Sent). site.0 < sent.site.0) sends
+use Rattle.fed_rules.specs.Site_of.{message_to}
+use Rattle.rules_laws.proofs.Scenarios.{MembersRise}
+use Rattle.rules_laws.proofs.Sends.{OverSends}
+use Rattle.host_laws.proofs.SendsRise.{BySite}
 
 abbrev OverMembers : SiteId → List Participant → Type 0
 OverMembers site members = Each (λ (member : Participant). site.0 < member.site.0) members
@@ -61,7 +60,7 @@ one_message site (sent ∷ sends) rises = by_test (same_site sent.site site) ref
         → option_to_list (map_some (λ (z : Sent). z.message) (cond b (Some sent) (first_where (λ (z : Sent). same_site z.site site) sends)))
         ≡ map (λ (z : Sent). z.message) (cond b (sent ∷ those (λ (z : Sent). same_site z.site site) sends) (those (λ (z : Sent). same_site z.site site) sends))
     by_test true is rest =
-        ap (λ (ms : List ToSite). sent.message ∷ ms) (sym (none_among site sends (subst (λ (s : SiteId). OverSends s sends) (same_site_alike sent.site site is) (sends_behind sent sends rises))))
+        ap (λ (ms : List ToSite). sent.message ∷ ms) (sym (none_among site sends (subst (λ (s : SiteId). OverSends s sends) (same_site-equal sent.site site is) (sends_behind sent sends rises))))
     by_test false is rest = rest
 
 module _ (count : SiteId → ℕ) where
@@ -114,12 +113,12 @@ module _ (count : SiteId → ℕ) where
           → (Each (λ (z : Sent). In z.site (map (λ (u : Participant). u.site) ms)) (sent ∷ sends) → found (place_in (sent ∷ sends)) ms ≡ places_for (sent ∷ sends))
           → found (place_in (sent ∷ sends)) (m ∷ ms) ≡ places_for (sent ∷ sends)
       by_test true is i rest all =
-          let same : sent.site ≡ m.site = same_site_alike sent.site m.site is in
+          let same : sent.site ≡ m.site = same_site-equal sent.site m.site is in
           let mine : place_in (sent ∷ sends) m ≡ Some (placed m.site) = ap (λ (o : Option Sent). map_some (λ (t : ToSite). placed m.site) (map_some (λ (z : Sent). z.message) o)) (cond-true _ _ _ is) in
           let others : OverMembers sent.site ms = subst (λ (s : SiteId). OverMembers s ms) (sym same) (members_behind m ms mr) in
           ap (λ (o : Option Place). with_some o (found (place_in (sent ∷ sends)) ms)) mine
           ∙ ap₂ (λ (p : Place) (ps : List Place). p ∷ ps) (ap placed (sym same)) (skip_sent sent sends ms others ∙ rest (others_in sent.site m ms sends same (sends_behind sent sends sr) among.1))
-      by_test false is (inl e) rest all = (let yes : same_site sent.site m.site ≡ true = ap (λ (s : SiteId). same_site s m.site) (sym e) ∙ same_site_self m.site in let no : true ≡ false = sym yes ∙ is in cc)
+      by_test false is (inl e) rest all = (let yes : same_site sent.site m.site ≡ true = ap (λ (s : SiteId). same_site s m.site) (sym e) ∙ same_site-refl m.site in let no : true ≡ false = sym yes ∙ is in cc)
       by_test false is (inr i) rest all =
           let less = in_over m.site sent.site ms (members_behind m ms mr) i in
           let whole = sends_over m.site sent sends less sr in

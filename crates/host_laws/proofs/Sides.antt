@@ -1,12 +1,14 @@
 -- How far each host has come when the lines of all are told one after another.
-use Rattle.std.proofs.Common.{◌≡◌, ℕ, ◌≤◌, inl, inr, Bool, true, false, cond, Option, Some, None, List, [], ◌∷◌, ◌++◌, length, map, reverse, slice_get, refl, sym, subst, nat_eq, eqb-true, eq-eqb, arith}
+use Rattle.std.proofs.Common.{◌≡◌, ℕ, ◌≤◌, inl, inr, Bool, true, false, cond, Some, List, [], ◌∷◌, ◌++◌, length, map, reverse, slice_get, refl, sym, subst, nat_eq, eqb-true, eq-eqb, arith}
 use Rattle.std.specs.Prelude.{option_to_list}
 use Rattle.mdb_base.specs.declared.names.SiteId.{SiteId}
 use Rattle.mdb_base.specs.Words.{Each, those}
 use Rattle.mdb_base.proofs.ListLaws.{each_map, those_pass}
 use Rattle.mdb_base.proofs.Words.{cond-true, cond-false}
 use Rattle.std.proofs.lemmas.Bool.{ne_eqb}
+use Rattle.mdb_base.proofs.JoinLaws.{length-option}
 use Rattle.order_laws.specs.Chains.{In}
+use Rattle.order_laws.proofs.InLaws.{in_map}
 use Rattle.fed_rules.specs.declared.commands.Line.{Line}
 use Rattle.fed_rules.specs.declared.commands.Stamped.{Stamped}
 use Rattle.fed_rules.specs.declared.events.SiteEvent.{SiteEvent}
@@ -22,7 +24,7 @@ use Rattle.fed_rules.specs.SiteRecords.{Home}
 use Rattle.fed_rules.specs.Story as Told
 use Rattle.fed_rules.specs.Story.{Story, coord_past}
 use Rattle.world_laws.proofs.SiteSays.{sites_few}
-use Rattle.session_routes.specs.Posting.{message_to}
+use Rattle.fed_rules.specs.Site_of.{message_to}
 use Rattle.trace_merge.specs.Traces.{ComesBefore, Entry, IsOrdered, lines_of}
 use Rattle.host_laws.specs.CoordHistory.{IsCoordHistory}
 use Rattle.host_laws.specs.CoordLines.{packet_to}
@@ -34,7 +36,6 @@ use Rattle.host_laws.specs.Logs.{CoordLog, SiteLog}
 use Rattle.host_laws.specs.Plans.{SitePlan}
 use Rattle.host_laws.specs.Turns.{SiteTurn, packets_by, past_of, request_at, sends_at, sends_of, sent_by}
 use Rattle.host_laws.proofs.Channels.{IsChannel}
-use Rattle.host_laws.proofs.Standing.{in_mapped}
 
 -- the coordinator's turns: those that are ahead, oldest first, whose lines stand behind, and those that are done, of which the story tells
 pub record CoordSide (plan : CoordPlan) (turns : List CoordTurn) (story : Story) (behind : List Entry) : Type 0 where
@@ -74,12 +75,8 @@ from_channel plan = record { few = λ ts t. few_sent plan.home (past_of plan ts)
 abbrev pub sends_to_site : CoordPlan → SiteId → List CoordTurn → CoordTurn → List ToSite
 sends_to_site plan site turns turn = option_to_list (message_to site (coord_sends_at plan turns turn))
 
-pub few_option : {A : Type 0} (o : Option A) → length (option_to_list o) ≤ 1
-few_option None = omega arith
-few_option (Some x) = omega arith
-
 pub to_channel : (plan : CoordPlan) (site : SiteId) → IsChannel (λ (turn : CoordTurn). turn.line.stamp) packet_to (sends_to_site plan site) (sent_to plan site) (offered_to plan site)
-to_channel plan site = record { few = λ ts t. few_option (message_to site (coord_sends_at plan ts t)); sent_more = λ t ts. refl; none_sent = refl; none = refl; offered_more = λ t ts. refl }
+to_channel plan site = record { few = λ ts t. length-option (message_to site (coord_sends_at plan ts t)); sent_more = λ t ts. refl; none_sent = refl; none = refl; offered_more = λ t ts. refl }
 
 -- ---- histories, stops and entries
 
@@ -116,7 +113,7 @@ pub not_earlier : {T : Type 0} (line_of : T → Stamped) (actor : ℕ) (e : Entr
     → (turn : T) → In turn ahead → e.line.stamp ≤ (line_of turn).stamp
 not_earlier line_of actor e rest ahead ordered lines turn i =
     let same : e.line.stamp ≤ e.line.stamp = omega arith in
-    late actor e (e ∷ rest) (line_of turn) (same, each_map (ComesBefore e) (λ (d : Entry). e.line.stamp ≤ d.line.stamp) (λ d before. not_before e d before) rest ordered.0) (subst (In (line_of turn)) lines (in_mapped line_of turn ahead i))
+    late actor e (e ∷ rest) (line_of turn) (same, each_map (ComesBefore e) (λ (d : Entry). e.line.stamp ≤ d.line.stamp) (λ d before. not_before e d before) rest ordered.0) (subst (In (line_of turn)) lines (in_map line_of turn ahead i))
 
 -- the line of another actor
 pub of_other : (actor : ℕ) (e : Entry) (rest : List Entry) → (e.actor ≡ actor → ⊥) → lines_of actor (e ∷ rest) ≡ lines_of actor rest

@@ -18,7 +18,7 @@ use Rattle.fed_rules.specs.SiteCommands.{answer_to, past_behind}
 use Rattle.fed_rules.specs.SitePast.{SitePast}
 use Rattle.fed_rules.specs.Story as Told
 use Rattle.fed_rules.specs.Story.{Story, Happened, coord_past, happens, place_from, places_of, requested, sends_from, sends_to, sent_from, sent_to, with_coordinator, with_site}
-use Rattle.local_dbms.specs.Stands.{own_programs}
+use Rattle.fed_rules.specs.OwnPrograms.{own_programs}
 use Rattle.host_laws.specs.History as Right
 use Rattle.host_laws.specs.Plans.{SitePlan}
 use Rattle.host_laws.specs.Turns.{SiteTurn, past_of, request_of, sends_at, sends_of, sent_by}

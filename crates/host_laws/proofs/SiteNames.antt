@@ -1,10 +1,8 @@
 -- Which attempts a site names: where each attempt of its events has a fact, so has each one that it sends a message about or names in a reply.
-use Rattle.std.proofs.Common.{◌≡◌, ℕ, ◌+◌, Bool, true, false, cond, ◌||◌, Option, Some, None, List, [], ◌∷◌, ◌++◌, take, zero, suc, refl, subst}
+use Rattle.std.proofs.Common.{◌≡◌, ℕ, ◌+◌, Bool, true, false, cond, ◌||◌, Option, Some, None, List, [], ◌∷◌, ◌++◌, take, refl, subst}
 use Rattle.std.specs.Prelude.{nat_le, nat_lt, min}
 use Rattle.mdb_base.specs.declared.acts.PlainAct.{PlainAct}
 use Rattle.mdb_base.specs.declared.acts.PlainAct.TheVariants.{Read, Write}
-use Rattle.mdb_base.specs.declared.names.Engine.{Engine}
-use Rattle.mdb_base.specs.declared.names.Engine.TheVariants.{Locking, Multiversion, Timestamp, Validation}
 use Rattle.mdb_base.specs.declared.names.Tid.{Tid}
 use Rattle.mdb_base.specs.declared.names.Tx.{Tx}
 use Rattle.mdb_base.specs.declared.replies.Reply.{Reply}
@@ -12,10 +10,11 @@ use Rattle.mdb_base.specs.declared.replies.Reply.TheVariants as Reply_is
 use Rattle.mdb_base.specs.declared.replies.Why.{Why}
 use Rattle.mdb_base.specs.declared.replies.Why.TheVariants as Because
 use Rattle.mdb_base.specs.Names.{same_tid}
-use Rattle.mdb_base.specs.Words.{Each, found, greatest, least, pick, when, with_some}
-use Rattle.mdb_base.proofs.ListLaws.{append_each, each_all, each_filtered, each_inserted, greatest_among, least_among}
+use Rattle.mdb_base.specs.Words.{Each, found, when, with_some}
+use Rattle.mdb_base.proofs.ListLaws.{append_each, each_all, each_inserted}
 use Rattle.mdb_base.proofs.NameLaws.{same_tid-equal}
-use Rattle.coord_laws.proofs.Dues.{each_of_mapped}
+use Rattle.mdb_base.proofs.EachLaws.{each_of_mapped, each_take}
+use Rattle.mdb_base.proofs.OptionLaws.{by_pick}
 use Rattle.presumptions.specs.declared.Decision.{Decision}
 use Rattle.presumptions.specs.declared.Decision.TheVariants as Decided
 use Rattle.presumptions.specs.Table.{acks, forces}
@@ -33,12 +32,13 @@ use Rattle.fed_rules.specs.declared.runs.Kept.{Kept}
 use Rattle.fed_rules.specs.Attempts.{each_attempt}
 use Rattle.fed_rules.specs.Disk.{Append, Call, CutBack, Disk, Stops, Sync, TrimFront, after_call, after_calls, bytes_of, is_torn, whole}
 use Rattle.fed_rules.specs.Happenings.{Trip, comes_up, is_down, quiet, stopped, stops, tripped}
-use Rattle.fed_rules.specs.Replies.{access_reply, age_of, age_stop, granted_by, holders, is_younger, late_or_wait, older_takers, older_writers, or_reply, rule, ticket_holders, ticket_reply, version_stop, wait_die, wait_for_writer, younger_in_the_way, younger_takers, Rule, has_written}
+use Rattle.fed_rules.specs.Replies.{access_reply, granted_by, or_reply, rule, ticket_reply, Rule}
 use Rattle.fed_rules.specs.Runs.{Aborts, Access, Acts, Begins, Commits, EngineLine, Got, Refuses, Run, Seals, Start, Takes, Wrote, aborted, acted, attempts, begun, by_number, changed, committed, gives_up, number, restored, restored_at, run_at, tid_of, took, unended}
 use Rattle.fed_rules.specs.Site.{ack_of, answered, did, ended_calls, first_work, kept_reply_of, next_number, next_take, next_work, of_abort, of_act, of_ask, of_back, of_begin, of_check, of_commit, of_decide, of_drop, of_fate, of_give, of_prepare, of_take, of_work, prepare_live, repeated, reply_of_access, seals_global, seals_local, settles, settling_line, site_line, take_live, unheld, unknown, unless_tripped, votes_again, votes_no, votes_yes, with_lines, work_live}
 use Rattle.fed_rules.specs.SitePast.{SiteHappening, SitePast, disk, engine_lines, epoch, epoch_start, records, trip}
 use Rattle.fed_rules.specs.SiteRecords.{Held, Home, by_tid, doubt_of, doubts, held_before, kept_held, prepared_tids, site_frame, start_of}
-use Rattle.site_core.specs.Made.{about}
+use Rattle.fed_rules.specs.Site_of.{about}
+use Rattle.engine_laws.proofs.StopReplies.{IfSome, OfRuns, SaysOf, access_says, ticket_says}
 use Rattle.host_laws.proofs.CarriedLists.{found_each}
 
 -- what holds of both branches holds of the one that is chosen
@@ -47,19 +47,9 @@ unfolding when
 by_when P true x y p q = p refl
 by_when P false x y p q = q refl
 
-pub by_pick : {A B : Type 0} (P : B → Type 0) (o : Option A) (x : B) (f : A → B) → P x → ((a : A) → o ≡ Some a → P (f a)) → P (pick o x f)
-unfolding pick
-by_pick P None x f p q = p
-by_pick P (Some a) x f p q = q a refl
-
 by_cond : {A : Type 0} (P : A → Type 0) (b : Bool) (x y : A) → (b ≡ true → P x) → (b ≡ false → P y) → P (cond b x y)
 by_cond P true x y p q = p refl
 by_cond P false x y p q = q refl
-
-each_taken : {A : Type 0} (P : A → Type 0) (n : ℕ) (xs : List A) → Each P xs → Each P (take n xs)
-each_taken P zero xs h = tt
-each_taken P (suc n) [] h = tt
-each_taken P (suc n) (x ∷ xs) h = (h.0, each_taken P n xs h.1)
 
 module _ (N : Tid → Type 0) where
   -- What names attempts of which the fact holds alone.
@@ -118,10 +108,6 @@ module _ (N : Tid → Type 0) where
   abbrev MayName : Option Run → Type 0
   MayName None = Unit {0}
   MayName (Some run) = N run.tid
-
-  abbrev MayReply : Option Reply → Type 0
-  MayReply None = Unit {0}
-  MayReply (Some reply) = ReplyNames reply
 
   abbrev StartNames : Start → Type 0
   StartNames start = Each (λ (kept : Kept). N kept.tid) start.doubtful
@@ -205,83 +191,28 @@ module _ (N : Tid → Type 0) where
         by_test rest =
             by_cond (Each RunNames) (gives_up line) (with_some (run_at start older (tid_of line)) (aborted start older)) (aborted start older) (λ e. more (run_at start older (tid_of line)) (run_names older (tid_of line) h.1) rest) (λ e. rest)
 
-    least_names : (measure : Run → ℕ) (runs : List Run) → Each RunNames runs → MayName (least measure runs)
-    least_names measure runs h = by_value (least measure runs) refl
-      where
-        by_value : (o : Option Run) → least measure runs ≡ o → MayName o
-        by_value None e = tt
-        by_value (Some run) e = least_among RunNames measure runs run h e
-
-    greatest_names : (measure : Run → ℕ) (runs : List Run) → Each RunNames runs → MayName (greatest measure runs)
-    greatest_names measure runs h = by_value (greatest measure runs) refl
-      where
-        by_value : (o : Option Run) → greatest measure runs ≡ o → MayName o
-        by_value None e = tt
-        by_value (Some run) e = greatest_among RunNames measure runs run h e
-
     -- Replies.
 
-    wait_die_names : (me : Run) (o : Option Run) → MayName o → MayReply (wait_die me o)
-    wait_die_names me None h = tt
-    wait_die_names me (Some oldest) h = by_cond ReplyNames (is_younger me oldest) (Reply_is.Wait oldest.tid) (Reply_is.Refused (Because.Die oldest.tid)) (λ e. h) (λ e. h)
-
-    late_or_wait_names : (younger older : Option Run) → MayName younger → MayName older → MayReply (late_or_wait younger older)
-    late_or_wait_names (Some youngest) older y o = y
-    late_or_wait_names None (Some oldest) y o = o
-    late_or_wait_names None None y o = tt
+    names_of : SaysOf RunNames ReplyNames
+    names_of = record { waits = λ run h. h; dies = λ run h. h; late = λ run h. h }
 
     module _ (lines : List EngineLine) (named : Each LineNames lines) (me : Run) where
-      others_names : Each RunNames (unended start lines ++ committed start lines)
-      others_names = append_each RunNames (unended start lines) (committed start lines) (unended_names lines named) (committed_names lines named)
-
-      older_names : (act : PlainAct) → MayName (greatest age_of (older_writers start lines me act))
-      older_names act = greatest_names age_of (older_writers start lines me act) (each_filtered RunNames _ (unended start lines) (unended_names lines named))
-
-      age_names : (act : PlainAct) → MayReply (age_stop start lines me act)
-      age_names act =
-          late_or_wait_names (greatest age_of (younger_in_the_way start lines me act)) (greatest age_of (older_writers start lines me act))
-          (greatest_names age_of (younger_in_the_way start lines me act)
-          (append_each RunNames _ _ (each_filtered RunNames _ (unended start lines ++ committed start lines) others_names) (each_filtered RunNames _ (aborted start lines) (aborted_names lines named)))) (older_names act)
-
-      reader_names : (b : Bool) (o : Option Run) → MayName o → MayReply (wait_for_writer b o)
-      reader_names true o h = tt
-      reader_names false o h = late_or_wait_names None o tt h
-
-      version_names : (act : PlainAct) → MayReply (version_stop start lines me act)
-      version_names (Read key) = reader_names (has_written key me) (greatest age_of (older_writers start lines me (Read key))) (older_names (Read key))
-      version_names (Write key value) = age_names (Write key value)
-
-      access_names : (kind : Engine) (act : PlainAct) → MayReply ((rule kind).access start lines me act)
-      access_names Locking act = wait_die_names me (least age_of (holders start lines me act)) (least_names age_of (holders start lines me act) (each_filtered RunNames _ (unended start lines) (unended_names lines named)))
-      access_names Timestamp act = age_names act
-      access_names Validation act = tt
-      access_names Multiversion act = version_names act
-
-      takers_names : MayReply (late_or_wait (greatest age_of (younger_takers start lines me)) (greatest age_of (older_takers start lines me)))
-      takers_names =
-          late_or_wait_names (greatest age_of (younger_takers start lines me)) (greatest age_of (older_takers start lines me))
-          (greatest_names age_of (younger_takers start lines me) (each_filtered RunNames _ (unended start lines ++ committed start lines) others_names))
-          (greatest_names age_of (older_takers start lines me) (each_filtered RunNames _ (unended start lines) (unended_names lines named)))
-
-      ticket_names : (kind : Engine) → MayReply ((rule kind).ticket start lines me)
-      ticket_names Locking = wait_die_names me (least age_of (ticket_holders start lines me)) (least_names age_of (ticket_holders start lines me) (each_filtered RunNames _ (unended start lines) (unended_names lines named)))
-      ticket_names Timestamp = takers_names
-      ticket_names Validation = tt
-      ticket_names Multiversion = takers_names
+      of_runs : OfRuns RunNames start lines
+      of_runs = record { live = unended_names lines named; done = committed_names lines named; gone = aborted_names lines named }
 
       granted_names : (by : Rule) (act : PlainAct) → ReplyNames (granted_by by start lines me act)
       granted_names by (Read key) = tt
       granted_names by (Write key value) = tt
 
-      either_names : (o : Option Reply) (reply : Reply) → MayReply o → ReplyNames reply → ReplyNames (or_reply o reply)
+      either_names : (o : Option Reply) (reply : Reply) → IfSome ReplyNames o → ReplyNames reply → ReplyNames (or_reply o reply)
       either_names None reply o h = h
       either_names (Some stop) reply o h = o
 
       pub access_reply_names : (act : PlainAct) → ReplyNames (access_reply start lines me act)
-      access_reply_names act = either_names ((rule start.kind).access start lines me act) (granted_by (rule start.kind) start lines me act) (access_names start.kind act) (granted_names (rule start.kind) act)
+      access_reply_names act = either_names ((rule start.kind).access start lines me act) (granted_by (rule start.kind) start lines me act) (access_says RunNames ReplyNames names_of start lines of_runs me start.kind act) (granted_names (rule start.kind) act)
 
       pub ticket_reply_names : ReplyNames (ticket_reply start lines me)
-      ticket_reply_names = either_names ((rule start.kind).ticket start lines me) _ (ticket_names start.kind) tt
+      ticket_reply_names = either_names ((rule start.kind).ticket start lines me) _ (ticket_says RunNames ReplyNames names_of start lines of_runs me start.kind) tt
 
   reply_of_names : (acts : List Access) → ReplyNames (reply_of_access acts)
   reply_of_names [] = tt
@@ -523,7 +454,7 @@ module _ (N : Tid → Type 0) where
     unfolding tripped stopped
     tripped_names d None x h = h
     tripped_names d (Some t) x h =
-        by_when Names _ _ x (λ e. record { sends = tt; calls = append_each CallNames (take t.calls x.calls) (Stops t.cut ∷ []) (each_taken CallNames t.calls x.calls h.calls) (tt, tt); lines = tt }) (λ e. h)
+        by_when Names _ _ x (λ e. record { sends = tt; calls = append_each CallNames (take t.calls x.calls) (Stops t.cut ∷ []) (each_take CallNames t.calls x.calls h.calls) (tt, tt); lines = tt }) (λ e. h)
 
     up_names : (event : SiteEvent) (x : SiteHappening) → Names x → Names (when (is_down past) (quiet event Say.Down) (unless_tripped home past x))
     up_names event x h = by_when Names _ _ _ (λ e. still event Say.Down) (λ e. tripped_names (disk home past) (trip past) x h)

@@ -2,7 +2,7 @@
 -- named that it took.
 use Rattle.std.proofs.Common.{◌≡◌, ℕ, ◌≤◌, cond, Bool, true, false, ◌&&◌, Option, Some, None, IsSome, List, [], ◌∷◌, refl, sym, subst, arith}
 use Rattle.std.specs.Prelude.{nat_le, not}
-use Rattle.std.proofs.lemmas.Bool.{leb-false, leb-true}
+use Rattle.std.proofs.lemmas.Bool.{leb-false, leb-true, and_parts}
 use Rattle.mdb_base.specs.declared.acts.Step.{Step}
 use Rattle.mdb_base.specs.declared.names.SiteId.{SiteId}
 use Rattle.mdb_base.specs.declared.names.Tid.{Tid}
@@ -14,8 +14,9 @@ use Rattle.mdb_base.specs.declared.replies.Why.TheVariants as Because
 use Rattle.mdb_base.specs.Names.{same_tx}
 use Rattle.mdb_base.specs.Words.{Each, first_where, found, map_some, with_some}
 use Rattle.mdb_base.proofs.ListLaws.{append_each}
-use Rattle.order_laws.proofs.Alike.{same_tx_alike}
-use Rattle.order_laws.proofs.Lists.{and_cases, each_of_at, first_where_some}
+use Rattle.mdb_base.proofs.NameLaws.{same_tx-equal}
+use Rattle.mdb_base.proofs.OptionLaws.{by_pick}
+use Rattle.order_laws.proofs.Lists.{each_of_at, first_where_some}
 use Rattle.field_bytes.specs.Fields.{IsTid}
 use Rattle.fed_rules.specs.declared.commands.Command.{Command}
 use Rattle.fed_rules.specs.declared.commands.Command.TheVariants as Cmd
@@ -35,15 +36,15 @@ use Rattle.fed_rules.specs.SiteRecords.{Home}
 use Rattle.fed_messages.specs.declared.Envelope.{Envelope}
 use Rattle.fed_messages.specs.declared.Packet.{Packet}
 use Rattle.fed_messages.specs.Spelling.{IsFromSite, IsReply, IsToSite}
-use Rattle.local_dbms.specs.Stands.{OwnPrograms, own_programs, program_at}
-use Rattle.site_core.specs.Made.{about}
+use Rattle.fed_rules.specs.OwnPrograms.{OwnPrograms, own_programs, program_at}
+use Rattle.fed_rules.specs.Site_of.{about}
 use Rattle.host_laws.specs.Hearing.{HasHeard, IsRead, Taking}
 use Rattle.host_laws.specs.History.{IsCommand, IsHistory}
 use Rattle.host_laws.specs.Plans.{SitePlan}
 use Rattle.host_laws.specs.Turns.{SiteTurn, past_of, request_at, request_of, sends_at, sends_of, sent_by}
 use Rattle.host_laws.specs.Written.{FitsFromSite, FitsReply}
 use Rattle.host_laws.proofs.CarriedLists.{found_each}
-use Rattle.host_laws.proofs.SiteNames.{EventNames, NamesAll, ReplyNames, SendNames, by_pick, by_when, line_names, lines_names, start_names, unended_names}
+use Rattle.host_laws.proofs.SiteNames.{EventNames, NamesAll, ReplyNames, SendNames, by_when, line_names, lines_names, start_names, unended_names}
 
 -- The commands of a transaction of the site's own.
 
@@ -160,7 +161,7 @@ module _ (plan : SitePlan) (are : AreNamed plan.programs) where
 
 -- Messages in range.
 
-about_in_range : (message : ToSite) → IsToSite message → IsTid (about message)
+pub about_in_range : (message : ToSite) → IsToSite message → IsTid (about message)
 about_in_range (To.Work tid epoch n act) h = h.0.attempt
 about_in_range (To.Take tid epoch n) h = h.attempt
 about_in_range (To.Prepare tid epoch n) h = h.attempt
@@ -226,8 +227,8 @@ site_in_range plan turns took are right heard fits =
 pub line_named : (scenario : Scenario) (tx : Tx) (line : TxLine) → IsScenario scenario → first_where (λ (l : TxLine). same_tx l.tx tx) scenario.transactions ≡ Some line → (1 ≤ tx.0) × (tx.0 ≤ 1024)
 line_named scenario tx line whole e =
     let there = first_where_some (λ (l : TxLine). same_tx l.tx tx) scenario.transactions line e in
-    let range = and_cases _ _ (and_cases _ _ (each_of_at (is_transaction scenario.sites) scenario.transactions line whole.transactions.in_place there.0)).0 in
-    subst (λ (t : Tx). (1 ≤ t.0) × (t.0 ≤ 1024)) (same_tx_alike line.tx tx there.1) (leb-true 1 line.tx.0 range.0, leb-true line.tx.0 1024 range.1)
+    let range = and_parts _ _ (and_parts _ _ (each_of_at (is_transaction scenario.sites) scenario.transactions line whole.transactions.in_place there.0)).0 in
+    subst (λ (t : Tx). (1 ≤ t.0) × (t.0 ≤ 1024)) (same_tx-equal line.tx tx there.1) (leb-true 1 line.tx.0 range.0, leb-true line.tx.0 1024 range.1)
 
 -- so are the programs of a site's own transactions
 pub own_named : (scenario : Scenario) (site : SiteId) → IsScenario scenario → AreNamed (own_programs site scenario.transactions)

@@ -1,5 +1,5 @@
 -- Bytes tell messages apart whose numbers have theirs, be their attempts in range or not: each is read again from its bytes.
-use Rattle.std.proofs.Common.{◌≡◌, ℕ, ◌<◌, ◌^◌, List, [], ◌∷◌, ◌++◌, Option, Some, None, sym, ap, ◌∙◌, arith}
+use Rattle.std.proofs.Common.{◌≡◌, ℕ, ◌<◌, ◌^◌, List, [], ◌∷◌, ◌++◌, Option, Some, sym, ap, ◌∙◌, arith}
 use Rattle.std.proofs.lemmas.List.{append_assoc, append-nil}
 use Rattle.std.proofs.lemmas.Option.{same_Some}
 use Rattle.byte_numbers.specs.Numbers.{number, number_at, ◌>>=◌}
@@ -8,7 +8,6 @@ use Rattle.field_bytes.specs.Fields.{IsTid, tid_bytes, decision_at, decision_byt
 use Rattle.field_bytes.proofs.Laws.{decision_again}
 use Rattle.field_bytes.proofs.Steps.{number_then}
 use Rattle.mdb_base.specs.declared.acts.PlainAct.{PlainAct}
-use Rattle.mdb_base.specs.declared.acts.PlainAct.TheVariants.{Read, Write}
 use Rattle.mdb_base.specs.declared.names.Tid.{Tid}
 use Rattle.mdb_base.specs.declared.replies.Reply.{Reply}
 use Rattle.mdb_base.specs.declared.replies.Reply.TheVariants as Reply_is
@@ -22,10 +21,11 @@ use Rattle.fed_rules.specs.declared.messages.ToSite.TheVariants as To
 use Rattle.fed_messages.specs.declared.Envelope.{Envelope}
 use Rattle.fed_messages.specs.declared.reading.Operation.{Operation}
 use Rattle.fed_messages.specs.Packets.{IsEnvelope, envelope_bytes}
-use Rattle.fed_messages.specs.Reading.{Kinds, Reading, act_at, act_kinds, by_kind, kind_at, nothing_at, read_at, ticket_at, value_at, vote_at, vote_kinds, write_at, yes_at}
+use Rattle.fed_messages.specs.Reading.{Kinds, Reading, act_at, kind_at, nothing_at, ticket_at, value_at, vote_at}
 use Rattle.fed_messages.specs.Spelling.{IsAct, IsFromSite, IsOperation, IsReply, IsToSite, IsVote, IsWhy, act_bytes, from_site_bytes, operation_bytes, reply_bytes, to_site_bytes, vote_bytes}
+use Rattle.fed_messages.proofs.ByKind.{found_then}
+use Rattle.fed_messages.proofs.Again.{kind_again, act_again, vote_again}
 use Rattle.host_laws.specs.Written.{FitsFromSite, FitsOperation, FitsReply, FitsTid, FitsToSite, FitsWhy}
-use Rattle.host_laws.proofs.Rings.{Fits}
 
 -- ---- readings that don't test the range of an attempt
 
@@ -109,12 +109,6 @@ from_site_reads = (1, did_read) ∷ (2, vote_read) ∷ (3, by_read (λ tid. From
 
 -- ---- what was written is read again
 
-found_then : {A B : Type 0} (o : Option A) (x : A) (f : A → Option B) → o ≡ Some x → (o >>= f) ≡ f x
-found_then o x f e = ap (λ p. p >>= f) e
-
-kind_again : {A : Type 0} (kinds : Kinds A) (kind : ℕ) (rest : List ℕ) → kind < 256 → kind_at kinds (number 1 kind ++ rest) ≡ by_kind kinds kind rest
-kind_again kinds kind rest low = number_then 1 kind rest _ low
-
 tid_again : (tid : Tid) (rest : List ℕ) → FitsTid tid → tid_read (tid_bytes tid ++ rest) ≡ Some (tid, rest)
 unfolding tid_read
 tid_again tid rest fits =
@@ -132,15 +126,6 @@ operation_again tid epoch n rest fits =
     ∙ tid_then tid (number 4 epoch ++ (number 1 n ++ rest)) _ fits.attempt
     ∙ number_then 4 epoch (number 1 n ++ rest) _ (omega (arith, fits.epochs))
     ∙ number_then 1 n rest _ (omega (arith, fits.count))
-
-act_again : (act : PlainAct) (rest : List ℕ) → IsAct act → act_at (act_bytes act ++ rest) ≡ Some (act, rest)
-unfolding act_at read_at write_at
-act_again (Read key) rest fits = kind_again act_kinds 1 (number 2 key.0 ++ rest) (omega arith) ∙ number_then 2 key.0 rest _ (omega (arith, fits))
-act_again (Write key value) rest fits =
-    kind_again act_kinds 2 ((number 2 key.0 ++ number 8 value) ++ rest) (omega arith)
-    ∙ ap write_at (append_assoc (number 2 key.0) (number 8 value) rest)
-    ∙ number_then 2 key.0 (number 8 value ++ rest) _ (omega (arith, fits.0))
-    ∙ number_then 8 value rest _ (omega (arith, fits.1))
 
 work_again : (tid : Tid) (epoch n : ℕ) (act : PlainAct) (rest : List ℕ) → FitsOperation tid epoch n → IsAct act → work_read ((operation_bytes tid epoch n ++ act_bytes act) ++ rest) ≡ Some (To.Work tid epoch n act, rest)
 unfolding work_read
@@ -193,12 +178,6 @@ reply_again (Reply_is.Refused (Because.Invalid by key)) rest fits =
 reply_again (Reply_is.Refused (Because.TicketMoved by)) rest fits =
     kind_again reply_reads 7 (tid_bytes by ++ rest) (omega arith) ∙ tid_then by rest _ fits
 reply_again Reply_is.Unknown rest fits = kind_again reply_reads 8 rest (omega arith)
-
-vote_again : (vote : Option ℕ) (rest : List ℕ) → IsVote vote → vote_at (vote_bytes vote ++ rest) ≡ Some (vote, rest)
-unfolding vote_at nothing_at yes_at
-vote_again None rest fits = kind_again vote_kinds 0 rest (omega arith)
-vote_again (Some ticket) rest fits =
-    kind_again vote_kinds 1 (number 8 ticket ++ rest) (omega arith) ∙ number_then 8 ticket rest _ (omega (arith, fits))
 
 did_again : (tid : Tid) (epoch n : ℕ) (reply : Reply) (rest : List ℕ) → FitsOperation tid epoch n → FitsReply reply → did_read ((operation_bytes tid epoch n ++ reply_bytes reply) ++ rest) ≡ Some (From.Did tid epoch n reply, rest)
 unfolding did_read
@@ -268,7 +247,7 @@ number_same n x y r s low less e =
 module _ {M : Type 0} (bytes : M → List ℕ) (FitsMessage IsMessage : M → Type 0) (read : List ℕ → Reading M) where
   -- where messages are read again, an envelope has the bytes of one alone
   one_envelope : ((message : M) (rest : List ℕ) → FitsMessage message → read (bytes message ++ rest) ≡ Some (message, rest)) → ((message : M) → IsMessage message → FitsMessage message)
-      → (x e : Envelope M) → Fits FitsMessage x → IsEnvelope IsMessage e → envelope_bytes bytes x ≡ envelope_bytes bytes e → x ≡ e
+      → (x e : Envelope M) → IsEnvelope FitsMessage x → IsEnvelope IsMessage e → envelope_bytes bytes x ≡ envelope_bytes bytes e → x ≡ e
   one_envelope again fitting x e fits in_range same =
       let x_index = fits.index in
       let e_index = in_range.index in
@@ -284,9 +263,9 @@ module _ {M : Type 0} (bytes : M → List ℕ) (FitsMessage IsMessage : M → Ty
       ∙ ap (λ (m : M). let v : Envelope M = record { index = e.index; stamp = e.stamp; message = m } in v) message
 
 -- so it is of messages to a site
-pub one_to_site : (x e : Envelope ToSite) → Fits FitsToSite x → IsEnvelope IsToSite e → envelope_bytes to_site_bytes x ≡ envelope_bytes to_site_bytes e → x ≡ e
+pub one_to_site : (x e : Envelope ToSite) → IsEnvelope FitsToSite x → IsEnvelope IsToSite e → envelope_bytes to_site_bytes x ≡ envelope_bytes to_site_bytes e → x ≡ e
 one_to_site = one_envelope to_site_bytes FitsToSite IsToSite (kind_at to_site_reads) to_site_again to_site_fits
 
 -- and from one
-pub one_from_site : (x e : Envelope FromSite) → Fits FitsFromSite x → IsEnvelope IsFromSite e → envelope_bytes from_site_bytes x ≡ envelope_bytes from_site_bytes e → x ≡ e
+pub one_from_site : (x e : Envelope FromSite) → IsEnvelope FitsFromSite x → IsEnvelope IsFromSite e → envelope_bytes from_site_bytes x ≡ envelope_bytes from_site_bytes e → x ≡ e
 one_from_site = one_envelope from_site_bytes FitsFromSite IsFromSite (kind_at from_site_reads) from_site_again from_site_fits

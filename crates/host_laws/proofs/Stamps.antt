@@ -5,16 +5,17 @@ use Rattle.mdb_base.specs.Names.{same_site}
 use Rattle.mdb_base.specs.Words.{Each, found, some_of}
 use Rattle.mdb_base.proofs.ListLaws.{each_map}
 use Rattle.mdb_base.proofs.Words.{cond-true}
+use Rattle.mdb_base.proofs.NameLaws.{same_site-equal, same_site-refl}
 use Rattle.order_laws.specs.Chains.{In}
 use Rattle.order_laws.proofs.Lists.{each_from, some_of_is}
-use Rattle.order_laws.proofs.Names.{same_site_alike, same_site_self}
 use Rattle.presumptions.specs.declared.Participant.{Participant}
+use Rattle.order_laws.proofs.InLaws.{found_there, in_map}
 use Rattle.fed_rules.specs.declared.commands.Command.{Command}
 use Rattle.fed_rules.specs.declared.commands.Command.TheVariants as Cmd
 use Rattle.fed_rules.specs.declared.messages.FromSite.{FromSite}
 use Rattle.fed_rules.specs.declared.scenario.Scenario.{Scenario}
 use Rattle.fed_rules.specs.Scenarios.{protocols, sites}
-use Rattle.global_exec.specs.Pasts.{IsAmong}
+use Rattle.fed_rules.specs.Terms.{IsAmong}
 use Rattle.fed_messages.specs.declared.Envelope.{Envelope}
 use Rattle.host_laws.specs.CoordHearing.{BearsFrom, IsReadFrom, TakingFrom}
 use Rattle.host_laws.specs.CoordHistory.{IsCoordCommand, IsCoordHistory}
@@ -29,13 +30,12 @@ use Rattle.host_laws.specs.Plans.{SitePlan}
 use Rattle.host_laws.specs.Turns.{SiteTurn, last_stamp}
 use Rattle.host_laws.proofs.DeclaredSites.{beside, place_of}
 use Rattle.host_laws.proofs.Rings.{heard}
-use Rattle.host_laws.proofs.Standing.{in_found, in_mapped}
 
 -- one of the coordinator's sites is declared
 pub among_in : (members : List Participant) (site : SiteId) → IsAmong site members → In site (map (λ (m : Participant). m.site) members)
 among_in members site among =
     let m = some_of_is (λ (member : Participant). same_site member.site site) members among in
-    subst (λ (s : SiteId). In s (map (λ (p : Participant). p.site) members)) (same_site_alike m.0.site site m.2) (in_mapped (λ (p : Participant). p.site) m.0 members m.1)
+    subst (λ (s : SiteId). In s (map (λ (p : Participant). p.site) members)) (same_site-equal m.0.site site m.2) (in_map (λ (p : Participant). p.site) m.0 members m.1)
 
 -- ---- any host's
 
@@ -124,7 +124,7 @@ module _ (scripts : Scripts) (scenario : Scenario) (coordinator : CoordLog) (log
       stamps_fit site_stamp (λ (t : SiteTurn). t.took) last_stamp refl (λ t ts. refl) log.turns (site_paced log.plan log.turns (are.site_is place site log at log_at).right)
       (λ t envelope i e.
       let hears = (are.site_is place site log at log_at).heard in
-      let there = in_found (λ (x : SiteTurn). x.took) t envelope log.turns i e in
+      let there = found_there (λ (x : SiteTurn). x.took) t envelope log.turns i e in
       let h =
       heard (λ (taking : Taking). taking.packet) (λ (taking : Taking). taking.bears) (IsRead log.plan.programs) hears.takings log.took (found (λ (x : SiteTurn). x.took) log.turns) envelope hears.packets_are hears.read
       hears.envelopes_are there in
@@ -143,8 +143,8 @@ module _ (scripts : Scripts) (scenario : Scenario) (coordinator : CoordLog) (log
       let took = beside (sites scenario) coordinator.tooks p.0 site are.coordinator_is.count p.1 in
       let hears = are.coordinator_is.heard p.0 site took.0 p.1 took.1 in
       let bears : from_site site t.line.line.command t.took ≡ Some envelope =
-      ap (λ (c : Command). from_site site c t.took) takes.command_is ∙ cond-true (same_site site site) t.took None (same_site_self site) ∙ e in
-      let there = in_found (λ (x : CoordTurn). from_site site x.line.line.command x.took) t envelope coordinator.turns i bears in
+      ap (λ (c : Command). from_site site c t.took) takes.command_is ∙ cond-true (same_site site site) t.took None (same_site-refl site) ∙ e in
+      let there = found_there (λ (x : CoordTurn). from_site site x.line.line.command x.took) t envelope coordinator.turns i bears in
       let h =
       heard (λ (taking : TakingFrom). taking.packet) (λ (taking : TakingFrom). taking.bears) IsReadFrom hears.takings took.0 (took_from site coordinator.turns) envelope hears.packets_are hears.read hears.envelopes_are there in
       let read : BearsFrom h.packet envelope = h.read in

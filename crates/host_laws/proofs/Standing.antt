@@ -4,7 +4,6 @@ use Rattle.std.proofs.lemmas.List.{append-nil, reverse-append, reverse-reverse}
 use Rattle.mdb_base.specs.Words.{found, item_at, with_some}
 use Rattle.std.specs.Prelude.{Option, None}
 use Rattle.order_laws.specs.Chains.{In}
-use Rattle.order_laws.proofs.Alike.{some_parts}
 
 -- the first of those ahead goes behind the others
 pub onto : {A : Type 0} (x : A) (xs ys : List A) → reverse (x ∷ xs) ++ ys ≡ reverse xs ++ x ∷ ys
@@ -13,24 +12,6 @@ onto {A} x xs ys = ap (λ (zs : List A). zs ++ ys) (reverse-append (x ∷ []) xs
 -- none done, all ahead
 pub all_ahead : {A : Type 0} (xs : List A) → reverse (reverse xs) ++ [] ≡ xs
 all_ahead xs = append-nil (reverse (reverse xs)) ∙ reverse-reverse xs
-
-pub in_mapped : {A B : Type 0} (f : A → B) (x : A) (xs : List A) → In x xs → In (f x) (map f xs)
-in_mapped f x [] i = i
-in_mapped f x (y ∷ ys) (inl same) = inl (ap f same)
-in_mapped f x (y ∷ ys) (inr i) = inr (in_mapped f x ys i)
-
-pub in_found : {A B : Type 0} (look : A → Option B) (x : A) (b : B) (xs : List A) → In x xs → look x ≡ Some b → In b (found look xs)
-in_found look x b [] i e = i
-in_found {A} {B} look x b (y ∷ ys) (inl same) e = first (look y) (ap look same ∙ e)
-  where
-    first : (o : Option B) → o ≡ Some b → In b (with_some o (found look ys))
-    first None is = cc
-    first (Some c) is = inl (some_parts is)
-in_found {A} {B} look x b (y ∷ ys) (inr i) e = behind (look y) (in_found look x b ys i e)
-  where
-    behind : (o : Option B) → In b (found look ys) → In b (with_some o (found look ys))
-    behind None j = j
-    behind (Some c) j = inr j
 
 -- what was found was found of some item
 pub record IsFound {A B : Type 0} (look : A → Option B) (xs : List A) (b : B) : Type 0 where

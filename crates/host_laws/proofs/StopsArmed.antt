@@ -5,10 +5,13 @@ use Rattle.std.proofs.lemmas.Bool.Decides.{eqb_tells}
 use Rattle.std.proofs.lemmas.Bool.{eqb-true, lt-ltb}
 use Rattle.std.proofs.lemmas.List.{append_cancel_right, length-map, length-reverse, map-append, reverse-append, reverse-reverse}
 use Rattle.mdb_base.specs.declared.names.SiteId.{SiteId}
-use Rattle.mdb_base.specs.Words.{Each, how_many}
+use Rattle.mdb_base.specs.Words.{how_many}
 use Rattle.mdb_base.proofs.ListLaws.{append_none, those_pass}
-use Rattle.order_laws.proofs.Alike.{some_parts}
-use Rattle.order_laws.proofs.Reversed.{map_reverse, reverse_more}
+use Rattle.mdb_base.proofs.OptionLaws.{some_parts}
+use Rattle.mdb_base.proofs.JoinLaws.{reverse_more}
+use Rattle.mdb_base.proofs.PlaceLaws.{slice_get-below}
+use Rattle.mdb_base.proofs.EachLaws.{each_at_place}
+use Rattle.order_laws.proofs.Reversed.{map_reverse}
 use Rattle.fed_rules.specs.declared.commands.Command.{Command}
 use Rattle.fed_rules.specs.declared.commands.Command.TheVariants as Cmd
 use Rattle.fed_rules.specs.declared.commands.Stamped.{Stamped}
@@ -72,21 +75,9 @@ module _ {T : Type 0} (line : T → Stamped) where
       by_test true e rest = omega (arith, e, rest)
       by_test false e rest = omega (arith, e, rest)
 
--- an item that a list has lies within it
-pub within : {A : Type 0} (xs : List A) (n : ℕ) (x : A) → slice_get xs n ≡ Some x → n < length xs
-within [] n x e = cc
-within (y ∷ xs) zero x e = omega arith
-within (y ∷ xs) (suc n) x e = let rest = within xs n x e in omega (arith, rest)
-
--- what holds of each item holds of one at a place
-each_there : {A : Type 0} (P : A → Type 0) (xs : List A) (n : ℕ) (x : A) → Each P xs → slice_get xs n ≡ Some x → P x
-each_there P [] n x h e = cc
-each_there P (y ∷ xs) zero x h e = subst P (some_parts e) h.0
-each_there P (y ∷ xs) (suc n) x h e = each_there P xs n x h.1 e
-
 -- a stop of an actor is of that actor
 stop_actor : (scenario : Scenario) (actor n : ℕ) (stop : StopLine) → slice_get (stops_of scenario actor) n ≡ Some stop → stop.actor ≡ actor
-stop_actor scenario actor n stop e = eqb-true stop.actor actor (each_there (λ (line : StopLine). stops_actor actor line ≡ true) (stops_of scenario actor) n stop (those_pass (stops_actor actor) scenario.stops) e)
+stop_actor scenario actor n stop e = eqb-true stop.actor actor (each_at_place (λ (line : StopLine). stops_actor actor line ≡ true) (stops_of scenario actor) n stop (those_pass (stops_actor actor) scenario.stops) e)
 
 -- whether a stop is due
 due_true : (o : Option Trip) (n m : ℕ) → o ≡ None → n < m → (is_none o && nat_lt n m) ≡ true
@@ -104,7 +95,7 @@ module _ (plan : SitePlan) (turns : List SiteTurn) (actor : ℕ) (stop : StopLin
   command_arms command took h is = cc
 
 site_due : (plan : SitePlan) (turn : SiteTurn) (turns : List SiteTurn) (stop : StopLine) → Site.trip (Host.past_of plan (turn ∷ turns)) ≡ None → slice_get plan.stops (trips_of (turn ∷ turns)) ≡ Some stop → is_due plan (turn ∷ turns) ≡ true
-site_due plan turn turns stop none next = due_true (Site.trip (Host.past_of plan (turn ∷ turns))) (trips_of (turn ∷ turns)) (length plan.stops) none (within plan.stops (trips_of (turn ∷ turns)) stop next)
+site_due plan turn turns stop none next = due_true (Site.trip (Host.past_of plan (turn ∷ turns))) (trips_of (turn ∷ turns)) (length plan.stops) none (slice_get-below plan.stops (trips_of (turn ∷ turns)) stop next)
 
 -- where a stop is due behind the turns that are done, the first turn ahead arms it
 site_arms : (plan : SitePlan) (ahead done : List SiteTurn) (actor : ℕ) (stop : StopLine) → IsHistory plan (reverse ahead ++ done) → is_due plan (reverse ahead ++ done) ≡ false → is_due plan done ≡ true
@@ -122,7 +113,7 @@ module _ (plan : CoordPlan) (turns : List CoordTurn) (actor : ℕ) (stop : StopL
   coord_command_arms command took h is = cc
 
 coord_due : (plan : CoordPlan) (turn : CoordTurn) (turns : List CoordTurn) (stop : StopLine) → Coordinator.trip (coord_past_of plan (turn ∷ turns)) ≡ None → slice_get plan.stops (coord_trips_of (turn ∷ turns)) ≡ Some stop → coord_is_due plan (turn ∷ turns) ≡ true
-coord_due plan turn turns stop none next = due_true (Coordinator.trip (coord_past_of plan (turn ∷ turns))) (coord_trips_of (turn ∷ turns)) (length plan.stops) none (within plan.stops (coord_trips_of (turn ∷ turns)) stop next)
+coord_due plan turn turns stop none next = due_true (Coordinator.trip (coord_past_of plan (turn ∷ turns))) (coord_trips_of (turn ∷ turns)) (length plan.stops) none (slice_get-below plan.stops (coord_trips_of (turn ∷ turns)) stop next)
 
 coord_arms : (plan : CoordPlan) (ahead done : List CoordTurn) (actor : ℕ) (stop : StopLine) → IsCoordHistory plan (reverse ahead ++ done) → coord_is_due plan (reverse ahead ++ done) ≡ false → coord_is_due plan done ≡ true
     → slice_get plan.stops (coord_trips_of done) ≡ Some stop → stop.actor ≡ actor → ArmsFirst actor stop (map (λ (turn : CoordTurn). turn.line) ahead)

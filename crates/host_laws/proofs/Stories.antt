@@ -6,9 +6,10 @@ use Rattle.std.proofs.lemmas.List.{append-nil}
 use Rattle.mdb_base.specs.declared.names.SiteId.{SiteId}
 use Rattle.mdb_base.specs.Names.{same_site}
 use Rattle.mdb_base.specs.Words.{Each}
+use Rattle.mdb_base.proofs.OptionLaws.{some_parts}
 use Rattle.order_laws.specs.Chains.{In}
-use Rattle.order_laws.proofs.Alike.{some_parts}
 use Rattle.order_laws.proofs.Reversed.{map_reverse}
+use Rattle.order_laws.proofs.InLaws.{slice_get-in}
 use Rattle.fed_rules.specs.declared.commands.Line.{Line}
 use Rattle.fed_rules.specs.declared.commands.Stamped.{Stamped}
 use Rattle.fed_rules.specs.declared.scenario.Scenario.{Scenario}
@@ -20,9 +21,9 @@ use Rattle.fed_rules.specs.Story as Told
 use Rattle.fed_rules.specs.Story.{coord_past}
 use Rattle.rules_laws.proofs.Declared.{home-again, its-site}
 use Rattle.world_laws.proofs.Sent.{homed}
-use Rattle.coord_core.specs.Terms.{Terms}
-use Rattle.global_manager.specs.Stands.{OwnPrograms}
-use Rattle.local_dbms.specs.Stands.{own_programs}
+use Rattle.fed_rules.specs.Terms.{Terms}
+use Rattle.fed_rules.specs.OwnPrograms.{OwnPrograms, own_programs}
+use Rattle.coord_tables.specs.Terms.{Terms}
 use Rattle.fed_messages.specs.declared.Packet.{Packet}
 use Rattle.trace_merge.specs.Traces.{Entry, IsOrdered, IsTrace, list_of, lines_of}
 use Rattle.host_laws.specs.CoordHistory.{IsCoordHistory}
@@ -36,7 +37,7 @@ use Rattle.host_laws.specs.Turns.{SiteTurn, sent_by}
 use Rattle.host_laws.proofs.AtCoordinator.{plan_in}
 use Rattle.host_laws.proofs.AtSite.{WasGiven}
 use Rattle.host_laws.proofs.CoordMoves.{CoordMoves, coord_moves}
-use Rattle.host_laws.proofs.DeclaredSites.{beside, declared_least, in_by_place, place_of, site_place}
+use Rattle.host_laws.proofs.DeclaredSites.{beside, declared_least, place_of, site_place}
 use Rattle.host_laws.proofs.Sides.{CoordSide, Sides, SiteSide, coord_behind, of_other, of_own, own_stops, site_behind}
 use Rattle.host_laws.proofs.SiteMoves.{SiteMoves, site_moves}
 use Rattle.host_laws.proofs.Standing.{IsFirst, all_ahead, first_ahead, goes_on, none_ahead, onto}
@@ -65,7 +66,7 @@ module _ (scripts : Scripts) (scenario : Scenario) (stops : List StopLine) (faul
 
   module _ (are : AreLogs scripts scenario coordinator logs) (short : AreShort coordinator logs) where
     least : (place : ℕ) (site : SiteId) → slice_get (sites scenario) place ≡ Some site → 1 ≤ site.0
-    least place site at = declared_least scenario site are.whole (in_by_place (sites scenario) place site at)
+    least place site at = declared_least scenario site are.whole (slice_get-in (sites scenario) place site at)
 
     module _ (told : List Line) (e : Entry) (rest : List Entry) (ordered : IsOrdered (e ∷ rest)) (sides : Sides scenario coordinator logs told (e ∷ rest)) where
       -- a line of the coordinator

@@ -4,10 +4,11 @@ use Rattle.mdb_base.specs.declared.names.SiteId.{SiteId}
 use Rattle.mdb_base.specs.Names.{same_site}
 use Rattle.mdb_base.specs.Words.{found, item_at, some_of}
 use Rattle.mdb_base.proofs.Words.{cond-true}
+use Rattle.mdb_base.proofs.OptionLaws.{some_parts}
+use Rattle.mdb_base.proofs.NameLaws.{same_site-refl}
 use Rattle.order_laws.specs.Chains.{In}
-use Rattle.order_laws.proofs.Alike.{some_parts}
-use Rattle.order_laws.proofs.Names.{same_site_self}
 use Rattle.presumptions.specs.declared.Participant.{Participant}
+use Rattle.order_laws.proofs.InLaws.{found_there}
 use Rattle.fed_rules.specs.declared.commands.Command.{Command}
 use Rattle.fed_rules.specs.declared.commands.Line.{Line}
 use Rattle.fed_rules.specs.declared.commands.Stamped.{Stamped}
@@ -15,7 +16,7 @@ use Rattle.fed_rules.specs.declared.scenario.Scenario.{Scenario}
 use Rattle.fed_rules.specs.Right.{story_told}
 use Rattle.fed_rules.specs.Scenarios.{protocols, sites}
 use Rattle.fed_rules.specs.Story as Told
-use Rattle.global_exec.specs.Pasts.{IsAmong}
+use Rattle.fed_rules.specs.Terms.{IsAmong}
 use Rattle.fed_messages.specs.declared.Envelope.{Envelope}
 use Rattle.fed_messages.specs.declared.Packet.{Packet}
 use Rattle.fed_messages.specs.Spelling.{IsFromSite, IsToSite, from_site_bytes, to_site_bytes}
@@ -36,7 +37,6 @@ use Rattle.host_laws.proofs.DeclaredSites.{beside, place_of}
 use Rattle.host_laws.proofs.Rings.{arrived, came_offered, heard, in_middle}
 use Rattle.host_laws.proofs.Sides.{Sides, from_channel, not_earlier, sends_to_site, to_channel}
 use Rattle.host_laws.proofs.Stamps.{among_in, coord_stamps, site_stamps}
-use Rattle.host_laws.proofs.Standing.{in_found}
 use Rattle.host_laws.proofs.Spelled.{one_from_site, one_to_site}
 
 -- a message that is taken has a lesser stamp than the line
@@ -65,9 +65,9 @@ module _ (scripts : Scripts) (scenario : Scenario) (coordinator : CoordLog) (log
       let linked = are.linked p.0 site log.0 took.0 p.1 log.1 took.1 in
       let hears = are.coordinator_is.heard p.0 site took.0 p.1 took.1 in
       let bears : from_site site turn.line.line.command turn.took ≡ Some envelope =
-      ap (λ (c : Command). from_site site c turn.took) command_is ∙ cond-true (same_site site site) turn.took None (same_site_self site) ∙ took_is in
+      ap (λ (c : Command). from_site site c turn.took) command_is ∙ cond-true (same_site site site) turn.took None (same_site-refl site) ∙ took_is in
       let there : In envelope (took_from site coordinator.turns) =
-      in_found (λ (t : CoordTurn). from_site site t.line.line.command t.took) turn envelope coordinator.turns (subst (In turn) split (in_middle (reverse ahead) done turn)) bears in
+      found_there (λ (t : CoordTurn). from_site site t.line.line.command t.took) turn envelope coordinator.turns (subst (In turn) split (in_middle (reverse ahead) done turn)) bears in
       let h =
       heard (λ (taking : TakingFrom). taking.packet) (λ (taking : TakingFrom). taking.bears) IsReadFrom hears.takings took.0 (took_from site coordinator.turns) envelope hears.packets_are hears.read hears.envelopes_are there in
       let packet : Packet = h.packet in
@@ -91,7 +91,7 @@ module _ (scripts : Scripts) (scenario : Scenario) (coordinator : CoordLog) (log
       let few = short.0 in
       let linked = are.linked p site log took.0 at log_at took.1 in
       let there : In envelope (found (λ (t : SiteTurn). t.took) log.turns) =
-      in_found (λ (t : SiteTurn). t.took) turn envelope log.turns (subst (In turn) split (in_middle (reverse ahead) done turn)) took_is in
+      found_there (λ (t : SiteTurn). t.took) turn envelope log.turns (subst (In turn) split (in_middle (reverse ahead) done turn)) took_is in
       let h =
       heard (λ (taking : Taking). taking.packet) (λ (taking : Taking). taking.bears) (IsRead log.plan.programs) it.heard.takings log.took (found (λ (t : SiteTurn). t.took) log.turns) envelope
       it.heard.packets_are it.heard.read it.heard.envelopes_are there in

@@ -4,7 +4,7 @@ use Rattle.fed_rules.specs.declared.commands.Command.{Command}
 use Rattle.fed_rules.specs.declared.commands.Command.TheVariants as Cmd
 use Rattle.fed_rules.specs.declared.messages.FromSite.{FromSite}
 use Rattle.fed_messages.specs.declared.Envelope.{Envelope}
-use Rattle.global_exec.specs.Pasts.{IsAmong}
+use Rattle.fed_rules.specs.Terms.{IsAmong}
 use Rattle.host_laws.specs.CoordPlans.{CoordPlan}
 use Rattle.host_laws.specs.CoordTurns.{CoordTurn, MayAnswer, coord_is_due, coord_last_stamp, coord_past_of, coord_request_at, coord_sends_at, coord_trips_of, places_sent}
 use Rattle.host_laws.specs.Lines.{next_stamp, stamp_of}

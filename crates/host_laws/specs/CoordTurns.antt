@@ -21,8 +21,9 @@ use Rattle.fed_rules.specs.CoordPast.{CoordPast, trip}
 use Rattle.fed_rules.specs.Requests.{Request, Submits, Declines}
 use Rattle.fed_rules.specs.Right.{MayPrint}
 use Rattle.fed_rules.specs.SitePast.{begins_tx}
-use Rattle.session_routes.specs.Posting.{message_to}
-use Rattle.coord_core.specs.Terms.{Terms, line_of}
+use Rattle.fed_rules.specs.Site_of.{message_to}
+use Rattle.fed_rules.specs.Terms.{Terms, line_of}
+use Rattle.coord_tables.specs.Terms.{Terms, line_of}
 use Rattle.fed_messages.specs.declared.Envelope.{Envelope}
 use Rattle.fed_messages.specs.declared.Packet.{Packet}
 use Rattle.host_laws.specs.CoordLines.{packets_to}

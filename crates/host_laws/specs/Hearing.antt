@@ -6,8 +6,8 @@ use Rattle.fed_messages.specs.declared.Envelope.{Envelope}
 use Rattle.fed_messages.specs.declared.Packet.{Packet}
 use Rattle.fed_messages.specs.Packets.{IsEnvelope, Spells, envelope_bytes}
 use Rattle.fed_messages.specs.Spelling.{IsToSite, to_site_bytes}
-use Rattle.local_dbms.specs.Stands.{OwnPrograms}
-use Rattle.site_core.specs.Made.{about}
+use Rattle.fed_rules.specs.OwnPrograms.{OwnPrograms}
+use Rattle.fed_rules.specs.Site_of.{about}
 
 -- the packet spells the envelope, whose stamp is small, and whose message is about no transaction of the site's own
 pub record Bears (programs : OwnPrograms) (packet : Packet) (envelope : Envelope ToSite) : Type 0 where

@@ -8,7 +8,7 @@ use Rattle.fed_rules.specs.declared.scenario.Scenario.{Scenario}
 use Rattle.fed_rules.specs.Plans.{IsScenario, stops_actor}
 use Rattle.fed_rules.specs.Scenarios.{global_program, home_of, policy, protocols, sites}
 use Rattle.fed_messages.specs.declared.Packet.{Packet}
-use Rattle.local_dbms.specs.Stands.{own_programs}
+use Rattle.fed_rules.specs.OwnPrograms.{own_programs}
 use Rattle.scripted_link.specs.declared.script.FateAt.{FateAt}
 use Rattle.scripted_link.specs.Script.{let_through}
 use Rattle.trace_merge.specs.Traces.{list_of}

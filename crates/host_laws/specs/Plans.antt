@@ -2,7 +2,7 @@
 use Rattle.std.specs.Prelude.{ℕ, List}
 use Rattle.fed_rules.specs.declared.scenario.StopLine.{StopLine}
 use Rattle.fed_rules.specs.SiteRecords.{Home}
-use Rattle.local_dbms.specs.Stands.{OwnPrograms}
+use Rattle.fed_rules.specs.OwnPrograms.{OwnPrograms}
 
 -- of a site: how it was set up, the programs of its own transactions, its scripted stops in their order, and how often its disk failed before
 pub record SitePlan : Type 0 where

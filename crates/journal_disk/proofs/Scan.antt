@@ -2,15 +2,12 @@
 use Rattle.std.proofs.Common.{◌≡◌, ℕ, zero, suc, ◌+◌, ◌<◌, List, [], ◌∷◌, ◌++◌, length, get_or, drop, refl, sym, ap, ◌∙◌, arith, append_assoc}
 use Rattle.std.specs.List.{AllByRecursion}
 use Rattle.std.proofs.lemmas.List.{append-nil, length-append, length-drop, map_push}
+use Rattle.mdb_base.proofs.JoinLaws.{all_push}
 use Rattle.journal_disk.specs.Frames.{Frame, Old, New, IsFrame, IsRight, IsPayload, IsPartOfFrame, AreRight, AreWhole, IsDamagedBehind, frame_bytes, frame_size, frames, frames_size}
 use Rattle.journal_disk.specs.Spans.{between, piece, with_digest, frame_at, frames_at, IsWithin, Scans}
 use Rattle.journal_disk.specs.declared.frames.Version.{Version}
 use Rattle.journal_disk.specs.declared.frames.Version.TheVariants.{First, Second}
 use Rattle.journal_disk.specs.declared.reading.Span.{Span}
-
-pub all_push : {A : Type 0} (P : A → Type 0) (xs : List A) (x : A) → AllByRecursion P xs → P x → AllByRecursion P (xs ++ x ∷ [])
-all_push P [] x all here = (here, tt)
-all_push P (y ∷ xs) x all here = (all.0, all_push P xs x all.1 here)
 
 pub right_push : (found : List Frame) (f : Frame) → AreRight found → IsFrame f → IsRight f → AreRight (found ++ f ∷ [])
 right_push found f right fits good = record { are_frames = all_push IsFrame found f right.are_frames fits; are_right = all_push IsRight found f right.are_right good }

@@ -3,10 +3,10 @@ use Rattle.std.proofs.Common.{◌≡◌, ℕ, ◌+◌, Bool, true, false, cond, 
 use Rattle.std.specs.Prelude.{reverse}
 use Rattle.std.specs.List.{AllByRecursion}
 use Rattle.std.proofs.lemmas.List.{length-append, reverse-append}
+use Rattle.mdb_base.proofs.JoinLaws.{all_push}
 use Rattle.fed_rules.specs.Disk.{Disk, bytes_of, is_torn, journal as journal_of, standing}
 use Rattle.journal_disk.specs.Disk.{Seen}
 use Rattle.journal_disk.specs.Frames.{frames_size}
-use Rattle.journal_disk.proofs.Scan.{all_push}
 use Rattle.frame_journal.specs.Journal.{IsKeptOn, Kept}
 use Rattle.frame_journal.specs.Records.{as_written, entry_frame, spelled_size, values}
 use Rattle.frame_journal.proofs.Apart.{one_list}

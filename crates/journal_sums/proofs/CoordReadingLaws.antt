@@ -4,7 +4,6 @@ use Rattle.std.specs.List.{insert}
 use Rattle.std.proofs.lemmas.List.{reverse-append, take_more}
 use Rattle.mdb_base.specs.Rising.{IsRising}
 use Rattle.mdb_base.specs.Words.{Each, inserted, those}
-use Rattle.mdb_base.proofs.ListLaws.{each_filtered}
 use Rattle.presumptions.specs.declared.Participant.{Participant}
 use Rattle.presumptions.specs.declared.Protocol.{Protocol}
 use Rattle.presumptions.specs.declared.Protocol.TheVariants as By
@@ -39,29 +38,6 @@ front_count-inserted before x (y ∷ ys) = by_test (before y x) (front_count-ins
         → insert (y ∷ ys) (cond b (suc (front_count (λ z. before z x) ys)) 0) x ≡ cond b (y ∷ inserted before x ys) (x ∷ y ∷ ys)
     by_test true h = ap (λ zs. y ∷ zs) h
     by_test false h = refl
-
--- what passes a test rises, as all do
-each_above : {A : Type 0} (key : A → ℕ) (n : ℕ) (x : A) (xs : List A) → n ≤ key x → IsRising key (x ∷ xs) → Each (λ y. n < key y) xs
-each_above key n x [] most rising = tt
-each_above key n x (y ∷ ys) most rising =
-    let less = rising.0 in
-    (omega (arith, less, most), each_above key n y ys (omega (arith, less, most)) rising.1)
-
-pub above_rising : {A : Type 0} (key : A → ℕ) (x : A) (xs : List A) → Each (λ y. key x < key y) xs → IsRising key xs → IsRising key (x ∷ xs)
-above_rising key x [] above rising = tt
-above_rising key x (y ∷ ys) above rising = (above.0, rising)
-
-pub rising_rest : {A : Type 0} (key : A → ℕ) (x : A) (xs : List A) → IsRising key (x ∷ xs) → IsRising key xs
-rising_rest key x [] rising = tt
-rising_rest key x (y ∷ ys) rising = rising.1
-
-pub those_rise : {A : Type 0} (key : A → ℕ) (test : A → Bool) (xs : List A) → IsRising key xs → IsRising key (those test xs)
-those_rise key test [] rising = tt
-those_rise key test (x ∷ xs) rising = by_test (test x) (those_rise key test xs (rising_rest key x xs rising))
-  where
-    by_test : (b : Bool) → IsRising key (those test xs) → IsRising key (cond b (x ∷ those test xs) (those test xs))
-    by_test true rest = above_rising key x (those test xs) (each_filtered (λ y. key x < key y) test xs (each_above key (key x) x xs (omega arith) rising)) rest
-    by_test false rest = rest
 
 -- ---- the class of presumed commit
 

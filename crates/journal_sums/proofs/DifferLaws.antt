@@ -25,7 +25,7 @@ none_about tid [] apart = refl
 none_about tid (held ∷ helds) apart =
     ap (λ b. cond b (Some (doubt_held held)) (doubt_about tid (map doubt_held helds))) (same_tid-sym held.tid tid ∙ apart.0) ∙ none_about tid helds apart.1
 
-apart_once : (helds : List Held) → EachOnce (map kept_held helds) → AreApart (map doubt_held helds)
+pub apart_once : (helds : List Held) → EachOnce (map kept_held helds) → AreApart (map doubt_held helds)
 apart_once [] once = tt
 apart_once (held ∷ helds) once = (none_about held.tid helds once.0, apart_once helds once.1)
 

@@ -11,20 +11,23 @@ use Rattle.std.proofs.lemmas.Bool.Decides.{nat_tests}
 use Rattle.mdb_base.specs.declared.names.Tid.{Tid}
 use Rattle.mdb_base.specs.Names.{same_tid, tid_before}
 use Rattle.mdb_base.specs.Words.{Each, found, inserted, with_some}
-use Rattle.mdb_base.proofs.ListLaws.{each_map, each_inserted}
+use Rattle.mdb_base.proofs.ListLaws.{each_map}
 use Rattle.mdb_base.proofs.NameLaws.{same_tid-refl}
 use Rattle.order_laws.specs.Chains.{In}
 use Rattle.order_laws.specs.Ranked.{tid_cmp}
 use Rattle.order_laws.proofs.Members.{in_each}
 use Rattle.order_laws.proofs.Names.{is_eq-tid_cmp, ranks_tids}
+use Rattle.order_laws.proofs.InLaws.{before_irreflexive}
 use Rattle.rules_laws.proofs.EachAttempt as Attempts
 use Rattle.engine_laws.specs.Laws.{EachOnce}
 use Rattle.fed_rules.specs.declared.records.SiteRecord.{SiteRecord}
 use Rattle.fed_rules.specs.Attempts.{each_attempt}
-use Rattle.fed_rules.specs.SiteRecords.{Held, by_tid, doubt_of, doubts, held_before, installs, kept_held, prepared_tids}
+use Rattle.fed_rules.specs.SiteRecords.{Held, doubt_of, doubts, held_before, kept_held, prepared_tids}
 use Rattle.fed_rules.specs.SiteSums.{carried}
+use Rattle.rules_laws.proofs.Doubts.{AreSorted, sorted_by_tid}
 use Rattle.site_history.proofs.Restarts.{each_by_tid, each_found_from, once_doubts}
-use Rattle.site_history.proofs.Starts.{doubt_among, doubt_tid}
+use Rattle.site_history.proofs.Starts.{doubt_tid}
+use Rattle.site_history.proofs.Doubted.{are_doubt}
 
 -- the next one that a Checkpoint carries, of the last ones first
 pub next_carried : (helds : List Held) (n : ℕ) (held : Held) (tid : Tid) (kept now : Option Held) → slice_get helds n ≡ Some held →
@@ -35,18 +38,10 @@ next_carried (h ∷ helds) zero held tid kept now here before done =
     done ∙ ap (cond (same_tid held.tid tid) (Some held)) before ∙ ap (λ (g : Held). cond (same_tid g.tid tid) (Some g) (doubt_of (carried helds) tid)) (sym same)
 next_carried (h ∷ helds) (suc n) held tid kept now here before done = next_carried helds n held tid kept now here before done
 
--- a Checkpoint carries no transaction that is to be installed
-pub installs-carried : (helds : List Held) → installs (carried helds) ≡ []
-installs-carried [] = refl
-installs-carried (held ∷ helds) = installs-carried helds
-
 -- each stands before all behind it
 abbrev Rises : List Held → Type 0
 Rises [] = Unit {0}
 Rises (held ∷ helds) = Each (λ later. held_before held later ≡ true) helds × Rises helds
-
-not_itself : (tid : Tid) → tid_before tid tid ≡ true → ⊥
-not_itself tid e = let back = ranks_tids.one_way tid tid e in cc
 
 -- two rising lists with the same members are one
 same_members : (xs ys : List Held) → Rises xs → Rises ys → ((held : Held) → In held xs → In held ys) → ((held : Held) → In held ys → In held xs) → xs ≡ ys
@@ -68,35 +63,14 @@ same_members (x ∷ xs) (y ∷ ys) up above there back =
 
     tail : (u v z : Held) (us vs : List Held) → u ≡ v → Each (λ w. held_before u w ≡ true) us → In z (v ∷ vs) → In z us → In z vs
     tail u v z us vs same e (inl s) j =
-        absurd (not_itself u.tid (in_each (λ (w : Held). held_before u w ≡ true) us u e (subst (λ w. In w us) (sym s ∙ sym same) j)))
+        absurd (before_irreflexive u.tid (in_each (λ (w : Held). held_before u w ≡ true) us u e (subst (λ w. In w us) (sym s ∙ sym same) j)))
     tail u v z us vs same e (inr i) j = i
-
--- none stands before one that it is behind
-abbrev Sorted : List Held → Type 0
-Sorted [] = Unit {0}
-Sorted (held ∷ helds) = Each (λ later. held_before later held ≡ false) helds × Sorted helds
-
-behind_both : (x y z : Tid) → tid_before y x ≡ false → tid_before z y ≡ false → tid_before z x ≡ false
-behind_both x y z e f = grind arith
-
-sorted_inserted : (held : Held) (helds : List Held) → Sorted helds → Sorted (inserted held_before held helds)
-sorted_inserted held [] s = (tt, tt)
-sorted_inserted held (y ∷ helds) s = by_before (held_before y held) refl (sorted_inserted held helds s.1)
-  where
-    by_before : (b : Bool) → held_before y held ≡ b → Sorted (inserted held_before held helds) → Sorted (cond b (y ∷ inserted held_before held helds) (held ∷ y ∷ helds))
-    by_before true e rest = (each_inserted (λ later. held_before later y ≡ false) held_before held helds (ranks_tids.one_way y.tid held.tid e) s.0, rest)
-    by_before false e rest =
-        ((e, each_map (λ (z : Held). held_before z y ≡ false) (λ (z : Held). held_before z held ≡ false) (λ z f. behind_both held.tid y.tid z.tid e f) helds s.0), s)
-
-sorted_by_tid : (helds : List Held) → Sorted (by_tid helds)
-sorted_by_tid [] = tt
-sorted_by_tid (held ∷ helds) = sorted_inserted held (by_tid helds) (sorted_by_tid helds)
 
 before_from : (x y : Tid) → same_tid x y ≡ false → tid_before y x ≡ false → tid_before x y ≡ true
 before_from x y e f = grind arith
 
 -- sorted ones of different attempts rise
-rises_once : (helds : List Held) → Sorted helds → EachOnce (map kept_held helds) → Rises helds
+rises_once : (helds : List Held) → AreSorted helds → EachOnce (map kept_held helds) → Rises helds
 rises_once [] s once = tt
 rises_once (held ∷ helds) s once = (each_before helds s.0 once.0, rises_once helds s.1 once.1)
   where
@@ -106,7 +80,7 @@ rises_once (held ∷ helds) s once = (each_before helds s.0 once.0, rises_once h
     each_before (next ∷ more) behind apart = (before_from held.tid next.tid apart.0 behind.0, each_before more behind.1 apart.1)
 
 -- each one in doubt is what the records say of its attempt
-are_doubts : (records : List SiteRecord) → Each (λ held. doubt_of records held.tid ≡ Some held) (doubts records)
+pub are_doubts : (records : List SiteRecord) → Each (λ held. doubt_of records held.tid ≡ Some held) (doubts records)
 are_doubts records =
     each_by_tid (λ held. doubt_of records held.tid ≡ Some held) (found (doubt_of records) (each_attempt (prepared_tids records)))
     (each_found_from (λ held. doubt_of records held.tid ≡ Some held) (doubt_of records) (each_attempt (prepared_tids records))
@@ -124,11 +98,6 @@ inserted_in x z (y ∷ ys) h = by_test (held_before y x) h (inserted_in x z ys)
     by_test false (inl e) k = inl e
     by_test false (inr j) k = inr j
 
-by_tid_in : (z : Held) (helds : List Held) → In z helds → In z (by_tid helds)
-by_tid_in z [] i = i
-by_tid_in z (held ∷ helds) (inl e) = inserted_in held z (by_tid helds) (inl e)
-by_tid_in z (held ∷ helds) (inr i) = inserted_in held z (by_tid helds) (inr (by_tid_in z helds i))
-
 found_in : (f : Tid → Option Held) (tids : List Tid) (held : Held) → In held.tid tids → f held.tid ≡ Some held → In held (found f tids)
 found_in f [] held i e = absurd i
 found_in f (tid ∷ tids) held (inl same) e = here (f tid) (ap f same ∙ e)
@@ -141,16 +110,6 @@ found_in f (tid ∷ tids) held (inr i) e = behind (f tid) (found_in f tids held 
     behind : (o : Option Held) → In held (found f tids) → In held (with_some o (found f tids))
     behind None j = j
     behind (Some other) j = inr j
-
--- and what the records say of its attempt is among those in doubt
-doubt_in : (records : List SiteRecord) (held : Held) → doubt_of records held.tid ≡ Some held → In held (doubts records)
-doubt_in records held e = by_record (doubt_among records held.tid)
-  where
-    by_record : In held.tid (prepared_tids records) ⊎ (doubt_of records held.tid ≡ None) → In held (doubts records)
-    by_record (inl among) =
-        by_tid_in held (found (doubt_of records) (each_attempt (prepared_tids records)))
-        (found_in (doubt_of records) (each_attempt (prepared_tids records)) held (Attempts.in_each (prepared_tids records) held.tid among) e)
-    by_record (inr none) = (let clash = sym e ∙ none in cc)
 
 -- a look-up in the tree
 abbrev look : List (Tid × Held) → Tid → Option Held
@@ -204,7 +163,7 @@ pub values_doubts : (entries : List (Tid × Held)) (records : List SiteRecord) �
 values_doubts entries records sorted tells =
     same_members (values_of entries) (doubts records) (rises-values entries sorted own)
     (rises_once (doubts records) (sorted_by_tid (found (doubt_of records) (each_attempt (prepared_tids records)))) (once_doubts records))
-    (λ held i. doubt_in records held (in_each (λ (h : Held). doubt_of records h.tid ≡ Some h) (values_of entries) held are i))
+    (λ held i. are_doubt records held (in_each (λ (h : Held). doubt_of records h.tid ≡ Some h) (values_of entries) held are i))
     (λ held i. value_in_entries entries held.tid held (tells held.tid ∙ in_each (λ (h : Held). doubt_of records h.tid ≡ Some h) (doubts records) held (are_doubts records) i))
   where
     own : Each (λ entry. entry.1.tid ≡ entry.0) entries

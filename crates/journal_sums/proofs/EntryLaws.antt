@@ -1,7 +1,6 @@
 -- The entries of the tree of rows, as rows.
-use Rattle.std.proofs.Common.{◌≡◌, ℕ, ◌<◌, ◌++◌, Bool, true, false, cond, Some, List, [], ◌∷◌, map, refl, sym, ap, ◌∙◌, arith}
-use Rattle.std.specs.declared.cmp.Ordering.TheVariants.{Less}
-use Rattle.std.specs.Ordering.{nat_cmp, is_eq}
+use Rattle.std.proofs.Common.{◌≡◌, ◌++◌, Bool, true, false, cond, Some, List, [], ◌∷◌, map, refl, sym, ap, ◌∙◌, arith}
+use Rattle.std.specs.Ordering.{is_eq}
 use Rattle.std.specs.List.Sorted.{IsStrictlySortedBy}
 use Rattle.std.specs.Map.{lookup, keys_of}
 use Rattle.std.specs.BTreeMap.{is_at}
@@ -12,6 +11,7 @@ use Rattle.mdb_base.specs.declared.rows.Put.{Put}
 use Rattle.mdb_base.specs.Names.{same_key}
 use Rattle.mdb_base.specs.Rising.{IsRising}
 use Rattle.mdb_base.specs.Rows.{value_in}
+use Rattle.mdb_base.proofs.NumberLaws.{nat_cmp-less}
 use Rattle.journal_sums.specs.declared.versions.Version.{Version}
 use Rattle.journal_sums.specs.Versions.{key_cmp, row_of}
 
@@ -38,12 +38,9 @@ value_in-entries (e ∷ es) key =
     by_test true = refl
     by_test false = refl
 
-less_number : (a b : ℕ) → nat_cmp a b ≡ Less → a < b
-less_number a b e = grind (arith, nat_tests)
-
 -- they rise as the keys do
 pub rising-entries : (es : List (Key × Version)) → IsStrictlySortedBy key_cmp (keys_of es) → IsRising (λ row. row.key.0) (map put_of es)
 unfolding IsStrictlySortedBy
 rising-entries [] sorted = tt
 rising-entries (e ∷ []) sorted = tt
-rising-entries (e ∷ f ∷ es) sorted = (less_number e.0.0 f.0.0 sorted.0.0, rising-entries (f ∷ es) sorted.1)
+rising-entries (e ∷ f ∷ es) sorted = (nat_cmp-less e.0.0 f.0.0 sorted.0.0, rising-entries (f ∷ es) sorted.1)

@@ -2,7 +2,6 @@ pub mod MarkLaws
 pub mod VersionLaws
 pub mod EntryLaws
 pub mod DoubtLaws
-pub mod LocalLaws
 pub mod ReadingLaws
 pub mod DifferLaws
 pub mod CoordReadingLaws

@@ -25,11 +25,13 @@ use Rattle.journal_sums.specs.declared.marks.Marks.{Marks}
 use Rattle.journal_sums.specs.declared.reading.Reading.{Reading}
 use Rattle.journal_sums.specs.declared.versions.Version.{Version}
 use Rattle.journal_sums.specs.Journals.{Begins, IsFirst, IsJournal, IsJournalOf, base, first_sum}
-use Rattle.journal_sums.specs.Locals.{also, local_tids}
+use Rattle.journal_sums.specs.Locals.{local_tids}
+use Rattle.order_laws.specs.SortedLists.{also}
+use Rattle.engine_laws.proofs.Rows.{rising_rows_after}
 use Rattle.journal_sums.specs.Readings.{Adds, Holds, Says, SaysJournal, TellsMarks}
 use Rattle.journal_sums.specs.Versions.{key_cmp, row_of, version_after, version_in}
 use Rattle.journal_sums.proofs.DoubtLaws.{values_doubts}
-use Rattle.journal_sums.proofs.VersionLaws.{falls-installs, rising_rows_after, value_in-rows_after, version_in-by_number}
+use Rattle.journal_sums.proofs.VersionLaws.{falls-installs, value_in-rows_after, version_in-by_number}
 
 -- the counters stand beside what it holds
 pub holds_beside : (reading : Reading) (marks : Marks) (sum : SiteSum) (newer : List SiteRecord) → Holds reading sum newer →

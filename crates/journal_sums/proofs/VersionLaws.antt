@@ -6,15 +6,15 @@ use Rattle.mdb_base.specs.declared.names.Key.{Key}
 use Rattle.mdb_base.specs.declared.rows.Put.{Put}
 use Rattle.mdb_base.specs.Names.{same_key}
 use Rattle.mdb_base.specs.Rising.{IsRising}
-use Rattle.mdb_base.specs.Rows.{value_in, with_row, with_rows}
+use Rattle.mdb_base.specs.Rows.{value_in}
 use Rattle.mdb_base.specs.Words.{Each}
 use Rattle.mdb_base.proofs.ListLaws.{each_map, each_inserted}
-use Rattle.mdb_base.proofs.NameLaws.{same_key-refl, same_key-equal}
+use Rattle.mdb_base.proofs.OptionLaws.{first_of}
+use Rattle.mdb_base.proofs.RowLaws.{value_in-with_rows}
 use Rattle.presumptions.specs.declared.Decision.TheVariants as Decided
 use Rattle.fed_rules.specs.declared.records.SiteRecord.{SiteRecord}
 use Rattle.fed_rules.specs.declared.records.SiteRecord.TheVariants.{Setup, Start, Prepared, Ended, Local, Checkpoint}
 use Rattle.fed_rules.specs.SiteRecords.{Held, Install, by_number, doubt_of, install_held, installs, rows_after}
-use Rattle.engine_laws.proofs.Rows.{rising_with_rows}
 use Rattle.journal_sums.specs.declared.versions.Version.{Version}
 use Rattle.journal_sums.specs.Versions.{first_version, is_kept_from, or_else_by, row_of, version_after, version_in}
 
@@ -91,57 +91,6 @@ version_in-by_number rows install (x ∷ xs) key falls = by_test (nat_lt install
         (none_greater install.number rows (x ∷ xs) key
         (most, each_map (λ (older : Install). older.number ≤ x.number) (λ (older : Install). older.number ≤ install.number) (λ older few. omega arith) xs falls.0))
 
--- the value, or else that of the second
-abbrev first_of : Option ℕ → Option ℕ → Option ℕ
-first_of None other = other
-first_of (Some value) other = Some value
-
-value_in-with_row : (row : Put) (rows : List Put) (key : Key) → value_in (with_row row rows) key ≡ cond (same_key row.key key) (Some row.value) (value_in rows key)
-value_in-with_row row [] key = refl
-value_in-with_row row (other ∷ rows) key = by_same (same_key other.key row.key) refl (value_in-with_row row rows key)
-  where
-    Wanted : List Put → Type 0
-    Wanted rows_now = value_in rows_now key ≡ cond (same_key row.key key) (Some row.value) (value_in (other ∷ rows) key)
-
-    over : (x y : Bool) (a b c : Option ℕ) → (x ≡ true → y ≡ true → ⊥) → cond x a (cond y b c) ≡ cond y b (cond x a c)
-    over true true a b c apart = absurd (apart refl refl)
-    over true false a b c apart = refl
-    over false y a b c apart = refl
-
-    hides : (x y : Bool) (a b c : Option ℕ) → x ≡ y → cond y b c ≡ cond y b (cond x a c)
-    hides true true a b c e = refl
-    hides false false a b c e = refl
-    hides true false a b c e = cc
-    hides false true a b c e = cc
-
-    by_less : (b : Bool) → same_key other.key row.key ≡ false → value_in (with_row row rows) key ≡ cond (same_key row.key key) (Some row.value) (value_in rows key) →
-        Wanted (cond b (other ∷ with_row row rows) (row ∷ other ∷ rows))
-    by_less true apart rest =
-        ap (cond (same_key other.key key) (Some other.value)) rest
-        ∙ over (same_key other.key key) (same_key row.key key) (Some other.value) (Some row.value) (value_in rows key)
-        (λ is_other is_row.
-        let one : same_key other.key row.key ≡ true =
-        subst (λ k. same_key k row.key ≡ true) (same_key-equal row.key key is_row ∙ sym (same_key-equal other.key key is_other)) (same_key-refl row.key) in
-        cc)
-    by_less false apart rest = refl
-
-    by_same : (b : Bool) → same_key other.key row.key ≡ b → value_in (with_row row rows) key ≡ cond (same_key row.key key) (Some row.value) (value_in rows key) →
-        Wanted (cond b (row ∷ rows) (cond (nat_lt other.key.0 row.key.0) (other ∷ with_row row rows) (row ∷ other ∷ rows)))
-    by_same true same rest =
-        hides (same_key other.key key) (same_key row.key key) (Some other.value) (Some row.value) (value_in rows key)
-        (ap (λ k. same_key k key) (same_key-equal other.key row.key same))
-    by_same false apart rest = by_less (nat_lt other.key.0 row.key.0) apart rest
-
-value_in-with_rows : (writes rows : List Put) (key : Key) → value_in (with_rows writes rows) key ≡ first_of (value_in writes key) (value_in rows key)
-value_in-with_rows [] rows key = refl
-value_in-with_rows (row ∷ writes) rows key =
-    value_in-with_row row (with_rows writes rows) key ∙ ap (cond (same_key row.key key) (Some row.value)) (value_in-with_rows writes rows key)
-    ∙ by_test (same_key row.key key)
-  where
-    by_test : (b : Bool) → cond b (Some row.value) (first_of (value_in writes key) (value_in rows key)) ≡ first_of (cond b (Some row.value) (value_in writes key)) (value_in rows key)
-    by_test true = refl
-    by_test false = refl
-
 -- the rows that all of them leave
 pub value_in-rows_after : (rows : List Put) (installs : List Install) (key : Key) → value_in (rows_after rows installs) key ≡ row_of (version_in rows installs key)
 value_in-rows_after rows [] key = by_row (value_in rows key)
@@ -156,11 +105,6 @@ value_in-rows_after rows (x ∷ xs) key =
     by_write : (o : Option ℕ) → first_of o (row_of (version_in rows xs key)) ≡ row_of (or_else_by o x.number (version_in rows xs key))
     by_write None = refl
     by_write (Some value) = refl
-
--- they rise by their keys
-pub rising_rows_after : (rows : List Put) (installs : List Install) → IsRising (λ row. row.key.0) rows → IsRising (λ row. row.key.0) (rows_after rows installs)
-rising_rows_after rows [] rising = rising
-rising_rows_after rows (x ∷ xs) rising = rising_with_rows x.writes (rows_after rows xs) (rising_rows_after rows xs rising)
 
 -- rows behind a row have other keys
 none_behind : (row : Put) (rows : List Put) (key : Key) → IsRising (λ row. row.key.0) (row ∷ rows) → key.0 ≤ row.key.0 → value_in rows key ≡ None

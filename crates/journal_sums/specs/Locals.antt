@@ -1,8 +1,6 @@
--- The local attempts that committed: lists into which attempts are put, each before the first one that isn't before it.
-use Rattle.std.specs.Prelude.{cond, List, [], ◌∷◌}
+-- The local attempts that committed.
+use Rattle.std.specs.Prelude.{List, [], ◌∷◌}
 use Rattle.mdb_base.specs.declared.names.Tid.{Tid}
-use Rattle.mdb_base.specs.Names.{tid_before}
-use Rattle.mdb_base.specs.Words.{inserted}
 use Rattle.fed_rules.specs.declared.records.SiteRecord.{SiteRecord}
 use Rattle.fed_rules.specs.declared.records.SiteRecord.TheVariants.{Local}
 
@@ -11,14 +9,3 @@ abbrev pub local_tids : List SiteRecord → List Tid
 local_tids [] = []
 local_tids (Local tid number writes ∷ records) = tid ∷ local_tids records
 local_tids (newest ∷ records) = local_tids records
-
--- these attempts with those of another list, which are put among them one by one
-abbrev pub also : List Tid → List Tid → List Tid
-also first [] = first
-also first (tid ∷ tids) = inserted tid_before tid (also first tids)
-
--- the two lists in one, of which the second one rises
-abbrev pub merged : List Tid → List Tid → List Tid
-merged [] tids = tids
-merged (x ∷ xs) [] = x ∷ xs
-merged (x ∷ xs) (y ∷ ys) = cond (tid_before x y) (x ∷ merged xs (y ∷ ys)) (y ∷ merged (x ∷ xs) ys)

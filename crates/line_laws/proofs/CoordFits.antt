@@ -8,11 +8,11 @@ use Rattle.mdb_base.specs.declared.names.Tid.{Tid}
 use Rattle.mdb_base.specs.declared.names.Tx.{Tx}
 use Rattle.mdb_base.specs.Names.{same_site, same_tid}
 use Rattle.mdb_base.specs.Words.{Each, each_of, pick, when}
+use Rattle.mdb_base.proofs.NameLaws.{same_site-equal, same_site-refl, same_tid-equal, same_tid-refl}
 use Rattle.order_laws.specs.Chains.{In}
 use Rattle.order_laws.specs.Search.{cycle_through}
 use Rattle.order_laws.specs.Tickets.{edge_between}
 use Rattle.order_laws.proofs.Lists.{each_at}
-use Rattle.order_laws.proofs.Names.{same_site_alike, same_site_self, same_tid_alike, same_tid_self}
 use Rattle.presumptions.specs.declared.Participant.{Participant}
 use Rattle.fed_rules.specs.declared.answers.Answer.TheVariants as Say
 use Rattle.fed_rules.specs.declared.answers.Cause.TheVariants as For
@@ -32,10 +32,11 @@ use Rattle.fed_rules.specs.Disk.{Call, Stops, longest}
 use Rattle.fed_rules.specs.Happenings.{Trip, is_down, quiet, stopped, tripped}
 use Rattle.fed_rules.specs.Policies.{Policy}
 use Rattle.coord_laws.proofs.Dues.{owed}
-use Rattle.trace_lines.specs.Fits.{answer_fits}
+use Rattle.line_text.specs.Fits.{answer_fits}
+use Rattle.coord_laws.proofs.MadeLines.{outstanding_site}
 use Rattle.line_laws.proofs.Outstanding.{IsMember, Ready, ReadyFor, participant_at, ticket_in}
 use Rattle.line_laws.proofs.Sorted.{Sorted, number_of, those_sorted}
-use Rattle.line_laws.proofs.CoordLines.{CoordGood, IsOf, aborts_good, commits_good, down_good, dues_sorted, found_cycle, late_of, other_open, others_ready, out_sorted, outstanding_site, ready_as, same_either, tripped_good, vote_of}
+use Rattle.line_laws.proofs.CoordLines.{CoordGood, IsOf, aborts_good, commits_good, down_good, dues_sorted, found_cycle, late_of, other_open, others_ready, out_sorted, ready_as, same_either, tripped_good, vote_of}
 use Rattle.line_laws.proofs.CoordSends.{KnowsDecided, again_good, no_calls}
 use Rattle.line_laws.proofs.CoordReplies.{did_good}
 
@@ -84,14 +85,14 @@ module _ (protocols : List Participant) (past : CoordPast) (ready : (g : Tid) �
       votes s v = by_site (same_tid t t && same_site site s) refl v
         where
           by_site : (b : Bool) → (same_tid t t && same_site site s) ≡ b → is_some (or_vote (cond b (Some k) None) (vote_at past t s)) ≡ true → ticket_in (counted past t) s ≡ true
-          by_site true q w = subst (λ p. ticket_in (counted past t) p ≡ true) (same_site_alike site s (and_parts (same_tid t t) (same_site site s) q).1) (due_ticketed t site (outstanding past t site) refl parts.1)
+          by_site true q w = subst (λ p. ticket_in (counted past t) p ≡ true) (same_site-equal site s (and_parts (same_tid t t) (same_site site s) q).1) (due_ticketed t site (outstanding past t site) refl parts.1)
           by_site false q w = r.voted s w
 
       mine : Ready protocols (x ∷ past) t
       mine = record { sited = r.sited; ticketed = r.ticketed; recorded = r.recorded; voted = votes; missing = missing }
 
       by_test : (g : Tid) (b : Bool) → same_tid t g ≡ b → is_open past g ≡ true → Ready protocols (x ∷ past) g
-      by_test g true q o = subst (Ready protocols (x ∷ past)) (same_tid_alike t g q) mine
+      by_test g true q o = subst (Ready protocols (x ∷ past)) (same_tid-equal t g q) mine
       by_test g false q o = others_ready protocols past ready sorted t (Ev.Take site (From.Vote t (Some k))) x g (vote_of protocols past ready sorted site t (Some k)) refl refl q (λ l. l) (ready g o)
 
   when_good : (command : Command) (b : Bool) (x y : CoordHappening) → (b ≡ true → CoordGood protocols past ready sorted command x) → (b ≡ false → CoordGood protocols past ready sorted command y) → CoordGood protocols past ready sorted command (when b x y)
@@ -165,7 +166,7 @@ module _ (protocols : List Participant) (past : CoordPast) (ready : (g : Tid) �
     where
       visited : (ss : List Step) (step : Step) → In step ss → visits step.site ss ≡ true
       visited [] step i = absurd i
-      visited (x ∷ ss) step (inl e) = ap (λ b. b || visits step.site ss) (ap (λ (y : Step). same_site y.site step.site) e ∙ same_site_self step.site)
+      visited (x ∷ ss) step (inl e) = ap (λ b. b || visits step.site ss) (ap (λ (y : Step). same_site y.site step.site) e ∙ same_site-refl step.site)
       visited (x ∷ ss) step (inr i) = ap (λ b. same_site x.site step.site || b) (visited ss step i) ∙ or_right (same_site x.site step.site)
         where
           or_right : (b : Bool) → (b || true) ≡ true
@@ -204,13 +205,13 @@ module _ (protocols : List Participant) (past : CoordPast) (ready : (g : Tid) �
 
       mine : Ready protocols (x ∷ past) t
       mine = ready_as protocols steps (program (x ∷ past) t) [] (counted (x ∷ past) t) (λ s. None) (vote_at (x ∷ past) t) (lacks_initiation protocols (x ∷ past) t) (lacks_initiation protocols (x ∷ past) t)
-          (ap (λ b. cond b (or_steps (cond b (Some steps) None) []) (program past t)) (same_tid_self t))
-          (ap (λ b. cond b [] (counted past t)) (same_tid_self t))
-          (λ s. ap (λ b. cond b None (vote_at past t s)) (same_tid_self t))
+          (ap (λ b. cond b (or_steps (cond b (Some steps) None) []) (program past t)) (same_tid-refl t))
+          (ap (λ b. cond b [] (counted past t)) (same_tid-refl t))
+          (λ s. ap (λ b. cond b None (vote_at past t s)) (same_tid-refl t))
           (λ l. l) (fresh (lacks_initiation protocols (x ∷ past) t))
 
       by_test : (g : Tid) (b : Bool) → same_tid t g ≡ b → cond b true (is_open past g) ≡ true → Ready protocols (x ∷ past) g
-      by_test g true q o = subst (Ready protocols (x ∷ past)) (same_tid_alike t g q) mine
+      by_test g true q o = subst (Ready protocols (x ∷ past)) (same_tid-equal t g q) mine
       by_test g false q o = others_ready protocols past ready sorted t (Ev.Go t steps) x g go_of refl q q (λ l. l) (ready g o)
 
       begun : CoordGood protocols past ready sorted (Cmd.Go tx) x

@@ -7,7 +7,6 @@ use Rattle.mdb_base.specs.declared.names.Tid.{Tid}
 use Rattle.mdb_base.specs.declared.replies.Edge.{Edge}
 use Rattle.mdb_base.specs.declared.replies.Reply.{Reply}
 use Rattle.mdb_base.specs.Names.{same_site, same_tid}
-use Rattle.mdb_base.specs.Programs.{plain_act}
 use Rattle.mdb_base.specs.Words.{each_of, found, map_some, or_else, when, with_some}
 use Rattle.order_laws.specs.Search.{and_then, or_way, path}
 use Rattle.order_laws.specs.Tickets.{Ticketed, edge_between}
@@ -27,47 +26,19 @@ use Rattle.fed_rules.specs.declared.messages.Sent.{Sent}
 use Rattle.fed_rules.specs.declared.messages.ToSite.TheVariants as To
 use Rattle.fed_rules.specs.declared.records.CoordRecord.TheVariants as Rec
 use Rattle.fed_rules.specs.Coord.{abort_records, aborts, commits_it, decide_to, fits, forced, lacks_initiation, news, news_at, send_due, unless_tripped}
-use Rattle.fed_rules.specs.CoordPast.{CoordHappening, CoordPast, Counted, begins, counted, counts, count_at, did_in, disk, epoch_at, has_sent, has_step_left, has_ticket_at, is_about, is_open, is_prepare_of, next_step, outstanding, participants, or_steps, or_vote, participants_of, prepare_at, program, program_in, reads, records, take_at, trip, visits, vote_at, vote_in, work_at}
+use Rattle.fed_rules.specs.CoordPast.{CoordHappening, CoordPast, Counted, begins, counted, counts, did_in, disk, has_sent, is_about, is_open, is_prepare_of, outstanding, participants, or_steps, or_vote, participants_of, program, program_in, records, trip, visits, vote_at, vote_in}
 use Rattle.fed_rules.specs.CoordRecords.{class_of, coord_frame, has_abort, has_initiation, named, ticketed}
 use Rattle.fed_rules.specs.Disk.{Stops, after_calls}
 use Rattle.fed_rules.specs.Happenings.{Trip, quiet, stopped, tripped}
 use Rattle.fed_rules.specs.Site_of.{due_site}
-use Rattle.trace_lines.specs.Fits.{answer_fits, coordinator_sends, is_cause, is_only}
+use Rattle.rules_laws.proofs.Dues.{due_number}
+use Rattle.line_text.specs.Fits.{answer_fits, coordinator_sends, is_cause, is_only}
+use Rattle.coord_laws.proofs.MadeLines.{outstanding_site}
 use Rattle.line_laws.proofs.News.{now, reply_of}
 use Rattle.line_laws.proofs.Outstanding.{Ready, ReadyFor}
 use Rattle.line_laws.proofs.Sorted.{Sorted, found_sorted, map_sorted, number_of, those_sorted}
 
 -- ---- what is outstanding names its site
-
-pub due_same : (d due : Due) → Some d ≡ Some due → due_site due ≡ due_site d
-due_same d due e = let p : d ≡ due = cc in sym (ap due_site p)
-
-pub work_site : (past : CoordPast) (tid : Tid) (site : SiteId) (step : Option Step) (due : Due) → work_at past tid site step ≡ Some due → due_site due ≡ site
-work_site past tid site None due e = cc
-work_site past tid site (Some step) due e = by_test (same_site step.site site) e
-  where
-    by_test : (t : Bool) → cond t (Some (Due_is.Work site (epoch_at past tid site) (count_at past tid site) (plain_act (reads past tid) step.act))) None ≡ Some due → due_site due ≡ site
-    by_test true e = due_same _ due e
-    by_test false e = cc
-
-pub prepare_site : (past : CoordPast) (tid : Tid) (site : SiteId) (due : Due) → prepare_at past tid site ≡ Some due → due_site due ≡ site
-prepare_site past tid site due e = by_test (is_none (vote_at past tid site)) e
-  where
-    by_test : (t : Bool) → cond t (Some (Due_is.Prepare site (epoch_at past tid site) (count_at past tid site))) None ≡ Some due → due_site due ≡ site
-    by_test true e = due_same _ due e
-    by_test false e = cc
-
-pub outstanding_site : (past : CoordPast) (tid : Tid) (site : SiteId) (due : Due) → outstanding past tid site ≡ Some due → due_site due ≡ site
-outstanding_site past tid site due e = by_tests (visits site (program past tid)) (has_step_left past tid site) (has_ticket_at past tid site) e
-  where
-    by_tests : (v l t : Bool) → cond v (cond l (work_at past tid site (next_step past tid)) (cond t (prepare_at past tid site) (take_at past tid site))) None ≡ Some due → due_site due ≡ site
-    by_tests true true t e = work_site past tid site (next_step past tid) due e
-    by_tests true false true e = prepare_site past tid site due e
-    by_tests true false false e = due_same _ due e
-    by_tests false l t e = cc
-
-abbrev pub due_number : Due → ℕ
-due_number d = (due_site d).0
 
 abbrev pub sent_number : Sent → ℕ
 sent_number s = s.site.0

@@ -11,9 +11,10 @@ use Rattle.mdb_base.specs.declared.replies.Reply.TheVariants as Reply_is
 use Rattle.mdb_base.specs.declared.replies.Why.TheVariants as Because
 use Rattle.mdb_base.specs.Names.{same_tid}
 use Rattle.mdb_base.specs.Words.{some_of, with_some}
+use Rattle.mdb_base.proofs.NameLaws.{same_tid-equal, same_tid-refl}
+use Rattle.mdb_base.proofs.BoolLaws.{and_false}
 use Rattle.order_laws.specs.Chains.{In}
 use Rattle.order_laws.proofs.Lists.{in_those}
-use Rattle.order_laws.proofs.Names.{same_tid_alike, same_tid_self}
 use Rattle.presumptions.specs.declared.Participant.{Participant}
 use Rattle.fed_rules.specs.declared.answers.Answer.{Answer}
 use Rattle.fed_rules.specs.declared.answers.Answer.TheVariants as Say
@@ -32,11 +33,13 @@ use Rattle.fed_rules.specs.CoordPast.{CoordHappening, CoordPast, begins, counted
 use Rattle.fed_rules.specs.CoordRecords.{class_of, has_initiation, named}
 use Rattle.fed_rules.specs.Happenings.{comes_up, quiet, stops}
 use Rattle.fed_rules.specs.Policies.{Policy}
-use Rattle.trace_lines.specs.Fits.{answer_fits, coordinator_sends}
+use Rattle.rules_laws.proofs.Dues.{due_number}
+use Rattle.line_text.specs.Fits.{answer_fits, coordinator_sends}
+use Rattle.federation_laws.proofs.Dues.{left_at}
 use Rattle.line_laws.proofs.News.{NoTicket, now, reply_of, reply_ready, take_news, ticket_ready, work_news}
-use Rattle.line_laws.proofs.Outstanding.{FitsWork, IsMember, IsTaking, IsWorking, Ready, ReadyFor, fitting, left_in}
+use Rattle.line_laws.proofs.Outstanding.{FitsWork, IsMember, IsTaking, IsWorking, Ready, ReadyFor, fitting}
 use Rattle.line_laws.proofs.Sorted.{Sorted, number_of, those_sorted}
-use Rattle.line_laws.proofs.CoordLines.{CoordGood, aborts_good, did_of, due_number, news_sorted, others_ready, ready_as, same_either}
+use Rattle.line_laws.proofs.CoordLines.{CoordGood, aborts_good, did_of, news_sorted, others_ready, ready_as, same_either}
 use Rattle.line_laws.proofs.CoordSends.{IsSend, dues_good, some_held, take_some}
 
 module _ (protocols : List Participant) (past : CoordPast) (ready : (g : Tid) → is_open past g ≡ true → Ready protocols past g) (sorted : Sorted number_of protocols) where
@@ -63,13 +66,13 @@ module _ (protocols : List Participant) (past : CoordPast) (ready : (g : Tid) �
             (ap (λ d. cond d [] (cond (counts x.answer) (with_some (did_in t x.event) (counted past t)) (counted past t))) (b t)
             ∙ (ap (λ d. cond d (with_some (did_in t x.event) (counted past t)) (counted past t)) c
             ∙ (ap (λ v. with_some (did_in t v) (counted past t)) is
-            ∙ ap (λ d. with_some (cond d (Some (reply_of site e reply)) None) (counted past t)) (same_tid_self t))))
+            ∙ ap (λ d. with_some (cond d (Some (reply_of site e reply)) None) (counted past t)) (same_tid-refl t))))
             (λ s. ap (λ d. cond d None (cond (counts x.answer) (or_vote (vote_in t s x.event) (vote_at past t s)) (vote_at past t s))) (b t)
             ∙ (ap (λ d. cond d (or_vote (vote_in t s x.event) (vote_at past t s)) (vote_at past t s)) c ∙ ap (λ v. or_vote (vote_in t s v) (vote_at past t s)) is))
             (λ l. l) own
 
         by_test : (q : Bool) → same_tid t g ≡ q → Ready protocols (x ∷ past) g
-        by_test true q = subst (Ready protocols (x ∷ past)) (same_tid_alike t g q) mine
+        by_test true q = subst (Ready protocols (x ∷ past)) (same_tid-equal t g q) mine
         by_test false q = others_ready protocols past ready sorted t event x g (did_of protocols past ready sorted site t e n reply) is (b g) q (kept g q) (ready g (was g o))
 
     send_fits : (a : Answer) → IsSend protocols past ready sorted a → answer_fits taking a ≡ true
@@ -99,15 +102,11 @@ module _ (protocols : List Participant) (past : CoordPast) (ready : (g : Tid) �
         by_test true = refl
         by_test false = e
 
-    and_false : (a : Bool) → (a && false) ≡ false
-    and_false true = refl
-    and_false false = refl
-
     -- its Initiation isn't lacking then
     lacks_none : (x : CoordHappening) → ((g : Tid) → begins g x.answer ≡ false) → records (x ∷ past) ≡ Rec.Initiation t (participants protocols past t) ∷ records past → lacks_initiation protocols (x ∷ past) t ≡ false
     lacks_none x b is =
         ap (λ (rs : List CoordRecord). has_initiation (class_of (participants protocols (x ∷ past) t)) && is_none (named protocols rs t)) is
-        ∙ (ap (λ c. has_initiation (class_of (participants protocols (x ∷ past) t)) && is_none (cond c (Some (participants protocols past t)) (named protocols (records past) t))) (same_tid_self t)
+        ∙ (ap (λ c. has_initiation (class_of (participants protocols (x ∷ past) t)) && is_none (cond c (Some (participants protocols past t)) (named protocols (records past) t))) (same_tid-refl t)
         ∙ and_false (has_initiation (class_of (participants protocols (x ∷ past) t))))
 
     -- with the reply it is ready, unless a Prepare is due and its Initiation lacks
@@ -149,7 +148,7 @@ module _ (protocols : List Participant) (past : CoordPast) (ready : (g : Tid) �
     )
 
     -- or the ticket
-    taken_ready : (policy : Policy) → left_in (program past t) (counted past t) site ≡ false → (k m : ℕ) × In (Due_is.Prepare site k m) (news protocols past (now protocols past t site e n reply) t site) → Ready protocols past t → IsDueReady policy
+    taken_ready : (policy : Policy) → left_at (program past t) (counted past t) site ≡ false → (k m : ℕ) × In (Due_is.Prepare site k m) (news protocols past (now protocols past t site e n reply) t site) → Ready protocols past t → IsDueReady policy
     unfolding IsDueReady
     taken_ready policy left (k, m, i) r = (
       (λ b. ticket_ready protocols (program past t) (counted past t) (vote_at past t) (lacks_initiation protocols past t) (lacks_initiation protocols past t) (reply_of site e reply) left (un_lacking b) r),

@@ -9,6 +9,7 @@ use Rattle.order_laws.proofs.Lists.{among_is, each_at, each_of_false, some_of_is
 use Rattle.presumptions.specs.declared.Decision.{Decision}
 use Rattle.presumptions.specs.declared.Participant.{Participant}
 use Rattle.presumptions.specs.Table.{acks}
+use Rattle.order_laws.proofs.InLaws.{found_there}
 use Rattle.fed_rules.specs.declared.answers.Answer.{Answer}
 use Rattle.fed_rules.specs.declared.answers.Answer.TheVariants as Say
 use Rattle.fed_rules.specs.declared.commands.Command.{Command}
@@ -23,11 +24,12 @@ use Rattle.fed_rules.specs.CoordPast.{CoordHappening, CoordPast, Decided, Gone, 
 use Rattle.fed_rules.specs.CoordRecords.{is_nobody, named, required_of}
 use Rattle.fed_rules.specs.Disk.{Append, Sync}
 use Rattle.fed_rules.specs.Policies.{Policy}
+use Rattle.rules_laws.proofs.Dues.{due_number}
 use Rattle.coord_laws.proofs.Dues.{IsOwed, all_owed}
-use Rattle.trace_lines.specs.Fits.{answer_fits, coordinator_sends, is_only}
-use Rattle.line_laws.proofs.Outstanding.{Ready, out_somewhere, found_there}
+use Rattle.line_text.specs.Fits.{answer_fits, coordinator_sends, is_only}
+use Rattle.line_laws.proofs.Outstanding.{Ready, out_somewhere}
 use Rattle.line_laws.proofs.Sorted.{Sorted, number_of, those_sorted}
-use Rattle.line_laws.proofs.CoordLines.{CoordGood, decides_sorted, due_number, dues_sorted, members_sorted, out_sorted, same_either}
+use Rattle.line_laws.proofs.CoordLines.{CoordGood, decides_sorted, dues_sorted, members_sorted, out_sorted, same_either}
 
 module _ (protocols : List Participant) (past : CoordPast) (ready : (g : Tid) → is_open past g ≡ true → Ready protocols past g) (sorted : Sorted number_of protocols) where
   -- ---- operations and Prepares

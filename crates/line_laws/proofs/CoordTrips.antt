@@ -13,10 +13,7 @@ use Rattle.fed_rules.specs.Coord.{answered, coord_line, of_back}
 use Rattle.fed_rules.specs.CoordPast.{CoordHappening, CoordPast, disk, trip, trip_of}
 use Rattle.fed_rules.specs.CoordRecords.{coord_frame}
 use Rattle.fed_rules.specs.Policies.{Policy}
-
--- the trip in force has calls left
-abbrev pub HasCalls : Option Trip → Type 0
-HasCalls armed = (t : Trip) → armed ≡ Some t → 0 < t.calls
+use Rattle.commit_laws.proofs.Trips.{HasCalls}
 
 -- a line that no stop ends has fewer calls than the trip in force
 abbrev Outlasts : CoordPast → CoordHappening → Type 0

@@ -7,9 +7,9 @@ use Rattle.mdb_base.specs.declared.names.Tid.{Tid}
 use Rattle.mdb_base.specs.declared.names.Tx.{Tx}
 use Rattle.mdb_base.specs.Names.{same_site}
 use Rattle.mdb_base.specs.Words.{Each, item_at, pick, when}
+use Rattle.mdb_base.proofs.NameLaws.{same_site-refl}
 use Rattle.order_laws.specs.Chains.{In}
 use Rattle.order_laws.proofs.Lists.{among_is, among_map}
-use Rattle.order_laws.proofs.Names.{same_site_self}
 use Rattle.presumptions.specs.declared.Participant.{Participant}
 use Rattle.fed_rules.specs.declared.answers.Answer.{Answer}
 use Rattle.fed_rules.specs.declared.answers.Answer.TheVariants as Say
@@ -37,20 +37,19 @@ use Rattle.fed_rules.specs.SitePast.{SiteHappening, SitePast, trip}
 use Rattle.fed_rules.specs.SiteRecords.{Home}
 use Rattle.fed_rules.specs.Story.{Happened, AtSite, AtCoordinator, Nowhere, Story, coord_past, coord_requested, happens, on_actor, on_attempt, on_fate, on_give, on_go, on_local, on_site, on_take, past_of, requested, sent_from, sent_to, story_of}
 use Rattle.coord_laws.proofs.Past.{decided_awaited, records_name}
-use Rattle.commit_laws.proofs.Links.{story_made}
+use Rattle.commit_laws.proofs.Links.{story_goes_on}
 use Rattle.commit_laws.proofs.Trips.{HasCalls as SiteArmed, trips_have_calls}
 use Rattle.closing_laws.proofs.Declared.{listed, number_some}
 use Rattle.federation_laws.proofs.ScenarioFacts.{global-declared, global_program-is, program_fits}
 use Rattle.rules_laws.specs.Lines.{CoordCause, IsCoordLine, IsSiteLine, SiteCause}
 use Rattle.rules_laws.proofs.Declared.{its-site, local-declared}
 use Rattle.world_laws.proofs.Sent.{messages_declared}
-use Rattle.trace_lines.specs.Fits.{answer_fits, is_begin_answer, is_only}
+use Rattle.line_text.specs.Fits.{answer_fits, is_begin_answer, is_only}
 use Rattle.line_laws.specs.Lines.{IsHeard}
 use Rattle.line_laws.proofs.CoordFits as Coord
 use Rattle.line_laws.proofs.CoordFits.{IsSited}
 use Rattle.line_laws.proofs.CoordLines.{CoordGood}
 use Rattle.line_laws.proofs.CoordSends.{KnowsDecided}
-use Rattle.line_laws.proofs.CoordTrips.{HasCalls}
 use Rattle.line_laws.proofs.Outstanding.{IsMember, Ready}
 use Rattle.line_laws.proofs.SiteFits as Site
 use Rattle.line_laws.proofs.SiteFits.{IsFit}
@@ -89,7 +88,7 @@ sited_program scenario whole tx steps e =
   where
     visited : (ss : List Step) (step : Step) → In step ss → Coordinator.visits step.site ss ≡ true
     visited [] step i = absurd i
-    visited (x ∷ ss) step (inl e) = ap (λ b. b || Coordinator.visits step.site ss) (ap (λ (y : Step). same_site y.site step.site) e ∙ same_site_self step.site)
+    visited (x ∷ ss) step (inl e) = ap (λ b. b || Coordinator.visits step.site ss) (ap (λ (y : Step). same_site y.site step.site) e ∙ same_site-refl step.site)
     visited (x ∷ ss) step (inr i) = ap (λ b. same_site x.site step.site || b) (visited ss step i) ∙ or_right (same_site x.site step.site)
       where
         or_right : (b : Bool) → (b || true) ≡ true
@@ -113,7 +112,7 @@ sited_program scenario whole tx steps e =
 -- each undecided attempt is ready, and what is armed at the coordinator has calls left
 pub record State (scenario : Scenario) (commands : List Command) : Type 0 where
   pub ready : (g : Tid) → is_open (coord_past (story_of scenario commands)) g ≡ true → Ready (protocols scenario) (coord_past (story_of scenario commands)) g
-  pub armed : HasCalls (Coordinator.trip (coord_past (story_of scenario commands)))
+  pub armed : SiteArmed (Coordinator.trip (coord_past (story_of scenario commands)))
 
 module _ (scenario : Scenario) (whole : IsScenario scenario) (commands : List Command) (state : State scenario commands) where
   abbrev story : Story
@@ -130,8 +129,8 @@ module _ (scenario : Scenario) (whole : IsScenario scenario) (commands : List Co
 
   knows : KnowsDecided table past state.ready sorted
   knows = record {
-    awaited = λ t d e. decided_awaited table (policy scenario) past (story_made scenario commands) t d e;
-    named = λ t ms e. records_name table (policy scenario) past (story_made scenario commands) t ms e;
+    awaited = λ t d e. decided_awaited table (policy scenario) past (story_goes_on scenario commands) t d e;
+    named = λ t ms e. records_name table (policy scenario) past (story_goes_on scenario commands) t ms e;
   }
 
   go_sited : (tx : Tx) (steps : List Step) → global_program scenario tx ≡ Some steps → IsSited table past state.ready sorted steps
@@ -190,7 +189,7 @@ module _ (scenario : Scenario) (whole : IsScenario scenario) (commands : List Co
     site_fit (Cmd.Trip actor calls cut) event c = subst (λ v. IsFit (Cmd.Trip actor calls cut) home.site (site_line home there v)) (sym c.1) (Site.trip_line home there actor calls cut home.site)
     site_fit (Cmd.Back actor) event c =
         subst (λ v. IsFit (Cmd.Back actor) home.site (site_line home there v)) (sym c.1)
-        (Site.back_line home there actor home.site (subst (λ n. 0 < n) (sym c.0) (number_some scenario home.site home whole declared)))
+        (Site.back_line home there actor home.site (subst (λ n. 0 < n) (sym c.0) (number_some scenario home.site home whole.sites declared)))
     site_fit (Cmd.Check actor) event c = subst (λ v. IsFit (Cmd.Check actor) home.site (site_line home there v)) (sym c.1) (Site.check_line home there actor home.site)
     site_fit (Cmd.Go tx) event c = absurd c
     site_fit (Cmd.Again tid) event c = absurd c

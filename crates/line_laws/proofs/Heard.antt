@@ -4,8 +4,9 @@ use Rattle.mdb_base.specs.declared.names.SiteId.{SiteId}
 use Rattle.mdb_base.specs.declared.names.Tid.{Tid}
 use Rattle.mdb_base.specs.Names.{same_site}
 use Rattle.mdb_base.specs.Words.{Each, inserted, some_of, those}
+use Rattle.mdb_base.proofs.NameLaws.{same_site-refl}
+use Rattle.mdb_base.proofs.BoolLaws.{or_true}
 use Rattle.order_laws.specs.Chains.{In}
-use Rattle.order_laws.proofs.Names.{same_site_self}
 use Rattle.presumptions.specs.declared.Participant.{Participant}
 use Rattle.fed_rules.specs.declared.commands.Command.{Command}
 use Rattle.fed_rules.specs.declared.commands.Command.TheVariants as Cmd
@@ -18,6 +19,7 @@ use Rattle.fed_rules.specs.CoordPast.{CoordPast}
 use Rattle.fed_rules.specs.Happenings.{is_down}
 use Rattle.fed_rules.specs.Plans.{declares, is_actor, is_declared}
 use Rattle.fed_rules.specs.Scenarios.{home_of, protocols_in, sites}
+use Rattle.fed_rules.specs.Sessions.{fresh}
 use Rattle.fed_rules.specs.SitePast.{SitePast, is_local, trip}
 use Rattle.fed_rules.specs.Story.{Story, coord_past, past_of, story_of}
 use Rattle.line_laws.specs.Lines.{ClosingIsHeard, IsHeard}
@@ -38,24 +40,20 @@ put_in before x (y ∷ ys) site i = by_test (before y x) i (put_in before x ys s
     by_test false (inl e) more = inl e
     by_test false (inr j) more = inr j
 
-or_right : (b : Bool) → (b || true) ≡ true
-or_right true = refl
-or_right false = refl
-
 in_declared : (lines : List SiteLine) (site : SiteId) → In site (map site_of (protocols_in lines)) → is_declared lines site ≡ true
 in_declared [] site i = absurd i
 in_declared (line ∷ lines) site i = by_place (put_in (λ a b. nat_lt a.site.0 b.site.0) (record { site = line.site; protocol = line.protocol }) (protocols_in lines) site i) (in_declared lines site)
   where
     by_place : (line.site ≡ site) ⊎ In site (map site_of (protocols_in lines)) → (In site (map site_of (protocols_in lines)) → is_declared lines site ≡ true) → is_declared (line ∷ lines) site ≡ true
-    by_place (inl e) more = ap (λ b. b || some_of (declares site) lines) (ap (λ s. same_site s site) e ∙ same_site_self site)
-    by_place (inr j) more = ap (λ b. declares site line || b) (more j) ∙ or_right (declares site line)
+    by_place (inl e) more = ap (λ b. b || some_of (declares site) lines) (ap (λ s. same_site s site) e ∙ same_site-refl site)
+    by_place (inr j) more = ap (λ b. declares site line || b) (more j) ∙ or_true (declares site line)
 
 module _ (scenario : Scenario) where
   site_declared : (site : SiteId) → In site (sites scenario) → is_declared scenario.sites site ≡ true
   site_declared site i = in_declared scenario.sites site i
 
   actor_declared : (site : SiteId) → In site (sites scenario) → is_actor scenario.sites site.0 ≡ true
-  actor_declared site i = ap (λ b. (site.0 == 0) || b) (site_declared site i) ∙ or_right (site.0 == 0)
+  actor_declared site i = ap (λ b. (site.0 == 0) || b) (site_declared site i) ∙ or_true (site.0 == 0)
 
   abbrev Heard : List Command → Type 0
   Heard commands = Each (IsHeard scenario.sites) commands
@@ -92,33 +90,33 @@ module _ (scenario : Scenario) where
   takes_heard [] commands h = h
   takes_heard (place ∷ places) commands h = takes_heard places (Cmd.Take place.site place.place ∷ commands) (tt, h)
 
-  taken_heard : (commands : List Command) → Heard commands → Heard (taken scenario commands)
-  taken_heard commands h = takes_heard (last_sends scenario commands) commands h
+  taken_heard : (commands : List Command) → Heard commands → Heard (taken (fresh scenario) commands)
+  taken_heard commands h = takes_heard (last_sends (fresh scenario) commands) commands h
 
-  deliver_heard : (place : Place) (commands : List Command) → Heard commands → Heard (deliver scenario place commands)
+  deliver_heard : (place : Place) (commands : List Command) → Heard commands → Heard (deliver (fresh scenario) place commands)
   deliver_heard place commands h = taken_heard (Cmd.Give place.site place.place ∷ commands) (tt, h)
 
-  again_heard : (tid : Tid) (commands : List Command) → Heard commands → Heard (send_again scenario tid commands)
+  again_heard : (tid : Tid) (commands : List Command) → Heard commands → Heard (send_again (fresh scenario) tid commands)
   again_heard tid commands h =
-      each_adds (deliver scenario) (last_sends scenario (Cmd.Again tid ∷ commands)) (λ place i. deliver_heard place) (Cmd.Again tid ∷ commands) (tt, h)
+      each_adds (deliver (fresh scenario)) (last_sends (fresh scenario) (Cmd.Again tid ∷ commands)) (λ place i. deliver_heard place) (Cmd.Again tid ∷ commands) (tt, h)
 
-  inquire_heard : (site : SiteId) (tid : Tid) → In site (sites scenario) → (commands : List Command) → Heard commands → Heard (inquire scenario site tid commands)
+  inquire_heard : (site : SiteId) (tid : Tid) → In site (sites scenario) → (commands : List Command) → Heard commands → Heard (inquire (fresh scenario) site tid commands)
   inquire_heard site tid i commands h =
-      let asked = taken scenario (Cmd.Ask site tid ∷ commands) in
-      each_adds (λ place more. Cmd.Give place.site place.place ∷ more) (last_sends scenario asked) (λ place j more k. (tt, k)) asked
+      let asked = taken (fresh scenario) (Cmd.Ask site tid ∷ commands) in
+      each_adds (λ place more. Cmd.Give place.site place.place ∷ more) (last_sends (fresh scenario) asked) (λ place j more k. (tt, k)) asked
       (taken_heard (Cmd.Ask site tid ∷ commands) (site_declared site i, h))
 
-  disarm_heard : (commands : List Command) → Heard commands → Heard (disarm scenario commands)
+  disarm_heard : (commands : List Command) → Heard commands → Heard (disarm (fresh scenario) commands)
   disarm_heard commands h =
       each_adds (λ actor more. Cmd.Trip actor 0 0 ∷ more) (actors (λ past. is_some (Coordinator.trip past)) (λ past. is_some (trip past)) scenario (story_of scenario commands))
       (λ actor i more k. (actor_heard (λ past. is_some (Coordinator.trip past)) (λ past. is_some (trip past)) (story_of scenario commands) actor i, k)) commands h
 
-  bring_up_heard : (commands : List Command) → Heard commands → Heard (bring_up scenario commands)
+  bring_up_heard : (commands : List Command) → Heard commands → Heard (bring_up (fresh scenario) commands)
   bring_up_heard commands h =
       each_adds (λ actor more. Cmd.Back actor ∷ more) (actors (λ past. is_down past) (λ past. is_down past) scenario (story_of scenario commands))
       (λ actor i more k. (actor_heard (λ past. is_down past) (λ past. is_down past) (story_of scenario commands) actor i, k)) commands h
 
-  give_up_heard : (commands : List Command) → Heard commands → Heard (give_up scenario commands)
+  give_up_heard : (commands : List Command) → Heard commands → Heard (give_up (fresh scenario) commands)
   give_up_heard commands h = each_adds (λ tid more. Cmd.Late tid ∷ more) (undecided (story_of scenario commands)) (λ tid i more k. (tt, k)) commands h
 
   clear_site_heard : (story : Story) (site : SiteId) → In site (sites scenario) → (commands : List Command) → Heard commands → Heard (clear_site scenario story site commands)
@@ -127,17 +125,17 @@ module _ (scenario : Scenario) where
       (for_each (λ (tid : Tid) more. Cmd.Abort tid.tx ∷ more) (those (is_local (past_of site story)) (live scenario story site)) commands)
       (each_adds (λ (tid : Tid) more. Cmd.Abort tid.tx ∷ more) (those (is_local (past_of site story)) (live scenario story site)) (λ tid j more k. (tt, k)) commands h)
 
-  clear_heard : (commands : List Command) → Heard commands → Heard (clear scenario commands)
+  clear_heard : (commands : List Command) → Heard commands → Heard (clear (fresh scenario) commands)
   clear_heard commands h = each_adds (clear_site scenario (story_of scenario commands)) (sites scenario) (λ site i. clear_site_heard (story_of scenario commands) site i) commands h
 
-  end_known_heard : (commands : List Command) → Heard commands → Heard (end_known scenario commands)
-  end_known_heard commands h = each_adds (send_again scenario) (known scenario (story_of scenario commands)) (λ tid i. again_heard tid) commands h
+  end_known_heard : (commands : List Command) → Heard commands → Heard (end_known (fresh scenario) commands)
+  end_known_heard commands h = each_adds (send_again (fresh scenario)) (known scenario (story_of scenario commands)) (λ tid i. again_heard tid) commands h
 
-  ask_site_heard : (story : Story) (site : SiteId) → In site (sites scenario) → (commands : List Command) → Heard commands → Heard (ask_site scenario story site commands)
-  ask_site_heard story site i commands h = each_adds (inquire scenario site) (in_doubt_at (home_of scenario site) story) (λ tid j. inquire_heard site tid i) commands h
+  ask_site_heard : (story : Story) (site : SiteId) → In site (sites scenario) → (commands : List Command) → Heard commands → Heard (ask_site (fresh scenario) story site commands)
+  ask_site_heard story site i commands h = each_adds (inquire (fresh scenario) site) (in_doubt_at (home_of scenario site) story) (λ tid j. inquire_heard site tid i) commands h
 
-  ask_all_heard : (commands : List Command) → Heard commands → Heard (ask_all scenario commands)
-  ask_all_heard commands h = each_adds (ask_site scenario (story_of scenario commands)) (sites scenario) (λ site i. ask_site_heard (story_of scenario commands) site i) commands h
+  ask_all_heard : (commands : List Command) → Heard commands → Heard (ask_all (fresh scenario) commands)
+  ask_all_heard commands h = each_adds (ask_site (fresh scenario) (story_of scenario commands)) (sites scenario) (λ site i. ask_site_heard (story_of scenario commands) site i) commands h
 
   closed_heard : (commands : List Command) → Heard commands → Heard (closed scenario commands)
   closed_heard commands h =

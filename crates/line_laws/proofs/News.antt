@@ -7,10 +7,11 @@ use Rattle.mdb_base.specs.declared.replies.Reply.{Reply}
 use Rattle.mdb_base.specs.Names.{same_site}
 use Rattle.mdb_base.specs.Programs.{plain_act}
 use Rattle.mdb_base.specs.Words.{some_of, those, with_some}
+use Rattle.mdb_base.proofs.NameLaws.{same_site-equal, same_site-refl, same_tid-refl}
 use Rattle.order_laws.specs.Chains.{In}
 use Rattle.order_laws.proofs.Lists.{each_at}
-use Rattle.order_laws.proofs.Names.{same_site_alike, same_site_self, same_tid_self}
 use Rattle.presumptions.specs.declared.Participant.{Participant}
+use Rattle.order_laws.proofs.InLaws.{found_there}
 use Rattle.fed_rules.specs.declared.answers.Answer.TheVariants as Say
 use Rattle.fed_rules.specs.declared.events.CoordEvent.TheVariants as Ev
 use Rattle.fed_rules.specs.declared.messages.Due.{Due}
@@ -19,7 +20,8 @@ use Rattle.fed_rules.specs.declared.messages.FromSite.TheVariants as From
 use Rattle.fed_rules.specs.Coord.{news, news_at}
 use Rattle.fed_rules.specs.CoordPast.{Counted, CoordPast, count_at, counted, epoch_at, has_step_left, has_ticket_at, is_ticket, is_wait, next_step, outstanding, outstanding_at, participants, prepare_at, program, reads, steps_done, take_at, visits, vote_at, work_at}
 use Rattle.fed_rules.specs.Happenings.{quiet}
-use Rattle.line_laws.proofs.Outstanding.{IsMember, IsTaking, IsWorking, Ready, ReadyFor, done_in, found_there, last_out, left_all, left_before, left_in, next_in, next_left, next_there, participant_at, ticket_in, work_out}
+use Rattle.federation_laws.proofs.Dues.{steps_of, left_at}
+use Rattle.line_laws.proofs.Outstanding.{IsMember, IsTaking, IsWorking, Ready, ReadyFor, last_out, left_all, left_before, next_in, next_left, next_there, participant_at, ticket_in, work_out}
 
 -- ---- one reply more
 
@@ -61,11 +63,11 @@ left_none n s steps e = by_test (visits s (drop (suc n) steps)) refl
     by_test true q = (let more = left_before n s steps q in cc)
     by_test false q = q
 
-left_less : (steps : List Step) (r : Counted) (replies : List Counted) (s : SiteId) → left_in steps replies s ≡ false → left_in steps (r ∷ replies) s ≡ false
+left_less : (steps : List Step) (r : Counted) (replies : List Counted) (s : SiteId) → left_at steps replies s ≡ false → left_at steps (r ∷ replies) s ≡ false
 left_less steps r replies s e = by_test (not (is_wait r.reply) && not (is_ticket r.reply))
   where
-    by_test : (b : Bool) → visits s (drop (cond b (suc (done_in replies)) (done_in replies)) steps) ≡ false
-    by_test true = left_none (done_in replies) s steps e
+    by_test : (b : Bool) → visits s (drop (cond b (suc (steps_of replies)) (steps_of replies)) steps) ≡ false
+    by_test true = left_none (steps_of replies) s steps e
     by_test false = e
 
 -- a reply that brings no ticket leaves the attempt ready
@@ -80,7 +82,7 @@ reply_ready protocols steps replies vote lacks now r none kept ready = record {
 }
 
 -- and so does a ticket, where no step is left at its site and the Initiation isn't lacking then
-pub ticket_ready : (protocols : List Participant) (steps : List Step) (replies : List Counted) (vote : SiteId → Option ℕ) (lacks now : Bool) (r : Counted) → left_in steps replies r.site ≡ false → now ≡ false
+pub ticket_ready : (protocols : List Participant) (steps : List Step) (replies : List Counted) (vote : SiteId → Option ℕ) (lacks now : Bool) (r : Counted) → left_at steps replies r.site ≡ false → now ≡ false
     → ReadyFor protocols steps replies vote lacks → ReadyFor protocols steps (r ∷ replies) vote now
 ticket_ready protocols steps replies vote lacks now r left kept ready = record {
   sited = ready.sited;
@@ -90,8 +92,8 @@ ticket_ready protocols steps replies vote lacks now r left kept ready = record {
   missing = ready.missing;
 }
   where
-    by_site : (s : SiteId) → ticket_in (r ∷ replies) s ≡ true → (b : Bool) → same_site r.site s ≡ b → left_in steps (r ∷ replies) s ≡ false
-    by_site s t true q = left_less steps r replies s (subst (λ x. left_in steps replies x ≡ false) (same_site_alike r.site s q) left)
+    by_site : (s : SiteId) → ticket_in (r ∷ replies) s ≡ true → (b : Bool) → same_site r.site s ≡ b → left_at steps (r ∷ replies) s ≡ false
+    by_site s t true q = left_less steps r replies s (subst (λ x. left_at steps replies x ≡ false) (same_site-equal r.site s q) left)
     by_site s t false q = left_less steps r replies s (ready.ticketed s (sym (ticket_other r replies s q) ∙ t))
 
 -- the Initiation that isn't lacking any more changes nothing else
@@ -112,7 +114,7 @@ module _ (protocols : List Participant) (past : CoordPast) (t : Tid) (site : Sit
   now = quiet (Ev.Take site (From.Did t e n reply)) Say.Only ∷ past
 
   counted_now : counted now t ≡ reply_of site e reply ∷ counted past t
-  counted_now = ap (λ b. with_some (cond b (Some (record { site = site; epoch = e; reply = reply })) None) (counted past t)) (same_tid_self t)
+  counted_now = ap (λ b. with_some (cond b (Some (record { site = site; epoch = e; reply = reply })) None) (counted past t)) (same_tid-refl t)
 
   -- no vote of a site without a ticket is in
   unvoted : (s : SiteId) → Ready protocols past t → has_ticket_at past t s ≡ false → is_some (vote_at past t s) ≡ false
@@ -127,7 +129,7 @@ module _ (protocols : List Participant) (past : CoordPast) (t : Tid) (site : Sit
   news_here due member there out =
       let (m, i, here) = participant_at protocols (program past t) site member there in
       found_there (λ (p : Participant). news_at past now t site p.site) m due (participants protocols past t) i
-      (ap (news_at past now t site) here ∙ (ap (λ b. cond (b || is_none (outstanding past t site)) (outstanding now t site) None) (same_site_self site) ∙ out))
+      (ap (news_at past now t site) here ∙ (ap (λ b. cond (b || is_none (outstanding past t site)) (outstanding now t site) None) (same_site-refl site) ∙ out))
 
   -- and elsewhere where nothing was
   news_there : (s : SiteId) (due : Due) → IsMember protocols s → visits s (program past t) ≡ true → outstanding past t s ≡ None → outstanding now t s ≡ Some due → In due (news protocols past now t site)
@@ -148,7 +150,7 @@ module _ (protocols : List Participant) (past : CoordPast) (t : Tid) (site : Sit
       steps = program past t
 
       steps_now : steps_done now t ≡ suc (steps_done past t)
-      steps_now = ap done_in counted_now ∙ ap (λ b. cond b (suc (done_in (counted past t))) (done_in (counted past t))) plain
+      steps_now = ap steps_of counted_now ∙ ap (λ b. cond b (suc (steps_of (counted past t))) (steps_of (counted past t))) plain
 
       ticketless : has_ticket_at past t site ≡ false
       ticketless = by_test (has_ticket_at past t site) refl
@@ -175,8 +177,8 @@ module _ (protocols : List Participant) (past : CoordPast) (t : Tid) (site : Sit
                 where
                   by_test : (b : Bool) → same_site w.step.site step.site ≡ b → same_site w.step.site step.site ≡ false
                   by_test true s =
-                      (let one : step.site ≡ site = sym (same_site_alike w.step.site step.site s) ∙ w.here in
-                      let yes : same_site step.site site ≡ true = ap (λ x. same_site x site) one ∙ same_site_self site in cc)
+                      (let one : step.site ≡ site = sym (same_site-equal w.step.site step.site s) ∙ w.here in
+                      let yes : same_site step.site site ≡ true = ap (λ x. same_site x site) one ∙ same_site-refl site in cc)
                   by_test false s = s
 
               none_before : same_site step.site site ≡ false → outstanding past t step.site ≡ None
@@ -187,7 +189,7 @@ module _ (protocols : List Participant) (past : CoordPast) (t : Tid) (site : Sit
                   ∙ ap (λ b. cond b (Some (Due_is.Work step.site (epoch_at past t step.site) (count_at past t step.site) (plain_act (reads past t) w.step.act))) None) (flip apart)
 
               by_site : (b : Bool) → same_site step.site site ≡ b → (due : Due) × (outstanding now t step.site ≡ Some due) → (due : Due) × In due (news protocols past now t site)
-              by_site true s (due, out) = (due, news_here due member w.there (ap (outstanding now t) (sym (same_site_alike step.site site s)) ∙ out))
+              by_site true s (due, out) = (due, news_here due member w.there (ap (outstanding now t) (sym (same_site-equal step.site site s)) ∙ out))
               by_site false s (due, out) =
                   (due, news_there step.site due (each_at (λ (x : Step). IsMember protocols x.site) step steps ready.sited (next_in (steps_done now t) steps step next)) there (none_before s) out)
 
@@ -207,19 +209,19 @@ module _ (protocols : List Participant) (past : CoordPast) (t : Tid) (site : Sit
       none None q = refl
       none (Some k) q = cc
 
-      uncounted : (b : Bool) → is_ticket reply ≡ b → b ≡ true → cond (not (is_wait reply) && not b) (suc (done_in (counted past t))) (done_in (counted past t)) ≡ done_in (counted past t)
+      uncounted : (b : Bool) → is_ticket reply ≡ b → b ≡ true → cond (not (is_wait reply) && not b) (suc (steps_of (counted past t))) (steps_of (counted past t)) ≡ steps_of (counted past t)
       uncounted true q r = by_wait (is_wait reply)
         where
-          by_wait : (b : Bool) → cond (not b && false) (suc (done_in (counted past t))) (done_in (counted past t)) ≡ done_in (counted past t)
+          by_wait : (b : Bool) → cond (not b && false) (suc (steps_of (counted past t))) (steps_of (counted past t)) ≡ steps_of (counted past t)
           by_wait true = refl
           by_wait false = refl
       uncounted false q r = cc
 
       left_now : has_step_left now t site ≡ false
-      left_now = ap (λ k. visits site (drop k (program past t))) (ap done_in counted_now ∙ uncounted (is_ticket reply) refl ticket) ∙ w.left
+      left_now = ap (λ k. visits site (drop k (program past t))) (ap steps_of counted_now ∙ uncounted (is_ticket reply) refl ticket) ∙ w.left
 
       ticket_now : has_ticket_at now t site ≡ true
       ticket_now =
           ap (λ replies. ticket_in replies site) counted_now
-          ∙ ap (λ b. some_of (λ (r : Counted). is_ticket r.reply) (cond b (reply_of site e reply ∷ those (λ (r : Counted). same_site r.site site) (counted past t)) (those (λ (r : Counted). same_site r.site site) (counted past t)))) (same_site_self site)
+          ∙ ap (λ b. some_of (λ (r : Counted). is_ticket r.reply) (cond b (reply_of site e reply ∷ those (λ (r : Counted). same_site r.site site) (counted past t)) (those (λ (r : Counted). same_site r.site site) (counted past t)))) (same_site-refl site)
           ∙ ap (λ b. b || ticket_in (counted past t) site) ticket

@@ -1,5 +1,5 @@
 -- What is outstanding of an attempt: where a step is left its next one is, and what a reply makes outstanding.
-use Rattle.std.proofs.Common.{◌≡◌, ◌⊎◌, ℕ, zero, suc, ◌==◌, ◌&&◌, ◌||◌, Bool, true, false, cond, not, is_none, is_some, Option, Some, None, List, [], ◌∷◌, drop, inl, inr, refl, sym, ◌∙◌, ap}
+use Rattle.std.proofs.Common.{◌≡◌, ◌⊎◌, ℕ, zero, suc, ◌==◌, ◌||◌, Bool, true, false, cond, is_none, is_some, Option, Some, None, List, [], ◌∷◌, drop, inl, inr, refl, ◌∙◌, ap}
 use Rattle.std.proofs.lemmas.Bool.{and_parts}
 use Rattle.mdb_base.specs.declared.acts.PlainAct.{PlainAct}
 use Rattle.mdb_base.specs.declared.acts.Step.{Step}
@@ -8,15 +8,16 @@ use Rattle.mdb_base.specs.declared.names.Tid.{Tid}
 use Rattle.mdb_base.specs.declared.replies.Reply.{Reply}
 use Rattle.mdb_base.specs.Names.{same_site}
 use Rattle.mdb_base.specs.Programs.{plain_act}
-use Rattle.mdb_base.specs.Words.{Each, each_of, found, how_many, item_at, some_of, those, with_some}
+use Rattle.mdb_base.specs.Words.{Each, each_of, item_at, some_of, those}
+use Rattle.mdb_base.proofs.NameLaws.{same_site-equal, same_site-refl}
 use Rattle.order_laws.specs.Chains.{In}
 use Rattle.order_laws.proofs.Lists.{each_at, in_those, those_in}
-use Rattle.order_laws.proofs.Names.{same_site_alike, same_site_self}
 use Rattle.presumptions.specs.declared.Participant.{Participant}
 use Rattle.fed_rules.specs.declared.messages.Due.{Due}
 use Rattle.fed_rules.specs.declared.messages.Due.TheVariants as Due_is
 use Rattle.fed_rules.specs.Coord.{fits, fits_act, fits_take, lacks_initiation}
-use Rattle.fed_rules.specs.CoordPast.{Counted, CoordPast, count_at, counted, epoch_at, has_step_left, has_ticket_at, is_ticket, is_wait, next_step, outstanding, outstanding_at, participants, participants_of, prepare_at, program, reads, steps_done, take_at, visits, vote_at, work_at}
+use Rattle.fed_rules.specs.CoordPast.{Counted, CoordPast, count_at, counted, epoch_at, has_step_left, has_ticket_at, is_ticket, next_step, outstanding, outstanding_at, participants, participants_of, prepare_at, program, reads, steps_done, take_at, visits, vote_at, work_at}
+use Rattle.federation_laws.proofs.Dues.{left_at}
 
 -- a participant's site is among these
 abbrev pub IsMember : List Participant → SiteId → Type 0
@@ -26,16 +27,10 @@ IsMember protocols site = (m : Participant) × In m protocols × (m.site ≡ sit
 abbrev pub ticket_in : List Counted → SiteId → Bool
 ticket_in replies site = some_of (λ reply. is_ticket reply.reply) (those (λ reply. same_site reply.site site) replies)
 
-abbrev pub done_in : List Counted → ℕ
-done_in replies = how_many (λ reply. not (is_wait reply.reply) && not (is_ticket reply.reply)) replies
-
-abbrev pub left_in : List Step → List Counted → SiteId → Bool
-left_in steps replies site = visits site (drop (done_in replies) steps)
-
 -- what holds of an undecided attempt with this program, these replies and votes, where its Initiation is lacking or not
 pub record ReadyFor (protocols : List Participant) (steps : List Step) (replies : List Counted) (vote : SiteId → Option ℕ) (lacks : Bool) : Type 0 where
   pub sited : Each (λ (step : Step). IsMember protocols step.site) steps
-  pub ticketed : (site : SiteId) → ticket_in replies site ≡ true → left_in steps replies site ≡ false
+  pub ticketed : (site : SiteId) → ticket_in replies site ≡ true → left_at steps replies site ≡ false
   pub recorded : (site : SiteId) → ticket_in replies site ≡ true → lacks ≡ false
   pub voted : (site : SiteId) → is_some (vote site) ≡ true → ticket_in replies site ≡ true
   pub missing : each_of (λ (m : Participant). is_some (vote m.site)) (participants_of protocols steps) ≡ false
@@ -51,7 +46,7 @@ visited_in site [] e = cc
 visited_in site (step ∷ steps) e = by_test (same_site step.site site) refl e (visited_in site steps)
   where
     by_test : (b : Bool) → same_site step.site site ≡ b → (b || visits site steps) ≡ true → (visits site steps ≡ true → (s : Step) × In s steps × (s.site ≡ site)) → (s : Step) × In s (step ∷ steps) × (s.site ≡ site)
-    by_test true q e rest = (step, inl refl, same_site_alike step.site site q)
+    by_test true q e rest = (step, inl refl, same_site-equal step.site site q)
     by_test false q e rest = let (s, i, here) = rest e in (s, inr i, here)
 
 -- where some are left there is a next one
@@ -64,7 +59,7 @@ next_there (suc n) site (step ∷ steps) e = next_there n site steps e
 -- the next one is left at its site, and stands among all
 pub next_left : (n : ℕ) (steps : List Step) (step : Step) → item_at steps n ≡ Some step → visits step.site (drop n steps) ≡ true
 next_left zero [] step e = cc
-next_left zero (s ∷ steps) step e = let same : s ≡ step = cc in ap (λ b. b || visits step.site steps) (ap (λ (x : Step). same_site x.site step.site) same ∙ same_site_self step.site)
+next_left zero (s ∷ steps) step e = let same : s ≡ step = cc in ap (λ b. b || visits step.site steps) (ap (λ (x : Step). same_site x.site step.site) same ∙ same_site-refl step.site)
 next_left (suc n) [] step e = cc
 next_left (suc n) (s ∷ steps) step e = next_left n steps step e
 
@@ -99,17 +94,6 @@ pub participant_at : (protocols : List Participant) (steps : List Step) (site : 
 participant_at protocols steps site (m, i, here) v =
     (m, in_those (λ (p : Participant). visits p.site steps) m protocols i (ap (λ s. visits s steps) here ∙ v), here)
 
--- what is found for one of a list is among what is found
-pub found_there : {A B : Type 0} (look : A → Option B) (x : A) (b : B) (xs : List A) → In x xs → look x ≡ Some b → In b (found look xs)
-found_there look x b [] i e = absurd i
-found_there {A} {B} look x b (y ∷ ys) i e = by_look (look y) refl i (λ j. found_there look x b ys j e)
-  where
-    by_look : (o : Option B) → look y ≡ o → In x (y ∷ ys) → (In x ys → In b (found look ys)) → In b (with_some o (found look ys))
-    by_look None q (inl same) rest = (let none : None ≡ Some b = sym q ∙ (ap look same ∙ e) in cc)
-    by_look None q (inr j) rest = rest j
-    by_look (Some c) q (inl same) rest = (let both : Some c ≡ Some b = sym q ∙ (ap look same ∙ e) in let one : c ≡ b = cc in inl one)
-    by_look (Some c) q (inr j) rest = inr (rest j)
-
 -- the next step is outstanding at its site
 pub work_out : (past : CoordPast) (t : Tid) (step : Step) → next_step past t ≡ Some step → (due : Due) × (outstanding past t step.site ≡ Some due)
 work_out past t step next =
@@ -120,7 +104,7 @@ work_out past t step next =
       ap (λ b. cond b (outstanding_at past t step.site) None) there
           ∙ ap (λ b. cond b (work_at past t step.site (next_step past t)) (cond (has_ticket_at past t step.site) (prepare_at past t step.site) (take_at past t step.site))) left
           ∙ ap (work_at past t step.site) next
-          ∙ ap (λ b. cond b (Some work) None) (same_site_self step.site),
+          ∙ ap (λ b. cond b (Some work) None) (same_site-refl step.site),
     )
 
 -- at a visited site where no step is left and no vote is in, something is outstanding
@@ -196,7 +180,7 @@ fitting past t site n reply e = by_visit (visits site (program past t)) refl e
 
         by_test : (b : Bool) → same_site step.site site ≡ b → fits (cond b (Some (Due_is.Work site (epoch_at past t site) (count_at past t site) act)) None) n reply ≡ true
             → (IsWorking past t site × FitsWork reply) ⊎ (IsTaking past t site × (fits_take reply ≡ true))
-        by_test true s e = inl (record { there = v; left = l; step = step; next = q; here = same_site_alike step.site site s }, (act, (and_parts (n == count_at past t site) (fits_act act reply) e).1))
+        by_test true s e = inl (record { there = v; left = l; step = step; next = q; here = same_site-equal step.site site s }, (act, (and_parts (n == count_at past t site) (fits_act act reply) e).1))
         by_test false s e = cc
 
     by_vote : (b : Bool) → fits (cond b (Some (Due_is.Prepare site (epoch_at past t site) (count_at past t site))) None) n reply ≡ true → ⊥

@@ -29,10 +29,11 @@ use Rattle.fed_rules.specs.SitePast.{SiteHappening}
 use Rattle.fed_rules.specs.Story.{Happened, AtSite, AtCoordinator, Nowhere, Story, coord_past, happens, place_from, places_of, sent_from, sent_to, story_of, with_coordinator}
 use Rattle.rules_laws.specs.Lines.{IsLine}
 use Rattle.rules_laws.proofs.Lines.{line_is}
-use Rattle.trace_lines.specs.Fits.{answer_fits, coordinator_sends, is_cause, is_one_of, is_only, line_fits, places_fit, sending_site, sites_rise}
+use Rattle.line_text.specs.Fits.{answer_fits, coordinator_sends, is_cause, is_one_of, is_only, line_fits, places_fit, sending_site, sites_rise}
+use Rattle.commit_laws.proofs.Trips.{HasCalls}
 use Rattle.line_laws.specs.Lines.{IsHeard, RightLinesFit}
 use Rattle.line_laws.proofs.CoordLines.{CoordGood, sent_number}
-use Rattle.line_laws.proofs.CoordTrips.{HasCalls, line_calls}
+use Rattle.line_laws.proofs.CoordTrips.{line_calls}
 use Rattle.line_laws.proofs.Outstanding.{Ready}
 use Rattle.line_laws.proofs.SiteFits.{IsFit}
 use Rattle.line_laws.proofs.Sorted.{map_sorted, places_rise}
@@ -184,7 +185,7 @@ module _ (scenario : Scenario) (whole : IsScenario scenario) (commands : List Co
       record { ready = a.ready; armed = a.armed }
 
 -- so it is behind all commands
-state_of : (scenario : Scenario) → IsScenario scenario → (commands : List Command) → State scenario commands
+pub state_of : (scenario : Scenario) → IsScenario scenario → (commands : List Command) → State scenario commands
 state_of scenario whole [] = record { ready = λ g o. cc; armed = λ t e. cc }
 state_of scenario whole (command ∷ commands) = state_next scenario whole commands (state_of scenario whole commands) command
 

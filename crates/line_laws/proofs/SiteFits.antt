@@ -10,7 +10,8 @@ use Rattle.mdb_base.specs.declared.replies.Reply.{Reply}
 use Rattle.mdb_base.specs.declared.replies.Reply.TheVariants as Reply_is
 use Rattle.mdb_base.specs.declared.replies.Why.{Why}
 use Rattle.mdb_base.specs.declared.replies.Why.TheVariants as Because
-use Rattle.mdb_base.specs.Words.{pick, when}
+use Rattle.mdb_base.proofs.BoolLaws.{when_either}
+use Rattle.mdb_base.proofs.OptionLaws.{by_pick}
 use Rattle.presumptions.specs.declared.Decision.{Decision}
 use Rattle.fed_rules.specs.declared.answers.Answer.TheVariants as Say
 use Rattle.fed_rules.specs.declared.commands.Command.{Command}
@@ -24,7 +25,7 @@ use Rattle.fed_rules.specs.Site.{act_answer, answered, did, first_work, next_num
 use Rattle.fed_rules.specs.SitePast.{SiteHappening, SitePast, attempts_of, disk, engine_lines, epoch_start, trip}
 use Rattle.fed_rules.specs.SiteRecords.{Held, Home, site_frame}
 use Rattle.commit_laws.proofs.Trips.{HasCalls, uncalled}
-use Rattle.trace_lines.specs.Fits.{answer_fits, is_commit_answer, is_only, is_step_answer, sending_site}
+use Rattle.line_text.specs.Fits.{answer_fits, is_commit_answer, is_only, is_step_answer, sending_site}
 use Rattle.line_laws.proofs.SiteReplies.{IsOperation, SealsSo, access_operation, kept_operation, seal_refuses, ticket_operation}
 
 -- a site's answer is one that the command can have, and it sends only where that answer can
@@ -40,16 +41,6 @@ record IsStill (command : Command) (site : SiteId) (x : SiteHappening) : Type 0 
 
 -- ---- the branches of a rule
 
-by_when : {A : Type 0} (P : A → Type 0) (b : Bool) (x y : A) → P x → P y → P (when b x y)
-unfolding when
-by_when P true x y p q = p
-by_when P false x y p q = q
-
-by_pick : {A B : Type 0} (P : B → Type 0) (o : Option A) (x : B) (f : A → B) → P x → ((v : A) → o ≡ Some v → P (f v)) → P (pick o x f)
-unfolding pick
-by_pick P None x f p q = p
-by_pick P (Some v) x f p q = q v refl
-
 -- a line without disk calls fits as the rules say it
 still_fits : (command : Command) (site : SiteId) (home : Home) (past : SitePast) (x : SiteHappening) → HasCalls (trip past) → IsStill command site x → IsFit command site (unless_tripped home past x)
 still_fits command site home past x armed still = subst (IsFit command site) (sym (uncalled home past x armed still.calls)) still.fit
@@ -61,7 +52,7 @@ stopped_fits command site home past x stop q = by_trip (trip past)
   where
     by_trip : (t : Option Trip) → IsFit command site (tripped site_frame (disk home past) t x)
     by_trip None = q
-    by_trip (Some t) = by_when (IsFit command site) _ _ _ (record { answer = stop _; other = refl; sends = inl refl }) q
+    by_trip (Some t) = when_either (IsFit command site) _ _ _ (record { answer = stop _; other = refl; sends = inl refl }) q
 
 -- ---- local transactions
 
@@ -76,7 +67,7 @@ begin_still home past tid tx site =
 pub begin_line : (home : Home) (past : SitePast) (tid : Tid) (tx : Tx) (site : SiteId) → HasCalls (trip past) → IsFit (Cmd.Begin tx) site (site_line home past (Ev.Begin tid))
 unfolding site_line answered
 begin_line home past tid tx site p =
-    by_when (IsFit (Cmd.Begin tx) site) _ _ _ (record { answer = refl; other = refl; sends = inl refl }) (still_fits (Cmd.Begin tx) site home past (of_begin home past tid) p (begin_still home past tid tx site))
+    when_either (IsFit (Cmd.Begin tx) site) _ _ _ (record { answer = refl; other = refl; sends = inl refl }) (still_fits (Cmd.Begin tx) site home past (of_begin home past tid) p (begin_still home past tid tx site))
 
 act_fits : (tid : Tid) (reply : Reply) (act : PlainAct) → (is_step_answer (act_answer tid reply act) ≡ true) × (is_only (act_answer tid reply act) ≡ false)
 act_fits tid (Reply_is.Wait by) act = (refl, refl)
@@ -107,7 +98,7 @@ act_still home past tid act tx site =
 pub act_line : (home : Home) (past : SitePast) (tid : Tid) (act : PlainAct) (tx : Tx) (site : SiteId) → HasCalls (trip past) → IsFit (Cmd.Step tx) site (site_line home past (Ev.Act tid act))
 unfolding site_line answered
 act_line home past tid act tx site p =
-    by_when (IsFit (Cmd.Step tx) site) _ _ _ (record { answer = refl; other = refl; sends = inl refl }) (still_fits (Cmd.Step tx) site home past (of_act home past tid act) p (act_still home past tid act tx site))
+    when_either (IsFit (Cmd.Step tx) site) _ _ _ (record { answer = refl; other = refl; sends = inl refl }) (still_fits (Cmd.Step tx) site home past (of_act home past tid act) p (act_still home past tid act tx site))
 
 refusal_fits : (why : Why) → (is_commit_answer (refusal_answer why) ≡ true) × (is_only (refusal_answer why) ≡ false)
 refusal_fits (Because.Die by) = (refl, refl)
@@ -125,7 +116,7 @@ commit_fit home past tid tx site =
 pub commit_line : (home : Home) (past : SitePast) (tid : Tid) (tx : Tx) (site : SiteId) → IsFit (Cmd.Commit tx) site (site_line home past (Ev.Commit tid))
 unfolding site_line answered
 commit_line home past tid tx site =
-    by_when (IsFit (Cmd.Commit tx) site) _ _ _ (record { answer = refl; other = refl; sends = inl refl })
+    when_either (IsFit (Cmd.Commit tx) site) _ _ _ (record { answer = refl; other = refl; sends = inl refl })
     (stopped_fits (Cmd.Commit tx) site home past (of_commit home past tid) (λ kept. refl) (commit_fit home past tid tx site))
 
 abort_still : (home : Home) (past : SitePast) (tid : Tid) (tx : Tx) (site : SiteId) → IsStill (Cmd.Abort tx) site (of_abort home past tid)
@@ -137,7 +128,7 @@ abort_still home past tid tx site =
 pub abort_line : (home : Home) (past : SitePast) (tid : Tid) (tx : Tx) (site : SiteId) → HasCalls (trip past) → IsFit (Cmd.Abort tx) site (site_line home past (Ev.Abort tid))
 unfolding site_line answered
 abort_line home past tid tx site p =
-    by_when (IsFit (Cmd.Abort tx) site) _ _ _ (record { answer = refl; other = refl; sends = inl refl }) (still_fits (Cmd.Abort tx) site home past (of_abort home past tid) p (abort_still home past tid tx site))
+    when_either (IsFit (Cmd.Abort tx) site) _ _ _ (record { answer = refl; other = refl; sends = inl refl }) (still_fits (Cmd.Abort tx) site home past (of_abort home past tid) p (abort_still home past tid tx site))
 
 fate_still : (home : Home) (past : SitePast) (tx other : Tx) (site : SiteId) → IsStill (Cmd.Fate other) site (of_fate home past tx)
 unfolding of_fate
@@ -154,14 +145,14 @@ fate_still home past tx other site =
 pub fate_line : (home : Home) (past : SitePast) (tx other : Tx) (site : SiteId) → HasCalls (trip past) → IsFit (Cmd.Fate other) site (site_line home past (Ev.Fate tx))
 unfolding site_line answered
 fate_line home past tx other site p =
-    by_when (IsFit (Cmd.Fate other) site) _ _ _ (record { answer = refl; other = refl; sends = inl refl }) (still_fits (Cmd.Fate other) site home past (of_fate home past tx) p (fate_still home past tx other site))
+    when_either (IsFit (Cmd.Fate other) site) _ _ _ (record { answer = refl; other = refl; sends = inl refl }) (still_fits (Cmd.Fate other) site home past (of_fate home past tx) p (fate_still home past tx other site))
 
 -- ---- stops, trips, starts and Checkpoints
 
 pub halt_line : (home : Home) (past : SitePast) (actor cut : ℕ) (site : SiteId) → IsFit (Cmd.Halt actor cut) site (site_line home past (Ev.Halt cut))
 unfolding site_line stopped
 halt_line home past actor cut site =
-    by_when (IsFit (Cmd.Halt actor cut) site) _ _ _ (record { answer = refl; other = refl; sends = inl refl }) (record { answer = refl; other = refl; sends = inl refl })
+    when_either (IsFit (Cmd.Halt actor cut) site) _ _ _ (record { answer = refl; other = refl; sends = inl refl }) (record { answer = refl; other = refl; sends = inl refl })
 
 pub trip_line : (home : Home) (past : SitePast) (actor calls cut : ℕ) (site : SiteId) → IsFit (Cmd.Trip actor calls cut) site (site_line home past (Ev.Trip calls cut))
 unfolding site_line
@@ -170,19 +161,19 @@ trip_line home past actor calls cut site = record { answer = refl; other = refl;
 pub back_line : (home : Home) (past : SitePast) (actor : ℕ) (site : SiteId) → 0 < actor → IsFit (Cmd.Back actor) site (site_line home past Ev.Back)
 unfolding site_line of_back
 back_line home past actor site some =
-    by_when (IsFit (Cmd.Back actor) site) _ _ _
+    when_either (IsFit (Cmd.Back actor) site) _ _ _
     (stopped_fits (Cmd.Back actor) site home past (of_back home past) (λ kept. refl) (record { answer = lt-ltb 0 actor some; other = refl; sends = inl refl }))
     (record { answer = refl; other = refl; sends = inl refl })
 
 check_fit : (home : Home) (past : SitePast) (actor : ℕ) (site : SiteId) → IsFit (Cmd.Check actor) site (of_check home past)
 unfolding of_check
 check_fit home past actor site =
-    by_when (IsFit (Cmd.Check actor) site) _ _ _ (record { answer = refl; other = refl; sends = inl refl }) (record { answer = refl; other = refl; sends = inl refl })
+    when_either (IsFit (Cmd.Check actor) site) _ _ _ (record { answer = refl; other = refl; sends = inl refl }) (record { answer = refl; other = refl; sends = inl refl })
 
 pub check_line : (home : Home) (past : SitePast) (actor : ℕ) (site : SiteId) → IsFit (Cmd.Check actor) site (site_line home past Ev.Check)
 unfolding site_line answered
 check_line home past actor site =
-    by_when (IsFit (Cmd.Check actor) site) _ _ _ (record { answer = refl; other = refl; sends = inl refl })
+    when_either (IsFit (Cmd.Check actor) site) _ _ _ (record { answer = refl; other = refl; sends = inl refl })
     (stopped_fits (Cmd.Check actor) site home past (of_check home past) (λ kept. refl) (check_fit home past actor site))
 
 -- ---- messages of the coordinator, inquiries and drops
@@ -201,19 +192,19 @@ module _ (site : SiteId) (place : ℕ) where
 
   repeated_fit : (home : Home) (past : SitePast) (message : ToSite) (tid : Tid) (n : ℕ) (run : Run) → IsFit give site (repeated home past message tid n run)
   unfolding repeated
-  repeated_fit home past message tid n run = by_when (IsFit give site) _ _ _ (did_fit home past message tid n _ _ (kept_operation run.ticket run.acts)) (unknown_fit home past message tid n)
+  repeated_fit home past message tid n run = when_either (IsFit give site) _ _ _ (did_fit home past message tid n _ _ (kept_operation run.ticket run.acts)) (unknown_fit home past message tid n)
 
   work_live_fit : (home : Home) (past : SitePast) (message : ToSite) (tid : Tid) (e n : ℕ) (act : PlainAct) (run : Run) → IsFit give site (work_live home past message tid e n act run)
   unfolding work_live next_work
   work_live_fit home past message tid e n act run =
-      by_when (IsFit give site) _ _ _ (unknown_fit home past message tid n)
-      (by_when (IsFit give site) _ _ _ (did_fit home past message tid n _ _ (access_operation (epoch_start home past) (engine_lines past) run act)) (repeated_fit home past message tid n run))
+      when_either (IsFit give site) _ _ _ (unknown_fit home past message tid n)
+      (when_either (IsFit give site) _ _ _ (did_fit home past message tid n _ _ (access_operation (epoch_start home past) (engine_lines past) run act)) (repeated_fit home past message tid n run))
 
   take_live_fit : (home : Home) (past : SitePast) (message : ToSite) (tid : Tid) (e n : ℕ) (run : Run) → IsFit give site (take_live home past message tid e n run)
   unfolding take_live next_take
   take_live_fit home past message tid e n run =
-      by_when (IsFit give site) _ _ _ (unknown_fit home past message tid n)
-      (by_when (IsFit give site) _ _ _ (did_fit home past message tid n _ _ (ticket_operation (epoch_start home past) (engine_lines past) run)) (repeated_fit home past message tid n run))
+      when_either (IsFit give site) _ _ _ (unknown_fit home past message tid n)
+      (when_either (IsFit give site) _ _ _ (did_fit home past message tid n _ _ (ticket_operation (epoch_start home past) (engine_lines past) run)) (repeated_fit home past message tid n run))
 
   first_fit : (home : Home) (past : SitePast) (message : ToSite) (tid : Tid) (n : ℕ) (act : PlainAct) → IsFit give site (first_work home past message tid n act)
   unfolding first_work
@@ -223,14 +214,14 @@ module _ (site : SiteId) (place : ℕ) where
   unfolding of_work
   work_fit home past tid e n act =
       let m = To.Work tid e n act in
-      by_when (IsFit give site) _ _ _ (unknown_fit home past m tid n)
-      (by_pick (IsFit give site) _ _ _ (by_when (IsFit give site) _ _ _ (first_fit home past m tid n act) (unknown_fit home past m tid n)) (λ run f. work_live_fit home past m tid e n act run))
+      when_either (IsFit give site) _ _ _ (unknown_fit home past m tid n)
+      (by_pick (IsFit give site) _ _ _ (when_either (IsFit give site) _ _ _ (first_fit home past m tid n act) (unknown_fit home past m tid n)) (λ run f. work_live_fit home past m tid e n act run))
 
   take_fit : (home : Home) (past : SitePast) (tid : Tid) (e n : ℕ) → IsFit give site (of_take home past tid e n)
   unfolding of_take
   take_fit home past tid e n =
       let m = To.Take tid e n in
-      by_when (IsFit give site) _ _ _ (unknown_fit home past m tid n) (by_pick (IsFit give site) _ _ _ (unknown_fit home past m tid n) (λ run f. take_live_fit home past m tid e n run))
+      when_either (IsFit give site) _ _ _ (unknown_fit home past m tid n) (by_pick (IsFit give site) _ _ _ (unknown_fit home past m tid n) (λ run f. take_live_fit home past m tid e n run))
 
   no_fit : (tid : Tid) (e n : ℕ) (why : Option Why) (lines : List EngineLine) → SealsSo why → IsFit give site (votes_no tid e n why lines)
   unfolding votes_no
@@ -249,12 +240,12 @@ module _ (site : SiteId) (place : ℕ) where
   prepare_fit home past tid e n =
       by_pick (IsFit give site) _ _ _
       (by_pick (IsFit give site) _ _ _ (no_fit tid e n _ _ refl)
-      (λ run f. by_when (IsFit give site) _ _ _
+      (λ run f. when_either (IsFit give site) _ _ _
       (by_pick (IsFit give site) _ _ _ (no_fit tid e n _ _ refl)
       (λ ticket g. by_pick (IsFit give site) _ _ _ (yes_fit home past tid e n run ticket)
       (λ why h. no_fit tid e n (Some why) _ (subst SealsSo h (seal_refuses home.engine _ _ run)))))
       (no_fit tid e n _ _ refl)))
-      (λ held f. by_when (IsFit give site) _ _ _ (again_fit tid e n held) (no_fit tid e n _ _ refl))
+      (λ held f. when_either (IsFit give site) _ _ _ (again_fit tid e n held) (no_fit tid e n _ _ refl))
 
   decide_fit : (home : Home) (past : SitePast) (tid : Tid) (decision : Decision) → IsFit give site (of_decide home past tid decision)
   unfolding of_decide settles unheld
@@ -273,7 +264,7 @@ module _ (site : SiteId) (place : ℕ) where
   pub give_line : (home : Home) (past : SitePast) (message : ToSite) → IsFit (Cmd.Give site place) site (site_line home past (Ev.Give message))
   unfolding site_line answered
   give_line home past message =
-      by_when (IsFit give site) _ _ _ (record { answer = refl; other = refl; sends = inl refl })
+      when_either (IsFit give site) _ _ _ (record { answer = refl; other = refl; sends = inl refl })
       (stopped_fits give site home past (of_give home past message) (λ kept. refl) (give_fit home past message))
 
 ask_still : (home : Home) (past : SitePast) (tid : Tid) (site : SiteId) (other : Tid) → IsStill (Cmd.Ask site other) site (of_ask home past tid)
@@ -285,16 +276,16 @@ ask_still home past tid site other =
 pub ask_line : (home : Home) (past : SitePast) (tid : Tid) (site : SiteId) (other : Tid) → HasCalls (trip past) → IsFit (Cmd.Ask site other) site (site_line home past (Ev.Ask tid))
 unfolding site_line answered
 ask_line home past tid site other p =
-    by_when (IsFit (Cmd.Ask site other) site) _ _ _ (record { answer = refl; other = refl; sends = inl refl }) (still_fits (Cmd.Ask site other) site home past (of_ask home past tid) p (ask_still home past tid site other))
+    when_either (IsFit (Cmd.Ask site other) site) _ _ _ (record { answer = refl; other = refl; sends = inl refl }) (still_fits (Cmd.Ask site other) site home past (of_ask home past tid) p (ask_still home past tid site other))
 
 drop_still : (home : Home) (past : SitePast) (tid : Tid) (site : SiteId) (other : Tid) → IsStill (Cmd.Drop site other) site (of_drop home past tid)
 unfolding of_drop
 drop_still home past tid site other =
-    by_when (IsStill (Cmd.Drop site other) site) _ _ _ (record { fit = record { answer = refl; other = refl; sends = inl refl }; calls = refl })
+    when_either (IsStill (Cmd.Drop site other) site) _ _ _ (record { fit = record { answer = refl; other = refl; sends = inl refl }; calls = refl })
     (by_pick (IsStill (Cmd.Drop site other) site) _ _ _ (record { fit = record { answer = refl; other = refl; sends = inl refl }; calls = refl })
     (λ run e. record { fit = record { answer = refl; other = refl; sends = inl refl }; calls = refl }))
 
 pub drop_line : (home : Home) (past : SitePast) (tid : Tid) (site : SiteId) (other : Tid) → HasCalls (trip past) → IsFit (Cmd.Drop site other) site (site_line home past (Ev.Drop tid))
 unfolding site_line answered
 drop_line home past tid site other p =
-    by_when (IsFit (Cmd.Drop site other) site) _ _ _ (record { answer = refl; other = refl; sends = inl refl }) (still_fits (Cmd.Drop site other) site home past (of_drop home past tid) p (drop_still home past tid site other))
+    when_either (IsFit (Cmd.Drop site other) site) _ _ _ (record { answer = refl; other = refl; sends = inl refl }) (still_fits (Cmd.Drop site other) site home past (of_drop home past tid) p (drop_still home past tid site other))

@@ -1,17 +1,18 @@
 -- Lists whose items rise by a number: what is made of them rises too.
-use Rattle.std.proofs.Common.{◌≡◌, ℕ, ◌<◌, ◌≤◌, ◌&&◌, ◌||◌, nat_lt, Bool, true, false, cond, not, Option, Some, None, List, [], ◌∷◌, map, inl, inr, refl, sym, ◌∙◌, ap, subst, arith}
+use Rattle.std.proofs.Common.{◌≡◌, ℕ, ◌<◌, ◌≤◌, ◌&&◌, ◌||◌, Bool, true, false, cond, not, Option, Some, None, List, [], ◌∷◌, map, inl, inr, refl, sym, ◌∙◌, ap, subst, arith}
 use Rattle.std.proofs.lemmas.Bool.{and_parts, lt-ltb, ltb-false, ltb-true}
 use Rattle.std.proofs.Math.Nat.{eq-or-lt_of_le}
 use Rattle.mdb_base.specs.declared.names.SiteId.{SiteId}
 use Rattle.mdb_base.specs.Names.{same_site}
 use Rattle.mdb_base.specs.Words.{Each, found, inserted, some_of, those, with_some}
-use Rattle.order_laws.proofs.Names.{same_site_self}
+use Rattle.mdb_base.proofs.NameLaws.{same_site-refl}
 use Rattle.presumptions.specs.declared.Participant.{Participant}
 use Rattle.fed_rules.specs.declared.commands.Place.{Place}
 use Rattle.fed_rules.specs.declared.scenario.SiteLine.{SiteLine}
 use Rattle.fed_rules.specs.Plans.{all_differ, one_site}
 use Rattle.fed_rules.specs.Scenarios.{protocols_in}
-use Rattle.trace_lines.specs.Fits.{sites_rise}
+use Rattle.line_text.specs.Fits.{sites_rise}
+use Rattle.commit_laws.proofs.Declared.{by_site}
 
 -- each item's number is less than those of all behind it
 abbrev pub Sorted : {A : Type 0} → (A → ℕ) → List A → Type 0
@@ -74,14 +75,11 @@ places_rise (p ∷ q ∷ ps) h = ap (λ b. b && sites_rise (q ∷ ps)) (lt-ltb p
 abbrev pub number_of : Participant → ℕ
 number_of p = p.site.0
 
-abbrev less : Participant → Participant → Bool
-less a b = nat_lt a.site.0 b.site.0
-
-each_above : (n : ℕ) (x : Participant) (ys : List Participant) → n < number_of x → Each (λ y. n < number_of y) ys → Each (λ y. n < number_of y) (inserted less x ys)
+each_above : (n : ℕ) (x : Participant) (ys : List Participant) → n < number_of x → Each (λ y. n < number_of y) ys → Each (λ y. n < number_of y) (inserted by_site x ys)
 each_above n x [] lt h = (lt, tt)
-each_above n x (y ∷ ys) lt h = by_test (less y x) (each_above n x ys lt h.1)
+each_above n x (y ∷ ys) lt h = by_test (by_site y x) (each_above n x ys lt h.1)
   where
-    by_test : (b : Bool) → Each (λ z. n < number_of z) (inserted less x ys) → Each (λ z. n < number_of z) (cond b (y ∷ inserted less x ys) (x ∷ y ∷ ys))
+    by_test : (b : Bool) → Each (λ z. n < number_of z) (inserted by_site x ys) → Each (λ z. n < number_of z) (cond b (y ∷ inserted by_site x ys) (x ∷ y ∷ ys))
     by_test true rest = (h.0, rest)
     by_test false rest = (lt, h)
 
@@ -89,11 +87,11 @@ above_all : (n m : ℕ) (ys : List Participant) → n < m → Each (λ y. m < nu
 above_all n m [] lt h = tt
 above_all n m (y ∷ ys) lt h = ((let a = h.0 in omega (arith, lt, a)), above_all n m ys lt h.1)
 
-insert_sorted : (x : Participant) (ys : List Participant) → Each (λ y. number_of y ≡ number_of x → ⊥) ys → Sorted number_of ys → Sorted number_of (inserted less x ys)
+insert_sorted : (x : Participant) (ys : List Participant) → Each (λ y. number_of y ≡ number_of x → ⊥) ys → Sorted number_of ys → Sorted number_of (inserted by_site x ys)
 insert_sorted x [] apart h = (tt, tt)
-insert_sorted x (y ∷ ys) apart h = by_test (less y x) refl (insert_sorted x ys apart.1 h.1)
+insert_sorted x (y ∷ ys) apart h = by_test (by_site y x) refl (insert_sorted x ys apart.1 h.1)
   where
-    by_test : (b : Bool) → less y x ≡ b → Sorted number_of (inserted less x ys) → Sorted number_of (cond b (y ∷ inserted less x ys) (x ∷ y ∷ ys))
+    by_test : (b : Bool) → by_site y x ≡ b → Sorted number_of (inserted by_site x ys) → Sorted number_of (cond b (y ∷ inserted by_site x ys) (x ∷ y ∷ ys))
     by_test true e rest = (each_above (number_of y) x ys (ltb-true (number_of y) (number_of x) e) h.0, rest)
     by_test false e rest =
         let le = ltb-false (number_of y) (number_of x) e in
@@ -103,11 +101,11 @@ insert_sorted x (y ∷ ys) apart h = by_test (less y x) refl (insert_sorted x ys
         by_order : (a b : ℕ) → a ≤ b → (b ≡ a → ⊥) → a < b
         by_order a b le apart = elim (eq-or-lt_of_le {n = a} {m = b} le) [ inl e ↦ absurd (apart (sym e)) | inr lt ↦ lt ]
 
-inserted_apart : (n : ℕ) (x : Participant) (ys : List Participant) → (number_of x ≡ n → ⊥) → Each (λ y. number_of y ≡ n → ⊥) ys → Each (λ y. number_of y ≡ n → ⊥) (inserted less x ys)
+inserted_apart : (n : ℕ) (x : Participant) (ys : List Participant) → (number_of x ≡ n → ⊥) → Each (λ y. number_of y ≡ n → ⊥) ys → Each (λ y. number_of y ≡ n → ⊥) (inserted by_site x ys)
 inserted_apart n x [] a h = (a, tt)
-inserted_apart n x (y ∷ ys) a h = by_test (less y x) (inserted_apart n x ys a h.1)
+inserted_apart n x (y ∷ ys) a h = by_test (by_site y x) (inserted_apart n x ys a h.1)
   where
-    by_test : (b : Bool) → Each (λ z. number_of z ≡ n → ⊥) (inserted less x ys) → Each (λ z. number_of z ≡ n → ⊥) (cond b (y ∷ inserted less x ys) (x ∷ y ∷ ys))
+    by_test : (b : Bool) → Each (λ z. number_of z ≡ n → ⊥) (inserted by_site x ys) → Each (λ z. number_of z ≡ n → ⊥) (cond b (y ∷ inserted by_site x ys) (x ∷ y ∷ ys))
     by_test true rest = (h.0, rest)
     by_test false rest = (a, h)
 
@@ -122,7 +120,7 @@ lines_apart line (other ∷ lines) e = inserted_apart line.site.0 (record { site
     apart : other.site.0 ≡ line.site.0 → ⊥
     apart same =
         let here : other.site ≡ line.site = ap (λ n. (let s : SiteId = record { 0 = n } in s)) same in
-        let yes : same_site line.site other.site ≡ true = subst (λ s. same_site line.site s ≡ true) (sym here) (same_site_self line.site) in
+        let yes : same_site line.site other.site ≡ true = subst (λ s. same_site line.site s ≡ true) (sym here) (same_site-refl line.site) in
         let no = (parts (same_site line.site other.site) (some_of (one_site line) lines) e).0 in cc
 
     rest : some_of (one_site line) lines ≡ false

@@ -1,1 +1,6 @@
+-- which commands are heard, and which lines of them can be printed
 pub mod Lines
+-- which refusals can be printed
+pub mod Refusals
+-- what is printed again
+pub mod Printed

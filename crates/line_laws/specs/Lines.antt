@@ -9,7 +9,7 @@ use Rattle.fed_rules.specs.declared.scenario.SiteLine.{SiteLine}
 use Rattle.fed_rules.specs.Closing.{closed}
 use Rattle.fed_rules.specs.Plans.{IsScenario, is_actor, is_declared}
 use Rattle.fed_rules.specs.Right.{IsRightStory}
-use Rattle.trace_lines.specs.Fits.{line_fits}
+use Rattle.line_text.specs.Fits.{line_fits}
 
 -- a command of a site, or of an actor, names a declared one or the coordinator
 abbrev pub IsHeard : List SiteLine → Command → Type 0

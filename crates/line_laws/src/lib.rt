@@ -1,9 +1,16 @@
-//! Each line of a right story is one that can be printed: its answer and its places are some that its command can have.
+//! Each line of a right story is one that can be printed: its answer and its places are some that its command can
+//! have. Which refusals can be printed, and that the commands of a session at rest print the session's text again.
 #![tactic(auto)]
 
 ghost use Rattle.line_laws.specs.Lines.{ClosingIsHeard, RightLinesFit};
+ghost use Rattle.line_laws.specs.Printed.{CommandsPrintAgain};
+ghost use Rattle.line_laws.specs.Refusals.{ConservativeLinesRefuseNone, ConservativeNextLinesRefuseNone};
 
-/// In the story of any commands to declared sites each right line fits its command (`trace_lines`), with whatever cycle a refusal names.
+use federation_laws::conservative_tickets_close_no_cycle;
+use replay_laws::commands_give_again;
+
+/// In the story of any commands to declared sites each right line fits its command (`line_text`), with whatever
+/// cycle a refusal names.
 pub fn right_lines_fit()
     ensures { RightLinesFit }
 {}
@@ -12,3 +19,19 @@ pub fn right_lines_fit()
 pub fn closing_is_heard()
     ensures { ClosingIsHeard }
 {}
+
+/// Where tickets are taken conservatively, no line that is printed refuses a commit for a cycle, after any commands.
+pub fn conservative_lines_refuse_none()
+    ensures next { ConservativeNextLinesRefuseNone }
+    ensures all { ConservativeLinesRefuseNone }
+{
+    conservative_tickets_close_no_cycle();
+}
+
+/// The commands of a session at rest, closed, print its text again, but for the edges of cycles: each line and the
+/// report. Where no line refuses a commit for a cycle they print it byte for byte.
+pub fn commands_print_again()
+    ensures { CommandsPrintAgain }
+{
+    commands_give_again();
+}

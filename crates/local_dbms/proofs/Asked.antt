@@ -1,30 +1,28 @@
 -- What the rules make of a command of a local transaction, in each case; and what its event asks of the past.
-use Rattle.std.proofs.Common.{◌≡◌, ℕ, ◌≤◌, ◌<◌, ◌&&◌, leb, ltb, Bool, true, false, cond, not, is_some, Option, Some, None, List, [], ◌∷◌, length, slice_get, refl, sym, ap, ◌∙◌, subst}
-use Rattle.std.proofs.lemmas.Bool.{and_parts, le-leb, le-ltb, lt-leb, lt-ltb}
+use Rattle.std.proofs.Common.{◌≡◌, ℕ, ◌≤◌, ◌<◌, leb, ltb, true, false, is_some, Option, Some, None, List, length, slice_get, refl, sym, ap, ◌∙◌, subst}
+use Rattle.std.proofs.lemmas.Bool.{le-leb, le-ltb, lt-leb, lt-ltb}
 use Rattle.mdb_base.specs.declared.acts.Step.{Step}
 use Rattle.mdb_base.specs.declared.names.Tid.{Tid}
 use Rattle.mdb_base.specs.declared.names.Tx.{Tx}
-use Rattle.mdb_base.specs.Names.{same_tx}
 use Rattle.mdb_base.specs.Programs.{plain_act}
-use Rattle.mdb_base.specs.Words.{first_where, item_at, map_some, pick, when}
+use Rattle.mdb_base.specs.Words.{item_at, map_some, pick, when}
 use Rattle.mdb_base.proofs.Words.{item_at-past, item_at-slice_get}
 use Rattle.fed_rules.specs.declared.answers.Answer.TheVariants as Say
 use Rattle.fed_rules.specs.declared.events.SiteEvent.{SiteEvent}
 use Rattle.fed_rules.specs.declared.events.SiteEvent.TheVariants as Ev
 use Rattle.fed_rules.specs.Happenings.{is_down, quiet}
 use Rattle.fed_rules.specs.Requests.{Request, Submits, Declines, attempt, unless_begun}
-use Rattle.fed_rules.specs.Runs.{Start, EngineLine, Run, is_sealed, unended}
+use Rattle.fed_rules.specs.Runs.{Start, EngineLine, Run}
 use Rattle.fed_rules.specs.Site.{done, of_begin, site_line}
 use Rattle.fed_rules.specs.SiteCommands as Verb
 use Rattle.fed_rules.specs.SiteCommands.{begin_next, next_step, own_request, request, run_reads, when_done, with_live}
-use Rattle.fed_rules.specs.SitePast.{SiteHappening, SitePast, attempts_of, engine_lines, epoch_start, live, live_of_tx, records, trip}
+use Rattle.fed_rules.specs.SitePast.{SiteHappening, SitePast, attempts_of, live, live_of_tx, records, trip}
 use Rattle.fed_rules.specs.SiteRecords.{Home, local_of}
 use Rattle.actor_store.specs.Store.{Passes}
 use Rattle.site_book.specs.Noted.{Noted, noted_of}
 use Rattle.site_core.specs.declared.site.SiteCore.{SiteCore}
 use Rattle.site_core.specs.Stands.{Holds}
 use Rattle.site_core.proofs.LineLaws.{begin_begun, begin_committed, begin_quiet, begin_running, begin_up}
-use Rattle.site_core.proofs.NameLaws.{same_tx-equal}
 use Rattle.site_core.proofs.RememberLaws.{passes_is, trip_left}
 
 -- one that is no transaction of the site's own
@@ -159,23 +157,6 @@ noted_run home past tid noted e = from (live home past tid) refl e where
 pub none_lives : (o : Option Run) → None ≡ map_some noted_of o → o ≡ None
 none_lives None e = refl
 none_lives (Some run) e = cc
-
--- the live attempt of a transaction is one of it
-first_passes : {A : Type 0} (test : A → Bool) (xs : List A) (y : A) → first_where test xs ≡ Some y → test y ≡ true
-first_passes test [] y e = cc
-first_passes test (x ∷ xs) y e = by_test (test x) refl e (first_passes test xs y) where
-  by_test : (b : Bool) → test x ≡ b → cond b (Some x) (first_where test xs) ≡ Some y → (first_where test xs ≡ Some y → test y ≡ true) → test y ≡ true
-  by_test true is e rest = let same : x ≡ y = cc in ap test (sym same) ∙ is
-  by_test false is e rest = rest e
-
-pub live_own : (home : Home) (past : SitePast) (tx : Tx) (tid : Tid) → live_of_tx home past tx ≡ Some tid → tid.tx ≡ tx
-live_own home past tx tid e = from (first_where (λ (run : Run). same_tx run.tid.tx tx && not (is_sealed run)) (unended (epoch_start home past) (engine_lines past))) refl e where
-  from : (o : Option Run) → first_where (λ (run : Run). same_tx run.tid.tx tx && not (is_sealed run)) (unended (epoch_start home past) (engine_lines past)) ≡ o → map_some (λ (run : Run). run.tid) o ≡ Some tid → tid.tx ≡ tx
-  from None is e = cc
-  from (Some run) is e =
-      let passes = first_passes (λ (run : Run). same_tx run.tid.tx tx && not (is_sealed run)) (unended (epoch_start home past) (engine_lines past)) run is in
-      let same : run.tid ≡ tid = cc in
-      ap (λ (t : Tid). t.tx) (sym same) ∙ same_tx-equal run.tid.tx tx (and_parts _ _ passes).0
 
 -- what a begin is answered behind the last attempt
 begin_down : (home : Home) (past : SitePast) (tid : Tid) → is_down past ≡ true → site_line home past (Ev.Begin tid) ≡ quiet (Ev.Begin tid) Say.Down

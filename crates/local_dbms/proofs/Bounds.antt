@@ -20,7 +20,7 @@ use Rattle.site_history.proofs.WellKept.{starts_well, well_past}
 use Rattle.site_core.specs.Made.{IsMade}
 use Rattle.site_core.specs.Steps.{EpochFits, NumberFits}
 use Rattle.site_core.proofs.MadeLaws.{made_right, of_made}
-use Rattle.local_dbms.proofs.Numbers.{counter_lines, drawn_next, draws, ticketed}
+use Rattle.engine_laws.proofs.Numbers.{counter_lines, drawn_next, draws, ticketed}
 use Rattle.local_dbms.proofs.Small.{IsBelow, IsSmall, small_line}
 
 -- what records below a bound say is at most the bound

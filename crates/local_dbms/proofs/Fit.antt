@@ -1,5 +1,5 @@
 -- The event that a command of a local transaction comes to may come to the core, and fits the programs; and what a line leaves of what is stood for.
-use Rattle.std.proofs.Common.{◌≡◌, ◌≤◌, ◌<◌, ◌^◌, ◌⊎◌, Bool, true, false, not, is_some, IsSome, Option, Some, None, List, length, inl, inr, refl, sym, ap, subst, arith}
+use Rattle.std.proofs.Common.{◌≡◌, ◌≤◌, ◌<◌, ◌^◌, ◌⊎◌, Bool, true, false, not, is_some, IsSome, Some, None, List, length, inl, inr, refl, sym, ap, subst, arith}
 use Rattle.mdb_base.specs.declared.acts.PlainAct.{PlainAct}
 use Rattle.mdb_base.specs.declared.acts.Step.{Step}
 use Rattle.mdb_base.specs.declared.names.Tid.{Tid}
@@ -17,6 +17,7 @@ use Rattle.fed_rules.specs.Site.{done, site_line}
 use Rattle.fed_rules.specs.SitePast.{SitePast, attempts_of, live, live_of_tx}
 use Rattle.fed_rules.specs.SiteRecords.{Home}
 use Rattle.journal_disk.specs.Disk.{Seen}
+use Rattle.rules_laws.proofs.SitePasts.{live_is_of}
 use Rattle.actor_store.specs.declared.errors.StepErr.{StepErr}
 use Rattle.actor_store.specs.declared.errors.StepErr.TheVariants as Err_is
 use Rattle.actor_store.specs.declared.store.Standing.{Standing}
@@ -28,13 +29,8 @@ use Rattle.site_core.specs.Stands.{Fails as CoreFails, IsIn, IsUp, Remembers, St
 use Rattle.site_core.specs.Steps.{CanStep}
 use Rattle.local_dbms.specs.declared.dbms.LocalDbms.{LocalDbms}
 use Rattle.local_dbms.specs.Stands.{CanGive, CanHand, Fails, FitsPrograms, OwnPrograms, Owns, Recalls, Sends, Stands}
-use Rattle.local_dbms.proofs.Asked.{live_own}
 use Rattle.local_dbms.proofs.Bounds.{epoch_fits, number_fits, published_fits}
 use Rattle.local_dbms.proofs.Owned.{begun_below, few_begun, foreign_apart, next_unbegun, own_apart, owned_more, owned_stopped}
-
--- a program that is found is one of the site's own
-pub some_own : (program : Option (List Step)) (steps : List Step) → program ≡ Some steps → IsSome program
-some_own program steps e = ap is_some e
 
 -- what a site that is up has in memory
 pub up_past : {E : Type 0} (stands : E → Start → List EngineLine → Type 0) (core : SiteCore E) (home : Home) (past : SitePast) → Remembers stands core home past → is_down past ≡ false → IsUp stands core home past
@@ -61,7 +57,7 @@ module _ {E : Type 0} (stands : E → Start → List EngineLine → Type 0) (dbm
 
   module _ (tx : Tx) (tid : Tid) (own : IsSome (programs tx)) (runs : live_of_tx home past tx ≡ Some tid) where
     own_live : IsSome (programs tid.tx)
-    own_live = subst (λ (t : Tx). IsSome (programs t)) (sym (live_own home past tx tid runs)) own
+    own_live = subst (λ (t : Tx). IsSome (programs t)) (sym (live_is_of home past tx tid runs)) own
 
     live_apart : was_global tid.tx past ≡ false
     live_apart = own_apart programs past tid.tx r.owns.owned own_live

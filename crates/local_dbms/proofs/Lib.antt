@@ -2,6 +2,5 @@ pub mod Asked
 pub mod Bounds
 pub mod Fit
 pub mod Lines
-pub mod Numbers
 pub mod Owned
 pub mod Small

@@ -1,12 +1,12 @@
 -- The programs of a site's own transactions by their lines.
-use Rattle.std.proofs.Common.{◌≡◌, ℕ, suc, ◌≤◌, ◌<◌, Bool, true, false, cond, IsSome, Option, Some, List, [], ◌∷◌, length, drop, drop-cons, get_or, refl, sym, ap₂, ◌∙◌, subst}
+use Rattle.std.proofs.Common.{◌≡◌, ◌≤◌, Bool, true, false, cond, IsSome, Option, Some, List, [], ◌∷◌, refl, ◌∙◌, subst}
 use Rattle.mdb_base.specs.declared.acts.Step.{Step}
 use Rattle.mdb_base.specs.declared.names.SiteId.{SiteId}
 use Rattle.mdb_base.specs.declared.names.Tx.{Tx}
 use Rattle.mdb_base.specs.Names.{same_tx}
 use Rattle.mdb_base.specs.Words.{Each, first_where}
+use Rattle.mdb_base.proofs.NameLaws.{same_tx-equal}
 use Rattle.fed_rules.specs.declared.scenario.TxLine.{TxLine}
-use Rattle.site_core.proofs.NameLaws.{same_tx-equal}
 use Rattle.local_dbms.specs.Stands.{AreOwn, IsNamed, noted, own_programs, program_at, program_in}
 
 -- so the list goes on with a line
@@ -30,11 +30,3 @@ named_found site (line ∷ lines) tx named some = by_test (same_tx line.tx tx) r
 
 pub own_named : (site : SiteId) (lines : List TxLine) → Each IsNamed lines → (tx : Tx) → IsSome (own_programs site lines tx) → (1 ≤ tx.0) × (tx.0 ≤ 1024)
 own_named site lines named tx some = named_found site lines tx named some
-
--- the list from a place on
-pub drop_before : {A : Type 0} (xs : List A) (i left : ℕ) (x : A) → left ≡ suc i → i < length xs → x ≡ get_or xs i x → drop i xs ≡ x ∷ drop left xs
-drop_before xs i left x next within at = drop-cons xs i x within ∙ ap₂ (λ y n. y ∷ drop n xs) (sym at) (sym next)
-
-pub drop_all : {A : Type 0} (xs : List A) → drop (length xs) xs ≡ []
-drop_all [] = refl
-drop_all (x ∷ xs) = drop_all xs

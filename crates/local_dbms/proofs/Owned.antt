@@ -1,10 +1,10 @@
 -- What a past whose events fit the programs says of a site's own transactions.
-use Rattle.std.proofs.Common.{◌≡◌, ℕ, suc, ◌≤◌, ◌<◌, ◌⊎◌, ◌||◌, Bool, true, false, cond, is_some, IsSome, Option, None, [], ◌∷◌, length, refl, sym, ap, ◌∙◌, subst, inl, inr, arith}
-use Rattle.std.proofs.lemmas.Bool.{cond-true, cond-false}
+use Rattle.std.proofs.Common.{◌≡◌, ℕ, suc, ◌≤◌, ◌<◌, ◌⊎◌, Bool, true, false, is_some, IsSome, Option, None, [], ◌∷◌, length, refl, sym, ap, ◌∙◌, subst, inl, inr, arith}
+use Rattle.std.proofs.lemmas.Bool.{cond-true, cond-false, or_cases, or_from}
 use Rattle.mdb_base.specs.declared.names.Tid.{Tid}
 use Rattle.mdb_base.specs.declared.names.Tx.{Tx}
 use Rattle.mdb_base.specs.Names.{same_tx}
-use Rattle.mdb_base.proofs.NameLaws.{same_tid-equal}
+use Rattle.mdb_base.proofs.NameLaws.{same_tid-equal, same_tx-equal, same_tx-refl}
 use Rattle.fed_rules.specs.declared.answers.Answer.{Answer}
 use Rattle.fed_rules.specs.declared.answers.Answer.TheVariants as Say
 use Rattle.fed_rules.specs.declared.events.SiteEvent.{SiteEvent}
@@ -12,22 +12,14 @@ use Rattle.fed_rules.specs.declared.events.SiteEvent.TheVariants as Ev
 use Rattle.fed_rules.specs.Requests.{attempt}
 use Rattle.fed_rules.specs.SitePast.{SiteHappening, SitePast, attempts_of, begins_tx}
 use Rattle.fed_rules.specs.SiteRecords.{Home}
+use Rattle.rules_laws.proofs.SitePasts.{attempts_grow}
 use Rattle.site_core.specs.Made.{IsMade, about, begins_tid, is_of_global, is_of_local, was_begun, was_global, was_local}
 use Rattle.site_core.specs.Stands.{Before, StopAt, Within, behind, stopped_past}
-use Rattle.site_core.proofs.NameLaws.{same_tx-equal, same_tx-refl}
 use Rattle.site_core.proofs.RuleWalks.{line_event}
 use Rattle.site_core.proofs.StopLaws.{trip_is, trip_line}
 use Rattle.local_dbms.specs.Stands.{FitsPrograms, IsOwned, OwnPrograms}
 use Rattle.local_dbms.proofs.Bounds.{made_small}
 use Rattle.local_dbms.proofs.Small.{IsBegunBy, IsSmall}
-
-or_cases : (a b : Bool) → (a || b) ≡ true → ((a ≡ true) ⊎ (b ≡ true))
-or_cases true b e = inl refl
-or_cases false b e = inr e
-
-or_none : (a b : Bool) → a ≡ false → b ≡ false → (a || b) ≡ false
-or_none true b e f = cc
-or_none false b e f = f
 
 by_bool : {P : Type 0} (b : Bool) → (b ≡ true → P) → (b ≡ false → P) → P
 by_bool true one other = one refl
@@ -70,14 +62,14 @@ global_foreign programs past Ev.Check tx f e = cc
 pub own_apart : (programs : OwnPrograms) (past : SitePast) (tx : Tx) → IsOwned programs past → IsSome (programs tx) → was_global tx past ≡ false
 own_apart programs [] tx owned some = refl
 own_apart programs (x ∷ past) tx owned some =
-    or_none (is_of_global tx x.event) (was_global tx past)
+    or_from (is_of_global tx x.event) (was_global tx past)
     (by_bool (is_of_global tx x.event) (λ e. absurd (both (programs tx) some (global_foreign programs past x.event tx owned.0 e))) (λ e. e)) (own_apart programs past tx owned.1 some)
 
 -- and none of another one's attempts began here as a local one's
 pub foreign_apart : (programs : OwnPrograms) (past : SitePast) (tx : Tx) → IsOwned programs past → programs tx ≡ None → was_local tx past ≡ false
 foreign_apart programs [] tx owned none = refl
 foreign_apart programs (x ∷ past) tx owned none =
-    or_none (is_of_local tx x.event) (was_local tx past)
+    or_from (is_of_local tx x.event) (was_local tx past)
     (by_bool (is_of_local tx x.event) (λ e. absurd (both (programs tx) (local_own programs past x.event tx owned.0 e) none)) (λ e. e)) (foreign_apart programs past tx owned.1 none)
 
 -- what began is that of the event
@@ -87,15 +79,9 @@ begun_is event (Say.Begun t) u b e =
     (b ∙ ap (λ (v : Tid). Ev.Begin v) same, ap (λ (v : Tid). same_tx v.tx u.tx) same ∙ same_tx-refl u.tx)
 begun_is event answer u b e = cc
 
-begun_tx : (event : SiteEvent) (answer : Answer) (tx : Tx) → IsBegunBy event answer → begins_tx tx answer ≡ true → (t : Tid) × (event ≡ Ev.Begin t) × (t.tx ≡ tx)
+pub begun_tx : (event : SiteEvent) (answer : Answer) (tx : Tx) → IsBegunBy event answer → begins_tx tx answer ≡ true → (t : Tid) × (event ≡ Ev.Begin t) × (t.tx ≡ tx)
 begun_tx event (Say.Begun t) tx b e = (t, b, same_tx-equal t.tx tx e)
 begun_tx event answer tx b e = cc
-
-count_more : (past : SitePast) (x : SiteHappening) (tx : Tx) → attempts_of past tx ≤ attempts_of (x ∷ past) tx
-count_more past x tx = from (begins_tx tx x.answer) where
-  from : (b : Bool) → attempts_of past tx ≤ cond b (suc (attempts_of past tx)) (attempts_of past tx)
-  from true = omega arith
-  from false = omega arith
 
 -- the line of an event of a past that events made
 made_begun : (home : Home) (past : SitePast) (x : SiteHappening) → IsMade home (x ∷ past) → IsBegunBy x.event x.answer
@@ -112,7 +98,7 @@ begun_below home programs (x ∷ past) u made owned e = from (or_cases (begins_t
       let next : u.attempt ≡ attempts_of past u.tx = ap (λ (t : Tid). t.attempt) fits.1 in
       let counted : attempts_of (x ∷ past) u.tx ≡ suc (attempts_of past u.tx) = cond-true _ _ _ of_tx in
       omega arith
-  from (inr earlier) rest = let old = rest earlier in let more = count_more past x u.tx in omega arith
+  from (inr earlier) rest = let old = rest earlier in let more = attempts_grow past x u.tx in omega arith
 
 -- an attempt behind those that were begun wasn't
 pub next_unbegun : (home : Home) (programs : OwnPrograms) (past : SitePast) (tx : Tx) (n : ℕ) → IsMade home past → IsOwned programs past → attempts_of past tx ≤ n → was_begun (attempt tx n) past ≡ false

@@ -6,6 +6,7 @@ use Rattle.mdb_base.specs.declared.acts.PlainAct.{PlainAct}
 use Rattle.mdb_base.specs.declared.names.Tid.{Tid}
 use Rattle.mdb_base.specs.declared.names.Tx.{Tx}
 use Rattle.mdb_base.specs.Words.{pick, when}
+use Rattle.mdb_base.proofs.NameLaws.{same_tx-refl}
 use Rattle.presumptions.specs.declared.Decision.{Decision}
 use Rattle.presumptions.specs.declared.Decision.TheVariants as Decided
 use Rattle.presumptions.specs.Table.{forces}
@@ -21,14 +22,14 @@ use Rattle.fed_rules.specs.Disk.{Append, Sync, CutBack, Stops, is_torn}
 use Rattle.fed_rules.specs.Happenings.{Trip, is_down, quiet, stopped, tripped}
 use Rattle.fed_rules.specs.Runs.{EngineLine, Run}
 use Rattle.fed_rules.specs.Site as Site
-use Rattle.fed_rules.specs.Site.{act_answer, answered, ended_calls, number_of, of_abort, of_act, of_ask, of_back, of_begin, of_check, of_commit, of_decide, of_drop, of_fate, of_give, of_prepare, of_take, of_work, refusal_answer, reply_to, settling_line, site_line, unless_tripped}
+use Rattle.fed_rules.specs.Site.{act_answer, answered, ended_calls, number_of, of_abort, of_act, of_ask, of_back, of_begin, of_check, of_commit, of_decide, of_drop, of_fate, of_give, of_prepare, of_take, of_work, refusal_answer, reply_to, site_line, unless_tripped}
 use Rattle.fed_rules.specs.SitePast.{SiteHappening, SitePast, attempts_of, begins_tx, disk, epoch, live, trip}
 use Rattle.fed_rules.specs.SiteRecords.{Home, site_frame}
 use Rattle.site_history.proofs.Starts.{EachAppend, append_take}
-use Rattle.site_core.proofs.NameLaws.{same_tx-refl}
 use Rattle.site_core.proofs.RuleWalks.{by_pick, by_when}
 use Rattle.site_core.proofs.UpLaws.{act_answers, refusal_plain}
-use Rattle.local_dbms.proofs.Numbers.{draws}
+use Rattle.engine_laws.proofs.Numbers.{draws}
+use Rattle.engine_laws.proofs.Keeps.{settling}
 
 -- the numbers of a record are at most this one, and an epoch is at most one more
 abbrev pub IsBelow : ℕ → SiteRecord → Type 0
@@ -60,10 +61,6 @@ by_found P (Some x) none some n s = s x refl
 ended_fate : (event : SiteEvent) (b : Bool) → IsBegunBy event (cond b Say.Unbegun Say.Ended)
 ended_fate event true = tt
 ended_fate event false = tt
-
-settling : (tid : Tid) (decision : Decision) → draws (settling_line tid decision ∷ []) ≤ 1
-settling tid Decided.Commit = omega arith
-settling tid Decided.Abort = omega arith
 
 ended_below : (n : ℕ) (tid : Tid) (decision : Decision) (b : Bool) → EachAppend (IsBelow n) (Append (Rec.Ended tid decision) ∷ cond b (Sync ∷ []) [])
 ended_below n tid decision true = (tt, tt)

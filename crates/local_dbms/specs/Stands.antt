@@ -4,8 +4,8 @@ use Rattle.mdb_base.specs.declared.acts.Step.{Step}
 use Rattle.mdb_base.specs.declared.names.SiteId.{SiteId}
 use Rattle.mdb_base.specs.declared.names.Tx.{Tx}
 use Rattle.mdb_base.specs.declared.rows.Put.{Put}
-use Rattle.mdb_base.specs.Names.{same_site, same_tx}
-use Rattle.mdb_base.specs.Words.{first_where, or_else}
+use Rattle.mdb_base.specs.Names.{same_tx}
+use Rattle.mdb_base.specs.Words.{or_else}
 use Rattle.field_bytes.specs.Fields.{IsTid}
 use Rattle.fed_rules.specs.declared.answers.Answer.{Answer}
 use Rattle.fed_rules.specs.declared.events.SiteEvent.{SiteEvent}
@@ -15,6 +15,7 @@ use Rattle.fed_rules.specs.declared.messages.ToSite.{ToSite}
 use Rattle.fed_rules.specs.declared.scenario.SiteLine.{SiteLine}
 use Rattle.fed_rules.specs.declared.scenario.TxLine.{TxLine}
 use Rattle.fed_rules.specs.Happenings.{is_down}
+pub use Rattle.fed_rules.specs.OwnPrograms.{OwnPrograms, own_programs, program_at}
 use Rattle.fed_rules.specs.Requests.{Request, Submits, Declines, attempt, most_attempts}
 use Rattle.fed_rules.specs.Runs.{Start, EngineLine}
 use Rattle.fed_rules.specs.Site.{site_line}
@@ -24,16 +25,12 @@ use Rattle.fed_rules.specs.SiteRecords.{Home}
 use Rattle.journal_disk.specs.Disk.{Seen}
 use Rattle.actor_store.specs.declared.errors.StepErr.{StepErr}
 use Rattle.actor_store.specs.declared.errors.StepErr.TheVariants as Err_is
-use Rattle.site_core.specs.Made.{about}
+use Rattle.fed_rules.specs.Site_of.{about}
 use Rattle.site_core.specs.Stands.{Holds, Stands as CoreStands, StopAt, behind, stopped_past}
 use Rattle.site_core.specs.Steps.{CanStep}
 use Rattle.local_dbms.specs.declared.dbms.LocalDbms.{LocalDbms}
 use Rattle.local_dbms.specs.declared.requests.Request.{Request as Asked}
 use Rattle.local_dbms.specs.declared.requests.Request.TheVariants as Asked_is
-
--- the program of a transaction, where it is one of the site's own
-abbrev pub OwnPrograms : Type 0
-OwnPrograms = Tx → Option (List Step)
 
 -- an event names a transaction of the site's own, a begin also its next attempt, of at most 32, and a message is about none of them
 abbrev pub FitsPrograms : OwnPrograms → SitePast → SiteEvent → Type 0
@@ -124,18 +121,6 @@ pub record CanGive (message : ToSite) (home : Home) (programs : OwnPrograms) (pa
   pub short : length past < 2 ^ 30
   pub foreign : programs (about message).tx ≡ None
   pub in_range : IsTid (about message)
-
--- the program of a line, where its transaction is local at this site
-abbrev pub program_at : SiteId → Option TxLine → Option (List Step)
-program_at site None = None
-program_at site (Some line) = at line.home where
-  at : Option SiteId → Option (List Step)
-  at None = None
-  at (Some home) = cond (same_site home site) (Some line.program) None
-
--- the programs of a site's own transactions by these lines, of several of one number the first
-abbrev pub own_programs : SiteId → List TxLine → OwnPrograms
-own_programs site lines tx = program_at site (first_where (λ line. same_tx line.tx tx) lines)
 
 -- the program of a transaction by one further line, which counts before what stands in this list
 abbrev pub noted : SiteId → TxLine → List (Option (List Step)) → OwnPrograms

@@ -44,37 +44,22 @@ fn reach(programs: &mut Vec<Option<Program>>, tx: Tx) -> Result<(), Memory>
     Ok(())
 }
 
-/// The same program again.
-fn copied(alloc: Global, program: &Program) -> Result<Program, Memory>
-    ensures { IfOk result (λ copy. copy ≡ program.now) }
-{
-    match Program::new(alloc, program.steps()) {
-        Ok(copy) => Ok(copy),
-        Err(_) => Err(Memory),
-    }
-}
-
 /// The program of a line, where its transaction is local at this site.
-fn own_program(alloc: Global, site: SiteId, line: &TxLine) -> Result<Option<Program>, Memory>
+fn own_program(site: SiteId, line: &TxLine) -> Result<Option<Program>, Memory>
     ensures { IfOk result (λ program. program ≡ program_at site (Some line.now)) }
 {
     match line.home {
-        Some(home) if home.0 == site.0 => Ok(Some(copied(alloc, &line.program)?)),
+        Some(home) if home.0 == site.0 => Ok(Some(line.program.clone()?)),
         _ => Ok(None),
     }
 }
 
 /// Keeps the program of a line at its number, where its transaction is local at this site, and else nothing.
-fn note(
-    alloc: Global,
-    programs: &mut Vec<Option<Program>>,
-    site: SiteId,
-    line: &TxLine,
-) -> Result<(), Memory>
+fn note(programs: &mut Vec<Option<Program>>, site: SiteId, line: &TxLine) -> Result<(), Memory>
     ensures { OnOk result ((tx : TheTx) → program_in programs.new.items tx ≡ noted site line.now programs.old.items tx) }
 {
     reach(programs, line.tx)?;
-    programs[line.tx.0 as usize] = own_program(alloc, site, line)?;
+    programs[line.tx.0 as usize] = own_program(site, line)?;
     Ok(())
 }
 
@@ -90,7 +75,7 @@ pub(crate) fn programs_of(
     let mut left = lines.len();
     while left > 0 {
         left -= 1;
-        note(alloc, &mut programs, site, &lines[left])?;
+        note(&mut programs, site, &lines[left])?;
     }
     Ok(programs)
 }

@@ -1,7 +1,7 @@
 -- Who holds the keys and the ticket, through each line.
 use Rattle.std.proofs.Common.{◌≡◌, ℕ, Bool, true, false, ◌&&◌, ◌||◌, cond, is_some, nat_eq, Option, Some, None, List, ◌∷◌, inl, inr, refl, sym, ap, ◌∙◌, subst}
 use Rattle.std.specs.FinMap.{get, insert}
-use Rattle.std.proofs.lemmas.Bool.{cond-true, cond-false, cases_Bool, eqb-true, eq-eqb}
+use Rattle.std.proofs.lemmas.Bool.{cond-true, cond-false, cases_Bool, eqb-true, eq-eqb, and_from, or_left, or_right}
 use Rattle.mdb_base.specs.declared.names.Key.{Key}
 use Rattle.mdb_base.specs.declared.names.Tid.{Tid}
 use Rattle.mdb_base.specs.Names.{same_tid, same_key}
@@ -81,21 +81,8 @@ each_same does start older line was now at is same u =
       | inr e ↦ does_same does _ _ (sym (cond-false _ _ _ e))
     ]
 
-pub and_both : (x y : Bool) → x ≡ true → y ≡ true → (x && y) ≡ true
-and_both true true e f = refl
-and_both true false e f = cc
-and_both false y e f = cc
-
 pub self_place : (p : Place) → same_place p p ≡ true
-self_place p = and_both (nat_eq p.key p.key) (nat_eq p.age p.age) (eq-eqb p.key p.key refl) (eq-eqb p.age p.age refl)
-
-or_left : (x y : Bool) → x ≡ true → (x || y) ≡ true
-or_left true y e = refl
-or_left false y e = cc
-
-or_right : (x y : Bool) → y ≡ true → (x || y) ≡ true
-or_right true y e = refl
-or_right false y e = e
+self_place p = and_from (nat_eq p.key p.key) (nat_eq p.age p.age) (eq-eqb p.key p.key refl) (eq-eqb p.age p.age refl)
 
 elsewhere : (m : Holders) (p q : Place) (t : Tid) (b : Bool) → same_place q p ≡ false → get (cond b m (insert m p t)) q ≡ get m q
 elsewhere m p q t true e = refl
@@ -205,7 +192,7 @@ holders_release does m new runs now t run apart h before gone others touched rel
             let run_is : had.run ≡ run = some_is had.run run (sym had.at ∙ (ap (λ (x : Tid). runs x) (sym here) ∙ before)) in
             let aged : nat_eq age run.age ≡ true = eq-eqb age run.age (sym had.aged ∙ ap (λ (r : Run). r.age) run_is) in
             let some = touched key (ap (λ (r : Run). does key r) (sym run_is) ∙ had.done) in
-            let bad : true ≡ false = sym (and_both (nat_eq age run.age) _ aged some) ∙ kept.0 in cc
+            let bad : true ≡ false = sym (and_from (nat_eq age run.age) _ aged some) ∙ kept.0 in cc
         | inr e ↦ record { run = had.run; at = others u e ∙ had.at; done = had.done; aged = had.aged }
       ];
   back = λ u other key at done.

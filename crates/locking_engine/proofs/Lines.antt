@@ -12,9 +12,9 @@ use Rattle.mdb_base.specs.Words.{some_of}
 use Rattle.fed_rules.specs.Runs.{Start, EngineLine, Begins, Acts, Takes, Seals, Refuses, Commits, Aborts, Access, Got, Wrote, Run, tid_of, begun, changed, gives_up, run_at}
 use Rattle.fed_rules.specs.Replies.{access_key, reads, writes, has_read, has_written}
 use Rattle.fed_rules.specs.EngineLines.{IsRightLine}
-use Rattle.engine_contract.proofs.Follows.{run_at-own, run_at-other}
 use Rattle.engine_laws.proofs.LockingTickets.{locking_one_taker}
 use Rattle.engine_laws.proofs.Takers.{IsTaker, HasOneTaker}
+use Rattle.engine_laws.proofs.RunLines.{run_at_own, run_at_other}
 use Rattle.run_book.specs.declared.rival.Rival.{Rival}
 use Rattle.run_book.specs.Held.{Held, held_in}
 use Rattle.run_book.specs.Book.{grants, drops}
@@ -69,7 +69,7 @@ stands_idle old new start older line was now s at is idle keeps rs ws ts = recor
 
 -- an access that is granted
 grown : (start : Start) (older : List EngineLine) (line : EngineLine) (was now : Run) → run_at start older (tid_of line) ≡ Some was → changed line (Some was) ≡ Some now → run_at start (line ∷ older) (tid_of line) ≡ Some now
-grown start older line was now at is = run_at-own start older line (Some was) at ∙ is
+grown start older line was now at is = run_at_own start older line (Some was) at ∙ is
 
 pub stands_read : (old new : LockingEngine) (start : Start) (older : List EngineLine) (tid : Tid) (held : Held) (key : Key) (value : ℕ) → Stands old start older → held_in old.book.book.runs tid ≡ Some held →
     IsRightLine start older (Acts tid (Read key) (Value value)) → new.book.book ≡ grants tid (Got key value) old.book.book → new.readers ≡ held_by (place_of key held.run.age) tid old.readers → new.writers ≡ old.writers → new.taker ≡ old.taker →
@@ -84,7 +84,7 @@ stands_read old new start older tid held key value s found right book rs ws ts =
       keeps = calls_well Locking old.book new.book start older line s.keeps right book;
       readers = subst (λ (m : Holders). AreHolders has_read m (run_at start (line ∷ older))) (sym rs)
           (holders_hold has_read old.readers (run_at start older) (run_at start (line ∷ older)) tid key was now (λ u v a b h g e. ages-differ start older u v a b k.starts k.right h g e) s.readers
-          at (grown start older line was now at refl) refl (λ q. refl) (λ u e. run_at-other start older line u e));
+          at (grown start older line was now at refl) refl (λ q. refl) (λ u e. run_at_other start older line u e));
       writers = subst (λ (m : Holders). AreHolders has_written m (run_at start (line ∷ older))) (sym ws)
           (holders_same has_written old.writers (run_at start older) _ (each_same has_written start older line (Some was) (Some now) at refl (does_as has_written was now (λ q. refl) refl)) s.writers);
       taker = subst (λ (o : Option Rival). IsOldest (run_at start (line ∷ older)) takes_ticket o) (sym ts)
@@ -106,7 +106,7 @@ stands_wrote old new start older tid held key value s found right book rs ws ts 
           (holders_same has_read old.readers (run_at start older) _ (each_same has_read start older line (Some was) (Some now) at refl (does_as has_read was now (λ q. refl) refl)) s.readers);
       writers = subst (λ (m : Holders). AreHolders has_written m (run_at start (line ∷ older))) (sym ws)
           (holders_hold has_written old.writers (run_at start older) (run_at start (line ∷ older)) tid key was now (λ u v a b h g e. ages-differ start older u v a b k.starts k.right h g e) s.writers
-          at (grown start older line was now at refl) refl (λ q. refl) (λ u e. run_at-other start older line u e));
+          at (grown start older line was now at refl) refl (λ q. refl) (λ u e. run_at_other start older line u e));
       taker = subst (λ (o : Option Rival). IsOldest (run_at start (line ∷ older)) takes_ticket o) (sym ts)
           (oldest_same (run_at start older) _ takes_ticket old.taker (each_same (λ q run. takes_ticket run) start older line (Some was) (Some now) at refl (does_as (λ q run. takes_ticket run) was now (λ q. refl) refl)) s.taker);
     }
@@ -136,9 +136,9 @@ taker_leaves start older line was now o one at is idle taker = by_takes (takes_t
     by_takes true takes = λ u run here done.
         elim (cases_Bool (same_tid (tid_of line) u)) [
           | inl e ↦
-              let mine : now ≡ Some run = sym is ∙ (sym (run_at-own start older line (Some was) at) ∙ (ap (λ (t : Tid). run_at start (line ∷ older) t) (same_tid-equal (tid_of line) u e) ∙ here)) in
+              let mine : now ≡ Some run = sym is ∙ (sym (run_at_own start older line (Some was) at) ∙ (ap (λ (t : Tid). run_at start (line ∷ older) t) (same_tid-equal (tid_of line) u e) ∙ here)) in
               let bad : false ≡ true = sym (idle run mine) ∙ done in cc
-          | inr e ↦ one.one (tid_of line) u was run e at (sym (run_at-other start older line u e) ∙ here) (taker_is was takes) (taker_is run done)
+          | inr e ↦ one.one (tid_of line) u was run e at (sym (run_at_other start older line u e) ∙ here) (taker_is was takes) (taker_is run done)
         ]
     by_takes false takes =
         oldest_same (run_at start older) (run_at start (line ∷ older)) takes_ticket o (each_same (λ q run. takes_ticket run) start older line (Some was) now at is (goes now refl takes)) taker
@@ -177,11 +177,11 @@ stands_released old new start older line run s at ends keeps released =
     let k = s.keeps.keeps in
     let runs = run_at start older in
     let apart : AgesDiffer runs = λ u v a b h g e. ages-differ start older u v a b k.starts k.right h g e in
-    let gone = run_at-own start older line (Some run) at ∙ ends in
+    let gone = run_at_own start older line (Some run) at ∙ ends in
     record {
       keeps = keeps;
-      readers = holders_release has_read old.readers new.readers runs (run_at start (line ∷ older)) (tid_of line) run apart s.readers at gone (λ u e. run_at-other start older line u e) (λ key h. read_touched key run.acts h) released.readers;
-      writers = holders_release has_written old.writers new.writers runs (run_at start (line ∷ older)) (tid_of line) run apart s.writers at gone (λ u e. run_at-other start older line u e) (λ key h. write_touched key run.acts h) released.writers;
+      readers = holders_release has_read old.readers new.readers runs (run_at start (line ∷ older)) (tid_of line) run apart s.readers at gone (λ u e. run_at_other start older line u e) (λ key h. read_touched key run.acts h) released.readers;
+      writers = holders_release has_written old.writers new.writers runs (run_at start (line ∷ older)) (tid_of line) run apart s.writers at gone (λ u e. run_at_other start older line u e) (λ key h. write_touched key run.acts h) released.writers;
       taker = subst (λ (o : Option Rival). IsOldest (run_at start (line ∷ older)) takes_ticket o) (sym released.taker)
           (taker_leaves start older line run None old.taker (locking_one_taker start older k.of_kind k.right) at ends (λ r h. cc) s.taker);
     }

@@ -20,9 +20,9 @@ use Rattle.fed_rules.specs.Runs.{Start, EngineLine, Begins, Acts, Takes, Seals, 
 use Rattle.fed_rules.specs.Replies.{has_read, has_written, seal_stop, seal_number, granted, granted_by, rule, or_reply}
 use Rattle.fed_rules.specs.EngineLines.{IsRightLine, IsFree, IsStart}
 use Rattle.engine_contract.specs.Calls.{start_from}
-use Rattle.engine_contract.proofs.Follows.{run_at-own, run_at-other}
 use Rattle.engine_laws.proofs.LockingTickets.{locking_one_taker}
 use Rattle.engine_laws.proofs.Takers.{HasOneTaker}
+use Rattle.engine_laws.proofs.RunLines.{run_at_own, run_at_other}
 use Rattle.run_book.specs.declared.marks.Marks.{Marks}
 use Rattle.run_book.specs.declared.rival.Rival.{Rival}
 use Rattle.run_book.specs.Held.{Held, held_in}
@@ -175,8 +175,8 @@ stands_took old new start older tid held n s found live ticketless free number b
       writers = subst (λ (m : Holders). AreHolders has_written m (run_at start (line ∷ older))) (sym ws)
           (holders_same has_written old.writers (run_at start older) _ (each_same has_written start older line (Some was) (Some now) here refl (does_as has_written was now (λ q. refl) refl)) s.writers);
       taker = subst (λ (o : Option Rival). IsOldest (run_at start (line ∷ older)) takes_ticket o) (sym ts)
-          (only_taker (run_at start (line ∷ older)) tid now (run_at-own start older line (Some was) here) (live_takes now refl live)
-          (λ u other e there done. none u other (sym (run_at-other start older line u e) ∙ there) done));
+          (only_taker (run_at start (line ∷ older)) tid now (run_at_own start older line (Some was) here) (live_takes now refl live)
+          (λ u other e there done. none u other (sym (run_at_other start older line u e) ∙ there) done));
     }
 
 -- a run is sealed, and its ticket, which is the next one, is published

@@ -2,16 +2,18 @@
 use Rattle.std.proofs.Common.{◌≡◌, ℕ, ◌<◌, ◌≤◌, ◌⊎◌, Bool, true, false, not, ◌&&◌, cond, nat_eq, is_some, Option, Some, None, List, [], ◌∷◌, inl, inr, refl, sym, ap, ◌∙◌, arith}
 use Rattle.std.specs.declared.cmp.Ordering.{Ordering}
 use Rattle.std.specs.declared.cmp.Ordering.TheVariants.{Less, Equal, Greater}
-use Rattle.std.specs.Cmp.{IsTotalOrder, nat_cmp_total, ranked}
+use Rattle.std.specs.Cmp.{IsTotalOrder, nat_cmp_total}
 use Rattle.std.specs.Ordering.{nat_cmp, ordering_then, is_eq, is_gt}
 use Rattle.std.specs.FinMap.{from_entries, find, get, get-insert, get-remove, get-from_entries, insert, remove, same_map}
 use Rattle.std.specs.Map.{lookup}
 use Rattle.std.specs.BTreeMap.{is_at}
-use Rattle.std.proofs.lemmas.Bool.{cond-true, cond-false, eqb-true, lt-ltb}
+use Rattle.std.proofs.lemmas.Bool.{cond-true, cond-false, eqb-true, and_parts}
 use Rattle.std.proofs.lemmas.Bool.Decides.{nat_tests}
 use Rattle.std.proofs.lemmas.Cmp.{on_total, then_total}
 use Rattle.std.proofs.lemmas.Map.Lookups.{CmpEqualImpliesEq, exact_pairs, exact_unsigned}
+use Rattle.std.proofs.lemmas.Map.Keys.{le_from_not_gt}
 use Rattle.mdb_base.specs.declared.names.Tid.{Tid}
+use Rattle.mdb_base.proofs.NumberLaws.{is_eq-nat_cmp, is_eq-then, nat_cmp-less, nat_cmp-equal, less-nat_cmp, nat_cmp-same, le-nat_cmp}
 use Rattle.locking_engine.specs.declared.holders.Place.{Place}
 use Rattle.locking_engine.specs.Holders.{Holders, place_cmp, held_by}
 
@@ -26,28 +28,15 @@ places_total = then_total (on_total (λ p. p.key) nat_cmp_total) (on_total (λ p
 abbrev pub same_place : Place → Place → Bool
 same_place a b = nat_eq a.key b.key && nat_eq a.age b.age
 
-ties_nat : (x y : ℕ) → is_eq (nat_cmp x y) ≡ nat_eq x y
-ties_nat x y = grind (arith, nat_tests)
-
-both_eq : (o p : Ordering) → is_eq (ordering_then o p) ≡ (is_eq o && is_eq p)
-both_eq Less p = refl
-both_eq Equal p = refl
-both_eq Greater p = refl
-
 ties : (a b : Place) → is_eq (place_cmp a b) ≡ same_place a b
 ties a b =
-    both_eq (nat_cmp a.key b.key) (nat_cmp a.age b.age)
-    ∙ ap (λ (x : Bool). x && is_eq (nat_cmp a.age b.age)) (ties_nat a.key b.key)
-    ∙ ap (λ (y : Bool). nat_eq a.key b.key && y) (ties_nat a.age b.age)
-
-parts_same : (x y : Bool) → (x && y) ≡ true → (x ≡ true) × (y ≡ true)
-parts_same true true e = (refl, refl)
-parts_same true false e = cc
-parts_same false y e = cc
+    is_eq-then (nat_cmp a.key b.key) (nat_cmp a.age b.age)
+    ∙ ap (λ (x : Bool). x && is_eq (nat_cmp a.age b.age)) (is_eq-nat_cmp a.key b.key)
+    ∙ ap (λ (y : Bool). nat_eq a.key b.key && y) (is_eq-nat_cmp a.age b.age)
 
 pub place-equal : (a b : Place) → same_place a b ≡ true → a ≡ b
 place-equal a b e =
-    let both = parts_same (nat_eq a.key b.key) (nat_eq a.age b.age) e in
+    let both = and_parts (nat_eq a.key b.key) (nat_eq a.age b.age) e in
     ap (λ (n : ℕ). let q : Place = record { key = n; age = a.age } in q) (eqb-true a.key b.key both.0)
     ∙ ap (λ (n : ℕ). let q : Place = record { key = b.key; age = n } in q) (eqb-true a.age b.age both.1)
 
@@ -88,52 +77,28 @@ entries_gone es fs p h =
     same_holders_map _ _ (λ q. get_holder fs q ∙ h q ∙ ap (λ (b : Bool). cond b None (look es q)) (turned p q)
     ∙ sym (holder-gone (from_entries es) p q ∙ ap (cond (same_place q p) None) (get_holder es q)))
 
--- comparisons of numbers
-less_of : (x y : ℕ) → nat_cmp x y ≡ Less → x < y
-less_of x y h = ranked x y Less (sym h)
-
-equal_of : (x y : ℕ) → nat_cmp x y ≡ Equal → x ≡ y
-equal_of x y h = ranked x y Equal (sym h)
-
-of_less : (x y : ℕ) → x < y → nat_cmp x y ≡ Less
-of_less x y h = cond-true _ _ _ (lt-ltb x y h)
-
-of_same : (x : ℕ) → nat_cmp x x ≡ Equal
-of_same x = grind (arith, nat_tests)
-
-of_le : (x y : ℕ) → x ≤ y → is_gt (nat_cmp x y) ≡ false
-of_le x y h = grind (arith, nat_tests, h)
-
-le_of : (x y : ℕ) → is_gt (nat_cmp x y) ≡ false → x ≤ y
-le_of x y h = by_order (nat_cmp x y) refl h
-  where
-    by_order : (o : Ordering) → nat_cmp x y ≡ o → is_gt o ≡ false → x ≤ y
-    by_order Less e h = let lt = less_of x y e in omega arith
-    by_order Equal e h = let is = equal_of x y e in omega arith
-    by_order Greater e h = cc
-
 -- comparisons of places
 pub below_of : (a b : Place) → place_cmp a b ≡ Less → (a.key < b.key) ⊎ ((a.key ≡ b.key) × (a.age < b.age))
 below_of a b h = by_order (nat_cmp a.key b.key) refl h
   where
     by_order : (o : Ordering) → nat_cmp a.key b.key ≡ o → ordering_then o (nat_cmp a.age b.age) ≡ Less → (a.key < b.key) ⊎ ((a.key ≡ b.key) × (a.age < b.age))
-    by_order Less e h = inl (less_of _ _ e)
-    by_order Equal e h = inr (equal_of _ _ e, less_of _ _ h)
+    by_order Less e h = inl (nat_cmp-less _ _ e)
+    by_order Equal e h = inr (nat_cmp-equal _ _ e, nat_cmp-less _ _ h)
     by_order Greater e h = cc
 
 pub up_to_of : (a b : Place) → is_gt (place_cmp a b) ≡ false → (a.key < b.key) ⊎ ((a.key ≡ b.key) × (a.age ≤ b.age))
 up_to_of a b h = by_order (nat_cmp a.key b.key) refl h
   where
     by_order : (o : Ordering) → nat_cmp a.key b.key ≡ o → is_gt (ordering_then o (nat_cmp a.age b.age)) ≡ false → (a.key < b.key) ⊎ ((a.key ≡ b.key) × (a.age ≤ b.age))
-    by_order Less e h = inl (less_of _ _ e)
-    by_order Equal e h = inr (equal_of _ _ e, le_of _ _ h)
+    by_order Less e h = inl (nat_cmp-less _ _ e)
+    by_order Equal e h = inr (nat_cmp-equal _ _ e, le_from_not_gt _ _ h)
     by_order Greater e h = cc
 
 pub below_here : (key x y : ℕ) → x < y → place_cmp (record { key = key; age = x }) (record { key = key; age = y }) ≡ Less
-below_here key x y h = ap (λ (o : Ordering). ordering_then o (nat_cmp x y)) (of_same key) ∙ of_less x y h
+below_here key x y h = ap (λ (o : Ordering). ordering_then o (nat_cmp x y)) (nat_cmp-same key) ∙ less-nat_cmp x y h
 
 pub up_to_here : (key x y : ℕ) → x ≤ y → is_gt (place_cmp (record { key = key; age = x }) (record { key = key; age = y })) ≡ false
-up_to_here key x y h = ap (λ (o : Ordering). is_gt (ordering_then o (nat_cmp x y))) (of_same key) ∙ of_le x y h
+up_to_here key x y h = ap (λ (o : Ordering). is_gt (ordering_then o (nat_cmp x y))) (nat_cmp-same key) ∙ le-nat_cmp x y h
 
 -- who is put in where nobody stands, and nobody is where one does
 pub held_there : (m : Holders) (p : Place) (t : Tid) → is_some (get m p) ≡ true → m ≡ held_by p t m

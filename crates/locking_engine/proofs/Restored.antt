@@ -6,26 +6,19 @@ use Rattle.mdb_base.specs.declared.names.Key.{Key}
 use Rattle.mdb_base.specs.declared.names.Tid.{Tid}
 use Rattle.mdb_base.specs.declared.rows.Put.{Put}
 use Rattle.mdb_base.specs.Names.{same_tid, same_key}
-use Rattle.mdb_base.specs.Words.{Each, some_of}
-use Rattle.mdb_base.proofs.NameLaws.{same_tid-equal, same_tid-refl, same_tid-sym}
+use Rattle.mdb_base.specs.Words.{Each}
+use Rattle.mdb_base.proofs.NameLaws.{same_tid-equal, same_tid-refl}
 use Rattle.fed_rules.specs.declared.runs.Kept.{Kept}
-use Rattle.fed_rules.specs.Runs.{Run, restored, restored_at, written, has_ticket, is_sealed}
-use Rattle.fed_rules.specs.Replies.{has_written, has_read, writes, reads}
+use Rattle.fed_rules.specs.Runs.{Run, restored, restored_at, has_ticket, is_sealed}
+use Rattle.fed_rules.specs.Replies.{has_written, has_read, writes}
 use Rattle.fed_rules.specs.EngineLines.{AreApart, AllApart, has_row}
+use Rattle.engine_laws.proofs.Conflicts.{written_rows, read_none}
+use Rattle.engine_laws.proofs.RunLines.{restored_one}
 use Rattle.locking_engine.specs.declared.holders.Place.{Place}
 use Rattle.locking_engine.specs.Holders.{Holders, place_cmp, place_of, held_by, with_rows_held, with_restored}
 use Rattle.locking_engine.specs.Stands.{HasDone, AreHolders}
 use Rattle.locking_engine.proofs.Holding.{self_place, some_is}
 use Rattle.locking_engine.proofs.Places.{same_place, place-equal, holder-put}
-
--- the writes of a restored run are the rows of its record
-written_rows : (key : Key) (puts : List Put) → some_of (writes key) (written puts) ≡ has_row key puts
-written_rows key [] = refl
-written_rows key (put ∷ puts) = ap (λ (b : Bool). same_key put.key key || b) (written_rows key puts)
-
-read_none : (key : Key) (puts : List Put) → some_of (reads key) (written puts) ≡ false
-read_none key [] = refl
-read_none key (put ∷ puts) = read_none key puts
 
 -- a holder that is put in leaves the other places
 held-other : (m : Holders) (p q : Place) (t : Tid) → same_place q p ≡ false → get (held_by p t m) q ≡ get m q
@@ -136,11 +129,6 @@ free-after : (kept : Kept) (more : List Kept) (m : Holders) → Each (AreApart k
 free-after kept [] m apart free = tt
 free-after kept (other ∷ more) m apart free =
     ((λ key. rows-other kept.tid kept.number kept.writes m (place_of key other.number) (λ same. numbers_differ kept other apart.0 (sym same)) ∙ free.0 key), free-after kept more m apart.1 free.1)
-
-restored_one : (kept : Kept) (more : List Kept) (u : Tid) → Each (AreApart kept) more → same_tid kept.tid u ≡ true → restored_at more u ≡ None
-restored_one kept [] u apart e = refl
-restored_one kept (other ∷ more) u apart e =
-    cond-false _ _ _ (ap (λ (t : Tid). same_tid other.tid t) (sym (same_tid-equal kept.tid u e)) ∙ (same_tid-sym other.tid kept.tid ∙ apart.0.tids)) ∙ restored_one kept more u apart.1 e
 
 restored_there : (doubtful : List Kept) (m : Holders) (key : Key) (age : ℕ) (u : Tid) → AllApart doubtful → AreFree doubtful m → get (with_restored doubtful m) (place_of key age) ≡ Some u →
     (get m (place_of key age) ≡ Some u) ⊎ HasDone has_written (restored_at doubtful) u key age

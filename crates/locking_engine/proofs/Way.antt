@@ -1,6 +1,6 @@
 -- Who stands in the way of a run is who the rule looks for.
-use Rattle.std.proofs.Common.{◌≡◌, ℕ, ◌≤◌, ◌⊎◌, Bool, true, false, not, ◌&&◌, ◌||◌, cond, nat_eq, nat_lt, Option, Some, None, List, [], ◌∷◌, inl, inr, refl, sym, ap, ◌∙◌, subst, arith}
-use Rattle.std.proofs.lemmas.Bool.{eqb-true, eq-eqb, ltb-true, ltb-false}
+use Rattle.std.proofs.Common.{◌≡◌, ℕ, ◌≤◌, Bool, true, false, not, ◌&&◌, ◌||◌, cond, nat_eq, nat_lt, Option, Some, None, List, [], inl, inr, refl, sym, ap, ◌∙◌, subst, arith}
+use Rattle.std.proofs.lemmas.Bool.{eqb-true, eq-eqb, ltb-true, ltb-false, and_from, and_parts, or_cases, or_left, or_right}
 use Rattle.mdb_base.specs.declared.names.Engine.{Engine}
 use Rattle.mdb_base.specs.declared.names.Engine.TheVariants.{Locking}
 use Rattle.mdb_base.specs.declared.names.Key.{Key}
@@ -8,13 +8,14 @@ use Rattle.mdb_base.specs.declared.names.Tid.{Tid}
 use Rattle.mdb_base.specs.declared.acts.PlainAct.{PlainAct}
 use Rattle.mdb_base.specs.declared.acts.PlainAct.TheVariants.{Read, Write}
 use Rattle.mdb_base.specs.declared.replies.Reply.{Reply}
-use Rattle.mdb_base.specs.Names.{same_tid, same_key}
+use Rattle.mdb_base.specs.Names.{same_tid}
 use Rattle.mdb_base.proofs.NameLaws.{same_tid-equal, same_tid-refl}
-use Rattle.mdb_base.specs.Words.{some_of, map_some, those, least}
-use Rattle.fed_rules.specs.Runs.{Start, EngineLine, Access, Got, Wrote, Run, run_at, unended, has_ticket, is_sealed}
-use Rattle.fed_rules.specs.Replies.{age_of, conflicts, reads, writes, is_in_the_way, has_read, has_written, is_other, wait_die, access_stop, ticket_stop}
+use Rattle.mdb_base.specs.Words.{map_some, those, least}
+use Rattle.fed_rules.specs.Runs.{Start, EngineLine, Run, run_at, unended, has_ticket, is_sealed}
+use Rattle.fed_rules.specs.Replies.{age_of, is_in_the_way, has_read, has_written, is_other, wait_die, access_stop, ticket_stop}
 use Rattle.fed_rules.specs.EngineLines.{IsStart, IsRight}
 use Rattle.engine_laws.proofs.Runs.{tid_is}
+use Rattle.engine_laws.proofs.Conflicts.{read_conflicts, write_conflicts}
 use Rattle.run_book.specs.declared.rival.Rival.{Rival}
 use Rattle.run_book.specs.Rivals.{rival_by, IsOldest, IsOldestRun}
 use Rattle.run_book.proofs.Ages.{ages-differ}
@@ -22,29 +23,12 @@ use Rattle.run_book.proofs.Unended.{oldest-least}
 use Rattle.locking_engine.specs.Holders.{Holders, IsOldestOther, IsFirstInTheWay, IsStop}
 use Rattle.locking_engine.specs.Rule.{stop_by, older_of_two}
 use Rattle.locking_engine.specs.Stands.{AreHolders, takes_ticket}
-use Rattle.locking_engine.proofs.Holding.{AgesDiffer, and_both, some_is}
+use Rattle.locking_engine.proofs.Holding.{AgesDiffer, some_is}
 
 pub oldest_test : (runs : Tid → Option Run) (test other : Run → Bool) (o : Option Rival) → ((run : Run) → other run ≡ test run) → IsOldest runs test o → IsOldest runs other o
 oldest_test runs test other None same none = λ u run at counts. none u run at (sym (same run) ∙ counts)
 oldest_test runs test other (Some r) same h =
     record { run = h.run; at = h.at; counts_here = same h.run ∙ h.counts_here; rank = h.rank; below = λ u run at counts. h.below u run at (sym (same run) ∙ counts) }
-
-both_true : (x y : Bool) → (x && y) ≡ true → (x ≡ true) × (y ≡ true)
-both_true true true e = (refl, refl)
-both_true true false e = cc
-both_true false y e = cc
-
-either_true : (x y : Bool) → (x || y) ≡ true → (x ≡ true) ⊎ (y ≡ true)
-either_true true y e = inl refl
-either_true false y e = inr e
-
-or_left : (x y : Bool) → x ≡ true → (x || y) ≡ true
-or_left true y e = refl
-or_left false y e = cc
-
-or_right : (x y : Bool) → y ≡ true → (x || y) ≡ true
-or_right true y e = refl
-or_right false y e = e
 
 -- another run is of another age
 module _ (runs : Tid → Option Run) (named : (u : Tid) (r : Run) → runs u ≡ Some r → r.tid ≡ u) (apart : AgesDiffer runs) (t : Tid) (me : Run) (here : runs t ≡ Some me) where
@@ -71,7 +55,7 @@ module _ (runs : Tid → Option Run) (named : (u : Tid) (r : Run) → runs u ≡
   -- the oldest other holder is the oldest other run that does so
   pub oldest_holder : (does : Key → Run → Bool) (m : Holders) (key : Key) (o : Option Rival) → AreHolders does m runs → IsOldestOther m key me.age o → IsOldest runs (λ run. is_other me run && does key run) o
   oldest_holder does m key None h none = λ u run at counts.
-      let both = both_true (is_other me run) (does key run) counts in
+      let both = and_parts (is_other me run) (does key run) counts in
       let bad : None ≡ Some u = sym (none run.age (age_of_other u run at both.0)) ∙ h.back u run key at both.1 in cc
   oldest_holder does m key (Some r) h first =
       let had = h.there key r.rank r.tid first.0 in
@@ -79,9 +63,9 @@ module _ (runs : Tid → Option Run) (named : (u : Tid) (r : Run) → runs u ≡
       record {
         run = had.run;
         at = had.at;
-        counts_here = and_both (is_other me had.run) (does key had.run) (other_by_age r.tid had.run had.at differs) had.done;
+        counts_here = and_from (is_other me had.run) (does key had.run) (other_by_age r.tid had.run had.at differs) had.done;
         rank = sym had.aged;
-        below = λ u run at counts. not_less u run at (both_true (is_other me run) (does key run) counts) (nat_lt run.age r.rank) refl;
+        below = λ u run at counts. not_less u run at (and_parts (is_other me run) (does key run) counts) (nat_lt run.age r.rank) refl;
       }
     where
       not_less : (u : Tid) (run : Run) → runs u ≡ Some run → (is_other me run ≡ true) × (does key run ≡ true) → (b : Bool) → nat_lt run.age r.rank ≡ b → r.rank ≤ run.age
@@ -91,20 +75,20 @@ module _ (runs : Tid → Option Run) (named : (u : Tid) (r : Run) → runs u ≡
 
 -- of two tests
 pub oldest_of_two : (runs : Tid → Option Run) (p q : Run → Bool) (a b : Option Rival) → IsOldest runs p a → IsOldest runs q b → IsOldest runs (λ run. p run || q run) (older_of_two a b)
-oldest_of_two runs p q None None none neither = λ u run at counts. elim (either_true (p run) (q run) counts) [ inl e ↦ none u run at e | inr e ↦ neither u run at e ]
+oldest_of_two runs p q None None none neither = λ u run at counts. elim (or_cases (p run) (q run) counts) [ inl e ↦ none u run at e | inr e ↦ neither u run at e ]
 oldest_of_two runs p q None (Some b) none h = record {
   run = h.run;
   at = h.at;
   counts_here = or_right (p h.run) (q h.run) h.counts_here;
   rank = h.rank;
-  below = λ u run at counts. elim (either_true (p run) (q run) counts) [ inl e ↦ absurd (none u run at e) | inr e ↦ h.below u run at e ];
+  below = λ u run at counts. elim (or_cases (p run) (q run) counts) [ inl e ↦ absurd (none u run at e) | inr e ↦ h.below u run at e ];
 }
 oldest_of_two runs p q (Some a) None h none = record {
   run = h.run;
   at = h.at;
   counts_here = or_left (p h.run) (q h.run) h.counts_here;
   rank = h.rank;
-  below = λ u run at counts. elim (either_true (p run) (q run) counts) [ inl e ↦ h.below u run at e | inr e ↦ absurd (none u run at e) ];
+  below = λ u run at counts. elim (or_cases (p run) (q run) counts) [ inl e ↦ h.below u run at e | inr e ↦ absurd (none u run at e) ];
 }
 oldest_of_two runs p q (Some a) (Some b) h g = by_rank (nat_lt b.rank a.rank) refl
   where
@@ -116,7 +100,7 @@ oldest_of_two runs p q (Some a) (Some b) h g = by_rank (nat_lt b.rank a.rank) re
           at = g.at;
           counts_here = or_right (p g.run) (q g.run) g.counts_here;
           rank = g.rank;
-          below = λ u run at counts. elim (either_true (p run) (q run) counts) [ inl f ↦ let le = h.below u run at f in omega arith | inr f ↦ g.below u run at f ];
+          below = λ u run at counts. elim (or_cases (p run) (q run) counts) [ inl f ↦ let le = h.below u run at f in omega arith | inr f ↦ g.below u run at f ];
         }
     by_rank false e =
         let le = ltb-false b.rank a.rank e in
@@ -125,31 +109,8 @@ oldest_of_two runs p q (Some a) (Some b) h g = by_rank (nat_lt b.rank a.rank) re
           at = h.at;
           counts_here = or_left (p h.run) (q h.run) h.counts_here;
           rank = h.rank;
-          below = λ u run at counts. elim (either_true (p run) (q run) counts) [ inl f ↦ h.below u run at f | inr f ↦ let more = g.below u run at f in omega arith ];
+          below = λ u run at counts. elim (or_cases (p run) (q run) counts) [ inl f ↦ h.below u run at f | inr f ↦ let more = g.below u run at f in omega arith ];
         }
-
--- a read conflicts with writes, and a write with both
-read_conflicts : (key : Key) (acts : List Access) → some_of (conflicts (Read key)) acts ≡ some_of (writes key) acts
-read_conflicts key [] = refl
-read_conflicts key (Got k value ∷ acts) = read_conflicts key acts
-read_conflicts key (Wrote k value ∷ acts) = ap (λ (b : Bool). same_key k key || b) (read_conflicts key acts)
-
-write_conflicts : (key : Key) (v : ℕ) (acts : List Access) → some_of (conflicts (Write key v)) acts ≡ (some_of (reads key) acts || some_of (writes key) acts)
-write_conflicts key v [] = refl
-write_conflicts key v (Got k value ∷ acts) =
-    ap (λ (b : Bool). same_key k key || b) (write_conflicts key v acts) ∙ joined (same_key k key) (some_of (reads key) acts) (some_of (writes key) acts)
-  where
-    joined : (x r w : Bool) → (x || (r || w)) ≡ ((x || r) || w)
-    joined true r w = refl
-    joined false r w = refl
-write_conflicts key v (Wrote k value ∷ acts) =
-    ap (λ (b : Bool). same_key k key || b) (write_conflicts key v acts) ∙ joined (same_key k key) (some_of (reads key) acts) (some_of (writes key) acts)
-  where
-    joined : (x r w : Bool) → (x || (r || w)) ≡ (r || (x || w))
-    joined true true w = refl
-    joined true false w = refl
-    joined false true w = refl
-    joined false false w = refl
 
 spread : (x a b : Bool) → (x && (a || b)) ≡ ((x && a) || (x && b))
 spread true a b = refl

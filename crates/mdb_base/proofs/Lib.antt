@@ -1,5 +1,15 @@
+pub mod BoolLaws
+pub mod Digits
+pub mod EachLaws
+pub mod JoinLaws
 pub mod ListLaws
 pub mod NameLaws
+pub mod NumberLaws
+pub mod OptionLaws
+pub mod PlaceLaws
 pub mod Registers
+pub mod ResultLaws
+pub mod RisingLaws
 pub mod RowLaws
+pub mod TestLaws
 pub mod Words

@@ -1,5 +1,6 @@
 pub mod Names
 pub mod Counts
+pub mod Few
 pub mod Programs
 pub mod Rising
 pub mod Rows

@@ -2,6 +2,8 @@
 #![tactic(auto)]
 
 mod acts;
+mod few;
+mod few_rising;
 mod lists;
 mod names;
 mod plain;
@@ -12,6 +14,8 @@ mod rows;
 mod text;
 
 pub use acts::{Act, PlainAct, Step};
+pub use few::Few;
+pub use few_rising::FewRising;
 pub use lists::ListOf;
 pub use names::{Engine, Fate, Key, Memory, SiteId, SiteTicket, Tid, Tx};
 pub use plain::next_act;

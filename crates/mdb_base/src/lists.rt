@@ -1,6 +1,8 @@
 //! A list that contracts see as a list, whatever memory it lies in.
 ghost use Rattle.std.specs.Prelude.{◌≡◌, ◌<◌, ◌↔◌, [], IsTrue, length, slice_get, Some};
+ghost use Rattle.std.specs.Cmp.Lexicographic.{pointwise, lists_per, lists_equiv};
 
+use std::alloc::AllocError;
 use std::marker::Model;
 
 /// A list of `T`, which contracts see as the list of its items.
@@ -63,19 +65,29 @@ impl<T> ListOf<T> {
     }
 }
 
-#[cfg(test)]
-mod tests {
-    use crate::Values;
-    use std::test::Fail;
+/// The copy is the same list, in memory of its own.
+impl<T: Copy> Clone for ListOf<T> {
+    ghost is_clone = { λ list copy. copy ≡ list };
 
-    #[test]
-    fn a_list_gives_its_items_back(rt: HostRuntime) -> Result<(), Fail> {
-        let list = Values::of(vec![in rt.alloc(); 7, 8]?);
-        assert_eq!(rt; list.len(), 2);
-        assert!(rt; !list.is_empty());
-        assert_eq!(rt; *list.at(1), 8);
-        assert_eq!(rt; list.as_slice(), [7, 8].as_slice());
-        assert_eq!(rt; list.into_items().as_slice(), [7, 8].as_slice());
-        Ok(())
+    fn clone(&self) -> Result<Self, AllocError> {
+        let alloc = *self.items.allocator();
+        Ok(ListOf {
+            items: Vec::from_slice(alloc, self.items.as_slice())?,
+        })
     }
+}
+
+/// Two lists are equal where they have the same length, and the items at each place are.
+impl<T: PartialEq> PartialEq for ListOf<T> {
+    ghost eq = { pointwise T.eq };
+
+    ghost laws = { lists_per T.laws };
+
+    fn eq(&self, other: &Self) -> bool {
+        self.items.as_slice() == other.items.as_slice()
+    }
+}
+
+impl<T: Eq> Eq for ListOf<T> {
+    ghost laws = { lists_equiv T.Eq.laws };
 }

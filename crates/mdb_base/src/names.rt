@@ -141,24 +141,3 @@ pub struct SiteTicket {
 impl Keyed for SiteTicket {
     ghost key = { λ ticket. ticket.site.0 };
 }
-
-#[cfg(test)]
-mod tests {
-    use super::Memory;
-    use std::alloc::Global;
-    use std::test::Fail;
-
-    fn two(alloc: Global) -> Result<Vec<u64>, Memory> {
-        let mut list = Vec::with_capacity(alloc, 1)?;
-        list.push(1)?;
-        list.push(2)?;
-        Ok(list)
-    }
-
-    #[test]
-    fn want_of_memory_is_passed_on(rt: HostRuntime) -> Result<(), Fail> {
-        let list = two(rt.alloc())?;
-        assert_eq!(rt; list.as_slice(), [1, 2].as_slice());
-        Ok(())
-    }
-}

@@ -4,7 +4,7 @@ ghost use Rattle.std.specs.Prelude.{◌≡◌, ℕ, ◌<◌, ◌≤◌, ◌↔�
 use crate::acts::{PlainAct, Step};
 use crate::names::SiteId;
 use crate::plain::first_bad_register;
-use std::alloc::Global;
+use std::alloc::{AllocError, Global};
 use std::marker::Model;
 use thiserror::Error;
 
@@ -47,6 +47,18 @@ impl Model for Program {
     ghost view = { λ p. p.steps.items };
 
     ghost invariant = { λ p. IsProgram p.steps.items };
+}
+
+/// The copy is the same program, in memory of its own. Its steps aren't checked again.
+impl Clone for Program {
+    ghost is_clone = { λ program copy. copy ≡ program };
+
+    fn clone(&self) -> Result<Program, AllocError> {
+        let alloc = *self.steps.allocator();
+        Ok(Program {
+            steps: Vec::from_slice(alloc, self.steps.as_slice())?,
+        })
+    }
 }
 
 impl Program {

@@ -70,27 +70,3 @@ impl<T: Keyed> Rising<T> {
         items
     }
 }
-
-#[cfg(test)]
-mod tests {
-    use crate::{Key, Put, Puts};
-    use std::test::Fail;
-
-    #[test]
-    fn a_rising_list_gives_its_items_back(rt: HostRuntime) -> Result<(), Fail> {
-        let low = Put {
-            key: Key(3),
-            value: 9,
-        };
-        let high = Put {
-            key: Key(4),
-            value: 1,
-        };
-        let rows = Puts::of(vec![in rt.alloc(); low, high]?);
-        assert_eq!(rt; rows.len(), 2);
-        assert_eq!(rt; *rows.at(1), high);
-        assert_eq!(rt; rows.as_slice(), [low, high].as_slice());
-        assert_eq!(rt; rows.into_items().as_slice(), [low, high].as_slice());
-        Ok(())
-    }
-}

@@ -32,25 +32,3 @@ pub fn sort_rows(mut rows: Vec<Put>) -> Rising<Put>
     rows.sort_unstable_by_key(|row| row.key.0);
     Rising::of(rows)
 }
-
-#[cfg(test)]
-mod tests {
-    use super::{Put, sort_rows};
-    use crate::Key;
-    use std::test::Fail;
-
-    #[test]
-    fn rows_are_put_in_order(rt: HostRuntime) -> Result<(), Fail> {
-        let low = Put {
-            key: Key(3),
-            value: 9,
-        };
-        let high = Put {
-            key: Key(4),
-            value: 1,
-        };
-        let rows = sort_rows(vec![in rt.alloc(); high, low]?);
-        assert_eq!(rt; rows.as_slice(), [low, high].as_slice());
-        Ok(())
-    }
-}

@@ -1,5 +1,5 @@
 -- Which commands the end of a session adds: closing none that begins an attempt, and finishing alone some that every session hears.
-use Rattle.std.proofs.Common.{◌≡◌, ℕ, zero, suc, ◌*◌, Bool, true, false, not, is_some, Option, Some, None, List, [], ◌∷◌, ◌++◌, length, refl, sym, ◌∙◌, ap, subst, append_assoc}
+use Rattle.std.proofs.Common.{◌≡◌, ℕ, zero, suc, ◌*◌, Bool, true, not, is_some, Option, Some, None, List, [], ◌∷◌, ◌++◌, length, refl, sym, ◌∙◌, ap, subst, append_assoc}
 use Rattle.mdb_base.specs.declared.acts.Step.{Step}
 use Rattle.mdb_base.specs.declared.names.SiteId.{SiteId}
 use Rattle.mdb_base.specs.declared.names.Tid.{Tid}
@@ -16,31 +16,11 @@ use Rattle.fed_rules.specs.Closing.{actors, ask_all, ask_site, bring_up, by_numb
 use Rattle.fed_rules.specs.CoordPast as Coordinator
 use Rattle.fed_rules.specs.Happenings.{is_down}
 use Rattle.fed_rules.specs.Scenarios.{home_of, sites}
+use Rattle.fed_rules.specs.Sessions.{fresh}
 use Rattle.fed_rules.specs.SitePast.{is_local, trip}
 use Rattle.fed_rules.specs.Story.{Story, past_of, story_of}
+use Rattle.rules_laws.proofs.Commands.{Adds, begins_nothing, is_of_clients}
 use Rattle.line_laws.specs.Lines.{IsHeard}
-
--- the commands with others behind them, of each of which the test holds
-pub record Adds (test : Command → Bool) (whole commands : List Command) : Type 0 where
-  pub front : List Command
-  pub is : whole ≡ front ++ commands
-  pub each : Each (λ command. test command ≡ true) front
-
--- whether a command begins no attempt
-abbrev pub begins_nothing : Command → Bool
-begins_nothing (Cmd.Begin tx) = false
-begins_nothing (Cmd.Go tx) = false
-begins_nothing command = true
-
--- whether a command is of a transaction or of a message, and so every session hears it
-abbrev pub is_of_clients : Command → Bool
-is_of_clients (Cmd.Begin tx) = true
-is_of_clients (Cmd.Step tx) = true
-is_of_clients (Cmd.Commit tx) = true
-is_of_clients (Cmd.Go tx) = true
-is_of_clients (Cmd.Give site place) = true
-is_of_clients (Cmd.Take site place) = true
-is_of_clients command = false
 
 pub clients_heard : (sites : List SiteLine) (command : Command) → is_of_clients command ≡ true → IsHeard sites command
 clients_heard sites (Cmd.Ask site tid) e = cc
@@ -81,13 +61,13 @@ module _ (test : Command → Bool) where
         let next = Cmd.Take place.site place.place ∷ commands in
         twice commands next (take_answers places next) (takes_add places next) (one (Cmd.Take place.site place.place) commands (takes place.site place.place))
 
-    taken_adds : (commands : List Command) → Adds test (taken scenario commands) commands
-    taken_adds commands = takes_add (last_sends scenario commands) commands
+    taken_adds : (commands : List Command) → Adds test (taken (fresh scenario) commands) commands
+    taken_adds commands = takes_add (last_sends (fresh scenario) commands) commands
 
-    deliver_adds : (place : Place) (commands : List Command) → Adds test (deliver scenario place commands) commands
+    deliver_adds : (place : Place) (commands : List Command) → Adds test (deliver (fresh scenario) place commands) commands
     deliver_adds place commands =
         let next = Cmd.Give place.site place.place ∷ commands in
-        twice commands next (taken scenario next) (taken_adds next) (one (Cmd.Give place.site place.place) commands (gives place.site place.place))
+        twice commands next (taken (fresh scenario) next) (taken_adds next) (one (Cmd.Give place.site place.place) commands (gives place.site place.place))
 
 -- ---- closing
 
@@ -98,30 +78,30 @@ module _ (scenario : Scenario) where
   quiet : (a b c : List Command) → Quiet c b → Quiet b a → Quiet c a
   quiet = twice begins_nothing
 
-  again_adds : (tid : Tid) (commands : List Command) → Quiet (send_again scenario tid commands) commands
+  again_adds : (tid : Tid) (commands : List Command) → Quiet (send_again (fresh scenario) tid commands) commands
   again_adds tid commands =
       let next = Cmd.Again tid ∷ commands in
-      quiet commands next (for_each (deliver scenario) (last_sends scenario next) next)
-      (each_adds begins_nothing (deliver scenario) (deliver_adds begins_nothing scenario (λ site place. refl) (λ site place. refl)) (last_sends scenario next) next)
+      quiet commands next (for_each (deliver (fresh scenario)) (last_sends (fresh scenario) next) next)
+      (each_adds begins_nothing (deliver (fresh scenario)) (deliver_adds begins_nothing scenario (λ site place. refl) (λ site place. refl)) (last_sends (fresh scenario) next) next)
       (one begins_nothing (Cmd.Again tid) commands refl)
 
-  inquire_adds : (site : SiteId) (tid : Tid) (commands : List Command) → Quiet (inquire scenario site tid commands) commands
+  inquire_adds : (site : SiteId) (tid : Tid) (commands : List Command) → Quiet (inquire (fresh scenario) site tid commands) commands
   inquire_adds site tid commands =
       let next = Cmd.Ask site tid ∷ commands in
-      let asked = taken scenario next in
-      quiet commands asked (for_each (λ (place : Place) more. Cmd.Give place.site place.place ∷ more) (last_sends scenario asked) asked)
-      (pushes begins_nothing (λ (place : Place). Cmd.Give place.site place.place) (λ place. refl) (last_sends scenario asked) asked)
+      let asked = taken (fresh scenario) next in
+      quiet commands asked (for_each (λ (place : Place) more. Cmd.Give place.site place.place ∷ more) (last_sends (fresh scenario) asked) asked)
+      (pushes begins_nothing (λ (place : Place). Cmd.Give place.site place.place) (λ place. refl) (last_sends (fresh scenario) asked) asked)
       (quiet commands next asked (taken_adds begins_nothing scenario (λ s place. refl) (λ s place. refl) next) (one begins_nothing (Cmd.Ask site tid) commands refl))
 
-  disarm_adds : (commands : List Command) → Quiet (disarm scenario commands) commands
+  disarm_adds : (commands : List Command) → Quiet (disarm (fresh scenario) commands) commands
   disarm_adds commands =
       pushes begins_nothing (λ actor. Cmd.Trip actor 0 0) (λ actor. refl) (actors (λ past. is_some (Coordinator.trip past)) (λ past. is_some (trip past)) scenario (story_of scenario commands)) commands
 
-  bring_up_adds : (commands : List Command) → Quiet (bring_up scenario commands) commands
+  bring_up_adds : (commands : List Command) → Quiet (bring_up (fresh scenario) commands) commands
   bring_up_adds commands =
       pushes begins_nothing (λ actor. Cmd.Back actor) (λ actor. refl) (actors (λ past. is_down past) (λ past. is_down past) scenario (story_of scenario commands)) commands
 
-  give_up_adds : (commands : List Command) → Quiet (give_up scenario commands) commands
+  give_up_adds : (commands : List Command) → Quiet (give_up (fresh scenario) commands) commands
   give_up_adds commands = pushes begins_nothing (λ tid. Cmd.Late tid) (λ tid. refl) (undecided (story_of scenario commands)) commands
 
   clear_site_adds : (story : Story) (site : SiteId) (commands : List Command) → Quiet (clear_site scenario story site commands) commands
@@ -131,25 +111,25 @@ module _ (scenario : Scenario) where
       (pushes begins_nothing (λ tid. Cmd.Drop site tid) (λ tid. refl) (those (λ tid. not (is_local (past_of site story) tid)) (live scenario story site)) aborts)
       (pushes begins_nothing (λ (tid : Tid). Cmd.Abort tid.tx) (λ tid. refl) (those (is_local (past_of site story)) (live scenario story site)) commands)
 
-  clear_adds : (commands : List Command) → Quiet (clear scenario commands) commands
+  clear_adds : (commands : List Command) → Quiet (clear (fresh scenario) commands) commands
   clear_adds commands = each_adds begins_nothing (clear_site scenario (story_of scenario commands)) (clear_site_adds (story_of scenario commands)) (sites scenario) commands
 
-  end_known_adds : (commands : List Command) → Quiet (end_known scenario commands) commands
-  end_known_adds commands = each_adds begins_nothing (send_again scenario) again_adds (known scenario (story_of scenario commands)) commands
+  end_known_adds : (commands : List Command) → Quiet (end_known (fresh scenario) commands) commands
+  end_known_adds commands = each_adds begins_nothing (send_again (fresh scenario)) again_adds (known scenario (story_of scenario commands)) commands
 
-  ask_site_adds : (story : Story) (site : SiteId) (commands : List Command) → Quiet (ask_site scenario story site commands) commands
-  ask_site_adds story site commands = each_adds begins_nothing (inquire scenario site) (inquire_adds site) (in_doubt_at (home_of scenario site) story) commands
+  ask_site_adds : (story : Story) (site : SiteId) (commands : List Command) → Quiet (ask_site (fresh scenario) story site commands) commands
+  ask_site_adds story site commands = each_adds begins_nothing (inquire (fresh scenario) site) (inquire_adds site) (in_doubt_at (home_of scenario site) story) commands
 
-  ask_all_adds : (commands : List Command) → Quiet (ask_all scenario commands) commands
-  ask_all_adds commands = each_adds begins_nothing (ask_site scenario (story_of scenario commands)) (ask_site_adds (story_of scenario commands)) (sites scenario) commands
+  ask_all_adds : (commands : List Command) → Quiet (ask_all (fresh scenario) commands) commands
+  ask_all_adds commands = each_adds begins_nothing (ask_site (fresh scenario) (story_of scenario commands)) (ask_site_adds (story_of scenario commands)) (sites scenario) commands
 
   pub closing_adds : (commands : List Command) → Adds begins_nothing (closed scenario commands) commands
   closing_adds commands =
-      let first = disarm scenario commands in
-      let second = bring_up scenario first in
-      let third = give_up scenario second in
-      let fourth = clear scenario third in
-      let fifth = end_known scenario fourth in
+      let first = disarm (fresh scenario) commands in
+      let second = bring_up (fresh scenario) first in
+      let third = give_up (fresh scenario) second in
+      let fourth = clear (fresh scenario) third in
+      let fifth = end_known (fresh scenario) fourth in
       quiet commands fifth (closed scenario commands) (ask_all_adds fifth)
       (quiet commands fourth fifth (end_known_adds fourth)
       (quiet commands third fourth (clear_adds third)
@@ -182,15 +162,15 @@ module _ (scenario : Scenario) where
   delivers_add (suc n) [] commands = here is_of_clients commands
   delivers_add (suc n) (place ∷ places) commands =
       let given = Cmd.Give place.site place.place ∷ commands in
-      let answered = taken scenario given in
-      let later = places ++ sent_next scenario answered (last_sends scenario given) in
+      let answered = taken (fresh scenario) given in
+      let later = places ++ sent_next scenario answered (last_sends (fresh scenario) given) in
       plain commands answered (deliver_all scenario n later answered) (delivers_add n later answered)
       (plain commands given answered (taken_adds is_of_clients scenario (λ site place. refl) (λ site place. refl) given) (one is_of_clients (Cmd.Give place.site place.place) commands refl))
 
   global_adds : (tx : Tx) (steps : List Step) (commands : List Command) → Plain (global_alone scenario tx steps commands) commands
   global_adds tx steps commands =
       let begun = Cmd.Go tx ∷ commands in
-      plain commands begun (global_alone scenario tx steps commands) (delivers_add (4 * length steps) (last_sends scenario begun) begun) (one is_of_clients (Cmd.Go tx) commands refl)
+      plain commands begun (global_alone scenario tx steps commands) (delivers_add (4 * length steps) (last_sends (fresh scenario) begun) begun) (one is_of_clients (Cmd.Go tx) commands refl)
 
   one_adds : (line : TxLine) (home : Option SiteId) (commands : List Command) → Plain (one_alone scenario line home commands) commands
   one_adds line None commands = global_adds line.tx line.program commands

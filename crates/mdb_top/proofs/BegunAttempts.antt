@@ -20,12 +20,13 @@ use Rattle.fed_rules.specs.Scenarios.{local_home, protocols}
 use Rattle.fed_rules.specs.SitePast.{attempts_of, begins_tx}
 use Rattle.fed_rules.specs.SiteRecords.{Home}
 use Rattle.fed_rules.specs.Story.{Happened, AtSite, AtCoordinator, Nowhere, Story, coord_past, past_of, story_of, tell}
+use Rattle.rules_laws.proofs.Commands.{begins_nothing}
 use Rattle.closing_laws.specs.Finished.{begun, begun_at}
 use Rattle.fed_hosts.proofs.CoordAsked.{begins_printed}
 use Rattle.fed_world.specs.Asks.{terms_of}
 use Rattle.line_laws.specs.Lines.{IsHeard, RightLinesFit}
-use Rattle.trace_lines.specs.Fits.{answer_fits, line_fits}
-use Rattle.mdb_top.proofs.Adds.{begins_nothing, closing_adds}
+use Rattle.line_text.specs.Fits.{answer_fits, line_fits}
+use Rattle.mdb_top.proofs.Adds.{closing_adds}
 
 -- no other command is answered that an attempt was begun
 not_begun : (command : Command) (tid : Tid) → begins_nothing command ≡ true → answer_fits command (Say.Begun tid) ≡ true → ⊥

@@ -3,6 +3,7 @@ use Rattle.std.proofs.Common.{◌≡◌, ℕ, zero, suc, ◌<◌, Bool, true, Is
 use Rattle.std.proofs.lemmas.Bool.{not-false}
 use Rattle.mdb_base.specs.declared.names.SiteId.{SiteId}
 use Rattle.mdb_base.specs.Words.{Each}
+use Rattle.mdb_base.proofs.JoinLaws.{nothing_left}
 use Rattle.order_laws.specs.Chains.{In}
 use Rattle.rules_laws.proofs.Declared.{home-again, its-site}
 use Rattle.fed_rules.specs.declared.commands.Command.{Command}
@@ -37,7 +38,7 @@ use Rattle.mdb_top.specs.Breaks.{BreaksAtNext, BreaksSetUp, CoordinatorStops, Si
 use Rattle.mdb_top.specs.Disks.{AreSetUp, CoordHolds, HoldAll, HoldFrames, HoldOthers, HoldsAt, NothingBut, SiteHolds, frames_at, site_frames}
 use Rattle.mdb_top.specs.Outcomes.{StartsShort}
 use Rattle.mdb_top.proofs.Recalled.{site_held}
-use Rattle.mdb_top.proofs.Stores.{coord_bytes, coord_whole, nothing, site_bytes, site_whole}
+use Rattle.mdb_top.proofs.Stores.{coord_bytes, coord_whole, site_bytes, site_whole}
 
 -- these disks tell as many bytes as they have
 abbrev pub AreSized : List Seen → Type 0
@@ -74,7 +75,7 @@ site_holds tells disks dbms scenario home past seen d at =
 
 -- a disk of no size has no byte
 no_byte : (disks : List Seen) (place : ℕ) (seen : Seen) → AreSized disks → slice_get disks place ≡ Some seen → seen.size ≡ 0 → seen.image.bytes ≡ []
-no_byte disks place seen sized at none = nothing seen.image.bytes (sized place seen at ∙ none)
+no_byte disks place seen sized at none = nothing_left seen.image.bytes (sized place seen at ∙ none)
 
 pub stands_hold_all : (tells : Bool) (world : World) (disks : List Seen) (scenario : Scenario) (commands : List Command) → AreSized disks → Stands tells world disks scenario commands
     → HoldAll disks scenario (story_of scenario commands)

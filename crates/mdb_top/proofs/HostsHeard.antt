@@ -1,12 +1,14 @@
 -- Each command of a run's hosts is one that some actor hears.
 use Rattle.std.proofs.Common.{◌≡◌, ℕ, ◌==◌, Bool, true, false, cond, Option, Some, List, [], ◌∷◌, map, reverse, slice_get, refl, sym, subst}
-use Rattle.std.proofs.lemmas.Bool.{and_parts}
+use Rattle.std.proofs.lemmas.Bool.{and_parts, or_left, or_right}
 use Rattle.mdb_base.specs.declared.names.SiteId.{SiteId}
 use Rattle.mdb_base.specs.Names.{same_site}
 use Rattle.mdb_base.specs.Words.{Each, some_of, those}
 use Rattle.mdb_base.proofs.ListLaws.{each_filtered}
-use Rattle.order_laws.proofs.Lists.{each_at, or_first, or_second}
+use Rattle.mdb_base.proofs.EachLaws.{each_of_mapped}
+use Rattle.order_laws.proofs.Lists.{each_at}
 use Rattle.order_laws.proofs.Members.{each_passes}
+use Rattle.order_laws.proofs.InLaws.{each_reverse, slice_get-in}
 use Rattle.fed_rules.specs.declared.commands.Command.{Command}
 use Rattle.fed_rules.specs.declared.commands.Command.TheVariants as Cmd
 use Rattle.fed_rules.specs.declared.commands.Line.{Line}
@@ -21,7 +23,6 @@ use Rattle.fed_rules.specs.Plans.{IsScenario, declares, is_actor, is_declared, i
 use Rattle.fed_rules.specs.Scenarios.{home_in, items_of, sites}
 use Rattle.fed_rules.specs.SiteRecords.{Home}
 use Rattle.rules_laws.proofs.Declared.{its-site}
-use Rattle.coord_laws.proofs.Dues.{each_of_mapped}
 use Rattle.fed_messages.specs.declared.Envelope.{Envelope}
 use Rattle.trace_merge.specs.Traces.{Entry, IsTrace}
 use Rattle.host_laws.specs.CoordHistory.{IsCoordCommand, IsCoordHistory}
@@ -33,9 +34,7 @@ use Rattle.host_laws.specs.Merged.{commands_of, lines_in}
 use Rattle.host_laws.specs.Plans.{SitePlan}
 use Rattle.host_laws.specs.Turns.{SiteTurn, trips_of}
 use Rattle.host_laws.proofs.CarriedHosts.{by_list}
-use Rattle.host_laws.proofs.CarriedLists.{reverse_each}
 use Rattle.host_laws.proofs.CarriedTrace.{each_entry}
-use Rattle.host_laws.proofs.DeclaredSites.{in_by_place}
 use Rattle.line_laws.specs.Lines.{IsHeard}
 
 -- a line is of a command that some actor hears
@@ -52,18 +51,18 @@ home_declared (line ∷ lines) items site home e = by_test (same_site line.site 
 
     by_test : (b : Bool) → same_site line.site site ≡ b → cond b (Some here) (home_in lines items site) ≡ Some home → (home_in lines items site ≡ Some home → is_declared lines site ≡ true)
         → is_declared (line ∷ lines) site ≡ true
-    by_test true is f rest = or_first (declares site line) (some_of (declares site) lines) is
-    by_test false is f rest = or_second (declares site line) (some_of (declares site) lines) (rest f)
+    by_test true is f rest = or_left (declares site line) (some_of (declares site) lines) is
+    by_test false is f rest = or_right (declares site line) (some_of (declares site) lines) (rest f)
 
 -- and so is its actor
 declared_actor : (sites : List SiteLine) (site : SiteId) → is_declared sites site ≡ true → is_actor sites site.0 ≡ true
-declared_actor sites site e = or_second (site.0 == 0) (is_declared sites site) e
+declared_actor sites site e = or_right (site.0 == 0) (is_declared sites site) e
 
 -- that of a stop line is one
 stop_actor : (scenario : Scenario) (actor place : ℕ) (stop : StopLine) → IsScenario scenario → slice_get (those (stops_actor actor) scenario.stops) place ≡ Some stop → is_actor scenario.sites stop.actor ≡ true
 stop_actor scenario actor place stop whole at =
     let all = each_filtered (λ (line : StopLine). is_stop scenario.sites line ≡ true) (stops_actor actor) scenario.stops (each_passes (is_stop scenario.sites) scenario.stops whole.stops.range) in
-    let own = each_at (λ (line : StopLine). is_stop scenario.sites line ≡ true) stop (those (stops_actor actor) scenario.stops) all (in_by_place (those (stops_actor actor) scenario.stops) place stop at) in
+    let own = each_at (λ (line : StopLine). is_stop scenario.sites line ≡ true) stop (those (stops_actor actor) scenario.stops) all (slice_get-in (those (stops_actor actor) scenario.stops) place stop at) in
     (and_parts (is_actor scenario.sites stop.actor) _ (and_parts _ _ own).0).0
 
 module _ (scenario : Scenario) (whole : IsScenario scenario) where
@@ -107,18 +106,18 @@ module _ (scenario : Scenario) (whole : IsScenario scenario) where
 pub hosts_heard : {scripts : Scripts} (scenario : Scenario) (coordinator : CoordLog) (logs : List SiteLog) (lists : List (List Stamped)) (merged : List Stamped)
     → AreLogs scripts scenario coordinator logs → AreLists scenario coordinator logs lists → IsTrace lists merged → Each (IsHeard scenario.sites) (commands_of (lines_in merged))
 hosts_heard scenario coordinator logs lists merged are listed trace =
-    each_of_mapped _ (λ (line : Line). line.command) (reverse (lines_in merged)) (reverse_each (λ (line : Line). IsHeard scenario.sites line.command) (lines_in merged)
+    each_of_mapped _ (λ (line : Line). line.command) (reverse (lines_in merged)) (each_reverse (λ (line : Line). IsHeard scenario.sites line.command) (lines_in merged)
     (each_of_mapped _ (λ (stamped : Stamped). stamped.line) merged (subst (λ (ss : List Stamped). Each (HeardLine scenario.sites) ss) (sym trace.lines) (each_of_mapped _ (λ (e : Entry). e.line) trace.entries entries))))
   where
     own : Each (HeardLine scenario.sites) (reverse (map (λ (turn : CoordTurn). turn.line) coordinator.turns))
-    own = reverse_each (HeardLine scenario.sites) _ (each_of_mapped _ (λ (turn : CoordTurn). turn.line) coordinator.turns (coord_heard scenario are.whole coordinator.plan are.coordinator_is.stops coordinator.turns are.coordinator_is.right))
+    own = each_reverse (HeardLine scenario.sites) _ (each_of_mapped _ (λ (turn : CoordTurn). turn.line) coordinator.turns (coord_heard scenario are.whole coordinator.plan are.coordinator_is.stops coordinator.turns are.coordinator_is.right))
 
     site_own : (place : ℕ) (site : SiteId) (log : SiteLog) → slice_get (sites scenario) place ≡ Some site → slice_get logs place ≡ Some log → Each (HeardLine scenario.sites) (reverse (map (λ (turn : SiteTurn). turn.line) log.turns))
     site_own place site log at there =
         let s = are.site_is place site log at there in
         let same : log.plan.home.site ≡ site = its-site scenario site log.plan.home s.home in
         let declared = subst (λ x. is_declared scenario.sites x ≡ true) (sym same) (home_declared scenario.sites scenario.items site log.plan.home s.home) in
-        reverse_each (HeardLine scenario.sites) _ (each_of_mapped _ (λ (turn : SiteTurn). turn.line) log.turns (site_heard scenario are.whole site log.plan declared s.stops log.turns s.right))
+        each_reverse (HeardLine scenario.sites) _ (each_of_mapped _ (λ (turn : SiteTurn). turn.line) log.turns (site_heard scenario are.whole site log.plan declared s.stops log.turns s.right))
 
     entries : Each (λ (e : Entry). HeardLine scenario.sites e.line) trace.entries
     entries = each_entry (λ actor. HeardLine scenario.sites) trace.entries (λ actor. subst (Each (HeardLine scenario.sites)) (sym (trace.each_list actor)) (by_list are listed (λ n. Each (HeardLine scenario.sites)) own site_own (λ n. tt) actor))

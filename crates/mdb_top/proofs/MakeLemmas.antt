@@ -11,7 +11,8 @@ use Rattle.journal_disk.specs.Disk.{Seen}
 use Rattle.fed_world.specs.declared.world.World.{World}
 use Rattle.fed_world.specs.Worlds.{AreLines, EachStory, Recalls, Rests}
 use Rattle.host_laws.specs.Merged.{commands_of}
-use Rattle.trace_lines.specs.Spelling.{lines_bytes}
+use Rattle.line_text.specs.Spelling.{lines_bytes}
+use Rattle.fed_world.proofs.Recalled.{recalls}
 use Rattle.mdb_top.specs.declared.output.Output.{Output}
 use Rattle.mdb_top.specs.declared.output.Output.TheVariants.{Whole, Broken}
 use Rattle.mdb_top.specs.declared.made.Making.{Making}
@@ -24,7 +25,6 @@ use Rattle.mdb_top.specs.Streams.{Stream}
 use Rattle.mdb_top.specs.Summary.{summary_of, summary_text}
 use Rattle.mdb_top.specs.Texts.{disk_failed_text}
 use Rattle.mdb_top.proofs.Holding.{AreSized, stands_hold_frames}
-use Rattle.mdb_top.proofs.Recalled.{recalls}
 use Rattle.mdb_top.proofs.Rights.{all_commit, story_right}
 use Rattle.mdb_top.proofs.RunLemmas.{Stops, before, off_breaks, stopped_breaks, stopped_lines}
 

@@ -10,7 +10,7 @@ use Rattle.fed_world.specs.declared.world.World.{World}
 use Rattle.fed_world.specs.Faults.{RisesAt, faults_of}
 use Rattle.fed_world.specs.Worlds.{AreLines}
 use Rattle.scenario_text.specs.declared.session.Session.{Session}
-use Rattle.trace_lines.specs.Spelling.{lines_bytes}
+use Rattle.line_text.specs.Spelling.{lines_bytes}
 use Rattle.mdb_top.specs.declared.output.Output.{Output}
 use Rattle.mdb_top.specs.declared.output.Output.TheVariants.{Whole, Broken}
 use Rattle.mdb_top.specs.Disks.{HoldAll, HoldFrames}

@@ -3,9 +3,10 @@ use Rattle.std.proofs.Common.{◌≡◌, true, IsTrue, List, [], ◌∷◌, ◌+
 use Rattle.std.proofs.lemmas.Bool.{and_parts}
 use Rattle.std.proofs.lemmas.List.{append-nil, length-reverse, reverse-reverse}
 use Rattle.mdb_base.specs.Words.{Each}
-use Rattle.mdb_base.proofs.ListLaws.{append_each, each_append, each_map}
+use Rattle.mdb_base.proofs.ListLaws.{each_append, each_map}
+use Rattle.mdb_base.proofs.JoinLaws.{reverse_more}
 use Rattle.order_laws.proofs.Members.{each_passes}
-use Rattle.order_laws.proofs.Reversed.{reverse_more}
+use Rattle.order_laws.proofs.InLaws.{each_reverse}
 use Rattle.fed_rules.specs.declared.commands.Command.{Command}
 use Rattle.fed_rules.specs.declared.commands.Command.TheVariants as Cmd
 use Rattle.fed_rules.specs.declared.commands.Line.{Line}
@@ -21,7 +22,7 @@ use Rattle.fed_world.specs.Worlds.{AreLines}
 use Rattle.line_laws.specs.Lines.{ClosingIsHeard, IsHeard, RightLinesFit}
 use Rattle.scenario_text.specs.declared.session.Session.{Session}
 use Rattle.scenario_text.specs.Kept.{AreCommands, is_command}
-use Rattle.trace_lines.specs.Fits.{line_fits}
+use Rattle.line_text.specs.Fits.{line_fits}
 use Rattle.mdb_top.specs.Plays.{CanPlay, closed_with}
 use Rattle.mdb_top.specs.Sessions.{IsFront, commands_of}
 
@@ -81,11 +82,6 @@ own_heard sites (Cmd.Halt actor cut) e = (and_parts (is_actor sites actor) _ e).
 own_heard sites (Cmd.Trip actor calls cut) e = (and_parts (is_actor sites actor) _ (and_parts _ _ e).0).0
 own_heard sites (Cmd.Back actor) e = e
 own_heard sites (Cmd.Check actor) e = e
-
--- what holds of each holds of each in the other order
-pub each_reverse : {A : Type 0} (P : A → Type 0) (xs : List A) → Each P xs → Each P (reverse xs)
-each_reverse P [] each = tt
-each_reverse P (x ∷ xs) each = subst (λ ys. Each P ys) (sym (reverse_more x xs)) (append_each P (reverse xs) (x ∷ []) (each_reverse P xs each.1) (each.0, tt))
 
 -- those of a session are, with those that close it
 pub session_heard : (session : Session) → IsScenario session.scenario → AreCommands session.scenario.sites session.commands → ClosingIsHeard → Each (IsHeard session.scenario.sites) (commands_of session)

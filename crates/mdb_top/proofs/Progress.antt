@@ -3,7 +3,7 @@ use Rattle.std.proofs.Common.{◌≡◌, ℕ, zero, suc, ◌+◌, ◌-◌, ◌*�
 use Rattle.std.proofs.lemmas.Bool.{eqb-true}
 use Rattle.std.proofs.lemmas.List.{append_assoc, append-nil, length-append, length-drop, length-take-le, take-append-drop, take_all}
 use Rattle.std.proofs.Math.Seq.{drop-append_seam, take-add, take-append_seam}
-use Rattle.mdb_top.proofs.Stores.{nothing}
+use Rattle.mdb_base.proofs.JoinLaws.{nothing_left}
 use Rattle.mdb_top.specs.Streams.{Gives, Takes}
 use Rattle.mdb_top.specs.Progress.{HasPut, ReadsOn, HasTaken}
 
@@ -75,7 +75,7 @@ all-taken tells at_end before now text most h (inr le) t =
 
 -- nothing stands behind the end
 none_behind : (n : ℕ) (xs : List ℕ) → length xs ≤ n → drop n xs ≡ []
-none_behind n xs le = nothing (drop n xs) (omega (arith, length-drop n xs))
+none_behind n xs le = nothing_left (drop n xs) (omega (arith, length-drop n xs))
 
 -- what is left then is what stands behind as much as was asked for
 pub rest-left : (tells at_end : Bool) (before now text : List ℕ) (most : ℕ) → HasTaken tells at_end before now text most → (at_end ≡ true) ⊎ (most ≤ length text) → IsTrue tells → now ≡ drop most before

@@ -1,64 +1,21 @@
 -- What a world with its disks stands for it has in memory, and each declared site is among its parts.
-use Rattle.std.proofs.Common.{◌≡◌, ℕ, zero, suc, ◌<◌, Bool, Some, List, [], ◌∷◌, length, slice_get, inl, inr, refl, sym, ◌∙◌, ap, subst, arith}
+use Rattle.std.proofs.Common.{◌≡◌, ℕ, zero, suc, ◌<◌, Some, List, [], ◌∷◌, length, slice_get, inl, inr, refl, sym, ◌∙◌, ap, subst, arith}
 use Rattle.std.proofs.lemmas.Option.{slice_get_within}
 use Rattle.mdb_base.specs.declared.names.SiteId.{SiteId}
 use Rattle.order_laws.specs.Chains.{In}
 use Rattle.closing_laws.proofs.Declared.{listed}
-use Rattle.fed_rules.specs.declared.commands.Command.{Command}
 use Rattle.fed_rules.specs.declared.scenario.Scenario.{Scenario}
 use Rattle.fed_rules.specs.Scenarios.{home_of, sites}
-use Rattle.fed_rules.specs.SitePast.{SitePast}
 use Rattle.fed_rules.specs.SiteRecords.{Home}
-use Rattle.fed_rules.specs.Story.{Story, past_of, story_of}
-use Rattle.journal_disk.specs.Disk.{Seen}
+use Rattle.fed_rules.specs.Story.{Story, past_of}
 use Rattle.any_engine.specs.declared.engine.AnyEngine.{AnyEngine}
 use Rattle.local_dbms.specs.declared.dbms.LocalDbms.{LocalDbms}
-use Rattle.local_dbms.specs.Stands.{OwnPrograms, own_programs}
+use Rattle.local_dbms.specs.Stands.{own_programs}
 use Rattle.session_report.specs.declared.marks.Marks.{Marks}
 use Rattle.session_routes.specs.declared.traffic.Traffic.{Traffic}
-use Rattle.site_seats.specs.Seats.{OfDbms, SitesAt}
-use Rattle.fed_world.specs.declared.world.World.{World}
-use Rattle.fed_world.specs.Worlds.{DbmsRecalls, DbmsStands, Recalls, Stands}
+use Rattle.fed_world.specs.Seats.{OfDbms, SitesAt}
 
 -- ---- a fact of each site that another one follows from
-
-pub sites_weaker : (K L : OfDbms) → ((dbms : LocalDbms AnyEngine) (home : Home) (programs : OwnPrograms) (past : SitePast) → K dbms home programs past → L dbms home programs past)
-    → (cores : List (LocalDbms AnyEngine)) (marks : List Marks) (channels : List Traffic) (scenario : Scenario) (story : Story) → SitesAt K cores marks channels scenario story → SitesAt L cores marks channels scenario story
-sites_weaker K L f cores marks channels scenario story s = record {
-  all_cores = s.all_cores;
-  all_marks = s.all_marks;
-  all_channels = s.all_channels;
-  each = λ place site dbms own traffic a b c d.
-      let at = s.each place site dbms own traffic a b c d in
-      let part = at.part in
-      record {
-        home = at.home;
-        is = at.is;
-        declared = at.declared;
-        part = record {
-          dbms = f dbms at.home (own_programs site scenario.transactions) (past_of site story) part.dbms;
-          marked = part.marked;
-          site = part.site;
-          marks = part.marks;
-          to = part.to;
-          from = part.from;
-        };
-      };
-}
-
--- whatever is on the disks
-pub recalls : (tells : Bool) (world : World) (disks : List Seen) (scenario : Scenario) (commands : List Command) → Stands tells world disks scenario commands → Recalls world scenario commands
-recalls tells world disks scenario commands s =
-    let actors = s.stand.actors in
-    record {
-      has = s.has;
-      routed = s.routed;
-      actors = record {
-        coordinator = record { core = actors.coordinator.holds.core.holds; owns = actors.coordinator.holds.owns };
-        sites = sites_weaker (DbmsStands tells disks) DbmsRecalls (λ dbms home programs past d. record { core = d.holds.core.holds; owns = d.holds.owns })
-            world.cores.sites.items.items world.cores.marks.items world.traffic.items scenario (story_of scenario commands) actors.sites;
-      };
-    }
 
 -- ---- a declared site
 
@@ -96,7 +53,3 @@ site_held K cores marks channels scenario story home declared s = by_place (plac
               dbms = dbms;
               holds = subst (λ (h : Home). K dbms h (own_programs home.site scenario.transactions) (past_of home.site story)) same here.part.dbms;
             }
-
--- there are nine disks
-pub nine : (tells : Bool) (world : World) (disks : List Seen) (scenario : Scenario) (commands : List Command) → Stands tells world disks scenario commands → length disks ≡ 9
-nine tells world disks scenario commands s = s.stand.others.nine

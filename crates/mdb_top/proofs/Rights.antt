@@ -5,9 +5,8 @@ use Rattle.mdb_base.specs.declared.names.Tid.{Tid}
 use Rattle.mdb_base.specs.declared.names.Tx.{Tx}
 use Rattle.mdb_base.specs.declared.rows.Put.{Put}
 use Rattle.mdb_base.specs.Names.{same_tid, same_tx}
-use Rattle.mdb_base.proofs.NameLaws.{same_tid-refl}
+use Rattle.mdb_base.proofs.NameLaws.{same_tid-refl, same_tx-equal}
 use Rattle.order_laws.specs.Chains.{In}
-use Rattle.order_laws.proofs.Alike.{same_tx_alike}
 use Rattle.order_laws.proofs.Merge.{merge_names}
 use Rattle.order_laws.proofs.Names.{tells_tids}
 use Rattle.fed_rules.specs.declared.commands.Command.{Command}
@@ -83,7 +82,7 @@ local_kept [] tx e = absurd cc
 local_kept (Rec.Local t n w ∷ rs) tx e = by_test (same_tx t.tx tx) refl e (local_kept rs tx)
   where
     by_test : (b : Bool) → same_tx t.tx tx ≡ b → is_some (cond b (Some t) (local_of rs tx)) ≡ true → (is_some (local_of rs tx) ≡ true → KeepsLocal rs tx) → KeepsLocal (Rec.Local t n w ∷ rs) tx
-    by_test true q e more = record { tid = t; of_tx = same_tx_alike t.tx tx q; number = n; writes = w; kept = inl refl }
+    by_test true q e more = record { tid = t; of_tx = same_tx-equal t.tx tx q; number = n; writes = w; kept = inl refl }
     by_test false q e more = (let k = more e in record { tid = k.tid; of_tx = k.of_tx; number = k.number; writes = k.writes; kept = inr k.kept })
 local_kept (r ∷ rs) tx e = let k = local_kept rs tx e in record { tid = k.tid; of_tx = k.of_tx; number = k.number; writes = k.writes; kept = inr k.kept }
 
@@ -98,7 +97,7 @@ commit_kept (Coord_rec.Commit t ks ∷ rs) tx e = by_test (same_tx t.tx tx) refl
 
     by_test : (b : Bool) → same_tx t.tx tx ≡ b → is_some (cond b (Some t) (committed_of rs tx)) ≡ true
         → (is_some (committed_of rs tx) ≡ true → (tid : Tid) × (tid.tx ≡ tx) × (has_commit rs tid ≡ true)) → (tid : Tid) × (tid.tx ≡ tx) × (has_commit (Coord_rec.Commit t ks ∷ rs) tid ≡ true)
-    by_test true q e more = (t, same_tx_alike t.tx tx q, ap (λ b. cond b true (has_commit rs t)) (same_tid-refl t))
+    by_test true q e more = (t, same_tx-equal t.tx tx q, ap (λ b. cond b true (has_commit rs t)) (same_tid-refl t))
     by_test false q e more = (let k = more e in (k.0, k.1, later k.0 (same_tid t k.0) k.2))
 commit_kept (r ∷ rs) tx e = commit_kept rs tx e
 

@@ -15,8 +15,8 @@ use Rattle.fed_world.specs.Worlds.{AreLines}
 use Rattle.federation_run.specs.Running.{HasBroken, HasNotBegun}
 use Rattle.host_laws.specs.Merged.{commands_of}
 use Rattle.line_laws.specs.Lines.{ClosingIsHeard, IsHeard, RightLinesFit}
-use Rattle.trace_lines.specs.Fits.{line_fits}
-use Rattle.trace_lines.specs.Spelling.{lines_bytes}
+use Rattle.line_text.specs.Fits.{line_fits}
+use Rattle.line_text.specs.Spelling.{lines_bytes}
 use Rattle.mdb_top.specs.declared.output.Output.{Output}
 use Rattle.mdb_top.specs.declared.output.Output.TheVariants.{Whole, Broken}
 use Rattle.mdb_top.specs.Ends.{BreaksOff, IsEnded}

@@ -1,6 +1,7 @@
 -- What is on the disk of an actor's store: the bytes of the rules, and while the actor is up the frames of its records alone.
 use Rattle.std.proofs.Common.{◌≡◌, ℕ, Bool, true, false, IsTrue, Option, Some, List, [], ◌∷◌, ◌++◌, length, map, reverse, refl, sym, ◌∙◌, ap, subst, arith}
 use Rattle.std.proofs.lemmas.List.{append-nil, length-append}
+use Rattle.mdb_base.proofs.JoinLaws.{nothing_left}
 use Rattle.fed_rules.specs.declared.records.CoordRecord.{CoordRecord}
 use Rattle.fed_rules.specs.declared.records.SiteRecord.{SiteRecord}
 use Rattle.fed_rules.specs.CoordRecords.{coord_frame}
@@ -23,11 +24,6 @@ use Rattle.coord_journal.specs.Spelling as of_coordinator
 use Rattle.site_journal.specs.Exact as site_exact
 use Rattle.site_journal.specs.Frames as site_frames
 use Rattle.site_journal.specs.Spelling as of_site
-
--- a list without items
-pub nothing : {A : Type 0} (xs : List A) → length xs ≡ 0 → xs ≡ []
-nothing [] e = refl
-nothing (x ∷ xs) e = absurd (omega (arith, e))
 
 module _ {R : Type 0} (spelling : R → List ℕ) (reading : List ℕ → Option R) (is_record : R → Type 0) (frame_bytes : R → ℕ) (counts : CountsFrames spelling frame_bytes) (again : (entry : R) → is_record entry → reading (spelling entry) ≡ Some entry) where
   -- the bytes on a store's disk are those of the rules
@@ -58,7 +54,7 @@ module _ {R : Type 0} (spelling : R → List ℕ) (reading : List ℕ → Option
       let whole : store.journal.is_torn ≡ false = untorn store.standing up k.in_order in
       let most = not_torn store.journal.is_torn (spelled_size (entry_frame spelling) entries) seen.size k.kept_on.is_torn whole in
       let parts : length seen.image.bytes ≡ length (spelled (entry_frame spelling) entries ++ are.rest) = ap length are.parts in
-      let none : are.rest ≡ [] = nothing are.rest (omega (arith, most, parts, sized, length-append (spelled (entry_frame spelling) entries) are.rest, length-frames (map (entry_frame spelling) entries))) in
+      let none : are.rest ≡ [] = nothing_left are.rest (omega (arith, most, parts, sized, length-append (spelled (entry_frame spelling) entries) are.rest, length-frames (map (entry_frame spelling) entries))) in
       are.parts ∙ ap (λ rest. spelled (entry_frame spelling) entries ++ rest) none ∙ append-nil (spelled (entry_frame spelling) entries)
       ∙ ap (λ es. spelled (entry_frame spelling) es) k.records ∙ written_frames (reverse (journal frame_bytes rules))
     where

@@ -6,7 +6,7 @@ use Rattle.std.proofs.lemmas.List.Sums.{sum_by-cons, sum_by_more, sum_by_push}
 use Rattle.std.proofs.lemmas.Option.{get_or_from_slice_get, slice_get_within}
 use Rattle.mdb_base.specs.declared.names.SiteId.{SiteId}
 use Rattle.mdb_base.specs.declared.rows.Put.{Put}
-use Rattle.order_laws.proofs.Reversed.{reverse_more}
+use Rattle.mdb_base.proofs.JoinLaws.{reverse_more}
 use Rattle.rules_laws.proofs.Declared.{its-site}
 use Rattle.fed_rules.specs.declared.commands.Command.{Command}
 use Rattle.fed_rules.specs.declared.records.SiteRecord.{SiteRecord}
@@ -17,7 +17,7 @@ use Rattle.fed_rules.specs.SitePast.{journal}
 use Rattle.fed_rules.specs.SiteRecords.{Home}
 use Rattle.fed_rules.specs.Story.{Story, past_of, story_of}
 use Rattle.site_history.specs.Stories.{OfSites}
-use Rattle.sum_laws.specs.Sums.{JournalSaysAll}
+use Rattle.site_history.specs.Sums.{JournalSaysAll}
 use Rattle.mdb_top.specs.Summary.{commits_at, is_local_commit, journal_at, rows_at, rows_given, rows_total, total_at}
 
 -- ---- lists

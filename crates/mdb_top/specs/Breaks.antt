@@ -14,7 +14,7 @@ use Rattle.fed_rules.specs.SiteRecords.{Home}
 use Rattle.fed_rules.specs.Story.{Story, at_coordinator, at_site, coord_past, happens, past_of}
 use Rattle.journal_disk.specs.Disk.{Image, Seen}
 use Rattle.coord_core.specs.Stands.{stopped_before, stopped_within, with_trip}
-use Rattle.coord_core.specs.Terms.{Terms, line_of}
+use Rattle.coord_tables.specs.Terms.{Terms, line_of}
 use Rattle.site_core.specs.Stands.{StopAt, stopped_past}
 use Rattle.site_core.specs.Store.{SomeStop}
 use Rattle.fed_world.specs.Asks.{terms_of}

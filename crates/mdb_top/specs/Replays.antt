@@ -6,7 +6,7 @@ use Rattle.journal_disk.specs.Disk.{Seen}
 use Rattle.fed_world.specs.Faults.{faults_of}
 use Rattle.fed_world.specs.Worlds.{AreLines}
 use Rattle.scenario_text.specs.declared.session.Session.{Session}
-use Rattle.trace_lines.specs.Spelling.{lines_bytes}
+use Rattle.line_text.specs.Spelling.{lines_bytes}
 use Rattle.mdb_top.specs.Breaks.{BreaksSetUp}
 use Rattle.mdb_top.specs.Outcomes.{BreaksBehind, IsDone, StartsShort, StopsShort}
 use Rattle.mdb_top.specs.Outputs.{Account}

@@ -12,7 +12,7 @@ use Rattle.journal_disk.specs.Disk.{Seen}
 use Rattle.fed_world.specs.Faults.{faults_of}
 use Rattle.fed_world.specs.Worlds.{AreLines}
 use Rattle.federation_run.specs.Running.{HasBroken, HaveRun}
-use Rattle.trace_lines.specs.Spelling.{lines_bytes}
+use Rattle.line_text.specs.Spelling.{lines_bytes}
 use Rattle.mdb_top.specs.Breaks.{BreaksSetUp}
 use Rattle.mdb_top.specs.Outcomes.{BreaksBehind, IsDone}
 use Rattle.mdb_top.specs.Outputs.{Account}

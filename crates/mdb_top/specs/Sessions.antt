@@ -22,7 +22,7 @@ use Rattle.fed_rules.specs.Story.{Story, story_of}
 use Rattle.closing_laws.specs.AtRest.{IsAtRest}
 use Rattle.report_text.specs.Spelling.{report_bytes}
 use Rattle.scenario_text.specs.declared.session.Session.{Session}
-use Rattle.trace_lines.specs.Spelling.{lines_bytes}
+use Rattle.line_text.specs.Spelling.{lines_bytes}
 
 -- the commands of a session with those that close it, the last one first
 abbrev pub commands_of : Session → List Command

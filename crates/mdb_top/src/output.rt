@@ -7,8 +7,8 @@ ghost use Rattle.closing.specs.Towards.{FallsShort, Reaches};
 ghost use Rattle.fed_world.specs.Faults.{CountsTell};
 ghost use Rattle.fed_world.specs.Worlds.{EachStory, Recalls, SomeStory, Stands};
 ghost use Rattle.scenario_text.specs.Kept.{AreCommands};
-ghost use Rattle.trace_lines.specs.Fits.{line_fits};
-ghost use Rattle.trace_lines.specs.Spelling.{lines_bytes};
+ghost use Rattle.line_text.specs.Fits.{line_fits};
+ghost use Rattle.line_text.specs.Spelling.{lines_bytes};
 ghost use Rattle.mdb_top.specs.Disks.{is_used, sizes_of};
 ghost use Rattle.mdb_top.specs.Outputs.{IfBroken, IfWhole, IsOutput};
 ghost use Rattle.mdb_top.specs.Replays.{replaying};
@@ -22,11 +22,11 @@ use fed_world::{World, WorldErr};
 use federation_laws::federation_is_serializable;
 use journal_disk::Disk;
 use line_laws::{closing_is_heard, right_lines_fit};
+use line_text::print_line;
 use mdb_base::{Memory, put_number, put_text};
 use report_text::print_report;
 use scenario_text::Session;
 use std::alloc::Global;
-use trace_lines::print_line;
 
 /// What is to be put of a session.
 #[derive(Drop)]
@@ -76,12 +76,12 @@ fn play<D: Disk>(
 }
 
 /// Appends the lines, a line feed behind each.
-fn put_lines(alloc: Global, lines: &[Line], out: &mut Vec<u8>) -> Result<(), Memory>
+fn put_lines(lines: &[Line], out: &mut Vec<u8>) -> Result<(), Memory>
     requires { Each (λ line. IsTrue (line_fits line)) lines.now }
     ensures { OnOk result (out.new.items ≡ out.old.items ++ lines_bytes lines.now) }
 {
     for line in lines {
-        print_line(alloc, line, out)?;
+        print_line(line, out)?;
         put_text(out, "\n")?;
     }
     Ok(())
@@ -94,7 +94,7 @@ pub(crate) fn printed(alloc: Global, world: &World) -> Result<Output, Memory>
 {
     right_lines_fit();
     let mut out = Vec::new(alloc);
-    put_lines(alloc, world.lines(), &mut out)?;
+    put_lines(world.lines(), &mut out)?;
     let report = world.report(alloc)?;
     print_report(alloc, &report, &mut out)?;
     Ok(Output::Whole(out))
@@ -106,7 +106,7 @@ pub(crate) fn broken(alloc: Global, lines: &[Line], number: u8) -> Result<Output
     ensures { IfBroken result (λ bytes. bytes ≡ lines_bytes lines.now ++ disk_failed_text number) }
 {
     let mut out = Vec::new(alloc);
-    put_lines(alloc, lines, &mut out)?;
+    put_lines(lines, &mut out)?;
     put_text(&mut out, "disk ")?;
     put_number(&mut out, u64::from(number))?;
     put_text(&mut out, " failed\n")?;

@@ -11,8 +11,8 @@ use crate::summary::{
 };
 use fed_world::{Cores, World};
 use mdb_base::Memory;
+use site_history::sites_journals_say_all;
 use std::alloc::Global;
-use sum_laws::sites_journals_say_all;
 
 /// The sum of two counts. What there are more than 2^64 - 1 of is beyond any memory.
 fn plus(count: u64, more: u64) -> Result<u64, Memory>

@@ -3,24 +3,19 @@ use Rattle.std.proofs.Common.{◌≡◌, ℕ, ◌<◌, ◌⊎◌, Bool, true, fa
 use Rattle.std.specs.FinMap.{empty, get, get-empty, insert, remove}
 use Rattle.std.specs.Ordering.{nat_cmp}
 use Rattle.std.proofs.lemmas.Bool.{cond-true, cond-false, eq-eqb, eqb-true}
+use Rattle.std.proofs.lemmas.Option.{same_Some}
 use Rattle.mdb_base.specs.declared.names.Tid.{Tid}
 use Rattle.mdb_base.specs.Names.{same_tid}
 use Rattle.mdb_base.specs.Words.{Each}
 use Rattle.mdb_base.proofs.NameLaws.{same_tid-equal, same_tid-refl}
+use Rattle.mdb_base.proofs.NumberLaws.{not_equal}
 use Rattle.fed_rules.specs.declared.runs.Kept.{Kept}
 use Rattle.fed_rules.specs.Runs.{Run, restored, restored_at}
 use Rattle.fed_rules.specs.EngineLines.{AreApart, AllApart}
-use Rattle.run_book.proofs.Ages.{some_inj}
 use Rattle.access_ages.specs.Takers.{ByAge, restored_takers}
 use Rattle.multiversion_engine.specs.Unended.{IsOfAge, AreUnended}
 use Rattle.access_ages.proofs.Trees.{get-put, get-gone}
-
-not_same : (x y : ℕ) → (x ≡ y → ⊥) → nat_eq x y ≡ false
-not_same x y apart = by_test (nat_eq x y) refl
-  where
-    by_test : (b : Bool) → nat_eq x y ≡ b → b ≡ false
-    by_test true e = absurd (apart (eqb-true x y e))
-    by_test false e = refl
+use Rattle.access_ages.proofs.Tickets.{restored_back}
 
 -- the runs before and after one of them changes
 pub record ChangesOne (runs now : Tid → Option Run) (t : Tid) (was is : Option Run) : Type 0 where
@@ -39,7 +34,7 @@ module _ (m : ByAge) (runs now : Tid → Option Run) (t : Tid) where
           by_tid : (b : Bool) → same_tid t u ≡ b → IsOfAge runs u age → IsOfAge now u age
           by_tid true e old =
               let here = same_tid-equal t u e in
-              let same : old.run ≡ was = some_inj old.run was (sym old.at ∙ (ap (λ (x : Tid). runs x) (sym here) ∙ change.before)) in
+              let same : old.run ≡ was = same_Some old.run was (sym old.at ∙ (ap (λ (x : Tid). runs x) (sym here) ∙ change.before)) in
               record {
                 run = is;
                 at = ap (λ (x : Tid). now x) (sym here) ∙ change.after;
@@ -53,7 +48,7 @@ module _ (m : ByAge) (runs now : Tid → Option Run) (t : Tid) where
           by_tid : (b : Bool) → same_tid t u ≡ b → get m run.age ≡ Some u
           by_tid true e =
               let here = same_tid-equal t u e in
-              let same : is ≡ run = some_inj is run (sym change.after ∙ (ap (λ (x : Tid). now x) here ∙ at)) in
+              let same : is ≡ run = same_Some is run (sym change.after ∙ (ap (λ (x : Tid). now x) here ∙ at)) in
               ap (λ (n : ℕ). get m n) (ap (λ (r : Run). r.age) (sym same) ∙ aged) ∙ (h.back t was change.before ∙ ap (λ (x : Tid). Some x) here)
           by_tid false e = h.back u run (sym (change.others u e) ∙ at)
 
@@ -81,12 +76,12 @@ module _ (m : ByAge) (runs now : Tid → Option Run) (t : Tid) where
           by_tid : (b : Bool) → same_tid t u ≡ b → get (insert m is.age t) run.age ≡ Some u
           by_tid true e =
               let here = same_tid-equal t u e in
-              let same : is ≡ run = some_inj is run (sym change.after ∙ (ap (λ (x : Tid). now x) here ∙ at)) in
+              let same : is ≡ run = same_Some is run (sym change.after ∙ (ap (λ (x : Tid). now x) here ∙ at)) in
               get-put m is.age t run.age ∙ (cond-true _ _ _ (eq-eqb is.age run.age (ap (λ (r : Run). r.age) same)) ∙ ap (λ (x : Tid). Some x) here)
           by_tid false e =
               let was = sym (change.others u e) ∙ at in
               get-put m is.age t run.age
-              ∙ (cond-false _ _ _ (not_same is.age run.age (λ same. let less = younger u run was in omega arith)) ∙ h.back u run was)
+              ∙ (cond-false _ _ _ (not_equal is.age run.age (λ same. let less = younger u run was in omega arith)) ∙ h.back u run was)
 
   -- a run ends
   pub unended_less : (was : Run) → ChangesOne runs now t (Some was) None → ((u : Tid) (run : Run) → runs u ≡ Some run → run.age ≡ was.age → u ≡ t) → AreUnended m runs → AreUnended (remove m was.age) now
@@ -97,7 +92,7 @@ module _ (m : ByAge) (runs now : Tid → Option Run) (t : Tid) where
         where
           by_tid : (b : Bool) → same_tid t u ≡ b → nat_eq was.age age ≡ false → IsOfAge runs u age → IsOfAge now u age
           by_tid true e differs old =
-              let same : old.run ≡ was = some_inj old.run was (sym old.at ∙ (ap (λ (x : Tid). runs x) (sym (same_tid-equal t u e)) ∙ change.before)) in
+              let same : old.run ≡ was = same_Some old.run was (sym old.at ∙ (ap (λ (x : Tid). runs x) (sym (same_tid-equal t u e)) ∙ change.before)) in
               let bad : true ≡ false = sym (eq-eqb was.age age (ap (λ (r : Run). r.age) (sym same) ∙ old.aged)) ∙ differs in cc
           by_tid false e differs old = record { run = old.run; at = change.others u e ∙ old.at; aged = old.aged }
 
@@ -113,7 +108,7 @@ module _ (m : ByAge) (runs now : Tid → Option Run) (t : Tid) where
           by_tid false e =
               let old = sym (change.others u e) ∙ at in
               get-gone m was.age run.age
-              ∙ (cond-false _ _ _ (not_same was.age run.age (λ same.
+              ∙ (cond-false _ _ _ (not_equal was.age run.age (λ same.
               let one = apart u run old (sym same) in
               let bad : true ≡ false = sym (same_tid-refl t) ∙ (ap (λ (x : Tid). same_tid t x) (sym one) ∙ e) in cc))
               ∙ h.back u run old)
@@ -137,20 +132,11 @@ other_tid kept (next ∷ more) t run apart at = by_test (same_tid next.tid t) re
     by_test : (b : Bool) → same_tid next.tid t ≡ b → cond b (Some (restored next)) (restored_at more t) ≡ Some run →
         (restored_at more t ≡ Some run → (same_tid kept.tid t ≡ false) × (nat_eq kept.number run.age ≡ false)) → (same_tid kept.tid t ≡ false) × (nat_eq kept.number run.age ≡ false)
     by_test true e at rest =
-        let same = some_inj (restored next) run at in (
+        let same = same_Some (restored next) run at in (
           ap (λ (x : Tid). same_tid kept.tid x) (sym (same_tid-equal next.tid t e)) ∙ apart.0.tids,
-          ap (λ (n : ℕ). nat_eq kept.number n) (ap (λ (r : Run). r.age) (sym same)) ∙ not_same kept.number next.number differ,
+          ap (λ (n : ℕ). nat_eq kept.number n) (ap (λ (r : Run). r.age) (sym same)) ∙ not_equal kept.number next.number differ,
         )
     by_test false e at rest = rest at
-
--- the others don't stand at the number of this one
-stays_at : (kept : Kept) (more : List Kept) (m : ByAge) → Each (AreApart kept) more → get (restored_takers more m) kept.number ≡ get m kept.number
-stays_at kept [] m apart = refl
-stays_at kept (next ∷ more) m apart =
-    stays_at kept more (insert m next.number next.tid) apart.1 ∙ (get-put m next.number next.tid kept.number ∙ cond-false _ _ _ (not_same next.number kept.number (λ same. differ (sym same))))
-  where
-    differ : (kept.number ≡ next.number) → ⊥
-    differ same = elim apart.0.order [ inl less ↦ let l = less.0 in omega arith | inr more ↦ let g = more.0 in omega arith ]
 
 doubtful_there : (doubtful : List Kept) (m : ByAge) (age : ℕ) (t : Tid) → AllApart doubtful → get (restored_takers doubtful m) age ≡ Some t → (get m age ≡ Some t) ⊎ IsOfAge (restored_at doubtful) t age
 doubtful_there [] m age t apart at = inl at
@@ -168,24 +154,11 @@ doubtful_there (kept ∷ more) m age t apart at = elim (doubtful_there more (ins
         inr (record { run = restored kept; at = cond-true _ _ _ same; aged = eqb-true kept.number age e })
     by_age false e at = inl at
 
-doubtful_back : (doubtful : List Kept) (m : ByAge) (t : Tid) (run : Run) → AllApart doubtful → restored_at doubtful t ≡ Some run → get (restored_takers doubtful m) run.age ≡ Some t
-doubtful_back [] m t run apart at = cc
-doubtful_back (kept ∷ more) m t run apart at = by_test (same_tid kept.tid t) refl at (doubtful_back more (insert m kept.number kept.tid) t run apart.1)
-  where
-    by_test : (b : Bool) → same_tid kept.tid t ≡ b → cond b (Some (restored kept)) (restored_at more t) ≡ Some run →
-        (restored_at more t ≡ Some run → get (restored_takers more (insert m kept.number kept.tid)) run.age ≡ Some t) → get (restored_takers more (insert m kept.number kept.tid)) run.age ≡ Some t
-    by_test true e at rest =
-        let same = some_inj (restored kept) run at in
-        ap (λ (r : Run). get (restored_takers more (insert m kept.number kept.tid)) r.age) (sym same)
-        ∙ (stays_at kept more (insert m kept.number kept.tid) apart.0
-        ∙ (get-put m kept.number kept.tid kept.number ∙ (cond-true _ _ _ (eq-eqb kept.number kept.number refl) ∙ ap (λ (x : Tid). Some x) (same_tid-equal kept.tid t e))))
-    by_test false e at rest = rest at
-
 pub unended_restored : (doubtful : List Kept) → AllApart doubtful → AreUnended (restored_takers doubtful empty) (restored_at doubtful)
 unended_restored doubtful apart = record {
   there = λ age t at. elim (doubtful_there doubtful empty age t apart at) [
     | inl none ↦ let bad : None ≡ Some t = sym (get-empty nat_cmp age) ∙ none in cc
     | inr old ↦ old
   ];
-  back = λ t run at. doubtful_back doubtful empty t run apart at;
+  back = λ t run at. restored_back doubtful empty t run apart at;
 }

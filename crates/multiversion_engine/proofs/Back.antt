@@ -5,8 +5,8 @@ use Rattle.mdb_base.specs.declared.names.Engine.TheVariants.{Multiversion}
 use Rattle.mdb_base.specs.declared.names.Tid.{Tid}
 use Rattle.fed_rules.specs.Runs.{Start, EngineLine, Begins, Seals, Run, begun, run_at, has_ticket}
 use Rattle.fed_rules.specs.Replies.{age_of}
-use Rattle.engine_contract.proofs.Follows.{run_at-own, run_at-other}
 use Rattle.engine_laws.proofs.MultiversionRuns.{multiversion_by_age}
+use Rattle.engine_laws.proofs.RunLines.{run_at_own, run_at_other}
 use Rattle.access_ages.specs.Ages.{Ages}
 use Rattle.access_ages.specs.Takers.{Takers, ByAge}
 use Rattle.access_ages.specs.Lines.{KeepsAges}
@@ -29,14 +29,14 @@ pub stands_unbegun : (old new : MultiversionEngine) (start : Start) (older : Lis
 stands_unbegun old new start older tid n s book room accesses takers unended olds =
     let k = s.keeps.keeps in
     let line = Begins tid n in
-    let now = run_at-own start older line None k.right.0.0 in
+    let now = run_at_own start older line None k.right.0.0 in
     record {
       keeps = unbegins_well Multiversion old.book new.book start older tid n s.keeps book room;
       ages = subst (λ (a : Ages). KeepsAges a new.takers start older) (sym accesses)
           (subst (λ (t : Takers). KeepsAges old.accesses t start older) (sym takers) (follows_begins.back old.accesses old.takers start older tid n s.ages));
       unended = subst (λ (m : ByAge). AreUnended m (run_at start older)) (sym unended)
           (unended_less old.unended (run_at start (line ∷ older)) (run_at start older) tid (begun tid n)
-          (record { before = now; after = k.right.0.0; others = λ u e. sym (run_at-other start older line u e) })
+          (record { before = now; after = k.right.0.0; others = λ u e. sym (run_at_other start older line u e) })
           (λ u run at same. ages-differ start (line ∷ older) u tid run (begun tid n) k.starts k.right at now same) s.unended);
       versions = subst (λ (o : Olds). AreVersions o start older) (sym olds) (versions_unbegin old.olds start older tid n k.right s.versions);
     }
@@ -54,6 +54,6 @@ stands_unsealed old new start older tid n run s at book room accesses takers une
           (follows_unseals Multiversion multiversion_by_age old.accesses old.takers new.takers start older tid n run k.of_kind k.starts k.right at s.ages takers);
       unended = subst (λ (m : ByAge). AreUnended m (run_at start older)) (sym unended)
           (unended_on old.unended (run_at start (line ∷ older)) (run_at start older) tid sealed run
-          (record { before = run_at-own start older line (Some run) at; after = at; others = λ u e. sym (run_at-other start older line u e) }) refl s.unended);
+          (record { before = run_at_own start older line (Some run) at; after = at; others = λ u e. sym (run_at_other start older line u e) }) refl s.unended);
       versions = subst (λ (o : Olds). AreVersions o start older) (sym olds) (versions_unseal old.olds start older tid n s.versions);
     }

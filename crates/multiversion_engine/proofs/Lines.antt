@@ -6,7 +6,6 @@ use Rattle.mdb_base.specs.declared.names.Tid.{Tid}
 use Rattle.mdb_base.specs.declared.replies.Reply.TheVariants.{Done, Value, Ticket, Wait, Refused, Unknown}
 use Rattle.fed_rules.specs.Runs.{Start, EngineLine, Begins, Acts, Takes, Seals, Refuses, Commits, Aborts, Run, tid_of, begun, changed, gives_up, run_at, counter}
 use Rattle.fed_rules.specs.EngineLines.{IsFree, IsRightLine}
-use Rattle.engine_contract.proofs.Follows.{run_at-own, run_at-other}
 use Rattle.engine_laws.proofs.MultiversionRuns.{multiversion_by_age}
 use Rattle.access_ages.specs.Ages.{Ages, ages_of, unwritten}
 use Rattle.access_ages.specs.Takers.{Takers, without_taker, ByAge}
@@ -30,6 +29,7 @@ use Rattle.multiversion_engine.proofs.Ages.{ChangesOne, unended_on, unended_more
 use Rattle.multiversion_engine.proofs.Commits.{versions_commit}
 use Rattle.multiversion_engine.proofs.Versions.{is_commit, NotesItsWrite, versions_next}
 use Rattle.fed_rules.specs.Runs.{number}
+use Rattle.engine_laws.proofs.RunLines.{run_at_own, run_at_other}
 
 -- a call that changes nothing, but that it may leave more room, and old versions that serve as well
 pub stands_kept : (old new : MultiversionEngine) (start : Start) (lines : List EngineLine) → Stands old start lines → new.book.book ≡ old.book.book → old.book.room ≤ new.book.room →
@@ -49,7 +49,7 @@ stands_kept old new start lines s book room accesses takers unended versions = r
 -- one run changes at a line
 pub changes : (start : Start) (older : List EngineLine) (line : EngineLine) (was is : Option Run) → run_at start older (tid_of line) ≡ was → changed line was ≡ is →
     ChangesOne (run_at start older) (run_at start (line ∷ older)) (tid_of line) was is
-changes start older line was is at to = record { before = at; after = run_at-own start older line was at ∙ to; others = run_at-other start older line }
+changes start older line was is at to = record { before = at; after = run_at_own start older line was at ∙ to; others = run_at_other start older line }
 
 -- a line through which its run goes on
 pub stands_on : (old new : MultiversionEngine) (start : Start) (older : List EngineLine) (line : EngineLine) (run now : Run) → Stands old start older → IsRightLine start older line →

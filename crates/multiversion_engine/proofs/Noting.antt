@@ -1,8 +1,5 @@
 -- What the noting of an access leaves of the ages, once there is room.
 use Rattle.std.proofs.Common.{◌≡◌, cond, ap, ◌∙◌}
-use Rattle.std.specs.declared.result.Result.{Result}
-use Rattle.std.specs.declared.result.Result.TheVariants.{Ok, Err}
-use Rattle.std.specs.Prelude.{OnErr}
 use Rattle.mdb_base.specs.declared.names.Key.{Key}
 use Rattle.mdb_base.specs.Names.{same_key}
 use Rattle.access_ages.specs.declared.key_ages.KeyAges.{KeyAges}
@@ -21,8 +18,3 @@ write_noted old room new key rival run is same noted q =
     noted q
     ∙ (ap (λ (a : KeyAges). cond (same_key key q) (with_writer rival a) a) (same q)
     ∙ ap (λ (r : Rival). cond (same_key key q) (with_writer r (ages_of old q)) (ages_of old q)) is)
-
--- a fact that holds anyway holds of an error
-pub on_err_anyway : {T E P : Type 0} (r : Result T E) → P → OnErr r P
-on_err_anyway (Ok x) p = tt
-on_err_anyway (Err e) p = p

@@ -1,7 +1,7 @@
 -- What is dropped of the versions, step by step.
 use Rattle.std.proofs.Common.{cond, ◌≡◌, ℕ, ◌<◌, ◌⊎◌, Bool, true, false, ◌||◌, nat_eq, Option, Some, None, IsSome, is_some, List, ◌∷◌, inl, inr, refl, sym, ap, ◌∙◌, subst, ◌≤◌, nat_lt, arith}
 use Rattle.std.specs.FinMap.{get, remove}
-use Rattle.std.proofs.lemmas.Bool.{cond-true, cond-false, eq-eqb, eqb-true, ltb-true, ltb-false}
+use Rattle.std.proofs.lemmas.Bool.{cond-true, cond-false, eq-eqb, eqb-true, ltb-true, ltb-false, or_left, or_right}
 use Rattle.mdb_base.specs.declared.names.Key.{Key}
 use Rattle.mdb_base.specs.declared.rows.Put.{Put}
 use Rattle.fed_rules.specs.Runs.{Access, Got, Wrote}
@@ -62,14 +62,6 @@ pruned_one unended key number n next old mid new after is_next none removed befo
     by_place false e =
         let same : get new q ≡ get mid q = ap (λ (m : Olds). get m q) removed ∙ (version-gone mid (place_of key n) q ∙ cond-false _ _ _ e) in
         elim (before q) [ inl was ↦ inl (same ∙ was) | inr gone ↦ inr (same ∙ gone.0, gone.1, gone.2) ]
-
-or_left : (x y : Bool) → x ≡ true → (x || y) ≡ true
-or_left true y e = refl
-or_left false y e = cc
-
-or_right : (x y : Bool) → y ≡ true → (x || y) ≡ true
-or_right true y e = refl
-or_right false y e = e
 
 -- one more access, which may write its key
 pub writes_more : (access : Access) (acts : List Access) (k : ℕ) → writes_key acts k ≡ true → writes_key (access ∷ acts) k ≡ true

@@ -2,6 +2,7 @@
 use Rattle.std.proofs.Common.{◌≡◌, ℕ, Bool, true, false, ◌||◌, cond, nat_lt, Option, Some, None, List, [], ◌∷◌, refl, sym, ap, ◌∙◌, subst, arith}
 use Rattle.std.specs.FinMap.{empty, get, get-empty}
 use Rattle.std.proofs.lemmas.Bool.{cond-true, lt-ltb}
+use Rattle.std.proofs.lemmas.Option.{same_Some}
 use Rattle.mdb_base.specs.declared.names.Engine.TheVariants.{Multiversion}
 use Rattle.mdb_base.specs.declared.names.Key.{Key}
 use Rattle.mdb_base.specs.declared.names.Tid.{Tid}
@@ -25,7 +26,6 @@ use Rattle.site_tables.specs.Tables.{is_newer}
 use Rattle.site_tables.specs.Tables.{written as written_row}
 use Rattle.run_book.specs.Book.{Book, started, table_in, number_in}
 use Rattle.run_book.specs.Tables.{kept_after}
-use Rattle.run_book.proofs.Ages.{some_inj}
 use Rattle.run_book.proofs.Carried.{starts_well}
 use Rattle.multiversion_engine.specs.declared.engine.MultiversionEngine.{MultiversionEngine}
 use Rattle.multiversion_engine.specs.declared.old_versions.Place.{Place}
@@ -88,7 +88,7 @@ written_here book (kept ∷ more) t run k olds at has = by_test (same_tid kept.t
         (restored_at more t ≡ Some run → IsThere (with_written book more (with_rows book kept.writes olds)) k (kept_in book k)) →
         IsThere (with_written book more (with_rows book kept.writes olds)) k (kept_in book k)
     by_test true at rest =
-        let same = some_inj (restored kept) run at in
+        let same = same_Some (restored kept) run at in
         let wrote : has_row k kept.writes ≡ true = sym (has_write_written k kept.writes) ∙ (ap (λ (r : Run). has_written k r) same ∙ has) in
         written_still book more k (with_rows book kept.writes olds) (rows_here book kept.writes k olds wrote)
     by_test false at rest = rest at

@@ -8,9 +8,6 @@ use mdb_base::{Key, Memory, PlainAct, Puts, Reply, Tid};
 use run_book::{Granted, HeldRun, Marks, RunBook};
 use std::alloc::Global;
 
-#[cfg(test)]
-mod tests;
-
 /// A local engine that answers a read the version of its run's age. It keeps its runs in a book, and beside it who accessed each key and
 /// who has taken the ticket, the unended runs by their ages, and of each key the superseded versions that one of them may read.
 #[derive(Drop)]

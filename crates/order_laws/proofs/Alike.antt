@@ -1,13 +1,8 @@
 -- What a test of two attempts and a test of two ways say, and that equal options have equal values.
-use Rattle.std.proofs.lemmas.Bool.{eqb-true, eq-eqb}
-use Rattle.mdb_base.specs.declared.names.Tx.{Tx}
-use Rattle.std.proofs.Common.{ap, ℕ, ◌≡◌, ◌⊎◌, inl, inr, Bool, true, false, ◌||◌, Some, refl, subst}
+use Rattle.std.proofs.Common.{◌≡◌, ◌⊎◌, inl, inr, Bool, true, false, ◌||◌, refl, subst}
 use Rattle.mdb_base.specs.declared.names.Tid.{Tid}
-use Rattle.mdb_base.specs.Names.{same_tid, same_tx}
+use Rattle.mdb_base.specs.Names.{same_tid}
 use Rattle.mdb_base.proofs.NameLaws.{same_tid-equal, same_tid-refl}
-
-pub some_parts : {A : Type 0} {x y : A} → Some x ≡ Some y → x ≡ y
-some_parts e = cc
 
 -- one attempt passes the test
 pub same_of : (t g : Tid) → t ≡ g → same_tid t g ≡ true
@@ -21,9 +16,3 @@ of_same P t g p e = subst P (same_tid-equal t g e) p
 pub first_or_second : (a b : Bool) → (a || b) ≡ true → (a ≡ true) ⊎ ((a ≡ false) × (b ≡ true))
 first_or_second true b e = inl refl
 first_or_second false b e = inr (refl, e)
-
-pub same_tx_self : (tx : Tx) → same_tx tx tx ≡ true
-same_tx_self tx = eq-eqb tx.0 tx.0 refl
-
-pub same_tx_alike : (a b : Tx) → same_tx a b ≡ true → a ≡ b
-same_tx_alike a b e = ap {A = ℕ} (λ n. record { 0 = n }) (eqb-true a.0 b.0 e)

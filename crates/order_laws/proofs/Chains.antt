@@ -1,11 +1,7 @@
 use Rattle.std.proofs.Common.{◌⊎◌, List, [], ◌∷◌, ◌++◌, inl, inr, subst, sym, map}
 use Rattle.mdb_base.specs.Words.{Each}
+use Rattle.mdb_base.proofs.ListLaws.{append_each}
 use Rattle.order_laws.specs.Chains.{In, Chain, Acyclic, Within, Way}
-
--- what holds of each item of two lists holds of each item of both
-pub each_append : {A : Type 0} (P : A → Type 0) (xs ys : List A) → Each P xs → Each P ys → Each P (xs ++ ys)
-each_append P [] ys p q = q
-each_append P (x ∷ xs) ys p q = (p.0, each_append P xs ys p.1 q)
 
 -- two chains, of which the first ends where the second begins, are one
 pub chain_append : {A : Type 0} (E : A → A → Type 0) (a : A) (xs : List A) (c : A) (ys : List A) (b : A) →
@@ -37,7 +33,7 @@ pub way_append : {A : Type 0} (E : A → A → Type 0) (ns : List A) (a c b : A)
 way_append E ns a c b i v w =
     record {
       middle = v.middle ++ c ∷ w.middle;
-      among = each_append (λ x. In x ns) v.middle (c ∷ w.middle) v.among (i, w.among);
+      among = append_each (λ x. In x ns) v.middle (c ∷ w.middle) v.among (i, w.among);
       chain = chain_append E a v.middle c w.middle b v.chain w.chain;
     }
 

@@ -1,10 +1,12 @@
 use Rattle.std.proofs.Common.{◌≡◌, Bool, true, false, not, List, [], ◌∷◌, inl, inr, refl, subst, sym, ap, map}
+use Rattle.std.proofs.lemmas.Bool.{not-true}
 use Rattle.mdb_base.specs.Words.{Each, Among, some_of, each_of, those}
+use Rattle.mdb_base.proofs.ListLaws.{among_some, each_of_map}
 use Rattle.order_laws.specs.Chains.{In, Distinct}
 use Rattle.order_laws.specs.Orders.{Before, Union, is_in, TellsApart, Ranks}
 use Rattle.order_laws.specs.Merge.{IsMerge}
 use Rattle.order_laws.specs.Least.{without, IsFree, IsLeastMerge}
-use Rattle.order_laws.proofs.Lists.{among_weaker, among_map, each_at, each_from, among_is, is_among, not_true, bool_is, is_in_true, in_is_true, is_in_false, not_in_false, those_in, in_those, those_same, those_all, each_of_true, some_of_true}
+use Rattle.order_laws.proofs.Lists.{among_weaker, among_map, each_at, each_from, among_is, is_among, bool_is, is_in_true, in_is_true, is_in_false, not_in_false, those_in, in_those, those_same, those_all, each_of_true}
 
 -- the test that picks all items but one
 pub other : {A : Type 0} → (A → A → Bool) → A → A → Bool
@@ -14,7 +16,7 @@ other same t x = not (same t x)
 pub in_without : {A : Type 0} (same : A → A → Bool) → TellsApart same → (t u : A) (xs : List A) → In u (without same t xs) → In u xs × (t ≡ u → ⊥)
 in_without same law t u xs i =
     let r = those_in (λ x. not (same t x)) u xs i in
-    (r.0, λ e. let k : same t u ≡ true = subst (λ y. same t y ≡ true) e (law.self t) in let f : not (same t u) ≡ true = r.1 in let g : same t u ≡ false = not_true (same t u) f in cc)
+    (r.0, λ e. let k : same t u ≡ true = subst (λ y. same t y ≡ true) e (law.self t) in let f : not (same t u) ≡ true = r.1 in let g : same t u ≡ false = not-true (same t u) f in cc)
 
 pub differs : {A : Type 0} (same : A → A → Bool) → TellsApart same → (t u : A) → (t ≡ u → ⊥) → not (same t u) ≡ true
 differs same law t u out =
@@ -124,16 +126,12 @@ kept_one same law t ts o first out h false e =
     let left : without same t ts ≡ ts = without_other same law t ts none in
     kept_other same law t ts o none (subst (λ us. those (is_in same us) o ≡ us) left h)
 
-each_map : {A B : Type 0} (P : B → Type 0) (f : A → B) (xs : List A) → Each P (map f xs) → Each (λ x. P (f x)) xs
-each_map P f [] h = tt
-each_map P f (x ∷ xs) h = (h.0, each_map P f xs h.1)
-
 -- each order is what the least merge has of its members
 pub least_kept : {A : Type 0} (same before : A → A → Bool) → TellsApart same → (orders : List (List A)) (o : List A) →
     IsLeastMerge same before orders o → Each (λ ts. those (is_in same ts) o ≡ ts) orders
 least_kept same before law orders [] h = each_from (λ ts. those (is_in same ts) [] ≡ ts) orders (λ ts i. sym (each_at (λ us. us ≡ []) ts orders h i))
 least_kept same before law orders (t ∷ o) h =
-    let left = each_map (λ ts. those (is_in same ts) o ≡ ts) (without same t) orders (least_kept same before law (map (without same t) orders) o h.2) in
+    let left = each_of_map (λ ts. those (is_in same ts) o ≡ ts) (without same t) orders (least_kept same before law (map (without same t) orders) o h.2) in
     each_from (λ ts. those (is_in same ts) (t ∷ o) ≡ ts) orders (λ ts i.
     kept_one same law t ts o (free_in_at t orders h.0.first ts i) (least_differs same before law orders t o h.2)
     (each_at (λ us. those (is_in same (without same t us)) o ≡ without same t us) ts orders left i) (is_in same ts t) refl)
@@ -143,7 +141,7 @@ pub named : {A : Type 0} (same : A → A → Bool) → TellsApart same → (orde
     ((t : A) → In t o → Among (In t) orders) → each_of (λ t. some_of (λ ts. is_in same ts t) orders) o ≡ true
 named same law orders o h =
     each_of_true (λ t. some_of (λ ts. is_in same ts t) orders) o (λ t i.
-    some_of_true (λ ts. is_in same ts t) orders
+    among_some (λ ts. is_in same ts t) orders
     (among_weaker (In t) (λ ts. is_in same ts t ≡ true) (λ ts j. in_is_true same law ts t j) orders (h t i)))
 
 -- the least merge is a merge

@@ -1,10 +1,12 @@
 use Rattle.std.proofs.Common.{suc, ◌<◌, ◌≤◌, ◌≡◌, Bool, true, false, not, cond, Option, Some, None, List, [], ◌∷◌, length, inl, inr, refl, subst, sym, ap, map, arith, length-append}
+use Rattle.std.proofs.lemmas.Bool.{not-true}
 use Rattle.mdb_base.specs.Words.{Each, Among, those}
+use Rattle.mdb_base.proofs.TestLaws.{length_those}
 use Rattle.order_laws.specs.Chains.{In, Acyclic, Path}
 use Rattle.order_laws.specs.Orders.{Before, Union, is_in, TellsApart, Ranks}
 use Rattle.order_laws.specs.Least.{without, IsFree, IsLeastMerge, rest, heads, all_items, is_free, next_item, merged, least_merge}
 use Rattle.order_laws.proofs.Chains.{acyclic_map}
-use Rattle.order_laws.proofs.Lists.{among_is, is_among, not_true, not_false, bool_is, is_in_true, is_in_false, not_in_false, those_in, in_those, each_of_at, each_of_true, each_of_false}
+use Rattle.order_laws.proofs.Lists.{among_is, is_among, not_false, bool_is, is_in_true, is_in_false, not_in_false, those_in, in_those, each_of_at, each_of_true, each_of_false}
 use Rattle.order_laws.proofs.Orders.{union_those, before_rest}
 use Rattle.order_laws.proofs.Source.{some_source, path_one}
 use Rattle.order_laws.proofs.Earliest.{earliest_none, earliest_is}
@@ -35,7 +37,7 @@ not_behind : {A : Type 0} (same : A → A → Bool) → TellsApart same → (t :
     (p : A) → Before ts p t → ⊥
 not_behind same law t [] e p h = h
 not_behind same law t (x ∷ xs) e p h =
-    is_in_false same law xs t (not_true (is_in same xs t) e) (before_rest x xs p t h)
+    is_in_false same law xs t (not-true (is_in same xs t) e) (before_rest x xs p t h)
 
 -- a first item that no order has behind its own first one is free
 pub free_is : {A : Type 0} (same : A → A → Bool) → TellsApart same → (orders : List (List A)) (t : A) →
@@ -107,15 +109,6 @@ next_some same before law ranks orders t e =
     let best = earliest_is before ranks (those (is_free same orders) (heads orders)) t e in
     let at = those_in (is_free same orders) t (heads orders) best.item in
     record { free = free_is same law orders t at.0 at.1; least = λ u f. best.least u (is_free_in same law orders u f) }
-
-those_shorter : {A : Type 0} (test : A → Bool) (x : A) (xs : List A) (b : Bool) → length (those test xs) ≤ length xs →
-    length (cond b (x ∷ those test xs) (those test xs)) ≤ suc (length xs)
-those_shorter test x xs true h = omega arith
-those_shorter test x xs false h = omega arith
-
-length_those : {A : Type 0} (test : A → Bool) (xs : List A) → length (those test xs) ≤ length xs
-length_those test [] = omega arith
-length_those test (x ∷ xs) = those_shorter test x xs (test x) (length_those test xs)
 
 those_fewer_step : {A : Type 0} (test : A → Bool) (t x : A) (xs : List A) (b : Bool) → test x ≡ b → test t ≡ false → In t (x ∷ xs) →
     (In t xs → length (those test xs) < length xs) → length (cond b (x ∷ those test xs) (those test xs)) < suc (length xs)

@@ -2,6 +2,7 @@ mod Examples
 pub mod Alike
 pub mod Chains
 pub mod Earliest
+pub mod InLaws
 pub mod Joined
 pub mod Least
 pub mod LeastFound
@@ -17,3 +18,4 @@ pub mod Search
 pub mod Sites
 pub mod Source
 pub mod Tickets
+pub mod SortedLists

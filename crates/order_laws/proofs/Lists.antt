@@ -1,4 +1,5 @@
-use Rattle.std.proofs.Common.{◌≡◌, ◌⊎◌, Bool, true, false, not, cond, ◌&&◌, ◌||◌, Some, None, List, [], ◌∷◌, ◌++◌, inl, inr, refl, subst, sym, ap, map, ◌∙◌}
+use Rattle.std.proofs.Common.{◌≡◌, ◌⊎◌, Bool, true, false, not, cond, ◌&&◌, Some, None, List, [], ◌∷◌, ◌++◌, inl, inr, refl, subst, sym, ap, map, ◌∙◌}
+use Rattle.std.proofs.lemmas.Bool.{or_cases, or_left, or_right, and_parts, and_from, not-true}
 use Rattle.mdb_base.specs.Words.{Each, Among, some_of, each_of, those, first_where}
 use Rattle.order_laws.specs.Chains.{In, Distinct}
 use Rattle.order_laws.specs.Orders.{is_in, TellsApart}
@@ -56,30 +57,6 @@ is_among P t [] i p = absurd i
 is_among P t (x ∷ xs) (inl e) p = inl (subst P (sym e) p)
 is_among P t (x ∷ xs) (inr i) p = inr (is_among P t xs i p)
 
-pub or_cases : (b c : Bool) → (b || c) ≡ true → (b ≡ true) ⊎ (c ≡ true)
-or_cases true c e = inl refl
-or_cases false c e = inr e
-
-pub or_first : (b c : Bool) → b ≡ true → (b || c) ≡ true
-or_first true c e = refl
-or_first false c e = cc
-
-pub or_second : (b c : Bool) → c ≡ true → (b || c) ≡ true
-or_second true c e = refl
-or_second false c e = e
-
-pub and_cases : (b c : Bool) → (b && c) ≡ true → (b ≡ true) × (c ≡ true)
-and_cases true c e = (refl, e)
-and_cases false c e = cc
-
-pub and_both : (b c : Bool) → b ≡ true → c ≡ true → (b && c) ≡ true
-and_both true c e f = f
-and_both false c e f = cc
-
-pub not_true : (b : Bool) → not b ≡ true → b ≡ false
-not_true true e = cc
-not_true false e = refl
-
 pub not_false : (b : Bool) → not b ≡ false → b ≡ true
 not_false true e = refl
 not_false false e = cc
@@ -91,12 +68,12 @@ bool_is false = inr refl
 -- what a test of each item answers for one of them
 pub each_of_at : {A : Type 0} (test : A → Bool) (xs : List A) (t : A) → each_of test xs ≡ true → In t xs → test t ≡ true
 each_of_at test [] t e i = absurd i
-each_of_at test (x ∷ xs) t e (inl p) = subst (λ y. test y ≡ true) p (and_cases (test x) (each_of test xs) e).0
-each_of_at test (x ∷ xs) t e (inr i) = each_of_at test xs t (and_cases (test x) (each_of test xs) e).1 i
+each_of_at test (x ∷ xs) t e (inl p) = subst (λ y. test y ≡ true) p (and_parts (test x) (each_of test xs) e).0
+each_of_at test (x ∷ xs) t e (inr i) = each_of_at test xs t (and_parts (test x) (each_of test xs) e).1 i
 
 pub each_of_true : {A : Type 0} (test : A → Bool) (xs : List A) → ((x : A) → In x xs → test x ≡ true) → each_of test xs ≡ true
 each_of_true test [] h = refl
-each_of_true test (x ∷ xs) h = and_both (test x) (each_of test xs) (h x (inl refl)) (each_of_true test xs (λ y i. h y (inr i)))
+each_of_true test (x ∷ xs) h = and_from (test x) (each_of test xs) (h x (inl refl)) (each_of_true test xs (λ y i. h y (inr i)))
 
 pub each_of_false : {A : Type 0} (test : A → Bool) (xs : List A) → each_of test xs ≡ false → Among (λ x. test x ≡ false) xs
 each_of_false test [] e = cc
@@ -112,11 +89,6 @@ some_of_is test (x ∷ xs) e =
       | inr h ↦ let r = some_of_is test xs h in (r.0, inr r.1, r.2)
     ]
 
-pub some_of_true : {A : Type 0} (test : A → Bool) (xs : List A) → Among (λ x. test x ≡ true) xs → some_of test xs ≡ true
-some_of_true test [] i = absurd i
-some_of_true test (x ∷ xs) (inl e) = or_first (test x) (some_of test xs) e
-some_of_true test (x ∷ xs) (inr i) = or_second (test x) (some_of test xs) (some_of_true test xs i)
-
 -- the test of a list answers true exactly where the item stands in it
 pub is_in_true : {A : Type 0} (same : A → A → Bool) → TellsApart same → (xs : List A) (t : A) → is_in same xs t ≡ true → In t xs
 is_in_true same law [] t e = cc
@@ -129,8 +101,8 @@ is_in_true same law (x ∷ xs) t e =
 pub in_is_true : {A : Type 0} (same : A → A → Bool) → TellsApart same → (xs : List A) (t : A) → In t xs → is_in same xs t ≡ true
 in_is_true same law [] t i = absurd i
 in_is_true same law (x ∷ xs) t (inl p) =
-    or_first (same t x) (is_in same xs t) (subst (λ y. same t y ≡ true) (sym p) (law.self t))
-in_is_true same law (x ∷ xs) t (inr i) = or_second (same t x) (is_in same xs t) (in_is_true same law xs t i)
+    or_left (same t x) (is_in same xs t) (subst (λ y. same t y ≡ true) (sym p) (law.self t))
+in_is_true same law (x ∷ xs) t (inr i) = or_right (same t x) (is_in same xs t) (in_is_true same law xs t i)
 
 pub is_in_false : {A : Type 0} (same : A → A → Bool) → TellsApart same → (xs : List A) (t : A) → is_in same xs t ≡ false → In t xs → ⊥
 is_in_false same law xs t e i = let f : is_in same xs t ≡ true = in_is_true same law xs t i in cc
@@ -235,16 +207,6 @@ in_either t y [] (inr i) = absurd i
 in_either t y (x ∷ xs) (inl e) = inl (inl e)
 in_either t y (x ∷ xs) (inr i) = elim (in_either t y xs i) [ inl j ↦ inl (inr j) | inr e ↦ inr e ]
 
-those-append_step : {A : Type 0} (test : A → Bool) (x : A) (xs ys : List A) (b : Bool) → those test (xs ++ ys) ≡ those test xs ++ those test ys →
-    cond b (x ∷ those test (xs ++ ys)) (those test (xs ++ ys)) ≡ cond b (x ∷ those test xs) (those test xs) ++ those test ys
-those-append_step test x xs ys true e = ap (λ zs. x ∷ zs) e
-those-append_step test x xs ys false e = e
-
--- those of two lists
-pub those-append : {A : Type 0} (test : A → Bool) (xs ys : List A) → those test (xs ++ ys) ≡ those test xs ++ those test ys
-those-append test [] ys = refl
-those-append test (x ∷ xs) ys = those-append_step test x xs ys (test x) (those-append test xs ys)
-
 -- whether no item stands in the list twice
 abbrev pub is_distinct : {A : Type 0} → (A → A → Bool) → List A → Bool
 is_distinct same [] = true
@@ -254,5 +216,5 @@ is_distinct same (x ∷ xs) = not (is_in same xs x) && is_distinct same xs
 pub distinct_by_test : {A : Type 0} (same : A → A → Bool) → TellsApart same → (xs : List A) → is_distinct same xs ≡ true → Distinct xs
 distinct_by_test same law [] e = tt
 distinct_by_test same law (x ∷ xs) e =
-    let both = and_cases (not (is_in same xs x)) (is_distinct same xs) e in
-    (is_in_false same law xs x (not_true (is_in same xs x) both.0), distinct_by_test same law xs both.1)
+    let both = and_parts (not (is_in same xs x)) (is_distinct same xs) e in
+    (is_in_false same law xs x (not-true (is_in same xs x) both.0), distinct_by_test same law xs both.1)

@@ -1,7 +1,7 @@
 -- Members of lists, what is found among them, and facts of each item.
-use Rattle.std.proofs.Common.{◌≡◌, ℕ, zero, suc, ◌<◌, Bool, true, false, cond, Some, None, List, [], ◌∷◌, length, take, inl, inr, refl, subst, arith}
+use Rattle.std.proofs.Common.{◌≡◌, Bool, true, false, cond, Some, None, List, [], ◌∷◌, inl, inr, refl, subst}
 use Rattle.std.proofs.lemmas.Bool.{and_parts}
-use Rattle.mdb_base.specs.Words.{Each, each_of, first_where, item_at}
+use Rattle.mdb_base.specs.Words.{Each, each_of, first_where}
 use Rattle.order_laws.specs.Chains.{In}
 
 pub in_each : {A : Type 0} (P : A → Type 0) (xs : List A) (x : A) → Each P xs → In x xs → P x
@@ -32,15 +32,3 @@ none_in test (y ∷ ys) x f i t = by_test (test y) refl f i (λ g j. none_in tes
 pub each_passes : {A : Type 0} (test : A → Bool) (xs : List A) → each_of test xs ≡ true → Each (λ x. test x ≡ true) xs
 each_passes test [] e = tt
 each_passes test (x ∷ xs) e = let parts = and_parts (test x) (each_of test xs) e in (parts.0, each_passes test xs parts.1)
-
--- what holds of each item holds of each of a front
-pub take_each : {A : Type 0} (P : A → Type 0) (n : ℕ) (xs : List A) → Each P xs → Each P (take n xs)
-take_each P zero xs h = tt
-take_each P (suc n) [] h = tt
-take_each P (suc n) (x ∷ xs) h = (h.0, take_each P n xs h.1)
-
--- there is an item at a place below the length alone
-pub item_at-below : {A : Type 0} (xs : List A) (n : ℕ) (x : A) → item_at xs n ≡ Some x → n < length xs
-item_at-below [] n x e = cc
-item_at-below (y ∷ ys) zero x e = omega arith
-item_at-below (y ∷ ys) (suc n) x e = let h = item_at-below ys n x e in omega arith

@@ -1,10 +1,11 @@
 use Rattle.std.proofs.Common.{◌≡◌, Bool, true, false, not, ◌&&◌, ◌||◌, List, [], ◌∷◌, inl, inr, refl, subst, sym, ap, map, ◌∙◌}
+use Rattle.std.proofs.lemmas.Bool.{not-true}
 use Rattle.mdb_base.specs.Words.{Each, Among, those}
 use Rattle.order_laws.specs.Chains.{In}
 use Rattle.order_laws.specs.Orders.{Before, Union, is_in, TellsApart}
 use Rattle.order_laws.specs.Merge.{MayCome, IsLeastOrder}
 use Rattle.order_laws.specs.Least.{without, IsFree, IsLeastMerge}
-use Rattle.order_laws.proofs.Lists.{among_weaker, among_map, map_among, among_is, is_among, bool_is, not_true, is_in_true, is_in_false, not_in_false, those_in, in_those, those_same, those_all, those_those}
+use Rattle.order_laws.proofs.Lists.{among_weaker, among_map, map_among, among_is, is_among, bool_is, is_in_true, is_in_false, not_in_false, those_in, in_those, those_same, those_all, those_those}
 use Rattle.order_laws.proofs.Orders.{before_in, union_those, those_union}
 use Rattle.order_laws.proofs.Least.{empty_none}
 
@@ -20,7 +21,7 @@ is_unplaced : {A : Type 0} (same : A → A → Bool) → TellsApart same → (pl
 is_unplaced same law placed t out = ap not (not_in_false same law placed t out)
 
 not_placed : {A : Type 0} (same : A → A → Bool) → TellsApart same → (placed : List A) (t : A) → unplaced same placed t ≡ true → In t placed → ⊥
-not_placed same law placed t e i = is_in_false same law placed t (not_true (is_in same placed t) e) i
+not_placed same law placed t e i = is_in_false same law placed t (not-true (is_in same placed t) e) i
 
 same_turned : {A : Type 0} (same : A → A → Bool) → TellsApart same → (a b : A) → same a b ≡ same b a
 same_turned same law a b =

@@ -1,8 +1,9 @@
 use Rattle.std.proofs.Common.{◌≡◌, ◌⊎◌, Option, Some, None, List, [], ◌∷◌, ◌++◌, inl, inr, refl, subst}
 use Rattle.mdb_base.specs.Words.{Each, map_some}
+use Rattle.mdb_base.proofs.ListLaws.{append_each}
 use Rattle.order_laws.specs.Chains.{In, Chain, Acyclic, Within, Way}
 use Rattle.order_laws.specs.Search.{or_way, and_then, path, cycle_through, Linked, Walk}
-use Rattle.order_laws.proofs.Chains.{each_append, way_splits, accepted}
+use Rattle.order_laws.proofs.Chains.{way_splits, accepted}
 
 -- the edges of a walk whose middle nodes are among these
 pub record Found {N K : Type 0} (edge : N → N → Option K) (ns : List N) (a b : N) (es : List K) : Type 0 where
@@ -32,7 +33,7 @@ found_both : {N K : Type 0} (edge : N → N → Option K) (c : N) (ns : List N) 
 found_both edge c ns a b p q f g =
     record {
       middle = f.middle ++ c ∷ g.middle;
-      among = each_append (λ x. In x (c ∷ ns)) f.middle (c ∷ g.middle) (each_more c ns f.middle f.among) (inl refl, each_more c ns g.middle g.among);
+      among = append_each (λ x. In x (c ∷ ns)) f.middle (c ∷ g.middle) (each_more c ns f.middle f.among) (inl refl, each_more c ns g.middle g.among);
       walk = walk_append edge a f.middle c g.middle b p q f.walk g.walk;
     }
 

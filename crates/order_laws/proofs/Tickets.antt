@@ -4,12 +4,13 @@ use Rattle.mdb_base.specs.declared.names.SiteTicket.{SiteTicket}
 use Rattle.mdb_base.specs.declared.names.Tid.{Tid}
 use Rattle.mdb_base.specs.declared.replies.Edge.{Edge}
 use Rattle.mdb_base.specs.Words.{Each, some_of, first_where, map_some}
+use Rattle.mdb_base.proofs.ListLaws.{among_some}
 use Rattle.order_laws.specs.Chains.{In, Acyclic, Within, Way}
 use Rattle.order_laws.specs.Search.{cycle_through, Linked, Walk}
 use Rattle.order_laws.specs.Tickets.{Ticketed, Precedes, IsEdge, Leads, IsCycle, OneEach, HasNoCycle, is_above, edge_between}
 use Rattle.order_laws.proofs.Chains.{way_one, way_cons, way_splits, way_chain, chain_way, accepted}
 use Rattle.order_laws.proofs.Search.{found, none_found, chain_walk}
-use Rattle.order_laws.proofs.Lists.{is_among, some_of_is, some_of_true, first_where_some, first_where_none, one_image}
+use Rattle.order_laws.proofs.Lists.{is_among, some_of_is, first_where_some, first_where_none, one_image}
 
 -- this is an edge from the one attempt to the other
 pub record EdgeOf (a b : Ticketed) (e : Edge) : Type 0 where
@@ -17,10 +18,10 @@ pub record EdgeOf (a b : Ticketed) (e : Edge) : Type 0 where
   pub leaves : a.tid ≡ e.from
   pub enters : b.tid ≡ e.to
 
-above_is : (k l : SiteTicket) → is_above k l ≡ true → (l.site ≡ k.site) × (k.ticket < l.ticket)
+pub above_is : (k l : SiteTicket) → is_above k l ≡ true → (l.site ≡ k.site) × (k.ticket < l.ticket)
 above_is k l e = (grind arith, grind arith)
 
-is_above_true : (k l : SiteTicket) (s : SiteId) → k.site ≡ s → l.site ≡ s → k.ticket < l.ticket → is_above k l ≡ true
+pub is_above_true : (k l : SiteTicket) (s : SiteId) → k.site ≡ s → l.site ≡ s → k.ticket < l.ticket → is_above k l ≡ true
 is_above_true k l s p q h = grind arith
 
 edge_step : (a b : Ticketed) (e : Edge) (k : Option SiteTicket) → first_where (λ k. some_of (is_above k) b.tickets) a.tickets ≡ k →
@@ -48,7 +49,7 @@ linked_step : (a b : Ticketed) (s : SiteId) → Precedes a b s → (k : Option S
 linked_step a b s p (Some k) is e = (record { from = a.tid; to = b.tid; site = k.site }, e)
 linked_step a b s p None is e =
     let off : some_of (is_above p.smaller) b.tickets ≡ false = first_where_none (λ k. some_of (is_above k) b.tickets) a.tickets p.smaller is p.first in
-    let on : some_of (is_above p.smaller) b.tickets ≡ true = some_of_true (is_above p.smaller) b.tickets
+    let on : some_of (is_above p.smaller) b.tickets ≡ true = among_some (is_above p.smaller) b.tickets
     (is_among (λ l. is_above p.smaller l ≡ true) p.greater b.tickets p.second (is_above_true p.smaller p.greater s p.there p.here p.less)) in
     cc
 

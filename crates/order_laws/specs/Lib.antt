@@ -6,3 +6,4 @@ pub mod Sites
 pub mod Merge
 pub mod Least
 pub mod Tickets
+pub mod SortedLists

@@ -4,10 +4,12 @@ use Rattle.std.proofs.lemmas.List.{take_more, take_all}
 use Rattle.mdb_base.specs.Words.{those}
 use Rattle.mdb_base.specs.declared.names.Tid.{Tid}
 use Rattle.mdb_base.specs.Names.{same_tid, tid_before}
+use Rattle.mdb_base.proofs.TestLaws.{those_append}
+use Rattle.mdb_base.proofs.JoinLaws.{append_nil}
 use Rattle.order_laws.specs.Chains.{In}
 use Rattle.order_laws.specs.Orders.{Ranks}
 use Rattle.order_laws.specs.Least.{heads, is_free, earlier, IsFree}
-use Rattle.order_laws.proofs.Lists.{those_in, those-append}
+use Rattle.order_laws.proofs.Lists.{those_in}
 use Rattle.order_laws.proofs.Earliest.{IsEarliest, not_before_self, earliest_push}
 use Rattle.order_laws.proofs.LeastFound.{free_is, is_free_in}
 use Rattle.order_laws.proofs.Names.{tells_tids, ranks_tids}
@@ -38,22 +40,18 @@ heads-append [] ys = refl
 heads-append ([] ∷ xs) ys = heads-append xs ys
 heads-append ((x ∷ ts) ∷ xs) ys = ap (λ zs. x ∷ zs) (heads-append xs ys)
 
-append-nil : {A : Type 0} (xs : List A) → xs ++ [] ≡ xs
-append-nil [] = refl
-append-nil (x ∷ xs) = ap (λ zs. x ∷ zs) (append-nil xs)
-
 seen_more : (queues : List (List Tid)) (i : ℕ) (q : List Tid) → i < length queues → get_or queues i q ≡ q →
     seen queues (i + 1) ≡ seen queues i ++ those (is_free same_tid queues) (heads (q ∷ []))
 seen_more queues i q h e =
     ap (λ qs. those (is_free same_tid queues) (heads qs)) (take_more queues i q h)
     ∙ (ap (λ p. those (is_free same_tid queues) (heads (take i queues ++ p ∷ []))) e
     ∙ (ap (those (is_free same_tid queues)) (heads-append (take i queues) (q ∷ []))
-    ∙ those-append (is_free same_tid queues) (heads (take i queues)) (heads (q ∷ []))))
+    ∙ those_append (is_free same_tid queues) (heads (take i queues)) (heads (q ∷ []))))
 
 -- a queue of which nothing is left changes nothing
 pub best_empty : (queues : List (List Tid)) (i : ℕ) (q : List Tid) (best : Option Tid) → i < length queues → get_or queues i q ≡ q →
     slice_get q 0 ≡ None → IsBest (seen queues i) best → IsBest (seen queues (i + 1)) best
-best_empty queues i [] best h e f b = subst (λ xs. IsBest xs best) (sym (seen_more queues i [] h e ∙ append-nil (seen queues i))) b
+best_empty queues i [] best h e f b = subst (λ xs. IsBest xs best) (sym (seen_more queues i [] h e ∙ append_nil (seen queues i))) b
 best_empty queues i (x ∷ xs) best h e f b = cc
 
 -- nor does one whose first member isn't free
@@ -64,7 +62,7 @@ best_waits queues i (x ∷ xs) t best h e f g b =
     let first : x ≡ t = cc in
     let out : is_free same_tid queues x ≡ false = ap (is_free same_tid queues) first ∙ g in
     let none : those (is_free same_tid queues) (x ∷ []) ≡ [] = rw out refl in
-    subst (λ xs. IsBest xs best) (sym (seen_more queues i (x ∷ xs) h e ∙ (ap (λ ys. seen queues i ++ ys) none ∙ append-nil (seen queues i)))) b
+    subst (λ xs. IsBest xs best) (sym (seen_more queues i (x ∷ xs) h e ∙ (ap (λ ys. seen queues i ++ ys) none ∙ append_nil (seen queues i)))) b
 
 -- a free one is compared with the best so far
 pub best_free : (queues : List (List Tid)) (i : ℕ) (q : List Tid) (t : Tid) (best : Option Tid) → i < length queues → get_or queues i q ≡ q →

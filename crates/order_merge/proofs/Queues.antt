@@ -4,24 +4,20 @@ use Rattle.std.specs.Option.{option_eq}
 use Rattle.std.specs.Ordering.{is_eq, nat_cmp, ordering_then}
 use Rattle.mdb_base.specs.declared.names.Tid.{Tid}
 use Rattle.mdb_base.specs.Names.{same_tid}
+use Rattle.mdb_base.proofs.NameLaws.{same_tid-refl, same_tid-equal}
+use Rattle.mdb_base.proofs.BoolLaws.{or_swap}
 use Rattle.order_laws.specs.Chains.{In, Distinct}
 use Rattle.order_laws.specs.Orders.{Before, is_in}
 use Rattle.order_laws.specs.Least.{rest, without}
 use Rattle.order_laws.proofs.Lists.{not_in_false}
-use Rattle.order_laws.proofs.Names.{is_eq-tid_cmp, same_tid_self, same_tid_alike, tells_tids}
+use Rattle.order_laws.proofs.Names.{is_eq-tid_cmp, tells_tids}
 use Rattle.order_laws.proofs.Least.{without_first, without_other}
 use Rattle.order_laws.specs.Ranked.{tid_cmp}
-
-or_more : (p q r : Bool) → (p || (q || r)) ≡ (q || (p || r))
-or_more true true r = refl
-or_more true false r = refl
-or_more false true r = refl
-or_more false false r = refl
 
 -- a list with one more item has that one, and those that it had
 pub is_in-append : {A : Type 0} (same : A → A → Bool) (xs : List A) (x t : A) → is_in same (xs ++ x ∷ []) t ≡ (same t x || is_in same xs t)
 is_in-append same [] x t = refl
-is_in-append same (y ∷ xs) x t = rw (is_in-append same xs x t) (or_more (same t y) (same t x) (is_in same xs t))
+is_in-append same (y ∷ xs) x t = rw (is_in-append same xs x t) (or_swap (same t y) (same t x) (is_in same xs t))
 
 -- an item that is put into a set and behind a list
 pub inserted : (key t : Tid) (had has : Bool) (xs : List Tid) → had ≡ is_in same_tid xs t →
@@ -35,7 +31,7 @@ inserted key t had has xs e f = rw (is_in-append same_tid xs key t) (one (is_eq 
 taken_out_step : (key t : Tid) (had has : Bool) (xs : List Tid) → (In key xs → ⊥) → had ≡ is_in same_tid (key ∷ xs) t →
     has ≡ cond (is_eq (tid_cmp key t)) false had → (b : Bool) → same_tid t key ≡ b → has ≡ is_in same_tid xs t
 taken_out_step key t had has xs out e f true g =
-    let same : t ≡ key = same_tid_alike t key g in
+    let same : t ≡ key = same_tid-equal t key g in
     let here : is_eq (tid_cmp key t) ≡ true = is_eq-tid_cmp key t ∙ g in
     let none : is_in same_tid xs t ≡ false = not_in_false same_tid tells_tids xs t (subst (λ y. In y xs → ⊥) (sym same) out) in
     let gone : has ≡ false = rw here at f in
@@ -57,7 +53,7 @@ pub first_not_behind : (xs : List Tid) (first tid : Tid) → Distinct xs → sli
 first_not_behind [] first tid d e f = refl
 first_not_behind (x ∷ xs) first tid d e f =
     let here : x ≡ first = cc in
-    not_in_false same_tid tells_tids xs tid (subst (λ y. In y xs → ⊥) (here ∙ same_tid_alike first tid f) d.0)
+    not_in_false same_tid tells_tids xs tid (subst (λ y. In y xs → ⊥) (here ∙ same_tid-equal first tid f) d.0)
 
 drop-one : {A : Type 0} (xs : List A) → drop 1 xs ≡ rest xs
 drop-one [] = refl
@@ -66,14 +62,14 @@ drop-one (x ∷ xs) = refl
 -- a list that begins with the attempt is it with the rest behind it
 pub begins : (xs : List Tid) (tid : Tid) → option_eq same_tid (slice_get xs 0) (Some tid) ≡ true → xs ≡ tid ∷ rest xs
 begins [] tid e = cc
-begins (x ∷ xs) tid e = ap (λ y. y ∷ xs) (same_tid_alike x tid e)
+begins (x ∷ xs) tid e = ap (λ y. y ∷ xs) (same_tid-equal x tid e)
 
 -- what stands behind the first member is the list without it
 pub rest-without : (xs ys : List Tid) (tid : Tid) → Distinct xs → option_eq same_tid (slice_get xs 0) (Some tid) ≡ true → ys ≡ drop 1 xs →
     ys ≡ without same_tid tid xs
 rest-without [] ys tid d e f = cc
 rest-without (x ∷ xs) ys tid d e f =
-    let same : x ≡ tid = same_tid_alike x tid e in
+    let same : x ≡ tid = same_tid-equal x tid e in
     f ∙ sym (without_first same_tid tells_tids tid x xs same (subst (λ y. In y xs → ⊥) same d.0))
 
 -- and a list that neither begins with the attempt nor has it behind another one is as without it
@@ -82,7 +78,7 @@ pub whole-without : (xs : List Tid) (tid : Tid) → ((p : Tid) → Before xs p t
 whole-without [] tid first e = refl
 whole-without (x ∷ xs) tid first e =
     sym (without_other same_tid tells_tids tid (x ∷ xs) (λ i. elim i [
-      | inl p ↦ let same : same_tid x tid ≡ true = subst (λ y. same_tid x y ≡ true) p (same_tid_self x) in cc
+      | inl p ↦ let same : same_tid x tid ≡ true = subst (λ y. same_tid x y ≡ true) p (same_tid-refl x) in cc
       | inr j ↦ first x (inl (refl, j))
     ]))
 

@@ -5,6 +5,3 @@ mod merge;
 mod queue;
 
 pub use merge::merge_orders;
-
-#[cfg(test)]
-mod tests;

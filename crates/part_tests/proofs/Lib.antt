@@ -1,1 +1,3 @@
 mod NumberedGraphs
+mod TwoSites
+mod RisingOrders

@@ -5,12 +5,22 @@
 #[cfg(test)]
 mod attempts;
 #[cfg(test)]
-mod coord_sums;
-#[cfg(test)]
-mod disks;
-#[cfg(test)]
 mod graph;
+#[cfg(test)]
+mod orders;
+#[cfg(test)]
+mod policies;
+#[cfg(test)]
+mod prepared;
+#[cfg(test)]
+mod presumed;
 #[cfg(test)]
 mod protocols;
 #[cfg(test)]
-mod sums;
+mod serial;
+#[cfg(test)]
+mod site_books;
+#[cfg(test)]
+mod tables;
+#[cfg(test)]
+mod tickets;

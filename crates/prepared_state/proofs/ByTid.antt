@@ -2,42 +2,28 @@
 use Rattle.std.proofs.Common.{◌≡◌, ℕ, zero, suc, ◌<◌, ◌≤◌, Bool, true, false, not, cond, Option, Some, None, List, [], ◌∷◌, length, get_or, refl, sym, ap, ◌∙◌, arith}
 use Rattle.std.specs.List.{remove}
 use Rattle.std.specs.List.Sorted.{IsPartitionedBy}
-use Rattle.std.proofs.lemmas.Bool.{false_from_ne_true, false≢true}
 use Rattle.mdb_base.specs.declared.names.Tid.{Tid}
 use Rattle.mdb_base.specs.Names.{same_tid, tid_before}
 use Rattle.mdb_base.specs.Words.{Each, item_at}
 use Rattle.mdb_base.proofs.ListLaws.{each_map}
 use Rattle.mdb_base.proofs.Words.{item_at-within, item_at-past}
+use Rattle.mdb_base.proofs.NameLaws.{before_onward, before_apart, before_not_back}
+use Rattle.mdb_base.proofs.EachLaws.{each_get_or}
 use Rattle.fed_rules.specs.declared.runs.Doubt.{Doubt}
 use Rattle.prepared_state.specs.Book.{IsByTid, count_before, doubt_about, others, stands_before}
-
--- the order of attempts
-pub onward : (a b c : Tid) → tid_before a b ≡ true → tid_before b c ≡ true → tid_before a c ≡ true
-onward a b c e f = grind arith
-
-apart_before : (a b : Tid) → tid_before a b ≡ true → same_tid a b ≡ false
-apart_before a b e = grind arith
 
 pub total : (a b : Tid) → tid_before a b ≡ false → same_tid a b ≡ false → tid_before b a ≡ true
 total a b e f = grind arith
 
-not_back : (a b c : Tid) → tid_before a c ≡ false → tid_before a b ≡ true → tid_before b c ≡ false
-not_back a b c e f = false_from_ne_true (tid_before b c) (λ g. false≢true (sym e ∙ onward a b c f g))
-
 apart_behind : (a b c : Tid) → tid_before a c ≡ false → tid_before a b ≡ true → same_tid b c ≡ false
 apart_behind a b c e f = grind arith
-
-each_at : {A : Type 0} (P : A → Type 0) (xs : List A) (i : ℕ) (d : A) → Each P xs → i < length xs → P (get_or xs i d)
-each_at P [] i d h lt = absurd (omega arith)
-each_at P (x ∷ xs) zero d h lt = h.0
-each_at P (x ∷ xs) (suc i) d h lt = each_at P xs i d h.1 (omega arith)
 
 -- the doubts before an attempt stand in front
 pub partitioned : (tid : Tid) (doubts : List Doubt) → IsByTid doubts → IsPartitionedBy (λ doubt. tid_before doubt.tid tid) doubts
 partitioned tid [] order i j d le lt e = absurd (omega arith)
 partitioned tid (x ∷ xs) order zero zero d le lt e = e
 partitioned tid (x ∷ xs) order zero (suc j) d le lt e =
-    onward x.tid (get_or xs j d).tid tid (each_at (λ later. stands_before x later ≡ true) xs j d order.0 (omega arith)) e
+    before_onward x.tid (get_or xs j d).tid tid (each_get_or (λ later. stands_before x later ≡ true) xs j d order.0 (omega arith)) e
 partitioned tid (x ∷ xs) order (suc i) zero d le lt e = absurd (omega arith)
 partitioned tid (x ∷ xs) order (suc i) (suc j) d le lt e = partitioned tid xs order.1 i j d (omega arith) (omega arith) e
 
@@ -67,7 +53,7 @@ all_others tid (x ∷ xs) h =
 -- behind a doubt that isn't before the attempt there is none before it and none about it
 module _ (tid : Tid) (x : Doubt) (xs : List Doubt) (first : Each (λ later. stands_before x later ≡ true) xs) (is : tid_before x.tid tid ≡ false) where
   pub behind_count : count_before tid xs ≡ 0
-  behind_count = none_before tid xs (each_map _ (λ y. tid_before y.tid tid ≡ false) (λ y e. not_back x.tid y.tid tid is e) xs first)
+  behind_count = none_before tid xs (each_map _ (λ y. tid_before y.tid tid ≡ false) (λ y e. before_not_back x.tid y.tid tid is e) xs first)
 
   behind_apart : Each (λ y. same_tid y.tid tid ≡ false) xs
   behind_apart = each_map _ (λ y. same_tid y.tid tid ≡ false) (λ y e. apart_behind x.tid y.tid tid is e) xs first
@@ -82,7 +68,7 @@ doubt_about-place tid [] order = refl
 doubt_about-place tid (x ∷ xs) order = by_test (tid_before x.tid tid) refl (doubt_about-place tid xs order.1)
   where
     by_test : (b : Bool) → tid_before x.tid tid ≡ b → doubt_about tid xs ≡ at_place tid (item_at xs (count_before tid xs)) → cond (same_tid x.tid tid) (Some x) (doubt_about tid xs) ≡ at_place tid (item_at (x ∷ xs) (cond b (suc (count_before tid xs)) (count_before tid xs)))
-    by_test true is rest = ap (λ b. cond b (Some x) (doubt_about tid xs)) (apart_before x.tid tid is) ∙ rest
+    by_test true is rest = ap (λ b. cond b (Some x) (doubt_about tid xs)) (before_apart x.tid tid is) ∙ rest
     by_test false is rest =
         ap (cond (same_tid x.tid tid) (Some x)) (none_about tid xs (behind_apart tid x xs order.0 is))
         ∙ ap (λ n. at_place tid (item_at (x ∷ xs) n)) (sym (behind_count tid x xs order.0 is))
@@ -111,7 +97,7 @@ others-place tid (x ∷ xs) doubt order e = by_test (tid_before x.tid tid) refl 
   where
     by_test : (b : Bool) → tid_before x.tid tid ≡ b → (doubt_about tid xs ≡ Some doubt → others tid xs ≡ remove xs (count_before tid xs)) → cond (same_tid x.tid tid) (Some x) (doubt_about tid xs) ≡ Some doubt → others tid (x ∷ xs) ≡ remove (x ∷ xs) (cond b (suc (count_before tid xs)) (count_before tid xs))
     by_test true is rest e =
-        let apart = apart_before x.tid tid is in
+        let apart = before_apart x.tid tid is in
         ap (λ b. cond (not b) (x ∷ others tid xs) (others tid xs)) apart
         ∙ ap (λ ys. x ∷ ys) (rest (sym (ap (λ b. cond b (Some x) (doubt_about tid xs)) apart) ∙ e))
     by_test false is rest e = same (same_tid x.tid tid) refl (sym (ap (cond (same_tid x.tid tid) (Some x)) (none_about tid xs (behind_apart tid x xs order.0 is))) ∙ e)

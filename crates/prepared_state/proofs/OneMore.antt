@@ -7,10 +7,10 @@ use Rattle.mdb_base.specs.declared.names.Tid.{Tid}
 use Rattle.mdb_base.specs.Names.{same_tid, tid_before}
 use Rattle.mdb_base.specs.Words.{inserted}
 use Rattle.mdb_base.proofs.ListLaws.{each_map, each_inserted}
-use Rattle.mdb_base.proofs.NameLaws.{same_tid-equal, same_tid-sym}
+use Rattle.mdb_base.proofs.NameLaws.{same_tid-equal, same_tid-sym, before_onward}
 use Rattle.fed_rules.specs.declared.runs.Doubt.{Doubt}
 use Rattle.prepared_state.specs.Book.{AreApart, IsByTid, count_before, doubt_about, stands_before}
-use Rattle.prepared_state.proofs.ByTid.{onward, total, behind_count}
+use Rattle.prepared_state.proofs.ByTid.{total, behind_count}
 
 -- a doubt that isn't about the attempt, in a list that has none about it
 absent_head : (tid : Tid) (x : Doubt) (xs : List Doubt) → doubt_about tid (x ∷ xs) ≡ None → (same_tid x.tid tid ≡ false) × (doubt_about tid xs ≡ None)
@@ -40,7 +40,7 @@ IsByTid-inserted doubt (x ∷ xs) order absent =
     by_test apart true is rest = (each_inserted (λ later. stands_before x later ≡ true) stands_before doubt xs is order.0, rest)
     by_test apart false is rest =
         let first = total x.tid doubt.tid is apart in
-        ((first, each_map _ (λ y. stands_before doubt y ≡ true) (λ y e. onward doubt.tid x.tid y.tid first e) xs order.0), order)
+        ((first, each_map _ (λ y. stands_before doubt y ≡ true) (λ y e. before_onward doubt.tid x.tid y.tid first e) xs order.0), order)
 
 pub length-inserted : (doubt : Doubt) (doubts : List Doubt) → length (inserted stands_before doubt doubts) ≡ length doubts + 1
 length-inserted doubt [] = refl

@@ -4,6 +4,7 @@ use Rattle.mdb_base.specs.declared.names.SiteId.{SiteId}
 use Rattle.mdb_base.specs.declared.names.Tid.{Tid}
 use Rattle.mdb_base.specs.Names.{same_site}
 use Rattle.mdb_base.specs.Words.{Each, some_of, found, holds_of, those, with_some}
+use Rattle.mdb_base.proofs.BoolLaws.{and_true, and_false}
 use Rattle.presumptions.specs.declared.Decision.{Decision}
 use Rattle.presumptions.specs.declared.Participant.{Participant}
 use Rattle.presumptions.specs.declared.Protocol.{Protocol}
@@ -50,7 +51,7 @@ votes_agree protocols past tid known h =
 
 -- ---- classes
 
-voters_are : (past : CoordPast) (tid : Tid) (ps : List Participant) → map participant_of (map (voter past tid) ps) ≡ ps
+pub voters_are : (past : CoordPast) (tid : Tid) (ps : List Participant) → map participant_of (map (voter past tid) ps) ≡ ps
 voters_are past tid [] = refl
 voters_are past tid (p ∷ ps) = ap (λ qs. p ∷ qs) (voters_are past tid ps)
 
@@ -74,14 +75,6 @@ classes_agree protocols past tid known h =
     }
 
 -- ---- acknowledgements
-
-and_true : (b : Bool) → (b && true) ≡ b
-and_true true = refl
-and_true false = refl
-
-and_false : (b : Bool) → (b && false) ≡ false
-and_false true = refl
-and_false false = refl
 
 none_of : {A : Type 0} (xs : List A) → those (λ x. false) xs ≡ []
 none_of [] = refl

@@ -1,9 +1,10 @@
 -- What a line of the coordinator makes of a known attempt.
-use Rattle.std.proofs.Common.{ℕ, ◌≡◌, Bool, true, false, cond, ◌&&◌, ◌||◌, Some, None, List, [], ◌∷◌, map, refl, sym, ap, ◌∙◌, subst, arith}
+use Rattle.std.proofs.Common.{ℕ, ◌≡◌, Bool, true, false, cond, ◌&&◌, ◌||◌, Some, None, List, [], ◌∷◌, map, refl, sym, ap, ◌∙◌, subst}
 use Rattle.mdb_base.specs.declared.names.SiteId.{SiteId}
 use Rattle.mdb_base.specs.declared.names.Tid.{Tid}
 use Rattle.mdb_base.specs.Names.{same_site, same_tid}
 use Rattle.mdb_base.specs.Words.{Each}
+use Rattle.mdb_base.proofs.NameLaws.{same_tid-refl, same_site-sym}
 use Rattle.presumptions.specs.declared.Decision.{Decision}
 use Rattle.presumptions.specs.declared.Participant.{Participant}
 use Rattle.fed_rules.specs.declared.events.CoordEvent.TheVariants as Ev
@@ -18,24 +19,15 @@ use Rattle.protocol_table.specs.Agreement.{IsDecidedAs, IsNamedAs, IsUndecidedAs
 use Rattle.protocol_table.specs.Attempts.{decision_of, member_of, participant_of, restored, submitted, with_ack, with_vote}
 use Rattle.protocol_table.specs.Ends.{acked, decide, initiate, voted}
 use Rattle.protocol_table.specs.Pasts.{GoesOn, NamesAsBefore, VotesAsBefore}
+use Rattle.protocol_table.proofs.Agreeing.{voters_are}
 
 -- ---- sites and attempts
-
-same_tid_self : (a : Tid) → same_tid a a ≡ true
-same_tid_self a = grind arith
-
-same_site_turned : (a b : SiteId) → same_site a b ≡ same_site b a
-same_site_turned a b = grind arith
 
 -- ---- the members as participants
 
 members_are : (ps : List Participant) → map participant_of (map member_of ps) ≡ ps
 members_are [] = refl
 members_are (p ∷ ps) = ap (λ qs. p ∷ qs) (members_are ps)
-
-voters_are : (past : CoordPast) (tid : Tid) (ps : List Participant) → map participant_of (map (voter past tid) ps) ≡ ps
-voters_are past tid [] = refl
-voters_are past tid (p ∷ ps) = ap (λ qs. p ∷ qs) (voters_are past tid ps)
 
 -- ---- begin
 
@@ -62,7 +54,7 @@ one_vote : (past : CoordPast) (tid : Tid) (x : CoordHappening) (site : SiteId) (
 one_vote past tid x site ticket event old new p =
     let now : vote_at (x ∷ past) tid p.site ≡ or_vote (vote_in tid p.site x.event) (vote_at past tid p.site) = rw old (rw new refl) in
     let here : (same_tid tid tid && same_site site p.site) ≡ same_site p.site site =
-    ap (λ b. b && same_site site p.site) (same_tid_self tid) ∙ same_site_turned site p.site in
+    ap (λ b. b && same_site site p.site) (same_tid-refl tid) ∙ same_site-sym site p.site in
     let cast : vote_in tid p.site x.event ≡ cond (same_site p.site site) (Some ticket) None =
     ap (vote_in tid p.site) event ∙ ap (λ b. cond b (Some ticket) None) here in
     by_site (same_site p.site site)
@@ -230,8 +222,8 @@ one_ack past tid x site event on still new m h = by_site (same_site m.site site)
     acks : acks_in tid m.site x ≡ same_site m.site site
     acks =
         ap (λ e. acks_in tid m.site (record x { event = e })) event
-        ∙ (ap (λ b. (b && same_site site m.site) && counts x.answer) (same_tid_self tid)
-        ∙ (ap (λ b. same_site site m.site && b) new ∙ (and_true (same_site site m.site) ∙ same_site_turned site m.site)))
+        ∙ (ap (λ b. (b && same_site site m.site) && counts x.answer) (same_tid-refl tid)
+        ∙ (ap (λ b. same_site site m.site && b) new ∙ (and_true (same_site site m.site) ∙ same_site-sym site m.site)))
 
     by_site : (b : Bool) → has_acked (x ∷ past) tid m.site ≡ (b || has_acked past tid m.site) →
         (cond b (record m { acked = true }) m).acked ≡ has_acked (x ∷ past) tid (cond b (record m { acked = true }) m).site

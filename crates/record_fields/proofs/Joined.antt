@@ -1,6 +1,5 @@
 -- Items one behind the other.
 use Rattle.std.proofs.Common.{◌≡◌, ℕ, zero, suc, ◌+◌, ◌*◌, ◌≤◌, List, [], ◌∷◌, ◌++◌, length, take, sym, ap, ◌∙◌, append_assoc, arith}
-use Rattle.std.specs.List.{AllByRecursion}
 use Rattle.std.proofs.Math.Nat.{mul-suc}
 use Rattle.std.proofs.lemmas.List.{append-nil, length-append}
 use Rattle.record_fields.specs.Items.{joined}
@@ -30,7 +29,3 @@ module _ {A : Type 0} (spelling : A → List ℕ) where
   -- there is room for one more
   pub room_for : (xs : List A) (i : ℕ) (x : A) → take (i + 1) xs ≡ take i xs ++ x ∷ [] → length (joined spelling (take i xs)) + length (spelling x) ≤ length (joined spelling xs)
   room_for xs i x more = omega (arith, length-one_more xs i x more, front-le (i + 1) xs)
-
-pub all_push : {A : Type 0} (P : A → Type 0) (xs : List A) (x : A) → AllByRecursion P xs → P x → AllByRecursion P (xs ++ x ∷ [])
-all_push P [] x all here = (here, tt)
-all_push P (y ∷ xs) x all here = (all.0, all_push P xs x all.1 here)

@@ -1,4 +1,3 @@
-pub mod Behind
 pub mod Joined
 pub mod Loop
 pub mod Sizes

@@ -7,8 +7,8 @@ use Rattle.fed_rules.specs.declared.commands.Command.{Command}
 use Rattle.fed_rules.specs.declared.scenario.Scenario.{Scenario}
 use Rattle.fed_rules.specs.Plans.{IsScenario}
 use Rattle.fed_rules.proofs.Opened.{opened}
-use Rattle.fed_rules.proofs.Spelled.{at, tid, set, site, step_at, global, scenario_of, go, give, take, trip}
-use Rattle.refuted_rules.specs.Closings.{LeavesNoRest, closed_without_disarming, closed_without_clearing, closed_without_ending, closed_without_inquiries}
+use Rattle.fed_rules.proofs.Spelled.{at, tid, set, site, step_at, global, scenario_of, go, give, take, trip, halt}
+use Rattle.refuted_rules.specs.Closings.{LeavesNoRest, closed_without_disarming, closed_without_clearing, closed_without_ending, closed_without_inquiries, closed_by_asking_first}
 
 abbrev one_site : Protocol → Scenario
 one_site protocol = scenario_of (site 1 Locking protocol ∷ []) [] (global 1 (step_at 1 (set 1 11) ∷ []) ∷ [])
@@ -85,5 +85,16 @@ still_in_doubt =
       scenario = one_site By.Abort;
       good = good_by_abort;
       commands = prepared [];
+      broken = λ rest. (let no : tid 1 0 ∷ [] ≡ [] = rest.none_in_doubt (at 1) in cc);
+    }
+
+-- the coordinator is down, so that it answers no inquiry
+pub still_unanswered : LeavesNoRest closed_by_asking_first
+unfolding opened
+still_unanswered =
+    record {
+      scenario = one_site By.Abort;
+      good = good_by_abort;
+      commands = prepared (halt 0 0 ∷ []);
       broken = λ rest. (let no : tid 1 0 ∷ [] ≡ [] = rest.none_in_doubt (at 1) in cc);
     }

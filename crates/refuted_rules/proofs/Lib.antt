@@ -4,6 +4,7 @@ pub mod Coordinators
 pub mod Disks
 pub mod Graphs
 pub mod Orders
+pub mod Policies
 pub mod Rows
 pub mod Sites
 pub mod Unmade

@@ -5,6 +5,6 @@
 mod wrong_rules;
 
 pub use wrong_rules::{
-    wrong_bounds, wrong_closings, wrong_commits, wrong_ranking, wrong_records, wrong_rows,
-    wrong_sites, wrong_sums, wrong_survival,
+    wrong_bounds, wrong_closings, wrong_commits, wrong_policies, wrong_ranking, wrong_records,
+    wrong_rows, wrong_sites, wrong_sums, wrong_survival,
 };

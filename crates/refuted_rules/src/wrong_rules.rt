@@ -4,10 +4,11 @@ ghost use Rattle.coord_laws.specs.Laws.{CommitOnce, CommitsCloseNoCycle, Decided
 ghost use Rattle.commit_laws.specs.WrongRules.{commits_forgotten_at_once};
 ghost use Rattle.federation_laws.specs.WrongRules.{commits_without_graph};
 ghost use Rattle.refuted_rules.specs.Bounds.{ClosesLater, FinishesLater, as_if_all_were_local, one_for_each};
-ghost use Rattle.refuted_rules.specs.Closings.{LeavesNoRest, closed_without_clearing, closed_without_disarming, closed_without_ending, closed_without_inquiries};
+ghost use Rattle.refuted_rules.specs.Closings.{LeavesNoRest, closed_by_asking_first, closed_without_clearing, closed_without_disarming, closed_without_ending, closed_without_inquiries};
 ghost use Rattle.refuted_rules.specs.Coordinators.{BreaksTheFact, IsMadeByNoEvents, fates_of_unbegun_recorded, commits_recorded_early, commits_unrecorded, initiations_name_every_site, repeated_votes_commit_again};
 ghost use Rattle.refuted_rules.specs.Disks.{LosesARecord};
 ghost use Rattle.refuted_rules.specs.Orders.{of_lesser_transaction};
+ghost use Rattle.refuted_rules.specs.Policies.{RefusesConservatively, tickets_at_once};
 ghost use Rattle.refuted_rules.specs.Rows.{DoesNotRise, MissesTheTable, puts_as_made, rows_of_the_start};
 ghost use Rattle.refuted_rules.specs.Sites.{LeavesAClosedRunLive, LeavesItsFirstRows, MissesWhatWasTrimmed, closed_attempts_begin};
 
@@ -33,6 +34,11 @@ pub fn wrong_commits()
     ensures unmade { IsMadeByNoEvents commits_forgotten_at_once }
 {}
 
+/// A coordinator that takes tickets at once, where they are to be taken conservatively, refuses a commit for a cycle.
+pub fn wrong_policies()
+    ensures { RefusesConservatively tickets_at_once }
+{}
+
 /// A site that begins a run at each first act that it would answer as unknown has a live run of an attempt that is closed there.
 pub fn wrong_sites()
     ensures { LeavesAClosedRunLive closed_attempts_begin }
@@ -48,12 +54,14 @@ pub fn wrong_survival()
     ensures { LosesARecord }
 {}
 
-/// A session isn't at rest where closing disarms no trip, clears no site, sends no decision again, or lets no site ask.
+/// A session isn't at rest where closing disarms no trip, clears no site, sends no decision again, or lets no site ask, nor where the sites ask
+/// before the actors come back: a coordinator that is down answers none of them.
 pub fn wrong_closings()
     ensures armed { LeavesNoRest closed_without_disarming }
     ensures live { LeavesNoRest closed_without_clearing }
     ensures known { LeavesNoRest closed_without_ending }
     ensures in_doubt { LeavesNoRest closed_without_inquiries }
+    ensures unanswered { LeavesNoRest closed_by_asking_first }
 {}
 
 /// Attempts aren't ranked by transaction alone.

@@ -1,18 +1,15 @@
 -- A declared site is found again by its own number, and the home of a local transaction is a declared site.
-use Rattle.order_laws.proofs.Alike.{some_parts}
-use Rattle.std.proofs.Common.{◌≡◌, ℕ, Bool, true, false, cond, Option, Some, None, List, [], ◌∷◌, refl, sym, ◌∙◌, ap}
-use Rattle.std.proofs.lemmas.Bool.{eqb-true}
+use Rattle.std.proofs.Common.{◌≡◌, Bool, true, false, cond, Option, Some, None, List, [], ◌∷◌, refl, sym, ◌∙◌, ap}
 use Rattle.mdb_base.specs.declared.names.SiteId.{SiteId}
 use Rattle.mdb_base.specs.declared.names.Tx.{Tx}
 use Rattle.mdb_base.specs.Names.{same_site}
+use Rattle.mdb_base.proofs.OptionLaws.{some_parts}
+use Rattle.mdb_base.proofs.NameLaws.{same_site-equal}
 use Rattle.fed_rules.specs.declared.scenario.ItemLine.{ItemLine}
 use Rattle.fed_rules.specs.declared.scenario.Scenario.{Scenario}
 use Rattle.fed_rules.specs.declared.scenario.SiteLine.{SiteLine}
 use Rattle.fed_rules.specs.Scenarios.{home_in, home_of, home_at, items_of, local_site, local_home}
 use Rattle.fed_rules.specs.SiteRecords.{Home}
-
-pub same-site : (a b : SiteId) → same_site a b ≡ true → a ≡ b
-same-site a b h = let P : ℕ → SiteId = λ n. record { 0 = n } in ap P (eqb-true a.0 b.0 h)
 
 -- the home that a line declares
 abbrev home_at_line : SiteLine → List ItemLine → SiteId → Home
@@ -22,7 +19,7 @@ pub home-site : (lines : List SiteLine) (items : List ItemLine) (s : SiteId) (h 
 home-site [] items s h e = cc
 home-site (line ∷ lines) items s h e = by_test (same_site line.site s) refl e (home-site lines items s h) where
   by_test : (t : Bool) → same_site line.site s ≡ t → cond t (Some (home_at_line line items s)) (home_in lines items s) ≡ Some h → (home_in lines items s ≡ Some h → h.site ≡ s) → h.site ≡ s
-  by_test true q e k = (let p : home_at_line line items s ≡ h = some_parts e in sym (ap (λ x. x.site) p) ∙ same-site line.site s q)
+  by_test true q e k = (let p : home_at_line line items s ≡ h = some_parts e in sym (ap (λ x. x.site) p) ∙ same_site-equal line.site s q)
   by_test false q e k = k e
 
 -- a declared site has the number by which it was found

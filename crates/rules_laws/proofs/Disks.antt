@@ -1,7 +1,8 @@
 -- What a line's disk calls leave. A line that a stop ends keeps the oldest of the records that it appends, or it loses loose ones before them.
 use Rattle.std.proofs.Common.{◌≡◌, ℕ, zero, suc, ◌+◌, ◌≤◌, ◌⊎◌, inl, inr, min, Bool, true, false, cond, nat_le, List, [], ◌∷◌, ◌++◌, take, refl, sym, ap, subst, ◌∙◌, arith}
 use Rattle.mdb_base.specs.Words.{Each, Among}
-use Rattle.order_laws.proofs.Joined.{among_right, among_split, each_not}
+use Rattle.mdb_base.proofs.EachLaws.{among_behind, among_split}
+use Rattle.order_laws.proofs.Joined.{each_not}
 use Rattle.fed_rules.specs.Disk.{Disk, Call, Append, Sync, CutBack, TrimFront, Stops, bytes_of, whole, after_call, after_calls}
 use Rattle.rules_laws.specs.Durable.{IsSound, LooseFirst, IsFirm, IsFrontOf}
 use Rattle.rules_laws.proofs.Durable.{whole_all, sound_call, all_synced, firm_append, firm_sync, firm_cut, firm_stop}
@@ -251,7 +252,7 @@ left_by_stop {R = R} size Loose d cs k cut p f = subst (λ x. Left size Loose (a
 
 -- what is left after a cut was there
 pub cut_old : {A : Type 0} (Loose P : A → Type 0) (old now : List A) → IsCut Loose old now → Among P now → Among P old
-cut_old Loose P old now (newer, each, e) m = subst (Among P) (sym e) (among_right P newer now m)
+cut_old Loose P old now (newer, each, e) m = subst (Among P) (sym e) (among_behind P newer now m)
 
 -- what isn't loose is left
 pub cut_stays : {A : Type 0} (Loose P : A → Type 0) → ((x : A) → Loose x → P x → ⊥) → (old now : List A) → IsCut Loose old now

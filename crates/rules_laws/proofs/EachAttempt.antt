@@ -10,7 +10,7 @@ use Rattle.order_laws.proofs.Names.{tells_tids}
 use Rattle.fed_rules.specs.Attempts.{with_attempt, each_attempt}
 
 -- who is added or stood there stands in it
-in_with : (tid g : Tid) (tids : List Tid) → In g (tid ∷ tids) → In g (with_attempt tid tids)
+pub in_with : (tid g : Tid) (tids : List Tid) → In g (tid ∷ tids) → In g (with_attempt tid tids)
 in_with tid g tids i = by_test (is_in same_tid tids tid) refl i
   where
     by_test : (b : Bool) → is_in same_tid tids tid ≡ b → In g (tid ∷ tids) → In g (cond b tids (tid ∷ tids))

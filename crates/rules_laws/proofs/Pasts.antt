@@ -1,6 +1,8 @@
 -- What happens at a site in a story is the next line of that site.
 use Rattle.std.proofs.Common.{◌≡◌, Bool, true, false, cond, Some, List, [], ◌∷◌, refl, sym, ◌∙◌, ap}
 use Rattle.mdb_base.specs.Names.{same_site}
+use Rattle.mdb_base.proofs.NameLaws.{same_site-equal}
+use Rattle.mdb_base.proofs.OptionLaws.{some_parts}
 use Rattle.fed_rules.specs.declared.commands.Command.{Command}
 use Rattle.fed_rules.specs.declared.events.SiteEvent.{SiteEvent}
 use Rattle.fed_rules.specs.declared.scenario.Scenario.{Scenario}
@@ -10,8 +12,7 @@ use Rattle.fed_rules.specs.SiteRecords.{Home}
 use Rattle.fed_rules.specs.Story.{Story, Happened, AtSite, AtCoordinator, Nowhere, past_of, story_of, with_site, happens}
 use Rattle.rules_laws.specs.Lines.{IsLine}
 use Rattle.rules_laws.specs.Pasts.{PastsAreMadeByEvents}
-use Rattle.rules_laws.proofs.Declared.{same-site, home-again}
-use Rattle.order_laws.proofs.Alike.{some_parts}
+use Rattle.rules_laws.proofs.Declared.{home-again}
 use Rattle.rules_laws.proofs.Lines.{line_is}
 
 -- the past of a site with what happens next
@@ -19,7 +20,7 @@ past-more : (scenario : Scenario) (home : Home) (story : Story) (command : Comma
     → past_of home.site story ≡ site_past home events → (more : List SiteEvent) × (with_site home.site happened (past_of home.site story) ≡ site_past home more)
 past-more scenario home story command (AtSite at x) events d line e = by_test (same_site at home.site) refl where
   same_home : same_site at home.site ≡ true → line.home ≡ home
-  same_home q = some_parts (sym line.declared ∙ ap (home_of scenario) (sym line.here ∙ same-site at home.site q) ∙ d)
+  same_home q = some_parts (sym line.declared ∙ ap (home_of scenario) (sym line.here ∙ same_site-equal at home.site q) ∙ d)
 
   by_test : (t : Bool) → same_site at home.site ≡ t → (more : List SiteEvent) × (cond t (x ∷ past_of home.site story) (past_of home.site story) ≡ site_past home more)
   by_test true q = (line.event ∷ events, ap (λ y. y ∷ past_of home.site story) (line.is_next ∙ ap (λ h. site_line h (past_of h.site story) line.event) (same_home q)) ∙ ap (λ past. site_line home past line.event ∷ past) e)

@@ -1,6 +1,7 @@
 -- The ages of the unended runs of right lines: at most the counter, and no two alike.
 use Rattle.std.proofs.Common.{◌≡◌, ℕ, ◌+◌, ◌<◌, ◌≤◌, ◌⊎◌, true, false, Option, Some, None, List, [], ◌∷◌, inl, inr, refl, sym, ap, ◌∙◌, subst, arith}
 use Rattle.std.proofs.lemmas.Bool.{cond-true, cond-false, cases_Bool}
+use Rattle.std.proofs.lemmas.Option.{same_Some}
 use Rattle.mdb_base.specs.declared.names.Tid.{Tid}
 use Rattle.mdb_base.specs.declared.acts.PlainAct.{PlainAct}
 use Rattle.mdb_base.specs.declared.acts.PlainAct.TheVariants.{Read, Write}
@@ -28,17 +29,14 @@ pub record BeginsAt (line : EngineLine) (now : Run) : Type 0 where
   pub line_is : line ≡ Begins tid number
   pub run_is : now ≡ begun tid number
 
-pub some_inj : {A : Type 0} (x y : A) → Some x ≡ Some y → x ≡ y
-some_inj x y h = cc
-
 goes_on_same : (run now : Run) → Some run ≡ Some now → GoesOn (Some run) now
 goes_on_same run now h =
-    let e = some_inj run now h in
+    let e = same_Some run now h in
     record { run = run; was = refl; age = ap (λ (r : Run). r.age) (sym e); tid = ap (λ (r : Run). r.tid) (sym e) }
 
 goes_on_as : (run then now : Run) → then.age ≡ run.age → then.tid ≡ run.tid → Some then ≡ Some now → GoesOn (Some run) now
 goes_on_as run then now age tid h =
-    let e = some_inj then now h in
+    let e = same_Some then now h in
     record { run = run; was = refl; age = ap (λ (r : Run). r.age) (sym e) ∙ age; tid = ap (λ (r : Run). r.tid) (sym e) ∙ tid }
 
 acted_on : (reply : Reply) (act : PlainAct) (run now : Run) → acted reply act run ≡ Some now → GoesOn (Some run) now
@@ -61,7 +59,7 @@ took_on Reply_is.Done run now h = goes_on_same run now h
 
 -- an unended run begins at the line, or goes on through it
 pub through_line : (line : EngineLine) (old : Option Run) (now : Run) → changed line old ≡ Some now → BeginsAt line now ⊎ GoesOn old now
-through_line (Begins tid n) old now h = inl (record { tid = tid; number = n; line_is = refl; run_is = sym (some_inj _ now h) })
+through_line (Begins tid n) old now h = inl (record { tid = tid; number = n; line_is = refl; run_is = sym (same_Some _ now h) })
 through_line (Acts tid act reply) None now h = cc
 through_line (Acts tid act reply) (Some run) now h = inr (acted_on reply act run now h)
 through_line (Takes tid reply) None now h = cc
@@ -100,7 +98,7 @@ restored-apart : (kept : Kept) (more : List Kept) (v : Tid) (b : Run) → Each (
 restored-apart kept [] v b apart h same = cc
 restored-apart kept (other ∷ more) v b apart h same =
     elim (cases_Bool (same_tid other.tid v)) [
-      | inl e ↦ let is = some_inj _ b (sym (cond-true _ _ _ e) ∙ h) in
+      | inl e ↦ let is = same_Some _ b (sym (cond-true _ _ _ e) ∙ h) in
           let age : other.number ≡ b.age = ap (λ (r : Run). r.age) is in
           elim apart.0.order [ inl lt ↦ let l = lt.0 in omega arith | inr gt ↦ let l = gt.0 in omega arith ]
       | inr e ↦ restored-apart kept more v b apart.1 (sym (cond-false _ _ _ e) ∙ h) same
@@ -110,7 +108,7 @@ restored-differ : (doubtful : List Kept) (u v : Tid) (a b : Run) → AllApart do
 restored-differ [] u v a b apart h k same = cc
 restored-differ (kept ∷ more) u v a b apart h k same =
     let first : (w : Tid) (r : Run) → same_tid kept.tid w ≡ true → restored_at (kept ∷ more) w ≡ Some r → kept.number ≡ r.age =
-    λ w r e found. ap (λ (x : Run). x.age) (some_inj (restored kept) r (sym (cond-true _ _ _ e) ∙ found)) in
+    λ w r e found. ap (λ (x : Run). x.age) (same_Some (restored kept) r (sym (cond-true _ _ _ e) ∙ found)) in
     elim (cases_Bool (same_tid kept.tid u)) [
       | inl e ↦ elim (cases_Bool (same_tid kept.tid v)) [
         | inl f ↦ sym (same_tid-equal kept.tid u e) ∙ same_tid-equal kept.tid v f

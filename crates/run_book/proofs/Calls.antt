@@ -1,5 +1,6 @@
 -- The book of each call that leaves all numbers alone and commits nothing: an access, the taking of a ticket, a refusal, an abort.
 use Rattle.std.proofs.Common.{◌≡◌, ℕ, Option, Some, None, List, ◌∷◌, refl, sym, ap, ◌∙◌}
+use Rattle.std.proofs.lemmas.Option.{same_Some}
 use Rattle.mdb_base.specs.declared.names.Engine.{Engine}
 use Rattle.mdb_base.specs.declared.names.Key.{Key}
 use Rattle.mdb_base.specs.declared.names.Tid.{Tid}
@@ -13,7 +14,6 @@ use Rattle.fed_rules.specs.EngineLines.{IsFree, IsRightLine}
 use Rattle.run_book.specs.Held.{Held, Runs, held_in, changed_in, without}
 use Rattle.run_book.specs.Book.{Book, granted_to, with_ticket, grants, tickets, drops}
 use Rattle.run_book.specs.Keeps.{Keeps, run_in}
-use Rattle.run_book.proofs.Ages.{some_inj}
 use Rattle.run_book.proofs.RunMaps.{held_in-changed_own, held_in-changed_other, held_in-without_own, held_in-without_other}
 use Rattle.run_book.proofs.Steps.{IsQuiet, quiet_acts, quiet_takes, quiet_refuses, quiet_aborts, keeps_quiet, with_runs}
 
@@ -25,7 +25,7 @@ pub record IsHeld (book : Book) (u : Tid) (run : Run) : Type 0 where
 
 held_from : (helds : Runs) (u : Tid) (run : Run) (o : Option Held) → held_in helds u ≡ o → map_some (λ (h : Held). h.run) o ≡ Some run → (held : Held) × (held_in helds u ≡ Some held) × (held.run ≡ run)
 held_from helds u run None e f = cc
-held_from helds u run (Some held) e f = (held, e, some_inj held.run run f)
+held_from helds u run (Some held) e f = (held, e, same_Some held.run run f)
 
 -- a run after the lines is held
 pub is_held : (kind : Engine) (book : Book) (start : Start) (lines : List EngineLine) (u : Tid) (run : Run) → Keeps kind book start lines → run_at start lines u ≡ Some run → IsHeld book u run
@@ -49,7 +49,7 @@ keeps_same kind book start older line run quiet k right at live same =
     let t = tid_of line in
     let here : run_in book.runs t ≡ Some run = k.runs t ∙ at in
     keeps_quiet kind book start older line book.runs quiet k right (here ∙ (sym same ∙ ap (λ (o : Option Run). changed line o) (sym here))) (λ u e. refl)
-    (λ held n found sealed. not_sealed_twice run held n (some_inj held.run run (sym (ap (λ (o : Option Held). map_some (λ h. h.run) o) found) ∙ here)) live sealed)
+    (λ held n found sealed. not_sealed_twice run held n (same_Some held.run run (sym (ap (λ (o : Option Held). map_some (λ h. h.run) o) found) ∙ here)) live sealed)
 
 -- a line that changes its live run
 pub keeps_changes : (kind : Engine) (book : Book) (start : Start) (older : List EngineLine) (line : EngineLine) (run : Run) (change : Held → Held) →
@@ -65,7 +65,7 @@ keeps_changes kind book start older line run change quiet k right at live seal d
     (ap mapped found ∙ (sym (does here.held) ∙ ap (λ (o : Option Run). changed line o) (sym (ap mapped here.found))))
     (λ u e. held_in-changed_other book.runs t u change e)
     (λ held n is sealed.
-    let same : change here.held ≡ held = some_inj (change here.held) held (sym found ∙ is) in
+    let same : change here.held ≡ held = same_Some (change here.held) held (sym found ∙ is) in
     not_sealed_twice run here.held n here.run_is live (sym (seal here.held) ∙ (ap (λ (h : Held). h.run.sealed) same ∙ sealed)))
 
 -- a line that ends its run otherwise than by commit

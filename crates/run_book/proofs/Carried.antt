@@ -6,7 +6,7 @@ use Rattle.mdb_base.specs.declared.acts.PlainAct.TheVariants.{Read, Write}
 use Rattle.mdb_base.specs.declared.replies.Reply.TheVariants.{Done, Value, Ticket, Wait, Refused, Unknown}
 use Rattle.mdb_base.specs.Words.{map_some, or_else}
 use Rattle.fed_rules.specs.Runs.{Start, EngineLine, Begins, Acts, Takes, Seals, Refuses, Commits, Aborts, Run, run_at, has_ticket}
-use Rattle.engine_contract.proofs.Follows.{run_at-own}
+use Rattle.engine_laws.proofs.RunLines.{run_at_own}
 use Rattle.run_book.specs.declared.marks.Marks.{Marks}
 use Rattle.run_book.specs.Held.{Held, held_in}
 use Rattle.run_book.specs.Book.{Book, RoomyBook, begins, taken_by}
@@ -74,7 +74,7 @@ pub unseals_well : (kind : Engine) → UnsealsWell kind
 unseals_well kind old new start older tid n k is room =
     let right = k.keeps.right.0 in
     let sealed : Run = record right.0 { sealed = Some n } in
-    let at = run_at-own start older (Seals tid n) (Some right.0) right.1.0.0 in
+    let at = run_at_own start older (Seals tid n) (Some right.0) right.1.0.0 in
     let here = taken_here kind old.book start (Seals tid n ∷ older) tid sealed k.keeps at in
     let there = taken_there start older tid n right.0 right.1.0.0 in
     let had = k.room in

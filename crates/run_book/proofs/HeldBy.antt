@@ -5,7 +5,7 @@ use Rattle.mdb_base.specs.declared.names.Tid.{Tid}
 use Rattle.fed_rules.specs.Runs.{Start, EngineLine, Begins, Seals, Run, begun, run_at}
 use Rattle.fed_rules.specs.EngineLines.{IsRight}
 use Rattle.engine_contract.specs.Calls.{CanAct, CanTake, CanSeal, CanCommit, CanAbort, HasJustBegun, HasJustSealed}
-use Rattle.engine_contract.proofs.Follows.{run_at-own}
+use Rattle.engine_laws.proofs.RunLines.{run_at_own}
 use Rattle.run_book.specs.Held.{Held, held_in}
 use Rattle.run_book.specs.Book.{Book}
 use Rattle.run_book.specs.Keeps.{Keeps}
@@ -62,7 +62,7 @@ pub begun_held : (kind : Engine) (book : Book) (start : Start) (lines : List Eng
 begun_held kind book start lines tid k can =
     let line = Begins tid can.number in
     let at : run_at start lines tid ≡ Some (begun tid can.number) =
-    ap (λ (ls : List EngineLine). run_at start ls tid) can.newest ∙ run_at-own start can.older line (run_at start can.older tid) refl in
+    ap (λ (ls : List EngineLine). run_at start ls tid) can.newest ∙ run_at_own start can.older line (run_at start can.older tid) refl in
     let here = is_held kind book start lines tid _ k at in some-found _ here.held here.found
 
 pub just_sealed_held : (kind : Engine) (book : Book) (start : Start) (lines : List EngineLine) (tid : Tid) → Keeps kind book start lines → HasJustSealed tid start lines → IsSome (held_in book.runs tid)
@@ -71,5 +71,5 @@ just_sealed_held kind book start lines tid k can =
     let right = (subst (λ (ls : List EngineLine). IsRight start ls) can.newest k.right).0 in
     let sealed_run : Run = record right.0 { sealed = Some can.number } in
     let at : run_at start lines tid ≡ Some sealed_run =
-    ap (λ (ls : List EngineLine). run_at start ls tid) can.newest ∙ run_at-own start can.older line (Some right.0) right.1.0.0 in
+    ap (λ (ls : List EngineLine). run_at start ls tid) can.newest ∙ run_at_own start can.older line (Some right.0) right.1.0.0 in
     let here = is_held kind book start lines tid _ k at in some-found _ here.held here.found

@@ -9,12 +9,13 @@ use Rattle.mdb_base.specs.Names.{same_key}
 use Rattle.mdb_base.specs.Rows.{look_up, value_in}
 use Rattle.mdb_base.specs.Words.{Each, or_else}
 use Rattle.mdb_base.proofs.RowLaws.{look_up-value_in}
+use Rattle.mdb_base.proofs.OptionLaws.{first_of}
 use Rattle.fed_rules.specs.Runs.{Access, Got, Wrote, Run, number, by_number, table_of}
 use Rattle.fed_rules.specs.SerialRuns.{NumbersFall}
 use Rattle.site_tables.specs.declared.versions.Version.{Version}
 use Rattle.site_tables.specs.Tables.{Versions, is_newer, value_of, written}
 use Rattle.site_tables.proofs.OneRow.{get-put, get-with_row, same_versions}
-use Rattle.site_tables.proofs.Writes.{either, written-either}
+use Rattle.site_tables.proofs.Writes.{written-either}
 use Rattle.run_book.specs.Held.{own_write}
 use Rattle.run_book.specs.Tables.{first_versions, with_writes, or_kept, kept_after}
 use Rattle.run_book.proofs.ValueLemmas.{after-own_write}
@@ -34,7 +35,7 @@ get-first (row ∷ rows) key =
 pub versions-first : (rows : List Put) (versions : Versions) → ((key : Key) → get versions key.0 ≡ written 0 (value_in rows key) None) → versions ≡ first_versions rows
 versions-first rows versions h = same_versions versions (first_versions rows) (λ key. h key ∙ sym (get-first rows key))
 
-either-first : (b : Bool) (value : ℕ) (o : Option ℕ) → either (cond b (Some value) None) o ≡ cond b (Some value) o
+either-first : (b : Bool) (value : ℕ) (o : Option ℕ) → first_of (cond b (Some value) None) o ≡ cond b (Some value) o
 either-first true value o = refl
 either-first false value o = refl
 

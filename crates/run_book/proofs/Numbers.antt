@@ -1,6 +1,7 @@
 -- The book of each call that draws a number.
 use Rattle.std.proofs.Common.{◌≡◌, ℕ, ◌+◌, ◌-◌, Bool, true, false, cond, is_some, nat_lt, max, Option, Some, None, List, ◌∷◌, inl, inr, refl, sym, ap, ◌∙◌, subst, arith}
 use Rattle.std.proofs.lemmas.Bool.{cond-true, cond-false, cases_Bool, le-ltb}
+use Rattle.std.proofs.lemmas.Option.{same_Some}
 use Rattle.mdb_base.specs.declared.names.Engine.{Engine}
 use Rattle.mdb_base.specs.declared.names.Tid.{Tid}
 use Rattle.mdb_base.specs.Names.{same_tid}
@@ -8,19 +9,15 @@ use Rattle.mdb_base.specs.Words.{or_else, map_some}
 use Rattle.fed_rules.specs.Runs.{Start, EngineLine, Begins, Seals, Run, begun, changed, run_at, counter, published, owner, ticket_of, has_ticket}
 use Rattle.fed_rules.specs.EngineLines.{IsFree, IsRightLine}
 use Rattle.mdb_base.proofs.NameLaws.{same_tid-refl, same_tid-equal}
-use Rattle.engine_contract.proofs.Follows.{run_at-own, run_at-other}
+use Rattle.mdb_base.proofs.OptionLaws.{none_from}
+use Rattle.engine_laws.proofs.RunLines.{run_at_own, run_at_other}
 use Rattle.run_book.specs.declared.marks.Marks.{Marks}
 use Rattle.run_book.specs.Held.{Held, held_in, with_run, changed_in, without}
 use Rattle.run_book.specs.Book.{Book, begins, unbegins, sealed_with, sealed_marks, ticket_in, seals, not_sealed, marks_without, unseals}
 use Rattle.run_book.specs.Keeps.{Keeps, run_in, marks_after, marks_before}
-use Rattle.run_book.proofs.Ages.{some_inj}
 use Rattle.run_book.proofs.RunMaps.{held_in-changed_own, held_in-changed_other, held_in-without_own, held_in-without_other, held_in-put_own, held_in-put_other}
 use Rattle.run_book.proofs.Steps.{runs-step}
 use Rattle.run_book.proofs.Calls.{is_held}
-
-none_from : {A B : Type 0} (f : A → B) (o : Option A) → map_some f o ≡ None → o ≡ None
-none_from f None h = refl
-none_from f (Some x) h = cc
 
 -- a run begins with the next number
 pub keeps_begins : (kind : Engine) (book : Book) (start : Start) (older : List EngineLine) (tid : Tid) → Keeps kind book start older → IsFree start older tid →
@@ -46,7 +43,7 @@ keeps_begins kind book start older tid k free =
       before = λ u h m marks found sealed noted. elim (cases_Bool (same_tid tid u)) [
         | inl e ↦
             let at : held_in (with_run tid held book.runs) tid ≡ Some h = ap (λ (t : Tid). held_in (with_run tid held book.runs) t) (same_tid-equal tid u e) ∙ found in
-            let is : held ≡ h = some_inj held h (sym pushed ∙ at) in
+            let is : held ≡ h = same_Some held h (sym pushed ∙ at) in
             let bad : None ≡ Some m = ap (λ (x : Held). x.run.sealed) is ∙ sealed in
             cc
         | inr e ↦ k.before u h m marks (sym (held_in-put_other book.runs tid u held e) ∙ found) sealed noted
@@ -60,7 +57,7 @@ keeps_unbegins kind book start older tid n k =
     let line = Begins tid n in
     let free : run_at start older tid ≡ None = k.right.0.0 in
     let drawn : n ≡ counter start older + 1 = k.right.0.1 in
-    let here = is_held kind book start (line ∷ older) tid (begun tid n) k (run_at-own start older line (run_at start older tid) refl) in
+    let here = is_held kind book start (line ∷ older) tid (begun tid n) k (run_at_own start older line (run_at start older tid) refl) in
     let gone = held_in-without_own book.runs tid in
     let other : (u : Tid) (run : Run) → run_at start older u ≡ Some run → same_tid tid u ≡ false = λ u run h.
     elim (cases_Bool (same_tid tid u)) [
@@ -77,7 +74,7 @@ keeps_unbegins kind book start older tid n k =
         | inl e ↦
             let at : run_in (without tid book.runs) tid ≡ run_at start older tid = ap (λ (o : Option Held). map_some (λ h. h.run) o) gone ∙ sym free in
             subst (λ (t : Tid). run_in (without tid book.runs) t ≡ run_at start older t) (same_tid-equal tid u e) at
-        | inr e ↦ ap (λ (o : Option Held). map_some (λ h. h.run) o) (held_in-without_other book.runs tid u e) ∙ (k.runs u ∙ run_at-other start older line u e)
+        | inr e ↦ ap (λ (o : Option Held). map_some (λ h. h.run) o) (held_in-without_other book.runs tid u e) ∙ (k.runs u ∙ run_at_other start older line u e)
       ];
       marks =
           (let age : or_else (map_some (λ h. h.run.age - 1) (held_in book.runs tid)) 0 ≡ n - 1 =
@@ -121,9 +118,9 @@ keeps_seals kind book start older tid n k right =
       before = λ u h m marks is sealed noted. elim (cases_Bool (same_tid tid u)) [
         | inl e ↦
             let at : held_in (changed_in tid change book.runs) tid ≡ Some h = ap (λ (t : Tid). held_in (changed_in tid change book.runs) t) (same_tid-equal tid u e) ∙ is in
-            let same : change here.held ≡ h = some_inj (change here.held) h (sym found ∙ at) in
+            let same : change here.held ≡ h = same_Some (change here.held) h (sym found ∙ at) in
             let then : Some (marks_after start older) ≡ Some marks = sym (cond-true _ _ (marks_before start older u) e) ∙ noted in
-            ap (λ (x : Held). x.marks) (sym same) ∙ (k.marks ∙ some_inj (marks_after start older) marks then)
+            ap (λ (x : Held). x.marks) (sym same) ∙ (k.marks ∙ same_Some (marks_after start older) marks then)
         | inr e ↦ k.before u h m marks (sym (held_in-changed_other book.runs tid u change e) ∙ is) sealed (sym (cond-false _ _ (marks_before start older u) e) ∙ noted)
       ];
     }
@@ -170,7 +167,7 @@ keeps_unseals kind book start older tid n k =
     let at : run_at start older tid ≡ Some run = k.right.0.1.0.0 in
     let live : run.sealed ≡ None = k.right.0.1.0.1 in
     let sealed_run : Run = record run { sealed = Some n } in
-    let here = is_held kind book start (line ∷ older) tid sealed_run k (run_at-own start older line (Some run) at) in
+    let here = is_held kind book start (line ∷ older) tid sealed_run k (run_at_own start older line (Some run) at) in
     let own = held_in-changed_own book.runs tid not_sealed in
     let found = own ∙ ap (λ (o : Option Held). map_some not_sealed o) here.found in
     record {
@@ -185,7 +182,7 @@ keeps_unseals kind book start older tid n k =
             let now : run_in (changed_in tid not_sealed book.runs) tid ≡ run_at start older tid =
             ap (λ (o : Option Held). map_some (λ h. h.run) o) found ∙ (ap (λ (r : Run). Some r) open_run ∙ sym at) in
             subst (λ (t : Tid). run_in (changed_in tid not_sealed book.runs) t ≡ run_at start older t) (same_tid-equal tid u e) now
-        | inr e ↦ ap (λ (o : Option Held). map_some (λ h. h.run) o) (held_in-changed_other book.runs tid u not_sealed e) ∙ (k.runs u ∙ run_at-other start older line u e)
+        | inr e ↦ ap (λ (o : Option Held). map_some (λ h. h.run) o) (held_in-changed_other book.runs tid u not_sealed e) ∙ (k.runs u ∙ run_at_other start older line u e)
       ];
       marks =
           (let sealed_here : here.held.run.sealed ≡ Some n = ap (λ (r : Run). r.sealed) here.run_is in
@@ -198,7 +195,7 @@ keeps_unseals kind book start older tid n k =
       before = λ u h m marks is sealed noted. elim (cases_Bool (same_tid tid u)) [
         | inl e ↦
             let now : held_in (changed_in tid not_sealed book.runs) tid ≡ Some h = ap (λ (t : Tid). held_in (changed_in tid not_sealed book.runs) t) (same_tid-equal tid u e) ∙ is in
-            let same : not_sealed here.held ≡ h = some_inj (not_sealed here.held) h (sym found ∙ now) in
+            let same : not_sealed here.held ≡ h = same_Some (not_sealed here.held) h (sym found ∙ now) in
             let bad : None ≡ Some m = ap (λ (x : Held). x.run.sealed) same ∙ sealed in
             cc
         | inr e ↦ k.before u h m marks (sym (held_in-changed_other book.runs tid u not_sealed e) ∙ is) sealed (cond-false _ _ (marks_before start older u) e ∙ noted)

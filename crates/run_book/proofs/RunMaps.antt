@@ -1,22 +1,20 @@
 -- The runs by attempt, as a map and as the entries of the tree that keeps them.
-use Rattle.std.proofs.Common.{◌≡◌, ℕ, ◌+◌, Bool, true, false, ◌&&◌, cond, nat_eq, Option, Some, None, IsSome, List, [], ◌∷◌, refl, sym, ap, ◌∙◌, arith}
+use Rattle.std.proofs.Common.{◌≡◌, ℕ, ◌+◌, Bool, true, false, ◌&&◌, cond, nat_eq, Option, Some, None, List, [], ◌∷◌, refl, sym, ap, ◌∙◌, arith}
 use Rattle.std.specs.declared.cmp.Ordering.{Ordering}
 use Rattle.std.specs.declared.cmp.Ordering.TheVariants.{Less, Equal, Greater}
 use Rattle.std.specs.Cmp.{IsTotalOrder, nat_cmp_total}
-use Rattle.std.specs.Ordering.{nat_cmp, ordering_then, is_eq, match_ordering}
+use Rattle.std.specs.Ordering.{nat_cmp, is_eq, match_ordering}
 use Rattle.std.specs.FinMap.{from_entries, find, get, get-insert, get-remove, get-from_entries, insert, same_map}
-use Rattle.std.specs.Borrow.{MutBor}
-use Rattle.std.specs.Option.{option_copied_mut}
 use Rattle.std.specs.Map.{lookup, set_value, remove_entry}
 use Rattle.std.specs.BTreeMap.{insert_entry, is_at}
 use Rattle.std.proofs.lemmas.Bool.{cond-true, cond-false}
-use Rattle.std.proofs.lemmas.Bool.Decides.{nat_tests}
 use Rattle.std.proofs.lemmas.Cmp.{on_total, then_total}
 use Rattle.std.proofs.lemmas.Map.Lookups.{CmpEqualImpliesEq, exact_pairs, exact_unsigned}
 use Rattle.mdb_base.specs.declared.names.Tid.{Tid}
 use Rattle.mdb_base.specs.Names.{same_tid}
 use Rattle.mdb_base.specs.Words.{map_some, or_else}
 use Rattle.mdb_base.proofs.NameLaws.{same_tid-refl, same_tid-equal, same_tid-sym}
+use Rattle.mdb_base.proofs.NumberLaws.{is_eq-nat_cmp, is_eq-then}
 use Rattle.run_book.specs.Held.{Held, Runs, tid_cmp, held_in, with_run, changed_in, without}
 use Rattle.run_book.specs.Changes.{changed_entries}
 use Rattle.run_book.specs.Tables.{promised, promised_by}
@@ -30,20 +28,12 @@ exact_tids a b h =
 pub tids_total : IsTotalOrder tid_cmp
 tids_total = then_total (on_total (λ t. t.tx.0) nat_cmp_total) (on_total (λ t. t.attempt) nat_cmp_total)
 
-ties_nat : (x y : ℕ) → is_eq (nat_cmp x y) ≡ nat_eq x y
-ties_nat x y = grind (arith, nat_tests)
-
-both_eq : (o p : Ordering) → is_eq (ordering_then o p) ≡ (is_eq o && is_eq p)
-both_eq Less p = refl
-both_eq Equal p = refl
-both_eq Greater p = refl
-
 -- they compare alike where they are the same
 pub ties : (a b : Tid) → is_eq (tid_cmp a b) ≡ same_tid a b
 ties a b =
-    both_eq (nat_cmp a.tx.0 b.tx.0) (nat_cmp a.attempt b.attempt)
-    ∙ ap (λ (x : Bool). x && is_eq (nat_cmp a.attempt b.attempt)) (ties_nat a.tx.0 b.tx.0)
-    ∙ ap (λ (y : Bool). nat_eq a.tx.0 b.tx.0 && y) (ties_nat a.attempt b.attempt)
+    is_eq-then (nat_cmp a.tx.0 b.tx.0) (nat_cmp a.attempt b.attempt)
+    ∙ ap (λ (x : Bool). x && is_eq (nat_cmp a.attempt b.attempt)) (is_eq-nat_cmp a.tx.0 b.tx.0)
+    ∙ ap (λ (y : Bool). nat_eq a.tx.0 b.tx.0 && y) (is_eq-nat_cmp a.attempt b.attempt)
 
 turned : (a b : Tid) → is_eq (tid_cmp b a) ≡ same_tid a b
 turned a b = ties b a ∙ same_tid-sym b a
@@ -202,8 +192,3 @@ promised-put (e ∷ es) t held none = by_order (tid_cmp t e.0) none (promised-pu
     by_order Less none rest = omega arith
     by_order Equal none rest = cc
     by_order Greater none rest = omega (arith, rest none)
-
--- what was lent is there
-pub lent : {A : Type 0} (o : Option (MutBor A)) → IsSome (option_copied_mut o) → IsSome o
-lent None there = cc
-lent (Some r) there = refl

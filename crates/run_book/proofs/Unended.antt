@@ -1,5 +1,6 @@
 -- The unended runs after the lines, and the one that stands first of those that a test holds of.
 use Rattle.std.proofs.Common.{◌≡◌, ℕ, ◌⊎◌, Bool, Option, Some, None, List, [], ◌∷◌, inl, inr, sym, ap, ◌∙◌, arith}
+use Rattle.std.proofs.lemmas.Option.{same_Some}
 use Rattle.mdb_base.specs.declared.names.Tid.{Tid}
 use Rattle.mdb_base.specs.Words.{map_some, with_some, found, those, least}
 use Rattle.fed_rules.specs.Runs.{Start, EngineLine, Run, run_at, attempts, unended}
@@ -8,7 +9,7 @@ use Rattle.fed_rules.specs.EngineLines.{IsRight, IsStart}
 use Rattle.engine_laws.proofs.Runs.{attempts_have, tid_is}
 use Rattle.run_book.specs.declared.rival.Rival.{Rival}
 use Rattle.run_book.specs.Rivals.{rival_by, IsOldest}
-use Rattle.run_book.proofs.Ages.{ages-differ, some_inj}
+use Rattle.run_book.proofs.Ages.{ages-differ}
 use Rattle.run_book.proofs.Best.{TellsApart, least-found, least-empty}
 use Rattle.run_book.proofs.Members.{Is, is-those, those-is}
 
@@ -19,7 +20,7 @@ with_some-is (Some x) xs y h = elim h [ inl e ↦ inl (ap (λ (z : _). Some z) e
 
 is-with_some : {A : Type 0} (o : Option A) (xs : List A) (y : A) → (o ≡ Some y) ⊎ Is y xs → Is y (with_some o xs)
 is-with_some None xs y h = elim h [ inl e ↦ cc | inr m ↦ m ]
-is-with_some (Some x) xs y h = elim h [ inl e ↦ inl (some_inj x y e) | inr m ↦ inr m ]
+is-with_some (Some x) xs y h = elim h [ inl e ↦ inl (same_Some x y e) | inr m ↦ inr m ]
 
 found-is : {A B : Type 0} (look : A → Option B) (xs : List A) (y : B) → Is y (found look xs) → (x : A) × (look x ≡ Some y)
 found-is look [] y h = absurd h
@@ -42,7 +43,7 @@ pub unended-apart : (start : Start) (lines : List EngineLine) → IsStart start 
 unended-apart start lines starts right a b ha hb same =
     let u = unended-is start lines a ha in let v = unended-is start lines b hb in
     let one = ages-differ start lines u.0 v.0 a b starts right u.1 v.1 same in
-    some_inj a b (sym u.1 ∙ (ap (λ (t : Tid). run_at start lines t) one ∙ v.1))
+    same_Some a b (sym u.1 ∙ (ap (λ (t : Tid). run_at start lines t) one ∙ v.1))
 
 apart-those : {A : Type 0} (m : A → ℕ) (test : A → Bool) (xs : List A) → TellsApart m xs → TellsApart m (those test xs)
 apart-those m test xs apart a b ha hb same = apart a b (those-is test xs a ha).0 (those-is test xs b hb).0 same

@@ -1,14 +1,10 @@
 -- The words on lists, where a list is turned round or goes on.
-use Rattle.std.proofs.Common.{◌≡◌, ℕ, ◌+◌, ◌<◌, Bool, ◌||◌, List, [], ◌∷◌, ◌++◌, length, get_or, take, reverse, Result, Ok, Err, IfOk, refl, sym, ap, ◌∙◌}
+use Rattle.std.proofs.Common.{◌≡◌, ℕ, ◌+◌, ◌<◌, Bool, List, [], ◌∷◌, ◌++◌, length, get_or, take, reverse, Result, Ok, Err, IfOk, sym, ap, ◌∙◌}
 use Rattle.std.specs.List.{list_any}
 use Rattle.std.proofs.lemmas.List.Sorted.{list_any-IsPermutation, IsPermutation-reverse}
 use Rattle.std.proofs.lemmas.List.{take_more, reverse-append}
 use Rattle.mdb_base.specs.Words.{some_of}
-
--- the two words for a test of some item are one
-pub some_of-list_any : {A : Type 0} (test : A → Bool) (xs : List A) → some_of test xs ≡ list_any test xs
-some_of-list_any test [] = refl
-some_of-list_any test (x ∷ xs) = ap (λ (b : Bool). test x || b) (some_of-list_any test xs)
+use Rattle.mdb_base.proofs.TestLaws.{some_of-list_any}
 
 -- some item passes the test also where the list is turned round
 pub list_any_turned : {A : Type 0} (test : A → Bool) (xs : List A) → list_any test xs ≡ some_of test (reverse xs)

@@ -6,20 +6,23 @@ use native.Mathlib.Numerals.{unary_clauses}
 use Rattle.mdb_base.specs.declared.names.SiteId.{SiteId}
 use Rattle.mdb_base.specs.Names.{same_key, same_site, same_tx}
 use Rattle.mdb_base.specs.Programs.{IsProgram}
-use Rattle.mdb_base.specs.Words.{Each, each_of, how_many, some_of}
+use Rattle.mdb_base.specs.Words.{Each, each_of, some_of}
 use Rattle.mdb_base.proofs.ListLaws.{each_map, none_some_of}
+use Rattle.mdb_base.proofs.EachLaws.{each_pushed}
+use Rattle.mdb_base.proofs.BoolLaws.{is_true_both}
+use Rattle.mdb_base.proofs.TestLaws.{some_of-push, how_many_at_most}
 use Rattle.fed_rules.specs.declared.scenario.ItemLine.{ItemLine}
 use Rattle.fed_rules.specs.declared.scenario.LinkLine.{LinkLine}
 use Rattle.fed_rules.specs.declared.scenario.SiteLine.{SiteLine}
 use Rattle.fed_rules.specs.declared.scenario.StopLine.{StopLine}
 use Rattle.fed_rules.specs.declared.scenario.TxLine.{TxLine}
 use Rattle.fed_rules.specs.Plans.{AreItems, AreLinks, AreSites, AreStops, AreTransactions, IsScenario, all_differ, has_site, is_between, is_declared, is_in_place, is_transaction, most_items, one_row, one_site, one_transaction}
-use Rattle.scenario_text.proofs.ListLemmas.{Each-more, all_differ-more, both, each_of-more, how_many-push, some_of-push}
+use Rattle.scenario_text.proofs.ListLemmas.{all_differ-more, each_of-more, how_many-push}
 use Rattle.scenario_maker.specs.Draws.{behind, drawn, so_far}
 use Rattle.scenario_maker.specs.Made.{behind_sites, behind_transactions, is_global, made, made_global, made_item, made_items, made_local, made_rows, made_site, made_sites, made_transaction, made_transactions, transfer}
 
 between : (low high n : ℕ) → low ≤ n → n ≤ high → IsTrue (is_between low high n)
-between low high n a b = both (nat_le low n) (nat_le n high) (le-leb low n a) (le-leb n high b)
+between low high n a b = is_true_both (nat_le low n) (nat_le n high) (le-leb low n a) (le-leb n high b)
 
 -- items that are told apart by a rank, one more of which is higher than all
 differ_higher : {A : Type 0} (alike : A → A → Bool) (rank : A → ℕ) → ((a b : A) → alike a b ≡ true → rank a ≡ rank b) → (xs : List A) (y : A)
@@ -35,7 +38,7 @@ differ_higher alike rank told xs y differ lower =
 sites_below : (n x : ℕ) → Each (λ line. line.site.0 < n + 1) (made_sites n x)
 sites_below zero x = tt
 sites_below (suc n) x =
-    Each-more (λ line. line.site.0 < suc n + 1) (made_sites n x) (made_site (suc n) (behind_sites n x))
+    each_pushed (λ line. line.site.0 < suc n + 1) (made_sites n x) (made_site (suc n) (behind_sites n x))
     (each_map (λ (line : SiteLine). line.site.0 < n + 1) (λ (line : SiteLine). line.site.0 < suc n + 1) (λ line below. omega arith) (made_sites n x) (sites_below n x)) (omega arith)
 
 same_number : (a b : SiteLine) → one_site a b ≡ true → a.site.0 ≡ b.site.0
@@ -95,8 +98,8 @@ one_more_row : (most bound count : ℕ) (lines : List ItemLine) (site key : ℕ)
     → bound ≤ site * 10 + key → AreRows most (site * 10 + (key + 1)) (count + 1) (lines ++ made_item site key ∷ [])
 unfolding rank
 one_more_row most bound count lines site key are some few small higher = record {
-  rows = Each-more (IsRow most) lines (made_item site key) are.rows (some, few, small);
-  below = Each-more (λ line. rank line < site * 10 + (key + 1)) lines (made_item site key)
+  rows = each_pushed (IsRow most) lines (made_item site key) are.rows (some, few, small);
+  below = each_pushed (λ line. rank line < site * 10 + (key + 1)) lines (made_item site key)
       (each_map (λ line. rank line < bound) (λ line. rank line < site * 10 + (key + 1)) (λ line h. omega arith) lines are.below) (omega arith);
   differ = differ_higher one_row rank same_rank lines (made_item site key) are.differ
       (each_map (λ line. rank line < bound) (λ line. rank line < site * 10 + key) (λ line h. omega arith) lines are.below);
@@ -144,14 +147,6 @@ items_rows (suc n) =
     (subst (λ m. AreRows m (suc n * 10) (n * 10) (made_items n)) (omega arith) (more_sites n (suc n * 10) (n * 10) (made_items n) (items_rows n)))
     (omega arith) (omega arith) (omega arith)))
 
-some_length : {A : Type 0} (test : A → Bool) (xs : List A) → how_many test xs ≤ length xs
-some_length test [] = omega arith
-some_length test (x ∷ xs) = by_test (test x) (some_length test xs)
-  where
-    by_test : (b : Bool) → how_many test xs ≤ length xs → cond b (suc (how_many test xs)) (how_many test xs) ≤ suc (length xs)
-    by_test true le = omega arith
-    by_test false le = omega arith
-
 items_sound : (n x : ℕ) → n ≤ 8 → AreItems (made_sites n x) (made_items n)
 items_sound n x few =
     let are = items_rows n in
@@ -159,18 +154,18 @@ items_sound n x few =
       declared = each_true (λ (line : ItemLine). is_declared (made_sites n x) line.site) (made_items n)
           (each_map (IsRow n) (λ (line : ItemLine). is_declared (made_sites n x) line.site ≡ true) (λ line h. declared n x line.site.0 h.0 h.1) (made_items n) are.rows);
       differ = are.differ;
-      few = λ site. let counted = some_length (has_site site) (made_items n) in let many = are.few in omega arith;
+      few = λ site. let counted = how_many_at_most (has_site site) (made_items n) in let many = are.few in omega arith;
     }
   where
     each_true : {A : Type 0} (test : A → Bool) (xs : List A) → Each (λ x. test x ≡ true) xs → IsTrue (each_of test xs)
     each_true test [] h = refl
-    each_true test (x ∷ xs) h = both (test x) (each_of test xs) h.0 (each_true test xs h.1)
+    each_true test (x ∷ xs) h = is_true_both (test x) (each_of test xs) h.0 (each_true test xs h.1)
 
 -- transactions are numbered from 1 on
 transactions_below : (sites n x : ℕ) → Each (λ line. line.tx.0 < n + 1) (made_transactions sites n x)
 transactions_below sites zero x = tt
 transactions_below sites (suc n) x =
-    Each-more (λ line. line.tx.0 < suc n + 1) (made_transactions sites n x) (made_transaction sites (suc n) (behind_transactions sites n x))
+    each_pushed (λ line. line.tx.0 < suc n + 1) (made_transactions sites n x) (made_transaction sites (suc n) (behind_transactions sites n x))
     (each_map (λ (line : TxLine). line.tx.0 < n + 1) (λ (line : TxLine). line.tx.0 < suc n + 1) (λ line below. omega arith) (made_transactions sites n x) (transactions_below sites n x))
     (by_kind (is_global sites (suc n)))
   where
@@ -186,7 +181,7 @@ transfer_program : (from key to other amount : ℕ) → IsProgram (transfer from
 transfer_program from key to other amount = record { some = omega arith; few = omega arith; registers = refl }
 
 -- what is drawn is below the bound
-drawn_below : (x bound : ℕ) → 0 < bound → drawn x bound < bound
+pub drawn_below : (x bound : ℕ) → 0 < bound → drawn x bound < bound
 drawn_below x bound some = mod-lt (behind x / 2 ^ 33) some
 
 -- a made transaction stands where it may
@@ -249,11 +244,11 @@ transactions_sound sites number (suc n) x some few =
     let numbered : (made_transaction sites (suc n) (behind_transactions sites n x)).tx.0 ≡ suc n = numbered_so (is_global sites (suc n)) in
     record {
       in_place = each_of-more (is_transaction (made_sites sites number)) (made_transactions sites n x) line older.in_place
-          (both (is_between 1 1024 line.tx.0) (each_of (is_in_place (made_sites sites number) line.home) line.program)
+          (is_true_both (is_between 1 1024 line.tx.0) (each_of (is_in_place (made_sites sites number) line.home) line.program)
           (subst (λ t. IsTrue (is_between 1 1024 t)) (sym numbered) (between 1 1024 (suc n) (omega arith) few)) sound.in_place);
       differ = differ_higher one_transaction (λ line. line.tx.0) same_transaction (made_transactions sites n x) line older.differ
           (each_map (λ (l : TxLine). l.tx.0 < n + 1) (λ (l : TxLine). l.tx.0 < line.tx.0) (λ l below. omega (arith, below, numbered)) (made_transactions sites n x) (transactions_below sites n x));
-      programs = Each-more (λ line. IsProgram line.program) (made_transactions sites n x) line older.programs sound.program;
+      programs = each_pushed (λ line. IsProgram line.program) (made_transactions sites n x) line older.programs sound.program;
     }
   where
     numbered_so : (b : Bool) → (cond b (made_global sites (suc n) (behind_transactions sites n x)) (made_local sites (suc n) (behind_transactions sites n x))).tx.0 ≡ suc n

@@ -9,6 +9,3 @@ mod transfers;
 
 pub use laws::first_numbers;
 pub use maker::make;
-
-#[cfg(test)]
-mod tests;

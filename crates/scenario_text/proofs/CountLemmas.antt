@@ -1,8 +1,9 @@
 -- How long a list is whose items bear numbers below a limit, each number at most so often.
-use Rattle.std.proofs.Common.{◌≡◌, ℕ, zero, suc, ◌+◌, ◌*◌, ◌≤◌, Bool, true, false, cond, not, ◌||◌, eqb, ltb, IsTrue, List, [], ◌∷◌, length, refl, sym, ap, ◌∙◌, arith, inl, inr}
-use Rattle.std.proofs.lemmas.Bool.{eqb-true, le-ltb, cases_Bool}
+use Rattle.std.proofs.Common.{◌≡◌, ℕ, zero, suc, ◌+◌, ◌*◌, ◌≤◌, Bool, true, false, cond, not, eqb, ltb, IsTrue, List, [], ◌∷◌, length, refl, sym, ap, ◌∙◌, arith, inl, inr}
+use Rattle.std.proofs.lemmas.Bool.{eqb-true, le-ltb, cases_Bool, or_parts}
 use Rattle.std.proofs.lemmas.Bool.Decides.{nat_tests}
 use Rattle.mdb_base.specs.Words.{some_of, each_of, how_many}
+use Rattle.mdb_base.proofs.BoolLaws.{not_true}
 use Rattle.fed_rules.specs.Plans.{all_differ}
 use Rattle.scenario_text.proofs.ListLemmas.{first, second}
 
@@ -16,14 +17,6 @@ how_many-cons test x xs = by_test (test x) (how_many test xs)
     by_test : (b : Bool) (n : ℕ) → cond b (suc n) n ≡ cond b 1 0 + n
     by_test true n = omega arith
     by_test false n = omega arith
-
-neither : (a b : Bool) → (a || b) ≡ false → (a ≡ false) × (b ≡ false)
-neither true b h = absurd cc
-neither false b h = (refl, h)
-
-not_true : (a : Bool) → IsTrue (not a) → a ≡ false
-not_true true h = absurd cc
-not_true false h = refl
 
 flips : (a b : ℕ) → eqb a b ≡ eqb b a
 flips a b = grind arith
@@ -63,7 +56,7 @@ module _ {A : Type 0} (number : A → ℕ) where
   absent : (k : ℕ) (xs : List A) → some_of (λ y. eqb k (number y)) xs ≡ false → how_many (λ x. eqb (number x) k) xs ≡ 0
   absent k [] h = refl
   absent k (x ∷ xs) h =
-      let apart = neither (eqb k (number x)) (some_of (λ y. eqb k (number y)) xs) h in
+      let apart = or_parts (eqb k (number x)) (some_of (λ y. eqb k (number y)) xs) h in
       ap (λ b. cond b (suc (how_many (λ y. eqb (number y) k) xs)) (how_many (λ y. eqb (number y) k) xs)) (flips (number x) k ∙ apart.0) ∙ absent k xs apart.1
 
   -- where all numbers differ, each stands at most once

@@ -1,9 +1,10 @@
 -- Decimal digits, read from the left.
-use Rattle.std.proofs.Common.{◌≡◌, ℕ, suc, ◌+◌, ◌-◌, ◌*◌, ◌<◌, ◌≤◌, Bool, true, false, ◌&&◌, not, eqb, leb, IsTrue, List, [], ◌∷◌, drop, length, get_or, refl, add-one, arith}
+use Rattle.std.proofs.Common.{◌≡◌, ℕ, suc, ◌+◌, ◌-◌, ◌*◌, ◌<◌, ◌≤◌, true, not, eqb, leb, IsTrue, List, [], ◌∷◌, drop, length, get_or, refl, add-one, arith}
 use Rattle.std.specs.List.{list_all}
 use Rattle.std.proofs.Math.Seq.{drop-cons}
 use Rattle.std.proofs.lemmas.Bool.{leb-true}
 use Rattle.std.proofs.lemmas.List.{drop_all}
+use Rattle.mdb_base.proofs.BoolLaws.{is_true_parts, is_true_both}
 use Rattle.scenario_text.specs.Names.{decimal, is_digit, is_number}
 
 -- further digits never make a number smaller
@@ -17,19 +18,11 @@ pub decimal_turn : (n i : ℕ) (ds : List ℕ) → i < length ds → decimal n (
 unfolding decimal
 decimal_turn n i ds h = rw (add-one, drop-cons ds i 0) refl
 
-head_and_rest : (a b : Bool) → IsTrue (a && b) → IsTrue a × IsTrue b
-head_and_rest true b h = (refl, h)
-head_and_rest false b h = absurd cc
-
-both : (a b : Bool) → IsTrue a → IsTrue b → IsTrue (a && b)
-both true b h k = k
-both false b h k = absurd cc
-
 -- the next of what is left is a digit, and so are those behind it
 pub digit_turn : (i : ℕ) (ds : List ℕ) → i < length ds → IsTrue (list_all is_digit (drop i ds)) → (48 ≤ get_or ds i 0) × IsTrue (list_all is_digit (drop (i + 1) ds))
 digit_turn i ds h all =
-    let parts = head_and_rest (is_digit (get_or ds i 0)) (list_all is_digit (drop (suc i) ds)) (rw (drop-cons ds i 0) at all) in
-    let low = head_and_rest (leb 48 (get_or ds i 0)) (leb (get_or ds i 0) 57) parts.0 in
+    let parts = is_true_parts (is_digit (get_or ds i 0)) (list_all is_digit (drop (suc i) ds)) (rw (drop-cons ds i 0) at all) in
+    let low = is_true_parts (leb 48 (get_or ds i 0)) (leb (get_or ds i 0) 57) parts.0 in
     (leb-true _ _ low.0, rw add-one parts.1)
 
 -- no digit is left
@@ -41,5 +34,5 @@ decimal_end n i ds h = rw (drop_all i ds h) refl
 pub is_number_digits : (word : List ℕ) → is_number word ≡ true → IsTrue (list_all is_digit word)
 unfolding is_number
 is_number_digits [] h = refl
-is_number_digits (b ∷ []) h = both (is_digit b) true h refl
-is_number_digits (b ∷ c ∷ more) h = (head_and_rest (not (eqb b 48)) (list_all is_digit (b ∷ c ∷ more)) h).1
+is_number_digits (b ∷ []) h = is_true_both (is_digit b) true h refl
+is_number_digits (b ∷ c ∷ more) h = (is_true_parts (not (eqb b 48)) (list_all is_digit (b ∷ c ∷ more)) h).1

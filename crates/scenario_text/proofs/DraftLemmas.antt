@@ -10,6 +10,10 @@ use Rattle.mdb_base.specs.declared.acts.Step.{Step}
 use Rattle.mdb_base.specs.Names.{same_site, same_key, same_tx}
 use Rattle.mdb_base.specs.Programs.{IsProgram, bad_register, most_steps}
 use Rattle.mdb_base.specs.Words.{some_of, each_of, how_many, or_else}
+use Rattle.mdb_base.proofs.TestLaws.{some_of-push}
+use Rattle.mdb_base.proofs.BoolLaws.{is_true_both}
+use Rattle.mdb_base.proofs.EachLaws.{each_pushed}
+use Rattle.mdb_base.proofs.OptionLaws.{no_number}
 use Rattle.fed_rules.specs.declared.commands.Command.{Command}
 use Rattle.fed_rules.specs.declared.scenario.SiteLine.{SiteLine}
 use Rattle.fed_rules.specs.declared.scenario.ItemLine.{ItemLine}
@@ -29,7 +33,7 @@ use Rattle.scenario_text.specs.CommandLines.{command_line}
 use Rattle.scenario_text.specs.Pieces.{TextLine, lines, words_of, first_word, only_one}
 use Rattle.scenario_text.specs.Texts.{entry_of, whole_line, with_line, with_lines, numbered, draft_of}
 use Rattle.scenario_text.proofs.EntryLemmas.{command_line_reads, scenario_line_reads}
-use Rattle.scenario_text.proofs.ListLemmas.{some_of-push, some_of-same, how_many-push, both, second, each_of-weaker, each_of-more, Each-more, all_differ-more}
+use Rattle.scenario_text.proofs.ListLemmas.{some_of-same, how_many-push, second, each_of-weaker, each_of-more, all_differ-more}
 use Rattle.scenario_text.proofs.Readings.{Reads, reads_ok, reads_err, reads_bind, reads_any, reads_unless, reads_either}
 use Rattle.scenario_text.proofs.MoreSites.{Declares, transaction_more, link_more, stop_more, command_more}
 
@@ -135,23 +139,19 @@ stops_more sites stops line kept range room = record {
       omega (arith, leb-false most_stops (how_many (stops_actor line.actor) stops) room, count));
 }
 
-no_bad : (o : Option ℕ) → is_some o ≡ false → o ≡ None
-no_bad None h = refl
-no_bad (Some n) h = absurd cc
-
 program_reads : (steps : List Step) → 0 < length steps → Reads (λ program. IsProgram program × (program ≡ steps)) (as_program steps)
 unfolding as_program
 program_reads steps some =
     reads_unless (is_some (bad_register 0 0 steps)) _ _ (λ hold.
     reads_unless (ltb most_steps (length steps)) _ _ (λ room.
-    reads_ok steps (record { some = some; few = ltb-false most_steps (length steps) room; registers = no_bad _ hold }, refl)))
+    reads_ok steps (record { some = some; few = ltb-false most_steps (length steps) room; registers = no_number _ hold }, refl)))
 
 transactions_more : (sites : List SiteLine) (lines : List TxLine) (line : TxLine) → AreTransactions sites lines → IsTrue (is_transaction sites line) → IsProgram line.program
     → some_of (λ l. same_tx l.tx line.tx) lines ≡ false → AreTransactions sites (lines ++ line ∷ [])
 transactions_more sites lines line kept in_place program new = record {
   in_place = each_of-more (is_transaction sites) lines line kept.in_place in_place;
   differ = all_differ-more one_transaction lines line kept.differ new;
-  programs = Each-more (λ l. IsProgram l.program) lines line kept.programs program;
+  programs = each_pushed (λ l. IsProgram l.program) lines line kept.programs program;
 }
 
 -- ---- a draft with one line more
@@ -199,7 +199,7 @@ transaction_added d tx home steps kept entry =
     (reads_unless {P = λ lines. AreTransactions d.sites lines} (some_of (λ l. same_tx l.tx tx) d.transactions) _ _ (λ new.
     reads_bind (as_program steps) (program_reads steps entry.some) (λ program good.
     let places : IsTrue (each_of (is_in_place d.sites home) program) = ap (each_of (is_in_place d.sites home)) good.1 ∙ entry.places in
-    reads_ok _ (transactions_more d.sites d.transactions (record { tx = tx; home = home; program = program }) z.transactions (both _ _ entry.number places) good.0 new))))
+    reads_ok _ (transactions_more d.sites d.transactions (record { tx = tx; home = home; program = program }) z.transactions (is_true_both _ _ entry.number places) good.0 new))))
     (λ lines good. reads_ok _ (record {
       scenario = record { sites = z.sites; items = z.items; transactions = good; clients = z.clients; turns = z.turns; tries = z.tries; links = z.links; stops = z.stops };
       commands = kept.commands;

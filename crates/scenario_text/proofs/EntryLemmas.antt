@@ -4,6 +4,7 @@ use Rattle.std.specs.Prelude.{codes, nat_le}
 use Rattle.std.specs.Str.{bytes_eq}
 use Rattle.mdb_base.specs.declared.names.SiteId.{SiteId}
 use Rattle.mdb_base.specs.Words.{each_of}
+use Rattle.mdb_base.proofs.BoolLaws.{is_true_both}
 use Rattle.fed_rules.specs.declared.scenario.SiteLine.{SiteLine}
 use Rattle.fed_rules.specs.Plans.{is_between, is_declared, is_actor, is_in_place, is_fate}
 use Rattle.scenario_text.specs.CommandLines.{tx_argument, tid_argument, message_argument, attempt_argument, actor_argument, halt_line, trip_line, actor_command, command_line}
@@ -14,10 +15,6 @@ use Rattle.scenario_text.specs.Reads.{counted, spelled}
 use Rattle.scenario_text.specs.ScenarioLines.{site_line, item_line, local_line, global_line, clients_line, turns_line, tries_line, policy_line, link_line, stop_line, scenario_line}
 use Rattle.scenario_text.specs.Steps.{act_of, is_misspelled, global_step, step_of, steps_of}
 use Rattle.scenario_text.proofs.Readings.{Reads, reads_ok, reads_err, reads_bind, reads_any, reads_if, reads_unless, reads_either}
-
-pub both : (a b : Bool) → IsTrue a → IsTrue b → IsTrue (a && b)
-both true b p q = q
-both false b p q = absurd cc
 
 -- ---- words
 
@@ -45,7 +42,7 @@ site_number_reads word = reads_bind (number_in 1 8 word) (number_reads 1 8 word)
 site_reads : (sites : List SiteLine) (word : List ℕ) → Reads (λ site. IsTrue (is_between 1 8 site.0 && is_declared sites site)) (site_of sites word)
 unfolding site_of
 site_reads sites word =
-    reads_bind (site_number word) (site_number_reads word) (λ site range. reads_if (is_declared sites site) _ _ (λ declared. reads_ok site (both _ _ range declared)))
+    reads_bind (site_number word) (site_number_reads word) (λ site range. reads_if (is_declared sites site) _ _ (λ declared. reads_ok site (is_true_both _ _ range declared)))
 
 declared_reads : (sites : List SiteLine) (word : List ℕ) → Reads (λ site. IsTrue (is_declared sites site)) (site_of sites word)
 declared_reads sites word = record { value = λ site e. second (is_between 1 8 site.0) (is_declared sites site) ((site_reads sites word).value site e) }
@@ -53,7 +50,7 @@ declared_reads sites word = record { value = λ site e. second (is_between 1 8 s
 actor_reads : (sites : List SiteLine) (word : List ℕ) → Reads (λ actor. IsTrue (nat_le actor 8 && is_actor sites actor)) (actor_of sites word)
 unfolding actor_of
 actor_reads sites word =
-    reads_bind (number_in 0 8 word) (number_upto 8 word) (λ actor range. reads_if (is_actor sites actor) _ _ (λ declared. reads_ok actor (both _ _ range declared)))
+    reads_bind (number_in 0 8 word) (number_upto 8 word) (λ actor range. reads_if (is_actor sites actor) _ _ (λ declared. reads_ok actor (is_true_both _ _ range declared)))
 
 declared_actor : (sites : List SiteLine) (word : List ℕ) → Reads (λ actor. IsTrue (is_actor sites actor)) (actor_of sites word)
 declared_actor sites word = record { value = λ actor e. second (nat_le actor 8) (is_actor sites actor) ((actor_reads sites word).value actor e) }
@@ -63,7 +60,7 @@ unfolding tid_of
 tid_reads word =
     reads_bind (spelled (only_two (pieces dot word))) (reads_any _) (λ parts p.
     reads_bind (tx_of parts.0) (tx_reads parts.0) (λ tx range.
-    reads_bind (number_in 0 31 parts.1) (number_upto 31 parts.1) (λ attempt few. reads_ok _ (both _ _ range few))))
+    reads_bind (number_in 0 31 parts.1) (number_upto 31 parts.1) (λ attempt few. reads_ok _ (is_true_both _ _ range few))))
 
 hold_reads : (word : List ℕ) → Reads (λ fate. IsTrue (is_fate fate)) (hold_of word)
 unfolding hold_of
@@ -86,7 +83,7 @@ step_reads : (sites : List SiteLine) (home : Option SiteId) (word : List ℕ)
     → ((site : SiteId) → home ≡ Some site → IsTrue (is_declared sites site)) → Reads (λ step. IsTrue (is_in_place sites home step)) (step_of sites home word)
 unfolding step_of global_step
 step_reads sites (Some home) word declared =
-    reads_bind (act_of word) (reads_any _) (λ act p. reads_ok _ (both _ _ (declared home refl) (same_self home.0)))
+    reads_bind (act_of word) (reads_any _) (λ act p. reads_ok _ (is_true_both _ _ (declared home refl) (same_self home.0)))
 step_reads sites None word declared =
     reads_bind (spelled (cut_at slash word)) (reads_any _) (λ parts p.
     reads_unless (is_misspelled (act_of parts.1)) _ _ (λ form.
@@ -101,7 +98,7 @@ steps_reads sites home [] declared = reads_ok _ (refl, refl)
 steps_reads sites home (word ∷ words) declared =
     reads_bind (step_of sites home word) (step_reads sites home word declared) (λ step here.
     reads_bind (steps_of sites home words) (steps_reads sites home words declared) (λ steps there.
-    reads_ok _ (both _ _ here there.0, ap suc there.1)))
+    reads_ok _ (is_true_both _ _ here there.0, ap suc there.1)))
 
 more_reads : (words : List (List ℕ)) → Reads (λ w. 0 < length w.1) (counted (first_and_more words))
 unfolding first_and_more
@@ -177,7 +174,7 @@ link_line_reads sites words =
     reads_bind (way_of w.1) (reads_any _) (λ to q.
     reads_bind (site_of sites w.2) (declared_reads sites w.2) (λ site there.
     reads_bind (number_in 0 65535 w.3) (number_upto 65535 w.3) (λ place few.
-    reads_bind (fate_of w.4) (fate_reads w.4) (λ fate good. reads_ok _ (both _ _ (both _ _ there few) good))))))
+    reads_bind (fate_of w.4) (fate_reads w.4) (λ fate good. reads_ok _ (is_true_both _ _ (is_true_both _ _ there few) good))))))
 
 stop_line_reads : (sites : List SiteLine) (words : List (List ℕ)) → Reads (IsEntry sites) (stop_line sites words)
 unfolding stop_line
@@ -186,7 +183,7 @@ stop_line_reads sites words =
     reads_bind (actor_of sites w.1) (actor_reads sites w.1) (λ actor there.
     reads_bind (number_in 1 1000 w.2) (number_reads 1 1000 w.2) (λ calls range.
     reads_bind (number_in 0 65535 w.3) (number_upto 65535 w.3) (λ cut few.
-    reads_ok _ (both _ _ (first (nat_le actor 8) _ there) (both _ _ (both _ _ (second (nat_le actor 8) _ there) range) few))))))
+    reads_ok _ (is_true_both _ _ (first (nat_le actor 8) _ there) (is_true_both _ _ (is_true_both _ _ (second (nat_le actor 8) _ there) range) few))))))
   where
     first : (a b : Bool) → IsTrue (a && b) → IsTrue a
     first true b p = refl
@@ -229,7 +226,7 @@ unfolding attempt_argument
 attempt_argument_reads sites words =
     reads_bind (counted (only_three words)) (reads_any _) (λ w p.
     reads_bind (site_of sites w.1) (declared_reads sites w.1) (λ site there.
-    reads_bind (tid_of w.2) (tid_reads w.2) (λ tid good. reads_ok _ (both _ _ there good))))
+    reads_bind (tid_of w.2) (tid_reads w.2) (λ tid good. reads_ok _ (is_true_both _ _ there good))))
 
 actor_argument_reads : (sites : List SiteLine) (words : List (List ℕ)) → Reads (λ actor. IsTrue (is_actor sites actor)) (actor_argument sites words)
 unfolding actor_argument
@@ -240,7 +237,7 @@ unfolding halt_line
 halt_line_reads sites words =
     reads_bind (counted (only_three words)) (reads_any _) (λ w p.
     reads_bind (actor_of sites w.1) (declared_actor sites w.1) (λ actor there.
-    reads_bind (number_in 0 65535 w.2) (number_upto 65535 w.2) (λ cut few. reads_ok _ (both _ _ there few))))
+    reads_bind (number_in 0 65535 w.2) (number_upto 65535 w.2) (λ cut few. reads_ok _ (is_true_both _ _ there few))))
 
 trip_line_reads : (sites : List SiteLine) (words : List (List ℕ)) → Reads (λ c. IsTrue (is_command sites c)) (trip_line sites words)
 unfolding trip_line
@@ -248,7 +245,7 @@ trip_line_reads sites words =
     reads_bind (counted (only_four words)) (reads_any _) (λ w p.
     reads_bind (actor_of sites w.1) (declared_actor sites w.1) (λ actor there.
     reads_bind (number_in 0 1000 w.2) (number_upto 1000 w.2) (λ calls some.
-    reads_bind (number_in 0 65535 w.3) (number_upto 65535 w.3) (λ cut few. reads_ok _ (both _ _ (both _ _ there some) few)))))
+    reads_bind (number_in 0 65535 w.3) (number_upto 65535 w.3) (λ cut few. reads_ok _ (is_true_both _ _ (is_true_both _ _ there some) few)))))
 
 actor_command_reads : (sites : List SiteLine) (words : List (List ℕ)) → Reads (λ c. IsTrue (is_command sites c)) (actor_command sites words)
 unfolding actor_command

@@ -1,34 +1,16 @@
 -- Words on lists, at a list with one more item at its end, and as std says them.
 use Rattle.std.proofs.Common.{◌≡◌, ℕ, suc, Bool, true, false, cond, not, ◌||◌, ◌&&◌, IsTrue, List, [], ◌∷◌, ◌++◌, refl, ap, ◌∙◌}
-use Rattle.std.specs.List.{list_any}
-use Rattle.mdb_base.specs.Words.{some_of, each_of, how_many, Each}
+use Rattle.std.proofs.lemmas.Bool.{or_parts}
+use Rattle.mdb_base.specs.Words.{some_of, each_of, how_many}
+use Rattle.mdb_base.proofs.TestLaws.{some_of-push}
+use Rattle.mdb_base.proofs.BoolLaws.{and_true, is_true_both}
 use Rattle.fed_rules.specs.Plans.{all_differ}
 
-pub some_of-list_any : {A : Type 0} (test : A → Bool) (xs : List A) → some_of test xs ≡ list_any test xs
-some_of-list_any test [] = refl
-some_of-list_any test (x ∷ xs) = ap (λ b. test x || b) (some_of-list_any test xs)
-
 -- ---- one more item at the end
-
-or_assoc : (a b c : Bool) → (a || (b || c)) ≡ ((a || b) || c)
-or_assoc true b c = refl
-or_assoc false b c = refl
-
-or_false : (a : Bool) → (a || false) ≡ a
-or_false true = refl
-or_false false = refl
-
-pub some_of-push : {A : Type 0} (test : A → Bool) (xs : List A) (y : A) → some_of test (xs ++ y ∷ []) ≡ (some_of test xs || test y)
-some_of-push test [] y = or_false (test y)
-some_of-push test (x ∷ xs) y = ap (λ b. test x || b) (some_of-push test xs y) ∙ or_assoc (test x) (some_of test xs) (test y)
 
 and_assoc : (a b c : Bool) → (a && (b && c)) ≡ ((a && b) && c)
 and_assoc true b c = refl
 and_assoc false b c = refl
-
-and_true : (a : Bool) → (a && true) ≡ a
-and_true true = refl
-and_true false = refl
 
 pub each_of-push : {A : Type 0} (test : A → Bool) (xs : List A) (y : A) → each_of test (xs ++ y ∷ []) ≡ (each_of test xs && test y)
 each_of-push test [] y = and_true (test y)
@@ -50,10 +32,6 @@ pub some_of-same : {A : Type 0} (p q : A → Bool) → ((x : A) → p x ≡ q x)
 some_of-same p q same [] = refl
 some_of-same p q same (x ∷ xs) = ap (λ b. b || some_of p xs) (same x) ∙ ap (λ b. q x || b) (some_of-same p q same xs)
 
-pub both : (a b : Bool) → IsTrue a → IsTrue b → IsTrue (a && b)
-both true b p q = q
-both false b p q = absurd cc
-
 pub first : (a b : Bool) → IsTrue (a && b) → IsTrue a
 first true b p = refl
 first false b p = absurd cc
@@ -64,20 +42,12 @@ second false b p = absurd cc
 
 pub each_of-weaker : {A : Type 0} (p q : A → Bool) → ((x : A) → IsTrue (p x) → IsTrue (q x)) → (xs : List A) → IsTrue (each_of p xs) → IsTrue (each_of q xs)
 each_of-weaker p q weaker [] h = refl
-each_of-weaker p q weaker (x ∷ xs) h = both _ _ (weaker x (first _ _ h)) (each_of-weaker p q weaker xs (second (p x) (each_of p xs) h))
+each_of-weaker p q weaker (x ∷ xs) h = is_true_both _ _ (weaker x (first _ _ h)) (each_of-weaker p q weaker xs (second (p x) (each_of p xs) h))
 
 pub each_of-more : {A : Type 0} (p : A → Bool) (xs : List A) (y : A) → IsTrue (each_of p xs) → IsTrue (p y) → IsTrue (each_of p (xs ++ y ∷ []))
-each_of-more p xs y h k = each_of-push p xs y ∙ both _ _ h k
-
-pub Each-more : {A : Type 0} (P : A → Type 0) (xs : List A) (y : A) → Each P xs → P y → Each P (xs ++ y ∷ [])
-Each-more P [] y h k = (k, tt)
-Each-more P (x ∷ xs) y h k = (h.0, Each-more P xs y h.1 k)
+each_of-more p xs y h k = each_of-push p xs y ∙ is_true_both _ _ h k
 
 -- ---- lists whose items differ
-
-neither : (a b : Bool) → (a || b) ≡ false → (a ≡ false) × (b ≡ false)
-neither true b h = absurd cc
-neither false b h = (refl, h)
 
 nor : (a b : Bool) → IsTrue (not a) → b ≡ false → IsTrue (not (a || b))
 nor true b h k = absurd cc
@@ -87,7 +57,7 @@ pub all_differ-more : {A : Type 0} (alike : A → A → Bool) (xs : List A) (y :
     → IsTrue (all_differ alike (xs ++ y ∷ []))
 all_differ-more alike [] y h new = refl
 all_differ-more alike (x ∷ xs) y h new =
-    let apart = neither (alike x y) (some_of (λ x. alike x y) xs) new in
-    both _ _
+    let apart = or_parts (alike x y) (some_of (λ x. alike x y) xs) new in
+    is_true_both _ _
     (ap not (some_of-push (alike x) xs y) ∙ nor (some_of (alike x) xs) (alike x y) (first _ _ h) apart.0)
     (all_differ-more alike xs y (second (not (some_of (alike x) xs)) (all_differ alike xs) h) apart.1)

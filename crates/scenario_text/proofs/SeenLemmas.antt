@@ -1,7 +1,7 @@
 -- What a draft keeps beside its lists tells whether one more line may stand there, and is kept with that line.
-use Rattle.std.proofs.Common.{◌≡◌, ℕ, suc, ◌+◌, ◌<◌, ◌≤◌, Bool, true, false, cond, ◌&&◌, ◌||◌, eqb, leb, List, [], ◌∷◌, ◌++◌, length, set, get_or, Ok, Err, refl, sym, ap, ◌∙◌, add-one, arith, inl, inr, get_or-set_other, Less, Equal, Greater}
+use Rattle.std.proofs.Common.{◌≡◌, ℕ, suc, ◌+◌, ◌<◌, ◌≤◌, Bool, true, false, cond, ◌&&◌, ◌||◌, eqb, leb, List, [], ◌∷◌, ◌++◌, length, set, get_or, Ok, Err, refl, sym, ap, ◌∙◌, add-one, arith, inl, inr, get_or-set_other}
 use Rattle.std.specs.Prelude.{◌==◌}
-use Rattle.std.specs.Ordering.{nat_cmp, ordering_then, is_eq}
+use Rattle.std.specs.Ordering.{nat_cmp, is_eq}
 use Rattle.std.specs.declared.cmp.Ordering.{Ordering}
 use Rattle.std.specs.BTreeSet.{BTreeSet, contains, Updates}
 use Rattle.std.specs.BTreeMap.{is_at}
@@ -12,6 +12,9 @@ use Rattle.mdb_base.specs.declared.names.SiteId.{SiteId}
 use Rattle.mdb_base.specs.declared.names.Key.{Key}
 use Rattle.mdb_base.specs.Names.{same_site}
 use Rattle.mdb_base.specs.Words.{some_of, how_many}
+use Rattle.mdb_base.proofs.TestLaws.{some_of-push}
+use Rattle.mdb_base.proofs.NumberLaws.{is_eq-then}
+use Rattle.mdb_base.proofs.BoolLaws.{or_false}
 use Rattle.fed_rules.specs.declared.scenario.ItemLine.{ItemLine}
 use Rattle.fed_rules.specs.declared.scenario.LinkLine.{LinkLine}
 use Rattle.fed_rules.specs.declared.scenario.StopLine.{StopLine}
@@ -19,17 +22,12 @@ use Rattle.fed_rules.specs.Plans.{most_items, has_site, one_message, same_way, s
 use Rattle.scenario_text.specs.declared.bad.BadWhy.TheVariants.{Repeated, Many}
 use Rattle.scenario_text.specs.Drafts.{with_item}
 use Rattle.scenario_text.specs.Seen.{row_order, place_order, is_of_row, is_of_message, IsItemDraft, IsLinkDraft, IsStopDraft}
-use Rattle.scenario_text.proofs.ListLemmas.{some_of-push, how_many-push}
+use Rattle.scenario_text.proofs.ListLemmas.{how_many-push}
 
 -- ---- orders that tell two names apart
 
 same_number : (a b : ℕ) → is_eq (nat_cmp a b) ≡ eqb b a
 same_number a b = grind (arith, nat_tests)
-
-both_numbers : (o p : Ordering) → is_eq (ordering_then o p) ≡ (is_eq o && is_eq p)
-both_numbers Less p = refl
-both_numbers Equal p = refl
-both_numbers Greater p = refl
 
 -- ---- a set that has the names of the lines, with one line and its name more
 
@@ -66,7 +64,7 @@ counted_more is_of counts m xs y counted low nine fits n small =
 
 row_fits : (line : ItemLine) (row : SiteId × Key) → is_at (row_order (line.site, line.put.key)) row ≡ is_of_row row line
 row_fits line row =
-    both_numbers (nat_cmp line.site.0 row.0.0) (nat_cmp line.put.key.0 row.1.0)
+    is_eq-then (nat_cmp line.site.0 row.0.0) (nat_cmp line.put.key.0 row.1.0)
     ∙ ap (λ b. b && is_eq (nat_cmp line.put.key.0 row.1.0)) (same_number line.site.0 row.0.0) ∙ ap (λ b. eqb row.0.0 line.site.0 && b) (same_number line.put.key.0 row.1.0)
 
 module _ (line : ItemLine) (lines : List ItemLine) (rows : BTreeSet (SiteId × Key)) (counts : List ℕ) (kept : IsItemDraft lines rows counts) where
@@ -99,13 +97,9 @@ same_way-same : (to : Bool) → same_way to to ≡ true
 same_way-same true = refl
 same_way-same false = refl
 
-or_nothing : (a : Bool) → (a || false) ≡ a
-or_nothing true = refl
-or_nothing false = refl
-
 place_fits : (to : Bool) (line : LinkLine) → line.to ≡ to → (place : SiteId × ℕ) → is_at (place_order (line.site, line.place)) place ≡ is_of_message to place line
 place_fits to line way place =
-    both_numbers (nat_cmp line.site.0 place.0.0) (nat_cmp line.place place.1)
+    is_eq-then (nat_cmp line.site.0 place.0.0) (nat_cmp line.place place.1)
     ∙ ap (λ b. b && is_eq (nat_cmp line.place place.1)) (same_number line.site.0 place.0.0) ∙ ap (λ b. eqb place.0.0 line.site.0 && b) (same_number line.place place.1)
     ∙ sym (ap (λ b. b && eqb place.0.0 line.site.0 && eqb place.1 line.place) (ap (same_way to) way ∙ same_way-same to))
 
@@ -115,7 +109,7 @@ other_way : (to from : Bool) (line : LinkLine) (lines : List LinkLine) (place : 
 other_way to from line lines place way other =
     some_of-push (is_of_message from place) lines line
     ∙ ap (λ b. some_of (is_of_message from place) lines || (b && same_site place.0 line.site && (place.1 == line.place))) (ap (same_way from) way ∙ other)
-    ∙ or_nothing (some_of (is_of_message from place) lines)
+    ∙ or_false (some_of (is_of_message from place) lines)
 
 module _ (line : LinkLine) (lines : List LinkLine) (to from : BTreeSet (SiteId × ℕ)) (kept : IsLinkDraft lines to from) where
   pub link_to_seen : line.to ≡ true → contains place_order to (line.site, line.place) ≡ some_of (one_message line) lines

@@ -39,6 +39,14 @@ message_argument sites words = do
   place ← number_in 0 (2 ^ 32 - 1) w.2
   Ok (site, place)
 
+-- the site and the message of a line `WORD S I`, by the words behind the first one
+unfoldable pub message_behind : List SiteLine → List (List ℕ) → Result (SiteId × ℕ) BadWhy
+message_behind sites words = do
+  w ← counted (only_two words)
+  site ← site_of sites w.0
+  place ← number_in 0 (2 ^ 32 - 1) w.1
+  Ok (site, place)
+
 -- the site and the attempt of a line `WORD S T.A`
 unfoldable pub attempt_argument : List SiteLine → List (List ℕ) → Result (SiteId × Tid) BadWhy
 attempt_argument sites words = do

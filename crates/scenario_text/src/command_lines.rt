@@ -1,10 +1,13 @@
 //! What a command says.
-ghost use Rattle.std.specs.Prelude.{◌≡◌, ◌∷◌, IfSome};
+ghost use Rattle.std.specs.Prelude.{◌≡◌};
 ghost use Rattle.scenario_text.specs.CommandLines as spells;
 ghost use Rattle.scenario_text.specs.Pieces.{words_of};
 
 use crate::bad::BadWhy;
 use crate::draft::SiteDraft;
+use crate::first_words::{
+    behind_begin, behind_commit, behind_fate, behind_give, behind_go, behind_step, behind_take,
+};
 use crate::names::{number_in, tid_of, tx_of};
 use crate::pieces::{first_word, four_pieces, one_piece, three_pieces, two_pieces};
 use fed_rules::Command;
@@ -151,41 +154,36 @@ fn tx_behind(rest: &[u8]) -> Result<Tx, BadWhy>
     tx_of(tx)
 }
 
-/// What stands behind `step` and its space, where the line begins so.
-fn behind_step(line: &[u8]) -> Option<&[u8]>
-    ensures { IfSome result (λ rest. line.now ≡ 115 ∷ 116 ∷ 101 ∷ 112 ∷ 32 ∷ rest.now) }
+/// The site and the message of a line `WORD S I`, where these bytes stand behind the space.
+#[tactic(auto, unfolding(crate::specs::CommandLines::message_behind))]
+fn message_behind(sites: &SiteDraft, rest: &[u8]) -> Result<(SiteId, u32), BadWhy>
+    ensures { result ≡ spells.message_behind sites.now (words_of rest.now) }
 {
-    match line {
-        [b's', b't', b'e', b'p', b' ', rest @ ..] => Some(rest),
-        _ => None,
-    }
+    let (site, place) = two_pieces(rest, b' ').ok_or(BadWhy::Count)?;
+    let site = sites.site_of(site)?;
+    let place = number_in(0, u64::from(u32::MAX), place)?;
+    Ok((site, place as u32))
 }
 
-/// What stands behind `begin` and its space, where the line begins so.
-fn behind_begin(line: &[u8]) -> Option<&[u8]>
-    ensures { IfSome result (λ rest. line.now ≡ 98 ∷ 101 ∷ 103 ∷ 105 ∷ 110 ∷ 32 ∷ rest.now) }
-{
-    match line {
-        [b'b', b'e', b'g', b'i', b'n', b' ', rest @ ..] => Some(rest),
-        _ => None,
-    }
-}
-
-/// What stands behind `commit` and its space, where the line begins so.
-fn behind_commit(line: &[u8]) -> Option<&[u8]>
-    ensures { IfSome result (λ rest. line.now ≡ 99 ∷ 111 ∷ 109 ∷ 109 ∷ 105 ∷ 116 ∷ 32 ∷ rest.now) }
-{
-    match line {
-        [b'c', b'o', b'm', b'm', b'i', b't', b' ', rest @ ..] => Some(rest),
-        _ => None,
-    }
-}
-
-/// What a command says, by its first word. A begin, a step and a commit, of which there are most, are told by their bytes.
-#[tactic(auto, using(crate::proofs::CommandLemmas::said_step, crate::proofs::CommandLemmas::said_begin, crate::proofs::CommandLemmas::said_commit))]
+/// What a command says, by its first word. Those of which there are most are told by their bytes.
+#[tactic(auto, using(crate::proofs::CommandLemmas::said_take, crate::proofs::CommandLemmas::said_give, crate::proofs::CommandLemmas::said_step, crate::proofs::CommandLemmas::said_fate, crate::proofs::CommandLemmas::said_begin, crate::proofs::CommandLemmas::said_commit, crate::proofs::CommandLemmas::said_go))]
 pub fn command_line(sites: &SiteDraft, line: &[u8]) -> Result<Command, BadWhy>
     ensures { result ≡ spells.command_line sites.now (words_of line.now) }
 {
+    if let Some(rest) = behind_take(line) {
+        let (site, place) = message_behind(sites, rest)?;
+        return Ok(Command::Take { site, place });
+    }
+    if let Some(rest) = behind_give(line) {
+        let (site, place) = message_behind(sites, rest)?;
+        return Ok(Command::Give { site, place });
+    }
+    if let Some(rest) = behind_fate(line) {
+        return Ok(Command::Fate(tx_behind(rest)?));
+    }
+    if let Some(rest) = behind_go(line) {
+        return Ok(Command::Go(tx_behind(rest)?));
+    }
     if let Some(rest) = behind_step(line) {
         return Ok(Command::Step(tx_behind(rest)?));
     }

@@ -6,6 +6,7 @@ mod command_lines;
 mod draft;
 mod entry;
 mod fault;
+mod first_words;
 mod names;
 mod pieces;
 mod reading;

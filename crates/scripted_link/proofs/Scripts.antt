@@ -1,11 +1,12 @@
 -- What scripts do to packets of any kind.
-use Rattle.std.proofs.Common.{◌≡◌, ℕ, zero, suc, ◌+◌, ◌⊎◌, inl, inr, Bool, true, false, cond, nat_eq, Option, Some, None, List, [], ◌∷◌, ◌++◌, length, map, slice_get, refl, ap, sym, ◌∙◌, subst, append_assoc}
+use Rattle.std.proofs.Common.{◌≡◌, ℕ, zero, suc, ◌+◌, inl, inr, Bool, true, false, cond, nat_eq, Option, Some, None, List, [], ◌∷◌, ◌++◌, length, map, slice_get, refl, ap, sym, ◌∙◌, subst, append_assoc}
 use Rattle.std.specs.Option.{option_map, option_to_list}
 use Rattle.std.proofs.lemmas.Option.{slice_get-map}
 use Rattle.std.proofs.lemmas.List.{length-map, map-append}
 use Rattle.mdb_base.specs.declared.names.Fate.{Fate}
 use Rattle.mdb_base.specs.declared.names.Fate.TheVariants as Fated
 use Rattle.mdb_base.specs.Words.{Among}
+use Rattle.mdb_base.proofs.EachLaws.{among_split, among_append, among_behind}
 use Rattle.scripted_link.specs.declared.script.FateAt.{FateAt}
 use Rattle.scripted_link.specs.Script.{fate_at, copies, due, due_at, at_offer, through_behind}
 use Rattle.scripted_link.specs.Laws.{SeePlacesAlone, WereOffered}
@@ -64,20 +65,6 @@ see_places_alone A B script rename offered = behind_map rename script [] offered
 
 -- Packets that were offered.
 
-in_either : {A : Type 0} (P : A → Type 0) (xs ys : List A) → Among P (xs ++ ys) → Among P xs ⊎ Among P ys
-in_either P [] ys h = inr h
-in_either P (x ∷ xs) ys (inl h) = inl (inl h)
-in_either P (x ∷ xs) ys (inr h) = elim (in_either P xs ys h) [ inl l ↦ inl (inr l) | inr r ↦ inr r ]
-
-in_first : {A : Type 0} (P : A → Type 0) (xs ys : List A) → Among P xs → Among P (xs ++ ys)
-in_first P [] ys h = absurd h
-in_first P (x ∷ xs) ys (inl h) = inl h
-in_first P (x ∷ xs) ys (inr h) = inr (in_first P xs ys h)
-
-in_second : {A : Type 0} (P : A → Type 0) (xs ys : List A) → Among P ys → Among P (xs ++ ys)
-in_second P [] ys h = h
-in_second P (x ∷ xs) ys h = inr (in_second P xs ys h)
-
 in_copies : {A : Type 0} (P : A → Type 0) (fate : Fate) (packet : A) → Among P (copies fate packet) → P packet
 in_copies P Fated.Pass packet (inl h) = h
 in_copies P Fated.Pass packet (inr h) = absurd h
@@ -105,17 +92,17 @@ in_due_at P place (Fated.Hold further) offered h = at_place P offered place (if_
 
 in_due : {A : Type 0} (P : A → Type 0) (script : List FateAt) (offered : List A) → Among P (due script offered) → Among P offered
 in_due P [] offered h = absurd h
-in_due P (s ∷ script) offered h = elim (in_either P (due_at s.place s.fate offered) (due script offered) h) [
+in_due P (s ∷ script) offered h = elim (among_split P (due_at s.place s.fate offered) (due script offered) h) [
   | inl l ↦ in_due_at P s.place s.fate offered l
   | inr r ↦ in_due P script offered r
 ]
 
 in_behind : {A : Type 0} (P : A → Type 0) (script : List FateAt) (before packets : List A) → Among P (through_behind script before packets) → Among P (before ++ packets)
 in_behind P script before [] h = absurd h
-in_behind {A} P script before (p ∷ ps) h = elim (in_either P (at_offer script before p) (through_behind script (before ++ p ∷ []) ps) h) [
-  | inl l ↦ elim (in_either P (copies (fate_at script (length before)) p) (due script (before ++ p ∷ [])) l) [
-    | inl c ↦ in_second P before (p ∷ ps) (inl (in_copies P (fate_at script (length before)) p c))
-    | inr d ↦ subst (Among P) (append_assoc before (p ∷ []) ps) (in_first P (before ++ p ∷ []) ps (in_due P script (before ++ p ∷ []) d))
+in_behind {A} P script before (p ∷ ps) h = elim (among_split P (at_offer script before p) (through_behind script (before ++ p ∷ []) ps) h) [
+  | inl l ↦ elim (among_split P (copies (fate_at script (length before)) p) (due script (before ++ p ∷ [])) l) [
+    | inl c ↦ among_behind P before (p ∷ ps) (inl (in_copies P (fate_at script (length before)) p c))
+    | inr d ↦ subst (Among P) (append_assoc before (p ∷ []) ps) (among_append P (before ++ p ∷ []) ps (in_due P script (before ++ p ∷ []) d))
   ]
   | inr r ↦ subst (Among P) (append_assoc before (p ∷ []) ps) (in_behind P script (before ++ p ∷ []) ps r)
 ]

@@ -16,6 +16,3 @@ pub use outlet::Outlet;
 pub use ring::{Ends, channel, meet};
 pub use script::{FateAt, LinkScript};
 pub use wires::Wires;
-
-#[cfg(test)]
-mod tests;

@@ -1,19 +1,16 @@
 -- The rows of one site among those of all.
-use Rattle.std.proofs.Common.{◌≡◌, ℕ, Bool, true, false, cond, ◌&&◌, ◌==◌, Some, List, [], ◌∷◌, map, nat_eq, refl, sym, ap, ap₂, ◌∙◌, arith}
+use Rattle.std.proofs.Common.{◌≡◌, ℕ, Bool, true, false, cond, ◌&&◌, ◌==◌, Some, List, [], ◌∷◌, map, nat_eq, refl, sym, ap, ap₂, ◌∙◌}
 use Rattle.std.specs.List.{IsDistinct, AllByRecursion}
 use Rattle.std.specs.Map.{lookup, keys_of}
 use Rattle.std.proofs.lemmas.Bool.{eqb-true, eq-eqb}
-use Rattle.std.proofs.lemmas.Bool.Decides.{nat_tests}
 use Rattle.std.proofs.lemmas.Map.Keys.{IsDistinct-head, IsDistinct-tail, IsDistinct-cons}
 use Rattle.mdb_base.specs.declared.names.Key.{Key}
 use Rattle.mdb_base.specs.declared.names.SiteId.{SiteId}
 use Rattle.mdb_base.specs.declared.rows.Put.{Put}
 use Rattle.mdb_base.specs.Names.{same_key}
 use Rattle.mdb_base.specs.Rows.{HaveOwnKeys, value_in}
+use Rattle.mdb_base.proofs.RowLaws.{nat_eq-sym}
 use Rattle.serial_machine.specs.AllTables.{is_place, rows_from}
-
-flips : (x y : ℕ) → nat_eq x y ≡ nat_eq y x
-flips x y = grind (arith, nat_tests)
 
 one_row : (b : Bool) (row : Put) (rows : List Put) (key : Key) → value_in (cond b (row ∷ rows) rows) key ≡ cond (b && same_key row.key key) (Some row.value) (value_in rows key)
 one_row true row rows key = refl
@@ -24,7 +21,7 @@ pub value_in-rows_from : (site : SiteId) (es : List ((ℕ × ℕ) × ℕ)) (key 
 value_in-rows_from site [] key = refl
 value_in-rows_from site (e ∷ es) key =
     one_row (e.0.0 == site.0) _ (rows_from site es) key
-    ∙ ap₂ (λ a b. cond (a && b) (Some e.1) (value_in (rows_from site es) key)) (flips e.0.0 site.0) (flips e.0.1 key.0)
+    ∙ ap₂ (λ a b. cond (a && b) (Some e.1) (value_in (rows_from site es) key)) (nat_eq-sym e.0.0 site.0) (nat_eq-sym e.0.1 key.0)
     ∙ ap (cond (is_place site key e.0) (Some e.1)) (value_in-rows_from site es key)
 
 -- two places are one where sites and keys are

@@ -3,8 +3,6 @@
 
 mod all_tables;
 mod running;
-#[cfg(test)]
-mod tests;
 
 pub use all_tables::AllTables;
 pub use running::{Reads, run_alone, run_serial};

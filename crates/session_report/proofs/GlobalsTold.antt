@@ -1,5 +1,5 @@
 -- The global attempts that the lines tell of, with their reads, are those that the coordinator's past tells of.
-use Rattle.std.proofs.Common.{◌≡◌, ℕ, zero, suc, Bool, true, false, cond, ◌||◌, Option, Some, None, List, [], ◌∷◌, ◌++◌, map, refl, sym, ◌∙◌, ap, subst}
+use Rattle.std.proofs.Common.{◌≡◌, ℕ, Bool, true, false, cond, ◌||◌, Option, Some, None, List, [], ◌∷◌, ◌++◌, map, refl, sym, ◌∙◌, ap, subst}
 use Rattle.mdb_base.specs.declared.names.SiteId.{SiteId}
 use Rattle.mdb_base.specs.declared.names.Tid.{Tid}
 use Rattle.mdb_base.specs.declared.names.Tx.{Tx}
@@ -8,7 +8,8 @@ use Rattle.mdb_base.specs.declared.replies.Reply.{Reply}
 use Rattle.mdb_base.specs.declared.replies.Reply.TheVariants as Reply_is
 use Rattle.mdb_base.specs.Names.{same_tid, tid_before}
 use Rattle.mdb_base.specs.Words.{found, inserted, item_at, map_some, with_some}
-use Rattle.order_laws.proofs.Names.{same_tid_self}
+use Rattle.mdb_base.proofs.NameLaws.{same_tid-refl}
+use Rattle.mdb_base.proofs.PlaceLaws.{item_at-front}
 use Rattle.fed_rules.specs.declared.answers.Answer.{Answer}
 use Rattle.fed_rules.specs.declared.answers.Answer.TheVariants as Say
 use Rattle.fed_rules.specs.declared.answers.Cause.TheVariants as For
@@ -32,11 +33,13 @@ use Rattle.fed_rules.specs.SiteRecords.{Home}
 use Rattle.fed_rules.specs.Story.{Story, Happened, AtSite, AtCoordinator, Nowhere, coord_past, happens, sends_from, sent_from, story_of, with_coordinator}
 use Rattle.rules_laws.specs.Lines as Lines
 use Rattle.rules_laws.proofs.Lines as Asked
+use Rattle.rules_laws.proofs.CoordPasts.{IsNoGo}
 use Rattle.coord_laws.proofs.Made.{Begins, IsMade}
 use Rattle.coord_laws.proofs.MadeLines.{coord_made}
 use Rattle.federation_laws.proofs.CoordHolds.{begun-next, is_begun}
 use Rattle.federation_laws.proofs.StoryGlobals.{coord-made, fresh-line, story-holds}
 use Rattle.federation_laws.proofs.Told as Fed
+use Rattle.federation_laws.proofs.Dues.{reads_of}
 use Rattle.session_report.specs.declared.session.Channel.{Channel}
 use Rattle.session_report.specs.Told.{Reads, Told, after_begin, after_command, after_step, is_counted, message_at, told_by, with_begun, with_go, with_reply, with_taken, with_value}
 use Rattle.session_report.proofs.Lookups.{look, look_begun, look_value, tids_begun, tids_of, tids_value}
@@ -63,14 +66,9 @@ globals_of (x ∷ past) = after_coord x.event x.answer (globals_of past)
 abbrev pub Covers : List Channel → Story → Type 0
 Covers channels story = (site : SiteId) (place : ℕ) (message : FromSite) → item_at (sent_from site story) place ≡ Some message → message_at channels site place ≡ Some message
 
-item_more : {A : Type 0} (xs ys : List A) (n : ℕ) (x : A) → item_at xs n ≡ Some x → item_at (xs ++ ys) n ≡ Some x
-item_more [] ys n x e = cc
-item_more (y ∷ xs) ys zero x e = e
-item_more (y ∷ xs) ys (suc n) x e = item_more xs ys n x e
-
 pub covers_before : (channels : List Channel) (scenario : Scenario) (command : Command) (commands : List Command) → Covers channels (story_of scenario (command ∷ commands)) → Covers channels (story_of scenario commands)
 covers_before channels scenario command commands c site place message e =
-    c site place message (item_more (sent_from site (story_of scenario commands)) (sends_from site (happens scenario (story_of scenario commands) command)) place message e)
+    c site place message (item_at-front (sent_from site (story_of scenario commands)) (sends_from site (happens scenario (story_of scenario commands) command)) place message e)
 
 begin_globals : (tx : Tx) (answer : Answer) (told : Told) → (after_begin tx answer told).globals ≡ told.globals
 begin_globals tx (Say.Begun tid) told = refl
@@ -88,13 +86,8 @@ go_coord : (tid : Tid) (steps : _) (answer : Answer) (reads : Reads) → with_go
 go_coord tid steps (Say.Begun t) reads = refl
 go_coord tid steps answer reads = refl
 
--- no attempt begins at another event than its `go`
-abbrev NoGo : CoordEvent → Type 0
-NoGo (To_coord.Go tid steps) = ⊥
-NoGo event = Unit {0}
-
-none_begun : (event : CoordEvent) (answer : Answer) → NoGo event → Begins event answer → begun_by answer ≡ None
-none_begun event (Say.Begun tid) off b = absurd (subst NoGo b.1 off)
+none_begun : (event : CoordEvent) (answer : Answer) → IsNoGo event → Begins event answer → begun_by answer ≡ None
+none_begun event (Say.Begun tid) off b = absurd (subst IsNoGo b.1 off)
 none_begun event answer off b = refl
 
 same_counted : (IsOne : List Edge → Type 0) (printed answer : Answer) → SameButCycle IsOne printed answer → is_counted printed ≡ is_counted answer
@@ -140,7 +133,7 @@ module _ (scenario : Scenario) (channels : List Channel) (story : Story) (told :
   nowhere_keeps command answer s = refl
 
   module _ (x : CoordHappening) (event : CoordEvent) (made : IsMade (protocols scenario) (coord_past story) event x) (is : x ≡ coord_line (protocols scenario) (policy scenario) (coord_past story) event) where
-    no_go : (other : CoordEvent) → event ≡ other → NoGo other → after_event other x.answer told.globals ≡ after_coord x.event x.answer told.globals
+    no_go : (other : CoordEvent) → event ≡ other → IsNoGo other → after_event other x.answer told.globals ≡ after_coord x.event x.answer told.globals
     no_go other e off =
         let none : begun_by x.answer ≡ None = none_begun other x.answer off (subst (λ ev. Begins ev x.answer) e made.begun) in
         sym (ap (λ o. or_begun o (after_event x.event x.answer told.globals) told.globals) none ∙ ap (λ ev. after_event ev x.answer told.globals) (made.heard ∙ e))
@@ -196,10 +189,6 @@ globals_told scenario channels (line ∷ lines) (right, next) covers =
     line_tells scenario channels story (told_by channels lines) line.command (happens scenario story line.command) line.answer before (Asked.line_is scenario story line.command)
     (quiet_there scenario story line.command (happens scenario story line.command) refl) next.answer (globals_told scenario channels lines right before)
 
--- the values of the replies that count
-abbrev values : List Counted → List ℕ
-values replies = oldest_first (found value_in replies)
-
 abbrev counted_next : CoordEvent → Answer → Tid → List Counted → List Counted
 counted_next event answer g replies = cond (begins g answer) [] (cond (counts answer) (with_some (did_in g event) replies) replies)
 
@@ -212,33 +201,33 @@ begun_is (Say.Begun t) tid e = (let same : t ≡ tid = cc in ap (λ (z : Tid). S
 begun_is answer tid e = cc
 
 -- what says no value leaves what is read
-uncounted : (g : Tid) (reads : Reads) (replies : List Counted) (b c : Bool) (o : Option Counted) → values (with_some o replies) ≡ values replies → look reads g ≡ cond b (Some (values replies)) None
-    → look reads g ≡ cond b (Some (values (cond c (with_some o replies) replies))) None
+uncounted : (g : Tid) (reads : Reads) (replies : List Counted) (b c : Bool) (o : Option Counted) → reads_of (with_some o replies) ≡ reads_of replies → look reads g ≡ cond b (Some (reads_of replies)) None
+    → look reads g ≡ cond b (Some (reads_of (cond c (with_some o replies) replies))) None
 uncounted g reads replies b false o e h = h
 uncounted g reads replies b true o e h = h ∙ ap (λ vs. cond b (Some vs) None) (sym e)
 
 valueless : (g : Tid) (site : SiteId) (tid : Tid) (epoch : ℕ) (reply : Reply) (replies : List Counted) → value_in (record { site = site; epoch = epoch; reply = reply }) ≡ None
-    → values (with_some (cond (same_tid tid g) (Some (record { site = site; epoch = epoch; reply = reply })) None) replies) ≡ values replies
+    → reads_of (with_some (cond (same_tid tid g) (Some (record { site = site; epoch = epoch; reply = reply })) None) replies) ≡ reads_of replies
 valueless g site tid epoch reply replies none = by_test (same_tid tid g)
   where
-    by_test : (b : Bool) → values (with_some (cond b (Some (record { site = site; epoch = epoch; reply = reply })) None) replies) ≡ values replies
+    by_test : (b : Bool) → reads_of (with_some (cond b (Some (record { site = site; epoch = epoch; reply = reply })) None) replies) ≡ reads_of replies
     by_test true = ap (λ o. oldest_first (with_some o (found value_in replies))) none
     by_test false = refl
 
 -- what is read of an attempt at an event that begins none
-event_looks : (event : CoordEvent) (answer : Answer) (g : Tid) (reads : Reads) (replies : List Counted) (b : Bool) → look reads g ≡ cond b (Some (values replies)) None
-    → look (after_event event answer reads) g ≡ cond b (Some (values (cond (counts answer) (with_some (did_in g event) replies) replies))) None
+event_looks : (event : CoordEvent) (answer : Answer) (g : Tid) (reads : Reads) (replies : List Counted) (b : Bool) → look reads g ≡ cond b (Some (reads_of replies)) None
+    → look (after_event event answer reads) g ≡ cond b (Some (reads_of (cond (counts answer) (with_some (did_in g event) replies) replies))) None
 event_looks (To_coord.Take site (From.Did tid epoch n (Reply_is.Value value))) answer g reads replies b h = by_tests (counts answer) (same_tid tid g) refl
   where
     by_tests : (c d : Bool) → same_tid tid g ≡ d → look (cond c (with_value tid value reads) reads) g
-        ≡ cond b (Some (values (cond c (with_some (cond d (Some (record { site = site; epoch = epoch; reply = Reply_is.Value value })) None) replies) replies))) None
+        ≡ cond b (Some (reads_of (cond c (with_some (cond d (Some (record { site = site; epoch = epoch; reply = Reply_is.Value value })) None) replies) replies))) None
     by_tests false d e = h
     by_tests true false e = look_value reads tid g value ∙ (ap (λ x. cond x (map_some (λ vs. vs ++ value ∷ []) (look reads g)) (look reads g)) e ∙ h)
     by_tests true true e =
         look_value reads tid g value ∙ (ap (λ x. cond x (map_some (λ vs. vs ++ value ∷ []) (look reads g)) (look reads g)) e
         ∙ (ap (map_some (λ vs. vs ++ value ∷ [])) h ∙ by_begun b))
       where
-        by_begun : (b : Bool) → map_some (λ vs. vs ++ value ∷ []) (cond b (Some (values replies)) None) ≡ cond b (Some (values replies ++ value ∷ [])) None
+        by_begun : (b : Bool) → map_some (λ vs. vs ++ value ∷ []) (cond b (Some (reads_of replies)) None) ≡ cond b (Some (reads_of replies ++ value ∷ [])) None
         by_begun true = refl
         by_begun false = refl
 event_looks (To_coord.Take site (From.Did tid epoch n Reply_is.Done)) answer g reads replies b h =
@@ -285,7 +274,7 @@ pub record Globals (past : CoordPast) : Type 0 where
 
 module _ (past : CoordPast) (x : CoordHappening) (event : CoordEvent) (heard : x.event ≡ event) (begun : Begins event x.answer) (fresh : (g : Tid) → begins g x.answer ≡ true → is_begun past g ≡ false) (h : Globals past) where
   abbrev target : Tid → Bool → Option (List ℕ)
-  target g b = cond (b || is_begun past g) (Some (values (cond b [] (cond (counts x.answer) (with_some (did_in g x.event) (counted past g)) (counted past g))))) None
+  target g b = cond (b || is_begun past g) (Some (reads_of (cond b [] (cond (counts x.answer) (with_some (did_in g x.event) (counted past g)) (counted past g))))) None
 
   at_target : (g : Tid) → cond (is_begun (x ∷ past) g) (Some (reads (x ∷ past) g)) None ≡ target g (begins g x.answer)
   at_target g = ap (λ b. cond b (Some (reads (x ∷ past) g)) None) (begun-next past g x)
@@ -304,7 +293,7 @@ module _ (past : CoordPast) (x : CoordHappening) (event : CoordEvent) (heard : x
       ∙ (by_test (same_tid t g) unheard
       ∙ sym (at_target g ∙ ap (λ a. target g (begins g a)) is)))
     where
-      same_replies : (c : Bool) → values (cond c (counted past g) (counted past g)) ≡ values (counted past g)
+      same_replies : (c : Bool) → reads_of (cond c (counted past g) (counted past g)) ≡ reads_of (counted past g)
       same_replies true = refl
       same_replies false = refl
 
@@ -312,14 +301,14 @@ module _ (past : CoordPast) (x : CoordHappening) (event : CoordEvent) (heard : x
       by_test true u = refl
       by_test false u =
           h.looks g ∙ ap (λ vs. cond (is_begun past g) (Some vs) None)
-          (sym (ap (λ o. values (cond (counts x.answer) (with_some o (counted past g)) (counted past g))) u ∙ same_replies (counts x.answer)))
+          (sym (ap (λ o. reads_of (cond (counts x.answer) (with_some o (counted past g)) (counted past g))) u ∙ same_replies (counts x.answer)))
 
   next_tids : (o : Option Tid) → begun_by x.answer ≡ o → tids_of (globals_of (x ∷ past)) ≡ rising (begun_tids (x ∷ past))
   next_tids None e =
       ap (λ o. tids_of (or_begun o (after_event x.event x.answer (globals_of past)) (globals_of past))) e
       ∙ (event_tids x.event x.answer (globals_of past) ∙ (h.tids ∙ sym (ap (λ o. rising (with_some o (begun_tids past))) e)))
   next_tids (Some t) e =
-      let new : is_begun past t ≡ false = fresh t (ap (begins t) (begun_is x.answer t e) ∙ same_tid_self t) in
+      let new : is_begun past t ≡ false = fresh t (ap (begins t) (begun_is x.answer t e) ∙ same_tid-refl t) in
       let none : look (globals_of past) t ≡ None = h.looks t ∙ ap (λ b. cond b (Some (reads past t)) None) new in
       ap (λ o. tids_of (or_begun o (after_event x.event x.answer (globals_of past)) (globals_of past))) e
       ∙ (tids_begun (globals_of past) t none ∙ (ap (inserted tid_before t) h.tids ∙ sym (ap (λ o. rising (with_some o (begun_tids past))) e)))

@@ -1,13 +1,11 @@
 -- The live attempt of a local transaction is the one that was begun last.
-use Rattle.std.proofs.Common.{◌≡◌, ℕ, Bool, true, false, cond, not, ◌&&◌, is_some, Option, Some, None, List, [], ◌∷◌, refl, sym, ap, subst, ◌∙◌}
+use Rattle.std.proofs.Common.{◌≡◌, Bool, true, false, cond, Option, Some, None, List, [], ◌∷◌, refl, sym, ap, subst, ◌∙◌}
 use Rattle.mdb_base.specs.declared.names.SiteId.{SiteId}
 use Rattle.mdb_base.specs.declared.names.Tid.{Tid}
 use Rattle.mdb_base.specs.declared.names.Tx.{Tx}
 use Rattle.mdb_base.specs.Names.{same_site, same_tx}
-use Rattle.mdb_base.specs.Words.{first_where, map_some}
-use Rattle.order_laws.proofs.Alike.{same_tx_alike, same_tx_self, some_parts}
-use Rattle.order_laws.proofs.Lists.{each_from, first_where_none}
-use Rattle.order_laws.proofs.Names.{same_site_alike}
+use Rattle.mdb_base.proofs.NameLaws.{same_tx-equal, same_site-equal}
+use Rattle.mdb_base.proofs.OptionLaws.{some_parts}
 use Rattle.fed_rules.specs.declared.answers.Answer.{Answer}
 use Rattle.fed_rules.specs.declared.answers.Answer.TheVariants as Say
 use Rattle.fed_rules.specs.declared.commands.Command.{Command}
@@ -16,15 +14,14 @@ use Rattle.fed_rules.specs.declared.events.SiteEvent.TheVariants as Ev
 use Rattle.fed_rules.specs.declared.scenario.Scenario.{Scenario}
 use Rattle.fed_rules.specs.EngineLines.{IsRight}
 use Rattle.fed_rules.specs.Plans.{IsScenario}
-use Rattle.fed_rules.specs.Runs.{Run, is_sealed, unended}
+use Rattle.fed_rules.specs.Runs.{Run}
 use Rattle.fed_rules.specs.Scenarios.{home_of, local_home}
 use Rattle.fed_rules.specs.Site.{site_line}
-use Rattle.fed_rules.specs.SitePast.{SiteHappening, SitePast, begins_tx, engine_lines, epoch_start, live, live_of_tx, run_of}
+use Rattle.fed_rules.specs.SitePast.{SiteHappening, SitePast, begins_tx, engine_lines, epoch_start, live, live_of_tx}
 use Rattle.fed_rules.specs.SiteRecords.{Home}
 use Rattle.fed_rules.specs.Story.{Happened, AtSite, AtCoordinator, Nowhere, happens, past_of, story_of, with_site}
-use Rattle.engine_laws.proofs.Runs.{tid_is, each_unended}
 use Rattle.site_history.specs.Stories.{StoriesHaveRightLines}
-use Rattle.site_history.proofs.Agreement.{live_is}
+use Rattle.site_history.proofs.LiveOnes.{none_live}
 use Rattle.federation_laws.proofs.LocalLines.{local-made}
 use Rattle.federation_laws.proofs.LocalMoves.{LocalMove, Made, Rests, Gone, Opening, Granting, Closing}
 use Rattle.federation_laws.proofs.LocalStories.{not-asked}
@@ -41,34 +38,6 @@ abbrev pub last_begun : SitePast → Tx → Option Tid
 last_begun [] tx = None
 last_begun (x ∷ past) tx = begun_in tx x.answer (last_begun past tx)
 
--- where no attempt of a transaction is live, none of its attempts has a live run
-none_live : (home : Home) (past : SitePast) (t : Tid) (run : Run) → IsRight (epoch_start home past) (engine_lines past) → live home past t ≡ Some run → live_of_tx home past t.tx ≡ None → ⊥
-none_live home past t run right alive none = (let clash = sym passes ∙ fails in cc)
-  where
-    first_none : (o : Option Run) → map_some (λ r. r.tid) o ≡ None → o ≡ None
-    first_none None e = refl
-    first_none (Some r) e = cc
-
-    unfound : first_where (λ r. same_tx r.tid.tx t.tx && not (is_sealed r)) (unended (epoch_start home past) (engine_lines past)) ≡ None
-    unfound = first_none (first_where (λ r. same_tx r.tid.tx t.tx && not (is_sealed r)) (unended (epoch_start home past) (engine_lines past))) none
-
-    at : (run_of home past t ≡ Some run) × (run.sealed ≡ None)
-    at = live_is (run_of home past t) run alive
-
-    fails : (same_tx run.tid.tx t.tx && not (is_sealed run)) ≡ false
-    fails =
-        each_unended (epoch_start home past) (engine_lines past) right (λ r. (same_tx r.tid.tx t.tx && not (is_sealed r)) ≡ false)
-        (each_from (λ r. (same_tx r.tid.tx t.tx && not (is_sealed r)) ≡ false) (unended (epoch_start home past) (engine_lines past))
-        (λ r i. first_where_none (λ (q : Run). same_tx q.tid.tx t.tx && not (is_sealed q)) (unended (epoch_start home past) (engine_lines past)) r unfound i)) t run at.0
-
-    own : run.tid ≡ t
-    own = tid_is (epoch_start home past) (engine_lines past) right t run at.0
-
-    passes : (same_tx run.tid.tx t.tx && not (is_sealed run)) ≡ true
-    passes =
-        ap (λ b. b && not (is_sealed run)) (ap (λ (u : Tid). same_tx u.tx t.tx) own ∙ same_tx_self t.tx)
-        ∙ ap (λ (o : Option ℕ). not (is_some o)) at.1
-
 module _ (rights : StoriesHaveRightLines) (scenario : Scenario) (whole : IsScenario scenario) where
   -- the live attempt was begun last
   abbrev pub IsLast : Home → SitePast → Type 0
@@ -81,7 +50,7 @@ module _ (rights : StoriesHaveRightLines) (scenario : Scenario) (whole : IsScena
     where
       by_test : (c : Bool) → same_tx u.tx t.tx ≡ c → cond c (Some u) older ≡ older
       by_test false q = refl
-      by_test true q = absurd (none_live home past t run right alive (ap (live_of_tx home past) (sym (same_tx_alike u.tx t.tx q)) ∙ b.1))
+      by_test true q = absurd (none_live home past t run right alive (ap (live_of_tx home past) (sym (same_tx-equal u.tx t.tx q)) ∙ b.1))
   unbegun home past event t run right alive answer b older = refl
 
   -- where it begins, it is the last one
@@ -116,7 +85,7 @@ module _ (rights : StoriesHaveRightLines) (scenario : Scenario) (whole : IsScena
   last_line commands home s x declared line last false q = last
   last_line commands home s x declared line last true q =
       let past = past_of home.site (story_of scenario commands) in
-      let own : line.home.site ≡ home.site = sym line.here ∙ same_site_alike s home.site q in
+      let own : line.home.site ≡ home.site = sym line.here ∙ same_site-equal s home.site q in
       let same : line.home ≡ home = some_parts (sym line.declared ∙ (ap (home_of scenario) own ∙ declared)) in
       let is = subst (λ (z : Home). x ≡ site_line z (past_of z.site (story_of scenario commands)) line.event) same line.is_next in
       let cause = subst (λ z. SiteCause scenario (story_of scenario commands) z line.event) same line.cause in

@@ -7,8 +7,8 @@ use Rattle.mdb_base.specs.declared.names.Tid.{Tid}
 use Rattle.mdb_base.specs.declared.names.Tx.{Tx}
 use Rattle.mdb_base.specs.Names.{same_site, same_tid, same_tx}
 use Rattle.mdb_base.specs.Words.{found, map_some, or_else, with_some}
-use Rattle.order_laws.proofs.Alike.{same_tx_alike, some_parts}
-use Rattle.order_laws.proofs.Names.{same_site_self, same_tid_alike, same_tid_self}
+use Rattle.mdb_base.proofs.NameLaws.{same_tx-equal, same_site-refl, same_tid-equal, same_tid-refl}
+use Rattle.mdb_base.proofs.OptionLaws.{some_parts}
 use Rattle.fed_rules.specs.declared.answers.Answer.{Answer}
 use Rattle.fed_rules.specs.declared.answers.Answer.TheVariants as Say
 use Rattle.fed_rules.specs.declared.commands.Command.{Command}
@@ -29,8 +29,8 @@ use Rattle.fed_rules.specs.SiteRecords.{Home}
 use Rattle.fed_rules.specs.Story.{Story, Happened, AtSite, AtCoordinator, Nowhere, happens, past_of, story_of}
 use Rattle.rules_laws.specs.Lines as Lines
 use Rattle.rules_laws.proofs.Lines as Asked
+use Rattle.rules_laws.proofs.SitePasts.{live_is_of, BeginsNone as NoBegin}
 use Rattle.site_history.specs.Stories.{StoriesHaveRightLines}
-use Rattle.local_laws.proofs.Led.{live_is_of}
 use Rattle.federation_laws.proofs.LocalStories.{local-story}
 use Rattle.session_report.specs.declared.session.Channel.{Channel}
 use Rattle.session_report.specs.Told.{Told, after_begin, after_command, after_step, told_by, tx_cmp, with_begun, with_step, with_value}
@@ -60,10 +60,6 @@ NoAct event = Unit {0}
 no_read : (tid : Tid) (event : SiteEvent) (answer : Answer) → NoAct event → read_by tid event answer ≡ None
 no_read tid (Ev.Act t act) answer off = absurd off
 no_read tid event answer off = refl
-
-abbrev NoBegin : SiteEvent → Type 0
-NoBegin (Ev.Begin tid) = ⊥
-NoBegin event = Unit {0}
 
 -- at another event than a `begin` no attempt begins
 no_begun : (home : Home) (past : SitePast) (event : SiteEvent) (answer : Answer) → BeginsSo home past event answer → NoBegin event → (tx : Tx) (older : Option Tid) → begun_in tx answer older ≡ older
@@ -141,7 +137,7 @@ module _ (rights : StoriesHaveRightLines) (scenario : Scenario) (whole : IsScena
       read_now other q there false e =
           ap (λ o. or_else o []) (look_begun told.locals tid q ∙ ap (λ b. cond b (Some []) (look told.locals q)) e) ∙ (h.reads other q there ∙ sym (past_now other q))
       read_now other q there true e =
-          let same : tid ≡ q = same_tid_alike tid q e in
+          let same : tid ≡ q = same_tid-equal tid q e in
           let one : home ≡ other = some_parts (sym here ∙ (ap (local_home scenario) (sym own ∙ ap (λ (t : Tid). t.tx) same) ∙ there)) in
           ap (λ o. or_else o []) (look_begun told.locals tid q ∙ ap (λ b. cond b (Some []) (look told.locals q)) e)
           ∙ (sym new ∙ (subst (λ z. local_reads (past_of home.site story) tid ≡ local_reads (past_of z.site story) q) one (ap (local_reads (past_of home.site story)) same) ∙ sym (past_now other q)))
@@ -157,10 +153,10 @@ module _ (rights : StoriesHaveRightLines) (scenario : Scenario) (whole : IsScena
               ap (λ a. begun_in q a (last_begun (past_of other.site story) q)) is
               ∙ ap (λ b. cond b (Some tid) (last_begun (past_of other.site story) q)) (ap (λ t. same_tx t q) own ∙ e)
       run_now other q there true e =
-          let same : tx ≡ q = same_tx_alike tx q e in
+          let same : tx ≡ q = same_tx-equal tx q e in
           let one : home ≡ other = some_parts (sym here ∙ (ap (local_home scenario) same ∙ there)) in
           look_running told.running tx q tid ∙ (ap (λ b. cond b (Some tid) (lookup (is_at (tx_cmp q)) told.running)) e
-          ∙ sym (at_home (same_site home.site other.site) (subst (λ z. same_site home.site z.site ≡ true) one (same_site_self home.site))))
+          ∙ sym (at_home (same_site home.site other.site) (subst (λ z. same_site home.site z.site ≡ true) one (same_site-refl home.site))))
         where
           at_home : (b : Bool) → b ≡ true → last_begun (cond b (x ∷ past_of other.site story) (past_of other.site story)) q ≡ Some tid
           at_home false t = cc
@@ -182,7 +178,7 @@ module _ (rights : StoriesHaveRightLines) (scenario : Scenario) (whole : IsScena
           by_test false f = some_stays t (h.stands q t f)
           by_test true f =
               let same : tid ≡ t = some_parts f in
-              ap (λ o. is_some o) (look_begun told.locals tid t ∙ ap (λ b. cond b (Some []) (look told.locals t)) (subst (λ z. same_tid tid z ≡ true) same (same_tid_self tid)))
+              ap (λ o. is_some o) (look_begun told.locals tid t ∙ ap (λ b. cond b (Some []) (look told.locals t)) (subst (λ z. same_tid tid z ≡ true) same (same_tid-refl tid)))
 
   -- behind a line that reads
   read_on : (home : Home) (x : SiteHappening) (command : Command) (tx : Tx) (tid : Tid) (act : PlainAct) (key : _) (value : ℕ) (told : Told) → local_home scenario tx ≡ Some home → x.event ≡ Ev.Act tid act → x.answer ≡ Say.Read key value
@@ -216,7 +212,7 @@ module _ (rights : StoriesHaveRightLines) (scenario : Scenario) (whole : IsScena
 
       past_here : (b : Bool) → b ≡ true → local_reads (cond b (x ∷ past_of home.site story) (past_of home.site story)) tid ≡ local_reads (past_of home.site story) tid ++ value ∷ []
       past_here false t = cc
-      past_here true t = read_more (past_of home.site story) x tid (Some value) (heard_by tid ∙ ap (λ b. cond b (Some value) None) (same_tid_self tid))
+      past_here true t = read_more (past_of home.site story) x tid (Some value) (heard_by tid ∙ ap (λ b. cond b (Some value) None) (same_tid-refl tid))
 
       one_more : (o : Option (List ℕ)) → is_some o ≡ true → or_else (map_some (λ values. values ++ value ∷ []) o) [] ≡ or_else o [] ++ value ∷ []
       one_more None e = cc
@@ -228,13 +224,13 @@ module _ (rights : StoriesHaveRightLines) (scenario : Scenario) (whole : IsScena
           ap (λ o. or_else o []) (found_now q ∙ ap (λ b. cond b (map_some (λ values. values ++ value ∷ []) (look told.locals q)) (look told.locals q)) e)
           ∙ (h.reads other q there ∙ sym (past_other other q e (same_site home.site other.site)))
       read_now other q there true e =
-          let same : tid ≡ q = same_tid_alike tid q e in
+          let same : tid ≡ q = same_tid-equal tid q e in
           let one : home ≡ other = some_parts (sym here ∙ (ap (local_home scenario) (sym own ∙ ap (λ (t : Tid). t.tx) same) ∙ there)) in
           let mine : local_home scenario tid.tx ≡ Some home = ap (local_home scenario) own ∙ here in
           subst (λ z. or_else (look (after_step tx (Say.Read key value) told).locals z) [] ≡ local_reads (past_of other.site (record { command = command; happened = AtSite home.site x } ∷ story)) z) same
           (subst (λ (z : Home). or_else (look (after_step tx (Say.Read key value) told).locals tid) [] ≡ local_reads (past_of z.site (record { command = command; happened = AtSite home.site x } ∷ story)) tid) one
-          (ap (λ o. or_else o []) (found_now tid ∙ ap (λ b. cond b (map_some (λ values. values ++ value ∷ []) (look told.locals tid)) (look told.locals tid)) (same_tid_self tid))
-          ∙ (one_more (look told.locals tid) (h.stands tx tid runs) ∙ (ap (λ vs. vs ++ value ∷ []) (h.reads home tid mine) ∙ sym (past_here (same_site home.site home.site) (same_site_self home.site))))))
+          (ap (λ o. or_else o []) (found_now tid ∙ ap (λ b. cond b (map_some (λ values. values ++ value ∷ []) (look told.locals tid)) (look told.locals tid)) (same_tid-refl tid))
+          ∙ (one_more (look told.locals tid) (h.stands tx tid runs) ∙ (ap (λ vs. vs ++ value ∷ []) (h.reads home tid mine) ∙ sym (past_here (same_site home.site home.site) (same_site-refl home.site))))))
 
       some_stays : (q : Tid) → is_some (look told.locals q) ≡ true → is_some (look (after_step tx (Say.Read key value) told).locals q) ≡ true
       some_stays q s = ap (λ o. is_some o) (found_now q) ∙ by_test (same_tid tid q)

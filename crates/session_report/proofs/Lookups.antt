@@ -11,8 +11,7 @@ use Rattle.mdb_base.specs.declared.names.Tid.{Tid}
 use Rattle.mdb_base.specs.declared.names.Tx.{Tx}
 use Rattle.mdb_base.specs.Names.{same_tid, same_tx, tid_before}
 use Rattle.mdb_base.specs.Words.{inserted, map_some}
-use Rattle.order_laws.proofs.Alike.{same_tx_alike, same_tx_self}
-use Rattle.order_laws.proofs.Names.{same_tid_alike, same_tid_self}
+use Rattle.mdb_base.proofs.NameLaws.{same_tx-equal, same_tx-refl, same_tid-equal, same_tid-refl}
 use Rattle.session_report.specs.Told.{Reads, tid_cmp, tx_cmp, with_begun, with_value}
 use Rattle.session_report.proofs.Keys.{tid_ties, tx_ties}
 use Rattle.session_report.proofs.ReadEntries.{viewed}
@@ -69,10 +68,10 @@ abbrev pub look : Reads → Tid → Option (List ℕ)
 look reads tid = lookup (is_at (tid_cmp tid)) reads
 
 pub look_begun : (reads : Reads) (t q : Tid) → look (with_begun t reads) q ≡ cond (same_tid t q) (Some []) (look reads q)
-look_begun reads t q = insert_look tid_cmp same_tid tid_ties same_tid_alike same_tid_self reads t q []
+look_begun reads t q = insert_look tid_cmp same_tid tid_ties same_tid-equal same_tid-refl reads t q []
 
 pub look_running : (running : List (Tx × Tid)) (t q : Tx) (tid : Tid) → lookup (is_at (tx_cmp q)) (insert_entry tx_cmp running t tid) ≡ cond (same_tx t q) (Some tid) (lookup (is_at (tx_cmp q)) running)
-look_running running t q tid = insert_look tx_cmp same_tx tx_ties same_tx_alike same_tx_self running t q tid
+look_running running t q tid = insert_look tx_cmp same_tx tx_ties same_tx-equal same_tx-refl running t q tid
 
 pub look_value : (reads : Reads) (t q : Tid) (value : ℕ) → look (with_value t value reads) q ≡ cond (same_tid t q) (map_some (λ values. values ++ value ∷ []) (look reads q)) (look reads q)
 look_value [] t q value = by_test (same_tid t q)
@@ -90,22 +89,22 @@ look_value (e ∷ es) t q value = by_tests (is_at (tid_cmp t) e.0) (same_tid t q
         → look (cond a ((e.0, e.1 ++ value ∷ []) ∷ es) (e ∷ with_value t value es)) q ≡ cond b (map_some (λ values. values ++ value ∷ []) (cond c (Some e.1) (look es q))) (cond c (Some e.1) (look es q))
     by_tests true true true p r s h = ap (λ x. cond x (Some (e.1 ++ value ∷ [])) (look es q)) s
     by_tests true true false p r s h =
-        let own : t ≡ e.0 = same_tid_alike t e.0 (sym (tid_ties t e.0) ∙ p) in
-        let same : t ≡ q = same_tid_alike t q r in
-        let tie : is_at (tid_cmp q) e.0 ≡ true = tid_ties q e.0 ∙ subst (λ k. same_tid q k ≡ true) (sym same ∙ own) (same_tid_self q) in
+        let own : t ≡ e.0 = same_tid-equal t e.0 (sym (tid_ties t e.0) ∙ p) in
+        let same : t ≡ q = same_tid-equal t q r in
+        let tie : is_at (tid_cmp q) e.0 ≡ true = tid_ties q e.0 ∙ subst (λ k. same_tid q k ≡ true) (sym same ∙ own) (same_tid-refl q) in
         let clash = sym s ∙ tie in
         cc
     by_tests true false true p r s h =
-        let own : t ≡ e.0 = same_tid_alike t e.0 (sym (tid_ties t e.0) ∙ p) in
-        let there : q ≡ e.0 = same_tid_alike q e.0 (sym (tid_ties q e.0) ∙ s) in
-        let tie : same_tid t q ≡ true = subst (λ k. same_tid t k ≡ true) (own ∙ sym there) (same_tid_self t) in
+        let own : t ≡ e.0 = same_tid-equal t e.0 (sym (tid_ties t e.0) ∙ p) in
+        let there : q ≡ e.0 = same_tid-equal q e.0 (sym (tid_ties q e.0) ∙ s) in
+        let tie : same_tid t q ≡ true = subst (λ k. same_tid t k ≡ true) (own ∙ sym there) (same_tid-refl t) in
         let clash = sym r ∙ tie in
         cc
     by_tests true false false p r s h = ap (λ x. cond x (Some (e.1 ++ value ∷ [])) (look es q)) s
     by_tests false true true p r s h =
-        let there : q ≡ e.0 = same_tid_alike q e.0 (sym (tid_ties q e.0) ∙ s) in
-        let same : t ≡ q = same_tid_alike t q r in
-        let tie : is_at (tid_cmp t) e.0 ≡ true = tid_ties t e.0 ∙ subst (λ k. same_tid t k ≡ true) (same ∙ there) (same_tid_self t) in
+        let there : q ≡ e.0 = same_tid-equal q e.0 (sym (tid_ties q e.0) ∙ s) in
+        let same : t ≡ q = same_tid-equal t q r in
+        let tie : is_at (tid_cmp t) e.0 ≡ true = tid_ties t e.0 ∙ subst (λ k. same_tid t k ≡ true) (same ∙ there) (same_tid-refl t) in
         let clash = sym p ∙ tie in
         cc
     by_tests false true false p r s h = ap (λ x. cond x (Some e.1) (look (with_value t value es) q)) s ∙ (h ∙ ap (λ x. cond x (map_some (λ values. values ++ value ∷ []) (look es q)) (look es q)) r)

@@ -9,6 +9,7 @@ use Rattle.fed_rules.specs.SiteRecords.{site_frame}
 use Rattle.rules_laws.specs.Durable.{IsFirm, IsSound}
 use Rattle.rules_laws.proofs.Disks.{IsCut, IsQuiet, Keeps, appended, left_by_line, left_by_stop, quiet_plain}
 use Rattle.rules_laws.proofs.Durable.{bytes_whole, sound_call, whole_all}
+use Rattle.rules_laws.proofs.SiteRecords.{bytes-more}
 use Rattle.session_report.specs.declared.marks.Mark.{Mark}
 use Rattle.session_report.specs.Marks.{mark_of, new_marks}
 use Rattle.session_report.proofs.LineForms.{Forms, IsUnmarked, none, forces_one, leaves_one, cuts_back, trims}
@@ -223,10 +224,6 @@ standing_more a b (r ∷ rs) le = by_test (nat_le b (bytes_of site_frame rs)) re
         let more = ap (λ (c : Bool). length (cond c (r ∷ standing site_frame a rs) [])) (le-leb a (bytes_of site_frame rs) (omega (arith, there, le))) in
         omega (arith, more, h)
 
-bytes_after : (newer rs : List SiteRecord) → bytes_of site_frame rs ≤ bytes_of site_frame (newer ++ rs)
-bytes_after [] rs = omega arith
-bytes_after (n ∷ newer) rs = let h = bytes_after newer rs in omega (arith, h)
-
 -- not within so many bytes, so not within fewer
 still_false : (t a b : ℕ) → a ≤ b → nat_le t b ≡ false → nat_le t a ≡ false
 still_false t a b le e = by_test (nat_le t a) refl
@@ -248,7 +245,7 @@ standing_cut t (n ∷ newer) rs = by_test (nat_le t (bytes_of site_frame (newer 
         → length (standing site_frame t rs) ≤ length (cond b (n ∷ standing site_frame t (newer ++ rs)) [])
     by_test true e h = omega (arith, h)
     by_test false e h =
-        let none = ap (λ (xs : List SiteRecord). length xs) (standing_none t rs (still_false t (bytes_of site_frame rs) (bytes_of site_frame (newer ++ rs)) (bytes_after newer rs) e)) in
+        let none = ap (λ (xs : List SiteRecord). length xs) (standing_none t rs (still_false t (bytes_of site_frame rs) (bytes_of site_frame (newer ++ rs)) (bytes-more newer rs) e)) in
         omega (arith, none)
 
 -- no record that has no mark adds one

@@ -5,6 +5,7 @@ use Rattle.std.proofs.lemmas.List.{take_more, drop_more}
 use Rattle.mdb_base.specs.declared.names.Tid.{Tid}
 use Rattle.mdb_base.specs.Names.{same_tid}
 use Rattle.mdb_base.specs.Words.{those}
+use Rattle.mdb_base.proofs.JoinLaws.{append_nil}
 use Rattle.fed_rules.specs.declared.report.Outcome.{Outcome}
 use Rattle.session_report.specs.declared.marks.Mark.{Mark}
 use Rattle.session_report.specs.Outcomes.{is_abort, is_refused, refuses}
@@ -21,10 +22,6 @@ those_push test (x ∷ xs) y = by_test (test x) (those_push test xs y)
     by_test true h = ap (λ ys. x ∷ ys) h
     by_test false h = h
 
-append_none : {A : Type 0} (xs : List A) → xs ++ [] ≡ xs
-append_none [] = refl
-append_none (x ∷ xs) = ap (λ ys. x ∷ ys) (append_none xs)
-
 -- one mark more that isn't refused
 pub unrefused_one : (refused : Tid → Bool) (xs : List Mark) (n : ℕ) (d : Mark) → n < length xs → refused (get_or xs n d).tid ≡ false
     → unrefused refused (take (n + 1) xs) ≡ unrefused refused (take n xs) ++ get_or xs n d ∷ []
@@ -39,7 +36,7 @@ pub unrefused_none : (refused : Tid → Bool) (xs : List Mark) (n : ℕ) (d : Ma
 unrefused_none refused xs n d lt e =
     ap (unrefused refused) (take_more xs n d lt)
     ∙ (those_push (λ (mark : Mark). not (refused mark.tid)) (take n xs) (get_or xs n d)
-    ∙ (ap (λ b. unrefused refused (take n xs) ++ cond (not b) (get_or xs n d ∷ []) []) e ∙ append_none (unrefused refused (take n xs))))
+    ∙ (ap (λ b. unrefused refused (take n xs) ++ cond (not b) (get_or xs n d ∷ []) []) e ∙ append_nil (unrefused refused (take n xs))))
 
 or_swap : (a b c : Bool) → ((a || b) || c) ≡ (b || (a || c))
 or_swap true true c = refl

@@ -5,36 +5,16 @@ use Rattle.mdb_base.specs.declared.names.Tid.{Tid}
 use Rattle.mdb_base.specs.declared.names.Tx.{Tx}
 use Rattle.mdb_base.specs.Names.{same_tid, same_tx}
 use Rattle.mdb_base.specs.Words.{holds_of, some_of}
+use Rattle.mdb_base.proofs.NameLaws.{same_tx-refl, same_tid-equal, same_tid-refl, same_tid-sym}
 use Rattle.presumptions.specs.declared.Decision.TheVariants as Decided
-use Rattle.order_laws.proofs.Alike.{same_tx_alike, same_tx_self, some_parts}
-use Rattle.order_laws.proofs.Names.{same_tid_alike, same_tid_self}
 use Rattle.fed_rules.specs.declared.records.CoordRecord.{CoordRecord}
 use Rattle.fed_rules.specs.declared.records.CoordRecord.TheVariants as Rec
 use Rattle.fed_rules.specs.CoordRecords.{committed_of, has_commit, outcome}
+use Rattle.rules_laws.proofs.CoordRecords.{some_committed}
 use Rattle.session_report.specs.Outcomes.{decision_by, is_abort, is_refused, outcomes_by}
 use Rattle.session_report.specs.Told.{Reads, tid_cmp}
 use Rattle.session_report.proofs.Keys.{tid_ties}
 use Rattle.session_report.proofs.Lookups.{look, tids_of}
-
-one_of : (b c : Bool) → c ≡ true → cond b true c ≡ true
-one_of true c e = refl
-one_of false c e = e
-
--- the attempt that is found has a Commit
-found_commit : (rs : List CoordRecord) (tx : Tx) (f : Tid) → committed_of rs tx ≡ Some f → (has_commit rs f ≡ true) × (f.tx ≡ tx)
-found_commit [] tx f e = cc
-found_commit (Rec.Commit tid tickets ∷ rs) tx f e = by_test (same_tx tid.tx tx) refl e (found_commit rs tx f)
-  where
-    by_test : (b : Bool) → same_tx tid.tx tx ≡ b → cond b (Some tid) (committed_of rs tx) ≡ Some f → (committed_of rs tx ≡ Some f → (has_commit rs f ≡ true) × (f.tx ≡ tx))
-        → (has_commit (Rec.Commit tid tickets ∷ rs) f ≡ true) × (f.tx ≡ tx)
-    by_test true q e h =
-        let same : tid ≡ f = some_parts e in
-        (ap (λ b. cond b true (has_commit rs f)) (subst (λ z. same_tid tid z ≡ true) same (same_tid_self tid)), ap (λ (t : Tid). t.tx) (sym same) ∙ same_tx_alike tid.tx tx q)
-    by_test false q e h = (let r = h e in (one_of (same_tid tid f) (has_commit rs f) r.0, r.1))
-found_commit (Rec.Initiation tid ps ∷ rs) tx f e = found_commit rs tx f e
-found_commit (Rec.Abort tid ps ∷ rs) tx f e = found_commit rs tx f e
-found_commit (Rec.End tid ∷ rs) tx f e = found_commit rs tx f e
-found_commit (Rec.Checkpoint sum ∷ rs) tx f e = found_commit rs tx f e
 
 -- where none is found, no attempt of the transaction has one
 none_commit : (rs : List CoordRecord) (g : Tid) → committed_of rs g.tx ≡ None → has_commit rs g ≡ false
@@ -44,8 +24,8 @@ none_commit (Rec.Commit tid tickets ∷ rs) g e = by_tests (same_tx tid.tx g.tx)
     by_tests : (a b : Bool) → same_tx tid.tx g.tx ≡ a → same_tid tid g ≡ b → cond a (Some tid) (committed_of rs g.tx) ≡ None → (committed_of rs g.tx ≡ None → has_commit rs g ≡ false) → cond b true (has_commit rs g) ≡ false
     by_tests true b p q e h = cc
     by_tests false true p q e h =
-        let same : tid ≡ g = same_tid_alike tid g q in
-        let tie : same_tx tid.tx g.tx ≡ true = subst (λ (z : Tid). same_tx tid.tx z.tx ≡ true) same (same_tx_self tid.tx) in
+        let same : tid ≡ g = same_tid-equal tid g q in
+        let tie : same_tx tid.tx g.tx ≡ true = subst (λ (z : Tid). same_tx tid.tx z.tx ≡ true) same (same_tx-refl tid.tx) in
         let clash = sym p ∙ tie in
         cc
     by_tests false false p q e h = h e
@@ -60,10 +40,10 @@ decision_is rs once g = by_found (committed_of rs g.tx) refl
   where
     by_same : (f : Tid) → (has_commit rs f ≡ true) × (f.tx ≡ g.tx) → (a b : Bool) → same_tid f g ≡ a → has_commit rs g ≡ b → cond a Decided.Commit Decided.Abort ≡ cond b Decided.Commit Decided.Abort
     by_same f c true true p q = refl
-    by_same f c true false p q = (let yes = subst (λ z. has_commit rs z ≡ true) (same_tid_alike f g p) c.0 in let clash = sym q ∙ yes in cc)
+    by_same f c true false p q = (let yes = subst (λ z. has_commit rs z ≡ true) (same_tid-equal f g p) c.0 in let clash = sym q ∙ yes in cc)
     by_same f c false true p q =
         let same : f ≡ g = once f g c.1 c.0 q in
-        let yes = subst (λ z. same_tid f z ≡ true) same (same_tid_self f) in
+        let yes = subst (λ z. same_tid f z ≡ true) same (same_tid-refl f) in
         let clash = sym p ∙ yes in
         cc
     by_same f c false false p q = refl
@@ -72,7 +52,7 @@ decision_is rs once g = by_found (committed_of rs g.tx) refl
     by_found None e =
         ap (λ o. cond (holds_of (λ found. same_tid found g) o) Decided.Commit Decided.Abort) e ∙ sym (ap (λ b. cond b Decided.Commit Decided.Abort) (none_commit rs g e))
     by_found (Some f) e =
-        ap (λ o. cond (holds_of (λ found. same_tid found g) o) Decided.Commit Decided.Abort) e ∙ by_same f (found_commit rs g.tx f e) (same_tid f g) (has_commit rs g) refl refl
+        ap (λ o. cond (holds_of (λ found. same_tid found g) o) Decided.Commit Decided.Abort) e ∙ by_same f (some_committed rs g.tx f e) (same_tid f g) (has_commit rs g) refl refl
 
 -- the refused ones
 refused_in : (by : Tx → Option Tid) (tids : List Tid) (g : Tid) → is_refused (outcomes_by by tids) g ≡ (some_of (λ t. same_tid t g) tids && is_abort (decision_by by g))
@@ -88,22 +68,13 @@ refused_in by (t ∷ tids) g = by_test (same_tid t g) refl (refused_in by tids g
         → ((b && is_abort (decision_by by t)) || is_refused (outcomes_by by tids) g) ≡ ((b || some_of (λ t. same_tid t g) tids) && is_abort (decision_by by g))
     by_test true q h =
         ap (λ r. is_abort (decision_by by t) || r) h
-        ∙ (ap (λ (z : Tid). is_abort (decision_by by z) || (some_of (λ t. same_tid t g) tids && is_abort (decision_by by g))) (same_tid_alike t g q)
+        ∙ (ap (λ (z : Tid). is_abort (decision_by by z) || (some_of (λ t. same_tid t g) tids && is_abort (decision_by by g))) (same_tid-equal t g q)
         ∙ absorbed (is_abort (decision_by by g)) (some_of (λ t. same_tid t g) tids))
     by_test false q h = h
 
-flipped : (a b : Tid) → same_tid a b ≡ same_tid b a
-flipped a b = by_tests (same_tid a b) (same_tid b a) refl refl
-  where
-    by_tests : (p q : Bool) → same_tid a b ≡ p → same_tid b a ≡ q → p ≡ q
-    by_tests true true e f = refl
-    by_tests false false e f = refl
-    by_tests true false e f = (let t = subst (λ k. same_tid k a ≡ true) (same_tid_alike a b e) (same_tid_self a) in let clash = sym f ∙ t in cc)
-    by_tests false true e f = (let t = subst (λ k. same_tid k b ≡ true) (same_tid_alike b a f) (same_tid_self b) in let clash = sym e ∙ t in cc)
-
 in_looked : (reads : Reads) (g : Tid) → some_of (λ t. same_tid t g) (tids_of reads) ≡ is_some (look reads g)
 in_looked [] g = refl
-in_looked (e ∷ es) g = ap (λ b. b || some_of (λ t. same_tid t g) (tids_of es)) (flipped e.0 g ∙ sym (tid_ties g e.0)) ∙ (ap (λ b. is_at (tid_cmp g) e.0 || b) (in_looked es g) ∙ by_test (is_at (tid_cmp g) e.0))
+in_looked (e ∷ es) g = ap (λ b. b || some_of (λ t. same_tid t g) (tids_of es)) (same_tid-sym e.0 g ∙ sym (tid_ties g e.0)) ∙ (ap (λ b. is_at (tid_cmp g) e.0 || b) (in_looked es g) ∙ by_test (is_at (tid_cmp g) e.0))
   where
     by_test : (b : Bool) → (b || is_some (look es g)) ≡ is_some (cond b (Some e.1) (look es g))
     by_test true = refl

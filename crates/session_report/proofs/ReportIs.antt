@@ -1,19 +1,20 @@
 -- What is told of a session is what its report says.
-use Rattle.std.proofs.Common.{◌≡◌, ℕ, Bool, true, false, not, cond, ◌&&◌, ◌||◌, is_some, Option, Some, None, List, [], ◌∷◌, ◌++◌, map, reverse, inl, inr, refl, sym, ◌∙◌, ap, ap₂, subst}
+use Rattle.std.proofs.Common.{◌≡◌, ℕ, Bool, true, false, not, cond, ◌&&◌, ◌||◌, is_some, Option, Some, None, List, [], ◌∷◌, map, reverse, inl, inr, refl, sym, ◌∙◌, ap, ap₂, subst}
 use Rattle.mdb_base.specs.declared.names.SiteId.{SiteId}
 use Rattle.mdb_base.specs.declared.names.Tid.{Tid}
 use Rattle.mdb_base.specs.declared.names.Tx.{Tx}
 use Rattle.mdb_base.specs.declared.rows.Put.{Put}
 use Rattle.mdb_base.specs.declared.rows.SiteRows.{SiteRows}
 use Rattle.mdb_base.specs.Names.{same_site, same_tid, tid_before}
-use Rattle.mdb_base.specs.Words.{Among, Each, inserted, item_at, or_else, some_of, those}
+use Rattle.mdb_base.specs.Words.{Among, Each, item_at, or_else, some_of, those}
 use Rattle.mdb_base.proofs.ListLaws.{each_inserted}
+use Rattle.mdb_base.proofs.NameLaws.{same_site-equal, same_site-refl}
 use Rattle.presumptions.specs.declared.Participant.{Participant}
 use Rattle.order_laws.specs.Chains.{Acyclic, In}
 use Rattle.order_laws.specs.Merge as merge
 use Rattle.order_laws.specs.Orders.{Union, is_in}
 use Rattle.order_laws.proofs.Lists.{each_of_at, is_in_true, some_of_is}
-use Rattle.order_laws.proofs.Names.{same_site_alike, same_site_self, tells_tids}
+use Rattle.order_laws.proofs.Names.{tells_tids}
 use Rattle.order_laws.proofs.Reversed.{map_same}
 use Rattle.fed_rules.specs.declared.commands.Command.{Command}
 use Rattle.fed_rules.specs.declared.commands.Line.{Line}
@@ -32,11 +33,12 @@ use Rattle.fed_rules.specs.Reports.{begun, forgotten, is_forgotten, outcomes, pr
 use Rattle.fed_rules.specs.Scenarios.{home_at, home_of, local_home, protocols, sites}
 use Rattle.fed_rules.specs.SitePast.{records}
 use Rattle.fed_rules.specs.SiteRecords.{Home, order_of}
-use Rattle.fed_rules.specs.Story.{Story, Happened, AtSite, AtCoordinator, Nowhere, coord_past, happens, past_of, sends_from, sent_from, story_of}
+use Rattle.fed_rules.specs.Story.{Story, coord_past, past_of, sent_from, story_of}
 use Rattle.commit_laws.specs.Records.{IsPrepared}
 use Rattle.commit_laws.proofs.Agreed.{agreed}
 use Rattle.commit_laws.proofs.Declared.{is-declared}
 use Rattle.site_history.specs.Stories.{StoriesHaveRightLines}
+use Rattle.commit_laws.proofs.Silent.{declared_sends}
 use Rattle.federation_laws.specs.OneOrder.{HasOneOrder, OfStories}
 use Rattle.federation_laws.proofs.CoordHolds.{begun-next, is_begun}
 use Rattle.federation_laws.proofs.Declared.{member-declared}
@@ -44,7 +46,8 @@ use Rattle.federation_laws.proofs.LocalStories.{local-record}
 use Rattle.federation_laws.proofs.Memberships.{Kind, AtHome, Roaming, kind-of}
 use Rattle.federation_laws.proofs.OnceGlobal.{global-once}
 use Rattle.federation_laws.proofs.StoryGlobals.{story-holds}
-use Rattle.federation_laws.proofs.Told.{IsLine, home-again, line_is}
+use Rattle.federation_laws.proofs.Told.{home-again}
+use Rattle.federation_laws.proofs.Headlines.{none_rising}
 use Rattle.session_report.specs.declared.marks.Marks.{Marks}
 use Rattle.session_report.specs.declared.session.Channel.{Channel}
 use Rattle.session_report.specs.Outcomes.{decision_by, is_abort, is_refused, outcomes_by}
@@ -57,24 +60,6 @@ use Rattle.session_report.proofs.Lookups.{look, tids_of}
 use Rattle.session_report.proofs.OrdersTold.{Agree, order_is}
 use Rattle.session_report.proofs.OutcomesTold.{abort_is, decision_is, refused_is}
 
--- a site that isn't declared sends nothing
-silent_site : (scenario : Scenario) (commands : List Command) (site : SiteId) → home_of scenario site ≡ None → sent_from site (story_of scenario commands) ≡ []
-silent_site scenario [] site none = refl
-silent_site scenario (command ∷ commands) site none =
-    ap₂ (λ (xs ys : List FromSite). xs ++ ys) (silent_site scenario commands site none) (by_case (happens scenario (story_of scenario commands) command) (line_is scenario (story_of scenario commands) command))
-  where
-    by_case : (happened : Happened) → IsLine scenario (story_of scenario commands) happened → sends_from site happened ≡ []
-    by_case (AtCoordinator x) line = refl
-    by_case (Nowhere answer) line = refl
-    by_case (AtSite s x) line = by_test (same_site s site) refl
-      where
-        by_test : (b : Bool) → same_site s site ≡ b → cond b x.sends [] ≡ []
-        by_test false q = refl
-        by_test true q =
-            let same : line.home.site ≡ site = sym line.here ∙ same_site_alike s site q in
-            let clash = sym line.declared ∙ (ap (home_of scenario) same ∙ none) in
-            cc
-
 covers_in : (story : Story) (channels : List Channel) (site : SiteId) (place : ℕ) (message : FromSite) → Among (λ channel. channel.site ≡ site) channels → Each (λ channel. channel.from ≡ sent_from channel.site story) channels
     → item_at (sent_from site story) place ≡ Some message → message_at channels site place ≡ Some message
 covers_in story [] site place message i sent e = absurd i
@@ -82,8 +67,8 @@ covers_in story (channel ∷ channels) site place message i sent e = by_test (sa
   where
     by_test : (b : Bool) → same_site channel.site site ≡ b → Among (λ (c : Channel). c.site ≡ site) (channel ∷ channels) → (Among (λ (c : Channel). c.site ≡ site) channels → message_at channels site place ≡ Some message)
         → cond b (item_at channel.from place) (message_at channels site place) ≡ Some message
-    by_test true q i h = ap (λ ms. item_at ms place) (sent.0 ∙ ap (λ z. sent_from z story) (same_site_alike channel.site site q)) ∙ e
-    by_test false q (inl same) h = (let tie = subst (λ z. same_site channel.site z ≡ true) same (same_site_self channel.site) in let clash = sym q ∙ tie in cc)
+    by_test true q i h = ap (λ ms. item_at ms place) (sent.0 ∙ ap (λ z. sent_from z story) (same_site-equal channel.site site q)) ∙ e
+    by_test false q (inl same) h = (let tie = subst (λ z. same_site channel.site z ≡ true) same (same_site-refl channel.site) in let clash = sym q ∙ tie in cc)
     by_test false q (inr j) h = h j
 
 listed_in : (ms : List Participant) (site : SiteId) → Among (λ m. m.site ≡ site) ms → In site (map (λ m. m.site) ms)
@@ -105,7 +90,7 @@ covers scenario commands channels m site place message e = by_home (home_of scen
     weaker (p ∷ ms) home (inr i) = inr (weaker ms home i)
 
     by_home : (o : Option Home) → home_of scenario site ≡ o → message_at channels site place ≡ Some message
-    by_home None none = (let clash = sym (ap (λ ms. item_at ms place) (silent_site scenario commands site none)) ∙ e in cc)
+    by_home None none = (let clash = sym (ap (λ ms. item_at ms place) (declared_sends scenario commands site none)) ∙ e in cc)
     by_home (Some home) d =
         covers_in (story_of scenario commands) channels site place message
         (channel_in channels site (subst (In site) (sym m.sites) (listed_in (protocols scenario) site (weaker (protocols scenario) home (is-declared scenario site home d).0)))) m.sent e
@@ -119,19 +104,6 @@ begun_some g (x ∷ past) (inr i) = begun-next past g x ∙ (ap (λ b. begins g 
     or_true : (b : Bool) → (b || true) ≡ true
     or_true true = refl
     or_true false = refl
-
--- nothing rises from nothing alone
-rising_none : (tids : List Tid) → rising tids ≡ [] → tids ≡ []
-rising_none [] e = refl
-rising_none (t ∷ tids) e = absurd (some_put (rising tids) e)
-  where
-    some_put : (ts : List Tid) → inserted tid_before t ts ≡ [] → ⊥
-    some_put [] f = cc
-    some_put (u ∷ us) f = by_test (tid_before u t) f
-      where
-        by_test : (b : Bool) → cond b (u ∷ inserted tid_before t us) (t ∷ u ∷ us) ≡ [] → ⊥
-        by_test true g = cc
-        by_test false g = cc
 
 none_of : (test : Tid → Bool) (tids : List Tid) → those test tids ≡ [] → Each (λ t. test t ≡ false) tids
 none_of test [] e = tt
@@ -273,7 +245,7 @@ module _ (rights : StoriesHaveRightLines) (one_order : OfStories HasOneOrder) (s
       (each_rising (λ t. is_forgotten scenario story t ≡ true) (begun_tids past)
       (each_more (λ t. is_known (standing (protocols scenario) past t) ≡ false) (λ t. is_forgotten scenario story t ≡ true)
       (λ t e. ap₂ (λ (a b : Bool). not a && not b) session.over.up e) (begun_tids past)
-      (none_of (λ t. is_known (standing (protocols scenario) past t)) (begun_tids past) (rising_none _ session.over.none_known)))))
+      (none_of (λ t. is_known (standing (protocols scenario) past t)) (begun_tids past) (none_rising _ session.over.none_known)))))
 
   -- all together
   pub report_is : (order : List Tid) → order ≡ printed_order scenario story

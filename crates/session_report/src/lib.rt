@@ -15,6 +15,3 @@ pub use laws::lines_mark_one;
 pub use marks::{Mark, Marks};
 pub use reporting::report;
 pub use session::Channel;
-
-#[cfg(test)]
-mod tests;

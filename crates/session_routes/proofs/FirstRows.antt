@@ -1,5 +1,5 @@
 -- The first rows of a site, put in order.
-use Rattle.std.proofs.Common.{◌≡◌, ℕ, suc, ◌+◌, ◌<◌, Bool, true, false, cond, not, ◌&&◌, ◌||◌, nat_eq, nat_lt, Option, Some, List, [], ◌∷◌, ◌++◌, length, drop, get_or, map, refl, sym, ◌∙◌, ap, subst, eq-eqb, append_assoc, drop-cons, arith}
+use Rattle.std.proofs.Common.{◌≡◌, ℕ, suc, ◌+◌, ◌<◌, Bool, true, false, cond, not, ◌&&◌, ◌||◌, nat_eq, Some, List, [], ◌∷◌, ◌++◌, length, drop, get_or, map, refl, sym, ◌∙◌, ap, subst, eq-eqb, append_assoc, drop-cons, arith}
 use Rattle.std.specs.List.{AllByRecursion, IsDistinct}
 use Rattle.std.proofs.lemmas.Bool.{and_parts, cond-true, cond-false, ne_eqb}
 use Rattle.std.proofs.lemmas.Map.Keys.{IsDistinct-cons}
@@ -10,47 +10,13 @@ use Rattle.mdb_base.specs.Names.{same_site, same_key}
 use Rattle.mdb_base.specs.Rising.{IsRising}
 use Rattle.mdb_base.specs.Rows.{HaveOwnKeys, value_in, with_row}
 use Rattle.mdb_base.specs.Words.{some_of}
-use Rattle.mdb_base.proofs.NameLaws.{same_key-equal}
-use Rattle.mdb_base.proofs.RowLaws.{same_rows}
+use Rattle.mdb_base.proofs.RowLaws.{same_rows, value_in-with_row}
+use Rattle.mdb_base.proofs.NameLaws.{same_site-equal}
 use Rattle.fed_rules.specs.declared.scenario.ItemLine.{ItemLine}
 use Rattle.fed_rules.specs.Plans.{all_differ, one_row}
 use Rattle.fed_rules.specs.Scenarios.{items_of}
-use Rattle.engine_laws.proofs.Rows.{rising_with_row}
-use Rattle.order_laws.proofs.Names.{same_site_alike}
+use Rattle.engine_laws.proofs.Rows.{rising_items}
 use Rattle.session_routes.specs.Rows.{rows_at, DifferInRow}
-
--- a row that is put is what is found at its key
-value_in-with_row : (row : Put) (rows : List Put) (key : Key) → value_in (with_row row rows) key ≡ cond (same_key row.key key) (Some row.value) (value_in rows key)
-value_in-with_row row [] key = refl
-value_in-with_row row (other ∷ rows) key = by_same (same_key other.key row.key) refl (value_in-with_row row rows key)
-  where
-    swaps : (a b : Bool) (x y : Option _) → (a ≡ true → b ≡ true → ⊥) → cond a x (cond b y (value_in rows key)) ≡ cond b y (cond a x (value_in rows key))
-    swaps true true x y apart = absurd (apart refl refl)
-    swaps true false x y apart = refl
-    swaps false b x y apart = refl
-
-    covers : (a b : Bool) (x y : Option _) → a ≡ b → cond a x (value_in rows key) ≡ cond a x (cond b y (value_in rows key))
-    covers true b x y e = refl
-    covers false true x y e = absurd cc
-    covers false false x y e = refl
-
-    by_less : (b : Bool) → same_key other.key row.key ≡ false
-        → value_in (with_row row rows) key ≡ cond (same_key row.key key) (Some row.value) (value_in rows key)
-        → value_in (cond b (other ∷ with_row row rows) (row ∷ other ∷ rows)) key ≡ cond (same_key row.key key) (Some row.value) (value_in (other ∷ rows) key)
-    by_less true apart rest =
-        ap (cond (same_key other.key key) (Some other.value)) rest
-        ∙ swaps (same_key other.key key) (same_key row.key key) (Some other.value) (Some row.value)
-        (λ a b. let k = same_key-equal other.key key a ∙ sym (same_key-equal row.key key b) in
-        let same : same_key other.key row.key ≡ true = eq-eqb other.key.0 row.key.0 (ap (λ k. k.0) k) in cc)
-    by_less false apart rest = refl
-
-    by_same : (b : Bool) → same_key other.key row.key ≡ b
-        → value_in (with_row row rows) key ≡ cond (same_key row.key key) (Some row.value) (value_in rows key)
-        → value_in (cond b (row ∷ rows) (cond (nat_lt other.key.0 row.key.0) (other ∷ with_row row rows) (row ∷ other ∷ rows))) key
-        ≡ cond (same_key row.key key) (Some row.value) (value_in (other ∷ rows) key)
-    by_same true is rest =
-        covers (same_key row.key key) (same_key other.key key) (Some row.value) (Some other.value) (ap (λ k. same_key k key) (sym (same_key-equal other.key row.key is)))
-    by_same false apart rest = by_less (nat_lt other.key.0 row.key.0) apart rest
 
 -- the rows of a site in their order are found as those of its items
 value_in-items : (items : List ItemLine) (site : SiteId) (key : Key) → value_in (rows_at items site) key ≡ value_in (items_of items site) key
@@ -60,14 +26,6 @@ value_in-items (item ∷ items) site key = by_site (same_site item.site site) (v
     by_site : (b : Bool) → value_in (rows_at items site) key ≡ value_in (items_of items site) key
         → value_in (cond b (item.put ∷ rows_at items site) (rows_at items site)) key ≡ value_in (cond b (with_row item.put (items_of items site)) (items_of items site)) key
     by_site true rest = ap (cond (same_key item.put.key key) (Some item.put.value)) rest ∙ sym (value_in-with_row item.put (items_of items site) key)
-    by_site false rest = rest
-
-pub rising_items : (items : List ItemLine) (site : SiteId) → IsRising (λ row. row.key.0) (items_of items site)
-rising_items [] site = tt
-rising_items (item ∷ items) site = by_site (same_site item.site site) (rising_items items site)
-  where
-    by_site : (b : Bool) → IsRising (λ (row : Put). row.key.0) (items_of items site) → IsRising (λ (row : Put). row.key.0) (cond b (with_row item.put (items_of items site)) (items_of items site))
-    by_site true rest = rising_with_row item.put (items_of items site) rest
     by_site false rest = rest
 
 -- rows that rise and are found as those of the items are the site's first rows
@@ -96,7 +54,7 @@ own_key item (other ∷ items) site here e =
         → AllByRecursion (λ y. nat_eq item.put.key.0 y ≡ false) (map (λ (row : Put). row.key.0) (rows_at items site))
         → AllByRecursion (λ y. nat_eq item.put.key.0 y ≡ false) (map (λ (row : Put). row.key.0) (cond b (other.put ∷ rows_at items site) (rows_at items site)))
     by_site true there differ rest =
-        (let both = same_site_alike item.site site here ∙ sym (same_site_alike other.site site there) in
+        (let both = same_site-equal item.site site here ∙ sym (same_site-equal other.site site there) in
         let same : same_site item.site other.site ≡ true = eq-eqb item.site.0 other.site.0 (ap (λ (s : SiteId). s.0) both) in
         (apart (same_site item.site other.site) (same_key item.put.key other.put.key) same differ, rest))
     by_site false there differ rest = rest

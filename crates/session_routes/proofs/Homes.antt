@@ -1,5 +1,5 @@
 -- The sites of local transactions by their lines.
-use Rattle.std.proofs.Common.{◌≡◌, ℕ, suc, ◌<◌, Bool, true, false, cond, ltb, Option, Some, None, List, [], ◌∷◌, length, drop, drop-cons, get_or, refl, sym, ap, ap₂, ◌∙◌}
+use Rattle.std.proofs.Common.{◌≡◌, ℕ, suc, ◌<◌, Bool, true, false, cond, ltb, Option, Some, None, List, ◌∷◌, length, drop, drop-cons, get_or, refl, sym, ap, ◌∙◌}
 use Rattle.std.proofs.lemmas.Bool.{ltb-false}
 use Rattle.std.proofs.lemmas.Option.{slice_get_past}
 use Rattle.mdb_base.specs.declared.names.SiteId.{SiteId}
@@ -21,14 +21,6 @@ noted_more line lines homes more held is tx = is tx ∙ by_test (same_tx line.tx
 -- a number behind the list is that of no local transaction
 pub no_home : (homes : List (Option SiteId)) (tx : Tx) → false ≡ ltb tx.0 (length homes) → home_in homes tx ≡ None
 no_home homes tx past = ap (λ (home : Option (Option SiteId)). or_else home None) (slice_get_past homes tx.0 (ltb-false tx.0 (length homes) (sym past)))
-
--- the list from a place on
-pub drop_before : {A : Type 0} (xs : List A) (i left : ℕ) (x : A) → left ≡ suc i → i < length xs → x ≡ get_or xs i x → drop i xs ≡ x ∷ drop left xs
-drop_before xs i left x next within at = drop-cons xs i x within ∙ ap₂ (λ y n. y ∷ drop n xs) (sym at) (sym next)
-
-pub drop_all : {A : Type 0} (xs : List A) → drop (length xs) xs ≡ []
-drop_all [] = refl
-drop_all (x ∷ xs) = drop_all xs
 
 pub drop_at : {A : Type 0} (xs : List A) (i left : ℕ) (d : A) → left ≡ suc i → i < length xs → drop i xs ≡ get_or xs i d ∷ drop left xs
 drop_at xs i left d next within = drop-cons xs i d within ∙ ap (λ (n : ℕ). get_or xs i d ∷ drop n xs) (sym next)

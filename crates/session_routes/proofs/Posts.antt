@@ -1,6 +1,7 @@
 -- What is posted in the channels, one after another.
-use Rattle.std.proofs.Common.{◌≡◌, ℕ, zero, suc, ◌+◌, ◌<◌, ◌≤◌, ◌==◌, Bool, true, false, Option, Some, None, List, [], ◌∷◌, ◌++◌, length, take, slice_get, slice_set, option_to_list, refl, sym, ap, ◌∙◌, subst, eqb-true, eq-eqb, arith}
-use Rattle.mdb_base.specs.Words.{found, with_some}
+use Rattle.std.proofs.Common.{◌≡◌, ℕ, zero, suc, ◌+◌, ◌<◌, ◌≤◌, ◌==◌, Bool, true, false, Some, List, [], ◌∷◌, ◌++◌, length, take, slice_get, slice_set, option_to_list, refl, sym, ap, ◌∙◌, subst, eqb-true, eq-eqb, arith}
+use Rattle.std.proofs.lemmas.Option.{same_Some}
+use Rattle.mdb_base.proofs.PlaceLaws.{found_next}
 use Rattle.fed_rules.specs.declared.commands.Place.{Place}
 use Rattle.fed_rules.specs.declared.messages.Sent.{Sent}
 use Rattle.session_routes.specs.declared.traffic.Traffic.{Traffic}
@@ -25,25 +26,6 @@ get_other (y ∷ xs) zero (suc k) x apart = refl
 get_other (y ∷ xs) (suc n) zero x apart = refl
 get_other (y ∷ xs) (suc n) (suc k) x apart = get_other xs n k x (λ e. apart (ap (λ (m : ℕ). suc m) e))
 
-some_is : {A : Type 0} (a b : A) → Some a ≡ Some b → a ≡ b
-some_is a b e = cc
-
-found_one : {A B : Type 0} (look : A → Option B) (xs : List A) (n : ℕ) (x : A) → slice_get xs n ≡ Some x → found look (take (n + 1) xs) ≡ found look (take n xs) ++ option_to_list (look x)
-found_one look [] n x e = cc
-found_one {A} {B} look (y ∷ xs) zero x e = by_look (look y) (ap look (some_is y x e))
-  where
-    by_look : (o : Option B) → o ≡ look x → with_some o [] ≡ option_to_list (look x)
-    by_look None i = ap option_to_list i
-    by_look (Some b) i = ap option_to_list i
-found_one {A} {B} look (y ∷ xs) (suc n) x e = subst (λ (k : ℕ). found look (take k (y ∷ xs)) ≡ found look (take (suc n) (y ∷ xs)) ++ option_to_list (look x)) next (by_look (look y) (found_one look xs n x e))
-  where
-    next : suc (n + 1) ≡ suc n + 1
-    next = omega arith
-
-    by_look : (o : Option B) → found look (take (n + 1) xs) ≡ found look (take n xs) ++ option_to_list (look x) → with_some o (found look (take (n + 1) xs)) ≡ with_some o (found look (take n xs)) ++ option_to_list (look x)
-    by_look None h = h
-    by_look (Some b) h = ap (λ (bs : List B). b ∷ bs) h
-
 -- so far as it came
 pub record PostedTo (sends : List Sent) (place : ℕ) (old now : List Traffic) : Type 0 where
   pub count : length now ≡ length old
@@ -61,8 +43,8 @@ posted_next sends place old now before new h within at posted = record {
     by_test : (p : ℕ) (a b : Traffic) → p < place + 1 → slice_get old p ≡ Some a → slice_get (slice_set now place new) p ≡ Some b → (t : Bool) → (p == place) ≡ t → IsPosted sends a b
     by_test p a b less ea eb true is =
         let same : p ≡ place = eqb-true p place is in
-        let first : a ≡ before = some_is a before (sym ea ∙ ap (slice_get old) same ∙ sym (h.left place (omega arith)) ∙ at) in
-        let last : new ≡ b = some_is new b (sym (get_put now place new within) ∙ ap (slice_get (slice_set now place new)) (sym same) ∙ eb) in
+        let first : a ≡ before = same_Some a before (sym ea ∙ ap (slice_get old) same ∙ sym (h.left place (omega arith)) ∙ at) in
+        let last : new ≡ b = same_Some new b (sym (get_put now place new within) ∙ ap (slice_get (slice_set now place new)) (sym same) ∙ eb) in
         subst (λ (z : Traffic). IsPosted sends a z) last (subst (λ (z : Traffic). IsPosted sends z new) (sym first) posted)
     by_test p a b less ea eb false is =
         let apart : p ≡ place → ⊥ = λ e. (let yes : (p == place) ≡ true = eq-eqb p place e in let no : true ≡ false = sym yes ∙ is in cc) in
@@ -73,4 +55,4 @@ posted_next sends place old now before new h within at posted = record {
 
 pub places_next : (sends : List Sent) (place : ℕ) (old : List Traffic) (before : Traffic) (places new : List Place) → places ≡ places_to sends (take place old) → slice_get old place ≡ Some before
     → new ≡ places ++ option_to_list (place_to sends before) → new ≡ places_to sends (take (place + 1) old)
-places_next sends place old before places new so at is = is ∙ (ap (λ (ps : List Place). ps ++ option_to_list (place_to sends before)) so ∙ sym (found_one (place_to sends) old place before at))
+places_next sends place old before places new so at is = is ∙ (ap (λ (ps : List Place). ps ++ option_to_list (place_to sends before)) so ∙ sym (found_next (place_to sends) old place before at))

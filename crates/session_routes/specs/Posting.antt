@@ -1,16 +1,10 @@
 -- How what the coordinator sends in a line is put into the channels.
 use Rattle.std.specs.Prelude.{ℕ, ◌≡◌, ◌<◌, Option, List, ◌++◌, length, option_to_list, slice_get, Some, vec_len, vec_capacity}
-use Rattle.mdb_base.specs.declared.names.SiteId.{SiteId}
-use Rattle.mdb_base.specs.Names.{same_site}
-use Rattle.mdb_base.specs.Words.{first_where, found, map_some}
+use Rattle.mdb_base.specs.Words.{found, map_some}
 use Rattle.fed_rules.specs.declared.commands.Place.{Place}
 use Rattle.fed_rules.specs.declared.messages.Sent.{Sent}
-use Rattle.fed_rules.specs.declared.messages.ToSite.{ToSite}
+pub use Rattle.fed_rules.specs.Site_of.{message_to}
 use Rattle.session_routes.specs.declared.traffic.Traffic.{Traffic}
-
--- the message to the site among these
-abbrev pub message_to : SiteId → List Sent → Option ToSite
-message_to site sends = map_some (λ sent. sent.message) (first_where (λ sent. same_site sent.site site) sends)
 
 -- the place that it gets
 abbrev pub place_to : List Sent → Traffic → Option Place

@@ -10,8 +10,10 @@ use Rattle.mdb_base.specs.declared.replies.Reply.TheVariants as Reply_is
 use Rattle.mdb_base.specs.Names.{same_tid}
 use Rattle.mdb_base.specs.Words.{holds_of, map_some, or_else}
 use Rattle.mdb_base.proofs.NameLaws.{same_tid-equal}
+use Rattle.mdb_base.proofs.BoolLaws.{and_false, and_true}
 use Rattle.fed_rules.specs.Runs.{Start, EngineLine, Begins, Acts, Takes, Seals, Refuses, Commits, Aborts, Got, Wrote, Run, run_at, changed, acted, took, tid_of, gives_up, is_sealed}
 use Rattle.fed_rules.specs.SitePast.{ends, live_one}
+use Rattle.engine_laws.proofs.RunLines.{abort_ends}
 use Rattle.site_book.specs.declared.progress.Progress.{Progress}
 use Rattle.site_book.specs.declared.progress.Progress.TheVariants as Is
 use Rattle.site_book.specs.Noted.{Noted, noted_of, fresh, with_read, with_write}
@@ -49,14 +51,6 @@ ends_own (Seals tid n) u = refl
 ends_own (Refuses tid why) u = refl
 ends_own (Commits tid) u = refl
 ends_own (Aborts tid) u = refl
-
-and_false : (a : Bool) → (a && false) ≡ false
-and_false true = refl
-and_false false = refl
-
-and_true : (a : Bool) → (a && true) ≡ a
-and_true true = refl
-and_true false = refl
 
 -- a line behind which its attempt is so far, and every other one as it was
 by_line : (old new : Book) (start : Start) (older : List EngineLine) (line : EngineLine) (before behind : Tid → Bool) (own : Option Progress) → Follows old start older before →
@@ -146,10 +140,6 @@ by_end old new start older line before behind follows closing made ended it =
     (λ u. ap (λ (m : Attempts). get m u) made ∙ get-put_tid old.attempts (tid_of line) u Is.Closed)
     (sym (ap (λ (o : Option Run). progress_by o (ends_it line || before (tid_of line))) ended ∙ ap (λ (b : Bool). progress_by None (b || before (tid_of line))) it))
 
-ended-refuses : (tid : Tid) (o : Option Run) → changed (Aborts tid) o ≡ None
-ended-refuses tid None = refl
-ended-refuses tid (Some run) = refl
-
 ended-commits : (tid : Tid) (o : Option Run) → changed (Commits tid) o ≡ None
 ended-commits tid None = refl
 ended-commits tid (Some run) = refl
@@ -236,7 +226,7 @@ calls_well old new start older (Refuses tid why) before behind follows closing c
 calls_well old new start older (Commits tid) before behind follows closing called =
     by_end old new start older (Commits tid) before behind follows closing called (ended-commits tid (run_at start older tid)) refl
 calls_well old new start older (Aborts tid) before behind follows closing called =
-    by_end old new start older (Aborts tid) before behind follows closing called (ended-refuses tid (run_at start older tid)) refl
+    by_end old new start older (Aborts tid) before behind follows closing called (abort_ends tid (run_at start older tid)) refl
 
 -- a local commit
 pub commits_well : CommitsWell

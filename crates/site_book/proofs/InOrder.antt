@@ -1,12 +1,13 @@
 -- Each call that may come keeps the running attempts those that are live, and the rules find the same ones.
-use Rattle.std.proofs.Common.{◌≡◌, Bool, true, false, ◌||◌, ◌&&◌, cond, not, is_some, IsSome, Option, Some, None, List, [], ◌∷◌, refl, sym, ap, ◌∙◌, inl, inr}
+use Rattle.std.proofs.Common.{◌≡◌, Bool, true, false, ◌||◌, ◌&&◌, cond, not, is_some, Option, Some, None, List, [], ◌∷◌, refl, sym, ap, ◌∙◌, inl, inr}
 use Rattle.std.specs.FinMap.{empty, get, insert, get-empty}
 use Rattle.std.proofs.lemmas.Bool.{cond-false, and_parts, and_from}
 use Rattle.mdb_base.specs.declared.names.Tid.{Tid}
 use Rattle.mdb_base.specs.declared.names.Tx.{Tx}
 use Rattle.mdb_base.specs.Names.{same_tid, same_tx}
 use Rattle.mdb_base.specs.Words.{Among, found, first_where, map_some, with_some}
-use Rattle.mdb_base.proofs.NameLaws.{same_tid-refl, same_tid-equal}
+use Rattle.mdb_base.proofs.NameLaws.{same_tid-refl, same_tid-equal, same_tx-equal, same_tx-refl}
+use Rattle.mdb_base.proofs.OptionLaws.{nothing_is, is_some-true}
 use Rattle.fed_rules.specs.Runs.{Run, attempts, is_sealed, run_at, unended}
 use Rattle.engine_laws.proofs.Runs.{attempts_have, tid_is}
 use Rattle.site_book.specs.declared.progress.Progress.{Progress}
@@ -18,7 +19,7 @@ use Rattle.site_book.specs.Book.{Book, Attempts, Standings, progress_of, live_pa
 use Rattle.site_book.specs.Follows.{IsInOrder, progress_by}
 use Rattle.site_book.specs.Calls.{Begin_global, Begin_local, Note_reply, Note_take, Seal, Close, Close_unheld, Commit_local, Stop, Restart, NoneLives, OrdersWell, NoneRunning, RunsWell}
 use Rattle.site_book.proofs.Followed.{get-put_tid, get-changed_tid, live_of, progress_live}
-use Rattle.site_book.proofs.Ordered.{same_tx-equal, same_tx-refl, get-put_tx, of_other, standing-not_running}
+use Rattle.site_book.proofs.Ordered.{get-put_tx, of_other, standing-not_running}
 
 live-put : (book : Book) (t u : Tid) (p : Progress) → live_in (enters t p book) u ≡ cond (same_tid t u) (live_part (Some p)) (live_in book u)
 live-put book t u p = ap live_part (get-put_tid book.attempts t u p) ∙ by_test (same_tid t u)
@@ -146,7 +147,7 @@ order_either : (local : Tx → Bool) (b : Bool) (one two : Book) → IsInOrder l
 order_either local true one two e f = e
 order_either local false one two e f = f
 
-no_live-doubtful : (tids : List Tid) (m : Attempts) (u : Tid) → live_part (get m u) ≡ None → live_part (get (with_doubtful tids m) u) ≡ None
+pub no_live-doubtful : (tids : List Tid) (m : Attempts) (u : Tid) → live_part (get m u) ≡ None → live_part (get (with_doubtful tids m) u) ≡ None
 no_live-doubtful [] m u none = none
 no_live-doubtful (tid ∷ more) m u none =
     no_live-doubtful more (insert m tid Is.Sealed) u (ap live_part (get-put_tid m tid u Is.Sealed) ∙ by_test (same_tid tid u))
@@ -155,7 +156,7 @@ no_live-doubtful (tid ∷ more) m u none =
     by_test true = refl
     by_test false = none
 
-none_running-committed : (tids : List Tid) (m : Standings) (tx : Tx) → running_part (get m tx) ≡ None → running_part (get (with_committed tids m) tx) ≡ None
+pub none_running-committed : (tids : List Tid) (m : Standings) (tx : Tx) → running_part (get m tx) ≡ None → running_part (get (with_committed tids m) tx) ≡ None
 none_running-committed [] m tx none = none
 none_running-committed (tid ∷ more) m tx none =
     none_running-committed more (insert m tid.tx (Has.Committed tid)) tx (ap running_part (get-put_tx m tid.tx tx (Has.Committed tid)) ∙ by_test (same_tx tid.tx tx))
@@ -193,14 +194,6 @@ orders_well local book Stop order may =
 orders_well local book (Restart committed doubtful) order may =
     order_idle local (restarted committed doubtful book)
     (λ u. no_live-doubtful doubtful empty u (ap live_part (get-empty tid_cmp u))) (λ tx. none_running-committed committed empty tx (ap running_part (get-empty tx_cmp tx)))
-
-nothing_is : {A : Type 0} (o : Option A) → is_some o ≡ false → o ≡ None
-nothing_is None e = refl
-nothing_is (Some x) e = cc
-
-something_is : {A : Type 0} (o : Option A) → is_some o ≡ true → IsSome o
-something_is None e = cc
-something_is (Some x) e = refl
 
 pub none_running : NoneRunning
 none_running local book order tx own idle u same =
@@ -270,7 +263,7 @@ runs_well local book start lines closed order follows right tx own = sym (by_run
         let at = order.own tx t running in
         let lives : is_some (live_in book t) ≡ true =
         order.live t (ap local at ∙ own) ∙ (ap (λ (y : Tx). runs t (standing_of book y)) at ∙ (ap (runs t) stands ∙ same_tid-refl t)) in
-        let has = live_of book start lines closed t follows (something_is (live_in book t) lives) in
+        let has = live_of book start lines closed t follows (is_some-true (live_in book t) lives) in
         let tid = tid_is start lines right t has.run has.is in
         first-one (run_at start lines) (λ (run : Run). same_tx run.tid.tx tx && not (is_sealed run)) t has.run (attempts start lines) has.is
         (and_from _ _ (ap (λ (u : Tid). same_tx u.tx tx) tid ∙ (ap (λ (y : Tx). same_tx y tx) at ∙ same_tx-refl tx)) (ap not has.unsealed))

@@ -3,8 +3,6 @@ use Rattle.std.proofs.Common.{◌≡◌, Bool, true, false, cond, Option, Some, 
 use Rattle.std.specs.declared.cmp.Ordering.{Ordering}
 use Rattle.std.specs.Cmp.{IsTotalOrder, Equal-is, eq_by_cmp_equiv}
 use Rattle.std.specs.Ordering.{eq_by_cmp}
-use Rattle.std.specs.Borrow.{MutBor}
-use Rattle.std.specs.Option.{option_copied_mut}
 use Rattle.std.specs.FinMap.{FinMap, from_entries, find, get, get-insert, get-remove, get-from_entries, insert, remove, same_map}
 use Rattle.std.specs.Map.{lookup, set_value}
 use Rattle.std.specs.BTreeMap.{is_at}
@@ -12,11 +10,6 @@ use Rattle.std.proofs.lemmas.Bool.{cond-false}
 use Rattle.std.proofs.lemmas.Map.{lookup-set_value}
 use Rattle.std.proofs.lemmas.Map.Lookups.{CmpEqualImpliesEq}
 use Rattle.mdb_base.specs.Words.{map_some, or_else}
-
--- what was lent is there
-pub lent : {A : Type 0} (o : Option (MutBor A)) → IsSome (option_copied_mut o) → IsSome o
-lent None there = cc
-lent (Some r) there = refl
 
 turned : {K : Type 0} {R : K → K → Ordering} → IsTotalOrder R → (t q : K) → eq_by_cmp R q t ≡ eq_by_cmp R t q
 turned total t q = (eq_by_cmp_equiv total).symm q t

@@ -1,10 +1,10 @@
 -- Each call keeps the running attempts those that are live, counts the begins, and remembers the commits.
-use Rattle.std.proofs.Common.{◌≡◌, ℕ, suc, Bool, true, false, ◌&&◌, ◌==◌, cond, is_some, Option, Some, None, List, [], ◌∷◌, refl, sym, ap, ◌∙◌, subst, eqb-true, eq-eqb}
+use Rattle.std.proofs.Common.{◌≡◌, suc, Bool, true, false, ◌&&◌, ◌==◌, cond, is_some, Option, Some, None, List, [], ◌∷◌, refl, sym, ap, ◌∙◌, subst}
 use Rattle.std.specs.FinMap.{FinMap, empty, get, insert, remove, get-empty}
 use Rattle.mdb_base.specs.declared.names.Tid.{Tid}
 use Rattle.mdb_base.specs.declared.names.Tx.{Tx}
 use Rattle.mdb_base.specs.Names.{same_tid, same_tx}
-use Rattle.mdb_base.proofs.NameLaws.{same_tid-equal}
+use Rattle.mdb_base.proofs.NameLaws.{same_tid-equal, same_tx-equal}
 use Rattle.site_book.specs.declared.progress.Standing.{Standing}
 use Rattle.site_book.specs.declared.progress.Standing.TheVariants as Has
 use Rattle.site_book.specs.Book.{Book, Standings, Counts, committed_part, committed_in, count_of, counted, replied, taken, refuses, runs, not_running, closes, changes_live, with_committed, tx_cmp}
@@ -12,17 +12,11 @@ use Rattle.site_book.specs.Calls.{Begin_global, Begin_local, Note_reply, Note_ta
 use Rattle.site_book.proofs.Keys.{txs_exact, txs_total, tx_ties}
 use Rattle.site_book.proofs.Maps.{get-put, get-gone}
 
-pub same_tx-equal : (a b : Tx) → same_tx a b ≡ true → a ≡ b
-same_tx-equal a b e = ap {A = ℕ} (λ n. record { 0 = n }) (eqb-true a.0 b.0 e)
-
-pub same_tx-refl : (a : Tx) → same_tx a a ≡ true
-same_tx-refl a = eq-eqb a.0 a.0 refl
-
 -- what stands at a transaction after something is put in or taken out
 pub get-put_tx : {X : Type 0} (m : FinMap tx_cmp X) (t u : Tx) (x : X) → get (insert m t x) u ≡ cond (same_tx t u) (Some x) (get m u)
 get-put_tx m t u x = get-put txs_total txs_exact m t u x ∙ ap (λ (b : Bool). cond b (Some x) (get m u)) (tx_ties t u)
 
-get-gone_tx : {X : Type 0} (m : FinMap tx_cmp X) (t u : Tx) → get (remove m t) u ≡ cond (same_tx t u) None (get m u)
+pub get-gone_tx : {X : Type 0} (m : FinMap tx_cmp X) (t u : Tx) → get (remove m t) u ≡ cond (same_tx t u) None (get m u)
 get-gone_tx m t u = get-gone txs_total txs_exact m t u ∙ ap (λ (b : Bool). cond b None (get m u)) (tx_ties t u)
 
 -- attempts of other transactions are others

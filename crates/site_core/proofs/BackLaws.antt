@@ -39,6 +39,7 @@ use Rattle.actor_store.specs.declared.store.Standing.TheVariants.{Up, Down, Fail
 use Rattle.actor_store.specs.Store.{Passes, is_up}
 use Rattle.actor_store.proofs.StoreLaws.{settled}
 use Rattle.rules_laws.specs.Durable.{IsFrontOf}
+use Rattle.rules_laws.proofs.SiteRecords.{epoch_same}
 use Rattle.site_history.specs.SiteOrders.{HasGoodStarts}
 use Rattle.site_history.proofs.Restarts.{once_doubts}
 use Rattle.site_history.proofs.WellKept.{starts_well}
@@ -52,14 +53,15 @@ use Rattle.site_core.specs.Notes.{Notes}
 use Rattle.site_core.specs.Recovered.{LocalsOnce, held_tid}
 use Rattle.site_core.specs.Stands.{Answers, Breaks, Carries, IsIn, IsOfKind, IsStopped, IsUp, Remembers, Stands}
 use Rattle.site_core.specs.Store.{Ends, Keeps, Store, cut_calls}
-use Rattle.site_core.proofs.Founded.{all_within, founded}
-use Rattle.site_core.proofs.LineLaws.{none_lives}
+use Rattle.site_history.proofs.Founded.{all_within, founded}
+use Rattle.commit_laws.proofs.SiteShut.{restored-sealed}
+use Rattle.journal_sums.proofs.DifferLaws.{apart_once}
 use Rattle.site_core.proofs.MadeLaws.{of_made}
 use Rattle.site_core.proofs.NotesLaws.{IsKnown, order_restarted}
 use Rattle.site_core.proofs.OnceLaws.{AppendsOnce, once_calls, once_stopped}
 use Rattle.site_core.proofs.RememberLaws.{answers_as, carries_same, carries_stop, down_is, kept_records, kind_at, passes_is, stop_line, stopped_at, trips_is}
 use Rattle.site_core.proofs.StopLaws.{GoesOn, breaks_down, breaks_start, trip_line}
-use Rattle.site_core.proofs.SumLaws.{committed_from, doubts_about, doubts_apart, epoch_same}
+use Rattle.site_core.proofs.SumLaws.{committed_from, doubts_about}
 
 -- the disk calls of a start
 abbrev pub back_calls : ℕ → Disk SiteRecord → List (Call SiteRecord)
@@ -104,7 +106,7 @@ pub start_good : (home : Home) (past : SitePast) → IsMade home past → IsStar
 start_good home past made = (of_made HasGoodStarts starts_well home past made).restart (Past.records home past) ([], refl)
 
 pub doubts_apart_here : (home : Home) (past : SitePast) → AreApart (map doubt_held (doubts (Past.records home past)))
-doubts_apart_here home past = doubts_apart (doubts (Past.records home past)) (once_doubts (Past.records home past))
+doubts_apart_here home past = apart_once (doubts (Past.records home past)) (once_doubts (Past.records home past))
 
 -- the epoch that was read
 pub epoch_read : (home : Home) (past : SitePast) (sum : SiteSum) → sum ≡ site_sum home (Past.records home past) → sum.epoch ≡ epoch home past
@@ -142,7 +144,7 @@ module _ {E : Type 0} (stands : E → Lines.Start → List EngineLine → Type 0
         order = subst IsInOrder (sym made_so) (order_restarted (site_sum home rs).locals (map held_tid (doubts rs)) old.book);
         committed_is = (λ tx. ap (λ (b : Book). committed_in b tx) made_so ∙ committed_from rs tx m.once ∙ sym (local tx));
         known = (λ u at. unknown u at (closed u));
-        few = (λ u run e. absurd (none_is run (sym (none_lives (map kept_held (doubts rs)) u) ∙ e)));
+        few = (λ u run e. absurd (none_is run (sym (restored-sealed (map kept_held (doubts rs)) u) ∙ e)));
       } in
       let N : Lines.Start → List EngineLine → Type 0 = λ s l. Notes new.book s l (is_closed (x ∷ past)) (local_of (Past.records home (x ∷ past))) (x ∷ past) in
       let G : Lines.Start → List EngineLine → Type 0 = λ s l. stands new.engine s l in
@@ -160,7 +162,7 @@ module _ {E : Type 0} (stands : E → Lines.Start → List EngineLine → Type 0
         unknown : (u : Tid) → (is_closed (x ∷ past) u ≡ true) ⊎ (is_some (live_one (restored_at (map kept_held (doubts (Past.records home past))) u)) ≡ true) → is_closed (x ∷ past) u ≡ false → IsKnown u (x ∷ past)
         unknown u (inl c) shut = cc
         unknown u (inr l) shut =
-            let none : is_some (live_one (restored_at (map kept_held (doubts (Past.records home past))) u)) ≡ false = ap is_some (none_lives (map kept_held (doubts (Past.records home past))) u) in
+            let none : is_some (live_one (restored_at (map kept_held (doubts (Past.records home past))) u)) ≡ false = ap is_some (restored-sealed (map kept_held (doubts (Past.records home past))) u) in
             cc
 
 module _ {E : Type 0} (stands : E → Lines.Start → List EngineLine → Type 0) (tells : Bool) where

@@ -1,7 +1,7 @@
 -- A line of a site begins a local attempt only as the answer to its begin; so none of a global transaction is begun so.
 use Rattle.std.proofs.Common.{◌≡◌, Bool, true, false, cond, ◌==◌, Option, Some, None, List, [], ◌∷◌, length, refl, sym, ◌∙◌, subst}
 use Rattle.std.specs.Prelude.{nat_le}
-use Rattle.std.proofs.lemmas.Bool.{cond-false}
+use Rattle.std.proofs.lemmas.Bool.{cond-false, or_parts}
 use Rattle.mdb_base.specs.declared.names.Tid.{Tid}
 use Rattle.mdb_base.specs.declared.names.Tx.{Tx}
 use Rattle.mdb_base.specs.Words.{when}
@@ -21,7 +21,6 @@ use Rattle.fed_rules.specs.Site.{answered, of_abort, of_act, of_ask, of_back, of
 use Rattle.fed_rules.specs.SitePast.{SiteHappening, SitePast, attempts_of, begins_tx, disk, trip}
 use Rattle.fed_rules.specs.SiteRecords.{Home, site_frame}
 use Rattle.site_core.specs.Made.{IsMade, is_of_local, was_local}
-use Rattle.site_core.proofs.OverLaws.{neither}
 use Rattle.site_core.proofs.RuleWalks.{by_pick, by_when}
 use Rattle.site_core.proofs.UpLaws.{act_answers, refusal_plain}
 
@@ -88,6 +87,6 @@ pub none_begun : (home : Home) (past : SitePast) (tx : Tx) → IsMade home past 
 none_begun home [] tx made none = refl
 none_begun home (x ∷ past) tx (line, come, made) none =
     let P : SiteHappening → Type 0 = λ y. is_of_local tx y.event ≡ false → begins_tx tx y.answer ≡ false in
-    let (here, before) = neither (is_of_local tx x.event) (was_local tx past) none in
+    let (here, before) = or_parts (is_of_local tx x.event) (was_local tx past) none in
     let own : P (site_line home past x.event) = line_begins P home past (λ event answer sends calls lines plain e. plain tx) (λ tid lines e. e) x.event in
     cond-false _ _ _ (subst P (sym line) own here) ∙ none_begun home past tx made before

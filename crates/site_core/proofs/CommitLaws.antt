@@ -8,6 +8,7 @@ use Rattle.mdb_base.specs.declared.replies.Why.{Why}
 use Rattle.mdb_base.specs.Names.{same_key, same_tx}
 use Rattle.mdb_base.specs.Rows.{with_row}
 use Rattle.mdb_base.proofs.NameLaws.{same_tid-refl}
+use Rattle.mdb_base.proofs.BoolLaws.{or_false}
 use Rattle.fed_rules.specs.declared.answers.Answer.TheVariants as Say
 use Rattle.fed_rules.specs.declared.events.SiteEvent.TheVariants as Ev
 use Rattle.fed_rules.specs.declared.events.SiteStep.{SiteStep}
@@ -48,7 +49,7 @@ use Rattle.site_core.proofs.RememberLaws.{IsPlain, answers_as, carries_line, epo
 use Rattle.site_core.proofs.SealingLaws.{before_up, sealed_failed, sealed_stopped}
 use Rattle.site_core.proofs.SetUpLaws.{payload_of}
 use Rattle.site_core.proofs.StopLaws.{GoesOn, trip_line}
-use Rattle.site_core.proofs.UpLaws.{closed_by, or_false, up_line}
+use Rattle.site_core.proofs.UpLaws.{closed_by, up_line}
 
 -- a run writes at most as many rows as it has accesses
 with_row-length : (row : Put) (rows : List Put) → length (with_row row rows) ≤ length rows + 1

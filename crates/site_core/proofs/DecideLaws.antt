@@ -6,7 +6,9 @@ use Rattle.mdb_base.specs.declared.names.Tid.{Tid}
 use Rattle.mdb_base.specs.declared.names.Tx.{Tx}
 use Rattle.mdb_base.specs.Names.{same_tid}
 use Rattle.mdb_base.specs.Words.{map_some, pick, some_of}
-use Rattle.mdb_base.proofs.NameLaws.{same_tid-equal, same_tid-refl, same_tid-sym}
+use Rattle.mdb_base.proofs.NameLaws.{same_tid-equal, same_tid-refl, same_tid-sym, same_tx-refl}
+use Rattle.mdb_base.proofs.OptionLaws.{nothing_is}
+use Rattle.mdb_base.proofs.BoolLaws.{or_false}
 use Rattle.presumptions.specs.declared.Decision.{Decision}
 use Rattle.presumptions.specs.declared.Decision.TheVariants as Decided
 use Rattle.presumptions.specs.declared.Protocol.{Protocol}
@@ -52,15 +54,13 @@ use Rattle.site_core.specs.Order.{IsInOrder}
 use Rattle.site_core.specs.Stands.{Adds, Answers, Breaks, Holds, IsOfKind, IsUp, Stands}
 use Rattle.site_core.specs.Store.{Ends, Keeps}
 use Rattle.site_core.proofs.InquiryLaws.{none_doubted}
-use Rattle.site_core.proofs.LineLaws.{is_absent}
 use Rattle.site_core.proofs.MadeLaws.{events_of, made_is, made_sorted}
-use Rattle.site_core.proofs.NameLaws.{same_tx-refl}
 use Rattle.site_core.proofs.NotesLaws.{IsKnown, committed_closes, notes_change, order_changed, order_closes}
 use Rattle.site_core.proofs.OnceLaws.{AppendsOnce, once_stopped}
 use Rattle.site_core.proofs.OperationLaws.{give_up_line}
 use Rattle.site_core.proofs.RememberLaws.{IsPlain, answers_as, carries_line, carries_stop, is_up_at, kind_at, more_lines, passes_is, remembers_line, same_start, stop_line, trips_is, up_is}
 use Rattle.site_core.proofs.StopLaws.{GoesOn, breaks_up, trip_line}
-use Rattle.site_core.proofs.UpLaws.{or_false, up_quiet_disk}
+use Rattle.site_core.proofs.UpLaws.{up_quiet_disk}
 
 -- the doubts about other attempts are what the site doubts behind it
 pub others_about : (tid t : Tid) (doubts : List Doubt) → doubt_about t (others tid doubts) ≡ cond (same_tid tid t) None (doubt_about t doubts)
@@ -280,7 +280,7 @@ module _ {E : Type 0} (stands : E → Lines.Start → List EngineLine → Type 0
 
   pub not_held : (core : SiteCore E) (home : Home) (past : SitePast) (tid : Tid) → Holds stands core home past → core.store.standing ≡ Up → is_some (doubt_about tid core.doubts.doubts) ≡ false
       → doubt_of (Past.records home past) tid ≡ None
-  not_held core home past tid h up none = none_doubted (doubt_of (Past.records home past) tid) (sym ((is_up_at stands core home past h.memory up).doubts tid) ∙ is_absent (doubt_about tid core.doubts.doubts) none)
+  not_held core home past tid h up none = none_doubted (doubt_of (Past.records home past) tid) (sym ((is_up_at stands core home past h.memory up).doubts tid) ∙ nothing_is (doubt_about tid core.doubts.doubts) none)
 
   -- behind a line that changes what is doubted
   up_doubts : (new : SiteCore E) (home : Home) (past : SitePast) (x : SiteHappening) → IsPlain x

@@ -12,14 +12,15 @@ use Rattle.fed_rules.specs.SitePast as Past
 use Rattle.fed_rules.specs.SiteRecords.{Home, site_frame}
 use Rattle.fed_rules.specs.SiteSums.{journal_sum, site_sum}
 use Rattle.frame_journal.specs.Journal.{records}
-use Rattle.sum_laws.specs.Sums.{AreSums}
-use Rattle.sum_laws.proofs.Journals.{IsSummed, IsTrimmed, standing_all, standing_trimmed, sums_front}
-use Rattle.sum_laws.proofs.SummedPasts.{journals_say_all, pasts_summed}
-use Rattle.journal_sums.specs.Journals.{IsJournal, IsJournalOf}
+use Rattle.rules_laws.proofs.SiteRecords.{standing_all}
+use Rattle.site_history.specs.Sums.{AreSums}
+use Rattle.site_history.proofs.Journals.{Begins as Stands, IsSummed, IsTrimmed, standing_trimmed, sums_front}
+use Rattle.site_history.proofs.SummedPasts.{journals_say_all, pasts_summed}
+use Rattle.journal_sums.specs.Journals.{Begins, IsJournal, IsJournalOf}
 use Rattle.site_core.specs.declared.site.SiteCore.{SiteCore}
 use Rattle.site_core.specs.Made.{IsMade}
 use Rattle.site_core.specs.Stands.{Remembers}
-use Rattle.site_core.proofs.Founded.{founded}
+use Rattle.site_history.proofs.Founded.{founded}
 use Rattle.site_core.proofs.MadeLaws.{of_made}
 
 -- the journal of a past that events made
@@ -28,7 +29,15 @@ made_journal home past made = by_front s.front where
   s : IsSummed home (disk home past)
   s = of_made (λ h p. IsSummed h (disk h p)) pasts_summed home past made
 
-  by_front : ((disk home past).trimmed ≡ 0) ⊎ IsTrimmed (Past.records home past) (disk home past).synced (disk home past).trimmed → IsJournalOf home (journal home past)
+  begins : (first : SiteRecord) (before : List SiteRecord) → Stands home first before → AreSums home (first ∷ before) → Begins home first
+  begins (Rec.Checkpoint sum) before b sums = (ap (λ (x : SiteSum). x.site) sums.0, ap (λ (x : SiteSum). x.engine) sums.0, ap (λ (x : SiteSum). x.protocol) sums.0)
+  begins (Rec.Setup site engine protocol items) before b sums = b.0
+  begins (Rec.Start n) before b sums = absurd b
+  begins (Rec.Prepared t e n ticket writes) before b sums = absurd b
+  begins (Rec.Ended t d) before b sums = absurd b
+  begins (Rec.Local t n writes) before b sums = absurd b
+
+  by_front : ((disk home past).trimmed ≡ 0) ⊎ IsTrimmed home (Past.records home past) (disk home past).synced (disk home past).trimmed → IsJournalOf home (journal home past)
   by_front (inl none) =
       let f = founded home past in
       record {
@@ -38,12 +47,11 @@ made_journal home past made = by_front s.front where
         stands = ap (λ n. standing site_frame n (Past.records home past)) none ∙ standing_all (Past.records home past) ∙ f.founded ∙ sym (append_assoc f.newer (Rec.Start 1 ∷ []) (Rec.Setup home.site home.engine home.protocol home.items ∷ []));
       }
   by_front (inr t) =
-      let sums = sums_front home t.newer (Rec.Checkpoint t.sum ∷ t.before) (subst (AreSums home) t.all s.sums) in
       record {
         newer = t.newer;
-        oldest = Rec.Checkpoint t.sum;
-        begins = (ap (λ (x : SiteSum). x.site) sums.0, ap (λ (x : SiteSum). x.engine) sums.0, ap (λ (x : SiteSum). x.protocol) sums.0);
-        stands = ap (λ n. standing site_frame n (Past.records home past)) t.at ∙ ap (standing site_frame (bytes_of site_frame t.before)) t.all ∙ standing_trimmed t.newer t.sum t.before;
+        oldest = t.first;
+        begins = begins t.first t.before t.begins (sums_front home t.newer (t.first ∷ t.before) (subst (AreSums home) t.all s.sums));
+        stands = ap (λ n. standing site_frame n (Past.records home past)) t.at ∙ ap (standing site_frame (bytes_of site_frame t.before)) t.all ∙ standing_trimmed t.newer t.first t.before;
       }
 
 module _ {E : Type 0} (stands : E → Lines.Start → List EngineLine → Type 0) where

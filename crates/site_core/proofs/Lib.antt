@@ -4,7 +4,6 @@ pub mod CheckLaws
 pub mod CommitLaws
 pub mod DecideLaws
 pub mod FirstLaws
-pub mod Founded
 pub mod GlobalLaws
 pub mod InquiryLaws
 pub mod JournalLaws
@@ -12,7 +11,6 @@ pub mod LineLaws
 pub mod Listings
 pub mod LocalLaws
 pub mod MadeLaws
-pub mod NameLaws
 pub mod NewStore
 pub mod NotesLaws
 pub mod OnceLaws

@@ -8,17 +8,16 @@ use Rattle.mdb_base.specs.declared.acts.PlainAct.{PlainAct}
 use Rattle.mdb_base.specs.declared.names.Tid.{Tid}
 use Rattle.mdb_base.specs.declared.names.Tx.{Tx}
 use Rattle.mdb_base.specs.declared.replies.Why.{Why}
-use Rattle.mdb_base.specs.Names.{same_tid, same_tx}
+use Rattle.mdb_base.specs.Names.{same_tx}
 use Rattle.mdb_base.specs.Words.{first_where, map_some, pick, when}
-use Rattle.mdb_base.proofs.NameLaws.{same_tid-equal}
+use Rattle.mdb_base.proofs.NameLaws.{same_tid-equal, same_tx-equal, same_tx-refl}
 use Rattle.fed_rules.specs.declared.answers.Answer.{Answer}
 use Rattle.fed_rules.specs.declared.answers.Answer.TheVariants as Say
 use Rattle.fed_rules.specs.declared.events.SiteEvent.TheVariants as Ev
 use Rattle.fed_rules.specs.EngineLines.{IsLive, IsRight}
 use Rattle.fed_rules.specs.Disk.{Stops}
 use Rattle.fed_rules.specs.Happenings.{is_down, quiet, stopped}
-use Rattle.fed_rules.specs.declared.runs.Kept.{Kept}
-use Rattle.fed_rules.specs.Runs.{Start, EngineLine, Begins, Acts, Aborts, Refuses, Run, is_sealed, restored, restored_at, run_at, unended}
+use Rattle.fed_rules.specs.Runs.{Start, EngineLine, Begins, Acts, Aborts, Refuses, Run, is_sealed, run_at, unended}
 use Rattle.fed_rules.specs.Site.{act_answer, answered, next_number, of_abort, of_act, of_begin, of_check, of_commit, of_fate, refusal_answer, reply_to, seals_local, site_line, stop_of, unless_tripped, with_lines}
 use Rattle.fed_rules.specs.SitePast.{SiteHappening, SitePast, attempts_of, begins_tx, disk, engine_lines, epoch_start, live, live_of_tx, live_one, records}
 use Rattle.fed_rules.specs.SiteRecords.{Home, local_of, site_frame, start_of}
@@ -30,9 +29,9 @@ use Rattle.site_book.specs.declared.progress.Progress.TheVariants as Is
 use Rattle.site_book.specs.Noted.{Noted, noted_of}
 use Rattle.site_book.specs.Book.{Book, begun_in, count_of, live_in, live_part, running_in}
 use Rattle.site_book.specs.Follows.{Follows, progress_by}
+use Rattle.commit_laws.proofs.SiteShut.{restored-sealed}
 use Rattle.site_core.specs.Made.{begins_tid, was_begun, was_global}
 use Rattle.site_core.specs.Notes.{Notes, NotesPast}
-use Rattle.site_core.proofs.NameLaws.{same_tx-equal, same_tx-refl}
 
 module _ (home : Home) (past : SitePast) where
   pub begin_committed : (tid committed : Tid) → local_of (records home past) tid.tx ≡ Some committed → of_begin home past tid ≡ quiet (Ev.Begin tid) (Say.Committed committed)
@@ -140,10 +139,6 @@ is_there o p t copied tested = ap is_some (sym copied) ∙ same o ∙ tested whe
   same : {A : Type 0} (o : Option (Bor A)) → is_some (option_copied o) ≡ is_some o
   same None = refl
   same (Some r) = refl
-
-pub is_absent : {A : Type 0} (p : Option A) → is_some p ≡ false → p ≡ None
-is_absent None e = refl
-is_absent (Some a) e = cc
 
 -- an attempt that was begun is counted
 begins_counted : (u : Tid) (answer : Answer) → begins_tid u answer ≡ true → begins_tx u.tx answer ≡ true
@@ -278,17 +273,9 @@ pub check_up : (home : Home) (past : SitePast) → is_down past ≡ false → si
 unfolding site_line answered when
 check_up home past u = rw u refl
 
--- a start begins with sealed runs alone
-pub none_lives : (kepts : List Kept) (tid : Tid) → live_one (restored_at kepts tid) ≡ None
-none_lives [] tid = refl
-none_lives (kept ∷ kepts) tid = by_test (same_tid kept.tid tid) (none_lives kepts tid) where
-  by_test : (b : Bool) → live_one (restored_at kepts tid) ≡ None → live_one (cond b (Some (restored kept)) (restored_at kepts tid)) ≡ None
-  by_test true rest = refl
-  by_test false rest = rest
-
 -- so no attempt is live while the site is down
 pub down_dead : (home : Home) (past : SitePast) (tid : Tid) → epoch_start home past ≡ start_of home (records home past) → engine_lines past ≡ [] → live home past tid ≡ None
-down_dead home past tid start lines = ap₂ (λ (s : Start) (l : List EngineLine). live_one (run_at s l tid)) start lines ∙ none_lives (start_of home (records home past)).doubtful tid
+down_dead home past tid start lines = ap₂ (λ (s : Start) (l : List EngineLine). live_one (run_at s l tid)) start lines ∙ restored-sealed (start_of home (records home past)).doubtful tid
 
 -- lines that neither call the disk nor send anything
 abbrev IsQuiet : SiteHappening → Type 0

@@ -1,5 +1,5 @@
 -- Lists of attempts that are read off a book.
-use Rattle.std.proofs.Common.{◌≡◌, ◌↔◌, ℕ, zero, suc, ◌+◌, ◌<◌, Bool, true, false, cond, not, is_some, Result, Ok, Err, IfOk, Option, Some, None, List, [], ◌∷◌, ◌++◌, length, take, get_or, inl, inr, map, refl, sym, ◌∙◌, ap, subst, add-one, arith}
+use Rattle.std.proofs.Common.{◌≡◌, ◌↔◌, ℕ, zero, suc, ◌+◌, ◌<◌, Bool, true, false, cond, not, is_some, Option, Some, List, [], ◌∷◌, ◌++◌, length, take, get_or, inl, inr, map, refl, sym, ◌∙◌, ap, subst, add-one, arith}
 use Rattle.mdb_base.specs.declared.names.Tid.{Tid}
 use Rattle.mdb_base.specs.Names.{same_tid, tid_before}
 use Rattle.mdb_base.specs.Words.{Among, Each, map_some}
@@ -23,10 +23,6 @@ lists_alike test other tids same l = record {
   rising = l.rising;
   members = λ tid. ((λ i. sym (same tid) ∙ (l.members tid).0 i), (λ e. (l.members tid).1 (same tid ∙ e)));
 }
-
-pub some_mapped : {A B : Type 0} (f : A → B) (o : Option A) → is_some (map_some f o) ≡ is_some o
-some_mapped f None = refl
-some_mapped f (Some a) = refl
 
 abbrev tid_of : Doubt → Tid
 tid_of doubt = doubt.tid
@@ -71,11 +67,6 @@ tids_more doubts i d lt = subst (λ k. map tid_of (take k doubts) ≡ map tid_of
 
 pub same_doubt : (a b : Doubt) → ◌≡◌ {A = Option Doubt} (Some a) (Some b) → a.tid ≡ b.tid
 same_doubt a b e = cc
-
--- what follows of a value, where there is one
-pub if_ok : {T E : Type 0} (r : Result T E) (P Q : T → Type 0) → ((t : T) → P t → Q t) → IfOk r P → IfOk r Q
-if_ok (Ok t) P Q f p = f t p
-if_ok (Err e) P Q f p = p
 
 -- the book of a site that is up
 pub book_of : {E : Type 0} (stands : E → Start → List EngineLine → Type 0) (core : SiteCore E) (standing : Standing) (home : Home) (past : SitePast) → false ≡ not (is_up standing)

@@ -10,7 +10,8 @@ use Rattle.mdb_base.specs.declared.replies.Reply.{Reply}
 use Rattle.mdb_base.specs.declared.replies.Reply.TheVariants as Reply_is
 use Rattle.mdb_base.specs.Names.{same_tid, same_tx}
 use Rattle.mdb_base.specs.Words.{map_some}
-use Rattle.mdb_base.proofs.NameLaws.{same_tid-equal, same_tid-refl}
+use Rattle.mdb_base.proofs.NameLaws.{same_tid-equal, same_tid-refl, same_tx-equal}
+use Rattle.mdb_base.proofs.OptionLaws.{none_left}
 use Rattle.fed_rules.specs.declared.answers.Answer.{Answer}
 use Rattle.fed_rules.specs.declared.answers.Answer.TheVariants as Say
 use Rattle.fed_rules.specs.declared.events.SiteEvent.{SiteEvent}
@@ -31,21 +32,16 @@ use Rattle.site_book.specs.Follows.{Follows, progress_by}
 use Rattle.site_core.specs.Order.{IsInOrder}
 use Rattle.site_book.proofs.Followed.{calls_well, get-changed_tid}
 use Rattle.site_history.specs.Lines.{Agrees}
+use Rattle.site_book.proofs.Ordered.{get-put_tx}
 use Rattle.site_core.specs.declared.site.SiteCore.{SiteCore}
 use Rattle.site_core.specs.Made.{IsMade, was_begun, was_global}
 use Rattle.site_core.specs.Notes.{Notes, NotesPast}
 use Rattle.site_core.specs.Stands.{Adds, Holds, IsUp, Remembers}
 use Rattle.site_core.proofs.LineLaws.{HasLive, local_runs, noted_live}
 use Rattle.site_core.proofs.MadeLaws.{made_fresh, made_right}
-use Rattle.site_core.proofs.NameLaws.{same_tx-equal, same_tx-refl}
-use Rattle.site_core.proofs.NotesLaws.{IsKnown, committed_begins, committed_closes, ends_its_own, get-put_tx, known_before, notes_change, order_begins, order_changed, order_closes}
+use Rattle.site_core.proofs.NotesLaws.{IsKnown, committed_begins, committed_closes, ends_its_own, known_before, notes_change, order_begins, order_changed, order_closes}
 use Rattle.site_core.proofs.RememberLaws.{IsPlain, is_up_at, remembers_line}
 use Rattle.site_core.proofs.UpLaws.{IsPlainAnswer, act_answers, acted_few, closed_one, up_quiet_disk}
-
--- what isn't there
-pub none_left : {A : Type 0} (o : Option A) → ((x : A) → o ≡ Some x → ⊥) → o ≡ None
-none_left None e = refl
-none_left (Some x) e = absurd (e x refl)
 
 -- an attempt that may begin has no entry in the book
 pub no_entry : (book : Book) (home : Home) (past : SitePast) (tid : Tid) → NotesPast book home past → IsMade home past

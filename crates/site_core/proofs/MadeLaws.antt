@@ -1,7 +1,10 @@
 -- What events make is what sorted events make; so the laws on sites hold of it.
-use Rattle.std.proofs.Common.{◌≡◌, ◌⊎◌, Bool, true, false, ◌||◌, None, List, [], ◌∷◌, map, refl, sym, ap, ap₂, ◌∙◌, subst, inl, inr}
+use Rattle.std.proofs.Common.{◌≡◌, ◌⊎◌, Bool, true, false, None, List, [], ◌∷◌, map, refl, sym, ap, ◌∙◌, subst, inl, inr}
+use Rattle.std.proofs.lemmas.Bool.{or_right, or_left, or_from, or_cases}
 use Rattle.mdb_base.specs.declared.names.Tid.{Tid}
 use Rattle.mdb_base.specs.declared.names.Tx.{Tx}
+use Rattle.mdb_base.proofs.NameLaws.{same_tx-equal, same_tx-refl}
+use Rattle.mdb_base.proofs.BoolLaws.{not_both}
 use Rattle.fed_rules.specs.declared.events.SiteEvent.{SiteEvent}
 use Rattle.fed_rules.specs.declared.events.SiteEvent.TheVariants as Ev
 use Rattle.fed_rules.specs.declared.messages.ToSite.TheVariants as To
@@ -14,7 +17,6 @@ use Rattle.site_history.specs.SiteOrders.{OfSortedEvents, OfSortedPasts}
 use Rattle.site_history.proofs.RightLines.{lines_right}
 use Rattle.site_history.proofs.SortedPasts.{are_fresh}
 use Rattle.site_core.specs.Made.{IsApart, IsMade, about, is_of_global, is_of_local, was_global, was_local}
-use Rattle.site_core.proofs.NameLaws.{same_tx-equal, same_tx-refl}
 use Rattle.site_core.proofs.RuleWalks.{line_event}
 
 abbrev pub events_of : SitePast → List SiteEvent
@@ -26,23 +28,6 @@ made_is home [] m = refl
 made_is home (x ∷ past) (line, come, made) =
     let before = made_is home past made in
     ap (λ y. y ∷ past) line ∙ ap (λ (p : SitePast). site_line home p x.event ∷ p) before
-
-or_right : (a b : Bool) → b ≡ true → (a || b) ≡ true
-or_right true b e = refl
-or_right false b e = e
-
-or_left : (a b : Bool) → a ≡ true → (a || b) ≡ true
-or_left a b e = ap (λ (x : Bool). x || b) e
-
-or_none : (a b : Bool) → a ≡ false → b ≡ false → (a || b) ≡ false
-or_none a b e f = ap₂ (λ (x y : Bool). x || y) e f
-
-or_cases : (a b : Bool) → (a || b) ≡ true → ((a ≡ true) ⊎ (b ≡ true))
-or_cases true b e = inl refl
-or_cases false b e = inr e
-
-differ : (a : Bool) → a ≡ true → a ≡ false → ⊥
-differ a e f = cc
 
 -- an event that is of a local attempt of a transaction comes where no message about it was given
 local_apart : (past : SitePast) (event : SiteEvent) (tx : Tx) → IsApart past event → is_of_local tx event ≡ true → was_global tx past ≡ false
@@ -79,12 +64,12 @@ pub given_not_local : (home : Home) (past : SitePast) (tx : Tx) → IsMade home 
 given_not_local home [] tx m e = cc
 given_not_local home (x ∷ past) tx (line, come, made) e = by_cases (or_cases (is_of_global tx x.event) (was_global tx past) e) (given_not_local home past tx made) where
   by_local : (t : Bool) → is_of_local tx x.event ≡ t → was_global tx past ≡ true → is_of_local tx x.event ≡ false
-  by_local true l g = absurd (differ (was_global tx past) g (local_apart past x.event tx come l))
+  by_local true l g = absurd (not_both (was_global tx past) g (local_apart past x.event tx come l))
   by_local false l g = l
 
   by_cases : ((is_of_global tx x.event ≡ true) ⊎ (was_global tx past ≡ true)) → (was_global tx past ≡ true → was_local tx past ≡ false) → was_local tx (x ∷ past) ≡ false
-  by_cases (inl given) before = let (old, new) = global_apart past x.event tx come given in or_none _ _ new old
-  by_cases (inr earlier) before = or_none _ _ (by_local (is_of_local tx x.event) refl earlier) (before earlier)
+  by_cases (inl given) before = let (old, new) = global_apart past x.event tx come given in or_from _ _ new old
+  by_cases (inr earlier) before = or_from _ _ (by_local (is_of_local tx x.event) refl earlier) (before earlier)
 
 module _ (home : Home) (whole : SitePast) (made : IsMade home whole) where
   -- an event is sorted by what was local among all

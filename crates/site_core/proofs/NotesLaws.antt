@@ -1,12 +1,13 @@
 -- How a book that notes a past goes on: behind a line of an attempt, and at a start.
-use Rattle.std.proofs.Common.{◌≡◌, ℕ, ◌≤◌, ◌⊎◌, ◌||◌, ◌&&◌, Bool, true, false, cond, is_some, IsSome, Option, Some, None, List, [], ◌∷◌, ◌++◌, length, inl, inr, refl, sym, ap, ap₂, ◌∙◌, subst}
+use Rattle.std.proofs.Common.{◌≡◌, ℕ, ◌≤◌, ◌⊎◌, ◌||◌, ◌&&◌, Bool, true, false, cond, is_some, IsSome, Option, Some, None, List, ◌∷◌, ◌++◌, length, inl, inr, refl, sym, ap, ap₂, ◌∙◌, subst}
 use Rattle.std.specs.Ordering.{eq_by_cmp}
-use Rattle.std.specs.FinMap.{FinMap, empty, get, get-empty, insert, remove}
+use Rattle.std.specs.FinMap.{empty, get, get-empty}
 use Rattle.std.proofs.lemmas.Bool.{cond-true, cond-false, and_parts}
 use Rattle.mdb_base.specs.declared.names.Tid.{Tid}
 use Rattle.mdb_base.specs.declared.names.Tx.{Tx}
 use Rattle.mdb_base.specs.Names.{same_tid, same_tx}
-use Rattle.mdb_base.proofs.NameLaws.{same_tid-equal, same_tid-refl, same_tid-sym}
+use Rattle.mdb_base.proofs.NameLaws.{same_tid-equal, same_tid-refl, same_tid-sym, same_tx-equal, same_tx-refl}
+use Rattle.mdb_base.proofs.BoolLaws.{not_both as differ}
 use Rattle.fed_rules.specs.Runs.{Start, EngineLine, Begins, Acts, Takes, Seals, Refuses, Commits, Aborts, Run, gives_up, run_at, tid_of}
 use Rattle.fed_rules.specs.SitePast.{SiteHappening, SitePast, ends, live_one}
 use Rattle.site_book.specs.declared.progress.Progress.{Progress}
@@ -14,39 +15,20 @@ use Rattle.site_book.specs.declared.progress.Progress.TheVariants as Is
 use Rattle.site_book.specs.declared.progress.Standing.{Standing}
 use Rattle.site_book.specs.declared.progress.Standing.TheVariants as Has
 use Rattle.site_book.specs.Noted.{fresh}
-use Rattle.site_book.specs.Book.{Attempts, Book, Counts, Standings, begins_local, closes, committed_in, committed_part, commits_local, counted, count_of, live_in, live_part, not_running, progress_of, restarted, running_in, running_part, runs, standing_of, tid_cmp, tx_cmp, with_committed, with_doubtful}
+use Rattle.site_book.specs.Book.{Book, Counts, Standings, begins_local, closes, committed_in, committed_part, commits_local, counted, count_of, live_in, live_part, not_running, progress_of, restarted, running_in, running_part, runs, standing_of, tid_cmp, tx_cmp}
 use Rattle.site_book.specs.Follows.{Follows, progress_by}
 use Rattle.site_core.specs.Order.{IsInOrder}
 use Rattle.site_book.proofs.Followed.{get-put_tid}
-use Rattle.site_book.proofs.Keys.{txs_exact, txs_total, tx_ties}
-use Rattle.site_book.proofs.Maps.{get-gone, get-put}
+use Rattle.site_book.proofs.Ordered.{get-put_tx, get-gone_tx}
+use Rattle.site_book.proofs.InOrder.{none_running-committed, no_live-doubtful}
 use Rattle.site_core.specs.Made.{begins_tid, is_of_global, was_begun, was_global}
 use Rattle.site_core.specs.Notes.{Notes}
-use Rattle.site_core.proofs.NameLaws.{same_tx-equal, same_tx-refl}
-
--- what is put under a transaction, or taken out
-pub get-put_tx : {X : Type 0} (m : FinMap tx_cmp X) (t u : Tx) (v : X) → get (insert m t v) u ≡ cond (same_tx t u) (Some v) (get m u)
-get-put_tx m t u v = get-put txs_total txs_exact m t u v ∙ ap (λ (b : Bool). cond b (Some v) (get m u)) (tx_ties t u)
-
-pub get-gone_tx : {X : Type 0} (m : FinMap tx_cmp X) (t u : Tx) → get (remove m t) u ≡ cond (same_tx t u) None (get m u)
-get-gone_tx m t u = get-gone txs_total txs_exact m t u ∙ ap (λ (b : Bool). cond b None (get m u)) (tx_ties t u)
-
-same_tx-false : (a b : Tx) → same_tx a b ≡ false → same_tx b a ≡ false
-same_tx-false a b e = by_test (same_tx b a) refl where
-  by_test : (t : Bool) → same_tx b a ≡ t → same_tx b a ≡ false
-  by_test false f = f
-  by_test true f =
-      let same : same_tx a b ≡ true = ap (same_tx a) (same_tx-equal b a f) ∙ same_tx-refl a in
-      cc
 
 some_tid : (a b : Tid) → ◌≡◌ {A = Option Tid} (Some a) (Some b) → a ≡ b
 some_tid a b e = cc
 
 none_some : (b : Tid) → ◌≡◌ {A = Option Tid} None (Some b) → ⊥
 none_some b e = cc
-
-differ : (a : Bool) → a ≡ true → a ≡ false → ⊥
-differ a e f = cc
 
 -- an attempt of a local transaction begins
 pub order_begins : (book : Book) (tid : Tid) → IsInOrder book → ((u : Tid) → IsSome (live_in book u) → same_tx tid.tx u.tx ≡ false) → IsInOrder (begins_local tid book)
@@ -331,26 +313,10 @@ notes_same book start start' lines lines' closed closed' committed committed' pa
       known u (inl c) = n.known u (inl (sym (same_closed u) ∙ c))
       known u (inr l) = n.known u (inr (sym (ap₂ (λ (s : Start) (ls : List EngineLine). is_some (live_one (run_at s ls u))) same_start same_lines) ∙ l))
 
--- a book that starts has no attempt that runs or is live
-only_committed : (tids : List Tid) (m : Standings) (tx : Tx) → running_part (get m tx) ≡ None → running_part (get (with_committed tids m) tx) ≡ None
-only_committed [] m tx none = none
-only_committed (tid ∷ tids) m tx none =
-    only_committed tids (insert m tid.tx (Has.Committed tid)) tx (ap running_part (get-put_tx m tid.tx tx (Has.Committed tid)) ∙ by_tx (same_tx tid.tx tx)) where
-      by_tx : (b : Bool) → running_part (cond b (Some (Has.Committed tid)) (get m tx)) ≡ None
-      by_tx true = refl
-      by_tx false = none
-
-only_sealed : (tids : List Tid) (m : Attempts) (u : Tid) → live_part (get m u) ≡ None → live_part (get (with_doubtful tids m) u) ≡ None
-only_sealed [] m u none = none
-only_sealed (tid ∷ tids) m u none = only_sealed tids (insert m tid Is.Sealed) u (ap live_part (get-put_tid m tid u Is.Sealed) ∙ by_tid (same_tid tid u)) where
-  by_tid : (b : Bool) → live_part (cond b (Some Is.Sealed) (get m u)) ≡ None
-  by_tid true = refl
-  by_tid false = none
-
 pub order_restarted : (committed doubtful : List Tid) (old : Book) → IsInOrder (restarted committed doubtful old)
 order_restarted committed doubtful old =
-    let none_runs : (tx : Tx) → running_in (restarted committed doubtful old) tx ≡ None = λ tx. only_committed committed empty tx (ap running_part (get-empty tx_cmp tx)) in
-    let none_lives : (u : Tid) → live_in (restarted committed doubtful old) u ≡ None = λ u. only_sealed doubtful empty u (ap live_part (get-empty tid_cmp u)) in
+    let none_runs : (tx : Tx) → running_in (restarted committed doubtful old) tx ≡ None = λ tx. none_running-committed committed empty tx (ap running_part (get-empty tx_cmp tx)) in
+    let none_lives : (u : Tid) → live_in (restarted committed doubtful old) u ≡ None = λ u. no_live-doubtful doubtful empty u (ap live_part (get-empty tid_cmp u)) in
     record {
       own = (λ tx t e. absurd (none_some t (sym (none_runs tx) ∙ e)));
       live = (λ tx t e. absurd (none_some t (sym (none_runs tx) ∙ e)));

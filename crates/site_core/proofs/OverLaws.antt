@@ -1,5 +1,6 @@
 -- An attempt of a global transaction that is closed or in doubt has no live run.
-use Rattle.std.proofs.Common.{◌≡◌, Bool, true, false, ◌==◌, ◌&&◌, ◌||◌, [], ◌∷◌, inl, inr, refl, sym, ap, ◌∙◌, subst, arith}
+use Rattle.std.proofs.Common.{◌≡◌, Bool, false, ◌==◌, ◌&&◌, [], ◌∷◌, inl, inr, sym, ap, ◌∙◌, subst, arith}
+use Rattle.std.proofs.lemmas.Bool.{or_parts}
 use Rattle.mdb_base.specs.declared.names.Tid.{Tid}
 use Rattle.fed_rules.specs.declared.events.SiteEvent.{SiteEvent}
 use Rattle.fed_rules.specs.declared.events.SiteEvent.TheVariants as Ev
@@ -33,14 +34,10 @@ first_firm home =
     firm_quiet site_frame (IsLooseEnded home.protocol) empty_disk (set_up_calls home) (inr tt)
     (record { sound = record { frames = omega arith; synced = omega arith }; loose = tt })
 
-pub neither : (a b : Bool) → (a || b) ≡ false → (a ≡ false) × (b ≡ false)
-neither true b e = cc
-neither false b e = (refl, e)
-
 firmly_shut : (home : Home) (past : SitePast) (tid : Tid) → IsMade home past → was_local tid.tx past ≡ false → IsFirm site_frame (IsLooseEnded home.protocol) (disk home past) × Shut home tid past
 firmly_shut home [] tid made e = (first_firm home, record { down = (λ f. cc); over = (λ f. cc) })
 firmly_shut home (x ∷ past) tid (line, come, made) e =
-    let (here, before) = neither (is_of_local tid.tx x.event) (was_local tid.tx past) e in
+    let (here, before) = or_parts (is_of_local tid.tx x.event) (was_local tid.tx past) e in
     let (firm, shut) = firmly_shut home past tid made before in
     let next = site-lines home tid past x.event firm in
     let F : SiteHappening → Type 0 = λ y. IsFirm site_frame (IsLooseEnded home.protocol) (disk home (y ∷ past)) in

@@ -1,5 +1,5 @@
 -- What a failed disk call leaves is what a stop leaves that events make; and what a halt and a trip that is set leave.
-use Rattle.std.proofs.Common.{◌≡◌, ℕ, zero, suc, ◌+◌, ◌≤◌, ◌<◌, ◌⊎◌, ◌==◌, ◌||◌, min, Bool, true, false, cond, not, Option, Some, None, Err, List, [], ◌∷◌, ◌++◌, length, take, inl, inr, refl, sym, ap, ap₂, ◌∙◌, subst, arith}
+use Rattle.std.proofs.Common.{◌≡◌, ℕ, zero, suc, ◌+◌, ◌≤◌, ◌⊎◌, ◌||◌, min, Bool, true, false, not, Option, None, Err, List, [], ◌∷◌, ◌++◌, length, take, inl, inr, refl, sym, ap, ap₂, ◌∙◌, subst, arith}
 use Rattle.std.specs.Prelude.{option_to_list}
 use Rattle.std.proofs.lemmas.Bool.{cond-true, cond-false, ne_eqb}
 use Rattle.mdb_base.specs.declared.names.Tid.{Tid}
@@ -35,7 +35,8 @@ use Rattle.site_core.specs.Store.{Ends, Keeps, Store}
 use Rattle.site_core.proofs.NotesLaws.{notes_same}
 use Rattle.site_core.proofs.OnceLaws.{AppendsOnce, once_stopped}
 use Rattle.site_core.proofs.UpLaws.{closed_same}
-use Rattle.site_core.proofs.Founded.{whole-all}
+use Rattle.site_history.proofs.Founded.{whole-all}
+use Rattle.actor_store.proofs.TripLaws.{trip_to-rules, trip_to-armed}
 use Rattle.site_core.proofs.RememberLaws.{answers_as, carries_quiet, carries_stop, down_is, kept_records, kind_at, stop_line, stopped_at, stopped_is, trips_is, up_is}
 
 -- the line of a trip that is set
@@ -112,23 +113,6 @@ stop_same rules cut synced within =
     let n : min rules.length (rules.synced + cut) ≡ rules.length = omega (arith, synced) in
     ap (λ (m : ℕ). record { records = whole site_frame m rules.records; length = m; synced = m; trimmed = rules.trimmed }) n
     ∙ ap₂ (λ (rs : List SiteRecord) (m : ℕ). record { records = rs; length = rules.length; synced = m; trimmed = rules.trimmed }) (whole-all rules.length rules.records within) (sym synced)
-
--- what a trip sets, as the rules speak of it
-trip_to-rules : (calls cut : ℕ) (old : Option Trip) → map_some trip_of_rules (trip_to calls cut) ≡ set (Some (record { calls = calls; cut = cut })) old
-trip_to-rules calls cut old = by_test (calls == 0) refl where
-  by_test : (t : Bool) → (calls == 0) ≡ t → map_some trip_of_rules (cond (calls == 0) None (Some (record { calls = calls; cut = cut }))) ≡ cond (calls == 0) None (Some (record { calls = calls; cut = cut }))
-  by_test true e = rw e refl
-  by_test false e = rw e refl
-
-positive : (n : ℕ) → (n == 0) ≡ false → 0 < n
-positive zero e = cc
-positive (suc n) e = omega arith
-
-trip_to-armed : (calls cut : ℕ) → IsArmed (trip_to calls cut)
-trip_to-armed calls cut = by_test (calls == 0) refl where
-  by_test : (t : Bool) → (calls == 0) ≡ t → IsArmed (cond (calls == 0) None (Some (record { calls = calls; cut = cut })))
-  by_test true e = rw e tt
-  by_test false e = rw e (positive calls e)
 
 module _ {E : Type 0} (stands : E → Lines.Start → List EngineLine → Type 0) (tells : Bool) where
   -- a past that is another one by the rules

@@ -17,33 +17,25 @@ use Rattle.fed_rules.specs.declared.runs.Doubt.{Doubt}
 use Rattle.fed_rules.specs.declared.runs.Kept.{Kept}
 use Rattle.fed_rules.specs.Attempts.{each_attempt}
 use Rattle.fed_rules.specs.Runs.{Run, restored, restored_at}
-use Rattle.fed_rules.specs.SiteRecords.{Held, Home, by_tid, doubt_of, doubts, epoch_of, kept_held, last_ticket, local_of, prepared_tids, ticket_owner}
-use Rattle.fed_rules.specs.SiteSums.{epoch_with, locals_with, site_sum}
+use Rattle.fed_rules.specs.SiteRecords.{Held, Home, by_tid, doubt_of, doubts, kept_held, last_ticket, local_of, prepared_tids, ticket_owner}
+use Rattle.fed_rules.specs.SiteSums.{locals_with, site_sum}
 use Rattle.field_bytes.specs.Fields.{IsTid}
 use Rattle.record_fields.specs.Named.{IsSite}
 use Rattle.record_fields.specs.Sums.{MaybeFits, tid_number}
 use Rattle.site_journal.specs.Spelling.{IsRecord, IsSumInRange}
 use Rattle.engine_laws.specs.Laws.{EachOnce}
-use Rattle.site_history.proofs.Restarts.{each_by_tid, each_found_from, once_doubts}
-use Rattle.site_history.proofs.Starts.{doubt_tid, restored_doubt}
-use Rattle.prepared_state.specs.Book.{AreApart, doubt_about}
+use Rattle.site_history.proofs.Restarts.{each_by_tid, each_found_from, once_doubts, each_held}
+use Rattle.site_history.proofs.Starts.{restored_doubt}
+use Rattle.prepared_state.specs.Book.{doubt_about}
+use Rattle.record_fields.specs.AttemptOrder.{before-less}
 use Rattle.journal_sums.specs.Starts.{doubt_held}
 use Rattle.site_book.specs.declared.progress.Standing.{Standing}
 use Rattle.site_book.specs.declared.progress.Standing.TheVariants as Has
 use Rattle.site_book.specs.Book.{Standings, committed_part, tx_cmp, with_committed}
-use Rattle.site_core.specs.Recovered.{IsFounded, LocalsOnce, foundation, held_tid}
-use Rattle.site_core.proofs.NameLaws.{same_tx-equal, same_tx-refl}
-use Rattle.site_core.proofs.NotesLaws.{get-put_tx}
-
--- the epoch that a Sum says
-pub epoch_same : (records : List SiteRecord) → epoch_with 0 records ≡ epoch_of records
-epoch_same [] = refl
-epoch_same (Rec.Setup site engine protocol items ∷ records) = epoch_same records
-epoch_same (Rec.Start epoch ∷ records) = refl
-epoch_same (Rec.Prepared tid epoch number ticket writes ∷ records) = epoch_same records
-epoch_same (Rec.Ended tid decision ∷ records) = epoch_same records
-epoch_same (Rec.Local tid number writes ∷ records) = epoch_same records
-epoch_same (Rec.Checkpoint sum ∷ records) = epoch_same records
+use Rattle.site_history.proofs.Founded.{IsFounded, foundation}
+use Rattle.site_book.proofs.Ordered.{get-put_tx}
+use Rattle.journal_sums.proofs.DoubtLaws.{are_doubts}
+use Rattle.site_core.specs.Recovered.{LocalsOnce, held_tid}
 
 -- the attempts rise by their transactions
 abbrev Rises : List Tid → Type 0
@@ -153,13 +145,6 @@ owner_in_range (Rec.Prepared tid epoch number ticket writes ∷ records) r = by_
   by_test true rest = r.0.0
   by_test false rest = rest
 
--- those in doubt: each is that of its attempt, in its range, and each attempt stands once
-pub each_own : (records : List SiteRecord) → Each (λ held. doubt_of records held.tid ≡ Some held) (doubts records)
-each_own records =
-    each_by_tid (λ held. doubt_of records held.tid ≡ Some held) (found (doubt_of records) (each_attempt (prepared_tids records)))
-    (each_found_from (λ held. doubt_of records held.tid ≡ Some held) (doubt_of records) (each_attempt (prepared_tids records))
-    (λ tid held i e. ap (doubt_of records) (doubt_tid records tid held e) ∙ e))
-
 doubt_in_range : (records : List SiteRecord) (tid : Tid) (held : Held) → AllByRecursion IsRecord records → doubt_of records tid ≡ Some held → IsTid held.tid
 doubt_in_range [] tid held r e = cc
 doubt_in_range (Rec.Setup site engine protocol items ∷ records) tid held r e = doubt_in_range records tid held r.1 e
@@ -186,7 +171,7 @@ each_held_more P Q [] f e = tt
 each_held_more P Q (held ∷ helds) f e = (f held e.0, each_held_more P Q helds f e.1)
 
 pub doubts_in_range : (records : List SiteRecord) → AllByRecursion IsRecord records → Each (λ held. IsTid held.tid) (doubts records)
-doubts_in_range records r = each_held_more (λ held. doubt_of records held.tid ≡ Some held) (λ held. IsTid held.tid) (doubts records) (λ held e. doubt_in_range records held.tid held r e) (each_own records)
+doubts_in_range records r = each_held_more (λ held. doubt_of records held.tid ≡ Some held) (λ held. IsTid held.tid) (doubts records) (λ held e. doubt_in_range records held.tid held r e) (are_doubts records)
 
 each_held_put : (P : Held → Type 0) (held : Held) (helds : List Held) → P held → Each P helds → Each P (inserted (λ a b. tid_before a.tid b.tid) held helds)
 each_held_put P held [] p rest = (p, tt)
@@ -194,22 +179,6 @@ each_held_put P held (other ∷ helds) p rest = by_test (tid_before other.tid he
   by_test : (b : Bool) → Each P (inserted (λ a b. tid_before a.tid b.tid) held helds) → Each P (cond b (other ∷ inserted (λ a b. tid_before a.tid b.tid) held helds) (held ∷ other ∷ helds))
   by_test true more = (rest.0, more)
   by_test false more = (p, rest)
-
--- attempts by the pairs of their numbers
-before_number : (a b : Tid) → IsTid a → IsTid b → tid_before a b ≡ true → tid_number a < tid_number b
-before_number a b ra rb e = by_less (nat_lt a.tx.0 b.tx.0) refl e where
-  small : a.attempt < 32
-  small = ra.attempts
-
-  small' : b.attempt < 32
-  small' = rb.attempts
-
-  by_less : (t : Bool) → nat_lt a.tx.0 b.tx.0 ≡ t → (t || ((a.tx.0 == b.tx.0) && nat_lt a.attempt b.attempt)) ≡ true → tid_number a < tid_number b
-  by_less true l f = let less = ltb-true a.tx.0 b.tx.0 l in omega (arith, less, small)
-  by_less false l f = by_same (a.tx.0 == b.tx.0) refl f where
-    by_same : (t : Bool) → (a.tx.0 == b.tx.0) ≡ t → (t && nat_lt a.attempt b.attempt) ≡ true → tid_number a < tid_number b
-    by_same true s f = let same = eqb-true a.tx.0 b.tx.0 s in let less = ltb-true a.attempt b.attempt f in omega (arith, same, less)
-    by_same false s f = cc
 
 not_before_number : (a b : Tid) → IsTid a → IsTid b → tid_before a b ≡ false → same_tid b a ≡ false → tid_number b < tid_number a
 not_before_number a b ra rb e apart = by_less (nat_lt a.tx.0 b.tx.0) refl e where
@@ -268,14 +237,10 @@ held_rises held [] r rs apart up = (tt, tt)
 held_rises held (other ∷ helds) r rs apart up = by_test (tid_before other.tid held.tid) refl (held_rises held helds r rs.1 apart.1 up.1) where
   by_test : (b : Bool) → tid_before other.tid held.tid ≡ b → RisesHeld (inserted (λ a b. tid_before a.tid b.tid) held helds)
       → RisesHeld (cond b (other ∷ inserted (λ a b. tid_before a.tid b.tid) held helds) (held ∷ other ∷ helds))
-  by_test true e rest = (each_held_put (λ h. tid_number other.tid < tid_number h.tid) held helds (before_number other.tid held.tid rs.0 r e) up.0, rest)
+  by_test true e rest = (each_held_put (λ h. tid_number other.tid < tid_number h.tid) held helds (before-less other.tid held.tid rs.0 r e) up.0, rest)
   by_test false e rest =
       let first : tid_number held.tid < tid_number other.tid = not_before_number other.tid held.tid rs.0 r e apart.0 in
       ((first, each_held_more (λ h. tid_number other.tid < tid_number h.tid) (λ h. tid_number held.tid < tid_number h.tid) helds (λ h l. omega (arith, l, first)) up.0), up)
-
-each_kept : (P : Kept → Type 0) (helds : List Held) → Each P (map kept_held helds) → Each (λ held. P (kept_held held)) helds
-each_kept P [] e = tt
-each_kept P (held ∷ helds) e = (e.0, each_kept P helds e.1)
 
 each_kept_back : (P : Kept → Type 0) (helds : List Held) → Each (λ held. P (kept_held held)) helds → Each P (map kept_held helds)
 each_kept_back P [] e = tt
@@ -299,9 +264,9 @@ once_parts held (other ∷ helds) e = by_test (tid_before other.tid held.tid) e 
       → EachOnce (map kept_held (other ∷ helds)) × Each (λ h. same_tid held.tid h.tid ≡ false) (other ∷ helds)
   by_test true e parts =
       let both = parts e.1 in
-      let more = each_parts (λ h. same_tid other.tid h.tid ≡ false) held helds (each_kept (λ k. same_tid other.tid k.tid ≡ false) (inserted (λ a b. tid_before a.tid b.tid) held helds) e.0) in
+      let more = each_parts (λ h. same_tid other.tid h.tid ≡ false) held helds (each_held (λ k. same_tid other.tid k.tid ≡ false) (inserted (λ a b. tid_before a.tid b.tid) held helds) e.0) in
       ((each_kept_back (λ k. same_tid other.tid k.tid ≡ false) helds more.1, both.0), (same_tid-sym held.tid other.tid ∙ more.0, both.1))
-  by_test false e parts = (e.1, each_kept (λ k. same_tid held.tid k.tid ≡ false) (other ∷ helds) e.0)
+  by_test false e parts = (e.1, each_held (λ k. same_tid held.tid k.tid ≡ false) (other ∷ helds) e.0)
 
 by_tid_rises : (helds : List Held) → Each (λ h. IsTid h.tid) helds → EachOnce (map kept_held (by_tid helds)) → RisesHeld (by_tid helds)
 by_tid_rises [] r once = tt
@@ -388,20 +353,12 @@ doubts_about records tid =
     from : (o : Option Held) → first_where (λ held. same_tid held.tid tid) (doubts records) ≡ o → (p : Option Held) → doubt_of records tid ≡ p
         → is_some (first_where (λ held. same_tid held.tid tid) (doubts records)) ≡ is_some (map_some (λ h. restored (kept_held h)) (doubt_of records tid))
         → first_where (λ held. same_tid held.tid tid) (doubts records) ≡ doubt_of records tid
-    from (Some held) e p q same = e ∙ sym (own_first (doubt_of records) tid (doubts records) held (each_own records) e)
+    from (Some held) e p q same = e ∙ sym (own_first (doubt_of records) tid (doubts records) held (are_doubts records) e)
     from None e None q same = e ∙ sym q
     from None e (Some held) q same =
         let bad : is_some (first_where (λ h. same_tid h.tid tid) (doubts records)) ≡ true = same ∙ is_restored (doubt_of records tid) ∙ ap is_some q in
         let none : is_some (first_where (λ h. same_tid h.tid tid) (doubts records)) ≡ false = ap is_some e in
         cc
-
--- they are about different attempts
-pub doubts_apart : (helds : List Held) → EachOnce (map kept_held helds) → AreApart (map doubt_held helds)
-doubts_apart [] once = tt
-doubts_apart (held ∷ helds) once = (none helds (each_kept (λ k. same_tid held.tid k.tid ≡ false) helds once.0), doubts_apart helds once.1) where
-  none : (hs : List Held) → Each (λ h. same_tid held.tid h.tid ≡ false) hs → doubt_about held.tid (map doubt_held hs) ≡ None
-  none [] e = refl
-  none (h ∷ hs) e = cond-false _ _ _ (same_tid-sym h.tid held.tid ∙ e.0) ∙ none hs e.1
 
 -- who is committed by the list of a Sum
 abbrev first_of : Tx → List Tid → Option Tid

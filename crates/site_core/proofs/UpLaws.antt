@@ -14,6 +14,7 @@ use Rattle.mdb_base.specs.declared.replies.Why.TheVariants as Because
 use Rattle.mdb_base.specs.Names.{same_tid, same_tx}
 use Rattle.mdb_base.specs.Words.{map_some, some_of}
 use Rattle.mdb_base.proofs.NameLaws.{same_tid-equal, same_tid-refl}
+use Rattle.mdb_base.proofs.BoolLaws.{or_false}
 use Rattle.fed_rules.specs.declared.answers.Answer.{Answer}
 use Rattle.fed_rules.specs.declared.answers.Answer.TheVariants as Say
 use Rattle.fed_rules.specs.declared.events.SiteEvent.{SiteEvent}
@@ -41,13 +42,8 @@ use Rattle.site_core.specs.Notes.{Notes, NotesPast}
 use Rattle.site_core.specs.Stands.{Adds, Holds, IsUp, Remembers}
 use Rattle.site_core.specs.Store.{Store}
 use Rattle.site_core.proofs.LineLaws.{HasLive}
-use Rattle.site_core.proofs.NameLaws.{same_tx-refl}
-use Rattle.site_core.proofs.NotesLaws.{IsKnown, committed_begins, committed_closes, ends_its_own, get-put_tx, known_before, notes_change, notes_same, order_begins, order_closes}
+use Rattle.site_core.proofs.NotesLaws.{IsKnown, committed_begins, committed_closes, ends_its_own, known_before, notes_change, notes_same, order_begins, order_closes}
 use Rattle.site_core.proofs.RememberLaws.{IsPlain, is_up_at, more_lines, remembers_line, same_start}
-
-pub or_false : (a : Bool) → (a || false) ≡ a
-or_false true = refl
-or_false false = refl
 
 -- which attempts are closed behind a line that takes no decision
 pub closed_by : (past : SitePast) (x : SiteHappening) (u : Tid) → comes_up x.answer ≡ false → decides_on u x.event ≡ false → is_closed (x ∷ past) u ≡ (some_of (ends u) x.lines || is_closed past u)

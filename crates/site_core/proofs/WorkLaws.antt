@@ -10,7 +10,8 @@ use Rattle.mdb_base.specs.declared.replies.Reply.{Reply}
 use Rattle.mdb_base.specs.declared.replies.Reply.TheVariants as Reply_is
 use Rattle.mdb_base.specs.Names.{same_tid}
 use Rattle.mdb_base.specs.Words.{map_some, pick, when}
-use Rattle.mdb_base.proofs.NameLaws.{same_tid-equal, same_tid-refl}
+use Rattle.mdb_base.proofs.NameLaws.{same_tid-equal, same_tid-refl, same_tx-refl}
+use Rattle.mdb_base.proofs.BoolLaws.{or_false}
 use Rattle.fed_rules.specs.declared.answers.Answer.TheVariants as Say
 use Rattle.fed_rules.specs.declared.events.SiteStep.{SiteStep}
 use Rattle.fed_rules.specs.declared.messages.FromSite.TheVariants as From
@@ -42,11 +43,10 @@ use Rattle.site_core.proofs.BegunLaws.{none_begun}
 use Rattle.site_core.proofs.LineLaws.{HasLive}
 use Rattle.site_core.proofs.LocalLaws.{order_replies}
 use Rattle.site_core.proofs.MadeLaws.{made_right}
-use Rattle.site_core.proofs.NameLaws.{same_tx-refl}
 use Rattle.site_core.proofs.NotesLaws.{IsKnown, ends_its_own, known_before, notes_change}
 use Rattle.site_core.proofs.OperationLaws.{did_line, not_over, operation, operation_adds, operation_goes, operation_says}
 use Rattle.site_core.proofs.RememberLaws.{is_up_at}
-use Rattle.site_core.proofs.UpLaws.{acted_few, closed_by, closed_one, or_false}
+use Rattle.site_core.proofs.UpLaws.{acted_few, closed_by, closed_one}
 
 module _ (home : Home) (past : SitePast) (tid : Tid) (e n : ℕ) (act : PlainAct) where
   -- the act isn't the next operation of the run

@@ -6,13 +6,12 @@ use Rattle.mdb_base.specs.Names.{same_tid, same_tx}
 use Rattle.mdb_base.specs.Words.{some_of}
 use Rattle.fed_rules.specs.declared.events.SiteEvent.{SiteEvent}
 use Rattle.fed_rules.specs.declared.events.SiteEvent.TheVariants as Ev
-use Rattle.fed_rules.specs.declared.messages.ToSite.{ToSite}
-use Rattle.fed_rules.specs.declared.messages.ToSite.TheVariants as To
 use Rattle.fed_rules.specs.declared.answers.Answer.{Answer}
 use Rattle.fed_rules.specs.declared.answers.Answer.TheVariants as Say
 use Rattle.fed_rules.specs.Site.{site_line}
 use Rattle.fed_rules.specs.SitePast.{SitePast}
 use Rattle.fed_rules.specs.SiteRecords.{Home}
+pub use Rattle.fed_rules.specs.Site_of.{about}
 
 -- whether the event is of a local attempt of this transaction
 abbrev pub is_of_local : Tx → SiteEvent → Bool
@@ -21,13 +20,6 @@ is_of_local tx (Ev.Act tid act) = same_tx tid.tx tx
 is_of_local tx (Ev.Commit tid) = same_tx tid.tx tx
 is_of_local tx (Ev.Abort tid) = same_tx tid.tx tx
 is_of_local tx event = false
-
--- the attempt that a message is about
-abbrev pub about : ToSite → Tid
-about (To.Work tid epoch n act) = tid
-about (To.Take tid epoch n) = tid
-about (To.Prepare tid epoch n) = tid
-about (To.Decide tid decision) = tid
 
 -- whether the event gives a message about this transaction
 abbrev pub is_of_global : Tx → SiteEvent → Bool

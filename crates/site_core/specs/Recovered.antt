@@ -1,21 +1,12 @@
 -- What holds of the records of a site, and what a start takes of a subtransaction in doubt.
-use Rattle.std.specs.Prelude.{◌≡◌, None, List, [], ◌∷◌, ◌++◌}
+use Rattle.std.specs.Prelude.{◌≡◌, None, List, [], ◌∷◌}
 use Rattle.mdb_base.specs.declared.names.Tid.{Tid}
 use Rattle.fed_rules.specs.declared.records.SiteRecord.{SiteRecord}
 use Rattle.fed_rules.specs.declared.records.SiteRecord.TheVariants as Rec
-use Rattle.fed_rules.specs.SiteRecords.{Held, Home, local_of}
+use Rattle.fed_rules.specs.SiteRecords.{Held, local_of}
 
 abbrev pub held_tid : Held → Tid
 held_tid held = held.tid
-
--- the two records that every site begins with, the newest first
-abbrev pub foundation : Home → List SiteRecord
-foundation home = Rec.Start 1 ∷ Rec.Setup home.site home.engine home.protocol home.items ∷ []
-
--- the records, the newest first, stand on those of this site's set-up
-pub record IsFounded (home : Home) (records : List SiteRecord) : Type 0 where
-  pub newer : List SiteRecord
-  pub founded : records ≡ newer ++ foundation home
 
 -- no transaction has two Local records
 abbrev pub LocalsOnce : List SiteRecord → Type 0

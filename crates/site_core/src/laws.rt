@@ -4,7 +4,7 @@ ghost use Rattle.fed_rules.specs.SiteRecords.{Home};
 ghost use Rattle.site_history.specs.Events.{PreparesOnce};
 ghost use Rattle.site_history.specs.Lines.{HasRightLines};
 ghost use Rattle.site_history.specs.SiteOrders.{HasGoodStarts, IsSerialPast};
-ghost use Rattle.sum_laws.specs.Sums.{JournalSaysAll, JournalTellsStart};
+ghost use Rattle.site_history.specs.Sums.{JournalSaysAll, JournalTellsStart};
 ghost use Rattle.site_core.specs.Made.{IsMade};
 
 /// Whatever events made the past of a site, over all its stops, starts and Checkpoints: each engine line may come there and answers by the

@@ -1,11 +1,12 @@
 -- The runs of a site over several epochs: those in doubt as they were sealed, with their reads, and those that were committed.
-use Rattle.std.proofs.Common.{◌≡◌, ◌⊎◌, Bool, true, false, cond, not, Option, Some, None, List, [], ◌∷◌, ◌++◌, map, refl, sym, ap, ◌∙◌, subst, inl, inr}
+use Rattle.std.proofs.Common.{◌≡◌, ◌⊎◌, Bool, true, false, cond, not, Option, Some, None, List, [], ◌∷◌, map, refl, sym, ap, ◌∙◌, subst, inl, inr}
 use Rattle.std.specs.Prelude.{nat_lt}
 use Rattle.mdb_base.specs.declared.names.Tid.{Tid}
 use Rattle.mdb_base.specs.Names.{same_tid}
 use Rattle.mdb_base.specs.Words.{those, inserted}
 use Rattle.mdb_base.proofs.NameLaws.{same_tid-equal}
 use Rattle.order_laws.specs.Chains.{In}
+use Rattle.order_laws.proofs.InLaws.{in_inserted, in_append, append_in, those-in, in_map as map_in}
 use Rattle.fed_rules.specs.EngineLines.{IsRight}
 use Rattle.fed_rules.specs.Runs.{Start, EngineLine, Run, run_at, number, committed, by_number}
 use Rattle.engine_laws.specs.Epochs.{Epoch, AreEpochs, all_committed, new_runs, restored_tids}
@@ -36,19 +37,6 @@ WasCommitted epoch (before ∷ more) run =
     ((nat_lt epoch.start.counter (number run) ≡ true) × In run (committed epoch.start epoch.lines))
     ⊎ (WasRestored epoch before more run ⊎ WasCommitted before more run)
 
-pub in_inserted : {A : Type 0} (test : A → A → Bool) (x y : A) (ys : List A) → In y (inserted test x ys) → (x ≡ y) ⊎ In y ys
-in_inserted test x y [] i = i
-in_inserted test x y (z ∷ ys) i = by_test (test z x) i (in_inserted test x y ys)
-  where
-    by_test : (b : Bool) → In y (cond b (z ∷ inserted test x ys) (x ∷ z ∷ ys)) → (In y (inserted test x ys) → (x ≡ y) ⊎ In y ys)
-        → (x ≡ y) ⊎ ((z ≡ y) ⊎ In y ys)
-    by_test true (inl e) rest = inr (inl e)
-    by_test true (inr i) rest = elim (rest i) [
-      | inl e ↦ inl e
-      | inr j ↦ inr (inr j)
-    ]
-    by_test false i rest = i
-
 pub inserted_in : {A : Type 0} (test : A → A → Bool) (x y : A) (ys : List A) → (x ≡ y) ⊎ In y ys → In y (inserted test x ys)
 inserted_in test x y [] i = i
 inserted_in test x y (z ∷ ys) i = by_test (test z x) i (inserted_in test x y ys)
@@ -59,31 +47,6 @@ inserted_in test x y (z ∷ ys) i = by_test (test z x) i (inserted_in test x y y
     by_test true (inr (inl e)) rest = inl e
     by_test true (inr (inr j)) rest = inr (rest (inr j))
     by_test false i rest = i
-
-pub in_append : {A : Type 0} (y : A) (xs ys : List A) → In y (xs ++ ys) → In y xs ⊎ In y ys
-in_append y [] ys i = inr i
-in_append y (x ∷ xs) ys (inl e) = inl (inl e)
-in_append y (x ∷ xs) ys (inr i) = elim (in_append y xs ys i) [
-  | inl j ↦ inl (inr j)
-  | inr j ↦ inr j
-]
-
-pub append_in : {A : Type 0} (y : A) (xs ys : List A) → In y xs ⊎ In y ys → In y (xs ++ ys)
-append_in y [] ys (inl i) = elim i [ ]
-append_in y [] ys (inr i) = i
-append_in y (x ∷ xs) ys (inl (inl e)) = inl e
-append_in y (x ∷ xs) ys (inl (inr i)) = inr (append_in y xs ys (inl i))
-append_in y (x ∷ xs) ys (inr i) = inr (append_in y xs ys (inr i))
-
-pub in_those : {A : Type 0} (test : A → Bool) (y : A) (xs : List A) → In y (those test xs) → (test y ≡ true) × In y xs
-in_those test y [] i = elim i [ ]
-in_those test y (x ∷ xs) i = by_test (test x) refl i (in_those test y xs)
-  where
-    by_test : (b : Bool) → test x ≡ b → In y (cond b (x ∷ those test xs) (those test xs)) → (In y (those test xs) → (test y ≡ true) × In y xs)
-        → (test y ≡ true) × ((x ≡ y) ⊎ In y xs)
-    by_test true is (inl e) rest = (ap test (sym e) ∙ is, inl e)
-    by_test true is (inr i) rest = let r = rest i in (r.0, inr r.1)
-    by_test false is i rest = let r = rest i in (r.0, inr r.1)
 
 pub those_in : {A : Type 0} (test : A → Bool) (y : A) (xs : List A) → test y ≡ true → In y xs → In y (those test xs)
 those_in test y [] passes i = i
@@ -105,11 +68,6 @@ pub in_map : {A B : Type 0} (f : A → B) (y : B) (xs : List A) → In y (map f 
 in_map f y [] i = elim i [ ]
 in_map f y (x ∷ xs) (inl e) = record { item = x; among = inl refl; image = e }
 in_map f y (x ∷ xs) (inr i) = let r = in_map f y xs i in record { item = r.item; among = inr r.among; image = r.image }
-
-pub map_in : {A B : Type 0} (f : A → B) (x : A) (xs : List A) → In x xs → In (f x) (map f xs)
-map_in f x [] i = i
-map_in f x (z ∷ xs) (inl e) = inl (ap f e)
-map_in f x (z ∷ xs) (inr i) = inr (map_in f x xs i)
 
 pub in_by_number : (o : Option Run) (run : Run) (runs : List Run) → In run (by_number o runs) → (o ≡ Some run) ⊎ In run runs
 in_by_number None run runs i = inr i
@@ -259,14 +217,14 @@ in_all tids epoch (before ∷ more) run (after_it, right, rest) i =
     by_old (inl was) = inl (inr (inr was))
     by_old (inr r) =
         let one = in_map (λ x. x.tid) r.tid (those (λ x. not (nat_lt epoch.start.counter (number x))) runs) r.among in
-        let parts = in_those (λ x. not (nat_lt epoch.start.counter (number x))) one.item runs one.among in
+        let parts = those-in (λ x. not (nat_lt epoch.start.counter (number x))) one.item runs one.among in
         of_old one.item r.tid parts.0 one.image r.is (with_in epoch.start epoch.lines tids one.item parts.1)
 
     by_age : In run (new_runs epoch.start runs) ⊎ In run (all_committed olds before more)
         → (In run (all_committed olds before more) → WasCommitted before more run ⊎ IsRunOf (as_sealed before more) olds run)
         → WasCommitted epoch (before ∷ more) run ⊎ IsRunOf (as_sealed epoch (before ∷ more)) tids run
     by_age (inl i) k =
-        let parts = in_those (λ x. nat_lt epoch.start.counter (number x)) run runs i in
+        let parts = those-in (λ x. nat_lt epoch.start.counter (number x)) run runs i in
         of_new parts.0 (with_in epoch.start epoch.lines tids run parts.1)
     by_age (inr i) k = by_old (k i)
 

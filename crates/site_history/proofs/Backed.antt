@@ -10,6 +10,7 @@ use Rattle.fed_rules.specs.Runs.{Access, EngineLine}
 use Rattle.fed_rules.specs.SitePast.{SitePast, live}
 use Rattle.fed_rules.specs.SiteRecords.{Home}
 use Rattle.engine_laws.specs.Epochs.{Epoch}
+use Rattle.rules_laws.proofs.Disks.{front_of_front}
 use Rattle.rules_laws.specs.Durable.{IsFrontOf}
 use Rattle.site_history.specs.Accesses.{acts_at, acts_of, seals}
 use Rattle.site_history.specs.Records.{BindOnce, IsBound}
@@ -86,13 +87,6 @@ appended_none (CutBack ∷ calls) records h = appended_none calls records h
 appended_none (TrimFront ∷ calls) records h = appended_none calls records h
 appended_none (Stops cut ∷ calls) records h = appended_none calls records h
 
-pub front_more : {A : Type 0} (xs ys zs : List A) → IsFrontOf xs ys → IsFrontOf ys zs → IsFrontOf xs zs
-front_more {A = A} xs ys zs (newer, e) (more, f) = (newer ++ more, e ∙ ap (λ rest. newer ++ rest) f ∙ append_assoc newer more zs)
-  where
-    append_assoc : (us vs ws : List A) → us ++ (vs ++ ws) ≡ (us ++ vs) ++ ws
-    append_assoc [] vs ws = refl
-    append_assoc (u ∷ us) vs ws = ap (λ rest. u ∷ rest) (append_assoc us vs ws)
-
 -- those that are whole are the oldest ones
 whole_front : (size : SiteRecord → ℕ) (b : ℕ) (records : List SiteRecord) → IsFrontOf records (whole size b records)
 whole_front size b [] = ([], refl)
@@ -112,7 +106,7 @@ front_after size disk (CutBack ∷ calls) h = front_after size (after_call size 
 front_after size disk (TrimFront ∷ calls) h = front_after size (after_call size disk TrimFront) calls h
 front_after size disk (Stops cut ∷ calls) h =
     subst (λ rs. IsFrontOf rs (after_calls size (after_call size disk (Stops cut)) calls).records) (sym (appended_none calls disk.records h))
-    (front_more disk.records (after_call size disk (Stops cut)).records (after_calls size (after_call size disk (Stops cut)) calls).records
+    (front_of_front disk.records (after_call size disk (Stops cut)).records (after_calls size (after_call size disk (Stops cut)) calls).records
     (whole_front size _ disk.records)
     (subst (λ rs. IsFrontOf rs (after_calls size (after_call size disk (Stops cut)) calls).records)
     (appended_none calls (after_call size disk (Stops cut)).records h)

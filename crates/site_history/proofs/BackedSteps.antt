@@ -6,6 +6,7 @@ use Rattle.mdb_base.specs.Words.{or_else}
 use Rattle.mdb_base.proofs.NameLaws.{same_tid-equal}
 use Rattle.order_laws.specs.Chains.{In}
 use Rattle.presumptions.specs.declared.Decision.TheVariants as Decided
+use Rattle.order_laws.proofs.InLaws.{in_inserted}
 use Rattle.fed_rules.specs.declared.records.SiteRecord.{SiteRecord}
 use Rattle.fed_rules.specs.declared.records.SiteRecord.TheVariants.{Prepared, Ended, Local}
 use Rattle.fed_rules.specs.EngineLines.{IsRight, IsLive}
@@ -15,7 +16,7 @@ use Rattle.fed_rules.specs.SiteRecords.{Home, Held, Install, doubt_of, install_h
 use Rattle.engine_laws.specs.Epochs.{Epoch}
 use Rattle.engine_laws.proofs.Runs.{tid_is}
 use Rattle.site_history.specs.Lines.{Agrees}
-use Rattle.site_history.proofs.AsSealed.{as_sealed, in_inserted, inserted_in, WasCommitted}
+use Rattle.site_history.proofs.AsSealed.{as_sealed, inserted_in, WasCommitted}
 use Rattle.site_history.proofs.Backing.{IsBacked, IsHeldRun, IsInstalledRun, IsKeptRun, beside_doubt, epochs_lines, first_lines, run_beside_line, sealed_now}
 use Rattle.site_history.proofs.EpochLines.{commit_adds, commit_commits, commit_keeps, committed_stays, epoch_of_lines, sealed_stays}
 use Rattle.site_history.proofs.Installs.{held_in, install_before}

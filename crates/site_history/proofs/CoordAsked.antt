@@ -9,7 +9,7 @@ use Rattle.mdb_base.specs.declared.names.Tx.{Tx}
 use Rattle.mdb_base.specs.declared.replies.Reply.{Reply}
 use Rattle.mdb_base.specs.Names.{same_site, same_tid, same_tx}
 use Rattle.mdb_base.specs.Words.{how_many, some_of, those, with_some}
-use Rattle.mdb_base.proofs.NameLaws.{same_tid-equal}
+use Rattle.mdb_base.proofs.NameLaws.{same_tid-equal, same_tx-refl}
 use Rattle.fed_rules.specs.declared.answers.Answer.{Answer}
 use Rattle.fed_rules.specs.declared.answers.Answer.TheVariants as Say
 use Rattle.fed_rules.specs.declared.events.CoordEvent.{CoordEvent}
@@ -19,7 +19,6 @@ use Rattle.fed_rules.specs.declared.messages.FromSite.TheVariants as From
 use Rattle.fed_rules.specs.Coord.{did_counts, fits}
 use Rattle.fed_rules.specs.CoordPast.{Counted, CoordHappening, CoordPast, attempts_of, begins, begun_by, begun_tids, count_at, counted, counts, did_in, epoch_at, has_step_left, has_ticket_at, is_open, is_ticket, last_epoch, next_step, or_steps, outstanding, prepare_at, program, program_in, take_at, visits, vote_at, work_at}
 use Rattle.site_history.proofs.CoordSteps.{AllDone, IsCoordStep, IsGoOf, MayCount, is_from, is_step}
-use Rattle.site_history.proofs.LocalLines.{same_tx-refl}
 
 -- the attempt's number is below that of the next one
 abbrev pub IsBegun : CoordPast → Tid → Type 0

@@ -1,6 +1,6 @@
 -- Each line of the coordinator: it is at its event, begins only at a `go`, counts only what may count, and asks for a vote only where all
 -- operations of a site are done.
-use Rattle.coord_laws.proofs.Rules.{all_sending, some_sending, IsSending}
+use Rattle.rules_laws.proofs.Sending.{all_sending, some_sending, IsSending}
 use Rattle.std.proofs.Common.{◌≡◌, ℕ, Bool, true, false, cond, ◌&&◌, ◌||◌, Option, Some, None, List, [], ◌∷◌, ◌++◌, drop, map, take, refl, sym, ◌∙◌, subst}
 use Rattle.std.specs.Prelude.{is_none, not, nat_le, length, nat_lt}
 use Rattle.mdb_base.specs.declared.acts.Step.{Step}

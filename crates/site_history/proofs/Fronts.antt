@@ -7,8 +7,10 @@ use Rattle.fed_rules.specs.Disk.{Append, Call, CutBack, TrimFront, Stops, Sync}
 use Rattle.fed_rules.specs.Runs as Runs
 use Rattle.fed_rules.specs.SitePast.{SitePast}
 use Rattle.fed_rules.specs.SiteRecords.{Home}
+use Rattle.fed_rules.specs.Usable.{OfFronts}
 use Rattle.rules_laws.specs.Durable.{IsFrontOf}
-use Rattle.site_history.proofs.Backed.{StopsLast, appended, front_more}
+use Rattle.rules_laws.proofs.Disks.{front_of_front}
+use Rattle.site_history.proofs.Backed.{StopsLast, appended}
 use Rattle.site_history.proofs.Moves.{Moves, OnlySyncs, rests, begins_local, begins_work, goes_on, commits_local, prepares_run, settles_held, checks_sum}
 
 -- no stop is among the calls
@@ -28,7 +30,7 @@ stop_last (suc n) cut (Stops c ∷ calls) h = elim h [ ]
 
 pub grows : (calls : List (Call SiteRecord)) (rs : List SiteRecord) → IsFrontOf (appended calls rs) rs
 grows [] rs = ([], refl)
-grows (Append r ∷ calls) rs = front_more (appended calls (r ∷ rs)) (r ∷ rs) rs (grows calls (r ∷ rs)) (r ∷ [], refl)
+grows (Append r ∷ calls) rs = front_of_front (appended calls (r ∷ rs)) (r ∷ rs) rs (grows calls (r ∷ rs)) (r ∷ [], refl)
 grows (Sync ∷ calls) rs = grows calls rs
 grows (CutBack ∷ calls) rs = grows calls rs
 grows (TrimFront ∷ calls) rs = grows calls rs
@@ -63,20 +65,15 @@ move_no_stop home past local event calls lines (prepares_run n run asked others 
 move_no_stop home past local event calls lines (settles_held {rest = rest} held doubt synced just) = syncs_no_stop rest synced
 move_no_stop home past local event calls lines (checks_sum is) = tt
 
--- the fact holds of the records, and of the ones behind each
-abbrev pub AllFronts : (List SiteRecord → Type 0) → List SiteRecord → Type 0
-AllFronts P [] = P []
-AllFronts P (newest ∷ records) = P (newest ∷ records) × AllFronts P records
-
 -- of the records themselves
-pub whole_of_fronts : (P : List SiteRecord → Type 0) (records : List SiteRecord) → AllFronts P records → P records
+pub whole_of_fronts : (P : List SiteRecord → Type 0) (records : List SiteRecord) → OfFronts P records → P records
 whole_of_fronts P [] h = h
 whole_of_fronts P (newest ∷ records) h = h.0
 
 -- and of what a stop leaves of them
-pub fronts_of_front : (P : List SiteRecord → Type 0) (records kept : List SiteRecord) → IsFrontOf records kept → AllFronts P records → AllFronts P kept
-fronts_of_front P records kept (newer, e) h = behind newer (subst (AllFronts P) e h)
+pub fronts_of_front : (P : List SiteRecord → Type 0) (records kept : List SiteRecord) → IsFrontOf records kept → OfFronts P records → OfFronts P kept
+fronts_of_front P records kept (newer, e) h = behind newer (subst (OfFronts P) e h)
   where
-    behind : (newer : List SiteRecord) → AllFronts P (newer ++ kept) → AllFronts P kept
+    behind : (newer : List SiteRecord) → OfFronts P (newer ++ kept) → OfFronts P kept
     behind [] h = h
     behind (x ∷ newer) h = behind newer h.1

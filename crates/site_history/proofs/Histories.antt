@@ -6,6 +6,7 @@ use Rattle.mdb_base.specs.declared.names.Tx.{Tx}
 use Rattle.mdb_base.specs.Names.{same_tx}
 use Rattle.mdb_base.specs.Words.{Among, Each, some_of}
 use Rattle.mdb_base.proofs.ListLaws.{each_among}
+use Rattle.mdb_base.proofs.NameLaws.{same_tx-refl}
 use Rattle.fed_rules.specs.declared.records.SiteRecord.{SiteRecord}
 use Rattle.fed_rules.specs.declared.records.SiteRecord.TheVariants.{Setup, Start, Prepared, Ended, Local, Checkpoint}
 use Rattle.fed_rules.specs.Disk.{Append, Call}
@@ -20,7 +21,6 @@ use Rattle.site_history.specs.Records.{BindOnce, IsBound, Prepares}
 use Rattle.site_history.proofs.Agreement.{IsKept}
 use Rattle.site_history.proofs.Backed.{AllBacked, acts_after}
 use Rattle.site_history.proofs.Backing.{IsBacked}
-use Rattle.site_history.proofs.LocalLines.{same_tx-refl}
 use Rattle.site_history.proofs.Records.{doubt_in, record_of}
 use Rattle.site_history.proofs.Starts.{doubt_tid}
 

@@ -7,13 +7,14 @@ use Rattle.mdb_base.specs.Words.{inserted}
 use Rattle.mdb_base.proofs.NameLaws.{same_tid-equal, same_tid-refl}
 use Rattle.order_laws.specs.Chains.{In, Distinct}
 use Rattle.presumptions.specs.declared.Decision.TheVariants as Decided
+use Rattle.order_laws.proofs.InLaws.{in_inserted, in_map as map_in}
 use Rattle.fed_rules.specs.declared.records.SiteRecord.{SiteRecord}
 use Rattle.fed_rules.specs.declared.records.SiteRecord.TheVariants.{Setup, Start, Prepared, Ended, Local, Checkpoint}
 use Rattle.fed_rules.specs.SiteRecords.{Held, Install, by_number, doubt_of, due_installs, install_held, installs}
 use Rattle.site_history.specs.Records.{IsBound, BindOnce, TellOutcomes}
 use Rattle.site_history.proofs.Starts.{doubt_tid}
 use Rattle.site_history.proofs.Records.{as_held, bound_by, due_install, doubt_in, record_of, unbound}
-use Rattle.site_history.proofs.AsSealed.{in_inserted, in_map, inserted_in, map_in}
+use Rattle.site_history.proofs.AsSealed.{in_map, inserted_in}
 
 -- the attempts of installs are bound
 abbrev pub install_before : Install → Install → Bool

@@ -1,5 +1,5 @@
 -- The lines of local transactions, and those that ask, drop or only answer, are good ones.
-use Rattle.std.proofs.Common.{◌≡◌, ℕ, Bool, true, false, cond, not, ◌&&◌, ◌||◌, Option, Some, None, List, [], ◌∷◌, refl, sym, ap, ◌∙◌, subst, eq-eqb}
+use Rattle.std.proofs.Common.{◌≡◌, ℕ, Bool, true, false, cond, not, ◌&&◌, ◌||◌, Option, Some, None, List, [], ◌∷◌, refl, sym, ap, ◌∙◌, subst}
 use Rattle.std.specs.Prelude.{◌==◌, is_some}
 use Rattle.mdb_base.specs.declared.acts.PlainAct.{PlainAct}
 use Rattle.mdb_base.specs.declared.acts.PlainAct.TheVariants.{Read, Write}
@@ -10,9 +10,10 @@ use Rattle.mdb_base.specs.declared.replies.Reply.TheVariants as Reply_is
 use Rattle.mdb_base.specs.declared.replies.Why.{Why}
 use Rattle.mdb_base.specs.declared.replies.Why.TheVariants as Because
 use Rattle.mdb_base.specs.Names.{same_tid, same_tx}
-use Rattle.mdb_base.specs.Words.{Each, first_where, map_some}
+use Rattle.mdb_base.specs.Words.{Each, first_where}
 use Rattle.mdb_base.proofs.ListLaws.{each_found}
-use Rattle.mdb_base.proofs.NameLaws.{same_tid-equal, same_tid-refl}
+use Rattle.mdb_base.proofs.NameLaws.{same_tid-equal, same_tid-refl, same_tx-refl}
+use Rattle.mdb_base.proofs.OptionLaws.{none_from}
 use Rattle.fed_rules.specs.declared.answers.Answer.TheVariants as Say
 use Rattle.fed_rules.specs.declared.events.SiteEvent.TheVariants as Ev
 use Rattle.fed_rules.specs.declared.messages.FromSite.TheVariants as From
@@ -26,9 +27,6 @@ use Rattle.engine_laws.proofs.Runs.{attempts_have, tid_is}
 use Rattle.site_history.specs.Lines.{Agrees}
 use Rattle.site_history.proofs.Agreement.{IsKept, IsGoodLine, IsLiveHere, acted_open, good_pick, good_when, live_here, one, one_live, still}
 
-pub same_tx-refl : (a : Tx) → same_tx a a ≡ true
-same_tx-refl a = eq-eqb a.0 a.0 refl
-
 -- where no item is the first that passes, each fails
 none_first : {A : Type 0} (test : A → Bool) (xs : List A) → first_where test xs ≡ None → Each (λ x. test x ≡ false) xs
 none_first test [] e = tt
@@ -39,10 +37,6 @@ none_first test (x ∷ xs) e = by_test (test x) refl e (none_first test xs)
     by_test true is e rest = cc
     by_test false is e rest = (is, rest e)
 
-no_value : {A B : Type 0} (f : A → B) (o : Option A) → map_some f o ≡ None → o ≡ None
-no_value f None e = refl
-no_value f (Some a) e = cc
-
 -- an attempt of a transaction with no live attempt, and of which the site isn't in doubt, has no run
 pub begin_free : (home : Home) (past : SitePast) (tid : Tid) → IsKept home past → live_of_tx home past tid.tx ≡ None
     → doubt_of (records home past) tid ≡ None → run_of home past tid ≡ None
@@ -50,7 +44,7 @@ begin_free home past tid k none fresh = by_run (run_of home past tid) refl
   where
     failed : Each (λ run. (same_tx run.tid.tx tid.tx && not (is_sealed run)) ≡ false) (unended (epoch_start home past) (engine_lines past))
     failed = none_first (λ run. same_tx run.tid.tx tid.tx && not (is_sealed run)) (unended (epoch_start home past) (engine_lines past))
-        (no_value (λ run. run.tid) (first_where (λ run. same_tx run.tid.tx tid.tx && not (is_sealed run))
+        (none_from (λ run. run.tid) (first_where (λ run. same_tx run.tid.tx tid.tx && not (is_sealed run))
         (unended (epoch_start home past) (engine_lines past))) none)
 
     by_run : (o : Option Run) → run_of home past tid ≡ o → o ≡ None

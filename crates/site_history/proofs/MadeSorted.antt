@@ -3,6 +3,9 @@ use Rattle.std.proofs.Common.{◌≡◌, Bool, true, false, cond, Some, List, []
 use Rattle.mdb_base.specs.Names.{same_site}
 use Rattle.mdb_base.specs.Words.{Each}
 use Rattle.mdb_base.proofs.ListLaws.{each_among, each_map}
+use Rattle.mdb_base.proofs.NameLaws.{same_site-equal}
+use Rattle.mdb_base.proofs.OptionLaws.{some_parts}
+use Rattle.order_laws.proofs.InLaws.{append_in}
 use Rattle.fed_rules.specs.declared.commands.Command.{Command}
 use Rattle.fed_rules.specs.declared.events.SiteEvent.{SiteEvent}
 use Rattle.fed_rules.specs.declared.events.SiteEvent.TheVariants as Site_event
@@ -16,9 +19,7 @@ use Rattle.fed_rules.specs.SiteRecords.{Home}
 use Rattle.fed_rules.specs.Story.{Story, Happened, AtSite, AtCoordinator, Nowhere, coord_past, happens, past_of, sends_to, sent_to, story_of, with_site}
 use Rattle.site_history.specs.Events.{AreSorted}
 use Rattle.site_history.specs.Stories.{EventsAreSorted, IsGiven, is_local}
-use Rattle.site_history.proofs.AsSealed.{append_in}
-use Rattle.rules_laws.proofs.Declared.{home-again, same-site}
-use Rattle.order_laws.proofs.Alike.{some_parts}
+use Rattle.rules_laws.proofs.Declared.{home-again}
 use Rattle.site_history.proofs.SortedStories.{IsGood, IsVoteAsked, good_happens, sorted_story}
 
 -- the events that make the past of a site so far
@@ -61,7 +62,7 @@ past_more scenario home story (AtSite at x) declared g m = by_test (same_site at
     }
     by_test true q =
         let (other, event, found, is, sorted, given) = g.sorted in
-        let same : at ≡ home.site = same-site at home.site q in
+        let same : at ≡ home.site = same_site-equal at home.site q in
         let one : other ≡ home = some_parts (sym found ∙ ap (home_of scenario) same ∙ declared) in
         let line : x ≡ site_line home (past_of home.site story) event =
         is ∙ ap (λ h. site_line h (past_of at story) event) one ∙ ap (λ s. site_line home (past_of s story) event) same in

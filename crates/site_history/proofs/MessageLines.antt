@@ -250,7 +250,7 @@ ended_appends : (b : Bool) → EachAppend HasRisingWrites (cond b (Sync ∷ []) 
 ended_appends true = tt
 ended_appends false = tt
 
-ended_records : (disk : Disk SiteRecord) (b : Bool) → (after_calls site_frame disk (cond b (Sync ∷ []) [])).records ≡ disk.records
+pub ended_records : (disk : Disk SiteRecord) (b : Bool) → (after_calls site_frame disk (cond b (Sync ∷ []) [])).records ≡ disk.records
 ended_records disk true = refl
 ended_records disk false = refl
 

@@ -1,27 +1,19 @@
 -- Runs that are serial, the last one first, as attempts one after another, the first one first.
-use Rattle.order_laws.proofs.Reversed.{reverse_more}
 use Rattle.std.proofs.Common.{◌≡◌, ℕ, ◌<◌, ◌⊎◌, Some, List, [], ◌∷◌, ◌++◌, map, reverse, refl, sym, ap, ◌∙◌, subst, inl, inr}
 use Rattle.mdb_base.specs.declared.names.Tid.{Tid}
 use Rattle.mdb_base.specs.Rows.{Table}
 use Rattle.mdb_base.specs.Words.{Each}
 use Rattle.mdb_base.proofs.ListLaws.{each_among}
+use Rattle.mdb_base.proofs.JoinLaws.{reverse_more}
 use Rattle.order_laws.specs.Chains.{In, Distinct}
 use Rattle.order_laws.specs.Orders.{Before}
+use Rattle.order_laws.proofs.InLaws.{in_append, in_reverse}
 use Rattle.fed_rules.specs.declared.records.SiteRecord.{SiteRecord}
 use Rattle.fed_rules.specs.Runs.{Access, Run, after, table_of}
 use Rattle.fed_rules.specs.SerialRuns.{HasLowerTicket, IsSerial, ReadsAlone, TicketsFall}
 use Rattle.site_history.specs.Records.{IsPrepared}
 use Rattle.site_history.specs.SiteOrders.{SiteSerial, table_after}
-use Rattle.site_history.proofs.AsSealed.{in_append, in_map}
-
-pub in_reverse : {A : Type 0} (a : A) (xs : List A) → In a (reverse xs) → In a xs
-in_reverse a [] i = i
-in_reverse a (x ∷ xs) i = by_place (in_append a (reverse xs) (x ∷ []) (subst (In a) (reverse_more x xs) i)) (in_reverse a xs)
-  where
-    by_place : In a (reverse xs) ⊎ ((x ≡ a) ⊎ ⊥) → (In a (reverse xs) → In a xs) → (x ≡ a) ⊎ In a xs
-    by_place (inl j) rest = inr (rest j)
-    by_place (inr (inl e)) rest = inl e
-    by_place (inr (inr never)) rest = elim never [ ]
+use Rattle.site_history.proofs.AsSealed.{in_map}
 
 distinct_more : {A : Type 0} (x : A) (xs : List A) → Distinct xs → (In x xs → ⊥) → Distinct (xs ++ x ∷ [])
 distinct_more x [] d free = ((λ i. i), tt)

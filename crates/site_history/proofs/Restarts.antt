@@ -30,6 +30,7 @@ use Rattle.site_history.proofs.Records.{HasNumber, doubt_number, number_most}
 use Rattle.site_history.proofs.SameLists.{install_of, installs_fall, rows_of_runs, same_list}
 use Rattle.site_history.proofs.Starts.{HasRisingWrites, doubt_tid, restored_doubt, restored_held, start_agrees}
 use Rattle.mdb_base.proofs.ListLaws.{each_inserted}
+use Rattle.mdb_base.proofs.EachLaws.{each_of_mapped}
 use Rattle.rules_laws.proofs.EachAttempt.{each_distinct}
 
 -- the committed runs of backed records, by falling numbers, are their installs
@@ -77,10 +78,6 @@ each_found_from P look (x ∷ xs) f = by_look (look x) refl (each_found_from P l
     by_look None is rest = rest
     by_look (Some y) is rest = (f x y (inl refl) is, rest)
 
-pub each_image : {A B : Type 0} (P : B → Type 0) (f : A → B) (xs : List A) → Each (λ x. P (f x)) xs → Each P (map f xs)
-each_image P f [] h = tt
-each_image P f (x ∷ xs) h = (h.0, each_image P f xs h.1)
-
 pub each_by_tid : (P : Held → Type 0) (helds : List Held) → Each P helds → Each P (by_tid helds)
 each_by_tid P [] h = tt
 each_by_tid P (held ∷ helds) h = each_inserted P held_before held (by_tid helds) h.0 (each_by_tid P helds h.1)
@@ -89,7 +86,7 @@ each_by_tid P (held ∷ helds) h = each_inserted P held_before held (by_tid held
 pub each_doubt : (P : Kept → Type 0) (records : List SiteRecord)
     → ((tid : Tid) (held : Held) → doubt_of records tid ≡ Some held → P (kept_held held)) → Each P (map kept_held (doubts records))
 each_doubt P records f =
-    each_image P kept_held (doubts records)
+    each_of_mapped P kept_held (doubts records)
     (each_by_tid (λ held. P (kept_held held)) (found (doubt_of records) (each_attempt (prepared_tids records)))
     (each_found_from (λ held. P (kept_held held)) (doubt_of records) (each_attempt (prepared_tids records)) (λ tid held i e. f tid held e)))
 
@@ -101,7 +98,7 @@ once_found records (u ∷ us) apart = by_held (doubt_of records u) refl (once_fo
         → EachOnce (map kept_held (with_some o (found (doubt_of records) us)))
     by_held None is rest = rest
     by_held (Some held) is rest = (
-      each_image (λ other. same_tid held.tid other.tid ≡ false) kept_held (found (doubt_of records) us)
+      each_of_mapped (λ other. same_tid held.tid other.tid ≡ false) kept_held (found (doubt_of records) us)
           (each_found_from (λ other. same_tid held.tid other.tid ≡ false) (doubt_of records) us
           (λ v other i e. by_test v other i e (same_tid held.tid other.tid) refl)),
       rest,
@@ -154,7 +151,7 @@ numbers_most home acts records start lines earlier b (run ∷ runs) sub = (
         number_most records h.kept (number run) h.among (kept_number run h.kept h.is)
     by_test false is = let most = ltb-false start.counter (number run) is in let c = b.counter in omega arith
 
-each_held : (P : Kept → Type 0) (helds : List Held) → Each P (map kept_held helds) → Each (λ held. P (kept_held held)) helds
+pub each_held : (P : Kept → Type 0) (helds : List Held) → Each P (map kept_held helds) → Each (λ held. P (kept_held held)) helds
 each_held P [] h = tt
 each_held P (held ∷ helds) h = (h.0, each_held P helds h.1)
 
@@ -166,12 +163,12 @@ once_inserted held (y ∷ more) apart once = by_before (held_before y held) (onc
     by_before : (c : Bool) → EachOnce (map kept_held (inserted held_before held more))
         → EachOnce (map kept_held (cond c (y ∷ inserted held_before held more) (held ∷ y ∷ more)))
     by_before true rest = (
-      each_image (λ other. same_tid y.tid other.tid ≡ false) kept_held (inserted held_before held more)
+      each_of_mapped (λ other. same_tid y.tid other.tid ≡ false) kept_held (inserted held_before held more)
           (each_inserted (λ other. same_tid y.tid other.tid ≡ false) held_before held more (same_tid-sym y.tid held.tid ∙ apart.0)
           (each_held (λ other. same_tid y.tid other.tid ≡ false) more once.0)),
       rest,
     )
-    by_before false rest = (each_image (λ other. same_tid held.tid other.tid ≡ false) kept_held (y ∷ more) apart, once)
+    by_before false rest = (each_of_mapped (λ other. same_tid held.tid other.tid ≡ false) kept_held (y ∷ more) apart, once)
 
 once_by_tid : (helds : List Held) → EachOnce (map kept_held helds) → EachOnce (map kept_held (by_tid helds))
 once_by_tid [] once = tt

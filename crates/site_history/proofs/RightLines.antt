@@ -14,7 +14,7 @@ use Rattle.fed_rules.specs.Site.{answered, of_back, site_line, site_past, unless
 use Rattle.fed_rules.specs.SitePast.{SitePast, SiteHappening, disk, epoch, epoch_start, engine_lines, records, trip}
 use Rattle.fed_rules.specs.SiteRecords.{Home, site_frame, site_payload}
 use Rattle.site_history.specs.Events.{IsFresh, AreFresh}
-use Rattle.site_history.specs.Lines.{LinesAreRight}
+use Rattle.site_history.specs.Lines.{HasRightLines, LinesAreRight}
 use Rattle.site_history.proofs.Starts.{HasRisingWrites, EachAppend, each_after, start_agrees}
 use Rattle.site_history.proofs.Agreement.{IsKept, IsGoodLine, kept_good, kept_start, kept_stopped, kept_tripped, still, summed}
 use Rattle.site_history.proofs.LocalLines.{good_abort, good_act, good_ask, good_begin, good_commit, good_drop, good_fate}
@@ -142,7 +142,8 @@ next_right home past (Ev.Ask tid) k fresh = (good_ask home past tid k).right
 next_right home past (Ev.Drop tid) k fresh = (good_drop home past tid k).right
 next_right home past Ev.Check k fresh = (good_check home past k).right
 
+pub right_of_kept : (home : Home) (past : SitePast) → IsKept home past → HasRightLines home past
+right_of_kept home past k = record { right = k.right; next = λ event now. next_right home past event k now; sealed = k.agrees }
+
 pub lines_right : LinesAreRight
-lines_right home events fresh =
-    let k = kept_past home events fresh in
-    record { right = k.right; next = λ event now. next_right home (site_past home events) event k now; sealed = k.agrees }
+lines_right home events fresh = right_of_kept home (site_past home events) (kept_past home events fresh)

@@ -11,6 +11,7 @@ use Rattle.mdb_base.specs.Words.{Among, Each, or_else, those}
 use Rattle.mdb_base.proofs.NameLaws.{same_tid-equal}
 use Rattle.order_laws.specs.Chains.{In, Distinct}
 use Rattle.order_laws.specs.Orders.{Before}
+use Rattle.order_laws.proofs.InLaws.{those-in}
 use Rattle.fed_rules.specs.declared.records.SiteRecord.{SiteRecord}
 use Rattle.fed_rules.specs.declared.records.SiteRecord.TheVariants.{Prepared}
 use Rattle.fed_rules.specs.Runs as Runs
@@ -26,7 +27,7 @@ use Rattle.site_history.specs.Accesses.{acts_at}
 use Rattle.site_history.specs.Lines.{Agrees}
 use Rattle.site_history.specs.Records.{BindOnce, IsPrepared, TellOutcomes}
 use Rattle.site_history.specs.SiteOrders.{HasEpochs, IsSerialOrder, IsSerialPast, OfSortedPasts, SiteSerial, table_after}
-use Rattle.site_history.proofs.AsSealed.{HasImage, IsRunOf, WasCommitted, all_in, as_sealed, in_all, in_those, those_in}
+use Rattle.site_history.proofs.AsSealed.{HasImage, IsRunOf, WasCommitted, all_in, as_sealed, in_all, those_in}
 use Rattle.rules_laws.specs.Durable.{IsFrontOf}
 use Rattle.fed_rules.specs.EngineLines.{IsStart}
 use Rattle.site_history.proofs.Backed.{AllBacked, backed_front, each_front, first_backing, once_front}
@@ -131,7 +132,7 @@ sealed_tids start lines rs agrees test (tid ∷ tids) distinct doubts =
         → AreSealed start lines (tid ∷ those test tids)
     by_run held None at a rest = elim a [ ]
     by_run held (Some run) at a rest =
-        (run, held.number, (at, a.0), others (those test tids) (λ u i. (in_those test u tids i).1), rest)
+        (run, held.number, (at, a.0), others (those test tids) (λ u i. (those-in test u tids i).1), rest)
 
     by_test : (b : Bool) → test tid ≡ b → AreSealed start lines (those test tids)
         → AreSealed start lines (cond b (tid ∷ those test tids) (those test tids))
@@ -163,7 +164,7 @@ due_run home acts rs start lines earlier commits run b told (inl w) =
       due = installed_due commits rs (install_of run) told h.installed;
     }
 due_run home acts rs start lines earlier commits run b told (inr r) =
-    let parts = in_those (λ t. commits t && is_some (doubt_of rs t)) r.tid (prepared_tids rs) r.among in
+    let parts = those-in (λ t. commits t && is_some (doubt_of rs t)) r.tid (prepared_tids rs) r.among in
     let d = due_tid commits rs r.tid parts.0 in
     let h = b.doubts r.tid d.held d.doubt in
     let both : Some h.run ≡ Some run = sym h.was ∙ r.is in

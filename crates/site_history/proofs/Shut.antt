@@ -1,6 +1,7 @@
 -- An attempt that was prepared in this epoch has no live run any more, over every line of a site that is up.
 use Rattle.std.proofs.Common.{◌≡◌, ℕ, ◌⊎◌, Bool, true, false, cond, ◌&&◌, ◌||◌, Option, Some, None, List, [], ◌∷◌, ◌++◌, refl, sym, ap, ◌∙◌, subst, inl, inr}
 use Rattle.std.specs.Prelude.{is_some}
+use Rattle.std.proofs.lemmas.Bool.{or_cases}
 use Rattle.mdb_base.specs.declared.names.Tid.{Tid}
 use Rattle.mdb_base.specs.declared.names.Tx.{Tx}
 use Rattle.mdb_base.specs.declared.rows.Put.{Put}
@@ -41,15 +42,11 @@ pub record IsShutAfter (home : Home) (past : SitePast) (calls : List (Call SiteR
   pub over : (is_closed past tid ≡ true) ⊎ ((some_of (ends tid) lines ≡ true) ⊎ (is_some (doubt_of (appended calls (records home past)) tid) ≡ true))
   pub dead : live_one (run_at (epoch_start home past) (lines ++ engine_lines past) tid) ≡ None
 
-over_parts : (a b : Bool) → (a || b) ≡ true → (a ≡ true) ⊎ (b ≡ true)
-over_parts true b e = inl refl
-over_parts false b e = inr e
-
 -- what is over stays so while its doubt lasts
 keeps_over : (home : Home) (past : SitePast) (lines : List EngineLine) (tid : Tid) (now : Option Held)
     → (is_some (doubt_of (records home past) tid) ≡ true → is_some now ≡ true) → is_over home past tid ≡ true
     → (is_closed past tid ≡ true) ⊎ ((some_of (ends tid) lines ≡ true) ⊎ (is_some now ≡ true))
-keeps_over home past lines tid now f e = elim (over_parts (is_closed past tid) (is_some (doubt_of (records home past) tid)) e) [
+keeps_over home past lines tid now f e = elim (or_cases (is_closed past tid) (is_some (doubt_of (records home past) tid)) e) [
   | inl c ↦ inl c
   | inr d ↦ inr (inr (f d))
 ]
@@ -134,7 +131,7 @@ shut_stays home past local event calls lines tid (settles_held {tid = mine} {dec
     → IsShutAfter home past (Append (Ended mine decision) ∷ rest) (settling_line mine decision ∷ []) tid)
     (synced_append rest (Ended mine decision ∷ records home past) synced)
     (λ over. record { over = over; dead = by_decision decision (same_tid mine tid) refl })
-    (by_parts (over_parts (is_closed past tid) (is_some (doubt_of (records home past) tid)) s.over) (same_tid mine tid) refl)
+    (by_parts (or_cases (is_closed past tid) (is_some (doubt_of (records home past) tid)) s.over) (same_tid mine tid) refl)
   where
     by_decision : (d : Decision) (b : Bool) → same_tid mine tid ≡ b
         → live_one (run_at (epoch_start home past) (settling_line mine d ∷ engine_lines past) tid) ≡ None

@@ -1,6 +1,7 @@
 -- Each line of a site keeps it so that what was prepared in this epoch is shut, and prepares no attempt twice.
 use Rattle.std.proofs.Common.{◌≡◌, ℕ, ◌⊎◌, Bool, true, false, cond, ◌||◌, List, [], ◌∷◌, ◌++◌, take, zero, suc, refl, sym, ap, ◌∙◌, subst, inl, inr, arith}
 use Rattle.std.specs.Prelude.{is_some}
+use Rattle.std.proofs.lemmas.Bool.{or_parts}
 use Rattle.mdb_base.specs.declared.names.Tid.{Tid}
 use Rattle.mdb_base.specs.declared.names.Tx.{Tx}
 use Rattle.mdb_base.specs.declared.rows.Put.{Put}
@@ -134,18 +135,13 @@ new_shut home past local event calls lines tid e number ticket writes (settles_h
     none_new (TrimFront ∷ cs) s i = none_new cs s i
     none_new (Stops cut ∷ cs) s i = s
 
--- a line that neither stops the site nor brings it up, as the answer tells
-pub plain_parts : (a b : Bool) → (a || b) ≡ false → (a ≡ false) × (b ≡ false)
-plain_parts true b e = cc
-plain_parts false b e = (refl, e)
-
 -- what is shut after the engine lines is shut after the line
 shut_line : (home : Home) (past : SitePast) (x : SiteHappening) (tid : Tid) → (stops x.answer || comes_up x.answer) ≡ false
     → (after_calls site_frame (disk home past) x.calls).records ≡ appended x.calls (records home past)
     → IsShutAfter home past x.calls x.lines tid → IsShut home (x ∷ past) tid
 shut_line home past x tid plain whole after = record {
   over = ap (λ b. cond b false ((decides_on tid x.event || some_of (ends tid) x.lines) || is_closed past tid)
-      || is_some (doubt_of (records home (x ∷ past)) tid)) (plain_parts (stops x.answer) (comes_up x.answer) plain).1
+      || is_some (doubt_of (records home (x ∷ past)) tid)) (or_parts (stops x.answer) (comes_up x.answer) plain).1
       ∙ ap (λ rs. ((decides_on tid x.event || some_of (ends tid) x.lines) || is_closed past tid) || is_some (doubt_of rs tid)) whole
       ∙ by_over (decides_on tid x.event) (some_of (ends tid) x.lines) (is_closed past tid)
       (is_some (doubt_of (appended x.calls (records home past)) tid)) after.over;
@@ -163,7 +159,7 @@ shut_line home past x tid plain whole after = record {
 
 down_plain : (past : SitePast) (x : SiteHappening) → (stops x.answer || comes_up x.answer) ≡ false → is_down (x ∷ past) ≡ false → is_down past ≡ false
 down_plain past x plain e =
-    let parts = plain_parts (stops x.answer) (comes_up x.answer) plain in
+    let parts = or_parts (stops x.answer) (comes_up x.answer) plain in
     sym (ap (λ b. cond b true (cond (comes_up x.answer) false (is_down past))) parts.0 ∙ ap (λ b. cond b false (is_down past)) parts.1) ∙ e
 
 -- an attempt that was prepared has a Prepared record

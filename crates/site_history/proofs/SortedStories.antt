@@ -1,13 +1,15 @@
 -- In every story the events of a declared site are sorted: its messages come from the coordinator, which begins only global transactions.
-use Rattle.std.proofs.Common.{◌≡◌, ℕ, zero, suc, Bool, true, false, cond, not, ◌&&◌, Option, Some, None, List, [], ◌∷◌, map, refl, sym, ◌∙◌, ap, subst, eqb-true, inl, inr}
+use Rattle.std.proofs.Common.{◌≡◌, Bool, true, false, cond, not, ◌&&◌, Option, Some, None, List, [], ◌∷◌, map, refl, sym, ◌∙◌, ap, subst}
 use Rattle.std.specs.Prelude.{is_some, ◌++◌}
 use Rattle.mdb_base.specs.declared.names.SiteId.{SiteId}
 use Rattle.mdb_base.specs.declared.names.Tid.{Tid}
 use Rattle.mdb_base.specs.declared.names.Tx.{Tx}
 use Rattle.mdb_base.specs.Names.{same_site, same_tx}
-use Rattle.mdb_base.specs.Words.{Each, first_where, item_at, map_some, those}
+use Rattle.mdb_base.specs.Words.{Each, first_where, map_some, those}
 use Rattle.mdb_base.proofs.ListLaws.{append_each}
-use Rattle.order_laws.specs.Chains.{In}
+use Rattle.mdb_base.proofs.NameLaws.{same_site-equal, same_tx-equal}
+use Rattle.mdb_base.proofs.EachLaws.{each_item_at}
+use Rattle.order_laws.proofs.InLaws.{item_at-in}
 use Rattle.fed_rules.specs.CoordPast.{CoordHappening, CoordPast}
 use Rattle.fed_rules.specs.declared.messages.ToSite.{ToSite}
 use Rattle.fed_rules.specs.declared.messages.ToSite.TheVariants as To
@@ -19,15 +21,15 @@ use Rattle.fed_rules.specs.declared.events.SiteEvent.TheVariants as Site_event
 use Rattle.fed_rules.specs.declared.messages.Sent.{Sent}
 use Rattle.fed_rules.specs.declared.scenario.Scenario.{Scenario}
 use Rattle.fed_rules.specs.declared.scenario.TxLine.{TxLine}
-use Rattle.fed_rules.specs.Runs.{Run, is_sealed, unended}
+use Rattle.fed_rules.specs.Runs.{Run, is_sealed}
 use Rattle.fed_rules.specs.Scenarios.{global_line, global_program, home_at, home_of, home_of_line, local_home, local_site, policy, protocols, transaction}
 use Rattle.fed_rules.specs.Site.{site_line}
-use Rattle.fed_rules.specs.SitePast.{SitePast, epoch_start, engine_lines, live_of_tx}
 use Rattle.fed_rules.specs.SiteRecords.{Home}
 use Rattle.fed_rules.specs.Story.{Story, Happened, AtSite, AtCoordinator, Nowhere, at_coordinator, coord_past, happens, past_of, sends_to, sent_to, story_of, with_coordinator}
+use Rattle.engine_laws.proofs.RunLines.{is_live_of}
 use Rattle.rules_laws.specs.Lines.{SiteCause, CoordCause, IsLine}
-use Rattle.rules_laws.proofs.Declared.{same-site}
 use Rattle.rules_laws.proofs.Lines.{line_is}
+use Rattle.rules_laws.proofs.SitePasts.{live_is_of}
 use Rattle.site_history.specs.Events.{IsSorted}
 use Rattle.site_history.specs.Stories.{IsGiven, is_local}
 use Rattle.site_history.proofs.CoordAsked.{AreBegun, IsAskedVote, IsNextGo, begun_next, vote_stays}
@@ -73,7 +75,7 @@ good_coordinator scenario story event s mine next = record {
 }
 
 -- who has a home is local
-local_is : (scenario : Scenario) (tx : Tx) (h : Home) → local_home scenario tx ≡ Some h → is_local scenario tx ≡ true
+pub local_is : (scenario : Scenario) (tx : Tx) (h : Home) → local_home scenario tx ≡ Some h → is_local scenario tx ≡ true
 local_is scenario tx h e = by_site (local_site scenario tx) refl e
   where
     by_site : (o : Option SiteId) → local_site scenario tx ≡ o → home_at scenario o ≡ Some h → is_some o ≡ true
@@ -93,19 +95,12 @@ global_is scenario tx steps e = by_line (transaction scenario tx) e
     by_line None e = cc
     by_line (Some line) e = by_home line line.home e
 
-same-tx : (a b : Tx) → same_tx a b ≡ true → a ≡ b
-same-tx a b h = let P : ℕ → Tx = λ n. record { 0 = n } in ap P (eqb-true a.0 b.0 h)
-
--- whether the run is a live one of the transaction
-abbrev is_live_of : Tx → Run → Bool
-is_live_of tx run = same_tx run.tid.tx tx && not (is_sealed run)
-
 first_tx : (tx : Tx) (tid : Tid) (runs : List Run) → map_some (λ (run : Run). run.tid) (first_where (is_live_of tx) runs) ≡ Some tid → tid.tx ≡ tx
 first_tx tx tid [] e = cc
 first_tx tx tid (run ∷ runs) e = by_test (is_live_of tx run) refl e (first_tx tx tid runs)
   where
     by_same : (t u : Bool) → same_tx run.tid.tx tx ≡ t → (t && u) ≡ true → run.tid.tx ≡ tx
-    by_same true u is e = same-tx run.tid.tx tx is
+    by_same true u is e = same_tx-equal run.tid.tx tx is
     by_same false u is e = cc
 
     by_test : (b : Bool) → is_live_of tx run ≡ b → map_some (λ (r : Run). r.tid) (cond b (Some run) (first_where (is_live_of tx) runs)) ≡ Some tid
@@ -114,21 +109,6 @@ first_tx tx tid (run ∷ runs) e = by_test (is_live_of tx run) refl e (first_tx 
         let same : run.tid ≡ tid = cc in
         ap (λ t. t.tx) (sym same) ∙ by_same (same_tx run.tid.tx tx) (not (is_sealed run)) refl is
     by_test false is e rest = rest e
-
--- the live attempt of a transaction is one of it
-live_tx : (home : Home) (past : SitePast) (tx : Tx) (tid : Tid) → live_of_tx home past tx ≡ Some tid → tid.tx ≡ tx
-live_tx home past tx tid e = first_tx tx tid (unended (epoch_start home past) (engine_lines past)) e
-
--- an item at a place of the list
-each_at : {A : Type 0} (P : A → Type 0) (xs : List A) (n : ℕ) (x : A) → Each P xs → item_at xs n ≡ Some x → P x
-each_at P [] n x h e = cc
-each_at P (y ∷ xs) zero x h e = let same : y ≡ x = cc in subst P same h.0
-each_at P (y ∷ xs) (suc n) x h e = each_at P xs n x h.1 e
-
-in_at : {A : Type 0} (xs : List A) (n : ℕ) (x : A) → item_at xs n ≡ Some x → In x xs
-in_at [] n x e = cc
-in_at (y ∷ xs) zero x e = inl (cc)
-in_at (y ∷ xs) (suc n) x e = inr (in_at xs n x e)
 
 module _ (scenario : Scenario) (story : Story) where
   -- a command asks a site for sorted events alone, and gives only what was sent
@@ -144,13 +124,13 @@ module _ (scenario : Scenario) (story : Story) where
       by_command (Cmd.Step tx) c = subst Holds (sym c.asks.is) (tt, tt)
       by_command (Cmd.Commit tx) c =
           subst Holds (sym c.asks.is)
-          (ap (is_local scenario) (live_tx home (past_of home.site story) tx c.asks.tid c.asks.is_live.found) ∙ local_is scenario tx home c.here, tt)
+          (ap (is_local scenario) (live_is_of home (past_of home.site story) tx c.asks.tid c.asks.is_live.found) ∙ local_is scenario tx home c.here, tt)
       by_command (Cmd.Abort tx) c = subst Holds (sym c.asks.is) (tt, tt)
       by_command (Cmd.Fate tx) c = subst Holds (sym c.asks) (tt, tt)
       by_command (Cmd.Give site place) c =
           subst Holds (sym c.1.is) (
-            each_at (λ m. IsSorted (is_local scenario) (Site_event.Give m)) (sent_to home.site story) place c.1.message (s.sent home.site) c.1.at,
-            in_at (sent_to home.site story) place c.1.message c.1.at,
+            each_item_at (λ m. IsSorted (is_local scenario) (Site_event.Give m)) (sent_to home.site story) place c.1.message (s.sent home.site) c.1.at,
+            item_at-in (sent_to home.site story) place c.1.message c.1.at,
           )
       by_command (Cmd.Ask site tid) c = subst Holds (sym c.1) (tt, tt)
       by_command (Cmd.Drop site tid) c = subst Holds (sym c.1) (tt, tt)
@@ -264,7 +244,7 @@ new_votes past site (sent ∷ sends) begun h = by_test (same_site sent.site site
         → Each (IsVoteAsked past site) (map (λ s. s.message) (those (λ s. same_site s.site site) sends))
         → Each (IsVoteAsked past site)
         (map (λ s. s.message) (cond b (sent ∷ those (λ s. same_site s.site site) sends) (those (λ s. same_site s.site site) sends)))
-    by_test true is rest = (by_message sent.message (subst (λ s. IsAsked past s sent.message) (same-site sent.site site is) h.0), rest)
+    by_test true is rest = (by_message sent.message (subst (λ s. IsAsked past s sent.message) (same_site-equal sent.site site is) h.0), rest)
     by_test false is rest = rest
 
 next_votes : (scenario : Scenario) (story : Story) (happened : Happened) (site : SiteId) → IsGood scenario story happened

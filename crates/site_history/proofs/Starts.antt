@@ -1,10 +1,10 @@
 -- What a start of a site restores agrees with its records.
-use Rattle.std.proofs.Common.{◌≡◌, ℕ, ◌⊎◌, Bool, true, false, cond, Option, Some, None, List, [], ◌∷◌, map, take, zero, suc, refl, sym, ap, ◌∙◌, subst, inl, inr, arith, le-ltb}
+use Rattle.std.proofs.Common.{◌≡◌, ℕ, ◌⊎◌, Bool, true, false, cond, Option, Some, None, List, [], ◌∷◌, map, take, zero, suc, refl, sym, ap, ◌∙◌, subst, inl, inr}
 use Rattle.mdb_base.specs.declared.names.Tid.{Tid}
 use Rattle.mdb_base.specs.Names.{same_tid, tid_before}
 use Rattle.mdb_base.specs.Rising.{IsRising}
 use Rattle.mdb_base.specs.Words.{Each, Among, found, with_some, map_some, inserted}
-use Rattle.mdb_base.proofs.NameLaws.{same_tid-equal, same_tid-refl}
+use Rattle.mdb_base.proofs.NameLaws.{same_tid-equal, same_tid-refl, before_itself}
 use Rattle.fed_rules.specs.declared.records.SiteRecord.{SiteRecord}
 use Rattle.fed_rules.specs.declared.records.SiteRecord.TheVariants.{Setup, Start, Prepared, Ended, Local, Checkpoint}
 use Rattle.fed_rules.specs.Disk.{Disk, Call, Append, Sync, CutBack, TrimFront, Stops, whole, bytes_of, after_call, after_calls}
@@ -13,7 +13,7 @@ use Rattle.fed_rules.specs.Attempts.{each_attempt}
 use Rattle.fed_rules.specs.SiteRecords.{Home, Held, doubt_of, prepared_tids, doubts, kept_held, start_of, by_tid, held_before}
 use Rattle.engine_laws.proofs.Rows.{puts_of_written}
 use Rattle.site_history.specs.Lines.{Agrees}
-use Rattle.std.specs.Prelude.{nat_le, min, ◌+◌, ◌++◌, nat_lt, ◌||◌, ◌&&◌, ◌==◌}
+use Rattle.std.specs.Prelude.{nat_le, min, ◌+◌, ◌++◌}
 use Rattle.rules_laws.proofs.EachAttempt.{in_each}
 
 -- the writes of a Prepared record rise by their keys
@@ -93,19 +93,6 @@ doubt_among (Checkpoint sum ∷ records) tid = doubt_among records tid
 doubt_among (Start epoch ∷ records) tid = doubt_among records tid
 doubt_among (Local local number writes ∷ records) tid = doubt_among records tid
 
--- no attempt stands before itself
-pub never_before : (t : Tid) → tid_before t t ≡ false
-never_before t = by_numbers (nat_lt t.tx.0 t.tx.0) (nat_lt t.attempt t.attempt) (le-ltb t.tx.0 t.tx.0 (omega arith)) (le-ltb t.attempt t.attempt (omega arith))
-  where
-    by_numbers : (a b : Bool) → a ≡ false → b ≡ false → (a || ((t.tx.0 == t.tx.0) && b)) ≡ false
-    by_numbers true b e f = cc
-    by_numbers false true e f = cc
-    by_numbers false false e f = none (t.tx.0 == t.tx.0)
-      where
-        none : (c : Bool) → (c && false) ≡ false
-        none true = refl
-        none false = refl
-
 abbrev pub restored_held : Option Held → Option Run
 restored_held held = map_some (λ h. restored (kept_held h)) held
 
@@ -163,7 +150,7 @@ restored_inserted held (y ∷ more) tid = by_before (held_before y held) refl (r
     swap true true is_a is_b first rest =
         let same : y.tid ≡ held.tid = same_tid-equal y.tid tid is_b ∙ sym (same_tid-equal held.tid tid is_a) in
         let never : tid_before held.tid held.tid ≡ true = subst (λ t. tid_before t held.tid ≡ true) same first in
-        let clash = sym (never_before held.tid) ∙ never in cc
+        let clash = sym (before_itself held.tid) ∙ never in cc
     swap true false is_a is_b first rest = rest
     swap false true is_a is_b first rest = refl
     swap false false is_a is_b first rest = rest

@@ -55,7 +55,7 @@ line_ticket start older line run ticket (takes {n = n} before live is) h =
     let same : n ≡ ticket = cc in inr (sym same ∙ ticket_next start older before n is)
 line_ticket start older line run ticket (seals before live stop next) h = inl (record { run = before; is_run = live.0; has = h })
 
-published_lines : (start : Runs.Start) (older more : List EngineLine) → published start older ≤ published start (more ++ older)
+pub published_lines : (start : Runs.Start) (older more : List EngineLine) → published start older ≤ published start (more ++ older)
 published_lines start older [] = omega arith
 published_lines start older (line ∷ more) =
     let rest = published_lines start older more in

@@ -18,9 +18,10 @@ use Rattle.fed_rules.specs.EngineLines.{AllApart, IsNumbered, IsRight, IsStart}
 use Rattle.fed_rules.specs.Happenings.{Trip, comes_up, is_down, stopped, stops, tripped}
 use Rattle.fed_rules.specs.Runs as Runs
 use Rattle.fed_rules.specs.Runs.{EngineLine, Begins, Acts, Seals, Commits, Aborts, Run, begun, changed, published, rows, run_at, tid_of, ticket_of}
-use Rattle.fed_rules.specs.Site.{answered, next_number, number_of, of_back, settling_line, site_line, site_past, unless_tripped}
+use Rattle.fed_rules.specs.Site.{answered, next_number, number_of, of_back, settling_line, site_line, site_past, site_past_on, unless_tripped}
 use Rattle.fed_rules.specs.SitePast.{SiteHappening, SitePast, disk, engine_lines, epoch, epoch_start, records, trip}
 use Rattle.fed_rules.specs.SiteRecords.{Home, doubt_of, doubts, kept_held, last_number, last_ticket, site_frame, start_of, ticket_owner}
+use Rattle.fed_rules.specs.Usable.{OfFronts}
 use Rattle.engine_laws.specs.Laws.{IsLeft}
 use Rattle.engine_laws.proofs.EachRule.{always_may_restart}
 use Rattle.engine_laws.proofs.Rows.{rows_of_table}
@@ -30,8 +31,9 @@ use Rattle.site_history.specs.Events.{AreSorted, IsFresh, IsSorted}
 use Rattle.site_history.specs.Lines.{Agrees}
 use Rattle.site_history.specs.SiteOrders.{HasGoodStarts, OfSortedEvents}
 use Rattle.site_history.proofs.Agreement.{IsGoodLine, IsKept, kept_good, kept_start, still}
-use Rattle.site_history.proofs.Backed.{appended, each_front, front_after, front_more}
-use Rattle.site_history.proofs.Fronts.{AllFronts, HasNoStop, fronts_of_front, move_no_stop, stop_last, taken_front, whole_of_fronts}
+use Rattle.rules_laws.proofs.Disks.{front_of_front}
+use Rattle.site_history.proofs.Backed.{appended, each_front, front_after}
+use Rattle.site_history.proofs.Fronts.{HasNoStop, fronts_of_front, move_no_stop, stop_last, taken_front, whole_of_fronts}
 use Rattle.site_history.proofs.Histories.{IsSortedRecord, no_local_doubt}
 use Rattle.site_history.proofs.HistoryMoves.{calm_published, calm_ticket, synced_append}
 use Rattle.site_history.proofs.HistoryPasts.{move_records}
@@ -54,7 +56,7 @@ pub record IsWellKept (home : Home) (local : Tx → Bool) (past : SitePast) : Ty
   pub kept : IsKept home past
   pub sorted : Each (IsSortedRecord local) (records home past)
   pub ticketless : AreTicketless local (epoch_start home past) (engine_lines past)
-  pub starts : AllFronts (StartsWell home) (records home past)
+  pub starts : OfFronts (StartsWell home) (records home past)
   pub started : IsStart (epoch_start home past)
   pub published : published (epoch_start home past) (engine_lines past) ≤ last_ticket (records home past)
 
@@ -193,8 +195,8 @@ moved home past local event calls lines w (settles_held {tid = tid} {decision = 
 
 -- a line appends one record at most
 fronts_appended : (P : List SiteRecord → Type 0) (home : Home) (past : SitePast) (local : Tx → Bool) (event : SiteEvent) (calls : List (Call SiteRecord))
-    (lines : List EngineLine) → Moves home past local event calls lines → AllFronts P (records home past) → P (appended calls (records home past))
-    → AllFronts P (appended calls (records home past))
+    (lines : List EngineLine) → Moves home past local event calls lines → OfFronts P (records home past) → P (appended calls (records home past))
+    → OfFronts P (appended calls (records home past))
 fronts_appended P home past local event calls lines rests all now = all
 fronts_appended P home past local event calls lines (begins_local mine free none) all now = all
 fronts_appended P home past local event calls lines (begins_work others none fresh) all now = all
@@ -204,11 +206,11 @@ fronts_appended P home past local event calls lines (prepares_run n run asked ot
 fronts_appended P home past local event calls lines (checks_sum is) all now = (now, all)
 fronts_appended P home past local event calls lines (settles_held {tid = tid} {decision = decision} {rest = rest} held doubt synced just) all now =
     let e = synced_append rest (Rec.Ended tid decision ∷ records home past) synced in
-    subst (AllFronts P) (sym e) (subst P e now, all)
+    subst (OfFronts P) (sym e) (subst P e now, all)
 
 -- whatever a stop leaves of them starts well
 all_start : (home : Home) (local : Tx → Bool) (past : SitePast) (event : SiteEvent) (x : SiteHappening) → IsWellKept home local past → IsGoodLine home past x
-    → IsMove home past local event x → AllFronts (StartsWell home) (appended x.calls (records home past))
+    → IsMove home past local event x → OfFronts (StartsWell home) (appended x.calls (records home past))
 all_start home local past event x w g m =
     let now = appended x.calls (records home past) in
     let lines = x.lines ++ engine_lines past in
@@ -230,7 +232,7 @@ whole_line home local past event x w g m =
       kept = kept_good home past x w.kept g;
       sorted = subst (Each (IsSortedRecord local)) same now.sorted;
       ticketless = subst (λ t. AreTicketless local (cond t (start_of home rs) old) (cond t [] lines)) (sym g.plain) now.ticketless;
-      starts = subst (AllFronts (StartsWell home)) same (all_start home local past event x w g m);
+      starts = subst (OfFronts (StartsWell home)) same (all_start home local past event x w g m);
       started = subst (λ t. IsStart (cond t (start_of home rs) old)) (sym g.plain) w.started;
       published = subst (λ t. published (cond t (start_of home rs) old) (cond t [] lines) ≤ last_ticket rs) (sym g.plain)
           (subst (λ ks. published old lines ≤ last_ticket ks) same now.published);
@@ -243,9 +245,9 @@ restored_ticketless home local rs sorted tid run at mine =
     let is : restored_held (doubt_of rs tid) ≡ Some run = sym (restored_doubt rs tid) ∙ at in cc
 
 -- a line that stops the site or brings it up
-anew : (home : Home) (local : Tx → Bool) (past : SitePast) (x : SiteHappening) → (stops x.answer || comes_up x.answer) ≡ true
+pub anew : (home : Home) (local : Tx → Bool) (past : SitePast) (x : SiteHappening) → (stops x.answer || comes_up x.answer) ≡ true
     → Each HasRisingWrites (records home (x ∷ past)) → Each (IsSortedRecord local) (records home (x ∷ past))
-    → AllFronts (StartsWell home) (records home (x ∷ past)) → IsWellKept home local (x ∷ past)
+    → OfFronts (StartsWell home) (records home (x ∷ past)) → IsWellKept home local (x ∷ past)
 anew home local past x new rising sorted starts =
     let rs = records home (x ∷ past) in
     let old = epoch_start home past in
@@ -265,13 +267,13 @@ sorted_front P records kept (newer, e) h = each_front P newer kept (subst (Each 
 -- a line that a stop ends in the midst of calls
 torn : (home : Home) (local : Tx → Bool) (past : SitePast) (event : SiteEvent) (calls : List (Call SiteRecord)) (n cut : ℕ) → HasNoStop calls → IsKept home past
     → EachAppend HasRisingWrites calls → Each (IsSortedRecord local) (appended calls (records home past))
-    → AllFronts (StartsWell home) (appended calls (records home past))
+    → OfFronts (StartsWell home) (appended calls (records home past))
     → IsWellKept home local (stopped site_frame (disk home past) event (take n calls ++ Stops cut ∷ []) ∷ past)
 unfolding stopped
 torn home local past event calls n cut plain k rising sorted starts =
     let short = take n calls ++ Stops cut ∷ [] in
     let front : IsFrontOf (appended calls (records home past)) (after_calls site_frame (disk home past) (take n calls ++ Stops cut ∷ [])).records =
-    front_more (appended calls (records home past)) (appended short (records home past)) (after_calls site_frame (disk home past) short).records
+    front_of_front (appended calls (records home past)) (appended short (records home past)) (after_calls site_frame (disk home past) short).records
     (taken_front n cut calls (records home past)) (front_after site_frame (disk home past) short (stop_last n cut calls plain)) in
     anew home local past (stopped site_frame (disk home past) event (take n calls ++ Stops cut ∷ [])) refl
     (each_after site_frame HasRisingWrites (disk home past) short k.rising (append_take HasRisingWrites n calls (Stops cut ∷ []) rising tt))
@@ -287,7 +289,7 @@ well_when home local past false x y p q = q
 -- the line, unless a trip comes within its calls
 well_tripped : (home : Home) (local : Tx → Bool) (past : SitePast) (o : Option Trip) (x : SiteHappening) → IsKept home past → IsWellKept home local (x ∷ past)
     → HasNoStop x.calls → EachAppend HasRisingWrites x.calls → Each (IsSortedRecord local) (appended x.calls (records home past))
-    → AllFronts (StartsWell home) (appended x.calls (records home past))
+    → OfFronts (StartsWell home) (appended x.calls (records home past))
     → IsWellKept home local (tripped site_frame (disk home past) o x ∷ past)
 unfolding tripped
 well_tripped home local past None x k whole plain rising sorted starts = whole
@@ -337,7 +339,7 @@ back_line home local past w =
     n : ℕ
     n = epoch home past + 1
 
-    starts : AllFronts (StartsWell home) (Rec.Start (epoch home past + 1) ∷ records home past)
+    starts : OfFronts (StartsWell home) (Rec.Start (epoch home past + 1) ∷ records home past)
     starts = (start_again home (records home past) (epoch home past + 1) (whole_of_fronts (StartsWell home) (records home past) w.starts), w.starts)
 
     by_rising : (b : Bool) → EachAppend HasRisingWrites (cond b (CutBack ∷ []) [] ++ Append (Rec.Start (epoch home past + 1)) ∷ Sync ∷ [])
@@ -351,7 +353,7 @@ back_line home local past w =
     kept_sorted true = (tt, w.sorted)
     kept_sorted false = (tt, w.sorted)
 
-    kept_starts : (b : Bool) → AllFronts (StartsWell home) (after_calls site_frame (disk home past) (cond b (CutBack ∷ []) [] ++ Append (Rec.Start (epoch home past + 1)) ∷ Sync ∷ [])).records
+    kept_starts : (b : Bool) → OfFronts (StartsWell home) (after_calls site_frame (disk home past) (cond b (CutBack ∷ []) [] ++ Append (Rec.Start (epoch home past + 1)) ∷ Sync ∷ [])).records
     kept_starts true = starts
     kept_starts false = starts
 
@@ -363,7 +365,7 @@ back_line home local past w =
     with_sorted true = (tt, w.sorted)
     with_sorted false = (tt, w.sorted)
 
-    with_start : (b : Bool) → AllFronts (StartsWell home) (appended (cond b (CutBack ∷ []) [] ++ Append (Rec.Start (epoch home past + 1)) ∷ Sync ∷ []) (records home past))
+    with_start : (b : Bool) → OfFronts (StartsWell home) (appended (cond b (CutBack ∷ []) [] ++ Append (Rec.Start (epoch home past + 1)) ∷ Sync ∷ []) (records home past))
     with_start true = starts
     with_start false = starts
 
@@ -392,7 +394,7 @@ next_line home local past (Ev.Drop tid) w sorted = up home local past (Ev.Drop t
 next_line home local past Ev.Check w sorted = up home local past Ev.Check w sorted tt refl
 
 -- a site that was set up
-well_first : (home : Home) (local : Tx → Bool) → IsWellKept home local []
+pub well_first : (home : Home) (local : Tx → Bool) → IsWellKept home local []
 well_first home local = record {
   kept = kept_first home;
   sorted = (tt, (tt, tt));
@@ -405,16 +407,25 @@ well_first home local = record {
     nothing : {start : Runs.Start} → start.doubtful ≡ [] → IsStart start
     nothing none = record { numbered = subst (Each (IsNumbered _)) (sym none) tt; apart = subst AllApart (sym none) tt }
 
-pub well_past : (home : Home) (local : Tx → Bool) (events : List SiteEvent) → AreSorted local events → IsWellKept home local (site_past home events)
-well_past home local [] sorted = well_first home local
-well_past home local (event ∷ events) (now, before) =
-    next_line home local (site_past home events) event (well_past home local events before) now
+-- what further events make of a past that is well kept
+pub well_on : (home : Home) (local : Tx → Bool) (first : SitePast) → IsWellKept home local first → (events : List SiteEvent) → AreSorted local events
+    → IsWellKept home local (site_past_on home first events)
+well_on home local first w [] sorted = w
+well_on home local first w (event ∷ events) (now, before) =
+    next_line home local (site_past_on home first events) event (well_on home local first w events before) now
 
 -- each epoch starts well, and so would one from whatever a stop leaves
-pub starts_well : OfSortedEvents HasGoodStarts
-starts_well home local events sorted =
-    let w = well_past home local events sorted in
+pub good_starts_on : (home : Home) (local : Tx → Bool) (first : SitePast) → IsWellKept home local first → (events : List SiteEvent) → AreSorted local events
+    → HasGoodStarts home (site_past_on home first events)
+good_starts_on home local first well events sorted =
+    let w = well_on home local first well events sorted in
     record {
       start = w.started;
-      restart = λ kept front. whole_of_fronts (StartsWell home) kept (fronts_of_front (StartsWell home) (records home (site_past home events)) kept front w.starts);
+      restart = λ kept front. whole_of_fronts (StartsWell home) kept (fronts_of_front (StartsWell home) (records home (site_past_on home first events)) kept front w.starts);
     }
+
+pub well_past : (home : Home) (local : Tx → Bool) (events : List SiteEvent) → AreSorted local events → IsWellKept home local (site_past home events)
+well_past home local events sorted = well_on home local [] (well_first home local) events sorted
+
+pub starts_well : OfSortedEvents HasGoodStarts
+starts_well home local events sorted = good_starts_on home local [] (well_first home local) events sorted

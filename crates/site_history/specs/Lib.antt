@@ -5,3 +5,6 @@ pub mod Records
 pub mod SiteOrders
 pub mod Stories
 pub mod Tickets
+pub mod Led
+pub mod Sums
+pub mod FoundSites

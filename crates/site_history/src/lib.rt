@@ -5,6 +5,7 @@
 mod right_lines;
 mod serial_pasts;
 mod stories;
+mod sums;
 
 pub use right_lines::engine_lines_are_right;
 pub use serial_pasts::{
@@ -14,3 +15,4 @@ pub use stories::{
     each_site_of_a_story_is_serial, events_are_sorted, stories_have_right_lines,
     stories_have_serial_sites, stories_prepare_once, tickets_rise,
 };
+pub use sums::{checkpoints_say_nothing_new, journals_say_all, sites_journals_say_all, sums_go_on};

@@ -14,8 +14,3 @@ pub use laws::{frames_have_the_lengths_of_the_rules, payloads_have_the_lengths_o
 
 /// The records of a site on its disk.
 pub type SiteJournal = Journal<SiteRecord, SiteFormat>;
-
-#[cfg(test)]
-mod payload_tests;
-#[cfg(test)]
-mod tests;

@@ -1,24 +1,21 @@
 -- A write of one row, as a map.
-use Rattle.std.proofs.Common.{◌≡◌, ℕ, Bool, true, false, cond, Some, List, [], ◌∷◌, nat_eq, refl, sym, ap, ◌∙◌, arith}
+use Rattle.std.proofs.Common.{◌≡◌, ℕ, Bool, true, false, cond, Some, List, [], ◌∷◌, nat_eq, refl, sym, ap, ◌∙◌}
 use Rattle.std.specs.Cmp.{nat_cmp_total}
 use Rattle.std.specs.FinMap.{from_entries, get, insert, get-insert, same_map, nat_cmp-IsAntisymmetric}
 use Rattle.std.specs.Map.{lookup}
-use Rattle.std.proofs.lemmas.Bool.Decides.{nat_tests}
 use Rattle.mdb_base.specs.declared.names.Key.{Key}
 use Rattle.mdb_base.specs.declared.rows.Put.{Put}
 use Rattle.mdb_base.specs.Rows.{value_in}
+use Rattle.mdb_base.proofs.RowLaws.{nat_eq-sym}
 use Rattle.site_tables.specs.declared.versions.Version.{Version}
 use Rattle.site_tables.specs.Tables.{Versions, is_newer, with_row, written}
 use Rattle.site_tables.proofs.Looks.{ties, get-lookup}
 use Rattle.site_tables.proofs.Writes.{writes_one, keeps_one}
 
-flips : (x y : ℕ) → nat_eq x y ≡ nat_eq y x
-flips x y = grind (arith, nat_tests)
-
 -- one more key, or another version of one
 pub get-put : (versions : Versions) (k : ℕ) (version : Version) (q : ℕ) → get (insert versions k version) q ≡ cond (nat_eq k q) (Some version) (get versions q)
 get-put versions k version q =
-    get-insert nat_cmp_total versions k version q ∙ ap (λ b. cond b (Some version) (get versions q)) (ties q k ∙ flips q k)
+    get-insert nat_cmp_total versions k version q ∙ ap (λ b. cond b (Some version) (get versions q)) (ties q k ∙ nat_eq-sym q k)
 
 -- what is kept of a key after a write of a row
 pub get-with_row : (number : ℕ) (put : Put) (versions : Versions) (key : Key) → get (with_row number put versions) key.0 ≡ written number (value_in (put ∷ []) key) (get versions key.0)

@@ -6,19 +6,15 @@ use Rattle.mdb_base.specs.declared.names.Key.{Key}
 use Rattle.mdb_base.specs.declared.rows.Put.{Put}
 use Rattle.mdb_base.specs.Names.{same_key}
 use Rattle.mdb_base.specs.Rows.{value_in}
+use Rattle.mdb_base.proofs.OptionLaws.{first_of}
 use Rattle.site_tables.specs.declared.versions.Version.{Version}
 use Rattle.site_tables.specs.Tables.{is_newer, written}
 
--- the first of two values
-abbrev pub either : Option ℕ → Option ℕ → Option ℕ
-either None o = o
-either (Some value) o = Some value
-
-pub either-cond : (b : Bool) (value : ℕ) (o p : Option ℕ) → cond b (Some value) (either o p) ≡ either (cond b (Some value) o) p
+pub either-cond : (b : Bool) (value : ℕ) (o p : Option ℕ) → cond b (Some value) (first_of o p) ≡ first_of (cond b (Some value) o) p
 either-cond true value o p = refl
 either-cond false value o p = refl
 
-value_in-append : (xs ys : List Put) (key : Key) → value_in (xs ++ ys) key ≡ either (value_in xs key) (value_in ys key)
+value_in-append : (xs ys : List Put) (key : Key) → value_in (xs ++ ys) key ≡ first_of (value_in xs key) (value_in ys key)
 value_in-append [] ys key = refl
 value_in-append (x ∷ xs) ys key =
     ap (cond (same_key x.key key) (Some x.value)) (value_in-append xs ys key)
@@ -37,7 +33,7 @@ written_twice number v w true kept e = cond-false _ _ _ (same_number number)
 written_twice number v w false kept e = cond-false _ _ _ e
 
 -- of two writes of a key by one number the first counts
-pub written-either : (number : ℕ) (o p : Option ℕ) (kept : Option Version) → written number (either o p) kept ≡ written number p (written number o kept)
+pub written-either : (number : ℕ) (o p : Option ℕ) (kept : Option Version) → written number (first_of o p) kept ≡ written number p (written number o kept)
 written-either number None p kept = refl
 written-either number (Some v) None kept = refl
 written-either number (Some v) (Some w) kept = sym (written_twice number v w (is_newer number kept) kept refl)

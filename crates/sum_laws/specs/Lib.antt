@@ -1,3 +1,3 @@
-pub mod CoordRestarts
-pub mod Sums
+pub mod ReadAs
 pub mod WrongReading
+pub mod Restarts

@@ -1,10 +1,8 @@
-//! What a Checkpoint says is what all records before it say.
+//! What is read of the journals on all disks is what all records say: the laws of `site_history` and `coord_laws` together.
 #![tactic(auto)]
 
 mod sums;
 
 pub use sums::{
-    checkpoints_say_nothing_new, coordinators_checkpoints_are_sums, coordinators_disks_say_all,
-    coordinators_disks_tell_restarts, coordinators_journals_say_all, journals_say_all,
-    sites_journals_say_all, sums_go_on, wrong_reading,
+    coordinators_disks_tell_restarts, journals_are_read, usable_journals_go_on, wrong_reading,
 };

@@ -3,9 +3,17 @@
 #![tactic(auto)]
 
 #[cfg(test)]
+mod fields;
+#[cfg(test)]
 mod lines;
 #[cfg(test)]
+mod lists;
+#[cfg(test)]
+mod made;
+#[cfg(test)]
 mod messages;
+#[cfg(test)]
+mod programs;
 #[cfg(test)]
 mod reports;
 #[cfg(test)]

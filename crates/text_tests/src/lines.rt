@@ -14,7 +14,7 @@ fn reads_and_prints(rt: &impl Abort, alloc: Global, lines: &str) -> Result<(), F
     for text in lines.lines() {
         let line = read_line(alloc, text.as_bytes())?;
         let mut printed = Vec::new(alloc);
-        print_line(alloc, &line, &mut printed)?;
+        print_line(&line, &mut printed)?;
         assert_eq!(rt; printed.as_slice(), text.as_bytes(), "{text}");
     }
     Ok(())
@@ -105,7 +105,7 @@ fn words_are_read_as_the_parts_of_a_line(rt: HostRuntime) -> Result<(), Fail> {
 fn a_line_is_printed_behind_what_stands_there(rt: HostRuntime) -> Result<(), Fail> {
     let line = read_line(rt.alloc(), b"back 0 => up known 1")?;
     let mut out = vec![in rt.alloc(); b'x', b'\n']?;
-    print_line(rt.alloc(), &line, &mut out)?;
+    print_line(&line, &mut out)?;
     assert_eq!(rt; out.as_slice(), b"x\nback 0 => up known 1".as_slice());
     Ok(())
 }

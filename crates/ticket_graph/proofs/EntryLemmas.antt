@@ -5,21 +5,11 @@ use Rattle.std.proofs.lemmas.List.{take_more, length-take}
 use Rattle.std.specs.Ordering.{is_eq}
 use Rattle.mdb_base.specs.declared.names.SiteTicket.{SiteTicket}
 use Rattle.mdb_base.specs.Words.{some_of, holds_of}
+use Rattle.mdb_base.proofs.TestLaws.{some_of-push}
+use Rattle.mdb_base.proofs.NumberLaws.{suc_not_zero}
 use Rattle.order_laws.specs.Tickets.{Ticketed}
 use Rattle.ticket_graph.specs.declared.entries.Entry.{Entry}
 use Rattle.ticket_graph.specs.Entries.{entry_cmp, is_ticket, is_entry}
-
-pub some_of-push : {A : Type 0} (test : A → Bool) (xs : List A) (y : A) → some_of test (xs ++ y ∷ []) ≡ (some_of test xs || test y)
-some_of-push test [] y = or_false (test y)
-  where
-    or_false : (b : Bool) → (b || false) ≡ b
-    or_false true = refl
-    or_false false = refl
-some_of-push test (x ∷ xs) y = ap (λ b. test x || b) (some_of-push test xs y) ∙ or_or (test x) (some_of test xs) (test y)
-  where
-    or_or : (a b c : Bool) → (a || (b || c)) ≡ ((a || b) || c)
-    or_or true b c = refl
-    or_or false b c = refl
 
 -- the entry of a ticket
 pub is_eq-entry_cmp : (t : SiteTicket) (place : ℕ) (e : Entry) →
@@ -57,9 +47,6 @@ one_ticket tickets i place d e has had was h f g =
 no_zero : (n : ℕ) → (0 == suc n) ≡ false
 no_zero n = grind (arith, nat_tests)
 
-no_suc : (n : ℕ) → (suc n == 0) ≡ false
-no_suc n = grind (arith, nat_tests)
-
 suc-both : (m n : ℕ) → (suc m == suc n) ≡ (m == n)
 suc-both m n = grind (arith, nat_tests)
 
@@ -71,7 +58,7 @@ or_no false c d e = rw e refl
 pub look-push : {A : Type 0} (f : A → Bool) (xs : List A) (y : A) (j : ℕ) →
     holds_of f (slice_get (xs ++ y ∷ []) j) ≡ (holds_of f (slice_get xs j) || ((j == length xs) && f y))
 look-push f [] y zero = refl
-look-push f [] y (suc j) = or_no false (f y) (suc j == 0) (no_suc j)
+look-push f [] y (suc j) = or_no false (f y) (suc j == 0) (suc_not_zero j)
 look-push f (x ∷ xs) y zero = or_no (f x) (f y) (0 == suc (length xs)) (no_zero (length xs))
 look-push f (x ∷ xs) y (suc j) = look-push f xs y j ∙ ap (λ b. holds_of f (slice_get xs j) || (b && f y)) (sym (suc-both j (length xs)))
 

@@ -9,11 +9,12 @@ use Rattle.order_laws.specs.Search.{Linked}
 use Rattle.order_laws.specs.Tickets.{Ticketed, Precedes, OneEach, edge_between}
 use Rattle.order_laws.proofs.Chains.{way_one, way_append}
 use Rattle.order_laws.proofs.Tickets.{linked, way_cycle}
+use Rattle.order_laws.proofs.InLaws.{in_parts, distinct_joined}
 use Rattle.ticket_graph.specs.Graph.{tids_of, IsForwards, IsTopological, IsVerdict}
 use Rattle.ticket_graph.specs.declared.verdict.Verdict.TheVariants.{Added}
 use Rattle.ticket_graph.specs.Reach.{are_before, reached, unreached}
 use Rattle.ticket_graph.proofs.GraphLemmas.{tid_in, in_tids}
-use Rattle.ticket_graph.proofs.Parts.{in_left, in_right, in_parts, distinct_both, map-append}
+use Rattle.ticket_graph.proofs.Parts.{in_left, in_right, map-append}
 use Rattle.ticket_graph.proofs.Reaching.{reached_in, unreached_in, in_either_part, in_one_part, unreached_free, unreached_behind, reached_way, precedes_before}
 
 -- no edge leads backwards among the reached ones, nor among the others
@@ -123,7 +124,7 @@ forwards_one g ns f v loop =
 pub once_one : (g : Ticketed) (ns : List Ticketed) → OneEach ns → (In g.tid (tids_of ns) → ⊥) → OneEach (with_one g ns)
 once_one g ns one new =
     subst Distinct (sym (map-append (λ (a : Ticketed). a.tid) (unreached g.tickets ns) (g ∷ reached g.tickets ns)))
-    (distinct_both (tids_of (unreached g.tickets ns)) (g.tid ∷ tids_of (reached g.tickets ns)) (once_unreached g.tickets ns one)
+    (distinct_joined (tids_of (unreached g.tickets ns)) (g.tid ∷ tids_of (reached g.tickets ns)) (once_unreached g.tickets ns one)
     (λ i. new (tids_reached g.tickets ns g.tid i), once_reached g.tickets ns one) apart)
   where
     apart : (t : Tid) → In t (tids_of (unreached g.tickets ns)) → In t (g.tid ∷ tids_of (reached g.tickets ns)) → ⊥

@@ -7,6 +7,7 @@ use Rattle.mdb_base.specs.declared.names.Tid.{Tid}
 use Rattle.mdb_base.specs.declared.replies.Edge.{Edge}
 use Rattle.mdb_base.specs.Rising.{IsRising}
 use Rattle.mdb_base.specs.Words.{Each}
+use Rattle.mdb_base.proofs.ListLaws.{each_map}
 use Rattle.order_laws.specs.Chains.{In, Chain}
 use Rattle.order_laws.specs.Search.{Linked}
 use Rattle.order_laws.specs.Tickets.{Ticketed, Precedes, IsEdge, IsCycle, OneEach, edge_between}
@@ -17,7 +18,6 @@ use Rattle.ticket_graph.specs.Graph.{tids_of, IsVerdict}
 use Rattle.ticket_graph.specs.Trail.{IsClosed, IsFinding}
 use Rattle.ticket_graph.specs.declared.find.Finding.TheVariants.{Reached}
 use Rattle.ticket_graph.specs.declared.verdict.Verdict.TheVariants.{Added}
-use Rattle.ticket_graph.proofs.StepLemmas.{each_weaker}
 
 -- ---- attempts and their names
 
@@ -37,7 +37,7 @@ edge_more ns ms h e k =
 
 -- a cycle of attempts is one of more attempts
 pub cycle_more : (ns ms : List Ticketed) (tid : Tid) (es : List Edge) → ((a : Ticketed) → In a ns → In a ms) → IsCycle ns tid es → IsCycle ms tid es
-cycle_more ns ms tid es h k = record { some = k.some; edges = each_weaker (IsEdge ns) (IsEdge ms) (edge_more ns ms h) es k.edges; round = k.round }
+cycle_more ns ms tid es h k = record { some = k.some; edges = each_map (IsEdge ns) (IsEdge ms) (edge_more ns ms h) es k.edges; round = k.round }
 
 -- ---- where the reached attempts are closed there is no cycle through the added one
 

@@ -4,9 +4,9 @@ use Rattle.mdb_base.specs.declared.names.SiteId.{SiteId}
 use Rattle.mdb_base.specs.declared.names.SiteTicket.{SiteTicket}
 use Rattle.mdb_base.specs.Names.{same_site}
 use Rattle.mdb_base.specs.Words.{Among}
+use Rattle.mdb_base.proofs.NameLaws.{same_site-equal, same_site-refl}
 use Rattle.order_laws.specs.Chains.{In}
 use Rattle.order_laws.specs.Tickets.{Ticketed}
-use Rattle.order_laws.proofs.Names.{same_site_alike, same_site_self}
 use Rattle.ticket_graph.specs.Graph.{AreBelow}
 use Rattle.ticket_graph.specs.Reach.{raised, highest, highest_of}
 
@@ -21,14 +21,14 @@ raised_ticket : (n : ℕ) (k : SiteTicket) → k.ticket ≤ raised k.site n k
 raised_ticket n k = by_test (nat_lt n k.ticket) refl
   where
     by_test : (b : Bool) → nat_lt n k.ticket ≡ b → k.ticket ≤ raised k.site n k
-    by_test true e = rw (same_site_self k.site) (rw e (omega arith))
-    by_test false e = rw (same_site_self k.site) (rw e (grind arith))
+    by_test true e = rw (same_site-refl k.site) (rw e (omega arith))
+    by_test false e = rw (same_site-refl k.site) (rw e (grind arith))
 
 raised_one : (site : SiteId) (n : ℕ) (k : SiteTicket) → (raised site n k ≡ n) ⊎ ((k.site ≡ site) × (k.ticket ≡ raised site n k))
 raised_one site n k = by_test (same_site k.site site) refl (nat_lt n k.ticket)
   where
     by_test : (b : Bool) → same_site k.site site ≡ b → (d : Bool) → (cond (b && d) k.ticket n ≡ n) ⊎ ((k.site ≡ site) × (k.ticket ≡ cond (b && d) k.ticket n))
-    by_test true e true = inr (same_site_alike k.site site e, refl)
+    by_test true e true = inr (same_site-equal k.site site e, refl)
     by_test true e false = inl refl
     by_test false e d = inl refl
 

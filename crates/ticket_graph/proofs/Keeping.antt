@@ -5,6 +5,7 @@ use Rattle.std.proofs.Math.Seq.{drop-cons}
 use Rattle.std.proofs.lemmas.List.{take_more_set, take-set, take-set-le, drop-set-lt, length-set, drop-drop}
 use Rattle.mdb_base.specs.declared.names.SiteId.{SiteId}
 use Rattle.mdb_base.specs.declared.names.SiteTicket.{SiteTicket}
+use Rattle.mdb_base.proofs.JoinLaws.{append_nil}
 use Rattle.order_laws.specs.Tickets.{Ticketed}
 use Rattle.order_laws.proofs.Lists.{bool_is}
 use Rattle.ticket_graph.specs.Reach.{are_before, reached, unreached, floor_in, highest, highest_of, IsLowest}
@@ -86,13 +87,9 @@ keeping_drops met all old kept x rest floors higher lowest leads k test is raise
           ∙ ap (λ n. highest_of site n (unreached k.now rest)) (sym (raises site)));
     }
 
-append-nil : {A : Type 0} (xs : List A) → xs ++ [] ≡ xs
-append-nil [] = refl
-append-nil (x ∷ xs) = ap (λ ys. x ∷ ys) (append-nil xs)
-
 pub keeping_ends : (met : List SiteTicket) (all : List Ticketed) (old : List ℕ) (kept : List Ticketed) (floors : List ℕ) (lowest : List (Option ℕ)) →
     IsKeeping met all old kept [] floors lowest → kept ≡ reached met all
-keeping_ends met all old kept floors lowest k = sym (k.is_kept ∙ append-nil kept)
+keeping_ends met all old kept floors lowest k = sym (k.is_kept ∙ append_nil kept)
 
 -- ---- the walk that parts them
 
@@ -137,7 +134,7 @@ parting_goes_front met all front behind front_now behind_now x rest lowest leads
 pub parting_ends : (met : List SiteTicket) (all front behind front_now behind_now : List Ticketed) (lowest : List (Option ℕ)) →
     IsParting met all front behind front_now behind_now [] lowest →
     (front_now ≡ front ++ unreached met all) × (behind_now ≡ behind ++ reached met all)
-parting_ends met all front behind front_now behind_now lowest k = (sym (k.is_front ∙ append-nil front_now), sym (k.is_behind ∙ append-nil behind_now))
+parting_ends met all front behind front_now behind_now lowest k = (sym (k.is_front ∙ append_nil front_now), sym (k.is_behind ∙ append_nil behind_now))
 
 -- ---- what is left
 
@@ -155,10 +152,6 @@ pub of_same : (P : ℕ → List Ticketed → List ℕ → List (Option ℕ) → 
     n ≡ m → xs ≡ ys → fs ≡ gs → us ≡ vs → P m ys gs vs → P n xs fs us
 of_same P n m xs ys fs gs us vs e f g h p =
     subst (λ k. P k xs fs us) (sym e) (subst (λ zs. P m zs fs us) (sym f) (subst (λ zs. P m ys zs us) (sym g) (subst (λ zs. P m ys gs zs) (sym h) p)))
-
-pub nothing_left : {A : Type 0} (xs : List A) → length xs ≡ 0 → xs ≡ []
-nothing_left [] h = refl
-nothing_left (x ∷ xs) h = absurd (omega arith)
 
 pub parting_starts : (met : List SiteTicket) (all front behind : List Ticketed) (lowest : List (Option ℕ)) → IsLowest lowest met →
     IsParting met all front behind front behind all lowest

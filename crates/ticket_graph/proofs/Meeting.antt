@@ -10,7 +10,7 @@ pub met_more : (lowest : List (Option ℕ)) (met ks : List SiteTicket) (i : ℕ)
 met_more lowest met ks i d h is =
     subst (IsLowest lowest) (append_assoc met (take i ks) (get_or ks i d ∷ []) ∙ ap (λ zs. met ++ zs) (sym (take_more ks i d h))) is
 
-joined_last : (waiting : List (List SiteTicket)) (ks : List SiteTicket) → joined (waiting ++ ks ∷ []) ≡ joined waiting ++ ks
+pub joined_last : (waiting : List (List SiteTicket)) (ks : List SiteTicket) → joined (waiting ++ ks ∷ []) ≡ joined waiting ++ ks
 joined_last [] ks = nil ks
   where
     nil : (xs : List SiteTicket) → xs ++ [] ≡ xs

@@ -12,7 +12,7 @@ use Rattle.ticket_graph.proofs.Heights.{highest_of_more, highest_of_below, highe
 use Rattle.ticket_graph.proofs.Reaching.{IsLed, before_some, before_fewer, before_less, reached_in, unreached_in, in_either_part, in_one_part, unreached_free, unreached_behind, reached_led}
 use Rattle.ticket_graph.proofs.Reaching.IsLed.{Met, From}
 
-nothing_before : (other : List SiteTicket) → are_before [] other ≡ true → ⊥
+pub nothing_before : (other : List SiteTicket) → are_before [] other ≡ true → ⊥
 nothing_before [] e = cc
 nothing_before (k ∷ ks) e = nothing_before ks e
 

@@ -1,19 +1,21 @@
 -- The attempts that tickets lead to, and the others.
-use Rattle.std.proofs.Common.{◌≡◌, ◌<◌, ◌⊎◌, Bool, true, false, cond, List, [], ◌∷◌, ◌++◌, refl, sym, ap, ◌∙◌, subst, inl, inr, arith}
+use Rattle.std.proofs.Common.{◌≡◌, ◌⊎◌, Bool, true, false, cond, List, [], ◌∷◌, ◌++◌, refl, sym, ap, ◌∙◌, subst, inl, inr}
 use Rattle.mdb_base.specs.declared.names.SiteId.{SiteId}
 use Rattle.mdb_base.specs.declared.names.SiteTicket.{SiteTicket}
 use Rattle.mdb_base.specs.declared.names.Tid.{Tid}
 use Rattle.mdb_base.specs.Words.{some_of}
+use Rattle.mdb_base.proofs.ListLaws.{among_some}
 use Rattle.order_laws.specs.Chains.{In, Way}
 use Rattle.order_laws.specs.Search.{Linked}
 use Rattle.order_laws.specs.Tickets.{Ticketed, Precedes, OneEach, is_above, edge_between}
 use Rattle.order_laws.proofs.Chains.{way_one, way_append}
-use Rattle.order_laws.proofs.Lists.{some_of_is, some_of_true, is_among, bool_is}
-use Rattle.order_laws.proofs.Tickets.{linked}
+use Rattle.order_laws.proofs.Lists.{some_of_is, is_among, bool_is}
+use Rattle.order_laws.proofs.Tickets.{linked, above_is, is_above_true}
+use Rattle.order_laws.proofs.InLaws.{in_parts}
 use Rattle.ticket_graph.specs.Graph.{tids_of, IsForwards}
 use Rattle.ticket_graph.specs.Reach.{is_over, are_before, reached, unreached}
 use Rattle.ticket_graph.proofs.GraphLemmas.{in_tids}
-use Rattle.ticket_graph.proofs.Parts.{in_left, in_right, in_parts}
+use Rattle.ticket_graph.proofs.Parts.{in_left, in_right}
 
 -- ---- one list of tickets before another
 
@@ -34,14 +36,8 @@ before_has own other h =
 pub has_before : (own other : List SiteTicket) → HasSmaller own other → are_before own other ≡ true
 has_before own other h =
     let inner : some_of (λ k. is_above k h.greater) own ≡ true =
-    some_of_true (λ k. is_above k h.greater) own (is_among (λ k. is_above k h.greater ≡ true) h.smaller own h.first h.above) in
-    some_of_true (is_over own) other (is_among (λ l. is_over own l ≡ true) h.greater other h.second inner)
-
-above_is : (k l : SiteTicket) → is_above k l ≡ true → (l.site ≡ k.site) × (k.ticket < l.ticket)
-above_is k l e = (grind arith, grind arith)
-
-is_above_true : (k l : SiteTicket) (s : SiteId) → k.site ≡ s → l.site ≡ s → k.ticket < l.ticket → is_above k l ≡ true
-is_above_true k l s p q h = grind arith
+    among_some (λ k. is_above k h.greater) own (is_among (λ k. is_above k h.greater ≡ true) h.smaller own h.first h.above) in
+    among_some (is_over own) other (is_among (λ l. is_over own l ≡ true) h.greater other h.second inner)
 
 -- tickets among which are those of an attempt that precedes another
 pub precedes_before : (met : List SiteTicket) (a b : Ticketed) (s : SiteId) → ((k : SiteTicket) → In k a.tickets → In k met) → Precedes a b s →

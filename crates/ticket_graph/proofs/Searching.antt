@@ -1,38 +1,36 @@
 -- The search, attempt by attempt.
-use Rattle.std.proofs.Common.{ℕ, zero, suc, ◌+◌, ◌<◌, ◌≤◌, ◌≡◌, ◌==◌, ◌⊎◌, Bool, true, false, cond, ◌&&◌, ◌||◌, Option, Some, None, List, [], ◌∷◌, ◌++◌, length, slice_get, refl, sym, ap, ◌∙◌, subst, inl, inr, arith, length-append}
+use Rattle.std.proofs.Common.{ℕ, zero, suc, ◌+◌, ◌<◌, ◌≤◌, ◌≡◌, ◌==◌, ◌⊎◌, Bool, true, false, cond, ◌||◌, Option, Some, None, List, [], ◌∷◌, ◌++◌, length, slice_get, refl, sym, ap, ◌∙◌, subst, inl, inr, arith, length-append}
 use Rattle.std.proofs.lemmas.Bool.Decides.{nat_tests}
 use Rattle.std.specs.Ordering.{is_eq}
 use Rattle.std.specs.BTreeSet.{BTreeSet, contains}
+use Rattle.std.proofs.lemmas.Bool.{and_parts, and_from}
 use Rattle.mdb_base.specs.declared.names.SiteId.{SiteId}
 use Rattle.mdb_base.specs.declared.names.SiteTicket.{SiteTicket}
 use Rattle.mdb_base.specs.declared.names.Tid.{Tid}
 use Rattle.mdb_base.specs.Names.{same_tid, same_site}
 use Rattle.mdb_base.specs.Words.{Each, Among, some_of, holds_of}
+use Rattle.mdb_base.proofs.ListLaws.{among_some, each_map}
+use Rattle.mdb_base.proofs.NameLaws.{same_tid-equal, same_tid-refl, same_site-equal, same_site-refl}
+use Rattle.mdb_base.proofs.TestLaws.{some_of-push}
+use Rattle.mdb_base.proofs.PlaceLaws.{slice_get-below, slice_get-front}
+use Rattle.mdb_base.proofs.OptionLaws.{some_parts}
 use Rattle.order_laws.specs.Chains.{In}
 use Rattle.order_laws.specs.Tickets.{Ticketed, Precedes, OneEach}
-use Rattle.order_laws.proofs.Lists.{among_is, bool_is, and_cases, some_of_is, some_of_true, is_among, each_at, one_image}
-use Rattle.order_laws.proofs.Names.{is_eq-tid_cmp, same_tid_alike, same_tid_self, same_site_alike, same_site_self}
+use Rattle.order_laws.proofs.Lists.{among_is, bool_is, some_of_is, is_among, each_at, one_image}
+use Rattle.order_laws.proofs.Names.{is_eq-tid_cmp}
 use Rattle.ticket_graph.specs.declared.entries.Entry.{Entry}
 use Rattle.ticket_graph.specs.declared.steps.Step.{Step}
 use Rattle.ticket_graph.specs.Entries.{entry_cmp, is_ticket, is_entry}
 use Rattle.ticket_graph.specs.Steps.{is_reached, IsAbove, IsStepAbove, Follows, IsDone}
 use Rattle.order_laws.specs.Ranked.{tid_cmp}
+use Rattle.order_laws.proofs.InLaws.{slice_get-in}
 use Rattle.ticket_graph.specs.Trail.{IsAt, IsSource, IsEdgeStep, IsTrail, is_reached_tid, IsClosed}
-use Rattle.ticket_graph.proofs.EntryLemmas.{some_of-push}
-use Rattle.ticket_graph.proofs.StepLemmas.{reached_longer, done_still, each_weaker}
-use Rattle.ticket_graph.proofs.TrailLemmas.{got_in, got_within, source_later}
-
-same : {A : Type 0} {x y : A} → Some x ≡ Some y → x ≡ y
-same h = cc
-
-got_front : {A : Type 0} (xs ys : List A) (i : ℕ) (x : A) → slice_get xs i ≡ Some x → slice_get (xs ++ ys) i ≡ Some x
-got_front [] ys i x h = cc
-got_front (z ∷ xs) ys zero x h = h
-got_front (z ∷ xs) ys (suc i) x h = got_front xs ys i x h
+use Rattle.ticket_graph.proofs.StepLemmas.{reached_longer, done_still}
+use Rattle.ticket_graph.proofs.TrailLemmas.{source_later}
 
 -- what stands at a place of two lists stands in the first one, or in the second one behind it
 got_either : {A : Type 0} (xs ys : List A) (i : ℕ) (x : A) → slice_get (xs ++ ys) i ≡ Some x → (slice_get xs i ≡ Some x) ⊎ ((length xs ≤ i) × In x ys)
-got_either [] ys i x h = inr (omega arith, got_in ys i x h)
+got_either [] ys i x h = inr (omega arith, slice_get-in ys i x h)
 got_either (z ∷ xs) ys zero x h = inl h
 got_either (z ∷ xs) ys (suc i) x h =
     elim (got_either xs ys i x h) [ inl e ↦ inl e | inr r ↦ inr (let k = r.0 in omega arith, r.1) ]
@@ -54,13 +52,13 @@ entry_of : (attempts : List Ticketed) (e : Entry) (o : Option Ticketed) → slic
 entry_of attempts e None is h = cc
 entry_of attempts e (Some a) is h =
     let t = some_of_is (is_ticket e) a.tickets h in
-    let both = and_cases (same_site t.0.site e.site) (t.0.ticket == e.ticket) t.2 in
+    let both = and_parts (same_site t.0.site e.site) (t.0.ticket == e.ticket) t.2 in
     record {
       attempt = a;
       is_attempt = is;
       ticket = t.0;
       has = t.1;
-      site = same_site_alike t.0.site e.site both.0;
+      site = same_site-equal t.0.site e.site both.0;
       number = same_number t.0.ticket e.ticket both.1;
     }
 
@@ -70,17 +68,14 @@ entry_is attempts e h = entry_of attempts e (slice_get attempts e.attempt) refl 
 number_self : (n : ℕ) → (n == n) ≡ true
 number_self n = grind (arith, nat_tests)
 
-both_true : (b c : Bool) → b ≡ true → c ≡ true → (b && c) ≡ true
-both_true b c e f = rw (e, f) refl
-
 -- a ticket of an attempt is an entry
 is_an_entry : (attempts : List Ticketed) (place : ℕ) (a : Ticketed) (t : SiteTicket) → slice_get attempts place ≡ Some a → In t a.tickets →
     is_entry attempts (record { site = t.site; ticket = t.ticket; attempt = place }) ≡ true
 is_an_entry attempts place a t at i =
     let e : Entry = record { site = t.site; ticket = t.ticket; attempt = place } in
     let found : some_of (is_ticket e) a.tickets ≡ true =
-    some_of_true (is_ticket e) a.tickets (is_among (λ k. is_ticket e k ≡ true) t a.tickets i
-    (both_true (same_site t.site t.site) (t.ticket == t.ticket) (same_site_self t.site) (number_self t.ticket))) in
+    among_some (is_ticket e) a.tickets (is_among (λ k. is_ticket e k ≡ true) t a.tickets i
+    (and_from (same_site t.site t.site) (t.ticket == t.ticket) (same_site-refl t.site) (number_self t.ticket))) in
     ap (holds_of (λ b. some_of (is_ticket e) b.tickets)) at ∙ found
 
 -- the search has reached these steps, and has gone on from those before next
@@ -95,7 +90,7 @@ pub record IsSearching (attempts : List Ticketed) (added : Ticketed) (unmet : BT
 
 at_longer : (attempts : List Ticketed) (steps added longer : List Step) (place : ℕ) (a : Ticketed) → longer ≡ steps ++ added → IsAt attempts steps place a → IsAt attempts longer place a
 at_longer attempts steps added longer place a e h =
-    record { step = h.step; is_step = ap (λ ss. slice_get ss place) e ∙ got_front steps added place h.step h.is_step; is_attempt = h.is_attempt }
+    record { step = h.step; is_step = ap (λ ss. slice_get ss place) e ∙ slice_get-front steps added place h.step h.is_step; is_attempt = h.is_attempt }
 
 source_longer : (attempts : List Ticketed) (new : Ticketed) (steps added longer : List Step) (place : ℕ) (from : Option ℕ) (source : Ticketed) → longer ≡ steps ++ added →
     IsSource attempts new steps place from source → IsSource attempts new longer place from source
@@ -171,7 +166,7 @@ next_or_before place next h = elim (bool_is (place == next)) [ inl e ↦ inr (sa
 is_the_attempt : (attempts : List Ticketed) (steps : List Step) (place : ℕ) (step : Step) (a b : Ticketed) → slice_get steps place ≡ Some step →
     slice_get attempts step.attempt ≡ Some a → IsAt attempts steps place b → b ≡ a
 is_the_attempt attempts steps place step a b at has h =
-    let s : h.step ≡ step = same (sym h.is_step ∙ at) in same (sym h.is_attempt ∙ (ap (λ x. slice_get attempts x.attempt) s ∙ has))
+    let s : h.step ≡ step = some_parts (sym h.is_step ∙ at) in some_parts (sym h.is_attempt ∙ (ap (λ x. slice_get attempts x.attempt) s ∙ has))
 
 at_shorter : (attempts : List Ticketed) (steps added longer : List Step) (place : ℕ) (a : Ticketed) → longer ≡ steps ++ added → place < length steps →
     IsAt attempts longer place a → IsAt attempts steps place a
@@ -187,7 +182,7 @@ pub search_goes_on : (attempts : List Ticketed) (added : Ticketed) (unmet left :
     ((s : SiteId) → Precedes a added s → ⊥) → Follows (Some next) a.tickets unmet steps left longer → Each (IsDone left) a.tickets →
     IsSearching attempts added left longer (next + 1)
 search_goes_on attempts added unmet left steps longer next step a s at has not_back f done =
-    let within : next < length steps = got_within steps next step at in
+    let within : next < length steps = slice_get-below steps next step at in
     let here : IsAt attempts steps next a = record { step = step; is_step = at; is_attempt = has } in
     record {
       trail = trail_more attempts added unmet left steps longer (Some next) a s.trail s.entries (within, here) f;
@@ -196,11 +191,11 @@ search_goes_on attempts added unmet left steps longer next step a s at has not_b
         | inl m ↦ f.reached e m k
         | inr m ↦ subst (λ ss. is_reached ss e.attempt ≡ true) (sym f.grows) (reached_longer steps f.added e.attempt (s.reached e h m))
       ];
-      first = each_weaker (IsDone unmet) (IsDone left) (λ t. done_still unmet left t f.others) added.tickets s.first;
+      first = each_map (IsDone unmet) (IsDone left) (λ t. done_still unmet left t f.others) added.tickets s.first;
       done = λ place b below there.
           let old = at_shorter attempts steps f.added longer place b f.grows (omega arith) there in
           elim (next_or_before place next below) [
-            | inl before ↦ each_weaker (IsDone unmet) (IsDone left) (λ t. done_still unmet left t f.others) b.tickets (s.done place b before old)
+            | inl before ↦ each_map (IsDone unmet) (IsDone left) (λ t. done_still unmet left t f.others) b.tickets (s.done place b before old)
             | inr now ↦
                 let is : b ≡ a = is_the_attempt attempts steps next step a b at has (subst (λ p. IsAt attempts steps p b) now old) in
                 subst (λ x. Each (IsDone left) x.tickets) (sym is) done
@@ -234,13 +229,13 @@ edge_reached attempts added unmet steps next tids search names a b s done i p =
     let step = some_of_is (λ st. st.attempt == at.0) steps (search.reached e entry met) in
     let place : step.0.attempt ≡ at.0 = same_number step.0.attempt at.0 step.2 in
     let attempt : slice_get attempts step.0.attempt ≡ Some b = ap (λ n. slice_get attempts n) place ∙ at.1 in
-    names b.tid ∙ some_of_true (λ st. holds_of (λ x. same_tid b.tid x.tid) (slice_get attempts st.attempt)) steps
+    names b.tid ∙ among_some (λ st. holds_of (λ x. same_tid b.tid x.tid) (slice_get attempts st.attempt)) steps
     (is_among (λ st. holds_of (λ x. same_tid b.tid x.tid) (slice_get attempts st.attempt) ≡ true) step.0 steps step.1
-    (ap (holds_of (λ (x : Ticketed). same_tid b.tid x.tid)) attempt ∙ same_tid_self b.tid))
+    (ap (holds_of (λ (x : Ticketed). same_tid b.tid x.tid)) attempt ∙ same_tid-refl b.tid))
 
 named_at : (attempts : List Ticketed) (tid : Tid) (o : Option Ticketed) → holds_of (λ a. same_tid tid a.tid) o ≡ true → (a : Ticketed) × (o ≡ Some a) × (tid ≡ a.tid)
 named_at attempts tid None h = cc
-named_at attempts tid (Some a) h = (a, refl, same_tid_alike tid a.tid h)
+named_at attempts tid (Some a) h = (a, refl, same_tid-equal tid a.tid h)
 
 -- an attempt that is reached is that of a step
 reached_at : (attempts : List Ticketed) (steps : List Step) (tids : BTreeSet Tid) → OneEach attempts →
@@ -249,7 +244,7 @@ reached_at : (attempts : List Ticketed) (steps : List Step) (tids : BTreeSet Tid
 reached_at attempts steps tids one names a i h =
     let step = some_of_is (λ st. holds_of (λ x. same_tid a.tid x.tid) (slice_get attempts st.attempt)) steps (sym (names a.tid) ∙ h) in
     let b = named_at attempts a.tid (slice_get attempts step.0.attempt) step.2 in
-    let is : b.0 ≡ a = one_image (λ (x : Ticketed). x.tid) attempts one b.0 a (got_in attempts step.0.attempt b.0 b.1) i (sym b.2) in
+    let is : b.0 ≡ a = one_image (λ (x : Ticketed). x.tid) attempts one b.0 a (slice_get-in attempts step.0.attempt b.0 b.1) i (sym b.2) in
     let at = in_got steps step.0 step.1 in
     (at.0, record { step = step.0; is_step = at.1; is_attempt = b.1 ∙ ap (λ x. Some x) is })
 
@@ -262,11 +257,11 @@ search_ends attempts added unmet steps next tids one search all names =
       first = λ b s i p. edge_reached attempts added unmet steps next tids search names added b s search.first i p;
       onward = λ a b s i j h p.
           let at = reached_at attempts steps tids one names a i h in
-          let below = got_within steps at.0 at.1.step at.1.is_step in
+          let below = slice_get-below steps at.0 at.1.step at.1.is_step in
           edge_reached attempts added unmet steps next tids search names a b s (search.done at.0 a (omega arith) at.1) j p;
       never_back = λ a s i h p.
           let at = reached_at attempts steps tids one names a i h in
-          let below = got_within steps at.0 at.1.step at.1.is_step in
+          let below = slice_get-below steps at.0 at.1.step at.1.is_step in
           search.never_back at.0 a s (omega arith) at.1 p;
     }
 
@@ -274,7 +269,7 @@ search_ends attempts added unmet steps next tids one search all names =
 pub trail_within : (attempts : List Ticketed) (added : Ticketed) (steps : List Step) → IsTrail attempts added steps →
     (place : ℕ) (step : Step) → slice_get steps place ≡ Some step → step.attempt < length attempts
 trail_within attempts added steps trail place step at =
-    let way = trail place step at in got_within attempts step.attempt way.target way.is_target
+    let way = trail place step at in slice_get-below attempts step.attempt way.target way.is_target
 
 or_joined : (a b c d : Bool) → a ≡ d → (cond a true b) ≡ c → c ≡ (b || d)
 or_joined true true c d e f = sym f

@@ -3,15 +3,17 @@ use Rattle.std.proofs.Common.{ℕ, zero, suc, ◌+◌, ◌<◌, ◌≡◌, ◌==
 use Rattle.std.proofs.lemmas.Bool.Decides.{nat_tests}
 use Rattle.std.specs.Ordering.{is_eq}
 use Rattle.std.specs.BTreeSet.{BTreeSet, contains, btree_set_len}
+use Rattle.std.proofs.lemmas.Bool.{or_left, or_right}
 use Rattle.mdb_base.specs.declared.names.SiteTicket.{SiteTicket}
 use Rattle.mdb_base.specs.Words.{Each, Among}
-use Rattle.order_laws.proofs.Chains.{each_append}
-use Rattle.order_laws.proofs.Lists.{among_weaker, bool_is, or_first, or_second}
+use Rattle.mdb_base.proofs.ListLaws.{append_each, each_map}
+use Rattle.mdb_base.proofs.TestLaws.{some_of-push}
+use Rattle.mdb_base.proofs.EachLaws.{among_append, among_behind}
+use Rattle.order_laws.proofs.Lists.{among_weaker, bool_is}
 use Rattle.ticket_graph.specs.declared.entries.Entry.{Entry}
 use Rattle.ticket_graph.specs.declared.steps.Step.{Step}
 use Rattle.ticket_graph.specs.Entries.{entry_cmp}
 use Rattle.ticket_graph.specs.Steps.{is_reached, IsStepTo, Reaches, Meets, IsAbove, IsStepAbove, Follows, IsDone}
-use Rattle.ticket_graph.proofs.EntryLemmas.{some_of-push}
 
 append-nil : {A : Type 0} (xs : List A) → xs ≡ xs ++ []
 append-nil [] = refl
@@ -44,10 +46,10 @@ seen_more : (seen : List Bool) (steps longer : List Step) (step : Step) → ((pl
     longer ≡ steps ++ step ∷ [] → (place : ℕ) → (b : Bool) → (step.attempt == place) ≡ b →
     slice_get (slice_set seen step.attempt true) place ≡ Some true → is_reached (steps ++ step ∷ []) place ≡ true
 seen_more seen steps longer step h e place true f g =
-    some_of-push (λ s. s.attempt == place) steps step ∙ or_second (is_reached steps place) (step.attempt == place) f
+    some_of-push (λ s. s.attempt == place) steps step ∙ or_right (is_reached steps place) (step.attempt == place) f
 seen_more seen steps longer step h e place false f g =
     some_of-push (λ s. s.attempt == place) steps step
-    ∙ or_first (is_reached steps place) (step.attempt == place) (h place (sym (set_elsewhere seen step.attempt place true f) ∙ g))
+    ∙ or_left (is_reached steps place) (step.attempt == place) (h place (sym (set_elsewhere seen step.attempt place true f) ∙ g))
 
 -- what is marked as seen is reached, also with one more step and its mark
 pub seen_reached : (seen : List Bool) (steps longer : List Step) (step : Step) → ((place : ℕ) → slice_get seen place ≡ Some true → is_reached steps place ≡ true) →
@@ -80,13 +82,9 @@ pub reached_longer : (steps added : List Step) (place : ℕ) → is_reached step
 reached_longer [] added place h = cc
 reached_longer (s ∷ steps) added place h =
     elim (bool_is (s.attempt == place)) [
-      | inl e ↦ or_first (s.attempt == place) (is_reached (steps ++ added) place) e
-      | inr e ↦ or_second (s.attempt == place) (is_reached (steps ++ added) place) (reached_longer steps added place (rw e at h))
+      | inl e ↦ or_left (s.attempt == place) (is_reached (steps ++ added) place) e
+      | inr e ↦ or_right (s.attempt == place) (is_reached (steps ++ added) place) (reached_longer steps added place (rw e at h))
     ]
-
-pub each_weaker : {A : Type 0} (P Q : A → Type 0) → ((x : A) → P x → Q x) → (xs : List A) → Each P xs → Each Q xs
-each_weaker P Q h [] e = tt
-each_weaker P Q h (x ∷ xs) e = (h x e.0, each_weaker P Q h xs e.1)
 
 -- nothing followed yet
 pub follows_none : (from : Option ℕ) (tickets : List SiteTicket) (unmet : BTreeSet Entry) (steps : List Step) → Follows from tickets unmet steps unmet steps
@@ -112,8 +110,8 @@ follows_both from tickets unmet left last steps longer longest f g =
       added = f.added ++ g.added;
       grows = g.grows ∙ (ap (λ ss. ss ++ g.added) f.grows ∙ append_assoc steps f.added g.added);
       each =
-          each_append (λ step. Among (λ ticket. IsStepAbove unmet from ticket step) tickets) f.added g.added f.each
-          (each_weaker (λ step. Among (λ ticket. IsStepAbove left from ticket step) tickets) (λ step. Among (λ ticket. IsStepAbove unmet from ticket step) tickets)
+          append_each (λ step. Among (λ ticket. IsStepAbove unmet from ticket step) tickets) f.added g.added f.each
+          (each_map (λ step. Among (λ ticket. IsStepAbove left from ticket step) tickets) (λ step. Among (λ ticket. IsStepAbove unmet from ticket step) tickets)
           (λ step. among_weaker (λ ticket. IsStepAbove left from ticket step) (λ ticket. IsStepAbove unmet from ticket step)
           (λ ticket. above_before unmet left from f.others ticket step) tickets) g.added g.each);
       others = λ e h. f.others e (g.others e h);
@@ -121,15 +119,6 @@ follows_both from tickets unmet left last steps longer longest f g =
           (λ m n. subst (λ ss. is_reached ss e.attempt ≡ true) (sym g.grows) (reached_longer longer g.added e.attempt (f.reached e m n))) (g.reached e);
       smaller = let a = f.smaller in let b = g.smaller in omega arith;
     }
-
-among_append : {A : Type 0} (P : A → Type 0) (xs ys : List A) → Among P xs → Among P (xs ++ ys)
-among_append P [] ys i = absurd i
-among_append P (x ∷ xs) ys (inl p) = inl p
-among_append P (x ∷ xs) ys (inr i) = inr (among_append P xs ys i)
-
-among_behind : {A : Type 0} (P : A → Type 0) (xs ys : List A) → Among P ys → Among P (xs ++ ys)
-among_behind P [] ys i = i
-among_behind P (x ∷ xs) ys i = inr (among_behind P xs ys i)
 
 -- of some tickets, and of one more
 pub follows_more : (from : Option ℕ) (tickets more : List SiteTicket) (ticket : SiteTicket) (unmet left last : BTreeSet Entry) (steps longer longest : List Step) →
@@ -144,7 +133,7 @@ follows_more from tickets more ticket unmet left last steps longer longest e f g
       others = f.others;
       reached = f.reached;
       smaller = f.smaller;
-      each = each_weaker _ (λ step. Among (λ t. IsStepAbove unmet from t step) (tickets ++ ticket ∷ []))
+      each = each_map _ (λ step. Among (λ t. IsStepAbove unmet from t step) (tickets ++ ticket ∷ []))
           (λ step. among_append (λ t. IsStepAbove unmet from t step) tickets (ticket ∷ [])) f.added f.each;
     })
     (record {
@@ -153,7 +142,7 @@ follows_more from tickets more ticket unmet left last steps longer longest e f g
       others = g.others;
       reached = g.reached;
       smaller = g.smaller;
-      each = each_weaker _ (λ step. Among (λ t. IsStepAbove left from t step) (tickets ++ ticket ∷ []))
+      each = each_map _ (λ step. Among (λ t. IsStepAbove left from t step) (tickets ++ ticket ∷ []))
           (λ step. among_behind (λ t. IsStepAbove left from t step) tickets (ticket ∷ [])) g.added g.each;
     }))
 
@@ -189,8 +178,8 @@ pub done_more : (tickets more : List SiteTicket) (ticket : SiteTicket) (unmet le
     Each (IsDone unmet) tickets → IsDone left ticket → Each (IsDone left) more
 done_more tickets more ticket unmet left e h done one =
     subst (Each (IsDone left)) (sym e)
-    (each_append (IsDone left) tickets (ticket ∷ [])
-    (each_weaker (IsDone unmet) (IsDone left) (λ t. done_still unmet left t h) tickets done) (one, tt))
+    (append_each (IsDone left) tickets (ticket ∷ [])
+    (each_map (IsDone unmet) (IsDone left) (λ t. done_still unmet left t h) tickets done) (one, tt))
 
 -- the item at a place within the list, whatever stands for the others
 pub here : {A : Type 0} (xs : List A) (i : ℕ) (d : A) → i < length xs → slice_get xs i ≡ Some (get_or xs i d)

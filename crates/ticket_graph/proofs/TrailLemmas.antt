@@ -1,12 +1,14 @@
 -- Going back along the steps of the search, edge by edge.
-use Rattle.std.proofs.Common.{ℕ, zero, suc, ◌<◌, ◌≤◌, ◌≡◌, Option, Some, None, List, [], ◌∷◌, ◌++◌, length, reverse, slice_get, refl, sym, ap, ◌∙◌, subst, inl, inr, arith}
+use Rattle.std.proofs.Common.{ℕ, suc, ◌<◌, ◌≤◌, ◌≡◌, Option, Some, None, List, [], ◌∷◌, ◌++◌, length, reverse, slice_get, refl, sym, ap, ◌∙◌, subst, inl, inr, arith}
 use Rattle.std.proofs.lemmas.List.{reverse-append}
 use Rattle.mdb_base.specs.declared.names.SiteId.{SiteId}
 use Rattle.mdb_base.specs.declared.names.Tid.{Tid}
 use Rattle.mdb_base.specs.declared.replies.Edge.{Edge}
 use Rattle.mdb_base.specs.Words.{Each}
+use Rattle.mdb_base.proofs.PlaceLaws.{slice_get-below}
 use Rattle.order_laws.specs.Chains.{In}
 use Rattle.order_laws.specs.Tickets.{Ticketed, Precedes, IsEdge, Leads, IsCycle}
+use Rattle.order_laws.proofs.InLaws.{slice_get-in}
 use Rattle.ticket_graph.specs.declared.steps.Step.{Step}
 use Rattle.ticket_graph.specs.Trail.{IsSource, IsTrail, IsBack}
 
@@ -26,17 +28,6 @@ abbrev pub steps_left : Option ℕ → ℕ
 steps_left None = 0
 steps_left (Some place) = suc place
 
--- an item that is read stands in the list, at a place within it
-pub got_in : {A : Type 0} (xs : List A) (i : ℕ) (x : A) → slice_get xs i ≡ Some x → In x xs
-got_in [] i x h = cc
-got_in (y ∷ ys) zero x h = let e : y ≡ x = cc in inl e
-got_in (y ∷ ys) (suc i) x h = inr (got_in ys i x h)
-
-pub got_within : {A : Type 0} (xs : List A) (i : ℕ) (x : A) → slice_get xs i ≡ Some x → i < length xs
-got_within [] i x h = cc
-got_within (y ∷ ys) zero x h = omega arith
-got_within (y ∷ ys) (suc i) x h = let k = got_within ys i x h in omega arith
-
 -- a source before a place is one before each later place
 pub source_later : (attempts : List Ticketed) (added : Ticketed) (steps : List Step) (place later : ℕ) (from : Option ℕ) (source : Ticketed) → place ≤ later →
     IsSource attempts added steps place from source → IsSource attempts added steps later from source
@@ -52,7 +43,7 @@ back_starts attempts added steps last site edges e b =
       has_target = inl refl;
       is_target = refl;
       source = b.attempt;
-      is_source = (got_within steps last b.is_at.step b.is_at.is_step, b.is_at);
+      is_source = (slice_get-below steps last b.is_at.step b.is_at.is_step, b.is_at);
       precedes = b.precedes;
       leads = refl;
       each = tt;
@@ -87,14 +78,14 @@ goes_back attempts added steps place to site edges more step a trail at has e b 
     let target : way.target ≡ a = same (sym way.is_target ∙ has) in
     record {
       target = a;
-      has_target = inr (got_in attempts step.attempt a has);
+      has_target = inr (slice_get-in attempts step.attempt a has);
       is_target = refl;
       source = way.source;
       is_source = source_later attempts added steps place (length steps) step.from way.source (let k = b.is_source.0 in omega arith) way.is_source;
       precedes = subst (λ t. Precedes way.source t step.site) target way.precedes;
       leads = more_leads a.tid to added.tid site edges more e b.leads;
       each = more_edges (added ∷ attempts) (record { from = a.tid; to = to; site = site }) edges more e
-          (is_the_edge (added ∷ attempts) a b.target to site (inr (got_in attempts step.attempt a has)) b.has_target b.is_target
+          (is_the_edge (added ∷ attempts) a b.target to site (inr (slice_get-in attempts step.attempt a has)) b.has_target b.is_target
           (subst (λ s. Precedes s b.target site) same_attempt b.precedes)) b.each;
     }
   where

@@ -7,25 +7,13 @@ use Rattle.mdb_base.specs.declared.names.Tid.{Tid}
 use Rattle.mdb_base.specs.Names.{same_tid, tid_before}
 use Rattle.mdb_base.specs.Words.{Each, holds_of, inserted, item_at}
 use Rattle.mdb_base.proofs.ListLaws.{each_map, each_inserted}
-use Rattle.mdb_base.proofs.NameLaws.{same_tid-refl, same_tid-equal}
+use Rattle.mdb_base.proofs.NameLaws.{same_tid-refl, same_tid-equal, before_onward, before_apart, apart_behind, before_not_back}
 use Rattle.mdb_base.proofs.Words.{item_at-within, item_at-past}
+use Rattle.mdb_base.proofs.BoolLaws.{or_false, or_swap}
 use Rattle.ticket_item.specs.Item.{count_before, is_among, IsByTid}
-
--- the order of attempts
-onward : (a b c : Tid) → tid_before a b ≡ true → tid_before b c ≡ true → tid_before a c ≡ true
-onward a b c e f = grind arith
-
-apart_before : (a b : Tid) → tid_before a b ≡ true → same_tid a b ≡ false
-apart_before a b e = grind arith
-
-apart_behind : (a b : Tid) → tid_before a b ≡ true → same_tid b a ≡ false
-apart_behind a b e = grind arith
 
 total : (a b : Tid) → tid_before a b ≡ false → same_tid b a ≡ false → tid_before b a ≡ true
 total a b e f = grind arith
-
-not_back : (a b c : Tid) → tid_before a c ≡ false → tid_before a b ≡ true → tid_before b c ≡ false
-not_back a b c e f = false_from_ne_true (tid_before b c) (λ g. false≢true (sym e ∙ onward a b c f g))
 
 past : (a b c : Tid) → tid_before a c ≡ false → tid_before a b ≡ true → same_tid c b ≡ false
 past a b c e f = grind arith
@@ -40,7 +28,7 @@ pub partitioned : (t : Tid) (xs : List Tid) → IsByTid xs → IsPartitionedBy (
 partitioned t [] order i j d le lt e = absurd (omega arith)
 partitioned t (x ∷ xs) order zero zero d le lt e = e
 partitioned t (x ∷ xs) order zero (suc j) d le lt e =
-    onward x (get_or xs j d) t (each_at (λ later. tid_before x later ≡ true) xs j d order.0 (omega arith)) e
+    before_onward x (get_or xs j d) t (each_at (λ later. tid_before x later ≡ true) xs j d order.0 (omega arith)) e
 partitioned t (x ∷ xs) order (suc i) zero d le lt e = absurd (omega arith)
 partitioned t (x ∷ xs) order (suc i) (suc j) d le lt e = partitioned t xs order.1 i j d (omega arith) (omega arith) e
 
@@ -64,19 +52,15 @@ none_among t (x ∷ xs) h = or_from _ _ h.0 (none_among t xs h.1)
 
 -- an attempt isn't among those that it stands before
 absent_behind : (x : Tid) (xs : List Tid) → Each (λ later. tid_before x later ≡ true) xs → is_among x xs ≡ false
-absent_behind x xs first = none_among x xs (each_map _ (λ y. same_tid x y ≡ false) (λ y e. apart_before x y e) xs first)
+absent_behind x xs first = none_among x xs (each_map _ (λ y. same_tid x y ≡ false) (λ y e. before_apart x y e) xs first)
 
 -- behind an attempt that isn't before another one there is none before that one, and not that one
 module _ (t x : Tid) (xs : List Tid) (first : Each (λ later. tid_before x later ≡ true) xs) (is : tid_before x t ≡ false) where
   behind_count : count_before t xs ≡ 0
-  behind_count = none_before t xs (each_map _ (λ y. tid_before y t ≡ false) (λ y e. not_back x y t is e) xs first)
+  behind_count = none_before t xs (each_map _ (λ y. tid_before y t ≡ false) (λ y e. before_not_back x y t is e) xs first)
 
   behind_absent : is_among t xs ≡ false
   behind_absent = none_among t xs (each_map _ (λ y. same_tid t y ≡ false) (λ y e. past x y t is e) xs first)
-
-or_nothing : (b : Bool) → (b || false) ≡ b
-or_nothing true = refl
-or_nothing false = refl
 
 -- an attempt is in the list where it stands behind those before it
 is_among-place : (t : Tid) (xs : List Tid) → IsByTid xs → is_among t xs ≡ holds_of (same_tid t) (item_at xs (count_before t xs))
@@ -86,7 +70,7 @@ is_among-place t (x ∷ xs) order = by_test (tid_before x t) refl (is_among-plac
     by_test : (b : Bool) → tid_before x t ≡ b → is_among t xs ≡ holds_of (same_tid t) (item_at xs (count_before t xs)) → is_among t (x ∷ xs) ≡ holds_of (same_tid t) (item_at (x ∷ xs) (cond b (suc (count_before t xs)) (count_before t xs)))
     by_test true is rest = ap (λ b. b || is_among t xs) (apart_behind x t is) ∙ rest
     by_test false is rest =
-        ap (λ b. same_tid t x || b) (behind_absent t x xs order.0 is) ∙ or_nothing (same_tid t x)
+        ap (λ b. same_tid t x || b) (behind_absent t x xs order.0 is) ∙ or_false (same_tid t x)
         ∙ ap (λ n. holds_of (same_tid t) (item_at (x ∷ xs) n)) (sym (behind_count t x xs order.0 is))
 
 module _ (t : Tid) (xs : List Tid) (order : IsByTid xs) (place : ℕ) (count : place ≡ count_before t xs) where
@@ -98,11 +82,6 @@ module _ (t : Tid) (xs : List Tid) (order : IsByTid xs) (place : ℕ) (count : p
 
   pub absent_past : length xs ≤ place → is_among t xs ≡ false
   absent_past le = by_place ∙ ap (holds_of (same_tid t)) (item_at-past xs place le)
-
-or_swap : (a b c : Bool) → (a || (b || c)) ≡ (b || (a || c))
-or_swap true true c = refl
-or_swap true false c = refl
-or_swap false b c = refl
 
 -- one more attempt: its place, who is among the list with it, and that the order stays
 pub inserted-place : (t : Tid) (xs : List Tid) → IsByTid xs → inserted tid_before t xs ≡ insert xs (count_before t xs) t
@@ -130,7 +109,7 @@ IsByTid-inserted t (x ∷ xs) order absent =
     by_test apart true is rest = (each_inserted (λ later. tid_before x later ≡ true) tid_before t xs is order.0, rest)
     by_test apart false is rest =
         let first = total x t is apart in
-        ((first, each_map _ (λ y. tid_before t y ≡ true) (λ y e. onward t x y first e) xs order.0), order)
+        ((first, each_map _ (λ y. tid_before t y ≡ true) (λ y e. before_onward t x y first e) xs order.0), order)
 
 -- an attempt at a place is among the list
 pub is_among-at : (t : Tid) (xs : List Tid) (i : ℕ) → item_at xs i ≡ Some t → is_among t xs ≡ true

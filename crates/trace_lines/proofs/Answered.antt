@@ -7,21 +7,21 @@ use Rattle.mdb_base.specs.declared.names.Tid.{Tid}
 use Rattle.mdb_base.specs.declared.replies.Reply.{Reply}
 use Rattle.mdb_base.specs.declared.replies.Reply.TheVariants.{Refused}
 use Rattle.mdb_base.specs.declared.replies.Why.TheVariants as Refusal
+use Rattle.mdb_base.proofs.BoolLaws.{is_true_parts, is_true_both}
 use Rattle.presumptions.specs.declared.Decision.TheVariants as Final
 use Rattle.fed_rules.specs.declared.commands.Command.{Command}
 use Rattle.fed_rules.specs.declared.commands.Command.TheVariants as Ask
 use Rattle.fed_rules.specs.declared.answers.Answer.{Answer}
 use Rattle.fed_rules.specs.declared.answers.Answer.TheVariants as Say
-use Rattle.trace_lines.specs.declared.word.Keyword.{Keyword}
-use Rattle.trace_lines.specs.declared.word.Keyword.TheVariants as Key
-use Rattle.trace_lines.specs.declared.word.Mark.TheVariants as Mark
-use Rattle.trace_lines.specs.declared.word.Word.{Word}
-use Rattle.trace_lines.specs.declared.word.Word.TheVariants.{Plain, Number, Attempt}
-use Rattle.trace_lines.specs.Fits.{is_decided, answer_fits}
-use Rattle.trace_lines.specs.Range.{is_large, is_small, is_tid, is_key, reply_in_range, no_in_range, answer_in_range}
-use Rattle.trace_lines.specs.Spelling.{answer_words, reply_words}
+use Rattle.line_text.specs.declared.word.Keyword.{Keyword}
+use Rattle.line_text.specs.declared.word.Keyword.TheVariants as Key
+use Rattle.trace_lines.specs.declared.marks.Mark.TheVariants as Mark
+use Rattle.line_text.specs.declared.word.Word.{Word}
+use Rattle.line_text.specs.declared.word.Word.TheVariants.{Plain, Number, Attempt}
+use Rattle.line_text.specs.Fits.{is_decided, answer_fits}
+use Rattle.line_text.specs.Range.{is_large, is_small, is_tid, is_key, reply_in_range, no_in_range, answer_in_range}
+use Rattle.line_text.specs.Spelling.{answer_words, reply_words}
 use Rattle.trace_lines.specs.Reading.{bare_answer, short_answer, vote_answer, attempt_answer, row_answer, plain_answer, double_answer, answer_behind, answer_of, reply_of, no_of, decision_of, small_of}
-use Rattle.trace_lines.proofs.Pairs.{both, both_hold}
 use Rattle.trace_lines.proofs.Pieces.{AreWords}
 use Rattle.trace_lines.proofs.Guards.{from_guard, from_bind, from_map, key_large, small_large}
 use Rattle.trace_lines.proofs.Replies.{lacks_mark, decision_found, reply_lacks, reply_is_words, reply_found, no_again, no_lacks, no_is_words, no_found}
@@ -41,18 +41,18 @@ fits_cause command (Say.Decides decision cause forgets) h = absurd (false≢true
 fits_cause command answer h = refl
 
 did_again : (tid : Tid) (reply : Reply) → IsTrue (reply_in_range reply) → attempt_answer Key.Did tid (reply_words reply) ≡ Some (Say.Did tid reply)
-did_again tid (Refused (Refusal.Invalid by key)) h = rw (both (is_tid by) (is_key key) h).1 refl
+did_again tid (Refused (Refusal.Invalid by key)) h = rw (is_true_parts (is_tid by) (is_key key) h).1 refl
 did_again tid (Refused (Refusal.Die by)) h = refl
 did_again tid (Refused why) h = refl
 did_again tid reply h = refl
 
 -- the words of an answer are read as it
 pub answer_again : (answer : Answer) → IsTrue (answer_in_range answer) → IsTrue (has_cause answer) → answer_of (answer_words answer) ≡ Some answer
-answer_again (Say.Read key value) h d = rw (both (is_key key) (is_large value) h).0 refl
-answer_again (Say.Wrote key value) h d = rw (both (is_key key) (is_large value) h).0 refl
-answer_again (Say.Invalid by key) h d = rw (both (is_tid by) (is_key key) h).1 refl
-answer_again (Say.Did tid reply) h d = did_again tid reply (both (is_tid tid) (reply_in_range reply) h).1
-answer_again (Say.VotesNo tid why) h d = rw (no_again why (both (is_tid tid) (no_in_range why) h).1) refl
+answer_again (Say.Read key value) h d = rw (is_true_parts (is_key key) (is_large value) h).0 refl
+answer_again (Say.Wrote key value) h d = rw (is_true_parts (is_key key) (is_large value) h).0 refl
+answer_again (Say.Invalid by key) h d = rw (is_true_parts (is_tid by) (is_key key) h).1 refl
+answer_again (Say.Did tid reply) h d = did_again tid reply (is_true_parts (is_tid tid) (reply_in_range reply) h).1
+answer_again (Say.VotesNo tid why) h d = rw (no_again why (is_true_parts (is_tid tid) (no_in_range why) h).1) refl
 answer_again (Say.Settles tid Final.Commit) h d = refl
 answer_again (Say.Settles tid Final.Abort) h d = refl
 answer_again (Say.Answers Final.Commit) h d = refl
@@ -61,7 +61,7 @@ answer_again (Say.Presumes Final.Commit) h d = refl
 answer_again (Say.Presumes Final.Abort) h d = refl
 answer_again (Say.Decides Final.Commit cause forgets) h d = decided_again Final.Commit cause forgets d h
 answer_again (Say.Decides Final.Abort cause forgets) h d = decided_again Final.Abort cause forgets d h
-answer_again (Say.UpSite epoch doubtful) h d = let t = both (is_small epoch) (is_small doubtful) h in rw (t.0, t.1) refl
+answer_again (Say.UpSite epoch doubtful) h d = let t = is_true_parts (is_small epoch) (is_small doubtful) h in rw (t.0, t.1) refl
 answer_again (Say.UpCoord known) h d = rw h refl
 answer_again answer h d = refl
 
@@ -89,17 +89,17 @@ answer_is_words (Say.Aborted tid) h = (refl, (h, tt))
 answer_is_words (Say.Unheld tid) h = (refl, (h, tt))
 answer_is_words (Say.Asks tid) h = (refl, (h, tt))
 answer_is_words (Say.Dropped tid) h = (refl, (h, tt))
-answer_is_words (Say.Read key value) h = let t = both (is_key key) (is_large value) h in (refl, (key_large key t.0, (t.1, tt)))
-answer_is_words (Say.Wrote key value) h = let t = both (is_key key) (is_large value) h in (refl, (key_large key t.0, (t.1, tt)))
+answer_is_words (Say.Read key value) h = let t = is_true_parts (is_key key) (is_large value) h in (refl, (key_large key t.0, (t.1, tt)))
+answer_is_words (Say.Wrote key value) h = let t = is_true_parts (is_key key) (is_large value) h in (refl, (key_large key t.0, (t.1, tt)))
 answer_is_words (Say.Waits by) h = (refl, (h, tt))
 answer_is_words (Say.Dies by) h = (refl, (h, tt))
 answer_is_words (Say.Late by) h = (refl, (h, tt))
-answer_is_words (Say.Invalid by key) h = let t = both (is_tid by) (is_key key) h in (refl, (t.0, (key_large key t.1, tt)))
-answer_is_words (Say.Sealed tid number) h = let t = both (is_tid tid) (is_large number) h in (refl, (t.0, (refl, (t.1, tt))))
+answer_is_words (Say.Invalid by key) h = let t = is_true_parts (is_tid by) (is_key key) h in (refl, (t.0, (key_large key t.1, tt)))
+answer_is_words (Say.Sealed tid number) h = let t = is_true_parts (is_tid tid) (is_large number) h in (refl, (t.0, (refl, (t.1, tt))))
 answer_is_words (Say.Stopped kept) h = (refl, (refl, (h, tt)))
-answer_is_words (Say.Did tid reply) h = let t = both (is_tid tid) (reply_in_range reply) h in (refl, (t.0, reply_is_words reply t.1))
-answer_is_words (Say.VotesYes tid ticket) h = let t = both (is_tid tid) (is_large ticket) h in (refl, (t.0, (refl, (t.1, tt))))
-answer_is_words (Say.VotesNo tid why) h = let t = both (is_tid tid) (no_in_range why) h in (refl, (t.0, (refl, no_is_words why t.1)))
+answer_is_words (Say.Did tid reply) h = let t = is_true_parts (is_tid tid) (reply_in_range reply) h in (refl, (t.0, reply_is_words reply t.1))
+answer_is_words (Say.VotesYes tid ticket) h = let t = is_true_parts (is_tid tid) (is_large ticket) h in (refl, (t.0, (refl, (t.1, tt))))
+answer_is_words (Say.VotesNo tid why) h = let t = is_true_parts (is_tid tid) (no_in_range why) h in (refl, (t.0, (refl, no_is_words why t.1)))
 answer_is_words (Say.Settles tid Final.Commit) h = (refl, (h, (refl, tt)))
 answer_is_words (Say.Settles tid Final.Abort) h = (refl, (h, (refl, tt)))
 answer_is_words (Say.Answers Final.Commit) h = (refl, (refl, tt))
@@ -108,7 +108,7 @@ answer_is_words (Say.Presumes Final.Commit) h = (refl, (refl, tt))
 answer_is_words (Say.Presumes Final.Abort) h = (refl, (refl, tt))
 answer_is_words (Say.Decides Final.Commit cause forgets) h = (refl, (refl, ending_is_words cause forgets h))
 answer_is_words (Say.Decides Final.Abort cause forgets) h = (refl, (refl, ending_is_words cause forgets h))
-answer_is_words (Say.UpSite epoch doubtful) h = let t = both (is_small epoch) (is_small doubtful) h in (refl, (refl, (small_large epoch t.0, (refl, (small_large doubtful t.1, tt)))))
+answer_is_words (Say.UpSite epoch doubtful) h = let t = is_true_parts (is_small epoch) (is_small doubtful) h in (refl, (refl, (small_large epoch t.0, (refl, (small_large doubtful t.1, tt)))))
 answer_is_words (Say.UpCoord known) h = (refl, (refl, (small_large known h, tt)))
 answer_is_words answer h = (refl, tt)
 
@@ -151,20 +151,20 @@ short_found Key.Late tid answer h e = subst (IsAnswerOf _) (same_Some _ answer e
 short_found keyword tid answer h e = absurd (none-some answer e)
 
 vote_found : (tid : Tid) (words : List Word) (answer : Answer) → IsTrue (is_tid tid) → AreWords words → vote_answer tid words ≡ Some answer → IsAnswerOf (Plain Key.Votes ∷ Attempt tid ∷ words) answer
-vote_found tid (Plain Key.Yes ∷ Number ticket ∷ []) answer k h e = subst (IsAnswerOf _) (same_Some _ answer e) (refl, both_hold _ _ k h.1.0)
+vote_found tid (Plain Key.Yes ∷ Number ticket ∷ []) answer k h e = subst (IsAnswerOf _) (same_Some _ answer e) (refl, is_true_both _ _ k h.1.0)
 vote_found tid (Plain Key.No ∷ words) answer k h e =
     from_map (no_of words) (Say.VotesNo tid) answer (IsAnswerOf _) e
-    (λ why d. let found = no_found words why h.1 d in (ap (λ ws. Plain Key.Votes ∷ Attempt tid ∷ Plain Key.No ∷ ws) found.0, both_hold _ _ k found.1))
+    (λ why d. let found = no_found words why h.1 d in (ap (λ ws. Plain Key.Votes ∷ Attempt tid ∷ Plain Key.No ∷ ws) found.0, is_true_both _ _ k found.1))
 vote_found tid words answer k h e = absurd (none-some answer e)
 
 -- an answer of a word, an attempt and more
 attempt_answer_found : (keyword : Keyword) (tid : Tid) (words : List Word) (answer : Answer) → IsTrue (is_tid tid) → AreWords words → attempt_answer keyword tid words ≡ Some answer → IsAnswerOf (Plain keyword ∷ Attempt tid ∷ words) answer
 attempt_answer_found keyword tid [] answer k h e = short_found keyword tid answer k e
 attempt_answer_found Key.Invalid by (Number n ∷ []) answer k h e =
-    from_guard (is_key (record { 0 = n })) (record { 0 = n }) (Say.Invalid by) answer (IsAnswerOf _) e (λ small. (refl, both_hold _ _ k small))
-attempt_answer_found Key.Committed tid (Plain Key.Number ∷ Number number ∷ []) answer k h e = subst (IsAnswerOf _) (same_Some _ answer e) (refl, both_hold _ _ k h.1.0)
+    from_guard (is_key (record { 0 = n })) (record { 0 = n }) (Say.Invalid by) answer (IsAnswerOf _) e (λ small. (refl, is_true_both _ _ k small))
+attempt_answer_found Key.Committed tid (Plain Key.Number ∷ Number number ∷ []) answer k h e = subst (IsAnswerOf _) (same_Some _ answer e) (refl, is_true_both _ _ k h.1.0)
 attempt_answer_found Key.Did tid words answer k h e =
-    from_map (reply_of words) (Say.Did tid) answer (IsAnswerOf _) e (λ reply d. let found = reply_found words reply h d in (ap (λ ws. Plain Key.Did ∷ Attempt tid ∷ ws) found.0, both_hold _ _ k found.1))
+    from_map (reply_of words) (Say.Did tid) answer (IsAnswerOf _) e (λ reply d. let found = reply_found words reply h d in (ap (λ ws. Plain Key.Did ∷ Attempt tid ∷ ws) found.0, is_true_both _ _ k found.1))
 attempt_answer_found Key.Votes tid words answer k h e = vote_found tid words answer k h e
 attempt_answer_found Key.Settles tid (Plain keyword ∷ []) answer k h e =
     from_map (decision_of keyword) (Say.Settles tid) answer (IsAnswerOf _) e (λ decision d. (ap (λ w. Plain Key.Settles ∷ Attempt tid ∷ w ∷ []) (decision_found keyword decision d), k))
@@ -173,9 +173,9 @@ attempt_answer_found keyword tid words answer k h e = absurd (none-some answer e
 -- an answer of a word, a key and a value
 row_found : (keyword : Keyword) (n : ℕ) (words : List Word) (answer : Answer) → AreWords words → row_answer keyword n words ≡ Some answer → IsAnswerOf (Plain keyword ∷ Number n ∷ words) answer
 row_found Key.Read n (Number value ∷ []) answer h e =
-    from_guard (is_key (record { 0 = n })) (record { 0 = n }) (λ key. Say.Read key value) answer (IsAnswerOf _) e (λ small. (refl, both_hold _ _ small h.0))
+    from_guard (is_key (record { 0 = n })) (record { 0 = n }) (λ key. Say.Read key value) answer (IsAnswerOf _) e (λ small. (refl, is_true_both _ _ small h.0))
 row_found Key.Wrote n (Number value ∷ []) answer h e =
-    from_guard (is_key (record { 0 = n })) (record { 0 = n }) (λ key. Say.Wrote key value) answer (IsAnswerOf _) e (λ small. (refl, both_hold _ _ small h.0))
+    from_guard (is_key (record { 0 = n })) (record { 0 = n }) (λ key. Say.Wrote key value) answer (IsAnswerOf _) e (λ small. (refl, is_true_both _ _ small h.0))
 row_found keyword n words answer h e = absurd (none-some answer e)
 
 -- an answer of two keywords and more, other than a decision
@@ -188,7 +188,7 @@ plain_found Key.Presumes keyword [] answer h e =
 plain_found Key.Up Key.Known (Number n ∷ []) answer h e = from_guard (is_small n) n Say.UpCoord answer (IsAnswerOf _) e (λ small. (refl, small))
 plain_found Key.Up Key.Epoch (Number m ∷ Plain Key.Doubtful ∷ Number n ∷ []) answer h e =
     from_bind (is_small m) m (λ epoch. map_some (Say.UpSite epoch) (small_of n)) answer (IsAnswerOf _) e
-    (λ first d. from_guard (is_small n) n (Say.UpSite m) answer (IsAnswerOf _) d (λ second. (refl, both_hold _ _ first second)))
+    (λ first d. from_guard (is_small n) n (Say.UpSite m) answer (IsAnswerOf _) d (λ second. (refl, is_true_both _ _ first second)))
 plain_found first second words answer h e = absurd (none-some answer e)
 
 double_found : (first second : Keyword) (words : List Word) (answer : Answer) → AreWords words → double_answer first second words ≡ Some answer → IsAnswerOf (Plain first ∷ Plain second ∷ words) answer

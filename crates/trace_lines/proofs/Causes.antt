@@ -4,22 +4,22 @@ use Rattle.std.proofs.lemmas.Option.{none-some, same_Some}
 use Rattle.std.proofs.lemmas.Bool.{false≢true}
 use Rattle.mdb_base.specs.Words.{each_of}
 use Rattle.mdb_base.specs.declared.replies.Edge.{Edge}
+use Rattle.mdb_base.proofs.BoolLaws.{is_true_parts, is_true_both}
 use Rattle.presumptions.specs.declared.Decision.{Decision}
 use Rattle.presumptions.specs.declared.Decision.TheVariants as Final
 use Rattle.fed_rules.specs.declared.answers.Answer.{Answer}
 use Rattle.fed_rules.specs.declared.answers.Answer.TheVariants as Say
 use Rattle.fed_rules.specs.declared.answers.Cause.{Cause}
 use Rattle.fed_rules.specs.declared.answers.Cause.TheVariants as Because
-use Rattle.trace_lines.specs.declared.word.Keyword.{Keyword}
-use Rattle.trace_lines.specs.declared.word.Keyword.TheVariants as Key
-use Rattle.trace_lines.specs.declared.word.Mark.{Mark}
-use Rattle.trace_lines.specs.declared.word.Word.{Word}
-use Rattle.trace_lines.specs.declared.word.Word.TheVariants.{Plain, Number, Attempt, Joined}
-use Rattle.trace_lines.specs.Fits.{is_decided}
-use Rattle.trace_lines.specs.Range.{is_site, is_tid, is_edge, cause_in_range, maybe_cause_in_range, answer_in_range}
-use Rattle.trace_lines.specs.Spelling.{cause_words, maybe_cause_words, forgets_words, decision_word, answer_words}
+use Rattle.line_text.specs.declared.word.Keyword.{Keyword}
+use Rattle.line_text.specs.declared.word.Keyword.TheVariants as Key
+use Rattle.trace_lines.specs.declared.marks.Mark.{Mark}
+use Rattle.line_text.specs.declared.word.Word.{Word}
+use Rattle.line_text.specs.declared.word.Word.TheVariants.{Plain, Number, Attempt, Joined}
+use Rattle.line_text.specs.Fits.{is_decided}
+use Rattle.line_text.specs.Range.{is_site, is_tid, is_edge, cause_in_range, maybe_cause_in_range, answer_in_range}
+use Rattle.line_text.specs.Spelling.{cause_words, maybe_cause_words, forgets_words, decision_word, answer_words}
 use Rattle.trace_lines.specs.Reading.{edges_of, site_cause, cause_of, cut_at, forgets_of, ending_of, decides, decided_answer, decision_of}
-use Rattle.trace_lines.proofs.Pairs.{both, both_hold}
 use Rattle.trace_lines.proofs.Pieces.{AreWords}
 use Rattle.trace_lines.proofs.Guards.{from_bind, from_map, from_next, site_large}
 use Rattle.trace_lines.proofs.Cuts.{cut_behind, cut_none, cut_found, lacks_both}
@@ -32,8 +32,8 @@ edges_again (edge ∷ edges) = rw (edges_again edges) refl
 
 pub cause_again : (cause : Cause) → IsTrue (cause_in_range cause) → cause_of (cause_words cause) ≡ Some cause
 cause_again Because.Late h = refl
-cause_again (Because.Dies site by) h = rw (both (is_site site) (is_tid by) h).0 refl
-cause_again (Because.TooLate site by) h = rw (both (is_site site) (is_tid by) h).0 refl
+cause_again (Because.Dies site by) h = rw (is_true_parts (is_site site) (is_tid by) h).0 refl
+cause_again (Because.TooLate site by) h = rw (is_true_parts (is_site site) (is_tid by) h).0 refl
 cause_again (Because.Unknown site) h = rw h refl
 cause_again (Because.No site) h = rw h refl
 cause_again (Because.Cycle edges) h = rw (edges_again edges) refl
@@ -78,12 +78,12 @@ decided_again Final.Abort (Some cause) forgets h k = rw (ending_again (Some caus
 
 edges_are_words : (edges : List Edge) → IsTrue (each_of is_edge edges) → AreWords (map Joined edges)
 edges_are_words [] h = tt
-edges_are_words (edge ∷ edges) h = let t = both (is_edge edge) (each_of is_edge edges) h in (t.0, edges_are_words edges t.1)
+edges_are_words (edge ∷ edges) h = let t = is_true_parts (is_edge edge) (each_of is_edge edges) h in (t.0, edges_are_words edges t.1)
 
 cause_is_words : (cause : Cause) → IsTrue (cause_in_range cause) → AreWords (cause_words cause)
 cause_is_words Because.Late h = (refl, tt)
-cause_is_words (Because.Dies site by) h = let t = both (is_site site) (is_tid by) h in (refl, (site_large site t.0, (refl, (t.1, tt))))
-cause_is_words (Because.TooLate site by) h = let t = both (is_site site) (is_tid by) h in (refl, (site_large site t.0, (refl, (t.1, tt))))
+cause_is_words (Because.Dies site by) h = let t = is_true_parts (is_site site) (is_tid by) h in (refl, (site_large site t.0, (refl, (t.1, tt))))
+cause_is_words (Because.TooLate site by) h = let t = is_true_parts (is_site site) (is_tid by) h in (refl, (site_large site t.0, (refl, (t.1, tt))))
 cause_is_words (Because.Unknown site) h = (refl, (site_large site h, (refl, tt)))
 cause_is_words (Because.No site) h = (refl, (site_large site h, (refl, tt)))
 cause_is_words (Because.Cycle edges) h = (refl, edges_are_words edges h)
@@ -109,12 +109,12 @@ edges_found : (words : List Word) (edges : List Edge) → AreWords words → edg
 edges_found [] edges h e = subst (λ edges. ([] ≡ map Joined edges) × IsTrue (each_of is_edge edges)) (same_Some _ edges e) (refl, refl)
 edges_found (Joined edge ∷ words) edges h e =
     from_map (edges_of words) (λ more. edge ∷ more) edges (λ edges. (Joined edge ∷ words ≡ map Joined edges) × IsTrue (each_of is_edge edges)) e
-    (λ more d. let rest = edges_found words more h.1 d in (ap (λ ws. Joined edge ∷ ws) rest.0, both_hold _ _ h.0 rest.1))
+    (λ more d. let rest = edges_found words more h.1 d in (ap (λ ws. Joined edge ∷ ws) rest.0, is_true_both _ _ h.0 rest.1))
 edges_found words edges h e = absurd (none-some edges e)
 
 site_cause_found : (n : ℕ) (words : List Word) (cause : Cause) → IsTrue (is_site (record { 0 = n })) → AreWords words → site_cause (record { 0 = n }) words ≡ Some cause → IsCauseOf (Plain Key.Site ∷ Number n ∷ words) cause
-site_cause_found n (Plain Key.Dies ∷ Attempt by ∷ []) cause k h e = subst (IsCauseOf _) (same_Some _ cause e) (refl, both_hold _ _ k h.1.0)
-site_cause_found n (Plain Key.Late ∷ Attempt by ∷ []) cause k h e = subst (IsCauseOf _) (same_Some _ cause e) (refl, both_hold _ _ k h.1.0)
+site_cause_found n (Plain Key.Dies ∷ Attempt by ∷ []) cause k h e = subst (IsCauseOf _) (same_Some _ cause e) (refl, is_true_both _ _ k h.1.0)
+site_cause_found n (Plain Key.Late ∷ Attempt by ∷ []) cause k h e = subst (IsCauseOf _) (same_Some _ cause e) (refl, is_true_both _ _ k h.1.0)
 site_cause_found n (Plain Key.Unknown ∷ []) cause k h e = subst (IsCauseOf _) (same_Some _ cause e) (refl, k)
 site_cause_found n (Plain Key.No ∷ []) cause k h e = subst (IsCauseOf _) (same_Some _ cause e) (refl, k)
 site_cause_found n words cause k h e = absurd (none-some cause e)

@@ -3,17 +3,17 @@ use Rattle.std.proofs.Common.{◌≡◌, ℕ, ◌&&◌, IsTrue, List, [], ◌∷
 use Rattle.std.proofs.lemmas.Option.{none-some, same_Some}
 use Rattle.mdb_base.specs.Words.{map_some}
 use Rattle.mdb_base.specs.declared.names.Tid.{Tid}
+use Rattle.mdb_base.proofs.BoolLaws.{is_true_parts, is_true_both}
 use Rattle.fed_rules.specs.declared.commands.Command.{Command}
 use Rattle.fed_rules.specs.declared.commands.Command.TheVariants as Ask
-use Rattle.trace_lines.specs.declared.word.Keyword.{Keyword}
-use Rattle.trace_lines.specs.declared.word.Keyword.TheVariants as Key
-use Rattle.trace_lines.specs.declared.word.Mark.TheVariants as Mark
-use Rattle.trace_lines.specs.declared.word.Word.{Word}
-use Rattle.trace_lines.specs.declared.word.Word.TheVariants.{Plain, Number, Attempt}
-use Rattle.trace_lines.specs.Range.{is_small, is_site, is_tx, is_tid, is_actor, is_count, is_cut, command_in_range}
-use Rattle.trace_lines.specs.Spelling.{command_words}
+use Rattle.line_text.specs.declared.word.Keyword.{Keyword}
+use Rattle.line_text.specs.declared.word.Keyword.TheVariants as Key
+use Rattle.trace_lines.specs.declared.marks.Mark.TheVariants as Mark
+use Rattle.line_text.specs.declared.word.Word.{Word}
+use Rattle.line_text.specs.declared.word.Word.TheVariants.{Plain, Number, Attempt}
+use Rattle.line_text.specs.Range.{is_small, is_site, is_tx, is_tid, is_actor, is_count, is_cut, command_in_range}
+use Rattle.line_text.specs.Spelling.{command_words}
 use Rattle.trace_lines.specs.Reading.{command_of, number_command, attempt_command, pair_command, site_command, triple_command, small_of, at_most, cut_at}
-use Rattle.trace_lines.proofs.Pairs.{both, both_hold}
 use Rattle.trace_lines.proofs.Pieces.{AreWords}
 use Rattle.trace_lines.proofs.Guards.{from_guard, from_bind, tx_large, site_large, small_large, actor_large, count_large, cut_large}
 
@@ -27,14 +27,14 @@ command_again (Ask.Fate tx) h = rw h refl
 command_again (Ask.Go tx) h = rw h refl
 command_again (Ask.Again tid) h = refl
 command_again (Ask.Late tid) h = refl
-command_again (Ask.Give site place) h = let t = both (is_site site) (is_small place) h in rw (t.0, t.1) refl
-command_again (Ask.Take site place) h = let t = both (is_site site) (is_small place) h in rw (t.0, t.1) refl
-command_again (Ask.Ask site tid) h = let t = both (is_site site) (is_tid tid) h in rw t.0 refl
-command_again (Ask.Drop site tid) h = let t = both (is_site site) (is_tid tid) h in rw t.0 refl
-command_again (Ask.Halt actor cut) h = let t = both (is_actor actor) (is_cut cut) h in rw (t.0, t.1) refl
+command_again (Ask.Give site place) h = let t = is_true_parts (is_site site) (is_small place) h in rw (t.0, t.1) refl
+command_again (Ask.Take site place) h = let t = is_true_parts (is_site site) (is_small place) h in rw (t.0, t.1) refl
+command_again (Ask.Ask site tid) h = let t = is_true_parts (is_site site) (is_tid tid) h in rw t.0 refl
+command_again (Ask.Drop site tid) h = let t = is_true_parts (is_site site) (is_tid tid) h in rw t.0 refl
+command_again (Ask.Halt actor cut) h = let t = is_true_parts (is_actor actor) (is_cut cut) h in rw (t.0, t.1) refl
 command_again (Ask.Trip actor calls cut) h =
-    let t = both (is_actor actor && is_count calls) (is_cut cut) h in
-    let s = both (is_actor actor) (is_count calls) t.0 in
+    let t = is_true_parts (is_actor actor && is_count calls) (is_cut cut) h in
+    let s = is_true_parts (is_actor actor) (is_count calls) t.0 in
     rw (s.0, s.1, t.1) refl
 command_again (Ask.Back actor) h = rw h refl
 command_again (Ask.Check actor) h = rw h refl
@@ -54,14 +54,14 @@ command_is_words (Ask.Fate tx) h = (refl, (tx_large tx h, tt))
 command_is_words (Ask.Go tx) h = (refl, (tx_large tx h, tt))
 command_is_words (Ask.Again tid) h = (refl, (h, tt))
 command_is_words (Ask.Late tid) h = (refl, (h, tt))
-command_is_words (Ask.Give site place) h = let t = both (is_site site) (is_small place) h in (refl, (site_large site t.0, (small_large place t.1, tt)))
-command_is_words (Ask.Take site place) h = let t = both (is_site site) (is_small place) h in (refl, (site_large site t.0, (small_large place t.1, tt)))
-command_is_words (Ask.Ask site tid) h = let t = both (is_site site) (is_tid tid) h in (refl, (site_large site t.0, (t.1, tt)))
-command_is_words (Ask.Drop site tid) h = let t = both (is_site site) (is_tid tid) h in (refl, (site_large site t.0, (t.1, tt)))
-command_is_words (Ask.Halt actor cut) h = let t = both (is_actor actor) (is_cut cut) h in (refl, (actor_large actor t.0, (cut_large cut t.1, tt)))
+command_is_words (Ask.Give site place) h = let t = is_true_parts (is_site site) (is_small place) h in (refl, (site_large site t.0, (small_large place t.1, tt)))
+command_is_words (Ask.Take site place) h = let t = is_true_parts (is_site site) (is_small place) h in (refl, (site_large site t.0, (small_large place t.1, tt)))
+command_is_words (Ask.Ask site tid) h = let t = is_true_parts (is_site site) (is_tid tid) h in (refl, (site_large site t.0, (t.1, tt)))
+command_is_words (Ask.Drop site tid) h = let t = is_true_parts (is_site site) (is_tid tid) h in (refl, (site_large site t.0, (t.1, tt)))
+command_is_words (Ask.Halt actor cut) h = let t = is_true_parts (is_actor actor) (is_cut cut) h in (refl, (actor_large actor t.0, (cut_large cut t.1, tt)))
 command_is_words (Ask.Trip actor calls cut) h =
-    let t = both (is_actor actor && is_count calls) (is_cut cut) h in
-    let s = both (is_actor actor) (is_count calls) t.0 in
+    let t = is_true_parts (is_actor actor && is_count calls) (is_cut cut) h in
+    let s = is_true_parts (is_actor actor) (is_count calls) t.0 in
     (refl, (actor_large actor s.0, (count_large calls s.1, (cut_large cut t.1, tt))))
 command_is_words (Ask.Back actor) h = (refl, (actor_large actor h, tt))
 command_is_words (Ask.Check actor) h = (refl, (actor_large actor h, tt))
@@ -89,25 +89,25 @@ attempt_found keyword tid command h e = absurd (none-some command e)
 pair_found : (keyword : Keyword) (m n : ℕ) (command : Command) → pair_command keyword m n ≡ Some command → IsCommandOf (Plain keyword ∷ Number m ∷ Number n ∷ []) command
 pair_found Key.Give m n command e =
     from_bind (is_site (record { 0 = m })) (record { 0 = m }) (λ site. map_some (Ask.Give site) (small_of n)) command (IsCommandOf _) e
-    (λ h d. from_guard (is_small n) n (Ask.Give (record { 0 = m })) command (IsCommandOf _) d (λ k. (refl, both_hold _ _ h k)))
+    (λ h d. from_guard (is_small n) n (Ask.Give (record { 0 = m })) command (IsCommandOf _) d (λ k. (refl, is_true_both _ _ h k)))
 pair_found Key.Take m n command e =
     from_bind (is_site (record { 0 = m })) (record { 0 = m }) (λ site. map_some (Ask.Take site) (small_of n)) command (IsCommandOf _) e
-    (λ h d. from_guard (is_small n) n (Ask.Take (record { 0 = m })) command (IsCommandOf _) d (λ k. (refl, both_hold _ _ h k)))
+    (λ h d. from_guard (is_small n) n (Ask.Take (record { 0 = m })) command (IsCommandOf _) d (λ k. (refl, is_true_both _ _ h k)))
 pair_found Key.Halt m n command e =
     from_bind (is_actor m) m (λ actor. map_some (Ask.Halt actor) (at_most 65535 n)) command (IsCommandOf _) e
-    (λ h d. from_guard (is_cut n) n (Ask.Halt m) command (IsCommandOf _) d (λ k. (refl, both_hold _ _ h k)))
+    (λ h d. from_guard (is_cut n) n (Ask.Halt m) command (IsCommandOf _) d (λ k. (refl, is_true_both _ _ h k)))
 pair_found keyword m n command e = absurd (none-some command e)
 
 site_found : (keyword : Keyword) (s : ℕ) (tid : Tid) (command : Command) → IsTrue (is_tid tid) → site_command keyword s tid ≡ Some command → IsCommandOf (Plain keyword ∷ Number s ∷ Attempt tid ∷ []) command
-site_found Key.Ask s tid command h e = from_guard (is_site (record { 0 = s })) (record { 0 = s }) (λ site. Ask.Ask site tid) command (IsCommandOf _) e (λ k. (refl, both_hold _ _ k h))
-site_found Key.Drop s tid command h e = from_guard (is_site (record { 0 = s })) (record { 0 = s }) (λ site. Ask.Drop site tid) command (IsCommandOf _) e (λ k. (refl, both_hold _ _ k h))
+site_found Key.Ask s tid command h e = from_guard (is_site (record { 0 = s })) (record { 0 = s }) (λ site. Ask.Ask site tid) command (IsCommandOf _) e (λ k. (refl, is_true_both _ _ k h))
+site_found Key.Drop s tid command h e = from_guard (is_site (record { 0 = s })) (record { 0 = s }) (λ site. Ask.Drop site tid) command (IsCommandOf _) e (λ k. (refl, is_true_both _ _ k h))
 site_found keyword s tid command h e = absurd (none-some command e)
 
 triple_found : (keyword : Keyword) (a c n : ℕ) (command : Command) → triple_command keyword a c n ≡ Some command → IsCommandOf (Plain keyword ∷ Number a ∷ Number c ∷ Number n ∷ []) command
 triple_found Key.Trip a c n command e =
     from_bind (is_actor a) a (λ actor. option_and_then (λ calls. map_some (Ask.Trip actor calls) (at_most 65535 n)) (at_most 1000 c)) command (IsCommandOf _) e
     (λ h d. from_bind (is_count c) c (λ calls. map_some (Ask.Trip a calls) (at_most 65535 n)) command (IsCommandOf _) d
-    (λ i f. from_guard (is_cut n) n (Ask.Trip a c) command (IsCommandOf _) f (λ k. (refl, both_hold _ _ (both_hold _ _ h i) k))))
+    (λ i f. from_guard (is_cut n) n (Ask.Trip a c) command (IsCommandOf _) f (λ k. (refl, is_true_both _ _ (is_true_both _ _ h i) k))))
 triple_found keyword a c n command e = absurd (none-some command e)
 
 -- what is read as a command is spelled by these words

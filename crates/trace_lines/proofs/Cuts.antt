@@ -2,39 +2,34 @@
 use Rattle.std.proofs.Common.{◌≡◌, Bool, true, false, not, cond, IsTrue, List, [], ◌∷◌, ◌++◌, Option, Some, None, refl, ap, subst}
 use Rattle.std.proofs.lemmas.Option.{none-some, same_Some}
 use Rattle.mdb_base.specs.Words.{map_some}
-use Rattle.trace_lines.specs.declared.word.Keyword.TheVariants as Key
-use Rattle.trace_lines.specs.declared.word.Mark.{Mark}
-use Rattle.trace_lines.specs.declared.word.Word.{Word}
-use Rattle.trace_lines.specs.declared.word.Word.TheVariants.{Plain}
+use Rattle.mdb_base.proofs.BoolLaws.{is_true_parts, is_true_both, not_true}
+use Rattle.line_text.specs.declared.word.Keyword.TheVariants as Key
+use Rattle.trace_lines.specs.declared.marks.Mark.{Mark}
+use Rattle.line_text.specs.declared.word.Word.{Word}
+use Rattle.line_text.specs.declared.word.Word.TheVariants.{Plain}
 use Rattle.trace_lines.specs.Reading.{cut_at, is_mark}
-use Rattle.trace_lines.proofs.Pairs.{both, both_hold}
 use Rattle.trace_lines.proofs.Replies.{lacks_mark}
-
--- a test whose negation holds doesn't
-not_true : (b : Bool) → IsTrue (not b) → b ≡ false
-not_true true h = cc
-not_true false h = refl
 
 -- the first mark behind words that lack it
 pub cut_behind : (mark : Mark) (front : List Word) (word : Word) (rest : List Word) → IsTrue (lacks_mark mark front) → IsTrue (is_mark mark word) → cut_at mark (front ++ word ∷ rest) ≡ Some (front, rest)
 cut_behind mark [] word rest h k = rw k refl
 cut_behind mark (first ∷ front) word rest h k =
-    let tests = both (not (is_mark mark first)) (lacks_mark mark front) h in
+    let tests = is_true_parts (not (is_mark mark first)) (lacks_mark mark front) h in
     rw (not_true _ tests.0, cut_behind mark front word rest tests.1 k) refl
 
 -- words that lack the mark have no cut
 pub cut_none : (mark : Mark) (words : List Word) → IsTrue (lacks_mark mark words) → cut_at mark words ≡ None
 cut_none mark [] h = refl
 cut_none mark (first ∷ words) h =
-    let tests = both (not (is_mark mark first)) (lacks_mark mark words) h in
+    let tests = is_true_parts (not (is_mark mark first)) (lacks_mark mark words) h in
     rw (not_true _ tests.0, cut_none mark words tests.1) refl
 
 -- two lists that lack the mark
 pub lacks_both : (mark : Mark) (xs ys : List Word) → IsTrue (lacks_mark mark xs) → IsTrue (lacks_mark mark ys) → IsTrue (lacks_mark mark (xs ++ ys))
 lacks_both mark [] ys h k = k
 lacks_both mark (x ∷ xs) ys h k =
-    let tests = both (not (is_mark mark x)) (lacks_mark mark xs) h in
-    both_hold _ _ tests.0 (lacks_both mark xs ys tests.1 k)
+    let tests = is_true_parts (not (is_mark mark x)) (lacks_mark mark xs) h in
+    is_true_both _ _ tests.0 (lacks_both mark xs ys tests.1 k)
 
 -- the keyword of a mark
 abbrev pub mark_word : Mark → Word

@@ -2,28 +2,30 @@
 use Rattle.std.proofs.Common.{◌≡◌, ◌≢◌, ℕ, not, eqb, IsTrue, List, [], ◌∷◌, ◌++◌, get_or, codes, nat_lt, append_assoc, refl, sym, ap, ◌∙◌, arith}
 use Rattle.std.proofs.lemmas.Bool.{ltb-true, eq-eqb}
 use Rattle.mdb_base.specs.Words.{each_of, Each}
+use Rattle.mdb_base.proofs.BoolLaws.{is_true_parts}
 use Rattle.fed_rules.specs.declared.commands.Command.{Command}
 use Rattle.fed_rules.specs.declared.commands.Command.TheVariants as Ask
 use Rattle.fed_rules.specs.declared.commands.Line.{Line}
-use Rattle.trace_lines.specs.declared.word.Keyword.TheVariants as Key
-use Rattle.trace_lines.specs.declared.word.Word.{Word}
-use Rattle.trace_lines.specs.declared.word.Word.TheVariants.{Plain}
-use Rattle.trace_lines.specs.Range.{is_line}
-use Rattle.trace_lines.specs.Words.{word_text}
-use Rattle.trace_lines.specs.Spelling.{command_words, answer_words, sends_words, line_words, words_bytes, line_bytes, lines_bytes}
+use Rattle.line_text.specs.declared.word.Keyword.TheVariants as Key
+use Rattle.line_text.specs.declared.word.Word.{Word}
+use Rattle.line_text.specs.declared.word.Word.TheVariants.{Plain}
+use Rattle.line_text.specs.Range.{is_line}
+use Rattle.line_text.specs.Words.{word_text}
+use Rattle.line_text.specs.Spelling.{command_words, answer_words, sends_words, line_words, words_bytes, line_bytes, lines_bytes}
 use Rattle.trace_lines.proofs.Bytes.{Lacks, all_of_both}
-use Rattle.trace_lines.proofs.Pairs.{both, one_parting}
+use Rattle.trace_lines.proofs.Pairs.{one_parting}
 use Rattle.trace_lines.proofs.Pieces.{AreWords}
 use Rattle.trace_lines.proofs.Visible.{is_visible, AreVisible, visible_word}
-use Rattle.trace_lines.proofs.Lines.{line_is_words, line_parts}
+use Rattle.line_text.proofs.Written.{line_parts}
+use Rattle.trace_lines.proofs.Lines.{line_is_words}
 use Rattle.trace_lines.proofs.Spelled.{same_line}
 
 -- a line holds no line feed
 visible_no_feed : (bs : List ℕ) → AreVisible bs → Lacks 10 bs
 visible_no_feed [] h = tt
 visible_no_feed (b ∷ bs) h =
-    let t = both (is_visible b) (each_of is_visible bs) h in
-    let above = ltb-true 32 b (both (nat_lt 32 b) (nat_lt b 128) t.0).0 in
+    let t = is_true_parts (is_visible b) (each_of is_visible bs) h in
+    let above = ltb-true 32 b (is_true_parts (nat_lt 32 b) (nat_lt b 128) t.0).0 in
     ((λ e. omega (arith, above)), visible_no_feed bs t.1)
 
 words_no_feed : (words : List Word) → AreWords words → Lacks 10 (words_bytes words)

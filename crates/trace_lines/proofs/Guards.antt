@@ -6,8 +6,8 @@ use Rattle.mdb_base.specs.Words.{map_some}
 use Rattle.mdb_base.specs.declared.names.Key.{Key}
 use Rattle.mdb_base.specs.declared.names.SiteId.{SiteId}
 use Rattle.mdb_base.specs.declared.names.Tx.{Tx}
-use Rattle.trace_lines.specs.Range.{is_large, is_small, is_site, is_tx, is_key, is_actor, is_count, is_cut}
-use Rattle.trace_lines.proofs.Pairs.{both}
+use Rattle.mdb_base.proofs.BoolLaws.{is_true_parts}
+use Rattle.line_text.specs.Range.{is_large, is_small, is_site, is_tx, is_key, is_actor, is_count, is_cut}
 
 -- what a function makes of a value that a test let through
 pub from_guard : {X C : Type 0} (b : Bool) (x : X) (f : X → C) (c : C) (P : C → Type 0) → map_some f (cond b (Some x) None) ≡ Some c → (IsTrue b → P (f x)) → P c
@@ -34,10 +34,10 @@ pub large_below : (most n : ℕ) → most < 2 ^ 64 → IsTrue (nat_le n most) �
 large_below most n small h = lt-ltb n (2 ^ 64) (let bound = leb-true n most h in omega (arith, bound))
 
 pub tx_large : (tx : Tx) → IsTrue (is_tx tx) → IsTrue (is_large tx.0)
-tx_large tx h = large_below 1024 tx.0 (omega arith) (both (nat_le 1 tx.0) (nat_le tx.0 1024) h).1
+tx_large tx h = large_below 1024 tx.0 (omega arith) (is_true_parts (nat_le 1 tx.0) (nat_le tx.0 1024) h).1
 
 pub site_large : (site : SiteId) → IsTrue (is_site site) → IsTrue (is_large site.0)
-site_large site h = large_below 8 site.0 (omega arith) (both (nat_le 1 site.0) (nat_le site.0 8) h).1
+site_large site h = large_below 8 site.0 (omega arith) (is_true_parts (nat_le 1 site.0) (nat_le site.0 8) h).1
 
 pub small_large : (n : ℕ) → IsTrue (is_small n) → IsTrue (is_large n)
 small_large n h = lt-ltb n (2 ^ 64) (let bound = ltb-true n (2 ^ 32) h in omega (arith, bound))

@@ -1,5 +1,3 @@
-pub mod Joining
-pub mod Begun
 pub mod Bytes
 pub mod Pairs
 pub mod ParsedNumbers
@@ -13,8 +11,10 @@ pub mod Causes
 pub mod Answered
 pub mod Sends
 pub mod Lines
-pub mod Written
 pub mod OneWord
 pub mod Visible
 pub mod Spelled
+pub mod Computed
 pub mod Determined
+pub mod Opened
+mod Examples

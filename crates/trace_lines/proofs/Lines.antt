@@ -1,20 +1,21 @@
 -- A line and its words.
-use Rattle.std.proofs.Common.{◌≡◌, cond, ◌&&◌, IsTrue, List, [], ◌∷◌, ◌++◌, map, Option, Some, None, option_and_then, append_assoc, append-nil, refl, sym, ap, ◌∙◌, subst}
+use Rattle.std.proofs.Common.{◌≡◌, cond, ◌&&◌, IsTrue, List, [], ◌∷◌, ◌++◌, map, Option, Some, None, option_and_then, append-nil, refl, sym, ap, ◌∙◌, subst}
 use Rattle.std.proofs.lemmas.Option.{none-some, cond_some}
 use Rattle.mdb_base.specs.Words.{map_some, each_of}
+use Rattle.mdb_base.proofs.BoolLaws.{is_true_parts, is_true_both}
 use Rattle.fed_rules.specs.declared.commands.Command.{Command}
 use Rattle.fed_rules.specs.declared.commands.Line.{Line}
 use Rattle.fed_rules.specs.declared.commands.Place.{Place}
 use Rattle.fed_rules.specs.declared.answers.Answer.{Answer}
-use Rattle.trace_lines.specs.declared.word.Keyword.TheVariants as Key
-use Rattle.trace_lines.specs.declared.word.Mark.TheVariants as Mark
-use Rattle.trace_lines.specs.declared.word.Word.{Word}
-use Rattle.trace_lines.specs.declared.word.Word.TheVariants.{Plain}
-use Rattle.trace_lines.specs.Fits.{answer_fits, places_fit, line_fits}
-use Rattle.trace_lines.specs.Range.{is_place, command_in_range, answer_in_range, line_in_range, is_line}
-use Rattle.trace_lines.specs.Spelling.{command_words, answer_words, place_word, sends_words, line_words}
+use Rattle.line_text.specs.declared.word.Keyword.TheVariants as Key
+use Rattle.trace_lines.specs.declared.marks.Mark.TheVariants as Mark
+use Rattle.line_text.specs.declared.word.Word.{Word}
+use Rattle.line_text.specs.declared.word.Word.TheVariants.{Plain}
+use Rattle.line_text.specs.Fits.{answer_fits, places_fit, line_fits}
+use Rattle.line_text.specs.Range.{is_place, command_in_range, answer_in_range, line_in_range, is_line}
+use Rattle.line_text.specs.Spelling.{command_words, answer_words, place_word, sends_words, line_words}
+use Rattle.line_text.proofs.Written.{line_parts}
 use Rattle.trace_lines.specs.Reading.{command_of, answer_of, places_of, cut_at, sends_of, line_behind, line_of}
-use Rattle.trace_lines.proofs.Pairs.{both, both_hold}
 use Rattle.trace_lines.proofs.Pieces.{AreWords}
 use Rattle.trace_lines.proofs.Guards.{from_map, from_next}
 use Rattle.trace_lines.proofs.Cuts.{cut_behind, cut_none, cut_found}
@@ -33,15 +34,11 @@ pub record Parts (line : Line) : Type 0 where
 
 parts_of : (line : Line) → IsTrue (is_line line) → Parts line
 parts_of line h =
-    let halves = both (line_fits line) (line_in_range line) h in
-    let fits = both (answer_fits line.command line.answer) (places_fit line.command line.answer line.sends) halves.0 in
-    let ranges = both (command_in_range line.command && answer_in_range line.answer) (each_of is_place line.sends) halves.1 in
-    let inner = both (command_in_range line.command) (answer_in_range line.answer) ranges.0 in
+    let halves = is_true_parts (line_fits line) (line_in_range line) h in
+    let fits = is_true_parts (answer_fits line.command line.answer) (places_fit line.command line.answer line.sends) halves.0 in
+    let ranges = is_true_parts (command_in_range line.command && answer_in_range line.answer) (each_of is_place line.sends) halves.1 in
+    let inner = is_true_parts (command_in_range line.command) (answer_in_range line.answer) ranges.0 in
     record { answer_fits = fits.0; places_fit = fits.1; command = inner.0; answer = inner.1; places = ranges.1 }
-
--- the words of a line, regrouped
-pub line_parts : (line : Line) → line_words line ≡ command_words line.command ++ Plain Key.Arrow ∷ (answer_words line.answer ++ sends_words line.command line.sends)
-line_parts line = append_assoc (command_words line.command) (Plain Key.Arrow ∷ answer_words line.answer) (sends_words line.command line.sends)
 
 -- the numbers of a line are below 2 ^ 64
 pub line_is_words : (line : Line) → IsTrue (is_line line) → AreWords (line_words line)
@@ -66,7 +63,7 @@ behind_again line parts =
 pub line_again : (line : Line) → IsTrue (is_line line) → line_of (line_words line) ≡ Some line
 line_again line h =
     let parts = parts_of line h in
-    let fits = (both (line_fits line) (line_in_range line) h).0 in
+    let fits = (is_true_parts (line_fits line) (line_in_range line) h).0 in
     rw (line_parts line, command_cut line.command (answer_words line.answer ++ sends_words line.command line.sends), command_again line.command parts.command, behind_again line parts, fits) refl
 
 -- what is read behind the arrow is spelled by these words
@@ -113,9 +110,9 @@ line_found words line h e =
     (λ command j m.
     let asked = command_found parts.0 command (words_front parts.0 (Plain Key.Arrow ∷ parts.1) are) j in
     let behind = behind_found command parts.1 l asked.1 (words_back parts.0 (Plain Key.Arrow ∷ parts.1) are).1 m in
-    let ranges : IsTrue (line_in_range l) = both_hold _ _ (both_hold _ _ (subst (λ c. IsTrue (command_in_range c)) (sym behind.same) asked.1) behind.answer) behind.places in
+    let ranges : IsTrue (line_in_range l) = is_true_both _ _ (is_true_both _ _ (subst (λ c. IsTrue (command_in_range c)) (sym behind.same) asked.1) behind.answer) behind.places in
     subst (λ l. (words ≡ line_words l) × IsTrue (is_line l)) fits.1 (
       whole ∙ ap (λ ws. ws ++ Plain Key.Arrow ∷ parts.1) asked.0 ∙ ap (λ ws. command_words command ++ Plain Key.Arrow ∷ ws) behind.spelled
           ∙ ap (λ c. command_words c ++ Plain Key.Arrow ∷ (answer_words l.answer ++ sends_words c l.sends)) (sym behind.same) ∙ sym (line_parts l),
-      both_hold _ _ fits.0 ranges,
+      is_true_both _ _ fits.0 ranges,
     ))))

@@ -7,13 +7,14 @@ use Rattle.mdb_base.specs.Texts.{tid_text}
 use Rattle.mdb_base.specs.declared.names.SiteId.{SiteId}
 use Rattle.mdb_base.specs.declared.names.Tid.{Tid}
 use Rattle.mdb_base.specs.declared.replies.Edge.{Edge}
+use Rattle.mdb_base.proofs.BoolLaws.{is_true_parts, is_true_both}
 use Rattle.fed_rules.specs.declared.commands.Place.{Place}
-use Rattle.trace_lines.specs.Range.{is_large, is_small, is_site, is_tx, is_tid, is_place, is_edge}
-use Rattle.trace_lines.specs.Words.{place_text, edge_text}
+use Rattle.line_text.specs.Range.{is_large, is_small, is_site, is_tx, is_tid, is_place, is_edge}
+use Rattle.line_text.specs.Words.{place_text, edge_text}
 use Rattle.trace_lines.specs.Lexing.{Spells, are_large, numbers_text, tid_at, place_at, site_text, is_target, target_text, are_both, pair_text}
 use Rattle.trace_lines.specs.Reading.{site_of}
 use Rattle.trace_lines.proofs.Bytes.{Lacks, lacks-decimal, all_of_both}
-use Rattle.trace_lines.proofs.Pairs.{both, both_hold, one_parting}
+use Rattle.trace_lines.proofs.Pairs.{one_parting}
 
 -- a number has one spelling
 pub one_number : (m n : ℕ) → IsTrue (is_large m) → IsTrue (is_large n) → decimal m ≡ decimal n → m ≡ n
@@ -22,8 +23,8 @@ one_number m n h k e = decimal_injective m n (ltb-true m (2 ^ 64) h) (ltb-true n
 -- two numbers with a mark between them have one spelling
 pub one_pair : (mark : ℕ) → mark < 48 → (p q : ℕ × ℕ) → IsTrue (are_large p) → IsTrue (are_large q) → numbers_text mark p ≡ numbers_text mark q → p ≡ q
 one_pair mark below p q h k e =
-    let hp = both (is_large p.0) (is_large p.1) h in
-    let hq = both (is_large q.0) (is_large q.1) k in
+    let hp = is_true_parts (is_large p.0) (is_large p.1) h in
+    let hq = is_true_parts (is_large q.0) (is_large q.1) k in
     let parts = one_parting mark (decimal p.0) (decimal q.0) (decimal p.1) (decimal q.1) (lacks-decimal mark p.0 (inl below) (ltb-true p.0 (2 ^ 64) hp.0)) (lacks-decimal mark q.0 (inl below) (ltb-true q.0 (2 ^ 64) hq.0)) e in
     let first : p.0 ≡ q.0 = one_number p.0 q.0 hp.0 hq.0 parts.0 in
     let second : p.1 ≡ q.1 = one_number p.1 q.1 hp.1 hq.1 parts.1 in
@@ -48,20 +49,20 @@ module _ {A B : Type 0} (is_a : A → Bool) (text_a : A → List ℕ) (is_b : B 
 
 -- a site's number is large enough to be none
 pub site_is_large : (site : SiteId) → IsTrue (is_site site) → IsTrue (is_large site.0)
-site_is_large site h = lt-ltb site.0 (2 ^ 64) (let most = leb-true site.0 8 (both (nat_le 1 site.0) (nat_le site.0 8) h).1 in omega (arith, most))
+site_is_large site h = lt-ltb site.0 (2 ^ 64) (let most = leb-true site.0 8 (is_true_parts (nat_le 1 site.0) (nat_le site.0 8) h).1 in omega (arith, most))
 
 pub tid_is_large : (tid : Tid) → IsTrue (is_tid tid) → IsTrue (are_large (tid.tx.0, tid.attempt))
 tid_is_large tid h =
-    let tests = both (is_tx tid.tx) (nat_le tid.attempt 31) h in
-    let tx = leb-true tid.tx.0 1024 (both (nat_le 1 tid.tx.0) (nat_le tid.tx.0 1024) tests.0).1 in
+    let tests = is_true_parts (is_tx tid.tx) (nat_le tid.attempt 31) h in
+    let tx = leb-true tid.tx.0 1024 (is_true_parts (nat_le 1 tid.tx.0) (nat_le tid.tx.0 1024) tests.0).1 in
     let attempt = leb-true tid.attempt 31 tests.1 in
-    both_hold (is_large tid.tx.0) (is_large tid.attempt) (lt-ltb tid.tx.0 (2 ^ 64) (omega (arith, tx))) (lt-ltb tid.attempt (2 ^ 64) (omega (arith, attempt)))
+    is_true_both (is_large tid.tx.0) (is_large tid.attempt) (lt-ltb tid.tx.0 (2 ^ 64) (omega (arith, tx))) (lt-ltb tid.attempt (2 ^ 64) (omega (arith, attempt)))
 
 pub place_is_large : (sent : Place) → IsTrue (is_place sent) → IsTrue (are_large (sent.site.0, sent.place))
 place_is_large sent h =
-    let tests = both (is_site sent.site) (is_small sent.place) h in
+    let tests = is_true_parts (is_site sent.site) (is_small sent.place) h in
     let small = ltb-true sent.place (2 ^ 32) tests.1 in
-    both_hold (is_large sent.site.0) (is_large sent.place) (site_is_large sent.site tests.0) (lt-ltb sent.place (2 ^ 64) (omega (arith, small)))
+    is_true_both (is_large sent.site.0) (is_large sent.place) (site_is_large sent.site tests.0) (lt-ltb sent.place (2 ^ 64) (omega (arith, small)))
 
 -- the texts of an attempt and of a place, regrouped
 pub tid_parts : (tid : Tid) → tid_text tid ≡ numbers_text 46 (tid.tx.0, tid.attempt)
@@ -88,7 +89,7 @@ place_read = through are_large (numbers_text 47) is_place place_text place_at (�
 -- an attempt lacks what is neither a digit nor a dot
 pub lacks_in_tid : (c : ℕ) → (c < 48) ⊎ (57 < c) → 46 ≢ c → (tid : Tid) → IsTrue (is_tid tid) → Lacks c (tid_text tid)
 lacks_in_tid c outside dot tid h =
-    let large = both (is_large tid.tx.0) (is_large tid.attempt) (tid_is_large tid h) in
+    let large = is_true_parts (is_large tid.tx.0) (is_large tid.attempt) (tid_is_large tid h) in
     all_of_both (λ b. b ≢ c) (decimal tid.tx.0 ++ codes ".") (decimal tid.attempt)
     (all_of_both (λ b. b ≢ c) (decimal tid.tx.0) (codes ".") (lacks-decimal c tid.tx.0 outside (ltb-true tid.tx.0 (2 ^ 64) large.0)) (dot, tt))
     (lacks-decimal c tid.attempt outside (ltb-true tid.attempt (2 ^ 64) large.1))
@@ -104,12 +105,12 @@ edge_parts edge = simp append_assoc
 pub edge_read : (bs : List ℕ) (o : Option (Tid × (Tid × SiteId))) → Spells (are_both is_tid is_target) (pair_text tid_text 62 target_text) bs o
     → Spells is_edge edge_text bs (option_map (λ p. record { from = p.0; to = p.1.0; site = p.1.1 }) o)
 edge_read bs None h = λ edge is spelled.
-    let outer = both (is_tid edge.from && is_tid edge.to) (is_site edge.site) is in
-    let inner = both (is_tid edge.from) (is_tid edge.to) outer.0 in
-    h (edge.from, (edge.to, edge.site)) (both_hold (is_tid edge.from) (is_tid edge.to && is_site edge.site) inner.0 (both_hold (is_tid edge.to) (is_site edge.site) inner.1 outer.1)) (spelled ∙ edge_parts edge)
+    let outer = is_true_parts (is_tid edge.from && is_tid edge.to) (is_site edge.site) is in
+    let inner = is_true_parts (is_tid edge.from) (is_tid edge.to) outer.0 in
+    h (edge.from, (edge.to, edge.site)) (is_true_both (is_tid edge.from) (is_tid edge.to && is_site edge.site) inner.0 (is_true_both (is_tid edge.to) (is_site edge.site) inner.1 outer.1)) (spelled ∙ edge_parts edge)
 edge_read bs (Some p) h =
-    let outer = both (is_tid p.0) (is_target p.1) h.0 in
-    let inner = both (is_tid p.1.0) (is_site p.1.1) outer.1 in (
-      both_hold (is_tid p.0 && is_tid p.1.0) (is_site p.1.1) (both_hold (is_tid p.0) (is_tid p.1.0) outer.0 inner.0) inner.1,
+    let outer = is_true_parts (is_tid p.0) (is_target p.1) h.0 in
+    let inner = is_true_parts (is_tid p.1.0) (is_site p.1.1) outer.1 in (
+      is_true_both (is_tid p.0 && is_tid p.1.0) (is_site p.1.1) (is_true_both (is_tid p.0) (is_tid p.1.0) outer.0 inner.0) inner.1,
       h.1 ∙ sym (edge_parts (record { from = p.0; to = p.1.0; site = p.1.1 })),
     )

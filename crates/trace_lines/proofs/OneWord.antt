@@ -1,51 +1,36 @@
 -- A word has one spelling.
-use Rattle.std.proofs.Common.{◌≡◌, ◌≢◌, ◌⊎◌, inl, inr, ℕ, ◌<◌, ◌^◌, ◌&&◌, IsTrue, List, [], ◌∷◌, ◌++◌, map, Option, Some, decimal, codes, length, get_or, nat_lt, bytes_eq, append_assoc, append-nil, refl, sym, ap, ◌∙◌, arith}
+use Rattle.std.proofs.Common.{◌≡◌, ◌≢◌, ◌⊎◌, inl, inr, ℕ, ◌<◌, ◌^◌, ◌&&◌, IsTrue, List, [], ◌∷◌, ◌++◌, map, Some, decimal, codes, length, get_or, nat_lt, append_assoc, append-nil, refl, sym, ap, ◌∙◌, arith}
 use Rattle.std.proofs.lemmas.Bool.{ltb-true}
 use Rattle.std.proofs.lemmas.Option.{same_Some}
 use Rattle.std.proofs.lemmas.Fmt.{decimal_nonempty}
 use Rattle.std.specs.Int.{IsInRange}
-use Rattle.mdb_base.specs.Words.{first_where}
 use Rattle.mdb_base.specs.Texts.{tid_text}
 use Rattle.mdb_base.specs.declared.names.SiteId.{SiteId}
 use Rattle.mdb_base.specs.declared.names.Tid.{Tid}
 use Rattle.mdb_base.specs.declared.replies.Edge.{Edge}
+use Rattle.mdb_base.proofs.BoolLaws.{is_true_parts}
 use Rattle.fed_rules.specs.declared.commands.Place.{Place}
-use Rattle.trace_lines.specs.declared.word.Keyword.{Keyword}
-use Rattle.trace_lines.specs.declared.word.Keyword.TheVariants as Key
-use Rattle.trace_lines.specs.declared.word.Word.{Word}
-use Rattle.trace_lines.specs.declared.word.Word.TheVariants.{Plain, Number, Attempt, Sent, Joined}
-use Rattle.trace_lines.specs.Range.{is_large, is_site, is_tid, is_place, is_edge, is_word}
-use Rattle.trace_lines.specs.Words.{keyword_text, place_text, edge_text, word_text}
+use Rattle.line_text.specs.declared.word.Keyword.{Keyword}
+use Rattle.line_text.specs.declared.word.Keyword.TheVariants as Key
+use Rattle.line_text.specs.declared.word.Word.{Word}
+use Rattle.line_text.specs.declared.word.Word.TheVariants.{Plain, Number, Attempt, Sent, Joined}
+use Rattle.line_text.specs.Range.{is_large, is_site, is_tid, is_place, is_edge, is_word}
+use Rattle.line_text.specs.Words.{keyword_text, place_text, edge_text, word_text}
 use Rattle.trace_lines.specs.Lexing.{target_text, site_text}
+use Rattle.trace_lines.specs.Lexed.{keyword_in}
 use Rattle.trace_lines.proofs.Bytes.{AreDigits, Lacks, digits-decimal, lacks-decimal, all_of_both}
-use Rattle.trace_lines.proofs.Pairs.{both, one_parting}
+use Rattle.trace_lines.proofs.Pairs.{one_parting}
 use Rattle.trace_lines.proofs.Named.{one_number, one_pair, site_is_large, tid_is_large, place_is_large, lacks-tid, lacks_in_tid, tid_parts, place_parts, edge_parts}
 use Rattle.trace_lines.proofs.Pieces.{AreWords}
 
--- each keyword
-keywords : List Keyword
-keywords =
-    Key.Arrow ∷ Key.Sends ∷ Key.Begin ∷ Key.Step ∷ Key.Commit ∷ Key.Abort ∷ Key.Fate ∷ Key.Go ∷ Key.Again ∷
-    Key.Late ∷ Key.Give ∷ Key.Take ∷ Key.Ask ∷ Key.Drop ∷ Key.Halt ∷ Key.Trip ∷ Key.Back ∷ Key.Check ∷ Key.None ∷
-    Key.Down ∷ Key.Idle ∷ Key.Spent ∷ Key.End ∷ Key.Unfinished ∷ Key.Unbegun ∷ Key.Aborted ∷ Key.Set ∷
-    Key.Awake ∷ Key.Defers ∷ Key.Ignored ∷ Key.Waits ∷ Key.Voted ∷ Key.Acked ∷ Key.Forgets ∷ Key.Undecided ∷
-    Key.Initiates ∷ Key.Large ∷ Key.Checked ∷ Key.Committed ∷ Key.Running ∷ Key.Begun ∷ Key.Unheld ∷ Key.Asks ∷ Key.Dropped ∷
-    Key.Read ∷ Key.Wrote ∷ Key.Dies ∷ Key.Invalid ∷ Key.Number ∷ Key.Stopped ∷ Key.Kept ∷ Key.Did ∷
-    Key.Done ∷ Key.Value ∷ Key.Ticket ∷ Key.Unknown ∷ Key.Votes ∷ Key.Yes ∷ Key.No ∷ Key.Moved ∷
-    Key.Settles ∷ Key.Answers ∷ Key.Presumes ∷ Key.Decides ∷ Key.Site ∷ Key.Cycle ∷ Key.Up ∷ Key.Epoch ∷
-    Key.Doubtful ∷ Key.Known ∷ []
-
--- the keyword that is spelled so
-keyword_named : List ℕ → Option Keyword
-keyword_named text = first_where (λ keyword. bytes_eq (keyword_text keyword) text) keywords
-
-named_again : (keyword : Keyword) → keyword_named (keyword_text keyword) ≡ Some keyword
-unfolding keyword_named keywords
-named_again Key.Arrow = refl
-named_again keyword = refl
+-- a keyword's spelling is read as it
+pub keyword_again : (keyword : Keyword) → keyword_in (keyword_text keyword) ≡ Some keyword
+unfolding keyword_in
+keyword_again Key.Arrow = refl
+keyword_again keyword = refl
 
 pub one_keyword : (j k : Keyword) → keyword_text j ≡ keyword_text k → j ≡ k
-one_keyword j k e = same_Some j k (sym (named_again j) ∙ ap keyword_named e ∙ named_again k)
+one_keyword j k e = same_Some j k (sym (keyword_again j) ∙ ap keyword_in e ∙ keyword_again k)
 
 -- a keyword begins with what is above the digits
 lettered : (keyword : Keyword) → IsTrue (nat_lt 57 (get_or (keyword_text keyword) 0 0))
@@ -66,7 +51,7 @@ no_keyword keyword n rest h e =
     omega (arith, digit.1, letter, same)
 
 -- a list that lacks a byte isn't one with it
-lacks_not : (c : ℕ) (all xs ys : List ℕ) → Lacks c all → all ≡ xs ++ c ∷ ys → ⊥
+pub lacks_not : (c : ℕ) (all xs ys : List ℕ) → Lacks c all → all ≡ xs ++ c ∷ ys → ⊥
 lacks_not c [] [] ys h e = cc
 lacks_not c [] (x ∷ xs) ys h e = cc
 lacks_not c (b ∷ bs) [] ys h e = h.0 cc
@@ -87,10 +72,10 @@ one_site s t h k e = ap (λ (n : ℕ). record { 0 = n }) (one_number s.0 t.0 (si
 
 one_edge : (a b : Edge) → IsTrue (is_edge a) → IsTrue (is_edge b) → edge_text a ≡ edge_text b → a ≡ b
 one_edge a b h k e =
-    let ah = both (is_tid a.from && is_tid a.to) (is_site a.site) h in
-    let bh = both (is_tid b.from && is_tid b.to) (is_site b.site) k in
-    let at = both (is_tid a.from) (is_tid a.to) ah.0 in
-    let bt = both (is_tid b.from) (is_tid b.to) bh.0 in
+    let ah = is_true_parts (is_tid a.from && is_tid a.to) (is_site a.site) h in
+    let bh = is_true_parts (is_tid b.from && is_tid b.to) (is_site b.site) k in
+    let at = is_true_parts (is_tid a.from) (is_tid a.to) ah.0 in
+    let bt = is_true_parts (is_tid b.from) (is_tid b.to) bh.0 in
     let outer = one_parting 62 (tid_text a.from) (tid_text b.from) (target_text (a.to, a.site)) (target_text (b.to, b.site)) (lacks-tid 62 (omega arith) a.from at.0) (lacks-tid 62 (omega arith) b.from bt.0) (sym (edge_parts a) ∙ e ∙ edge_parts b) in
     let inner = one_parting 64 (tid_text a.to) (tid_text b.to) (site_text a.site) (site_text b.site) (lacks-tid 64 (omega arith) a.to at.1) (lacks-tid 64 (omega arith) b.to bt.1) outer.1 in
     let from : a.from ≡ b.from = one_tid a.from b.from at.0 bt.0 outer.0 in
@@ -104,23 +89,23 @@ number_lacks c n outside h = lacks-decimal c n outside (ltb-true n (2 ^ 64) h)
 
 place_lacks : (sent : Place) → IsTrue (is_place sent) → Lacks 62 (place_text sent)
 place_lacks sent h =
-    let large = both (is_large sent.site.0) (is_large sent.place) (place_is_large sent h) in
+    let large = is_true_parts (is_large sent.site.0) (is_large sent.place) (place_is_large sent h) in
     all_of_both (λ b. b ≢ 62) (decimal sent.site.0 ++ codes "/") (decimal sent.place)
     (all_of_both (λ b. b ≢ 62) (decimal sent.site.0) (codes "/") (number_lacks 62 sent.site.0 (inr (omega arith)) large.0) ((λ e. omega arith), tt))
     (number_lacks 62 sent.place (inr (omega arith)) large.1)
 
 -- each word but a keyword begins with a number
 no_keyword_tid : (keyword : Keyword) (tid : Tid) → IsTrue (is_tid tid) → keyword_text keyword ≡ tid_text tid → ⊥
-no_keyword_tid keyword tid h e = no_keyword keyword tid.tx.0 (46 ∷ decimal tid.attempt) (both (is_large tid.tx.0) (is_large tid.attempt) (tid_is_large tid h)).0 (e ∙ tid_parts tid)
+no_keyword_tid keyword tid h e = no_keyword keyword tid.tx.0 (46 ∷ decimal tid.attempt) (is_true_parts (is_large tid.tx.0) (is_large tid.attempt) (tid_is_large tid h)).0 (e ∙ tid_parts tid)
 
 no_keyword_place : (keyword : Keyword) (sent : Place) → IsTrue (is_place sent) → keyword_text keyword ≡ place_text sent → ⊥
-no_keyword_place keyword sent h e = no_keyword keyword sent.site.0 (47 ∷ decimal sent.place) (both (is_large sent.site.0) (is_large sent.place) (place_is_large sent h)).0 (e ∙ place_parts sent)
+no_keyword_place keyword sent h e = no_keyword keyword sent.site.0 (47 ∷ decimal sent.place) (is_true_parts (is_large sent.site.0) (is_large sent.place) (place_is_large sent h)).0 (e ∙ place_parts sent)
 
 no_keyword_edge : (keyword : Keyword) (edge : Edge) → IsTrue (is_edge edge) → keyword_text keyword ≡ edge_text edge → ⊥
 no_keyword_edge keyword edge h e =
-    let from = (both (is_tid edge.from) (is_tid edge.to) (both (is_tid edge.from && is_tid edge.to) (is_site edge.site) h).0).0 in
+    let from = (is_true_parts (is_tid edge.from) (is_tid edge.to) (is_true_parts (is_tid edge.from && is_tid edge.to) (is_site edge.site) h).0).0 in
     let rest : List ℕ = 62 ∷ target_text (edge.to, edge.site) in
-    no_keyword keyword edge.from.tx.0 ((46 ∷ decimal edge.from.attempt) ++ rest) (both (is_large edge.from.tx.0) (is_large edge.from.attempt) (tid_is_large edge.from from)).0
+    no_keyword keyword edge.from.tx.0 ((46 ∷ decimal edge.from.attempt) ++ rest) (is_true_parts (is_large edge.from.tx.0) (is_large edge.from.attempt) (tid_is_large edge.from from)).0
     (e ∙ edge_parts edge ∙ ap (λ bs. bs ++ rest) (tid_parts edge.from) ∙ append_assoc (decimal edge.from.tx.0) (46 ∷ decimal edge.from.attempt) rest)
 
 no_number_tid : (n : ℕ) (tid : Tid) → IsTrue (is_large n) → decimal n ≡ tid_text tid → ⊥

@@ -8,7 +8,7 @@ use Rattle.std.proofs.lemmas.Bool.{ltb-true, lt-ltb, false≢true}
 use Rattle.std.proofs.lemmas.Fmt.{parse-decimal}
 use Rattle.std.proofs.lemmas.Option.{none-some, same_Some}
 use Rattle.std.proofs.lemmas.Slice.Eq.{bytes_eq-Decides}
-use Rattle.trace_lines.specs.Range.{is_large}
+use Rattle.line_text.specs.Range.{is_large}
 use Rattle.trace_lines.specs.Lexing.{Spells}
 
 -- what spells a number is parsed as it

@@ -2,9 +2,9 @@
 use Rattle.std.proofs.Common.{◌≡◌, ℕ, zero, suc, ◌<◌, IsTrue, List, [], ◌∷◌, ◌++◌, None, length, map, take, get_or, sym, ap, ◌∙◌, arith}
 use Rattle.std.proofs.lemmas.List.{map-append, take_more, length_push}
 use Rattle.mdb_base.specs.Words.{Each}
-use Rattle.trace_lines.specs.declared.word.Word.{Word}
-use Rattle.trace_lines.specs.Range.{is_word}
-use Rattle.trace_lines.specs.Words.{word_text}
+use Rattle.line_text.specs.declared.word.Word.{Word}
+use Rattle.line_text.specs.Range.{is_word}
+use Rattle.line_text.specs.Words.{word_text}
 use Rattle.trace_lines.specs.Lexing.{Spells}
 
 -- the piece at this place

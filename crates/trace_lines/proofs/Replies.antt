@@ -6,17 +6,17 @@ use Rattle.mdb_base.specs.declared.replies.Reply.{Reply}
 use Rattle.mdb_base.specs.declared.replies.Reply.TheVariants.{Done, Value, Ticket, Wait, Refused, Unknown}
 use Rattle.mdb_base.specs.declared.replies.Why.{Why}
 use Rattle.mdb_base.specs.declared.replies.Why.TheVariants as Refusal
+use Rattle.mdb_base.proofs.BoolLaws.{is_true_parts, is_true_both}
 use Rattle.presumptions.specs.declared.Decision.{Decision}
 use Rattle.presumptions.specs.declared.Decision.TheVariants as Final
-use Rattle.trace_lines.specs.declared.word.Keyword.{Keyword}
-use Rattle.trace_lines.specs.declared.word.Keyword.TheVariants as Key
-use Rattle.trace_lines.specs.declared.word.Mark.{Mark}
-use Rattle.trace_lines.specs.declared.word.Word.{Word}
-use Rattle.trace_lines.specs.declared.word.Word.TheVariants.{Plain, Number, Attempt}
-use Rattle.trace_lines.specs.Range.{is_tid, is_key, refusal_in_range, reply_in_range, no_in_range}
-use Rattle.trace_lines.specs.Spelling.{refusal_words, reply_words, no_words, decision_word}
+use Rattle.line_text.specs.declared.word.Keyword.{Keyword}
+use Rattle.line_text.specs.declared.word.Keyword.TheVariants as Key
+use Rattle.trace_lines.specs.declared.marks.Mark.{Mark}
+use Rattle.line_text.specs.declared.word.Word.{Word}
+use Rattle.line_text.specs.declared.word.Word.TheVariants.{Plain, Number, Attempt}
+use Rattle.line_text.specs.Range.{is_tid, is_key, refusal_in_range, reply_in_range, no_in_range}
+use Rattle.line_text.specs.Spelling.{refusal_words, reply_words, no_words, decision_word}
 use Rattle.trace_lines.specs.Reading.{refusal_of, reply_of, no_of, decision_of, is_mark}
-use Rattle.trace_lines.proofs.Pairs.{both, both_hold}
 use Rattle.trace_lines.proofs.Pieces.{AreWords}
 use Rattle.trace_lines.proofs.Guards.{from_guard, from_map, key_large}
 
@@ -27,7 +27,7 @@ lacks_mark mark = each_of (λ word. not (is_mark mark word))
 pub refusal_again : (why : Why) → IsTrue (refusal_in_range why) → refusal_of (refusal_words why) ≡ Some why
 refusal_again (Refusal.Die by) h = refl
 refusal_again (Refusal.Late by) h = refl
-refusal_again (Refusal.Invalid by key) h = rw (both (is_tid by) (is_key key) h).1 refl
+refusal_again (Refusal.Invalid by key) h = rw (is_true_parts (is_tid by) (is_key key) h).1 refl
 refusal_again (Refusal.TicketMoved by) h = refl
 
 pub reply_again : (reply : Reply) → IsTrue (reply_in_range reply) → reply_of (reply_words reply) ≡ Some reply
@@ -37,7 +37,7 @@ reply_again (Ticket ticket) h = refl
 reply_again (Wait by) h = refl
 reply_again (Refused (Refusal.Die by)) h = refl
 reply_again (Refused (Refusal.Late by)) h = refl
-reply_again (Refused (Refusal.Invalid by key)) h = rw (both (is_tid by) (is_key key) h).1 refl
+reply_again (Refused (Refusal.Invalid by key)) h = rw (is_true_parts (is_tid by) (is_key key) h).1 refl
 reply_again (Refused (Refusal.TicketMoved by)) h = refl
 reply_again Unknown h = refl
 
@@ -45,7 +45,7 @@ pub no_again : (why : Option Why) → IsTrue (no_in_range why) → no_of (no_wor
 no_again None h = refl
 no_again (Some (Refusal.Die by)) h = refl
 no_again (Some (Refusal.Late by)) h = refl
-no_again (Some (Refusal.Invalid by key)) h = rw (both (is_tid by) (is_key key) h).1 refl
+no_again (Some (Refusal.Invalid by key)) h = rw (is_true_parts (is_tid by) (is_key key) h).1 refl
 no_again (Some (Refusal.TicketMoved by)) h = refl
 
 -- the keyword of a decision
@@ -73,7 +73,7 @@ no_lacks (Some why) = refusal_lacks why
 pub refusal_is_words : (why : Why) → IsTrue (refusal_in_range why) → AreWords (refusal_words why)
 refusal_is_words (Refusal.Die by) h = (refl, (h, tt))
 refusal_is_words (Refusal.Late by) h = (refl, (h, tt))
-refusal_is_words (Refusal.Invalid by key) h = let t = both (is_tid by) (is_key key) h in (refl, (t.0, (key_large key t.1, tt)))
+refusal_is_words (Refusal.Invalid by key) h = let t = is_true_parts (is_tid by) (is_key key) h in (refl, (t.0, (key_large key t.1, tt)))
 refusal_is_words (Refusal.TicketMoved by) h = (refl, (h, tt))
 
 pub reply_is_words : (reply : Reply) → IsTrue (reply_in_range reply) → AreWords (reply_words reply)
@@ -96,7 +96,7 @@ pub refusal_found : (words : List Word) (why : Why) → AreWords words → refus
 refusal_found (Plain Key.Dies ∷ Attempt by ∷ []) why h e = subst (IsRefusalOf _) (same_Some _ why e) (refl, h.1.0)
 refusal_found (Plain Key.Late ∷ Attempt by ∷ []) why h e = subst (IsRefusalOf _) (same_Some _ why e) (refl, h.1.0)
 refusal_found (Plain Key.Invalid ∷ Attempt by ∷ Number n ∷ []) why h e =
-    from_guard (is_key (record { 0 = n })) (record { 0 = n }) (Refusal.Invalid by) why (IsRefusalOf _) e (λ k. (refl, both_hold _ _ h.1.0 k))
+    from_guard (is_key (record { 0 = n })) (record { 0 = n }) (Refusal.Invalid by) why (IsRefusalOf _) e (λ k. (refl, is_true_both _ _ h.1.0 k))
 refusal_found (Plain Key.Moved ∷ Attempt by ∷ []) why h e = subst (IsRefusalOf _) (same_Some _ why e) (refl, h.1.0)
 refusal_found words why h e = absurd (none-some why e)
 

@@ -4,12 +4,12 @@ use Rattle.std.specs.List.{join_with_byte}
 use Rattle.std.proofs.lemmas.Option.{none-some, same_Some}
 use Rattle.std.proofs.lemmas.List.Splits.{join_with_byte-slice_split}
 use Rattle.fed_rules.specs.declared.commands.Line.{Line}
-use Rattle.trace_lines.specs.declared.word.Keyword.TheVariants as Key
-use Rattle.trace_lines.specs.declared.word.Word.{Word}
-use Rattle.trace_lines.specs.declared.word.Word.TheVariants.{Plain}
-use Rattle.trace_lines.specs.Range.{is_line}
-use Rattle.trace_lines.specs.Words.{word_text}
-use Rattle.trace_lines.specs.Spelling.{command_words, answer_words, sends_words, line_words, words_bytes, line_bytes}
+use Rattle.line_text.specs.declared.word.Keyword.TheVariants as Key
+use Rattle.line_text.specs.declared.word.Word.{Word}
+use Rattle.line_text.specs.declared.word.Word.TheVariants.{Plain}
+use Rattle.line_text.specs.Range.{is_line}
+use Rattle.line_text.specs.Words.{word_text}
+use Rattle.line_text.specs.Spelling.{command_words, answer_words, sends_words, line_words, words_bytes, line_bytes}
 use Rattle.trace_lines.specs.Lexing.{pieces}
 use Rattle.trace_lines.specs.declared.error.LineErr.{LineErr}
 use Rattle.trace_lines.specs.declared.error.LineErr.TheVariants as errors

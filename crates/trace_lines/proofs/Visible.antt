@@ -9,17 +9,17 @@ use Rattle.mdb_base.specs.Words.{each_of}
 use Rattle.mdb_base.specs.Texts.{tid_text}
 use Rattle.mdb_base.specs.declared.names.Tid.{Tid}
 use Rattle.mdb_base.specs.declared.replies.Edge.{Edge}
+use Rattle.mdb_base.proofs.BoolLaws.{is_true_parts, is_true_both}
 use Rattle.fed_rules.specs.declared.commands.Place.{Place}
-use Rattle.trace_lines.specs.declared.word.Keyword.{Keyword}
-use Rattle.trace_lines.specs.declared.word.Keyword.TheVariants as Key
-use Rattle.trace_lines.specs.declared.word.Word.{Word}
-use Rattle.trace_lines.specs.declared.word.Word.TheVariants.{Plain, Number, Attempt, Sent, Joined}
-use Rattle.trace_lines.specs.Range.{is_large, is_site, is_tid, is_place, is_edge, is_word}
-use Rattle.trace_lines.specs.Words.{keyword_text, place_text, edge_text, word_text}
-use Rattle.trace_lines.specs.Spelling.{words_bytes}
+use Rattle.line_text.specs.declared.word.Keyword.{Keyword}
+use Rattle.line_text.specs.declared.word.Keyword.TheVariants as Key
+use Rattle.line_text.specs.declared.word.Word.{Word}
+use Rattle.line_text.specs.declared.word.Word.TheVariants.{Plain, Number, Attempt, Sent, Joined}
+use Rattle.line_text.specs.Range.{is_large, is_site, is_tid, is_place, is_edge, is_word}
+use Rattle.line_text.specs.Words.{keyword_text, place_text, edge_text, word_text}
+use Rattle.line_text.specs.Spelling.{words_bytes}
 use Rattle.trace_lines.specs.Lexing.{pieces}
 use Rattle.trace_lines.proofs.Bytes.{AreDigits, digits-decimal}
-use Rattle.trace_lines.proofs.Pairs.{both, both_hold}
 use Rattle.trace_lines.proofs.Named.{site_is_large, tid_is_large, place_is_large}
 use Rattle.trace_lines.proofs.Pieces.{AreWords}
 
@@ -32,11 +32,11 @@ AreVisible bs = IsTrue (each_of is_visible bs)
 
 visible_both : (xs ys : List ℕ) → AreVisible xs → AreVisible ys → AreVisible (xs ++ ys)
 visible_both [] ys h k = k
-visible_both (x ∷ xs) ys h k = let t = both (is_visible x) (each_of is_visible xs) h in both_hold _ _ t.0 (visible_both xs ys t.1 k)
+visible_both (x ∷ xs) ys h k = let t = is_true_parts (is_visible x) (each_of is_visible xs) h in is_true_both _ _ t.0 (visible_both xs ys t.1 k)
 
 visible_digits : (ds : List ℕ) → AreDigits ds → AreVisible ds
 visible_digits [] h = refl
-visible_digits (d ∷ ds) h = both_hold _ _ (both_hold _ _ (lt-ltb 32 d (omega (arith, h.0.0))) (lt-ltb d 128 (omega (arith, h.0.1)))) (visible_digits ds h.1)
+visible_digits (d ∷ ds) h = is_true_both _ _ (is_true_both _ _ (lt-ltb 32 d (omega (arith, h.0.0))) (lt-ltb d 128 (omega (arith, h.0.1)))) (visible_digits ds h.1)
 
 visible_number : (n : ℕ) → IsTrue (is_large n) → AreVisible (decimal n)
 visible_number n h = visible_digits (decimal n) (digits-decimal n (ltb-true n (2 ^ 64) h))
@@ -47,18 +47,18 @@ visible_keyword keyword = refl
 
 visible_tid : (tid : Tid) → IsTrue (is_tid tid) → AreVisible (tid_text tid)
 visible_tid tid h =
-    let large = both (is_large tid.tx.0) (is_large tid.attempt) (tid_is_large tid h) in
+    let large = is_true_parts (is_large tid.tx.0) (is_large tid.attempt) (tid_is_large tid h) in
     visible_both (decimal tid.tx.0 ++ codes ".") (decimal tid.attempt) (visible_both (decimal tid.tx.0) (codes ".") (visible_number tid.tx.0 large.0) refl) (visible_number tid.attempt large.1)
 
 visible_place : (sent : Place) → IsTrue (is_place sent) → AreVisible (place_text sent)
 visible_place sent h =
-    let large = both (is_large sent.site.0) (is_large sent.place) (place_is_large sent h) in
+    let large = is_true_parts (is_large sent.site.0) (is_large sent.place) (place_is_large sent h) in
     visible_both (decimal sent.site.0 ++ codes "/") (decimal sent.place) (visible_both (decimal sent.site.0) (codes "/") (visible_number sent.site.0 large.0) refl) (visible_number sent.place large.1)
 
 visible_edge : (edge : Edge) → IsTrue (is_edge edge) → AreVisible (edge_text edge)
 visible_edge edge h =
-    let outer = both (is_tid edge.from && is_tid edge.to) (is_site edge.site) h in
-    let inner = both (is_tid edge.from) (is_tid edge.to) outer.0 in
+    let outer = is_true_parts (is_tid edge.from && is_tid edge.to) (is_site edge.site) h in
+    let inner = is_true_parts (is_tid edge.from) (is_tid edge.to) outer.0 in
     visible_both (tid_text edge.from ++ codes ">" ++ tid_text edge.to ++ codes "@") (decimal edge.site.0)
     (visible_both (tid_text edge.from ++ codes ">" ++ tid_text edge.to) (codes "@")
     (visible_both (tid_text edge.from ++ codes ">") (tid_text edge.to) (visible_both (tid_text edge.from) (codes ">") (visible_tid edge.from inner.0) refl) (visible_tid edge.to inner.1)) refl)
@@ -75,8 +75,8 @@ visible_word (Joined edge) h = visible_edge edge h
 no_space : (bs : List ℕ) → AreVisible bs → AllByRecursion (λ b. eqb b 32 ≡ false) bs
 no_space [] h = tt
 no_space (b ∷ bs) h =
-    let t = both (is_visible b) (each_of is_visible bs) h in
-    let above = ltb-true 32 b (both (nat_lt 32 b) (nat_lt b 128) t.0).0 in
+    let t = is_true_parts (is_visible b) (each_of is_visible bs) h in
+    let above = ltb-true 32 b (is_true_parts (nat_lt 32 b) (nat_lt b 128) t.0).0 in
     (ne_eqb b 32 (λ e. omega (arith, above)), no_space bs t.1)
 
 -- the pieces of joined words are their texts
@@ -93,8 +93,8 @@ AreAscii = AllByRecursion (λ b. b < 128)
 ascii_visible : (bs : List ℕ) → AreVisible bs → AreAscii bs
 ascii_visible [] h = tt
 ascii_visible (b ∷ bs) h =
-    let t = both (is_visible b) (each_of is_visible bs) h in
-    (ltb-true b 128 (both (nat_lt 32 b) (nat_lt b 128) t.0).1, ascii_visible bs t.1)
+    let t = is_true_parts (is_visible b) (each_of is_visible bs) h in
+    (ltb-true b 128 (is_true_parts (nat_lt 32 b) (nat_lt b 128) t.0).1, ascii_visible bs t.1)
 
 ascii_both : (xs ys : List ℕ) → AreAscii xs → AreAscii ys → AreAscii (xs ++ ys)
 ascii_both [] ys h k = k

@@ -1,16 +1,22 @@
 -- Reading a word from its bytes, part by part: numbers with a mark between them, and what stands for an attempt, a place or an edge.
-use Rattle.std.specs.Prelude.{ℕ, ◌≡◌, List, ◌∷◌, ◌++◌, Option, Some, None, Bool, IsTrue, cond, ◌&&◌, ◌==◌, decimal}
+use Rattle.std.specs.Prelude.{ℕ, ◌≡◌, List, ◌∷◌, ◌++◌, Option, Some, None, Bool, IsTrue, cond, ◌&&◌, ◌==◌, nat_le, length, decimal}
 use Rattle.std.specs.List.{slice_split}
 use Rattle.mdb_base.specs.Texts.{tid_text}
 use Rattle.mdb_base.specs.declared.names.SiteId.{SiteId}
 use Rattle.mdb_base.specs.declared.names.Tid.{Tid}
 use Rattle.fed_rules.specs.declared.commands.Place.{Place}
-use Rattle.trace_lines.specs.Range.{is_large, is_site, is_tid, is_place}
+use Rattle.line_text.specs.declared.word.Keyword.{Keyword}
+use Rattle.line_text.specs.Words.{keyword_text}
+use Rattle.line_text.specs.Range.{is_large, is_site, is_tid, is_place}
 
 -- what was found is spelled so, and nothing was where no such thing is
 abbrev pub Spells : {A : Type 0} → (A → Bool) → (A → List ℕ) → List ℕ → Option A → Type 0
 Spells {A} is_one text bytes None = (x : A) → IsTrue (is_one x) → bytes ≡ text x → ⊥
 Spells is_one text bytes (Some x) = IsTrue (is_one x) × (bytes ≡ text x)
+
+-- a keyword whose spelling has from low to high bytes
+abbrev pub has_length : ℕ → ℕ → Keyword → Bool
+has_length low high keyword = nat_le low (length (keyword_text keyword)) && nat_le (length (keyword_text keyword)) high
 
 -- the pieces between the spaces
 abbrev pub pieces : List ℕ → List (List ℕ)

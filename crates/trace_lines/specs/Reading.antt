@@ -22,12 +22,12 @@ use Rattle.fed_rules.specs.declared.answers.Cause.{Cause}
 use Rattle.fed_rules.specs.declared.answers.Cause.TheVariants as Because
 use Rattle.trace_lines.specs.declared.error.LineErr.{LineErr}
 use Rattle.trace_lines.specs.declared.error.LineErr.TheVariants as errors
-use Rattle.trace_lines.specs.declared.word.Keyword.{Keyword}
-use Rattle.trace_lines.specs.declared.word.Keyword.TheVariants as Key
-use Rattle.trace_lines.specs.declared.word.Mark.{Mark}
-use Rattle.trace_lines.specs.declared.word.Word.{Word}
-use Rattle.trace_lines.specs.declared.word.Word.TheVariants.{Plain, Number, Attempt, Sent, Joined}
-use Rattle.trace_lines.specs.Fits.{line_fits}
+use Rattle.line_text.specs.declared.word.Keyword.{Keyword}
+use Rattle.line_text.specs.declared.word.Keyword.TheVariants as Key
+use Rattle.trace_lines.specs.declared.marks.Mark.{Mark}
+use Rattle.line_text.specs.declared.word.Word.{Word}
+use Rattle.line_text.specs.declared.word.Word.TheVariants.{Plain, Number, Attempt, Sent, Joined}
+use Rattle.line_text.specs.Fits.{line_fits}
 
 -- what a function returned is what reading gives, unless memory ran out
 abbrev pub Fails : {X : Type 0} → LineErr → Option X → Type 0

@@ -4,11 +4,11 @@ ghost use Rattle.trace_lines.specs.Reading as reading;
 ghost use Rattle.trace_lines.specs.Reading.{Gives, Finds};
 
 use crate::error::LineErr;
-use crate::marks::cut_at;
+use crate::marks::{Mark, cut_at};
 use crate::numbers::{key_of, site_of, small_of};
-use crate::word::Word::{Attempt, Joined, Number, Plain};
-use crate::word::{Keyword, Mark, Word};
 use fed_rules::{Answer, Cause};
+use line_text::Word::{Attempt, Joined, Number, Plain};
+use line_text::{Keyword, Word};
 use mdb_base::{Edges, Reply, SiteId, Tid, Why};
 use presumptions::Decision;
 use std::alloc::Global;

@@ -3,9 +3,9 @@ ghost use Rattle.std.specs.Prelude.{◌≡◌};
 ghost use Rattle.trace_lines.specs.Reading as reading;
 
 use crate::numbers::{actor_of, at_most, calls_of, site_of, small_of, tx_of};
-use crate::word::Word::{Attempt, Number, Plain};
-use crate::word::{Keyword, Word};
 use fed_rules::Command;
+use line_text::Word::{Attempt, Number, Plain};
+use line_text::{Keyword, Word};
 use mdb_base::Tid;
 
 fn number_command(keyword: Keyword, number: u64) -> Option<Command>

@@ -1,20 +1,11 @@
-//! Why a call of a door, or the reading of a line, gives nothing.
+//! Why the reading of a line gives nothing.
 ghost use Rattle.std.specs.Prelude.{◌≡◌};
 
 use std::alloc::{AllocError, AllocFailed};
 use thiserror::Error;
 
-/// Why a host carries nothing out.
-#[derive(Clone, Copy, Debug, PartialEq, Eq, Drop, Error)]
-pub enum DoorErr {
-    #[error("the disk failed")]
-    Disk,
-    #[error("no memory")]
-    Memory,
-}
-
 /// Why no line is read.
-#[derive(Clone, Copy, Debug, PartialEq, Eq, Drop, Error)]
+#[derive(Clone, Copy, Debug, Drop, Error)]
 pub enum LineErr {
     #[error("the text is no line")]
     NoLine,

@@ -1,6 +1,6 @@
 //! Which answers a command can have, and where places of sent messages stand.
 ghost use Rattle.std.specs.Prelude.{◌≡◌, ◌&&◌};
-ghost use Rattle.trace_lines.specs.Fits as fits;
+ghost use Rattle.line_text.specs.Fits as fits;
 
 use fed_rules::{Answer, Cause, Command, Place};
 use mdb_base::{Reply, SiteId, Why};

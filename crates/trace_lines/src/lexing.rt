@@ -1,98 +1,21 @@
 //! Words from bytes.
-ghost use Rattle.std.specs.Prelude.{◌≡◌, ◌<◌, true, List, map, IsTrue, IfOk, IsErrOf, decimal};
+ghost use Rattle.std.specs.Prelude.{◌≡◌, ◌<◌, List, map, IsTrue, IfOk, IsErrOf, decimal};
 ghost use Rattle.mdb_base.specs.Words.{Each};
 ghost use Rattle.mdb_base.specs.Texts.{tid_text};
 ghost use Rattle.trace_lines.specs.Lexing as lexing;
 ghost use Rattle.trace_lines.specs.Lexing.{Spells, pieces, are_large, numbers_text, site_text, is_target, target_text};
-ghost use Rattle.trace_lines.specs.Range.{is_large, is_site, is_tid, is_place, is_edge, is_word};
-ghost use Rattle.trace_lines.specs.declared.word.Word.{Word};
-ghost use Rattle.trace_lines.specs.Words.{keyword_text, place_text, edge_text, word_text};
+ghost use Rattle.line_text.specs.Range.{is_large, is_site, is_tid, is_place, is_edge, is_word};
+ghost use Rattle.line_text.specs.declared.word.Word.{Word};
+ghost use Rattle.line_text.specs.Words.{place_text, edge_text, word_text};
 
 use crate::error::LineErr;
+use crate::keywords::keyword_of;
 use crate::numbers::site_of;
-use crate::word::{Keyword, Word};
 use fed_rules::Place;
 use itoa::Buffer;
+use line_text::Word;
 use mdb_base::{Edge, SiteId, Tid, Tx};
 use std::alloc::Global;
-
-fn keyword_of(text: &str) -> Option<Keyword>
-    ensures { Spells (λ _. true) keyword_text text.now result }
-{
-    Some(match text {
-        "=>" => Keyword::Arrow,
-        "sends" => Keyword::Sends,
-        "begin" => Keyword::Begin,
-        "step" => Keyword::Step,
-        "commit" => Keyword::Commit,
-        "abort" => Keyword::Abort,
-        "fate" => Keyword::Fate,
-        "go" => Keyword::Go,
-        "again" => Keyword::Again,
-        "late" => Keyword::Late,
-        "give" => Keyword::Give,
-        "take" => Keyword::Take,
-        "ask" => Keyword::Ask,
-        "drop" => Keyword::Drop,
-        "halt" => Keyword::Halt,
-        "trip" => Keyword::Trip,
-        "back" => Keyword::Back,
-        "check" => Keyword::Check,
-        "none" => Keyword::None,
-        "down" => Keyword::Down,
-        "idle" => Keyword::Idle,
-        "spent" => Keyword::Spent,
-        "end" => Keyword::End,
-        "unfinished" => Keyword::Unfinished,
-        "unbegun" => Keyword::Unbegun,
-        "aborted" => Keyword::Aborted,
-        "set" => Keyword::Set,
-        "awake" => Keyword::Awake,
-        "defers" => Keyword::Defers,
-        "ignored" => Keyword::Ignored,
-        "waits" => Keyword::Waits,
-        "voted" => Keyword::Voted,
-        "acked" => Keyword::Acked,
-        "forgets" => Keyword::Forgets,
-        "undecided" => Keyword::Undecided,
-        "initiates" => Keyword::Initiates,
-        "large" => Keyword::Large,
-        "checked" => Keyword::Checked,
-        "committed" => Keyword::Committed,
-        "running" => Keyword::Running,
-        "begun" => Keyword::Begun,
-        "unheld" => Keyword::Unheld,
-        "asks" => Keyword::Asks,
-        "dropped" => Keyword::Dropped,
-        "read" => Keyword::Read,
-        "wrote" => Keyword::Wrote,
-        "dies" => Keyword::Dies,
-        "invalid" => Keyword::Invalid,
-        "number" => Keyword::Number,
-        "stopped" => Keyword::Stopped,
-        "kept" => Keyword::Kept,
-        "did" => Keyword::Did,
-        "done" => Keyword::Done,
-        "value" => Keyword::Value,
-        "ticket" => Keyword::Ticket,
-        "unknown" => Keyword::Unknown,
-        "votes" => Keyword::Votes,
-        "yes" => Keyword::Yes,
-        "no" => Keyword::No,
-        "moved" => Keyword::Moved,
-        "settles" => Keyword::Settles,
-        "answers" => Keyword::Answers,
-        "presumes" => Keyword::Presumes,
-        "decides" => Keyword::Decides,
-        "site" => Keyword::Site,
-        "cycle" => Keyword::Cycle,
-        "up" => Keyword::Up,
-        "epoch" => Keyword::Epoch,
-        "doubtful" => Keyword::Doubtful,
-        "known" => Keyword::Known,
-        _ => return None,
-    })
-}
 
 /// The number that is printed so.
 fn number_of(text: &str) -> Option<u64>

@@ -1,58 +1,40 @@
 //! Lines as text, both ways: a command, its answer, and the places of what it sent.
 //!
-//! Each line has one spelling, so the bytes of lines determine them. `specs/Spelling.antt` says how a line is spelled,
-//! `specs/Fits.antt` which answers a command can have and where places stand, and `specs/Range.antt` the numbers' ranges.
+//! Each line has one spelling, so the bytes of lines determine them. `line_text` says how a line is spelled and prints it, and here it
+//! is read: `specs/Reading.antt` says what the words of a line are read as, and `specs/Lexed.antt` computes what the bytes of a line are read as.
 #![tactic(auto)]
 
-ghost use Rattle.std.specs.Prelude.{◌≡◌, ℕ, List, ◌++◌, codes, IsTrue, OnOk, OnErr, IfOk, IsErrOf};
+ghost use Rattle.std.specs.Prelude.{◌≡◌, ◌↔◌, ℕ, List, ◌++◌, Some, codes, IsTrue, IfOk, IsErrOf};
 ghost use Rattle.mdb_base.specs.Words.{Each};
 ghost use Rattle.fed_rules.specs.declared.commands.Line.{Line};
-ghost use Rattle.trace_lines.specs.Spelling.{line_bytes, lines_bytes};
-ghost use Rattle.trace_lines.specs.Fits.{line_fits};
-ghost use Rattle.trace_lines.specs.Range.{is_line};
+ghost use Rattle.line_text.specs.Spelling.{line_bytes, lines_bytes};
+ghost use Rattle.line_text.specs.Range.{is_line};
+ghost use Rattle.trace_lines.specs.Reading.{Gives};
+ghost use Rattle.trace_lines.specs.Lexed.{line_in};
 
 mod answers;
 mod commands;
 mod error;
 mod fits;
+mod keywords;
 mod lexing;
 mod marks;
 mod numbers;
-mod printing;
 mod reading;
-mod spelling;
-mod straight;
-mod word;
 
-pub use error::{DoorErr, LineErr};
+pub use error::LineErr;
 pub use fed_rules::{Answer, Cause, Command, Line, Place, Places, Stamped, StampedLines};
-use mdb_base::Memory;
+pub use line_text::{DoorErr, print_line};
 use std::alloc::Global;
 use std::str;
 
-/// Appends the line, without a line feed (this project's profile). The condition is that the line fits: its answer is one that its
-/// command can have; places stand only behind an answer that can send, those of the coordinator at rising sites, and of a site one place
-/// in its own channel; an answer of what is sent alone has a place. A number may have any value of its type: where one is out of its
-/// range, the line is printed but isn't read again. An `Err` changes nothing.
-pub fn print_line(alloc: Global, line: &Line, out: &mut Vec<u8>) -> Result<(), Memory>
-    requires { IsTrue (line_fits line.now) }
-    ensures ok { OnOk result (out.new.items ≡ out.old.items ++ line_bytes line.now) }
-    ensures err { OnErr result (out.new.items ≡ out.old.items) }
-{
-    let length = out.len();
-    let printed = straight::put_line(alloc, line, out);
-    if printed.is_err() {
-        out.truncate(length);
-    }
-    printed
-}
-
 /// The line that is spelled so, without a line feed. The answer and the places are some that the command can have, and each
-/// number is in its range.
+/// number is in its range. It is the line that is computed of the bytes.
 pub fn read_line(alloc: Global, text: &[u8]) -> Result<Line, LineErr>
     ensures found { IfOk result (λ line. IsTrue (is_line line) × (text.now ≡ line_bytes line)) }
     // Nothing that is spelled as a line is refused.
     ensures none { IsErrOf result LineErr.NoLine → (line : Line) → IsTrue (is_line line) → text.now ≡ line_bytes line → ⊥ }
+    ensures computed { Gives result (line_in text.now) }
 {
     let Ok(text) = str::from_utf8(text) else {
         return Err(LineErr::NoLine);
@@ -60,6 +42,11 @@ pub fn read_line(alloc: Global, text: &[u8]) -> Result<Line, LineErr>
     let words = lexing::words_of(alloc, text)?;
     reading::line_of(alloc, &words)
 }
+
+/// What is computed of bytes is the line that they spell, and nothing where they spell none.
+pub fn line_in_is_the_spelled_line()
+    ensures { (line : Line) (bytes : List ℕ) → (line_in bytes ≡ Some line) ↔ (IsTrue (is_line line) × (bytes ≡ line_bytes line)) }
+{}
 
 /// Each line has one spelling, so what is printed is read again as the same line.
 pub fn one_spelling()

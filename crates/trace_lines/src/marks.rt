@@ -3,8 +3,19 @@ ghost use Rattle.std.specs.Prelude.{◌≡◌};
 ghost use Rattle.trace_lines.specs.Reading as reading;
 ghost use Rattle.trace_lines.specs.Reading.{Finds};
 
-use crate::word::Word::Plain;
-use crate::word::{Keyword, Mark, Word};
+use line_text::Word::Plain;
+use line_text::{Keyword, Word};
+
+/// A word that parts a line.
+#[derive(Clone, Copy)]
+pub enum Mark {
+    /// The answer stands behind it.
+    Arrow,
+    /// Places stand behind it.
+    Sends,
+    /// It ends a decision.
+    Forgets,
+}
 
 fn is_mark(mark: Mark, word: &Word) -> bool
     ensures { result ≡ reading.is_mark mark word.now }

@@ -7,11 +7,11 @@ use crate::answers::answer_of;
 use crate::commands::command_of;
 use crate::error::LineErr;
 use crate::fits::line_fits;
-use crate::marks::cut_at;
+use crate::marks::{Mark, cut_at};
 use crate::numbers::small_of;
-use crate::word::Word::{Number, Sent};
-use crate::word::{Mark, Word};
 use fed_rules::{Command, Line, Place, Places};
+use line_text::Word;
+use line_text::Word::{Number, Sent};
 use mdb_base::SiteId;
 use std::alloc::Global;
 

@@ -4,4 +4,3 @@ pub mod Merging
 pub mod Steps
 pub mod Places
 pub mod OneTrace
-pub mod Made

@@ -1,7 +1,6 @@
 //! The lines of all actors in one list, by their stamps (Lamport 1978).
 #![tactic(auto)]
 
-mod copies;
 mod laws;
 mod merge;
 mod rest;
@@ -12,6 +11,3 @@ pub use laws::{
     lists_have_one_trace,
 };
 pub use merge::merge_traces;
-
-#[cfg(test)]
-mod tests;

@@ -1,6 +1,7 @@
 -- What refuses a sealing by the index is what refuses it by the rule.
 use Rattle.std.proofs.Common.{◌≡◌, ℕ, ◌+◌, ◌≤◌, nat_lt, Bool, true, false, not, ◌||◌, ◌==◌, cond, is_some, Option, Some, None, IfSome, List, [], ◌∷◌, map, inl, inr, refl, sym, ap, ◌∙◌, subst, arith}
 use Rattle.std.proofs.lemmas.Bool.{cond-true, cond-false, or_left, or_right, cases_Bool, eqb-true, ltb-true, ltb-false}
+use Rattle.std.proofs.lemmas.Option.{same_Some}
 use Rattle.mdb_base.specs.declared.names.Engine.{Engine}
 use Rattle.mdb_base.specs.declared.names.Engine.TheVariants.{Validation}
 use Rattle.mdb_base.specs.declared.names.Key.{Key}
@@ -19,7 +20,6 @@ use Rattle.run_book.specs.declared.marks.Marks.{Marks}
 use Rattle.run_book.specs.declared.rival.Rival.{Rival}
 use Rattle.run_book.specs.Keeps.{marks_after}
 use Rattle.run_book.specs.Rivals.{rival_by}
-use Rattle.run_book.proofs.Ages.{some_inj}
 use Rattle.run_book.proofs.Best.{TellsApart, least-found, least-empty}
 use Rattle.run_book.proofs.Members.{Is, is-those, those-is}
 use Rattle.validation_engine.specs.declared.rule.Bad.{Bad}
@@ -92,16 +92,16 @@ least_bad-some spoils (first ∷ acts) bad e = by_first (spoils first) refl e (�
 
     by_rest : (by : Rival) (o : Option Bad) → spoils first ≡ Some by → least_bad_of spoils acts ≡ o → ((least : Bad) → o ≡ Some least → IsLeastBad spoils acts least) → Some (lower_of (here by) o) ≡ Some bad →
         IsLeastBad spoils (first ∷ acts) bad
-    by_rest by None is none rest e = is_first by is (λ other r member spoiled. let nothing = least_bad-none spoils acts none other member in cc) (some_inj (here by) bad e)
+    by_rest by None is none rest e = is_first by is (λ other r member spoiled. let nothing = least_bad-none spoils acts none other member in cc) (same_Some (here by) bad e)
     by_rest by (Some least) is some rest e =
         let h = rest least refl in
         elim (cases_Bool (nat_lt least.key.0 (access_key first).0)) [
           | inl lower ↦
               let lt = ltb-true least.key.0 (access_key first).0 lower in
-              is_later least h (λ r spoiled. omega arith) (sym (cond-true _ _ _ lower) ∙ some_inj _ bad e)
+              is_later least h (λ r spoiled. omega arith) (sym (cond-true _ _ _ lower) ∙ same_Some _ bad e)
           | inr higher ↦
               let ge = ltb-false least.key.0 (access_key first).0 higher in
-              is_first by is (λ other r member spoiled. let le = h.below other r member spoiled in omega arith) (sym (cond-false _ _ _ higher) ∙ some_inj _ bad e)
+              is_first by is (λ other r member spoiled. let le = h.below other r member spoiled in omega arith) (sym (cond-false _ _ _ higher) ∙ same_Some _ bad e)
         ]
 
     by_first : (o : Option Rival) → spoils first ≡ o → or_lower (access_key first) o (least_bad_of spoils acts) ≡ Some bad →
@@ -176,7 +176,7 @@ keys_apart keys a b ha hb same = ap (λ (n : ℕ). let k : Key = record { 0 = n 
 
 there_is : {A B : Type 0} (f : A → B) (o : Option A) (y : B) → Some y ≡ map_some f o → (x : A) × (o ≡ Some x) × (f x ≡ y)
 there_is f None y e = cc
-there_is f (Some x) y e = (x, refl, sym (some_inj y (f x) e))
+there_is f (Some x) y e = (x, refl, sym (same_Some y (f x) e))
 
 is_there : {A B : Type 0} (f : A → B) (o : Option A) → is_some o ≡ true → (y : B) × (map_some f o ≡ Some y)
 is_there f None e = cc

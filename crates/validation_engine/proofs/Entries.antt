@@ -1,23 +1,18 @@
 -- The writers of each key, as a map and as the entries of the tree that keeps them.
-use Rattle.std.proofs.Common.{◌≡◌, ℕ, Bool, true, false, cond, nat_eq, Option, Some, None, List, [], ◌∷◌, refl, sym, ap, ◌∙◌, arith}
+use Rattle.std.proofs.Common.{◌≡◌, ℕ, Bool, true, false, cond, nat_eq, Option, Some, None, List, [], ◌∷◌, refl, sym, ap, ◌∙◌}
 use Rattle.std.specs.Cmp.{nat_cmp_total}
-use Rattle.std.specs.Ordering.{nat_cmp, is_eq}
+use Rattle.std.specs.Ordering.{nat_cmp}
 use Rattle.std.specs.FinMap.{from_entries, find, get, get-insert, get-from_entries, insert, same_map, nat_cmp-IsAntisymmetric}
 use Rattle.std.specs.Map.{lookup}
 use Rattle.std.specs.BTreeMap.{is_at}
 use Rattle.std.proofs.lemmas.Bool.{cond-true, cond-false, eqb-true}
-use Rattle.std.proofs.lemmas.Bool.Decides.{nat_tests}
 use Rattle.mdb_base.specs.declared.names.Key.{Key}
 use Rattle.mdb_base.specs.Names.{same_key}
 use Rattle.mdb_base.specs.Words.{map_some}
+use Rattle.mdb_base.proofs.NumberLaws.{is_eq-nat_cmp}
+use Rattle.mdb_base.proofs.RowLaws.{nat_eq-sym}
 use Rattle.validation_engine.specs.declared.index.Writers.{Writers}
 use Rattle.validation_engine.specs.Index.{Index, nobody, has_entry, with_key}
-
-pub ties : (p q : ℕ) → is_eq (nat_cmp p q) ≡ nat_eq p q
-ties p q = grind (arith, nat_tests)
-
-flips : (p q : ℕ) → nat_eq p q ≡ nat_eq q p
-flips p q = grind (arith, nat_tests)
 
 -- what a look-up in the tree finds
 abbrev pub look : List (ℕ × Writers) → ℕ → Option Writers
@@ -35,12 +30,12 @@ same_index m n h = same_map nat_cmp_total nat_cmp-IsAntisymmetric m n h
 
 -- the writers of a key after others are put there
 pub entry-put : (m : Index) (p q : ℕ) (w : Writers) → get (insert m p w) q ≡ cond (nat_eq p q) (Some w) (get m q)
-entry-put m p q w = get-insert nat_cmp_total m p w q ∙ ap (λ (b : Bool). cond b (Some w) (get m q)) (ties q p ∙ flips q p)
+entry-put m p q w = get-insert nat_cmp_total m p w q ∙ ap (λ (b : Bool). cond b (Some w) (get m q)) (is_eq-nat_cmp q p ∙ nat_eq-sym q p)
 
 pub entries_put : (es fs : List (ℕ × Writers)) (p : ℕ) (w : Writers) → ((q : ℕ) → look fs q ≡ cond (is_at (nat_cmp p) q) (Some w) (look es q)) →
     from_entries {R = nat_cmp} fs ≡ insert (from_entries es) p w
 entries_put es fs p w h =
-    same_index _ _ (λ q. get_entry fs q ∙ (h q ∙ (ap (λ (b : Bool). cond b (Some w) (look es q)) (ties p q)
+    same_index _ _ (λ q. get_entry fs q ∙ (h q ∙ (ap (λ (b : Bool). cond b (Some w) (look es q)) (is_eq-nat_cmp p q)
     ∙ sym (entry-put (from_entries es) p q w ∙ ap (cond (nat_eq p q) (Some w)) (get_entry es q)))))
 
 -- an entry that was there, and one that wasn't
@@ -55,7 +50,7 @@ pub change_there : (es fs : List (ℕ × Writers)) (key k : Key) (was now : Writ
     ((q : ℕ) → look fs q ≡ cond (is_at (nat_cmp key.0) q) (Some now) (look es q)) →
     get (from_entries {R = nat_cmp} fs) k.0 ≡ cond (same_key key k) (map_some f (get (from_entries {R = nat_cmp} es) k.0)) (get (from_entries {R = nat_cmp} es) k.0)
 change_there es fs key k was now f there made h =
-    get_entry fs k.0 ∙ (h k.0 ∙ (ap (λ (b : Bool). cond b (Some now) (look es k.0)) (ties key.0 k.0) ∙ (by_key (same_key key k) refl
+    get_entry fs k.0 ∙ (h k.0 ∙ (ap (λ (b : Bool). cond b (Some now) (look es k.0)) (is_eq-nat_cmp key.0 k.0) ∙ (by_key (same_key key k) refl
     ∙ ap (λ (o : Option Writers). cond (same_key key k) (map_some f o) o) (sym (get_entry es k.0)))))
   where
     by_key : (b : Bool) → same_key key k ≡ b → cond b (Some now) (look es k.0) ≡ cond b (map_some f (look es k.0)) (look es k.0)

@@ -2,6 +2,7 @@
 use Rattle.std.proofs.Common.{◌≡◌, ℕ, ◌⊎◌, Bool, true, false, cond, is_some, Option, Some, None, List, inl, inr, refl, sym, ap, ◌∙◌, subst}
 use Rattle.std.specs.FinMap.{get, insert}
 use Rattle.std.proofs.lemmas.Bool.{cond-true, cond-false, cases_Bool, eqb-true}
+use Rattle.std.proofs.lemmas.Option.{same_Some}
 use Rattle.mdb_base.specs.declared.names.Key.{Key}
 use Rattle.mdb_base.specs.declared.names.Tid.{Tid}
 use Rattle.mdb_base.specs.Names.{same_tid, same_key}
@@ -10,7 +11,6 @@ use Rattle.mdb_base.proofs.NameLaws.{same_tid-equal, same_tid-refl, same_key-ref
 use Rattle.fed_rules.specs.Runs.{Access, Run}
 use Rattle.fed_rules.specs.Replies.{writes, has_written}
 use Rattle.run_book.specs.declared.rival.Rival.{Rival}
-use Rattle.run_book.proofs.Ages.{some_inj}
 use Rattle.validation_engine.specs.declared.index.Writers.{Writers}
 use Rattle.validation_engine.specs.declared.index.Change.{Change}
 use Rattle.validation_engine.specs.Index.{Index, nobody, writers_at, sealed_at, last_at, has_entry, with_key, changed_by, IsChanged}
@@ -26,7 +26,7 @@ IsUnsealed o = (key : Key) (n : ℕ) → IsSealedWriter o key n → ⊥
 
 pub unsealed_live : (o : Option Run) (run : Run) → o ≡ Some run → run.sealed ≡ None → IsUnsealed o
 unsealed_live o run at live key n w =
-    let same = some_inj w.run run (sym w.at ∙ at) in
+    let same = same_Some w.run run (sym w.at ∙ at) in
     let bad : Some n ≡ None = sym w.sealed ∙ (ap (λ (r : Run). r.sealed) same ∙ live) in cc
 
 pub unsealed_none : (o : Option Run) → o ≡ None → IsUnsealed o
@@ -104,10 +104,6 @@ pub last-changed : (change : Change) (acts : List Access) (old new : Index) (key
     last_at new key ≡ cond (some_of (writes key) acts) (changed_by change (writers_at old key)).last (last_at old key)
 last-changed change acts old new key changed has = ap (λ (w : Writers). w.last) (writers-changed change acts old new key changed has) ∙ cond_last (some_of (writes key) acts) _ _
 
-pub cond_same : {A : Type 0} (b : Bool) (x : A) → cond b x x ≡ x
-cond_same true x = refl
-cond_same false x = refl
-
 -- a change makes and takes no entry
 pub entries-changed : (change : Change) (acts : List Access) (old new : Index) (key : Key) → IsChanged change acts old new → has_entry old key ≡ true → has_entry new key ≡ true
 entries-changed change acts old new key changed has = ap (λ (o : Option Writers). is_some o) (changed key) ∙ (by_wrote (some_of (writes key) acts) (get old key.0) ∙ has)
@@ -144,7 +140,7 @@ module _ (runs now : Tid → Option Run) (t : Tid) (others : (u : Tid) → same_
         let w = are.there key u k kept.1 in
         elim (cases_Bool (same_tid t u)) [
           | inl e ↦
-              let same = some_inj w.run run (sym w.at ∙ (ap (λ (x : Tid). runs x) (sym (same_tid-equal t u e)) ∙ at)) in
+              let same = same_Some w.run run (sym w.at ∙ (ap (λ (x : Tid). runs x) (sym (same_tid-equal t u e)) ∙ at)) in
               let bad : false ≡ true = sym kept.0 ∙ (ap (λ (r : Run). has_written key r) (sym same) ∙ w.wrote) in cc
           | inr e ↦ writer_as _ _ key k (sym (others u e)) w
         ];
@@ -164,7 +160,7 @@ module _ (runs now : Tid → Option Run) (t : Tid) (others : (u : Tid) → same_
       not_both : (key : Key) (u : Tid) (k : ℕ) → same_tid t u ≡ false → sealed_at m key ≡ Some (record { tid = u; rank = k }) → (b : Bool) → has_written key run ≡ b → b ≡ false
       not_both key u k e stands true done =
           let mine = are.back key t n (record { run = run; at = at; sealed = sealed; wrote = done }) in
-          let one : t ≡ u = ap (λ (r : Rival). r.tid) (some_inj _ _ (sym mine ∙ stands)) in
+          let one : t ≡ u = ap (λ (r : Rival). r.tid) (same_Some _ _ (sym mine ∙ stands)) in
           let bad : true ≡ false = sym (same_tid-refl t) ∙ (ap (λ (x : Tid). same_tid t x) one ∙ e) in cc
       not_both key u k e stands false done = refl
 
@@ -178,8 +174,8 @@ module _ (runs now : Tid → Option Run) (t : Tid) (others : (u : Tid) → same_
         elim (cases_Bool (same_tid t u)) [
           | inl e ↦
               let here = same_tid-equal t u e in
-              let same = some_inj w.run sealed_run (sym w.at ∙ (ap (λ (x : Tid). now x) (sym here) ∙ after)) in
-              let number : n ≡ k = some_inj n k (sym sealed ∙ (ap (λ (r : Run). r.sealed) (sym same) ∙ w.sealed)) in
+              let same = same_Some w.run sealed_run (sym w.at ∙ (ap (λ (x : Tid). now x) (sym here) ∙ after)) in
+              let number : n ≡ k = same_Some n k (sym sealed ∙ (ap (λ (r : Run). r.sealed) (sym same) ∙ w.sealed)) in
               let done : has_written key run ≡ true = sym (same_keys key) ∙ (ap (λ (r : Run). has_written key r) (sym same) ∙ w.wrote) in
               put key ∙ (cond-true _ _ _ done
               ∙ (ap (λ (x : Tid). Some (record { tid = x; rank = n })) here ∙ ap (λ (x : ℕ). Some (record { tid = u; rank = x })) number))
@@ -198,7 +194,7 @@ module _ (runs now : Tid → Option Run) (t : Tid) (others : (u : Tid) → same_
 
       by_wrote : (key : Key) (u : Tid) (k : ℕ) (b : Bool) → has_written key run ≡ b → cond b (Some (record { tid = t; rank = n })) (sealed_at m key) ≡ Some (record { tid = u; rank = k }) → IsSealedWriter (now u) key k
       by_wrote key u k true done stands =
-          let r = some_inj _ _ stands in
+          let r = same_Some _ _ stands in
           let here : t ≡ u = ap (λ (x : Rival). x.tid) r in
           let number : n ≡ k = ap (λ (x : Rival). x.rank) r in
           subst (λ (x : Tid). IsSealedWriter (now x) key k) here (subst (λ (x : ℕ). IsSealedWriter (now t) key x) number (mine key done))

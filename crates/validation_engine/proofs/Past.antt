@@ -1,6 +1,7 @@
 -- The last writer of a key that ended by commit: below every sealed one, and the last of those that ended since a run began.
 use Rattle.std.proofs.Common.{◌≡◌, ℕ, ◌+◌, ◌<◌, ◌≤◌, Bool, true, false, ◌||◌, cond, Option, Some, List, [], ◌∷◌, inl, inr, refl, sym, ap, ◌∙◌, subst, arith}
 use Rattle.std.proofs.lemmas.Bool.{cond-true, cond-false, cases_Bool, eqb-true}
+use Rattle.std.proofs.lemmas.Option.{same_Some}
 use Rattle.mdb_base.specs.declared.names.Engine.{Engine}
 use Rattle.mdb_base.specs.declared.names.Engine.TheVariants.{Validation}
 use Rattle.mdb_base.specs.declared.names.Key.{Key}
@@ -15,7 +16,7 @@ use Rattle.engine_laws.specs.Unended.{IsClear, has_write}
 use Rattle.engine_laws.proofs.Counted.{counted, counter_grows}
 use Rattle.engine_laws.proofs.Runs.{Own, begins, stays, got, wrote, takes, seals, own, at_line, number_is}
 use Rattle.engine_laws.proofs.ValidationRuns.{validation_sound}
-use Rattle.run_book.proofs.Ages.{own_or_other, through_line, age-le, some_inj}
+use Rattle.run_book.proofs.Ages.{own_or_other, through_line, age-le}
 use Rattle.run_book.proofs.Members.{Is}
 use Rattle.validation_engine.specs.declared.index.Ended.{Ended}
 use Rattle.validation_engine.specs.Stands.{IsSealedWriter, ended_last, last_writer}
@@ -110,7 +111,7 @@ last_past start (Commits tid ∷ older) kind starts right key ended is =
     by_wrote : (b : Bool) → has_written key right.0.0 ≡ b → cond b (Some (record { tid = right.0.0.tid; number = number right.0.0; moment = counter start older })) (last_writer start older key) ≡ Some ended →
         (last_writer start older key ≡ Some ended → IsPast start older key ended) → IsPast start (Commits tid ∷ older) key ended
     by_wrote true done is rest =
-        subst (λ (e : Ended). IsPast start (Commits tid ∷ older) key e) (some_inj _ ended is) (past_committed start older tid right.0.0 right.0.1 key kind starts right.1 right.0.2 done)
+        subst (λ (e : Ended). IsPast start (Commits tid ∷ older) key e) (same_Some _ ended is) (past_committed start older tid right.0.0 right.0.1 key kind starts right.1 right.0.2 done)
     by_wrote false done is rest = past_on start older (Commits tid) key ended kind right.0 (rest is)
 last_past start (line ∷ older) kind starts right key ended is = past_on start older line key ended kind right.0 (last_past start older kind starts right.1 key ended is)
 
@@ -141,7 +142,7 @@ since_committed since last age moment key run old above h = by_wrote (has_writte
 
     by_wrote : (b : Bool) → has_written key run ≡ b → IsLastSince (run ∷ since) (cond b (Some (record { tid = run.tid; number = number run; moment = moment })) last) age key
     by_wrote true done = record {
-      there = λ ended is le. let same = some_inj now ended is in (run, inl refl, done, ap (λ (e : Ended). e.tid) same, ap (λ (e : Ended). e.number) same);
+      there = λ ended is le. let same = same_Some now ended is in (run, inl refl, done, ap (λ (e : Ended). e.tid) same, ap (λ (e : Ended). e.number) same);
       below = λ y member also. elim member [
         | inl same ↦ (now, refl, old, (let n : number run ≡ number y = ap (λ (r : Run). number r) same in omega arith), λ e. ap (λ (r : Run). r.tid) (sym same))
         | inr more ↦
@@ -167,7 +168,7 @@ last_since start (Begins tid n ∷ older) kind starts right key t me at =
       | inl other ↦ subst (λ (runs : List Run). IsLastSince runs (last_writer start older key) me.age key) (sym (cond-false _ _ _ other.0)) (last_since start older kind starts right.1 key t me other.1)
       | inr mine ↦
           let mine_is : same_tid tid t ≡ true = ap (λ (u : Tid). same_tid tid u) (sym mine.0) ∙ same_tid-refl tid in
-          let age : n ≡ me.age = ap (λ (r : Run). r.age) (some_inj _ me mine.1) in
+          let age : n ≡ me.age = ap (λ (r : Run). r.age) (same_Some _ me mine.1) in
           subst (λ (runs : List Run). IsLastSince runs (last_writer start older key) me.age key) (sym (cond-true _ _ _ mine_is))
           (record {
             there = λ ended is le.

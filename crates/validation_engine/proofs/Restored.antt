@@ -3,33 +3,30 @@ use Rattle.std.proofs.Common.{◌≡◌, ℕ, ◌⊎◌, inl, inr, Bool, true, f
 use Rattle.std.specs.Ordering.{nat_cmp}
 use Rattle.std.specs.FinMap.{empty, get, insert, get-empty}
 use Rattle.std.proofs.lemmas.Bool.{cond-true, cond-false}
+use Rattle.std.proofs.lemmas.Option.{same_Some}
 use Rattle.mdb_base.specs.declared.names.Engine.TheVariants.{Validation}
 use Rattle.mdb_base.specs.declared.names.Key.{Key}
 use Rattle.mdb_base.specs.declared.names.Tid.{Tid}
 use Rattle.mdb_base.specs.declared.rows.Put.{Put}
 use Rattle.mdb_base.specs.Names.{same_tid, same_key}
 use Rattle.mdb_base.specs.Rising.{IsRising}
-use Rattle.mdb_base.specs.Words.{Each, some_of, or_else}
-use Rattle.mdb_base.proofs.NameLaws.{same_key-equal, same_tid-equal, same_tid-refl, same_tid-sym}
+use Rattle.mdb_base.specs.Words.{Each, or_else}
+use Rattle.mdb_base.proofs.NameLaws.{same_key-equal, same_tid-equal, same_tid-refl}
 use Rattle.fed_rules.specs.declared.runs.Kept.{Kept}
-use Rattle.fed_rules.specs.Runs.{Run, restored, restored_at, written, run_at}
+use Rattle.fed_rules.specs.Runs.{Run, restored, restored_at, run_at}
 use Rattle.fed_rules.specs.Replies.{has_written, writes}
 use Rattle.fed_rules.specs.EngineLines.{AreApart, AllApart, IsStart, has_row}
 use Rattle.engine_contract.specs.Calls.{start_from}
+use Rattle.engine_laws.proofs.Conflicts.{written_rows}
+use Rattle.engine_laws.proofs.RunLines.{restored_one}
 use Rattle.run_book.specs.declared.rival.Rival.{Rival}
 use Rattle.run_book.specs.Book.{started}
-use Rattle.run_book.proofs.Ages.{some_inj}
 use Rattle.run_book.proofs.Carried.{starts_well}
 use Rattle.validation_engine.specs.declared.index.Writers.{Writers}
 use Rattle.validation_engine.specs.declared.engine.ValidationEngine.{ValidationEngine}
 use Rattle.validation_engine.specs.Index.{Index, nobody, sealed_at, last_at, with_rows_sealed, with_restored}
 use Rattle.validation_engine.specs.Stands.{IsSealedWriter, AreSealed, HaveEntries, Stands}
 use Rattle.validation_engine.proofs.Entries.{entry-put}
-
--- the writes of a restored run are the rows of its record
-written_rows : (key : Key) (puts : List Put) → some_of (writes key) (written puts) ≡ has_row key puts
-written_rows key [] = refl
-written_rows key (put ∷ puts) = ap (λ (b : Bool). same_key put.key key || b) (written_rows key puts)
 
 -- the entry of a sealed writer
 abbrev prepared : Rival → Writers
@@ -75,15 +72,6 @@ restored_there (kept ∷ more) m key P before own =
     by_row true = own kept
     by_row false = before
 
--- another one of those in doubt isn't of this attempt
-restored_one : (kept : Kept) (more : List Kept) (u : Tid) → Each (AreApart kept) more → same_tid kept.tid u ≡ true → restored_at more u ≡ None
-restored_one kept [] u apart e = refl
-restored_one kept (other ∷ more) u apart e =
-    cond-false _ _ _ (ap (λ (t : Tid). same_tid other.tid t) (sym (same_tid-equal kept.tid u e)) ∙ other_tid) ∙ restored_one kept more u apart.1 e
-  where
-    other_tid : same_tid other.tid kept.tid ≡ false
-    other_tid = same_tid-sym other.tid kept.tid ∙ apart.0.tids
-
 -- the sealed writer of a key is the one in doubt with a row of the key
 restored_writer : (doubtful : List Kept) (m : Index) (key : Key) (u : Tid) (n : ℕ) → AllApart doubtful → IsSealedWriter (restored_at doubtful u) key n →
     get (with_restored doubtful m) key.0 ≡ Some (prepared (record { tid = u; rank = n }))
@@ -95,9 +83,9 @@ restored_writer (kept ∷ more) m key u n apart w =
     by_tid : (b : Bool) → same_tid kept.tid u ≡ b → cond b (Some (restored kept)) (restored_at more u) ≡ Some w.run →
         (restored_at more u ≡ Some w.run → get (with_restored (kept ∷ more) m) key.0 ≡ Some (prepared (record { tid = u; rank = n }))) → get (with_restored (kept ∷ more) m) key.0 ≡ Some (prepared (record { tid = u; rank = n }))
     by_tid true e is rest =
-        let one = some_inj (restored kept) w.run is in
+        let one = same_Some (restored kept) w.run is in
         let has : has_row key kept.writes ≡ true = sym (written_rows key kept.writes) ∙ (ap (λ (r : Run). has_written key r) one ∙ w.wrote) in
-        let number : kept.number ≡ n = some_inj kept.number n (ap (λ (r : Run). r.sealed) one ∙ w.sealed) in
+        let number : kept.number ≡ n = same_Some kept.number n (ap (λ (r : Run). r.sealed) one ∙ w.sealed) in
         more-other kept more _ key apart.0 has
         ∙ (rows-sealed (record { tid = kept.tid; rank = kept.number }) kept.writes m key ∙ (cond-true _ _ _ has
         ∙ (ap (λ (t : Tid). Some (prepared (record { tid = t; rank = kept.number }))) (same_tid-equal kept.tid u e)
@@ -122,7 +110,7 @@ writer_there (kept ∷ more) m key apart u n is =
     by_row : (b : Bool) → has_row key kept.writes ≡ b → (or_else (cond b (Some (prepared (record { tid = kept.tid; rank = kept.number }))) (get m key.0)) nobody).sealed ≡ Some (record { tid = u; rank = n }) →
         (sealed_at m key ≡ Some (record { tid = u; rank = n })) ⊎ IsSealedWriter (restored_at (kept ∷ more) u) key n
     by_row true has is =
-        let r = some_inj _ _ is in
+        let r = same_Some _ _ is in
         let here : kept.tid ≡ u = ap (λ (x : Rival). x.tid) r in
         let number : kept.number ≡ n = ap (λ (x : Rival). x.rank) r in
         inr (record {
@@ -159,7 +147,7 @@ restored_number [] u run at = cc
 restored_number (kept ∷ more) u run at = by_tid (same_tid kept.tid u) at (restored_number more u run)
   where
     by_tid : (b : Bool) → cond b (Some (restored kept)) (restored_at more u) ≡ Some run → (restored_at more u ≡ Some run → (n : ℕ) × (run.sealed ≡ Some n)) → (n : ℕ) × (run.sealed ≡ Some n)
-    by_tid true is rest = (kept.number, ap (λ (r : Run). r.sealed) (sym (some_inj (restored kept) run is)))
+    by_tid true is rest = (kept.number, ap (λ (r : Run). r.sealed) (sym (same_Some (restored kept) run is)))
     by_tid false is rest = rest is
 
 pub restored_entries : (doubtful : List Kept) → AllApart doubtful → HaveEntries (with_restored doubtful empty) (restored_at doubtful)

@@ -1,6 +1,7 @@
 -- Who makes a key bad by the index is who makes it bad by the rule.
 use Rattle.std.proofs.Common.{◌≡◌, ℕ, ◌≤◌, nat_lt, Bool, true, false, not, ◌&&◌, cond, is_some, Option, Some, None, List, inl, inr, refl, sym, ap, ◌∙◌, arith}
 use Rattle.std.proofs.lemmas.Bool.{and_parts, and_from, ltb-true, ltb-false}
+use Rattle.std.proofs.lemmas.Option.{same_Some}
 use Rattle.mdb_base.specs.declared.names.Engine.TheVariants.{Validation}
 use Rattle.mdb_base.specs.declared.names.Key.{Key}
 use Rattle.mdb_base.specs.declared.names.Tid.{Tid}
@@ -13,7 +14,6 @@ use Rattle.fed_rules.specs.EngineLines.{IsRight, IsStart}
 use Rattle.engine_laws.proofs.Runs.{tid_is, number_is}
 use Rattle.run_book.specs.declared.rival.Rival.{Rival}
 use Rattle.run_book.specs.Rivals.{rival_by}
-use Rattle.run_book.proofs.Ages.{some_inj}
 use Rattle.run_book.proofs.Best.{greatest-is, greatest-none, greatest-empty}
 use Rattle.run_book.proofs.Members.{Is, is-append, is-append_left, is-append_right, is-those, those-is}
 use Rattle.run_book.proofs.Unended.{unended-is, is-unended}
@@ -73,7 +73,7 @@ module _ (index : Index) (start : Start) (lines : List EngineLine) (kind : start
       by_test : (b : Bool) → same_tid run.tid me.tid ≡ b → not b ≡ true
       by_test true e =
           let mine : u ≡ me.tid = sym (tid_is start lines right u run there) ∙ same_tid-equal run.tid me.tid e in
-          let same = some_inj run me (sym there ∙ (ap (λ (t : Tid). run_at start lines t) mine ∙ at)) in
+          let same = same_Some run me (sym there ∙ (ap (λ (t : Tid). run_at start lines t) mine ∙ at)) in
           let bad : Some n ≡ None = sym sealed ∙ (ap (λ (r : Run). r.sealed) same ∙ live) in cc
       by_test false e = refl
 
@@ -116,7 +116,7 @@ module _ (index : Index) (start : Start) (lines : List EngineLine) (kind : start
               let le = e.4 in
               (omega arith, λ same. absurd (omega arith))
           | inr sealed ↦
-              let one = some_inj _ _ (sym (sealed_is key y sealed) ∙ is) in
+              let one = same_Some _ _ (sym (sealed_is key y sealed) ∙ is) in
               let same : number y ≡ n = ap (λ (r : Rival). r.rank) one in
               (omega arith, λ e. ap (λ (r : Rival). r.tid) one)
         ];
@@ -137,7 +137,7 @@ module _ (index : Index) (start : Start) (lines : List EngineLine) (kind : start
       same_ended : (y : Run) → Is y (spoilers start lines me key) → (me.age ≤ ended.moment) × (number y ≤ ended.number) × (number y ≡ ended.number → y.tid ≡ ended.tid)
       same_ended y member =
           let e = ended_is key y (none_sealed key y none member) in
-          let one : e.1 ≡ ended = some_inj e.1 ended (sym e.2 ∙ is) in
+          let one : e.1 ≡ ended = same_Some e.1 ended (sym e.2 ∙ is) in
           let moment = ap (λ (x : Ended). x.moment) one in
           let numbered = ap (λ (x : Ended). x.number) one in
           let old = e.3 in

@@ -31,16 +31,15 @@ use Rattle.fed_rules.specs.declared.messages.Sent.{Sent}
 use Rattle.fed_rules.specs.Disk.{longest}
 use Rattle.fed_rules.specs.Happenings.{Trip, is_down, quiet, stopped, tripped}
 use Rattle.fed_rules.specs.Coord.{aborts, ack_counts, acked_while, again_while, all_outstanding, all_voted, answered, asked_while, commits_it, coord_line, decide_to, defers_all, defers_some, did_counts, did_reply, held_back, is_member, is_prepare, is_take, lacks_initiation, last_vote, let_through, may_take, missing, news, news_at, of_ack, of_again, of_back, of_did, of_fate, of_go, of_inquiry, of_late, of_take, of_vote, send_due, sends_all, sends_dues, sends_news, unless_tripped, vote_tickets, vote_counted, vote_counts, yes_vote, of_check, checkpoint}
-use Rattle.fed_rules.specs.CoordPast.{CoordHappening, CoordPast, Standing, Undecided, Decided, Gone, disk, is_open, count_at, epoch_at, has_acked, has_step_left, has_ticket_at, next_step, outstanding, participants, prepare_at, reads, take_at, vote_at, work_at, program, records, standing, trip, undecided_of, visits}
+use Rattle.fed_rules.specs.CoordPast.{CoordHappening, CoordPast, Standing, Undecided, Decided, Gone, disk, is_open, has_acked, outstanding, participants, records, standing, trip, undecided_of}
 use Rattle.fed_rules.specs.CoordRecords.{commits, committed_of, named, required_of, coord_frame, is_nobody, coord_payload}
 use Rattle.fed_rules.specs.Policies.{Policy}
 use Rattle.site_history.proofs.Restarts.{each_found_from}
 use Rattle.order_laws.specs.Chains.{In}
 use Rattle.order_laws.proofs.Lists.{each_from, those_in}
-use Rattle.order_laws.proofs.Alike.{some_parts}
 use Rattle.presumptions.specs.Table.{acks}
-use Rattle.mdb_base.specs.Programs.{plain_act}
 use Rattle.fed_rules.specs.Site_of.{due_site}
+use Rattle.coord_laws.proofs.MadeLines.{outstanding_site}
 
 -- the sites of a table
 abbrev pub sites_in : List Participant → List SiteId
@@ -58,35 +57,6 @@ ComesFrom protocols event = Unit {0}
 -- the records name participants of the table
 abbrev pub NamesAmong : List Participant → CoordPast → Type 0
 NamesAmong protocols past = (tid : Tid) (ms : List Participant) → named protocols (records past) tid ≡ Some ms → Each (λ (m : Participant). In m.site (sites_in protocols)) ms
-
-due_same : (d due : Due) → Some d ≡ Some due → due_site due ≡ due_site d
-due_same d due e = let p : d ≡ due = some_parts e in sym (ap due_site p)
-
--- what is outstanding names its site
-work_site : (past : CoordPast) (tid : Tid) (site : SiteId) (step : Option Step) (due : Due) → work_at past tid site step ≡ Some due → due_site due ≡ site
-work_site past tid site None due e = cc
-work_site past tid site (Some step) due e = by_test (same_site step.site site) e
-  where
-    by_test : (t : Bool) → cond t (Some (Due_is.Work site (epoch_at past tid site) (count_at past tid site) (plain_act (reads past tid) step.act))) None ≡ Some due → due_site due ≡ site
-    by_test true e = due_same _ due e
-    by_test false e = cc
-
-prepare_site : (past : CoordPast) (tid : Tid) (site : SiteId) (due : Due) → prepare_at past tid site ≡ Some due → due_site due ≡ site
-prepare_site past tid site due e = by_test (is_none (vote_at past tid site)) e
-  where
-    by_test : (t : Bool) → cond t (Some (Due_is.Prepare site (epoch_at past tid site) (count_at past tid site))) None ≡ Some due → due_site due ≡ site
-    by_test true e = due_same _ due e
-    by_test false e = cc
-
-outstanding_site : (past : CoordPast) (tid : Tid) (site : SiteId) (due : Due) → outstanding past tid site ≡ Some due → due_site due ≡ site
-outstanding_site past tid site due e =
-    by_tests (visits site (program past tid)) (has_step_left past tid site) (has_ticket_at past tid site) e
-  where
-    by_tests : (v l t : Bool) → cond v (cond l (work_at past tid site (next_step past tid)) (cond t (prepare_at past tid site) (take_at past tid site))) None ≡ Some due → due_site due ≡ site
-    by_tests true true t e = work_site past tid site (next_step past tid) due e
-    by_tests true false true e = prepare_site past tid site due e
-    by_tests true false false e = due_same _ due e
-    by_tests false l t e = cc
 
 pub in_sites : (m : Participant) (ms : List Participant) → In m ms → In m.site (sites_in ms)
 in_sites m [] i = absurd i

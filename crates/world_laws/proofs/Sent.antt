@@ -1,16 +1,16 @@
 -- The messages of a story: they are about attempts that were begun, and of declared sites.
-use Rattle.std.proofs.Common.{◌≡◌, Bool, true, false, cond, Option, Some, None, List, [], ◌∷◌, ◌++◌, map, refl, sym, ◌∙◌, ap, ap₂, subst, inl, inr, ◌⊎◌, IsSome}
+use Rattle.std.proofs.Common.{◌≡◌, Bool, true, false, cond, Option, Some, None, List, [], ◌∷◌, ◌++◌, map, refl, sym, ◌∙◌, ap, ap₂, subst, inl, inr, ◌⊎◌}
 use Rattle.std.specs.Prelude.{nat_lt}
 use Rattle.std.proofs.lemmas.List.{append-nil}
-use Rattle.mdb_base.specs.declared.acts.Step.{Step}
 use Rattle.mdb_base.specs.declared.names.SiteId.{SiteId}
 use Rattle.mdb_base.specs.declared.names.Tid.{Tid}
 use Rattle.mdb_base.specs.Names.{same_site}
 use Rattle.mdb_base.specs.Words.{Each, inserted, those}
 use Rattle.mdb_base.proofs.ListLaws.{each_map, append_each}
+use Rattle.mdb_base.proofs.NameLaws.{same_site-equal, same_site-refl}
+use Rattle.mdb_base.proofs.JoinLaws.{some_steps}
 use Rattle.order_laws.specs.Chains.{In}
 use Rattle.order_laws.proofs.Lists.{each_at, each_from}
-use Rattle.order_laws.proofs.Names.{same_site_alike, same_site_self}
 use Rattle.presumptions.specs.declared.Participant.{Participant}
 use Rattle.fed_rules.specs.declared.commands.Command.{Command}
 use Rattle.fed_rules.specs.declared.events.CoordEvent.{CoordEvent}
@@ -27,15 +27,17 @@ use Rattle.fed_rules.specs.Coord.{coord_line}
 use Rattle.fed_rules.specs.CoordPast.{CoordHappening, CoordPast, begins, outstanding, or_steps, outstanding_at, program, program_in, participants, visits}
 use Rattle.fed_rules.specs.Scenarios.{home_in, home_of, items_of, policy, protocols, protocols_in}
 use Rattle.fed_rules.specs.SiteRecords.{Home}
-use Rattle.fed_rules.specs.Story.{Story, Happened, AtSite, AtCoordinator, Nowhere, coord_past, happens, sends_from, sends_to, sent_from, sent_to, story_of, with_coordinator}
+use Rattle.fed_rules.specs.Story.{Story, Happened, AtSite, AtCoordinator, Nowhere, coord_past, happens, sends_to, sent_from, sent_to, story_of, with_coordinator}
+use Rattle.fed_rules.specs.Site_of.{about}
 use Rattle.coord_laws.proofs.Begun.{begun_in}
 use Rattle.coord_laws.proofs.Made.{IsAsked}
 use Rattle.coord_laws.proofs.MadeLines.{coord_made}
 use Rattle.coord_laws.proofs.Past.{records_name}
 use Rattle.coord_laws.proofs.Sound.{IsBegun}
 use Rattle.commit_laws.proofs.Agreed.{agreed, begun_global}
-use Rattle.commit_laws.proofs.Links.{CoordCame, Linked, linked, story_made}
-use Rattle.world_laws.specs.Messages.{MessagesAreOfBegunAttempts, MessagesAreOfDeclaredSites, tid_to}
+use Rattle.commit_laws.proofs.Links.{CoordCame, Linked, linked, story_goes_on}
+use Rattle.commit_laws.proofs.Silent.{declared_sends}
+use Rattle.world_laws.specs.Messages.{MessagesAreOfBegunAttempts, MessagesAreOfDeclaredSites}
 use Rattle.world_laws.proofs.Members.{ComesFrom, NamesAmong, SendsAmong, line_among, member_among, sites_in}
 
 -- an attempt with a step was begun
@@ -104,17 +106,13 @@ operations_begun scenario (command ∷ commands) site = by_line (happens scenari
         (each_map _ _ (λ m b. stays_begun x (coord_past story) m b) (sent_to site story) h)
         (to_site _ site x.sends (each_map _ _ (λ sent a. asked_begun (x ∷ coord_past story) sent.site sent.message a) x.sends asks))
 
-some_steps : (o : Option (List Step)) (steps : List Step) → o ≡ Some steps → IsSome o
-some_steps None steps e = cc
-some_steps (Some s) steps e = refl
-
 pub messages_of_begun : MessagesAreOfBegunAttempts
 messages_of_begun scenario commands home message declared i =
     let begun = by_message message i (each_at _ message (sent_to home.site (story_of scenario commands)) (operations_begun scenario commands home.site) i) in
-    let global = begun_global scenario (tid_to message) commands begun in
-    record { begun = begun_in (coord_past (story_of scenario commands)) (tid_to message) begun; global = some_steps _ global.0 global.1 }
+    let global = begun_global scenario (about message) commands begun in
+    record { begun = begun_in (coord_past (story_of scenario commands)) (about message) begun; global = some_steps _ global.0 global.1 }
   where
-    by_message : (m : ToSite) → In m (sent_to home.site (story_of scenario commands)) → OfBegun (coord_past (story_of scenario commands)) m → IsBegun (coord_past (story_of scenario commands)) (tid_to m)
+    by_message : (m : ToSite) → In m (sent_to home.site (story_of scenario commands)) → OfBegun (coord_past (story_of scenario commands)) m → IsBegun (coord_past (story_of scenario commands)) (about m)
     by_message (To.Work tid epoch n act) i b = b
     by_message (To.Take tid epoch n) i b = b
     by_message (To.Prepare tid epoch n) i b = ((agreed scenario home tid commands declared).preparing epoch n i).begun
@@ -154,7 +152,7 @@ homeless (line ∷ lines) items site e i =
     by_test : (b : Bool) → same_site line.site site ≡ b → cond b (Some here) (home_in lines items site) ≡ None → (line.site ≡ site) ⊎ In site (sites_in (protocols_in lines))
         → (home_in lines items site ≡ None → In site (sites_in (protocols_in lines)) → ⊥) → ⊥
     by_test true is e i k = cc
-    by_test false is e (inl same) k = (let self : same_site line.site site ≡ true = ap (λ (s : SiteId). same_site line.site s) (sym same) ∙ same_site_self line.site in let no : true ≡ false = sym self ∙ is in cc)
+    by_test false is e (inl same) k = (let self : same_site line.site site ≡ true = ap (λ (s : SiteId). same_site line.site s) (sym same) ∙ same_site-refl line.site in let no : true ≡ false = sym self ∙ is in cc)
     by_test false is e (inr i) k = k e i
 
 -- and one with a home is
@@ -169,7 +167,7 @@ homed (line ∷ lines) items site home e =
 
     by_test : (b : Bool) → same_site line.site site ≡ b → cond b (Some here) (home_in lines items site) ≡ Some home
         → (home_in lines items site ≡ Some home → In site (sites_in (protocols_in lines))) → (line.site ≡ site) ⊎ In site (sites_in (protocols_in lines))
-    by_test true is e k = inl (same_site_alike line.site site is)
+    by_test true is e k = inl (same_site-equal line.site site is)
     by_test false is e k = inr (k e)
 
 -- what is sent to a site that isn't among these
@@ -180,33 +178,16 @@ none_to ps site (sent ∷ sends) h never = by_test (same_site sent.site site) re
   where
     by_test : (b : Bool) → same_site sent.site site ≡ b → map (λ (s : Sent). s.message) (those (λ (s : Sent). same_site s.site site) sends) ≡ []
         → map (λ (s : Sent). s.message) (cond b (sent ∷ those (λ (s : Sent). same_site s.site site) sends) (those (λ (s : Sent). same_site s.site site) sends)) ≡ []
-    by_test true is rest = absurd (never (subst (λ (s : SiteId). In s (sites_in ps)) (same_site_alike sent.site site is) h.0))
+    by_test true is rest = absurd (never (subst (λ (s : SiteId). In s (sites_in ps)) (same_site-equal sent.site site is) h.0))
     by_test false is rest = rest
 
 -- the records of a story name participants of its table
 names_among : (scenario : Scenario) (commands : List Command) → NamesAmong (protocols scenario) (coord_past (story_of scenario commands))
 names_among scenario commands tid ms e =
     let past = coord_past (story_of scenario commands) in
-    let is = records_name (protocols scenario) (policy scenario) past (story_made scenario commands) tid ms e in
+    let is = records_name (protocols scenario) (policy scenario) past (story_goes_on scenario commands) tid ms e in
     subst (λ (xs : List Participant). Each (λ (m : Participant). In m.site (sites_in (protocols scenario))) xs) (sym is)
     (each_from _ (participants (protocols scenario) past tid) (λ m i. member_among (protocols scenario) past tid m i))
-
--- who sends is declared
-pub declared_sends : (scenario : Scenario) (commands : List Command) (site : SiteId) → home_of scenario site ≡ None → sent_from site (story_of scenario commands) ≡ []
-declared_sends scenario [] site none = refl
-declared_sends scenario (command ∷ commands) site none = by_line (happens scenario story command) (linked scenario story command) (declared_sends scenario commands site none)
-  where
-    story : Story
-    story = story_of scenario commands
-
-    by_line : (happened : Happened) → Linked scenario story happened → sent_from site story ≡ [] → sent_from site story ++ sends_from site happened ≡ []
-    by_line (Nowhere answer) l e = append-nil (sent_from site story) ∙ e
-    by_line (AtCoordinator x) l e = append-nil (sent_from site story) ∙ e
-    by_line (AtSite at x) l e = by_test (same_site at site) refl
-      where
-        by_test : (b : Bool) → same_site at site ≡ b → sent_from site story ++ cond b x.sends [] ≡ []
-        by_test true is = (let same = same_site_alike at site is in let found = sym none ∙ ap (home_of scenario) (sym same) ∙ l.next.1 in cc)
-        by_test false is = append-nil (sent_from site story) ∙ e
 
 -- a line of the coordinator sends to declared sites
 pub coordinator_sends : (scenario : Scenario) (commands : List Command) (event : CoordEvent) → CoordCame scenario (story_of scenario commands) event

@@ -7,7 +7,6 @@ use Rattle.fed_rules.specs.declared.commands.Command.{Command}
 use Rattle.fed_rules.specs.declared.events.SiteEvent.{SiteEvent}
 use Rattle.fed_rules.specs.declared.events.SiteEvent.TheVariants as Ev
 use Rattle.fed_rules.specs.declared.messages.ToSite.{ToSite}
-use Rattle.fed_rules.specs.declared.messages.ToSite.TheVariants as To
 use Rattle.fed_rules.specs.declared.scenario.Scenario.{Scenario}
 use Rattle.fed_rules.specs.CoordPast.{begun_tids}
 use Rattle.fed_rules.specs.Scenarios.{global_program, home_of}
@@ -15,13 +14,7 @@ use Rattle.fed_rules.specs.Site.{site_line}
 use Rattle.fed_rules.specs.SitePast.{SitePast}
 use Rattle.fed_rules.specs.SiteRecords.{Home}
 use Rattle.fed_rules.specs.Story.{coord_past, sent_from, sent_to, story_of}
-
--- the attempt that a message to a site is about
-abbrev pub tid_to : ToSite → Tid
-tid_to (To.Work tid epoch n act) = tid
-tid_to (To.Take tid epoch n) = tid
-tid_to (To.Prepare tid epoch n) = tid
-tid_to (To.Decide tid decision) = tid
+use Rattle.fed_rules.specs.Site_of.{about}
 
 -- an attempt that was begun, of a global transaction
 pub record IsBegunGlobal (scenario : Scenario) (commands : List Command) (tid : Tid) : Type 0 where
@@ -31,7 +24,7 @@ pub record IsBegunGlobal (scenario : Scenario) (commands : List Command) (tid : 
 abbrev pub MessagesAreOfBegunAttempts : Type 0
 MessagesAreOfBegunAttempts =
     (scenario : Scenario) (commands : List Command) (home : Home) (message : ToSite) → home_of scenario home.site ≡ Some home
-    → In message (sent_to home.site (story_of scenario commands)) → IsBegunGlobal scenario commands (tid_to message)
+    → In message (sent_to home.site (story_of scenario commands)) → IsBegunGlobal scenario commands (about message)
 
 -- where a site isn't declared, there are no messages to or from it
 abbrev pub MessagesAreOfDeclaredSites : Type 0

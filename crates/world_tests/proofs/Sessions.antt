@@ -1,5 +1,5 @@
 -- What the tests' worlds stand for.
-use Rattle.std.proofs.Common.{◌≡◌, ℕ, zero, suc, ◌+◌, ◌≤◌, true, Option, Some, None, Result, Ok, Err, OnOk, IfOk, List, [], ◌∷◌, ◌++◌, length, map, slice_get, refl, sym, ◌∙◌, ap, arith}
+use Rattle.std.proofs.Common.{◌≡◌, ℕ, zero, suc, ◌+◌, ◌≤◌, true, Option, Some, None, Result, Ok, Err, OnOk, IfOk, List, [], ◌∷◌, length, map, slice_get, refl, sym, ◌∙◌, ap, arith}
 use Rattle.mdb_base.specs.Words.{Each}
 use Rattle.fed_rules.specs.declared.commands.Command.{Command}
 use Rattle.fed_rules.specs.declared.scenario.Scenario.{Scenario}
@@ -32,8 +32,3 @@ pub are_empty : (disks : List MemDisk) → Each (λ disk. mem_size disk ≡ 0) d
 are_empty [] h place disk e = cc
 are_empty (d ∷ disks) h zero disk e = let same : mem_seen d ≡ disk = cc in sym (ap (λ (s : Seen). s.size) same) ∙ h.0
 are_empty (d ∷ disks) h (suc place) disk e = are_empty disks h.1 place disk e
-
--- one disk more
-pub each_pushed : {A : Type 0} (P : A → Type 0) (xs : List A) (x : A) → Each P xs → P x → Each P (xs ++ x ∷ [])
-each_pushed P [] x h p = (p, tt)
-each_pushed P (y ∷ xs) x h p = (h.0, each_pushed P xs x h.1 p)

@@ -3,4 +3,26 @@
 #![tactic(auto)]
 
 #[cfg(test)]
+mod coord_hosts;
+#[cfg(test)]
+mod deeds;
+#[cfg(test)]
+mod drivers;
+#[cfg(test)]
+mod lines;
+#[cfg(test)]
+mod links;
+#[cfg(test)]
+mod locked_links;
+#[cfg(test)]
+mod marks;
+#[cfg(test)]
+mod playing;
+#[cfg(test)]
+mod rings;
+#[cfg(test)]
+mod site_hosts;
+#[cfg(test)]
+mod traces;
+#[cfg(test)]
 mod worlds;

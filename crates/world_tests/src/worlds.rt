@@ -5,14 +5,12 @@ ghost use Rattle.world_tests.specs.Sessions.{AreNew, IsOfCommands};
 
 mod conservative;
 mod failing;
-mod same_lines;
 mod sessions;
 
 use fed_rules::{Command, Scenario};
 use fed_world::{World, WorldErr};
 use journal_disk::MemDisk;
 use mdb_base::Memory;
-use same_lines::same_line;
 use scenario_text::read_scenario;
 use std::alloc::Global;
 use std::process::Abort;
@@ -61,7 +59,7 @@ fn step(
 fn has_front(rt: &impl Abort, alloc: Global, world: &World, script: &str) -> Result<(), Fail> {
     for (made, text) in world.lines().iter().zip(script.lines()) {
         let line = read_line(alloc, text.as_bytes())?;
-        assert!(rt; same_line(made, &line), "{text}");
+        assert!(rt; *made == line, "{text}");
     }
     Ok(())
 }
@@ -99,7 +97,7 @@ fn carry_out(
         }
         count += 1;
         match world.lines().last() {
-            Some(made) => assert!(rt; same_line(made, &line), "{text}"),
+            Some(made) => assert!(rt; *made == line, "{text}"),
             None => return Err(Fail::from("a command has a line")),
         }
     }

@@ -5,7 +5,7 @@ ghost use Rattle.journal_disk.specs.MemDisk.{mem_image};
 ghost use Rattle.journal_disk.specs.Disk.{no_bytes};
 ghost use Rattle.actor_tests.specs.GlobalSessions.{IsOfThree, IsOfThreeSites, is_of_three, three};
 
-use crate::answers::{is_cut, same};
+use crate::answers::is_cut;
 use fed_rules::{Answer, Command, CoordStep, FromSite, Line, Place, Sends, Sent, ToSite, TxLine};
 use global_exec::TakePolicy;
 use global_manager::{GlobalManager, StepErr};
@@ -396,7 +396,7 @@ fn answers_so(
     line: &Line,
     text: &str,
 ) -> Result<(), Fail> {
-    assert!(rt; same(&step.answer, &line.answer), "{text}");
+    assert!(rt; step.answer == line.answer, "{text}");
     let places = channels.sends(alloc, &step.sends)?;
     assert!(rt; places.as_slice() == line.sends.as_slice(), "{text}");
     Ok(())

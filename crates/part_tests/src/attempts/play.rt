@@ -80,11 +80,7 @@ pub(super) enum Came {
 
 // What is outstanding at this place.
 fn due_at(dues: &Dues, place: usize) -> Option<Due> {
-    if place < dues.len() {
-        Some(*dues.at(place))
-    } else {
-        None
-    }
+    dues.as_slice().get(place).copied()
 }
 
 fn outstanding(dues: &Dues) -> Came {

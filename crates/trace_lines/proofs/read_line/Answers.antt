@@ -1,10 +1,15 @@
-use Rattle.std.proofs.Common.{◌∙◌, IsUtf8, sym, ap, subst}
+use Rattle.std.proofs.Common.{◌≡◌, ◌∙◌, IsTrue, IsUtf8, IfOk, Result, Err, sym, ap, subst}
 use Rattle.std.proofs.lemmas.Result.{err_from_is_err_and}
-use Rattle.trace_lines.specs.Spelling.{line_words}
+use Rattle.fed_rules.specs.declared.commands.Line.{Line}
+use Rattle.line_text.specs.Range.{is_line}
+use Rattle.line_text.specs.Spelling.{line_bytes, line_words}
+use Rattle.trace_lines.specs.declared.error.LineErr.{LineErr}
+use Rattle.trace_lines.specs.declared.error.LineErr.TheVariants as errors
 use Rattle.trace_lines.specs.Lexing.{pieces}
 use Rattle.trace_lines.specs.Reading.{Gives, line_of}
 use Rattle.trace_lines.proofs.Lines.{line_is_words}
 use Rattle.trace_lines.proofs.Spelled.{line_pieces, line_is_text, gives_found, gives_none}
+use Rattle.trace_lines.proofs.Computed.{gives_line_in}
 use Rattle.trace_lines.proofs.read_line.Goals as goal
 
 pub returns-in_default-clause-none : goal.returns-in_default-clause-none
@@ -24,3 +29,15 @@ pub returns-clause-none : goal.returns-clause-none
 returns-clause-none c =
     let read = subst (λ words. Gives c.line_of.result (line_of words)) c.deref.ensures.value c.line_of.ensures in
     gives_none c.line_of.result c.in_ok-words.words.items c.args.text.now read c.in_ok-words.ensures.found.0 (c.in_ok-words.ensures.found.1 ∙ ap pieces c.in-Ok.ensures.cases.0)
+
+-- what is read is what is computed, by the two other clauses
+pub returns-in_default-clause-computed : goal.returns-in_default-clause-computed
+returns-in_default-clause-computed c = gives_line_in (Err errors.NoLine) c.args.text.now tt (returns-in_default-clause-none c)
+
+pub returns-in_err-words-clause-computed : goal.returns-in_err-words-clause-computed
+returns-in_err-words-clause-computed c =
+    let p = err_from_is_err_and c.from_residual.result c.from_residual.ensures.1 in
+    gives_line_in c.from_residual.result c.args.text.now (subst (λ (r : Result Line LineErr). IfOk r (λ line. IsTrue (is_line line) × (c.args.text.now ≡ line_bytes line))) (sym p.1) tt) (returns-in_err-words-clause-none c)
+
+pub returns-clause-computed : goal.returns-clause-computed
+returns-clause-computed c = gives_line_in c.line_of.result c.args.text.now (returns-clause-found c) (returns-clause-none c)

@@ -5,11 +5,12 @@ use Rattle.fed_rules.specs.Closing.{finished_alone}
 use Rattle.fed_rules.specs.Plans.{IsScenario}
 use Rattle.closing_laws.specs.Bound.{FinishingIsShort}
 use Rattle.fed_world.specs.Worlds.{Stands}
+use Rattle.fed_world.proofs.Recalled.{recalls}
 use Rattle.closing.specs.Alone.{AllCommit, CanAllCommit, all_alone}
 use Rattle.closing.specs.Towards.{FailsToward, Fits}
 use Rattle.closing.proofs.Deliveries.{finished_grows}
 use Rattle.closing.proofs.Towards.{on_failure, on_success, short_here}
-use Rattle.closing.proofs.World.{has_lines, of_one_story, recalls}
+use Rattle.closing.proofs.World.{has_lines, of_one_story}
 use Rattle.closing.proofs.alone.finish_alone.Goals as goal
 
 -- at most 263,168 commands

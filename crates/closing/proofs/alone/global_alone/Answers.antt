@@ -9,6 +9,7 @@ use Rattle.fed_rules.specs.declared.commands.Place.{Place}
 use Rattle.fed_rules.specs.declared.scenario.Scenario.{Scenario}
 use Rattle.fed_rules.specs.Closing as rules
 use Rattle.fed_rules.specs.Closing.{deliver_all, last_sends}
+use Rattle.fed_rules.specs.Sessions.{fresh}
 use Rattle.fed_world.specs.declared.errors.WorldErr.TheVariants as Err_is
 use Rattle.closing.specs.Alone.{delivered_next}
 use Rattle.closing.specs.Towards.{Fits}
@@ -22,7 +23,7 @@ abbrev one : Tx → List Command → List Command
 one tx commands = Cmd.Go tx ∷ commands
 
 first : (scenario : Scenario) (tx : Tx) (steps : List Step) (commands : List Command) → Extends (rules.global_alone scenario tx steps commands) (one tx commands)
-first scenario tx steps commands = delivers_grow scenario (4 * length steps) (last_sends scenario (one tx commands)) (one tx commands)
+first scenario tx steps commands = delivers_grow scenario (4 * length steps) (last_sends (fresh scenario) (one tx commands)) (one tx commands)
 
 room : (scenario : Scenario) (tx : Tx) (steps : List Step) (commands : List Command) → Fits (rules.global_alone scenario tx steps commands) → length commands < 2 ^ 30
 room scenario tx steps commands fits = room_one (Cmd.Go tx) commands (fits_less (rules.global_alone scenario tx steps commands) (one tx commands) (first scenario tx steps commands) fits)

@@ -2,18 +2,19 @@ use Rattle.std.proofs.Common.{map, sym, subst, ◌∙◌, ap}
 use Rattle.fed_rules.specs.Closing as rules
 use Rattle.fed_rules.specs.Closing.{for_each}
 use Rattle.fed_rules.specs.Scenarios.{sites}
+use Rattle.fed_rules.specs.Sessions.{fresh}
 use Rattle.fed_rules.specs.Story.{story_of}
 use Rattle.fed_world.specs.Worlds.{Stands}
+use Rattle.fed_world.proofs.Recalled.{recalls}
 use Rattle.closing.specs.Steps.{asks_all}
 use Rattle.closing.specs.Towards.{FailsToward, Fits}
 use Rattle.closing.proofs.Grows.{asking_is, ask_all_grows}
 use Rattle.closing.proofs.Towards.{on_failure, on_success, short_here}
-use Rattle.closing.proofs.World.{recalls}
 use Rattle.closing.proofs.closing.ask_all.Goals as goal
 
 pub returns-in_default-clause-failed : goal.returns-in_default-clause-failed
 returns-in_default-clause-failed g c scenario commands s can =
-    short_here g.D.Disk.tells c.args.world.now (map g.D.Disk.seen c.args.disks.now.items) scenario (rules.ask_all scenario commands) commands (ask_all_grows scenario commands) s
+    short_here g.D.Disk.tells c.args.world.now (map g.D.Disk.seen c.args.disks.now.items) scenario (rules.ask_all (fresh scenario) commands) commands (ask_all_grows scenario commands) s
 
 pub ask_each-requires-clause-stood : goal.ask_each-requires-clause-stood
 ask_each-requires-clause-stood g c =

@@ -1,28 +1,29 @@
 use Rattle.std.proofs.Common.{map, sym, subst, ◌∙◌, ap}
 use Rattle.fed_rules.specs.Closing as rules
 use Rattle.fed_rules.specs.Closing.{for_each}
+use Rattle.fed_rules.specs.Sessions.{fresh}
 use Rattle.fed_world.specs.Worlds.{Stands}
+use Rattle.fed_world.proofs.Recalled.{recalls}
 use Rattle.closing.specs.Towards.{FailsToward, Fits}
 use Rattle.closing.proofs.Grows.{end_known_grows}
 use Rattle.closing.proofs.Towards.{on_failure, on_success, short_here}
-use Rattle.closing.proofs.World.{recalls}
 use Rattle.closing.proofs.closing.end_known.Goals as goal
 
 pub returns-in_default-clause-failed : goal.returns-in_default-clause-failed
 returns-in_default-clause-failed g c scenario commands s can =
-    short_here g.D.Disk.tells c.args.world.now (map g.D.Disk.seen c.args.disks.now.items) scenario (rules.end_known scenario commands) commands (end_known_grows scenario commands) s
+    short_here g.D.Disk.tells c.args.world.now (map g.D.Disk.seen c.args.disks.now.items) scenario (rules.end_known (fresh scenario) commands) commands (end_known_grows scenario commands) s
 
 pub send_each-requires-clause-stood : goal.send_each-requires-clause-stood
 send_each-requires-clause-stood g c =
     let r = c.requires.stood in
-    let are = ap (λ tids. for_each (rules.send_again r.scenario) tids r.commands) (c.deref.ensures.value ∙ c.in-Ok.ensures r.scenario r.commands (recalls _ _ _ _ _ r.stood) r.holds.up) in
+    let are = ap (λ tids. for_each (rules.send_again (fresh r.scenario)) tids r.commands) (c.deref.ensures.value ∙ c.in-Ok.ensures r.scenario r.commands (recalls _ _ _ _ _ r.stood) r.holds.up) in
     record { scenario = r.scenario; commands = r.commands; stood = r.stood; holds = subst Fits (sym are) r.holds.fits }
 
 pub returns-clause-done : goal.returns-clause-done
 returns-clause-done g c =
     on_success c.send_each.result
     (λ done scenario commands s can.
-    let are = ap (λ tids. for_each (rules.send_again scenario) tids commands) (c.deref.ensures.value ∙ c.in-Ok.ensures scenario commands (recalls _ _ _ _ _ s) can.up) in
+    let are = ap (λ tids. for_each (rules.send_again (fresh scenario)) tids commands) (c.deref.ensures.value ∙ c.in-Ok.ensures scenario commands (recalls _ _ _ _ _ s) can.up) in
     subst (λ all. Stands g.D.Disk.tells c.send_each.new.world (map g.D.Disk.seen c.send_each.new.disks.items) scenario all) are (done scenario commands s (subst Fits (sym are) can.fits)))
     c.send_each.ensures.done
 
@@ -30,6 +31,6 @@ pub returns-clause-failed : goal.returns-clause-failed
 returns-clause-failed g c =
     on_failure _ _ c.send_each.result
     (λ why failed scenario commands s can.
-    let are = ap (λ tids. for_each (rules.send_again scenario) tids commands) (c.deref.ensures.value ∙ c.in-Ok.ensures scenario commands (recalls _ _ _ _ _ s) can.up) in
+    let are = ap (λ tids. for_each (rules.send_again (fresh scenario)) tids commands) (c.deref.ensures.value ∙ c.in-Ok.ensures scenario commands (recalls _ _ _ _ _ s) can.up) in
     subst (λ all. FailsToward g.D.Disk.tells why c.send_each.new.world (map g.D.Disk.seen c.send_each.new.disks.items) all scenario commands) are (failed scenario commands s (subst Fits (sym are) can.fits)))
     c.send_each.ensures.failed

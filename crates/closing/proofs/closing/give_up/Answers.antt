@@ -3,17 +3,18 @@ use Rattle.fed_world.specs.Worlds.{Stands}
 use Rattle.closing.specs.Towards.{FailsToward, Fits}
 use Rattle.closing.proofs.Grows.{give_up_made, give_up_grows}
 use Rattle.closing.proofs.Towards.{on_failure, on_success, short_here}
-use Rattle.closing.proofs.World.{recalls}
 use Rattle.fed_rules.specs.Closing as rules
+use Rattle.fed_rules.specs.Sessions.{fresh}
+use Rattle.fed_world.proofs.Recalled.{recalls}
 use Rattle.closing.proofs.closing.give_up.Goals as goal
 
 pub returns-in_default-clause-failed : goal.returns-in_default-clause-failed
 returns-in_default-clause-failed g c scenario commands s fits =
-    short_here g.D.Disk.tells c.args.world.now (map g.D.Disk.seen c.args.disks.now.items) scenario (rules.give_up scenario commands) commands (give_up_grows scenario commands) s
+    short_here g.D.Disk.tells c.args.world.now (map g.D.Disk.seen c.args.disks.now.items) scenario (rules.give_up (fresh scenario) commands) commands (give_up_grows scenario commands) s
 
 pub returns-in_default-giving_up-clause-failed : goal.returns-in_default-giving_up-clause-failed
 returns-in_default-giving_up-clause-failed g c scenario commands s fits =
-    short_here g.D.Disk.tells c.args.world.now (map g.D.Disk.seen c.args.disks.now.items) scenario (rules.give_up scenario commands) commands (give_up_grows scenario commands) s
+    short_here g.D.Disk.tells c.args.world.now (map g.D.Disk.seen c.args.disks.now.items) scenario (rules.give_up (fresh scenario) commands) commands (give_up_grows scenario commands) s
 
 pub carry_out-requires-clause-stood : goal.carry_out-requires-clause-stood
 carry_out-requires-clause-stood g c =

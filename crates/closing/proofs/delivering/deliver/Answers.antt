@@ -4,6 +4,7 @@ use Rattle.fed_rules.specs.declared.commands.Command.{Command}
 use Rattle.fed_rules.specs.declared.commands.Place.{Place}
 use Rattle.fed_rules.specs.declared.scenario.Scenario.{Scenario}
 use Rattle.fed_rules.specs.Closing.{deliver as delivered}
+use Rattle.fed_rules.specs.Sessions.{fresh}
 use Rattle.closing.specs.Steps.{give_of}
 use Rattle.closing.specs.Towards.{Fits}
 use Rattle.fed_world.proofs.Faults.{told_later}
@@ -11,10 +12,10 @@ use Rattle.closing.proofs.Grows.{taken_grows}
 use Rattle.closing.proofs.Towards.{extends_here, extends_one, fails_at, fails_within, fits_less, on_failure, on_success, room_one}
 use Rattle.closing.proofs.delivering.deliver.Goals as goal
 
-room : (scenario : Scenario) (place : Place) (commands : List Command) → Fits (delivered scenario place commands) → length commands < 2 ^ 30
+room : (scenario : Scenario) (place : Place) (commands : List Command) → Fits (delivered (fresh scenario) place commands) → length commands < 2 ^ 30
 room scenario place commands fits =
     let one = give_of place ∷ commands in
-    room_one (give_of place) commands (fits_less (delivered scenario place commands) one (taken_grows scenario one) fits)
+    room_one (give_of place) commands (fits_less (delivered (fresh scenario) place commands) one (taken_grows scenario one) fits)
 
 pub apply-requires-clause-stood : goal.apply-requires-clause-stood
 apply-requires-clause-stood g c =
@@ -27,7 +28,7 @@ returns-in_err-apply-clause-failed g c =
     rw (p.1, p.2) (λ scenario commands s fits.
     let place = c.args.place in
     let one = give_of place ∷ commands in
-    fails_within g.D.Disk.tells c.apply.new.self (map g.D.Disk.seen c.apply.new.disks.items) scenario c.in_err-apply.field-0.0 (delivered scenario place commands) one commands commands
+    fails_within g.D.Disk.tells c.apply.new.self (map g.D.Disk.seen c.apply.new.disks.items) scenario c.in_err-apply.field-0.0 (delivered (fresh scenario) place commands) one commands commands
     (taken_grows scenario one) (extends_here commands)
     (fails_at g.D.Disk.tells c.apply.new.self (map g.D.Disk.seen c.apply.new.disks.items) scenario c.in_err-apply.field-0.0 (give_of place) commands
     (c.in_err-apply.ensures.failed scenario commands s (room scenario place commands fits))))
@@ -54,7 +55,7 @@ returns-clause-failed g c =
     (λ why failed scenario commands s fits.
     let place = c.args.place in
     let one = give_of place ∷ commands in
-    let whole = delivered scenario place commands in
+    let whole = delivered (fresh scenario) place commands in
     fails_within g.D.Disk.tells c.take_sent.new.world (map g.D.Disk.seen c.take_sent.new.disks.items) scenario why whole whole one commands (extends_here whole) (extends_one (give_of place) commands)
     (failed scenario one (c.in_ok-apply.ensures.applied scenario commands s (room scenario place commands fits)) fits))
     c.take_sent.ensures.failed

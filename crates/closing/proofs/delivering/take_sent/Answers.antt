@@ -5,15 +5,16 @@ use Rattle.closing.proofs.Grows.{takes_made, taken_grows}
 use Rattle.closing.proofs.Towards.{on_failure, on_success, short_here}
 use Rattle.closing.proofs.World.{has_lines}
 use Rattle.fed_rules.specs.Closing.{taken}
+use Rattle.fed_rules.specs.Sessions.{fresh}
 use Rattle.closing.proofs.delivering.take_sent.Goals as goal
 
 pub returns-in_default-clause-failed : goal.returns-in_default-clause-failed
 returns-in_default-clause-failed g c scenario commands s fits =
-    short_here g.D.Disk.tells c.args.world.now (map g.D.Disk.seen c.args.disks.now.items) scenario (taken scenario commands) commands (taken_grows scenario commands) s
+    short_here g.D.Disk.tells c.args.world.now (map g.D.Disk.seen c.args.disks.now.items) scenario (taken (fresh scenario) commands) commands (taken_grows scenario commands) s
 
 pub returns-in_default-takes-clause-failed : goal.returns-in_default-takes-clause-failed
 returns-in_default-takes-clause-failed g c scenario commands s fits =
-    short_here g.D.Disk.tells c.args.world.now (map g.D.Disk.seen c.args.disks.now.items) scenario (taken scenario commands) commands (taken_grows scenario commands) s
+    short_here g.D.Disk.tells c.args.world.now (map g.D.Disk.seen c.args.disks.now.items) scenario (taken (fresh scenario) commands) commands (taken_grows scenario commands) s
 
 pub carry_out-requires-clause-stood : goal.carry_out-requires-clause-stood
 carry_out-requires-clause-stood g c =

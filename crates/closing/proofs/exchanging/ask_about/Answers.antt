@@ -4,6 +4,7 @@ use Rattle.std.proofs.lemmas.Result.{err_from_is_err_and}
 use Rattle.mdb_base.specs.declared.names.Tid.{Tid}
 use Rattle.fed_world.specs.Worlds.{Stands}
 use Rattle.fed_rules.specs.Closing as rules
+use Rattle.fed_rules.specs.Sessions.{fresh}
 use Rattle.closing.specs.Steps.{asks_about}
 use Rattle.fed_world.proofs.Faults.{failed_later}
 use Rattle.closing.proofs.Grows.{inquire_grows}
@@ -24,7 +25,7 @@ inquire-requires-clause-stood g c =
       scenario = r.scenario;
       commands = asks_about c.args.site (take i items) r.scenario r.commands;
       stood = c.loop-tid.invariant.stands r.scenario r.commands r.stood r.holds;
-      holds = room_for (rules.inquire r.scenario c.args.site) (inquire_grows r.scenario c.args.site) items i none r.commands c.loop-tid-test.true r.holds;
+      holds = room_for (rules.inquire (fresh r.scenario) c.args.site) (inquire_grows r.scenario c.args.site) items i none r.commands c.loop-tid-test.true r.holds;
     }
 
 pub returns-in_err-inquire-clause-failed : goal.returns-in_err-inquire-clause-failed
@@ -33,7 +34,7 @@ returns-in_err-inquire-clause-failed g c =
     rw (p.1, p.2) (λ scenario before s fits.
     let items = c.args.tids.now in
     let i = c.loop-tid.tid-index in
-    let add = rules.inquire scenario c.args.site in
+    let add = rules.inquire (fresh scenario) c.args.site in
     let grows = inquire_grows scenario c.args.site in
     let mid = asks_about c.args.site (take i items) scenario before in
     fails_within g.D.Disk.tells c.inquire.new.world (map g.D.Disk.seen c.inquire.new.disks.items) scenario c.in_err-inquire.field-0.0 (asks_about c.args.site items scenario before) (add (get_or items i none) mid) mid before
@@ -51,8 +52,8 @@ loop-tid-preserved g c =
     let i = c.loop-tid.tid-index in
     record {
       stands = λ scenario before s fits.
-          subst (λ more. Stands g.D.Disk.tells c.inquire.new.world (map g.D.Disk.seen c.inquire.new.disks.items) scenario more) (sym (each_more (rules.inquire scenario c.args.site) items i none before c.loop-tid-test.true))
-          (c.in_ok-inquire.ensures.done scenario (asks_about c.args.site (take i items) scenario before) (c.loop-tid.invariant.stands scenario before s fits) (room_for (rules.inquire scenario c.args.site) (inquire_grows scenario c.args.site) items i none before c.loop-tid-test.true fits));
+          subst (λ more. Stands g.D.Disk.tells c.inquire.new.world (map g.D.Disk.seen c.inquire.new.disks.items) scenario more) (sym (each_more (rules.inquire (fresh scenario) c.args.site) items i none before c.loop-tid-test.true))
+          (c.in_ok-inquire.ensures.done scenario (asks_about c.args.site (take i items) scenario before) (c.loop-tid.invariant.stands scenario before s fits) (room_for (rules.inquire (fresh scenario) c.args.site) (inquire_grows scenario c.args.site) items i none before c.loop-tid-test.true fits));
       calm = c.in_ok-inquire.ensures.cause ∙ c.loop-tid.invariant.calm;
     }
 

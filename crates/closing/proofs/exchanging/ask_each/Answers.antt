@@ -7,6 +7,7 @@ use Rattle.fed_rules.specs.declared.commands.Command.{Command}
 use Rattle.fed_rules.specs.declared.scenario.Scenario.{Scenario}
 use Rattle.fed_rules.specs.Closing as rules
 use Rattle.fed_rules.specs.Closing.{for_each}
+use Rattle.fed_rules.specs.Sessions.{fresh}
 use Rattle.closing.specs.Steps.{asks_about, asks_all}
 use Rattle.closing.specs.Towards.{FailsToward, Fits}
 use Rattle.fed_world.proofs.Faults.{failed_later}
@@ -17,10 +18,10 @@ use Rattle.closing.proofs.exchanging.ask_each.Goals as goal
 
 -- what one site asks
 abbrev add_at : Scenario → SiteTids → List Command → List Command
-add_at scenario at = for_each (rules.inquire scenario at.site) at.tids.items
+add_at scenario at = for_each (rules.inquire (fresh scenario) at.site) at.tids.items
 
 grows_at : (scenario : Scenario) (at : SiteTids) (commands : List Command) → Extends (add_at scenario at commands) commands
-grows_at scenario at commands = each_extends (rules.inquire scenario at.site) (inquire_grows scenario at.site) at.tids.items commands
+grows_at scenario at commands = each_extends (rules.inquire (fresh scenario) at.site) (inquire_grows scenario at.site) at.tids.items commands
 
 pub ask_about-requires-clause-stood : goal.ask_about-requires-clause-stood
 ask_about-requires-clause-stood g c =

@@ -4,6 +4,7 @@ use Rattle.std.proofs.lemmas.Result.{err_from_is_err_and}
 use Rattle.fed_rules.specs.declared.commands.Place.{Place}
 use Rattle.fed_world.specs.Worlds.{Stands}
 use Rattle.fed_rules.specs.Closing as rules
+use Rattle.fed_rules.specs.Sessions.{fresh}
 use Rattle.closing.specs.Steps.{deliver_all}
 use Rattle.fed_world.proofs.Faults.{failed_later}
 use Rattle.closing.proofs.Grows.{deliver_grows}
@@ -24,7 +25,7 @@ deliver-requires-clause-stood g c =
       scenario = r.scenario;
       commands = deliver_all (take i items) r.scenario r.commands;
       stood = c.loop-place.invariant.stands r.scenario r.commands r.stood r.holds;
-      holds = room_for (rules.deliver r.scenario) (deliver_grows r.scenario) items i none r.commands c.loop-place-test.true r.holds;
+      holds = room_for (rules.deliver (fresh r.scenario)) (deliver_grows r.scenario) items i none r.commands c.loop-place-test.true r.holds;
     }
 
 pub returns-in_err-deliver-clause-failed : goal.returns-in_err-deliver-clause-failed
@@ -33,7 +34,7 @@ returns-in_err-deliver-clause-failed g c =
     rw (p.1, p.2) (λ scenario before s fits.
     let items = c.args.places.now in
     let i = c.loop-place.place-index in
-    let add = rules.deliver scenario in
+    let add = rules.deliver (fresh scenario) in
     let grows = deliver_grows scenario in
     let mid = deliver_all (take i items) scenario before in
     fails_within g.D.Disk.tells c.deliver.new.world (map g.D.Disk.seen c.deliver.new.disks.items) scenario c.in_err-deliver.field-0.0 (deliver_all items scenario before) (add (get_or items i none) mid) mid before
@@ -51,8 +52,8 @@ loop-place-preserved g c =
     let i = c.loop-place.place-index in
     record {
       stands = λ scenario before s fits.
-          subst (λ more. Stands g.D.Disk.tells c.deliver.new.world (map g.D.Disk.seen c.deliver.new.disks.items) scenario more) (sym (each_more (rules.deliver scenario) items i none before c.loop-place-test.true))
-          (c.in_ok-deliver.ensures.done scenario (deliver_all (take i items) scenario before) (c.loop-place.invariant.stands scenario before s fits) (room_for (rules.deliver scenario) (deliver_grows scenario) items i none before c.loop-place-test.true fits));
+          subst (λ more. Stands g.D.Disk.tells c.deliver.new.world (map g.D.Disk.seen c.deliver.new.disks.items) scenario more) (sym (each_more (rules.deliver (fresh scenario)) items i none before c.loop-place-test.true))
+          (c.in_ok-deliver.ensures.done scenario (deliver_all (take i items) scenario before) (c.loop-place.invariant.stands scenario before s fits) (room_for (rules.deliver (fresh scenario)) (deliver_grows scenario) items i none before c.loop-place-test.true fits));
       calm = c.in_ok-deliver.ensures.cause ∙ c.loop-place.invariant.calm;
     }
 

@@ -7,6 +7,7 @@ use Rattle.fed_rules.specs.declared.commands.Command.TheVariants as Cmd
 use Rattle.fed_rules.specs.declared.scenario.Scenario.{Scenario}
 use Rattle.fed_rules.specs.Closing as rules
 use Rattle.fed_rules.specs.Closing.{taken}
+use Rattle.fed_rules.specs.Sessions.{fresh}
 use Rattle.closing.specs.Towards.{Fits}
 use Rattle.fed_world.proofs.Faults.{failed_later, told_later}
 use Rattle.closing.proofs.Grows.{given_grows, taken_grows}
@@ -17,22 +18,22 @@ abbrev one : SiteId → Tid → List Command → List Command
 one site tid commands = Cmd.Ask site tid ∷ commands
 
 -- what stands behind the inquiry, and behind its answer
-second : (scenario : Scenario) (site : SiteId) (tid : Tid) (commands : List Command) → Extends (rules.inquire scenario site tid commands) (taken scenario (one site tid commands))
-second scenario site tid commands = given_grows scenario (taken scenario (one site tid commands))
+second : (scenario : Scenario) (site : SiteId) (tid : Tid) (commands : List Command) → Extends (rules.inquire (fresh scenario) site tid commands) (taken (fresh scenario) (one site tid commands))
+second scenario site tid commands = given_grows scenario (taken (fresh scenario) (one site tid commands))
 
-first : (scenario : Scenario) (site : SiteId) (tid : Tid) (commands : List Command) → Extends (rules.inquire scenario site tid commands) (one site tid commands)
+first : (scenario : Scenario) (site : SiteId) (tid : Tid) (commands : List Command) → Extends (rules.inquire (fresh scenario) site tid commands) (one site tid commands)
 first scenario site tid commands =
-    extends_twice (one site tid commands) (taken scenario (one site tid commands)) (rules.inquire scenario site tid commands) (second scenario site tid commands) (taken_grows scenario (one site tid commands))
+    extends_twice (one site tid commands) (taken (fresh scenario) (one site tid commands)) (rules.inquire (fresh scenario) site tid commands) (second scenario site tid commands) (taken_grows scenario (one site tid commands))
 
-behind : (scenario : Scenario) (site : SiteId) (tid : Tid) (commands : List Command) → Extends (taken scenario (one site tid commands)) commands
+behind : (scenario : Scenario) (site : SiteId) (tid : Tid) (commands : List Command) → Extends (taken (fresh scenario) (one site tid commands)) commands
 behind scenario site tid commands =
-    extends_twice commands (one site tid commands) (taken scenario (one site tid commands)) (taken_grows scenario (one site tid commands)) (extends_one (Cmd.Ask site tid) commands)
+    extends_twice commands (one site tid commands) (taken (fresh scenario) (one site tid commands)) (taken_grows scenario (one site tid commands)) (extends_one (Cmd.Ask site tid) commands)
 
-room : (scenario : Scenario) (site : SiteId) (tid : Tid) (commands : List Command) → Fits (rules.inquire scenario site tid commands) → length commands < 2 ^ 30
-room scenario site tid commands fits = room_one (Cmd.Ask site tid) commands (fits_less (rules.inquire scenario site tid commands) (one site tid commands) (first scenario site tid commands) fits)
+room : (scenario : Scenario) (site : SiteId) (tid : Tid) (commands : List Command) → Fits (rules.inquire (fresh scenario) site tid commands) → length commands < 2 ^ 30
+room scenario site tid commands fits = room_one (Cmd.Ask site tid) commands (fits_less (rules.inquire (fresh scenario) site tid commands) (one site tid commands) (first scenario site tid commands) fits)
 
-fits_second : (scenario : Scenario) (site : SiteId) (tid : Tid) (commands : List Command) → Fits (rules.inquire scenario site tid commands) → Fits (taken scenario (one site tid commands))
-fits_second scenario site tid commands fits = fits_less (rules.inquire scenario site tid commands) (taken scenario (one site tid commands)) (second scenario site tid commands) fits
+fits_second : (scenario : Scenario) (site : SiteId) (tid : Tid) (commands : List Command) → Fits (rules.inquire (fresh scenario) site tid commands) → Fits (taken (fresh scenario) (one site tid commands))
+fits_second scenario site tid commands fits = fits_less (rules.inquire (fresh scenario) site tid commands) (taken (fresh scenario) (one site tid commands)) (second scenario site tid commands) fits
 
 pub apply-requires-clause-stood : goal.apply-requires-clause-stood
 apply-requires-clause-stood g c =
@@ -43,7 +44,7 @@ pub returns-in_err-apply-clause-failed : goal.returns-in_err-apply-clause-failed
 returns-in_err-apply-clause-failed g c =
     let p = err_from_is_err_and c.from_residual.result c.from_residual.ensures.1 in
     rw (p.1, p.2) (λ scenario commands s fits.
-    fails_within g.D.Disk.tells c.apply.new.self (map g.D.Disk.seen c.apply.new.disks.items) scenario c.in_err-apply.field-0.0 (rules.inquire scenario c.args.site c.args.tid commands) (one c.args.site c.args.tid commands) commands commands
+    fails_within g.D.Disk.tells c.apply.new.self (map g.D.Disk.seen c.apply.new.disks.items) scenario c.in_err-apply.field-0.0 (rules.inquire (fresh scenario) c.args.site c.args.tid commands) (one c.args.site c.args.tid commands) commands commands
     (first scenario c.args.site c.args.tid commands) (extends_here commands)
     (fails_at g.D.Disk.tells c.apply.new.self (map g.D.Disk.seen c.apply.new.disks.items) scenario c.in_err-apply.field-0.0 (Cmd.Ask c.args.site c.args.tid) commands
     (c.in_err-apply.ensures.failed scenario commands s (room scenario c.args.site c.args.tid commands fits))))
@@ -63,7 +64,7 @@ returns-in_err-take_sent-clause-failed g c =
     let p = err_from_is_err_and c.from_residual-in_err-take_sent.result c.from_residual-in_err-take_sent.ensures.1 in
     rw (p.1, p.2) (λ scenario commands s fits.
     let next = c.in_ok-apply.ensures.applied scenario commands s (room scenario c.args.site c.args.tid commands fits) in
-    fails_within g.D.Disk.tells c.take_sent.new.world (map g.D.Disk.seen c.take_sent.new.disks.items) scenario c.in_err-take_sent.field-0.0 (rules.inquire scenario c.args.site c.args.tid commands) (taken scenario (one c.args.site c.args.tid commands)) (one c.args.site c.args.tid commands) commands
+    fails_within g.D.Disk.tells c.take_sent.new.world (map g.D.Disk.seen c.take_sent.new.disks.items) scenario c.in_err-take_sent.field-0.0 (rules.inquire (fresh scenario) c.args.site c.args.tid commands) (taken (fresh scenario) (one c.args.site c.args.tid commands)) (one c.args.site c.args.tid commands) commands
     (second scenario c.args.site c.args.tid commands) (extends_one (Cmd.Ask c.args.site c.args.tid) commands)
     (c.in_err-take_sent.ensures.failed scenario (one c.args.site c.args.tid commands) next (fits_second scenario c.args.site c.args.tid commands fits)))
 
@@ -78,7 +79,7 @@ give_sent-requires-clause-stood g c =
     let next = c.in_ok-apply.ensures.applied r.scenario r.commands r.stood (room r.scenario c.args.site c.args.tid r.commands r.holds) in
     record {
       scenario = r.scenario;
-      commands = taken r.scenario (one c.args.site c.args.tid r.commands);
+      commands = taken (fresh r.scenario) (one c.args.site c.args.tid r.commands);
       stood = c.in_ok-take_sent.ensures.done r.scenario (one c.args.site c.args.tid r.commands) next (fits_second r.scenario c.args.site c.args.tid r.commands r.holds);
       holds = r.holds;
     }
@@ -89,7 +90,7 @@ returns-clause-done g c =
     (λ done scenario commands s fits.
     let next = c.in_ok-apply.ensures.applied scenario commands s (room scenario c.args.site c.args.tid commands fits) in
     let last = c.in_ok-take_sent.ensures.done scenario (one c.args.site c.args.tid commands) next (fits_second scenario c.args.site c.args.tid commands fits) in
-    done scenario (taken scenario (one c.args.site c.args.tid commands)) last fits)
+    done scenario (taken (fresh scenario) (one c.args.site c.args.tid commands)) last fits)
     c.give_sent.ensures.done
 
 pub returns-clause-failed : goal.returns-clause-failed
@@ -98,9 +99,9 @@ returns-clause-failed g c =
     (λ why failed scenario commands s fits.
     let next = c.in_ok-apply.ensures.applied scenario commands s (room scenario c.args.site c.args.tid commands fits) in
     let last = c.in_ok-take_sent.ensures.done scenario (one c.args.site c.args.tid commands) next (fits_second scenario c.args.site c.args.tid commands fits) in
-    let whole = rules.inquire scenario c.args.site c.args.tid commands in
-    fails_within g.D.Disk.tells c.give_sent.new.world (map g.D.Disk.seen c.give_sent.new.disks.items) scenario why whole whole (taken scenario (one c.args.site c.args.tid commands)) commands (extends_here whole) (behind scenario c.args.site c.args.tid commands)
-    (failed scenario (taken scenario (one c.args.site c.args.tid commands)) last fits))
+    let whole = rules.inquire (fresh scenario) c.args.site c.args.tid commands in
+    fails_within g.D.Disk.tells c.give_sent.new.world (map g.D.Disk.seen c.give_sent.new.disks.items) scenario why whole whole (taken (fresh scenario) (one c.args.site c.args.tid commands)) commands (extends_here whole) (behind scenario c.args.site c.args.tid commands)
+    (failed scenario (taken (fresh scenario) (one c.args.site c.args.tid commands)) last fits))
     c.give_sent.ensures.failed
 
 pub returns-clause-cause : goal.returns-clause-cause

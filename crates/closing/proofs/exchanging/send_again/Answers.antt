@@ -6,6 +6,7 @@ use Rattle.fed_rules.specs.declared.commands.Command.TheVariants as Cmd
 use Rattle.fed_rules.specs.declared.scenario.Scenario.{Scenario}
 use Rattle.fed_rules.specs.Closing as rules
 use Rattle.fed_rules.specs.Closing.{deliver, last_sends}
+use Rattle.fed_rules.specs.Sessions.{fresh}
 use Rattle.fed_world.specs.Worlds.{Stands}
 use Rattle.closing.specs.Steps.{deliver_all}
 use Rattle.closing.specs.Towards.{FailsToward, Fits}
@@ -19,11 +20,11 @@ use Rattle.closing.proofs.exchanging.send_again.Goals as goal
 abbrev one : Tid → List Command → List Command
 one tid commands = Cmd.Again tid ∷ commands
 
-rest : (scenario : Scenario) (tid : Tid) (commands : List Command) → Extends (rules.send_again scenario tid commands) (one tid commands)
-rest scenario tid commands = each_extends (deliver scenario) (deliver_grows scenario) (last_sends scenario (one tid commands)) (one tid commands)
+rest : (scenario : Scenario) (tid : Tid) (commands : List Command) → Extends (rules.send_again (fresh scenario) tid commands) (one tid commands)
+rest scenario tid commands = each_extends (deliver (fresh scenario)) (deliver_grows scenario) (last_sends (fresh scenario) (one tid commands)) (one tid commands)
 
-room : (scenario : Scenario) (tid : Tid) (commands : List Command) → Fits (rules.send_again scenario tid commands) → length commands < 2 ^ 30
-room scenario tid commands fits = room_one (Cmd.Again tid) commands (fits_less (rules.send_again scenario tid commands) (one tid commands) (rest scenario tid commands) fits)
+room : (scenario : Scenario) (tid : Tid) (commands : List Command) → Fits (rules.send_again (fresh scenario) tid commands) → length commands < 2 ^ 30
+room scenario tid commands fits = room_one (Cmd.Again tid) commands (fits_less (rules.send_again (fresh scenario) tid commands) (one tid commands) (rest scenario tid commands) fits)
 
 pub apply-requires-clause-stood : goal.apply-requires-clause-stood
 apply-requires-clause-stood g c =
@@ -35,7 +36,7 @@ returns-in_err-apply-clause-failed g c =
     let p = err_from_is_err_and c.from_residual.result c.from_residual.ensures.1 in
     rw (p.1, p.2) (λ scenario commands s fits.
     let tid = c.args.tid in
-    fails_within g.D.Disk.tells c.apply.new.self (map g.D.Disk.seen c.apply.new.disks.items) scenario c.in_err-apply.field-0.0 (rules.send_again scenario tid commands) (one tid commands) commands commands
+    fails_within g.D.Disk.tells c.apply.new.self (map g.D.Disk.seen c.apply.new.disks.items) scenario c.in_err-apply.field-0.0 (rules.send_again (fresh scenario) tid commands) (one tid commands) commands commands
     (rest scenario tid commands) (extends_here commands)
     (fails_at g.D.Disk.tells c.apply.new.self (map g.D.Disk.seen c.apply.new.disks.items) scenario c.in_err-apply.field-0.0 (Cmd.Again tid) commands
     (c.in_err-apply.ensures.failed scenario commands s (room scenario tid commands fits))))
@@ -77,7 +78,7 @@ returns-clause-failed g c =
     let tid = c.args.tid in
     let next = c.in_ok-apply.ensures.applied scenario commands s (room scenario tid commands fits) in
     let are = c.deref.ensures.value ∙ c.in-Ok.ensures scenario (one tid commands) (has_lines _ _ _ _ _ next) in
-    let whole = rules.send_again scenario tid commands in
+    let whole = rules.send_again (fresh scenario) tid commands in
     fails_within g.D.Disk.tells c.deliver_each.new.world (map g.D.Disk.seen c.deliver_each.new.disks.items) scenario why whole whole (one tid commands) commands (extends_here whole) (extends_one (Cmd.Again tid) commands)
     (subst (λ places. FailsToward g.D.Disk.tells why c.deliver_each.new.world (map g.D.Disk.seen c.deliver_each.new.disks.items) (deliver_all places scenario (one tid commands)) scenario (one tid commands)) are
     (failed scenario (one tid commands) next (subst (λ places. Fits (deliver_all places scenario (one tid commands))) (sym are) fits))))

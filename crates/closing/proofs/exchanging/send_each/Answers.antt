@@ -4,6 +4,7 @@ use Rattle.std.proofs.lemmas.Result.{err_from_is_err_and}
 use Rattle.mdb_base.specs.declared.names.Tid.{Tid}
 use Rattle.fed_world.specs.Worlds.{Stands}
 use Rattle.fed_rules.specs.Closing as rules
+use Rattle.fed_rules.specs.Sessions.{fresh}
 use Rattle.closing.specs.Steps.{sent_for}
 use Rattle.fed_world.proofs.Faults.{failed_later}
 use Rattle.closing.proofs.Grows.{send_again_grows}
@@ -24,7 +25,7 @@ send_again-requires-clause-stood g c =
       scenario = r.scenario;
       commands = sent_for (take i items) r.scenario r.commands;
       stood = c.loop-tid.invariant.stands r.scenario r.commands r.stood r.holds;
-      holds = room_for (rules.send_again r.scenario) (send_again_grows r.scenario) items i none r.commands c.loop-tid-test.true r.holds;
+      holds = room_for (rules.send_again (fresh r.scenario)) (send_again_grows r.scenario) items i none r.commands c.loop-tid-test.true r.holds;
     }
 
 pub returns-in_err-send_again-clause-failed : goal.returns-in_err-send_again-clause-failed
@@ -33,7 +34,7 @@ returns-in_err-send_again-clause-failed g c =
     rw (p.1, p.2) (λ scenario before s fits.
     let items = c.args.tids.now in
     let i = c.loop-tid.tid-index in
-    let add = rules.send_again scenario in
+    let add = rules.send_again (fresh scenario) in
     let grows = send_again_grows scenario in
     let mid = sent_for (take i items) scenario before in
     fails_within g.D.Disk.tells c.send_again.new.world (map g.D.Disk.seen c.send_again.new.disks.items) scenario c.in_err-send_again.field-0.0 (sent_for items scenario before) (add (get_or items i none) mid) mid before
@@ -51,8 +52,8 @@ loop-tid-preserved g c =
     let i = c.loop-tid.tid-index in
     record {
       stands = λ scenario before s fits.
-          subst (λ more. Stands g.D.Disk.tells c.send_again.new.world (map g.D.Disk.seen c.send_again.new.disks.items) scenario more) (sym (each_more (rules.send_again scenario) items i none before c.loop-tid-test.true))
-          (c.in_ok-send_again.ensures.done scenario (sent_for (take i items) scenario before) (c.loop-tid.invariant.stands scenario before s fits) (room_for (rules.send_again scenario) (send_again_grows scenario) items i none before c.loop-tid-test.true fits));
+          subst (λ more. Stands g.D.Disk.tells c.send_again.new.world (map g.D.Disk.seen c.send_again.new.disks.items) scenario more) (sym (each_more (rules.send_again (fresh scenario)) items i none before c.loop-tid-test.true))
+          (c.in_ok-send_again.ensures.done scenario (sent_for (take i items) scenario before) (c.loop-tid.invariant.stands scenario before s fits) (room_for (rules.send_again (fresh scenario)) (send_again_grows scenario) items i none before c.loop-tid-test.true fits));
       calm = c.in_ok-send_again.ensures.cause ∙ c.loop-tid.invariant.calm;
     }
 

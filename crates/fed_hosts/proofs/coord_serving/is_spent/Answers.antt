@@ -6,7 +6,7 @@ use Rattle.fed_rules.specs.declared.events.CoordEvent.TheVariants as Ev
 use Rattle.fed_rules.specs.CoordPast.{attempts_of}
 use Rattle.fed_rules.specs.Requests.{attempt, unless_begun}
 use Rattle.fed_rules.specs.SitePast.{begins_tx}
-use Rattle.coord_core.specs.Terms.{line_of}
+use Rattle.coord_tables.specs.Terms.{line_of}
 use Rattle.fed_hosts.proofs.Own.{unbegun_unless}
 use Rattle.fed_hosts.proofs.coord_serving.is_spent.Goals as goal
 

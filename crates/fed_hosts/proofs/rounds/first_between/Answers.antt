@@ -1,11 +1,12 @@
 use Rattle.std.proofs.Common.{◌≡◌, ◌+◌, ◌-◌, ◌^◌, ◌<◌, min, Option, Some, inl, inr, length, slice_get, refl, subst, arith}
 use Rattle.std.specs.Prelude.{MatchOption}
 use Rattle.std.proofs.lemmas.Option.{slice_get_read}
+use Rattle.mdb_base.proofs.OptionLaws.{none_left}
 use Rattle.fed_messages.specs.declared.Packet.{Packet}
 use Rattle.scripted_link.specs.Inlets.{empty_count}
 use Rattle.fed_hosts.specs.declared.ports.Port.{Port}
 use Rattle.fed_hosts.proofs.Polled.{given_before, given_end, given_next, given_start, polled_none, polled_self, polled_some}
-use Rattle.fed_hosts.proofs.Words.{if_none, not_some}
+use Rattle.fed_hosts.proofs.Words.{if_none}
 use Rattle.fed_hosts.proofs.rounds.first_between.Goals as goal
 
 pub loop-place-init : goal.loop-place-init
@@ -19,7 +20,7 @@ loop-place-preserved c =
     let within : p < length now = omega (arith, count, c.requires) in
     let port : Port = c.index_mut.result.now in
     let at : slice_get now p ≡ Some port = slice_get_read now (length now) p port refl within c.index_mut.ensures.value in
-    let none = not_some c.next.result c.in_default.not-Some in
+    let none = none_left c.next.result c.in_default.not-Some in
     let counted =
     subst (λ (o : Option Packet). MatchOption o (empty_count c.next.new.self ≡ min (empty_count port.ends.inlet + 1) (2 ^ 64 - 1)) (λ packet. empty_count c.next.new.self ≡ empty_count port.ends.inlet)) none
     c.next.ensures.empties in

@@ -11,10 +11,11 @@ use Rattle.fed_rules.specs.Policies.{Policy}
 use Rattle.fed_rules.specs.Scenarios.{policy, protocols, protocols_in}
 use Rattle.journal_disk.specs.Disk.{Seen}
 use Rattle.conservative_take.specs.AnyPolicies.{policy_is}
+use Rattle.commit_laws.proofs.Declared.{members_rise}
 use Rattle.coord_core.specs.Stands.{IsEmptyDisk}
 use Rattle.global_manager.specs.Stands as Manager
 use Rattle.global_manager.specs.Stands.{IsDeclared}
-use Rattle.fed_world.proofs.DeclaredSites.{members_ranged, members_rise}
+use Rattle.fed_world.proofs.DeclaredSites.{members_ranged}
 use Rattle.fed_world.proofs.DeclaredTransactions.{transactions_declared}
 use Rattle.fed_world.proofs.setting_up.new_coordinator.Goals as goal
 

@@ -2,6 +2,7 @@ use Rattle.std.proofs.Common.{◌≡◌, ◌+◌, Err, Some, None, List, [], len
 use Rattle.std.proofs.lemmas.Option.{slice_get-get_or}
 use Rattle.mdb_base.specs.declared.names.SiteId.{SiteId}
 use Rattle.mdb_base.specs.Words.{first_where}
+use Rattle.order_laws.proofs.InLaws.{slice_get-in}
 use Rattle.fed_rules.specs.declared.scenario.Scenario.{Scenario}
 use Rattle.fed_rules.specs.declared.scenario.SiteLine.{SiteLine}
 use Rattle.fed_rules.specs.Disk.{empty_disk}
@@ -18,7 +19,6 @@ use Rattle.local_dbms.specs.Stands as Dbms
 use Rattle.local_dbms.specs.Stands.{own_programs}
 use Rattle.site_core.specs.Store.{SomeStop}
 use Rattle.fed_world.proofs.DeclaredSites.{has_line, line_homed, line_site}
-use Rattle.fed_world.proofs.Pairs.{at_in}
 use Rattle.fed_world.proofs.SetUps.{IsUpTo, all_up, none_up, stops_at_once}
 use Rattle.fed_world.proofs.SetUpSteps.{disk_empty, disk_within, step_calm, step_failed, step_up, step_with_fault, step_without_memory}
 use Rattle.fed_world.proofs.setting_up.set_up_sites.Goals as goal
@@ -49,7 +49,7 @@ loop-site-preserved-in_default-line_of g c =
     let own : slice_get (sites scenario) n ≡ Some site = sym (ap (λ (zs : List SiteId). slice_get zs n) c.requires.declared) ∙ slice_get-get_or c.args.declared.now n (record { 0 = 0 }) c.loop-site-test.true in
     let none : first_where (declares site) scenario.sites ≡ None =
     sym (c.in_default-line_of.ensures ∙ (ap (λ (ls : List SiteLine). first_where (declares site) ls) c.as_slice.ensures ∙ ap (λ (s : Scenario). first_where (declares site) s.sites) c.scenario.view_is)) in
-    absurd (has_line scenario site (at_in (sites scenario) n site own) none)
+    absurd (has_line scenario site (slice_get-in (sites scenario) n site own) none)
 
 pub index_mut-requires : goal.index_mut-requires
 index_mut-requires g c =

@@ -1,8 +1,9 @@
 use Rattle.std.proofs.Common.{false, slice_set, sym, ap, ◌∙◌}
+use Rattle.mdb_base.proofs.EachLaws.{each_get_or}
 use Rattle.global_exec.specs.declared.progress.Progress.{Progress}
 use Rattle.global_exec.specs.Counted.{HasRoom, answered}
 use Rattle.global_exec.specs.Live.{is_at}
-use Rattle.global_exec.proofs.Firsts.{each_at, missing, stands}
+use Rattle.global_exec.proofs.Firsts.{missing, stands}
 use Rattle.global_exec.proofs.attempt.answer_at.Goals as goal
 
 abbrev nothing : Progress
@@ -10,7 +11,7 @@ nothing = record { site = record { 0 = 0 }; epoch = 0; n = 0; ticket = false; vo
 
 pub answered-requires : goal.answered-requires
 answered-requires c =
-    each_at HasRoom c.args.sites.now c.in-Some.place nothing c.requires (stands (is_at c.args.site) c.args.sites.now c.in-Some.place (sym c.place_of.ensures.place ∙ c.in-Some.is)).within
+    each_get_or HasRoom c.args.sites.now c.in-Some.place nothing c.requires (stands (is_at c.args.site) c.args.sites.now c.in-Some.place (sym c.place_of.ensures.place ∙ c.in-Some.is)).within
 
 pub returns-in-None : goal.returns-in-None
 returns-in-None c =

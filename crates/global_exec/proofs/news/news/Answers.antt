@@ -1,4 +1,4 @@
-use Rattle.std.proofs.Common.{◌++◌, false, Option, List, get_or, option_to_list, sym, ap, subst, ◌∙◌, arith}
+use Rattle.std.proofs.Common.{◌++◌, false, Option, List, get_or, option_to_list, sym, ap, subst, ◌∙◌}
 use Rattle.std.proofs.lemmas.List.{take_all}
 use Rattle.mdb_base.specs.Rising.{IsRising}
 use Rattle.mdb_base.specs.Words.{found}
@@ -20,20 +20,15 @@ loop-progress-preserved c =
     let items = c.args.sites.now in
     let i = c.loop-progress.progress-index in
     let look : Progress → Option Due = news_in c.args.program.now c.args.done c.args.reads.now c.args.site c.args.before in
-    record {
-      dues =
-          c.put_some.ensures.items ∙ ap (λ (o : Option Due). c.loop-progress.dues.items ++ option_to_list o) (c.news_at.ensures)
-          ∙ ap (λ (ds : List Due). ds ++ option_to_list (look (get_or items i nothing))) c.loop-progress.invariant.dues
-          ∙ found_more look items i nothing c.loop-progress-test.true;
-      count = omega arith;
-      room = omega arith;
-    }
+    c.in_ok-put_some.ensures ∙ ap (λ (o : Option Due). c.loop-progress.dues ++ option_to_list o) c.news_at-due.ensures
+    ∙ ap (λ (ds : List Due). ds ++ option_to_list (look (get_or items i nothing))) c.loop-progress.invariant
+    ∙ found_more look items i nothing c.loop-progress-test.true
 
-pub of-requires : goal.of-requires
-of-requires c =
+pub of_few-requires : goal.of_few-requires
+of_few-requires c =
     let items = c.args.sites.now in
     let look : Progress → Option Due = news_in c.args.program.now c.args.done c.args.reads.now c.args.site c.args.before in
     let live : Live = record { tid = record { tx = record { 0 = 0 }; attempt = 0 }; program = c.args.program.now; reads = c.args.reads.now; done = c.args.done; sites = items } in
     subst (IsRising (λ (b : Due). (due_site b).0))
-    (sym (c.loop-progress.invariant.dues ∙ ap (found look) (take_all c.loop-progress.progress-index items c.loop-progress-test.false)))
+    (sym (c.loop-progress.invariant ∙ ap (found look) (take_all c.loop-progress.progress-index items c.loop-progress-test.false)))
     (found_rises site_number (λ (b : Due). (due_site b).0) look (λ p b e. news_at_site p b c.args.site c.args.before live e) items c.requires.rising)

@@ -7,13 +7,14 @@ use Rattle.fed_world.specs.SettingUp.{FailsToStart}
 use Rattle.fed_world.specs.Faults.{FailedAs}
 use Rattle.fed_world.specs.Worlds.{Stands}
 use Rattle.fed_world.proofs.Faults.{failed_later}
+use Rattle.fed_world.proofs.Recalled.{recalls}
 use Rattle.closing.specs.Towards.{FailsToward}
+use Rattle.closing.proofs.World.{nine}
 use Rattle.mdb_top.specs.Plays.{closed_with}
 use Rattle.mdb_top.specs.Sessions.{commands_of}
 use Rattle.mdb_top.proofs.Holding.{all_sized, stands_hold_all, stands_hold_frames, starts_broken, starts_short}
 use Rattle.mdb_top.proofs.OutputLemmas.{broken_output, front_before, no_lines, play_breaks, short_output, whole_output, whole_weaker}
 use Rattle.mdb_top.proofs.PlayLemmas.{can_play, front_heard, lines_fit, session_commands, session_heard}
-use Rattle.mdb_top.proofs.Recalled.{nine, recalls}
 use Rattle.mdb_top.proofs.Rights.{story_right}
 use Rattle.mdb_top.proofs.UsedDisks.{are_empty}
 use Rattle.mdb_top.proofs.output.output_of.Goals as goal

@@ -1,6 +1,6 @@
 use Rattle.std.proofs.Common.{◌++◌, ◌∙◌, ap}
 use Rattle.report_text.specs.Spelling.{report_bytes}
-use Rattle.trace_lines.specs.Spelling.{lines_bytes}
+use Rattle.line_text.specs.Spelling.{lines_bytes}
 use Rattle.mdb_top.proofs.PlayLemmas.{lines_fit}
 use Rattle.mdb_top.proofs.output.printed.Goals as goal
 

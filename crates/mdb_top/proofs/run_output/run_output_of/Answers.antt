@@ -1,12 +1,12 @@
 use Rattle.std.proofs.Common.{List, map, sym, subst}
 use Rattle.fed_rules.specs.declared.commands.Line.{Line}
 use Rattle.host_laws.specs.Merged.{commands_of}
+use Rattle.fed_world.proofs.Recalled.{recalls}
 use Rattle.mdb_top.specs.declared.threaded.Ended.{Ended}
 use Rattle.mdb_top.specs.Ends.{ComesToEnd}
 use Rattle.mdb_top.specs.Runs.{host_commands, run_commands}
 use Rattle.mdb_top.proofs.Holding.{all_sized}
 use Rattle.mdb_top.proofs.OutputLemmas.{whole_weaker}
-use Rattle.mdb_top.proofs.Recalled.{recalls}
 use Rattle.mdb_top.proofs.RunLemmas.{Stops, before, ended_output, ended_printable, failed_output, off_breaks, off_fit, stopped_breaks, stopped_fit, stopped_lines}
 use Rattle.mdb_top.proofs.UsedDisks.{are_empty}
 use Rattle.mdb_top.proofs.run_output.run_output_of.Goals as goal

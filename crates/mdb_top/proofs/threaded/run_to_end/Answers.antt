@@ -6,9 +6,9 @@ use Rattle.federation_run.specs.Running.{EndsBadly}
 use Rattle.fed_world.specs.declared.errors.WorldErr.{WorldErr}
 use Rattle.fed_world.specs.Faults.{FailedAs}
 use Rattle.fed_world.proofs.Faults.{failed_later}
+use Rattle.closing.proofs.World.{nine}
 use Rattle.mdb_top.specs.Runs.{host_commands, run_commands}
 use Rattle.mdb_top.proofs.Ending.{has_ended, of_hosts}
-use Rattle.mdb_top.proofs.Recalled.{nine}
 use Rattle.mdb_top.proofs.threaded.run_to_end.Goals as goal
 
 pub end-requires-clause-stood : goal.end-requires-clause-stood

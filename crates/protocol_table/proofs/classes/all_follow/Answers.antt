@@ -1,11 +1,12 @@
 use Rattle.std.proofs.Common.{rules, tests, sym, ◌∙◌}
 use Rattle.std.proofs.lemmas.Iterator.{YieldsList-from_slice}
 use Rattle.std.proofs.lemmas.Iterator.Search.{all_from_yields_List}
+use Rattle.mdb_base.proofs.TestLaws.{each_of-list_all}
 use Rattle.presumptions.specs.declared.Participant.{Participant}
 use Rattle.fed_rules.specs.CoordRecords.{same_protocol}
 use Rattle.protocol_table.specs.declared.members.Member.{Member}
 use Rattle.protocol_table.specs.Attempts.{participant_of}
-use Rattle.protocol_table.proofs.Words.{each_of-list_all, each_of_map}
+use Rattle.protocol_table.proofs.Words.{each_of_map}
 use Rattle.protocol_table.proofs.classes.all_follow.Goals as goal
 
 pub returns : goal.returns

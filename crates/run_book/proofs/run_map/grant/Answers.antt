@@ -2,9 +2,10 @@ use Rattle.std.proofs.Common.{◌≡◌, Some, sym, ap, ◌∙◌, subst, IsSome
 use Rattle.std.proofs.lemmas.Map.Steps.{set_value_same}
 use Rattle.std.proofs.lemmas.Result.{on_ok_weaker, on_err_weaker}
 use Rattle.std.specs.Option.{option_copied_mut}
+use Rattle.mdb_base.proofs.OptionLaws.{lent}
 use Rattle.run_book.specs.Held.{Held}
 use Rattle.run_book.specs.Book.{granted_to}
-use Rattle.run_book.proofs.RunMaps.{get_run, look, written_back, lent}
+use Rattle.run_book.proofs.RunMaps.{get_run, look, written_back}
 use Rattle.run_book.proofs.run_map.grant.Goals as goal
 
 pub unwrap-run-requires : goal.unwrap-run-requires

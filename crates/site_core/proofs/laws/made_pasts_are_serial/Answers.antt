@@ -1,8 +1,8 @@
 use Rattle.site_history.specs.SiteOrders.{HasGoodStarts, IsSerialPast}
 use Rattle.site_history.proofs.SerialPasts.{pasts_serial}
 use Rattle.site_history.proofs.WellKept.{starts_well}
-use Rattle.sum_laws.specs.Sums.{JournalSaysAll, JournalTellsStart}
-use Rattle.sum_laws.proofs.SummedPasts.{journals_say_all, journals_tell_starts}
+use Rattle.site_history.specs.Sums.{JournalSaysAll, JournalTellsStart}
+use Rattle.site_history.proofs.SummedPasts.{journals_say_all, journals_tell_starts}
 use Rattle.site_core.proofs.MadeLaws.{made_right, of_made, of_made_once}
 use Rattle.site_core.proofs.laws.made_pasts_are_serial.Goals as goal
 

@@ -1,5 +1,5 @@
 use Rattle.std.proofs.Common.{◌≡◌, length}
-use Rattle.trace_lines.specs.Fits as fits
+use Rattle.line_text.specs.Fits as fits
 use Rattle.trace_lines.proofs.fits.sites_rise.Given as goal
 
 -- the places that are left rise exactly where all do

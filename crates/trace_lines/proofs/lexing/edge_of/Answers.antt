@@ -1,6 +1,6 @@
 use Rattle.std.proofs.Common.{Some, None, arith}
 use Rattle.mdb_base.specs.Texts.{tid_text}
-use Rattle.trace_lines.specs.Range.{is_tid}
+use Rattle.line_text.specs.Range.{is_tid}
 use Rattle.trace_lines.specs.Lexing.{is_target, target_text}
 use Rattle.trace_lines.proofs.Named.{lacks-tid, edge_read}
 use Rattle.trace_lines.proofs.Pairs.{no_mark, no_first, no_second, both_found}

@@ -1,6 +1,6 @@
 use Rattle.std.proofs.Common.{ℕ, ◌<◌, ◌^◌, decimal, IsTrue, inl, arith}
 use Rattle.std.proofs.lemmas.Bool.{ltb-true}
-use Rattle.trace_lines.specs.Range.{is_large}
+use Rattle.line_text.specs.Range.{is_large}
 use Rattle.trace_lines.proofs.Bytes.{Lacks, lacks-decimal}
 use Rattle.trace_lines.proofs.Pairs.{no_mark, no_first, no_second}
 use Rattle.trace_lines.proofs.lexing.numbers_of.Goals as goal

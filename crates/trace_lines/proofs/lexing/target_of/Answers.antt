@@ -1,6 +1,6 @@
 use Rattle.std.proofs.Common.{arith}
 use Rattle.mdb_base.specs.Texts.{tid_text}
-use Rattle.trace_lines.specs.Range.{is_tid, is_site}
+use Rattle.line_text.specs.Range.{is_tid, is_site}
 use Rattle.trace_lines.specs.Lexing.{site_text}
 use Rattle.trace_lines.proofs.Named.{lacks-tid}
 use Rattle.trace_lines.proofs.Pairs.{no_mark, no_first, no_second}

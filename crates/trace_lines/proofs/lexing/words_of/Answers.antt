@@ -2,7 +2,7 @@ use Rattle.std.proofs.Common.{◌∙◌, map, length, sym, ap, subst, lit<, arit
 use Rattle.std.proofs.lemmas.List.{take_all}
 use Rattle.std.proofs.lemmas.Iterator.Splits.{YieldsList-from_str_split}
 use Rattle.std.proofs.lemmas.Iterator.Consumers.{YieldsList-turn, YieldsList-end}
-use Rattle.trace_lines.specs.Words.{word_text}
+use Rattle.line_text.specs.Words.{word_text}
 use Rattle.trace_lines.specs.Lexing.{pieces}
 use Rattle.trace_lines.proofs.Pieces.{AreWords, IsAt, words_push, texts_push, no_word_at}
 use Rattle.trace_lines.proofs.lexing.words_of.Goals as goal

@@ -1,7 +1,7 @@
 use Rattle.std.proofs.Common.{◌≡◌, IsTrue, length, map, take}
 use Rattle.mdb_base.specs.Words.{Each}
-use Rattle.trace_lines.specs.Range.{is_word}
-use Rattle.trace_lines.specs.Words.{word_text}
+use Rattle.line_text.specs.Range.{is_word}
+use Rattle.line_text.specs.Words.{word_text}
 use Rattle.trace_lines.specs.Lexing.{pieces}
 use Rattle.trace_lines.proofs.lexing.words_of.Given as goal
 

@@ -1,9 +1,10 @@
 use Rattle.std.proofs.Common.{is_some, Option, sym, ap, ◌∙◌, subst, IsSome}
 use Rattle.std.specs.FinMap.{get}
+use Rattle.mdb_base.proofs.OptionLaws.{is_some-true}
 use Rattle.run_book.proofs.HeldBy.{some-found}
 use Rattle.access_ages.specs.declared.key_ages.KeyAges.{KeyAges}
 use Rattle.access_ages.specs.Ages.{Ages, ages_of}
-use Rattle.access_ages.proofs.Trees.{get_look, room_same, some_true}
+use Rattle.access_ages.proofs.Trees.{get_look, room_same}
 use Rattle.access_ages.proofs.accesses.AccessAges.make_room.Goals as goal
 
 pub returns-in_ok-insert-clause-room : goal.returns-in_ok-insert-clause-room
@@ -18,5 +19,5 @@ returns-in_ok-insert-clause-same c =
 pub returns-else-not-contains_key-clause-room : goal.returns-else-not-contains_key-clause-room
 returns-else-not-contains_key-clause-room c =
     subst (λ (m : Ages). IsSome (get m c.args.key.0)) c.self.view_is
-    (some_true _ (ap (λ (o : Option KeyAges). is_some o) (get_look c.self.inside.keys.entries c.args.key.0)
+    (is_some-true _ (ap (λ (o : Option KeyAges). is_some o) (get_look c.self.inside.keys.entries c.args.key.0)
     ∙ (sym c.contains_key.ensures ∙ c.if-not-contains_key.false)))

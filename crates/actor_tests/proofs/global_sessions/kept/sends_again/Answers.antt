@@ -4,7 +4,7 @@ use Rattle.fed_rules.specs.CoordCommands.{attempt_request}
 use Rattle.fed_rules.specs.CoordPast.{CoordPast}
 use Rattle.fed_rules.specs.Requests.{Request}
 use Rattle.fed_rules.specs.declared.events.CoordEvent.{CoordEvent}
-use Rattle.coord_core.specs.Terms.{Terms}
+use Rattle.coord_tables.specs.Terms.{Terms}
 use Rattle.site_core.specs.Sessions.{mem_seen}
 use Rattle.global_manager.specs.Stands.{OwnPrograms, Stands}
 use Rattle.actor_tests.specs.GlobalSessions.{IsOfThree}

@@ -3,7 +3,7 @@ use Rattle.mdb_base.specs.declared.names.SiteId.{SiteId}
 use Rattle.fed_rules.specs.declared.events.CoordEvent.TheVariants as Ev
 use Rattle.fed_rules.specs.declared.messages.FromSite.TheVariants as From
 use Rattle.fed_rules.specs.CoordPast.{CoordPast}
-use Rattle.coord_core.specs.Terms.{Terms}
+use Rattle.coord_tables.specs.Terms.{Terms}
 use Rattle.site_core.specs.Sessions.{mem_seen}
 use Rattle.global_manager.specs.Stands.{OwnPrograms, Stands}
 use Rattle.actor_tests.specs.GlobalSessions.{IsOfThree}

@@ -4,7 +4,7 @@ use Rattle.fed_rules.specs.declared.events.CoordEvent.TheVariants as Ev
 use Rattle.fed_rules.specs.CoordCommands.{attempt_request, fate_request, go_request}
 use Rattle.fed_rules.specs.CoordPast.{CoordPast}
 use Rattle.fed_rules.specs.Requests.{Request, Submits}
-use Rattle.coord_core.specs.Terms.{Terms}
+use Rattle.coord_tables.specs.Terms.{Terms}
 use Rattle.site_core.specs.Sessions.{mem_seen}
 use Rattle.global_manager.specs.Stands.{OwnPrograms, Stands}
 use Rattle.actor_tests.specs.GlobalSessions.{IsOfThree}

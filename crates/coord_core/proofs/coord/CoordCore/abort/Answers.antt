@@ -1,18 +1,17 @@
 use Rattle.std.proofs.Common.{List, Some, map, refl, sym, ap, subst, ◌∙◌}
+use Rattle.mdb_base.proofs.ResultLaws.{map_err, map_ok}
 use Rattle.presumptions.specs.declared.Decision.TheVariants as Decision_is
-use Rattle.presumptions.specs.declared.Participant.{Participant}
 use Rattle.fed_rules.specs.declared.answers.Answer.TheVariants as Say
 use Rattle.fed_rules.specs.declared.events.CoordStep.{CoordStep}
-use Rattle.fed_rules.specs.Coord.{decide_to}
 use Rattle.fed_rules.specs.CoordPast.{disk, records, trip}
 use Rattle.fed_rules.specs.CoordRecords.{commits}
 use Rattle.ticket_graph.specs.Graph.{AreHeld, Graph, StandsFor}
 use Rattle.coord_core.specs.declared.coord.CoordCore.{CoordCore}
-use Rattle.coord_core.specs.declared.stages.Stage.{Stage}
-use Rattle.coord_core.specs.declared.tables.Tables.{Tables}
-use Rattle.coord_core.specs.Stages.{stage_tickets}
-use Rattle.coord_core.proofs.Aborts.{abort_pending, abort_record_fits, abort_record_in_range, abort_serving, aborted, table_forgets}
-use Rattle.coord_core.proofs.Outcomes.{map_err, map_ok}
+use Rattle.coord_tables.specs.declared.stages.Stage.{Stage}
+use Rattle.coord_tables.specs.declared.tables.Tables.{Tables}
+use Rattle.coord_tables.specs.Stages.{stage_tickets}
+use Rattle.coord_tables.proofs.Aborts.{abort_record_fits, abort_record_in_range, abort_serving, aborted, table_forgets}
+use Rattle.coord_core.proofs.Aborts.{abort_pending}
 use Rattle.coord_core.proofs.Roomed.{stands_roomed}
 use Rattle.coord_core.proofs.Still.{serves, up_is}
 use Rattle.coord_core.proofs.coord.CoordCore.abort.Goals as goal
@@ -48,11 +47,11 @@ pub returns-clause-answered : goal.returns-clause-answered
 returns-clause-answered g c =
     let old = c.args.self.now in
     let core : CoordCore g.row.P.Denot = record old { tables = c.prune.new.self; store = c.room_for.new.store } in
-    let step : CoordStep = record { answer = Say.Decides Decision_is.Abort (Some c.args.cause) c.decide-forgets.result; sends = c.in-Ok-decide_to.sends } in
+    let step : CoordStep = record { answer = Say.Decides Decision_is.Abort (Some c.args.cause) c.decide-forgets.result; sends = c.in-Ok.sends } in
     map_ok _ _ c.end.result c.end.ensures.answered (λ ended each terms past event k i.
     let s = serves g.P.TakePolicy.policy g.D.Disk.tells old terms past k.holds c.requires.up in
     let sound = k.holds.sound in
-    let members = c.in-Ok.ensures terms past sound s i.undecided in
+    let sends = c.in-Ok.ensures terms past sound s i.undecided in
     let entry = c.in-Ok-abort_record.ensures terms past sound s i.undecided in
     let is = table_forgets terms past event c.args.tid c.args.cause i sound old.tables c.in-Ok-abort_record.entry c.is_some-first.result c.decide-forgets.result s entry c.is_some-first.ensures c.decide-forgets.ensures.forgets in
     let served = abort_serving terms past event c.args.tid c.args.cause i sound old.tables c.prune.new.self c.is_some-first.result c.decide-forgets.result is.0 is.1
@@ -62,18 +61,18 @@ returns-clause-answered g c =
     (subst (λ (ss : List Stage). AreHeld (map stage_tickets ss) c.prune.new.self.graph) (sym (ap (λ (t : Tables). t.stages.listed) c.prune.ensures.tables)) c.prune.ensures.held) s in
     each terms past event (aborted terms past event c.args.tid c.args.cause i sound)
     (abort_pending terms past event c.args.tid c.args.cause i sound g.P.TakePolicy.policy g.D.Disk.tells step old core (g.D.Disk.seen c.args.disk.now) (g.D.Disk.seen c.room_for.new.disk) c.in-Ok-abort_record.entry c.decide-forgets.result k entry is.0 refl
-    (c.in-Ok-decide_to.ensures ∙ ap (λ (ps : List Participant). decide_to c.args.tid Decision_is.Abort ps) members)
+    sends
     (c.room_for.ensures.keeps (disk past) (trip past) k.stored) (up_is g.P.TakePolicy.policy g.D.Disk.tells old terms past k.holds c.requires.up) refl refl refl served))
 
 pub returns-clause-failed : goal.returns-clause-failed
 returns-clause-failed g c =
     let old = c.args.self.now in
     let core : CoordCore g.row.P.Denot = record old { tables = c.prune.new.self; store = c.room_for.new.store } in
-    let step : CoordStep = record { answer = Say.Decides Decision_is.Abort (Some c.args.cause) c.decide-forgets.result; sends = c.in-Ok-decide_to.sends } in
+    let step : CoordStep = record { answer = Say.Decides Decision_is.Abort (Some c.args.cause) c.decide-forgets.result; sends = c.in-Ok.sends } in
     map_err _ _ c.end.result c.end.ensures.failed (λ why each terms past event k i.
     let s = serves g.P.TakePolicy.policy g.D.Disk.tells old terms past k.holds c.requires.up in
     let sound = k.holds.sound in
-    let members = c.in-Ok.ensures terms past sound s i.undecided in
+    let sends = c.in-Ok.ensures terms past sound s i.undecided in
     let entry = c.in-Ok-abort_record.ensures terms past sound s i.undecided in
     let is = table_forgets terms past event c.args.tid c.args.cause i sound old.tables c.in-Ok-abort_record.entry c.is_some-first.result c.decide-forgets.result s entry c.is_some-first.ensures c.decide-forgets.ensures.forgets in
     let served = abort_serving terms past event c.args.tid c.args.cause i sound old.tables c.prune.new.self c.is_some-first.result c.decide-forgets.result is.0 is.1
@@ -83,5 +82,5 @@ returns-clause-failed g c =
     (subst (λ (ss : List Stage). AreHeld (map stage_tickets ss) c.prune.new.self.graph) (sym (ap (λ (t : Tables). t.stages.listed) c.prune.ensures.tables)) c.prune.ensures.held) s in
     each terms past event (aborted terms past event c.args.tid c.args.cause i sound)
     (abort_pending terms past event c.args.tid c.args.cause i sound g.P.TakePolicy.policy g.D.Disk.tells step old core (g.D.Disk.seen c.args.disk.now) (g.D.Disk.seen c.room_for.new.disk) c.in-Ok-abort_record.entry c.decide-forgets.result k entry is.0 refl
-    (c.in-Ok-decide_to.ensures ∙ ap (λ (ps : List Participant). decide_to c.args.tid Decision_is.Abort ps) members)
+    sends
     (c.room_for.ensures.keeps (disk past) (trip past) k.stored) (up_is g.P.TakePolicy.policy g.D.Disk.tells old terms past k.holds c.requires.up) refl refl refl served))

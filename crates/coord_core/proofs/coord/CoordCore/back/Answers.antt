@@ -1,7 +1,7 @@
 use Rattle.std.proofs.Common.{None, refl}
+use Rattle.mdb_base.proofs.ResultLaws.{map_err}
 use Rattle.fed_rules.specs.CoordPast.{disk, trip}
 use Rattle.coord_core.proofs.Backs.{read_failed, stays_down}
-use Rattle.coord_core.proofs.Outcomes.{map_err}
 use Rattle.coord_core.proofs.coord.CoordCore.back.Goals as goal
 
 pub returns-in-Ok-clause-failed : goal.returns-in-Ok-clause-failed

@@ -9,12 +9,13 @@ use Rattle.fed_rules.specs.Coord.{send_due}
 use Rattle.global_exec.specs.Live.{all_due, live_of, submitted}
 use Rattle.protocol_table.specs.Attempts.{known_of, submitted as submitted_known}
 use Rattle.coord_core.specs.declared.coord.CoordCore.{CoordCore}
-use Rattle.coord_core.specs.declared.stages.Stage.{Stage}
-use Rattle.coord_core.specs.Attempts.{last_of}
-use Rattle.coord_core.specs.Stages.{fresh_stage}
-use Rattle.coord_core.proofs.Beginnings.{begun_steps, none_known, none_live, stands_listed}
-use Rattle.coord_core.proofs.Inquiries.{running_is}
-use Rattle.coord_core.proofs.Outcomes.{on_err}
+use Rattle.coord_tables.specs.declared.stages.Stage.{Stage}
+use Rattle.coord_tables.specs.Attempts.{last_of}
+use Rattle.coord_tables.specs.Stages.{fresh_stage}
+use Rattle.coord_tables.proofs.Beginnings.{none_known, none_live}
+use Rattle.coord_core.proofs.Beginnings.{begun_steps, stands_listed}
+use Rattle.coord_tables.proofs.Inquiries.{running_is}
+use Rattle.coord_tables.proofs.Outcomes.{on_err}
 use Rattle.coord_core.proofs.Still.{serves}
 use Rattle.coord_core.proofs.coord.CoordCore.begin.Goals as goal
 

@@ -1,12 +1,12 @@
 use Rattle.std.proofs.Common.{true, sym, refl, ◌∙◌}
+use Rattle.mdb_base.proofs.ResultLaws.{map_on_err, map_ok}
 use Rattle.fed_rules.specs.declared.answers.Answer.TheVariants as Say
 use Rattle.fed_rules.specs.declared.events.CoordEvent.TheVariants as Ev
 use Rattle.fed_rules.specs.Happenings.{quiet}
-use Rattle.coord_core.proofs.Calm.{quiet_calm}
+use Rattle.coord_tables.proofs.Calm.{quiet_calm}
 use Rattle.coord_core.proofs.Events.{calm_steps}
-use Rattle.coord_core.proofs.Beginnings.{go_committed, go_running}
-use Rattle.coord_core.proofs.Inquiries.{running_is}
-use Rattle.coord_core.proofs.Outcomes.{map_fail, map_ok}
+use Rattle.coord_tables.proofs.Beginnings.{go_committed, go_running}
+use Rattle.coord_tables.proofs.Inquiries.{running_is}
 use Rattle.coord_core.proofs.Still.{serves}
 use Rattle.coord_core.proofs.coord.CoordCore.go.Goals as goal
 
@@ -50,4 +50,4 @@ returns-in-None-last_of-clause-answered g c = map_ok _ _ c.begin.result c.begin.
     }))
 
 pub returns-in-None-last_of-clause-memory : goal.returns-in-None-last_of-clause-memory
-returns-in-None-last_of-clause-memory g c = map_fail _ _ c.begin.result c.begin.ensures.memory (λ each tells seen terms past k can. each tells seen terms past k)
+returns-in-None-last_of-clause-memory g c = map_on_err _ _ c.begin.result c.begin.ensures.memory (λ each tells seen terms past k can. each tells seen terms past k)

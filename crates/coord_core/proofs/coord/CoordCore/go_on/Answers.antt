@@ -1,8 +1,9 @@
 use Rattle.std.proofs.Common.{refl, sym, ◌∙◌}
+use Rattle.mdb_base.proofs.ResultLaws.{map_err, map_ok}
 use Rattle.fed_rules.specs.Coord.{may_take}
-use Rattle.coord_core.specs.Replies.{reply_event}
-use Rattle.coord_core.proofs.Dids.{counts_open, did_sending, goes_next, news_are}
-use Rattle.coord_core.proofs.Outcomes.{map_err, map_ok}
+use Rattle.rules_laws.proofs.CoordPasts.{counts_open}
+use Rattle.coord_tables.specs.Replies.{reply_event}
+use Rattle.coord_tables.proofs.Dids.{did_sending, goes_next, news_are}
 use Rattle.coord_core.proofs.Still.{serves}
 use Rattle.coord_core.proofs.coord.CoordCore.go_on.Goals as goal
 

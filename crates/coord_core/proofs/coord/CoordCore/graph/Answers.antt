@@ -2,9 +2,9 @@ use Rattle.std.proofs.Common.{true, sym, ap, subst, ◌∙◌}
 use Rattle.fed_rules.specs.CoordPast.{records}
 use Rattle.fed_rules.specs.CoordRecords.{commits}
 use Rattle.ticket_graph.specs.Graph.{AreHeld, Graph, StandsFor}
-use Rattle.coord_core.specs.Waiting.{waiting}
+use Rattle.coord_tables.specs.Waiting.{waiting}
 use Rattle.coord_core.proofs.Still.{serves_up}
-use Rattle.coord_core.proofs.Waiting.{nothing_kept}
+use Rattle.coord_tables.proofs.Waiting.{nothing_kept}
 use Rattle.coord_core.proofs.coord.CoordCore.graph.Goals as goal
 
 pub returns-clause-stands : goal.returns-clause-stands

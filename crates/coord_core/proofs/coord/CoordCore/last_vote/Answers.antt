@@ -2,11 +2,9 @@ use Rattle.std.proofs.Common.{◌≡◌, true, cond, map, IsSome, Option, List, 
 use Rattle.mdb_base.specs.declared.names.SiteTicket.{SiteTicket}
 use Rattle.mdb_base.specs.declared.names.Tid.{Tid}
 use Rattle.presumptions.specs.declared.Decision.TheVariants as Decision_is
-use Rattle.presumptions.specs.declared.Participant.{Participant}
 use Rattle.fed_rules.specs.declared.answers.Answer.TheVariants as Say
 use Rattle.fed_rules.specs.declared.events.CoordStep.{CoordStep}
 use Rattle.fed_rules.specs.declared.records.CoordRecord.TheVariants as Rec
-use Rattle.fed_rules.specs.Coord.{decide_to}
 use Rattle.fed_rules.specs.CoordRecords.{commits}
 use Rattle.fed_rules.specs.CoordPast.{disk, records, trip}
 use Rattle.journal_disk.specs.Frames.{IsPayload}
@@ -16,20 +14,21 @@ use Rattle.frame_journal.specs.Journal.{HasRoom, written_size}
 use Rattle.protocol_table.specs.declared.known.Known.{Known}
 use Rattle.protocol_table.specs.Attempts.{IsUndecided}
 use Rattle.coord_core.specs.declared.coord.CoordCore.{CoordCore}
-use Rattle.coord_core.specs.declared.stages.Stage.{Stage}
-use Rattle.coord_core.specs.declared.tables.Tables.{Tables}
-use Rattle.coord_core.specs.Stages.{stage_tickets}
+use Rattle.coord_tables.specs.declared.stages.Stage.{Stage}
+use Rattle.coord_tables.specs.declared.tables.Tables.{Tables}
+use Rattle.coord_tables.specs.Stages.{stage_tickets}
 use Rattle.coord_core.specs.Store.{Keeps, Store}
-use Rattle.coord_core.specs.Trees.{Tree, committed_in, entry_of}
+use Rattle.coord_tables.specs.Trees.{Tree, committed_in, entry_of}
 use Rattle.mdb_base.specs.Names.{same_tx}
-use Rattle.coord_core.specs.Voting.{vote_event}
-use Rattle.coord_core.proofs.Committing.{HasDecided, commit_fits, commit_in_range, commit_pending, committed, core_same, cycle_aborting, lacks_decision, last_open, one_each, stands_as}
-use Rattle.coord_core.proofs.Outcomes.{map_err, map_ok}
+use Rattle.mdb_base.proofs.ResultLaws.{map_err, map_ok}
+use Rattle.coord_tables.specs.Voting.{vote_event}
+use Rattle.coord_tables.proofs.Committing.{HasDecided, commit_fits, commit_in_range, committed, cycle_aborting, lacks_decision, last_open, one_each}
+use Rattle.coord_core.proofs.Committing.{commit_pending, core_same, stands_as}
 use Rattle.coord_core.proofs.Still.{serves, up_is}
 use Rattle.coord_core.proofs.coord.CoordCore.last_vote.Goals as goal
 
-pub members-requires : goal.members-requires
-members-requires g c =
+pub decisions-requires : goal.decisions-requires
+decisions-requires g c =
     let m = c.requires.may in
     record {
       terms = m.terms;
@@ -142,13 +141,13 @@ end-requires-clause-payload g c =
     subst (λ (ks : List SiteTicket). IsPayload (spelling (Rec.Commit c.args.tid ks))) (sym c.in-Ok-same_tickets.ensures)
     (commit_fits m.terms m.past c.args.site c.args.tid c.args.ticket c.args.tickets.now m.stood.holds.sound m.holds)
 
-pub returns-clause-answered : goal.returns-clause-answered
-returns-clause-answered g c =
+pub returns-in-Ok-Added-clause-answered : goal.returns-in-Ok-Added-clause-answered
+returns-in-Ok-Added-clause-answered g c =
     let roomed : CoordCore g.row.P.Denot = c.room_for_commit.new.self in
     let tried : CoordCore g.row.P.Denot = c.try_tickets.new.self in
     let others : tried ≡ record roomed { tables = record roomed.tables { graph = tried.tables.graph } } = c.try_tickets.ensures.others in
     let core : CoordCore g.row.P.Denot = record tried { tables = c.prune.new.self } in
-    let step : CoordStep = record { answer = Say.Decides Decision_is.Commit None c.decide-forgets.result; sends = c.in-Ok-decide_to.sends } in
+    let step : CoordStep = record { answer = Say.Decides Decision_is.Commit None c.decide-forgets.result; sends = c.in-Ok.sends } in
     let decided : HasDecided c.args.tid Decision_is.Commit true c.decide-forgets.result tried.tables c.decide-forgets.new.self = record {
       forgets = c.decide-forgets.ensures.forgets;
       known = c.decide-forgets.ensures.known;
@@ -164,7 +163,7 @@ returns-clause-answered g c =
     let sound = k.holds.sound in
     let was = serves g.P.TakePolicy.policy g.D.Disk.tells c.args.self.now terms past k.holds c.requires.up in
     let u = last_open terms past c.args.site c.args.tid c.args.ticket c.args.tickets.now sound l in
-    let members = c.in-Ok.ensures terms past sound was u in
+    let sends = c.in-Ok.ensures terms past sound was u in
     let k2 = c.room_for_commit.ensures.stands terms past k in
     let up = c.room_for_commit.ensures.standing ∙ c.requires.up in
     let s = serves g.P.TakePolicy.policy g.D.Disk.tells roomed terms past k2.holds up in
@@ -179,17 +178,17 @@ returns-clause-answered g c =
     (c.prune.ensures.stands (record { tid = c.args.tid; tickets = c.args.tickets.now } ∷ commits (records past))
     (subst (λ (h : Graph). StandsFor (record { tid = c.args.tid; tickets = c.args.tickets.now } ∷ commits (records past)) h) (sym c.decide-forgets.ensures.graph) graph))
     (subst (λ (ss : List Stage). AreHeld (map stage_tickets ss) core.tables.graph) (sym (ap (λ (t : Tables). t.stages.listed) kept)) c.prune.ensures.held)
-    refl (c.in-Ok-decide_to.ensures ∙ ap (λ (ps : List Participant). decide_to c.args.tid Decision_is.Commit ps) members)
+    refl sends
     (subst (λ (st : Store). Keeps g.D.Disk.tells (g.D.Disk.seen c.room_for_commit.new.disk) st (disk past) (trip past)) (sym (ap (λ (one : CoordCore g.row.P.Denot). one.store) others)) k2.stored)
     (ap (λ (one : CoordCore g.row.P.Denot). one.protocols) others) (ap (λ (one : CoordCore g.row.P.Denot). one.policy) others) (ap (λ (one : CoordCore g.row.P.Denot). one.begun) others)))
 
-pub returns-clause-failed : goal.returns-clause-failed
-returns-clause-failed g c =
+pub returns-in-Ok-Added-clause-failed : goal.returns-in-Ok-Added-clause-failed
+returns-in-Ok-Added-clause-failed g c =
     let roomed : CoordCore g.row.P.Denot = c.room_for_commit.new.self in
     let tried : CoordCore g.row.P.Denot = c.try_tickets.new.self in
     let others : tried ≡ record roomed { tables = record roomed.tables { graph = tried.tables.graph } } = c.try_tickets.ensures.others in
     let core : CoordCore g.row.P.Denot = record tried { tables = c.prune.new.self } in
-    let step : CoordStep = record { answer = Say.Decides Decision_is.Commit None c.decide-forgets.result; sends = c.in-Ok-decide_to.sends } in
+    let step : CoordStep = record { answer = Say.Decides Decision_is.Commit None c.decide-forgets.result; sends = c.in-Ok.sends } in
     let decided : HasDecided c.args.tid Decision_is.Commit true c.decide-forgets.result tried.tables c.decide-forgets.new.self = record {
       forgets = c.decide-forgets.ensures.forgets;
       known = c.decide-forgets.ensures.known;
@@ -205,7 +204,7 @@ returns-clause-failed g c =
     let sound = k.holds.sound in
     let was = serves g.P.TakePolicy.policy g.D.Disk.tells c.args.self.now terms past k.holds c.requires.up in
     let u = last_open terms past c.args.site c.args.tid c.args.ticket c.args.tickets.now sound l in
-    let members = c.in-Ok.ensures terms past sound was u in
+    let sends = c.in-Ok.ensures terms past sound was u in
     let k2 = c.room_for_commit.ensures.stands terms past k in
     let up = c.room_for_commit.ensures.standing ∙ c.requires.up in
     let s = serves g.P.TakePolicy.policy g.D.Disk.tells roomed terms past k2.holds up in
@@ -220,6 +219,6 @@ returns-clause-failed g c =
     (c.prune.ensures.stands (record { tid = c.args.tid; tickets = c.args.tickets.now } ∷ commits (records past))
     (subst (λ (h : Graph). StandsFor (record { tid = c.args.tid; tickets = c.args.tickets.now } ∷ commits (records past)) h) (sym c.decide-forgets.ensures.graph) graph))
     (subst (λ (ss : List Stage). AreHeld (map stage_tickets ss) core.tables.graph) (sym (ap (λ (t : Tables). t.stages.listed) kept)) c.prune.ensures.held)
-    refl (c.in-Ok-decide_to.ensures ∙ ap (λ (ps : List Participant). decide_to c.args.tid Decision_is.Commit ps) members)
+    refl sends
     (subst (λ (st : Store). Keeps g.D.Disk.tells (g.D.Disk.seen c.room_for_commit.new.disk) st (disk past) (trip past)) (sym (ap (λ (one : CoordCore g.row.P.Denot). one.store) others)) k2.stored)
     (ap (λ (one : CoordCore g.row.P.Denot). one.protocols) others) (ap (λ (one : CoordCore g.row.P.Denot). one.policy) others) (ap (λ (one : CoordCore g.row.P.Denot). one.begun) others)))

@@ -1,5 +1,5 @@
 use Rattle.std.proofs.Common.{refl}
-use Rattle.coord_core.specs.declared.tables.Tables.{Tables}
+use Rattle.coord_tables.specs.declared.tables.Tables.{Tables}
 use Rattle.coord_core.proofs.Committing.{stands_regrown}
 use Rattle.coord_core.proofs.Roomed.{stands_roomed}
 use Rattle.coord_core.proofs.coord.CoordCore.room_for_commit.Goals as goal

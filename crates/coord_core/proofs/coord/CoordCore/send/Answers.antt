@@ -1,11 +1,12 @@
 use Rattle.std.proofs.Common.{refl, ◌∙◌}
+use Rattle.mdb_base.proofs.ResultLaws.{map_err, map_ok}
 use Rattle.fed_rules.specs.declared.events.CoordStep.{CoordStep}
 use Rattle.fed_rules.specs.CoordPast.{disk, trip}
 use Rattle.coord_core.specs.declared.coord.CoordCore.{CoordCore}
-use Rattle.coord_core.specs.Sending.{after_taken}
-use Rattle.coord_core.proofs.Initiations.{initiation_fits, initiation_in_range}
-use Rattle.coord_core.proofs.Outcomes.{map_err, map_ok}
-use Rattle.coord_core.proofs.Sent.{initiates_is, sent_line, sent_pending, sent_tables}
+use Rattle.coord_tables.specs.Sending.{after_taken}
+use Rattle.coord_tables.proofs.Initiations.{initiation_fits, initiation_in_range}
+use Rattle.coord_tables.proofs.Sent.{initiates_is, sent_line, sent_tables}
+use Rattle.coord_core.proofs.Sent.{sent_pending}
 use Rattle.coord_core.proofs.Roomed.{stands_roomed}
 use Rattle.coord_core.proofs.Still.{serves, up_is}
 use Rattle.coord_core.proofs.coord.CoordCore.send.Goals as goal

@@ -2,7 +2,7 @@ use Rattle.std.proofs.Common.{refl, subst, sym}
 use Rattle.fed_rules.specs.declared.events.CoordEvent.{CoordEvent}
 use Rattle.coord_core.specs.Stands.{Steps}
 use Rattle.coord_core.specs.Steps.{CanStep}
-use Rattle.coord_core.specs.Terms.{line_of}
+use Rattle.coord_tables.specs.Terms.{line_of}
 use Rattle.coord_core.proofs.Events.{awake_steps, fate_steps}
 use Rattle.coord_core.proofs.coord.CoordCore.serve.Goals as goal
 

@@ -1,9 +1,9 @@
 use Rattle.std.proofs.Common.{sym, subst}
+use Rattle.mdb_base.proofs.ResultLaws.{map_err, map_ok}
 use Rattle.fed_rules.specs.declared.events.CoordEvent.TheVariants as Ev
 use Rattle.fed_rules.specs.declared.messages.FromSite.{FromSite}
 use Rattle.coord_core.specs.Stands.{Fails, Steps}
-use Rattle.coord_core.specs.Terms.{line_of}
-use Rattle.coord_core.proofs.Outcomes.{map_err, map_ok}
+use Rattle.coord_tables.specs.Terms.{line_of}
 use Rattle.coord_core.proofs.Taking.{inquiry_steps}
 use Rattle.coord_core.proofs.coord.CoordCore.take.Goals as goal
 

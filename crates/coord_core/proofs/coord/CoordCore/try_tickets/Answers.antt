@@ -1,15 +1,15 @@
 use Rattle.std.proofs.Common.{List, ◌∷◌, map, refl, sym, ap, subst, ◌∙◌}
+use Rattle.mdb_base.proofs.ResultLaws.{map_on_err, map_ok}
 use Rattle.order_laws.specs.Tickets.{HasNoCycle, OneEach, Ticketed}
 use Rattle.fed_rules.specs.CoordPast.{records}
 use Rattle.fed_rules.specs.CoordRecords.{commits}
 use Rattle.fed_rules.specs.declared.sums.CoordSum.{CoordSum}
 use Rattle.ticket_graph.specs.Graph.{Graph, StandsFor}
 use Rattle.coord_core.specs.declared.coord.CoordCore.{CoordCore}
-use Rattle.coord_core.specs.Starting.{ticketed_by}
+use Rattle.coord_tables.specs.Starting.{ticketed_by}
 use Rattle.coord_core.proofs.Checks.{sum_is}
-use Rattle.coord_core.proofs.Graphs.{not_kept}
-use Rattle.coord_core.proofs.Outcomes.{map_fail, map_ok}
-use Rattle.coord_core.proofs.Starts.{commits_free, fresh_apart, graph_stands}
+use Rattle.coord_tables.proofs.Graphs.{not_kept}
+use Rattle.coord_tables.proofs.Starts.{commits_free, fresh_apart, graph_stands}
 use Rattle.coord_core.proofs.Still.{serves}
 use Rattle.coord_core.proofs.coord.CoordCore.try_tickets.Goals as goal
 
@@ -32,7 +32,7 @@ returns-then-is_above g c =
           stands (commits (records past)) (serves g.P.TakePolicy.policy g.D.Disk.tells old terms past k.holds c.requires.up).graph);
       refused = c.try_add.ensures.refused;
       others = refl;
-      memory = map_fail _ _ c.try_add.result c.try_add.ensures.memory (λ same. ap (λ (h : Graph). record old { tables = record old.tables { graph = h } }) same);
+      memory = map_on_err _ _ c.try_add.result c.try_add.ensures.memory (λ same. ap (λ (h : Graph). record old { tables = record old.tables { graph = h } }) same);
     }
 
 pub try_anew-requires-clause-apart : goal.try_anew-requires-clause-apart
@@ -63,5 +63,5 @@ returns g c =
           (serves g.P.TakePolicy.policy g.D.Disk.tells old terms past k.holds c.requires.up).graph);
       refused = c.try_anew.ensures.refused;
       others = refl;
-      memory = map_fail _ _ c.try_anew.result c.try_anew.ensures.memory (λ same. ap (λ (h : Graph). record old { tables = record old.tables { graph = h } }) same);
+      memory = map_on_err _ _ c.try_anew.result c.try_anew.ensures.memory (λ same. ap (λ (h : Graph). record old { tables = record old.tables { graph = h } }) same);
     }

@@ -1,9 +1,10 @@
 use Rattle.std.proofs.Common.{ℕ, Option, sym, subst, ◌∙◌}
+use Rattle.mdb_base.proofs.ResultLaws.{map_err, map_ok}
 use Rattle.coord_core.specs.Stands.{Fails, Steps}
-use Rattle.coord_core.specs.Terms.{line_of}
-use Rattle.coord_core.specs.Voting.{vote_event}
-use Rattle.coord_core.proofs.Outcomes.{map_err, map_ok}
-use Rattle.coord_core.proofs.Voting.{ignored_vote_steps, no_aborting, vote_counted_as, vote_open}
+use Rattle.coord_tables.specs.Terms.{line_of}
+use Rattle.coord_tables.specs.Voting.{vote_event}
+use Rattle.coord_tables.proofs.Voting.{no_aborting, vote_open}
+use Rattle.coord_core.proofs.Voting.{ignored_vote_steps, vote_counted_as}
 use Rattle.coord_core.proofs.coord.CoordCore.vote.Goals as goal
 
 pub returns-then-not-awaits_vote-clause-answered : goal.returns-then-not-awaits_vote-clause-answered

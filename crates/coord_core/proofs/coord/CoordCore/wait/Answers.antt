@@ -1,9 +1,9 @@
 use Rattle.std.proofs.Common.{refl, subst, sym}
+use Rattle.mdb_base.proofs.ResultLaws.{map_ok}
 use Rattle.fed_rules.specs.declared.events.CoordEvent.{CoordEvent}
 use Rattle.coord_core.specs.Stands.{Steps}
-use Rattle.coord_core.specs.Terms.{line_of}
+use Rattle.coord_tables.specs.Terms.{line_of}
 use Rattle.coord_core.proofs.Events.{down_steps}
-use Rattle.coord_core.proofs.Outcomes.{map_ok}
 use Rattle.coord_core.proofs.coord.CoordCore.wait.Goals.{in-Trip, in-Back, in_default}
 use Rattle.coord_core.proofs.coord.CoordCore.wait.Goals as goal
 

@@ -1,6 +1,7 @@
 use Rattle.std.proofs.Common.{◌≡◌, true, Some, slice_get, length, refl, subst, arith}
 use Rattle.std.proofs.lemmas.Option.{slice_get_read}
 use Rattle.mdb_base.specs.declared.names.SiteId.{SiteId}
+use Rattle.mdb_base.proofs.OptionLaws.{none_left}
 use Rattle.fed_rules.specs.declared.commands.Command.TheVariants as Cmd
 use Rattle.fed_rules.specs.declared.events.CoordEvent.TheVariants as Ev
 use Rattle.fed_rules.specs.Requests.{Submits}
@@ -16,7 +17,6 @@ use Rattle.fed_hosts.proofs.CoordServed.{coord_keeps_failed, coord_view_beside}
 use Rattle.fed_hosts.proofs.CoordTurning.{aside_keeps, back_keeps, coord_last_fits, coord_line_ready, coord_take_line, leaves_aside, port_among, was_put_back}
 use Rattle.fed_hosts.proofs.Faults.{clean}
 use Rattle.fed_hosts.proofs.Polled.{arrived_last}
-use Rattle.fed_hosts.proofs.Words.{not_some}
 use Rattle.fed_hosts.proofs.coord_actor.CoordActor.hear.Goals as goal
 
 pub returns-in_default-clause-keeps : goal.returns-in_default-clause-keeps
@@ -29,7 +29,7 @@ returns-in_default-clause-keeps g c =
     let old = c.args.self.now in
     let held = c.requires.keeps in
     let k = held.keeps in
-    aside_keeps test tells seen plan rings c.args.arrived old held (unread_from c.args.arrived.packet c.decode_from.result c.decode_from.ensures.only (not_some c.decode_from.result c.in_default.not-Some))
+    aside_keeps test tells seen plan rings c.args.arrived old held (unread_from c.args.arrived.packet c.decode_from.result c.decode_from.ensures.only (none_left c.decode_from.result c.in_default.not-Some))
 
 pub returns-then-envelope-ge-MOST_STAMP-clause-keeps : goal.returns-then-envelope-ge-MOST_STAMP-clause-keeps
 returns-then-envelope-ge-MOST_STAMP-clause-keeps g c =
@@ -48,7 +48,7 @@ pub returns-in_default-clause-takes : goal.returns-in_default-clause-takes
 returns-in_default-clause-takes g c =
     let old = c.args.self.now in
     leaves_aside g.N.Wires.rings g.N.Plan.coordinator old.ports.items c.args.arrived old.lines.items c.requires.keeps.keeps.planned c.requires.arrived.within
-    (unread_from c.args.arrived.packet c.decode_from.result c.decode_from.ensures.only (not_some c.decode_from.result c.in_default.not-Some))
+    (unread_from c.args.arrived.packet c.decode_from.result c.decode_from.ensures.only (none_left c.decode_from.result c.in_default.not-Some))
 
 pub returns-then-envelope-ge-MOST_STAMP-clause-takes : goal.returns-then-envelope-ge-MOST_STAMP-clause-takes
 returns-then-envelope-ge-MOST_STAMP-clause-takes g c =

@@ -1,5 +1,6 @@
 use Rattle.std.proofs.Common.{false, is_some, Some, None, refl, sym, ap, ◌∙◌, arith}
 use Rattle.mdb_base.specs.declared.names.Tid.{Tid}
+use Rattle.mdb_base.proofs.OptionLaws.{nothing_is, none_left}
 use Rattle.fed_rules.specs.declared.commands.Command.TheVariants as Cmd
 use Rattle.fed_rules.specs.declared.events.SiteEvent.TheVariants as Ev
 use Rattle.fed_rules.specs.Requests.{Submits}
@@ -9,12 +10,12 @@ use Rattle.fed_hosts.specs.declared.site_actor.Told.{Told}
 use Rattle.host_laws.specs.Hearing.{Bears}
 use Rattle.fed_hosts.specs.Serving.{has_failed}
 use Rattle.host_laws.specs.Turns.{past_of}
+use Rattle.host_laws.proofs.SiteRanges.{about_in_range}
 use Rattle.fed_hosts.proofs.Lines.{short_past, view_beside}
 use Rattle.fed_hosts.proofs.Same.{same_self}
 use Rattle.fed_hosts.proofs.Faults.{clean}
 use Rattle.fed_hosts.proofs.Served.{keeps_failed, kept_beside}
-use Rattle.fed_hosts.proofs.Turning.{about_named, give_line, last_fits, left_aside, line_ready, put_back, unread_late, unread_none, unread_own}
-use Rattle.fed_hosts.proofs.Words.{none_of, not_some}
+use Rattle.fed_hosts.proofs.Turning.{give_line, last_fits, left_aside, line_ready, put_back, unread_late, unread_none, unread_own}
 use Rattle.fed_hosts.proofs.site_actor.SiteActor.hear.Goals as goal
 use Rattle.fed_hosts.proofs.site_actor.SiteActor.hear.Goals.{then-envelope-ge-MOST_STAMP-via-then-envelope-ge-MOST_STAMP, then-envelope-ge-MOST_STAMP-via-else-envelope-ge-MOST_STAMP+then-is_own}
 
@@ -22,7 +23,7 @@ pub returns-in_default-clause-keeps : goal.returns-in_default-clause-keeps
 returns-in_default-clause-keeps g c =
     let h = c.requires.keeps in
     left_aside g.E.LocalEngine.stands g.D.Disk.tells g.D.Disk.seen g.N.Plan.sites g.N.Wires.rings c.args.packet c.args.self.now h
-    (unread_none h.keeps.plan.programs c.args.packet c.decode_to.result c.decode_to.ensures.only (not_some c.decode_to.result c.in_default.not-Some))
+    (unread_none h.keeps.plan.programs c.args.packet c.decode_to.result c.decode_to.ensures.only (none_left c.decode_to.result c.in_default.not-Some))
 
 pub returns-then-envelope-ge-MOST_STAMP-clause-keeps : goal.returns-then-envelope-ge-MOST_STAMP-clause-keeps
 returns-then-envelope-ge-MOST_STAMP-clause-keeps g c =
@@ -55,10 +56,10 @@ give-requires-clause-stood g c =
       stood = k.standing;
       holds = record {
         short = short_past stands g.D.Disk.tells g.D.Disk.seen g.N.Plan.sites g.N.Wires.rings false h.before old k;
-        foreign = none_of (k.plan.programs (about c.in-Some.envelope.message).tx)
+        foreign = nothing_is (k.plan.programs (about c.in-Some.envelope.message).tx)
             (ap (λ (t : Tid). is_some (k.plan.programs t.tx)) (sym c.about.ensures)
             ∙ sym (c.is_own.ensures k.plan.home k.plan.programs past (recalled stands g.D.Disk.tells old.dbms (g.D.Disk.seen old.disk) k.plan.home k.plan.programs past k.standing)) ∙ c.if-is_own.false);
-        in_range = about_named c.in-Some.envelope.message c.in-Some.ensures.in_range.message;
+        in_range = about_in_range c.in-Some.envelope.message c.in-Some.ensures.in_range.message;
       };
     }
 
@@ -92,19 +93,19 @@ returns-in-Ok-clause-keeps g c =
     let old = c.args.self.now in
     let past = past_of k.plan k.turns in
     let envelope = c.in-Some.envelope in
-    let foreign = none_of (k.plan.programs (about envelope.message).tx)
+    let foreign = nothing_is (k.plan.programs (about envelope.message).tx)
     (ap (λ (t : Tid). is_some (k.plan.programs t.tx)) (sym c.about.ensures)
     ∙ sym (c.is_own.ensures k.plan.home k.plan.programs past (recalled stands tells old.dbms (seen old.disk) k.plan.home k.plan.programs past k.standing)) ∙ c.if-is_own.false) in
     let bears : Bears k.plan.programs c.args.packet envelope =
     record { in_range = c.in-Some.ensures.in_range; spelled = c.in-Some.ensures.spelled; small = omega (arith, c.if-envelope-ge-MOST_STAMP.false); foreign = foreign } in
     let short = short_past stands tells seen g.N.Plan.sites g.N.Wires.rings false h.before old k in
-    let sends = c.in-Ok.ensures.served k.plan.home k.plan.programs past k.standing (record { short = short; foreign = foreign; in_range = about_named envelope.message c.in-Some.ensures.in_range.message }) in
+    let sends = c.in-Ok.ensures.served k.plan.home k.plan.programs past k.standing (record { short = short; foreign = foreign; in_range = about_in_range envelope.message c.in-Some.ensures.in_range.message }) in
     (give_line stands tells seen g.N.Plan.sites g.N.Wires.rings old c.give.new.self c.give.new.disk c.carry.new.self c.requires.few (clean _ _ c.in-Ok.step c.in-Ok.ensures.cause) c.carry.ensures.beside c.carry.ensures.moved_on c.args.packet h envelope c.in-Ok.step c.args.places bears sends
     (c.carry.ensures.carried tells (seen c.give.new.disk))).keeps
 
 pub returns-in_default-clause-takes : goal.returns-in_default-clause-takes
 returns-in_default-clause-takes g c home programs past stood =
-    record { bears = None; read = unread_none programs c.args.packet c.decode_to.result c.decode_to.ensures.only (not_some c.decode_to.result c.in_default.not-Some); given = record { lines = refl; says = refl } }
+    record { bears = None; read = unread_none programs c.args.packet c.decode_to.result c.decode_to.ensures.only (none_left c.decode_to.result c.in_default.not-Some); given = record { lines = refl; says = refl } }
 
 pub returns-then-envelope-ge-MOST_STAMP-clause-takes : goal.returns-then-envelope-ge-MOST_STAMP-clause-takes
 returns-then-envelope-ge-MOST_STAMP-clause-takes g c home programs past stood =
@@ -133,13 +134,13 @@ returns-in-Ok-clause-takes g c home programs past' stood =
     let old = c.args.self.now in
     let past = past_of k.plan k.turns in
     let envelope = c.in-Some.envelope in
-    let foreign = none_of (k.plan.programs (about envelope.message).tx)
+    let foreign = nothing_is (k.plan.programs (about envelope.message).tx)
     (ap (λ (t : Tid). is_some (k.plan.programs t.tx)) (sym c.about.ensures)
     ∙ sym (c.is_own.ensures k.plan.home k.plan.programs past (recalled stands tells old.dbms (seen old.disk) k.plan.home k.plan.programs past k.standing)) ∙ c.if-is_own.false) in
     let bears : Bears k.plan.programs c.args.packet envelope =
     record { in_range = c.in-Some.ensures.in_range; spelled = c.in-Some.ensures.spelled; small = omega (arith, c.if-envelope-ge-MOST_STAMP.false); foreign = foreign } in
     let short = short_past stands tells seen g.N.Plan.sites g.N.Wires.rings false h.before old k in
-    let sends = c.in-Ok.ensures.served k.plan.home k.plan.programs past k.standing (record { short = short; foreign = foreign; in_range = about_named envelope.message c.in-Some.ensures.in_range.message }) in
+    let sends = c.in-Ok.ensures.served k.plan.home k.plan.programs past k.standing (record { short = short; foreign = foreign; in_range = about_in_range envelope.message c.in-Some.ensures.in_range.message }) in
     let line = give_line stands tells seen g.N.Plan.sites g.N.Wires.rings old c.give.new.self c.give.new.disk c.carry.new.self c.requires.few (clean _ _ c.in-Ok.step c.in-Ok.ensures.cause) c.carry.ensures.beside c.carry.ensures.moved_on c.args.packet h envelope c.in-Ok.step c.args.places bears sends
     (c.carry.ensures.carried tells (seen c.give.new.disk)) in
     record {
@@ -148,7 +149,7 @@ returns-in-Ok-clause-takes g c home programs past' stood =
         in_range = bears.in_range;
         spelled = bears.spelled;
         small = bears.small;
-        foreign = none_of (programs (about envelope.message).tx)
+        foreign = nothing_is (programs (about envelope.message).tx)
             (ap (λ (t : Tid). is_some (programs t.tx)) (sym c.about.ensures)
             ∙ sym (c.is_own.ensures home programs past' (recalled stands tells old.dbms (seen old.disk) home programs past' stood)) ∙ c.if-is_own.false);
       };
@@ -172,10 +173,10 @@ returns-in-Err-clause-failed g c =
     let why = c.in-Err.why in
     let message = c.in-Some.envelope.message in
     let mid = record old { dbms = c.give.new.self; disk = c.give.new.disk } in
-    let foreign = none_of (k.plan.programs (about message).tx)
+    let foreign = nothing_is (k.plan.programs (about message).tx)
     (ap (λ (t : Tid). is_some (k.plan.programs t.tx)) (sym c.about.ensures)
     ∙ sym (c.is_own.ensures k.plan.home k.plan.programs past (recalled stands tells old.dbms (seen old.disk) k.plan.home k.plan.programs past k.standing)) ∙ c.if-is_own.false) in
     let short = short_past stands tells seen sites rings false h.before old k in
-    let fails = c.in-Err.ensures.failed k.plan.home k.plan.programs past k.standing (record { short = short; foreign = foreign; in_range = about_named message c.in-Some.ensures.in_range.message }) in
+    let fails = c.in-Err.ensures.failed k.plan.home k.plan.programs past k.standing (record { short = short; foreign = foreign; in_range = about_in_range message c.in-Some.ensures.in_range.message }) in
     put_back stands tells seen sites rings (has_failed why) c.args.packet h.before mid c.put_back.new.self h.took c.put_back.ensures.taken c.put_back.ensures.ring
     (keeps_failed stands tells seen sites rings h.before old mid c.give.new.self c.give.new.disk why k (Submits (Ev.Give message)) fails c.in-Err.ensures.cause (same_self mid))

@@ -1,4 +1,5 @@
 use Rattle.std.proofs.Common.{false, None, length, IfErr, IsSome, inl, inr, refl, sym, ap, ◌∙◌, subst, arith}
+use Rattle.mdb_base.proofs.OptionLaws.{nothing_is}
 use Rattle.fed_rules.specs.SiteCommands.{own_request}
 use Rattle.scripted_link.specs.Inlets.{taken}
 use Rattle.local_dbms.proofs.Fit.{recalled}
@@ -14,7 +15,7 @@ use Rattle.fed_hosts.proofs.Own.{own_soft}
 use Rattle.fed_hosts.proofs.Same.{same_self}
 use Rattle.fed_hosts.proofs.Faults.{clean}
 use Rattle.fed_hosts.proofs.Served.{keeps_failed, keeps_same}
-use Rattle.fed_hosts.proofs.Words.{handed_on, none_of}
+use Rattle.fed_hosts.proofs.Words.{handed_on}
 use Rattle.fed_hosts.proofs.site_actor.SiteActor.serve.Goals as goal
 
 pub returns-then-len-ge-MOST_LINES-clause-served : goal.returns-then-len-ge-MOST_LINES-clause-served
@@ -36,7 +37,7 @@ returns-then-not-is_own-clause-served g c =
     let old = c.args.self.now in
     let past = past_of k.plan k.turns in
     let test = c.is_own.ensures k.plan.home k.plan.programs past (recalled g.E.LocalEngine.stands g.D.Disk.tells old.dbms (g.D.Disk.seen old.disk) k.plan.home k.plan.programs past k.standing) in
-    let none = none_of (k.plan.programs c.args.tx) (sym test ∙ c.if-not-is_own.true) in
+    let none = nothing_is (k.plan.programs c.args.tx) (sym test ∙ c.if-not-is_own.true) in
     record {
       plan = k.plan;
       turns = k.turns;

@@ -1,7 +1,7 @@
 use Rattle.std.proofs.Common.{refl}
 use Rattle.fed_rules.specs.declared.commands.Command.TheVariants as Cmd
 use Rattle.fed_rules.specs.Story.{story_of}
-use Rattle.world_laws.proofs.Sent.{declared_sends}
+use Rattle.commit_laws.proofs.Silent.{declared_sends}
 use Rattle.fed_world.specs.declared.asks.Asked.TheVariants.{Coordinator}
 use Rattle.fed_world.specs.declared.asks.CoordAsk.TheVariants as Coord
 use Rattle.fed_world.proofs.Asking.{abort_asked, again_asked, ask_asked, asked_same, back_asked, begin_asked, check_asked, commit_asked, drop_asked, fate_asked, give_asked, go_asked, halt_asked, late_asked, step_asked, take_asked, trip_asked}

@@ -1,4 +1,4 @@
-use Rattle.std.proofs.Common.{◌∙◌, map, slice_set, refl, sym, subst, arith}
+use Rattle.std.proofs.Common.{◌∙◌, map, slice_set, refl, sym, subst, arith, rules}
 use Rattle.std.proofs.lemmas.List.{length-map}
 use Rattle.fed_world.specs.declared.errors.WorldErr.{WorldErr}
 use Rattle.fed_world.specs.Faults.{FailedAs}
@@ -46,7 +46,7 @@ pub post-requires-clause-room : goal.post-requires-clause-room
 post-requires-clause-room g c = c.in-Ok-make_room.ensures.room
 
 pub post-requires-clause-empty : goal.post-requires-clause-empty
-post-requires-clause-empty g c = c.reserve.ensures.items ∙ c.new-sends.ensures.items
+post-requires-clause-empty g c = c.reserve.ensures.items ∙ c.new-places.ensures.items
 
 pub post-requires-clause-places : goal.post-requires-clause-places
 post-requires-clause-places g c =
@@ -61,12 +61,15 @@ post-requires-clause-few g c =
     let r = c.requires.stood in
     few_messages g.D.Disk.tells c.args.self.now (map g.D.Disk.seen c.args.disks.now.items) r.scenario r.commands r.stood.stand c.make_room.new.traffic.items c.make_room.ensures.same r.room
 
+pub as_slice-requires : goal.as_slice-requires
+as_slice-requires g c = search rules
+
 pub returns-in-Ok-tell_coordinator-clause-heard : goal.returns-in-Ok-tell_coordinator-clause-heard
 returns-in-Ok-tell_coordinator-clause-heard g c scenario commands command s asks room =
     let at = first_disk g.D.Disk.seen c.args.disks.now.items c.index_mut.result.now scenario s.stand.others c.index_mut.ensures.value in
     hears_told g.D.Disk.tells c.args.self.now (map g.D.Disk.seen c.args.disks.now.items) scenario commands s.stand (g.D.Disk.seen c.index_mut.result.now) (g.D.Disk.seen c.tell_coordinator.new.disk) at c.args.ask command asks
     _ _ c.make_room.new.traffic.items c.as_slice.result.now c.in-Ok-tell_coordinator.step _ (seen_put g.D.Disk.seen c.args.disks.now.items 0 c.tell_coordinator.new.disk)
-    (record { cores_are = refl; marks_are = refl; room = c.make_room.ensures.same; posted = c.post.ensures.posted }) c.as_slice.ensures.items c.in-Ok-tell_coordinator.ensures.served c.as_slice.ensures.rising refl c.post.ensures.places
+    (record { cores_are = refl; marks_are = refl; room = c.make_room.ensures.same; posted = c.post.ensures.posted }) c.as_slice.ensures.items c.in-Ok-tell_coordinator.ensures.served c.as_slice.ensures.rising refl (c.taken.ensures.taken ∙ c.post.ensures.places)
 
 pub returns-in-Ok-tell_coordinator-clause-keeps : goal.returns-in-Ok-tell_coordinator-clause-keeps
 returns-in-Ok-tell_coordinator-clause-keeps g c = record { lines = refl; broken = refl; routes = refl; scenario = refl }
@@ -78,18 +81,18 @@ returns-in-Ok-tell_coordinator-clause-cause g c =
     line_told (map g.D.Disk.seen c.args.disks.now.items) _ 0 (g.D.Disk.seen c.index_mut.result.now) (g.D.Disk.seen c.tell_coordinator.new.disk) at
     (seen_put g.D.Disk.seen c.args.disks.now.items 0 c.tell_coordinator.new.disk) _ c.in-Ok-tell_coordinator.step refl c.in-Ok-tell_coordinator.ensures.cause
 
-pub returns-in-Err-clause-failed : goal.returns-in-Err-clause-failed
-returns-in-Err-clause-failed g c scenario commands command s asks room =
+pub returns-clause-failed : goal.returns-clause-failed
+returns-clause-failed g c scenario commands command s asks room =
     let at = first_disk g.D.Disk.seen c.args.disks.now.items c.index_mut.result.now scenario s.stand.others c.index_mut.ensures.value in
     fails_told g.D.Disk.tells c.args.self.now (map g.D.Disk.seen c.args.disks.now.items) scenario commands s.stand (g.D.Disk.seen c.index_mut.result.now) (g.D.Disk.seen c.tell_coordinator.new.disk) at c.args.ask command asks
     c.in-Err.why c.world_err.result _ _ c.world_err.ensures (seen_put g.D.Disk.seen c.args.disks.now.items 0 c.tell_coordinator.new.disk)
     (record { cores_are = refl; marks_are = refl; channels_are = c.make_room.ensures.same }) c.in-Err.ensures.failed
 
-pub returns-in-Err-clause-keeps : goal.returns-in-Err-clause-keeps
-returns-in-Err-clause-keeps g c = record { lines = refl; broken = refl; routes = refl; scenario = refl }
+pub returns-clause-keeps : goal.returns-clause-keeps
+returns-clause-keeps g c = record { lines = refl; broken = refl; routes = refl; scenario = refl }
 
-pub returns-in-Err-clause-cause : goal.returns-in-Err-clause-cause
-returns-in-Err-clause-cause g c =
+pub returns-clause-cause : goal.returns-clause-cause
+returns-clause-cause g c =
     let r = c.requires.stood in
     let at = first_disk g.D.Disk.seen c.args.disks.now.items c.index_mut.result.now r.scenario r.stood.stand.others c.index_mut.ensures.value in
     subst (λ (why : WorldErr). FailedAs why (map g.D.Disk.seen c.args.disks.now.items) (map g.D.Disk.seen (slice_set c.args.disks.now.items 0 c.tell_coordinator.new.disk))) (sym c.world_err.ensures)

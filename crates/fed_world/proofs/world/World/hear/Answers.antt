@@ -34,5 +34,5 @@ returns-in-Coordinator-clause-failed g c =
 
 pub returns-in-Nobody-clause-heard : goal.returns-in-Nobody-clause-heard
 returns-in-Nobody-clause-heard g c scenario commands stood room =
-    nobody_hears g.D.Disk.tells c.args.self.now (map g.D.Disk.seen c.args.disks.now.items) (record { answer = Say.None; sends = c.new.result }) scenario commands c.args.command
-    (c.in-Nobody.ensures scenario commands (recalls g.D.Disk.tells c.args.self.now (map g.D.Disk.seen c.args.disks.now.items) scenario commands stood)) refl c.new.ensures.items stood.stand
+    nobody_hears g.D.Disk.tells c.args.self.now (map g.D.Disk.seen c.args.disks.now.items) (record { answer = Say.None; sends = c.none.result }) scenario commands c.args.command
+    (c.in-Nobody.ensures scenario commands (recalls g.D.Disk.tells c.args.self.now (map g.D.Disk.seen c.args.disks.now.items) scenario commands stood)) refl c.none.ensures stood.stand

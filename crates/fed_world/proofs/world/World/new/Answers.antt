@@ -2,6 +2,7 @@ use Rattle.std.proofs.Common.{◌≡◌, List, false, map, refl, sym, ap, subst,
 use Rattle.std.proofs.lemmas.List.{length-map}
 use Rattle.std.specs.Global.{Vec}
 use Rattle.mdb_base.specs.declared.names.SiteId.{SiteId}
+use Rattle.mdb_base.proofs.PlaceLaws.{made_of}
 use Rattle.fed_rules.specs.declared.scenario.Scenario.{Scenario}
 use Rattle.fed_rules.specs.Scenarios.{sites}
 use Rattle.journal_disk.specs.Disk.{Seen}
@@ -10,7 +11,6 @@ use Rattle.local_dbms.specs.declared.dbms.LocalDbms.{LocalDbms}
 use Rattle.fed_world.specs.SettingUp.{AreSetUp, IsNewChannel, IsNewMarks}
 use Rattle.fed_world.specs.declared.world.World.{World}
 use Rattle.fed_world.proofs.NewWorlds.{TellsBytes, new_stands}
-use Rattle.fed_world.proofs.SeenDisks.{made_of}
 use Rattle.fed_world.proofs.SetUps.{stops_at_once}
 use Rattle.fed_world.proofs.world.World.new.Goals as goal
 

@@ -1,5 +1,5 @@
 use Rattle.std.proofs.Common.{sym, ◌∙◌}
-use Rattle.world_laws.proofs.Sent.{declared_sends}
+use Rattle.commit_laws.proofs.Silent.{declared_sends}
 use Rattle.fed_world.proofs.world.World.sent_from.Goals as goal
 
 pub returns-in-Some : goal.returns-in-Some

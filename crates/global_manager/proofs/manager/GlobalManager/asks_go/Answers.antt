@@ -30,7 +30,7 @@ returns-clause-asked g c terms programs past r =
     let own = sym (r.owns.held tx) ∙ sym c.find.ensures ∙ ap option_copied c.in-Some.is in
     let is = c.begun-begun.ensures terms past r.core in
     let few : attempts_of past tx < 32 = (let most = c.if-begun-ge-MOST_ATTEMPTS.false in omega arith) in
-    ap (λ (n : ℕ). Submits (Ev.Go (attempt tx n) c.in_ok-program.program)) is ∙ ap (λ ss. Submits (Ev.Go (attempt tx (attempts_of past tx)) ss)) c.in_ok-program.ensures
+    ap (λ (n : ℕ). Submits (Ev.Go (attempt tx n) c.in_ok-program.program)) is ∙ ap (λ ss. Submits (Ev.Go (attempt tx (attempts_of past tx)) ss)) c.in_ok-program.ensures.cases
     ∙ sym (go_submits terms.protocols terms.policy (programs tx) past tx steps own few)
 
 pub returns-clause-may : goal.returns-clause-may
@@ -41,6 +41,6 @@ returns-clause-may g c terms programs past r =
     let is = c.begun-begun.ensures terms past r.core in
     let few : attempts_of past tx < 32 = (let most = c.if-begun-ge-MOST_ATTEMPTS.false in omega arith) in
     let event : Ev.Go (attempt tx c.begun-begun.result) c.in_ok-program.program ≡ Ev.Go (attempt tx (attempts_of past tx)) steps =
-    ap (λ (n : ℕ). Ev.Go (attempt tx n) c.in_ok-program.program) is ∙ ap (λ ss. Ev.Go (attempt tx (attempts_of past tx)) ss) c.in_ok-program.ensures in
+    ap (λ (n : ℕ). Ev.Go (attempt tx n) c.in_ok-program.program) is ∙ ap (λ ss. Ev.Go (attempt tx (attempts_of past tx)) ss) c.in_ok-program.ensures.cases in
     let H : CoordEvent → Type 0 = λ e. CanHand e terms programs past in
     subst H (sym event) (can_go g.P.TakePolicy.policy c.args.self.now terms programs past r tx steps own few)

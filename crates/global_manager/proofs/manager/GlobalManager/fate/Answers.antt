@@ -2,7 +2,7 @@ use Rattle.fed_rules.specs.declared.events.CoordEvent.{CoordEvent}
 use Rattle.fed_rules.specs.CoordCommands.{fate_request}
 use Rattle.fed_rules.specs.CoordPast.{CoordPast}
 use Rattle.fed_rules.specs.Requests.{Request}
-use Rattle.coord_core.specs.Terms.{Terms}
+use Rattle.coord_tables.specs.Terms.{Terms}
 use Rattle.global_manager.specs.Stands.{AsksNothing, CanServe, OwnPrograms, Stands}
 use Rattle.global_manager.proofs.Fit.{fails_as, recalled, serves_as, some_holds}
 use Rattle.global_manager.proofs.manager.GlobalManager.fate.Goals as goal

@@ -1,8 +1,8 @@
+use Rattle.mdb_base.proofs.ResultLaws.{map_err, map_ok}
 use Rattle.fed_rules.specs.declared.events.CoordStep.{CoordStep}
 use Rattle.fed_rules.specs.Requests.{Submits}
 use Rattle.actor_store.specs.declared.errors.StepErr.{StepErr}
 use Rattle.coord_core.specs.Steps.{Answers, Refuses}
-use Rattle.coord_core.proofs.Outcomes.{map_err, map_ok}
 use Rattle.global_manager.specs.Stands.{CanHand, EachManaged, Fails, Sends, Stands}
 use Rattle.global_manager.proofs.Fit.{fails, sends}
 use Rattle.global_manager.proofs.manager.GlobalManager.hand.Goals as goal

@@ -1,7 +1,8 @@
 use Rattle.std.proofs.Common.{◌≡◌, None, Some, sym, ap, ◌∙◌}
+use Rattle.mdb_base.proofs.OptionLaws.{none_left}
 use Rattle.fed_rules.specs.CoordPast.{records, undecided_of}
 use Rattle.fed_rules.specs.CoordRecords.{committed_of}
-use Rattle.global_manager.proofs.Asked.{none_left, spent_all, spent_committed, spent_down, spent_running}
+use Rattle.global_manager.proofs.Asked.{spent_all, spent_committed, spent_down, spent_running}
 use Rattle.global_manager.proofs.Fit.{holds_passes}
 use Rattle.global_manager.proofs.manager.GlobalManager.spent.Goals as goal
 

@@ -1,9 +1,9 @@
+use Rattle.mdb_base.proofs.ResultLaws.{map_ok}
 use Rattle.fed_rules.specs.declared.events.CoordEvent.TheVariants as Ev
 use Rattle.fed_rules.specs.declared.events.CoordStep.{CoordStep}
 use Rattle.fed_rules.specs.CoordPast.{CoordPast}
 use Rattle.fed_rules.specs.Requests.{Submits}
-use Rattle.coord_core.specs.Terms.{Terms}
-use Rattle.coord_core.proofs.Outcomes.{map_ok}
+use Rattle.coord_tables.specs.Terms.{Terms}
 use Rattle.global_manager.specs.declared.requests.Request.TheVariants as Asked_is
 use Rattle.global_manager.specs.Stands.{CanServe, EachManaged, HasSite, OwnPrograms, Serves, Stands}
 use Rattle.global_manager.proofs.manager.GlobalManager.take.Goals as goal

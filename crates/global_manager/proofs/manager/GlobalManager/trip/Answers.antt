@@ -1,7 +1,7 @@
 use Rattle.fed_rules.specs.declared.events.CoordEvent.TheVariants as Ev
 use Rattle.fed_rules.specs.CoordPast.{CoordPast}
 use Rattle.fed_rules.specs.Requests.{Submits}
-use Rattle.coord_core.specs.Terms.{Terms}
+use Rattle.coord_tables.specs.Terms.{Terms}
 use Rattle.global_manager.specs.declared.requests.Request.TheVariants as Asked_is
 use Rattle.global_manager.specs.Stands.{OwnPrograms, Stands}
 use Rattle.global_manager.proofs.Fit.{serves_as}

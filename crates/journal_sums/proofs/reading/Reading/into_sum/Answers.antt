@@ -1,6 +1,6 @@
 use Rattle.std.proofs.Common.{ap, ◌∙◌}
 use Rattle.std.specs.Prelude.{reverse}
-use Rattle.journal_sums.specs.Locals.{also}
+use Rattle.order_laws.specs.SortedLists.{also}
 use Rattle.journal_sums.proofs.ReadingLaws.{sum_is}
 use Rattle.journal_sums.proofs.reading.Reading.into_sum.Goals as goal
 

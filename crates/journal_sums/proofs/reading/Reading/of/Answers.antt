@@ -1,7 +1,7 @@
 use Rattle.std.proofs.Common.{sym, ap, ◌∙◌, refl}
 use Rattle.std.specs.Prelude.{reverse}
+use Rattle.rules_laws.proofs.Doubts.{carried_none}
 use Rattle.journal_sums.specs.Versions.{version_in}
-use Rattle.journal_sums.proofs.DoubtLaws.{installs-carried}
 use Rattle.journal_sums.proofs.reading.Reading.of.Goals as goal
 
 pub returns : goal.returns
@@ -14,7 +14,7 @@ returns c =
         engine = refl;
         protocol = refl;
         rising = c.in_ok-first_versions.ensures.rising;
-        versions = λ key. c.in_ok-first_versions.ensures.versions key ∙ ap (λ all. version_in sum.rows all key) (sym (installs-carried sum.doubtful));
+        versions = λ key. c.in_ok-first_versions.ensures.versions key ∙ ap (λ all. version_in sum.rows all key) (sym (carried_none sum.doubtful));
         first_locals = c.of-2.ensures ∙ c.in_ok-from_slice.ensures.items ∙ c.as_slice.ensures;
         locals = ap (λ tids. reverse tids) c.new.ensures.items;
         doubtful = c.in_ok-first_doubtful.ensures;

@@ -1,4 +1,5 @@
 use Rattle.std.proofs.Common.{subst}
+use Rattle.mdb_base.proofs.ResultLaws.{map_ok}
 use Rattle.fed_rules.specs.declared.answers.Answer.{Answer}
 use Rattle.fed_rules.specs.declared.events.SiteEvent.{SiteEvent}
 use Rattle.fed_rules.specs.Requests.{Request}
@@ -6,7 +7,6 @@ use Rattle.fed_rules.specs.SiteCommands as Verb
 use Rattle.fed_rules.specs.SiteCommands.{own_request}
 use Rattle.fed_rules.specs.SitePast.{SitePast}
 use Rattle.fed_rules.specs.SiteRecords.{Home}
-use Rattle.site_core.proofs.Outcomes.{map_ok}
 use Rattle.local_dbms.specs.Stands.{CanServe, Each_site, IsShort, OwnPrograms, Serves, Stands, request_of}
 use Rattle.local_dbms.proofs.Fit.{recalled}
 use Rattle.local_dbms.proofs.dbms.LocalDbms.abort.Goals as goal

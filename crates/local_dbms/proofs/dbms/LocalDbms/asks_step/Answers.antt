@@ -2,13 +2,14 @@ use Rattle.std.proofs.Common.{◌≡◌, ◌<◌, ◌≤◌, ℕ, List, length, 
 use Rattle.std.specs.Option.{option_copied}
 use Rattle.mdb_base.specs.declared.acts.PlainAct.{PlainAct}
 use Rattle.mdb_base.specs.Programs.{plain_act}
+use Rattle.mdb_base.proofs.JoinLaws.{some_steps}
 use Rattle.fed_rules.specs.declared.events.SiteEvent.TheVariants as Ev
 use Rattle.fed_rules.specs.Requests.{Submits}
 use Rattle.fed_rules.specs.Site.{done}
 use Rattle.fed_rules.specs.SiteCommands as Verb
 use Rattle.site_book.specs.Noted.{Noted, done_in}
 use Rattle.local_dbms.proofs.Asked.{none_lives, none_request, noted_run, step_end, step_live, step_submits, verb_down, verb_gone, verb_idle}
-use Rattle.local_dbms.proofs.Fit.{can_act, some_own}
+use Rattle.local_dbms.proofs.Fit.{can_act}
 use Rattle.local_dbms.proofs.Owned.{own_apart}
 use Rattle.local_dbms.proofs.dbms.LocalDbms.asks_step.Goals as goal
 
@@ -27,7 +28,7 @@ returns-in_default-running-clause-asked g c home programs past r =
     let steps = c.in-Some.program.now in
     let own = sym (r.owns.held c.args.tx) ∙ sym c.program_of.ensures ∙ ap option_copied c.in-Some.is in
     let up = sym (c.is_down.ensures home past r.core) ∙ c.if-is_down.false in
-    let apart = own_apart programs past c.args.tx r.owns.owned (some_own (programs c.args.tx) steps own) in
+    let apart = own_apart programs past c.args.tx r.owns.owned (some_steps (programs c.args.tx) steps own) in
     sym (verb_idle home (programs c.args.tx) past c.args.tx steps own Verb.Step_on (step_live home (programs c.args.tx) past c.args.tx steps own) up (sym (c.running.ensures home past r.core up apart) ∙ c.in_default-running.is))
 
 pub returns-in_default-live-clause-asked : goal.returns-in_default-live-clause-asked
@@ -35,7 +36,7 @@ returns-in_default-live-clause-asked g c home programs past r =
     let steps = c.in-Some.program.now in
     let own = sym (r.owns.held c.args.tx) ∙ sym c.program_of.ensures ∙ ap option_copied c.in-Some.is in
     let up = sym (c.is_down.ensures home past r.core) ∙ c.if-is_down.false in
-    let apart = own_apart programs past c.args.tx r.owns.owned (some_own (programs c.args.tx) steps own) in
+    let apart = own_apart programs past c.args.tx r.owns.owned (some_steps (programs c.args.tx) steps own) in
     let runs = sym (c.running.ensures home past r.core up apart) ∙ c.in-Some-running.is in
     sym (verb_gone home (programs c.args.tx) past c.args.tx steps own Verb.Step_on c.in-Some-running.tid (step_live home (programs c.args.tx) past c.args.tx steps own) up runs
     (none_lives _ (sym (ap option_copied c.in_default-live.is) ∙ c.live.ensures home past r.core up)))
@@ -45,7 +46,7 @@ returns-then-done-len-clause-asked g c home programs past r =
     let steps = c.in-Some.program.now in
     let own = sym (r.owns.held c.args.tx) ∙ sym c.program_of.ensures ∙ ap option_copied c.in-Some.is in
     let up = sym (c.is_down.ensures home past r.core) ∙ c.if-is_down.false in
-    let apart = own_apart programs past c.args.tx r.owns.owned (some_own (programs c.args.tx) steps own) in
+    let apart = own_apart programs past c.args.tx r.owns.owned (some_steps (programs c.args.tx) steps own) in
     let runs = sym (c.running.ensures home past r.core up apart) ∙ c.in-Some-running.is in
     let n = noted_run home past c.in-Some-running.tid c.in-Some-live.noted.now (sym (ap option_copied c.in-Some-live.is) ∙ c.live.ensures home past r.core up) in
     let done_is : c.done-done.result ≡ done n.run = c.done-done.ensures ∙ ap done_in n.is in
@@ -57,7 +58,7 @@ returns-clause-asked g c home programs past r =
     let steps = c.in-Some.program.now in
     let own = sym (r.owns.held c.args.tx) ∙ sym c.program_of.ensures ∙ ap option_copied c.in-Some.is in
     let up = sym (c.is_down.ensures home past r.core) ∙ c.if-is_down.false in
-    let apart = own_apart programs past c.args.tx r.owns.owned (some_own (programs c.args.tx) steps own) in
+    let apart = own_apart programs past c.args.tx r.owns.owned (some_steps (programs c.args.tx) steps own) in
     let runs = sym (c.running.ensures home past r.core up apart) ∙ c.in-Some-running.is in
     let n = noted_run home past c.in-Some-running.tid c.in-Some-live.noted.now (sym (ap option_copied c.in-Some-live.is) ∙ c.live.ensures home past r.core up) in
     let done_is : c.done-done.result ≡ done n.run = c.done-done.ensures ∙ ap done_in n.is in
@@ -70,9 +71,9 @@ returns-clause-may g c home programs past r short =
     let steps = c.in-Some.program.now in
     let own = sym (r.owns.held c.args.tx) ∙ sym c.program_of.ensures ∙ ap option_copied c.in-Some.is in
     let up = sym (c.is_down.ensures home past r.core) ∙ c.if-is_down.false in
-    let apart = own_apart programs past c.args.tx r.owns.owned (some_own (programs c.args.tx) steps own) in
+    let apart = own_apart programs past c.args.tx r.owns.owned (some_steps (programs c.args.tx) steps own) in
     let runs = sym (c.running.ensures home past r.core up apart) ∙ c.in-Some-running.is in
     let n = noted_run home past c.in-Some-running.tid c.in-Some-live.noted.now (sym (ap option_copied c.in-Some-live.is) ∙ c.live.ensures home past r.core up) in
     let done_is : c.done-done.result ≡ done n.run = c.done-done.ensures ∙ ap done_in n.is in
     let less : done n.run < length steps = (let count = c.len.ensures.count in let e = c.if-done-len.false in omega arith) in
-    can_act g.E.LocalEngine.stands c.args.self.now home programs past r c.args.tx c.in-Some-running.tid (some_own (programs c.args.tx) steps own) runs c.plain.result n.run steps n.lives less c.len.ensures.program.few
+    can_act g.E.LocalEngine.stands c.args.self.now home programs past r c.args.tx c.in-Some-running.tid (some_steps (programs c.args.tx) steps own) runs c.plain.result n.run steps n.lives less c.len.ensures.program.few

@@ -1,10 +1,10 @@
+use Rattle.mdb_base.proofs.ResultLaws.{map_err, map_ok}
 use Rattle.fed_rules.specs.declared.answers.Answer.{Answer}
 use Rattle.fed_rules.specs.declared.events.SiteEvent.TheVariants as Ev
 use Rattle.fed_rules.specs.Requests.{Submits}
 use Rattle.fed_rules.specs.SitePast.{SitePast}
 use Rattle.fed_rules.specs.SiteRecords.{Home}
 use Rattle.actor_store.specs.declared.errors.StepErr.{StepErr}
-use Rattle.site_core.proofs.Outcomes.{map_err, map_ok}
 use Rattle.local_dbms.specs.Stands.{CanHand, Each_site, Fails, IsShort, OwnPrograms, Serves, Stands}
 use Rattle.local_dbms.proofs.Fit.{can_back, recalled}
 use Rattle.local_dbms.proofs.dbms.LocalDbms.back.Goals as goal

@@ -1,3 +1,4 @@
+use Rattle.mdb_base.proofs.ResultLaws.{map_err, map_ok}
 use Rattle.fed_rules.specs.declared.events.SiteStep.{SiteStep}
 use Rattle.fed_rules.specs.Requests.{Submits}
 use Rattle.fed_rules.specs.Site.{site_line}
@@ -6,7 +7,6 @@ use Rattle.fed_rules.specs.SiteRecords.{Home}
 use Rattle.actor_store.specs.declared.errors.StepErr.{StepErr}
 use Rattle.site_core.specs.Stands.{Fails as CoreFails, Stands as CoreStands, Steps}
 use Rattle.site_core.specs.Steps.{CanStep, EachPast}
-use Rattle.site_core.proofs.Outcomes.{map_err, map_ok}
 use Rattle.local_dbms.specs.Stands.{CanHand, Each_site, Fails, OwnPrograms, Sends, Stands}
 use Rattle.local_dbms.proofs.Fit.{fails, sends}
 use Rattle.local_dbms.proofs.dbms.LocalDbms.hand.Goals as goal

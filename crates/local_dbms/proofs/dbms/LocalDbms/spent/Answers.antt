@@ -1,6 +1,6 @@
 use Rattle.std.proofs.Common.{sym, ◌∙◌}
+use Rattle.mdb_base.proofs.OptionLaws.{none_left}
 use Rattle.fed_rules.specs.Requests.{attempt}
-use Rattle.site_core.proofs.LocalLaws.{none_left}
 use Rattle.local_dbms.proofs.Asked.{spent_all, spent_committed, spent_down, spent_running}
 use Rattle.local_dbms.proofs.Owned.{own_apart}
 use Rattle.local_dbms.proofs.dbms.LocalDbms.spent.Goals as goal

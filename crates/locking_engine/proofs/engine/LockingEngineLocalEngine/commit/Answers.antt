@@ -1,10 +1,10 @@
 use Rattle.std.proofs.Common.{refl, sym, ap, ◌∙◌}
+use Rattle.std.proofs.lemmas.Option.{same_Some}
 use Rattle.mdb_base.specs.declared.names.Engine.TheVariants.{Locking}
 use Rattle.fed_rules.specs.Runs.{Commits}
 use Rattle.fed_rules.specs.EngineLines.{IsRightLine}
 use Rattle.run_book.specs.Held.{Held}
 use Rattle.run_book.specs.Book.{RoomyBook}
-use Rattle.run_book.proofs.Ages.{some_inj}
 use Rattle.run_book.proofs.Calls.{run_at-held}
 use Rattle.run_book.proofs.Carried.{calls_well}
 use Rattle.run_book.proofs.HeldBy.{sealed_held}
@@ -17,7 +17,7 @@ returns c =
     let book = old.book.book in
     let here = sealed_held Locking book c.requires.start c.requires.lines c.args.tid c.requires.stood.keeps.keeps c.requires.holds in
     let held = c.commit-run.result in
-    let same = some_inj held here.held (sym c.commit-run.ensures.run ∙ here.found) in
+    let same = same_Some held here.held (sym c.commit-run.ensures.run ∙ here.found) in
     let released = c.release.ensures.released in
     λ start lines s.
     let at = run_at-held Locking book start lines c.args.tid held s.keeps.keeps c.commit-run.ensures.run in

@@ -1,9 +1,9 @@
 use Rattle.std.proofs.Common.{◌≡◌, ℕ, ◌+◌, ◌∷◌, Bool, is_some, cond, None, IfSome, Option, refl, sym, ap, ◌∙◌, subst}
+use Rattle.std.proofs.lemmas.Option.{same_Some}
 use Rattle.mdb_base.specs.declared.names.Engine.TheVariants.{Locking}
 use Rattle.fed_rules.specs.Runs.{Seals}
 use Rattle.run_book.specs.declared.marks.Marks.{Marks}
 use Rattle.run_book.specs.Held.{Held}
-use Rattle.run_book.proofs.Ages.{some_inj}
 use Rattle.run_book.proofs.HeldBy.{sealable_held}
 use Rattle.run_book.proofs.InOrder.{if_found}
 use Rattle.locking_engine.specs.declared.engine.LockingEngine.{LockingEngine}
@@ -23,7 +23,7 @@ returns-clause-sealed c =
     let old = c.args.self.now in
     let book = old.book.book in
     let here = sealable_held Locking book c.requires.start c.requires.lines c.args.tid c.requires.stood.keeps.keeps c.requires.holds in
-    let same = some_inj c.run-run.result.now here.held (sym c.run-run.ensures ∙ here.found) in
+    let same = same_Some c.run-run.result.now here.held (sym c.run-run.ensures ∙ here.found) in
     let ticket = ap (λ (o : Option ℕ). is_some o) (c.ticket-ticket.ensures ∙ ap (λ (h : Held). h.run.ticket) same) in
     λ start lines s.
     subst (λ (e : LockingEngine). Stands e start (Seals c.args.tid (c.marks-number.result.counter + 1) ∷ lines)) (sym c.publish.ensures)

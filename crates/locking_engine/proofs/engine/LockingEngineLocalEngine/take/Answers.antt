@@ -1,4 +1,5 @@
 use Rattle.std.proofs.Common.{◌≡◌, ℕ, ◌+◌, Some, None, Option, refl, sym, ap, ◌∙◌}
+use Rattle.std.proofs.lemmas.Option.{same_Some}
 use Rattle.mdb_base.specs.declared.names.Engine.TheVariants.{Locking}
 use Rattle.mdb_base.specs.declared.names.Tid.{Tid}
 use Rattle.mdb_base.specs.Words.{map_some}
@@ -7,7 +8,6 @@ use Rattle.run_book.specs.declared.rival.Rival.{Rival}
 use Rattle.run_book.specs.Held.{Held, held_in}
 use Rattle.run_book.specs.Book.{Book, tickets, with_ticket}
 use Rattle.run_book.specs.Rivals.{rival_by}
-use Rattle.run_book.proofs.Ages.{some_inj}
 use Rattle.run_book.proofs.HeldBy.{ticketless_held, some-found}
 use Rattle.run_book.proofs.InOrder.{of_found}
 use Rattle.run_book.proofs.RunMaps.{held_in-changed_own}
@@ -44,7 +44,7 @@ returns-clause-answered c =
     let then : held_in c.take.new.self.book.runs c.args.tid ≡ Some (change here.held) =
     ap (λ (b : Book). held_in b.runs c.args.tid) c.in_ok-ticket.ensures.taken
     ∙ (held_in-changed_own book.runs c.args.tid change ∙ ap (λ (o : Option Held). map_some change o) here.found) in
-    let same = some_inj c.run.result.now (change here.held) (sym c.run.ensures ∙ then) in
+    let same = same_Some c.run.result.now (change here.held) (sym c.run.ensures ∙ then) in
     λ start lines s.
     let named = tid_is start lines s.keeps.keeps.right c.args.tid here.held.run (run_at-held Locking book start lines c.args.tid here.held s.keeps.keeps here.found) in
     stands_took old _ start lines c.args.tid here.held c.in_ok-ticket.ticket s here.found here.live here.ticketless (sym free) c.in_ok-ticket.ensures.ticket

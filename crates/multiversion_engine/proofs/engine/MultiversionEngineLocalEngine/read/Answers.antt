@@ -1,4 +1,5 @@
 use Rattle.std.proofs.Common.{◌≡◌, Some, None, refl, sym, ap, ◌∙◌}
+use Rattle.std.proofs.lemmas.Option.{same_Some}
 use Rattle.mdb_base.specs.declared.names.Engine.TheVariants.{Multiversion}
 use Rattle.mdb_base.specs.declared.acts.PlainAct.TheVariants.{Read}
 use Rattle.fed_rules.specs.Runs.{Access}
@@ -6,7 +7,6 @@ use Rattle.fed_rules.specs.Replies.{age_of}
 use Rattle.run_book.specs.Rivals.{rival_by}
 use Rattle.run_book.specs.Held.{Held}
 use Rattle.run_book.specs.Book.{grants}
-use Rattle.run_book.proofs.Ages.{some_inj}
 use Rattle.run_book.proofs.HeldBy.{live_held}
 use Rattle.run_book.proofs.InOrder.{of_found}
 use Rattle.multiversion_engine.specs.Stands.{read_stop, IsValueFor}
@@ -30,7 +30,7 @@ returns-clause-answered c =
     let here = live_held Multiversion book c.requires.start c.requires.lines c.args.tid c.requires.stood.keeps.keeps c.requires.holds in
     let free = of_found (λ h. None ≡ read_stop old.accesses h.run c.args.key) _ here.held here.found c.in_default.ensures in
     let value = of_found (λ h. IsValueFor book old.olds h.run c.args.key c.value_for-value.result) _ here.held here.found c.value_for-value.ensures in
-    let same = some_inj c.run.result.now here.held (sym c.run.ensures ∙ here.found) in
+    let same = same_Some c.run.result.now here.held (sym c.run.ensures ∙ here.found) in
     let rival : c.by_age-run.result ≡ rival_by age_of here.held.run = c.by_age-run.ensures ∙ ap (λ (h : Held). rival_by age_of h.run) same in
     λ start lines s.
     stands_read old start lines s c.args.tid here.held here.found _ c.args.key c.value_for-value.result here.live (sym free) value

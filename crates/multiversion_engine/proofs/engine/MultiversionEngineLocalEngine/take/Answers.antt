@@ -1,5 +1,6 @@
 use Rattle.std.proofs.Common.{◌≡◌, ℕ, Some, None, refl, sym, ap, ◌∙◌, subst}
 use Rattle.std.specs.FinMap.{get, remove}
+use Rattle.std.proofs.lemmas.Option.{same_Some}
 use Rattle.mdb_base.specs.declared.names.Engine.TheVariants.{Multiversion}
 use Rattle.fed_rules.specs.Replies.{age_of}
 use Rattle.access_ages.specs.Takers.{ByAge, Takers, with_taker}
@@ -10,7 +11,6 @@ use Rattle.run_book.specs.declared.rival.Rival.{Rival}
 use Rattle.run_book.specs.Rivals.{rival_by}
 use Rattle.run_book.specs.Held.{Held}
 use Rattle.run_book.specs.Book.{tickets}
-use Rattle.run_book.proofs.Ages.{some_inj}
 use Rattle.run_book.proofs.Calls.{run_at-held}
 use Rattle.run_book.proofs.HeldBy.{ticketless_held}
 use Rattle.multiversion_engine.proofs.Lines.{stands_kept}
@@ -21,7 +21,7 @@ pub returns-in-Some-clause-answered : goal.returns-in-Some-clause-answered
 returns-in-Some-clause-answered c =
     let old = c.args.self.now in
     let here = ticketless_held Multiversion old.book.book c.requires.start c.requires.lines c.args.tid c.requires.stood.keeps.keeps c.requires.holds in
-    let same = some_inj c.run.result.now here.held (sym c.run.ensures ∙ here.found) in
+    let same = same_Some c.run.result.now here.held (sym c.run.ensures ∙ here.found) in
     let rank : c.by_age-run.result.rank ≡ here.held.run.age = ap (λ (r : Rival). r.rank) c.by_age-run.ensures ∙ ap (λ (h : Held). h.run.age) same in
     let is = subst (λ (n : ℕ). IsTicketStop old.takers n (Some c.in-Some.stop)) rank c.in-Some.ensures in
     λ start lines s. rw c.stop-in-Some.ensures.answer
@@ -31,7 +31,7 @@ pub returns-in_default-take-clause-memory : goal.returns-in_default-take-clause-
 returns-in_default-take-clause-memory c =
     let old = c.args.self.now in
     let here = ticketless_held Multiversion old.book.book c.requires.start c.requires.lines c.args.tid c.requires.stood.keeps.keeps c.requires.holds in
-    let same = some_inj c.run.result.now here.held (sym c.run.ensures ∙ here.found) in
+    let same = same_Some c.run.result.now here.held (sym c.run.ensures ∙ here.found) in
     let run = c.by_age-run.result in
     let rank : run.rank ≡ here.held.run.age = ap (λ (r : Rival). r.rank) c.by_age-run.ensures ∙ ap (λ (h : Held). h.run.age) same in
     λ start lines s.
@@ -50,7 +50,7 @@ returns-clause-answered c =
     let old = c.args.self.now in
     let book = old.book.book in
     let here = ticketless_held Multiversion book c.requires.start c.requires.lines c.args.tid c.requires.stood.keeps.keeps c.requires.holds in
-    let same = some_inj c.run.result.now here.held (sym c.run.ensures ∙ here.found) in
+    let same = same_Some c.run.result.now here.held (sym c.run.ensures ∙ here.found) in
     let run = c.by_age-run.result in
     let rival : run ≡ rival_by age_of here.held.run = c.by_age-run.ensures ∙ ap (λ (h : Held). rival_by age_of h.run) same in
     let free = subst (λ (n : ℕ). IsTicketStop old.takers n None) (ap (λ (r : Rival). r.rank) rival) c.in_default.ensures in

@@ -1,17 +1,18 @@
 use Rattle.std.proofs.Common.{◌≡◌, Some, None, refl, sym, ap, ◌∙◌}
+use Rattle.std.proofs.lemmas.Option.{same_Some}
 use Rattle.mdb_base.specs.declared.names.Engine.TheVariants.{Multiversion}
 use Rattle.mdb_base.specs.declared.acts.PlainAct.TheVariants.{Write}
+use Rattle.mdb_base.proofs.ResultLaws.{on_err_anyway}
 use Rattle.fed_rules.specs.Runs.{Access}
 use Rattle.fed_rules.specs.Replies.{age_of}
 use Rattle.run_book.specs.Rivals.{rival_by}
 use Rattle.run_book.specs.Held.{Held}
 use Rattle.run_book.specs.Book.{grants}
-use Rattle.run_book.proofs.Ages.{some_inj}
 use Rattle.run_book.proofs.HeldBy.{live_held}
 use Rattle.run_book.proofs.InOrder.{of_found}
 use Rattle.multiversion_engine.specs.Stands.{write_stop}
 use Rattle.multiversion_engine.proofs.Lines.{stands_kept}
-use Rattle.multiversion_engine.proofs.Noting.{write_noted, on_err_anyway}
+use Rattle.multiversion_engine.proofs.Noting.{write_noted}
 use Rattle.multiversion_engine.proofs.Replies.{olds_noted, write_is, write_shape, stands_wrote, stands_stopped}
 use Rattle.multiversion_engine.proofs.engine.MultiversionEngineLocalEngine.write.Goals as goal
 
@@ -38,7 +39,7 @@ returns-clause-answered c =
     let book = old.book.book in
     let here = live_held Multiversion book c.requires.start c.requires.lines c.args.tid c.requires.stood.keeps.keeps c.requires.holds in
     let free = of_found (λ h. None ≡ write_stop old.accesses h.run c.args.key c.args.value) _ here.held here.found c.in_default.ensures in
-    let same = some_inj c.run.result.now here.held (sym c.run.ensures ∙ here.found) in
+    let same = same_Some c.run.result.now here.held (sym c.run.ensures ∙ here.found) in
     let rival : c.by_age-run.result ≡ rival_by age_of here.held.run = c.by_age-run.ensures ∙ ap (λ (h : Held). rival_by age_of h.run) same in
     λ start lines s.
     stands_wrote old start lines s c.args.tid here.held here.found _ c.args.key c.args.value here.live (sym free)

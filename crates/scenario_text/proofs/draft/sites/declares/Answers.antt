@@ -1,8 +1,8 @@
 use Rattle.std.proofs.Common.{rules, tests, sym, ◌∙◌}
 use Rattle.std.proofs.lemmas.Iterator.{YieldsList-from_slice}
 use Rattle.std.proofs.lemmas.Iterator.Search.{any_from_yields_List}
+use Rattle.mdb_base.proofs.TestLaws.{some_of-list_any}
 use Rattle.fed_rules.specs.Plans.{declares}
-use Rattle.scenario_text.proofs.ListLemmas.{some_of-list_any}
 use Rattle.scenario_text.proofs.draft.sites.declares.Goals as goal
 
 pub returns : goal.returns

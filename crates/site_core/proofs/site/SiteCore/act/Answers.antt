@@ -1,5 +1,6 @@
 use Rattle.std.proofs.Common.{◌≡◌, not, [], ◌∷◌, None, refl, sym, ap, ◌∙◌}
 use Rattle.mdb_base.specs.declared.replies.Reply.{Reply}
+use Rattle.mdb_base.proofs.OptionLaws.{nothing_is}
 use Rattle.fed_rules.specs.declared.answers.Answer.{Answer}
 use Rattle.fed_rules.specs.declared.answers.Answer.TheVariants as Say
 use Rattle.fed_rules.specs.declared.events.SiteEvent.TheVariants as Ev
@@ -8,7 +9,7 @@ use Rattle.fed_rules.specs.Runs.{Acts}
 use Rattle.fed_rules.specs.Site.{act_answer, reply_to, with_lines}
 use Rattle.fed_rules.specs.SitePast.{engine_lines, epoch_start}
 use Rattle.site_core.specs.declared.site.SiteCore.{SiteCore}
-use Rattle.site_core.proofs.LineLaws.{act_acts, act_idle, is_absent, is_there, live_none, live_some}
+use Rattle.site_core.proofs.LineLaws.{act_acts, act_idle, is_there, live_none, live_some}
 use Rattle.site_core.proofs.LocalLaws.{act_adds, few_noted, replied_by}
 use Rattle.site_core.proofs.RememberLaws.{adds_as, is_up_at}
 use Rattle.site_core.proofs.UpLaws.{adds_quiet}
@@ -19,7 +20,7 @@ returns-then-is_none-clause-answered g c = λ home past h.
     let core = c.args.self.now in
     let u = is_up_at g.E.LocalEngine.stands core home past h.memory c.requires.up in
     let absent = is_there c.live.result _ c.is_none.result c.live.ensures c.is_none.ensures ∙ ap not c.if-is_none.true in
-    let none = live_none core.book home past c.args.tid u.notes (is_absent _ absent) in
+    let none = live_none core.book home past c.args.tid u.notes (nothing_is _ absent) in
     adds_as g.E.LocalEngine.stands _ core home past _ _ (act_idle home past c.args.tid c.args.act none)
     (adds_quiet g.E.LocalEngine.stands core home past c.says.result (Ev.Act c.args.tid c.args.act) Say.Idle h c.requires.up refl refl refl (λ t. refl) (λ tx. refl) c.says.ensures)
 

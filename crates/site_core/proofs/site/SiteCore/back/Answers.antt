@@ -1,4 +1,5 @@
 use Rattle.std.proofs.Common.{refl}
+use Rattle.mdb_base.proofs.ResultLaws.{map_err, map_ok}
 use Rattle.fed_rules.specs.declared.events.SiteEvent.TheVariants as Ev
 use Rattle.fed_rules.specs.declared.events.SiteStep.{SiteStep}
 use Rattle.fed_rules.specs.Site.{site_line}
@@ -10,7 +11,6 @@ use Rattle.site_core.specs.Stands.{Answers, Breaks, Stands}
 use Rattle.site_core.specs.Steps.{EachPast}
 use Rattle.site_core.proofs.BackLaws.{read_failed}
 use Rattle.site_core.proofs.CheckLaws.{roomier}
-use Rattle.site_core.proofs.Outcomes.{map_err, map_ok}
 use Rattle.site_core.proofs.RememberLaws.{stands_from}
 use Rattle.site_core.proofs.site.SiteCore.back.Goals as goal
 

@@ -1,4 +1,5 @@
 use Rattle.std.proofs.Common.{◌≡◌, ℕ, Some, None, [], ◌∷◌, refl, sym, ap, ◌∙◌, subst}
+use Rattle.mdb_base.proofs.OptionLaws.{none_left}
 use Rattle.fed_rules.specs.declared.answers.Answer.TheVariants as Say
 use Rattle.fed_rules.specs.declared.events.SiteEvent.TheVariants as Ev
 use Rattle.fed_rules.specs.Runs.{Begins, counter}
@@ -8,7 +9,7 @@ use Rattle.site_book.specs.Book.{begins_local}
 use Rattle.site_book.proofs.Undone.{unbegins-begins}
 use Rattle.site_core.specs.declared.site.SiteCore.{SiteCore}
 use Rattle.site_core.proofs.LineLaws.{begin_begun, begin_committed, begin_running, running_is}
-use Rattle.site_core.proofs.LocalLaws.{begin_adds, free_there, no_entry, none_left}
+use Rattle.site_core.proofs.LocalLaws.{begin_adds, free_there, no_entry}
 use Rattle.site_core.proofs.NotesLaws.{stands_not}
 use Rattle.site_core.proofs.RememberLaws.{adds_as, is_up_at, remembers_engine}
 use Rattle.site_core.proofs.UpLaws.{adds_quiet}

@@ -6,7 +6,7 @@ use Rattle.fed_rules.specs.SitePast.{disk, records, trip}
 use Rattle.fed_rules.specs.SiteSums.{site_sum}
 use Rattle.site_journal.specs.Spelling.{IsSumInRange}
 use Rattle.site_core.proofs.CheckLaws.{check_done, check_failed, check_large, check_stopped, checkpoint_fits, roomier}
-use Rattle.site_core.proofs.Founded.{founded}
+use Rattle.site_history.proofs.Founded.{founded}
 use Rattle.site_core.proofs.JournalLaws.{is_journal, sum_is}
 use Rattle.site_core.proofs.SumLaws.{sum_in_range}
 use Rattle.site_core.proofs.site.SiteCore.check.Goals as goal

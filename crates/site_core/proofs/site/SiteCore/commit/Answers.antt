@@ -1,5 +1,7 @@
 use Rattle.std.proofs.Common.{◌≡◌, not, ◌∷◌, [], None, refl, sym, ap, ◌∙◌}
 use Rattle.mdb_base.specs.declared.replies.Why.{Why}
+use Rattle.mdb_base.proofs.OptionLaws.{nothing_is}
+use Rattle.mdb_base.proofs.ResultLaws.{map_err, map_ok}
 use Rattle.fed_rules.specs.declared.answers.Answer.{Answer}
 use Rattle.fed_rules.specs.declared.answers.Answer.TheVariants as Say
 use Rattle.fed_rules.specs.declared.events.SiteEvent.TheVariants as Ev
@@ -16,9 +18,8 @@ use Rattle.site_core.specs.Sealing.{StandsSealing}
 use Rattle.site_core.specs.Stands.{Answers, Breaks, Stands}
 use Rattle.site_core.specs.Steps.{CanCommit, EachPast}
 use Rattle.site_core.proofs.CommitLaws.{refused_by, sealing_stands}
-use Rattle.site_core.proofs.LineLaws.{commit_idle, commit_refused, is_absent, is_there, live_none, live_some}
+use Rattle.site_core.proofs.LineLaws.{commit_idle, commit_refused, is_there, live_none, live_some}
 use Rattle.site_core.proofs.LocalLaws.{end_adds}
-use Rattle.site_core.proofs.Outcomes.{map_err, map_ok}
 use Rattle.site_core.proofs.RememberLaws.{answers_quiet, is_up_at}
 use Rattle.site_core.proofs.UpLaws.{adds_quiet, closed_one, refusal_plain}
 use Rattle.site_core.proofs.site.SiteCore.commit.Goals as goal
@@ -28,7 +29,7 @@ returns-then-is_none-clause-answered g c = λ home past k may.
     let core = c.args.self.now in
     let u = is_up_at g.E.LocalEngine.stands core home past k.holds.memory c.requires.up in
     let absent = is_there c.live.result _ c.is_none.result c.live.ensures c.is_none.ensures ∙ ap not c.if-is_none.true in
-    let none = live_none core.book home past c.args.tid u.notes (is_absent _ absent) in
+    let none = live_none core.book home past c.args.tid u.notes (nothing_is _ absent) in
     answers_quiet g.E.LocalEngine.stands g.D.Disk.tells c.says.result core core (g.D.Disk.seen c.args.disk.now) home past _ _ k refl refl (ap (unless_tripped home past) (commit_idle home past c.args.tid none))
     (adds_quiet g.E.LocalEngine.stands core home past c.says.result (Ev.Commit c.args.tid) Say.Idle k.holds c.requires.up refl refl refl (λ t. refl) (λ tx. refl) c.says.ensures)
 

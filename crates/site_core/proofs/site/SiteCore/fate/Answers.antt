@@ -1,10 +1,10 @@
 use Rattle.std.proofs.Common.{◌≡◌, Some, None, refl, sym, ap, ◌∙◌}
 use Rattle.std.proofs.lemmas.Bool.{eq-eqb, ne_eqb}
+use Rattle.mdb_base.proofs.OptionLaws.{none_left}
 use Rattle.fed_rules.specs.SitePast.{attempts_of}
 use Rattle.fed_rules.specs.declared.answers.Answer.TheVariants as Say
 use Rattle.fed_rules.specs.declared.events.SiteEvent.TheVariants as Ev
 use Rattle.site_core.proofs.LineLaws.{fate_committed, fate_ended, fate_running, fate_unbegun, running_is}
-use Rattle.site_core.proofs.LocalLaws.{none_left}
 use Rattle.site_core.proofs.RememberLaws.{adds_as, is_up_at}
 use Rattle.site_core.proofs.UpLaws.{adds_quiet}
 use Rattle.site_core.proofs.site.SiteCore.fate.Goals as goal

@@ -3,6 +3,7 @@ use Rattle.std.specs.Option.{IfSome}
 use Rattle.std.proofs.lemmas.Bool.{cond-true}
 use Rattle.mdb_base.specs.declared.replies.Reply.TheVariants as Reply_is
 use Rattle.mdb_base.proofs.NameLaws.{same_tid-refl}
+use Rattle.mdb_base.proofs.OptionLaws.{nothing_is}
 use Rattle.fed_rules.specs.declared.messages.ToSite.TheVariants as To
 use Rattle.fed_rules.specs.Runs.{Begins, begun}
 use Rattle.fed_rules.specs.Site.{did, of_work}
@@ -12,7 +13,7 @@ use Rattle.site_book.specs.Book.{Book, begins_global, forgets, live_in, notes_re
 use Rattle.site_book.specs.Noted.{Noted, fresh}
 use Rattle.site_book.proofs.Undone.{forgets-enters}
 use Rattle.site_core.specs.declared.site.SiteCore.{SiteCore}
-use Rattle.site_core.proofs.LineLaws.{is_absent, live_none}
+use Rattle.site_core.proofs.LineLaws.{live_none}
 use Rattle.site_core.proofs.OperationLaws.{did_adds, did_is}
 use Rattle.site_core.proofs.RememberLaws.{adds_as, is_up_at, remembers_engine}
 use Rattle.site_core.proofs.WorkLaws.{begins_live, entered_over, first_adds, first_is, is_elsewhere, is_later, unentered, work_first, work_none, work_over}
@@ -42,7 +43,7 @@ returns-in_default-clause-memory g c = λ home past h.
     let core = c.args.self.now in
     let tid = c.args.tid in
     let u = is_up_at g.E.LocalEngine.stands core home past h.memory c.requires.up in
-    let none : progress_of core.book tid ≡ None = is_absent _ (sym c.has_entry.ensures ∙ c.if-has_entry.false) in
+    let none : progress_of core.book tid ≡ None = nothing_is _ (sym c.has_entry.ensures ∙ c.if-has_entry.false) in
     let same : c.forget.new.self ≡ core.book = c.forget.ensures ∙ ap (forgets tid) c.in_ok-begin_global.ensures.begun ∙ forgets-enters tid (Is.Live fresh) core.book none in
     remembers_engine g.E.LocalEngine.stands core _ home past h.memory c.requires.up (c.in_default.ensures.memory (epoch_start home past) (engine_lines past) u.engine)
     (ap (λ b. let new : SiteCore _ = record core { engine = c.begin.new.self; book = b } in new) same)
@@ -66,7 +67,7 @@ returns-in_default-access-clause-memory g c = λ home past h.
     let tid = c.args.tid in
     let number = c.in-Ok.field-0 in
     let u = is_up_at g.E.LocalEngine.stands core home past h.memory c.requires.up in
-    let none : progress_of core.book tid ≡ None = is_absent _ (sym c.has_entry.ensures ∙ c.if-has_entry.false) in
+    let none : progress_of core.book tid ≡ None = nothing_is _ (sym c.has_entry.ensures ∙ c.if-has_entry.false) in
     let same : c.forget-in_default-access.new.self ≡ core.book =
     c.forget-in_default-access.ensures ∙ ap (forgets tid) c.in_ok-begin_global.ensures.begun ∙ forgets-enters tid (Is.Live fresh) core.book none in
     let stood = c.in-Ok.ensures.begun (epoch_start home past) (engine_lines past) u.engine in
@@ -94,7 +95,7 @@ returns-clause-answered g c = λ home past h may.
     let number = c.in-Ok.field-0 in
     let reply = c.in-Ok-access.reply in
     let u = is_up_at g.E.LocalEngine.stands core home past h.memory c.requires.up in
-    let none : progress_of core.book tid ≡ None = is_absent _ (sym c.has_entry.ensures ∙ c.if-has_entry.false) in
+    let none : progress_of core.book tid ≡ None = nothing_is _ (sym c.has_entry.ensures ∙ c.if-has_entry.false) in
     let (clear, dead, free) = unentered core.book home past tid u.notes h.made none in
     let first : ((e == 0) && (n == 0)) ≡ true = ap₂ (λ (a b : ℕ). (a == 0) && (b == 0)) c.if-epoch-ne0.false c.if-n-ne0.false in
     let stood = c.in-Ok-access.ensures.answered (epoch_start home past) (Begins tid number ∷ engine_lines past) (c.in-Ok.ensures.begun (epoch_start home past) (engine_lines past) u.engine) in

@@ -1,4 +1,5 @@
 use Rattle.std.proofs.Common.{ap, ◌∙◌}
+use Rattle.mdb_base.proofs.ResultLaws.{map_ok}
 use Rattle.fed_rules.specs.declared.events.SiteStep.{SiteStep}
 use Rattle.fed_rules.specs.Site.{of_decide, of_give, of_prepare, of_take, of_work, unless_tripped}
 use Rattle.fed_rules.specs.SitePast.{SiteHappening, SitePast}
@@ -6,7 +7,6 @@ use Rattle.fed_rules.specs.SiteRecords.{Home}
 use Rattle.site_core.specs.Stands.{Answers, Stands}
 use Rattle.site_core.specs.Steps.{CanDecide, CanPrepare, CanTakeMessage, EachPast}
 use Rattle.site_core.proofs.OperationLaws.{give_decide, give_prepare, give_take, give_work, take_quiet, work_quiet}
-use Rattle.site_core.proofs.Outcomes.{map_ok}
 use Rattle.site_core.proofs.RememberLaws.{answers_as, answers_quiet}
 use Rattle.site_core.proofs.site.SiteCore.give.Goals as goal
 

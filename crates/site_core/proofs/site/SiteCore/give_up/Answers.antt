@@ -1,4 +1,5 @@
 use Rattle.std.proofs.Common.{◌≡◌, not, Some, None, [], ◌∷◌, refl, sym, ap, ◌∙◌}
+use Rattle.mdb_base.proofs.OptionLaws.{nothing_is}
 use Rattle.fed_rules.specs.declared.answers.Answer.TheVariants as Say
 use Rattle.fed_rules.specs.declared.events.SiteEvent.TheVariants as Ev
 use Rattle.fed_rules.specs.Runs.{Aborts, changed}
@@ -8,7 +9,7 @@ use Rattle.site_book.specs.Book.{closes}
 use Rattle.site_book.proofs.Followed.{calls_well}
 use Rattle.site_core.specs.declared.site.SiteCore.{SiteCore}
 use Rattle.site_core.proofs.InquiryLaws.{drop_drops, drop_idle, drop_local, was_global_one, was_local_one}
-use Rattle.site_core.proofs.LineLaws.{is_absent, is_there, live_none, live_some}
+use Rattle.site_core.proofs.LineLaws.{is_there, live_none, live_some}
 use Rattle.site_core.proofs.LocalLaws.{end_adds}
 use Rattle.site_core.proofs.RememberLaws.{adds_as, is_up_at}
 use Rattle.site_core.proofs.UpLaws.{adds_quiet, closed_one}
@@ -27,7 +28,7 @@ returns-then-is_none-clause-answered g c = λ home past h.
     let u = is_up_at g.E.LocalEngine.stands core home past h.memory c.requires.up in
     let global = was_global_one past c.args.tid (sym (h.memory.begun c.args.tid.tx) ∙ sym c.begun.ensures ∙ c.if-begun-ne0.false) in
     let absent = is_there c.live.result _ c.is_none.result c.live.ensures c.is_none.ensures ∙ ap not c.if-is_none.true in
-    let none = live_none core.book home past c.args.tid u.notes (is_absent _ absent) in
+    let none = live_none core.book home past c.args.tid u.notes (nothing_is _ absent) in
     adds_as g.E.LocalEngine.stands _ core home past _ _ (drop_idle home past c.args.tid global none)
     (adds_quiet g.E.LocalEngine.stands core home past c.says-then-is_none.result (Ev.Drop c.args.tid) Say.Idle h c.requires.up refl refl refl (λ t. refl) (λ tx. refl) c.says-then-is_none.ensures)
 

@@ -1,6 +1,8 @@
 use Rattle.std.proofs.Common.{◌≡◌, ℕ, Some, None, [], ◌∷◌, refl, sym, ap, ◌∙◌, subst}
 use Rattle.std.proofs.lemmas.Bool.{ne_eqb}
 use Rattle.mdb_base.specs.declared.replies.Why.{Why}
+use Rattle.mdb_base.proofs.OptionLaws.{none_left}
+use Rattle.mdb_base.proofs.ResultLaws.{map_err, map_ok}
 use Rattle.fed_rules.specs.declared.answers.Answer.TheVariants as Say
 use Rattle.fed_rules.specs.declared.events.SiteEvent.TheVariants as Ev
 use Rattle.fed_rules.specs.declared.events.SiteStep.{SiteStep}
@@ -17,8 +19,6 @@ use Rattle.site_core.specs.Stands.{Answers, Breaks, Stands}
 use Rattle.site_core.specs.Steps.{CanPrepare, EachPast}
 use Rattle.site_core.proofs.CommitLaws.{refused_by, sealing_stands}
 use Rattle.site_core.proofs.InquiryLaws.{none_doubted}
-use Rattle.site_core.proofs.LocalLaws.{none_left}
-use Rattle.site_core.proofs.Outcomes.{map_err, map_ok}
 use Rattle.site_core.proofs.RememberLaws.{answers_as, answers_quiet, is_up_at}
 use Rattle.site_core.proofs.VoteLaws.{again_adds, again_here, again_late, again_line, finished_count, finished_epoch, finished_live, finishes, no_adds, no_is, no_line, noted_ticket, prepare_unfinished, refused_adds, refused_here, reserved_stands, sealed_ticket}
 use Rattle.site_core.proofs.site.SiteCore.prepare.Goals as goal

@@ -1,4 +1,5 @@
 use Rattle.std.proofs.Common.{refl, ap, ◌∙◌}
+use Rattle.mdb_base.proofs.ResultLaws.{map_ok}
 use Rattle.fed_rules.specs.declared.answers.Answer.TheVariants as Say
 use Rattle.fed_rules.specs.declared.events.SiteEvent.TheVariants as Ev
 use Rattle.fed_rules.specs.declared.events.SiteStep.{SiteStep}
@@ -10,7 +11,6 @@ use Rattle.site_core.specs.Steps.{CanCommit, CanStep, CanTakeMessage, EachPast}
 use Rattle.site_core.proofs.InquiryLaws.{ask_quiet, ask_up, drop_quiet, drop_up}
 use Rattle.site_core.proofs.OperationLaws.{give_up_line}
 use Rattle.site_core.proofs.LineLaws.{abort_quiet, abort_up, act_quiet, act_up, back_up, begin_quiet, begin_up, check_up, commit_up, fate_quiet, fate_up}
-use Rattle.site_core.proofs.Outcomes.{map_ok}
 use Rattle.site_core.proofs.RememberLaws.{answers_as, answers_quiet, up_is}
 use Rattle.site_core.proofs.StopLaws.{says_only, trip_sets}
 use Rattle.site_core.proofs.site.SiteCore.serve.Goals as goal

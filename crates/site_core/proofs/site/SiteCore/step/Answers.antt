@@ -1,3 +1,4 @@
+use Rattle.mdb_base.proofs.ResultLaws.{map_err, map_ok}
 use Rattle.fed_rules.specs.declared.events.SiteStep.{SiteStep}
 use Rattle.fed_rules.specs.Site.{site_line}
 use Rattle.fed_rules.specs.SitePast.{SitePast}
@@ -5,7 +6,6 @@ use Rattle.fed_rules.specs.SiteRecords.{Home}
 use Rattle.actor_store.specs.declared.errors.StepErr.{StepErr}
 use Rattle.site_core.specs.Stands.{Answers, Breaks, Fails, Stands, Steps}
 use Rattle.site_core.specs.Steps.{CanStep, EachPast}
-use Rattle.site_core.proofs.Outcomes.{map_err, map_ok}
 use Rattle.site_core.proofs.StepLaws.{fails, steps}
 use Rattle.site_core.proofs.site.SiteCore.step.Goals as goal
 

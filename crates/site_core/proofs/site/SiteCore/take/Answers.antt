@@ -1,9 +1,9 @@
 use Rattle.std.proofs.Common.{[], is_some, refl, ap, ◌∙◌}
+use Rattle.mdb_base.proofs.OptionLaws.{none_left}
 use Rattle.fed_rules.specs.declared.messages.ToSite.TheVariants as To
 use Rattle.fed_rules.specs.SitePast.{engine_lines, epoch_start}
 use Rattle.site_core.specs.declared.site.SiteCore.{SiteCore}
 use Rattle.site_core.specs.Operations.{taken_again}
-use Rattle.site_core.proofs.LocalLaws.{none_left}
 use Rattle.site_core.proofs.OperationLaws.{did_adds, did_is, next_is, next_line, next_live, next_ticketless, says_by, take_adds, take_goes, take_says, taken_by}
 use Rattle.site_core.proofs.OverLaws.{shut_made}
 use Rattle.site_core.proofs.RememberLaws.{adds_as, is_up_at}

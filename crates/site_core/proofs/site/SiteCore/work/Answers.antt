@@ -1,11 +1,12 @@
 use Rattle.std.proofs.Common.{◌≡◌, not, [], refl, ap, ◌∙◌}
+use Rattle.mdb_base.proofs.OptionLaws.{none_left}
 use Rattle.fed_rules.specs.declared.messages.ToSite.TheVariants as To
 use Rattle.fed_rules.specs.Site.{reply_to}
 use Rattle.fed_rules.specs.SitePast.{engine_lines, epoch_start}
 use Rattle.site_core.specs.declared.site.SiteCore.{SiteCore}
 use Rattle.site_core.specs.Operations.{worked_again}
 use Rattle.site_core.proofs.LineLaws.{is_there, live_some}
-use Rattle.site_core.proofs.LocalLaws.{none_left, replied_by}
+use Rattle.site_core.proofs.LocalLaws.{replied_by}
 use Rattle.site_core.proofs.OperationLaws.{did_adds, did_is, says_by}
 use Rattle.site_core.proofs.OverLaws.{shut_made}
 use Rattle.site_core.proofs.RememberLaws.{adds_as, is_up_at}

@@ -1,10 +1,10 @@
 use Rattle.std.proofs.Common.{◌≡◌, [], ◌∷◌, ◌++◌, length, sym, ap, ◌∙◌, subst, append_assoc, append-nil, arith}
 use Rattle.std.specs.Vec.Iter.{into_iter_items}
+use Rattle.mdb_base.proofs.JoinLaws.{nothing_left}
 use Rattle.order_laws.specs.Chains.{In}
 use Rattle.order_laws.specs.Tickets.{Ticketed}
 use Rattle.ticket_graph.specs.Graph.{IsWith}
 use Rattle.ticket_graph.specs.Reach.{floor_in}
-use Rattle.ticket_graph.proofs.Keeping.{nothing_left}
 use Rattle.ticket_graph.proofs.Restoring.{next_is_new, next_has_no_cycle, kept_more, more_kept, stands_whole}
 use Rattle.ticket_graph.proofs.graph.TicketGraph.restore.Goals as goal
 

@@ -1,9 +1,9 @@
 use Rattle.std.proofs.Common.{sym, ap, ◌∙◌}
+use Rattle.std.proofs.lemmas.Option.{same_Some}
 use Rattle.mdb_base.specs.declared.names.Engine.TheVariants.{Timestamp}
 use Rattle.fed_rules.specs.Runs.{Commits}
 use Rattle.fed_rules.specs.EngineLines.{IsRightLine}
 use Rattle.run_book.specs.Held.{Held}
-use Rattle.run_book.proofs.Ages.{some_inj}
 use Rattle.run_book.proofs.Calls.{run_at-held}
 use Rattle.run_book.proofs.HeldBy.{sealed_held}
 use Rattle.timestamp_engine.proofs.Lines.{stands_called}
@@ -15,7 +15,7 @@ returns c =
     let book = old.book.book in
     let here = sealed_held Timestamp book c.requires.start c.requires.lines c.args.tid c.requires.stood.keeps.keeps c.requires.holds in
     let held = c.commit-run.result in
-    let same = some_inj held here.held (sym c.commit-run.ensures.run ∙ here.found) in
+    let same = same_Some held here.held (sym c.commit-run.ensures.run ∙ here.found) in
     λ start lines s.
     let at = run_at-held Timestamp book start lines c.args.tid held s.keeps.keeps c.commit-run.ensures.run in
     let right : IsRightLine start lines (Commits c.args.tid) = (held.run, here.number, (at, ap (λ (h : Held). h.run.sealed) same ∙ here.sealed)) in

@@ -1,4 +1,5 @@
 use Rattle.std.proofs.Common.{◌≡◌, cond, Some, None, refl, sym, ap, ◌∙◌}
+use Rattle.std.proofs.lemmas.Option.{same_Some}
 use Rattle.mdb_base.specs.declared.names.Engine.TheVariants.{Timestamp}
 use Rattle.mdb_base.specs.declared.acts.PlainAct.TheVariants.{Read}
 use Rattle.mdb_base.specs.declared.replies.Reply.TheVariants.{Value}
@@ -9,7 +10,6 @@ use Rattle.run_book.specs.declared.rival.Rival.{Rival}
 use Rattle.run_book.specs.Book.{grants, table_in}
 use Rattle.run_book.specs.Held.{Held}
 use Rattle.run_book.specs.Rivals.{rival_by}
-use Rattle.run_book.proofs.Ages.{some_inj}
 use Rattle.run_book.proofs.HeldBy.{live_held}
 use Rattle.run_book.proofs.InOrder.{of_found}
 use Rattle.access_ages.specs.declared.key_ages.KeyAges.{KeyAges}
@@ -35,7 +35,7 @@ returns-clause-answered c =
     let here = live_held Timestamp book c.requires.start c.requires.lines c.args.tid c.requires.stood.keeps.keeps c.requires.holds in
     let free = of_found (λ h. None ≡ key_stop (ages_of old.accesses key) h.run.age (Read key)) _ here.held here.found c.in_default.ensures in
     let value = of_found (λ h. c.value_for-value.result ≡ after h.run.acts (table_in book) key) _ here.held here.found c.value_for-value.ensures in
-    let same = some_inj c.run.result.now here.held (sym c.run.ensures ∙ here.found) in
+    let same = same_Some c.run.result.now here.held (sym c.run.ensures ∙ here.found) in
     let rival : c.by_age-run.result ≡ rival_by age_of here.held.run = c.by_age-run.ensures ∙ ap (λ (h : Held). rival_by age_of h.run) same in
     λ start lines s.
     stands_called old _ start lines (Acts c.args.tid (Read key) (Value c.value_for-value.result)) here.held.run s

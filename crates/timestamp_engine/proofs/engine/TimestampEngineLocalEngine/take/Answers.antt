@@ -1,5 +1,6 @@
 use Rattle.std.proofs.Common.{◌≡◌, ℕ, ◌+◌, Some, None, refl, sym, ap, ◌∙◌}
 use Rattle.std.specs.FinMap.{get, remove}
+use Rattle.std.proofs.lemmas.Option.{same_Some}
 use Rattle.mdb_base.specs.declared.names.Engine.TheVariants.{Timestamp}
 use Rattle.mdb_base.specs.declared.replies.Reply.TheVariants.{Ticket}
 use Rattle.fed_rules.specs.Runs.{Takes}
@@ -9,7 +10,6 @@ use Rattle.run_book.specs.declared.rival.Rival.{Rival}
 use Rattle.run_book.specs.Book.{tickets}
 use Rattle.run_book.specs.Held.{Held}
 use Rattle.run_book.specs.Rivals.{rival_by}
-use Rattle.run_book.proofs.Ages.{some_inj}
 use Rattle.run_book.proofs.HeldBy.{ticketless_held}
 use Rattle.run_book.proofs.InOrder.{of_found}
 use Rattle.access_ages.specs.Takers.{ByAge, Takers, with_taker}
@@ -30,7 +30,7 @@ pub returns-in_default-take-clause-memory : goal.returns-in_default-take-clause-
 returns-in_default-take-clause-memory c =
     let old = c.args.self.now in
     let here = ticketless_held Timestamp old.book.book c.requires.start c.requires.lines c.args.tid c.requires.stood.keeps.keeps c.requires.holds in
-    let same = some_inj c.run.result.now here.held (sym c.run.ensures ∙ here.found) in
+    let same = same_Some c.run.result.now here.held (sym c.run.ensures ∙ here.found) in
     let run = c.by_age-run.result in
     let rival : run ≡ rival_by age_of here.held.run = c.by_age-run.ensures ∙ ap (λ (h : Held). rival_by age_of h.run) same in
     λ start lines s.
@@ -45,7 +45,7 @@ returns-clause-answered c =
     let book = old.book.book in
     let here = ticketless_held Timestamp book c.requires.start c.requires.lines c.args.tid c.requires.stood.keeps.keeps c.requires.holds in
     let free = of_found (λ h. IsTicketStop old.takers h.run.age None) _ here.held here.found c.in_default.ensures in
-    let same = some_inj c.run.result.now here.held (sym c.run.ensures ∙ here.found) in
+    let same = same_Some c.run.result.now here.held (sym c.run.ensures ∙ here.found) in
     let run = c.by_age-run.result in
     let rival : run ≡ rival_by age_of here.held.run = c.by_age-run.ensures ∙ ap (λ (h : Held). rival_by age_of h.run) same in
     λ start lines s.

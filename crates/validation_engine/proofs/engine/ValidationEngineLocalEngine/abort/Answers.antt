@@ -1,6 +1,7 @@
 use Rattle.std.proofs.Common.{is_some, Option, ℕ, sym, ap, ◌∙◌}
+use Rattle.mdb_base.proofs.OptionLaws.{some_number, no_number}
 use Rattle.validation_engine.proofs.Indexed.{kept_same}
-use Rattle.validation_engine.proofs.Lines.{stands_aborted, stands_given_up, some_number, no_number}
+use Rattle.validation_engine.proofs.Lines.{stands_aborted, stands_given_up}
 use Rattle.validation_engine.proofs.engine.ValidationEngineLocalEngine.abort.Goals as goal
 
 pub returns-then-is_some : goal.returns-then-is_some

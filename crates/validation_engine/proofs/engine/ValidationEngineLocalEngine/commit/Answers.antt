@@ -1,10 +1,10 @@
 use Rattle.std.proofs.Common.{ℕ, sym, ap, ◌∙◌, subst}
+use Rattle.std.proofs.lemmas.Option.{same_Some}
 use Rattle.mdb_base.specs.declared.names.Engine.TheVariants.{Validation}
 use Rattle.mdb_base.specs.declared.names.Tid.{Tid}
 use Rattle.run_book.specs.declared.marks.Marks.{Marks}
 use Rattle.run_book.specs.Held.{Held}
 use Rattle.run_book.specs.Book.{Book}
-use Rattle.run_book.proofs.Ages.{some_inj}
 use Rattle.run_book.proofs.HeldBy.{sealed_held}
 use Rattle.validation_engine.specs.declared.index.Change.TheVariants.{Committed}
 use Rattle.validation_engine.specs.Index.{Index, IsChanged}
@@ -17,7 +17,7 @@ returns c =
     let book = old.book.book in
     let here = sealed_held Validation book c.requires.start c.requires.lines c.args.tid c.requires.stood.keeps.keeps c.requires.holds in
     let held = c.commit-run.result in
-    let same = some_inj held here.held (sym c.commit-run.ensures.run ∙ here.found) in
+    let same = same_Some held here.held (sym c.commit-run.ensures.run ∙ here.found) in
     let moment = ap (λ (m : Marks). m.counter) c.marks.ensures ∙ ap (λ (b : Book). b.marks.counter) c.commit-run.ensures.book in
     let new : Index = c.change.new.self in
     let named = subst (λ (t : Tid). IsChanged (Committed (record { tid = t; number = c.number.result; moment = c.marks.result.counter })) held.run.acts old.index new) c.tid.ensures c.change.ensures in

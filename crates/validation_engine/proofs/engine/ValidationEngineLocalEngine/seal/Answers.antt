@@ -1,10 +1,10 @@
 use Rattle.std.proofs.Common.{◌≡◌, ◌+◌, Some, IfSome, Option, sym, ap, ◌∙◌}
+use Rattle.std.proofs.lemmas.Option.{same_Some}
 use Rattle.mdb_base.specs.declared.names.Engine.TheVariants.{Validation}
 use Rattle.mdb_base.specs.Words.{map_some}
 use Rattle.run_book.specs.declared.marks.Marks.{Marks}
 use Rattle.run_book.specs.Held.{Held, held_in}
 use Rattle.run_book.specs.Book.{Book, sealed_with}
-use Rattle.run_book.proofs.Ages.{some_inj}
 use Rattle.run_book.proofs.HeldBy.{sealable_held, some-found}
 use Rattle.run_book.proofs.InOrder.{if_found}
 use Rattle.run_book.proofs.RunMaps.{held_in-changed_own}
@@ -61,7 +61,7 @@ returns-clause-sealed c =
     let then : held_in c.seal.new.self.book.runs c.args.tid ≡ Some (change here.held) =
     ap (λ (b : Book). held_in b.runs c.args.tid) c.in_ok-seal.ensures.sealed
     ∙ (held_in-changed_own book.runs c.args.tid change ∙ ap (λ (o : Option Held). map_some change o) here.found) in
-    let same = some_inj c.run.result.now (change here.held) (sym c.run.ensures ∙ then) in
+    let same = same_Some c.run.result.now (change here.held) (sym c.run.ensures ∙ then) in
     λ start lines s.
     stands_sealed old start lines s c.args.tid here.held here.found _ n c.run.result.now.run.acts here.live passed (ap (λ (m : Marks). m.counter + 1) c.marks-marks.ensures)
     c.in_ok-seal.ensures.sealed c.in_ok-seal.ensures.room (ap (λ (h : Held). h.run.acts) same) c.change.ensures

@@ -1,7 +1,0 @@
-use Rattle.std.proofs.Common.{◌≡◌, take}
-use Rattle.fed_rules.specs.Coord.{decide_to}
-use Rattle.coord_core.proofs.messages.decide_to.Given as goal
-
--- the first messages are there
-abbrev pub invariant-loop-member : goal.invariant-loop-member
-invariant-loop-member l = l.sends.items ≡ decide_to l.tid l.decision (take l.member-index l.member-items)

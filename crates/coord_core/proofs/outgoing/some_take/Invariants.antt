@@ -1,8 +1,0 @@
-use Rattle.std.proofs.Common.{◌≡◌, drop}
-use Rattle.mdb_base.specs.Words.{some_of}
-use Rattle.fed_rules.specs.Coord.{is_take}
-use Rattle.coord_core.proofs.outgoing.some_take.Given as goal
-
--- the first ones don't pass
-abbrev pub invariant-loop-due : goal.invariant-loop-due
-invariant-loop-due l = some_of is_take (drop l.due-index l.due-items) ≡ some_of is_take l.due-items

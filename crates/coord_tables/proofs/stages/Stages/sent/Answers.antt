@@ -1,0 +1,31 @@
+use Rattle.std.proofs.Common.{map, refl, sym, ap, ◌∙◌, subst, ◌||◌}
+use Rattle.std.specs.Map.{values_of}
+use Rattle.coord_tables.specs.declared.stages.Stage.{Stage}
+use Rattle.coord_tables.specs.Staged.{AreStaged}
+use Rattle.coord_tables.specs.Stages.{after_sending}
+use Rattle.coord_tables.proofs.Staged.{own_change, same_name_after, staged_set, unchanged_absent, values_set}
+use Rattle.coord_tables.proofs.stages.Stages.sent.Goals as goal
+
+pub returns-in-None : goal.returns-in-None
+returns-in-None c =
+    let change : Stage → Stage = after_sending c.args.tid c.args.takes c.args.prepares in
+    rw c.get_mut.follows.holds-at-none
+    (sym (unchanged_absent c.args.tid.tx.0 change (own_change c.args.tid (λ (s : Stage). record s { takes = s.takes || c.args.takes; prepares = s.prepares || c.args.prepares })) c.self.inside.stages.entries c.self.invariant (sym c.in-None.ensures.value))
+    ∙ ap (λ b. map change b.listed) c.self.view_is)
+
+pub invariant_of-self-2 : goal.invariant_of-self-2
+invariant_of-self-2 c =
+    let k = c.in-Some.stage.now in
+    let w = c.after_sending.result in
+    subst AreStaged (sym (c.get_mut.follows.holds w).0)
+    (staged_set c.args.tid.tx.0 c.self.inside.stages.entries k w c.self.invariant (sym c.in-Some.ensures.value)
+    (ap (λ (s : Stage). s.tid) c.after_sending.ensures ∙ same_name_after c.args.tid (λ (s : Stage). record s { takes = s.takes || c.args.takes; prepares = s.prepares || c.args.prepares }) k refl))
+
+pub returns : goal.returns
+returns c =
+    let change : Stage → Stage = after_sending c.args.tid c.args.takes c.args.prepares in
+    let k = c.in-Some.stage.now in
+    let w = c.after_sending.result in
+    ap values_of (c.get_mut.follows.holds w).0
+    ∙ values_set c.args.tid.tx.0 change (own_change c.args.tid (λ (s : Stage). record s { takes = s.takes || c.args.takes; prepares = s.prepares || c.args.prepares })) c.self.inside.stages.entries k w c.self.invariant (sym c.in-Some.ensures.value) c.after_sending.ensures
+    ∙ ap (λ b. map change b.listed) c.self.view_is

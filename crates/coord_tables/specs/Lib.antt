@@ -1,0 +1,14 @@
+pub mod Attempts
+pub mod Beginning
+pub mod Deciding
+pub mod Listing
+pub mod Replies
+pub mod Sending
+pub mod Staged
+pub mod Stages
+pub mod Starting
+pub mod Tables
+pub mod Terms
+pub mod Trees
+pub mod Voting
+pub mod Waiting

@@ -1,0 +1,48 @@
+-- What a world keeps of one site: its local database system, the marks of its records, and its messages.
+use Rattle.std.specs.Prelude.{◌≡◌, List, ◌++◌, length, option_to_list}
+use Rattle.fed_rules.specs.declared.events.SiteEvent.{SiteEvent}
+use Rattle.fed_rules.specs.declared.events.SiteStep.{SiteStep}
+use Rattle.fed_rules.specs.declared.messages.FromSite.{FromSite}
+use Rattle.fed_rules.specs.declared.messages.ToSite.{ToSite}
+use Rattle.fed_rules.specs.Requests.{Request}
+use Rattle.fed_rules.specs.SiteCommands.{answer_to, past_behind}
+use Rattle.fed_rules.specs.SitePast.{SitePast}
+use Rattle.fed_rules.specs.SiteRecords.{Home}
+use Rattle.fed_rules.specs.Story.{place_from}
+use Rattle.actor_store.specs.declared.errors.StepErr.{StepErr}
+use Rattle.local_dbms.specs.Stands.{Fails, OwnPrograms}
+use Rattle.session_report.specs.declared.marks.Marks.{Marks}
+use Rattle.session_report.specs.Marks.{kept_marks}
+use Rattle.fed_world.specs.declared.site_asks.Heard.{Heard}
+use Rattle.session_routes.specs.declared.traffic.Traffic.{Traffic}
+use Rattle.fed_world.specs.SiteAsks.{sends_of}
+
+-- the answer to a request of a site with what is sent, and what it leaves
+pub record Tells (K : Home → OwnPrograms → SitePast → Type 0) (step : SiteStep) (home : Home) (programs : OwnPrograms) (past : SitePast) (r : Request SiteEvent) : Type 0 where
+  pub said : step.answer ≡ answer_to home past r
+  pub sent : option_to_list step.sends ≡ sends_of home past r
+  pub next : K home programs (past_behind home past r)
+
+-- the site stands for its past, the marks are those of its records, and these are its messages
+pub record PartAt (K : Home → OwnPrograms → SitePast → Type 0) (own : Marks) (traffic : Traffic) (home : Home) (programs : OwnPrograms) (past : SitePast) (sent : List ToSite) (back : List FromSite) : Type 0 where
+  pub dbms : K home programs past
+  pub marked : own.site ≡ home.site
+  pub site : traffic.site ≡ home.site
+  pub marks : own.kept.items ≡ kept_marks home past
+  pub to : traffic.to.items ≡ sent
+  pub from : traffic.from.items ≡ back
+
+-- a request is answered, what it sends is numbered behind what was sent, and the site stands for what it leaves
+pub record PartHears (K : Home → OwnPrograms → SitePast → Type 0) (heard : Heard) (marks : Marks) (traffic : Traffic) (home : Home) (programs : OwnPrograms) (past : SitePast) (to : List ToSite) (from : List FromSite) (r : Request SiteEvent) : Type 0 where
+  pub said : heard.answer ≡ answer_to home past r
+  pub places : heard.sends ≡ place_from home.site (length from) (sends_of home past r)
+  pub next : PartAt K marks traffic home programs (past_behind home past r) to (from ++ sends_of home past r)
+
+-- what isn't heard: want of memory changes nothing, and a failed disk call only the local database system
+pub record PartFails (K : Home → OwnPrograms → SitePast → Type 0) (why : StepErr) (own : Marks) (traffic : Traffic) (home : Home) (programs : OwnPrograms) (past : SitePast) (sent : List ToSite) (back : List FromSite) (r : Request SiteEvent) : Type 0 where
+  pub dbms : Fails K why home programs past r
+  pub marked : own.site ≡ home.site
+  pub site : traffic.site ≡ home.site
+  pub marks : own.kept.items ≡ kept_marks home past
+  pub to : traffic.to.items ≡ sent
+  pub from : traffic.from.items ≡ back

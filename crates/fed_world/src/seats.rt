@@ -1,0 +1,99 @@
+//! What a site hears, with what the world keeps of it.
+ghost use Rattle.std.specs.Prelude.{◌<◌, ◌^◌, ◌≡◌, ◌++◌, List, IsSome, IsTrue, IfOk, IfErr, OnOk, length, option_to_list, true, vec_len, vec_capacity};
+ghost use Rattle.mdb_base.specs.Counts.{HasCauseOf};
+ghost use Rattle.any_engine.specs.Stands as Engines;
+ghost use Rattle.fed_rules.specs.declared.messages.FromSite.{FromSite as TheFrom};
+ghost use Rattle.fed_rules.specs.declared.messages.ToSite.{ToSite as TheTo};
+ghost use Rattle.fed_rules.specs.Story.{place_from};
+ghost use Rattle.local_dbms.specs.Stands as Dbms;
+ghost use Rattle.local_dbms.specs.Stands.{Each_site, Some_site};
+ghost use Rattle.fed_world.specs.SiteAsks.{CanTell, can_send, site_request};
+ghost use Rattle.fed_world.specs.SeatParts.{PartAt, PartFails, PartHears};
+
+use crate::seat_telling::tell_site;
+use crate::site_asks::{Heard, SiteAsk};
+use any_engine::AnyEngine;
+use fed_rules::{FromSite, Place, Places};
+use journal_disk::Disk;
+use local_dbms::{LocalDbms, StepErr};
+use mdb_base::Memory;
+use session_report::Marks;
+use session_routes::Traffic;
+use std::alloc::Global;
+
+/// Whether a site that is asked this can send something.
+fn can_send(ask: SiteAsk) -> bool
+    ensures { result ≡ can_send ask }
+{
+    match ask {
+        SiteAsk::Give(_) | SiteAsk::Ask(_) => true,
+        _ => false,
+    }
+}
+
+/// Makes room for what a site that is asked this can send. Where it can send nothing, no memory is taken. What is kept stays.
+fn make_room(from: &mut Vec<FromSite>, ask: SiteAsk) -> Result<(), Memory>
+    ensures messages { OnOk result (can_send ask ≡ true → vec_len from.new < vec_capacity from.new) }
+    ensures from { from.new.items ≡ from.old.items }
+{
+    if can_send(ask) {
+        from.reserve(1)?;
+    }
+    Ok(())
+}
+
+/// Puts what a site sends behind what it sent, where there is room, and gives its place.
+fn post(traffic: &mut Traffic, send: Option<FromSite>) -> Places
+    requires room { IsSome send → vec_len traffic.old.from < vec_capacity traffic.old.from }
+    requires few { length traffic.old.from.items < 2 ^ 32 }
+    ensures places { result ≡ place_from traffic.old.site (length traffic.old.from.items) (option_to_list send) }
+    ensures site { traffic.new.site ≡ traffic.old.site }
+    ensures to { traffic.new.to.items ≡ traffic.old.to.items }
+    ensures from { traffic.new.from.items ≡ traffic.old.from.items ++ option_to_list send }
+{
+    let Some(message) = send else {
+        return Places::none();
+    };
+    let place = traffic.from.len() as u32;
+    traffic.from.push_reserved(message);
+    Places::one(Place {
+        site: traffic.site,
+        place,
+    })
+}
+
+/// A site is told what is asked of it. The record that it adds is marked, and the message that it sends is put behind those that it sent.
+/// Room is made before.
+pub fn tell_seat<D: Disk>(
+    dbms: &mut LocalDbms<AnyEngine>,
+    marks: &mut Marks,
+    traffic: &mut Traffic,
+    alloc: Global,
+    disk: &mut D,
+    ask: SiteAsk,
+) -> Result<Heard, StepErr>
+    requires told { IsTrue D.tells }
+    requires stood { Some_site (Dbms.Stands Engines.Stands D.tells dbms.old (D.seen disk.old)) (CanTell ask) }
+    requires few { length traffic.old.from.items < 2 ^ 32 }
+    ensures served { IfOk result (λ heard. Each_site (Dbms.Stands Engines.Stands D.tells dbms.old (D.seen disk.old)) (λ home programs past. CanTell ask home programs past
+        → (to : List TheTo) (from : List TheFrom) → PartAt (Dbms.Stands Engines.Stands D.tells dbms.old (D.seen disk.old)) marks.old traffic.old home programs past to from
+        → PartHears (Dbms.Stands Engines.Stands D.tells dbms.new (D.seen disk.new)) heard marks.new traffic.new home programs past to from (site_request ask home programs past))) }
+    ensures failed { IfErr result (λ why. Each_site (Dbms.Stands Engines.Stands D.tells dbms.old (D.seen disk.old)) (λ home programs past. CanTell ask home programs past
+        → (to : List TheTo) (from : List TheFrom) → PartAt (Dbms.Stands Engines.Stands D.tells dbms.old (D.seen disk.old)) marks.old traffic.old home programs past to from
+        → PartFails (Dbms.Stands Engines.Stands D.tells dbms.new (D.seen disk.new)) why marks.new traffic.new home programs past to from (site_request ask home programs past))) }
+    ensures cause { HasCauseOf StepErr.Disk (D.seen disk.old).faults (D.seen disk.new).faults result }
+{
+    let Ok(()) = make_room(&mut traffic.from, ask) else {
+        return Err(StepErr::Memory);
+    };
+    let Ok(()) = marks.reserve() else {
+        return Err(StepErr::Memory);
+    };
+    let before = dbms.core().records().len();
+    let step = tell_site(dbms, alloc, disk, ask)?;
+    marks.note_line(before, dbms.core().records());
+    Ok(Heard {
+        answer: step.answer,
+        sends: post(traffic, step.sends),
+    })
+}

@@ -1,0 +1,92 @@
+//! The words of a line, by which its spelling is said.
+use fed_rules::Place;
+use mdb_base::{Edge, Tid};
+
+/// A word that is spelled as it is named, in small letters; the arrow is `=>`.
+#[derive(Clone, Copy)]
+pub enum Keyword {
+    Arrow,
+    Sends,
+    Begin,
+    Step,
+    Commit,
+    Abort,
+    Fate,
+    Go,
+    Again,
+    Late,
+    Give,
+    Take,
+    Ask,
+    Drop,
+    Halt,
+    Trip,
+    Back,
+    Check,
+    None,
+    Down,
+    Idle,
+    Spent,
+    End,
+    Unfinished,
+    Unbegun,
+    Aborted,
+    Set,
+    Awake,
+    Defers,
+    Ignored,
+    Waits,
+    Voted,
+    Acked,
+    Forgets,
+    Undecided,
+    Initiates,
+    Large,
+    Checked,
+    Committed,
+    Running,
+    Begun,
+    Unheld,
+    Asks,
+    Dropped,
+    Read,
+    Wrote,
+    Dies,
+    Invalid,
+    Number,
+    Stopped,
+    Kept,
+    Did,
+    Done,
+    Value,
+    Ticket,
+    Unknown,
+    Votes,
+    Yes,
+    No,
+    Moved,
+    Settles,
+    Answers,
+    Presumes,
+    Decides,
+    Site,
+    Cycle,
+    Up,
+    Epoch,
+    Doubtful,
+    Known,
+}
+
+/// A word of a line. No text is spelled by two words.
+#[derive(Clone, Copy)]
+pub enum Word {
+    Plain(Keyword),
+    /// Decimal digits without a leading zero, or `0`.
+    Number(u64),
+    /// `T.A`.
+    Attempt(Tid),
+    /// `S/I`.
+    Sent(Place),
+    /// `F>T@S`.
+    Joined(Edge),
+}

@@ -1,0 +1,6 @@
+mod Adds
+pub mod BegunNone
+mod Doubts
+mod Finishes
+mod GivenUp
+mod Refuted

@@ -1,0 +1,5 @@
+use Rattle.resume_laws.proofs.FoundSessions.{sessions_rest}
+use Rattle.resume_laws.proofs.rests.usable_sessions_rest.Goals as goal
+
+pub returns : goal.returns
+returns c = sessions_rest

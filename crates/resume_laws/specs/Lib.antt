@@ -1,0 +1,10 @@
+pub mod Again
+pub mod FoundSessions
+pub mod Gentle
+pub mod Outcomes
+pub mod Premises
+pub mod Rests
+pub mod Rightly
+pub mod Tables
+pub mod WorkedDisks
+pub mod WorkedStops

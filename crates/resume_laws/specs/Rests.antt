@@ -1,0 +1,16 @@
+-- A session that goes on from the disks that another one left is at rest at its end.
+use Rattle.std.specs.Prelude.{List}
+use Rattle.fed_rules.specs.declared.commands.Command.{Command}
+use Rattle.fed_rules.specs.declared.scenario.Scenario.{Scenario}
+use Rattle.fed_rules.specs.Plans.{AreSites, IsScenario}
+use Rattle.fed_rules.specs.Resumed.{left_by, plan_of, resumed}
+use Rattle.fed_rules.specs.Story.{story_of}
+use Rattle.closing_laws.specs.AtRest.{IsAtRest}
+use Rattle.resume_laws.specs.Premises.{SaysSame}
+
+-- every actor is up, no trip is armed, and nothing is live, in doubt or known, if the journals say what the records said and name sites in their range, each once
+abbrev pub ResumedSessionsRest : Type 0
+ResumedSessionsRest =
+    (scenario : Scenario) → IsScenario scenario → (commands : List Command) → SaysSame scenario (story_of scenario commands)
+    → AreSites (plan_of (left_by scenario (story_of scenario commands))).sites
+    → IsAtRest (plan_of (left_by scenario (story_of scenario commands))) (resumed (left_by scenario (story_of scenario commands)))

@@ -1,5 +1,0 @@
-use Rattle.scripted_link.proofs.Made.{MadeTo}
-use Rattle.scripted_link.proofs.tests.plain.script_of.Given as goal
-
-abbrev pub invariant-loop-place : goal.invariant-loop-place
-invariant-loop-place l = MadeTo l.fates.items l.place

@@ -1,8 +1,0 @@
-use Rattle.sum_laws.proofs.Whole.{goes_on, goes_on_behind}
-use Rattle.sum_laws.proofs.sums.sums_go_on.Goals as goal
-
-pub returns-clause-in_order : goal.returns-clause-in_order
-returns-clause-in_order c = goes_on
-
-pub returns-clause-behind : goal.returns-clause-behind
-returns-clause-behind c = goes_on_behind

@@ -1,0 +1,5 @@
+use Rattle.scripted_link.proofs.Made.{MadeTo}
+use Rattle.world_tests.proofs.links.script_of.Given as goal
+
+abbrev pub invariant-loop-place : goal.invariant-loop-place
+invariant-loop-place l = MadeTo l.fates.items l.place
