@@ -1,2 +1,3 @@
-mod Sessions
+mod CoordSessions
 mod Made
+mod Sessions

@@ -1,1 +1,2 @@
+pub mod HostSessions
 pub mod Sessions
