@@ -1,7 +1,8 @@
 #!/usr/bin/env python3
-"""Runs scenarios in threads many times, and checks each run. It is no part of the gate.
+"""Runs scenarios in threads many times, and checks each run or counts what it did. It is no part of the gate.
 
 usage: bench/threads.py [--six N] [--made N] [--seed N] [PROGRAM]
+       bench/threads.py --count [--six N] [--made N] [--seed N] [PROGRAM]
 
 PROGRAM is the built `mdbfed`, by default the one that `rt run` leaves in crates/mdbfed/out. There are N runs, by default 200, of a scenario of
 six transactions at three sites with six clients, whose tables are known, and N runs, by default 100, of scenarios that are drawn here, the
@@ -14,17 +15,31 @@ of every actor. Of each run it checks that
     `replay` reads, 65,536, is counted and not replayed.
 
 It ends with status 1 at the first run that isn't so, and prints its scenario and its output.
+
+With `--count` it counts how much of a run is done in its threads, and checks nothing but the status: N runs each, by default 20, of
+examples/threads.run and examples/threads_usual.run, and N runs, by default 100, of scenarios that are drawn here without lost messages and
+stops, with the usual clients, turns and tries. For each it prints
+
+  - how many of the global transactions a client was told the commit of, so in the threads, and how many committed in an attempt that the
+    threads may begin, one of the first 31;
+  - how many lines a run has, and how many of those that it may have: each thread makes `turns` calls at most;
+  - how many attempts were given up (`decides abort late`), and how long a run takes.
+
+Under `taskset -c 0,1` it counts the same on two processors.
 """
 import argparse
 import pathlib
 import random
 import subprocess
 import sys
+import time
 
 TOP = pathlib.Path(__file__).resolve().parent.parent
 ENGINES = ("locking", "timestamp", "validation", "multiversion")
 PROTOCOLS = ("nothing", "abort", "commit")
 SECONDS = 120
+# The hosts of a run begin so many attempts of a transaction at most; one more is left for finishing it alone.
+THREADS_BEGIN = 31
 
 SIX = """site 1 locking nothing
 site 2 timestamp abort
@@ -69,8 +84,8 @@ def fate_of(draw):
     return draw.choice(["drop", "twice", f"hold:{draw.randint(1, 8)}"])
 
 
-def scenario_of(seed):
-    """A scenario, the same for the same seed."""
+def scenario_of(seed, calm=False):
+    """A scenario, the same for the same seed. A calm one loses nothing, has no stops, and runs with the usual settings."""
     draw = random.Random(seed)
     count, keys = draw.randint(1, 5), draw.randint(2, 12)
     sites = sorted(draw.sample(range(1, 9), count))
@@ -84,6 +99,8 @@ def scenario_of(seed):
         else:
             among = draw.sample(sites, draw.randint(1, count))
             lines.append(f"global {tx} " + " ".join(f"{at}/{step}" for at, step in steps_of(draw, among, keys)))
+    if calm:
+        return "\n".join(lines) + "\n"
     lines += [f"clients {draw.randint(1, 16)}", f"turns {draw.choice([1, 10, 100, 1000])}", f"tries {draw.randint(1, 16)}"]
     places = {(way, site, draw.randrange(20)) for site in sites for way in ("to", "from") for _ in range(draw.randint(0, 4))}
     lines += [f"link {way} {site} {place} {fate_of(draw)}" for way, site, place in sorted(places)]
@@ -154,18 +171,90 @@ def check_runs(name, program, scenarios, tables):
         print(f"{name}: {len(lines)} runs of {min(lines)} to {max(lines)} lines, {replayed} replayed, all as they should be", flush=True)
 
 
+class Count:
+    """What the runs of one kind did in their threads."""
+
+    def __init__(self):
+        self.globals = self.told = self.early = self.late = 0
+        self.lines, self.parts, self.seconds = [], [], []
+
+    def add(self, scenario, output, seconds):
+        """Adds a run."""
+        declared = {line.split()[1] for line in scenario.splitlines() if line.startswith("global ")}
+        lines = [line.split(" => ") for line in output.splitlines() if " => " in line]
+        told = {command.split()[1] for command, answer in lines if command.startswith("fate ") and answer.startswith("committed")}
+        outcomes = [line.split() for line in output.splitlines() if line.startswith("outcome ") and line.endswith(" commit")]
+        early = {words[1].split(".")[0] for words in outcomes if int(words[1].split(".")[1]) < THREADS_BEGIN}
+        self.globals += len(declared)
+        self.told += len(declared & told)
+        self.early += len(declared & early)
+        self.late += sum(answer.startswith("decides abort late") for _, answer in lines)
+        self.lines.append(len(lines))
+        self.parts.append(len(lines) / most_lines(scenario))
+        self.seconds.append(seconds)
+
+    def __str__(self):
+        runs = len(self.lines)
+        return (
+            f"{runs} runs, {self.told} of {self.globals} globals were told committed in threads, {self.early} before attempt {THREADS_BEGIN}; "
+            f"{min(self.lines)} to {max(self.lines)} lines, {sum(self.lines) // runs} on average, at most {max(self.parts):.1%} of what a run may have; "
+            f"{self.late} attempts given up; {sum(self.seconds) / runs:.3f} s a run, at most {max(self.seconds):.3f}"
+        )
+
+
+def setting(scenario, word, usual):
+    """The value of a setting of the scenario."""
+    return next((int(line.split()[1]) for line in scenario.splitlines() if line.startswith(word + " ")), usual)
+
+
+def most_lines(scenario):
+    """How many calls the threads of a run make at most: `turns` for the coordinator, each site and each client."""
+    sites = sum(line.startswith("site ") for line in scenario.splitlines())
+    return (1 + sites + setting(scenario, "clients", 4)) * setting(scenario, "turns", 1000)
+
+
+def count_runs(name, program, scenarios):
+    """Runs these scenarios, and prints what they did in their threads."""
+    count = Count()
+    for scenario in scenarios:
+        began = time.monotonic()
+        status, output = called(program, "run", scenario)
+        if status != 0:
+            print(f"{scenario}\n-- prints --\n{output}\n-- status {status}")
+            sys.exit(1)
+        count.add(scenario, output, time.monotonic() - began)
+    if count.lines:
+        print(f"{name}: {count}", flush=True)
+
+
+def count_all(words):
+    """What the examples and drawn scenarios without losses do in their threads."""
+    six = 20 if words.six is None else words.six
+    made = 100 if words.made is None else words.made
+    for name in ("threads.run", "threads_usual.run"):
+        count_runs(name, words.program, [(TOP / "examples" / name).read_text()] * six)
+    calm = [scenario_of(words.seed * 100_000 + at, calm=True) for at in range(made)]
+    count_runs("drawn scenarios without losses", words.program, calm)
+
+
 def main():
     reader = argparse.ArgumentParser(description=__doc__.splitlines()[0])
-    reader.add_argument("--six", type=int, default=200)
-    reader.add_argument("--made", type=int, default=100)
+    reader.add_argument("--count", action="store_true")
+    reader.add_argument("--six", type=int)
+    reader.add_argument("--made", type=int)
     reader.add_argument("--seed", type=int, default=1)
     reader.add_argument("program", nargs="?", default=str(TOP / "crates/mdbfed/out/mdbfed"))
     words = reader.parse_args()
     if not pathlib.Path(words.program).exists():
         print(f"{words.program} isn't there: build it by `rt run` in crates/mdbfed")
         sys.exit(2)
-    check_runs("six transactions", words.program, [SIX] * words.six, SIX_TABLES)
-    check_runs("drawn scenarios", words.program, [scenario_of(words.seed * 100_000 + at) for at in range(words.made)], None)
+    if words.count:
+        count_all(words)
+        return
+    six = 200 if words.six is None else words.six
+    made = 100 if words.made is None else words.made
+    check_runs("six transactions", words.program, [SIX] * six, SIX_TABLES)
+    check_runs("drawn scenarios", words.program, [scenario_of(words.seed * 100_000 + at) for at in range(made)], None)
 
 
 if __name__ == "__main__":

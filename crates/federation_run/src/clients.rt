@@ -71,11 +71,24 @@ fn drive<R: Wait, D: Disk, G: Gate, N: Plan>(
                     committed: false,
                 });
             };
-            drive_local(&mut SiteLock { rt, host, gate }, ride.tx, tries, left)
+            let moves = hosts.moves;
+            let mut door = SiteLock {
+                rt,
+                host,
+                gate,
+                moves,
+                site,
+            };
+            drive_local(&mut door, ride.tx, tries, left)
         }
         None => {
-            let host = hosts.coordinator;
-            drive_global(&mut CoordLock { rt, host, gate }, ride.tx, tries, left)
+            let mut door = CoordLock {
+                rt,
+                host: hosts.coordinator,
+                gate,
+                moves: hosts.moves,
+            };
+            drive_global(&mut door, ride.tx, tries, left)
         }
     }
 }

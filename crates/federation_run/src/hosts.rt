@@ -1,6 +1,7 @@
 //! The hosts of a run, as its threads share them.
 ghost use Rattle.std.specs.Prelude.{◌≡◌, ◌≤◌, ◌+◌, length, vec_len, vec_capacity};
 
+use crate::moves::Moves;
 use crate::seats::Seat;
 use any_engine::AnyEngine;
 use conservative_take::AnyPolicy;
@@ -9,14 +10,16 @@ use journal_disk::Disk;
 use mdb_base::SiteId;
 use std::sync::Mutex;
 
-/// The hosts, each behind a lock of its own: the coordinator's, and those of the actors 8 to 1, in this order, where they are declared.
+/// The hosts, each behind a lock of its own: the coordinator's, and those of the actors 8 to 1, in this order, where they are declared;
+/// with what tells how far they got.
 #[derive(Drop)]
-pub(crate) struct Hosts<'s, 'h, D: Disk, N: Plan> {
+pub(crate) struct Hosts<'s, 'h, 'm, D: Disk, N: Plan> {
     pub(crate) coordinator: &'h Mutex<CoordHost<AnyPolicy, D, N>>,
     pub(crate) sites: &'s [Option<&'h Mutex<SiteHost<AnyEngine, D, N>>>],
+    pub(crate) moves: &'m Moves,
 }
 
-impl<'s, 'h, D: Disk, N: Plan> Hosts<'s, 'h, D, N> {
+impl<'s, 'h, 'm, D: Disk, N: Plan> Hosts<'s, 'h, 'm, D, N> {
     /// The host of a site, where it is declared.
     pub(crate) fn site(&self, site: SiteId) -> Option<&'h Mutex<SiteHost<AnyEngine, D, N>>> {
         let index = usize::from(8u8.checked_sub(site.0)?);

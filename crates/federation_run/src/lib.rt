@@ -15,6 +15,7 @@ mod hosts;
 mod laws;
 mod lefts;
 mod mooring;
+mod moves;
 mod running;
 mod scripts;
 mod seats;

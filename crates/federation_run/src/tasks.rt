@@ -3,6 +3,7 @@ ghost use Rattle.std.specs.Prelude.{◌+◌, ◌<◌, ◌≤◌, IfOk, length, v
 
 use crate::clients::{Rides, run_client};
 use crate::hosts::{Hosts, hosts_in};
+use crate::moves::Moves;
 use crate::seats::Seat;
 use any_engine::AnyEngine;
 use conservative_take::AnyPolicy;
@@ -44,12 +45,15 @@ fn turn_site<R: Wait, D: Disk, G: Gate, N: Plan>(
     host: &Mutex<SiteHost<AnyEngine, D, N>>,
     gate: &G,
     turns: u32,
+    moves: &Moves,
+    site: SiteId,
 ) {
     for _ in 0..turns {
+        let seen = moves.sent_to(site.0);
         let made = host.lock(rt).turn(gate);
         match made {
-            Ok(true) => {}
-            Ok(false) => thread::yield_now(),
+            Ok(true) => moves.note_turn(site.0),
+            Ok(false) => moves.await_sent(site.0, seen),
             Err(_) => return,
         }
     }
@@ -61,12 +65,14 @@ fn turn_coordinator<R: Wait, D: Disk, G: Gate, N: Plan>(
     host: &Mutex<CoordHost<AnyPolicy, D, N>>,
     gate: &G,
     turns: u32,
+    moves: &Moves,
 ) {
     for _ in 0..turns {
+        let seen = moves.sent_to(0);
         let made = host.lock(rt).turn(gate);
         match made {
-            Ok(true) => {}
-            Ok(false) => thread::yield_now(),
+            Ok(true) => moves.note_turn(0),
+            Ok(false) => moves.await_sent(0, seen),
             Err(_) => return,
         }
     }
@@ -81,13 +87,20 @@ fn run_task<R: Wait, D: Disk, G: Gate, N: Plan>(
     task: Task,
 ) {
     match task {
-        Task::Coordinator => turn_coordinator(rt, hosts.coordinator, gate, rides.turns),
+        Task::Coordinator => {
+            turn_coordinator(rt, hosts.coordinator, gate, rides.turns, hosts.moves);
+            hosts.moves.note_host_ended(0);
+        }
         Task::Site(site) => {
             if let Some(host) = hosts.site(site) {
-                turn_site(rt, host, gate, rides.turns);
+                turn_site(rt, host, gate, rides.turns, hosts.moves, site);
             }
+            hosts.moves.note_host_ended(site.0);
         }
-        Task::Client(client) => run_client(rt, rides, hosts, gate, client),
+        Task::Client(client) => {
+            run_client(rt, rides, hosts, gate, client);
+            hosts.moves.note_client_ended();
+        }
     }
 }
 
@@ -112,9 +125,11 @@ pub(crate) fn run_tasks<
 {
     let mut sites = sites;
     hosts_in(seats, &mut sites);
+    let moves = Moves::new(u64::from(rides.clients));
     let hosts = Hosts {
         coordinator,
         sites: sites.as_slice(),
+        moves: &moves,
     };
     let threads = tasks.len();
     thread::for_each_mut(

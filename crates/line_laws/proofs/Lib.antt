@@ -7,7 +7,6 @@ mod Happened
 mod Heard
 mod News
 mod Outstanding
-mod PrintedAgain
 mod RightLines
 mod SiteFits
 mod SiteReplies

@@ -2,5 +2,5 @@
 pub mod Lines
 -- which refusals can be printed
 pub mod Refusals
--- what is printed again
+-- what is printed of a session
 pub mod Printed

@@ -1,13 +1,11 @@
 //! Each line of a right story is one that can be printed: its answer and its places are some that its command can
-//! have. Which refusals can be printed, and that the commands of a session at rest print the session's text again.
+//! have. And which refusals can be printed.
 #![tactic(auto)]
 
 ghost use Rattle.line_laws.specs.Lines.{ClosingIsHeard, RightLinesFit};
-ghost use Rattle.line_laws.specs.Printed.{CommandsPrintAgain};
 ghost use Rattle.line_laws.specs.Refusals.{ConservativeLinesRefuseNone, ConservativeNextLinesRefuseNone};
 
 use federation_laws::conservative_tickets_close_no_cycle;
-use replay_laws::commands_give_again;
 
 /// In the story of any commands to declared sites each right line fits its command (`line_text`), with whatever
 /// cycle a refusal names.
@@ -26,12 +24,4 @@ pub fn conservative_lines_refuse_none()
     ensures all { ConservativeLinesRefuseNone }
 {
     conservative_tickets_close_no_cycle();
-}
-
-/// The commands of a session at rest, closed, print its text again, but for the edges of cycles: each line and the
-/// report. Where no line refuses a commit for a cycle they print it byte for byte.
-pub fn commands_print_again()
-    ensures { CommandsPrintAgain }
-{
-    commands_give_again();
 }

@@ -48,7 +48,8 @@ use Rattle.federation_laws.proofs.ScenarioFacts.{global_program-is}
 use Rattle.federation_laws.proofs.Told.{local_home-declared}
 use Rattle.closing_laws.proofs.Declared.{listed}
 use Rattle.closing_laws.proofs.Lengths.{distinct_in_others, numbers_differ}
-use Rattle.made_laws.specs.Counted.{AreDone, CommitsAreCounted, is_global_commit, is_local_commit, kept_commits}
+use Rattle.report_text.specs.Summaries.{is_global_commit, is_local_commit}
+use Rattle.made_laws.specs.Counted.{AreDone, CommitsAreCounted, kept_commits}
 use Rattle.made_laws.proofs.SiteLists.{sites_distinct}
 
 -- ---- lists

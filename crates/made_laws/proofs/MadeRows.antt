@@ -12,7 +12,7 @@ use Rattle.fed_rules.specs.declared.scenario.SiteLine.{SiteLine}
 use Rattle.fed_rules.specs.Plans.{all_differ, has_site, one_row}
 use Rattle.fed_rules.specs.Scenarios.{items_of}
 use Rattle.scenario_maker.specs.Made.{behind_sites, made_item, made_items, made_rows, made_site, made_sites}
-use Rattle.made_laws.specs.Moves.{rows_total}
+use Rattle.report_text.specs.Summaries.{rows_total}
 use Rattle.made_laws.proofs.RowTotals.{KeysBelow, items_low, items_total}
 use Rattle.made_laws.proofs.SiteLists.{sites_of, there_line}
 

@@ -30,7 +30,8 @@ use Rattle.engine_laws.proofs.Rows.{rising_items, rising_rows_after}
 use Rattle.closing_laws.specs.AtRest.{IsAtRest}
 use Rattle.scenario_maker.specs.Made.{made, made_items, made_sites}
 use Rattle.scenario_maker.proofs.Sound.{made_is_scenario}
-use Rattle.made_laws.specs.Moves.{MadeTotalsStay, MovesAtMost, MovesKeepWorth, column, rows_total, total_of, worth}
+use Rattle.report_text.specs.Summaries.{rows_total}
+use Rattle.made_laws.specs.Moves.{MadeTotalsStay, MovesAtMost, MovesKeepWorth, column, total_of, worth}
 use Rattle.made_laws.proofs.MadePrograms.{program_moves}
 use Rattle.made_laws.proofs.MadeRows.{first_low, first_total, made_many, site_range}
 use Rattle.made_laws.proofs.RowTotals.{below_top, rows_column, top}

@@ -15,7 +15,8 @@ use Rattle.mdb_base.proofs.RowLaws.{rising_tail, each_with_row}
 use Rattle.fed_rules.specs.declared.scenario.ItemLine.{ItemLine}
 use Rattle.fed_rules.specs.Plans.{all_differ, has_site, one_row}
 use Rattle.fed_rules.specs.Scenarios.{items_of}
-use Rattle.made_laws.specs.Moves.{column, rows_total}
+use Rattle.report_text.specs.Summaries.{rows_total}
+use Rattle.made_laws.specs.Moves.{column}
 use Rattle.made_laws.proofs.Worth.{column_in}
 
 -- ---- rows and the table that they give

@@ -1,11 +1,7 @@
 -- How many commits are kept: one of each transaction that is done.
-use Rattle.std.specs.Prelude.{ℕ, ◌≡◌, ◌+◌, ◌-◌, ◌*◌, ◌/◌, ◌≤◌, nat_le, Bool, true, false, cond, is_none, is_some, List, count_by, length, sum_by}
+use Rattle.std.specs.Prelude.{ℕ, ◌≡◌, ◌+◌, ◌-◌, ◌*◌, ◌/◌, ◌≤◌, nat_le, true, cond, is_none, is_some, List, count_by, length, sum_by}
 use Rattle.order_laws.specs.Chains.{In}
 use Rattle.fed_rules.specs.declared.commands.Command.{Command}
-use Rattle.fed_rules.specs.declared.records.CoordRecord.{CoordRecord}
-use Rattle.fed_rules.specs.declared.records.CoordRecord.TheVariants.{Commit}
-use Rattle.fed_rules.specs.declared.records.SiteRecord.{SiteRecord}
-use Rattle.fed_rules.specs.declared.records.SiteRecord.TheVariants.{Local}
 use Rattle.fed_rules.specs.declared.scenario.Scenario.{Scenario}
 use Rattle.fed_rules.specs.declared.scenario.TxLine.{TxLine}
 use Rattle.fed_rules.specs.Closing.{is_done}
@@ -15,18 +11,9 @@ use Rattle.fed_rules.specs.Plans.{IsScenario}
 use Rattle.fed_rules.specs.Scenarios.{sites}
 use Rattle.fed_rules.specs.Story.{Story, coord_past, story_of}
 use Rattle.closing_laws.specs.AtRest.{IsAtRest}
+use Rattle.report_text.specs.Summaries.{is_global_commit, is_local_commit}
 use Rattle.scenario_maker.specs.Made.{made}
 use Rattle.made_laws.specs.Moves.{total_of}
-
--- whether a record is the commit of a local transaction
-abbrev pub is_local_commit : SiteRecord → Bool
-is_local_commit (Local tid number writes) = true
-is_local_commit other = false
-
--- whether a record is the commit of a global one
-abbrev pub is_global_commit : CoordRecord → Bool
-is_global_commit (Commit tid tickets) = true
-is_global_commit other = false
 
 -- the Local records of all sites and the Commit records of the coordinator
 abbrev pub kept_commits : Scenario → Story → ℕ

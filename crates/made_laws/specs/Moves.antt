@@ -2,7 +2,6 @@
 use Rattle.std.specs.Prelude.{ℕ, zero, suc, ◌≡◌, ◌⊎◌, ◌+◌, ◌*◌, ◌≤◌, ◌<◌, ◌%◌, ◌^◌, List, [], ◌∷◌, sum_by}
 use Rattle.mdb_base.specs.declared.acts.Step.{Step}
 use Rattle.mdb_base.specs.declared.names.SiteId.{SiteId}
-use Rattle.mdb_base.specs.declared.rows.Put.{Put}
 use Rattle.mdb_base.specs.Rows.{Table}
 use Rattle.mdb_base.specs.Words.{Each}
 use Rattle.order_laws.specs.Chains.{Distinct, In}
@@ -13,6 +12,7 @@ use Rattle.fed_rules.specs.Scenarios.{sites}
 use Rattle.fed_rules.specs.Serial.{Tables, serial_tables}
 use Rattle.fed_rules.specs.Story.{Story, story_of}
 use Rattle.closing_laws.specs.AtRest.{IsAtRest}
+use Rattle.report_text.specs.Summaries.{rows_total}
 use Rattle.scenario_maker.specs.Made.{made, transfer}
 
 -- the values of the keys below this one together
@@ -50,11 +50,7 @@ MovesKeepWorth =
 
 -- ---- a made scenario
 
--- the values of rows together
-abbrev pub rows_total : List Put → ℕ
-rows_total rows = sum_by (λ row. row.value) rows
-
--- those of the tables of all sites
+-- the values of the tables of all sites together
 abbrev pub total_of : Scenario → Story → ℕ
 total_of scenario story = sum_by (λ site. rows_total (table_of scenario story site)) (sites scenario) % 2 ^ 64
 

@@ -12,7 +12,8 @@ use Rattle.fed_rules.specs.Plans.{IsScenario}
 use Rattle.fed_rules.specs.Scenarios.{sites}
 use Rattle.fed_rules.specs.Serial.{Tables, serial_tables}
 use Rattle.fed_rules.specs.Story.{Story, coord_past, story_of}
-use Rattle.made_laws.specs.Counted.{AreDone, is_global_commit, is_local_commit}
+use Rattle.report_text.specs.Summaries.{is_global_commit, is_local_commit}
+use Rattle.made_laws.specs.Counted.{AreDone}
 use Rattle.made_laws.specs.Moves.{worth}
 
 -- a program that is made so leaves some tables worth something else

@@ -1,17 +1,4 @@
-mod Adds
-mod BegunAttempts
-mod Ending
-mod Holding
-mod HostsHeard
 mod InputLemmas
-mod MakeLemmas
-mod OutputLemmas
-mod PlayLemmas
 mod Progress
-mod Recalled
-mod Rights
-mod RunLemmas
-mod Stores
 mod TopLemmas
-mod Totals
 mod UsedDisks

@@ -5,12 +5,12 @@ use Rattle.order_laws.specs.Chains.{In}
 use Rattle.journal_disk.specs.Disk.{Seen}
 use Rattle.fed_world.specs.Faults.{faults_of}
 use Rattle.scenario_text.specs.declared.bad.BadLine.{BadLine}
-use Rattle.mdb_top.specs.declared.output.Output.{Output}
-use Rattle.mdb_top.specs.declared.output.Output.TheVariants.{Whole, Broken}
-use Rattle.mdb_top.specs.Disks.{is_used, sizes_of}
+use Rattle.session_outputs.specs.declared.output.Output.{Output}
+use Rattle.session_outputs.specs.declared.output.Output.TheVariants.{Whole, Broken}
+use Rattle.session_outputs.specs.Disks.{is_used, sizes_of}
 use Rattle.mdb_top.specs.Endings.{Carries, Ends, IsLedTo, IsPut, statuses}
 use Rattle.mdb_top.specs.Inputs.{SomeInput}
-use Rattle.mdb_top.specs.Outputs.{Account, IsOutput}
+use Rattle.session_outputs.specs.Outputs.{Account, IsOutput}
 use Rattle.mdb_top.specs.Streams.{IsCalm, IsRead, Stream}
 use Rattle.mdb_top.specs.Verdicts.{Spells, verdict}
 
@@ -112,3 +112,9 @@ module _ {X : Type 0} (reads : List ℕ → Result X BadLine) (account : Account
   pub ends_carried : (tells : Bool) (left : List ℕ) → IsRead source → IsCalm source → SomeInput tells left (λ input. verdict reads input ≡ Spells x) → Carries account status sink old new x
       → SomeInput tells left (Ends reads account status source sink old new)
   ends_carried tells left read calm input c = record { input = input.input; told = input.told; holds = carried read calm c input.input input.holds }
+
+-- the status of what was put
+pub put_status : (status : ℕ) (sink : Stream) (made : Result Output Memory) → IsPut status sink made → In status (0 ∷ 4 ∷ 5 ∷ 6 ∷ 8 ∷ [])
+put_status status sink (Ok (Whole bytes)) put = elim put.either [ inl e ↦ inl e | inr i ↦ elim i [ inl e ↦ inr (inl e) | inr j ↦ absurd j ] ]
+put_status status sink (Ok (Broken bytes)) put = inr (inr (inl (sym put.0)))
+put_status status sink (Err why) put = inr (inr (inr (inl (sym put.0))))

@@ -1,13 +1,9 @@
 -- The words that ask for a made scenario.
-use Rattle.std.specs.Prelude.{ℕ, ◌≤◌, ◌-◌, ◌^◌, cond, codes, Option, Some, None, List, [], ◌∷◌, Result, Ok, Err}
+use Rattle.std.specs.Prelude.{ℕ, ◌-◌, ◌^◌, cond, codes, Option, Some, None, List, [], ◌∷◌, Result, Ok, Err}
 use Rattle.std.specs.Str.{bytes_eq}
 use Rattle.scenario_text.specs.declared.bad.BadWhy.{BadWhy}
 use Rattle.scenario_text.specs.Names.{number_in}
-use Rattle.mdb_top.specs.declared.made.Making.{Making}
-
--- it can be made: there are 1 to 8 sites, and 1 to 1,024 transactions
-abbrev pub IsMakeable : Making → Type 0
-IsMakeable making = (1 ≤ making.sites) × (making.sites ≤ 8) × (1 ≤ making.transactions) × (making.transactions ≤ 1024)
+use Rattle.session_outputs.specs.declared.making.Making.{Making}
 
 -- what is made of the number that a word spells, where it spells one
 abbrev pub with_number : {A : Type 0} → Result ℕ BadWhy → (ℕ → Option A) → Option A

@@ -1,12 +1,9 @@
 -- What is said where a session isn't replayed. Each text ends with a line feed.
-use Rattle.std.specs.Prelude.{ℕ, List, [], ◌∷◌, ◌++◌, codes, decimal}
+use Rattle.std.specs.Prelude.{ℕ, List, ◌++◌, codes, decimal}
 use Rattle.scenario_text.specs.declared.bad.BadLine.{BadLine}
 use Rattle.scenario_text.specs.declared.bad.BadWhy.{BadWhy}
 use Rattle.scenario_text.specs.declared.bad.BadWhy.TheVariants as Bad
-
--- a text with its line feed
-abbrev pub line : List ℕ → List ℕ
-line text = text ++ 10 ∷ []
+use Rattle.session_outputs.specs.Texts.{line}
 
 abbrev pub usage_text : List ℕ
 usage_text = line (codes "usage: mdbfed replay | run | make NUMBER SITES TRANSACTIONS")
@@ -23,10 +20,6 @@ no_memory_text = line (codes "no memory")
 -- which disk isn't empty
 abbrev pub disk_used_text : ℕ → List ℕ
 disk_used_text number = line (codes "disk " ++ decimal number ++ codes " is used")
-
--- which disk failed
-abbrev pub disk_failed_text : ℕ → List ℕ
-disk_failed_text number = line (codes "disk " ++ decimal number ++ codes " failed")
 
 -- the word of a reason
 abbrev pub why_text : BadWhy → List ℕ

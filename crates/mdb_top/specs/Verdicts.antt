@@ -3,9 +3,10 @@ use Rattle.std.specs.Prelude.{ℕ, nat_lt, cond, codes, Option, Some, None, List
 use Rattle.std.specs.Str.{bytes_eq}
 use Rattle.mdb_base.specs.Words.{map_some}
 use Rattle.scenario_text.specs.declared.bad.BadLine.{BadLine}
+use Rattle.session_outputs.specs.Makes.{IsMakeable}
 use Rattle.mdb_top.specs.declared.words.Job.{Job}
 use Rattle.mdb_top.specs.declared.words.Job.TheVariants.{Make, Replay, Run}
-use Rattle.mdb_top.specs.Made.{IsMakeable, made_by}
+use Rattle.mdb_top.specs.Made.{made_by}
 use Rattle.mdb_top.specs.Streams.{longest}
 
 -- what one word asks for

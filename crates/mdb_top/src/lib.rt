@@ -4,16 +4,10 @@
 mod bad_lines;
 mod input;
 mod made;
-mod made_output;
 mod mem_streams;
-mod output;
 mod reading;
-mod run_output;
 mod streams;
-mod summary;
-mod summing;
 mod telling;
-mod threaded;
 mod top_call;
 mod used_disks;
 mod words;

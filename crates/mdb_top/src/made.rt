@@ -1,20 +1,10 @@
 //! Made scenarios: the words that ask for one.
 ghost use Rattle.std.specs.Prelude.{◌≡◌, IfSome, map, string_bytes};
+ghost use Rattle.session_outputs.specs.Makes.{IsMakeable};
 ghost use Rattle.mdb_top.specs.Made as asked;
-ghost use Rattle.mdb_top.specs.Made.{IsMakeable};
 
 use scenario_text::number_in;
-
-/// What is to be made.
-#[derive(Clone, Copy, Debug, PartialEq, Eq)]
-pub(crate) struct Making {
-    /// What the generator begins from.
-    pub number: u64,
-    /// How many sites, 1 to 8.
-    pub sites: u8,
-    /// How many transactions, 1 to 1,024.
-    pub transactions: u32,
-}
+use session_outputs::Making;
 
 /// What the words `make NUMBER SITES TRANSACTIONS` ask for.
 pub(crate) fn made_by(words: &[String]) -> Option<Making>

@@ -6,12 +6,12 @@ ghost use Rattle.mdb_top.specs.Streams.{Gets, stream};
 ghost use Rattle.mdb_top.specs.Texts as texts;
 
 use crate::bad_lines::bad_line_text;
-use crate::output::Output;
 use crate::streams::Sink;
 use crate::used_disks::used_text;
 use crate::writing::put_all;
 use mdb_base::Memory;
 use scenario_text::BadLine;
+use session_outputs::Output;
 use std::alloc::Global;
 
 /// Puts a text, as far as the sink takes it, and answers this status.

@@ -1,6 +1,6 @@
 //! Disks that aren't empty.
 ghost use Rattle.std.specs.Prelude.{◌≡◌, IfOk, map};
-ghost use Rattle.mdb_top.specs.Disks as disks_of;
+ghost use Rattle.session_outputs.specs.Disks as disks_of;
 ghost use Rattle.mdb_top.specs.Texts as texts;
 
 use journal_disk::Disk;

@@ -2,7 +2,8 @@
 ghost use Rattle.std.specs.Prelude.{◌≡◌, IfSome, map, string_bytes};
 ghost use Rattle.mdb_top.specs.Verdicts.{CanBeDone, asked_by};
 
-use crate::made::{Making, made_by};
+use crate::made::made_by;
+use session_outputs::Making;
 
 /// What the words ask for.
 #[derive(Clone, Copy, Debug, PartialEq, Eq)]

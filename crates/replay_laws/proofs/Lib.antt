@@ -1,2 +1,3 @@
+mod PrintedAgain
 mod Replays
 mod Refuted

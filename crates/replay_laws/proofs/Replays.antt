@@ -24,7 +24,7 @@ use Rattle.fed_rules.specs.declared.events.CoordEvent.TheVariants as Ev
 use Rattle.fed_rules.specs.declared.scenario.Scenario.{Scenario}
 use Rattle.fed_rules.specs.Closing.{actors, ask_all, ask_site, bring_up, clear, clear_site, closed, disarm, end_known, for_each, give_up, inquire, one, rising, send_again}
 use Rattle.fed_rules.specs.CoordPast as Coordinator
-use Rattle.fed_rules.specs.CoordPast.{CoordHappening, CoordPast, Standing, begun_tids, is_known, is_open, known_decision, standing, standing_of}
+use Rattle.fed_rules.specs.CoordPast.{CoordHappening, CoordPast, begun_tids, is_known, is_open, known_decision, standing, standing_of}
 use Rattle.fed_rules.specs.Happenings.{is_down}
 use Rattle.fed_rules.specs.Reports.{report_of}
 use Rattle.fed_rules.specs.Right.{IsAnswer, IsNext, MayPrint, SameButCycle, story_told}
@@ -34,8 +34,8 @@ use Rattle.fed_rules.specs.SitePast.{SitePast, is_local, trip}
 use Rattle.fed_rules.specs.Story.{Happened, AtSite, AtCoordinator, Nowhere, Story, coord_past, past_of, places_of, story_of, tell}
 use Rattle.closing_laws.specs.AtRest.{IsAtRest}
 use Rattle.federation_laws.specs.Conservative.{RefusesForCycle}
-use Rattle.replay_laws.specs.Replayed.{ClosingAddsNothing, CommandsGiveAgain, RefuseNone, RightLinesAgree, RightLinesAreOne, bare, commands_in, without_cycle}
-use Rattle.line_text.specs.Spelling.{lines_bytes}
+use Rattle.line_laws.specs.Refusals.{RefuseNone}
+use Rattle.replay_laws.specs.Replayed.{ClosingAddsNothing, CommandsGiveAgain, RightLinesAgree, RightLinesAreOne, bare, commands_in, without_cycle}
 
 -- ---- closing
 

@@ -1,6 +1,5 @@
 -- A session that is at rest, given as commands: closing adds none, and its lines are the same again but for the cycles that refusals print.
 use Rattle.std.specs.Prelude.{◌≡◌, Some, List, [], map, reverse}
-use Rattle.mdb_base.specs.Words.{Each}
 use Rattle.fed_rules.specs.declared.answers.Answer.{Answer}
 use Rattle.fed_rules.specs.declared.answers.Answer.TheVariants as Say
 use Rattle.fed_rules.specs.declared.answers.Cause.TheVariants as For
@@ -12,8 +11,7 @@ use Rattle.fed_rules.specs.Reports.{report_of}
 use Rattle.fed_rules.specs.Right.{IsRightStory}
 use Rattle.fed_rules.specs.Story.{story_of}
 use Rattle.closing_laws.specs.AtRest.{IsAtRest}
-use Rattle.federation_laws.specs.Conservative.{RefusesForCycle}
-use Rattle.line_text.specs.Spelling.{lines_bytes}
+use Rattle.line_laws.specs.Refusals.{RefuseNone}
 
 -- behind a session at rest closing adds no command
 abbrev pub ClosingAddsNothing : Type 0
@@ -38,10 +36,6 @@ abbrev pub RightLinesAgree : Type 0
 RightLinesAgree =
     (scenario : Scenario) (lines others : List Line) → IsRightStory scenario lines → IsRightStory scenario others
     → commands_in lines ≡ commands_in others → map bare lines ≡ map bare others
-
--- no line refuses a commit for a cycle
-abbrev pub RefuseNone : List Line → Type 0
-RefuseNone lines = Each (λ line. RefusesForCycle line.answer → ⊥) lines
 
 -- where none of them refuses a commit for a cycle they are the same
 abbrev pub RightLinesAreOne : Type 0

@@ -1,4 +1,5 @@
 //! The commands of a session at rest, given again.
+ghost use Rattle.replay_laws.specs.Printed.{CommandsPrintAgain};
 ghost use Rattle.replay_laws.specs.Replayed.{ClosingAddsNothing, CommandsGiveAgain, RightLinesAgree, RightLinesAreOne};
 
 /// Behind a session at rest closing adds no command.
@@ -20,4 +21,12 @@ pub fn commands_give_again()
 {
     closing_adds_nothing();
     right_lines_agree();
+}
+
+/// The commands of a session at rest, closed, print its text again, but for the edges of cycles: each line and the
+/// report. Where no line refuses a commit for a cycle they print it byte for byte.
+pub fn commands_print_again()
+    ensures { CommandsPrintAgain }
+{
+    commands_give_again();
 }

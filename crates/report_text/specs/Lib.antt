@@ -1,1 +1,4 @@
+-- the report
 pub mod Spelling
+-- the summary of a scenario that was made
+pub mod Summaries

@@ -1,9 +1,8 @@
 use Rattle.std.proofs.Common.{is_some, map, sym, ◌∙◌, ap}
-use Rattle.mdb_top.specs.Disks.{first_used, sizes_of}
-use Rattle.mdb_top.specs.Makes.{making}
+use Rattle.session_outputs.specs.Disks.{first_used, sizes_of}
+use Rattle.session_outputs.specs.Makes.{making}
 use Rattle.mdb_top.specs.Streams.{Stream, stream}
-use Rattle.mdb_top.proofs.MakeLemmas.{put_status}
-use Rattle.mdb_top.proofs.TopLemmas.{carries_put}
+use Rattle.mdb_top.proofs.TopLemmas.{carries_put, put_status}
 use Rattle.mdb_top.proofs.top_call.made.Goals as goal
 
 pub returns-in-None-clause-carries : goal.returns-in-None-clause-carries

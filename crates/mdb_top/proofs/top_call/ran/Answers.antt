@@ -1,6 +1,6 @@
 use Rattle.std.proofs.Common.{is_some, map, sym, ◌∙◌, ap}
-use Rattle.mdb_top.specs.Disks.{first_used, sizes_of}
-use Rattle.mdb_top.specs.Runs.{running}
+use Rattle.session_outputs.specs.Disks.{first_used, sizes_of}
+use Rattle.session_outputs.specs.Runs.{running}
 use Rattle.mdb_top.specs.Streams.{Stream, stream}
 use Rattle.mdb_top.proofs.TopLemmas.{carries_put}
 use Rattle.mdb_top.proofs.top_call.ran.Goals as goal

@@ -1,6 +1,6 @@
 use Rattle.std.proofs.Common.{map}
 use Rattle.scenario_text.specs.Texts.{scenario_of}
-use Rattle.mdb_top.specs.Runs.{running}
+use Rattle.session_outputs.specs.Runs.{running}
 use Rattle.mdb_top.specs.Streams.{Stream, stream}
 use Rattle.mdb_top.proofs.TopLemmas.{ends_carried}
 use Rattle.mdb_top.proofs.top_call.run.Goals as goal

@@ -1,0 +1,5 @@
+pub mod FileDisk
+pub mod Files
+pub mod MemFile
+pub mod MemStore
+pub mod Stores

@@ -1,5 +1,0 @@
-use Rattle.line_laws.proofs.PrintedAgain.{prints_again}
-use Rattle.line_laws.proofs.commands_print_again.Goals as goal
-
-pub returns : goal.returns
-returns c = prints_again c.commands_give_again.ensures

@@ -1,0 +1,257 @@
+-- What is on the nine disks of a world: behind some commands, where it is at rest, and where a call of a disk failed.
+use Rattle.std.proofs.Common.{◌≡◌, ℕ, zero, suc, ◌<◌, Bool, true, IsTrue, Option, Some, None, List, [], ◌∷◌, length, map, slice_get, inl, inr, refl, sym, ◌∙◌, ap, subst, arith}
+use Rattle.std.proofs.lemmas.Bool.{not-false}
+use Rattle.mdb_base.specs.declared.names.SiteId.{SiteId}
+use Rattle.mdb_base.specs.Words.{Each}
+use Rattle.mdb_base.proofs.JoinLaws.{nothing_left}
+use Rattle.order_laws.specs.Chains.{In}
+use Rattle.rules_laws.proofs.Declared.{home-again, its-site}
+use Rattle.fed_rules.specs.declared.commands.Command.{Command}
+use Rattle.fed_rules.specs.declared.events.CoordEvent.{CoordEvent}
+use Rattle.fed_rules.specs.declared.events.SiteEvent.{SiteEvent}
+use Rattle.fed_rules.specs.declared.scenario.Scenario.{Scenario}
+use Rattle.fed_rules.specs.Requests.{Request, Submits, Declines}
+use Rattle.fed_rules.specs.Scenarios.{global_program, home_of}
+use Rattle.fed_rules.specs.SitePast.{SitePast, disk}
+use Rattle.fed_rules.specs.SiteRecords.{Home}
+use Rattle.fed_rules.specs.Story.{Story, coord_past, coord_requested, happens, past_of, requested, story_of}
+use Rattle.journal_disk.specs.Disk.{Seen}
+use Rattle.actor_store.specs.declared.errors.StepErr.TheVariants as Step_err
+use Rattle.actor_store.specs.Store.{is_up, stored}
+use Rattle.closing_laws.specs.AtRest.{IsAtRest}
+use Rattle.fed_rules.specs.CoordPast.{CoordPast}
+use Rattle.fed_rules.specs.CoordPast as Coordinator
+use Rattle.global_manager.specs.declared.manager.GlobalManager.{GlobalManager}
+use Rattle.global_manager.specs.Stands as Manager
+use Rattle.conservative_take.specs.declared.any_policy.AnyPolicy.{AnyPolicy}
+use Rattle.any_engine.specs.declared.engine.AnyEngine.{AnyEngine}
+use Rattle.local_dbms.specs.declared.dbms.LocalDbms.{LocalDbms}
+use Rattle.local_dbms.specs.Stands as Dbms
+use Rattle.local_dbms.specs.Stands.{own_programs}
+use Rattle.site_core.specs.Stands.{stopped_past}
+use Rattle.fed_world.specs.declared.world.World.{World}
+use Rattle.fed_world.specs.Asks.{terms_of}
+use Rattle.fed_world.specs.Faults.{RisesAt, faults_of}
+use Rattle.fed_world.specs.Worlds.{AreDisks, CoordinatorBroke, DbmsStands, IsBroken, ManagerStands, SiteBroke, Stands, StandsBut}
+use Rattle.fed_world.specs.SettingUp.{EmptyBut, IsSetUp, StopsForDisk, StopsForMemory}
+use Rattle.session_outputs.specs.Breaks.{BreaksAtNext, BreaksSetUp, CoordinatorStops, SiteStops}
+use Rattle.session_outputs.specs.Disks.{AreSetUp, CoordHolds, HoldAll, HoldFrames, HoldOthers, HoldsAt, NothingBut, SiteHolds, frames_at, site_frames}
+use Rattle.session_outputs.specs.Outcomes.{StartsShort}
+use Rattle.session_outputs.proofs.Recalled.{site_held}
+use Rattle.session_outputs.proofs.Stores.{coord_bytes, coord_whole, site_bytes, site_whole}
+
+-- these disks tell as many bytes as they have
+abbrev pub AreSized : List Seen → Type 0
+AreSized disks = (place : ℕ) (seen : Seen) → slice_get disks place ≡ Some seen → length seen.image.bytes ≡ seen.size
+
+-- so do all disks of a type of which each does
+pub all_sized : {D : Type 0} (see : D → Seen) → ((one : D) → length (see one).image.bytes ≡ (see one).size) → (items : List D) → AreSized (map see items)
+all_sized see sized [] place seen at = absurd cc
+all_sized see sized (one ∷ items) zero seen at = let same : see one ≡ seen = cc in subst (λ (s : Seen). length s.image.bytes ≡ s.size) same (sized one)
+all_sized see sized (one ∷ items) (suc place) seen at = all_sized see sized items place seen at
+
+-- what stands at a place is one thing
+one_at : (disks : List Seen) (place : ℕ) (a b : Seen) → slice_get disks place ≡ Some a → slice_get disks place ≡ Some b → a ≡ b
+one_at disks place a b e f = let both : Some a ≡ Some b = sym e ∙ f in cc
+
+-- the number of a declared site
+numbered : (scenario : Scenario) (n : ℕ) (home : Home) → home_of scenario (record { 0 = n }) ≡ Some home → home.site.0 ≡ n
+numbered scenario n home declared = ap (λ (s : SiteId). s.0) (its-site scenario (record { 0 = n }) home declared)
+
+-- ---- each disk holds what the rules say
+
+-- that of an actor that stands for its past
+coord_holds : (tells : Bool) (disks : List Seen) (manager : GlobalManager AnyPolicy) (scenario : Scenario) (story : Story) (seen : Seen)
+    → ManagerStands tells disks manager (terms_of scenario) (global_program scenario) (coord_past story) → slice_get disks 0 ≡ Some seen → CoordHolds seen.image (coord_past story)
+coord_holds tells disks manager scenario story seen m at =
+    subst (λ (s : Seen). CoordHolds s.image (coord_past story)) (one_at disks 0 m.disk seen m.own at)
+    (coord_bytes tells m.disk (stored manager.core.store) (Coordinator.disk (coord_past story)) _ m.holds.core.stored)
+
+site_holds : (tells : Bool) (disks : List Seen) (dbms : LocalDbms AnyEngine) (scenario : Scenario) (home : Home) (past : SitePast) (seen : Seen)
+    → DbmsStands tells disks dbms home (own_programs home.site scenario.transactions) past → slice_get disks home.site.0 ≡ Some seen → SiteHolds seen.image home past
+site_holds tells disks dbms scenario home past seen d at =
+    subst (λ (s : Seen). SiteHolds s.image home past) (one_at disks home.site.0 d.disk seen d.own at)
+    (site_bytes tells d.disk (stored dbms.core.store) (disk home past) _ d.holds.core.stored)
+
+-- a disk of no size has no byte
+no_byte : (disks : List Seen) (place : ℕ) (seen : Seen) → AreSized disks → slice_get disks place ≡ Some seen → seen.size ≡ 0 → seen.image.bytes ≡ []
+no_byte disks place seen sized at none = nothing_left seen.image.bytes (sized place seen at ∙ none)
+
+pub stands_hold_all : (tells : Bool) (world : World) (disks : List Seen) (scenario : Scenario) (commands : List Command) → AreSized disks → Stands tells world disks scenario commands
+    → HoldAll disks scenario (story_of scenario commands)
+stands_hold_all tells world disks scenario commands sized s zero seen at =
+    coord_holds tells disks world.cores.coordinator scenario (story_of scenario commands) seen s.stand.actors.coordinator at
+stands_hold_all tells world disks scenario commands sized s (suc n) seen at = by_home (home_of scenario (record { 0 = suc n })) refl
+  where
+    by_home : (o : Option Home) → home_of scenario (record { 0 = suc n }) ≡ o → HoldsAt seen.image o (story_of scenario commands)
+    by_home None e = no_byte disks (suc n) seen sized at (s.stand.others.others (record { 0 = suc n }) seen (omega arith) e at)
+    by_home (Some home) e =
+        let held = site_held (DbmsStands tells disks) world.cores.sites.items.items world.cores.marks.items world.traffic.items scenario (story_of scenario commands) home
+        (home-again scenario (record { 0 = suc n }) home e) s.stand.actors.sites in
+        site_holds tells disks held.dbms scenario home (past_of home.site (story_of scenario commands)) seen held.holds
+        (subst (λ k. slice_get disks k ≡ Some seen) (sym (numbered scenario (suc n) home e)) at)
+
+-- at rest each holds the frames of its actor's records alone
+pub stands_hold_frames : (tells : Bool) (world : World) (disks : List Seen) (scenario : Scenario) (commands : List Command) → IsTrue tells → AreSized disks → IsAtRest scenario (story_of scenario commands)
+    → Stands tells world disks scenario commands → HoldFrames disks scenario (story_of scenario commands)
+stands_hold_frames tells world disks scenario commands told sized rest s zero seen at =
+    let m = s.stand.actors.coordinator in
+    let store = world.cores.coordinator.core.store in
+    let up : is_up store.standing ≡ true = not-false (is_up store.standing) (sym m.holds.core.holds.standing ∙ rest.coordinator_up) in
+    subst (λ (x : Seen). x.image.bytes ≡ frames_at scenario (story_of scenario commands) 0) (one_at disks 0 m.disk seen m.own at)
+    (coord_whole tells m.disk (stored store) (Coordinator.disk (coord_past (story_of scenario commands))) _ told (sized 0 m.disk m.own) up m.holds.core.stored)
+stands_hold_frames tells world disks scenario commands told sized rest s (suc n) seen at = by_home (home_of scenario (record { 0 = suc n })) refl
+  where
+    by_home : (o : Option Home) → home_of scenario (record { 0 = suc n }) ≡ o → seen.image.bytes ≡ site_frames o (story_of scenario commands)
+    by_home None e = no_byte disks (suc n) seen sized at (s.stand.others.others (record { 0 = suc n }) seen (omega arith) e at)
+    by_home (Some home) e =
+        let held = site_held (DbmsStands tells disks) world.cores.sites.items.items world.cores.marks.items world.traffic.items scenario (story_of scenario commands) home
+        (home-again scenario (record { 0 = suc n }) home e) s.stand.actors.sites in
+        let d = held.holds in
+        let store = held.dbms.core.store in
+        let up : is_up store.standing ≡ true = not-false (is_up store.standing) (sym d.holds.core.holds.memory.standing ∙ rest.sites_up home.site) in
+        let there : slice_get disks home.site.0 ≡ Some seen = subst (λ k. slice_get disks k ≡ Some seen) (sym (numbered scenario (suc n) home e)) at in
+        subst (λ (x : Seen). x.image.bytes ≡ site_frames (Some home) (story_of scenario commands)) (one_at disks home.site.0 d.disk seen d.own there)
+        (site_whole tells d.disk (stored store) (disk home (past_of home.site (story_of scenario commands))) _ told (sized home.site.0 d.disk d.own) up d.holds.core.stored)
+
+-- ---- a call of a disk failed at a command
+
+-- what the coordinator's disk holds then
+module _ (tells : Bool) (manager : GlobalManager AnyPolicy) (disks : List Seen) (scenario : Scenario) (story : Story) (seen : Seen) (at : slice_get disks 0 ≡ Some seen) where
+  coord_past_holds : (past : CoordPast) → ManagerStands tells disks manager (terms_of scenario) (global_program scenario) past → CoordHolds seen.image past
+  coord_past_holds past m =
+      subst (λ (s : Seen). CoordHolds s.image past) (one_at disks 0 m.disk seen m.own at) (coord_bytes tells m.disk (stored manager.core.store) (Coordinator.disk past) _ m.holds.core.stored)
+
+  pub coord_stops : (command : Command) (asked : Request CoordEvent) → happens scenario story command ≡ coord_requested scenario story asked
+      → Manager.Fails (ManagerStands tells disks manager) Step_err.Disk (terms_of scenario) (global_program scenario) (coord_past story) asked → CoordinatorStops seen.image command scenario story
+  coord_stops command (Declines answer) e f = absurd f
+  coord_stops command (Submits event) e (inl before) = record { event = event; happens = e; stop = inl (before.cut, coord_past_holds _ before.stood) }
+  coord_stops command (Submits event) e (inr within) = record { event = event; happens = e; stop = inr (within.calls, within.cut, within.stops, coord_past_holds _ within.stood) }
+
+-- what a site's disk holds then
+module _ (tells : Bool) (dbms : LocalDbms AnyEngine) (disks : List Seen) (scenario : Scenario) (story : Story) (home : Home) (seen : Seen) (at : slice_get disks home.site.0 ≡ Some seen) where
+  site_stops : (command : Command) (asked : Request SiteEvent) (number : ℕ) → number ≡ home.site.0 → home_of scenario home.site ≡ Some home → happens scenario story command ≡ requested home story asked
+      → Dbms.Fails (DbmsStands tells disks dbms) Step_err.Disk home (own_programs home.site scenario.transactions) (past_of home.site story) asked → SiteStops number seen.image command scenario story
+  site_stops command (Declines answer) number n declared e f = absurd f
+  site_stops command (Submits event) number n declared e f = record {
+    home = home;
+    declared = declared;
+    number_is = n;
+    event = event;
+    happens = e;
+    stop = (f.0, site_holds tells disks dbms scenario home (stopped_past home (past_of home.site story) event f.0) seen f.1 at, f.2);
+  }
+
+  -- some disk of this number is there
+  pub site_stops_at : (command : Command) (asked : Request SiteEvent) (number : ℕ) → number ≡ home.site.0 → home_of scenario home.site ≡ Some home → happens scenario story command ≡ requested home story asked
+      → Dbms.Fails (DbmsStands tells disks dbms) Step_err.Disk home (own_programs home.site scenario.transactions) (past_of home.site story) asked → SiteStops number seen.image command scenario story
+  site_stops_at = site_stops
+
+-- the disk of a number is there
+there_at : (disks : List Seen) (number : ℕ) → number < length disks → (seen : Seen) × (slice_get disks number ≡ Some seen)
+there_at [] number lt = absurd (omega arith)
+there_at (seen ∷ disks) zero lt = (seen, refl)
+there_at (seen ∷ disks) (suc number) lt = there_at disks number (omega arith)
+
+-- the coordinator's
+coord_breaks : (tells : Bool) (world : World) (old disks : List Seen) (command : Command) (scenario : Scenario) (commands : List Command) → AreSized disks → AreDisks disks scenario → RisesAt 0 old disks
+    → CoordinatorBroke tells world disks command scenario (story_of scenario commands) → BreaksAtNext 0 old disks command scenario (story_of scenario commands)
+coord_breaks tells world old disks command scenario commands sized are rose b = by_disk (there_at disks 0 (omega (arith, are.nine)))
+  where
+    others : HoldOthers 0 disks scenario (story_of scenario commands)
+    others zero seen at apart = absurd (apart refl)
+    others (suc n) seen at apart = by_home (home_of scenario (record { 0 = suc n })) refl
+      where
+        by_home : (o : Option Home) → home_of scenario (record { 0 = suc n }) ≡ o → HoldsAt seen.image o (story_of scenario commands)
+        by_home None e = no_byte disks (suc n) seen sized at (are.others (record { 0 = suc n }) seen (omega arith) e at)
+        by_home (Some home) e =
+            let held = site_held (DbmsStands tells disks) world.cores.sites.items.items world.cores.marks.items world.traffic.items scenario (story_of scenario commands) home
+            (home-again scenario (record { 0 = suc n }) home e) b.sites in
+            site_holds tells disks held.dbms scenario home (past_of home.site (story_of scenario commands)) seen held.holds
+            (subst (λ k. slice_get disks k ≡ Some seen) (sym (numbered scenario (suc n) home e)) at)
+
+    by_disk : (seen : Seen) × (slice_get disks 0 ≡ Some seen) → BreaksAtNext 0 old disks command scenario (story_of scenario commands)
+    by_disk (seen, at) = record {
+      rose = rose;
+      disk = seen;
+      own = at;
+      stop = coord_stops tells world.cores.coordinator disks scenario (story_of scenario commands) seen at command b.asked b.happens b.coordinator;
+      others = others;
+    }
+
+-- a site's
+site_breaks : (n : ℕ) (tells : Bool) (world : World) (old disks : List Seen) (command : Command) (scenario : Scenario) (commands : List Command) → AreSized disks → AreDisks disks scenario → RisesAt (suc n) old disks
+    → SiteBroke (suc n) tells world disks command scenario (story_of scenario commands) → BreaksAtNext (suc n) old disks command scenario (story_of scenario commands)
+site_breaks n tells world old disks command scenario commands sized are rose b = by_asked b.asked b.happens b.broken
+  where
+    story : Story
+    story = story_of scenario commands
+
+    others : HoldOthers (suc n) disks scenario story
+    others zero seen at apart = coord_holds tells disks world.cores.coordinator scenario story seen b.coordinator at
+    others (suc k) seen at apart = by_home (home_of scenario (record { 0 = suc k })) refl
+      where
+        by_home : (o : Option Home) → home_of scenario (record { 0 = suc k }) ≡ o → HoldsAt seen.image o story
+        by_home None e = no_byte disks (suc k) seen sized at (are.others (record { 0 = suc k }) seen (omega arith) e at)
+        by_home (Some home) e =
+            let held = site_held (StandsBut (suc n) tells disks) world.cores.sites.items.items world.cores.marks.items world.traffic.items scenario story home
+            (home-again scenario (record { 0 = suc k }) home e) b.sites in
+            let own : home.site.0 ≡ suc k = numbered scenario (suc k) home e in
+            site_holds tells disks held.dbms scenario home (past_of home.site story) seen (held.holds (λ same. apart (sym own ∙ same)))
+            (subst (λ m. slice_get disks m ≡ Some seen) (sym own) at)
+
+    by_asked : (asked : Request SiteEvent) → happens scenario story command ≡ requested b.home story asked
+        → Dbms.Fails (DbmsStands tells disks b.dbms) Step_err.Disk b.home (own_programs b.home.site scenario.transactions) (past_of b.home.site story) asked → BreaksAtNext (suc n) old disks command scenario story
+    by_asked (Declines answer) e f = absurd f
+    by_asked (Submits event) e f =
+        let d = f.1 in
+        record {
+          rose = rose;
+          disk = d.disk;
+          own = subst (λ k. slice_get disks k ≡ Some d.disk) (sym b.number_is) d.own;
+          stop = site_stops_at tells b.dbms disks scenario story b.home d.disk d.own command (Submits event) (suc n) b.number_is b.declared e f;
+          others = others;
+        }
+
+pub world_breaks : (number : ℕ) (tells : Bool) (world : World) (old disks : List Seen) (command : Command) (scenario : Scenario) (commands : List Command) → AreSized disks → RisesAt number old disks
+    → IsBroken number tells world disks command scenario commands → BreaksAtNext number old disks command scenario (story_of scenario commands)
+world_breaks zero tells world old disks command scenario commands sized rose b = coord_breaks tells world old disks command scenario commands sized b.others rose b.actor
+world_breaks (suc n) tells world old disks command scenario commands sized rose b = site_breaks n tells world old disks command scenario commands sized b.others rose b.actor
+
+-- ---- while the sites are set up
+
+each_in : (P : SiteId → Type 0) (xs : List SiteId) (site : SiteId) → Each P xs → In site xs → P site
+each_in P [] site each i = absurd i
+each_in P (x ∷ xs) site each (inl e) = subst P e each.0
+each_in P (x ∷ xs) site each (inr i) = each_in P xs site each.1 i
+
+set_up_hold : (tells : Bool) (disks : List Seen) (scenario : Scenario) (done : List SiteId) → Each (IsSetUp tells disks scenario) done → AreSetUp done disks scenario
+set_up_hold tells disks scenario done each site seen i at =
+    let s = each_in (IsSetUp tells disks scenario) done site each i in
+    let same : s.home.site ≡ site = its-site scenario site s.home s.declared in
+    let stood : DbmsStands tells disks s.dbms s.home (own_programs s.home.site scenario.transactions) [] = subst (λ (x : SiteId). DbmsStands tells disks s.dbms s.home (own_programs x scenario.transactions) []) (sym same) s.stood in
+    subst (λ (o : Option Home). HoldsAt seen.image o []) (sym s.declared)
+    (site_holds tells disks s.dbms scenario s.home [] seen stood (subst (λ (x : SiteId). slice_get disks x.0 ≡ Some seen) (sym same) at))
+
+empty_nothing : (disks : List Seen) (done : List SiteId) → AreSized disks → EmptyBut done disks → NothingBut done disks
+empty_nothing disks done sized empty number seen at apart = no_byte disks number seen sized at (empty number seen at apart)
+
+pub starts_short : (tells : Bool) (old disks : List Seen) (scenario : Scenario) → AreSized disks → faults_of disks ≡ faults_of old → StopsForMemory tells disks scenario → StartsShort old disks scenario
+starts_short tells old disks scenario sized calm s =
+    record { done = s.done; left = s.left; all = s.all; set_up = set_up_hold tells disks scenario s.done s.set_up; empty = empty_nothing disks s.done sized s.empty; calm = calm }
+
+pub starts_broken : (number : ℕ) (tells : Bool) (old disks : List Seen) (scenario : Scenario) → AreSized disks → RisesAt number old disks → StopsForDisk number tells disks scenario → BreaksSetUp number old disks scenario
+starts_broken number tells old disks scenario sized rose s = record {
+  done = s.done;
+  left = s.left;
+  home = s.home;
+  number_is = s.number_is;
+  declared = s.declared;
+  all = s.all;
+  rose = rose;
+  disk = s.disk;
+  own = s.own;
+  stop = s.stop;
+  set_up = set_up_hold tells disks scenario s.done s.set_up;
+  empty = empty_nothing disks (s.home.site ∷ s.done) sized s.empty;
+}

@@ -1,0 +1,12 @@
+mod Ending
+mod Holding
+mod HostsHeard
+mod MakeLemmas
+mod OutputLemmas
+mod PlayLemmas
+mod Recalled
+mod Rights
+mod RunLemmas
+mod Stores
+mod Totals
+mod UsedDisks

@@ -1,0 +1,82 @@
+-- What a failed disk call leaves on the nine disks.
+use Rattle.std.specs.Prelude.{ℕ, zero, suc, ◌≡◌, ◌⊎◌, true, Some, List, ◌∷◌, ◌++◌, slice_get}
+use Rattle.mdb_base.specs.declared.names.SiteId.{SiteId}
+use Rattle.fed_rules.specs.declared.commands.Command.{Command}
+use Rattle.fed_rules.specs.declared.events.CoordEvent.{CoordEvent}
+use Rattle.fed_rules.specs.declared.events.SiteEvent.{SiteEvent}
+use Rattle.fed_rules.specs.declared.scenario.Scenario.{Scenario}
+use Rattle.fed_rules.specs.CoordPast.{CoordPast}
+use Rattle.fed_rules.specs.Disk.{empty_disk}
+use Rattle.fed_rules.specs.Happenings.{is_down, stops}
+use Rattle.fed_rules.specs.Scenarios.{home_of, sites}
+use Rattle.fed_rules.specs.SitePast.{SitePast, set_up_calls}
+use Rattle.fed_rules.specs.SiteRecords.{Home}
+use Rattle.fed_rules.specs.Story.{Story, at_coordinator, at_site, coord_past, happens, past_of}
+use Rattle.journal_disk.specs.Disk.{Image, Seen}
+use Rattle.coord_core.specs.Stands.{stopped_before, stopped_within, with_trip}
+use Rattle.coord_tables.specs.Terms.{Terms, line_of}
+use Rattle.site_core.specs.Stands.{StopAt, stopped_past}
+use Rattle.site_core.specs.Store.{SomeStop}
+use Rattle.fed_world.specs.Asks.{terms_of}
+use Rattle.fed_world.specs.Faults.{RisesAt}
+use Rattle.session_outputs.specs.Disks.{AreSetUp, CoordHolds, HoldOthers, NothingBut, SiteHolds}
+
+-- the coordinator's disk holds what a stop before the event leaves
+abbrev pub StopsBefore : Image → Terms → CoordPast → Type 0
+StopsBefore image terms past = (cut : ℕ) × CoordHolds image (stopped_before terms past cut)
+
+-- or what a stop right after some disk call of the event leaves
+abbrev pub StopsWithin : Image → Terms → CoordPast → CoordEvent → Type 0
+StopsWithin image terms past event =
+    (calls : ℕ) × (cut : ℕ) × (stops (line_of terms (with_trip terms past calls cut) event).answer ≡ true)
+    × CoordHolds image (stopped_within terms past event calls cut)
+
+-- the command is this event of the coordinator, and its disk holds what some stop within the event leaves
+pub record CoordinatorStops (image : Image) (command : Command) (scenario : Scenario) (story : Story) : Type 0 where
+  pub event : CoordEvent
+  pub happens : happens scenario story command ≡ at_coordinator scenario story event
+  pub stop : StopsBefore image (terms_of scenario) (coord_past story) ⊎ StopsWithin image (terms_of scenario) (coord_past story) event
+
+-- a site's disk holds what a stop before the event, or right after one of its disk calls, leaves
+abbrev pub SiteStopsWithin : Image → Home → SitePast → SiteEvent → Type 0
+SiteStopsWithin image home past event =
+    (at : StopAt) × SiteHolds image home (stopped_past home past event at) × (is_down (stopped_past home past event at) ≡ true)
+
+-- the command is this event of the site of this number, and its disk holds what some stop within the event leaves
+pub record SiteStops (number : ℕ) (image : Image) (command : Command) (scenario : Scenario) (story : Story) : Type 0 where
+  pub home : Home
+  pub declared : home_of scenario home.site ≡ Some home
+  pub number_is : number ≡ home.site.0
+  pub event : SiteEvent
+  pub happens : happens scenario story command ≡ at_site home story event
+  pub stop : SiteStopsWithin image home (past_of home.site story) event
+
+-- so it is of the actor of this number
+abbrev pub ActorStops : ℕ → Image → Command → Scenario → Story → Type 0
+ActorStops zero image command scenario story = CoordinatorStops image command scenario story
+ActorStops (suc n) image command scenario story = SiteStops (suc n) image command scenario story
+
+-- behind these commands a call of this disk failed within the event of the next one: its count of faults rose and no other, it holds what some stop
+-- within that event leaves, and each other disk what the rules say
+pub record BreaksAtNext (number : ℕ) (old new : List Seen) (command : Command) (scenario : Scenario) (story : Story) : Type 0 where
+  pub rose : RisesAt number old new
+  pub disk : Seen
+  pub own : slice_get new number ≡ Some disk
+  pub stop : ActorStops number disk.image command scenario story
+  pub others : HoldOthers number new scenario story
+
+-- a call of this disk failed while its site was set up: its count of faults rose and no other, it holds what some stop within the set-up leaves, the
+-- sites before it are set up, and nothing is on any other disk
+pub record BreaksSetUp (number : ℕ) (old new : List Seen) (scenario : Scenario) : Type 0 where
+  pub done : List SiteId
+  pub left : List SiteId
+  pub home : Home
+  pub number_is : number ≡ home.site.0
+  pub declared : home_of scenario home.site ≡ Some home
+  pub all : sites scenario ≡ done ++ home.site ∷ left
+  pub rose : RisesAt number old new
+  pub disk : Seen
+  pub own : slice_get new number ≡ Some disk
+  pub stop : SomeStop disk.image empty_disk (set_up_calls home)
+  pub set_up : AreSetUp done new scenario
+  pub empty : NothingBut (home.site ∷ done) new

@@ -1,0 +1,51 @@
+-- What becomes of a session that is replayed.
+use Rattle.std.specs.Prelude.{ℕ, ◌≡◌, ◌⊎◌, List, [], ◌++◌}
+use Rattle.fed_rules.specs.declared.commands.Command.{Command}
+use Rattle.fed_rules.specs.declared.commands.Line.{Line}
+use Rattle.journal_disk.specs.Disk.{Seen}
+use Rattle.fed_world.specs.Faults.{faults_of}
+use Rattle.fed_world.specs.Worlds.{AreLines}
+use Rattle.scenario_text.specs.declared.session.Session.{Session}
+use Rattle.line_laws.specs.Printed.{printed}
+use Rattle.line_text.specs.Spelling.{lines_bytes}
+use Rattle.session_outputs.specs.Breaks.{BreaksSetUp}
+use Rattle.session_outputs.specs.Outcomes.{BreaksBehind, IsDone, StartsShort, StopsShort}
+use Rattle.session_outputs.specs.Outputs.{Account}
+use Rattle.session_outputs.specs.Sessions.{commands_of, story}
+use Rattle.session_outputs.specs.Texts.{disk_failed_text}
+
+-- all commands of the session were carried out without a failed disk: the output is their lines, and then the report
+pub record PlaysWhole (output : List ℕ) (old new : List Seen) (session : Session) : Type 0 where
+  pub lines : List Line
+  pub done : IsDone lines new session.scenario (commands_of session)
+  pub calm : faults_of new ≡ faults_of old
+  pub output_is : output ≡ printed lines session.scenario (story session)
+
+-- a call of this disk failed within the event of the command behind these, or no command was carried out and it failed while its site was set up
+abbrev pub Breaks : ℕ → List Seen → List Seen → Session → List Command → Type 0
+Breaks number old new session done =
+    BreaksBehind number old new session.scenario (commands_of session) done ⊎ ((done ≡ []) × BreaksSetUp number old new session.scenario)
+
+-- a call of a disk failed: the output is the lines of the commands before, which are right, and behind them which disk
+pub record PlaysBroken (output : List ℕ) (old new : List Seen) (session : Session) : Type 0 where
+  pub number : ℕ
+  pub done : List Command
+  pub lines : List Line
+  pub lines_are : AreLines lines session.scenario done
+  pub output_is : output ≡ lines_bytes lines ++ disk_failed_text number
+  pub breaks : Breaks number old new session done
+
+-- memory was wanting for the text of the lines made until a call of a disk failed
+pub record BreaksShort (old new : List Seen) (session : Session) : Type 0 where
+  pub number : ℕ
+  pub done : List Command
+  pub breaks : Breaks number old new session done
+
+-- memory was wanting in a session that was begun
+abbrev pub IsShort : List Seen → List Seen → Session → Type 0
+IsShort old new session =
+    StartsShort old new session.scenario ⊎ (StopsShort old new session.scenario (commands_of session) ⊎ BreaksShort old new session)
+
+-- what `replay` says of its output
+abbrev pub replaying : Account Session
+replaying = record { whole = PlaysWhole; broken = PlaysBroken; short = IsShort }

@@ -1,0 +1,14 @@
+use Rattle.std.proofs.Common.{◌≤◌, true, map, drop, length}
+use Rattle.fed_rules.specs.Reopened.{commit_read}
+use Rattle.usable_journals.specs.Recorded.{TakesAll}
+use Rattle.usable_journals.proofs.coord_order.Recorded.commit_all.Given as goal
+
+-- the last ones were taken
+abbrev pub invariant-loop-left : goal.invariant-loop-left
+invariant-loop-left l = record {
+  within : l.left ≤ length l.committed;
+  taken : TakesAll l.fn.self l.self (map commit_read (drop l.left l.committed)) true;
+}
+
+abbrev pub decreases-loop-left : goal.decreases-loop-left
+decreases-loop-left l = l.left

@@ -1,0 +1,15 @@
+pub mod CoordTests
+pub mod Recorded
+pub mod Closing
+pub mod Rising
+pub mod Reads
+pub mod SiteTests
+pub mod Numbers
+pub mod OnceTold
+pub mod PartedTold
+pub mod WellRecorded
+pub mod Disks
+pub mod Walks
+pub mod Fronts
+pub mod SiteReads
+pub mod Named

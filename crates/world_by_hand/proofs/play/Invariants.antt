@@ -1,0 +1,5 @@
+use Rattle.world_by_hand.specs.Worlds.{IsOfCommands}
+use Rattle.world_by_hand.proofs.play.Given as goal
+
+abbrev pub invariant-loop-command : goal.invariant-loop-command
+invariant-loop-command l = record { stood : IsOfCommands l.count l.world l.disks.items }
