@@ -29,7 +29,8 @@ use Rattle.federation_laws.proofs.LocalStories.{local-record}
 use Rattle.site_history.proofs.SitesOfStories.{of_events}
 use Rattle.disk_laws.specs.Left.{LocalsAreNotNamed}
 use Rattle.disk_laws.proofs.CoordLeft.{read_here}
-use Rattle.disk_laws.proofs.CoordRead.{IsRead, Whole, Behind, any_read}
+use Rattle.disk_laws.proofs.ReadRecords.{IsRead, Whole, Behind}
+use Rattle.disk_laws.proofs.CoordRead.{any_read}
 use Rattle.disk_laws.proofs.CoordRead as Read
 use Rattle.disk_laws.proofs.SiteOnce.{Known, local_at, local_read_from, over, pasts_known}
 use Rattle.disk_laws.proofs.SiteRead as Site

@@ -33,7 +33,7 @@ use Rattle.site_history.proofs.SitesOfStories.{of_events}
 use Rattle.coord_laws.specs.Sums.{AreCoordSums}
 use Rattle.disk_laws.specs.Left.{CoordinatorsAreBelow, OfShortCoordinators}
 use Rattle.disk_laws.proofs.CoordLeft.{each_standing, stands, sums_hold}
-use Rattle.disk_laws.proofs.CoordRead.{Commits, committed_from}
+use Rattle.disk_laws.proofs.ReadRecords.{Commits, committed_from}
 use Rattle.rules_laws.proofs.PastLengths.{past_short}
 use Rattle.disk_laws.proofs.SiteBounds.{AreBelow, IsBelow, pasts_below}
 

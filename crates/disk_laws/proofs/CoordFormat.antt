@@ -21,7 +21,7 @@ use Rattle.coord_laws.specs.Sums.{AreCoordSums}
 use Rattle.coord_laws.proofs.UsableCoordinators.{those_listed}
 use Rattle.disk_laws.specs.Left.{MembersStandInOrder, OfCoordinators}
 use Rattle.disk_laws.proofs.CoordLeft.{each_standing, past_each, stands, sums_hold, tid_of}
-use Rattle.disk_laws.proofs.CoordRead.{Opens, open_from}
+use Rattle.disk_laws.proofs.ReadRecords.{Opens, open_from}
 
 -- of a record other than a Checkpoint
 abbrev pub HasRisingMembers : CoordRecord → Type 0

@@ -39,7 +39,8 @@ use Rattle.coord_laws.proofs.CoordRestarts.{past_tidy}
 use Rattle.coord_laws.proofs.CoordTrims.{IsTrimmed, IsFine, past_fine, standing_all, standing_trimmed}
 use Rattle.disk_laws.specs.Left.{OfCoordinators, CommitsCloseNoCycle, RecordsStandInOrder, TransactionsCommitOnce, NamedSitesAreDeclared}
 use Rattle.disk_laws.proofs.CoordOrder.{past_settled}
-use Rattle.disk_laws.proofs.CoordRead.{Commits, IsRead, Opens, among_those, committed_from, is_behind, is_whole, open_from, read_acyclic, read_once, read_order}
+use Rattle.disk_laws.proofs.ReadRecords.{Commits, IsRead, Opens, among_those, committed_from, open_from}
+use Rattle.disk_laws.proofs.CoordRead.{is_behind, is_whole, read_acyclic, read_once, read_order}
 
 -- what stands on the disk: all records, or those from a Checkpoint on
 pub data Standing (protocols : List Participant) (rs js : List CoordRecord) : Type 0 where

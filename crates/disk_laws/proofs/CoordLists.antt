@@ -31,7 +31,8 @@ use Rattle.coord_laws.proofs.CoordTold.{rises}
 use Rattle.disk_laws.specs.Left.{OfCoordinators, SumsAreOfOpen, CoordinatorsSumsFit}
 use Rattle.disk_laws.proofs.CoordLeft.{From, All, Standing, commit_once, each_standing, stands, sums_hold}
 use Rattle.disk_laws.proofs.CoordOrder.{past_settled}
-use Rattle.disk_laws.proofs.CoordRead.{Commits, commit_of, committed_from, once_front, read_all, read_trimmed, stand_all, sum_stands}
+use Rattle.disk_laws.proofs.ReadRecords.{Commits, committed_from, read_all, read_trimmed}
+use Rattle.disk_laws.proofs.CoordRead.{commit_of, once_front, stand_all, sum_stands}
 use Rattle.disk_laws.proofs.Rises.{rise_inserted}
 
 -- ---- the committed ones rise

@@ -1,4 +1,5 @@
 pub mod CoordOrder
+pub mod ReadRecords
 pub mod CoordRead
 pub mod CoordLeft
 pub mod CoordLists

@@ -14,7 +14,7 @@ use Rattle.fed_rules.specs.CoordSums.{coord_sum}
 use Rattle.fed_rules.specs.Reopened.{commit_read, coord_sum_read, end_read, initiation_read, is_open_in}
 use Rattle.fed_rules.specs.Usable.{CoordSumsFit, IsAttemptOf, coord_read}
 use Rattle.disk_laws.specs.Named.{NamesAreRead, NamesOne}
-use Rattle.disk_laws.proofs.CoordRead.{Commits, Opens, among_read, among_those, committed_from, open_from}
+use Rattle.disk_laws.proofs.ReadRecords.{Commits, Opens, among_read, among_those, committed_from, open_from}
 
 abbrev OpenOf : Tx → OpenAttempt → Type 0
 OpenOf tx attempt = attempt.tid.tx ≡ tx

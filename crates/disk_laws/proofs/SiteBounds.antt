@@ -6,7 +6,6 @@ use Rattle.mdb_base.specs.declared.names.Tx.{Tx}
 use Rattle.mdb_base.specs.Words.{Each, when}
 use Rattle.mdb_base.proofs.ListLaws.{each_map}
 use Rattle.order_laws.proofs.Lists.{each_at, each_from}
-use Rattle.presumptions.specs.declared.Decision.TheVariants as Decided
 use Rattle.fed_rules.specs.declared.answers.Answer.TheVariants as Say
 use Rattle.fed_rules.specs.declared.events.SiteEvent.{SiteEvent}
 use Rattle.fed_rules.specs.declared.events.SiteEvent.TheVariants as Ev
@@ -75,7 +74,7 @@ ticket_below n (Prepared t e number ticket w ∷ rs) h = let a = ticket_below n 
 ticket_below n (Ended t d ∷ rs) h = ticket_below n rs h.1
 ticket_below n (Local t number w ∷ rs) h = ticket_below n rs h.1
 
-epoch_below : (n : ℕ) (rs : List SiteRecord) → Each (IsBelow n) rs → epoch_of rs ≤ suc n
+pub epoch_below : (n : ℕ) (rs : List SiteRecord) → Each (IsBelow n) rs → epoch_of rs ≤ suc n
 epoch_below n [] h = omega arith
 epoch_below n (Setup site engine protocol items ∷ rs) h = epoch_below n rs h.1
 epoch_below n (Checkpoint sum ∷ rs) h = epoch_below n rs h.1

@@ -345,7 +345,7 @@ distinct_over (Start e ∷ newer) y ys rest base first a once = distinct_over ne
 distinct_over (Ended u d ∷ newer) y ys rest base first a once = distinct_over newer y ys rest base first a once
 
 -- the numbers of those that a Checkpoint has in doubt
-doubt_numbers : (hs : List Held) → AllApart (map kept_held hs) → Distinct (map (λ (held : Held). held.number) hs)
+pub doubt_numbers : (hs : List Held) → AllApart (map kept_held hs) → Distinct (map (λ (held : Held). held.number) hs)
 doubt_numbers [] all = tt
 doubt_numbers (h ∷ hs) all = (apart hs all.0, doubt_numbers hs all.1)
   where

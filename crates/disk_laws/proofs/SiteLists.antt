@@ -20,7 +20,7 @@ use Rattle.site_history.proofs.WellKept.{StartsWell}
 use Rattle.site_history.specs.Sums.{AreSums}
 use Rattle.site_history.proofs.Doubtful.{doubts_rise}
 use Rattle.disk_laws.specs.Left.{OfSites, SumsAreOfSome}
-use Rattle.disk_laws.proofs.CoordRead.{among_insert}
+use Rattle.disk_laws.proofs.ReadRecords.{among_insert}
 use Rattle.disk_laws.proofs.Rises.{rise_inserted}
 use Rattle.disk_laws.proofs.SiteLeft.{each_counted, marked, none_counts, owner_counts, owner_is}
 use Rattle.disk_laws.proofs.SiteOnce.{Known, pasts_known}

@@ -37,7 +37,7 @@ use Rattle.site_history.proofs.Doubtful.{doubts_are}
 use Rattle.site_history.proofs.InOrderPasts.{orders_past}
 use Rattle.site_history.proofs.SummedPasts.{pasts_summed}
 use Rattle.disk_laws.specs.Left.{OfSites, OfGoodSites, AttemptsAreOnce, LocalsArePartedFromGlobals}
-use Rattle.disk_laws.proofs.CoordRead.{among_insert}
+use Rattle.disk_laws.proofs.ReadRecords.{among_insert}
 use Rattle.site_history.proofs.Founded.{foundation}
 use Rattle.disk_laws.proofs.SiteLeft.{counts}
 use Rattle.disk_laws.proofs.SiteRead.{Counts, Whole, Behind, count_behind, count_founded, counts_as, doubt_read}

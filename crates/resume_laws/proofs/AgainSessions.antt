@@ -35,6 +35,7 @@ use Rattle.coord_laws.specs.FoundCoordinators.{RiseBySite}
 use Rattle.coord_laws.proofs.CoordRestarts.{going_tells}
 use Rattle.commit_laws.proofs.Declared.{protocols_rise, rising_on, rising_over}
 use Rattle.sum_laws.proofs.ReadAs.{coordinators_read}
+use Rattle.sum_laws.proofs.ReadAs.{some_coord_frame}
 use Rattle.resume_laws.specs.Again.{HasRoom, StoppedSessionsKeepOutcomes, StoppedSessionsRest, UsableSessionsLeaveUsable, left_again}
 use Rattle.resume_laws.specs.FoundSessions.{AreOfDisks, AreUsable, IsOfFormat}
 use Rattle.resume_laws.proofs.CoordAgain as CoordinatorAgain
@@ -152,7 +153,7 @@ module _ (found : Found) (u : AreUsable found) where
 
   pub coord_going : (commands : List Command) → IsGoingCoord members first_records (Coordinator.journal (coord_past (story_in session commands)))
   coord_going commands =
-      Disks.holds_of coord_frame CoordinatorAgain.some_frame CoordinatorAgain.IsAny (IsGoingCoord members first_records) (λ r. tt) (CoordinatorAgain.cut members first_records)
+      Disks.holds_of coord_frame some_coord_frame CoordinatorAgain.IsAny (IsGoingCoord members first_records) (λ r. tt) (CoordinatorAgain.cut members first_records)
       (Coordinator.disk (coord_past (story_in session commands))) (coord_stands commands)
 
   -- ---- the sites

@@ -1,5 +1,5 @@
 -- Whatever happens at a coordinator that goes on from a usable journal without transactions, stops included: its journal stays one that is usable.
-use Rattle.std.proofs.Common.{append-nil, ◌⊎◌, ◌≡◌, ℕ, ◌<◌, Bool, true, false, cond, is_some, not, ◌&&◌, Option, Some, None, List, [], ◌∷◌, ◌++◌, refl, sym, ap, ap₂, subst, ◌∙◌, inl, inr, arith}
+use Rattle.std.proofs.Common.{append-nil, ◌⊎◌, ◌≡◌, ℕ, Bool, true, false, cond, is_some, not, ◌&&◌, Option, Some, None, List, [], ◌∷◌, ◌++◌, refl, sym, ap, ap₂, subst, ◌∙◌, inl, inr, arith}
 use Rattle.mdb_base.specs.declared.names.SiteId.{SiteId}
 use Rattle.mdb_base.specs.declared.names.Tid.{Tid}
 use Rattle.mdb_base.specs.declared.replies.Reply.{Reply}
@@ -26,6 +26,8 @@ use Rattle.fed_rules.specs.Policies.{Policy}
 use Rattle.fed_rules.specs.Reopened.{opened_coordinator}
 use Rattle.fed_rules.specs.Usable.{IsAttemptOf, IsEndOf, coord_read}
 use Rattle.rules_laws.proofs.CoordPasts.{BeginsNothing}
+use Rattle.coord_laws.proofs.RecordLists.{end_among}
+use Rattle.sum_laws.proofs.ReadAs.{some_coord_frame}
 use Rattle.coord_laws.specs.Pasts.{IsGoingOn, IsOpened}
 use Rattle.coord_laws.proofs.Facts.{is_undecided}
 use Rattle.coord_laws.proofs.Past.{any_member, past_sound}
@@ -44,9 +46,6 @@ use Rattle.resume_laws.proofs.CoordGentle.{NobodyIsOpen, closed_standing}
 use Rattle.resume_laws.proofs.CoordMore.{IsGoingCoord, coord_alone, coord_checked, coord_ended, coord_front}
 use Rattle.resume_laws.proofs.Stands as Disks
 
-pub some_frame : (r : CoordRecord) → 0 < coord_frame r
-some_frame r = omega arith
-
 abbrev pub IsAny : List CoordRecord → Type 0
 IsAny base = Unit {0}
 
@@ -56,24 +55,12 @@ cut protocols found x newer base b u = coord_front protocols found x (newer ++ b
 
 module _ (protocols : List Participant) (found : List CoordRecord) where
   abbrev pub StandsSo : Disk CoordRecord → Type 0
-  StandsSo d = Disks.Stands coord_frame some_frame IsAny (IsGoingCoord protocols found) (λ r. tt) (cut protocols found) d
+  StandsSo d = Disks.Stands coord_frame some_coord_frame IsAny (IsGoingCoord protocols found) (λ r. tt) (cut protocols found) d
 
   abbrev pub GoesSo : Disk CoordRecord → List (Call CoordRecord) → Type 0
-  GoesSo d calls = Disks.Goes coord_frame some_frame IsAny (IsGoingCoord protocols found) (λ r. tt) (cut protocols found) d calls
+  GoesSo d calls = Disks.Goes coord_frame some_coord_frame IsAny (IsGoingCoord protocols found) (λ r. tt) (cut protocols found) d calls
 
 -- ---- who is decided is open in the Sum of the journal
-
-end_of : (g : Tid) (rs : List CoordRecord) → has_end rs g ≡ true → Among (IsEndOf g) rs
-end_of g [] e = cc
-end_of g (Rec.End t ∷ rs) e = by_test (same_tid t g) refl e (end_of g rs)
-  where
-    by_test : (b : Bool) → same_tid t g ≡ b → cond b true (has_end rs g) ≡ true → (has_end rs g ≡ true → Among (IsEndOf g) rs) → Among (IsEndOf g) (Rec.End t ∷ rs)
-    by_test true q h rest = inl (same_tid-equal t g q)
-    by_test false q h rest = inr (rest h)
-end_of g (Rec.Initiation t ms ∷ rs) e = inr (end_of g rs e)
-end_of g (Rec.Commit t ks ∷ rs) e = inr (end_of g rs e)
-end_of g (Rec.Abort t ms ∷ rs) e = inr (end_of g rs e)
-end_of g (Rec.Checkpoint sum ∷ rs) e = inr (end_of g rs e)
 
 named_among : (protocols : List Participant) (g : Tid) (rs : List CoordRecord) → is_some (named protocols rs g) ≡ true → Among (IsAttemptOf g.tx) rs
 named_among protocols g [] e = cc
@@ -121,7 +108,7 @@ module _ (protocols : List Participant) (policy : Policy) (past : CoordPast) (ma
     where
       by_end : (b : Bool) → has_end (records past) g ≡ b → has_end (records past) g ≡ false
       by_end false e = e
-      by_end true e = absurd (past_ended protocols policy g past made (end_of g (records past) e) d known)
+      by_end true e = absurd (past_ended protocols policy g past made (end_among g (records past) e) d known)
 
 -- ---- the lines
 
@@ -134,7 +121,7 @@ module _ (protocols : List Participant) (rise : RiseBySite protocols) (found : L
   js = journal past
 
   here : IsGoingCoord protocols found js
-  here = Disks.holds_of coord_frame some_frame IsAny (IsGoingCoord protocols found) (λ r. tt) (cut protocols found) d s
+  here = Disks.holds_of coord_frame some_coord_frame IsAny (IsGoingCoord protocols found) (λ r. tt) (cut protocols found) d s
 
   abbrev js_found : Journal CoordRecord
   js_found = record { records = js; torn = 0 }
@@ -272,7 +259,7 @@ module _ (protocols : List Participant) (rise : RiseBySite protocols) (found : L
   answered_goes Ev.Check i = check_goes
 
   tripped_goes : (y : CoordHappening) → Goes y.calls → Goes (tripped coord_frame d (trip past) y).calls
-  tripped_goes y g = Disks.goes_tripped coord_frame some_frame IsAny (IsGoingCoord protocols found) (λ r. tt) (cut protocols found) d (trip past) y g
+  tripped_goes y g = Disks.goes_tripped coord_frame some_coord_frame IsAny (IsGoingCoord protocols found) (λ r. tt) (cut protocols found) d (trip past) y g
 
   while_up : (event : CoordEvent) → BeginsNothing event
       → Goes (when (is_down past) (quiet event Say.Down) (tripped coord_frame d (trip past) (answered protocols policy past event))).calls
@@ -292,7 +279,7 @@ module _ (protocols : List Participant) (rise : RiseBySite protocols) (found : L
 
   pub coord_next : (event : CoordEvent) → BeginsNothing event → StandsSo protocols found (disk (coord_line protocols policy past event ∷ past))
   coord_next event i =
-      Disks.goes_calls coord_frame some_frame IsAny (IsGoingCoord protocols found) (λ r. tt) (cut protocols found) d (coord_line protocols policy past event).calls (line_goes event i) s
+      Disks.goes_calls coord_frame some_coord_frame IsAny (IsGoingCoord protocols found) (λ r. tt) (cut protocols found) d (coord_line protocols policy past event).calls (line_goes event i) s
 
 -- ---- from the opening on
 

@@ -24,7 +24,8 @@ use Rattle.coord_laws.proofs.Cycles.{commit_behind}
 use Rattle.disk_laws.proofs.CoordFormat.{HasRisingMembers, opened_rising}
 use Rattle.disk_laws.proofs.CoordLeft.{IsNaming, committed_names, opened_names}
 use Rattle.disk_laws.proofs.CoordLists.{is_of_open}
-use Rattle.disk_laws.proofs.CoordRead.{Behind, Commits, committed_from, fewer_cycles, once_front, open_from, read_acyclic, read_once, sum_stands}
+use Rattle.disk_laws.proofs.ReadRecords.{Behind, Commits, committed_from, open_from}
+use Rattle.disk_laws.proofs.CoordRead.{fewer_cycles, once_front, read_acyclic, read_once, sum_stands}
 use Rattle.disk_laws.proofs.Named.{older_fit, read_first, sum_names}
 
 pub read_more : (r next : CoordRecord) (older : List CoordRecord) → coord_read (r ∷ next ∷ older) ≡ r ∷ coord_read (next ∷ older)

@@ -1,5 +1,5 @@
 -- The disks that a session leaves that began with empty disks: a session goes on from them, and from what a stop leaves of that one.
-use Rattle.std.proofs.Common.{◌≡◌, ℕ, suc, ◌+◌, ◌≤◌, ◌<◌, ◌^◌, ◌⊎◌, Bool, true, false, cond, Some, List, [], ◌∷◌, length, refl, sym, ap, subst, ◌∙◌, inl, inr, arith}
+use Rattle.std.proofs.Common.{◌≡◌, ℕ, ◌+◌, ◌≤◌, ◌<◌, ◌^◌, ◌⊎◌, Bool, true, false, cond, Some, List, [], ◌∷◌, length, refl, sym, ap, subst, ◌∙◌, inl, inr, arith}
 use Rattle.mdb_base.specs.declared.names.SiteId.{SiteId}
 use Rattle.mdb_base.specs.declared.names.Tid.{Tid}
 use Rattle.mdb_base.specs.Names.{same_site}
@@ -7,7 +7,7 @@ use Rattle.mdb_base.specs.Rising.{IsRising}
 use Rattle.mdb_base.specs.Words.{Each}
 use Rattle.fed_rules.specs.declared.commands.Command.{Command}
 use Rattle.fed_rules.specs.declared.records.SiteRecord.{SiteRecord}
-use Rattle.fed_rules.specs.declared.records.SiteRecord.TheVariants.{Setup, Start, Prepared, Ended, Local, Checkpoint}
+use Rattle.fed_rules.specs.declared.records.SiteRecord.TheVariants.{Checkpoint}
 use Rattle.fed_rules.specs.declared.scenario.ItemLine.{ItemLine}
 use Rattle.fed_rules.specs.declared.scenario.Scenario.{Scenario}
 use Rattle.fed_rules.specs.declared.scenario.SiteLine.{SiteLine}
@@ -30,10 +30,11 @@ use Rattle.site_history.specs.SiteOrders.{OfSortedEvents}
 use Rattle.site_history.proofs.SitesOfStories.{of_events}
 use Rattle.site_history.specs.Sums.{JournalSaysAll}
 use Rattle.site_history.proofs.SummedPasts.{journals_say_all}
+use Rattle.disk_laws.proofs.SiteBounds.{epoch_below}
 use Rattle.disk_laws.proofs.AllRules.{usable_coordinators, usable_sites}
 use Rattle.disk_laws.proofs.Apart.{locals_not_named}
 use Rattle.disk_laws.proofs.CoordFormat.{leave_members}
-use Rattle.disk_laws.proofs.SiteBounds.{AreBelow, IsBelow, pasts_below}
+use Rattle.disk_laws.proofs.SiteBounds.{AreBelow, pasts_below}
 use Rattle.rules_laws.proofs.PastLengths.{past_short}
 use Rattle.disk_laws.proofs.SiteFormat.{HasFormat, pasts_format}
 use Rattle.disk_laws.proofs.SiteLeft.{counts, first_founded, first_is}
@@ -115,15 +116,6 @@ module _ (scenario : Scenario) (good : IsScenario scenario) (commands : List Com
       by_journal (newest ∷ older) u e =
           epoch_same home (newest ∷ older) (epoch_of (read (newest ∷ older))) (past_of home.site (story_of scenario commands)) newest older u e
 
-  epoch_most : (n : ℕ) (rs : List SiteRecord) → Each (IsBelow n) rs → epoch_of rs ≤ suc n
-  epoch_most n [] b = omega arith
-  epoch_most n (Start e ∷ rs) b = b.0
-  epoch_most n (Setup site engine protocol items ∷ rs) b = epoch_most n rs b.1
-  epoch_most n (Prepared t e m k w ∷ rs) b = epoch_most n rs b.1
-  epoch_most n (Ended t d ∷ rs) b = epoch_most n rs b.1
-  epoch_most n (Local t m w ∷ rs) b = epoch_most n rs b.1
-  epoch_most n (Checkpoint sum ∷ rs) b = epoch_most n rs b.1
-
   pub left_usable : AreUsable left
   left_usable = record {
     coordinator = journal_on coord_frame (Coordinator.disk (coord_past (story_of scenario commands)));
@@ -147,7 +139,7 @@ module _ (scenario : Scenario) (good : IsScenario scenario) (commands : List Com
       let again = home-again scenario site home declared in
       let past = past_of home.site (story_of scenario commands) in
       let e = epoch_left home again in
-      let most = epoch_most (length past) (records home past) (of_events AreBelow pasts_below scenario commands home.site home again).kept in
+      let most = epoch_below (length past) (records home past) (of_events AreBelow pasts_below scenario commands home.site home again).kept in
       let lines = past_short scenario commands home.site in
       omega (arith, e, most, lines, short, few))
 

@@ -24,6 +24,7 @@ use Rattle.fed_rules.specs.Usable.{IsOfSite, home_of_first, read}
 use Rattle.fed_rules.specs.Disk.{standing}
 use Rattle.fed_rules.specs.Reopened.{first_of}
 use Rattle.fed_rules.specs.Usable.{IsUsableSite}
+use Rattle.sum_laws.proofs.ReadAs.{some_site_frame}
 use Rattle.site_history.specs.Events.{AreSorted}
 use Rattle.site_history.specs.FoundSites.{IsFoundSite}
 use Rattle.site_history.proofs.Journals.{standing_trimmed}
@@ -38,9 +39,6 @@ use Rattle.resume_laws.proofs.Stands as Disks
 abbrev pub IsOne : List SiteRecord → Type 0
 IsOne base = (r : SiteRecord) × (base ≡ r ∷ [])
 
-pub some_frame : (r : SiteRecord) → 0 < site_frame r
-some_frame r = omega arith
-
 pub cut : (home : Home) (found : List SiteRecord) (most : ℕ) (x : SiteRecord) (newer base : List SiteRecord) → IsOne base → IsGoing home found most (x ∷ (newer ++ base))
     → IsGoing home found most (newer ++ base)
 cut home found most x [] base (r, e) u = subst (IsGoing home found most) (sym e) (going_front home found most x r [] (subst (λ b. IsGoing home found most (x ∷ b)) e u))
@@ -48,10 +46,10 @@ cut home found most x (y ∷ newer) base b u = going_front home found most x y (
 
 module _ (home : Home) (found : List SiteRecord) (most : ℕ) where
   abbrev pub StandsSo : Disk SiteRecord → Type 0
-  StandsSo d = Disks.Stands site_frame some_frame IsOne (IsGoing home found most) (λ r. (r, refl)) (cut home found most) d
+  StandsSo d = Disks.Stands site_frame some_site_frame IsOne (IsGoing home found most) (λ r. (r, refl)) (cut home found most) d
 
   abbrev pub GoesSo : Disk SiteRecord → List (Call SiteRecord) → Type 0
-  GoesSo d calls = Disks.Goes site_frame some_frame IsOne (IsGoing home found most) (λ r. (r, refl)) (cut home found most) d calls
+  GoesSo d calls = Disks.Goes site_frame some_site_frame IsOne (IsGoing home found most) (λ r. (r, refl)) (cut home found most) d calls
 
 -- the journal is usable, and a site that is up has started
 pub record Again (home : Home) (found : List SiteRecord) (most : ℕ) (past : SitePast) : Type 0 where
@@ -77,7 +75,7 @@ module _ (home : Home) (found : List SiteRecord) (most : ℕ) (past : SitePast) 
   d = disk home past
 
   here : IsGoing home found most (journal home past)
-  here = Disks.holds_of site_frame some_frame IsOne (IsGoing home found most) (λ r. (r, refl)) (cut home found most) d a.stands
+  here = Disks.holds_of site_frame some_site_frame IsOne (IsGoing home found most) (λ r. (r, refl)) (cut home found most) d a.stands
 
   -- what holds behind the journal and a record holds behind the journal on the disk
   with_first : (P : List SiteRecord → Type 0)
@@ -152,7 +150,7 @@ module _ (home : Home) (found : List SiteRecord) (most : ℕ) (past : SitePast) 
 
   tripped_goes : (y : SiteHappening) → Goes y.calls → Goes (tripped site_frame d (trip past) y).calls
   tripped_goes y g =
-      Disks.goes_tripped site_frame some_frame IsOne (IsGoing home found (suc most)) (λ r. (r, refl)) (cut home found (suc most)) d (trip past) y g
+      Disks.goes_tripped site_frame some_site_frame IsOne (IsGoing home found (suc most)) (λ r. (r, refl)) (cut home found (suc most)) d (trip past) y g
 
   while_up : (event : SiteEvent) (y : SiteHappening) → (is_down past ≡ false → Goes y.calls)
       → Goes (when (is_down past) (quiet event Say.Down) (tripped site_frame d (trip past) y)).calls
@@ -234,7 +232,7 @@ module _ (home : Home) (found : List SiteRecord) (most : ℕ) (past : SitePast) 
 
   pub again_next : (event : SiteEvent) → IsResuming event → Again home found (suc most) (site_line home past event ∷ past)
   again_next event i = record {
-    stands = Disks.goes_calls site_frame some_frame IsOne (IsGoing home found (suc most)) (λ r. (r, refl)) (cut home found (suc most)) d (site_line home past event).calls
+    stands = Disks.goes_calls site_frame some_site_frame IsOne (IsGoing home found (suc most)) (λ r. (r, refl)) (cut home found (suc most)) d (site_line home past event).calls
         (line_goes event i) (more home found most d a.stands);
     up = line_up event i;
   }
@@ -296,5 +294,5 @@ module _ (home : Home) (local : Tx → Bool) (found : Journal SiteRecord) (f : I
   pub journal_again : (events : List SiteEvent) → Each IsResuming events → AreSorted local events → least + length events < 2 ^ 31
       → IsGoing home found.records (least + length events) (journal home (site_past_on home (opened_site found) events))
   journal_again events i sorted few =
-      Disks.holds_of site_frame some_frame IsOne (IsGoing home found.records (least + length events)) (λ r. (r, refl)) (cut home found.records (least + length events))
+      Disks.holds_of site_frame some_site_frame IsOne (IsGoing home found.records (least + length events)) (λ r. (r, refl)) (cut home found.records (least + length events))
       (disk home (site_past_on home (opened_site found) events)) (again_on events i sorted few).stands

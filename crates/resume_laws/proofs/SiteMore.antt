@@ -13,7 +13,7 @@ use Rattle.presumptions.specs.declared.Decision.TheVariants as Decided
 use Rattle.fed_rules.specs.declared.records.SiteRecord.{SiteRecord}
 use Rattle.fed_rules.specs.declared.records.SiteRecord.TheVariants.{Setup, Start, Prepared, Ended, Local, Checkpoint}
 use Rattle.fed_rules.specs.declared.sums.SiteSum.{SiteSum}
-use Rattle.fed_rules.specs.EngineLines.{AllApart, AreApart}
+use Rattle.fed_rules.specs.EngineLines.{AllApart}
 use Rattle.fed_rules.specs.Reopened.{first_of, local_read}
 use Rattle.fed_rules.specs.SiteRecords.{Held, Home, Install, doubt_of, doubts, epoch_of, install_held, installs, kept_held}
 use Rattle.fed_rules.specs.SiteSums.{carried, site_sum}
@@ -26,6 +26,7 @@ use Rattle.disk_laws.proofs.SiteLeft.{AreHeld}
 use Rattle.disk_laws.proofs.SiteOnce.{OneOfTx, once_carried}
 use Rattle.disk_laws.proofs.SiteRead.{counts_as}
 use Rattle.resume_laws.proofs.SumFacts.{counted_more}
+use Rattle.disk_laws.proofs.SiteDrawers.{doubt_numbers}
 
 -- ---- fronts
 
@@ -263,18 +264,6 @@ local_counts tx n [] [] m = m
 local_counts tx n [] (t ∷ ts) (inl e) = inl e
 local_counts tx n [] (t ∷ ts) (inr m) = inr (local_counts tx n [] ts m)
 
-numbers_of : (hs : List Held) → AllApart (map kept_held hs) → Distinct (map (λ (held : Held). held.number) hs)
-numbers_of [] all = tt
-numbers_of (h ∷ hs) all = (apart hs all.0, numbers_of hs all.1)
-  where
-    apart : (xs : List Held) → Each (AreApart (kept_held h)) (map kept_held xs) → In h.number (map (λ (held : Held). held.number) xs) → ⊥
-    apart [] a i = i
-    apart (x ∷ xs) a (inr i) = apart xs a.1 i
-    apart (x ∷ xs) a (inl e) = elim a.0.order [
-      | inl o ↦ (let less = o.0 in omega (arith, less, e))
-      | inr o ↦ (let less = o.0 in omega (arith, less, e))
-    ]
-
 pub usable_alone : (number : ℕ) (sum : SiteSum) → sum.site.0 ≡ number → IsBelow (Checkpoint sum) → IsWithin sum → IsSumOfSome sum → 1 ≤ sum.epoch
     → AllApart (map kept_held sum.doubtful) → OneOfTx sum.locals → AreHeld (counts_as sum)
     → ((tx : Tx) → Among (λ (t : Tid). t.tx ≡ tx) sum.locals → IsGlobalOf tx (Checkpoint sum) → ⊥) → IsUsableSite number (Checkpoint sum ∷ [])
@@ -286,7 +275,7 @@ usable_alone number sum site below within some one apart once held parted = reco
   sums = tt;
   epochs = (one, omega arith, tt);
   once = once_carried sum.counter sum.doubtful sum.locals apart once;
-  numbers_differ = numbers_of sum.doubtful apart;
+  numbers_differ = doubt_numbers sum.doubtful apart;
   tickets_rise = tt;
   parted = λ tx m g. by_both tx m g;
   doubts_apart = (held.apart, (λ a b i j other. absurd i));

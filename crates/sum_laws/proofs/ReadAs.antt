@@ -39,8 +39,8 @@ use Rattle.coord_laws.proofs.UsableCoordinators.{names_declared, usable_go_on}
 
 -- ---- a site
 
-some_frame : (r : SiteRecord) → 0 < site_frame r
-some_frame r = omega arith
+pub some_site_frame : (r : SiteRecord) → 0 < site_frame r
+some_site_frame r = omega arith
 
 expanded_bytes : (newest : SiteRecord) (older below : List SiteRecord)
     → bytes_of site_frame (expanded site_reads_as newest older ++ below) ≡ bytes_of site_frame (newest ∷ older) + bytes_of site_frame (site_reads_as (oldest newest older) ++ below)
@@ -125,7 +125,7 @@ sites_read home local journal f = by_records journal.records journal.torn f
         let short = Sites.torn_short torn in
         let is = disk_is home newest older torn in
         let stands : Site.journal home (opened_site found) ≡ newest ∷ older =
-        ap (Disks.journal site_frame) is ∙ opened_journal site_frame site_reads_as newest older (long_site torn) torn (Site.disk home []) short base some_frame in
+        ap (Disks.journal site_frame) is ∙ opened_journal site_frame site_reads_as newest older (long_site torn) torn (Site.disk home []) short base some_site_frame in
         let length : (Site.disk home (opened_site found)).length ≡ bytes_of site_frame (expanded site_reads_as newest older ++ foundation home) + torn =
         ap (λ (d : Disk SiteRecord). d.length) is ∙ opened_length site_frame site_reads_as newest older (long_site torn) torn (Site.disk home []) short base in
         let trimmed : (Site.disk home (opened_site found)).trimmed ≡ bytes_of site_frame (site_reads_as (oldest newest older) ++ foundation home) =
@@ -159,7 +159,7 @@ expanded_coord_bytes : (newest : CoordRecord) (older below : List CoordRecord)
 expanded_coord_bytes first [] below = omega arith
 expanded_coord_bytes newest (next ∷ older) below = let h = expanded_coord_bytes next older below in omega (arith, h)
 
-some_coord_frame : (r : CoordRecord) → 0 < coord_frame r
+pub some_coord_frame : (r : CoordRecord) → 0 < coord_frame r
 some_coord_frame r = omega arith
 
 pub coordinators_read : CoordinatorsAreReadAs

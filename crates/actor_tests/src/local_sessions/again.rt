@@ -3,9 +3,8 @@ ghost use Rattle.std.specs.Prelude.{◌≡◌, ◌≤◌, ◌+◌, OnOk};
 ghost use Rattle.journal_disk.specs.MemDisk.{mem_size};
 ghost use Rattle.actor_tests.specs.LocalSessions.{IsOfLines};
 
-use super::{
-    GET_5, GLOBAL, OTHER, SET_5_TO_7, SET_6_TO_1, SITE, asks, global_site, is_doubtful, local_site,
-};
+use super::faults::is_doubtful;
+use super::{GET_5, GLOBAL, OTHER, SET_5_TO_7, SET_6_TO_1, SITE, asks, global_site, local_site};
 use any_engine::AnyEngine;
 use fed_rules::{Command, SiteRecord};
 use journal_disk::MemDisk;
