@@ -71,6 +71,16 @@ pub record Keeps {R : Type 0} (spelling : R → List ℕ) (is_record : R → Typ
   pub armed : IsArmed store.trip
   pub in_order : IsInOrder store.standing store.journal rules
 
+-- an image stands for this disk of the rules, all of which is synced, as a stop leaves it, and each record of it is one of the format
+pub record IsFoundAs {R : Type 0} (spelling : R → List ℕ) (is_record : R → Type 0) (frame_bytes : R → ℕ) (image : Image) (rules : Disk R) : Type 0 where
+  pub stands : StandsFor spelling frame_bytes image rules
+  pub written : AllByRecursion is_record rules.records
+  pub front : rules.trimmed ≤ rules.synced
+  pub synced : rules.synced ≡ rules.length
+
+abbrev pub SomeFound : {R : Type 0} → (R → List ℕ) → (R → Type 0) → (R → ℕ) → Image → Type 0
+SomeFound {R} spelling is_record frame_bytes image = (rules : Disk R) × IsFoundAs spelling is_record frame_bytes image rules
+
 -- it stands for some disk
 abbrev pub SomeKept : {R : Type 0} → (Disk R → Option Trip → Type 0) → Type 0
 SomeKept {R} K = (rules : Disk R) × (trip : Option Trip) × K rules trip

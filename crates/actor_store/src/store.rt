@@ -5,7 +5,7 @@ ghost use Rattle.fed_rules.specs.Disk.{Append, CutBack, Sync, TrimFront, Disk as
 ghost use Rattle.fed_rules.specs.Happenings.{Trip as RulesTrip};
 ghost use Rattle.frame_journal.specs.Journal.{EndsWith, HasRoom, new_journal, records, with_entry, with_room_for, written_size};
 ghost use Rattle.journal_disk.specs.Frames.{IsPayload};
-ghost use Rattle.actor_store.specs.Store.{Counts, Ends, Keeps, SomeKept, StopsWith, cut_calls, is_failing, is_up, stored, trip_to};
+ghost use Rattle.actor_store.specs.Store.{Counts, Ends, IsFoundAs, Keeps, SomeFound, SomeKept, StopsWith, cut_calls, is_failing, is_up, stored, trip_to};
 
 use crate::errors::StepErr;
 use frame_journal::{Format, Journal};
@@ -56,6 +56,29 @@ impl<R: Drop, F: Format<R>> Store<R, F> {
             journal: Journal::new(alloc),
             trip: None,
             standing: Standing::Up,
+        }
+    }
+
+    /// The store of an actor that is down, whose journal is found on the disk. The disk isn't changed.
+    pub fn found<D: Disk>(alloc: Global, disk: &mut D) -> Result<Self, StepErr>
+        requires told { IsTrue D.tells }
+        requires found { SomeFound F.spelling F.is_record F.frame_bytes (D.seen disk.old).image }
+        ensures keeps { IfOk result (λ store. (rules : RulesDisk R) → IsFoundAs F.spelling F.is_record F.frame_bytes (D.seen disk.old).image rules
+            → Keeps F.spelling F.is_record F.frame_bytes D.tells (D.seen disk.new) (stored store) rules None) }
+        ensures down { IfOk result (λ store. store.standing ≡ Standing.Down) }
+        ensures image { (D.seen disk.new).image ≡ (D.seen disk.old).image }
+        ensures size { (D.seen disk.new).size ≡ (D.seen disk.old).size }
+        ensures cause { HasCauseOf StepErr.Disk (D.seen disk.old).faults (D.seen disk.new).faults result }
+    {
+        match Journal::load(alloc, disk) {
+            Ok(journal) => Ok(Store {
+                journal,
+                trip: None,
+                standing: Standing::Down,
+            }),
+            Err(JournalErr::Failed) => Err(StepErr::Disk),
+            Err(JournalErr::Memory) => Err(StepErr::Memory),
+            Err(JournalErr::Malformed { .. } | JournalErr::Damaged { .. }) => unreachable!(),
         }
     }
 

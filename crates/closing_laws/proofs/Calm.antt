@@ -9,7 +9,6 @@ use Rattle.mdb_base.specs.Names.{same_tid}
 use Rattle.mdb_base.specs.Words.{when, pick}
 use Rattle.mdb_base.proofs.Words.{when-false, cond-true, cond-false}
 use Rattle.presumptions.specs.declared.Decision.{Decision}
-use Rattle.presumptions.specs.declared.Decision.TheVariants as Decided_as
 use Rattle.presumptions.specs.declared.Participant.{Participant}
 use Rattle.fed_rules.specs.declared.answers.Answer.{Answer}
 use Rattle.fed_rules.specs.declared.answers.Answer.TheVariants as Say
@@ -20,7 +19,6 @@ use Rattle.fed_rules.specs.declared.events.SiteEvent.TheVariants as Ev
 use Rattle.fed_rules.specs.declared.messages.FromSite.{FromSite}
 use Rattle.fed_rules.specs.declared.messages.FromSite.TheVariants as From
 use Rattle.fed_rules.specs.declared.messages.ToSite.{ToSite}
-use Rattle.fed_rules.specs.declared.records.SiteRecord.TheVariants as Rec
 use Rattle.fed_rules.specs.Coord as Coord
 use Rattle.fed_rules.specs.Coord.{coord_line}
 use Rattle.fed_rules.specs.CoordPast as Coordinator

@@ -61,6 +61,17 @@ IsOfOthers tx (Cmd.Commit other) = same_tx other tx ≡ false
 IsOfOthers tx (Cmd.Go other) = same_tx other tx ≡ false
 IsOfOthers tx command = Unit {0}
 
+-- a command that begins no attempt of the transaction
+abbrev pub BeginsNoneOf : Tx → Command → Type 0
+BeginsNoneOf tx (Cmd.Begin other) = same_tx other tx ≡ false
+BeginsNoneOf tx (Cmd.Go other) = same_tx other tx ≡ false
+BeginsNoneOf tx command = Unit {0}
+
+begins_none : (tx : Tx) (command : Command) → IsOfOthers tx command → BeginsNoneOf tx command
+begins_none tx (Cmd.Begin other) o = o
+begins_none tx (Cmd.Go other) o = o
+begins_none tx command o = tt
+
 -- no attempt of it is undecided
 abbrev pub AreDecided : Scenario → Tx → Story → Type 0
 AreDecided scenario tx story = (t : Tid) → same_tx t.tx tx ≡ true → is_undecided (standing (protocols scenario) (coord_past story) t) ≡ false
@@ -133,10 +144,10 @@ wrote_commit scenario g past event (Coord_record.Commit t tickets ∷ rs) w (inl
 wrote_commit scenario g past event (r ∷ rs) w (inl e) = absurd e
 wrote_commit scenario g past event (r ∷ rs) w (inr i) = wrote_commit scenario g past event rs w.1 i
 
-module _ (scenario : Scenario) (story : Story) (command : Command) (tx : Tx) (others : IsOfOthers tx command) where
-  clash : (other : Tx) → same_tx other tx ≡ false → same_tx other tx ≡ true → ⊥
-  clash other e f = (let same = sym e ∙ f in cc)
+clash : (tx other : Tx) → same_tx other tx ≡ false → same_tx other tx ≡ true → ⊥
+clash tx other e f = (let same = sym e ∙ f in cc)
 
+module _ (scenario : Scenario) (story : Story) (command : Command) (tx : Tx) (others : IsOfOthers tx command) where
   -- it makes no site commit an attempt of the transaction
   no_commit : (home : Home) (t : Tid) → SiteCause scenario home story command (Site_event.Commit t) → same_tx t.tx tx ≡ true → ⊥
   no_commit home t c same = by_command command others c
@@ -148,7 +159,7 @@ module _ (scenario : Scenario) (story : Story) (command : Command) (tx : Tx) (ot
           let is = c.asks.is in
           let own : t ≡ c.asks.tid = cc in
           let of_other = same_tx-equal c.asks.tid.tx other (live_of_tx-is home (past_of home.site story) other c.asks.tid c.asks.is_live.found) in
-          clash other o (subst (λ z. same_tx z tx ≡ true) (ap (λ (u : Tid). u.tx) own ∙ of_other) same)
+          clash tx other o (subst (λ z. same_tx z tx ≡ true) (ap (λ (u : Tid). u.tx) own ∙ of_other) same)
       by_command (Cmd.Abort other) o c = let is = c.asks.is in cc
       by_command (Cmd.Fate other) o c = let is = c.asks in cc
       by_command (Cmd.Give site place) o c = let is = c.1.is in cc
@@ -163,12 +174,13 @@ module _ (scenario : Scenario) (story : Story) (command : Command) (tx : Tx) (ot
       by_command (Cmd.Late tid) o c = c
       by_command (Cmd.Take site place) o c = c
 
-  -- nor begin one
-  no_begin : (home : Home) (event : SiteEvent) → SiteCause scenario home story command event → IsBeginOf tx event → ⊥
-  no_begin home event c b = by_command command others c
+module _ (scenario : Scenario) (story : Story) (command : Command) (tx : Tx) (none : BeginsNoneOf tx command) where
+  -- it makes no site begin an attempt of the transaction
+  pub no_begin : (home : Home) (event : SiteEvent) → SiteCause scenario home story command event → IsBeginOf tx event → ⊥
+  no_begin home event c b = by_command command none c
     where
-      by_command : (k : Command) → IsOfOthers tx k → SiteCause scenario home story k event → ⊥
-      by_command (Cmd.Begin other) o c = clash other o (subst (IsBeginOf tx) c.asks.is b)
+      by_command : (k : Command) → BeginsNoneOf tx k → SiteCause scenario home story k event → ⊥
+      by_command (Cmd.Begin other) o c = clash tx other o (subst (IsBeginOf tx) c.asks.is b)
       by_command (Cmd.Step other) o c = subst (IsBeginOf tx) c.asks.is b
       by_command (Cmd.Commit other) o c = subst (IsBeginOf tx) c.asks.is b
       by_command (Cmd.Abort other) o c = subst (IsBeginOf tx) c.asks.is b
@@ -186,11 +198,11 @@ module _ (scenario : Scenario) (story : Story) (command : Command) (tx : Tx) (ot
       by_command (Cmd.Take site place) o c = c
 
   -- and doesn't make the coordinator begin one
-  no_go : (t : Tid) (steps : List Step) → CoordCause scenario story command (Coord_event.Go t steps) → same_tx t.tx tx ≡ true → ⊥
-  no_go t steps c same = by_command command others c
+  pub no_go : (t : Tid) (steps : List Step) → CoordCause scenario story command (Coord_event.Go t steps) → same_tx t.tx tx ≡ true → ⊥
+  no_go t steps c same = by_command command none c
     where
-      by_command : (k : Command) → IsOfOthers tx k → CoordCause scenario story k (Coord_event.Go t steps) → ⊥
-      by_command (Cmd.Go other) o c = let is = c.is in let own : t.tx ≡ other = cc in clash other o (subst (λ z. same_tx z tx ≡ true) own same)
+      by_command : (k : Command) → BeginsNoneOf tx k → CoordCause scenario story k (Coord_event.Go t steps) → ⊥
+      by_command (Cmd.Go other) o c = let is = c.is in let own : t.tx ≡ other = cc in clash tx other o (subst (λ z. same_tx z tx ≡ true) own same)
       by_command (Cmd.Fate other) o c = let is = c.is in cc
       by_command (Cmd.Again tid) o c = cc
       by_command (Cmd.Late tid) o c = cc
@@ -216,6 +228,37 @@ pub begun_is : (a : Answer) (t : Tid) → begun_by a ≡ Some t → begins t a �
 begun_is (Say.Begun u) t e = let same : u ≡ t = cc in subst (λ v. same_tid v t ≡ true) (sym same) (same_tid-refl t)
 begun_is a t e = cc
 
+-- what one command leaves, whosever it is
+module _ (scenario : Scenario) (commands : List Command) (command : Command) where
+  -- at a site a record Local stays
+  pub local_stays : (tx : Tx) (home : Home) → home_of scenario home.site ≡ Some home → (x : SiteHappening)
+      → happens scenario (story_of scenario commands) command ≡ AtSite home.site x
+      → Among (IsLocalOf tx) (records home (past_of home.site (story_of scenario commands)))
+      → Among (IsLocalOf tx) (records home (x ∷ past_of home.site (story_of scenario commands)))
+  local_stays tx home declared x told i = by_kept (next-line scenario commands home declared x (command, told) (record { tx = tx; attempt = 0 })).1.line.kept
+    where
+      past : SitePast
+      past = past_of home.site (story_of scenario commands)
+
+      by_kept : {g : Tid} {e : SiteEvent} → Kept home g past e (records home (x ∷ past)) → Among (IsLocalOf tx) (records home (x ∷ past))
+      by_kept (inl (r, w, is)) = subst (Among (IsLocalOf tx)) (sym is) (inr i)
+      by_kept (inr cut) = cut_stays (IsLooseEnded home.protocol) (IsLocalOf tx) (forced_local home tx) (records home past) (records home (x ∷ past)) cut i
+
+  -- at the coordinator
+  module _ (x : CoordHappening) (told : happens scenario (story_of scenario commands) command ≡ AtCoordinator x)
+      (line : IsCoordLine scenario (story_of scenario commands) command x) where
+    abbrev before : CoordPast
+    before = coord_past (story_of scenario commands)
+
+    pub turn_line : (t : Tid) → Line (protocols scenario) t before line.event x
+    turn_line t =
+        let turned = next-turn scenario commands x (command, told) t in
+        subst (Line (protocols scenario) t before line.event) (sym line.is_next) (coord_lines (protocols scenario) (policy scenario) t before line.event turned.1.sound.firm)
+
+    -- a Commit record stays
+    pub commit_stays : (t : Tid) → Among (IsCommit t) (Coordinator.records before) → Among (IsCommit t) (Coordinator.records (x ∷ before))
+    commit_stays t i = kept_stays (protocols scenario) t before line.event (Coordinator.records (x ∷ before)) (IsCommit t) (end_commit t) (turn_line t).kept i
+
 -- one command
 module _ (scenario : Scenario) (commands : List Command) (command : Command) (tx : Tx) (others : IsOfOthers tx command) where
   abbrev story : Story
@@ -226,13 +269,6 @@ module _ (scenario : Scenario) (commands : List Command) (command : Command) (tx
       (event : SiteEvent) (is_next : x ≡ site_line home (past_of home.site story) event) (cause : SiteCause scenario home story command event) where
     abbrev past : SitePast
     past = past_of home.site story
-
-    local_stays : Among (IsLocalOf tx) (records home past) → Among (IsLocalOf tx) (records home (x ∷ past))
-    local_stays i = by_kept (next-line scenario commands home declared x (command, told) (record { tx = tx; attempt = 0 })).1.line.kept
-      where
-        by_kept : {g : Tid} {e : SiteEvent} → Kept home g past e (records home (x ∷ past)) → Among (IsLocalOf tx) (records home (x ∷ past))
-        by_kept (inl (r, w, is)) = subst (Among (IsLocalOf tx)) (sym is) (inr i)
-        by_kept (inr cut) = cut_stays (IsLooseEnded home.protocol) (IsLocalOf tx) (forced_local home tx) (records home past) (records home (x ∷ past)) cut i
 
     local_was : Among (IsLocalOf tx) (records home (x ∷ past)) → Among (IsLocalOf tx) (records home past)
     local_was i = let (r, j, own) = among_is (IsLocalOf tx) (records home (x ∷ past)) i in by_record r j own
@@ -253,7 +289,7 @@ module _ (scenario : Scenario) (commands : List Command) (command : Command) (tx
     same_local : is_some (local_of (records home (x ∷ past)) tx) ≡ is_some (local_of (records home past) tx)
     same_local =
         tests_agree _ _ (λ e. among_local tx (records home past) (local_was (local_among tx (records home (x ∷ past)) e)))
-        (λ e. among_local tx (records home (x ∷ past)) (local_stays (local_among tx (records home past) e)))
+        (λ e. among_local tx (records home (x ∷ past)) (local_stays scenario commands command tx home declared x told (local_among tx (records home past) e)))
 
     same_begun : attempts_of (x ∷ past) tx ≡ attempts_of past tx
     same_begun = by_begun (begins_tx tx x.answer) refl
@@ -262,7 +298,7 @@ module _ (scenario : Scenario) (commands : List Command) (command : Command) (tx
         begins_it = (subst (Begins tx event) (sym is_next) (by_line tx home past event)).begins
 
         by_begun : (b : Bool) → begins_tx tx x.answer ≡ b → cond b (suc (attempts_of past tx)) (attempts_of past tx) ≡ attempts_of past tx
-        by_begun true q = absurd (no_begin scenario story command tx others home event cause (begins_it q))
+        by_begun true q = absurd (no_begin scenario story command tx (begins_none tx command others) home event cause (begins_it q))
         by_begun false q = refl
 
   -- at the coordinator
@@ -270,27 +306,19 @@ module _ (scenario : Scenario) (commands : List Command) (command : Command) (tx
     abbrev own : CoordPast
     own = coord_past story
 
-    turn_line : (t : Tid) → Line (protocols scenario) t own line.event x
-    turn_line t =
-        let turned = next-turn scenario commands x (command, told) t in
-        subst (Line (protocols scenario) t own line.event) (sym line.is_next) (coord_lines (protocols scenario) (policy scenario) t own line.event turned.1.sound.firm)
-
     still_decided : AreDecided scenario tx (record { command = command; happened = AtCoordinator x } ∷ story)
-    still_decided t same = by_stood (turn_line t).stood (closed t same)
+    still_decided t same = by_stood (turn_line scenario commands command x told line t).stood (closed t same)
       where
         by_stood : Stood (protocols scenario) t own x → is_undecided (standing (protocols scenario) own t) ≡ false → is_undecided (standing (protocols scenario) (x ∷ own) t) ≡ false
         by_stood (Stopped b e a s) d = ap is_undecided e ∙ unopened (kept_decision (protocols scenario) (Coordinator.records (x ∷ own)) t)
         by_stood (Through (Same e b u a) r) d = ap is_undecided e ∙ d
-        by_stood (Through (Starts b e n steps v) r) d = absurd (no_go scenario story command tx others t steps (subst (CoordCause scenario story command) (sym (turn_line t).is ∙ v) line.cause) same)
+        by_stood (Through (Starts b e n steps v) r) d = absurd (no_go scenario story command tx (begins_none tx command others) t steps (subst (CoordCause scenario story command) (sym (turn_line scenario commands command x told line t).is ∙ v) line.cause) same)
         by_stood (Through (Decides d f o b e n by a) r) c = (let clash = sym c ∙ o in cc)
         by_stood (Through (Forgets d o b e n ends a) r) c = ap is_undecided e
         by_stood (Through (Restarts b e a s) r) d = ap is_undecided e ∙ unopened (kept_decision (protocols scenario) (Coordinator.records (x ∷ own)) t)
 
-    commit_stays : (t : Tid) → Among (IsCommit t) (Coordinator.records own) → Among (IsCommit t) (Coordinator.records (x ∷ own))
-    commit_stays t i = kept_stays (protocols scenario) t own line.event (Coordinator.records (x ∷ own)) (IsCommit t) (end_commit t) (turn_line t).kept i
-
     commit_was : (t : Tid) → same_tx t.tx tx ≡ true → Among (IsCommit t) (Coordinator.records (x ∷ own)) → Among (IsCommit t) (Coordinator.records own)
-    commit_was t same i = by_kept (turn_line t).kept
+    commit_was t same i = by_kept (turn_line scenario commands command x told line t).kept
       where
         by_kept : Coord_kept (protocols scenario) t own line.event (Coordinator.records (x ∷ own)) → Among (IsCommit t) (Coordinator.records own)
         by_kept (inl (news, w, is)) = elim (among_split (IsCommit t) news (Coordinator.records own) (subst (Among (IsCommit t)) is i)) [
@@ -306,7 +334,7 @@ module _ (scenario : Scenario) (commands : List Command) (command : Command) (tx
         back e = let (t, same, i) = committed_among tx (Coordinator.records (x ∷ own)) e in among_committed tx t (Coordinator.records own) same (commit_was t same i)
 
         on : is_some (committed_of (Coordinator.records own) tx) ≡ true → is_some (committed_of (Coordinator.records (x ∷ own)) tx) ≡ true
-        on e = let (t, same, i) = committed_among tx (Coordinator.records own) e in among_committed tx t (Coordinator.records (x ∷ own)) same (commit_stays t i)
+        on e = let (t, same, i) = committed_among tx (Coordinator.records own) e in among_committed tx t (Coordinator.records (x ∷ own)) same (commit_stays scenario commands command x told line t i)
 
     same_attempts : Coordinator.attempts_of (x ∷ own) tx ≡ Coordinator.attempts_of own tx
     same_attempts = by_begun (begun_by x.answer) refl
@@ -314,13 +342,13 @@ module _ (scenario : Scenario) (commands : List Command) (command : Command) (tx
         by_begun : (o : Option Tid) → begun_by x.answer ≡ o → how_many (λ (tid : Tid). same_tx tid.tx tx) (with_some o (begun_tids own)) ≡ how_many (λ (tid : Tid). same_tx tid.tx tx) (begun_tids own)
         by_begun None q = refl
         by_begun (Some t) q =
-            let (steps, is) = begins_go (protocols scenario) t own x (turn_line t).stood (begun_is x.answer t q) in
-            let named : line.event ≡ Coord_event.Go t steps = sym (turn_line t).is ∙ is in
+            let (steps, is) = begins_go (protocols scenario) t own x (turn_line scenario commands command x told line t).stood (begun_is x.answer t q) in
+            let named : line.event ≡ Coord_event.Go t steps = sym (turn_line scenario commands command x told line t).is ∙ is in
             by_test steps named (same_tx t.tx tx) refl
           where
             by_test : (steps : List Step) → line.event ≡ Coord_event.Go t steps → (b : Bool) → same_tx t.tx tx ≡ b
                 → cond b (suc (how_many (λ (tid : Tid). same_tx tid.tx tx) (begun_tids own))) (how_many (λ (tid : Tid). same_tx tid.tx tx) (begun_tids own)) ≡ how_many (λ (tid : Tid). same_tx tid.tx tx) (begun_tids own)
-            by_test steps named true same = absurd (no_go scenario story command tx others t steps (subst (CoordCause scenario story command) named line.cause) same)
+            by_test steps named true same = absurd (no_go scenario story command tx (begins_none tx command others) t steps (subst (CoordCause scenario story command) named line.cause) same)
             by_test steps named false same = refl
 
   -- behind it all is as before

@@ -32,7 +32,6 @@ use Rattle.coord_core.proofs.Endings.{passes_is, stop_prints, trip_line, trips_i
 use Rattle.coord_core.proofs.Events.{down_line}
 use Rattle.coord_tables.proofs.Serving.{sound_more}
 use Rattle.coord_core.proofs.Still.{down_is, kept_records, stands_stop, stop_line}
-use Rattle.coord_tables.proofs.GoesOn.{goes_on}
 
 abbrev no_cut : List (Call CoordRecord)
 no_cut = []
@@ -80,7 +79,7 @@ settled Down store rules e o = o
 settled Failing store rules e o = o
 
 all_within : (terms : Terms) (past : CoordPast) → IsSound terms past → bytes_of coord_frame (Past.records past) ≤ (Past.disk past).length
-all_within terms past s = (past_sound terms.protocols terms.policy any_member (record { tx = record { 0 = 0 }; attempt = 0 }) past (goes_on terms past s)).firm.sound.frames
+all_within terms past s = (past_sound terms.protocols terms.policy any_member (record { tx = record { 0 = 0 }; attempt = 0 }) past s.made).firm.sound.frames
 
 module _ {P : Type 0} (test : P → Policy) (tells : Bool) where
   -- a core that is down stands for a past whose disk its store keeps

@@ -43,7 +43,6 @@ use Rattle.coord_tables.proofs.Lines.{IsAsBefore, elsewhere, known_stays, live_s
 use Rattle.coord_tables.proofs.Waiting.{held_still}
 use Rattle.coord_tables.proofs.Serving.{stages_stay}
 use Rattle.coord_core.proofs.Still.{serves, up_is}
-use Rattle.coord_tables.proofs.GoesOn.{goes_on}
 
 -- ---- the journal
 
@@ -55,7 +54,7 @@ sum_is test core terms past slice sum h read is =
     ∙ ap (λ (rs : List CoordRecord). coord_journal_sum core.protocols (reverse rs)) (read ∙ h.records)
     ∙ ap (coord_journal_sum core.protocols) (reverse-reverse (Past.journal past))
     ∙ ap (λ (ps : List Participant). coord_journal_sum ps (Past.journal past)) h.protocols
-    ∙ going_journals_say_all terms.protocols terms.policy past (goes_on terms past h.sound)
+    ∙ going_journals_say_all terms.protocols terms.policy past h.sound.made
 
 -- ---- the line
 

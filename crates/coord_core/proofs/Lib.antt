@@ -6,7 +6,9 @@ pub mod Checks
 pub mod Committing
 pub mod Endings
 pub mod Events
+pub mod FoundDisks
 pub mod New
+pub mod Opened
 pub mod Roomed
 pub mod Says
 pub mod Sent

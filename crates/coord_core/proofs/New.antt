@@ -25,6 +25,7 @@ use Rattle.coord_tables.specs.Terms.{Terms}
 use Rattle.coord_core.proofs.Still.{kept_records}
 use Rattle.coord_tables.specs.Tables.{AreEmpty}
 use Rattle.coord_tables.proofs.Empty.{nothing_served}
+use Rattle.coord_tables.proofs.OneActive.{nothing_alone}
 
 pub new_stands : {P : Type 0} (test : P → Policy) (core : CoordCore P) (protocols : List Participant) → IsRising (λ (m : Participant). m.site.0) protocols → Each (λ (m : Participant). IsSite m.site) protocols
     → core.protocols ≡ protocols → AreEmpty core.tables → core.begun.listed ≡ [] → stored core.store ≡ record { journal = new_journal; trip = None; standing = Up }
@@ -38,7 +39,7 @@ new_stands test core protocols rising declared sites tables begun store tells se
       holds = record {
         protocols = sites;
         policy = refl;
-        sound = record { rising = rising; declared = declared; made = tt; in_range = tt };
+        sound = record { rising = rising; declared = declared; made = tt; alone = nothing_alone; in_range = tt };
         records = kept_records tells seen core.store empty_disk None kept;
         trip = kept.trip;
         armed = kept.armed;

@@ -1,3 +1,4 @@
+pub mod Found
 pub mod Pending
 pub mod Stands
 pub mod Steps

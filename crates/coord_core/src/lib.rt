@@ -4,6 +4,9 @@
 //! that list, and the core then stands for the list with that line added; a stop may come right after any disk call. It is generic in the
 //! policy and in the disk.
 //!
+//! That list begins with nothing, or with the past that a journal stands for which was found on the disk: of an actor that wrote exactly these
+//! records and then stopped. Then the coordinator is down, and its first start knows what the journal hasn't forgotten.
+//!
 //! It answers every event: new attempts, messages of sites, repeats, timeouts, fates, halts, trips, Checkpoints and starts. Without memory
 //! it stands for the same list.
 //!
@@ -24,6 +27,7 @@ mod ending;
 mod going;
 mod listing;
 mod quiet;
+mod reopening;
 mod repeating;
 mod sending;
 mod starting;

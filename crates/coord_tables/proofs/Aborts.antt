@@ -36,7 +36,6 @@ use Rattle.coord_tables.specs.Terms.{Terms, IsSound}
 use Rattle.coord_tables.proofs.Again.{prepares_none, takes_none}
 use Rattle.coord_tables.proofs.Decided.{IsDeciding, decided_serving, forgets_is}
 use Rattle.coord_tables.proofs.Initiations.{begun_in_range, few_participants, known_none, known_some, participants_declared}
-use Rattle.coord_tables.proofs.GoesOn.{goes_on}
 
 -- whether the abort is recorded
 abbrev pub is_recorded : List Participant → CoordPast → Tid → Bool
@@ -97,7 +96,7 @@ module _ (terms : Terms) (past : CoordPast) (event : CoordEvent) (tid : Tid) (pr
 
   named_behind : (o : Option (List Participant)) → named terms.protocols (records past) tid ≡ o → Some (or_else o (participants terms.protocols past tid)) ≡ Some (participants terms.protocols past tid)
   named_behind None e = refl
-  named_behind (Some ms) e = ap (λ (ps : List Participant). Some ps) (records_name terms.protocols terms.policy past (goes_on terms past sound) tid ms e)
+  named_behind (Some ms) e = ap (λ (ps : List Participant). Some ps) (records_name terms.protocols terms.policy past sound.made tid ms e)
 
   own_by : (b : Bool) → named terms.protocols (option_to_list (cond b (Some (Rec.Abort tid (participants terms.protocols past tid))) None) ++ records past) tid ≡ cond b (Some (participants terms.protocols past tid)) (named terms.protocols (records past) tid)
   own_by true = cond-true _ _ _ (same_tid-refl tid) ∙ named_behind (named terms.protocols (records past) tid) refl

@@ -48,7 +48,6 @@ use Rattle.coord_tables.proofs.Own.{serving_own}
 use Rattle.coord_tables.proofs.Waiting.{held_still}
 use Rattle.coord_tables.proofs.Serving.{stages_stay}
 use Rattle.coord_tables.proofs.Tabled.{known_changed, known_without, other_changed, other_without}
-use Rattle.coord_tables.proofs.GoesOn.{goes_on}
 
 -- the line of an acknowledgement, by what it comes to
 abbrev pub ack_line : SiteId → Tid → AckEnd → CoordHappening
@@ -284,7 +283,7 @@ pub end_fits : (tid : Tid) → IsPayload (spelling (Rec.End tid))
 end_fits tid = let size = payload_has_size (Rec.End tid) in omega arith
 
 pub decided_in_range : (terms : Terms) (past : CoordPast) (tid : Tid) (d : Decision) → IsSound terms past → standing terms.protocols past tid ≡ Decided d → IsTid tid
-decided_in_range terms past tid d sound st = in_each IsTid (begun_tids past) tid sound.in_range (known_begun terms.protocols terms.policy past (goes_on terms past sound) tid (ap is_known st))
+decided_in_range terms past tid d sound st = in_each IsTid (begun_tids past) tid sound.in_range (known_begun terms.protocols terms.policy past sound.made tid (ap is_known st))
 
 -- ---- what doesn't count
 

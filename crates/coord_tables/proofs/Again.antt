@@ -35,7 +35,6 @@ use Rattle.coord_tables.proofs.Calm.{calm_answer, calm_taking}
 use Rattle.coord_tables.proofs.Initiations.{participants_rise}
 use Rattle.coord_tables.proofs.Lines.{IsCalm}
 use Rattle.mdb_base.proofs.RisingLaws.{those_rise}
-use Rattle.coord_tables.proofs.GoesOn.{goes_on}
 
 -- how an attempt stands, by what an inquiry would be answered
 pub stands_undecided : (p : Protocol) (s : Standing) → told p s ≡ Said_is.Undecided → s ≡ Undecided
@@ -140,7 +139,7 @@ named_rise terms past tid sound d None e = tt
 named_rise terms past tid sound d (Some ms) e =
     those_rise (λ (p : Participant). p.site.0) (λ member. not (has_acked past tid member.site)) (acking d ms)
     (those_rise (λ (p : Participant). p.site.0) (λ (p : Participant). acks p.protocol d) ms
-    (subst (λ (ps : List Participant). IsRising (λ p. p.site.0) ps) (sym (records_name terms.protocols terms.policy past (goes_on terms past sound) tid ms e)) (participants_rise terms past tid sound)))
+    (subst (λ (ps : List Participant). IsRising (λ p. p.site.0) ps) (sym (records_name terms.protocols terms.policy past sound.made tid ms e)) (participants_rise terms past tid sound)))
 
 pub missing_rise : (terms : Terms) (past : CoordPast) (tid : Tid) (d : Decision) (known : Known) → IsSound terms past → IsDecidedAs terms.protocols past tid d known → IsRising (λ p. p.site.0) (map participant_of (table.missing d known))
 missing_rise terms past tid d known sound k =

@@ -56,7 +56,6 @@ use Rattle.coord_tables.proofs.Sent.{prepares_other, prepares_own, takes_other, 
 use Rattle.coord_tables.specs.Waiting.{waiting}
 use Rattle.coord_tables.proofs.Waiting.{held_more, none_noted}
 use Rattle.coord_tables.proofs.Visits.{HasVisited, at, fresh_those, sites_for, those_alike, visited_are, visited_sites}
-use Rattle.coord_tables.proofs.GoesOn.{goes_on}
 
 -- ---- lists
 
@@ -127,7 +126,7 @@ gone_of false None h = refl
 -- an attempt that may go wasn't begun
 module _ (terms : Terms) (past : CoordPast) (tid : Tid) (steps : List Step) (sound : IsSound terms past) (can : CanGo tid steps terms past) where
   pub new_attempt : In tid (begun_tids past) → ⊥
-  new_attempt i = let less = (begin_in_order terms.protocols terms.policy past (goes_on terms past sound) tid).0 i in let next = can.next in omega (arith, less, next)
+  new_attempt i = let less = (begin_in_order terms.protocols terms.policy past sound.made tid).0 i in let next = can.next in omega (arith, less, next)
 
   closed : is_open past tid ≡ false
   closed = by_test (is_open past tid) refl where
@@ -136,7 +135,7 @@ module _ (terms : Terms) (past : CoordPast) (tid : Tid) (steps : List Step) (sou
     by_test false e = refl
 
   unknown : standing terms.protocols past tid ≡ Gone
-  unknown = gone_of (is_open past tid) (known_decision terms.protocols past tid) (λ k. new_attempt (known_begun terms.protocols terms.policy past (goes_on terms past sound) tid k))
+  unknown = gone_of (is_open past tid) (known_decision terms.protocols past tid) (λ k. new_attempt (known_begun terms.protocols terms.policy past sound.made tid k))
 
   pub none_known : (tables : Tables) → IsServing tables terms past → known_of tid tables.known ≡ None
   none_known tables s = by_known (known_of tid tables.known) (subst (λ (st : Standing). IsKnownAs terms.protocols past tid st (known_of tid tables.known)) unknown (s.known tid)) where
@@ -154,7 +153,7 @@ module _ (terms : Terms) (past : CoordPast) (tid : Tid) (steps : List Step) (sou
   unnamed = by_named (named terms.protocols (records past) tid) refl where
     by_named : (o : Option (List Participant)) → named terms.protocols (records past) tid ≡ o → o ≡ None
     by_named None e = refl
-    by_named (Some ms) e = absurd (new_attempt (begun_in past tid ((past_sound terms.protocols terms.policy any_member tid past (goes_on terms past sound)).names ms e).0))
+    by_named (Some ms) e = absurd (new_attempt (begun_in past tid ((past_sound terms.protocols terms.policy any_member tid past sound.made).names ms e).0))
 
   other_begun : (t : Tid) → In t (begun_tids past) → same_tid tid t ≡ false
   other_begun t i = by_test (same_tid tid t) refl where
@@ -201,7 +200,7 @@ module _ (terms : Terms) (past : CoordPast) (tid : Tid) (steps : List Step) (sou
     stages_begin : (stages : List Stage) (set : SiteSet) → some_of is_take dues ≡ false → some_of is_prepare dues ≡ false → HasVisited steps set → AreStagesOf terms.protocols past stages
         → AreStagesOf terms.protocols (x ∷ past) (stages ++ fresh_stage tid set ∷ [])
     stages_begin stages set no_take no_prepare has s =
-        let unsent = unbegun_unsent terms.protocols terms.policy past (goes_on terms past sound) tid new_attempt in
+        let unsent = unbegun_unsent terms.protocols terms.policy past sound.made tid new_attempt in
         record {
           order =
               map_push (λ (one : Stage). one.tid) stages (fresh_stage tid set)

@@ -56,7 +56,6 @@ use Rattle.coord_tables.proofs.Again.{prepares_none, takes_none}
 use Rattle.coord_tables.proofs.Decided.{IsDeciding, decided_serving, forgets_is}
 use Rattle.coord_tables.proofs.Initiations.{all_of, begun_in_range, known_none, known_open, known_some, participants_rise}
 use Rattle.coord_tables.proofs.Voting.{found_rise, last_parts, vote_last, vote_open}
-use Rattle.coord_tables.proofs.GoesOn.{goes_on}
 
 -- ---- tickets of votes
 
@@ -147,10 +146,10 @@ module _ (terms : Terms) (past : CoordPast) (site : SiteId) (tid : Tid) (ticket 
   undecided_is = ap (λ b. standing_of b (known_decision terms.protocols past tid)) last_open
 
   uncommitted : In tid (tids_of (commits (records past))) → ⊥
-  uncommitted i = false≢true (sym (undecided_unmarked terms.protocols terms.policy past (goes_on terms past sound) tid undecided_is).0 ∙ committed_tid (records past) tid i)
+  uncommitted i = false≢true (sym (undecided_unmarked terms.protocols terms.policy past sound.made tid undecided_is).0 ∙ committed_tid (records past) tid i)
 
   pub one_each : OneEach (attempt ∷ commits (records past))
-  one_each = (uncommitted, commits_once terms.protocols terms.policy past (goes_on terms past sound))
+  one_each = (uncommitted, commits_once terms.protocols terms.policy past sound.made)
 
   -- ---- a cycle
 
@@ -185,7 +184,7 @@ module _ (terms : Terms) (past : CoordPast) (site : SiteId) (tid : Tid) (ticket 
   named_behind : (o : Option (List Participant)) → named terms.protocols (records past) tid ≡ o → Some (or_else o (ticketed terms.protocols tickets)) ≡ Some (participants terms.protocols past tid)
   named_behind None e = ap (λ (ps : List Participant). Some ps)
       (ap (ticketed terms.protocols) (sym parts.1) ∙ tickets_name terms.protocols past (voted_past past site tid ticket) tid parts.0)
-  named_behind (Some ms) e = ap (λ (ps : List Participant). Some ps) (records_name terms.protocols terms.policy past (goes_on terms past sound) tid ms e)
+  named_behind (Some ms) e = ap (λ (ps : List Participant). Some ps) (records_name terms.protocols terms.policy past sound.made tid ms e)
 
   deciding : IsDeciding terms past committed tid Decided.Commit forgets true
   deciding = record {

@@ -47,7 +47,6 @@ use Rattle.coord_tables.proofs.Own.{serving_own}
 use Rattle.coord_tables.proofs.Serving.{those_same}
 use Rattle.coord_tables.proofs.Waiting.{held_stages}
 use Rattle.coord_tables.proofs.Tabled.{known_changed, known_without, other_changed, other_without}
-use Rattle.coord_tables.proofs.GoesOn.{goes_on}
 
 -- ---- lists
 
@@ -220,7 +219,7 @@ module _ (terms : Terms) (past : CoordPast) (x : CoordHappening) (tid : Tid) (de
 
   stages_end : (stages : List Stage) → IsSound terms past → AreStagesOf terms.protocols past stages → AreStagesOf terms.protocols (x ∷ past) (taken_out (is_of tid) stages)
   stages_end stages sound s =
-      let once : Distinct (map (λ (u : Stage). u.tid) stages) = subst Distinct (sym s.order) (distinct_reverse (open_tids past) (distinct_those (is_open past) (begun_tids past) (begin_once terms.protocols terms.policy past (goes_on terms past sound)))) in
+      let once : Distinct (map (λ (u : Stage). u.tid) stages) = subst Distinct (sym s.order) (distinct_reverse (open_tids past) (distinct_those (is_open past) (begun_tids past) (begin_once terms.protocols terms.policy past sound.made))) in
       record {
         order =
             one_out tid stages once

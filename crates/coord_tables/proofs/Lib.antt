@@ -8,7 +8,7 @@ pub mod Decided
 pub mod Dids
 pub mod EachOnce
 pub mod Empty
-pub mod GoesOn
+pub mod FoundAttempts
 pub mod Graphs
 pub mod Held
 pub mod Initiations
@@ -25,6 +25,7 @@ pub mod Outflow
 pub mod Own
 pub mod Phases
 pub mod Sent
+pub mod Reaches
 pub mod Serving
 pub mod Staged
 pub mod Starts

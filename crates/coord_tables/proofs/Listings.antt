@@ -27,7 +27,6 @@ use Rattle.coord_tables.specs.Tables.{IsServing}
 use Rattle.coord_tables.specs.Terms.{Terms, IsSound}
 use Rattle.coord_tables.specs.declared.tables.Tables.{Tables}
 use Rattle.coord_tables.proofs.Decided.{distinct_those}
-use Rattle.coord_tables.proofs.GoesOn.{goes_on}
 
 put_rising : (tids : List Tid) → also [] tids ≡ rising tids
 put_rising [] = refl
@@ -163,7 +162,7 @@ pub rising_listed : (undecided : Bool) (terms : Terms) (past : CoordPast) (table
 rising_listed undecided terms past tables sound serving apart =
     rising_one listed (those (is_kept undecided terms past) (begun_tids past))
     (listed_distinct undecided tables.known apart)
-    (distinct_those (is_kept undecided terms past) (begun_tids past) (begin_once terms.protocols terms.policy past (goes_on terms past sound)))
+    (distinct_those (is_kept undecided terms past) (begun_tids past) (begin_once terms.protocols terms.policy past sound.made))
     to
     back
   where
@@ -174,7 +173,7 @@ rising_listed undecided terms past tables sound serving apart =
     to t i =
         let f = found_listed undecided t tables.known apart i in
         let kept = known_kept undecided terms past t f.known (subst (IsKnownAs terms.protocols past t (standing terms.protocols past t)) f.found (serving.known t)) f.listed in
-        in_those (is_kept undecided terms past) t (begun_tids past) (known_begun terms.protocols terms.policy past (goes_on terms past sound) t (known_open undecided terms past t kept)) kept
+        in_those (is_kept undecided terms past) t (begun_tids past) (known_begun terms.protocols terms.policy past sound.made t (known_open undecided terms past t kept)) kept
 
     back : (t : Tid) → In t (those (is_kept undecided terms past) (begun_tids past)) → In t listed
     back t i =

@@ -27,7 +27,6 @@ use Rattle.coord_tables.specs.Attempts.{open_tids}
 use Rattle.coord_tables.specs.Stages.{AreStagesOf, HasSitesOf, IsStageOf, is_of, others_taking, stage_of}
 use Rattle.coord_tables.specs.Terms.{Terms, IsSound}
 use Rattle.mdb_base.proofs.RisingLaws.{those_rise}
-use Rattle.coord_tables.proofs.GoesOn.{goes_on}
 
 pub sites_named : (ps : List Participant) → Each (λ p. Fields.IsSite p.site) ps → Each IsSite (map (λ (p : Participant). p.site) ps)
 sites_named [] h = tt
@@ -50,7 +49,7 @@ stage_found protocols past tid (s ∷ ss) stage h e = by_test (is_of tid s) refl
 
 pub open_begun : (terms : Terms) (past : CoordPast) (tid : Tid) → IsSound terms past → is_open past tid ≡ true → In tid (begun_tids past)
 open_begun terms past tid sound u =
-    known_begun terms.protocols terms.policy past (goes_on terms past sound) tid (ap (λ b. is_known (standing_of b (known_decision terms.protocols past tid))) u)
+    known_begun terms.protocols terms.policy past sound.made tid (ap (λ b. is_known (standing_of b (known_decision terms.protocols past tid))) u)
 
 none_there : (tid : Tid) (stages : List Stage) → stage_of tid stages ≡ None → In tid (map (λ (s : Stage). s.tid) stages) → ⊥
 none_there tid [] e i = i

@@ -1,5 +1,5 @@
 -- What the tables stand for after a line that says nothing new, and what a past more is made of.
-use Rattle.std.proofs.Common.{◌≡◌, Bool, cond, None, List, [], ◌∷◌, refl, sym, ap, ap₂, subst, ◌∙◌}
+use Rattle.std.proofs.Common.{◌≡◌, Bool, cond, None, List, [], ◌∷◌, inr, refl, sym, ap, ap₂, subst, ◌∙◌}
 use Rattle.std.specs.Prelude.{reverse}
 use Rattle.mdb_base.specs.declared.names.Tid.{Tid}
 use Rattle.mdb_base.specs.declared.names.Tx.{Tx}
@@ -11,7 +11,7 @@ use Rattle.field_bytes.specs.Fields.{IsTid}
 use Rattle.fed_rules.specs.declared.events.CoordEvent.{CoordEvent}
 use Rattle.fed_rules.specs.CoordRecords.{committed_of, commits}
 use Rattle.fed_rules.specs.CoordPast.{CoordHappening, CoordPast, attempts_of, begun_by, begun_tids, is_open}
-use Rattle.coord_laws.specs.Pasts.{IsNumbered}
+use Rattle.coord_laws.specs.Pasts.{IsNextLine, IsNumbered}
 use Rattle.global_exec.specs.Live.{live_of}
 use Rattle.protocol_table.specs.Attempts.{known_of}
 use Rattle.ticket_graph.specs.Graph.{StandsFor}
@@ -22,6 +22,7 @@ use Rattle.coord_tables.specs.Stages.{AreStagesOf, IsStageOf}
 use Rattle.coord_tables.specs.Tables.{IsServing}
 use Rattle.coord_tables.specs.Terms.{Terms, IsSound, line_of}
 use Rattle.coord_tables.proofs.Lines.{IsCalm, IsSentAs, calm, calm_records, known_stays, live_stays, sent_as, stage_stays}
+use Rattle.coord_tables.proofs.OneActive.{alone_more}
 use Rattle.coord_tables.proofs.Waiting.{held_still}
 
 pub those_same : {A : Type 0} (f g : A → Bool) → ((x : A) → f x ≡ g x) → (xs : List A) → those f xs ≡ those g xs
@@ -61,9 +62,12 @@ serving_calm tables terms past x c s = record {
 
 -- a past with one more line that the rules make
 pub sound_more : (terms : Terms) (past : CoordPast) (event : CoordEvent) (x : CoordHappening) → IsSound terms past → line_of terms past event ≡ x → IsNumbered past event → Each IsTid (begun_tids (x ∷ past)) → IsSound terms (x ∷ past)
-sound_more terms past event x s is numbered range = record {
-  rising = s.rising;
-  declared = s.declared;
-  made = (event, sym is, numbered, s.made);
-  in_range = range;
-}
+sound_more terms past event x s is numbered range =
+    let next : IsNextLine terms.protocols terms.policy past x = record { event = event; is = sym is; numbered = numbered } in
+    record {
+      rising = s.rising;
+      declared = s.declared;
+      made = inr (next, s.made);
+      alone = alone_more terms.protocols terms.policy past x s.made next s.alone;
+      in_range = range;
+    }

@@ -52,9 +52,7 @@ use Rattle.coord_tables.specs.Terms.{Terms, IsSound}
 use Rattle.coord_tables.proofs.Decided.{distinct_those}
 use Rattle.coord_tables.proofs.EachOnce.{apart_distinct, apart_from, few, how_many_those, map_rises, no_longer, rises_distinct, to_reverse}
 use Rattle.coord_tables.proofs.KnownAgain.{known_by, known_is}
-use Rattle.coord_tables.proofs.OneActive.{one_active}
 use Rattle.coord_tables.proofs.SumRanges.{Rises, committed_rises, open_rises, open_tids_in_range, those_rises}
-use Rattle.coord_tables.proofs.GoesOn.{goes_on}
 
 module _ (terms : Terms) (past : CoordPast) (sound : IsSound terms past) (written : AllByRecursion IsRecord (records past)) where
   abbrev the_sum : CoordSum
@@ -62,8 +60,8 @@ module _ (terms : Terms) (past : CoordPast) (sound : IsSound terms past) (writte
 
   tells : TellsRecords terms.protocols the_sum (records past)
   tells =
-      subst (λ (sum : CoordSum). TellsRecords terms.protocols sum (records past)) (going_journals_say_all terms.protocols terms.policy past (goes_on terms past sound))
-      (going_tells terms.protocols terms.policy past (goes_on terms past sound))
+      subst (λ (sum : CoordSum). TellsRecords terms.protocols sum (records past)) (going_journals_say_all terms.protocols terms.policy past sound.made)
+      (going_tells terms.protocols terms.policy past sound.made)
 
   open_up : Rises (λ (attempt : OpenAttempt). attempt.tid) the_sum.open_attempts
   open_up = open_rises terms past sound written
@@ -150,7 +148,7 @@ module _ (terms : Terms) (past : CoordPast) (sound : IsSound terms past) (writte
   )
 
   pub commits_free : HasNoCycle (map ticketed_by the_sum.committed)
-  commits_free t es cycle = commits_close_none terms.protocols terms.policy past (goes_on terms past sound) t es (record { some = cycle.some; edges = edges_among es cycle.edges; round = cycle.round })
+  commits_free t es cycle = commits_close_none terms.protocols terms.policy past sound.made t es (record { some = cycle.some; edges = edges_among es cycle.edges; round = cycle.round })
 
   pub graph_stands : (graph : Graph) → StandsFor (map ticketed_by the_sum.committed) graph → StandsFor (commits (records past)) graph
   graph_stands graph s = record {
@@ -209,7 +207,7 @@ module _ (terms : Terms) (past : CoordPast) (sound : IsSound terms past) (writte
     by_both (Some t) e (Some u) f =
         let found = first_where_some (λ (v : Tid). same_tx v.tx tx) (reverse tids) t e in
         let c = some_committed (records past) tx u f in
-        let same : t ≡ u = one_active terms.protocols terms.policy past sound.made t u (of_tx t found.1 ∙ sym c.1) (inr (committed_in t (in_reverse tids t found.0))) (inr c.0) in
+        let same : t ≡ u = sound.alone t u (of_tx t found.1 ∙ sym c.1) (inr (committed_in t (in_reverse tids t found.0))) (inr c.0) in
         e ∙ ap (λ (v : Tid). Some v) same ∙ sym f
 
   -- ---- the known ones
@@ -371,7 +369,7 @@ module _ (terms : Terms) (past : CoordPast) (sound : IsSound terms past) (writte
       let kept = map (λ (r : Restored). r.tid) (kept_by the_sum) in
       let those_kept = those (is_kept terms.protocols (records past)) (recorded (records past)) in
       let there = no_longer kept those_kept (rises_distinct kept kept_up) (λ t i. let k = listed_kept t i in in_those (is_kept terms.protocols (records past)) t (recorded (records past)) (kept_recorded t k) k) in
-      let back = no_longer those_kept kept (distinct_those (is_kept terms.protocols (records past)) (recorded (records past)) (recorded_begun terms.protocols terms.policy past (goes_on terms past sound)).0)
+      let back = no_longer those_kept kept (distinct_those (is_kept terms.protocols (records past)) (recorded (records past)) (recorded_begun terms.protocols terms.policy past sound.made).0)
       (λ t i. kept_listed t (those_in (is_kept terms.protocols (records past)) t (recorded (records past)) i).1) in
       let same : length kept ≡ length those_kept = omega (arith, there, back) in
       length_restored (kept_by the_sum) ∙ same ∙ sym (how_many_those (is_kept terms.protocols (records past)) (recorded (records past)))

@@ -28,7 +28,6 @@ use Rattle.coord_journal.specs.Spelling.{IsCommittedInRange, IsOpenInRange, IsRe
 use Rattle.coord_laws.proofs.OneEach.{tids_of}
 use Rattle.coord_laws.proofs.Past.{commits_once}
 use Rattle.coord_tables.specs.Terms.{Terms, IsSound}
-use Rattle.coord_tables.proofs.GoesOn.{goes_on}
 
 -- ---- attempts by their numbers
 
@@ -214,12 +213,12 @@ pub open_tids_in_range : (terms : Terms) (past : CoordPast) → IsSound terms pa
 open_tids_in_range terms past s r = (open_in_range terms.protocols s.declared (records past) r).tids
 
 pub committed_rises : (terms : Terms) (past : CoordPast) → IsSound terms past → AllByRecursion IsRecord (records past) → Rises (λ (attempt : CommittedAttempt). attempt.tid) (committed_with [] (records past))
-committed_rises terms past s r = (committed_in_range (records past) r (commits_once terms.protocols terms.policy past (goes_on terms past s))).rises
+committed_rises terms past s r = (committed_in_range (records past) r (commits_once terms.protocols terms.policy past s.made)).rises
 
 pub sum_in_range : (terms : Terms) (past : CoordPast) → IsSound terms past → AllByRecursion IsRecord (records past) → IsSumInRange (coord_sum terms.protocols (records past))
 sum_in_range terms past s r =
     let o = open_in_range terms.protocols s.declared (records past) r in
-    let c = committed_in_range (records past) r (commits_once terms.protocols terms.policy past (goes_on terms past s)) in
+    let c = committed_in_range (records past) r (commits_once terms.protocols terms.policy past s.made) in
     record {
       open_attempts = All-from_recursion IsOpenInRange (open_with terms.protocols [] (records past))
           (pairs (λ (attempt : OpenAttempt). IsTid attempt.tid) (λ (attempt : OpenAttempt). All (λ participant. IsSite participant.site) attempt.participants) (open_with terms.protocols [] (records past)) o.tids o.sites);

@@ -1,6 +1,7 @@
 pub mod Attempts
 pub mod Beginning
 pub mod Deciding
+pub mod Found
 pub mod Listing
 pub mod Replies
 pub mod Sending

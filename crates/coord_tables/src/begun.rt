@@ -1,10 +1,11 @@
 //! The transactions of which an attempt was begun.
-ghost use Rattle.std.specs.Prelude.{◌≡◌, [], cond, Some, IsSome, OnErr, OnOk};
+ghost use Rattle.std.specs.Prelude.{◌≡◌, ◌<◌, [], cond, Some, IsSome, OnErr, OnOk};
 ghost use Rattle.mdb_base.specs.declared.names.Tx.{Tx as TheTx};
 ghost use Rattle.mdb_base.specs.Names.{same_tx};
+ghost use Rattle.coord_tables.specs.Found.{with_reached};
 ghost use Rattle.coord_tables.specs.Trees.{entry_of, noted};
 
-use mdb_base::{Memory, Tx};
+use mdb_base::{Memory, Tid, Tx};
 use std::alloc::Global;
 use std::collections::BTreeMap;
 use std::marker::Model;
@@ -66,6 +67,20 @@ impl Begun {
         ensures { (tx : TheTx) → noted self.new.listed tx ≡ cond (same_tx count.tx tx) count.attempts (noted self.old.listed tx) }
     {
         set(&mut self.counts, count);
+    }
+
+    /// Notes that an attempt of 0 to 31 was begun, and those of its transaction before it.
+    pub fn reach(&mut self, tid: Tid) -> Result<(), Memory>
+        requires { tid.attempt < 32 }
+        ensures { OnOk result ((tx : TheTx) → noted self.new.listed tx ≡ with_reached tx (noted self.old.listed tx) tid) }
+    {
+        self.reserve(tid.tx)?;
+        let attempts = self.attempts_of(tid.tx).max(tid.attempt + 1);
+        self.note(Count {
+            tx: tid.tx,
+            attempts,
+        });
+        Ok(())
     }
 }
 

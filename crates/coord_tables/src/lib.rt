@@ -7,6 +7,8 @@
 //! No call touches a disk. Out of memory, a call leaves all tables listing what they listed; only `restart`, which makes the tables anew from
 //! a Sum of the records while the coordinator is down, may leave some of them made.
 //!
+//! Of a journal that is found only the counts of attempts are read before the first start: the tables of a coordinator that is down say nothing.
+//!
 //! The committed attempts and the transactions that were begun are kept in trees by transaction, and the undecided attempts in maps by name
 //! or by transaction, in the order in which they were begun. A call finds its attempt without a scan of the others. Over all undecided
 //! attempts go the look for those that take their tickets, the least tickets at a decision, and the closing of the order where an attempt
@@ -18,6 +20,7 @@ mod begun;
 mod commit_graph;
 mod committed;
 mod deciding;
+mod found;
 mod going;
 mod listing;
 mod messages;
@@ -32,6 +35,7 @@ mod votes;
 pub use begun::{Begun, Count};
 pub use commit_graph::CommitGraph;
 pub use committed::Committed;
+pub use found::begun_by;
 pub use listing::rising_tids;
 pub use messages::{decide_to, send_dues};
 pub use outgoing::{passed, some_held, some_take};

@@ -1,47 +1,37 @@
 -- At a site no two records have one serial number, those of attempts that were prepared and aborted included: each number was drawn by one attempt.
-use Rattle.std.proofs.Common.{◌≡◌, ℕ, ◌<◌, ◌≤◌, ◌||◌, Bool, true, false, cond, Option, Some, None, List, [], ◌∷◌, ◌++◌, map, take, refl, sym, ap, subst, ◌∙◌, inl, inr, arith, eq-eqb}
-use Rattle.std.specs.Prelude.{nat_le, length, ◌+◌}
+use Rattle.std.proofs.Common.{◌≡◌, ℕ, ◌<◌, ◌≤◌, Bool, cond, Some, List, [], ◌∷◌, ◌++◌, map, refl, sym, ap, subst, ◌∙◌, inl, inr, arith, eq-eqb}
 use Rattle.mdb_base.specs.declared.names.Tid.{Tid}
 use Rattle.mdb_base.specs.declared.names.Tx.{Tx}
-use Rattle.mdb_base.specs.Words.{Each, when}
+use Rattle.mdb_base.specs.Words.{Each}
 use Rattle.mdb_base.proofs.ListLaws.{each_map}
 use Rattle.mdb_base.proofs.OptionLaws.{some_parts}
-use Rattle.fed_rules.specs.declared.answers.Answer.TheVariants as Say
 use Rattle.fed_rules.specs.declared.events.SiteEvent.{SiteEvent}
-use Rattle.fed_rules.specs.declared.events.SiteEvent.TheVariants as Ev
 use Rattle.fed_rules.specs.declared.records.SiteRecord.{SiteRecord}
 use Rattle.fed_rules.specs.declared.records.SiteRecord.TheVariants.{Setup, Start, Prepared, Ended, Local, Checkpoint}
-use Rattle.fed_rules.specs.Disk.{Append, Call, CutBack, Stops, Sync, after_calls, is_torn}
+use Rattle.fed_rules.specs.Disk.{Call}
 use Rattle.fed_rules.specs.EngineLines.{AllApart, AreApart, IsRight, IsStart}
-use Rattle.fed_rules.specs.Happenings.{Trip, is_down, stopped, tripped, stops, comes_up}
 use Rattle.fed_rules.specs.Runs as Runs
 use Rattle.fed_rules.specs.Runs.{EngineLine, Commits, Seals, Run, counter, run_at}
-use Rattle.fed_rules.specs.Site.{answered, number_of, of_back, settling_line, site_line, site_past, unless_tripped}
-use Rattle.fed_rules.specs.SitePast.{SiteHappening, SitePast, disk, epoch, epoch_start, engine_lines, journal, records, trip}
-use Rattle.fed_rules.specs.SiteRecords.{Held, Home, doubts, kept_held, last_number, site_frame, start_of}
+use Rattle.fed_rules.specs.Site.{number_of, settling_line}
+use Rattle.fed_rules.specs.SitePast.{SitePast, epoch, epoch_start, engine_lines, journal, records}
+use Rattle.fed_rules.specs.SiteRecords.{Held, Home, doubts, kept_held, last_number, start_of}
 use Rattle.fed_rules.specs.SiteSums.{site_sum}
 use Rattle.fed_rules.specs.Story.{past_of, story_of}
 use Rattle.fed_rules.specs.Usable.{numbers, OfFronts}
 use Rattle.engine_laws.proofs.Counted.{counter_grows}
 use Rattle.engine_laws.proofs.Drawers.{all_drew, drawer, drawer_keeps}
-use Rattle.rules_laws.specs.Durable.{IsFrontOf}
 use Rattle.order_laws.specs.Chains.{In, Distinct}
 use Rattle.order_laws.proofs.Lists.{each_at}
-use Rattle.site_history.specs.Events.{AreSorted, IsFresh, IsSorted}
 use Rattle.site_history.specs.SiteOrders.{OfSortedEvents}
-use Rattle.site_history.proofs.Agreement.{IsGoodLine, still}
-use Rattle.site_history.proofs.Backed.{appended, front_after}
+use Rattle.site_history.proofs.Backed.{appended}
 use Rattle.site_history.proofs.Backing.{sealed_above}
-use Rattle.site_history.proofs.Fronts.{HasNoStop, move_no_stop, stop_last, taken_front}
-use Rattle.site_history.proofs.Histories.{no_local_doubt}
 use Rattle.site_history.proofs.HistoryMoves.{synced_append}
-use Rattle.site_history.proofs.HistoryPasts.{move_records}
-use Rattle.site_history.proofs.Moves.{IsMove, Moves, move_answered, rests, begins_local, begins_work, goes_on, commits_local, prepares_run, settles_held, checks_sum}
-use Rattle.site_history.proofs.RightLines.{good_answered, is_back}
+use Rattle.site_history.proofs.Moves.{Moves, rests, begins_local, begins_work, goes_on, commits_local, prepares_run, settles_held, checks_sum}
 use Rattle.site_history.specs.Records.{BindOnce, IsBound}
 use Rattle.site_history.proofs.Records.{bound_by, doubt_in, record_of}
 use Rattle.site_history.proofs.SitesOfStories.{of_events, sites_serial}
-use Rattle.site_history.proofs.WellKept.{IsWellKept, StartsWell, well_past}
+use Rattle.site_history.proofs.MovedPasts.{KeptByMoves, moves_keep}
+use Rattle.site_history.proofs.WellKept.{StartsWell, well_past}
 use Rattle.site_history.proofs.Doubtful.{doubts_are}
 use Rattle.disk_laws.specs.Left.{OfSites, NumbersDiffer}
 use Rattle.site_history.proofs.Founded.{foundation}
@@ -82,13 +72,6 @@ apart_behind (Start epoch) rs c = c
 apart_behind (Prepared t epoch n ticket writes) rs c = c.1
 apart_behind (Ended t d) rs c = c
 apart_behind (Local t n writes) rs c = c.1
-
-apart_front : (newer kept : List SiteRecord) → TellApart (newer ++ kept) → TellApart kept
-apart_front [] kept o = o
-apart_front (x ∷ newer) kept o = apart_front newer kept (apart_behind x (newer ++ kept) o)
-
-front_apart : (rs kept : List SiteRecord) → IsFrontOf rs kept → TellApart rs → TellApart kept
-front_apart rs kept (newer, e) o = apart_front newer kept (subst TellApart e o)
 
 -- a right line leaves who drew a number
 by_line : (start : Runs.Start) (lines : List EngineLine) (line : EngineLine) (r : SiteRecord) → IsStart start → IsRight start (line ∷ lines)
@@ -174,147 +157,19 @@ none_since (Start e ∷ rs) start le = (tt, none_since rs start le)
 none_since (Ended t d ∷ rs) start le = (tt, none_since rs start le)
 none_since (Checkpoint sum ∷ rs) start le = (tt, none_since rs start le)
 
--- so it is of the past
-record OrdersPast (home : Home) (past : SitePast) : Type 0 where
-  orderly : IsTop (records home past) (epoch_start home past) (engine_lines past)
-
--- behind a stop or a start
-anew : (home : Home) (past : SitePast) (x : SiteHappening) → (stops x.answer || comes_up x.answer) ≡ true
-    → TellApart (records home (x ∷ past)) → OrdersPast home (x ∷ past)
-anew home past x new o =
-    let rs = records home (x ∷ past) in
-    let old = epoch_start home past in
-    let lines = x.lines ++ engine_lines past in
-    record {
-      orderly = subst (λ t. IsTop rs (cond t (start_of home rs) old) (cond t [] lines)) (sym new) (record { all = o; drawn = none_since rs (start_of home rs) (omega arith) });
-    }
-
--- a line that a stop ends in the midst of calls
-torn : (home : Home) (past : SitePast) (event : SiteEvent) (calls : List (Call SiteRecord)) (n cut : ℕ) → HasNoStop calls
-    → TellApart (appended calls (records home past))
-    → OrdersPast home (stopped site_frame (disk home past) event (take n calls ++ Stops cut ∷ []) ∷ past)
-unfolding stopped
-torn home past event calls n cut plain o =
-    anew home past (stopped site_frame (disk home past) event (take n calls ++ Stops cut ∷ [])) refl
-    (front_apart (appended (take n calls ++ Stops cut ∷ []) (records home past)) _
-    (front_after site_frame (disk home past) (take n calls ++ Stops cut ∷ []) (stop_last n cut calls plain))
-    (front_apart (appended calls (records home past)) (appended (take n calls ++ Stops cut ∷ []) (records home past))
-    (taken_front n cut calls (records home past)) o))
-
-orders_when : (home : Home) (past : SitePast) (b : Bool) (x y : SiteHappening) → OrdersPast home (x ∷ past) → OrdersPast home (y ∷ past)
-    → OrdersPast home (when b x y ∷ past)
-unfolding when
-orders_when home past true x y p q = p
-orders_when home past false x y p q = q
-
-orders_tripped : (home : Home) (past : SitePast) (o : Option Trip) (x : SiteHappening) → OrdersPast home (x ∷ past) → HasNoStop x.calls
-    → TellApart (appended x.calls (records home past)) → OrdersPast home (tripped site_frame (disk home past) o x ∷ past)
-unfolding tripped
-orders_tripped home past None x whole plain o = whole
-orders_tripped home past (Some t) x whole plain o =
-    orders_when home past (nat_le t.calls (length x.calls))
-    (stopped site_frame (disk home past) x.event (take t.calls x.calls ++ Stops t.cut ∷ [])) x
-    (torn home past x.event x.calls t.calls t.cut plain o) whole
-
--- what is known of a past and of its orders
-record Knows (home : Home) (local : Tx → Bool) (past : SitePast) : Type 0 where
-  history : IsWellKept home local past
-  orders : OrdersPast home past
-
-moved_on : (home : Home) (local : Tx → Bool) (past : SitePast) (event : SiteEvent) (x : SiteHappening) → Knows home local past → IsGoodLine home past x
-    → IsMove home past local event x → IsTop (appended x.calls (records home past)) (epoch_start home past) (x.lines ++ engine_lines past)
-moved_on home local past event x k g m =
-    move_orderly home past local event x.calls x.lines k.history.started g.right k.orders.orderly m.moves
-
-whole : (home : Home) (local : Tx → Bool) (past : SitePast) (event : SiteEvent) (x : SiteHappening) → Knows home local past → IsGoodLine home past x
-    → IsMove home past local event x → OrdersPast home (x ∷ past)
-whole home local past event x k g m =
-    let rs = records home (x ∷ past) in
-    let o = subst (λ ks. IsTop ks (epoch_start home past) (x.lines ++ engine_lines past)) (sym (move_records home past local event x.calls x.lines m.moves))
-    (moved_on home local past event x k g m) in
-    record {
-      orderly = subst (λ t. IsTop rs (cond t (start_of home rs) (epoch_start home past)) (cond t [] (x.lines ++ engine_lines past))) (sym g.plain) o;
-    }
-
-quiet_line : (home : Home) (local : Tx → Bool) (past : SitePast) (event : SiteEvent) → Knows home local past
-    → OrdersPast home (record { event = event; answer = Say.Down; sends = []; calls = []; lines = [] } ∷ past)
-quiet_line home local past event k =
-    whole home local past event (record { event = event; answer = Say.Down; sends = []; calls = []; lines = [] }) k
-    (still home past event Say.Down [] k.history.kept refl) (record { moves = rests })
-
-up : (home : Home) (local : Tx → Bool) (past : SitePast) (event : SiteEvent) → Knows home local past → IsSorted local event → IsFresh home past event
-    → is_back event ≡ false
-    → OrdersPast home (when (is_down past) (record { event = event; answer = Say.Down; sends = []; calls = []; lines = [] })
-    (unless_tripped home past (answered home past event)) ∷ past)
-up home local past event k sorted fresh b =
-    let x = answered home past event in
-    let g = good_answered home past event k.history.kept fresh b in
-    let m = move_answered home past local event k.history.kept sorted fresh b in
-    orders_when home past (is_down past) (record { event = event; answer = Say.Down; sends = []; calls = []; lines = [] })
-    (unless_tripped home past (answered home past event)) (quiet_line home local past event k)
-    (orders_tripped home past (trip past) x (whole home local past event x k g m) (move_no_stop home past local event x.calls x.lines m.moves)
-    (moved_on home local past event x k g m).all)
-
-started : (rs : List SiteRecord) (n : ℕ) → TellApart rs → TellApart (Start n ∷ rs)
-started rs n o = o
-
-back_line : (home : Home) (local : Tx → Bool) (past : SitePast) → Knows home local past → OrdersPast home (unless_tripped home past (of_back home past) ∷ past)
-unfolding of_back
-back_line home local past k =
-    orders_tripped home past (trip past) (of_back home past)
-    (anew home past (of_back home past) refl (by_torn (is_torn site_frame (disk home past))))
-    (no_stop (is_torn site_frame (disk home past))) (with_start (is_torn site_frame (disk home past)))
-  where
-    o : TellApart (Start (epoch home past + 1) ∷ records home past)
-    o = started (records home past) (epoch home past + 1) k.orders.orderly.all
-
-    by_torn : (b : Bool) → TellApart (after_calls site_frame (disk home past) (cond b (CutBack ∷ []) [] ++ Append (Start (epoch home past + 1)) ∷ Sync ∷ [])).records
-    by_torn true = o
-    by_torn false = o
-
-    no_stop : (b : Bool) → HasNoStop (cond b (CutBack ∷ []) [] ++ Append (Start (epoch home past + 1)) ∷ Sync ∷ [])
-    no_stop true = tt
-    no_stop false = tt
-
-    with_start : (b : Bool) → TellApart (appended (cond b (CutBack ∷ []) [] ++ Append (Start (epoch home past + 1)) ∷ Sync ∷ []) (records home past))
-    with_start true = o
-    with_start false = o
-
-next_line : (home : Home) (local : Tx → Bool) (past : SitePast) (event : SiteEvent) → Knows home local past → IsSorted local event
-    → OrdersPast home (site_line home past event ∷ past)
-unfolding site_line
-next_line home local past (Ev.Trip calls cut) k sorted =
-    whole home local past (Ev.Trip calls cut) (record { event = Ev.Trip calls cut; answer = Say.Set; sends = []; calls = []; lines = [] }) k
-    (still home past (Ev.Trip calls cut) Say.Set [] k.history.kept refl) (record { moves = rests })
-next_line home local past (Ev.Halt cut) k sorted =
-    orders_when home past (is_down past) _ _ (quiet_line home local past (Ev.Halt cut) k)
-    (torn home past (Ev.Halt cut) [] 0 cut tt k.orders.orderly.all)
-next_line home local past Ev.Back k sorted =
-    orders_when home past (is_down past) _ _ (back_line home local past k)
-    (whole home local past Ev.Back (record { event = Ev.Back; answer = Say.Awake; sends = []; calls = []; lines = [] }) k
-    (still home past Ev.Back Say.Awake [] k.history.kept refl) (record { moves = rests }))
-next_line home local past (Ev.Begin tid) k sorted =
-    up home local past (Ev.Begin tid) k sorted (no_local_doubt local (records home past) tid k.history.sorted sorted) refl
-next_line home local past (Ev.Act tid act) k sorted = up home local past (Ev.Act tid act) k sorted tt refl
-next_line home local past (Ev.Commit tid) k sorted = up home local past (Ev.Commit tid) k sorted tt refl
-next_line home local past (Ev.Abort tid) k sorted = up home local past (Ev.Abort tid) k sorted tt refl
-next_line home local past (Ev.Fate tx) k sorted = up home local past (Ev.Fate tx) k sorted tt refl
-next_line home local past (Ev.Give message) k sorted = up home local past (Ev.Give message) k sorted tt refl
-next_line home local past (Ev.Ask tid) k sorted = up home local past (Ev.Ask tid) k sorted tt refl
-next_line home local past (Ev.Drop tid) k sorted = up home local past (Ev.Drop tid) k sorted tt refl
-next_line home local past Ev.Check k sorted = up home local past Ev.Check k sorted tt refl
-
-first : (home : Home) → OrdersPast home []
-first home = record { orderly = record { all = tt; drawn = (tt, (tt, tt)) } }
-
-orders_past : (home : Home) (local : Tx → Bool) (events : List SiteEvent) → AreSorted local events → OrdersPast home (site_past home events)
-orders_past home local [] sorted = first home
-orders_past home local (event ∷ events) (now, before) =
-    next_line home local (site_past home events) event (record { history = well_past home local events before; orders = orders_past home local events before }) now
+moves_apart : KeptByMoves TellApart IsTop
+moves_apart = record {
+  first = λ home. tt;
+  started = λ rs n o. o;
+  behind = apart_behind;
+  afresh = λ home rs o. record { all = o; drawn = none_since rs (start_of home rs) (omega arith) };
+  all = λ rs start lines o. o.all;
+  moved = λ home local past event calls lines well right m o. move_orderly home past local event calls lines well.started right o m;
+}
 
 -- all records: two with one number would be of one attempt, which isn't recorded twice
 pub pasts_apart : OfSortedEvents (λ home past. TellApart (records home past))
-pasts_apart home local events sorted = (orders_past home local events sorted).orderly.all
+pasts_apart home local events sorted = (moves_keep TellApart IsTop moves_apart home local events sorted).top.all
 
 -- who has the number among these is the attempt
 apart_over : (t : Tid) (n : ℕ) (newer : List SiteRecord) (y : SiteRecord) (ys rest : List SiteRecord)

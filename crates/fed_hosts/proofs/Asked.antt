@@ -14,7 +14,7 @@ use Rattle.fed_rules.specs.SiteCommands as Rule
 use Rattle.fed_rules.specs.SiteCommands.{answer_to, own_request, past_behind}
 use Rattle.fed_rules.specs.SitePast.{SitePast, attempts_of, begins_tx}
 use Rattle.fed_rules.specs.SiteRecords.{Home}
-use Rattle.site_core.specs.Made.{IsMade}
+use Rattle.site_core.specs.Made.{IsGoingOn}
 use Rattle.site_core.proofs.RuleWalks.{line_event}
 use Rattle.local_dbms.specs.Stands.{OwnPrograms, Serves}
 use Rattle.local_dbms.proofs.Bounds.{made_small}
@@ -35,7 +35,7 @@ use Rattle.fed_hosts.specs.Views.{IsSpent, answer_next}
 use Rattle.fed_hosts.proofs.Own.{BeginsNext, IsSoft, begin_begins, own_begin, own_none, own_soft}
 
 -- the line of an event that begins an attempt is that of its begin
-pub line_begins : (home : Home) (past : SitePast) (event : SiteEvent) (tx : Tx) → IsMade home past → begins_tx tx (site_line home past event).answer ≡ true → (tid : Tid) × (event ≡ Ev.Begin tid) × (tid.tx ≡ tx)
+pub line_begins : (home : Home) (past : SitePast) (event : SiteEvent) (tx : Tx) → IsGoingOn home past → begins_tx tx (site_line home past event).answer ≡ true → (tid : Tid) × (event ≡ Ev.Begin tid) × (tid.tx ≡ tx)
 line_begins home past event tx made e =
     let by = (made_small home past made event).begun in
     begun_tx event (site_line home past event).answer tx (subst (λ (v : SiteEvent). IsBegunBy v (site_line home past event).answer) (line_event home past event) by) e
@@ -83,7 +83,7 @@ module _ (home : Home) (past : SitePast) (verb : Rule.Verb) (tx : Tx) where
   soft_counts (Declines declined) answer soft is other =
       ap (λ (b : Bool). cond b (suc (attempts_of past other)) (attempts_of past other)) (sym (ap (λ (a : Answer). begins_tx other a) is ∙ soft.1 other))
 
-  soft_few : (r : Request SiteEvent) (answer : Answer) → IsMade home past → IsSoft home past verb tx r → answer ≡ answer_to home past r → (verb ≡ Rule.Begin → MayBegin home past tx) → (other : Tx)
+  soft_few : (r : Request SiteEvent) (answer : Answer) → IsGoingOn home past → IsSoft home past verb tx r → answer ≡ answer_to home past r → (verb ≡ Rule.Begin → MayBegin home past tx) → (other : Tx)
       → begins_tx other answer ≡ true → attempts_of past other < most_begun
   soft_few (Declines declined) answer made soft is may other e = let none : begins_tx other answer ≡ false = ap (λ (a : Answer). begins_tx other a) is ∙ soft.1 other in cc
   soft_few (Submits event) answer made soft is may other e =
@@ -99,7 +99,7 @@ module _ (home : Home) (past : SitePast) (verb : Rule.Verb) (tx : Tx) where
       from same begins (inr none) = let not = none other in cc
 
   -- no line begins the attempt behind the last that a host begins
-  pub soft_unspent : (r : Request SiteEvent) → IsMade home past → IsSoft home past verb tx r → (verb ≡ Rule.Begin → MayBegin home past tx) → answer_to home past r ≡ Say.Begun (attempt tx most_begun) → ⊥
+  pub soft_unspent : (r : Request SiteEvent) → IsGoingOn home past → IsSoft home past verb tx r → (verb ≡ Rule.Begin → MayBegin home past tx) → answer_to home past r ≡ Say.Begun (attempt tx most_begun) → ⊥
   soft_unspent (Declines declined) made soft may is = let begins : begins_tx tx (Say.Begun (attempt tx most_begun)) ≡ true = eq-eqb tx.0 tx.0 refl in let none = ap (λ (a : Answer). begins_tx tx a) (sym is) ∙ soft.1 tx in cc
   soft_unspent (Submits event) made soft may is =
       let begins : begins_tx tx (Say.Begun (attempt tx most_begun)) ≡ true = eq-eqb tx.0 tx.0 refl in
@@ -115,7 +115,7 @@ module _ (plan : SitePlan) (turns : List SiteTurn) (verb : Verb) (tx : Tx) where
   pub next_is : answer_next plan turns (command_of verb tx) ≡ answer_to plan.home (past_of plan turns) (own_request (rule_of verb) plan.home (plan.programs tx) (past_of plan turns) tx)
   next_is = ap (λ (q : Request SiteEvent). answer_to plan.home (past_of plan turns) q) (request_is plan (past_of plan turns) verb tx)
 
-  pub line_unspent : (lines : List Stamped) → IsMade plan.home (past_of plan turns) → length lines < most_lines → (verb ≡ Asks.Begin → MayBegin plan.home (past_of plan turns) tx)
+  pub line_unspent : (lines : List Stamped) → IsGoingOn plan.home (past_of plan turns) → length lines < most_lines → (verb ≡ Asks.Begin → MayBegin plan.home (past_of plan turns) tx)
       → IsSpent lines tx (answer_next plan turns (command_of verb tx)) → ⊥
   line_unspent lines made less may (inl full) = omega (arith, less, full)
   line_unspent lines made less may (inr begun) =
@@ -142,7 +142,7 @@ module _ (plan : SitePlan) (turns : List SiteTurn) (verb : Verb) (tx : Tx) where
 
 module _ (plan : SitePlan) (turns : List SiteTurn) (verb : Verb) (tx : Tx) (told : Told) (K : Home → OwnPrograms → SitePast → Type 0)
     (serves : Serves K told.answer plan.home plan.programs (past_of plan turns) (own_request (rule_of verb) plan.home (plan.programs tx) (past_of plan turns) tx)) where
-  pub asked_told : IsMade plan.home (past_of plan turns) → IsSome (plan.programs tx) → (verb ≡ Asks.Begin → MayBegin plan.home (past_of plan turns) tx)
+  pub asked_told : IsGoingOn plan.home (past_of plan turns) → IsSome (plan.programs tx) → (verb ≡ Asks.Begin → MayBegin plan.home (past_of plan turns) tx)
       → IsTold plan turns (record told { command = command_of verb tx; send = None; after = 0 }) None
   asked_told made own may =
       let past = past_of plan turns in

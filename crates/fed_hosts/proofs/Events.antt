@@ -13,7 +13,7 @@ use Rattle.fed_rules.specs.SiteCommands.{answer_to, past_behind}
 use Rattle.fed_rules.specs.SitePast.{attempts_of, begins_tx}
 use Rattle.fed_messages.specs.declared.Envelope.{Envelope}
 use Rattle.rules_laws.proofs.SitePasts.{BeginsNone}
-use Rattle.site_core.specs.Made.{IsMade}
+use Rattle.site_core.specs.Made.{IsGoingOn}
 use Rattle.fed_hosts.specs.declared.site_actor.Told.{Told}
 use Rattle.fed_hosts.specs.Carrying.{IsTold}
 use Rattle.host_laws.specs.History.{IsCommand}
@@ -28,7 +28,7 @@ none_begun event tid none is = subst BeginsNone is none
 
 module _ (plan : SitePlan) (turns : List SiteTurn) (told : Told) (took : Option (Envelope ToSite)) (event : SiteEvent) where
   pub event_told : IsCommand plan turns told.command took → told.after ≡ stamp_of took → stamp_of took < 2 ^ 62 → request_of plan (past_of plan turns) told.command took ≡ Submits event
-      → IsMade plan.home (past_of plan turns) → BeginsNone event → told.answer ≡ (site_line plan.home (past_of plan turns) event).answer
+      → IsGoingOn plan.home (past_of plan turns) → BeginsNone event → told.answer ≡ (site_line plan.home (past_of plan turns) event).answer
       → option_to_list told.send ≡ (site_line plan.home (past_of plan turns) event).sends → IsTold plan turns told took
   event_told command after small is made none said sent =
       let past = past_of plan turns in

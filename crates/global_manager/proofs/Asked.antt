@@ -21,8 +21,8 @@ use Rattle.fed_rules.specs.Disk.{Call}
 use Rattle.fed_rules.specs.Happenings.{is_down}
 use Rattle.fed_rules.specs.Policies.{Policy}
 use Rattle.fed_rules.specs.Requests.{Submits, Declines, attempt, unless_begun}
-use Rattle.coord_laws.specs.Pasts.{IsMadeByEvents}
-use Rattle.coord_laws.proofs.Past.{begin_in_order, going_on}
+use Rattle.coord_laws.specs.Pasts.{IsGoingOn}
+use Rattle.coord_laws.proofs.Past.{begin_in_order}
 use Rattle.actor_store.specs.Store.{Passes}
 use Rattle.coord_tables.specs.Terms.{Terms, line_of}
 use Rattle.coord_core.proofs.Endings.{passes_is, usual_line}
@@ -82,9 +82,9 @@ some_in tid (t ∷ tids) e = by_test (same_tid tid t) refl e (some_in tid tids) 
   by_test false is h rest = inr (rest h)
 
 -- an attempt was begun exactly where its number is below the count of its transaction
-pub begun_test : (terms : Terms) (past : CoordPast) (tid : Tid) (n : ℕ) → IsMadeByEvents terms.protocols terms.policy past → n ≡ attempts_of past tid.tx → ltb tid.attempt n ≡ some_of (same_tid tid) (begun_tids past)
+pub begun_test : (terms : Terms) (past : CoordPast) (tid : Tid) (n : ℕ) → IsGoingOn terms.protocols terms.policy past → n ≡ attempts_of past tid.tx → ltb tid.attempt n ≡ some_of (same_tid tid) (begun_tids past)
 begun_test terms past tid n made is =
-    let (below, listed) = begin_in_order terms.protocols terms.policy past (going_on terms.protocols terms.policy past made) tid in
+    let (below, listed) = begin_in_order terms.protocols terms.policy past made tid in
     tests_agree (ltb tid.attempt n) (some_of (same_tid tid) (begun_tids past))
     (λ e. in_some tid (begun_tids past) (listed (subst (λ (m : ℕ). tid.attempt < m) is (ltb-true _ _ e))))
     (λ e. lt-ltb _ _ (subst (λ (m : ℕ). tid.attempt < m) (sym is) (below (some_in tid (begun_tids past) e))))

@@ -1,5 +1,5 @@
 -- What a line, and a stop, leaves of a past whose events fit the programs; and that a stop leaves the coordinator down.
-use Rattle.std.proofs.Common.{◌≡◌, ℕ, Bool, true, false, [], ◌∷◌, refl, sym, subst}
+use Rattle.std.proofs.Common.{◌≡◌, ℕ, Bool, true, false, [], ◌∷◌, inr, refl, sym, subst}
 use Rattle.std.proofs.lemmas.Bool.{cond-true}
 use Rattle.mdb_base.specs.Words.{when}
 use Rattle.fed_rules.specs.declared.answers.Answer.TheVariants as Say
@@ -17,9 +17,9 @@ use Rattle.coord_core.proofs.Endings.{trip_line}
 use Rattle.global_manager.specs.Stands.{FitsPrograms, IsOwned, OwnPrograms}
 
 -- a past goes on with the line of an event that fits
-pub owned_more : (terms : Terms) (programs : OwnPrograms) (past : CoordPast) (event : CoordEvent) → IsOwned programs past → FitsPrograms programs past event → IsOwned programs (line_of terms past event ∷ past)
+pub owned_more : (terms : Terms) (programs : OwnPrograms) (past : CoordPast) (event : CoordEvent) → IsOwned terms.protocols programs past → FitsPrograms programs past event → IsOwned terms.protocols programs (line_of terms past event ∷ past)
 owned_more terms programs past event owned fits =
-    (subst (FitsPrograms programs past) (sym (coord_made terms.protocols terms.policy past event).heard) fits, owned)
+    inr (subst (FitsPrograms programs past) (sym (coord_made terms.protocols terms.policy past event).heard) fits, owned)
 
 -- an event fits also where a trip is set before it
 still_fits : (programs : OwnPrograms) (past : CoordPast) (event : CoordEvent) (calls cut : ℕ) → FitsPrograms programs past event → FitsPrograms programs (quiet (Ev.Trip calls cut) Say.Set ∷ past) event
@@ -34,12 +34,12 @@ still_fits programs past Ev.Back calls cut f = f
 still_fits programs past Ev.Check calls cut f = f
 
 -- so what a stop before the event, or within it, leaves is of events that fit
-pub owned_before : (terms : Terms) (programs : OwnPrograms) (past : CoordPast) (cut : ℕ) → IsOwned programs past → IsOwned programs (stopped_before terms past cut)
+pub owned_before : (terms : Terms) (programs : OwnPrograms) (past : CoordPast) (cut : ℕ) → IsOwned terms.protocols programs past → IsOwned terms.protocols programs (stopped_before terms past cut)
 owned_before terms programs past cut owned =
     owned_more terms programs (with_trip terms past 0 0) (Ev.Halt cut) (owned_more terms programs past (Ev.Trip 0 0) owned tt) tt
 
-pub owned_within : (terms : Terms) (programs : OwnPrograms) (past : CoordPast) (event : CoordEvent) (calls cut : ℕ) → IsOwned programs past → FitsPrograms programs past event
-    → IsOwned programs (stopped_within terms past event calls cut)
+pub owned_within : (terms : Terms) (programs : OwnPrograms) (past : CoordPast) (event : CoordEvent) (calls cut : ℕ) → IsOwned terms.protocols programs past → FitsPrograms programs past event
+    → IsOwned terms.protocols programs (stopped_within terms past event calls cut)
 owned_within terms programs past event calls cut owned fits =
     owned_more terms programs (with_trip terms past calls cut) event (owned_more terms programs past (Ev.Trip calls cut) owned tt)
     (subst (λ (x : CoordHappening). FitsPrograms programs (x ∷ past) event) (sym (trip_line terms past calls cut)) (still_fits programs past event calls cut fits))

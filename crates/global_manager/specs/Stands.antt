@@ -20,6 +20,7 @@ use Rattle.fed_rules.specs.Policies.{Policy}
 use Rattle.fed_rules.specs.Requests.{Request, Submits, Declines, most_attempts}
 use Rattle.fed_rules.specs.Right.{MayPrint}
 use Rattle.fed_rules.specs.Scenarios.{global_line}
+use Rattle.coord_laws.specs.Pasts.{IsOpened}
 use Rattle.journal_disk.specs.Disk.{Seen}
 use Rattle.actor_store.specs.declared.errors.StepErr.{StepErr}
 use Rattle.actor_store.specs.declared.errors.StepErr.TheVariants as Err_is
@@ -42,10 +43,10 @@ abbrev pub FitsPrograms : OwnPrograms → CoordPast → CoordEvent → Type 0
 FitsPrograms programs past (Ev.Go tid steps) = IsNextAttempt programs past tid steps
 FitsPrograms programs past event = Unit {0}
 
--- each line's event fits the programs and the lines before it
-abbrev pub IsOwned : OwnPrograms → CoordPast → Type 0
-IsOwned programs [] = Unit {0}
-IsOwned programs (x ∷ past) = FitsPrograms programs past x.event × IsOwned programs past
+-- each line's event fits the programs and the lines before it, behind nothing or behind the past that a journal stands for
+abbrev pub IsOwned : List Participant → OwnPrograms → CoordPast → Type 0
+IsOwned protocols programs [] = Unit {0}
+IsOwned protocols programs (x ∷ past) = IsOpened protocols (x ∷ past) ⊎ (FitsPrograms programs past x.event × IsOwned protocols programs past)
 
 -- each step's site is one of these
 abbrev pub IsSited : List Participant → List Step → Type 0
@@ -56,7 +57,7 @@ pub record Owns (map : FinMap tx_cmp (List Step)) (terms : Terms) (programs : Ow
   pub held : (tx : Tx) → get map tx ≡ programs tx
   pub named : (tx : Tx) → IsSome (programs tx) → (1 ≤ tx.0) × (tx.0 ≤ 1024)
   pub sited : (tx : Tx) (steps : List Step) → programs tx ≡ Some steps → IsSited terms.protocols steps
-  pub owned : IsOwned programs past
+  pub owned : IsOwned terms.protocols programs past
 
 -- the manager has this past in memory; the test is the one that contracts see of a policy
 pub record Recalls {P : Type 0} (test : P → Policy) (manager : GlobalManager P) (terms : Terms) (programs : OwnPrograms) (past : CoordPast) : Type 0 where

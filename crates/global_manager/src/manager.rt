@@ -4,8 +4,12 @@ ghost use Rattle.mdb_base.specs.Counts.{HasCauseOf};
 ghost use Rattle.mdb_base.specs.Words.{Each};
 ghost use Rattle.presumptions.specs.declared.Participant.{Participant as TheParticipant};
 ghost use Rattle.record_fields.specs.Named.{IsSite};
+ghost use Rattle.fed_rules.specs.declared.records.CoordRecord.{CoordRecord};
+ghost use Rattle.fed_rules.specs.Found.{Journal};
+ghost use Rattle.fed_rules.specs.Reopened.{opened_coordinator};
 ghost use Rattle.fed_rules.specs.Requests.{Submits};
 ghost use Rattle.journal_disk.specs.Disk.{Seen};
+ghost use Rattle.coord_core.specs.Found.{IsFoundOn, SomeJournal};
 ghost use Rattle.coord_core.specs.Stands.{Holds, IsEmptyDisk, Stands as CoreStands};
 ghost use Rattle.global_manager.specs.Stands.{CanHand, CanServe, EachManaged, Fails, IsDeclared, Recalls, Sends, Serves, SomeManaged, Stands, own_programs, request_of};
 
@@ -54,6 +58,29 @@ impl<P: TakePolicy> GlobalManager<P> {
     {
         let programs = programs_of(alloc, transactions)?;
         let core = CoordCore::new(alloc, protocols, policy)?;
+        Ok(GlobalManager { core, programs })
+    }
+
+    /// A manager of these sites, of 1 to 8, that goes on from the journal that is found on its disk. It has no transactions of its own. The
+    /// coordinator is down, and `back` starts it with what the journal hasn't forgotten. The disk isn't changed, and a disk call fails only
+    /// where the disk's count of faults rises.
+    pub fn reopen<D: Disk>(
+        alloc: Global,
+        disk: &mut D,
+        protocols: Participants,
+        policy: P,
+    ) -> Result<GlobalManager<P>, StepErr>
+        requires told { IsTrue D.tells }
+        requires sites { Each (λ (member : TheParticipant). IsSite member.site) protocols }
+        requires found { SomeJournal (D.seen disk.old).image protocols }
+        ensures stands { IfOk result (λ manager. (journal : Journal CoordRecord) → IsFoundOn (D.seen disk.old).image protocols journal
+            → Stands P.policy D.tells manager (D.seen disk.new) (record { protocols = protocols; policy = P.policy policy }) (own_programs []) (opened_coordinator protocols journal)) }
+        ensures image { (D.seen disk.new).image ≡ (D.seen disk.old).image }
+        ensures size { (D.seen disk.new).size ≡ (D.seen disk.old).size }
+        ensures cause { HasCauseOf StepErr.Disk (D.seen disk.old).faults (D.seen disk.new).faults result }
+    {
+        let core = CoordCore::reopen(alloc, disk, protocols, policy)?;
+        let programs = BTreeMap::new(alloc);
         Ok(GlobalManager { core, programs })
     }
 

@@ -1,5 +1,5 @@
 -- What a past whose events fit the programs says of a site's own transactions.
-use Rattle.std.proofs.Common.{◌≡◌, ℕ, suc, ◌≤◌, ◌<◌, ◌⊎◌, Bool, true, false, is_some, IsSome, Option, None, [], ◌∷◌, length, refl, sym, ap, ◌∙◌, subst, inl, inr, arith}
+use Rattle.std.proofs.Common.{◌≡◌, ℕ, suc, ◌≤◌, ◌<◌, ◌⊎◌, Bool, true, false, is_some, IsSome, Option, None, [], ◌∷◌, refl, sym, ap, ◌∙◌, subst, inl, inr, arith}
 use Rattle.std.proofs.lemmas.Bool.{cond-true, cond-false, or_cases, or_from}
 use Rattle.mdb_base.specs.declared.names.Tid.{Tid}
 use Rattle.mdb_base.specs.declared.names.Tx.{Tx}
@@ -13,12 +13,13 @@ use Rattle.fed_rules.specs.Requests.{attempt}
 use Rattle.fed_rules.specs.SitePast.{SiteHappening, SitePast, attempts_of, begins_tx}
 use Rattle.fed_rules.specs.SiteRecords.{Home}
 use Rattle.rules_laws.proofs.SitePasts.{attempts_grow}
-use Rattle.site_core.specs.Made.{IsMade, about, begins_tid, is_of_global, is_of_local, was_begun, was_global, was_local}
+use Rattle.site_core.specs.Made.{IsGoingOn, IsNextLine, about, begins_tid, is_of_global, is_of_local, was_begun, was_global, was_local}
 use Rattle.site_core.specs.Stands.{Before, StopAt, Within, behind, stopped_past}
+use Rattle.site_core.proofs.BegunLaws.{none_opened, unbegun_opened}
 use Rattle.site_core.proofs.RuleWalks.{line_event}
 use Rattle.site_core.proofs.StopLaws.{trip_is, trip_line}
 use Rattle.local_dbms.specs.Stands.{FitsPrograms, IsOwned, OwnPrograms}
-use Rattle.local_dbms.proofs.Bounds.{made_small}
+use Rattle.local_dbms.proofs.Bounds.{epoch_bound, made_small, number_bound}
 use Rattle.local_dbms.proofs.Small.{IsBegunBy, IsSmall}
 
 by_bool : {P : Type 0} (b : Bool) → (b ≡ true → P) → (b ≡ false → P) → P
@@ -84,16 +85,17 @@ begun_tx event (Say.Begun t) tx b e = (t, b, same_tx-equal t.tx tx e)
 begun_tx event answer tx b e = cc
 
 -- the line of an event of a past that events made
-made_begun : (home : Home) (past : SitePast) (x : SiteHappening) → IsMade home (x ∷ past) → IsBegunBy x.event x.answer
-made_begun home past x made = (subst (IsSmall (suc (length past))) (sym made.0) (made_small home past made.2 x.event)).begun
+made_begun : (home : Home) (past : SitePast) (x : SiteHappening) → IsNextLine home past x → IsGoingOn home past → IsBegunBy x.event x.answer
+made_begun home past x line made = (subst (IsSmall (suc (number_bound past)) (suc (epoch_bound past))) (sym line.is) (made_small home past made x.event)).begun
 
 -- an attempt that was begun has a number below the count of its transaction
-pub begun_below : (home : Home) (programs : OwnPrograms) (past : SitePast) (u : Tid) → IsMade home past → IsOwned programs past → was_begun u past ≡ true → u.attempt < attempts_of past u.tx
+pub begun_below : (home : Home) (programs : OwnPrograms) (past : SitePast) (u : Tid) → IsGoingOn home past → IsOwned programs past → was_begun u past ≡ true → u.attempt < attempts_of past u.tx
 begun_below home programs [] u made owned e = cc
-begun_below home programs (x ∷ past) u made owned e = from (or_cases (begins_tid u x.answer) (was_begun u past) e) (begun_below home programs past u made.2 owned.1) where
+begun_below home programs (x ∷ past) u (inl opened) owned e = let never = unbegun_opened home (x ∷ past) opened u in cc
+begun_below home programs (x ∷ past) u (inr (line, made)) owned e = from (or_cases (begins_tid u x.answer) (was_begun u past) e) (begun_below home programs past u made owned.1) where
   from : ((begins_tid u x.answer ≡ true) ⊎ (was_begun u past ≡ true)) → (was_begun u past ≡ true → u.attempt < attempts_of past u.tx) → u.attempt < attempts_of (x ∷ past) u.tx
   from (inl now) rest =
-      let (is, of_tx) = begun_is x.event x.answer u (made_begun home past x made) now in
+      let (is, of_tx) = begun_is x.event x.answer u (made_begun home past x line made) now in
       let fits : FitsPrograms programs past (Ev.Begin u) = subst (FitsPrograms programs past) is owned.0 in
       let next : u.attempt ≡ attempts_of past u.tx = ap (λ (t : Tid). t.attempt) fits.1 in
       let counted : attempts_of (x ∷ past) u.tx ≡ suc (attempts_of past u.tx) = cond-true _ _ _ of_tx in
@@ -101,17 +103,18 @@ begun_below home programs (x ∷ past) u made owned e = from (or_cases (begins_t
   from (inr earlier) rest = let old = rest earlier in let more = attempts_grow past x u.tx in omega arith
 
 -- an attempt behind those that were begun wasn't
-pub next_unbegun : (home : Home) (programs : OwnPrograms) (past : SitePast) (tx : Tx) (n : ℕ) → IsMade home past → IsOwned programs past → attempts_of past tx ≤ n → was_begun (attempt tx n) past ≡ false
+pub next_unbegun : (home : Home) (programs : OwnPrograms) (past : SitePast) (tx : Tx) (n : ℕ) → IsGoingOn home past → IsOwned programs past → attempts_of past tx ≤ n → was_begun (attempt tx n) past ≡ false
 next_unbegun home programs past tx n made owned le =
     by_bool (was_begun (attempt tx n) past) (λ e. let below = begun_below home programs past (attempt tx n) made owned e in absurd (omega arith)) (λ e. e)
 
 -- at most 32 attempts are begun
-pub few_begun : (home : Home) (programs : OwnPrograms) (past : SitePast) (tx : Tx) → IsMade home past → IsOwned programs past → attempts_of past tx ≤ 32
+pub few_begun : (home : Home) (programs : OwnPrograms) (past : SitePast) (tx : Tx) → IsGoingOn home past → IsOwned programs past → attempts_of past tx ≤ 32
 few_begun home programs [] tx made owned = omega arith
-few_begun home programs (x ∷ past) tx made owned = by_bool (begins_tx tx x.answer) begins (λ e. subst (λ (n : ℕ). n ≤ 32) (sym (cond-false _ _ _ e)) (few_begun home programs past tx made.2 owned.1)) where
+few_begun home programs (x ∷ past) tx (inl opened) owned = subst (λ (n : ℕ). n ≤ 32) (sym (none_opened home (x ∷ past) opened tx)) (omega arith)
+few_begun home programs (x ∷ past) tx (inr (line, made)) owned = by_bool (begins_tx tx x.answer) begins (λ e. subst (λ (n : ℕ). n ≤ 32) (sym (cond-false _ _ _ e)) (few_begun home programs past tx made owned.1)) where
   begins : begins_tx tx x.answer ≡ true → attempts_of (x ∷ past) tx ≤ 32
   begins e =
-      let (t, is, of) = begun_tx x.event x.answer tx (made_begun home past x made) e in
+      let (t, is, of) = begun_tx x.event x.answer tx (made_begun home past x line made) e in
       let fits : FitsPrograms programs past (Ev.Begin t) = subst (FitsPrograms programs past) is owned.0 in
       let less : attempts_of past tx < 32 = subst (λ (v : Tx). attempts_of past v < 32) of fits.2 in
       let counted : attempts_of (x ∷ past) tx ≡ suc (attempts_of past tx) = cond-true _ _ _ e in

@@ -1,6 +1,6 @@
--- What each line of a site does at most: it draws one number, its records have numbers of at most one more than the lines before it, and it begins
--- none but the attempt of its own event.
-use Rattle.std.proofs.Common.{◌≡◌, ℕ, suc, ◌+◌, ◌≤◌, ◌==◌, Bool, true, false, cond, Option, Some, None, List, [], ◌∷◌, ◌++◌, length, refl, arith}
+-- What each line of a site does at most: it draws one number, its records have numbers and epochs of at most one more than those before it, and it
+-- begins none but the attempt of its own event.
+use Rattle.std.proofs.Common.{◌≡◌, ℕ, ◌+◌, ◌≤◌, ◌==◌, Bool, true, false, cond, Option, Some, None, List, [], ◌∷◌, ◌++◌, length, refl, arith}
 use Rattle.std.specs.Prelude.{nat_le}
 use Rattle.mdb_base.specs.declared.acts.PlainAct.{PlainAct}
 use Rattle.mdb_base.specs.declared.names.Tid.{Tid}
@@ -31,21 +31,21 @@ use Rattle.site_core.proofs.UpLaws.{act_answers, refusal_plain}
 use Rattle.engine_laws.proofs.Numbers.{draws}
 use Rattle.engine_laws.proofs.Keeps.{settling}
 
--- the numbers of a record are at most this one, and an epoch is at most one more
-abbrev pub IsBelow : ℕ → SiteRecord → Type 0
-IsBelow n (Rec.Start epoch) = epoch ≤ suc n
-IsBelow n (Rec.Prepared tid epoch number ticket writes) = (number ≤ n) × (ticket ≤ n)
-IsBelow n (Rec.Local tid number writes) = number ≤ n
-IsBelow n kept = Unit {0}
+-- the numbers of a record are at most the first of these, and an epoch is at most the second
+abbrev pub IsBelow : ℕ → ℕ → SiteRecord → Type 0
+IsBelow n m (Rec.Start epoch) = epoch ≤ m
+IsBelow n m (Rec.Prepared tid epoch number ticket writes) = (number ≤ n) × (ticket ≤ n)
+IsBelow n m (Rec.Local tid number writes) = number ≤ n
+IsBelow n m kept = Unit {0}
 
 -- an answer that begins an attempt is one to the begin of this attempt
 abbrev pub IsBegunBy : SiteEvent → Answer → Type 0
 IsBegunBy event (Say.Begun tid) = event ≡ Ev.Begin tid
 IsBegunBy event answer = Unit {0}
 
-pub record IsSmall (n : ℕ) (x : SiteHappening) : Type 0 where
+pub record IsSmall (n m : ℕ) (x : SiteHappening) : Type 0 where
   pub drawn : draws x.lines ≤ 1
-  pub kept : EachAppend (IsBelow n) x.calls
+  pub kept : EachAppend (IsBelow n m) x.calls
   pub begun : IsBegunBy x.event x.answer
 
 -- an answer that begins nothing
@@ -62,22 +62,22 @@ ended_fate : (event : SiteEvent) (b : Bool) → IsBegunBy event (cond b Say.Unbe
 ended_fate event true = tt
 ended_fate event false = tt
 
-ended_below : (n : ℕ) (tid : Tid) (decision : Decision) (b : Bool) → EachAppend (IsBelow n) (Append (Rec.Ended tid decision) ∷ cond b (Sync ∷ []) [])
-ended_below n tid decision true = (tt, tt)
-ended_below n tid decision false = (tt, tt)
+ended_below : (n m : ℕ) (tid : Tid) (decision : Decision) (b : Bool) → EachAppend (IsBelow n m) (Append (Rec.Ended tid decision) ∷ cond b (Sync ∷ []) [])
+ended_below n m tid decision true = (tt, tt)
+ended_below n m tid decision false = (tt, tt)
 
-back_below : (n e : ℕ) (b : Bool) → e ≤ suc n → EachAppend (IsBelow n) (cond b (CutBack ∷ []) [] ++ Append (Rec.Start e) ∷ Sync ∷ [])
-back_below n e true le = (le, tt)
-back_below n e false le = (le, tt)
+back_below : (n m e : ℕ) (b : Bool) → e ≤ m → EachAppend (IsBelow n m) (cond b (CutBack ∷ []) [] ++ Append (Rec.Start e) ∷ Sync ∷ [])
+back_below n m e true le = (le, tt)
+back_below n m e false le = (le, tt)
 
 -- a line with a right answer and no record
-abbrev Leaf : ℕ → SiteEvent → Type 0
-Leaf n event =
+abbrev Leaf : ℕ → ℕ → SiteEvent → Type 0
+Leaf n m event =
     (answer : Answer) (sends : List FromSite) (lines : List EngineLine) → IsBegunBy event answer → draws lines ≤ 1
-    → IsSmall n (record { event = event; answer = answer; sends = sends; calls = []; lines = lines })
+    → IsSmall n m (record { event = event; answer = answer; sends = sends; calls = []; lines = lines })
 
-leaf : (n : ℕ) (event : SiteEvent) → Leaf n event
-leaf n event answer sends lines begun drawn = record { drawn = drawn; kept = tt; begun = begun }
+leaf : (n m : ℕ) (event : SiteEvent) → Leaf n m event
+leaf n m event answer sends lines begun drawn = record { drawn = drawn; kept = tt; begun = begun }
 
 no_draw : 0 ≤ 1
 no_draw = omega arith
@@ -85,85 +85,85 @@ no_draw = omega arith
 one_draw : 1 ≤ 1
 one_draw = omega arith
 
-module _ (n : ℕ) (home : Home) (past : SitePast) (epochs : epoch home past + 1 ≤ suc n) (numbers : (tid : Tid) (run : Run) → live home past tid ≡ Some run → number_of home past run ≤ n)
+module _ (n m : ℕ) (home : Home) (past : SitePast) (epochs : epoch home past + 1 ≤ m) (numbers : (tid : Tid) (run : Run) → live home past tid ≡ Some run → number_of home past run ≤ n)
     (tickets : (tid : Tid) (run : Run) (t : ℕ) → live home past tid ≡ Some run → run.ticket ≡ Some t → t ≤ n) where
-  small_begin : (t : Tid) → IsSmall n (of_begin home past t)
+  small_begin : (t : Tid) → IsSmall n m (of_begin home past t)
   unfolding of_begin
-  small_begin t = by_pick (IsSmall n) _ _ _ (by_pick (IsSmall n) _ _ _ (leaf n _ _ _ _ refl one_draw) (λ r. leaf n _ _ _ _ tt no_draw)) (λ c. leaf n _ _ _ _ tt no_draw)
+  small_begin t = by_pick (IsSmall n m) _ _ _ (by_pick (IsSmall n m) _ _ _ (leaf n m _ _ _ _ refl one_draw) (λ r. leaf n m _ _ _ _ tt no_draw)) (λ c. leaf n m _ _ _ _ tt no_draw)
 
-  small_act : (t : Tid) (act : PlainAct) → IsSmall n (of_act home past t act)
+  small_act : (t : Tid) (act : PlainAct) → IsSmall n m (of_act home past t act)
   unfolding of_act
   small_act t act =
-      by_pick (IsSmall n) _ _ _ (leaf n _ _ _ _ tt no_draw)
-      (λ run. leaf n (Ev.Act t act) _ _ _ (unbegun (Ev.Act t act) (act_answer t (reply_to home past run act) act) (act_answers t act (reply_to home past run act)).2) no_draw)
+      by_pick (IsSmall n m) _ _ _ (leaf n m _ _ _ _ tt no_draw)
+      (λ run. leaf n m (Ev.Act t act) _ _ _ (unbegun (Ev.Act t act) (act_answer t (reply_to home past run act) act) (act_answers t act (reply_to home past run act)).2) no_draw)
 
-  small_commit : (t : Tid) → IsSmall n (of_commit home past t)
+  small_commit : (t : Tid) → IsSmall n m (of_commit home past t)
   unfolding of_commit Site.seals_local
   small_commit t =
-      by_found (IsSmall n) _ _ _ (leaf n _ _ _ _ tt no_draw)
-      (λ run e. by_pick (IsSmall n) _ _ _ (record { drawn = one_draw; kept = (numbers t run e, tt); begun = tt })
-      (λ why. leaf n (Ev.Commit t) _ _ _ (unbegun (Ev.Commit t) (refusal_answer why) (refusal_plain why).2) no_draw))
+      by_found (IsSmall n m) _ _ _ (leaf n m _ _ _ _ tt no_draw)
+      (λ run e. by_pick (IsSmall n m) _ _ _ (record { drawn = one_draw; kept = (numbers t run e, tt); begun = tt })
+      (λ why. leaf n m (Ev.Commit t) _ _ _ (unbegun (Ev.Commit t) (refusal_answer why) (refusal_plain why).2) no_draw))
 
-  small_abort : (t : Tid) → IsSmall n (of_abort home past t)
+  small_abort : (t : Tid) → IsSmall n m (of_abort home past t)
   unfolding of_abort
-  small_abort t = by_pick (IsSmall n) _ _ _ (leaf n _ _ _ _ tt no_draw) (λ run. leaf n _ _ _ _ tt no_draw)
+  small_abort t = by_pick (IsSmall n m) _ _ _ (leaf n m _ _ _ _ tt no_draw) (λ run. leaf n m _ _ _ _ tt no_draw)
 
-  small_fate : (tx : Tx) → IsSmall n (of_fate home past tx)
+  small_fate : (tx : Tx) → IsSmall n m (of_fate home past tx)
   unfolding of_fate
   small_fate tx =
-      by_pick (IsSmall n) _ _ _
-      (by_pick (IsSmall n) _ _ _ (leaf n (Ev.Fate tx) _ _ _ (ended_fate (Ev.Fate tx) (attempts_of past tx == 0)) no_draw) (λ r. leaf n _ _ _ _ tt no_draw)) (λ c. leaf n _ _ _ _ tt no_draw)
+      by_pick (IsSmall n m) _ _ _
+      (by_pick (IsSmall n m) _ _ _ (leaf n m (Ev.Fate tx) _ _ _ (ended_fate (Ev.Fate tx) (attempts_of past tx == 0)) no_draw) (λ r. leaf n m _ _ _ _ tt no_draw)) (λ c. leaf n m _ _ _ _ tt no_draw)
 
-  small_ask : (t : Tid) → IsSmall n (of_ask home past t)
+  small_ask : (t : Tid) → IsSmall n m (of_ask home past t)
   unfolding of_ask
-  small_ask t = by_pick (IsSmall n) _ _ _ (leaf n _ _ _ _ tt no_draw) (λ held. leaf n _ _ _ _ tt no_draw)
+  small_ask t = by_pick (IsSmall n m) _ _ _ (leaf n m _ _ _ _ tt no_draw) (λ held. leaf n m _ _ _ _ tt no_draw)
 
-  small_drop : (t : Tid) → IsSmall n (of_drop home past t)
+  small_drop : (t : Tid) → IsSmall n m (of_drop home past t)
   unfolding of_drop
-  small_drop t = by_when (IsSmall n) _ _ _ (leaf n _ _ _ _ tt no_draw) (by_pick (IsSmall n) _ _ _ (leaf n _ _ _ _ tt no_draw) (λ run. leaf n _ _ _ _ tt no_draw))
+  small_drop t = by_when (IsSmall n m) _ _ _ (leaf n m _ _ _ _ tt no_draw) (by_pick (IsSmall n m) _ _ _ (leaf n m _ _ _ _ tt no_draw) (λ run. leaf n m _ _ _ _ tt no_draw))
 
-  small_check : IsSmall n (of_check home past)
+  small_check : IsSmall n m (of_check home past)
   unfolding of_check
-  small_check = by_when (IsSmall n) _ _ _ (leaf n _ _ _ _ tt no_draw) (record { drawn = no_draw; kept = (tt, tt); begun = tt })
+  small_check = by_when (IsSmall n m) _ _ _ (leaf n m _ _ _ _ tt no_draw) (record { drawn = no_draw; kept = (tt, tt); begun = tt })
 
-  small_back : IsSmall n (of_back home past)
+  small_back : IsSmall n m (of_back home past)
   unfolding of_back
-  small_back = record { drawn = no_draw; kept = back_below n (epoch home past + 1) (is_torn site_frame (disk home past)) epochs; begun = tt }
+  small_back = record { drawn = no_draw; kept = back_below n m (epoch home past + 1) (is_torn site_frame (disk home past)) epochs; begun = tt }
 
-  small_work : (t : Tid) (e k : ℕ) (act : PlainAct) → IsSmall n (of_work home past t e k act)
+  small_work : (t : Tid) (e k : ℕ) (act : PlainAct) → IsSmall n m (of_work home past t e k act)
   unfolding of_work Site.work_live Site.first_work Site.next_work Site.repeated Site.unknown Site.did
   small_work t e k act =
-      by_when (IsSmall n) _ _ _ (leaf n _ _ _ _ tt no_draw)
-      (by_pick (IsSmall n) _ _ _ (by_when (IsSmall n) _ _ _ (leaf n _ _ _ _ tt one_draw) (leaf n _ _ _ _ tt no_draw))
-      (λ run. by_when (IsSmall n) _ _ _ (leaf n _ _ _ _ tt no_draw)
-      (by_when (IsSmall n) _ _ _ (leaf n _ _ _ _ tt no_draw) (by_when (IsSmall n) _ _ _ (leaf n _ _ _ _ tt no_draw) (leaf n _ _ _ _ tt no_draw)))))
+      by_when (IsSmall n m) _ _ _ (leaf n m _ _ _ _ tt no_draw)
+      (by_pick (IsSmall n m) _ _ _ (by_when (IsSmall n m) _ _ _ (leaf n m _ _ _ _ tt one_draw) (leaf n m _ _ _ _ tt no_draw))
+      (λ run. by_when (IsSmall n m) _ _ _ (leaf n m _ _ _ _ tt no_draw)
+      (by_when (IsSmall n m) _ _ _ (leaf n m _ _ _ _ tt no_draw) (by_when (IsSmall n m) _ _ _ (leaf n m _ _ _ _ tt no_draw) (leaf n m _ _ _ _ tt no_draw)))))
 
-  small_take : (t : Tid) (e k : ℕ) → IsSmall n (of_take home past t e k)
+  small_take : (t : Tid) (e k : ℕ) → IsSmall n m (of_take home past t e k)
   unfolding of_take Site.take_live Site.next_take Site.repeated Site.unknown Site.did
   small_take t e k =
-      by_when (IsSmall n) _ _ _ (leaf n _ _ _ _ tt no_draw)
-      (by_pick (IsSmall n) _ _ _ (leaf n _ _ _ _ tt no_draw)
-      (λ run. by_when (IsSmall n) _ _ _ (leaf n _ _ _ _ tt no_draw)
-      (by_when (IsSmall n) _ _ _ (leaf n _ _ _ _ tt no_draw) (by_when (IsSmall n) _ _ _ (leaf n _ _ _ _ tt no_draw) (leaf n _ _ _ _ tt no_draw)))))
+      by_when (IsSmall n m) _ _ _ (leaf n m _ _ _ _ tt no_draw)
+      (by_pick (IsSmall n m) _ _ _ (leaf n m _ _ _ _ tt no_draw)
+      (λ run. by_when (IsSmall n m) _ _ _ (leaf n m _ _ _ _ tt no_draw)
+      (by_when (IsSmall n m) _ _ _ (leaf n m _ _ _ _ tt no_draw) (by_when (IsSmall n m) _ _ _ (leaf n m _ _ _ _ tt no_draw) (leaf n m _ _ _ _ tt no_draw)))))
 
-  small_prepare : (t : Tid) (e k : ℕ) → IsSmall n (of_prepare home past t e k)
+  small_prepare : (t : Tid) (e k : ℕ) → IsSmall n m (of_prepare home past t e k)
   unfolding of_prepare Site.prepare_live Site.seals_global Site.votes_again Site.votes_no Site.votes_yes
   small_prepare t e k =
-      by_pick (IsSmall n) _ _ _
-      (by_found (IsSmall n) _ _ _ (leaf n _ _ _ _ tt no_draw)
-      (λ run lives. by_when (IsSmall n) _ _ _
-      (by_found (IsSmall n) _ _ _ (leaf n _ _ _ _ tt no_draw)
-      (λ ticket has. by_pick (IsSmall n) _ _ _ (record { drawn = one_draw; kept = ((numbers t run lives, tickets t run ticket lives has), tt); begun = tt }) (λ why. leaf n _ _ _ _ tt no_draw)))
-      (leaf n _ _ _ _ tt no_draw)))
-      (λ held. by_when (IsSmall n) _ _ _ (leaf n _ _ _ _ tt no_draw) (leaf n _ _ _ _ tt no_draw))
+      by_pick (IsSmall n m) _ _ _
+      (by_found (IsSmall n m) _ _ _ (leaf n m _ _ _ _ tt no_draw)
+      (λ run lives. by_when (IsSmall n m) _ _ _
+      (by_found (IsSmall n m) _ _ _ (leaf n m _ _ _ _ tt no_draw)
+      (λ ticket has. by_pick (IsSmall n m) _ _ _ (record { drawn = one_draw; kept = ((numbers t run lives, tickets t run ticket lives has), tt); begun = tt }) (λ why. leaf n m _ _ _ _ tt no_draw)))
+      (leaf n m _ _ _ _ tt no_draw)))
+      (λ held. by_when (IsSmall n m) _ _ _ (leaf n m _ _ _ _ tt no_draw) (leaf n m _ _ _ _ tt no_draw))
 
-  small_decide : (t : Tid) (decision : Decision) → IsSmall n (of_decide home past t decision)
+  small_decide : (t : Tid) (decision : Decision) → IsSmall n m (of_decide home past t decision)
   unfolding of_decide Site.unheld Site.settles
   small_decide t decision =
-      by_pick (IsSmall n) _ _ _ (by_pick (IsSmall n) _ _ _ (leaf n _ _ _ _ tt no_draw) (λ run. leaf n _ _ _ _ tt no_draw))
-      (λ held. record { drawn = settling t decision; kept = ended_below n t decision (forces home.protocol decision); begun = tt })
+      by_pick (IsSmall n m) _ _ _ (by_pick (IsSmall n m) _ _ _ (leaf n m _ _ _ _ tt no_draw) (λ run. leaf n m _ _ _ _ tt no_draw))
+      (λ held. record { drawn = settling t decision; kept = ended_below n m t decision (forces home.protocol decision); begun = tt })
 
-  small_answered : (event : SiteEvent) → IsSmall n (answered home past event)
+  small_answered : (event : SiteEvent) → IsSmall n m (answered home past event)
   unfolding answered of_give
   small_answered (Ev.Begin t) = small_begin t
   small_answered (Ev.Act t act) = small_act t act
@@ -176,25 +176,25 @@ module _ (n : ℕ) (home : Home) (past : SitePast) (epochs : epoch home past + 1
   small_answered (Ev.Give (To.Decide t decision)) = small_decide t decision
   small_answered (Ev.Ask t) = small_ask t
   small_answered (Ev.Drop t) = small_drop t
-  small_answered (Ev.Halt cut) = leaf n _ _ _ _ tt no_draw
-  small_answered (Ev.Trip calls cut) = leaf n _ _ _ _ tt no_draw
+  small_answered (Ev.Halt cut) = leaf n m _ _ _ _ tt no_draw
+  small_answered (Ev.Trip calls cut) = leaf n m _ _ _ _ tt no_draw
   small_answered Ev.Back = small_back
   small_answered Ev.Check = small_check
 
-  small_tripped : (o : Option Trip) (x : SiteHappening) → IsSmall n x → IsSmall n (tripped site_frame (disk home past) o x)
+  small_tripped : (o : Option Trip) (x : SiteHappening) → IsSmall n m x → IsSmall n m (tripped site_frame (disk home past) o x)
   unfolding tripped stopped
   small_tripped None x s = s
   small_tripped (Some t) x s =
-      by_when (IsSmall n) (nat_le t.calls (length x.calls)) _ x (record { drawn = no_draw; kept = append_take (IsBelow n) t.calls x.calls (Stops t.cut ∷ []) s.kept tt; begun = tt }) s
+      by_when (IsSmall n m) (nat_le t.calls (length x.calls)) _ x (record { drawn = no_draw; kept = append_take (IsBelow n m) t.calls x.calls (Stops t.cut ∷ []) s.kept tt; begun = tt }) s
 
-  small_up : (event : SiteEvent) → IsSmall n (when (is_down past) (quiet event Say.Down) (unless_tripped home past (answered home past event)))
-  small_up event = by_when (IsSmall n) (is_down past) _ _ (leaf n _ _ _ _ tt no_draw) (small_tripped (trip past) (answered home past event) (small_answered event))
+  small_up : (event : SiteEvent) → IsSmall n m (when (is_down past) (quiet event Say.Down) (unless_tripped home past (answered home past event)))
+  small_up event = by_when (IsSmall n m) (is_down past) _ _ (leaf n m _ _ _ _ tt no_draw) (small_tripped (trip past) (answered home past event) (small_answered event))
 
-  pub small_line : (event : SiteEvent) → IsSmall n (site_line home past event)
+  pub small_line : (event : SiteEvent) → IsSmall n m (site_line home past event)
   unfolding site_line stopped
-  small_line (Ev.Trip calls cut) = leaf n _ _ _ _ tt no_draw
-  small_line (Ev.Halt cut) = by_when (IsSmall n) (is_down past) _ _ (leaf n _ _ _ _ tt no_draw) (record { drawn = no_draw; kept = tt; begun = tt })
-  small_line Ev.Back = by_when (IsSmall n) (is_down past) _ _ (small_tripped (trip past) (of_back home past) small_back) (leaf n _ _ _ _ tt no_draw)
+  small_line (Ev.Trip calls cut) = leaf n m _ _ _ _ tt no_draw
+  small_line (Ev.Halt cut) = by_when (IsSmall n m) (is_down past) _ _ (leaf n m _ _ _ _ tt no_draw) (record { drawn = no_draw; kept = tt; begun = tt })
+  small_line Ev.Back = by_when (IsSmall n m) (is_down past) _ _ (small_tripped (trip past) (of_back home past) small_back) (leaf n m _ _ _ _ tt no_draw)
   small_line (Ev.Begin t) = small_up (Ev.Begin t)
   small_line (Ev.Act t act) = small_up (Ev.Act t act)
   small_line (Ev.Commit t) = small_up (Ev.Commit t)

@@ -9,16 +9,23 @@ ghost use Rattle.fed_rules.specs.Requests.{Submits};
 ghost use Rattle.fed_rules.specs.SitePast.{set_up_calls};
 ghost use Rattle.journal_disk.specs.Disk.{Seen};
 ghost use Rattle.engine_contract.specs.Calls.{fresh_start};
-ghost use Rattle.site_core.specs.Stands.{Holds, Stands as CoreStands};
+ghost use Rattle.fed_rules.specs.declared.records.SiteRecord.{SiteRecord};
+ghost use Rattle.fed_rules.specs.Found.{Journal};
+ghost use Rattle.fed_rules.specs.Reopened.{opened_site};
+ghost use Rattle.fed_rules.specs.SiteRecords.{Home};
+ghost use Rattle.local_dbms.specs.Found.{found_programs};
+ghost use Rattle.site_core.specs.Found.{IsFoundOn, SomeJournal};
+ghost use Rattle.site_core.specs.Stands.{Holds, IsOfKind, Stands as CoreStands};
 ghost use Rattle.site_core.specs.Store.{SomeStop};
 ghost use Rattle.local_dbms.specs.Stands.{CanHand, CanServe, Each_site, Fails, IsNamed, Recalls, Sends, Serves, Some_site, Stands, home_from, own_programs, program_in, request_of};
 
+use crate::found::programs_found;
 use crate::programs::programs_of;
 use crate::requests::Request;
 use engine_contract::LocalEngine;
 use fed_rules::{Answer, SiteEvent, SiteLine, SiteStep, TxLine};
 use journal_disk::Disk;
-use mdb_base::{Program, Puts, Tx};
+use mdb_base::{Memory, Program, Puts, Tx};
 use site_core::{SiteCore, StepErr};
 use std::alloc::Global;
 
@@ -59,6 +66,25 @@ impl<E: LocalEngine> LocalDbms<E> {
         let (site, engine, protocol) = (line.site, line.engine, line.protocol);
         match SiteCore::set_up(alloc, disk, site, engine, items, protocol, local) {
             Ok(core) => Ok(LocalDbms { core, programs }),
+            Err(why) => Err(why),
+        }
+    }
+
+    /// Goes on from the journal that is found on the disk: the site is down. The disk isn't changed. `local` is an engine of the journal's
+    /// rule. Its own transactions are those that have a local attempt in the journal, with programs that are made up.
+    pub fn reopen<D: Disk>(alloc: Global, disk: &mut D, local: E) -> Result<LocalDbms<E>, StepErr>
+        requires told { IsTrue D.tells }
+        requires found { SomeJournal E.stands local (D.seen disk.old).image }
+        ensures stands { IfOk result (λ dbms. (home : Home) (journal : Journal SiteRecord) → IsFoundOn (D.seen disk.old).image home journal → IsOfKind E.stands local home.engine
+            → Stands E.stands D.tells dbms (D.seen disk.new) home (found_programs journal.records) (opened_site journal)) }
+        ensures image { (D.seen disk.new).image ≡ (D.seen disk.old).image }
+        ensures cause { HasCauseOf StepErr.Disk (D.seen disk.old).faults (D.seen disk.new).faults result }
+    {
+        match SiteCore::reopen(alloc, disk, local) {
+            Ok(core) => match programs_found(alloc, core.records()) {
+                Ok(programs) => Ok(LocalDbms { core, programs }),
+                Err(Memory) => Err(StepErr::Memory),
+            },
             Err(why) => Err(why),
         }
     }

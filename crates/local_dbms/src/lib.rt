@@ -3,6 +3,7 @@
 #![tactic(auto)]
 
 mod dbms;
+mod found;
 mod looks;
 mod programs;
 mod requests;

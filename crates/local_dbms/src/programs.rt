@@ -34,7 +34,7 @@ pub(crate) fn plain(act: Act, reads: &[u64]) -> PlainAct
 }
 
 /// Makes the list reach to the number of a transaction. What stands in it stays.
-fn reach(programs: &mut Vec<Option<Program>>, tx: Tx) -> Result<(), Memory>
+pub(crate) fn reach(programs: &mut Vec<Option<Program>>, tx: Tx) -> Result<(), Memory>
     ensures reached { OnOk result (tx.0 < length programs.new.items) }
     ensures same { OnOk result ((other : TheTx) → program_in programs.new.items other ≡ program_in programs.old.items other) }
 {

@@ -27,6 +27,7 @@ use Rattle.fed_rules.specs.SitePast.{records}
 use Rattle.fed_rules.specs.SiteRecords.{Home, installs}
 use Rattle.fed_rules.specs.Story.{Story, past_of, story_of}
 use Rattle.engine_laws.proofs.Rows.{rising_items, rising_rows_after}
+use Rattle.site_history.proofs.DeclaredHomes.{home_rises}
 use Rattle.closing_laws.specs.AtRest.{IsAtRest}
 use Rattle.scenario_maker.specs.Made.{made, made_items, made_sites}
 use Rattle.scenario_maker.proofs.Sound.{made_is_scenario}
@@ -39,26 +40,12 @@ use Rattle.made_laws.proofs.SiteLists.{home_there, sites_distinct, sites_many, t
 
 -- ---- the rows of a site rise
 
-home_rising : (lines : List SiteLine) (items : List ItemLine) (s : SiteId) (home : Home) → home_in lines items s ≡ Some home → IsRising (λ r. r.key.0) home.items
-home_rising [] items s home e = cc
-home_rising (line ∷ lines) items s home e = by_test (same_site line.site s) e (home_rising lines items s home)
-  where
-    mine : Home
-    mine = record { site = line.site; engine = line.engine; protocol = line.protocol; items = items_of items s }
-
-    by_test : (b : Bool) → cond b (Some mine) (home_in lines items s) ≡ Some home → (home_in lines items s ≡ Some home → IsRising (λ r. r.key.0) home.items) → IsRising (λ r. r.key.0) home.items
-    by_test true f k = subst (λ (h : Home). IsRising (λ r. r.key.0) h.items) (some_same mine home f) (rising_items items s)
-      where
-        some_same : (a b : Home) → Some a ≡ Some b → a ≡ b
-        some_same a b f = cc
-    by_test false f k = k f
-
 table_rising : (scenario : Scenario) (story : Story) (s : SiteId) → IsRising (λ r. r.key.0) (table_of scenario story s)
 table_rising scenario story s = by_home (home_of scenario s) refl
   where
     by_home : (o : Option Home) → home_of scenario s ≡ o → IsRising (λ r. r.key.0) (table_at o story)
     by_home None e = tt
-    by_home (Some home) e = rising_rows_after home.items (installs (records home (past_of home.site story))) (home_rising scenario.sites scenario.items s home e)
+    by_home (Some home) e = rising_rows_after home.items (installs (records home (past_of home.site story))) (home_rises scenario.sites scenario.items s home e)
 
 -- ---- worth
 

@@ -1,16 +1,12 @@
 -- The disks that a session leaves that began with empty disks: a session goes on from them, and from what a stop leaves of that one.
-use Rattle.std.proofs.Common.{◌≡◌, ℕ, ◌+◌, ◌≤◌, ◌<◌, ◌^◌, ◌⊎◌, Bool, true, false, cond, Some, List, [], ◌∷◌, length, refl, sym, ap, subst, ◌∙◌, inl, inr, arith}
-use Rattle.mdb_base.specs.declared.names.SiteId.{SiteId}
+use Rattle.std.proofs.Common.{◌≡◌, ℕ, ◌+◌, ◌≤◌, ◌<◌, ◌^◌, ◌⊎◌, Some, List, [], ◌∷◌, length, refl, sym, ap, subst, ◌∙◌, inl, inr, arith}
 use Rattle.mdb_base.specs.declared.names.Tid.{Tid}
-use Rattle.mdb_base.specs.Names.{same_site}
 use Rattle.mdb_base.specs.Rising.{IsRising}
 use Rattle.mdb_base.specs.Words.{Each}
 use Rattle.fed_rules.specs.declared.commands.Command.{Command}
 use Rattle.fed_rules.specs.declared.records.SiteRecord.{SiteRecord}
 use Rattle.fed_rules.specs.declared.records.SiteRecord.TheVariants.{Checkpoint}
-use Rattle.fed_rules.specs.declared.scenario.ItemLine.{ItemLine}
 use Rattle.fed_rules.specs.declared.scenario.Scenario.{Scenario}
-use Rattle.fed_rules.specs.declared.scenario.SiteLine.{SiteLine}
 use Rattle.fed_rules.specs.declared.sums.SiteSum.{SiteSum}
 use Rattle.fed_rules.specs.CoordPast as Coordinator
 use Rattle.fed_rules.specs.CoordRecords.{coord_frame}
@@ -18,7 +14,7 @@ use Rattle.fed_rules.specs.Found.{Found, Journal}
 use Rattle.fed_rules.specs.Plans.{IsScenario}
 use Rattle.fed_rules.specs.Reopened.{first_of}
 use Rattle.fed_rules.specs.Resumed.{journal_on, left_by, resumed}
-use Rattle.fed_rules.specs.Scenarios.{home_in, home_of, items_of}
+use Rattle.fed_rules.specs.Scenarios.{home_of}
 use Rattle.fed_rules.specs.Site.{site_past}
 use Rattle.fed_rules.specs.SitePast.{SitePast, epoch, journal, records}
 use Rattle.fed_rules.specs.SiteRecords.{Home, epoch_of, installs}
@@ -26,6 +22,7 @@ use Rattle.fed_rules.specs.SiteSums.{journal_sum, site_sum}
 use Rattle.fed_rules.specs.Story.{coord_past, past_of, story_of}
 use Rattle.fed_rules.specs.Usable.{AreUnnamed, IsUsableCoordinator, home_of_first, read}
 use Rattle.commit_laws.proofs.Links.{home-again}
+use Rattle.site_history.proofs.DeclaredHomes.{home_rises}
 use Rattle.site_history.specs.SiteOrders.{OfSortedEvents}
 use Rattle.site_history.proofs.SitesOfStories.{of_events}
 use Rattle.site_history.specs.Sums.{JournalSaysAll}
@@ -44,22 +41,12 @@ use Rattle.resume_laws.specs.FoundSessions.{AreUsable, IsOfFormat, RowsRise}
 use Rattle.resume_laws.proofs.AgainSessions.{disks_of, each_journal, sessions_leave_usable, stopped_keep_outcomes}
 use Rattle.resume_laws.proofs.FoundSessions.{sessions_rest}
 use Rattle.mdb_base.proofs.ListLaws.{each_map}
-use Rattle.mdb_base.proofs.OptionLaws.{some_parts}
 use Rattle.fed_rules.specs.Endings.{outcome_in}
-use Rattle.engine_laws.proofs.Rows.{rising_rows_after, rising_items}
+use Rattle.engine_laws.proofs.Rows.{rising_rows_after}
 use Rattle.resume_laws.proofs.GoesOn.{all_outcomes_stay, same_plan}
 use Rattle.resume_laws.proofs.PlanSites.{protocols_rise}
 use Rattle.resume_laws.proofs.Readable.{disks_readable}
 use Rattle.resume_laws.proofs.SiteGoes.{IsGoing, epoch_same}
-
-home_rises : (lines : List SiteLine) (items : List ItemLine) (site : SiteId) (home : Home) → home_in lines items site ≡ Some home → IsRising (λ put. put.key.0) home.items
-home_rises [] items site home e = cc
-home_rises (line ∷ lines) items site home e = by_test (same_site line.site site) e (home_rises lines items site home)
-  where
-    by_test : (b : Bool) → cond b (Some (record { site = line.site; engine = line.engine; protocol = line.protocol; items = items_of items site })) (home_in lines items site) ≡ Some home
-        → (home_in lines items site ≡ Some home → IsRising (λ put. put.key.0) home.items) → IsRising (λ put. put.key.0) home.items
-    by_test true f rest = subst (λ (h : Home). IsRising (λ put. put.key.0) h.items) (some_parts f) (rising_items items site)
-    by_test false f rest = rest f
 
 -- how a journal begins
 record BeginsSo (home : Home) (past : SitePast) : Type 0 where

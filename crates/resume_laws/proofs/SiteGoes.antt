@@ -18,6 +18,7 @@ use Rattle.fed_rules.specs.SiteSums.{journal_sum, last_sum, site_sum, sum_behind
 use Rattle.fed_rules.specs.Usable.{EpochsRise, IsLocalOf, IsOfSite, IsUsableSite, counted, home_of_first, read}
 use Rattle.engine_laws.proofs.Rows.{rising_rows_after}
 use Rattle.rules_laws.proofs.SiteRecords.{epoch_same as epoch_is}
+use Rattle.site_history.proofs.OpenedSums.{counted_more}
 use Rattle.site_history.proofs.Starts.{doubt_tid}
 use Rattle.site_history.specs.FoundSites.{WritesRise}
 use Rattle.site_history.proofs.Doubtful.{are_doubts, doubts_are}
@@ -26,7 +27,7 @@ use Rattle.site_history.proofs.OpenedSums.{read_more}
 use Rattle.sum_laws.proofs.ReadAs.{sites_read}
 use Rattle.resume_laws.specs.FoundSessions.{RowsRise}
 use Rattle.resume_laws.proofs.SiteMore.{local_counts, usable_alone, usable_checked, usable_ended, usable_front, usable_started}
-use Rattle.resume_laws.proofs.SumFacts.{counted_more, says, site_found, sum_apart, sum_below, sum_doubts, sum_held, sum_locals, sum_of_some, sum_one, sum_parted, sum_rise, sum_within}
+use Rattle.resume_laws.proofs.SumFacts.{says, site_found, sum_apart, sum_below, sum_doubts, sum_held, sum_locals, sum_of_some, sum_one, sum_parted, sum_rise, sum_within}
 
 -- behind a journal that was found, with epochs up to this one
 pub record IsGoing (home : Home) (found : List SiteRecord) (most : ℕ) (js : List SiteRecord) : Type 0 where

@@ -25,7 +25,7 @@ use Rattle.site_history.proofs.Doubted.{are_doubt}
 use Rattle.disk_laws.proofs.SiteLeft.{AreHeld}
 use Rattle.disk_laws.proofs.SiteOnce.{OneOfTx, once_carried}
 use Rattle.disk_laws.proofs.SiteRead.{counts_as}
-use Rattle.resume_laws.proofs.SumFacts.{counted_more}
+use Rattle.site_history.proofs.OpenedSums.{counted_more}
 use Rattle.disk_laws.proofs.SiteDrawers.{doubt_numbers}
 
 -- ---- fronts

@@ -15,6 +15,7 @@ use Rattle.fed_rules.specs.SiteRecords.{Held, Home, doubts, epoch_of, kept_held,
 use Rattle.fed_rules.specs.SiteSums.{carried, locals_with, site_sum}
 use Rattle.fed_rules.specs.Usable.{AreSumsOfSome, IsBelow, IsGlobalOf, IsHeldBelow, IsLocalOf, IsSumOfSome, IsUsableSite, IsWithin, OnceEach, RiseBy, counted, home_of_first, read, OfFronts}
 use Rattle.rules_laws.proofs.SiteRecords.{epoch_same}
+use Rattle.site_history.proofs.OpenedSums.{counted_more}
 use Rattle.site_history.proofs.Fronts.{whole_of_fronts}
 use Rattle.site_history.proofs.Records.{doubt_in, record_of}
 use Rattle.site_history.proofs.WellKept.{StartsWell}
@@ -33,14 +34,6 @@ use Rattle.site_history.proofs.UsableSites.{locals_from, sites_go_on}
 use Rattle.disk_laws.proofs.SiteRead.{counts_as, doubts_read, installs_read}
 
 -- ---- the local ones of those that count
-
-pub counted_more : (newest next : SiteRecord) (older : List SiteRecord) → counted (newest ∷ next ∷ older) ≡ newest ∷ counted (next ∷ older)
-counted_more (Setup site engine protocol items) next older = refl
-counted_more (Start n) next older = refl
-counted_more (Prepared t e n ticket writes) next older = refl
-counted_more (Ended t d) next older = refl
-counted_more (Local t n writes) next older = refl
-counted_more (Checkpoint sum) next older = refl
 
 locals_over : (xs ys : List SiteRecord) → locals_with [] ys ≡ [] → locals_with [] (xs ++ ys) ≡ locals_with [] xs
 locals_over [] ys none = none

@@ -40,15 +40,13 @@ use Rattle.actor_store.specs.Store.{Passes, is_up}
 use Rattle.actor_store.proofs.StoreLaws.{settled}
 use Rattle.rules_laws.specs.Durable.{IsFrontOf}
 use Rattle.rules_laws.proofs.SiteRecords.{epoch_same}
-use Rattle.site_history.specs.SiteOrders.{HasGoodStarts}
 use Rattle.site_history.proofs.Restarts.{once_doubts}
-use Rattle.site_history.proofs.WellKept.{starts_well}
 use Rattle.site_book.specs.Book.{Book, begun_in, committed_in, restarted}
 use Rattle.site_book.specs.Follows.{Follows, progress_by}
 use Rattle.site_core.specs.Order.{IsInOrder}
 use Rattle.site_book.proofs.Starts as Book_starts
 use Rattle.site_core.specs.declared.site.SiteCore.{SiteCore}
-use Rattle.site_core.specs.Made.{IsMade}
+use Rattle.site_core.specs.Made.{IsGoingOn}
 use Rattle.site_core.specs.Notes.{Notes}
 use Rattle.site_core.specs.Recovered.{LocalsOnce, held_tid}
 use Rattle.site_core.specs.Stands.{Answers, Breaks, Carries, IsIn, IsOfKind, IsStopped, IsUp, Remembers, Stands}
@@ -56,7 +54,7 @@ use Rattle.site_core.specs.Store.{Ends, Keeps, Store, cut_calls}
 use Rattle.site_history.proofs.Founded.{all_within, founded}
 use Rattle.commit_laws.proofs.SiteShut.{restored-sealed}
 use Rattle.journal_sums.proofs.DifferLaws.{apart_once}
-use Rattle.site_core.proofs.MadeLaws.{of_made}
+use Rattle.site_core.proofs.MadeLaws.{made_starts}
 use Rattle.site_core.proofs.NotesLaws.{IsKnown, order_restarted}
 use Rattle.site_core.proofs.OnceLaws.{AppendsOnce, once_calls, once_stopped}
 use Rattle.site_core.proofs.RememberLaws.{answers_as, carries_same, carries_stop, down_is, kept_records, kind_at, passes_is, stop_line, stopped_at, trips_is}
@@ -102,8 +100,8 @@ kept_tids [] = refl
 kept_tids (held ∷ helds) = ap (λ (ts : List Tid). held.tid ∷ ts) (kept_tids helds)
 
 -- what a start of a site that events made begins from is good, and its doubts are apart
-pub start_good : (home : Home) (past : SitePast) → IsMade home past → IsStart (start_of home (Past.records home past))
-start_good home past made = (of_made HasGoodStarts starts_well home past made).restart (Past.records home past) ([], refl)
+pub start_good : (home : Home) (past : SitePast) → IsGoingOn home past → IsStart (start_of home (Past.records home past))
+start_good home past made = (made_starts home past made).restart (Past.records home past) ([], refl)
 
 pub doubts_apart_here : (home : Home) (past : SitePast) → AreApart (map doubt_held (doubts (Past.records home past)))
 doubts_apart_here home past = apart_once (doubts (Past.records home past)) (once_doubts (Past.records home past))

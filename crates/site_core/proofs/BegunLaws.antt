@@ -1,10 +1,10 @@
 -- A line of a site begins a local attempt only as the answer to its begin; so none of a global transaction is begun so.
-use Rattle.std.proofs.Common.{◌≡◌, Bool, true, false, cond, ◌==◌, Option, Some, None, List, [], ◌∷◌, length, refl, sym, ◌∙◌, subst}
+use Rattle.std.proofs.Common.{◌≡◌, Bool, true, false, cond, ◌==◌, ◌||◌, Option, Some, None, List, [], ◌∷◌, length, refl, sym, ap, ◌∙◌, subst, inl, inr}
 use Rattle.std.specs.Prelude.{nat_le}
 use Rattle.std.proofs.lemmas.Bool.{cond-false, or_parts}
 use Rattle.mdb_base.specs.declared.names.Tid.{Tid}
 use Rattle.mdb_base.specs.declared.names.Tx.{Tx}
-use Rattle.mdb_base.specs.Words.{when}
+use Rattle.mdb_base.specs.Words.{Each, when}
 use Rattle.fed_rules.specs.declared.answers.Answer.{Answer}
 use Rattle.fed_rules.specs.declared.answers.Answer.TheVariants as Say
 use Rattle.fed_rules.specs.declared.events.SiteEvent.{SiteEvent}
@@ -19,8 +19,10 @@ use Rattle.fed_rules.specs.Runs.{EngineLine}
 use Rattle.fed_rules.specs.Site as Site
 use Rattle.fed_rules.specs.Site.{answered, of_abort, of_act, of_ask, of_back, of_begin, of_check, of_commit, of_decide, of_drop, of_fate, of_give, of_prepare, of_take, of_work, reply_to, site_line}
 use Rattle.fed_rules.specs.SitePast.{SiteHappening, SitePast, attempts_of, begins_tx, disk, trip}
+use Rattle.fed_rules.specs.Reopened.{site_opening}
 use Rattle.fed_rules.specs.SiteRecords.{Home, site_frame}
-use Rattle.site_core.specs.Made.{IsMade, is_of_local, was_local}
+use Rattle.site_core.specs.Made.{IsGoingOn, IsOpened, begins_tid, is_of_local, was_begun, was_local}
+use Rattle.site_core.proofs.NamedLines.{each_named}
 use Rattle.site_core.proofs.RuleWalks.{by_pick, by_when}
 use Rattle.site_core.proofs.UpLaws.{act_answers, refusal_plain}
 
@@ -82,11 +84,36 @@ module _ (P : SiteHappening → Type 0) (home : Home) (past : SitePast)
   line_begins Ev.Back = by_when P (is_down past) _ _ (by_trip (trip past) _ (other _ _ _ _ _ (λ tx. refl))) (other _ _ _ _ _ (λ tx. refl))
   line_begins Ev.Check = by_up _ _ (by_when P _ _ _ (other _ _ _ _ _ (λ tx. refl)) (other _ _ _ _ _ (λ tx. refl)))
 
+-- the past that a journal stands for begins no local attempt
+record IsSilent (x : SiteHappening) : Type 0 where
+  txs : (tx : Tx) → begins_tx tx x.answer ≡ false
+  tids : (tid : Tid) → begins_tid tid x.answer ≡ false
+
+opened_silent : (home : Home) (past : SitePast) → IsOpened home past → Each IsSilent past
+opened_silent home past o =
+    let silent : IsSilent (site_opening o.journal) = record { txs = (λ tx. refl); tids = (λ tid. refl) } in
+    subst (Each IsSilent) (sym o.is) (silent, each_named IsSilent (λ t. record { txs = (λ tx. refl); tids = (λ tid. refl) }) (λ t. record { txs = (λ tx. refl); tids = (λ tid. refl) }) o.journal.records)
+
+silent_counts : (past : SitePast) → Each IsSilent past → (tx : Tx) → attempts_of past tx ≡ 0
+silent_counts [] q tx = refl
+silent_counts (x ∷ past) q tx = cond-false _ _ _ (q.0.txs tx) ∙ silent_counts past q.1 tx
+
+silent_names : (past : SitePast) → Each IsSilent past → (tid : Tid) → was_begun tid past ≡ false
+silent_names [] q tid = refl
+silent_names (x ∷ past) q tid = ap (λ b. b || was_begun tid past) (q.0.tids tid) ∙ silent_names past q.1 tid
+
+pub none_opened : (home : Home) (past : SitePast) → IsOpened home past → (tx : Tx) → attempts_of past tx ≡ 0
+none_opened home past o tx = silent_counts past (opened_silent home past o) tx
+
+pub unbegun_opened : (home : Home) (past : SitePast) → IsOpened home past → (tid : Tid) → was_begun tid past ≡ false
+unbegun_opened home past o tid = silent_names past (opened_silent home past o) tid
+
 -- a transaction that no event of a local attempt named has no local attempt
-pub none_begun : (home : Home) (past : SitePast) (tx : Tx) → IsMade home past → was_local tx past ≡ false → attempts_of past tx ≡ 0
+pub none_begun : (home : Home) (past : SitePast) (tx : Tx) → IsGoingOn home past → was_local tx past ≡ false → attempts_of past tx ≡ 0
 none_begun home [] tx made none = refl
-none_begun home (x ∷ past) tx (line, come, made) none =
+none_begun home (x ∷ past) tx (inl opened) none = none_opened home (x ∷ past) opened tx
+none_begun home (x ∷ past) tx (inr (line, made)) none =
     let P : SiteHappening → Type 0 = λ y. is_of_local tx y.event ≡ false → begins_tx tx y.answer ≡ false in
     let (here, before) = or_parts (is_of_local tx x.event) (was_local tx past) none in
     let own : P (site_line home past x.event) = line_begins P home past (λ event answer sends calls lines plain e. plain tx) (λ tid lines e. e) x.event in
-    cond-false _ _ _ (subst P (sym line) own here) ∙ none_begun home past tx made before
+    cond-false _ _ _ (subst P (sym line.is) own here) ∙ none_begun home past tx made before

@@ -45,16 +45,14 @@ use Rattle.site_book.specs.Laws.{ClosesBy, IsCalled}
 use Rattle.site_book.proofs.Followed.{calls_well, decides_well, get-put_tid, stays_closed}
 use Rattle.site_history.specs.Lines.{Agrees}
 use Rattle.site_history.proofs.Agreement.{IsKept, free_here}
-use Rattle.site_history.proofs.RightLines.{kept_past}
-use Rattle.site_history.proofs.SortedPasts.{are_fresh}
 use Rattle.site_core.specs.declared.site.SiteCore.{SiteCore}
-use Rattle.site_core.specs.Made.{IsMade, is_of_global, was_global, was_local}
+use Rattle.site_core.specs.Made.{IsGoingOn, is_of_global, was_global}
 use Rattle.site_core.specs.Notes.{Notes, NotesPast}
 use Rattle.site_core.specs.Order.{IsInOrder}
 use Rattle.site_core.specs.Stands.{Adds, Answers, Breaks, Holds, IsOfKind, IsUp, Stands}
 use Rattle.site_core.specs.Store.{Ends, Keeps}
 use Rattle.site_core.proofs.InquiryLaws.{none_doubted}
-use Rattle.site_core.proofs.MadeLaws.{events_of, made_is, made_sorted}
+use Rattle.site_core.proofs.MadeLaws.{lawful}
 use Rattle.site_core.proofs.NotesLaws.{IsKnown, committed_closes, notes_change, order_changed, order_closes}
 use Rattle.site_core.proofs.OnceLaws.{AppendsOnce, once_stopped}
 use Rattle.site_core.proofs.OperationLaws.{give_up_line}
@@ -93,16 +91,15 @@ held_from home past tid None r e f there agrees = cc
 held_from home past tid (Some held) None e f there agrees = absurd agrees
 held_from home past tid (Some held) (Some run) e f there agrees = record { held = held; doubt = e; run = run; sealed = (f, agrees.0) }
 
-made_kept : (home : Home) (past : SitePast) → IsMade home past → IsKept home past
-made_kept home past made =
-    subst (IsKept home) (sym (made_is home past made)) (kept_past home (events_of past) (are_fresh home (λ tx. was_local tx past) (events_of past) (made_sorted home past made)))
+made_kept : (home : Home) (past : SitePast) → IsGoingOn home past → IsKept home past
+made_kept home past made = (lawful home past made).well.kept
 
-made_held : (home : Home) (past : SitePast) (tid : Tid) → IsMade home past → is_some (doubt_of (Past.records home past) tid) ≡ true → IsHeld home past tid
+made_held : (home : Home) (past : SitePast) (tid : Tid) → IsGoingOn home past → is_some (doubt_of (Past.records home past) tid) ≡ true → IsHeld home past tid
 made_held home past tid made there =
     held_from home past tid (doubt_of (Past.records home past) tid) (run_at (epoch_start home past) (engine_lines past) tid) refl refl there ((made_kept home past made).agrees tid)
 
 -- and one that neither lives nor is in doubt has none
-pub made_runless : (home : Home) (past : SitePast) (tid : Tid) → IsMade home past → doubt_of (Past.records home past) tid ≡ None → live home past tid ≡ None
+pub made_runless : (home : Home) (past : SitePast) (tid : Tid) → IsGoingOn home past → doubt_of (Past.records home past) tid ≡ None → live home past tid ≡ None
     → run_at (epoch_start home past) (engine_lines past) tid ≡ None
 made_runless home past tid made none dead = free_here home past tid (made_kept home past made) dead none
 

@@ -20,12 +20,12 @@ use Rattle.site_book.specs.declared.progress.Progress.{Progress}
 use Rattle.site_book.specs.declared.progress.Progress.TheVariants as Is
 use Rattle.site_book.specs.Book.{Book, begun_in, count_of, live_in, live_part, running_in, seals}
 use Rattle.site_book.proofs.Followed.{get-put_tid}
-use Rattle.site_core.specs.Made.{IsMade, is_of_local, was_local}
+use Rattle.site_core.specs.Made.{IsGoingOn, is_of_local, was_local}
 use Rattle.site_core.specs.Order.{IsInOrder}
 use Rattle.site_core.proofs.BegunLaws.{none_begun}
 
 -- the book counts none of a transaction that no event of a local attempt named
-pub none_counted : (book : Book) (home : Home) (past : SitePast) (tx : Tx) → IsMade home past → ((t : Tx) → begun_in book t ≡ attempts_of past t) → was_local tx past ≡ false → get book.again tx ≡ None
+pub none_counted : (book : Book) (home : Home) (past : SitePast) (tx : Tx) → IsGoingOn home past → ((t : Tx) → begun_in book t ≡ attempts_of past t) → was_local tx past ≡ false → get book.again tx ≡ None
 none_counted book home past tx made begun e = from (get book.again tx) (begun tx ∙ none_begun home past tx made e) where
   from : (o : Option ℕ) → count_of o ≡ 0 → o ≡ None
   from None f = refl

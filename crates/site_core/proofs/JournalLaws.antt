@@ -15,19 +15,18 @@ use Rattle.frame_journal.specs.Journal.{records}
 use Rattle.rules_laws.proofs.SiteRecords.{standing_all}
 use Rattle.site_history.specs.Sums.{AreSums}
 use Rattle.site_history.proofs.Journals.{Begins as Stands, IsSummed, IsTrimmed, standing_trimmed, sums_front}
-use Rattle.site_history.proofs.SummedPasts.{journals_say_all, pasts_summed}
 use Rattle.journal_sums.specs.Journals.{Begins, IsJournal, IsJournalOf}
 use Rattle.site_core.specs.declared.site.SiteCore.{SiteCore}
-use Rattle.site_core.specs.Made.{IsMade}
+use Rattle.site_core.specs.Made.{IsGoingOn}
 use Rattle.site_core.specs.Stands.{Remembers}
 use Rattle.site_history.proofs.Founded.{founded}
-use Rattle.site_core.proofs.MadeLaws.{of_made}
+use Rattle.site_core.proofs.MadeLaws.{lawful, made_says_all}
 
 -- the journal of a past that events made
-pub made_journal : (home : Home) (past : SitePast) → IsMade home past → IsJournalOf home (journal home past)
+pub made_journal : (home : Home) (past : SitePast) → IsGoingOn home past → IsJournalOf home (journal home past)
 made_journal home past made = by_front s.front where
   s : IsSummed home (disk home past)
-  s = of_made (λ h p. IsSummed h (disk h p)) pasts_summed home past made
+  s = (lawful home past made).sums.summed
 
   begins : (first : SiteRecord) (before : List SiteRecord) → Stands home first before → AreSums home (first ∷ before) → Begins home first
   begins (Rec.Checkpoint sum) before b sums = (ap (λ (x : SiteSum). x.site) sums.0, ap (λ (x : SiteSum). x.engine) sums.0, ap (λ (x : SiteSum). x.protocol) sums.0)
@@ -59,15 +58,15 @@ module _ {E : Type 0} (stands : E → Lines.Start → List EngineLine → Type 0
   pub read_is : (core : SiteCore E) (home : Home) (past : SitePast) (slice : List SiteRecord) → Remembers stands core home past → slice ≡ records core.store.journal → reverse slice ≡ journal home past
   read_is core home past slice m is = ap reverse (is ∙ m.records) ∙ reverse-reverse (journal home past)
 
-  journal_read : (core : SiteCore E) (home : Home) (past : SitePast) (slice : List SiteRecord) → IsMade home past → Remembers stands core home past → slice ≡ records core.store.journal → IsJournalOf home (reverse slice)
+  journal_read : (core : SiteCore E) (home : Home) (past : SitePast) (slice : List SiteRecord) → IsGoingOn home past → Remembers stands core home past → slice ≡ records core.store.journal → IsJournalOf home (reverse slice)
   journal_read core home past slice made m is = subst (IsJournalOf home) (sym (read_is core home past slice m is)) (made_journal home past made)
 
-  pub is_journal : (core : SiteCore E) (home : Home) (past : SitePast) (slice : List SiteRecord) → IsMade home past → Remembers stands core home past → slice ≡ records core.store.journal → IsJournal (reverse slice)
+  pub is_journal : (core : SiteCore E) (home : Home) (past : SitePast) (slice : List SiteRecord) → IsGoingOn home past → Remembers stands core home past → slice ≡ records core.store.journal → IsJournal (reverse slice)
   is_journal core home past slice made m is = record { home = home; journal = journal_read core home past slice made m is }
 
   -- what is read of them is what all records say
-  pub sum_is : (core : SiteCore E) (home : Home) (past : SitePast) (slice : List SiteRecord) (sum : SiteSum) → IsMade home past → Remembers stands core home past → slice ≡ records core.store.journal
+  pub sum_is : (core : SiteCore E) (home : Home) (past : SitePast) (slice : List SiteRecord) (sum : SiteSum) → IsGoingOn home past → Remembers stands core home past → slice ≡ records core.store.journal
       → ((other : Home) → IsJournalOf other (reverse slice) → sum ≡ journal_sum other (reverse slice)) → sum ≡ site_sum home (Past.records home past)
   sum_is core home past slice sum made m is read =
       read home (journal_read core home past slice made m is) ∙ ap (journal_sum home) (read_is core home past slice m is)
-      ∙ of_made (λ h p. journal_sum h (journal h p) ≡ site_sum h (Past.records h p)) journals_say_all home past made
+      ∙ made_says_all home past made

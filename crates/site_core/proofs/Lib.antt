@@ -4,6 +4,7 @@ pub mod CheckLaws
 pub mod CommitLaws
 pub mod DecideLaws
 pub mod FirstLaws
+pub mod FoundBefore
 pub mod GlobalLaws
 pub mod InquiryLaws
 pub mod JournalLaws
@@ -11,9 +12,13 @@ pub mod LineLaws
 pub mod Listings
 pub mod LocalLaws
 pub mod MadeLaws
+pub mod NamedLines
 pub mod NewStore
 pub mod NotesLaws
 pub mod OnceLaws
+pub mod OpenedDisk
+pub mod OpenedLaws
+pub mod OpenedOnce
 pub mod OperationLaws
 pub mod Outcomes
 pub mod OverLaws
@@ -24,6 +29,7 @@ pub mod SetUpLaws
 pub mod StepLaws
 pub mod StopLaws
 pub mod SumLaws
+pub mod ToldApart
 pub mod UpLaws
 pub mod VoteLaws
 pub mod WorkLaws

@@ -34,7 +34,7 @@ use Rattle.site_book.proofs.Followed.{calls_well, get-changed_tid}
 use Rattle.site_history.specs.Lines.{Agrees}
 use Rattle.site_book.proofs.Ordered.{get-put_tx}
 use Rattle.site_core.specs.declared.site.SiteCore.{SiteCore}
-use Rattle.site_core.specs.Made.{IsMade, was_begun, was_global}
+use Rattle.site_core.specs.Made.{IsGoingOn, was_begun, was_global}
 use Rattle.site_core.specs.Notes.{Notes, NotesPast}
 use Rattle.site_core.specs.Stands.{Adds, Holds, IsUp, Remembers}
 use Rattle.site_core.proofs.LineLaws.{HasLive, local_runs, noted_live}
@@ -44,7 +44,7 @@ use Rattle.site_core.proofs.RememberLaws.{IsPlain, is_up_at, remembers_line}
 use Rattle.site_core.proofs.UpLaws.{IsPlainAnswer, act_answers, acted_few, closed_one, up_quiet_disk}
 
 -- an attempt that may begin has no entry in the book
-pub no_entry : (book : Book) (home : Home) (past : SitePast) (tid : Tid) → NotesPast book home past → IsMade home past
+pub no_entry : (book : Book) (home : Home) (past : SitePast) (tid : Tid) → NotesPast book home past → IsGoingOn home past
     → was_begun tid past ≡ false → was_global tid.tx past ≡ false → progress_of book tid ≡ None
 no_entry book home past tid n made new apart =
     n.follows.attempts tid ∙ from (run_at (epoch_start home past) (engine_lines past) tid) refl (is_closed past tid) refl (made_right home past made).sealed where

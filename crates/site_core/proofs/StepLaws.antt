@@ -14,7 +14,7 @@ use Rattle.journal_disk.specs.Disk.{Seen}
 use Rattle.actor_store.specs.declared.errors.StepErr.{StepErr}
 use Rattle.actor_store.specs.declared.errors.StepErr.TheVariants as Err_is
 use Rattle.site_core.specs.declared.site.SiteCore.{SiteCore}
-use Rattle.site_core.specs.Made.{IsApart, IsMade}
+use Rattle.site_core.specs.Made.{IsApart, IsGoingOn}
 use Rattle.site_core.specs.Stands.{Answers, Before, Breaks, Carries, Fails, Stands, Steps, StopAt, Within, behind, stopped_past}
 use Rattle.site_core.specs.Steps.{CanStep}
 use Rattle.site_core.proofs.MadeLaws.{made_more}
@@ -54,7 +54,7 @@ still_apart past Ev.Back calls cut a = a
 still_apart past Ev.Check calls cut a = a
 
 -- what such a stop leaves is made by events
-pub stopped_made : (home : Home) (past : SitePast) (event : SiteEvent) (at : StopAt) → IsMade home past → IsApart past event → IsMade home (stopped_past home past event at)
+pub stopped_made : (home : Home) (past : SitePast) (event : SiteEvent) (at : StopAt) → IsGoingOn home past → IsApart past event → IsGoingOn home (stopped_past home past event at)
 stopped_made home past event (Before cut) made apart = made_more home (behind home past (Ev.Trip 0 0)) (Ev.Halt cut) (made_more home past (Ev.Trip 0 0) made tt) tt
 stopped_made home past event (Within calls cut) made apart =
     let P : SiteHappening → Type 0 = λ t. IsApart (t ∷ past) event in

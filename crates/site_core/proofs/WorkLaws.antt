@@ -34,7 +34,7 @@ use Rattle.site_book.specs.Book.{Book, begins_global, begun_in, committed_in, co
 use Rattle.site_book.specs.Follows.{Follows, progress_by}
 use Rattle.site_book.proofs.Followed.{calls_well, get-put_tid}
 use Rattle.site_core.specs.declared.site.SiteCore.{SiteCore}
-use Rattle.site_core.specs.Made.{IsMade, was_global, was_local}
+use Rattle.site_core.specs.Made.{IsGoingOn, was_global, was_local}
 use Rattle.site_core.specs.Notes.{Notes, NotesPast}
 use Rattle.site_core.specs.Operations.{worked_again}
 use Rattle.site_core.specs.Order.{IsInOrder}
@@ -130,7 +130,7 @@ module _ (home : Home) (past : SitePast) (tid : Tid) (e n : ℕ) (act : PlainAct
       one_run a b s = cc
 
 -- an attempt with an entry that isn't live is over
-pub entered_over : (book : Book) (home : Home) (past : SitePast) (tid : Tid) → NotesPast book home past → IsMade home past → is_some (progress_of book tid) ≡ true → live_in book tid ≡ None
+pub entered_over : (book : Book) (home : Home) (past : SitePast) (tid : Tid) → NotesPast book home past → IsGoingOn home past → is_some (progress_of book tid) ≡ true → live_in book tid ≡ None
     → is_over home past tid ≡ true
 entered_over book home past tid n made entered none =
     from (run_at (epoch_start home past) (engine_lines past) tid) (is_closed past tid) (doubt_of (records home past) tid) (sym (ap is_some (n.follows.attempts tid)) ∙ entered) (sym (ap live_part (n.follows.attempts tid)) ∙ none)
@@ -144,7 +144,7 @@ entered_over book home past tid n made entered none =
     from (Some run) false None e l a = let lives : live_part (progress_by (Some run) false) ≡ Some (noted_of run) = ap (λ (b : Bool). live_part (Some (cond b Is.Sealed (Is.Live (noted_of run))))) (ap is_some a) in cc
 
 -- and one without an entry isn't
-pub unentered : (book : Book) (home : Home) (past : SitePast) (tid : Tid) → NotesPast book home past → IsMade home past → progress_of book tid ≡ None
+pub unentered : (book : Book) (home : Home) (past : SitePast) (tid : Tid) → NotesPast book home past → IsGoingOn home past → progress_of book tid ≡ None
     → (is_over home past tid ≡ false) × (live home past tid ≡ None) × (run_at (epoch_start home past) (engine_lines past) tid ≡ None)
 unentered book home past tid n made none =
     from (run_at (epoch_start home past) (engine_lines past) tid) (is_closed past tid) (doubt_of (records home past) tid) (sym (n.follows.attempts tid) ∙ none) ((made_right home past made).sealed tid)

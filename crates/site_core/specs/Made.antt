@@ -1,16 +1,21 @@
 -- The pasts of a site that events make: each line is the rules' answer to an event that may come there.
-use Rattle.std.specs.Prelude.{◌≡◌, Bool, false, [], ◌∷◌}
+use Rattle.std.specs.Prelude.{ℕ, ◌≡◌, ◌⊎◌, Bool, false, Some, [], ◌∷◌}
 use Rattle.mdb_base.specs.declared.names.Tid.{Tid}
 use Rattle.mdb_base.specs.declared.names.Tx.{Tx}
 use Rattle.mdb_base.specs.Names.{same_tid, same_tx}
-use Rattle.mdb_base.specs.Words.{some_of}
+use Rattle.mdb_base.specs.Words.{Each, some_of}
 use Rattle.fed_rules.specs.declared.events.SiteEvent.{SiteEvent}
 use Rattle.fed_rules.specs.declared.events.SiteEvent.TheVariants as Ev
 use Rattle.fed_rules.specs.declared.answers.Answer.{Answer}
 use Rattle.fed_rules.specs.declared.answers.Answer.TheVariants as Say
+use Rattle.fed_rules.specs.declared.records.SiteRecord.{SiteRecord}
+use Rattle.fed_rules.specs.Found.{Journal}
+use Rattle.fed_rules.specs.Reopened.{first_of, opened_site}
 use Rattle.fed_rules.specs.Site.{site_line}
-use Rattle.fed_rules.specs.SitePast.{SitePast}
+use Rattle.fed_rules.specs.SitePast.{SiteHappening, SitePast}
 use Rattle.fed_rules.specs.SiteRecords.{Home}
+use Rattle.fed_rules.specs.Usable.{IsUsableSite, home_of_first}
+use Rattle.site_history.specs.FoundSites.{WritesRise}
 pub use Rattle.fed_rules.specs.Site_of.{about}
 
 -- whether the event is of a local attempt of this transaction
@@ -57,3 +62,22 @@ IsApart past event = Unit {0}
 abbrev pub IsMade : Home → SitePast → Type 0
 IsMade home [] = Unit {0}
 IsMade home (x ∷ past) = (x ≡ site_line home past x.event) × IsApart past x.event × IsMade home past
+
+-- the past is the one that a journal stands for, which is usable as that of this site and whose writes rise by key
+pub record IsOpened (home : Home) (past : SitePast) : Type 0 where
+  pub journal : Journal SiteRecord
+  pub is : past ≡ opened_site journal
+  pub number : ℕ
+  pub usable : IsUsableSite number journal.records
+  pub is_home : home_of_first (first_of journal.records) ≡ Some home
+  pub rising : Each WritesRise journal.records
+
+-- the line is the answer of the rules to an event that may come
+pub record IsNextLine (home : Home) (past : SitePast) (x : SiteHappening) : Type 0 where
+  pub is : x ≡ site_line home past x.event
+  pub apart : IsApart past x.event
+
+-- each line is so, behind nothing or behind the past that a journal stands for
+abbrev pub IsGoingOn : Home → SitePast → Type 0
+IsGoingOn home [] = Unit {0}
+IsGoingOn home (x ∷ past) = IsOpened home (x ∷ past) ⊎ (IsNextLine home past x × IsGoingOn home past)

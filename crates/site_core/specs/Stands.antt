@@ -25,7 +25,7 @@ use Rattle.actor_store.specs.declared.errors.StepErr.TheVariants as Err_is
 use Rattle.actor_store.specs.declared.store.Standing.{Standing}
 use Rattle.actor_store.specs.declared.store.Standing.TheVariants.{Up, Down, Failing}
 use Rattle.actor_store.specs.Store.{IsArmed, is_up, trip_of_rules}
-use Rattle.site_core.specs.Made.{IsMade}
+use Rattle.site_core.specs.Made.{IsGoingOn}
 use Rattle.site_core.specs.Notes.{NotesPast}
 use Rattle.site_core.specs.Recovered.{LocalsOnce}
 use Rattle.site_core.specs.Store.{Keeps}
@@ -68,9 +68,9 @@ pub record Remembers {E : Type 0} (stands : E → Lines.Start → List EngineLin
   pub protocol : core.protocol ≡ home.protocol
   pub once : LocalsOnce (Past.records home past)
 
--- the core holds this past of this home, which events made
+-- the core holds this past of this home, which events made of nothing or of a journal that was found
 pub record Holds {E : Type 0} (stands : E → Lines.Start → List EngineLine → Type 0) (core : SiteCore E) (home : Home) (past : SitePast) : Type 0 where
-  pub made : IsMade home past
+  pub made : IsGoingOn home past
   pub memory : Remembers stands core home past
 
 -- the core, with this disk, stands for it

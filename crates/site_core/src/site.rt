@@ -5,7 +5,11 @@ ghost use Rattle.mdb_base.specs.Counts.{HasCauseOf};
 ghost use Rattle.mdb_base.specs.Words.{map_some};
 ghost use Rattle.mdb_base.specs.declared.names.Tid.{Tid};
 ghost use Rattle.record_fields.specs.Named.{IsSite};
+ghost use Rattle.fed_rules.specs.declared.records.SiteRecord.{SiteRecord};
 ghost use Rattle.fed_rules.specs.Disk.{empty_disk};
+ghost use Rattle.fed_rules.specs.Found.{Journal};
+ghost use Rattle.fed_rules.specs.Reopened.{opened_site};
+ghost use Rattle.fed_rules.specs.SiteRecords.{Home};
 ghost use Rattle.fed_rules.specs.Happenings.{is_down};
 ghost use Rattle.fed_rules.specs.Runs.{rows as rows_after};
 ghost use Rattle.fed_rules.specs.Site.{site_line};
@@ -17,12 +21,13 @@ ghost use Rattle.actor_store.specs.Store.{is_up};
 ghost use Rattle.prepared_state.specs.Book.{doubt_about};
 ghost use Rattle.journal_sums.specs.Starts.{doubt_held};
 ghost use Rattle.site_core.specs.Made.{was_global};
-ghost use Rattle.site_core.specs.Stands.{Answers, Breaks, Fails, Holds, Stands, Steps};
+ghost use Rattle.site_core.specs.Found.{IsFoundOn, SomeJournal};
+ghost use Rattle.site_core.specs.Stands.{Answers, Breaks, Fails, Holds, IsOfKind, Stands, Steps};
 ghost use Rattle.site_core.specs.Steps.{CanStep, EachPast, SomePast};
 ghost use Rattle.site_core.specs.Store.{SomeStop};
 
 use crate::answers::says;
-use crate::store::{SiteStore, set_up_store};
+use crate::store::{SiteStore, first_protocol, set_up_store};
 use actor_store::{Standing, StepErr};
 use engine_contract::LocalEngine;
 use fed_rules::{Answer, SiteEvent, SiteRecord, SiteStep};
@@ -83,6 +88,36 @@ impl<E: LocalEngine> SiteCore<E> {
                 epoch: 1,
                 protocol,
             }),
+            Err(why) => Err(why),
+        }
+    }
+
+    /// Goes on from the journal that is found on the disk: the site is down, and a `Back` starts it. The disk isn't changed. `local` is an
+    /// engine of the journal's rule.
+    pub fn reopen<D: Disk>(alloc: Global, disk: &mut D, local: E) -> Result<SiteCore<E>, StepErr>
+        requires told { IsTrue D.tells }
+        requires found { SomeJournal E.stands local (D.seen disk.old).image }
+        ensures stands { IfOk result (λ core. (home : Home) (journal : Journal SiteRecord) → IsFoundOn (D.seen disk.old).image home journal
+            → IsOfKind E.stands local home.engine → Stands E.stands D.tells core (D.seen disk.new) home (opened_site journal)) }
+        ensures image { (D.seen disk.new).image ≡ (D.seen disk.old).image }
+        ensures size { (D.seen disk.new).size ≡ (D.seen disk.old).size }
+        ensures cause { HasCauseOf StepErr.Disk (D.seen disk.old).faults (D.seen disk.new).faults result }
+    {
+        let Ok(doubts) = PreparedBook::new(alloc) else {
+            return Err(StepErr::Memory);
+        };
+        match SiteStore::found(alloc, disk) {
+            Ok(store) => {
+                let protocol = first_protocol(store.records());
+                Ok(SiteCore {
+                    engine: local,
+                    book: SiteBook::new(alloc),
+                    doubts,
+                    store,
+                    epoch: 0,
+                    protocol,
+                })
+            }
             Err(why) => Err(why),
         }
     }

@@ -1,9 +1,10 @@
 //! The journal of a new site on its disk.
-ghost use Rattle.std.specs.Prelude.{◌≡◌, ◌≤◌, ◌+◌, [], ◌∷◌, None, IfOk, IsErrOf, IsTrue, length};
+ghost use Rattle.std.specs.Prelude.{◌≡◌, ◌≤◌, ◌+◌, [], ◌∷◌, None, Some, IfOk, IsErrOf, IsTrue, length, slice_get};
 ghost use Rattle.mdb_base.specs.Counts.{HasCauseOf};
 ghost use Rattle.fed_rules.specs.Disk.{Append, Sync, after_calls, empty_disk};
 ghost use Rattle.fed_rules.specs.SitePast.{disk as disk_of, set_up_calls};
-ghost use Rattle.fed_rules.specs.SiteRecords.{site_frame};
+ghost use Rattle.fed_rules.specs.SiteRecords.{Home, site_frame};
+ghost use Rattle.fed_rules.specs.Usable.{home_of_first};
 ghost use Rattle.record_fields.specs.Named.{IsSite};
 ghost use Rattle.frame_journal.specs.Journal.{written_size};
 ghost use Rattle.journal_disk.specs.Frames.{IsPayload};
@@ -55,6 +56,17 @@ pub fn set_up_store<D: Disk>(
         return Err(StepErr::Memory);
     };
     begin_journal(store, disk, setup, start)
+}
+
+/// The protocol of the site whose journal begins with this record.
+pub fn first_protocol(records: &[SiteRecord]) -> Protocol
+    ensures { (home : Home) → home_of_first (slice_get records.now 0) ≡ Some home → result ≡ home.protocol }
+{
+    match records.first() {
+        Some(SiteRecord::Setup { protocol, .. }) => *protocol,
+        Some(SiteRecord::Checkpoint(sum)) => sum.protocol,
+        _ => Protocol::Nothing,
+    }
 }
 
 /// Appends the first two records, for which there is room, and syncs them.

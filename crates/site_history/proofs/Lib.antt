@@ -49,10 +49,12 @@ pub mod InOrder
 pub mod Journals
 pub mod Plain
 pub mod InOrderPasts
+pub mod MovedPasts
 pub mod OpenedSums
 pub mod OpenedStarts
 pub mod OpenedSites
 pub mod SameSays
 pub mod UsableSites
+pub mod DeclaredHomes
 pub mod Doubtful
 pub mod Founded

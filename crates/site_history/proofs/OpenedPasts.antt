@@ -1,5 +1,5 @@
 -- A site on whose disk a journal is found: what its records have to keep so that the laws of a site go on from them, and that they do.
-use Rattle.std.proofs.Common.{◌≡◌, ℕ, ◌≤◌, ◌<◌, Bool, true, false, cond, Option, Some, None, List, [], ◌∷◌, ◌++◌, map, refl, sym, ap, ◌∙◌, subst, inl, inr, arith, max}
+use Rattle.std.proofs.Common.{◌≡◌, ℕ, ◌≤◌, ◌<◌, Bool, true, false, cond, Option, Some, None, List, [], ◌∷◌, ◌++◌, map, refl, sym, ap, ◌∙◌, subst, arith, max}
 use Rattle.mdb_base.specs.declared.names.Tid.{Tid}
 use Rattle.mdb_base.specs.declared.names.Tx.{Tx}
 use Rattle.mdb_base.specs.Names.{same_tid}
@@ -8,18 +8,16 @@ use Rattle.fed_rules.specs.declared.events.SiteEvent.{SiteEvent}
 use Rattle.fed_rules.specs.declared.records.SiteRecord.{SiteRecord}
 use Rattle.fed_rules.specs.declared.records.SiteRecord.TheVariants.{Setup, Start, Prepared, Ended, Local, Checkpoint}
 use Rattle.fed_rules.specs.declared.runs.Kept.{Kept}
-use Rattle.fed_rules.specs.Disk.{Append, Sync, after_calls, bytes_of, empty_disk, journal}
-use Rattle.fed_rules.specs.EngineLines.{AllApart, AreApart, IsNumbered, IsStart}
+use Rattle.fed_rules.specs.Disk.{after_calls}
+use Rattle.fed_rules.specs.EngineLines.{AllApart, AreApart, IsNumbered}
 use Rattle.fed_rules.specs.Found.{Journal}
-use Rattle.fed_rules.specs.Happenings.{is_down}
 use Rattle.fed_rules.specs.Reopened.{all_named, long_site, opened_site, owner_named, site_names, site_opening, site_reads_as, was_global, was_local}
 use Rattle.fed_rules.specs.Site.{site_past_on}
 use Rattle.fed_rules.specs.SitePast.{SiteHappening, SitePast, disk, records}
-use Rattle.fed_rules.specs.SitePast as Past
 use Rattle.fed_rules.specs.SiteRecords.{Held, Home, doubt_of, doubts, kept_held, last_ticket, site_frame, start_of}
 use Rattle.fed_rules.specs.Usable.{OfFronts}
 use Rattle.engine_laws.specs.Laws.{EachOnce}
-use Rattle.rules_laws.proofs.OpenedDisks.{expanded, opened_journal, opened_records}
+use Rattle.rules_laws.proofs.OpenedDisks.{expanded, opened_records}
 use Rattle.site_history.specs.Events.{AreSorted}
 use Rattle.site_history.specs.Lines.{HasRightLines}
 use Rattle.site_history.specs.SiteOrders.{HasGoodStarts}

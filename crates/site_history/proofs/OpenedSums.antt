@@ -39,7 +39,7 @@ read_more (Ended t d) next older = refl
 read_more (Local t n writes) next older = refl
 read_more (Checkpoint sum) next older = refl
 
-counted_more : (newest next : SiteRecord) (older : List SiteRecord) → counted (newest ∷ next ∷ older) ≡ newest ∷ counted (next ∷ older)
+pub counted_more : (newest next : SiteRecord) (older : List SiteRecord) → counted (newest ∷ next ∷ older) ≡ newest ∷ counted (next ∷ older)
 counted_more (Setup site engine protocol items) next older = refl
 counted_more (Start n) next older = refl
 counted_more (Prepared t e n ticket writes) next older = refl

@@ -1,6 +1,6 @@
 -- In a usable journal of a site a test tells the local attempts from the prepared ones: whether a Local of the transaction is among its records. So a
 -- site goes on from every usable journal of the format.
-use Rattle.std.proofs.Common.{◌≡◌, ◌⊎◌, ℕ, Bool, true, false, cond, ◌||◌, Option, Some, None, List, [], ◌∷◌, ◌++◌, map, refl, sym, ap, ◌∙◌, subst, inl, inr}
+use Rattle.std.proofs.Common.{◌≡◌, ◌⊎◌, ℕ, Bool, true, false, cond, ◌||◌, Option, Some, None, List, [], ◌∷◌, ◌++◌, map, refl, ap, subst, inl, inr}
 use Rattle.mdb_base.specs.declared.names.Tid.{Tid}
 use Rattle.mdb_base.specs.declared.names.Tx.{Tx}
 use Rattle.mdb_base.specs.Names.{same_tx, tid_before}
@@ -13,10 +13,9 @@ use Rattle.order_laws.proofs.InLaws.{same_tids}
 use Rattle.fed_rules.specs.declared.records.SiteRecord.{SiteRecord}
 use Rattle.fed_rules.specs.declared.records.SiteRecord.TheVariants.{Setup, Start, Prepared, Ended, Local, Checkpoint}
 use Rattle.fed_rules.specs.declared.sums.SiteSum.{SiteSum}
-use Rattle.fed_rules.specs.Found.{Journal}
 use Rattle.fed_rules.specs.Reopened.{local_read, owner_read, site_sum_read}
 use Rattle.fed_rules.specs.SiteRecords.{Held, Home}
-use Rattle.fed_rules.specs.SiteSums.{carried, locals_with, site_sum}
+use Rattle.fed_rules.specs.SiteSums.{carried, locals_with}
 use Rattle.fed_rules.specs.Usable.{HaveSums, IsGlobalOf, IsLocalOf, SumsFit, counted, read}
 use Rattle.site_history.specs.FoundSites.{AreToldApart, IsOf, UsableSitesGoOn}
 

@@ -1,8 +1,15 @@
 use Rattle.std.proofs.Common.{None, refl}
-use Rattle.mdb_base.proofs.ResultLaws.{map_err}
+use Rattle.mdb_base.proofs.ResultLaws.{map_err, map_ok}
 use Rattle.fed_rules.specs.CoordPast.{disk, trip}
 use Rattle.coord_core.proofs.Backs.{read_failed, stays_down}
 use Rattle.coord_core.proofs.coord.CoordCore.back.Goals as goal
+
+pub returns-in-Ok-clause-answered : goal.returns-in-Ok-clause-answered
+returns-in-Ok-clause-answered g c =
+    let old = c.args.self.now in
+    map_ok _ _ c.come_up.result c.come_up.ensures.answered (λ step each terms past k can.
+    each terms past (stays_down g.P.TakePolicy.policy g.D.Disk.tells old (record old { store = c.reload.new.self }) (g.D.Disk.seen c.args.disk.now) (g.D.Disk.seen c.reload.new.disk) terms past k c.requires.down
+    (c.reload.ensures.keeps (disk past) (trip past) k.stored) c.reload.ensures.standing refl refl refl) tt)
 
 pub returns-in-Ok-clause-failed : goal.returns-in-Ok-clause-failed
 returns-in-Ok-clause-failed g c =
