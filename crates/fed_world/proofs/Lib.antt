@@ -13,6 +13,7 @@ pub mod Gathered
 pub mod GatheredParts
 pub mod Growing
 pub mod Lookups
+pub mod MarkedSeats
 pub mod NewWorlds
 pub mod Nowhere
 pub mod Pairs

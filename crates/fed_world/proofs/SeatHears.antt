@@ -1,5 +1,5 @@
 -- What a seat holds behind a line, from what its site was told.
-use Rattle.std.proofs.Common.{◌≡◌, ℕ, Option, Some, None, List, [], ◌∷◌, ◌++◌, length, reverse, option_to_list, refl, sym, ap, ap₂, ◌∙◌, subst, arith}
+use Rattle.std.proofs.Common.{◌≡◌, ℕ, Option, Some, None, List, [], ◌∷◌, ◌++◌, length, reverse, option_to_list, refl, sym, ap, ap₂, ◌∙◌, arith}
 use Rattle.std.proofs.lemmas.Bool.{cond-false, le-ltb}
 use Rattle.std.proofs.lemmas.List.{append-nil, reverse-reverse, length-reverse}
 use Rattle.mdb_base.specs.declared.names.SiteId.{SiteId}
@@ -10,18 +10,17 @@ use Rattle.fed_rules.specs.declared.messages.FromSite.{FromSite}
 use Rattle.fed_rules.specs.declared.messages.ToSite.{ToSite}
 use Rattle.fed_rules.specs.declared.records.SiteRecord.{SiteRecord}
 use Rattle.fed_rules.specs.Requests.{Request, Submits, Declines}
-use Rattle.fed_rules.specs.Site.{site_line}
 use Rattle.fed_rules.specs.SiteCommands.{past_behind}
 use Rattle.fed_rules.specs.SitePast.{SitePast, journal}
 use Rattle.fed_rules.specs.SiteRecords.{Home}
 use Rattle.fed_rules.specs.Story.{place_from}
-use Rattle.site_core.specs.Made.{IsMade}
-use Rattle.site_core.proofs.MadeLaws.{events_of, made_is}
+use Rattle.site_core.specs.Made.{IsGoingOn}
 use Rattle.local_dbms.specs.Stands.{OwnPrograms}
 use Rattle.session_report.specs.declared.marks.Mark.{Mark}
 use Rattle.session_report.specs.declared.marks.Marks.{Marks}
 use Rattle.session_report.specs.Marks.{kept_marks, new_marks}
-use Rattle.session_report.proofs.LineMarks.{lines_mark_one}
+use Rattle.session_report.proofs.LineMarks.{line_marks_one}
+use Rattle.fed_world.proofs.MarkedSeats.{going_marked}
 use Rattle.session_routes.specs.declared.traffic.Traffic.{Traffic}
 use Rattle.fed_world.specs.declared.site_asks.Heard.{Heard}
 use Rattle.fed_world.specs.SiteAsks.{sends_of}
@@ -33,15 +32,13 @@ none_new [] = refl
 none_new (j ∷ js) = cond-false _ _ _ (le-ltb (length (j ∷ js)) (length (j ∷ js)) (omega arith))
 
 -- a request adds the mark of the newest record, where the journal grew
-request_marks : (home : Home) (past : SitePast) (r : Request SiteEvent) → IsMade home past
+request_marks : (home : Home) (past : SitePast) (r : Request SiteEvent) → IsGoingOn home past
     → kept_marks home past ++ new_marks (length (journal home past)) (journal home (past_behind home past r)) ≡ kept_marks home (past_behind home past r)
-request_marks home past (Submits event) m =
-    subst (λ (p : SitePast). kept_marks home p ++ new_marks (length (journal home p)) (journal home (site_line home p event ∷ p)) ≡ kept_marks home (site_line home p event ∷ p)) (sym (made_is home past m))
-    (sym (lines_mark_one home (events_of past) event))
+request_marks home past (Submits event) m = sym (line_marks_one home past event (going_marked home past m))
 request_marks home past (Declines answer) m = ap (λ (ms : List Mark). kept_marks home past ++ ms) (none_new (journal home past)) ∙ append-nil (kept_marks home past)
 
 -- the marks, from the records that stood on the disk before and stand there behind
-pub seat_marks : (home : Home) (past : SitePast) (r : Request SiteEvent) (kept now : List Mark) (before : ℕ) (old new : List SiteRecord) → IsMade home past → kept ≡ kept_marks home past
+pub seat_marks : (home : Home) (past : SitePast) (r : Request SiteEvent) (kept now : List Mark) (before : ℕ) (old new : List SiteRecord) → IsGoingOn home past → kept ≡ kept_marks home past
     → before ≡ length old → old ≡ reverse (journal home past) → new ≡ reverse (journal home (past_behind home past r)) → now ≡ kept ++ new_marks before (reverse new)
     → now ≡ kept_marks home (past_behind home past r)
 seat_marks home past r kept now before old new m is count was are added =

@@ -8,13 +8,14 @@ ghost use Rattle.fed_rules.specs.Reports.{report_of, tables};
 ghost use Rattle.fed_rules.specs.Scenarios.{sites};
 ghost use Rattle.fed_rules.specs.Story.{story_of};
 ghost use Rattle.global_manager.specs.Stands.{EachManaged};
+ghost use Rattle.session_report.specs.InOrder.{IsReportIn};
 ghost use Rattle.fed_world.specs.Reporting as reporting;
 ghost use Rattle.fed_world.specs.Worlds.{AnyStory, EachStory, ManagerRecalls, Recalls, Rests, SomeStory};
 
 use crate::world::World;
 use fed_rules::{FromMessages, Report, ToMessages};
-use mdb_base::{Memory, SiteRows, Tx};
-use session_report::{Channel, report};
+use mdb_base::{Memory, SiteRows, Tid, Tx};
+use session_report::{Channel, report, report_in};
 use session_routes::Traffic;
 use std::alloc::Global;
 
@@ -91,6 +92,29 @@ impl World {
             self.cores.marks.as_slice(),
             tables,
             &committed,
+        )
+    }
+
+    /// The report of a session at rest in this order, in place of the least merge: none where it isn't a merge of the site orders.
+    pub fn report_in(&self, alloc: Global, order: &[Tid]) -> Result<Option<Report>, Memory>
+        requires { SomeStory (Recalls self.now) Rests }
+        ensures { IfOk result (λ report. EachStory (Recalls self.now) (λ scenario commands. IsReportIn scenario (story_of scenario commands) order.now report)) }
+    {
+        let channels = channels_of(alloc, self.traffic.as_slice())?;
+        let tables = self.tables(alloc)?;
+        let coordinator = &self.cores.coordinator;
+        let committed = |tx: Tx|
+            ensures { EachManaged (ManagerRecalls coordinator.entry.now) (λ terms programs past. is_down past ≡ false → result ≡ committed_of (records past) tx) }
+        { coordinator.core().committed(tx) };
+        report_in(
+            alloc,
+            &self.cores.scenario,
+            self.lines.as_slice(),
+            channels.as_slice(),
+            self.cores.marks.as_slice(),
+            tables,
+            &committed,
+            order,
         )
     }
 }

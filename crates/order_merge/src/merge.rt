@@ -30,7 +30,7 @@ pub fn merge_orders(alloc: Global, orders: &[Tids], all: &Tids) -> Result<Tids, 
 }
 
 /// All of the orders.
-fn queues_of(alloc: Global, orders: &[Tids]) -> Result<Vec<Queue>, Memory>
+pub(crate) fn queues_of(alloc: Global, orders: &[Tids]) -> Result<Vec<Queue>, Memory>
     ensures { IfOk result (λ queues. queues.items ≡ orders.now) }
 {
     let mut queues = Vec::with_capacity(alloc, orders.len())?;

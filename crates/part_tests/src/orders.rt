@@ -4,7 +4,7 @@ ghost use Rattle.mdb_base.specs.declared.names.Tid.{Tid as TheTid};
 ghost use Rattle.order_laws.specs.Orders.{Before};
 
 use mdb_base::{Memory, Tid, Tids, Tx};
-use order_merge::merge_orders;
+use order_merge::{is_merge, merge_orders};
 use std::alloc::Global;
 use std::test::Fail;
 
@@ -23,6 +23,11 @@ const THREE: Tid = Tid {
     attempt: 0,
 };
 
+const FOUR: Tid = Tid {
+    tx: Tx(4),
+    attempt: 0,
+};
+
 #[test]
 fn an_order_that_agrees_with_two_sites(rt: HostRuntime) -> Result<(), Fail> {
     let first = Tids::of(vec![in rt.alloc(); ONE, TWO]?);
@@ -31,6 +36,36 @@ fn an_order_that_agrees_with_two_sites(rt: HostRuntime) -> Result<(), Fail> {
     let orders = vec![in rt.alloc(); first, second]?;
     let merged = merge_orders(rt.alloc(), orders.as_slice(), &all)?;
     assert_eq!(rt; merged.as_slice(), [THREE, ONE, TWO].as_slice());
+    Ok(())
+}
+
+/// Whether this is a merge of ONE before TWO at one site and THREE before ONE at another.
+fn is_told(alloc: Global, order: &[Tid]) -> Result<bool, Memory> {
+    let first = Tids::of(vec![in alloc; ONE, TWO]?);
+    let second = Tids::of(vec![in alloc; THREE, ONE]?);
+    let orders = vec![in alloc; first, second]?;
+    is_merge(alloc, orders.as_slice(), order)
+}
+
+#[test]
+fn a_merge_names_each_member_once_in_its_order_and_nothing_else(
+    rt: HostRuntime,
+) -> Result<(), Fail> {
+    assert!(rt; is_told(rt.alloc(), [THREE, ONE, TWO].as_slice())?);
+    assert!(rt; !is_told(rt.alloc(), [ONE, TWO, THREE].as_slice())?);
+    assert!(rt; !is_told(rt.alloc(), [THREE, ONE].as_slice())?);
+    assert!(rt; !is_told(rt.alloc(), [THREE, ONE, ONE, TWO].as_slice())?);
+    assert!(rt; !is_told(rt.alloc(), [THREE, ONE, TWO, FOUR].as_slice())?);
+    Ok(())
+}
+
+#[test]
+fn sites_apart_have_more_than_one_merge(rt: HostRuntime) -> Result<(), Fail> {
+    let first = Tids::of(vec![in rt.alloc(); ONE]?);
+    let second = Tids::of(vec![in rt.alloc(); TWO]?);
+    let orders = vec![in rt.alloc(); first, second]?;
+    assert!(rt; is_merge(rt.alloc(), orders.as_slice(), [ONE, TWO].as_slice())?);
+    assert!(rt; is_merge(rt.alloc(), orders.as_slice(), [TWO, ONE].as_slice())?);
     Ok(())
 }
 

@@ -1,4 +1,4 @@
-//! The report of a finished session as text.
+//! The report of a finished session as text, and its lines one by one.
 #![tactic(auto)]
 
 ghost use Rattle.std.specs.Prelude.{◌≡◌, ◌++◌, OnOk, OnErr, IfOk};
@@ -8,6 +8,7 @@ mod lines;
 mod words;
 
 pub use fed_rules::{AllReads, AllRows, Outcome, Outcomes, Report, TxReads};
+pub use lines::{put_forgotten, put_outcome, put_reads, put_table};
 use mdb_base::{Memory, put_text};
 use std::alloc::Global;
 

@@ -18,7 +18,8 @@ pub fn put_order(out: &mut Vec<u8>, order: &[Tid]) -> Result<(), Memory>
     put_text(out, "\n")
 }
 
-fn put_reads(out: &mut Vec<u8>, reads: &TxReads) -> Result<(), Memory>
+/// Appends the line of what a member read.
+pub fn put_reads(out: &mut Vec<u8>, reads: &TxReads) -> Result<(), Memory>
     ensures { OnOk result (out.new.items ≡ out.old.items ++ line_bytes (spelling.reads_words reads.now)) }
 {
     put_text(out, "reads")?;
@@ -36,7 +37,8 @@ fn decision_word(decision: Decision) -> &'static str
     }
 }
 
-fn put_outcome(out: &mut Vec<u8>, outcome: Outcome) -> Result<(), Memory>
+/// Appends the line of how a global attempt ended.
+pub fn put_outcome(out: &mut Vec<u8>, outcome: Outcome) -> Result<(), Memory>
     ensures { OnOk result (out.new.items ≡ out.old.items ++ line_bytes (spelling.outcome_words outcome)) }
 {
     put_text(out, "outcome")?;
@@ -55,7 +57,8 @@ pub fn put_forgotten(out: &mut Vec<u8>, forgotten: &[Tid]) -> Result<(), Memory>
     put_text(out, "\n")
 }
 
-fn put_table(out: &mut Vec<u8>, table: &SiteRows) -> Result<(), Memory>
+/// Appends the line of a site's rows.
+pub fn put_table(out: &mut Vec<u8>, table: &SiteRows) -> Result<(), Memory>
     ensures { OnOk result (out.new.items ≡ out.old.items ++ line_bytes (spelling.table_words table.now)) }
 {
     put_text(out, "table")?;

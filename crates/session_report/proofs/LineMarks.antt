@@ -12,7 +12,7 @@ use Rattle.fed_rules.specs.Site.{answered, of_back, site_line, site_past, unless
 use Rattle.fed_rules.specs.SitePast.{SiteHappening, SitePast, disk, journal, records, trip}
 use Rattle.fed_rules.specs.SiteRecords.{Home, site_frame}
 use Rattle.session_report.specs.declared.marks.Mark.{Mark}
-use Rattle.session_report.specs.Marks.{LinesMarkOne, mark_of, new_marks}
+use Rattle.session_report.specs.Marks.{LinesMarkOne, kept_marks, mark_of, new_marks}
 use Rattle.session_report.proofs.LineForms.{HasForm, form_answered, form_back, none}
 use Rattle.session_report.proofs.MarkedDisks.{GoesOn, IsMarked, goes_stopped, goes_whole, marks_grow}
 
@@ -59,12 +59,18 @@ module _ (home : Home) (past : SitePast) (m : IsMarked (disk home past)) where
   goes_line (Ev.Drop tid) = goes_up (Ev.Drop tid)
   goes_line Ev.Check = goes_up Ev.Check
 
-marked : (home : Home) (events : List SiteEvent) → IsMarked (disk home (site_past home events))
-marked home [] = record {
+pub marked_first : (home : Home) → IsMarked (disk home [])
+marked_first home = record {
   firm = record { sound = record { frames = omega arith; synced = omega arith }; loose = inl (omega arith) };
   trimmed = omega arith;
 }
-marked home (event ∷ events) = (goes_line home (site_past home events) (marked home events) event).on.marked
+
+pub marked_line : (home : Home) (past : SitePast) (event : SiteEvent) → IsMarked (disk home past) → IsMarked (disk home (site_line home past event ∷ past))
+marked_line home past event m = (goes_line home past m event).on.marked
+
+marked : (home : Home) (events : List SiteEvent) → IsMarked (disk home (site_past home events))
+marked home [] = marked_first home
+marked home (event ∷ events) = marked_line home (site_past home events) event (marked home events)
 
 append_none : (xs : List Mark) → xs ≡ xs ++ []
 append_none [] = refl
@@ -83,9 +89,12 @@ turned before (j ∷ js) ms = by_test (nat_lt before (length (j ∷ js)))
     by_test true = by_mark (mark_of j)
     by_test false = append_none (oldest_first ms)
 
+-- so the next line of a site on whose disk no marked record can be lost marks one at most
+pub line_marks_one : (home : Home) (past : SitePast) (event : SiteEvent) → IsMarked (disk home past)
+    → kept_marks home (site_line home past event ∷ past) ≡ kept_marks home past ++ new_marks (length (journal home past)) (journal home (site_line home past event ∷ past))
+line_marks_one home past event m =
+    ap (λ (xs : List Mark). oldest_first xs) (marks_grow (disk home past) (disk home (site_line home past event ∷ past)) m (goes_line home past m event).on.change)
+    ∙ turned (length (journal home past)) (journal home (site_line home past event ∷ past)) (found mark_of (records home past))
+
 pub lines_mark_one : LinesMarkOne
-lines_mark_one home events event =
-    let past = site_past home events in
-    let m = marked home events in
-    ap (λ (xs : List Mark). oldest_first xs) (marks_grow (disk home past) (disk home (site_past home (event ∷ events))) m (goes_line home past m event).on.change)
-    ∙ turned (length (journal home past)) (journal home (site_past home (event ∷ events))) (found mark_of (records home past))
+lines_mark_one home events event = line_marks_one home (site_past home events) event (marked home events)

@@ -29,7 +29,7 @@ use Rattle.fed_rules.specs.CoordPast.{CoordPast, begins, begun_tids, is_known, s
 use Rattle.fed_rules.specs.CoordRecords.{committed_of, outcome}
 use Rattle.fed_rules.specs.Orders.{is_committed, order_at, orders, reads_at, reads_of, records_at}
 use Rattle.fed_rules.specs.Plans.{IsScenario}
-use Rattle.fed_rules.specs.Reports.{begun, forgotten, is_forgotten, outcomes, printed_order, report_of}
+use Rattle.fed_rules.specs.Reports.{begun, forgotten, is_forgotten, outcomes, printed_order, report_in, report_of}
 use Rattle.fed_rules.specs.Scenarios.{home_at, home_of, local_home, protocols, sites}
 use Rattle.fed_rules.specs.SitePast.{records}
 use Rattle.fed_rules.specs.SiteRecords.{Home, order_of}
@@ -226,17 +226,17 @@ module _ (rights : StoriesHaveRightLines) (one_order : OfStories HasOneOrder) (s
       ap (λ o. or_else o (or_else (look told.locals tid) [])) (looked tid ∙ ap (λ b. cond b (Some (Coordinator.reads past tid)) None) ((story-holds scenario whole commands tid).holds.committed m.commit).known)
       ∙ sym (ap (λ o. reads_at o story tid) (ap (home_at scenario) m.roams))
 
-  member_reads : (tid : Tid) → In tid (printed_order scenario story) → values_told told tid ≡ reads_of scenario story tid
-  member_reads tid i =
-      let a = some_of_is (λ ts. is_in same_tid ts tid) (orders scenario story) (each_of_at (λ t. some_of (λ ts. is_in same_tid ts t) (orders scenario story)) (printed_order scenario story) tid (one_order scenario whole commands).merge.named i) in
+  member_reads : (order : List Tid) → merge.IsMerge same_tid (orders scenario story) order → (tid : Tid) → In tid order → values_told told tid ≡ reads_of scenario story tid
+  member_reads order merged tid i =
+      let a = some_of_is (λ ts. is_in same_tid ts tid) (orders scenario story) (each_of_at (λ t. some_of (λ ts. is_in same_tid ts t) (orders scenario story)) order tid merged.named i) in
       let (site, e) = site_of_order scenario story (sites scenario) a.0 a.1 in
       let j : In tid (order_at scenario story site) = subst (In tid) (sym e) (is_in_true same_tid tells_tids a.0 tid a.2) in
       let (home, declared) = member-declared scenario story site tid j in
       kind_reads tid site home (kind-of scenario whole commands site home tid declared j)
 
-  pub reads_are : map (λ tid. let r : TxReads = record { tid = tid; values = values_told told tid } in r) (printed_order scenario story)
-      ≡ map (λ tid. record { tid = tid; values = reads_of scenario story tid }) (printed_order scenario story)
-  reads_are = map_same _ _ (printed_order scenario story) (λ tid i. ap (λ vs. record { tid = tid; values = vs }) (member_reads tid i))
+  pub reads_are : (order : List Tid) → merge.IsMerge same_tid (orders scenario story) order → map (λ tid. let r : TxReads = record { tid = tid; values = values_told told tid } in r) order
+      ≡ map (λ tid. record { tid = tid; values = reads_of scenario story tid }) order
+  reads_are order merged = map_same _ _ order (λ tid i. ap (λ vs. record { tid = tid; values = vs }) (member_reads order merged tid i))
 
   pub forgotten_are : tids_of told.globals ≡ forgotten scenario story
   forgotten_are =
@@ -247,7 +247,20 @@ module _ (rights : StoriesHaveRightLines) (one_order : OfStories HasOneOrder) (s
       (λ t e. ap₂ (λ (a b : Bool). not a && not b) session.over.up e) (begun_tids past)
       (none_of (λ t. is_known (standing (protocols scenario) past t)) (begun_tids past) (none_rising _ session.over.none_known)))))
 
-  -- all together
+  -- all together, in any merge of the site orders
+  pub report_in_is : (order : List Tid) → merge.IsMerge same_tid (orders scenario story) order
+      → record {
+        order = order;
+        reads = map (λ tid. record { tid = tid; values = values_told told tid }) order;
+        outcomes = outcomes_by committed (tids_of told.globals);
+        forgotten = tids_of told.globals;
+        tables = rows;
+      } ≡ report_in scenario story order
+  report_in_is order merged =
+      let reads = reads_are order merged in
+      λ i. record { order = order; reads = reads i; outcomes = outcomes_are i; forgotten = forgotten_are i; tables = session.shown i }
+
+  -- and in the printed order
   pub report_is : (order : List Tid) → order ≡ printed_order scenario story
       → record {
         order = order;
@@ -257,6 +270,4 @@ module _ (rights : StoriesHaveRightLines) (one_order : OfStories HasOneOrder) (s
         tables = rows;
       } ≡ report_of scenario story
   report_is order is =
-      let reads : map (λ tid. let r : TxReads = record { tid = tid; values = values_told told tid } in r) order ≡ map (λ tid. record { tid = tid; values = reads_of scenario story tid }) (printed_order scenario story) =
-      ap (map (λ tid. let r : TxReads = record { tid = tid; values = values_told told tid } in r)) is ∙ reads_are in
-      λ i. record { order = is i; reads = reads i; outcomes = outcomes_are i; forgotten = forgotten_are i; tables = session.shown i }
+      report_in_is order (subst (merge.IsMerge same_tid (orders scenario story)) (sym is) (one_order scenario whole commands).merge) ∙ ap (report_in scenario story) is

@@ -13,5 +13,5 @@ mod telling;
 
 pub use laws::lines_mark_one;
 pub use marks::{Mark, Marks};
-pub use reporting::report;
+pub use reporting::{report, report_in};
 pub use session::Channel;

@@ -4,6 +4,7 @@ ghost use Rattle.mdb_base.specs.declared.names.Tid.{Tid as TheTid};
 ghost use Rattle.order_laws.specs.Least.{all_items};
 ghost use Rattle.fed_rules.specs.declared.report.TxReads.{TxReads as TheReads};
 ghost use Rattle.fed_rules.specs.Reports.{report_of};
+ghost use Rattle.session_report.specs.InOrder.{IsReportIn};
 ghost use Rattle.session_report.specs.Session.{IsSession, TellsCommits, story_of_lines};
 ghost use Rattle.session_report.specs.Told.{reads_told};
 
@@ -15,7 +16,7 @@ use crate::telling::Telling;
 use fed_rules::{AllReads, AllRows, Line, Outcomes, Report, Scenario, TxReads};
 use federation_laws::federation_is_serializable;
 use mdb_base::{Memory, SiteRows, Tid, Tids, Tx};
-use order_merge::merge_orders;
+use order_merge::{is_merge, merge_orders};
 use site_history::stories_have_right_lines;
 use std::alloc::Global;
 
@@ -76,4 +77,43 @@ pub fn report<F: Fn(Tx) -> Option<Tid>>(
         forgotten: Tids::of(begun),
         tables: AllRows::of(tables),
     })
+}
+
+/// The report of a session that is over, in this order in place of the least merge: none where it isn't a merge of the site orders. The other
+/// arguments are those of `report`, and it takes as many steps, and those of the order.
+pub fn report_in<F: Fn(Tx) -> Option<Tid>>(
+    alloc: Global,
+    scenario: &Scenario,
+    lines: &[Line],
+    channels: &[Channel],
+    marks: &[Marks],
+    tables: Vec<SiteRows>,
+    committed: &F,
+    order: &[Tid],
+) -> Result<Option<Report>, Memory>
+    requires callable { F.IsAlwaysCallable committed.now }
+    requires told { TellsCommits (story_of_lines scenario.now lines.now) (F.post committed.now) }
+    requires session { IsSession scenario.now lines.now channels.now marks.now tables.items }
+    ensures { IfOk result (IsReportIn scenario.now (story_of_lines scenario.now lines.now) order.now) }
+{
+    federation_is_serializable();
+    stories_have_right_lines();
+    let _ = scenario.transactions.len();
+    let telling = Telling::of(alloc, channels, lines)?;
+    let begun = telling.begun(alloc)?;
+    let ends = outcomes(alloc, begun.as_slice(), committed)?;
+    let refused = refused(alloc, ends.as_slice())?;
+    let orders = site_orders(alloc, marks, &refused)?;
+    if !is_merge(alloc, orders.as_slice(), order)? {
+        return Ok(None);
+    }
+    let reads = all_reads(alloc, &telling, order)?;
+    let printed = Vec::from_slice(alloc, order)?;
+    Ok(Some(Report {
+        order: Tids::of(printed),
+        reads: AllReads::of(reads),
+        outcomes: Outcomes::of(ends),
+        forgotten: Tids::of(begun),
+        tables: AllRows::of(tables),
+    }))
 }

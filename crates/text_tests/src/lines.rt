@@ -8,7 +8,7 @@ use presumptions::Decision;
 use std::alloc::Global;
 use std::process::Abort;
 use std::test::Fail;
-use trace_lines::{LineErr, print_line, read_line};
+use trace_lines::{LineErr, print_line, read_line, read_tids};
 
 fn reads_and_prints(rt: &impl Abort, alloc: Global, lines: &str) -> Result<(), Fail> {
     for text in lines.lines() {
@@ -99,6 +99,31 @@ fn words_are_read_as_the_parts_of_a_line(rt: HostRuntime) -> Result<(), Fail> {
     assert!(rt; !*forgets);
     assert_eq!(rt; cycle.as_slice(), edges.as_slice());
     Ok(())
+}
+
+#[test]
+fn attempts_are_read_in_their_order(rt: HostRuntime) -> Result<(), Fail> {
+    let tids = read_tids(rt.alloc(), b"7.0 1024.31")?;
+    let first = Tid {
+        tx: Tx(7),
+        attempt: 0,
+    };
+    let last = Tid {
+        tx: Tx(1024),
+        attempt: 31,
+    };
+    assert_eq!(rt; tids.as_slice(), [first, last].as_slice());
+    Ok(())
+}
+
+#[test]
+fn other_texts_are_no_attempts(rt: HostRuntime) {
+    for text in [
+        "", " 1.0", "1.0 ", "1.0  2.0", "1", "0.0", "1025.0", "1.32", "01.0", "1.0 end",
+    ] {
+        let read = read_tids(rt.alloc(), text.as_bytes());
+        assert!(rt; matches!(read, Err(LineErr::NoLine)), "{text}");
+    }
 }
 
 #[test]

@@ -1,11 +1,13 @@
 -- What is computed of bytes is what is spelled so: the parts of a word, a word, and a line.
 use Rattle.std.proofs.Common.{◌≡◌, ◌⊎◌, inl, inr, ℕ, zero, suc, ◌<◌, ◌^◌, Bool, true, false, cond, ◌&&◌, eqb, IsTrue, List, [], ◌∷◌, ◌++◌, map, length, get_or, Option, Some, None, option_and_then, Result, Ok, Err, IfOk, IsErrOf, decimal, refl, sym, ap, ◌∙◌, subst, arith}
 use Rattle.std.specs.Char.{is_digit}
+use Rattle.std.specs.List.{join_with_byte}
 use Rattle.std.specs.Str.{bytes_eq}
 use Rattle.std.specs.Str.Parse.{AllDigits, digits_value}
 use Rattle.std.proofs.lemmas.Bool.{ltb-true, lt-ltb, eq-eqb, eqb-true, false≢true}
 use Rattle.std.proofs.lemmas.Fmt.{decimal-digits_value, decimal_digit, decimal_nonempty, first_decimal, digits_decimal, digits_value-decimal}
 use Rattle.std.proofs.lemmas.Option.{none-some, same_Some, cond_some}
+use Rattle.std.proofs.lemmas.List.Splits.{join_with_byte-slice_split}
 use Rattle.std.proofs.lemmas.Slice.Eq.{bytes_eq-Decides}
 use Rattle.std.proofs.lemmas.Str.Parse.{IsNumeralModel, numerals_by_value, tells_digits}
 use Rattle.mdb_base.specs.Texts.{tid_text}
@@ -21,12 +23,12 @@ use Rattle.line_text.specs.declared.word.Word.{Word}
 use Rattle.line_text.specs.declared.word.Word.TheVariants.{Plain, Number, Attempt, Sent, Joined}
 use Rattle.line_text.specs.Range.{is_large, is_site, is_tid, is_place, is_edge, is_word, is_line}
 use Rattle.line_text.specs.Words.{keyword_text, place_text, edge_text, word_text}
-use Rattle.line_text.specs.Spelling.{line_words, line_bytes}
+use Rattle.line_text.specs.Spelling.{line_words, line_bytes, words_bytes}
 use Rattle.trace_lines.specs.Lexing.{Spells, are_large, numbers_text, pieces, site_text, is_target, target_text, are_both, pair_text}
 use Rattle.trace_lines.specs.declared.error.LineErr.{LineErr}
 use Rattle.trace_lines.specs.declared.error.LineErr.TheVariants as errors
-use Rattle.trace_lines.specs.Reading.{Gives, line_of}
-use Rattle.trace_lines.specs.Lexed.{keywords, keyword_in, leads, is_numeral, number_in, parts_at, pair_in, tid_in, place_in, site_in, target_in, edge_in, first_of, word_in, all_in, line_in}
+use Rattle.trace_lines.specs.Reading.{Gives, Reads, line_of, tids_of}
+use Rattle.trace_lines.specs.Lexed.{keywords, keyword_in, leads, is_numeral, number_in, parts_at, pair_in, tid_in, place_in, site_in, target_in, edge_in, first_of, word_in, all_in, line_in, tids_in}
 use Rattle.trace_lines.proofs.Bytes.{Lacks, lacks-decimal}
 use Rattle.trace_lines.proofs.Pairs.{one_parting}
 use Rattle.trace_lines.proofs.Guards.{from_map, from_next}
@@ -240,3 +242,31 @@ gives_line_in (Err errors.NoLine) bytes found none = by_case (line_in bytes) ref
     by_case None e = refl
     by_case (Some line) e = let spelled = line_in_found line bytes e in absurd (none refl line spelled.0 spelled.1)
 gives_line_in (Err errors.Memory) bytes found none = tt
+
+-- words whose texts are the pieces are the words that are read
+pub words_again : (words : List Word) (bytes : List ℕ) → Each (λ word. IsTrue (is_word word)) words → map word_text words ≡ pieces bytes → all_in word_in (pieces bytes) ≡ Some words
+words_again words bytes h e = subst (λ ps. all_in word_in ps ≡ Some words) e (all_again is_word word_text word_in word_spells word_again words h)
+
+-- the attempts are those of such words
+pub tids_in_words : (words : List Word) (bytes : List ℕ) → Each (λ word. IsTrue (is_word word)) words → map word_text words ≡ pieces bytes → tids_in bytes ≡ tids_of words
+unfolding tids_in
+tids_in_words words bytes h e = ap (option_and_then tids_of) (words_again words bytes h e)
+
+-- where the pieces aren't the texts of words, there are none
+pub no_tids_in : (bytes : List ℕ) → ((words : List Word) → Each (λ word. IsTrue (is_word word)) words → map word_text words ≡ pieces bytes → ⊥) → tids_in bytes ≡ None
+unfolding tids_in
+no_tids_in bytes none = by_case (all_in word_in (pieces bytes)) refl
+  where
+    by_case : (o : Option (List Word)) → all_in word_in (pieces bytes) ≡ o → option_and_then tids_of o ≡ None
+    by_case None e = refl
+    by_case (Some words) e = let found = all_found is_word word_text word_in word_spells (pieces bytes) words e in absurd (none words found.0 found.1)
+
+-- words whose texts are the pieces of bytes make these bytes
+pub words_are_bytes : (words : List Word) (bytes : List ℕ) → map word_text words ≡ pieces bytes → words_bytes words ≡ bytes
+words_are_bytes words bytes e = ap (join_with_byte 32) e ∙ join_with_byte-slice_split 32 bytes
+
+-- what is read where just the pieces of words are read
+pub reads_tids_in : {X : Type 0} (view : X → List Tid) (result : Result X LineErr) (bytes : List ℕ) → IfOk result (λ x. tids_in bytes ≡ Some (view x)) → (IsErrOf result errors.NoLine → (words : List Word) → Each (λ word. IsTrue (is_word word)) words → map word_text words ≡ pieces bytes → ⊥) → Reads view result (tids_in bytes)
+reads_tids_in view (Ok x) bytes found none = found
+reads_tids_in view (Err errors.NoLine) bytes found none = no_tids_in bytes (none refl)
+reads_tids_in view (Err errors.Memory) bytes found none = tt

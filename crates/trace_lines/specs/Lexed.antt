@@ -16,7 +16,7 @@ use Rattle.line_text.specs.declared.word.Word.TheVariants.{Plain, Number, Attemp
 use Rattle.line_text.specs.Range.{is_large}
 use Rattle.line_text.specs.Words.{keyword_text}
 use Rattle.trace_lines.specs.Lexing.{pieces, tid_at, place_at}
-use Rattle.trace_lines.specs.Reading.{site_of, line_of}
+use Rattle.trace_lines.specs.Reading.{site_of, line_of, tids_of}
 
 -- each keyword
 abbrev pub keywords : List Keyword
@@ -100,3 +100,7 @@ all_in read (piece ∷ more) = option_and_then (λ one. map_some (λ rest. one �
 -- the line that is spelled so
 unfoldable pub line_in : List ℕ → Option Line
 line_in bytes = option_and_then line_of (all_in word_in (pieces bytes))
+
+-- the attempts that are spelled so, with one space between each two
+unfoldable pub tids_in : List ℕ → Option (List Tid)
+tids_in bytes = option_and_then tids_of (all_in word_in (pieces bytes))

@@ -288,6 +288,12 @@ sent_of [] = Some []
 sent_of (Sent sent ∷ words) = map_some (λ places. sent ∷ places) (sent_of words)
 sent_of words = None
 
+-- the attempts of words, each of which is one
+abbrev pub tids_of : List Word → Option (List Tid)
+tids_of [] = Some []
+tids_of (Attempt tid ∷ words) = map_some (λ tids. tid ∷ tids) (tids_of words)
+tids_of (word ∷ words) = None
+
 -- the place of a site's line
 abbrev pub site_sent : SiteId → List Word → Option (List Place)
 site_sent site (Number n ∷ []) = map_some (λ place. record { site = site; place = place } ∷ []) (small_of n)

@@ -9,8 +9,8 @@ ghost use Rattle.mdb_base.specs.Words.{Each};
 ghost use Rattle.fed_rules.specs.declared.commands.Line.{Line};
 ghost use Rattle.line_text.specs.Spelling.{line_bytes, lines_bytes};
 ghost use Rattle.line_text.specs.Range.{is_line};
-ghost use Rattle.trace_lines.specs.Reading.{Gives};
-ghost use Rattle.trace_lines.specs.Lexed.{line_in};
+ghost use Rattle.trace_lines.specs.Reading.{Gives, Reads};
+ghost use Rattle.trace_lines.specs.Lexed.{line_in, tids_in};
 
 mod answers;
 mod commands;
@@ -25,6 +25,7 @@ mod reading;
 pub use error::LineErr;
 pub use fed_rules::{Answer, Cause, Command, Line, Place, Places, Stamped, StampedLines};
 pub use line_text::{DoorErr, print_line};
+use mdb_base::Tid;
 use std::alloc::Global;
 use std::str;
 
@@ -41,6 +42,18 @@ pub fn read_line(alloc: Global, text: &[u8]) -> Result<Line, LineErr>
     };
     let words = lexing::words_of(alloc, text)?;
     reading::line_of(alloc, &words)
+}
+
+/// The attempts that are spelled so, with one space between each two, as they are computed of the bytes. Where some word is none, or there is
+/// none at all, they are no such text.
+pub fn read_tids(alloc: Global, text: &[u8]) -> Result<Vec<Tid>, LineErr>
+    ensures { Reads (λ tids. tids.items) result (tids_in text.now) }
+{
+    let Ok(text) = str::from_utf8(text) else {
+        return Err(LineErr::NoLine);
+    };
+    let words = lexing::words_of(alloc, text)?;
+    reading::tids_of(alloc, &words)
 }
 
 /// What is computed of bytes is the line that they spell, and nothing where they spell none.

@@ -11,8 +11,8 @@ use crate::marks::{Mark, cut_at};
 use crate::numbers::small_of;
 use fed_rules::{Command, Line, Place, Places};
 use line_text::Word;
-use line_text::Word::{Number, Sent};
-use mdb_base::SiteId;
+use line_text::Word::{Attempt, Number, Sent};
+use mdb_base::{SiteId, Tid};
 use std::alloc::Global;
 
 fn sent_of(alloc: Global, words: &[Word]) -> Result<Vec<Place>, LineErr>
@@ -79,4 +79,18 @@ pub fn line_of(alloc: Global, words: &[Word]) -> Result<Line, LineErr>
     } else {
         Err(LineErr::NoLine)
     }
+}
+
+/// The attempts of these words, each of which is one.
+pub fn tids_of(alloc: Global, words: &[Word]) -> Result<Vec<Tid>, LineErr>
+    ensures { Reads (λ tids. tids.items) result (reading.tids_of words.now) }
+{
+    let mut tids = Vec::new(alloc);
+    for word in words {
+        match word {
+            Attempt(tid) => tids.push(*tid)?,
+            _ => return Err(LineErr::NoLine),
+        }
+    }
+    Ok(tids)
 }
