@@ -1,10 +1,12 @@
 #!/usr/bin/env bash
-# Runs each session examples/NAME.fed and compares what it prints with examples/NAME.out, and checks the tools on them. It is no part of the gate.
+# Runs each session examples/NAME.fed, also with its journals in a folder, and compares what it prints with examples/NAME.out. It checks the tools
+# on them too. It is no part of the gate.
 #
 # usage: tools/examples.sh
 #
-# The built program runs them where there is one, and threads.run besides; else one `rt try` runs the sessions from the source, without proof.
-# The status is 0 where each session printed exactly what stands beside it, the threads left the tables that are due, and the tools did as they should.
+# The built program runs them where there is one, and threads.run besides; else one `rt try` runs the sessions from the source, without proof, and
+# none in a folder. The status is 0 where each session printed exactly what stands beside it, no journal in a folder is damaged, the threads left
+# the tables that are due, and the tools did as they should.
 set -o pipefail
 top=$(cd -- "$(dirname -- "${BASH_SOURCE[0]}")/.." && pwd) || exit 2
 crate=$top/crates/mdbfed
@@ -29,6 +31,10 @@ fi
 for wanted in "$room/cases"/*.stdout; do
     name=$(basename -- "$wanted" .stdout)
     "$crate/out/mdbfed" replay < "$room/cases/$name" | diff -u --label "$name, wanted" --label "$name, printed" "$wanted" - || failed=1
+    mkdir "$room/journals" || exit 2
+    "$crate/out/mdbfed" store "$room/journals" < "$room/cases/$name" | diff -u --label "$name, wanted" --label "$name, stored" "$wanted" - || failed=1
+    "$top/tools/journal.py" "$room/journals" > "$room/records" || { echo "$name: a journal in its folder is damaged"; failed=1; }
+    rm -r -- "$room/journals"
 done
 
 # What the threads print isn't the same each time, but the tables are, and all rest at the end.

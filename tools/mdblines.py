@@ -35,7 +35,7 @@ REPORT = re.compile(
 ENDINGS = (
     (r"bad line \d+ \w+", "the program refused its input; tools/why.py says what to do"),
     (r"usage: .*", "the program was called with words that are no command"),
-    (r"read failed|no memory|too long|disk \d failed|disk \d is used", "the program ended without a report"),
+    (r"read failed|no memory|too long|disk \d failed|disk \d is (?:used|large)", "the program ended without a report"),
 )
 
 

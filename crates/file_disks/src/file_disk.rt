@@ -14,7 +14,7 @@ use std::alloc::Global;
 /// it isn't known what the file holds: the disk is lost. From then on each call fails and is counted, and none is
 /// made on the file.
 #[derive(Drop)]
-pub struct FileDisk<F: JournalFile> {
+pub struct FileDisk<F: Drop> {
     file: F,
     bytes: Vec<u8>,
     synced: usize,
@@ -32,7 +32,7 @@ impl<F: JournalFile> FileDisk<F> {
         ensures image { file_image result ≡ synced_bytes bytes.items }
         ensures fresh { file_faults result ≡ 0 }
         ensures file { disk_file result ≡ file }
-        ensures in_step { InStep result }
+        ensures in_step { InStep F.tells F.image result }
     {
         let synced = bytes.len();
         FileDisk {
@@ -147,7 +147,7 @@ impl<F: JournalFile> Disk for FileDisk<F> {
         ensures image { file_image self.new ≡ file_image self.old }
         ensures faults { file_faults self.new ≡ file_faults self.old }
         ensures file { disk_file self.new ≡ disk_file self.old }
-        ensures in_step { InStep self.old → InStep self.new }
+        ensures in_step { InStep F.tells F.image self.old → InStep F.tells F.image self.new }
     {
         match self.bytes.reserve(more as usize) {
             Ok(()) => Ok(()),
@@ -162,8 +162,8 @@ impl<F: JournalFile> Disk for FileDisk<F> {
         ensures ok { OnOk result (file_image self.new ≡ appended piece.now (file_image self.old)) }
         ensures err { OnErr result (AppendsSome piece.now (file_image self.old) (file_image self.new)) }
         ensures cause { HasCause (file_faults self.old) (file_faults self.new) result }
-        ensures in_step { InStep self.old → InStep self.new }
-        ensures by_file { OnErr result (FailsByFile self.old self.new) }
+        ensures in_step { InStep F.tells F.image self.old → InStep F.tells F.image self.new }
+        ensures by_file { OnErr result (FailsByFile F.faults self.old self.new) }
         ensures stays_lost { StaysLost self.old self.new result }
     {
         if self.is_lost {
@@ -182,9 +182,9 @@ impl<F: JournalFile> Disk for FileDisk<F> {
         ensures ok { OnOk result (file_image self.new ≡ all_synced (file_image self.old)) }
         ensures err { OnErr result (file_image self.new ≡ file_image self.old) }
         ensures cause { HasCause (file_faults self.old) (file_faults self.new) result }
-        ensures in_step { OnOk result (InStep self.old → InStep self.new) }
+        ensures in_step { OnOk result (InStep F.tells F.image self.old → InStep F.tells F.image self.new) }
         ensures lost { OnErr result (IsLost self.new) }
-        ensures by_file { OnErr result (FailsByFile self.old self.new) }
+        ensures by_file { OnErr result (FailsByFile F.faults self.old self.new) }
         ensures stays_lost { StaysLost self.old self.new result }
     {
         if self.is_lost || self.file.sync().is_err() {
@@ -201,9 +201,9 @@ impl<F: JournalFile> Disk for FileDisk<F> {
         ensures ok { OnOk result (file_image self.new ≡ cut_to length (file_image self.old)) }
         ensures err { OnErr result (file_image self.new ≡ file_image self.old) }
         ensures cause { HasCause (file_faults self.old) (file_faults self.new) result }
-        ensures in_step { OnOk result (InStep self.old → InStep self.new) }
+        ensures in_step { OnOk result (InStep F.tells F.image self.old → InStep F.tells F.image self.new) }
         ensures lost { OnErr result (IsLost self.new) }
-        ensures by_file { OnErr result (FailsByFile self.old self.new) }
+        ensures by_file { OnErr result (FailsByFile F.faults self.old self.new) }
         ensures stays_lost { StaysLost self.old self.new result }
     {
         if self.is_lost || self.cut_file(length).is_err() {
@@ -222,9 +222,9 @@ impl<F: JournalFile> Disk for FileDisk<F> {
         ensures ok { OnOk result (file_image self.new ≡ trimmed_to place (file_image self.old)) }
         ensures err { OnErr result (file_image self.new ≡ file_image self.old) }
         ensures cause { HasCause (file_faults self.old) (file_faults self.new) result }
-        ensures in_step { OnOk result (InStep self.old → InStep self.new) }
+        ensures in_step { OnOk result (InStep F.tells F.image self.old → InStep F.tells F.image self.new) }
         ensures lost { OnErr result (IsLost self.new) }
-        ensures by_file { OnErr result (FailsByFile self.old self.new) }
+        ensures by_file { OnErr result (FailsByFile F.faults self.old self.new) }
         ensures stays_lost { StaysLost self.old self.new result }
     {
         let place = place as usize;
@@ -248,7 +248,7 @@ impl<F: JournalFile> Disk for FileDisk<F> {
         ensures ok { OnOk result (into.new ≡ bytes_at place (length into.old) (file_image self.old)) }
         ensures image { file_image self.new ≡ file_image self.old }
         ensures cause { HasCause (file_faults self.old) (file_faults self.new) result }
-        ensures in_step { InStep self.old → InStep self.new }
+        ensures in_step { InStep F.tells F.image self.old → InStep F.tells F.image self.new }
         ensures lost { IsErr result ↔ IsLost self.old }
         ensures stays_lost { StaysLost self.old self.new result }
     {
@@ -265,8 +265,8 @@ impl<F: JournalFile> Disk for FileDisk<F> {
         ensures spare { file_spare self.old ≤ file_spare self.new }
         ensures image { file_image self.new ≡ stopped cut (file_image self.old) }
         ensures faults { file_faults self.new ≡ file_faults self.old }
-        ensures in_step { InStep self.old → InStep self.new ⊎ IsLost self.new }
-        ensures by_file { IsLost self.new → FailsByFile self.old self.new }
+        ensures in_step { InStep F.tells F.image self.old → InStep F.tells F.image self.new ⊎ IsLost self.new }
+        ensures by_file { IsLost self.new → FailsByFile F.faults self.old self.new }
         ensures stays_lost { IsLost self.old → IsLost self.new × (disk_file self.new ≡ disk_file self.old) }
     {
         let kept = (self.synced as u64).saturating_add(cut);

@@ -1,4 +1,5 @@
 mod InputLemmas
+mod OpenLemmas
 mod Progress
 mod TopLemmas
 mod UsedDisks

@@ -2,6 +2,7 @@ pub mod Endings
 pub mod Inputs
 pub mod Made
 pub mod MemStreams
+pub mod Opening
 pub mod Progress
 pub mod Streams
 pub mod Texts

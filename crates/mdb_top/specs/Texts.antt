@@ -6,7 +6,7 @@ use Rattle.scenario_text.specs.declared.bad.BadWhy.TheVariants as Bad
 use Rattle.session_outputs.specs.Texts.{line}
 
 abbrev pub usage_text : List ℕ
-usage_text = line (codes "usage: mdbfed replay | run | make NUMBER SITES TRANSACTIONS")
+usage_text = line (codes "usage: mdbfed replay | run | make NUMBER SITES TRANSACTIONS | store FOLDER")
 
 abbrev pub read_failed_text : List ℕ
 read_failed_text = line (codes "read failed")
@@ -17,9 +17,17 @@ too_long_text = line (codes "too long")
 abbrev pub no_memory_text : List ℕ
 no_memory_text = line (codes "no memory")
 
+-- a disk's number, and what is the matter with it
+abbrev pub disk_text : ℕ → List ℕ → List ℕ
+disk_text number matter = line (codes "disk " ++ decimal number ++ matter)
+
 -- which disk isn't empty
 abbrev pub disk_used_text : ℕ → List ℕ
-disk_used_text number = line (codes "disk " ++ decimal number ++ codes " is used")
+disk_used_text number = disk_text number (codes " is used")
+
+-- which disk has a journal that is too large to be opened
+abbrev pub disk_large_text : ℕ → List ℕ
+disk_large_text number = disk_text number (codes " is large")
 
 -- the word of a reason
 abbrev pub why_text : BadWhy → List ℕ

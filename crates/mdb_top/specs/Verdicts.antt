@@ -1,5 +1,5 @@
 -- What an input is: too long, a text with a bad line, or what it spells. And what the words of the program ask for.
-use Rattle.std.specs.Prelude.{ℕ, nat_lt, cond, codes, Option, Some, None, List, [], ◌∷◌, length, Result, Ok, Err}
+use Rattle.std.specs.Prelude.{ℕ, ◌==◌, nat_lt, Bool, false, not, cond, codes, Option, Some, None, List, [], ◌∷◌, length, Result, Ok, Err}
 use Rattle.std.specs.Str.{bytes_eq}
 use Rattle.mdb_base.specs.Words.{map_some}
 use Rattle.scenario_text.specs.declared.bad.BadLine.{BadLine}
@@ -13,11 +13,25 @@ use Rattle.mdb_top.specs.Streams.{longest}
 abbrev pub job_of : List ℕ → Option Job
 job_of word = cond (bytes_eq word (codes "replay")) (Some Replay) (cond (bytes_eq word (codes "run")) (Some Run) None)
 
--- what the words ask for
+-- the name of a folder: it isn't empty and doesn't begin with `-`
+abbrev pub is_folder : List ℕ → Bool
+is_folder [] = false
+is_folder (first ∷ rest) = not (first == 45)
+
+-- the words are `store FOLDER`
+abbrev pub is_store : List (List ℕ) → Bool
+is_store (word ∷ folder ∷ []) = cond (bytes_eq word (codes "store")) (is_folder folder) false
+is_store words = false
+
+-- what words without a folder ask for
+abbrev pub command_of : List (List ℕ) → Option Job
+command_of [] = None
+command_of (word ∷ []) = job_of word
+command_of (word ∷ other ∷ words) = map_some Make (made_by (word ∷ other ∷ words))
+
+-- what the words ask for: `store FOLDER` is a replay
 abbrev pub asked_by : List (List ℕ) → Option Job
-asked_by [] = None
-asked_by (word ∷ []) = job_of word
-asked_by (word ∷ other ∷ words) = map_some Make (made_by (word ∷ other ∷ words))
+asked_by words = cond (is_store words) (Some Replay) (command_of words)
 
 -- what is asked for can be done: what is to be made can be made
 abbrev pub CanBeDone : Job → Type 0

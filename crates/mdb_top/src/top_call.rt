@@ -17,7 +17,7 @@ ghost use Rattle.mdb_top.specs.Verdicts.{asked_by};
 
 use crate::input::{Unplayed, read_plan, read_session};
 use crate::streams::{Sink, Source};
-use crate::telling::{put_made, refused, told, used};
+use crate::telling::{put_made, put_usage, refused, told, used};
 use crate::used_disks::first_used;
 use crate::words::{Job, job_of};
 use fed_rules::Scenario;
@@ -203,10 +203,6 @@ pub fn federate<R: Threads + Wait + Sync, S: Source, K: Sink, D: Disk + Send, G:
         Some(Job::Replay) => replay(alloc, source, sink, disks),
         Some(Job::Run) => run(rt, alloc, source, sink, disks, gate),
         Some(Job::Make(making)) => made(rt, alloc, sink, making, disks, gate),
-        None => told(
-            sink,
-            1,
-            b"usage: mdbfed replay | run | make NUMBER SITES TRANSACTIONS\n",
-        ),
+        None => put_usage(sink),
     }
 }

@@ -1,6 +1,7 @@
 //! The words that the program is called with.
 ghost use Rattle.std.specs.Prelude.{◌≡◌, IfSome, map, string_bytes};
-ghost use Rattle.mdb_top.specs.Verdicts.{CanBeDone, asked_by};
+ghost use Rattle.mdb_top.specs.Verdicts as verdicts;
+ghost use Rattle.mdb_top.specs.Verdicts.{CanBeDone, asked_by, command_of as commands};
 
 use crate::made::made_by;
 use session_outputs::Making;
@@ -16,9 +17,38 @@ pub(crate) enum Job {
     Make(Making),
 }
 
-/// What the words ask for: `replay` alone, `run` alone, or `make NUMBER SITES TRANSACTIONS`. Other words are no command.
+/// What the words ask for: `replay` alone, `run` alone, `make NUMBER SITES TRANSACTIONS`, or `store FOLDER`, which is a replay. Other
+/// words are no command.
 pub(crate) fn job_of(words: &[String]) -> Option<Job>
     ensures exact { result ≡ asked_by (map string_bytes words.now) }
+    ensures doable { IfSome result CanBeDone }
+{
+    if is_store(words) {
+        return Some(Job::Replay);
+    }
+    command_of(words)
+}
+
+/// Whether the words are `store FOLDER`, where FOLDER isn't empty and doesn't begin with `-`.
+pub(crate) fn is_store(words: &[String]) -> bool
+    ensures { result ≡ verdicts.is_store (map string_bytes words.now) }
+{
+    if words.len() != 2 || words[0].as_str() != "store" {
+        return false;
+    }
+    is_folder(words[1].as_str())
+}
+
+/// Whether this may be the name of a folder.
+fn is_folder(name: &str) -> bool
+    ensures { result ≡ verdicts.is_folder name.now }
+{
+    !name.is_empty() && name.as_bytes()[0] != b'-'
+}
+
+/// What words without a folder ask for.
+fn command_of(words: &[String]) -> Option<Job>
+    ensures exact { result ≡ commands (map string_bytes words.now) }
     ensures doable { IfSome result CanBeDone }
 {
     if words.len() != 1 {

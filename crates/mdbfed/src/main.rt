@@ -1,5 +1,6 @@
 //! The program: `mdbfed replay` reads a session from standard input, and `mdbfed run` a scenario; both write the lines and the report to
-//! standard output. `mdbfed make` reads nothing, and writes the summary of a made scenario.
+//! standard output. `mdbfed make` reads nothing, and writes the summary of a made scenario. `mdbfed store FOLDER` is `mdbfed replay` with
+//! the journals in the files of a folder.
 #![tactic(auto)]
 
 ghost use Rattle.std.specs.Prelude.{◌≡◌, IfOk, length};
@@ -7,8 +8,9 @@ ghost use Rattle.std.specs.Prelude.{◌≡◌, IfOk, length};
 mod std_streams;
 
 use crate::std_streams::{StdSink, StdSource};
+use file_disks::FileStore;
 use mdb_base::Memory;
-use mdb_top::{MemDisk, NoGate, federate};
+use mdb_top::{MemDisk, NoGate, federate, federate_store};
 use std::alloc::Global;
 use std::env;
 use std::env::Env;
@@ -47,15 +49,37 @@ fn empty_disks(alloc: Global) -> Result<Vec<MemDisk>, Memory>
     Ok(disks)
 }
 
+/// The word at this place, counted from 0, or the empty one where there are fewer.
+fn word_at(words: &[String], place: usize) -> &str {
+    match words.get(place) {
+        Some(word) => word.as_str(),
+        None => "",
+    }
+}
+
 fn main(rt: HostRuntime) -> ExitCode {
     let Ok(words) = words_of(&rt) else {
         return ExitCode::from(NO_MEMORY);
     };
+    let mut source = StdSource::new(rt.reader());
+    let mut sink = StdSink::new(rt.stdout());
+    if word_at(&words, 0) == "store" {
+        let mut store = FileStore::new(rt.alloc(), &rt, word_at(&words, 1));
+        let mut disks = Vec::new(rt.alloc());
+        return ExitCode::from(federate_store(
+            &rt,
+            rt.alloc(),
+            &words,
+            &mut source,
+            &mut sink,
+            &mut store,
+            &mut disks,
+            &NoGate,
+        ));
+    }
     let Ok(mut disks) = empty_disks(rt.alloc()) else {
         return ExitCode::from(NO_MEMORY);
     };
-    let mut source = StdSource::new(rt.reader());
-    let mut sink = StdSink::new(rt.stdout());
     ExitCode::from(federate(
         &rt,
         rt.alloc(),

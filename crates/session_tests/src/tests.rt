@@ -16,6 +16,7 @@ mod repeats;
 mod runs;
 mod serial_order;
 mod sessions;
+mod stores;
 mod tickets;
 mod trips;
 

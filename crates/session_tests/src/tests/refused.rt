@@ -101,7 +101,8 @@ const UNKNOWN: [&str; 17] = [
 
 #[test]
 fn other_words_are_told_the_usage(rt: HostRuntime) -> Result<(), Fail> {
-    let usage = b"usage: mdbfed replay | run | make NUMBER SITES TRANSACTIONS\n".as_slice();
+    let usage =
+        b"usage: mdbfed replay | run | make NUMBER SITES TRANSACTIONS | store FOLDER\n".as_slice();
     for text in UNKNOWN.iter() {
         let mut words = Vec::new(rt.alloc());
         for word in text.split(' ') {

@@ -15,7 +15,7 @@ loop-done-preserved g c =
       within = within-more piece done count was.within put.within;
       memory = record { bytes = was.memory.bytes; synced = was.memory.synced };
       lost = was.lost;
-      faults = was.faults;
+      count = was.count;
       written = λ tells same.
           let end = next-end piece before _ done _ was.within (omega (arith, c.len-start.ensures, ap length same)) (was.written tells same) in
           put.ok tells end ∙ ap (appended (take count _)) (was.written tells same) ∙ appended-more piece before done count;
