@@ -1,37 +1,27 @@
 -- A command that begins no attempt leaves the number of the attempts of each transaction as it was, and no command takes a commit away.
-use Rattle.std.proofs.Common.{◌≡◌, ◌++◌, suc, Bool, true, false, cond, is_some, Option, Some, None, List, [], ◌∷◌, inl, inr, refl, sym, ap, subst, ◌∙◌}
+use Rattle.std.proofs.Common.{◌≡◌, ◌++◌, suc, Bool, true, false, cond, is_some, Option, Some, None, List, [], ◌∷◌, refl, sym, ap, subst, ◌∙◌}
 use Rattle.mdb_base.specs.declared.acts.Step.{Step}
 use Rattle.mdb_base.specs.declared.names.Tid.{Tid}
 use Rattle.mdb_base.specs.declared.names.Tx.{Tx}
 use Rattle.mdb_base.specs.Names.{same_site, same_tx}
-use Rattle.mdb_base.specs.Words.{Among, how_many, with_some}
-use Rattle.fed_rules.specs.declared.answers.Answer.TheVariants as Say
+use Rattle.mdb_base.specs.Words.{how_many, with_some}
 use Rattle.fed_rules.specs.declared.commands.Command.{Command}
 use Rattle.fed_rules.specs.declared.commands.Command.TheVariants as Cmd
 use Rattle.fed_rules.specs.declared.events.CoordEvent.TheVariants as Coord_event
 use Rattle.fed_rules.specs.declared.events.SiteEvent.{SiteEvent}
-use Rattle.fed_rules.specs.declared.records.CoordRecord.TheVariants as Coord_record
-use Rattle.fed_rules.specs.declared.records.SiteRecord.TheVariants as Rec
 use Rattle.fed_rules.specs.declared.scenario.Scenario.{Scenario}
 use Rattle.fed_rules.specs.Closing.{is_done, is_done_at}
 use Rattle.fed_rules.specs.CoordPast as Coordinator
 use Rattle.fed_rules.specs.CoordPast.{CoordHappening, CoordPast, begins, begun_by, begun_tids, kept_decision, standing, standing_of}
 use Rattle.fed_rules.specs.CoordRecords.{committed_of}
-use Rattle.fed_rules.specs.Scenarios.{home_of, local_home, policy, protocols}
+use Rattle.fed_rules.specs.Scenarios.{home_of, local_home, protocols}
 use Rattle.fed_rules.specs.Site.{site_line}
 use Rattle.fed_rules.specs.SitePast.{SiteHappening, SitePast, attempts_of, begins_tx, records}
 use Rattle.fed_rules.specs.SiteRecords.{Home, local_of}
 use Rattle.fed_rules.specs.Story.{Story, Happened, AtSite, AtCoordinator, Nowhere, coord_past, happens, past_of, story_of}
 use Rattle.rules_laws.specs.Lines.{CoordCause, IsLine, IsCoordLine, SiteCause}
 use Rattle.rules_laws.proofs.Lines.{line_is}
-use Rattle.rules_laws.proofs.Disks.{cut_stays}
-use Rattle.coord_laws.specs.Records.{IsCommit}
-use Rattle.coord_laws.proofs.Lines.{Line, coord_lines}
-use Rattle.coord_laws.proofs.Sound.{begins_go, end_commit, kept_stays}
-use Rattle.commit_laws.specs.Records.{IsLooseEnded}
-use Rattle.commit_laws.proofs.ForgettingProofs.{next-turn}
-use Rattle.commit_laws.proofs.SealProofs.{next-line}
-use Rattle.commit_laws.proofs.SiteLines.{Kept}
+use Rattle.coord_laws.proofs.Sound.{begins_go}
 use Rattle.federation_laws.proofs.Told.{local_home-declared}
 use Rattle.closing_laws.specs.Finished.{begun, begun_at}
 use Rattle.closing_laws.proofs.Locals.{Begins, IsBeginOf, by_line}
@@ -39,7 +29,7 @@ use Rattle.mdb_base.specs.Words.{Each}
 use Rattle.mdb_base.proofs.OptionLaws.{some_parts}
 use Rattle.mdb_base.proofs.NameLaws.{same_site-equal}
 use Rattle.rules_laws.proofs.Commands.{begins_nothing}
-use Rattle.closing_laws.proofs.OthersStay.{IsLocalOf, committed_among, among_committed, begun_is, local_among, among_local, forced_local}
+use Rattle.closing_laws.proofs.OthersStay.{BeginsNoneOf, no_begin, no_go, local_stays, turn_line, commit_stays, committed_among, among_committed, begun_is, local_among, among_local}
 use Rattle.progress_laws.specs.Added.{is_of_closing}
 
 pub closing_begins_nothing : (command : Command) → is_of_closing command ≡ true → begins_nothing command ≡ true
@@ -47,50 +37,10 @@ closing_begins_nothing (Cmd.Begin tx) e = cc
 closing_begins_nothing (Cmd.Go tx) e = cc
 closing_begins_nothing command e = refl
 
-module _ (scenario : Scenario) (story : Story) (command : Command) (tx : Tx) (nothing : begins_nothing command ≡ true) where
-  -- it makes no site begin an attempt
-  no_begin : (home : Home) (event : SiteEvent) → SiteCause scenario home story command event → IsBeginOf tx event → ⊥
-  no_begin home event c b = by_command command nothing c
-    where
-      by_command : (k : Command) → begins_nothing k ≡ true → SiteCause scenario home story k event → ⊥
-      by_command (Cmd.Begin other) o c = cc
-      by_command (Cmd.Step other) o c = subst (IsBeginOf tx) c.asks.is b
-      by_command (Cmd.Commit other) o c = subst (IsBeginOf tx) c.asks.is b
-      by_command (Cmd.Abort other) o c = subst (IsBeginOf tx) c.asks.is b
-      by_command (Cmd.Fate other) o c = subst (IsBeginOf tx) c.asks b
-      by_command (Cmd.Give site place) o c = subst (IsBeginOf tx) c.1.is b
-      by_command (Cmd.Ask site tid) o c = subst (IsBeginOf tx) c.1 b
-      by_command (Cmd.Drop site tid) o c = subst (IsBeginOf tx) c.1 b
-      by_command (Cmd.Halt actor cut) o c = subst (IsBeginOf tx) c.1 b
-      by_command (Cmd.Trip actor calls cut) o c = subst (IsBeginOf tx) c.1 b
-      by_command (Cmd.Back actor) o c = subst (IsBeginOf tx) c.1 b
-      by_command (Cmd.Check actor) o c = subst (IsBeginOf tx) c.1 b
-      by_command (Cmd.Go other) o c = c
-      by_command (Cmd.Again tid) o c = c
-      by_command (Cmd.Late tid) o c = c
-      by_command (Cmd.Take site place) o c = c
-
-  -- and doesn't make the coordinator begin one
-  no_go : (t : Tid) (steps : List Step) → CoordCause scenario story command (Coord_event.Go t steps) → same_tx t.tx tx ≡ true → ⊥
-  no_go t steps c same = by_command command nothing c
-    where
-      by_command : (k : Command) → begins_nothing k ≡ true → CoordCause scenario story k (Coord_event.Go t steps) → ⊥
-      by_command (Cmd.Go other) o c = cc
-      by_command (Cmd.Fate other) o c = let is = c.is in cc
-      by_command (Cmd.Again tid) o c = cc
-      by_command (Cmd.Late tid) o c = cc
-      by_command (Cmd.Take site place) o c = let is = c.is in cc
-      by_command (Cmd.Halt actor cut) o c = let is = c.1 in cc
-      by_command (Cmd.Trip actor calls cut) o c = let is = c.1 in cc
-      by_command (Cmd.Back actor) o c = let is = c.1 in cc
-      by_command (Cmd.Check actor) o c = let is = c.1 in cc
-      by_command (Cmd.Begin other) o c = c
-      by_command (Cmd.Step other) o c = c
-      by_command (Cmd.Commit other) o c = c
-      by_command (Cmd.Abort other) o c = c
-      by_command (Cmd.Give site place) o c = c
-      by_command (Cmd.Ask site tid) o c = c
-      by_command (Cmd.Drop site tid) o c = c
+begins_none : (tx : Tx) (command : Command) → begins_nothing command ≡ true → BeginsNoneOf tx command
+begins_none tx (Cmd.Begin other) e = cc
+begins_none tx (Cmd.Go other) e = cc
+begins_none tx command e = tt
 
 -- one command
 module _ (scenario : Scenario) (commands : List Command) (command : Command) (tx : Tx) where
@@ -103,15 +53,8 @@ module _ (scenario : Scenario) (commands : List Command) (command : Command) (tx
     abbrev past : SitePast
     past = past_of home.site story
 
-    local_stays : Among (IsLocalOf tx) (records home past) → Among (IsLocalOf tx) (records home (x ∷ past))
-    local_stays i = by_kept (next-line scenario commands home declared x (command, told) (record { tx = tx; attempt = 0 })).1.line.kept
-      where
-        by_kept : {g : Tid} {e : SiteEvent} → Kept home g past e (records home (x ∷ past)) → Among (IsLocalOf tx) (records home (x ∷ past))
-        by_kept (inl (r, w, is)) = subst (Among (IsLocalOf tx)) (sym is) (inr i)
-        by_kept (inr cut) = cut_stays (IsLooseEnded home.protocol) (IsLocalOf tx) (forced_local home tx) (records home past) (records home (x ∷ past)) cut i
-
     done_local : is_some (local_of (records home past) tx) ≡ true → is_some (local_of (records home (x ∷ past)) tx) ≡ true
-    done_local e = among_local tx (records home (x ∷ past)) (local_stays (local_among tx (records home past) e))
+    done_local e = among_local tx (records home (x ∷ past)) (local_stays scenario commands command tx home declared x told (local_among tx (records home past) e))
 
     same_begun : begins_nothing command ≡ true → attempts_of (x ∷ past) tx ≡ attempts_of past tx
     same_begun nothing = by_begun (begins_tx tx x.answer) refl
@@ -120,7 +63,7 @@ module _ (scenario : Scenario) (commands : List Command) (command : Command) (tx
         begins_it = (subst (Begins tx event) (sym is_next) (by_line tx home past event)).begins
 
         by_begun : (b : Bool) → begins_tx tx x.answer ≡ b → cond b (suc (attempts_of past tx)) (attempts_of past tx) ≡ attempts_of past tx
-        by_begun true q = absurd (no_begin scenario story command tx nothing home event cause (begins_it q))
+        by_begun true q = absurd (no_begin scenario story command tx (begins_none tx command nothing) home event cause (begins_it q))
         by_begun false q = refl
 
   -- at the coordinator
@@ -128,16 +71,8 @@ module _ (scenario : Scenario) (commands : List Command) (command : Command) (tx
     abbrev own : CoordPast
     own = coord_past story
 
-    turn_line : (t : Tid) → Line (protocols scenario) t own line.event x
-    turn_line t =
-        let turned = next-turn scenario commands x (command, told) t in
-        subst (Line (protocols scenario) t own line.event) (sym line.is_next) (coord_lines (protocols scenario) (policy scenario) t own line.event turned.1.sound.firm)
-
-    commit_stays : (t : Tid) → Among (IsCommit t) (Coordinator.records own) → Among (IsCommit t) (Coordinator.records (x ∷ own))
-    commit_stays t i = kept_stays (protocols scenario) t own line.event (Coordinator.records (x ∷ own)) (IsCommit t) (end_commit t) (turn_line t).kept i
-
     done_committed : is_some (committed_of (Coordinator.records own) tx) ≡ true → is_some (committed_of (Coordinator.records (x ∷ own)) tx) ≡ true
-    done_committed e = let (t, same, i) = committed_among tx (Coordinator.records own) e in among_committed tx t (Coordinator.records (x ∷ own)) same (commit_stays t i)
+    done_committed e = let (t, same, i) = committed_among tx (Coordinator.records own) e in among_committed tx t (Coordinator.records (x ∷ own)) same (commit_stays scenario commands command x told line t i)
 
     same_attempts : begins_nothing command ≡ true → Coordinator.attempts_of (x ∷ own) tx ≡ Coordinator.attempts_of own tx
     same_attempts nothing = by_begun (begun_by x.answer) refl
@@ -145,13 +80,13 @@ module _ (scenario : Scenario) (commands : List Command) (command : Command) (tx
         by_begun : (o : Option Tid) → begun_by x.answer ≡ o → how_many (λ (tid : Tid). same_tx tid.tx tx) (with_some o (begun_tids own)) ≡ how_many (λ (tid : Tid). same_tx tid.tx tx) (begun_tids own)
         by_begun None q = refl
         by_begun (Some t) q =
-            let (steps, is) = begins_go (protocols scenario) t own x (turn_line t).stood (begun_is x.answer t q) in
-            let named : line.event ≡ Coord_event.Go t steps = sym (turn_line t).is ∙ is in
+            let (steps, is) = begins_go (protocols scenario) t own x (turn_line scenario commands command x told line t).stood (begun_is x.answer t q) in
+            let named : line.event ≡ Coord_event.Go t steps = sym (turn_line scenario commands command x told line t).is ∙ is in
             by_test steps named (same_tx t.tx tx) refl
           where
             by_test : (steps : List Step) → line.event ≡ Coord_event.Go t steps → (b : Bool) → same_tx t.tx tx ≡ b
                 → cond b (suc (how_many (λ (tid : Tid). same_tx tid.tx tx) (begun_tids own))) (how_many (λ (tid : Tid). same_tx tid.tx tx) (begun_tids own)) ≡ how_many (λ (tid : Tid). same_tx tid.tx tx) (begun_tids own)
-            by_test steps named true same = absurd (no_go scenario story command tx nothing t steps (subst (CoordCause scenario story command) named line.cause) same)
+            by_test steps named true same = absurd (no_go scenario story command tx (begins_none tx command nothing) t steps (subst (CoordCause scenario story command) named line.cause) same)
             by_test steps named false same = refl
 
   -- behind it what was done is done, and where it begins nothing as many attempts were begun as before

@@ -4,3 +4,4 @@ mod Doubts
 mod Finishes
 mod GivenUp
 mod Refuted
+mod SettledCommits

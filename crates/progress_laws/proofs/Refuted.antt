@@ -4,13 +4,14 @@ use Rattle.mdb_base.specs.declared.names.Engine.TheVariants.{Locking}
 use Rattle.presumptions.specs.declared.Protocol.TheVariants as By
 use Rattle.fed_rules.specs.declared.commands.Command.{Command}
 use Rattle.fed_rules.specs.declared.scenario.Scenario.{Scenario}
+use Rattle.fed_rules.specs.Plans.{IsScenario}
 use Rattle.fed_rules.specs.SiteRecords.{Home}
 use Rattle.fed_rules.specs.Story.{most_attempts}
 use Rattle.fed_rules.proofs.Opened.{opened}
 use Rattle.fed_rules.proofs.Spelled.{at, tid, set, site, step_at, global, scenario_of, go, give, take}
 use Rattle.closing_laws.specs.Finished.{begun}
 use Rattle.progress_laws.specs.Progress.{given, taken}
-use Rattle.progress_laws.specs.WrongRules.{LeavesADoubt, LeavesADoubtUndecided, LeavesUncommitted, closed_alone}
+use Rattle.progress_laws.specs.WrongRules.{LeavesADoubt, LeavesADoubtUndecided, LeavesUncommitted, LeavesUnsettled, closed_alone}
 
 abbrev one_site : Scenario
 one_site = scenario_of (site 1 Locking By.Nothing ∷ []) [] (global 1 (step_at 1 (set 1 11) ∷ []) ∷ [])
@@ -58,4 +59,32 @@ closed_uncommitted =
       line = global 1 (step_at 1 (set 1 11) ∷ []);
       listed = inl refl;
       undone = refl;
+    }
+
+whole : IsScenario one_site
+whole =
+    record {
+      sites = record { range = refl; differ = refl };
+      items = record { declared = refl; differ = refl; few = λ s. omega arith };
+      transactions = record { in_place = refl; differ = refl; programs = (record { some = omega arith; few = omega arith; registers = refl }, tt) };
+      clients = refl;
+      turns = refl;
+      tries = refl;
+      links = record { range = refl; differ = refl; few = omega arith };
+      stops = record { range = refl; few = λ actor. omega arith };
+    }
+
+-- the coordinator decided, and didn't tell the site yet
+pub unsettled_still : LeavesUnsettled
+unfolding opened
+unsettled_still =
+    record {
+      scenario = one_site;
+      good = whole;
+      commands = take 1 2 ∷ voted;
+      tid = tid 1 0;
+      committed = refl;
+      step = step_at 1 (set 1 11);
+      of_program = inl refl;
+      still = refl;
     }

@@ -1,10 +1,10 @@
--- Each command of a run's hosts is one that some actor hears.
+-- Each command of a run's hosts is one that some actor hears, and none asks for a Checkpoint.
 use Rattle.std.proofs.Common.{◌≡◌, ℕ, ◌==◌, Bool, true, false, cond, Option, Some, List, [], ◌∷◌, map, reverse, slice_get, refl, sym, subst}
 use Rattle.std.proofs.lemmas.Bool.{and_parts, or_left, or_right}
 use Rattle.mdb_base.specs.declared.names.SiteId.{SiteId}
 use Rattle.mdb_base.specs.Names.{same_site}
 use Rattle.mdb_base.specs.Words.{Each, some_of, those}
-use Rattle.mdb_base.proofs.ListLaws.{each_filtered}
+use Rattle.mdb_base.proofs.ListLaws.{each_filtered, each_map}
 use Rattle.mdb_base.proofs.EachLaws.{each_of_mapped}
 use Rattle.order_laws.proofs.Lists.{each_at}
 use Rattle.order_laws.proofs.Members.{each_passes}
@@ -36,10 +36,15 @@ use Rattle.host_laws.specs.Turns.{SiteTurn, trips_of}
 use Rattle.host_laws.proofs.CarriedHosts.{by_list}
 use Rattle.host_laws.proofs.CarriedTrace.{each_entry}
 use Rattle.line_laws.specs.Lines.{IsHeard}
+use Rattle.made_laws.specs.Unchecked.{AreUnchecked, is_check}
 
--- a line is of a command that some actor hears
-abbrev HeardLine : List SiteLine → Stamped → Type 0
-HeardLine sites line = IsHeard sites line.line.command
+-- some actor hears the command, and it asks for no Checkpoint
+abbrev IsOfHosts : List SiteLine → Command → Type 0
+IsOfHosts sites command = IsHeard sites command × (is_check command ≡ false)
+
+-- a line is of such a command
+abbrev HostLine : List SiteLine → Stamped → Type 0
+HostLine sites line = IsOfHosts sites line.line.command
 
 -- a site with a home is declared
 home_declared : (lines : List SiteLine) (items : List ItemLine) (site : SiteId) (home : Home) → home_in lines items site ≡ Some home → is_declared lines site ≡ true
@@ -66,58 +71,69 @@ stop_actor scenario actor place stop whole at =
     (and_parts (is_actor scenario.sites stop.actor) _ (and_parts _ _ own).0).0
 
 module _ (scenario : Scenario) (whole : IsScenario scenario) where
-  abbrev Heard : Command → Type 0
-  Heard command = IsHeard scenario.sites command
+  abbrev IsHosts : Command → Type 0
+  IsHosts command = IsOfHosts scenario.sites command
 
   -- a command of a site's host
   site_command : (site : SiteId) (plan : SitePlan) → is_declared scenario.sites plan.home.site ≡ true → plan.stops ≡ those (stops_actor site.0) scenario.stops
-      → (turns : List SiteTurn) (command : Command) (took : Option (Envelope ToSite)) → IsCommand plan turns command took → Heard command
-  site_command site plan declared stops turns (Cmd.Ask own tid) took c = subst (λ s. is_declared scenario.sites s ≡ true) (sym c.0) declared
+      → (turns : List SiteTurn) (command : Command) (took : Option (Envelope ToSite)) → IsCommand plan turns command took → IsHosts command
+  site_command site plan declared stops turns (Cmd.Ask own tid) took c = (subst (λ s. is_declared scenario.sites s ≡ true) (sym c.0) declared, refl)
   site_command site plan declared stops turns (Cmd.Trip actor calls cut) took c =
-      stop_actor scenario site.0 (trips_of turns) (record { actor = actor; calls = calls; cut = cut }) whole (subst (λ (ls : List StopLine). slice_get ls (trips_of turns) ≡ Some (record { actor = actor; calls = calls; cut = cut })) stops c.0)
-  site_command site plan declared stops turns (Cmd.Back actor) took c = subst (λ a. is_actor scenario.sites a ≡ true) (sym c.0) (declared_actor scenario.sites plan.home.site declared)
+      (stop_actor scenario site.0 (trips_of turns) (record { actor = actor; calls = calls; cut = cut }) whole (subst (λ (ls : List StopLine). slice_get ls (trips_of turns) ≡ Some (record { actor = actor; calls = calls; cut = cut })) stops c.0), refl)
+  site_command site plan declared stops turns (Cmd.Back actor) took c = (subst (λ a. is_actor scenario.sites a ≡ true) (sym c.0) (declared_actor scenario.sites plan.home.site declared), refl)
   site_command site plan declared stops turns (Cmd.Drop own tid) took c = absurd c
   site_command site plan declared stops turns (Cmd.Halt actor cut) took c = absurd c
   site_command site plan declared stops turns (Cmd.Check actor) took c = absurd c
-  site_command site plan declared stops turns command took c = tt
+  site_command site plan declared stops turns command took c = (tt, refl)
 
-  site_heard : (site : SiteId) (plan : SitePlan) → is_declared scenario.sites plan.home.site ≡ true → plan.stops ≡ those (stops_actor site.0) scenario.stops
-      → (turns : List SiteTurn) → IsHistory plan turns → Each (λ (turn : SiteTurn). Heard turn.line.line.command) turns
-  site_heard site plan declared stops [] h = tt
-  site_heard site plan declared stops (turn ∷ turns) h = (site_command site plan declared stops turns turn.line.line.command turn.took h.0.command, site_heard site plan declared stops turns h.1)
+  site_hosts : (site : SiteId) (plan : SitePlan) → is_declared scenario.sites plan.home.site ≡ true → plan.stops ≡ those (stops_actor site.0) scenario.stops
+      → (turns : List SiteTurn) → IsHistory plan turns → Each (λ (turn : SiteTurn). IsHosts turn.line.line.command) turns
+  site_hosts site plan declared stops [] h = tt
+  site_hosts site plan declared stops (turn ∷ turns) h = (site_command site plan declared stops turns turn.line.line.command turn.took h.0.command, site_hosts site plan declared stops turns h.1)
 
   -- and one of the coordinator's
   coord_command : (plan : CoordPlan) → plan.stops ≡ those (stops_actor 0) scenario.stops
-      → (turns : List CoordTurn) (command : Command) (took : Option (Envelope FromSite)) → IsCoordCommand plan turns command took → Heard command
+      → (turns : List CoordTurn) (command : Command) (took : Option (Envelope FromSite)) → IsCoordCommand plan turns command took → IsHosts command
   coord_command plan stops turns (Cmd.Trip actor calls cut) took c =
-      stop_actor scenario 0 (coord_trips_of turns) (record { actor = actor; calls = calls; cut = cut }) whole (subst (λ (ls : List StopLine). slice_get ls (coord_trips_of turns) ≡ Some (record { actor = actor; calls = calls; cut = cut })) stops c.0)
-  coord_command plan stops turns (Cmd.Back actor) took c = subst (λ a. is_actor scenario.sites a ≡ true) (sym c.0) refl
+      (stop_actor scenario 0 (coord_trips_of turns) (record { actor = actor; calls = calls; cut = cut }) whole (subst (λ (ls : List StopLine). slice_get ls (coord_trips_of turns) ≡ Some (record { actor = actor; calls = calls; cut = cut })) stops c.0), refl)
+  coord_command plan stops turns (Cmd.Back actor) took c = (subst (λ a. is_actor scenario.sites a ≡ true) (sym c.0) refl, refl)
   coord_command plan stops turns (Cmd.Ask site tid) took c = absurd c
   coord_command plan stops turns (Cmd.Drop site tid) took c = absurd c
   coord_command plan stops turns (Cmd.Halt actor cut) took c = absurd c
   coord_command plan stops turns (Cmd.Check actor) took c = absurd c
-  coord_command plan stops turns command took c = tt
+  coord_command plan stops turns command took c = (tt, refl)
 
-  coord_heard : (plan : CoordPlan) → plan.stops ≡ those (stops_actor 0) scenario.stops → (turns : List CoordTurn) → IsCoordHistory plan turns → Each (λ (turn : CoordTurn). Heard turn.line.line.command) turns
-  coord_heard plan stops [] h = tt
-  coord_heard plan stops (turn ∷ turns) h = (coord_command plan stops turns turn.line.line.command turn.took h.0.command, coord_heard plan stops turns h.1)
+  coord_hosts : (plan : CoordPlan) → plan.stops ≡ those (stops_actor 0) scenario.stops → (turns : List CoordTurn) → IsCoordHistory plan turns → Each (λ (turn : CoordTurn). IsHosts turn.line.line.command) turns
+  coord_hosts plan stops [] h = tt
+  coord_hosts plan stops (turn ∷ turns) h = (coord_command plan stops turns turn.line.line.command turn.took h.0.command, coord_hosts plan stops turns h.1)
 
--- so each command of the merged lines is heard
-pub hosts_heard : {scripts : Scripts} (scenario : Scenario) (coordinator : CoordLog) (logs : List SiteLog) (lists : List (List Stamped)) (merged : List Stamped)
-    → AreLogs scripts scenario coordinator logs → AreLists scenario coordinator logs lists → IsTrace lists merged → Each (IsHeard scenario.sites) (commands_of (lines_in merged))
-hosts_heard scenario coordinator logs lists merged are listed trace =
-    each_of_mapped _ (λ (line : Line). line.command) (reverse (lines_in merged)) (each_reverse (λ (line : Line). IsHeard scenario.sites line.command) (lines_in merged)
-    (each_of_mapped _ (λ (stamped : Stamped). stamped.line) merged (subst (λ (ss : List Stamped). Each (HeardLine scenario.sites) ss) (sym trace.lines) (each_of_mapped _ (λ (e : Entry). e.line) trace.entries entries))))
+-- so is each command of the merged lines
+of_hosts : {scripts : Scripts} (scenario : Scenario) (coordinator : CoordLog) (logs : List SiteLog) (lists : List (List Stamped)) (merged : List Stamped)
+    → AreLogs scripts scenario coordinator logs → AreLists scenario coordinator logs lists → IsTrace lists merged → Each (IsOfHosts scenario.sites) (commands_of (lines_in merged))
+of_hosts scenario coordinator logs lists merged are listed trace =
+    each_of_mapped _ (λ (line : Line). line.command) (reverse (lines_in merged)) (each_reverse (λ (line : Line). IsOfHosts scenario.sites line.command) (lines_in merged)
+    (each_of_mapped _ (λ (stamped : Stamped). stamped.line) merged (subst (λ (ss : List Stamped). Each (HostLine scenario.sites) ss) (sym trace.lines) (each_of_mapped _ (λ (e : Entry). e.line) trace.entries entries))))
   where
-    own : Each (HeardLine scenario.sites) (reverse (map (λ (turn : CoordTurn). turn.line) coordinator.turns))
-    own = each_reverse (HeardLine scenario.sites) _ (each_of_mapped _ (λ (turn : CoordTurn). turn.line) coordinator.turns (coord_heard scenario are.whole coordinator.plan are.coordinator_is.stops coordinator.turns are.coordinator_is.right))
+    own : Each (HostLine scenario.sites) (reverse (map (λ (turn : CoordTurn). turn.line) coordinator.turns))
+    own = each_reverse (HostLine scenario.sites) _ (each_of_mapped _ (λ (turn : CoordTurn). turn.line) coordinator.turns (coord_hosts scenario are.whole coordinator.plan are.coordinator_is.stops coordinator.turns are.coordinator_is.right))
 
-    site_own : (place : ℕ) (site : SiteId) (log : SiteLog) → slice_get (sites scenario) place ≡ Some site → slice_get logs place ≡ Some log → Each (HeardLine scenario.sites) (reverse (map (λ (turn : SiteTurn). turn.line) log.turns))
+    site_own : (place : ℕ) (site : SiteId) (log : SiteLog) → slice_get (sites scenario) place ≡ Some site → slice_get logs place ≡ Some log → Each (HostLine scenario.sites) (reverse (map (λ (turn : SiteTurn). turn.line) log.turns))
     site_own place site log at there =
         let s = are.site_is place site log at there in
         let same : log.plan.home.site ≡ site = its-site scenario site log.plan.home s.home in
         let declared = subst (λ x. is_declared scenario.sites x ≡ true) (sym same) (home_declared scenario.sites scenario.items site log.plan.home s.home) in
-        each_reverse (HeardLine scenario.sites) _ (each_of_mapped _ (λ (turn : SiteTurn). turn.line) log.turns (site_heard scenario are.whole site log.plan declared s.stops log.turns s.right))
+        each_reverse (HostLine scenario.sites) _ (each_of_mapped _ (λ (turn : SiteTurn). turn.line) log.turns (site_hosts scenario are.whole site log.plan declared s.stops log.turns s.right))
 
-    entries : Each (λ (e : Entry). HeardLine scenario.sites e.line) trace.entries
-    entries = each_entry (λ actor. HeardLine scenario.sites) trace.entries (λ actor. subst (Each (HeardLine scenario.sites)) (sym (trace.each_list actor)) (by_list are listed (λ n. Each (HeardLine scenario.sites)) own site_own (λ n. tt) actor))
+    entries : Each (λ (e : Entry). HostLine scenario.sites e.line) trace.entries
+    entries = each_entry (λ actor. HostLine scenario.sites) trace.entries (λ actor. subst (Each (HostLine scenario.sites)) (sym (trace.each_list actor)) (by_list are listed (λ n. Each (HostLine scenario.sites)) own site_own (λ n. tt) actor))
+
+module _ {scripts : Scripts} (scenario : Scenario) (coordinator : CoordLog) (logs : List SiteLog) (lists : List (List Stamped)) (merged : List Stamped) (are : AreLogs scripts scenario coordinator logs)
+    (listed : AreLists scenario coordinator logs lists) (trace : IsTrace lists merged)
+  where
+    -- each is heard
+    pub hosts_heard : Each (IsHeard scenario.sites) (commands_of (lines_in merged))
+    hosts_heard = each_map (IsOfHosts scenario.sites) (IsHeard scenario.sites) (λ command own. own.0) (commands_of (lines_in merged)) (of_hosts scenario coordinator logs lists merged are listed trace)
+
+    -- and none asks for a Checkpoint
+    pub hosts_unchecked : AreUnchecked (commands_of (lines_in merged))
+    hosts_unchecked = each_map (IsOfHosts scenario.sites) (λ command. is_check command ≡ false) (λ command own. own.1) (commands_of (lines_in merged)) (of_hosts scenario coordinator logs lists merged are listed trace)

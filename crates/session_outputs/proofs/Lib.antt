@@ -1,3 +1,4 @@
+mod Again
 mod Ending
 mod Holding
 mod HostsHeard
@@ -9,4 +10,5 @@ mod Rights
 mod RunLemmas
 mod Stores
 mod Totals
+mod Unrefused
 mod UsedDisks

@@ -1,5 +1,5 @@
 -- The output of a made scenario: what its end says, as the disks see it.
-use Rattle.std.proofs.Common.{◌≡◌, ℕ, Bool, IsTrue, Result, Ok, Err, List, [], ◌++◌}
+use Rattle.std.proofs.Common.{◌≡◌, ℕ, Bool, IsTrue, Result, Ok, Err, List, [], ◌++◌, ◌∙◌}
 use Rattle.mdb_base.specs.declared.names.Memory.{Memory}
 use Rattle.fed_rules.specs.declared.commands.Command.{Command}
 use Rattle.fed_rules.specs.declared.commands.Line.{Line}
@@ -10,6 +10,9 @@ use Rattle.journal_disk.specs.Disk.{Seen}
 use Rattle.fed_world.specs.declared.world.World.{World}
 use Rattle.fed_world.specs.Worlds.{AreLines, EachStory, Recalls, Rests}
 use Rattle.host_laws.specs.Merged.{commands_of}
+use Rattle.made_laws.specs.Summaries.{MadeLinesAreFixed}
+use Rattle.made_laws.specs.Unchecked.{EndsAreUnchecked}
+use Rattle.progress_laws.specs.Settled.{CommitsAreSettledAtRest}
 use Rattle.line_text.specs.Spelling.{lines_bytes}
 use Rattle.report_text.specs.Summaries.{summary_text}
 use Rattle.fed_world.proofs.Recalled.{recalls}
@@ -17,21 +20,27 @@ use Rattle.session_outputs.specs.declared.output.Output.{Output}
 use Rattle.session_outputs.specs.declared.output.Output.TheVariants.{Whole, Broken}
 use Rattle.session_outputs.specs.declared.making.Making.{Making}
 use Rattle.session_outputs.specs.Ends.{BreaksOff, IsEnded}
-use Rattle.session_outputs.specs.Makes.{made_scenario, making}
+use Rattle.session_outputs.specs.Makes.{IsMakeable, made_scenario, making}
 use Rattle.session_outputs.specs.Outputs.{IfBroken, IfWhole, IsOutput}
 use Rattle.session_outputs.specs.Runs.{Breaks, host_commands, run_commands}
 use Rattle.session_outputs.specs.Texts.{disk_failed_text}
 use Rattle.session_outputs.proofs.Holding.{AreSized, stands_hold_frames}
+use Rattle.session_outputs.proofs.HostsHeard.{hosts_unchecked}
 use Rattle.session_outputs.proofs.Rights.{all_commit, story_right}
 use Rattle.session_outputs.proofs.RunLemmas.{Stops, before, off_breaks, stopped_breaks, stopped_lines}
 
--- a run that came to its end: what is put is the summary of its journals
-pub made_output : (tells : Bool) (old new : List Seen) (asked : Making) → OfStories Headline → IsTrue tells → AreSized new → (world : World) → IsEnded tells old new (made_scenario asked) world → (r : Result Output Memory)
+-- a run that came to its end: what is put is the summary of its journals, which is told by how many sites and transactions there are
+pub made_output : (tells : Bool) (old new : List Seen) (asked : Making) → OfStories Headline → CommitsAreSettledAtRest → MadeLinesAreFixed → EndsAreUnchecked → IsMakeable asked
+    → IsTrue tells → AreSized new → (world : World) → IsEnded tells old new (made_scenario asked) world → (r : Result Output Memory)
     → IfWhole r (λ bytes. EachStory (Recalls world) (λ scenario commands. Rests scenario commands → bytes ≡ summary_text scenario (story_of scenario commands))) → IsOutput (making tells) r old new asked
-made_output tells old new asked headlines told sized world e (Ok (Whole bytes)) p =
+made_output tells old new asked headlines everywhere fixed ends can told sized world e (Ok (Whole bytes)) p =
     let scenario : Scenario = made_scenario asked in
     let commands = run_commands scenario (host_commands e.merged) in
-    let right = story_right headlines scenario e.hosts.run.logged.whole commands e.finished.rest in
+    let right = story_right headlines everywhere scenario e.hosts.run.logged.whole commands e.finished.rest in
+    let unchecked =
+    ends scenario (host_commands e.merged)
+    (hosts_unchecked scenario e.hosts.coordinator e.hosts.logs e.hosts.lists e.merged e.hosts.run.logged e.hosts.run.listed e.hosts.run.traced) in
+    let summed = p scenario commands (recalls tells world new scenario commands e.stands) e.finished.rest in
     record {
       merged = e.merged;
       hosts = e.hosts;
@@ -39,10 +48,11 @@ made_output tells old new asked headlines told sized world e (Ok (Whole bytes)) 
       committed = all_commit scenario (story_of scenario commands) right e.finished;
       kept = stands_hold_frames tells world new scenario commands told sized e.finished.rest e.stands;
       calm = e.calm;
-      output_is = p scenario commands (recalls tells world new scenario commands e.stands) e.finished.rest;
+      output_is = summed;
+      fixed = summed ∙ fixed asked.number asked.sites asked.transactions can.0 can.1 can.3 commands unchecked e.finished.rest e.finished.done;
     }
-made_output tells old new asked headlines told sized world e (Ok (Broken bytes)) p = absurd p
-made_output tells old new asked headlines told sized world e (Err why) p = tt
+made_output tells old new asked headlines everywhere fixed ends can told sized world e (Ok (Broken bytes)) p = absurd p
+made_output tells old new asked headlines everywhere fixed ends can told sized world e (Err why) p = tt
 
 -- one that a failed disk ended
 module _ (tells : Bool) (old new : List Seen) (asked : Making) (sized : AreSized new) (number : ℕ) where

@@ -14,6 +14,7 @@ use Rattle.line_text.specs.Spelling.{lines_bytes}
 use Rattle.session_outputs.specs.declared.output.Output.{Output}
 use Rattle.session_outputs.specs.declared.output.Output.TheVariants.{Whole, Broken}
 use Rattle.session_outputs.specs.Disks.{HoldAll, HoldFrames}
+use Rattle.session_outputs.specs.Outcomes.{AreUnrefused}
 use Rattle.session_outputs.specs.Outputs.{IfBroken, IfWhole, IsOutput}
 use Rattle.session_outputs.specs.Plays.{IsPrinted, closed_with}
 use Rattle.session_outputs.specs.Replays.{Breaks, IsShort, replaying}
@@ -29,18 +30,24 @@ whole_weaker (Err why) P Q f p = p
 
 -- the whole output of a session that was carried out
 pub whole_output : (r : Result Output Memory) (old new : List Seen) (session : Session) → faults_of new ≡ faults_of old → IsRight session.scenario (story session) → HoldFrames new session.scenario (story session)
-    → HoldAll new session.scenario (story session) → IfWhole r (λ bytes. IsPrinted bytes session.scenario (commands_of session)) → IsOutput replaying r old new session
-whole_output (Ok (Whole bytes)) old new session calm right frames all p =
-    record { lines = p.lines; done = record { lines_are = p.lines_are; right = right; kept = frames }; calm = calm; output_is = p.text_is }
-whole_output (Ok (Broken bytes)) old new session calm right frames all p = absurd p
-whole_output (Err why) old new session calm right frames all p = inr (inl (record { done = commands_of session; front = ([], refl); kept = all; calm = calm }))
+    → HoldAll new session.scenario (story session) → ((lines : List Line) → AreLines lines session.scenario (commands_of session) → AreUnrefused session.scenario lines)
+    → IfWhole r (λ bytes. IsPrinted bytes session.scenario (commands_of session)) → IsOutput replaying r old new session
+whole_output (Ok (Whole bytes)) old new session calm right frames all unrefused p = record {
+  lines = p.lines;
+  done = record { lines_are = p.lines_are; unrefused = unrefused p.lines p.lines_are; right = right; kept = frames };
+  calm = calm;
+  output_is = p.text_is;
+}
+whole_output (Ok (Broken bytes)) old new session calm right frames all unrefused p = absurd p
+whole_output (Err why) old new session calm right frames all unrefused p = inr (inl (record { done = commands_of session; front = ([], refl); kept = all; calm = calm }))
 
 -- the output of one in which a disk failed
 pub broken_output : (r : Result Output Memory) (old new : List Seen) (session : Session) (number : ℕ) (done : List Command) (lines : List Line) → AreLines lines session.scenario done
-    → Breaks number old new session done → IfBroken r (λ bytes. bytes ≡ lines_bytes lines ++ disk_failed_text number) → IsOutput replaying r old new session
-broken_output (Ok (Whole bytes)) old new session number done lines are breaks p = absurd p
-broken_output (Ok (Broken bytes)) old new session number done lines are breaks p = record { number = number; done = done; lines = lines; lines_are = are; output_is = p; breaks = breaks }
-broken_output (Err why) old new session number done lines are breaks p = inr (inr (record { number = number; done = done; breaks = breaks }))
+    → AreUnrefused session.scenario lines → Breaks number old new session done → IfBroken r (λ bytes. bytes ≡ lines_bytes lines ++ disk_failed_text number) → IsOutput replaying r old new session
+broken_output (Ok (Whole bytes)) old new session number done lines are unrefused breaks p = absurd p
+broken_output (Ok (Broken bytes)) old new session number done lines are unrefused breaks p =
+    record { number = number; done = done; lines = lines; lines_are = are; unrefused = unrefused; output_is = p; breaks = breaks }
+broken_output (Err why) old new session number done lines are unrefused breaks p = inr (inr (record { number = number; done = done; breaks = breaks }))
 
 -- no command has no line
 pub no_lines : (scenario : Scenario) → AreLines [] scenario []

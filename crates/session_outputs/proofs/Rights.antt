@@ -28,6 +28,7 @@ use Rattle.fed_rules.specs.SiteRecords.{Home, local_of}
 use Rattle.fed_rules.specs.Story.{Story, coord_past, past_of, story_of}
 use Rattle.closing_laws.specs.AtRest.{IsAtRest}
 use Rattle.closing_laws.specs.Finished.{AllFinished}
+use Rattle.progress_laws.specs.Settled.{CommitsAreSettledAtRest}
 use Rattle.federation_laws.proofs.Declared.{order-of}
 use Rattle.federation_laws.proofs.Members.{IsMember, AsLocal, AsGlobal, member-of}
 use Rattle.federation_laws.proofs.Told.{local_home-declared}
@@ -56,14 +57,15 @@ settled scenario story headline rest site home declared key =
     sym (headline.leaves_tables site home declared (rest.none_in_doubt site) key) ∙ headline.gives_reads_and_dues.tables site home declared key
 
 -- a story at rest is right
-pub story_right : OfStories Headline → (scenario : Scenario) → IsScenario scenario → (commands : List Command) → IsAtRest scenario (story_of scenario commands) → IsRight scenario (story_of scenario commands)
-story_right headlines scenario whole commands rest =
+pub story_right : OfStories Headline → CommitsAreSettledAtRest → (scenario : Scenario) → IsScenario scenario → (commands : List Command) → IsAtRest scenario (story_of scenario commands) → IsRight scenario (story_of scenario commands)
+story_right headlines everywhere scenario whole commands rest =
     let story = story_of scenario commands in
     let headline = headlines scenario whole commands in
     record {
       headline = headline;
       at_rest = rest;
       settled = settled scenario story headline rest;
+      commits_settled = everywhere scenario whole commands rest;
       members = λ tid. (ordered_committed scenario story (printed_order scenario story) headline.is_merge tid, committed_ordered scenario story headline tid);
     }
 

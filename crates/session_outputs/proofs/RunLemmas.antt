@@ -6,6 +6,7 @@ use Rattle.fed_rules.specs.declared.commands.Command.{Command}
 use Rattle.fed_rules.specs.declared.commands.Line.{Line}
 use Rattle.fed_rules.specs.declared.scenario.Scenario.{Scenario}
 use Rattle.fed_rules.specs.Headline.{Headline, OfStories}
+use Rattle.fed_rules.specs.Plans.{IsScenario}
 use Rattle.fed_rules.specs.Right.{IsRightStory}
 use Rattle.fed_rules.specs.Story.{story_of}
 use Rattle.journal_disk.specs.Disk.{Seen}
@@ -15,7 +16,10 @@ use Rattle.fed_world.specs.Worlds.{AreLines}
 use Rattle.federation_run.specs.Running.{HasBroken, HasNotBegun}
 use Rattle.host_laws.specs.Merged.{commands_of}
 use Rattle.line_laws.specs.Lines.{ClosingIsHeard, IsHeard, RightLinesFit}
+use Rattle.line_laws.specs.Refusals.{ConservativeLinesRefuseNone}
 use Rattle.progress_laws.specs.Added.{FinishingAddsItsOwn}
+use Rattle.progress_laws.specs.Settled.{CommitsAreSettledAtRest}
+use Rattle.replay_laws.specs.Replayed.{ClosingAddsNothing, CommandsGiveAgain}
 use Rattle.line_text.specs.Fits.{line_fits}
 use Rattle.line_text.specs.Spelling.{lines_bytes}
 use Rattle.session_outputs.specs.declared.output.Output.{Output}
@@ -26,12 +30,14 @@ use Rattle.session_outputs.specs.Plays.{IsPrintable, IsPrinted}
 use Rattle.session_outputs.specs.Runs.{Breaks, host_commands, run_commands, running}
 use Rattle.session_outputs.specs.Sessions.{IsFront}
 use Rattle.session_outputs.specs.Texts.{disk_failed_text}
+use Rattle.session_outputs.proofs.Again.{replays_alike}
 use Rattle.session_outputs.proofs.Ending.{run_heard}
 use Rattle.session_outputs.proofs.Holding.{AreSized, stands_hold_frames, starts_broken, world_breaks}
 use Rattle.session_outputs.proofs.HostsHeard.{hosts_heard}
 use Rattle.session_outputs.proofs.OutputLemmas.{front_before}
 use Rattle.session_outputs.proofs.PlayLemmas.{front_heard, lines_fit}
 use Rattle.session_outputs.proofs.Rights.{all_commit, story_right}
+use Rattle.session_outputs.proofs.Unrefused.{unrefused}
 
 module _ (tells : Bool) (old new : List Seen) (scenario : Scenario) where
   -- ---- a run that came to its end
@@ -39,31 +45,40 @@ module _ (tells : Bool) (old new : List Seen) (scenario : Scenario) where
   pub ended_printable : ClosingIsHeard → FinishingAddsItsOwn → (world : World) → (e : IsEnded tells old new scenario world) → IsPrintable scenario (run_commands scenario (host_commands e.merged))
   ended_printable closing finishing world e = record { whole = e.hosts.run.logged.whole; heard = run_heard closing finishing tells (faults_of old) scenario e.merged e.hosts; rests = e.finished.rest }
 
-  pub ended_output : OfStories Headline → IsTrue tells → AreSized new → (world : World) → (e : IsEnded tells old new scenario world) → (r : Result Output Memory)
+  pub ended_output : OfStories Headline → CommitsAreSettledAtRest → ConservativeLinesRefuseNone → ClosingAddsNothing → CommandsGiveAgain → IsTrue tells → AreSized new
+      → (world : World) → (e : IsEnded tells old new scenario world) → (r : Result Output Memory)
       → IfWhole r (λ bytes. IsPrinted bytes scenario (run_commands scenario (host_commands e.merged))) → IsOutput (running tells) r old new scenario
-  ended_output headlines told sized world e (Ok (Whole bytes)) p =
+  ended_output headlines everywhere unrefusing closing again told sized world e (Ok (Whole bytes)) p =
       let commands = run_commands scenario (host_commands e.merged) in
-      let right = story_right headlines scenario e.hosts.run.logged.whole commands e.finished.rest in
+      let right = story_right headlines everywhere scenario e.hosts.run.logged.whole commands e.finished.rest in
       record {
         merged = e.merged;
         hosts = e.hosts;
         lines = p.lines;
-        done = record { lines_are = p.lines_are; right = right; kept = stands_hold_frames tells world new scenario commands told sized e.finished.rest e.stands };
+        done = record {
+          lines_are = p.lines_are;
+          unrefused = unrefused unrefusing scenario e.hosts.run.logged.whole commands p.lines p.lines_are;
+          right = right;
+          kept = stands_hold_frames tells world new scenario commands told sized e.finished.rest e.stands;
+        };
         committed = all_commit scenario (story_of scenario commands) right e.finished;
         calm = e.calm;
         output_is = p.text_is;
+        again = replays_alike closing again scenario commands p.lines bytes.items e.finished.rest p.lines_are p.text_is;
       }
-  ended_output headlines told sized world e (Ok (Broken bytes)) p = absurd p
-  ended_output headlines told sized world e (Err why) p = tt
+  ended_output headlines everywhere unrefusing closing again told sized world e (Ok (Broken bytes)) p = absurd p
+  ended_output headlines everywhere unrefusing closing again told sized world e (Err why) p = tt
 
   -- ---- one that a failed disk ended
 
   -- its output
-  pub failed_output : (number : ℕ) (done : List Command) (lines : List Line) → AreLines lines scenario done → Breaks tells number old new scenario lines done → (r : Result Output Memory)
+  pub failed_output : ConservativeLinesRefuseNone → IsScenario scenario → (number : ℕ) (done : List Command) (lines : List Line) → AreLines lines scenario done
+      → Breaks tells number old new scenario lines done → (r : Result Output Memory)
       → IfBroken r (λ bytes. bytes ≡ lines_bytes lines ++ disk_failed_text number) → IsOutput (running tells) r old new scenario
-  failed_output number done lines are breaks (Ok (Whole bytes)) p = absurd p
-  failed_output number done lines are breaks (Ok (Broken bytes)) p = record { number = number; done = done; lines = lines; lines_are = are; output_is = p; breaks = breaks }
-  failed_output number done lines are breaks (Err why) p = tt
+  failed_output unrefusing whole number done lines are breaks (Ok (Whole bytes)) p = absurd p
+  failed_output unrefusing whole number done lines are breaks (Ok (Broken bytes)) p =
+      record { number = number; done = done; lines = lines; lines_are = are; unrefused = unrefused unrefusing scenario whole done lines are; output_is = p; breaks = breaks }
+  failed_output unrefusing whole number done lines are breaks (Err why) p = tt
 
   -- while the sites were set up, or the hosts ran: the lines are right
   abbrev pub Stops : ℕ → List Line → Type 0

@@ -10,6 +10,7 @@ pub mod Texts
 pub mod Outputs
 -- the output of each command of the program
 pub mod Replays
+pub mod Again
 pub mod Runs
 pub mod Ends
 pub mod Makes

@@ -4,11 +4,12 @@ use Rattle.fed_rules.specs.declared.commands.Command.{Command}
 use Rattle.fed_rules.specs.declared.commands.Line.{Line}
 use Rattle.fed_rules.specs.declared.commands.Stamped.{Stamped}
 use Rattle.fed_rules.specs.declared.scenario.Scenario.{Scenario}
-use Rattle.fed_rules.specs.Story.{story_of}
+use Rattle.fed_rules.specs.Story.{Story, story_of}
 use Rattle.journal_disk.specs.Disk.{Seen}
 use Rattle.fed_world.specs.Faults.{faults_of}
 use Rattle.fed_world.specs.Worlds.{AreLines}
 use Rattle.report_text.specs.Summaries.{summary_text}
+use Rattle.made_laws.specs.Summaries.{made_line}
 use Rattle.scenario_maker.specs.Made.{made}
 use Rattle.session_outputs.specs.declared.making.Making.{Making}
 use Rattle.session_outputs.specs.Disks.{HoldFrames}
@@ -25,16 +26,22 @@ IsMakeable making = (1 ≤ making.sites) × (making.sites ≤ 8) × (1 ≤ makin
 abbrev pub made_scenario : Making → Scenario
 made_scenario making = made making.number making.sites making.transactions
 
+-- what happens in a run of the made scenario whose hosts made these lines
+abbrev pub made_story : Making → List Stamped → Story
+made_story making merged = story_of (made_scenario making) (run_commands (made_scenario making) (host_commands merged))
+
 -- all was carried out without a failed disk, as in a run of the scenario: the story is right, each transaction of the scenario is committed, once, and
--- each disk holds the records of its actor; and the output is the summary of these records
-pub record MakesWhole (tells : Bool) (output : List ℕ) (old new : List Seen) (scenario : Scenario) : Type 0 where
+-- each disk holds the records of its actor; the output is the summary of these records; and it is told by how many sites and transactions there are,
+-- by neither the number that the scenario is made from nor what the threads did
+pub record MakesWhole (tells : Bool) (output : List ℕ) (old new : List Seen) (making : Making) : Type 0 where
   pub merged : List Stamped
-  pub hosts : AreOfHosts tells (faults_of old) scenario merged
-  pub right : IsRight scenario (story_of scenario (run_commands scenario (host_commands merged)))
-  pub committed : AllCommit scenario (story_of scenario (run_commands scenario (host_commands merged)))
-  pub kept : HoldFrames new scenario (story_of scenario (run_commands scenario (host_commands merged)))
+  pub hosts : AreOfHosts tells (faults_of old) (made_scenario making) merged
+  pub right : IsRight (made_scenario making) (made_story making merged)
+  pub committed : AllCommit (made_scenario making) (made_story making merged)
+  pub kept : HoldFrames new (made_scenario making) (made_story making merged)
   pub calm : faults_of new ≡ faults_of old
-  pub output_is : output ≡ summary_text scenario (story_of scenario (run_commands scenario (host_commands merged)))
+  pub output_is : output ≡ summary_text (made_scenario making) (made_story making merged)
+  pub fixed : output ≡ made_line making.sites making.transactions
 
 -- a call of a disk failed, as in a run of the scenario: the lines that were made before are right, and the output is which disk, without these lines
 pub record MakesBroken (tells : Bool) (output : List ℕ) (old new : List Seen) (scenario : Scenario) : Type 0 where
@@ -49,7 +56,7 @@ pub record MakesBroken (tells : Bool) (output : List ℕ) (old new : List Seen) 
 abbrev pub making : Bool → Account Making
 making tells =
     record {
-      whole = λ output old new asked. MakesWhole tells output old new (made_scenario asked);
+      whole = MakesWhole tells;
       broken = λ output old new asked. MakesBroken tells output old new (made_scenario asked);
       short = λ old new asked. MayStopShort old new (made_scenario asked);
     }

@@ -1,5 +1,5 @@
 -- What becomes of commands that are carried out with nine disks, one after another: all of them, or the first ones.
-use Rattle.std.specs.Prelude.{ℕ, ◌≡◌, List, ◌∷◌, ◌++◌}
+use Rattle.std.specs.Prelude.{ℕ, ◌≡◌, true, List, ◌∷◌, ◌++◌}
 use Rattle.mdb_base.specs.declared.names.SiteId.{SiteId}
 use Rattle.fed_rules.specs.declared.commands.Command.{Command}
 use Rattle.fed_rules.specs.declared.commands.Line.{Line}
@@ -9,14 +9,20 @@ use Rattle.fed_rules.specs.Story.{story_of}
 use Rattle.journal_disk.specs.Disk.{Seen}
 use Rattle.fed_world.specs.Faults.{faults_of}
 use Rattle.fed_world.specs.Worlds.{AreLines}
+use Rattle.line_laws.specs.Refusals.{RefuseNone}
 use Rattle.session_outputs.specs.Breaks.{BreaksAtNext}
 use Rattle.session_outputs.specs.Disks.{AreSetUp, HoldAll, HoldFrames, NothingBut}
 use Rattle.session_outputs.specs.Sessions.{IsFront, IsRight}
 
--- they were carried out: these are their lines, each of which is the right one on the lines before it; their story is right; and each disk
--- holds the records of its actor
+-- where tickets are taken conservatively, no line refuses a commit for a cycle
+abbrev pub AreUnrefused : Scenario → List Line → Type 0
+AreUnrefused scenario lines = scenario.conservative ≡ true → RefuseNone lines
+
+-- they were carried out: these are their lines, each of which is the right one on the lines before it; none refuses a commit for a cycle where
+-- tickets are taken conservatively; their story is right; and each disk holds the records of its actor
 pub record IsDone (lines : List Line) (disks : List Seen) (scenario : Scenario) (commands : List Command) : Type 0 where
   pub lines_are : AreLines lines scenario commands
+  pub unrefused : AreUnrefused scenario lines
   pub right : IsRight scenario (story_of scenario commands)
   pub kept : HoldFrames disks scenario (story_of scenario commands)
 

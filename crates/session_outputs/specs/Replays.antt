@@ -9,7 +9,7 @@ use Rattle.scenario_text.specs.declared.session.Session.{Session}
 use Rattle.line_laws.specs.Printed.{printed}
 use Rattle.line_text.specs.Spelling.{lines_bytes}
 use Rattle.session_outputs.specs.Breaks.{BreaksSetUp}
-use Rattle.session_outputs.specs.Outcomes.{BreaksBehind, IsDone, StartsShort, StopsShort}
+use Rattle.session_outputs.specs.Outcomes.{AreUnrefused, BreaksBehind, IsDone, StartsShort, StopsShort}
 use Rattle.session_outputs.specs.Outputs.{Account}
 use Rattle.session_outputs.specs.Sessions.{commands_of, story}
 use Rattle.session_outputs.specs.Texts.{disk_failed_text}
@@ -32,6 +32,7 @@ pub record PlaysBroken (output : List ℕ) (old new : List Seen) (session : Sess
   pub done : List Command
   pub lines : List Line
   pub lines_are : AreLines lines session.scenario done
+  pub unrefused : AreUnrefused session.scenario lines
   pub output_is : output ≡ lines_bytes lines ++ disk_failed_text number
   pub breaks : Breaks number old new session done
 

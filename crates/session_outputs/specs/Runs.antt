@@ -15,7 +15,8 @@ use Rattle.federation_run.specs.Running.{HasBroken, HaveRun}
 use Rattle.line_laws.specs.Printed.{printed}
 use Rattle.line_text.specs.Spelling.{lines_bytes}
 use Rattle.session_outputs.specs.Breaks.{BreaksSetUp}
-use Rattle.session_outputs.specs.Outcomes.{BreaksBehind, IsDone}
+use Rattle.session_outputs.specs.Again.{ReplaysAlike}
+use Rattle.session_outputs.specs.Outcomes.{AreUnrefused, BreaksBehind, IsDone}
 use Rattle.session_outputs.specs.Outputs.{Account}
 use Rattle.session_outputs.specs.Sessions.{AllCommit}
 use Rattle.session_outputs.specs.Texts.{disk_failed_text}
@@ -37,8 +38,8 @@ host_commands merged = commands_of (lines_in merged)
 abbrev pub run_commands : Scenario → List Command → List Command
 run_commands scenario commands = finished_alone scenario (closed scenario commands)
 
--- all was carried out without a failed disk: the output is the lines of the hosts and those behind them, and then the report; and each transaction
--- of the scenario is committed, once
+-- all was carried out without a failed disk: the output is the lines of the hosts and those behind them, and then the report; each transaction of
+-- the scenario is committed, once; and the commands of these lines, given to `replay`, print the output again but for the edges of cycles
 pub record RunsWhole (tells : Bool) (output : List ℕ) (old new : List Seen) (scenario : Scenario) : Type 0 where
   pub merged : List Stamped
   pub hosts : AreOfHosts tells (faults_of old) scenario merged
@@ -47,6 +48,7 @@ pub record RunsWhole (tells : Bool) (output : List ℕ) (old new : List Seen) (s
   pub committed : AllCommit scenario (story_of scenario (run_commands scenario (host_commands merged)))
   pub calm : faults_of new ≡ faults_of old
   pub output_is : output ≡ printed lines scenario (story_of scenario (run_commands scenario (host_commands merged)))
+  pub again : ReplaysAlike output lines scenario (story_of scenario (run_commands scenario (host_commands merged)))
 
 -- a call of this disk failed within the event of the command behind these, which closes the session or finishes a transaction alone
 pub record BreaksAfterHosts (tells : Bool) (number : ℕ) (old new : List Seen) (scenario : Scenario) (done : List Command) : Type 0 where
@@ -69,6 +71,7 @@ pub record RunsBroken (tells : Bool) (output : List ℕ) (old new : List Seen) (
   pub done : List Command
   pub lines : List Line
   pub lines_are : AreLines lines scenario done
+  pub unrefused : AreUnrefused scenario lines
   pub output_is : output ≡ lines_bytes lines ++ disk_failed_text number
   pub breaks : Breaks tells number old new scenario lines done
 

@@ -19,6 +19,7 @@ use Rattle.fed_rules.specs.Scenarios.{home_of}
 use Rattle.fed_rules.specs.SiteRecords.{Home}
 use Rattle.fed_rules.specs.Story.{Story, story_of}
 use Rattle.closing_laws.specs.AtRest.{IsAtRest}
+use Rattle.progress_laws.specs.Settled.{CommitsAreSettled}
 use Rattle.scenario_text.specs.declared.session.Session.{Session}
 
 -- the commands of a session with those that close it, the last one first
@@ -63,9 +64,11 @@ AreSettled scenario story =
     → (key : Key) → look_up (table_of scenario story site) key ≡ look_up (due_of scenario story site) key
 
 -- what holds of the story of all commands of a session: the headline of the rules; at the end it is at rest, every actor up and nothing live, in doubt or
--- known; each site's table is what it is due; and an attempt stands in the printed order exactly where it committed
+-- known; each site's table is what it is due; each global attempt that committed is settled at all its sites; and an attempt stands in the printed
+-- order exactly where it committed
 pub record IsRight (scenario : Scenario) (story : Story) : Type 0 where
   pub headline : Headline scenario story
   pub at_rest : IsAtRest scenario story
   pub settled : AreSettled scenario story
+  pub commits_settled : CommitsAreSettled scenario story
   pub members : (tid : Tid) → In tid (printed_order scenario story) ↔ HasCommitted scenario story tid

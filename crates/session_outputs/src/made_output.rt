@@ -16,7 +16,9 @@ use fed_world::World;
 use federation_laws::federation_is_serializable;
 use federation_run::Gate;
 use journal_disk::Disk;
+use made_laws::{made_lines_are_fixed, unchecked_journals_are_whole};
 use mdb_base::Memory;
+use progress_laws::commits_are_settled_at_rest;
 use scenario_maker::make;
 use std::alloc::Global;
 use std::sync::Wait;
@@ -46,7 +48,10 @@ pub fn made_output_of<R: Threads + Wait + Sync, D: Disk + Send, G: Gate + Sync>(
     ensures output { IsOutput (makes.making D.tells) result (map D.seen disks.old.items) (map D.seen disks.new.items) making }
     ensures nine { length disks.new.items ≡ 9 }
 {
+    commits_are_settled_at_rest();
     federation_is_serializable();
+    made_lines_are_fixed();
+    unchecked_journals_are_whole();
     let scenario = make(alloc, making.number, making.sites, making.transactions)?;
     match run_to_end(rt, alloc, scenario, disks, gate) {
         Ok(Ended::Done(world)) => summary(alloc, &world),

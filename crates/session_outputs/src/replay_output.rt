@@ -18,8 +18,9 @@ use fed_rules::{Command, Scenario};
 use fed_world::{World, WorldErr};
 use federation_laws::federation_is_serializable;
 use journal_disk::Disk;
-use line_laws::{closing_is_heard, right_lines_fit};
+use line_laws::{closing_is_heard, conservative_lines_refuse_none, right_lines_fit};
 use mdb_base::Memory;
+use progress_laws::commits_are_settled_at_rest;
 use scenario_text::Session;
 use std::alloc::Global;
 
@@ -86,6 +87,8 @@ pub fn output_of<D: Disk>(
     right_lines_fit();
     closing_is_heard();
     closed_sessions_rest();
+    commits_are_settled_at_rest();
+    conservative_lines_refuse_none();
     federation_is_serializable();
     let Session { scenario, commands } = session;
     scenario_is_whole(&scenario);

@@ -5,14 +5,16 @@ ghost use Rattle.session_outputs.specs.Outputs.{IsOutput};
 ghost use Rattle.session_outputs.specs.Runs.{running};
 
 use crate::output::{Output, broken, printed};
+use crate::replay_output::scenario_is_whole;
 use crate::threaded::{Ended, run_to_end};
 use fed_rules::Scenario;
 use federation_laws::federation_is_serializable;
 use federation_run::Gate;
 use journal_disk::Disk;
-use line_laws::{closing_is_heard, right_lines_fit};
+use line_laws::{closing_is_heard, conservative_lines_refuse_none, right_lines_fit};
 use mdb_base::Memory;
-use progress_laws::ends_add_their_own;
+use progress_laws::{commits_are_settled_at_rest, ends_add_their_own};
+use replay_laws::{closing_adds_nothing, commands_give_again};
 use std::alloc::Global;
 use std::sync::Wait;
 use std::thread::Threads;
@@ -35,8 +37,13 @@ pub fn run_output_of<R: Threads + Wait + Sync, D: Disk + Send, G: Gate + Sync>(
 {
     right_lines_fit();
     closing_is_heard();
+    closing_adds_nothing();
+    commands_give_again();
+    commits_are_settled_at_rest();
+    conservative_lines_refuse_none();
     federation_is_serializable();
     ends_add_their_own();
+    scenario_is_whole(&scenario);
     match run_to_end(rt, alloc, scenario, disks, gate) {
         Ok(Ended::Done(world)) => printed(alloc, &world),
         Ok(Ended::Stopped { number, lines }) => broken(alloc, lines.as_slice(), number),

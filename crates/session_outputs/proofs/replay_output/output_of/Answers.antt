@@ -16,6 +16,7 @@ use Rattle.session_outputs.proofs.Holding.{all_sized, stands_hold_all, stands_ho
 use Rattle.session_outputs.proofs.OutputLemmas.{broken_output, front_before, no_lines, play_breaks, short_output, whole_output, whole_weaker}
 use Rattle.session_outputs.proofs.PlayLemmas.{can_play, front_heard, lines_fit, session_commands, session_heard}
 use Rattle.session_outputs.proofs.Rights.{story_right}
+use Rattle.session_outputs.proofs.Unrefused.{unrefused}
 use Rattle.session_outputs.proofs.UsedDisks.{are_empty}
 use Rattle.session_outputs.proofs.replay_output.output_of.Goals as goal
 
@@ -32,7 +33,7 @@ returns-in-Err-Disk-clause-output g c =
     let breaks = starts_broken c.in-Err-Disk.number disk.tells old new session.scenario sized
     (subst (λ (why : WorldErr). FailedAs why old new) c.in-Err-Disk.field-0-is c.in-Err-Disk.ensures.cause)
     (subst (λ (why : WorldErr). FailsToStart disk.tells why new session.scenario) c.in-Err-Disk.field-0-is c.in-Err-Disk.ensures.failed) in
-    broken_output c.broken.result old new session c.in-Err-Disk.number [] [] (no_lines session.scenario) (inr (refl, breaks)) c.broken.ensures
+    broken_output c.broken.result old new session c.in-Err-Disk.number [] [] (no_lines session.scenario) (λ conservative. tt) (inr (refl, breaks)) c.broken.ensures
 
 pub returns-in-Err-Memory-clause-output : goal.returns-in-Err-Memory-clause-output
 returns-in-Err-Memory-clause-output g c =
@@ -84,10 +85,11 @@ returns-in-Ok-play-clause-output g c =
     let same = session_commands session c.as_slice.result.now c.as_slice.ensures in
     let can = can_play session c.as_slice.result.now c.as_slice.ensures c.requires.commands in
     let stood = subst (λ (cs : List Command). Stands disk.tells c.play.new.world new session.scenario cs) same (c.in-Ok-play.ensures.played session.scenario [] c.in-Ok.ensures.stands can) in
-    let right = story_right c.federation_is_serializable.ensures.headline session.scenario whole (commands_of session) (c.closed_sessions_rest.ensures session.scenario (reverse session.commands) whole) in
+    let right = story_right c.federation_is_serializable.ensures.headline c.commits_are_settled_at_rest.ensures session.scenario whole (commands_of session) (c.closed_sessions_rest.ensures session.scenario (reverse session.commands) whole) in
     whole_output c.printed.result old new session (c.in-Ok-play.ensures.cause ∙ c.in-Ok.ensures.cause) right
     (stands_hold_frames disk.tells c.play.new.world new session.scenario (commands_of session) c.requires.told sized right.at_rest stood)
     (stands_hold_all disk.tells c.play.new.world new session.scenario (commands_of session) sized stood)
+    (λ lines are. unrefused c.conservative_lines_refuse_none.ensures.all session.scenario whole (commands_of session) lines are)
     (whole_weaker c.printed.result _ _ (λ bytes each. each session.scenario (commands_of session) (recalls disk.tells c.play.new.world new session.scenario (commands_of session) stood)) c.printed.ensures)
 
 pub broken-requires-in-Err-Disk-play : goal.broken-requires-in-Err-Disk-play
@@ -120,6 +122,7 @@ returns-in-Err-Disk-play-clause-output g c =
     (failed_later c.in-Err-Disk-play.field-0 old (map disk.seen c.new.new.disks.items) new c.in-Ok.ensures.cause c.in-Err-Disk-play.ensures.cause) in
     broken_output c.broken-in-Err-Disk-play.result old new session c.in-Err-Disk-play.number (b.done ++ []) c.lines.result.now
     (c.lines.ensures.right session.scenario (b.done ++ []) b.broken.has)
+    (unrefused c.conservative_lines_refuse_none.ensures.all session.scenario c.scenario_is_whole.ensures (b.done ++ []) c.lines.result.now (c.lines.ensures.right session.scenario (b.done ++ []) b.broken.has))
     (play_breaks disk.tells c.play.new.world old new session c.as_slice.result.now same sized c.in-Err-Disk-play.number rose b)
     c.broken-in-Err-Disk-play.ensures
 

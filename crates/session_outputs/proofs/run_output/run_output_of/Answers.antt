@@ -40,7 +40,8 @@ returns-in-Ok-Done-clause-output g c =
     let e = subst (λ (ended : Ended). ComesToEnd disk.tells old new scenario ended) c.in-Ok-Done.field-0-is c.in-Ok-Done.ensures.ended in
     let commands = run_commands scenario (host_commands e.merged) in
     let sized = all_sized disk.seen (λ one. (g.met.D.Disk g.world.𝓛 g.world.𝓜 g.world.𝓡 (λ s ok. ok, λ p. p, λ f. f, λ q. q)).told_size one c.requires.told) c.run_to_end.new.disks.items in
-    ended_output disk.tells old new scenario c.federation_is_serializable.ensures.headline c.requires.told sized world e c.printed.result
+    ended_output disk.tells old new scenario c.federation_is_serializable.ensures.headline c.commits_are_settled_at_rest.ensures c.conservative_lines_refuse_none.ensures.all
+    c.closing_adds_nothing.ensures c.commands_give_again.ensures c.requires.told sized world e c.printed.result
     (whole_weaker c.printed.result _ _ (λ bytes each. each scenario commands (recalls disk.tells world new scenario commands e.stands)) c.printed.ensures)
 
 pub broken-requires : goal.broken-requires
@@ -63,7 +64,7 @@ returns-in-Ok-Stopped-clause-output g c =
     let sized = all_sized disk.seen (λ one. (g.met.D.Disk g.world.𝓛 g.world.𝓜 g.world.𝓡 (λ s ok. ok, λ p. p, λ f. f, λ q. q)).told_size one c.requires.told) c.run_to_end.new.disks.items in
     let s = subst (λ (ended : Ended). ComesToEnd disk.tells old new scenario ended) c.in-Ok-Stopped.field-0-is c.in-Ok-Stopped.ensures.ended in
     let stops = subst (λ (ls : List Line). Stops disk.tells old new scenario number ls) (sym c.as_slice.ensures) s in
-    failed_output disk.tells old new scenario number (commands_of lines) lines (stopped_lines disk.tells old new scenario number lines stops) (stopped_breaks disk.tells old new scenario sized number lines stops)
+    failed_output disk.tells old new scenario c.conservative_lines_refuse_none.ensures.all c.scenario_is_whole.ensures number (commands_of lines) lines (stopped_lines disk.tells old new scenario number lines stops) (stopped_breaks disk.tells old new scenario sized number lines stops)
     c.broken.result c.broken.ensures
 
 pub broken-requires-in-Ok-Broken : goal.broken-requires-in-Ok-Broken
@@ -90,5 +91,5 @@ returns-in-Ok-Broken-clause-output g c =
     let sized = all_sized disk.seen (λ one. (g.met.D.Disk g.world.𝓛 g.world.𝓜 g.world.𝓡 (λ s ok. ok, λ p. p, λ f. f, λ q. q)).told_size one c.requires.told) c.run_to_end.new.disks.items in
     let b = subst (λ (ended : Ended). ComesToEnd disk.tells old new scenario ended) c.in-Ok-Broken.field-0-is c.in-Ok-Broken.ensures.ended in
     let done = before disk.tells old new scenario number world b in
-    failed_output disk.tells old new scenario number done lines (c.lines-in-Ok-Broken.ensures.right scenario done b.breaks.broken.has) (off_breaks disk.tells old new scenario number world b sized lines)
+    failed_output disk.tells old new scenario c.conservative_lines_refuse_none.ensures.all c.scenario_is_whole.ensures number done lines (c.lines-in-Ok-Broken.ensures.right scenario done b.breaks.broken.has) (off_breaks disk.tells old new scenario number world b sized lines)
     c.broken-in-Ok-Broken.result c.broken-in-Ok-Broken.ensures
