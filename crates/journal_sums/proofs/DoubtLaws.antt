@@ -9,16 +9,14 @@ use Rattle.std.specs.BTreeMap.{is_at}
 use Rattle.std.specs.Ordering.{is_eq}
 use Rattle.std.proofs.lemmas.Bool.Decides.{nat_tests}
 use Rattle.mdb_base.specs.declared.names.Tid.{Tid}
-use Rattle.mdb_base.specs.Names.{same_tid, tid_before}
+use Rattle.mdb_base.specs.Names.{same_tid, tid_before, tid_cmp}
 use Rattle.mdb_base.specs.Words.{Each, found, inserted, with_some}
 use Rattle.mdb_base.proofs.ListLaws.{each_map}
 use Rattle.mdb_base.proofs.NameLaws.{same_tid-refl}
 use Rattle.order_laws.specs.Chains.{In}
-use Rattle.order_laws.specs.Ranked.{tid_cmp}
 use Rattle.order_laws.proofs.Members.{in_each}
 use Rattle.order_laws.proofs.Names.{is_eq-tid_cmp, ranks_tids}
 use Rattle.order_laws.proofs.InLaws.{before_irreflexive}
-use Rattle.rules_laws.proofs.EachAttempt as Attempts
 use Rattle.engine_laws.specs.Laws.{EachOnce}
 use Rattle.fed_rules.specs.declared.records.SiteRecord.{SiteRecord}
 use Rattle.fed_rules.specs.Attempts.{each_attempt}
@@ -28,6 +26,7 @@ use Rattle.rules_laws.proofs.Doubts.{AreSorted, sorted_by_tid}
 use Rattle.site_history.proofs.Restarts.{each_by_tid, each_found_from, once_doubts}
 use Rattle.site_history.proofs.Starts.{doubt_tid}
 use Rattle.site_history.proofs.Doubted.{are_doubt}
+use Rattle.mdb_base.proofs.NameOrders.{less_before}
 
 -- the next one that a Checkpoint carries, of the last ones first
 pub next_carried : (helds : List Held) (n : ℕ) (held : Held) (tid : Tid) (kept now : Option Held) → slice_get helds n ≡ Some held →
@@ -115,9 +114,6 @@ found_in f (tid ∷ tids) held (inr i) e = behind (f tid) (found_in f tids held 
 abbrev look : List (Tid × Held) → Tid → Option Held
 look entries tid = lookup (is_at (tid_cmp tid)) entries
 
-before_less : (a b : Tid) → tid_cmp a b ≡ Less → tid_before a b ≡ true
-before_less a b e = grind (arith, nat_tests)
-
 differs_less : (a b : Tid) → tid_cmp a b ≡ Less → is_eq (tid_cmp b a) ≡ false
 differs_less a b e = grind (arith, nat_tests)
 
@@ -155,7 +151,7 @@ rises-values (e ∷ es) sorted own = (behind es sorted.0 own.1, rises-values es 
     behind : (more : List (Tid × Held)) → AllByRecursion (λ tid. tid_cmp e.0 tid ≡ Less) (keys_of more) → Each (λ entry. entry.1.tid ≡ entry.0) more →
         Each (λ later. held_before e.1 later ≡ true) (values_of more)
     behind [] less own_more = tt
-    behind (f ∷ more) less own_more = (ap₂ tid_before own.0 own_more.0 ∙ before_less e.0 f.0 less.0, behind more less.1 own_more.1)
+    behind (f ∷ more) less own_more = (ap₂ tid_before own.0 own_more.0 ∙ less_before e.0 f.0 less.0, behind more less.1 own_more.1)
 
 -- a tree that gives each attempt what the records say of it has those in doubt
 pub values_doubts : (entries : List (Tid × Held)) (records : List SiteRecord) → IsStrictlySortedBy tid_cmp (keys_of entries) →

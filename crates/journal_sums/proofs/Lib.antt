@@ -1,6 +1,7 @@
 pub mod MarkLaws
 pub mod VersionLaws
 pub mod EntryLaws
+pub mod Merging
 pub mod DoubtLaws
 pub mod ReadingLaws
 pub mod DifferLaws

@@ -9,13 +9,12 @@ use Rattle.std.proofs.lemmas.List.{append-nil, reverse-append, reverse-reverse, 
 use Rattle.mdb_base.specs.declared.names.Key.{Key}
 use Rattle.mdb_base.specs.declared.names.Tid.{Tid}
 use Rattle.mdb_base.specs.declared.rows.Put.{Put}
-use Rattle.mdb_base.specs.Names.{same_tid, tid_before}
+use Rattle.mdb_base.specs.Names.{same_tid, tid_before, tid_cmp}
 use Rattle.mdb_base.specs.Rising.{IsRising}
 use Rattle.mdb_base.specs.Rows.{value_in}
 use Rattle.mdb_base.specs.Words.{inserted, or_else}
 use Rattle.mdb_base.proofs.RowLaws.{same_rows}
 use Rattle.presumptions.specs.declared.Decision.TheVariants as Decided
-use Rattle.order_laws.specs.Ranked.{tid_cmp}
 use Rattle.fed_rules.specs.declared.records.SiteRecord.{SiteRecord}
 use Rattle.fed_rules.specs.declared.records.SiteRecord.TheVariants.{Setup, Start, Prepared, Ended, Local, Checkpoint}
 use Rattle.fed_rules.specs.declared.sums.SiteSum.{SiteSum}
@@ -23,13 +22,13 @@ use Rattle.fed_rules.specs.SiteRecords.{Held, Home, doubts, install_held, instal
 use Rattle.fed_rules.specs.SiteSums.{behind_sum, carried, journal_sum, last_sum, locals_with, site_sum, sum_behind, sum_with}
 use Rattle.journal_sums.specs.declared.marks.Marks.{Marks}
 use Rattle.journal_sums.specs.declared.reading.Reading.{Reading}
-use Rattle.journal_sums.specs.declared.versions.Version.{Version}
+use Rattle.journal_sums.specs.declared.versions.Versions.{Versions}
 use Rattle.journal_sums.specs.Journals.{Begins, IsFirst, IsJournal, IsJournalOf, base, first_sum}
 use Rattle.journal_sums.specs.Locals.{local_tids}
 use Rattle.order_laws.specs.SortedLists.{also}
 use Rattle.engine_laws.proofs.Rows.{rising_rows_after}
 use Rattle.journal_sums.specs.Readings.{Adds, Holds, Says, SaysJournal, TellsMarks}
-use Rattle.journal_sums.specs.Versions.{key_cmp, row_of, version_after, version_in}
+use Rattle.journal_sums.specs.Versions.{kept, row_of, version_after, version_in}
 use Rattle.journal_sums.proofs.DoubtLaws.{values_doubts}
 use Rattle.journal_sums.proofs.VersionLaws.{falls-installs, value_in-rows_after, version_in-by_number}
 
@@ -57,8 +56,8 @@ holds_beside reading marks sum newer h = record {
 }
 
 -- a committed one is installed, and is no longer in doubt
-pub adds_commit : (old : Reading) (versions : BTreeMap Key Version) (doubtful : BTreeMap Tid Held) (tid : Tid) (held : Held) → get tid_cmp old.doubtful tid ≡ Some held →
-    ((key : Key) → get key_cmp versions key ≡ version_after held.number (value_in held.writes key) (get key_cmp old.versions key)) →
+pub adds_commit : (old : Reading) (versions : Versions) (doubtful : BTreeMap Tid Held) (tid : Tid) (held : Held) → get tid_cmp old.doubtful tid ≡ Some held →
+    ((key : Key) → kept versions key ≡ version_after held.number (value_in held.writes key) (kept old.versions key)) →
     ((other : Tid) → get tid_cmp doubtful other ≡ cond (same_tid tid other) None (get tid_cmp old.doubtful other)) →
     Adds old (record {
       site = old.site;
@@ -89,7 +88,7 @@ adds_commit old versions doubtful tid held is installed gone sum newer h = recor
 
 -- a local transaction is installed
 pub adds_local : (old new : Reading) (tid : Tid) (number : ℕ) (writes : List Put) → new.site ≡ old.site → new.engine ≡ old.engine → new.protocol ≡ old.protocol →
-    ((key : Key) → get key_cmp new.versions key ≡ version_after number (value_in writes key) (get key_cmp old.versions key)) →
+    ((key : Key) → kept new.versions key ≡ version_after number (value_in writes key) (kept old.versions key)) →
     new.first_locals ≡ old.first_locals → new.locals.items ≡ old.locals.items ++ tid ∷ [] → new.doubtful ≡ old.doubtful → Adds old new (Local tid number writes)
 adds_local old new tid number writes site engine protocol installed first pushed doubtful sum newer h = record {
   site = site ∙ h.site;
@@ -137,7 +136,7 @@ also-local_tids tids (Checkpoint sum ∷ records) = also-local_tids tids records
 
 -- what was read, as the content of a Checkpoint
 pub sum_is : (reading : Reading) (sum : SiteSum) (newer : List SiteRecord) (rows : List Put) (locals : List Tid) (doubtful : List Held) → Says reading sum newer →
-    IsRising (λ row. row.key.0) rows → ((key : Key) → value_in rows key ≡ row_of (get key_cmp reading.versions key)) →
+    IsRising (λ row. row.key.0) rows → ((key : Key) → value_in rows key ≡ row_of (kept reading.versions key)) →
     locals ≡ also reading.first_locals (reverse reading.locals.items) → IsStrictlySortedBy tid_cmp (keys_of reading.doubtful.entries) →
     doubtful ≡ values_of reading.doubtful.entries →
     ◌≡◌ {A = SiteSum} (record {

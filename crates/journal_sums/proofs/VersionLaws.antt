@@ -16,7 +16,7 @@ use Rattle.fed_rules.specs.declared.records.SiteRecord.{SiteRecord}
 use Rattle.fed_rules.specs.declared.records.SiteRecord.TheVariants.{Setup, Start, Prepared, Ended, Local, Checkpoint}
 use Rattle.fed_rules.specs.SiteRecords.{Held, Install, by_number, doubt_of, install_held, installs, rows_after}
 use Rattle.journal_sums.specs.declared.versions.Version.{Version}
-use Rattle.journal_sums.specs.Versions.{first_version, is_kept_from, or_else_by, row_of, version_after, version_in}
+use Rattle.journal_sums.specs.Versions.{first_version, is_kept_from, later_or, or_else_by, row_of, version_after, version_in}
 
 -- behind each transaction none has a greater number
 abbrev pub NumbersFall : List Install → Type 0
@@ -114,7 +114,7 @@ none_behind row (next ∷ rows) key rising few =
     let apart : same_key next.key key ≡ false = ne_eqb next.key.0 key.0 (omega (arith, less)) in
     ap (λ b. cond b (Some next.value) (value_in rows key)) apart ∙ none_behind next rows key rising.1 (omega (arith, less))
 
-rising_behind : (rows : List Put) (n : ℕ) → IsRising (λ row. row.key.0) rows → IsRising (λ row. row.key.0) (drop n rows)
+pub rising_behind : (rows : List Put) (n : ℕ) → IsRising (λ row. row.key.0) rows → IsRising (λ row. row.key.0) (drop n rows)
 rising_behind rows zero rising = rising
 rising_behind [] (suc n) rising = tt
 rising_behind (row ∷ []) (suc n) rising = rising_behind [] n tt
@@ -143,7 +143,18 @@ next_write writes i d n key kept now rising within done =
     ∙ one_first n row (drop (i + 1) writes) key kept (subst (IsRising (λ row. row.key.0)) split (rising_behind writes i rising))
     ∙ ap (λ rows. version_after n (value_in rows key) kept) (sym split)
 
--- where nothing was kept, number 0 writes the first rows
-pub first_rows : (row : Option ℕ) → version_after 0 row None ≡ first_version row
-first_rows None = refl
-first_rows (Some value) = refl
+-- a later write counts before the first row, whatever its number
+pub later_write : (n : ℕ) (write row : Option ℕ) (later : Option Version) → later_or (version_after n write later) row ≡ version_after n write (later_or later row)
+later_write n None row later = refl
+later_write n (Some value) row None = sym (cond-false _ _ _ (first_kept n row))
+later_write n (Some value) row (Some version) = by_test (is_kept_from n (Some version))
+  where
+    by_test : (b : Bool) → later_or (cond b (Some version) (Some (record { number = n; value = value }))) row ≡ cond b (Some version) (Some (record { number = n; value = value }))
+    by_test true = refl
+    by_test false = refl
+
+-- the row of a key, from the rows written later and the first ones
+pub row_kept : (later : Option Version) (row : Option ℕ) → first_of (row_of later) row ≡ row_of (later_or later row)
+row_kept None None = refl
+row_kept None (Some value) = refl
+row_kept (Some version) row = refl

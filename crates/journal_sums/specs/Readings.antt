@@ -4,7 +4,7 @@ use Rattle.std.specs.BTreeMap.{get}
 use Rattle.mdb_base.specs.declared.names.Key.{Key}
 use Rattle.mdb_base.specs.declared.names.Tid.{Tid}
 use Rattle.mdb_base.specs.Rising.{IsRising}
-use Rattle.order_laws.specs.Ranked.{tid_cmp}
+use Rattle.mdb_base.specs.Names.{tid_cmp}
 use Rattle.fed_rules.specs.declared.records.SiteRecord.{SiteRecord}
 use Rattle.fed_rules.specs.declared.sums.SiteSum.{SiteSum}
 use Rattle.fed_rules.specs.SiteRecords.{Home, doubt_of, installs, last_number, last_ticket, ticket_owner}
@@ -13,7 +13,7 @@ use Rattle.journal_sums.specs.declared.marks.Marks.{Marks}
 use Rattle.journal_sums.specs.declared.reading.Reading.{Reading}
 use Rattle.journal_sums.specs.Journals.{base}
 use Rattle.journal_sums.specs.Locals.{local_tids}
-use Rattle.journal_sums.specs.Versions.{key_cmp, version_in}
+use Rattle.journal_sums.specs.Versions.{kept, version_in}
 
 -- the counters are those of this Checkpoint with the newer records
 pub record TellsMarks (marks : Marks) (sum : SiteSum) (newer : List SiteRecord) : Type 0 where
@@ -28,7 +28,7 @@ pub record Holds (reading : Reading) (sum : SiteSum) (newer : List SiteRecord) :
   pub engine : reading.engine ≡ sum.engine
   pub protocol : reading.protocol ≡ sum.protocol
   pub rising : IsRising (λ put. put.key.0) sum.rows
-  pub versions : (key : Key) → get key_cmp reading.versions key ≡ version_in sum.rows (installs (newer ++ carried sum.doubtful)) key
+  pub versions : (key : Key) → kept reading.versions key ≡ version_in sum.rows (installs (newer ++ carried sum.doubtful)) key
   pub first_locals : reading.first_locals ≡ sum.locals
   pub locals : reverse reading.locals.items ≡ local_tids newer
   pub doubtful : (tid : Tid) → get tid_cmp reading.doubtful tid ≡ doubt_of (newer ++ carried sum.doubtful) tid

@@ -1,5 +1,6 @@
 -- Rows with the serial numbers that wrote them.
 use Rattle.std.specs.Prelude.{ℕ, Bool, false, cond, nat_lt, Option, Some, None, List, [], ◌∷◌}
+use Rattle.std.specs.BTreeMap.{get}
 use Rattle.std.specs.declared.cmp.Ordering.{Ordering}
 use Rattle.std.specs.Ordering.{nat_cmp}
 use Rattle.mdb_base.specs.declared.names.Key.{Key}
@@ -8,6 +9,7 @@ use Rattle.mdb_base.specs.Rows.{value_in}
 use Rattle.mdb_base.specs.Words.{map_some}
 use Rattle.fed_rules.specs.SiteRecords.{Install}
 use Rattle.journal_sums.specs.declared.versions.Version.{Version}
+use Rattle.journal_sums.specs.declared.versions.Versions.{Versions}
 
 abbrev pub key_cmp : Key → Key → Ordering
 key_cmp a b = nat_cmp a.0 b.0
@@ -19,6 +21,15 @@ row_of kept = map_some (λ version. version.value) kept
 -- a first row is written by number 0
 abbrev pub first_version : Option ℕ → Option Version
 first_version row = map_some (λ value. record { number = 0; value = value }) row
+
+-- what was written later, and else the first row
+abbrev pub later_or : Option Version → Option ℕ → Option Version
+later_or None row = first_version row
+later_or (Some version) row = Some version
+
+-- what is kept of a key
+abbrev pub kept : Versions → Key → Option Version
+kept versions key = later_or (get key_cmp versions.later key) (value_in versions.first key)
 
 -- whether a write of this number leaves what is kept: that has a greater number
 abbrev pub is_kept_from : ℕ → Option Version → Bool

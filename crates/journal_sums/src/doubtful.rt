@@ -2,10 +2,9 @@
 ghost use Rattle.std.specs.Prelude.{◌≡◌, IfOk, OnOk, None, Some, cond};
 ghost use Rattle.std.specs.BTreeMap.{IsOrdered, get, values};
 ghost use Rattle.mdb_base.specs.declared.names.Tid.{Tid};
-ghost use Rattle.mdb_base.specs.Names.{same_tid};
+ghost use Rattle.mdb_base.specs.Names.{same_tid, tid_cmp};
 ghost use Rattle.fed_rules.specs.SiteRecords.{doubt_of};
 ghost use Rattle.fed_rules.specs.SiteSums.{carried};
-ghost use Rattle.order_laws.specs.Ranked.{tid_cmp};
 
 use crate::copies::copy_held;
 use fed_rules::{DoubtfulSum, DoubtfulSums};

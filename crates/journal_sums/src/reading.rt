@@ -12,9 +12,9 @@ use crate::copies::copy_rows;
 use crate::doubtful::{by_attempt, first_doubtful, put, settle};
 use crate::locals::all_locals;
 use crate::marks::Marks;
-use crate::versions::{Version, first_versions, install, rows_of};
+use crate::versions::{Versions, first_versions, install, rows_of};
 use fed_rules::{DoubtfulSum, DoubtfulSums, SiteRecord, SiteSum};
-use mdb_base::{Engine, Key, Memory, Puts, SiteId, Tid, Tids};
+use mdb_base::{Engine, Memory, Puts, SiteId, Tid, Tids};
 use presumptions::{Decision, Protocol};
 use std::alloc::Global;
 use std::collections::BTreeMap;
@@ -27,7 +27,7 @@ pub(crate) struct Reading {
     pub protocol: Protocol,
     pub marks: Marks,
     /// Each key with its value and the number that wrote it.
-    pub versions: BTreeMap<Key, Version>,
+    pub versions: Versions,
     /// The local attempts of the Checkpoint.
     pub first_locals: Tids,
     /// Those of the records behind it, the oldest first.

@@ -1,5 +1,6 @@
 -- The least free attempt of the first queues, step by step.
-use Rattle.std.proofs.Common.{ℕ, ◌+◌, ◌<◌, ◌≤◌, ◌≡◌, ◌⊎◌, Bool, true, false, cond, Option, Some, None, slice_get, List, [], ◌∷◌, ◌++◌, length, take, get_or, refl, inl, inr, subst, sym, ap, ◌∙◌, arith}
+use Rattle.std.proofs.Common.{ℕ, ◌+◌, ◌<◌, ◌≤◌, ◌≡◌, true, false, Option, Some, None, slice_get, List, [], ◌∷◌, ◌++◌, length, take, get_or, refl, inl, inr, subst, sym, ap, ◌∙◌}
+use Rattle.std.proofs.lemmas.Bool.{cond-false}
 use Rattle.std.proofs.lemmas.List.{take_more, take_all}
 use Rattle.mdb_base.specs.Words.{those}
 use Rattle.mdb_base.specs.declared.names.Tid.{Tid}
@@ -7,13 +8,13 @@ use Rattle.mdb_base.specs.Names.{same_tid, tid_before}
 use Rattle.mdb_base.proofs.TestLaws.{those_append}
 use Rattle.mdb_base.proofs.JoinLaws.{append_nil}
 use Rattle.order_laws.specs.Chains.{In}
-use Rattle.order_laws.specs.Orders.{Ranks}
-use Rattle.order_laws.specs.Least.{heads, is_free, earlier, IsFree}
+use Rattle.order_laws.specs.Least.{heads, is_free, earlier}
+use Rattle.order_laws.proofs.InLaws.{append_in, in_parts}
 use Rattle.order_laws.proofs.Lists.{those_in}
 use Rattle.order_laws.proofs.Earliest.{IsEarliest, not_before_self, earliest_push}
 use Rattle.order_laws.proofs.LeastFound.{free_is, is_free_in}
 use Rattle.order_laws.proofs.Names.{tells_tids, ranks_tids}
-use Rattle.order_merge.specs.Next.{IsNext}
+use Rattle.order_merge.specs.Next.{IsNext, is_earlier}
 
 -- the earliest of the list, or none where there is nothing in it
 abbrev pub IsBest : List Tid → Option Tid → Type 0
@@ -73,6 +74,35 @@ best_free queues i (x ∷ xs) t best h e f g b =
     let here : is_free same_tid queues x ≡ true = ap (is_free same_tid queues) first ∙ g in
     let one : those (is_free same_tid queues) (x ∷ []) ≡ t ∷ [] = rw here (ap (λ z. z ∷ []) first) in
     subst (λ xs. IsBest xs (Some (earlier tid_before t best))) (sym (seen_more queues i (x ∷ xs) h e ∙ ap (λ ys. seen queues i ++ ys) one)) (best_more (seen queues i) t best b)
+
+earlier_is : (t : Tid) (best : Option Tid) → is_earlier t best ≡ true → earlier tid_before t best ≡ t
+earlier_is t None e = refl
+earlier_is t (Some other) e = cond-false _ _ _ (ranks_tids.one_way t other e)
+
+-- where it is before the best so far, it is the best
+pub best_earlier : (queues : List (List Tid)) (i : ℕ) (q : List Tid) (t : Tid) (best : Option Tid) → i < length queues → get_or queues i q ≡ q →
+    slice_get q 0 ≡ Some t → is_earlier t best ≡ true → is_free same_tid queues t ≡ true → IsBest (seen queues i) best → IsBest (seen queues (i + 1)) (Some t)
+best_earlier queues i q t best h e f before g b =
+    subst (λ (x : Tid). IsBest (seen queues (i + 1)) (Some x)) (earlier_is t best before) (best_free queues i q t best h e f g b)
+
+-- one that isn't before the best so far changes nothing
+later_stays : (xs ys : List Tid) (best : Option Tid) (t : Tid) → is_earlier t best ≡ false → ((u : Tid) → In u ys → u ≡ t) → IsBest xs best → IsBest (xs ++ ys) best
+later_stays xs ys None t e alone b = cc
+later_stays xs ys (Some other) t e alone b = record {
+  item = append_in other xs ys (inl b.item);
+  least = λ u i. elim (in_parts xs ys u i) [ inl j ↦ b.least u j | inr j ↦ subst (λ (v : Tid). tid_before v other ≡ false) (sym (alone u j)) e ];
+}
+
+pub best_later : (queues : List (List Tid)) (i : ℕ) (q : List Tid) (t : Tid) (best : Option Tid) → i < length queues → get_or queues i q ≡ q →
+    slice_get q 0 ≡ Some t → is_earlier t best ≡ false → IsBest (seen queues i) best → IsBest (seen queues (i + 1)) best
+best_later queues i [] t best h e f later b = cc
+best_later queues i (x ∷ xs) t best h e f later b =
+    subst (λ ys. IsBest ys best) (sym (seen_more queues i (x ∷ xs) h e))
+    (later_stays (seen queues i) (those (is_free same_tid queues) (x ∷ [])) best t later (λ u j. only u (those_in (is_free same_tid queues) u (x ∷ []) j).0) b)
+  where
+    only : (u : Tid) → In u (x ∷ []) → u ≡ t
+    only u (inl p) = let first : x ≡ t = cc in sym p ∙ first
+    only u (inr j) = absurd j
 
 next_is : (queues : List (List Tid)) (best : Option Tid) → IsBest (those (is_free same_tid queues) (heads queues)) best → IsNext queues best
 next_is queues None h = λ t f. subst (In t) h (is_free_in same_tid tells_tids queues t f)

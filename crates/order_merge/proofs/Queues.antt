@@ -1,9 +1,8 @@
-use Rattle.std.proofs.Common.{ℕ, ◌≡◌, Bool, true, false, cond, not, ◌&&◌, Option, Some, None, slice_get, ◌||◌, List, [], ◌∷◌, ◌++◌, inl, inr, drop, ap, refl, subst, sym, ◌∙◌, arith}
-use Rattle.std.proofs.lemmas.Bool.Decides.{nat_tests}
+use Rattle.std.proofs.Common.{◌≡◌, Bool, true, false, cond, Some, slice_get, ◌||◌, List, [], ◌∷◌, ◌++◌, inl, inr, drop, ap, refl, subst, sym, ◌∙◌}
 use Rattle.std.specs.Option.{option_eq}
-use Rattle.std.specs.Ordering.{is_eq, nat_cmp, ordering_then}
+use Rattle.std.specs.Ordering.{is_eq}
 use Rattle.mdb_base.specs.declared.names.Tid.{Tid}
-use Rattle.mdb_base.specs.Names.{same_tid}
+use Rattle.mdb_base.specs.Names.{same_tid, tid_cmp}
 use Rattle.mdb_base.proofs.NameLaws.{same_tid-refl, same_tid-equal}
 use Rattle.mdb_base.proofs.BoolLaws.{or_swap}
 use Rattle.order_laws.specs.Chains.{In, Distinct}
@@ -12,7 +11,6 @@ use Rattle.order_laws.specs.Least.{rest, without}
 use Rattle.order_laws.proofs.Lists.{not_in_false}
 use Rattle.order_laws.proofs.Names.{is_eq-tid_cmp, tells_tids}
 use Rattle.order_laws.proofs.Least.{without_first, without_other}
-use Rattle.order_laws.specs.Ranked.{tid_cmp}
 
 -- a list with one more item has that one, and those that it had
 pub is_in-append : {A : Type 0} (same : A → A → Bool) (xs : List A) (x t : A) → is_in same (xs ++ x ∷ []) t ≡ (same t x || is_in same xs t)

@@ -1,11 +1,11 @@
 -- The steps of the merge.
-use Rattle.std.proofs.Common.{ℕ, ◌<◌, ◌≡◌, false, Option, Some, None, List, [], ◌∷◌, ◌++◌, length, map, refl, subst, sym, ◌∙◌, append_assoc}
+use Rattle.std.proofs.Common.{◌<◌, ◌≡◌, Some, None, List, [], ◌∷◌, ◌++◌, length, map, refl, subst, sym, append_assoc}
 use Rattle.mdb_base.specs.declared.names.Tid.{Tid}
 use Rattle.mdb_base.specs.Names.{same_tid, tid_before}
 use Rattle.order_laws.specs.Chains.{Acyclic}
 use Rattle.order_laws.specs.Orders.{Union}
 use Rattle.order_laws.specs.Merge.{IsLeastOrder}
-use Rattle.order_laws.specs.Least.{without, all_items, IsFree, IsLeastMerge}
+use Rattle.order_laws.specs.Least.{without, all_items, IsLeastMerge}
 use Rattle.order_laws.proofs.Least.{not_self}
 use Rattle.order_laws.proofs.LeastFound.{acyclic_without, all_fewer, none_left}
 use Rattle.order_laws.proofs.Names.{tells_tids, ranks_tids}

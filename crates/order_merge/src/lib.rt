@@ -1,9 +1,9 @@
 //! One order for all sites: the least merge of the site orders, and whether another one is a merge of them.
 #![tactic(auto)]
 
+mod checking;
 mod merge;
 mod queue;
-mod testing;
 
+pub use checking::is_merge;
 pub use merge::merge_orders;
-pub use testing::is_merge;

@@ -5,7 +5,8 @@ ghost use Rattle.mdb_base.specs.Names.{same_tid, tid_before};
 ghost use Rattle.order_laws.specs.Chains.{Distinct, Acyclic};
 ghost use Rattle.order_laws.specs.Orders.{Union};
 ghost use Rattle.order_laws.specs.Merge.{IsLeastOrder};
-ghost use Rattle.order_laws.specs.Least.{earlier, is_free, without, IsFree};
+ghost use Rattle.order_laws.specs.Least.{is_free, without, IsFree};
+ghost use Rattle.order_merge.specs.Next as next;
 ghost use Rattle.order_merge.specs.Next.{IsNext};
 
 use crate::queue::Queue;
@@ -48,21 +49,21 @@ fn next_free(queues: &[Queue]) -> Option<Tid>
     let mut least: Option<Tid> = None;
     for queue in queues {
         if let Some(tid) = queue.first() {
-            if is_free(queues, tid) {
-                least = Some(lesser(tid, least));
+            if is_earlier(tid, least) && is_free(queues, tid) {
+                least = Some(tid);
             }
         }
     }
     least
 }
 
-/// The lesser of the two.
-fn lesser(tid: Tid, other: Option<Tid>) -> Tid
-    ensures { result ≡ earlier tid_before tid other }
+/// Whether the attempt is before the other one, where there is one.
+fn is_earlier(tid: Tid, other: Option<Tid>) -> bool
+    ensures { result ≡ next.is_earlier tid other }
 {
     match other {
-        Some(other) if other < tid => other,
-        _ => tid,
+        Some(other) => tid < other,
+        None => true,
     }
 }
 

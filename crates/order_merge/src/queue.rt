@@ -25,7 +25,7 @@ impl Model for Queue {
     ghost use Rattle.mdb_base.specs.declared.names.Tid.{Tid};
     ghost use Rattle.mdb_base.specs.Names.{same_tid};
     ghost use Rattle.order_laws.specs.Orders.{is_in};
-    ghost use Rattle.order_laws.specs.Ranked.{tid_cmp};
+    ghost use Rattle.mdb_base.specs.Names.{tid_cmp};
 
     ghost Value = { List Tid };
 

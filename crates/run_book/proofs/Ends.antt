@@ -1,5 +1,5 @@
 -- The lines that end a run otherwise than by commit, whatever they are the answer to.
-use Rattle.std.proofs.Common.{◌≡◌, true, Some, None, refl}
+use Rattle.std.proofs.Common.{◌≡◌, true}
 use Rattle.mdb_base.specs.declared.replies.Reply.TheVariants.{Done, Value, Ticket, Wait, Refused, Unknown}
 use Rattle.fed_rules.specs.Runs.{EngineLine, Begins, Acts, Takes, Seals, Refuses, Commits, Aborts, tid_of, gives_up}
 use Rattle.run_book.specs.Book.{RoomyBook, drops}

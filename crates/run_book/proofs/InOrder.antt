@@ -2,20 +2,20 @@
 use Rattle.std.proofs.Common.{◌≡◌, ℕ, ◌+◌, ◌≤◌, Bool, true, false, not, ◌&&◌, ◌||◌, cond, is_some, Option, Some, None, IsSome, IfSome, List, [], ◌∷◌, Result, Ok, Err, OnOk, OnErr, refl, sym, ap, ◌∙◌, subst, arith}
 use Rattle.std.specs.FinMap.{empty, from_entries, get-empty}
 use Rattle.mdb_base.specs.declared.names.Tid.{Tid}
-use Rattle.mdb_base.specs.Names.{same_tid}
+use Rattle.mdb_base.specs.Names.{same_tid, tid_cmp}
 use Rattle.mdb_base.specs.Words.{map_some}
 use Rattle.mdb_base.proofs.NameLaws.{same_tid-equal, same_tid-sym}
 use Rattle.fed_rules.specs.declared.runs.Kept.{Kept}
 use Rattle.fed_rules.specs.Runs.{Access, restored, is_sealed}
 use Rattle.ticket_item.specs.Item.{Item, is_holder}
 use Rattle.run_book.specs.declared.marks.Marks.{Marks}
-use Rattle.run_book.specs.Held.{Held, Runs, tid_cmp, held_in, with_run, without, is_taker}
+use Rattle.run_book.specs.Held.{Held, Runs, held_in, with_run, without, is_taker}
 use Rattle.run_book.specs.Book.{with_restored, granted_to}
 use Rattle.run_book.specs.Changes.{changed_entries}
 use Rattle.run_book.specs.Fields.{IsInOrder}
 use Rattle.run_book.specs.Tables.{promised, promised_by}
 use Rattle.run_book.proofs.Promises.{live-promises}
-use Rattle.run_book.proofs.RunMaps.{look, get_run, entries_changed, promised-changed, promised-gone, promise_of, held_in-changed, held_in-without, held_in-with_run}
+use Rattle.run_book.proofs.RunMaps.{look, get_run, entries_changed, promised-changed, promised-without, promise_of, held_in-changed, held_in-without, held_in-with_run}
 
 pub some_held : (o : Option Held) → IsSome o → (held : Held) × (o ≡ Some held)
 some_held None there = cc
@@ -180,7 +180,7 @@ untaken held none = ap (λ (o : Option ℕ). not (is_sealed held.run) && is_some
 -- what a run promises is counted
 pub promise-le : (es : List (Tid × Held)) (count spare : ℕ) (item : Item) (t : Tid) (held : Held) → IsInOrder es count spare item → held_in (from_entries es) t ≡ Some held → promised_by held ≤ count
 promise-le es count spare item t held order found =
-    let sum = promised-gone es t in
+    let sum = promised-without es t in
     let own = ap (λ (o : Option Held). promise_of o) (sym (get_run es t) ∙ found) in
     let counted = order.counted in
     omega (arith, sum, own, counted)

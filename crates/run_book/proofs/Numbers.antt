@@ -10,7 +10,7 @@ use Rattle.fed_rules.specs.Runs.{Start, EngineLine, Begins, Seals, Run, begun, c
 use Rattle.fed_rules.specs.EngineLines.{IsFree, IsRightLine}
 use Rattle.mdb_base.proofs.NameLaws.{same_tid-refl, same_tid-equal}
 use Rattle.mdb_base.proofs.OptionLaws.{none_from}
-use Rattle.engine_laws.proofs.RunLines.{run_at_own, run_at_other}
+use Rattle.fed_rules.proofs.RunLines.{run_at_other, run_at_own}
 use Rattle.run_book.specs.declared.marks.Marks.{Marks}
 use Rattle.run_book.specs.Held.{Held, held_in, with_run, changed_in, without}
 use Rattle.run_book.specs.Book.{Book, begins, unbegins, sealed_with, sealed_marks, ticket_in, seals, not_sealed, marks_without, unseals}

@@ -1,42 +1,27 @@
--- The runs by attempt, as a map and as the entries of the tree that keeps them.
-use Rattle.std.proofs.Common.{◌≡◌, ℕ, ◌+◌, Bool, true, false, ◌&&◌, cond, nat_eq, Option, Some, None, List, [], ◌∷◌, refl, sym, ap, ◌∙◌, arith}
-use Rattle.std.specs.declared.cmp.Ordering.{Ordering}
-use Rattle.std.specs.declared.cmp.Ordering.TheVariants.{Less, Equal, Greater}
-use Rattle.std.specs.Cmp.{IsTotalOrder, nat_cmp_total}
-use Rattle.std.specs.Ordering.{nat_cmp, is_eq, match_ordering}
+-- The runs by attempt, as a map and as the entries of the hash map that keeps them.
+use Rattle.std.proofs.Common.{◌≡◌, ℕ, ◌+◌, Bool, true, false, cond, Option, Some, None, List, [], ◌∷◌, refl, sym, ap, ◌∙◌, arith}
+use Rattle.std.specs.Ordering.{is_eq}
 use Rattle.std.specs.FinMap.{from_entries, find, get, get-insert, get-remove, get-from_entries, insert, same_map}
 use Rattle.std.specs.Map.{lookup, set_value, remove_entry}
-use Rattle.std.specs.BTreeMap.{insert_entry, is_at}
+use Rattle.std.specs.BTreeMap.{is_at}
+use Rattle.std.specs.List.{sum_by}
+use Rattle.std.specs.List.Sorted.{IsPermutation}
+use Rattle.std.proofs.lemmas.List.Sorted.{sum_by-IsPermutation}
+use Rattle.std.proofs.lemmas.List.Sums.{sum_by-cons}
 use Rattle.std.proofs.lemmas.Bool.{cond-true, cond-false}
-use Rattle.std.proofs.lemmas.Cmp.{on_total, then_total}
-use Rattle.std.proofs.lemmas.Map.Lookups.{CmpEqualImpliesEq, exact_pairs, exact_unsigned}
 use Rattle.mdb_base.specs.declared.names.Tid.{Tid}
-use Rattle.mdb_base.specs.Names.{same_tid}
+use Rattle.mdb_base.specs.Names.{same_tid, tid_cmp}
 use Rattle.mdb_base.specs.Words.{map_some, or_else}
 use Rattle.mdb_base.proofs.NameLaws.{same_tid-refl, same_tid-equal, same_tid-sym}
-use Rattle.mdb_base.proofs.NumberLaws.{is_eq-nat_cmp, is_eq-then}
-use Rattle.run_book.specs.Held.{Held, Runs, tid_cmp, held_in, with_run, changed_in, without}
+use Rattle.run_book.specs.Held.{Held, Runs, held_in, with_run, changed_in, without}
 use Rattle.run_book.specs.Changes.{changed_entries}
+use Rattle.run_book.specs.Named.{by_tid, name_of, same_name, tid_of}
+use Rattle.run_book.specs.declared.run_map.Name.{Name}
 use Rattle.run_book.specs.Tables.{promised, promised_by}
-
--- attempts that compare alike are one
-pub exact_tids : CmpEqualImpliesEq tid_cmp
-exact_tids a b h =
-    ap (λ (p : ℕ × ℕ). let t : Tid = record { tx = record { 0 = p.0 }; attempt = p.1 } in t)
-    (exact_pairs nat_cmp nat_cmp exact_unsigned exact_unsigned (a.tx.0, a.attempt) (b.tx.0, b.attempt) h)
-
-pub tids_total : IsTotalOrder tid_cmp
-tids_total = then_total (on_total (λ t. t.tx.0) nat_cmp_total) (on_total (λ t. t.attempt) nat_cmp_total)
-
--- they compare alike where they are the same
-pub ties : (a b : Tid) → is_eq (tid_cmp a b) ≡ same_tid a b
-ties a b =
-    is_eq-then (nat_cmp a.tx.0 b.tx.0) (nat_cmp a.attempt b.attempt)
-    ∙ ap (λ (x : Bool). x && is_eq (nat_cmp a.attempt b.attempt)) (is_eq-nat_cmp a.tx.0 b.tx.0)
-    ∙ ap (λ (y : Bool). nat_eq a.tx.0 b.tx.0 && y) (is_eq-nat_cmp a.attempt b.attempt)
+use Rattle.mdb_base.proofs.NameOrders.{tids_exact, tids_total, tid_ties}
 
 turned : (a b : Tid) → is_eq (tid_cmp b a) ≡ same_tid a b
-turned a b = ties b a ∙ same_tid-sym b a
+turned a b = tid_ties b a ∙ same_tid-sym b a
 
 -- the run of an attempt after a run is put in, taken out or changed
 pub held_in-with_run : (runs : Runs) (t u : Tid) (held : Held) → held_in (with_run t held runs) u ≡ cond (same_tid t u) (Some held) (held_in runs u)
@@ -75,7 +60,7 @@ held_in-changed_own runs t change = held_in-changed runs t t change ∙ cond-tru
 pub held_in-changed_other : (runs : Runs) (t u : Tid) (change : Held → Held) → same_tid t u ≡ false → held_in (changed_in t change runs) u ≡ held_in runs u
 held_in-changed_other runs t u change e = held_in-changed runs t u change ∙ cond-false _ _ _ e
 
--- what a look-up in the tree finds
+-- what a look-up in a list finds
 abbrev pub look : List (Tid × Held) → Tid → Option Held
 look es tid = lookup (is_at (tid_cmp tid)) es
 
@@ -87,18 +72,30 @@ pub get_run : (es : List (Tid × Held)) (q : Tid) → held_in (from_entries es) 
 get_run es q = get-from_entries tids_total es q ∙ find_run es q
 
 pub same_runs : (a b : Runs) → ((q : Tid) → held_in a q ≡ held_in b q) → a ≡ b
-same_runs a b h = same_map tids_total exact_tids a b h
+same_runs a b h = same_map tids_total tids_exact a b h
+
+-- what a look-up in the hash map finds
+abbrev pub named : List (Name × Held) → Tid → Option Held
+named es tid = lookup (same_name (name_of tid)) es
+
+pub look-named : (es : List (Name × Held)) (q : Tid) → look (by_tid es) q ≡ named es q
+look-named [] q = refl
+look-named (e ∷ es) q =
+    ap (λ (b : Bool). cond b (Some e.1) (look (by_tid es) q)) (tid_ties q (tid_of e.0)) ∙ ap (cond (same_name (name_of q) e.0) (Some e.1)) (look-named es q)
+
+pub get-named : (es : List (Name × Held)) (q : Tid) → held_in (from_entries (by_tid es)) q ≡ named es q
+get-named es q = get_run (by_tid es) q ∙ look-named es q
 
 -- entries that differ at one attempt
-pub entries_put : (es fs : List (Tid × Held)) (t : Tid) (held : Held) → ((q : Tid) → look fs q ≡ cond (is_at (tid_cmp t) q) (Some held) (look es q)) → from_entries {R = tid_cmp} fs ≡ with_run t held (from_entries es)
+pub entries_put : (es fs : List (Name × Held)) (t : Tid) (held : Held) → ((q : Tid) → named fs q ≡ cond (same_tid t q) (Some held) (named es q)) → from_entries {R = tid_cmp} (by_tid fs) ≡ with_run t held (from_entries (by_tid es))
 entries_put es fs t held h =
-    same_runs _ _ (λ q. get_run fs q ∙ h q ∙ ap (λ (b : Bool). cond b (Some held) (look es q)) (ties t q)
-    ∙ sym (held_in-with_run (from_entries es) t q held ∙ ap (cond (same_tid t q) (Some held)) (get_run es q)))
+    same_runs _ _ (λ q. get-named fs q ∙ h q
+    ∙ sym (held_in-with_run (from_entries (by_tid es)) t q held ∙ ap (cond (same_tid t q) (Some held)) (get-named es q)))
 
-pub entries_gone : (es fs : List (Tid × Held)) (t : Tid) → ((q : Tid) → look fs q ≡ cond (is_at (tid_cmp t) q) None (look es q)) → from_entries {R = tid_cmp} fs ≡ without t (from_entries es)
+pub entries_gone : (es fs : List (Name × Held)) (t : Tid) → ((q : Tid) → named fs q ≡ cond (same_tid t q) None (named es q)) → from_entries {R = tid_cmp} (by_tid fs) ≡ without t (from_entries (by_tid es))
 entries_gone es fs t h =
-    same_runs _ _ (λ q. get_run fs q ∙ h q ∙ ap (λ (b : Bool). cond b None (look es q)) (ties t q)
-    ∙ sym (held_in-without (from_entries es) t q ∙ ap (cond (same_tid t q) None) (get_run es q)))
+    same_runs _ _ (λ q. get-named fs q ∙ h q
+    ∙ sym (held_in-without (from_entries (by_tid es)) t q ∙ ap (cond (same_tid t q) None) (get-named es q)))
 
 -- a change in the entries
 look-changed : (es : List (Tid × Held)) (t q : Tid) (change : Held → Held) → look (changed_entries t change es) q ≡ cond (same_tid t q) (map_some change (look es t)) (look es q)
@@ -125,13 +122,13 @@ look-changed (e ∷ es) t q change = by_own (is_eq (tid_cmp t e.0)) refl (look-c
 
     by_own : (b : Bool) → is_eq (tid_cmp t e.0) ≡ b → look (changed_entries t change es) q ≡ cond (same_tid t q) (map_some change (look es t)) (look es q) → Wanted b
     by_own true own rest =
-        let same : t ≡ e.0 = same_tid-equal t e.0 (sym (ties t e.0) ∙ own) in
+        let same : t ≡ e.0 = same_tid-equal t e.0 (sym (tid_ties t e.0) ∙ own) in
         at_own (is_eq (tid_cmp q e.0)) (same_tid t q) (turned e.0 q ∙ ap (λ (x : Tid). same_tid x q) (sym same))
     by_own false own rest =
         ap (cond (is_eq (tid_cmp q e.0)) (Some e.1)) rest
         ∙ at_other (is_eq (tid_cmp q e.0)) (same_tid t q)
-        (λ here. let same : q ≡ e.0 = same_tid-equal q e.0 (sym (ties q e.0) ∙ here) in
-        ap (λ (x : Tid). same_tid t x) same ∙ (sym (ties t e.0) ∙ own))
+        (λ here. let same : q ≡ e.0 = same_tid-equal q e.0 (sym (tid_ties q e.0) ∙ here) in
+        ap (λ (x : Tid). same_tid t x) same ∙ (sym (tid_ties t e.0) ∙ own))
 
 pub entries_changed : (es : List (Tid × Held)) (t : Tid) (change : Held → Held) → from_entries {R = tid_cmp} (changed_entries t change es) ≡ changed_in t change (from_entries es)
 entries_changed es t change =
@@ -141,25 +138,31 @@ entries_changed es t change =
     ∙ ap (cond (same_tid t q) (map_some change (look es t))) (get_run es q))))
 
 -- a value written back where a look-up found one
-pub written_back : (es : List (Tid × Held)) (t : Tid) (change : Held → Held) (held new : Held) → look es t ≡ Some held → new ≡ change held → set_value (is_at (tid_cmp t)) es new ≡ changed_entries t change es
+pub written_back : (es : List (Name × Held)) (t : Tid) (change : Held → Held) (held new : Held) → named es t ≡ Some held → new ≡ change held →
+    by_tid (set_value (same_name (name_of t)) es new) ≡ changed_entries t change (by_tid es)
 written_back [] t change held new is made = refl
-written_back (e ∷ es) t change held new is made = by_own (is_eq (tid_cmp t e.0)) is (written_back es t change held new)
+written_back (e ∷ es) t change held new is made =
+    by_own (same_name (name_of t) e.0) is (written_back es t change held new)
+    ∙ ap (λ (b : Bool). cond b ((tid_of e.0, change e.1) ∷ by_tid es) ((tid_of e.0, e.1) ∷ changed_entries t change (by_tid es))) (sym (tid_ties t (tid_of e.0)))
   where
-    by_own : (b : Bool) → cond b (Some e.1) (look es t) ≡ Some held → (look es t ≡ Some held → new ≡ change held → set_value (is_at (tid_cmp t)) es new ≡ changed_entries t change es) →
-        cond b ((e.0, new) ∷ es) (e ∷ set_value (is_at (tid_cmp t)) es new) ≡ cond b ((e.0, change e.1) ∷ es) (e ∷ changed_entries t change es)
+    by_own : (b : Bool) → cond b (Some e.1) (named es t) ≡ Some held → (named es t ≡ Some held → new ≡ change held → by_tid (set_value (same_name (name_of t)) es new) ≡ changed_entries t change (by_tid es)) →
+        by_tid (cond b ((e.0, new) ∷ es) (e ∷ set_value (same_name (name_of t)) es new)) ≡ cond b ((tid_of e.0, change e.1) ∷ by_tid es) ((tid_of e.0, e.1) ∷ changed_entries t change (by_tid es))
     by_own true here rest =
         let same : e.1 ≡ held = cc in
-        ap (λ (h : Held). let hs : List (Tid × Held) = (e.0, h) ∷ es in hs) (made ∙ ap change (sym same))
-    by_own false here rest = ap (λ (hs : List (Tid × Held)). e ∷ hs) (rest here made)
+        ap (λ (h : Held). let hs : List (Tid × Held) = (tid_of e.0, h) ∷ by_tid es in hs) (made ∙ ap change (sym same))
+    by_own false here rest = ap (λ (hs : List (Tid × Held)). (tid_of e.0, e.1) ∷ hs) (rest here made)
 
--- where there is none, nothing changes
-pub changed_none : (es : List (Tid × Held)) (t : Tid) (change : Held → Held) → look es t ≡ None → changed_entries t change es ≡ es
-changed_none [] t change none = refl
-changed_none (e ∷ es) t change none = by_own (is_eq (tid_cmp t e.0)) none (changed_none es t change)
+unchanged : (es : List (Tid × Held)) (t : Tid) (change : Held → Held) → look es t ≡ None → changed_entries t change es ≡ es
+unchanged [] t change none = refl
+unchanged (e ∷ es) t change none = by_own (is_eq (tid_cmp t e.0)) none (unchanged es t change)
   where
     by_own : (b : Bool) → cond b (Some e.1) (look es t) ≡ None → (look es t ≡ None → changed_entries t change es ≡ es) → cond b ((e.0, change e.1) ∷ es) (e ∷ changed_entries t change es) ≡ e ∷ es
     by_own true here rest = cc
     by_own false here rest = ap (λ (hs : List (Tid × Held)). e ∷ hs) (rest here)
+
+-- where there is none, nothing changes
+pub changed_none : (es : List (Name × Held)) (t : Tid) (change : Held → Held) → named es t ≡ None → changed_entries t change (by_tid es) ≡ by_tid es
+changed_none es t change none = unchanged (by_tid es) t change (look-named es t ∙ none)
 
 -- what a run promises, if there is one
 abbrev pub promise_of : Option Held → ℕ
@@ -174,21 +177,42 @@ promised-changed (e ∷ es) t change = by_own (is_eq (tid_cmp t e.0)) (promised-
     by_own true rest = omega arith
     by_own false rest = omega (arith, rest)
 
-pub promised-gone : (es : List (Tid × Held)) (t : Tid) → promised (remove_entry (is_at (tid_cmp t)) es) + promise_of (look es t) ≡ promised es
-promised-gone [] t = refl
-promised-gone (e ∷ es) t = by_own (is_eq (tid_cmp t e.0)) (promised-gone es t)
+-- in whatever order the entries stand
+promised-sum : (es : List (Name × Held)) → promised (by_tid es) ≡ sum_by (λ (e : Name × Held). promised_by e.1) es
+promised-sum [] = refl
+promised-sum (e ∷ es) = ap (λ (n : ℕ). promised_by e.1 + n) (promised-sum es) ∙ sym (sum_by-cons (λ (e : Name × Held). promised_by e.1) e es)
+
+promised-reordered : (es fs : List (Name × Held)) → IsPermutation es fs → promised (by_tid fs) ≡ promised (by_tid es)
+promised-reordered es fs moved = promised-sum fs ∙ sum_by-IsPermutation (λ (e : Name × Held). promised_by e.1) es fs moved ∙ sym (promised-sum es)
+
+-- one run less in a list
+pub promised-without : (es : List (Tid × Held)) (t : Tid) → promised (remove_entry (is_at (tid_cmp t)) es) + promise_of (look es t) ≡ promised es
+promised-without [] t = refl
+promised-without (e ∷ es) t = by_own (is_eq (tid_cmp t e.0)) (promised-without es t)
   where
     by_own : (b : Bool) → promised (remove_entry (is_at (tid_cmp t)) es) + promise_of (look es t) ≡ promised es →
         promised (cond b es (e ∷ remove_entry (is_at (tid_cmp t)) es)) + promise_of (cond b (Some e.1) (look es t)) ≡ promised (e ∷ es)
     by_own true rest = omega arith
     by_own false rest = omega (arith, rest)
 
-pub promised-put : (es : List (Tid × Held)) (t : Tid) (held : Held) → look es t ≡ None → promised (insert_entry tid_cmp es t held) ≡ promised es + promised_by held
-promised-put [] t held none = omega arith
-promised-put (e ∷ es) t held none = by_order (tid_cmp t e.0) none (promised-put es t held)
+by_tid-removed : (es : List (Name × Held)) (t : Tid) → by_tid (remove_entry (same_name (name_of t)) es) ≡ remove_entry (is_at (tid_cmp t)) (by_tid es)
+by_tid-removed [] t = refl
+by_tid-removed (e ∷ es) t =
+    by_own (same_name (name_of t) e.0) (by_tid-removed es t)
+    ∙ ap (λ (b : Bool). cond b (by_tid es) ((tid_of e.0, e.1) ∷ remove_entry (is_at (tid_cmp t)) (by_tid es))) (sym (tid_ties t (tid_of e.0)))
   where
-    by_order : (o : Ordering) → cond (is_eq o) (Some e.1) (look es t) ≡ None → (look es t ≡ None → promised (insert_entry tid_cmp es t held) ≡ promised es + promised_by held) →
-        promised (match_ordering o ((t, held) ∷ e ∷ es) ((e.0, held) ∷ es) (e ∷ insert_entry tid_cmp es t held)) ≡ promised (e ∷ es) + promised_by held
-    by_order Less none rest = omega arith
-    by_order Equal none rest = cc
-    by_order Greater none rest = omega (arith, rest none)
+    by_own : (b : Bool) → by_tid (remove_entry (same_name (name_of t)) es) ≡ remove_entry (is_at (tid_cmp t)) (by_tid es) →
+        by_tid (cond b es (e ∷ remove_entry (same_name (name_of t)) es)) ≡ cond b (by_tid es) ((tid_of e.0, e.1) ∷ remove_entry (is_at (tid_cmp t)) (by_tid es))
+    by_own true rest = refl
+    by_own false rest = ap (λ (hs : List (Tid × Held)). (tid_of e.0, e.1) ∷ hs) rest
+
+-- one run less
+pub promised-gone : (es fs : List (Name × Held)) (t : Tid) → IsPermutation (remove_entry (same_name (name_of t)) es) fs → promised (by_tid fs) + promise_of (named es t) ≡ promised (by_tid es)
+promised-gone es fs t moved =
+    ap (λ (n : ℕ). n + promise_of (named es t)) (promised-reordered _ fs moved ∙ ap (λ (hs : List (Tid × Held)). promised hs) (by_tid-removed es t))
+    ∙ ap (λ (o : Option Held). promised (remove_entry (is_at (tid_cmp t)) (by_tid es)) + promise_of o) (sym (look-named es t))
+    ∙ promised-without (by_tid es) t
+
+-- one run more
+pub promised-put : (es fs : List (Name × Held)) (t : Tid) (held : Held) → IsPermutation ((name_of t, held) ∷ es) fs → promised (by_tid fs) ≡ promised (by_tid es) + promised_by held
+promised-put es fs t held moved = let all = promised-reordered _ fs moved in omega (arith, all)

@@ -5,7 +5,7 @@ use Rattle.std.proofs.lemmas.Bool.{cond-true, cond-false, cases_Bool}
 use Rattle.mdb_base.specs.declared.names.Engine.{Engine}
 use Rattle.mdb_base.specs.declared.names.Tid.{Tid}
 use Rattle.mdb_base.specs.declared.rows.Put.{Put}
-use Rattle.mdb_base.specs.Names.{same_tid}
+use Rattle.mdb_base.specs.Names.{same_tid, tid_cmp}
 use Rattle.mdb_base.specs.Rising.{IsRising}
 use Rattle.mdb_base.specs.Words.{Each, map_some}
 use Rattle.fed_rules.specs.declared.runs.Kept.{Kept}
@@ -14,7 +14,7 @@ use Rattle.fed_rules.specs.EngineLines.{IsStart, AreApart, AllApart}
 use Rattle.engine_contract.specs.Calls.{start_from}
 use Rattle.mdb_base.proofs.NameLaws.{same_tid-equal, same_tid-sym}
 use Rattle.run_book.specs.declared.marks.Marks.{Marks}
-use Rattle.run_book.specs.Held.{Held, Runs, tid_cmp, with_run}
+use Rattle.run_book.specs.Held.{Held, Runs, with_run}
 use Rattle.run_book.specs.Book.{with_restored, started}
 use Rattle.run_book.specs.Keeps.{Keeps, run_in}
 use Rattle.run_book.proofs.Kept.{get-first}

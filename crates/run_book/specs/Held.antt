@@ -1,14 +1,12 @@
 -- Runs as an engine holds them, by attempt.
 use Rattle.std.specs.Prelude.{ℕ, ◌≡◌, ◌⊎◌, Bool, false, not, ◌&&◌, cond, Option, Some, None, List, [], ◌∷◌, refl}
 use mathlib.Core.Logic.{inl, inr}
-use Rattle.std.specs.declared.cmp.Ordering.{Ordering}
-use Rattle.std.specs.Ordering.{nat_cmp, ordering_then}
 use Rattle.std.specs.FinMap.{FinMap, code, get, insert, remove}
 use Rattle.std.specs.Coded.{Coded, code_by, coded×, coded⊎, coded_list, coded_option, coded_ℕ}
 use Rattle.mdb_base.specs.declared.names.Key.{Key}
 use Rattle.mdb_base.specs.declared.names.Tid.{Tid}
 use Rattle.mdb_base.specs.declared.rows.Put.{Put}
-use Rattle.mdb_base.specs.Names.{same_key}
+use Rattle.mdb_base.specs.Names.{same_key, tid_cmp}
 use Rattle.mdb_base.specs.Words.{or_else, map_some}
 use Rattle.fed_rules.specs.Runs.{Access, Got, Wrote, Run, is_sealed, has_ticket}
 use Rattle.run_book.specs.declared.marks.Marks.{Marks}
@@ -17,10 +15,6 @@ use Rattle.run_book.specs.declared.marks.Marks.{Marks}
 pub record Held : Type 0 where
   pub run : Run
   pub marks : Marks
-
--- by transaction, and then by attempt
-abbrev pub tid_cmp : Tid → Tid → Ordering
-tid_cmp a b = ordering_then (nat_cmp a.tx.0 b.tx.0) (nat_cmp a.attempt b.attempt)
 
 -- at most one run of each attempt
 abbrev pub Runs : Type 0

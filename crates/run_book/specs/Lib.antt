@@ -4,6 +4,7 @@ pub mod Fields
 pub mod Held
 pub mod Keeps
 pub mod Laws
+pub mod Named
 pub mod Rivals
 pub mod Rows
 pub mod Tables

@@ -11,12 +11,11 @@ ghost use Rattle.run_book.specs.Tables.{AreRowsOf};
 use crate::granted::Granted;
 use crate::held_run::HeldRun;
 use crate::marks::Marks;
-use crate::run_map::{self, promised, restored};
+use crate::run_map::{self, Runs, promised, restored};
 use fed_rules::Kept;
 use mdb_base::{Key, Memory, Puts, Tid};
 use site_tables::Tables;
 use std::alloc::Global;
-use std::collections::BTreeMap;
 use std::marker::Model;
 use ticket_item::TicketItem;
 
@@ -25,7 +24,7 @@ use ticket_item::TicketItem;
 #[derive(Drop)]
 pub struct RunBook {
     tables: Tables,
-    runs: BTreeMap<Tid, HeldRun>,
+    runs: Runs,
     promised: usize,
     counter: u64,
     ticket: TicketItem,
@@ -38,6 +37,7 @@ impl Model for RunBook {
     ghost use Rattle.run_book.specs.Held.{runs_code};
     ghost use Rattle.run_book.specs.Book.{RoomyBook};
     ghost use Rattle.run_book.specs.Fields.{IsInOrder};
+    ghost use Rattle.run_book.specs.Named.{by_tid};
 
     ghost Value = { RoomyBook };
 
@@ -46,13 +46,13 @@ impl Model for RunBook {
     ghost view = { λ b. record {
       book = record {
         versions = b.tables.versions;
-        runs = from_entries b.runs.entries;
+        runs = from_entries (by_tid b.runs.entries);
         marks = record { counter = b.counter; published = b.ticket.published; owner = b.ticket.owner };
       };
       room = b.ticket.spare;
     } };
 
-    ghost invariant = { λ b. IsInOrder b.runs.entries b.promised b.tables.spare b.ticket };
+    ghost invariant = { λ b. IsInOrder (by_tid b.runs.entries) b.promised b.tables.spare b.ticket };
 }
 
 impl RunBook {

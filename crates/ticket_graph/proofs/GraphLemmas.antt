@@ -13,7 +13,7 @@ use Rattle.order_laws.specs.Search.{Linked}
 use Rattle.order_laws.specs.Tickets.{Ticketed, Precedes, IsEdge, IsCycle, OneEach, edge_between}
 use Rattle.order_laws.proofs.Lists.{map_among, among_map, is_among, among_is}
 use Rattle.order_laws.proofs.Tickets.{edge_some, cycle_way}
-use Rattle.order_laws.specs.Ranked.{tid_cmp}
+use Rattle.mdb_base.specs.Names.{tid_cmp}
 use Rattle.ticket_graph.specs.Graph.{tids_of, IsVerdict}
 use Rattle.ticket_graph.specs.Trail.{IsClosed, IsFinding}
 use Rattle.ticket_graph.specs.declared.find.Finding.TheVariants.{Reached}

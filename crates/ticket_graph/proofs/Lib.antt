@@ -10,6 +10,7 @@ pub mod Meeting
 pub mod Keeping
 pub mod GraphLemmas
 pub mod Reaching
+pub mod Leading
 pub mod Forwards
 pub mod Heights
 pub mod Pruning

@@ -7,7 +7,7 @@ use Rattle.std.proofs.lemmas.Bool.{and_parts, and_from}
 use Rattle.mdb_base.specs.declared.names.SiteId.{SiteId}
 use Rattle.mdb_base.specs.declared.names.SiteTicket.{SiteTicket}
 use Rattle.mdb_base.specs.declared.names.Tid.{Tid}
-use Rattle.mdb_base.specs.Names.{same_tid, same_site}
+use Rattle.mdb_base.specs.Names.{same_tid, same_site, tid_cmp}
 use Rattle.mdb_base.specs.Words.{Each, Among, some_of, holds_of}
 use Rattle.mdb_base.proofs.ListLaws.{among_some, each_map}
 use Rattle.mdb_base.proofs.NameLaws.{same_tid-equal, same_tid-refl, same_site-equal, same_site-refl}
@@ -22,7 +22,6 @@ use Rattle.ticket_graph.specs.declared.entries.Entry.{Entry}
 use Rattle.ticket_graph.specs.declared.steps.Step.{Step}
 use Rattle.ticket_graph.specs.Entries.{entry_cmp, is_ticket, is_entry}
 use Rattle.ticket_graph.specs.Steps.{is_reached, IsAbove, IsStepAbove, Follows, IsDone}
-use Rattle.order_laws.specs.Ranked.{tid_cmp}
 use Rattle.order_laws.proofs.InLaws.{slice_get-in}
 use Rattle.ticket_graph.specs.Trail.{IsAt, IsSource, IsEdgeStep, IsTrail, is_reached_tid, IsClosed}
 use Rattle.ticket_graph.proofs.StepLemmas.{reached_longer, done_still}

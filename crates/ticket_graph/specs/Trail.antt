@@ -3,14 +3,13 @@ use Rattle.std.specs.Prelude.{ℕ, ◌≡◌, ◌<◌, Bool, true, Option, Some,
 use Rattle.std.specs.BTreeSet.{BTreeSet, contains}
 use Rattle.mdb_base.specs.declared.names.SiteId.{SiteId}
 use Rattle.mdb_base.specs.declared.names.Tid.{Tid}
-use Rattle.mdb_base.specs.Names.{same_tid}
+use Rattle.mdb_base.specs.Names.{same_tid, tid_cmp}
 use Rattle.mdb_base.specs.Words.{some_of, holds_of}
 use Rattle.order_laws.specs.Chains.{In}
 use Rattle.order_laws.specs.Tickets.{Ticketed, Precedes, IsCycle}
 use Rattle.ticket_graph.specs.declared.steps.Step.{Step}
 use Rattle.ticket_graph.specs.declared.find.Finding.{Finding}
 use Rattle.ticket_graph.specs.declared.find.Finding.TheVariants.{Cycle, Reached}
-use Rattle.order_laws.specs.Ranked.{tid_cmp}
 
 -- the step at this place goes to the attempt
 pub record IsAt (attempts : List Ticketed) (steps : List Step) (place : ℕ) (attempt : Ticketed) : Type 0 where

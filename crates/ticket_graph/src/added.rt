@@ -4,6 +4,7 @@ ghost use Rattle.mdb_base.specs.declared.names.SiteTicket.{SiteTicket as TheTick
 ghost use Rattle.mdb_base.specs.Rising.{IsRising};
 ghost use Rattle.mdb_base.specs.Words.{some_of, first_where, map_some};
 ghost use Rattle.order_laws.specs.Tickets.{is_above};
+ghost use Rattle.ticket_graph.specs.Reach.{are_before};
 
 use mdb_base::{Memory, SiteId, SiteTicket, Tickets, Tid};
 use std::alloc::Global;
@@ -70,6 +71,18 @@ fn has_above(ticket: SiteTicket, others: &[SiteTicket]) -> bool
 {
     for other in others {
         if ticket.site == other.site && ticket.ticket < other.ticket {
+            return true;
+        }
+    }
+    false
+}
+
+/// Whether an edge leads from an attempt with these tickets to one of the attempts.
+pub fn leads_on(tickets: &[SiteTicket], attempts: &[Added]) -> bool
+    ensures { result ≡ some_of (λ attempt. are_before tickets.now attempt.tickets) attempts.now }
+{
+    for attempt in attempts {
+        if edge_site(tickets, attempt.tickets()).is_some() {
             return true;
         }
     }

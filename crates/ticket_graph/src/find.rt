@@ -4,10 +4,10 @@ ghost use Rattle.std.specs.BTreeSet.{contains};
 ghost use Rattle.mdb_base.specs.declared.names.Tid.{Tid as TheTid};
 ghost use Rattle.order_laws.specs.Tickets.{IsCycle, OneEach};
 ghost use Rattle.ticket_graph.specs.declared.steps.Step.{Step as TheStep};
-ghost use Rattle.order_laws.specs.Ranked.{tid_cmp};
+ghost use Rattle.mdb_base.specs.Names.{tid_cmp};
 ghost use Rattle.ticket_graph.specs.Trail.{is_reached_tid, IsAt, IsTrail, IsBack, IsFinding};
 
-use crate::added::{Added, edge_site};
+use crate::added::{Added, edge_site, leads_on};
 use crate::search::Search;
 use crate::steps::Step;
 use mdb_base::{Edge, Edges, Memory, SiteId, Tid};
@@ -22,10 +22,14 @@ pub enum Finding {
 }
 
 /// Searches along the edges from the added attempt, attempt by attempt in the order of reaching, so that the cycle is a shortest one.
+/// Where none leaves it, it takes no memory.
 pub fn find(alloc: Global, attempts: &[Added], added: &Added) -> Result<Finding, Memory>
     requires { OneEach attempts.now }
     ensures { IfOk result (IsFinding attempts.now added.now) }
 {
+    if !leads_on(added.tickets(), attempts) {
+        return Ok(Finding::Reached(BTreeSet::new(alloc)));
+    }
     let mut search = Search::new(alloc, attempts)?;
     search.follow(added.tickets(), None)?;
     let mut next = 0;

@@ -6,7 +6,7 @@ ghost use Rattle.mdb_base.specs.declared.names.SiteTicket.{SiteTicket as TheTick
 ghost use Rattle.mdb_base.specs.Rising.{IsRising};
 ghost use Rattle.ticket_graph.specs.Reach.{floor_in, highest_of, reached, unreached, IsLowest};
 
-use crate::added::Added;
+use crate::added::{Added, leads_on};
 use crate::floors::raise;
 use crate::lowest::Lowest;
 use mdb_base::Memory;
@@ -67,6 +67,10 @@ pub fn insert(alloc: Global, attempts: &mut Vec<Added>, attempt: Added) -> Resul
     ensures rising { OnOk result (IsRising (λ (ticket : TheTicket). ticket.site.0) attempt.tickets) }
     ensures kept { OnErr result (attempts.new.items ≡ attempts.old.items) }
 {
+    if !leads_on(attempt.tickets(), attempts.as_slice()) {
+        attempts.push(attempt)?;
+        return Ok(());
+    }
     let count = attempts.len();
     let mut front = Vec::with_capacity(alloc, count + 1)?;
     let mut behind = Vec::with_capacity(alloc, count)?;

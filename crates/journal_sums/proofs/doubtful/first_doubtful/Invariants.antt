@@ -3,7 +3,7 @@ use Rattle.std.specs.BTreeMap.{get}
 use Rattle.mdb_base.specs.declared.names.Tid.{Tid}
 use Rattle.fed_rules.specs.SiteRecords.{doubt_of}
 use Rattle.fed_rules.specs.SiteSums.{carried}
-use Rattle.order_laws.specs.Ranked.{tid_cmp}
+use Rattle.mdb_base.specs.Names.{tid_cmp}
 use Rattle.journal_sums.proofs.doubtful.first_doubtful.Given as goal
 
 abbrev pub invariant-loop-left : goal.invariant-loop-left

@@ -7,5 +7,5 @@ use Rattle.journal_sums.proofs.versions.install_all.Given as goal
 
 abbrev pub invariant-loop-put : goal.invariant-loop-put
 invariant-loop-put l =
-    (key : Key) → version_after l.number (value_in (drop l.put-index l.writes) key) (get key_cmp l.versions key)
-    ≡ version_after l.number (value_in l.writes key) (get key_cmp l.initial.versions key)
+    (key : Key) → version_after l.number (value_in (drop l.put-index l.writes) key) (get key_cmp l.later key)
+    ≡ version_after l.number (value_in l.writes key) (get key_cmp l.initial.later key)

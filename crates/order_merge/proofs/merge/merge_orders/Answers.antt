@@ -1,4 +1,4 @@
-use Rattle.std.proofs.Common.{◌≡◌, length, List, map, Some, None, [], ◌∷◌, ◌++◌, subst, sym, ◌∙◌, ap, arith}
+use Rattle.std.proofs.Common.{List, map, Some, None, [], subst, sym, ◌∙◌, ap, arith}
 use Rattle.std.proofs.lemmas.List.{with_items_is}
 use Rattle.std.specs.Vec.{with_items}
 use Rattle.mdb_base.specs.Words.{Each}
@@ -9,7 +9,7 @@ use Rattle.order_laws.specs.Least.{without}
 use Rattle.order_laws.specs.Merge.{IsLeastOrder}
 use Rattle.order_laws.proofs.Orders.{acyclic_distinct}
 use Rattle.order_merge.specs.Next.{IsNext}
-use Rattle.order_merge.proofs.Steps.{IsMerging, starts, goes_on, less_left, ends}
+use Rattle.order_merge.proofs.Steps.{goes_on, less_left, ends}
 use Rattle.order_merge.proofs.merge.merge_orders.Goals as goal
 
 pub next_free-requires : goal.next_free-requires

@@ -1,18 +1,21 @@
 use Rattle.std.proofs.Common.{sym, ap, ◌∙◌}
-use Rattle.std.specs.BTreeMap.{BTreeMap}
-use Rattle.mdb_base.specs.declared.names.Tid.{Tid}
-use Rattle.run_book.specs.Held.{Held}
+use Rattle.std.specs.Map.{lookup, set_value}
 use Rattle.std.specs.Option.{option_copied_mut}
 use Rattle.run_book.specs.Book.{with_ticket}
-use Rattle.run_book.proofs.RunMaps.{written_back, changed_none}
+use Rattle.run_book.specs.Named.{by_tid, same_name}
+use Rattle.run_book.specs.declared.run_map.Name.{Name}
+use Rattle.run_book.proofs.RunMaps.{changed_none, written_back}
 use Rattle.run_book.proofs.run_map.hold_ticket.Goals as goal
 
 pub returns-in-Some : goal.returns-in-Some
 returns-in-Some c =
-    (c.get_mut.follows.holds c.hold_ticket.new.self).0
-    ∙ written_back c.args.runs.now.entries c.args.tid (with_ticket c.args.ticket) c.in-Some.run'.now _ (sym c.get_mut.ensures.value ∙ ap option_copied_mut c.in-Some.is) c.hold_ticket.ensures
+    let es = c.args.runs.now.entries in
+    ap by_tid ((c.get_mut.follows.holds c.hold_ticket.new.self).0 ∙ ap (λ (n : Name). set_value (same_name n) es c.hold_ticket.new.self) c.of.ensures)
+    ∙ written_back es c.args.tid (with_ticket c.args.ticket) c.in-Some.run'.now _
+    (ap (λ (n : Name). lookup (same_name n) es) (sym c.of.ensures) ∙ (sym c.get_mut.ensures.value ∙ ap option_copied_mut c.in-Some.is)) c.hold_ticket.ensures
 
 pub returns-in_default : goal.returns-in_default
 returns-in_default c =
-    ap (λ (m : BTreeMap Tid Held). m.entries) c.get_mut.follows.holds-at-none
-    ∙ sym (changed_none c.args.runs.now.entries c.args.tid (with_ticket c.args.ticket) (sym c.get_mut.ensures.value ∙ ap option_copied_mut c.in_default.is))
+    let es = c.args.runs.now.entries in
+    rw c.get_mut.follows.holds-at-none
+    (sym (changed_none es c.args.tid (with_ticket c.args.ticket) (ap (λ (n : Name). lookup (same_name n) es) (sym c.of.ensures) ∙ (sym c.get_mut.ensures.value ∙ ap option_copied_mut c.in_default.is))))

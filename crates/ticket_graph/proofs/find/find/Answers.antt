@@ -1,12 +1,20 @@
-use Rattle.std.proofs.Common.{◌≡◌, Some, None, List, sym, ap, ◌∙◌, subst, arith}
+use Rattle.std.proofs.Common.{◌≡◌, rules, false, Some, None, List, sym, ap, ◌∙◌, subst, arith}
 use Rattle.mdb_base.specs.declared.names.SiteTicket.{SiteTicket}
-use Rattle.mdb_base.specs.Words.{Each}
+use Rattle.mdb_base.specs.Words.{Each, some_of}
 use Rattle.ticket_graph.specs.declared.steps.Step.{Step}
 use Rattle.ticket_graph.specs.Steps.{IsDone, Follows}
 use Rattle.ticket_graph.specs.Trail.{is_reached_tid, IsAt, IsTrail}
 use Rattle.ticket_graph.proofs.EdgeSites.{first_site, site_some, site_none}
+use Rattle.ticket_graph.proofs.Leading.{closed_at_once, leads_to}
 use Rattle.ticket_graph.proofs.Searching.{search_starts, search_goes_on, search_ends, trail_within}
 use Rattle.ticket_graph.proofs.find.find.Goals as goal
+
+pub returns-then-not-leads_on : goal.returns-then-not-leads_on
+returns-then-not-leads_on c =
+    let attempts = c.args.attempts.now in
+    let none : some_of (leads_to c.args.added.now.tickets) attempts ≡ false =
+    ap (λ (ts : List SiteTicket). some_of (leads_to ts) attempts) (sym c.tickets.ensures.items) ∙ (sym c.leads_on.ensures ∙ c.if-not-leads_on.true) in
+    closed_at_once c.args.added.now attempts c.new.result none (search rules)
 
 pub loop-next-init : goal.loop-next-init
 loop-next-init c =
@@ -15,8 +23,8 @@ loop-next-init c =
     let left = c.follow.new.self.unmet in
     let longer = c.follow.new.self.steps.items in
     search_starts c.args.attempts.now c.args.added.now unmet left steps longer c.in_ok-search.ensures.unmet c.in_ok-search.ensures.steps
-    (subst (λ (ts : List SiteTicket). Follows None ts unmet steps left longer) c.tickets.ensures.items c.in_ok-follow.ensures.follows)
-    (subst (λ (ts : List SiteTicket). Each (IsDone left) ts) c.tickets.ensures.items c.in_ok-follow.ensures.done)
+    (subst (λ (ts : List SiteTicket). Follows None ts unmet steps left longer) c.tickets-2.ensures.items c.in_ok-follow.ensures.follows)
+    (subst (λ (ts : List SiteTicket). Each (IsDone left) ts) c.tickets-2.ensures.items c.in_ok-follow.ensures.done)
 
 pub attempt_at-attempt-requires-clause-steps : goal.attempt_at-attempt-requires-clause-steps
 attempt_at-attempt-requires-clause-steps c =

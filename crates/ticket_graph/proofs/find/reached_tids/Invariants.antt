@@ -1,7 +1,7 @@
 use Rattle.std.proofs.Common.{◌≡◌, take}
 use Rattle.std.specs.BTreeSet.{contains}
 use Rattle.mdb_base.specs.declared.names.Tid.{Tid}
-use Rattle.order_laws.specs.Ranked.{tid_cmp}
+use Rattle.mdb_base.specs.Names.{tid_cmp}
 use Rattle.ticket_graph.specs.Trail.{is_reached_tid}
 use Rattle.ticket_graph.proofs.find.reached_tids.Given as goal
 

@@ -1,4 +1,4 @@
-use Rattle.std.proofs.Common.{◌≡◌, false, not, ◌∙◌, sym, Some}
+use Rattle.std.proofs.Common.{◌≡◌, false, not, ◌∙◌, sym}
 use Rattle.mdb_base.specs.Names.{same_tid}
 use Rattle.order_laws.proofs.Lists.{not_false}
 use Rattle.order_merge.proofs.Queues.{first_not_behind}

@@ -1,9 +1,7 @@
 use Rattle.std.proofs.Common.{arith}
 use Rattle.std.proofs.lemmas.Grind.{common_steps}
 use Rattle.std.specs.BTreeSet.{contains}
-use Rattle.mdb_base.specs.Names.{same_tid}
-use Rattle.order_laws.specs.Orders.{is_in}
-use Rattle.order_laws.specs.Ranked.{tid_cmp}
+use Rattle.mdb_base.specs.Names.{tid_cmp}
 use Rattle.order_merge.proofs.Queues.{inserted}
 use Rattle.order_merge.proofs.queue.Queue.of.Goals as goal
 

@@ -1,9 +1,8 @@
 use Rattle.std.proofs.Common.{◌≡◌, take}
 use Rattle.std.specs.BTreeSet.{contains}
 use Rattle.mdb_base.specs.declared.names.Tid.{Tid}
-use Rattle.mdb_base.specs.Names.{same_tid}
+use Rattle.mdb_base.specs.Names.{same_tid, tid_cmp}
 use Rattle.order_laws.specs.Orders.{is_in}
-use Rattle.order_laws.specs.Ranked.{tid_cmp}
 use Rattle.order_merge.proofs.queue.Queue.of.Given as goal
 
 abbrev pub invariant-loop-tid : goal.invariant-loop-tid

@@ -1,10 +1,8 @@
-use Rattle.std.proofs.Common.{◌≡◌, Bool, true, false, List, drop, Some, slice_get, subst, sym, ap, ◌∙◌}
+use Rattle.std.proofs.Common.{◌≡◌, true, false, drop, Some, slice_get, subst, sym, ap, ◌∙◌}
 use Rattle.std.specs.BTreeSet.{contains}
 use Rattle.std.specs.Option.{option_eq}
-use Rattle.mdb_base.specs.declared.names.Tid.{Tid}
-use Rattle.mdb_base.specs.Names.{same_tid}
+use Rattle.mdb_base.specs.Names.{same_tid, tid_cmp}
 use Rattle.order_laws.specs.Orders.{is_in}
-use Rattle.order_laws.specs.Ranked.{tid_cmp}
 use Rattle.order_merge.proofs.Queues.{rest-without, whole-without, both_without}
 use Rattle.order_merge.proofs.queue.Queue.take_out.Goals as goal
 

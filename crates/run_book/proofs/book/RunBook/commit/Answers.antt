@@ -1,6 +1,7 @@
 use Rattle.std.proofs.Common.{◌≡◌, Some, IsSome, Option, sym, ap, ◌∙◌, arith}
 use Rattle.run_book.specs.Held.{Held, held_in}
 use Rattle.run_book.specs.Book.{RoomyBook}
+use Rattle.run_book.specs.Named.{by_tid}
 use Rattle.run_book.proofs.InOrder.{of_found, order_gone, holds_none, sealed_takes_none}
 use Rattle.run_book.proofs.Promises.{sealed-promises}
 use Rattle.run_book.proofs.RunMaps.{promise_of}
@@ -16,7 +17,7 @@ invariant_of-self c =
     let order = c.self.invariant in
     let counted = order.counted in
     let fits = order.room in
-    order_gone c.self.inside.runs.entries c.take_out.new.runs.entries c.self.inside.promised _ c.self.inside.tables.spare _ _ _ c.args.tid c.unwrap-run.result order at
+    order_gone (by_tid c.self.inside.runs.entries) (by_tid c.take_out.new.runs.entries) c.self.inside.promised _ c.self.inside.tables.spare _ _ _ c.args.tid c.unwrap-run.result order at
     c.take_out.ensures.gone c.take_out.ensures.promised
     (omega (arith, c.promised.ensures, c.take_out.ensures.promised, own, counted)) (omega (arith, c.promised.ensures, c.install.ensures.room, writes, fits, counted, own, c.take_out.ensures.promised))
-    (holds_none c.self.inside.runs.entries c.self.inside.promised c.self.inside.tables.spare c.self.inside.ticket c.args.tid c.unwrap-run.result order at (sealed_takes_none c.unwrap-run.result sealed))
+    (holds_none (by_tid c.self.inside.runs.entries) c.self.inside.promised c.self.inside.tables.spare c.self.inside.ticket c.args.tid c.unwrap-run.result order at (sealed_takes_none c.unwrap-run.result sealed))

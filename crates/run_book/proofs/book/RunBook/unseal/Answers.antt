@@ -2,12 +2,13 @@ use Rattle.std.proofs.Common.{◌≡◌, ℕ, Bool, true, false, cond, is_some, 
 use Rattle.std.specs.FinMap.{from_entries}
 use Rattle.std.proofs.lemmas.Bool.{cond-true, cond-false}
 use Rattle.mdb_base.specs.declared.names.Tid.{Tid}
-use Rattle.mdb_base.specs.Names.{same_tid}
+use Rattle.mdb_base.specs.Names.{same_tid, tid_cmp}
 use Rattle.ticket_item.specs.Item.{is_holder}
 use Rattle.fed_rules.specs.Runs.{has_ticket}
 use Rattle.run_book.specs.declared.marks.Marks.{Marks}
-use Rattle.run_book.specs.Held.{Held, tid_cmp, held_in, changed_in}
+use Rattle.run_book.specs.Held.{Held, held_in, changed_in}
 use Rattle.run_book.specs.Book.{RoomyBook, not_sealed}
+use Rattle.run_book.specs.Named.{by_tid}
 use Rattle.run_book.proofs.BookLemmas.{unseals-made}
 use Rattle.run_book.proofs.InOrder.{of_found, order_changed, held_more, holds_none, sealed_takes_none, promise-le}
 use Rattle.run_book.proofs.RunMaps.{entries_changed}
@@ -16,17 +17,17 @@ use Rattle.run_book.proofs.book.RunBook.unseal.Goals as goal
 pub overflow_sub-self : goal.overflow_sub-self
 overflow_sub-self c =
     let at = ap (λ (r : RoomyBook). held_in r.book.runs c.args.tid) c.self.view_is ∙ c.run-run.ensures in
-    let le = promise-le c.self.inside.runs.entries _ _ _ c.args.tid c.run-run.result.now c.self.invariant at in
+    let le = promise-le (by_tid c.self.inside.runs.entries) _ _ _ c.args.tid c.run-run.result.now c.self.invariant at in
     omega (arith, le, c.promised.ensures)
 
 pub invariant_of-self : goal.invariant_of-self
 invariant_of-self c =
     let held = c.run-run.result.now in
     let at = ap (λ (r : RoomyBook). held_in r.book.runs c.args.tid) c.self.view_is ∙ c.run-run.ensures in
-    let le = promise-le c.self.inside.runs.entries _ _ _ c.args.tid held c.self.invariant at in
+    let le = promise-le (by_tid c.self.inside.runs.entries) _ _ _ c.args.tid held c.self.invariant at in
     let has : has_ticket held.run ≡ true = ap (λ (o : Option ℕ). is_some o) (sym c.ticket.ensures) ∙ (sym c.is_some-has_ticket.ensures ∙ c.if-has_ticket.true) in
     let fits = c.self.invariant.room in
-    order_changed c.self.inside.runs.entries _ c.self.inside.promised _ c.self.inside.tables.spare _ c.self.inside.ticket _ c.args.tid not_sealed held c.self.invariant at c.unseal.ensures
+    order_changed (by_tid c.self.inside.runs.entries) _ c.self.inside.promised _ c.self.inside.tables.spare _ c.self.inside.ticket _ c.args.tid not_sealed held c.self.invariant at c.unseal.ensures
     (omega (arith, le, c.promised.ensures)) (omega (arith, fits))
     (λ u. c.withdraw.ensures.holders u ∙ (held_more c.args.tid u (is_holder c.self.inside.ticket u) ∙ ap (λ (b : Bool). cond (same_tid c.args.tid u) b (is_holder c.self.inside.ticket u)) (sym has)))
 
@@ -34,13 +35,13 @@ pub invariant_of-self-else-has_ticket : goal.invariant_of-self-else-has_ticket
 invariant_of-self-else-has_ticket c =
     let held = c.run-run.result.now in
     let at = ap (λ (r : RoomyBook). held_in r.book.runs c.args.tid) c.self.view_is ∙ c.run-run.ensures in
-    let le = promise-le c.self.inside.runs.entries _ _ _ c.args.tid held c.self.invariant at in
+    let le = promise-le (by_tid c.self.inside.runs.entries) _ _ _ c.args.tid held c.self.invariant at in
     let lacks : has_ticket held.run ≡ false = ap (λ (o : Option ℕ). is_some o) (sym c.ticket.ensures) ∙ (sym c.is_some-has_ticket.ensures ∙ c.if-has_ticket.false) in
     let sealed = of_found (λ h. IsSome h.run.sealed) _ held c.run-run.ensures c.requires.sealed in
     let fits = c.self.invariant.room in
-    order_changed c.self.inside.runs.entries _ c.self.inside.promised _ c.self.inside.tables.spare _ c.self.inside.ticket _ c.args.tid not_sealed held c.self.invariant at c.unseal.ensures
+    order_changed (by_tid c.self.inside.runs.entries) _ c.self.inside.promised _ c.self.inside.tables.spare _ c.self.inside.ticket _ c.args.tid not_sealed held c.self.invariant at c.unseal.ensures
     (omega (arith, le, c.promised.ensures)) (omega (arith, fits))
-    (λ u. holds_none c.self.inside.runs.entries c.self.inside.promised c.self.inside.tables.spare c.self.inside.ticket c.args.tid held c.self.invariant at (sealed_takes_none held sealed) u
+    (λ u. holds_none (by_tid c.self.inside.runs.entries) c.self.inside.promised c.self.inside.tables.spare c.self.inside.ticket c.args.tid held c.self.invariant at (sealed_takes_none held sealed) u
     ∙ ap (λ (b : Bool). cond (same_tid c.args.tid u) b (is_holder c.self.inside.ticket u)) (sym lacks))
 
 pub returns-then-has_ticket-clause-book : goal.returns-then-has_ticket-clause-book
@@ -51,7 +52,7 @@ returns-then-has_ticket-clause-book c =
     let marks : ℕ → ℕ → Option Tid → Marks = λ n p o. record { counter = n; published = p; owner = o } in
     unseals-made book _ _ c.args.tid held (marks c.marks-marks.result.counter c.withdraw.new.self.published c.withdraw.new.self.owner) c.run-run.ensures
     (ap (λ (r : RoomyBook). r.book.versions) c.self.view_is)
-    (ap (λ (es : List (Tid × Held)). from_entries {R = tid_cmp} es) c.unseal.ensures ∙ (entries_changed c.self.inside.runs.entries c.args.tid not_sealed
+    (ap (λ (es : List (Tid × Held)). from_entries {R = tid_cmp} es) c.unseal.ensures ∙ (entries_changed (by_tid c.self.inside.runs.entries) c.args.tid not_sealed
     ∙ ap (λ (r : RoomyBook). changed_in c.args.tid not_sealed r.book.runs) c.self.view_is))
     (ap (λ (p : ℕ). marks c.marks-marks.result.counter p c.withdraw.new.self.owner) c.withdraw.ensures.published
     ∙ (ap (λ (o : Option Tid). marks c.marks-marks.result.counter c.marks-marks.result.published o) c.withdraw.ensures.owner
@@ -65,7 +66,7 @@ returns-else-has_ticket-clause-book c =
     let marks : ℕ → ℕ → Option Tid → Marks = λ n p o. record { counter = n; published = p; owner = o } in
     unseals-made book _ _ c.args.tid held (marks c.marks-marks.result.counter c.self.inside.ticket.published c.self.inside.ticket.owner) c.run-run.ensures
     (ap (λ (r : RoomyBook). r.book.versions) c.self.view_is)
-    (ap (λ (es : List (Tid × Held)). from_entries {R = tid_cmp} es) c.unseal.ensures ∙ (entries_changed c.self.inside.runs.entries c.args.tid not_sealed
+    (ap (λ (es : List (Tid × Held)). from_entries {R = tid_cmp} es) c.unseal.ensures ∙ (entries_changed (by_tid c.self.inside.runs.entries) c.args.tid not_sealed
     ∙ ap (λ (r : RoomyBook). changed_in c.args.tid not_sealed r.book.runs) c.self.view_is))
     (ap (λ (r : RoomyBook). marks c.marks-marks.result.counter r.book.marks.published r.book.marks.owner) c.self.view_is
     ∙ (ap (λ (m : Marks). marks m.counter book.marks.published book.marks.owner) c.marks-marks.ensures
