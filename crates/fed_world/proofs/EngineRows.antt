@@ -21,7 +21,7 @@ use Rattle.fed_rules.specs.Runs.{Commits, EngineLine, Run, Seals, Start, committ
 use Rattle.fed_rules.specs.Site.{answered, number_of, of_back, site_line, site_past, unless_tripped}
 use Rattle.fed_rules.specs.SitePast.{SiteHappening, SitePast, disk, engine_lines, epoch_start, records, run_of, trip}
 use Rattle.fed_rules.specs.SiteRecords.{Held, Home, Install, by_number, doubt_of, install_held, installs, rows_after, site_frame, site_rows, start_of}
-use Rattle.engine_laws.proofs.RunLines.{run_at_own}
+use Rattle.fed_rules.proofs.RunLines.{run_at_own}
 use Rattle.engine_laws.proofs.Runs.{number_is, tid_is}
 use Rattle.fed_world.proofs.LocalInstalls.{install_of, installed_inserted}
 use Rattle.site_history.specs.Events.{AreSorted, IsFresh, IsSorted}

@@ -8,7 +8,7 @@ use Rattle.fed_rules.specs.declared.commands.Command.{Command}
 use Rattle.fed_rules.specs.declared.commands.Line.{Line}
 use Rattle.fed_rules.specs.declared.scenario.Scenario.{Scenario}
 use Rattle.fed_rules.specs.Scenarios.{sites}
-use Rattle.fed_rules.specs.Right.{IsRightStory}
+use Rattle.fed_rules.specs.Right.{IsRightStory, AreLines}
 use Rattle.fed_rules.specs.Story.{Story, story_of}
 use Rattle.any_engine.specs.declared.engine.AnyEngine.{AnyEngine}
 use Rattle.local_dbms.specs.declared.dbms.LocalDbms.{LocalDbms}
@@ -21,7 +21,7 @@ use Rattle.fed_world.specs.Seats.{OfDbms, SiteAt}
 use Rattle.fed_world.specs.declared.world.World.{World}
 use Rattle.fed_world.specs.declared.cores.Cores.{Cores}
 use Rattle.fed_world.specs.Gathering.{AreTraffic, Gathers, GathersAt, GathersOn, IsGathered, IsTraffic}
-use Rattle.fed_world.specs.Worlds.{ActorsAt, AreLines, DbmsRecalls, DbmsStands, HasLines, ManagerRecalls, ManagerStands, OfManager, Recalls, Stands}
+use Rattle.fed_world.specs.Worlds.{ActorsAt, DbmsRecalls, DbmsStands, HasLines, ManagerRecalls, ManagerStands, OfManager, Recalls, Stands}
 use Rattle.fed_world.proofs.Pairs.{pair_both}
 
 -- the lines of a world are those that it was made with

@@ -15,7 +15,8 @@ use Rattle.fed_world.specs.declared.cores.Cores.{Cores}
 use Rattle.fed_world.specs.declared.world.World.{World}
 use Rattle.fed_world.specs.Gathering.{Gathers, GathersAt, GathersOn, IsChannel}
 use Rattle.fed_world.specs.Reporting.{channel_of}
-use Rattle.fed_world.specs.Worlds.{ActorsAt, AnyStory, AreLines, DbmsRecalls, DbmsStands, EachStory, ManagerRecalls, ManagerStands, OfManager, Recalls, SomeStory, Stands}
+use Rattle.fed_world.specs.Worlds.{ActorsAt, AnyStory, DbmsRecalls, DbmsStands, EachStory, ManagerRecalls, ManagerStands, OfManager, Recalls, SomeStory, Stands}
+use Rattle.fed_rules.specs.Right.{AreLines}
 use Rattle.fed_world.proofs.SessionParts.{there}
 
 mapped : {A B : Type 0} (f : A → B) (xs : List A) (n : ℕ) (x : A) → slice_get xs n ≡ Some x → slice_get (map f xs) n ≡ Some (f x)

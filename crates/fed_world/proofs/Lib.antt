@@ -33,3 +33,4 @@ pub mod SeatHears
 pub mod SeatLines
 pub mod SentPlaces
 pub mod SeatTold
+pub mod FewCommands

@@ -10,7 +10,7 @@ use Rattle.order_laws.specs.Chains.{In}
 use Rattle.fed_rules.specs.declared.commands.Place.{Place}
 use Rattle.fed_rules.specs.declared.messages.Sent.{Sent}
 use Rattle.fed_rules.specs.declared.messages.ToSite.{ToSite}
-use Rattle.rules_laws.proofs.Sends.{OverSends}
+use Rattle.rules_laws.proofs.Sends.{OverSends, none_to}
 use Rattle.session_routes.specs.declared.traffic.Traffic.{Traffic}
 use Rattle.session_routes.specs.Posting.{message_to, place_to, places_to}
 use Rattle.fed_world.proofs.SeatLines.{rises_on}
@@ -21,14 +21,6 @@ OverChannels site channels = Each (λ (t : Traffic). site.0 < t.site.0) channels
 sends_over : (site : SiteId) (sent : Sent) (sends : List Sent) → site.0 < sent.site.0 → IsRising (λ (z : Sent). z.site.0) (sent ∷ sends) → OverSends site (sent ∷ sends)
 sends_over site sent [] h r = (h, tt)
 sends_over site sent (next ∷ sends) h r = (h, sends_over site next sends (let more = r.0 in omega (arith, h, more)) r.1)
-
--- nothing to a smaller site
-none_to : (site : SiteId) (sends : List Sent) → OverSends site sends → message_to site sends ≡ None
-none_to site [] h = refl
-none_to site (sent ∷ sends) h =
-    let more = h.0 in
-    let other : same_site sent.site site ≡ false = ne_eqb sent.site.0 site.0 (λ same. omega (arith, same, more)) in
-    ap (λ (o : Option Sent). map_some (λ (z : Sent). z.message) o) (cond-false _ _ _ other) ∙ none_to site sends h.1
 
 -- what is sent to a smaller site plays no part
 skip_sent : (sent : Sent) (sends : List Sent) (channels : List Traffic) → OverChannels sent.site channels → found (place_to (sent ∷ sends)) channels ≡ found (place_to sends) channels

@@ -1,5 +1,5 @@
 -- What a world hands to the report of its session is that of its story.
-use Rattle.std.proofs.Common.{◌≡◌, ℕ, zero, suc, ◌+◌, false, Option, Some, List, [], ◌∷◌, ◌++◌, length, map, take, reverse, slice_get, refl, sym, ◌∙◌, ap, ap₂, subst, add-one, arith}
+use Rattle.std.proofs.Common.{◌≡◌, ℕ, zero, suc, ◌+◌, Option, Some, List, [], ◌∷◌, ◌++◌, length, map, take, reverse, slice_get, refl, sym, ◌∙◌, ap, ap₂, subst, add-one, arith}
 use Rattle.std.proofs.lemmas.Option.{slice_get_within}
 use Rattle.mdb_base.specs.declared.names.SiteId.{SiteId}
 use Rattle.mdb_base.specs.declared.names.Tid.{Tid}
@@ -13,7 +13,6 @@ use Rattle.fed_rules.specs.declared.commands.Line.{Line}
 use Rattle.fed_rules.specs.declared.scenario.Scenario.{Scenario}
 use Rattle.fed_rules.specs.CoordPast as Coordinator
 use Rattle.fed_rules.specs.CoordRecords.{committed_of}
-use Rattle.fed_rules.specs.Happenings.{is_down}
 use Rattle.fed_rules.specs.Orders.{table_at, table_of}
 use Rattle.fed_rules.specs.Reports.{tables}
 use Rattle.fed_rules.specs.Runs.{rows}
@@ -24,7 +23,6 @@ use Rattle.fed_rules.specs.Story.{Story, coord_past, past_of, sent_from, story_o
 use Rattle.site_history.proofs.MadeSorted.{events_sorted}
 use Rattle.any_engine.specs.declared.engine.AnyEngine.{AnyEngine}
 use Rattle.closing_laws.specs.AtRest.{IsAtRest}
-use Rattle.global_manager.specs.Stands.{EachManaged}
 use Rattle.local_dbms.specs.declared.dbms.LocalDbms.{LocalDbms}
 use Rattle.local_dbms.specs.Stands.{own_programs}
 use Rattle.session_report.specs.declared.marks.Marks.{Marks}
@@ -34,8 +32,8 @@ use Rattle.session_report.specs.Session.{HoldsMarks, HoldsMessages, IsOver, IsSe
 use Rattle.session_routes.specs.declared.traffic.Traffic.{Traffic}
 use Rattle.fed_world.specs.Seats.{OfDbms, SiteAt, SitesAt}
 use Rattle.fed_world.specs.declared.world.World.{World}
-use Rattle.fed_world.specs.Reporting.{channel_of, rows_at}
-use Rattle.fed_world.specs.Worlds.{DbmsRecalls, HasLines, ManagerRecalls, Recalls}
+use Rattle.fed_world.specs.Reporting.{Tells, channel_of, rows_at}
+use Rattle.fed_world.specs.Worlds.{DbmsRecalls, HasLines, Recalls}
 use Rattle.fed_world.proofs.EngineRows.{engine_rows}
 
 -- ---- lists place by place
@@ -199,19 +197,16 @@ is_session scenario commands world r rest puts shown =
     })
 
 -- what its lines, its channels and its marks are copied to is so too
-pub is_session_of : (scenario : Scenario) (commands : List Command) (world : World) → Recalls world scenario commands → IsAtRest scenario (story_of scenario commands) → (lines : List Line) (channels : List Channel)
-    (marks : List Marks) (puts : List SiteRows) → lines ≡ world.lines.items → channels ≡ map channel_of world.traffic.items → marks ≡ world.cores.marks.items → puts ≡ tables scenario (story_of scenario commands)
-    → IsSession world.cores.scenario lines channels marks puts
-is_session_of scenario commands world r rest lines channels marks puts told sent kept shown =
-    subst (λ (ls : List Line). IsSession world.cores.scenario ls channels marks puts) (sym told)
-    (subst (λ (cs : List Channel). IsSession world.cores.scenario world.lines.items cs marks puts) (sym sent)
-    (subst (λ (ms : List Marks). IsSession world.cores.scenario world.lines.items (map channel_of world.traffic.items) ms puts) (sym kept)
-    (is_session scenario commands world r rest puts shown)))
+pub session_again : (world : World) (channels : List Channel) (puts : List SiteRows) → IsSession world.cores.scenario world.lines.items channels world.cores.marks.items puts → (lines : List Line) (sent : List Channel)
+    (marks : List Marks) → lines ≡ world.lines.items → sent ≡ channels → marks ≡ world.cores.marks.items → IsSession world.cores.scenario lines sent marks puts
+session_again world channels puts session lines sent marks told copied kept =
+    subst (λ (ls : List Line). IsSession world.cores.scenario ls sent marks puts) (sym told)
+    (subst (λ (cs : List Channel). IsSession world.cores.scenario world.lines.items cs marks puts) (sym copied)
+    (subst (λ (ms : List Marks). IsSession world.cores.scenario world.lines.items channels ms puts) (sym kept) session))
 
 -- the coordinator tells of its commits
 pub tells_commits : (scenario : Scenario) (commands : List Command) (world : World) → Recalls world scenario commands → IsAtRest scenario (story_of scenario commands) → (lines : List Line) → lines ≡ world.lines.items
-    → (tx : Tx) (found : Option Tid) → EachManaged (ManagerRecalls world.cores.coordinator) (λ terms programs past. is_down past ≡ false → found ≡ committed_of (Coordinator.records past) tx)
-    → found ≡ committed_of (Coordinator.records (coord_past (story_of_lines world.cores.scenario lines))) tx
+    → (tx : Tx) (found : Option Tid) → Tells world tx found → found ≡ committed_of (Coordinator.records (coord_past (story_of_lines world.cores.scenario lines))) tx
 tells_commits scenario commands world r rest lines told tx found gives =
     gives _ _ _ r.actors.coordinator rest.coordinator_up
     ∙ ap (λ story. committed_of (Coordinator.records (coord_past story)) tx) (sym (ap (story_of_lines world.cores.scenario) told ∙ told_story world scenario commands r.has))

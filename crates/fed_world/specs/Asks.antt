@@ -10,7 +10,7 @@ use Rattle.fed_rules.specs.declared.events.CoordEvent.TheVariants as To_coord
 use Rattle.fed_rules.specs.declared.scenario.Scenario.{Scenario}
 use Rattle.fed_rules.specs.CoordCommands.{go_request, fate_request, attempt_request}
 use Rattle.fed_rules.specs.CoordPast.{CoordPast}
-use Rattle.fed_rules.specs.Requests.{Request, Submits, Declines}
+use Rattle.fed_rules.specs.Requests.{Request, Submits}
 use Rattle.fed_rules.specs.Scenarios.{global_program, home_of, policy, protocols, sites}
 use Rattle.fed_rules.specs.SiteRecords.{Home}
 use Rattle.fed_rules.specs.Story.{Story, Nowhere, coord_past, coord_requested, happens, past_of, requested, sent_to}

@@ -18,7 +18,8 @@ use Rattle.session_routes.specs.declared.traffic.Traffic.{Traffic}
 use Rattle.fed_world.specs.declared.cores.Cores.{Cores}
 use Rattle.fed_world.specs.Asks.{terms_of}
 use Rattle.fed_world.specs.Seats.{AreFew, OfDbms}
-use Rattle.fed_world.specs.Worlds.{AreDisks, AreLines, DbmsRecalls, DbmsStands, ManagerRecalls, ManagerStands, OfManager}
+use Rattle.fed_world.specs.Worlds.{AreDisks, DbmsRecalls, DbmsStands, ManagerRecalls, ManagerStands, OfManager}
+use Rattle.fed_rules.specs.Right.{AreLines}
 
 -- the channel holds the messages to and from the site
 pub record IsChannel (channel : Channel) (own : SiteId) (story : Story) : Type 0 where

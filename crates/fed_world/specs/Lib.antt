@@ -9,3 +9,4 @@ pub mod Worlds
 pub mod SiteAsks
 pub mod SeatParts
 pub mod Seats
+pub mod FewCommands

@@ -105,11 +105,6 @@ pub record Stands (tells : Bool) (world : World) (disks : List Seen) (scenario :
 
 -- ---- what is asked of a world
 
--- these are the right lines of these commands, the first line first
-pub record AreLines (lines : List Line) (scenario : Scenario) (commands : List Command) : Type 0 where
-  pub commands_are : map (λ line. line.command) (reverse lines) ≡ commands
-  pub right : IsRightStory scenario (reverse lines)
-
 -- the local database system is that of the site, and has its past in memory
 pub record IsLocalAt (dbms : LocalDbms AnyEngine) (scenario : Scenario) (site : SiteId) (story : Story) : Type 0 where
   pub home : Home

@@ -5,7 +5,8 @@ ghost use Rattle.fed_rules.specs.Scenarios.{global_program, home_of};
 ghost use Rattle.fed_rules.specs.Story.{coord_past, sent_from, sent_to, story_of};
 ghost use Rattle.fed_world.specs.Asks.{terms_of};
 ghost use Rattle.fed_world.specs.Messages.{AreMessages};
-ghost use Rattle.fed_world.specs.Worlds.{ActorsRecall, AreLines, EachStory, HasLines, IsLocalAt, ManagerRecalls, Recalls, lines_of};
+ghost use Rattle.fed_world.specs.Worlds.{ActorsRecall, EachStory, HasLines, IsLocalAt, ManagerRecalls, Recalls, lines_of};
+ghost use Rattle.fed_rules.specs.Right.{AreLines};
 
 use crate::cores::Cores;
 use crate::world::World;

@@ -1,16 +1,13 @@
 //! The report of a world's session.
-ghost use Rattle.std.specs.Prelude.{◌≡◌, ◌<◌, false, IfOk, Some, length, map, slice_get};
+ghost use Rattle.std.specs.Prelude.{◌≡◌, ◌<◌, IfOk, Some, length, map, slice_get};
 ghost use Rattle.mdb_base.specs.declared.names.SiteId.{SiteId as TheSite};
-ghost use Rattle.fed_rules.specs.CoordPast.{records};
-ghost use Rattle.fed_rules.specs.CoordRecords.{committed_of};
-ghost use Rattle.fed_rules.specs.Happenings.{is_down};
 ghost use Rattle.fed_rules.specs.Reports.{report_of, tables};
 ghost use Rattle.fed_rules.specs.Scenarios.{sites};
 ghost use Rattle.fed_rules.specs.Story.{story_of};
-ghost use Rattle.global_manager.specs.Stands.{EachManaged};
 ghost use Rattle.session_report.specs.InOrder.{IsReportIn};
+ghost use Rattle.session_report.specs.Session.{IsSession};
 ghost use Rattle.fed_world.specs.Reporting as reporting;
-ghost use Rattle.fed_world.specs.Worlds.{AnyStory, EachStory, ManagerRecalls, Recalls, Rests, SomeStory};
+ghost use Rattle.fed_world.specs.Worlds.{AnyStory, EachStory, Recalls, Rests, SomeStory};
 
 use crate::world::World;
 use fed_rules::{FromMessages, Report, ToMessages};
@@ -18,6 +15,13 @@ use mdb_base::{Memory, SiteRows, Tid, Tx};
 use session_report::{Channel, report, report_in};
 use session_routes::Traffic;
 use std::alloc::Global;
+
+/// What a world hands to the report of its session beside what it keeps: the messages and the rows of each site, by rising site.
+#[derive(Drop)]
+struct Handed {
+    channels: Vec<Channel>,
+    tables: Vec<SiteRows>,
+}
 
 /// The messages to and from a site, as the report reads them.
 fn channel_of(alloc: Global, traffic: &Traffic) -> Result<Channel, Memory>
@@ -73,17 +77,33 @@ impl World {
         Ok(tables)
     }
 
+    /// What the report of a session at rest reads beside the lines and the marks: with them, it is the session's.
+    fn handed(&self, alloc: Global) -> Result<Handed, Memory>
+        requires { SomeStory (Recalls self.now) Rests }
+        ensures { IfOk result (λ handed. IsSession self.now.cores.scenario self.now.lines.items handed.channels.items self.now.cores.marks.items handed.tables.items) }
+    {
+        let channels = channels_of(alloc, self.traffic.as_slice())?;
+        let tables = self.tables(alloc)?;
+        Ok(Handed { channels, tables })
+    }
+
+    /// The committed attempt of a global transaction, where the coordinator is up.
+    fn committed(&self, tx: Tx) -> Option<Tid>
+        ensures { reporting.Tells self.now tx result }
+    {
+        let coordinator = &self.cores.coordinator;
+        coordinator.core().committed(tx)
+    }
+
     /// The report of a session at rest.
     pub fn report(&self, alloc: Global) -> Result<Report, Memory>
         requires { SomeStory (Recalls self.now) Rests }
         ensures { IfOk result (λ report. EachStory (Recalls self.now) (λ scenario commands. report ≡ report_of scenario (story_of scenario commands))) }
     {
-        let channels = channels_of(alloc, self.traffic.as_slice())?;
-        let tables = self.tables(alloc)?;
-        let coordinator = &self.cores.coordinator;
+        let Handed { channels, tables } = self.handed(alloc)?;
         let committed = |tx: Tx|
-            ensures { EachManaged (ManagerRecalls coordinator.entry.now) (λ terms programs past. is_down past ≡ false → result ≡ committed_of (records past) tx) }
-        { coordinator.core().committed(tx) };
+            ensures { reporting.Tells self.entry.now tx result }
+        { self.committed(tx) };
         report(
             alloc,
             &self.cores.scenario,
@@ -100,12 +120,10 @@ impl World {
         requires { SomeStory (Recalls self.now) Rests }
         ensures { IfOk result (λ report. EachStory (Recalls self.now) (λ scenario commands. IsReportIn scenario (story_of scenario commands) order.now report)) }
     {
-        let channels = channels_of(alloc, self.traffic.as_slice())?;
-        let tables = self.tables(alloc)?;
-        let coordinator = &self.cores.coordinator;
+        let Handed { channels, tables } = self.handed(alloc)?;
         let committed = |tx: Tx|
-            ensures { EachManaged (ManagerRecalls coordinator.entry.now) (λ terms programs past. is_down past ≡ false → result ≡ committed_of (records past) tx) }
-        { coordinator.core().committed(tx) };
+            ensures { reporting.Tells self.entry.now tx result }
+        { self.committed(tx) };
         report_in(
             alloc,
             &self.cores.scenario,

@@ -1,6 +1,5 @@
 pub mod Answered
 pub mod GlobalsTold
-pub mod Keys
 pub mod LastBegun
 pub mod LineForms
 pub mod LineMarks

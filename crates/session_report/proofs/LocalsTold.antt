@@ -5,7 +5,7 @@ use Rattle.std.specs.Map.{lookup}
 use Rattle.mdb_base.specs.declared.acts.PlainAct.{PlainAct}
 use Rattle.mdb_base.specs.declared.names.Tid.{Tid}
 use Rattle.mdb_base.specs.declared.names.Tx.{Tx}
-use Rattle.mdb_base.specs.Names.{same_site, same_tid, same_tx}
+use Rattle.mdb_base.specs.Names.{same_site, same_tid, same_tx, tx_cmp}
 use Rattle.mdb_base.specs.Words.{found, map_some, or_else, with_some}
 use Rattle.mdb_base.proofs.NameLaws.{same_tx-equal, same_site-refl, same_tid-equal, same_tid-refl}
 use Rattle.mdb_base.proofs.OptionLaws.{some_parts}
@@ -33,7 +33,7 @@ use Rattle.rules_laws.proofs.SitePasts.{live_is_of, BeginsNone as NoBegin}
 use Rattle.site_history.specs.Stories.{StoriesHaveRightLines}
 use Rattle.federation_laws.proofs.LocalStories.{local-story}
 use Rattle.session_report.specs.declared.session.Channel.{Channel}
-use Rattle.session_report.specs.Told.{Told, after_begin, after_command, after_step, told_by, tx_cmp, with_begun, with_step, with_value}
+use Rattle.session_report.specs.Told.{Told, after_begin, after_command, after_step, told_by, with_begun, with_step, with_value}
 use Rattle.session_report.proofs.Answered.{BeginsSo, Says, site_says}
 use Rattle.session_report.proofs.LastBegun.{begun_in, last_begun, lasts}
 use Rattle.session_report.proofs.Lookups.{look, look_begun, look_running, look_value}

@@ -3,15 +3,14 @@ use Rattle.std.proofs.Common.{◌≡◌, ℕ, ◌+◌, ◌<◌, Bool, true, fals
 use Rattle.std.specs.BTreeMap.{is_at}
 use Rattle.std.proofs.lemmas.List.{take_more, drop_more}
 use Rattle.mdb_base.specs.declared.names.Tid.{Tid}
-use Rattle.mdb_base.specs.Names.{same_tid}
+use Rattle.mdb_base.specs.Names.{same_tid, tid_cmp}
 use Rattle.mdb_base.specs.Words.{those}
 use Rattle.mdb_base.proofs.JoinLaws.{append_nil}
 use Rattle.fed_rules.specs.declared.report.Outcome.{Outcome}
 use Rattle.session_report.specs.declared.marks.Mark.{Mark}
 use Rattle.session_report.specs.Outcomes.{is_abort, is_refused, refuses}
 use Rattle.session_report.specs.Ranks.{unrefused}
-use Rattle.session_report.specs.Told.{tid_cmp}
-use Rattle.session_report.proofs.Keys.{tid_ties}
+use Rattle.mdb_base.proofs.NameOrders.{tid_ties}
 
 those_push : {A : Type 0} (test : A → Bool) (xs : List A) (y : A) → those test (xs ++ y ∷ []) ≡ those test xs ++ cond (test y) (y ∷ []) []
 those_push test [] y = refl

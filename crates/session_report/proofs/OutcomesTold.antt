@@ -3,7 +3,7 @@ use Rattle.std.proofs.Common.{◌≡◌, Bool, true, false, not, cond, ◌&&◌,
 use Rattle.std.specs.BTreeMap.{is_at}
 use Rattle.mdb_base.specs.declared.names.Tid.{Tid}
 use Rattle.mdb_base.specs.declared.names.Tx.{Tx}
-use Rattle.mdb_base.specs.Names.{same_tid, same_tx}
+use Rattle.mdb_base.specs.Names.{same_tid, same_tx, tid_cmp}
 use Rattle.mdb_base.specs.Words.{holds_of, some_of}
 use Rattle.mdb_base.proofs.NameLaws.{same_tx-refl, same_tid-equal, same_tid-refl, same_tid-sym}
 use Rattle.presumptions.specs.declared.Decision.TheVariants as Decided
@@ -12,8 +12,8 @@ use Rattle.fed_rules.specs.declared.records.CoordRecord.TheVariants as Rec
 use Rattle.fed_rules.specs.CoordRecords.{committed_of, has_commit, outcome}
 use Rattle.rules_laws.proofs.CoordRecords.{some_committed}
 use Rattle.session_report.specs.Outcomes.{decision_by, is_abort, is_refused, outcomes_by}
-use Rattle.session_report.specs.Told.{Reads, tid_cmp}
-use Rattle.session_report.proofs.Keys.{tid_ties}
+use Rattle.session_report.specs.Told.{Reads}
+use Rattle.mdb_base.proofs.NameOrders.{tid_ties}
 use Rattle.session_report.proofs.Lookups.{look, tids_of}
 
 -- where none is found, no attempt of the transaction has one

@@ -7,7 +7,8 @@ use Rattle.std.specs.Global.{Vec}
 use Rattle.std.specs.Map.{lookup, set_value}
 use Rattle.std.specs.Ordering.{match_ordering}
 use Rattle.mdb_base.specs.declared.names.Tid.{Tid}
-use Rattle.session_report.specs.Told.{Reads, tid_cmp, with_begun, with_value}
+use Rattle.session_report.specs.Told.{Reads, with_begun, with_value}
+use Rattle.mdb_base.specs.Names.{tid_cmp}
 
 abbrev pub viewed : List (Tid × Vec ℕ) → Reads
 viewed entries = map (λ entry. (entry.0, entry.1.items)) entries

@@ -1,4 +1,4 @@
--- What is told of a session is what its report says.
+-- What is gathered of a session is what its report says.
 use Rattle.std.proofs.Common.{◌≡◌, ℕ, Bool, true, false, not, cond, ◌&&◌, ◌||◌, is_some, Option, Some, None, List, [], ◌∷◌, map, reverse, inl, inr, refl, sym, ◌∙◌, ap, ap₂, subst}
 use Rattle.mdb_base.specs.declared.names.SiteId.{SiteId}
 use Rattle.mdb_base.specs.declared.names.Tid.{Tid}
@@ -10,9 +10,9 @@ use Rattle.mdb_base.specs.Words.{Among, Each, item_at, or_else, some_of, those}
 use Rattle.mdb_base.proofs.ListLaws.{each_inserted}
 use Rattle.mdb_base.proofs.NameLaws.{same_site-equal, same_site-refl}
 use Rattle.presumptions.specs.declared.Participant.{Participant}
-use Rattle.order_laws.specs.Chains.{Acyclic, In}
+use Rattle.order_laws.specs.Chains.{In}
 use Rattle.order_laws.specs.Merge as merge
-use Rattle.order_laws.specs.Orders.{Union, is_in}
+use Rattle.order_laws.specs.Orders.{is_in}
 use Rattle.order_laws.proofs.Lists.{each_of_at, is_in_true, some_of_is}
 use Rattle.order_laws.proofs.Names.{tells_tids}
 use Rattle.order_laws.proofs.Reversed.{map_same}
@@ -29,7 +29,7 @@ use Rattle.fed_rules.specs.CoordPast.{CoordPast, begins, begun_tids, is_known, s
 use Rattle.fed_rules.specs.CoordRecords.{committed_of, outcome}
 use Rattle.fed_rules.specs.Orders.{is_committed, order_at, orders, reads_at, reads_of, records_at}
 use Rattle.fed_rules.specs.Plans.{IsScenario}
-use Rattle.fed_rules.specs.Reports.{begun, forgotten, is_forgotten, outcomes, printed_order, report_in, report_of}
+use Rattle.fed_rules.specs.Reports.{begun, forgotten, is_forgotten, outcomes}
 use Rattle.fed_rules.specs.Scenarios.{home_at, home_of, local_home, protocols, sites}
 use Rattle.fed_rules.specs.SitePast.{records}
 use Rattle.fed_rules.specs.SiteRecords.{Home, order_of}
@@ -48,12 +48,14 @@ use Rattle.federation_laws.proofs.OnceGlobal.{global-once}
 use Rattle.federation_laws.proofs.StoryGlobals.{story-holds}
 use Rattle.federation_laws.proofs.Told.{home-again}
 use Rattle.federation_laws.proofs.Headlines.{none_rising}
+use Rattle.session_report.specs.declared.gathering.Gathered.{Gathered}
 use Rattle.session_report.specs.declared.marks.Marks.{Marks}
 use Rattle.session_report.specs.declared.session.Channel.{Channel}
+use Rattle.session_report.specs.Gathering.{IsGathered}
 use Rattle.session_report.specs.Outcomes.{decision_by, is_abort, is_refused, outcomes_by}
 use Rattle.session_report.specs.Ranks.{order_told, orders_told}
 use Rattle.session_report.specs.Session.{HoldsMessages, IsSession, marks_at, marks_of}
-use Rattle.session_report.specs.Told.{Told, message_at, told_by, values_told}
+use Rattle.session_report.specs.Told.{Told, message_at, reads_told, tids_told, told_by, values_told}
 use Rattle.session_report.proofs.GlobalsTold.{Covers, globals_of, globals_told, story_globals}
 use Rattle.session_report.proofs.LocalsTold.{locals_told}
 use Rattle.session_report.proofs.Lookups.{look, tids_of}
@@ -141,7 +143,7 @@ module _ (rights : StoriesHaveRightLines) (one_order : OfStories HasOneOrder) (s
   abbrev past : CoordPast
   past = coord_past story
 
-  abbrev pub told : Told
+  abbrev told : Told
   told = told_by channels (reverse lines)
 
   abbrev pub committed : Tx → Option Tid
@@ -153,13 +155,13 @@ module _ (rights : StoriesHaveRightLines) (one_order : OfStories HasOneOrder) (s
   looked : (g : Tid) → look told.globals g ≡ cond (is_begun past g) (Some (Coordinator.reads past g)) None
   looked g = ap (λ rs. look rs g) globals_are ∙ (story_globals scenario whole commands).looks g
 
-  pub begun_are : tids_of told.globals ≡ begun story
+  begun_are : tids_of told.globals ≡ begun story
   begun_are = ap tids_of globals_are ∙ (story_globals scenario whole commands).tids
 
   decided : (g : Tid) → decision_by committed g ≡ outcome (Coordinator.records past) g
   decided g = decision_is (Coordinator.records past) (λ a b e p q. (global-once scenario commands).once a b e (inr p) (inr q)) g
 
-  pub outcomes_are : outcomes_by committed (tids_of told.globals) ≡ outcomes story
+  outcomes_are : outcomes_by committed (tids_of told.globals) ≡ outcomes story
   outcomes_are =
       ap (outcomes_by committed) begun_are
       ∙ map_same (λ (tid : Tid). let o : Outcome = record { tid = tid; decision = decision_by committed tid } in o) (λ tid. record { tid = tid; decision = outcome (Coordinator.records past) tid }) (begun story)
@@ -208,14 +210,8 @@ module _ (rights : StoriesHaveRightLines) (one_order : OfStories HasOneOrder) (s
     sites_orders [] h = refl
     sites_orders (one ∷ ms) h = ap₂ (λ (t : List Tid) (ts : List (List Tid)). t ∷ ts) (ap (order_told refused) h.0 ∙ one_order_is one.site) (sites_orders ms h.1)
 
-    pub orders_are : orders_told refused marks ≡ orders scenario story
+    orders_are : orders_told refused marks ≡ orders scenario story
     orders_are = sites_orders marks session.marked.kept ∙ ap (map (order_at scenario story)) session.marked.sites
-
-  pub cycle_free : Acyclic (Union (orders scenario story))
-  cycle_free = (one_order scenario whole commands).cycle_free
-
-  pub least_is : (order : List Tid) → merge.IsLeastOrder tid_before (orders scenario story) [] order → order ≡ printed_order scenario story
-  least_is = (one_order scenario whole commands).only
 
   -- what a member read
   kind_reads : (tid : Tid) (site : SiteId) (home : Home) → Kind scenario commands home tid → values_told told tid ≡ reads_of scenario story tid
@@ -234,11 +230,11 @@ module _ (rights : StoriesHaveRightLines) (one_order : OfStories HasOneOrder) (s
       let (home, declared) = member-declared scenario story site tid j in
       kind_reads tid site home (kind-of scenario whole commands site home tid declared j)
 
-  pub reads_are : (order : List Tid) → merge.IsMerge same_tid (orders scenario story) order → map (λ tid. let r : TxReads = record { tid = tid; values = values_told told tid } in r) order
+  reads_are : (order : List Tid) → merge.IsMerge same_tid (orders scenario story) order → map (λ tid. let r : TxReads = record { tid = tid; values = values_told told tid } in r) order
       ≡ map (λ tid. record { tid = tid; values = reads_of scenario story tid }) order
   reads_are order merged = map_same _ _ order (λ tid i. ap (λ vs. record { tid = tid; values = vs }) (member_reads order merged tid i))
 
-  pub forgotten_are : tids_of told.globals ≡ forgotten scenario story
+  forgotten_are : tids_of told.globals ≡ forgotten scenario story
   forgotten_are =
       begun_are
       ∙ sym (all_of (is_forgotten scenario story) (begun story)
@@ -247,27 +243,17 @@ module _ (rights : StoriesHaveRightLines) (one_order : OfStories HasOneOrder) (s
       (λ t e. ap₂ (λ (a b : Bool). not a && not b) session.over.up e) (begun_tids past)
       (none_of (λ t. is_known (standing (protocols scenario) past t)) (begun_tids past) (none_rising _ session.over.none_known)))))
 
-  -- all together, in any merge of the site orders
-  pub report_in_is : (order : List Tid) → merge.IsMerge same_tid (orders scenario story) order
-      → record {
-        order = order;
-        reads = map (λ tid. record { tid = tid; values = values_told told tid }) order;
-        outcomes = outcomes_by committed (tids_of told.globals);
-        forgotten = tids_of told.globals;
-        tables = rows;
-      } ≡ report_in scenario story order
-  report_in_is order merged =
-      let reads = reads_are order merged in
-      λ i. record { order = order; reads = reads i; outcomes = outcomes_are i; forgotten = forgotten_are i; tables = session.shown i }
-
-  -- and in the printed order
-  pub report_is : (order : List Tid) → order ≡ printed_order scenario story
-      → record {
-        order = order;
-        reads = map (λ tid. record { tid = tid; values = values_told told tid }) order;
-        outcomes = outcomes_by committed (tids_of told.globals);
-        forgotten = tids_of told.globals;
-        tables = rows;
-      } ≡ report_of scenario story
-  report_is order is =
-      report_in_is order (subst (merge.IsMerge same_tid (orders scenario story)) (sym is) (one_order scenario whole commands).merge) ∙ ap (report_in scenario story) is
+  -- all together
+  pub is_gathered : (gathered : Gathered) (refused : Tid → Bool) → gathered.telling ≡ told → gathered.begun.items ≡ tids_told gathered.telling → gathered.ends.items ≡ outcomes_by committed gathered.begun.items
+      → ((g : Tid) → refused g ≡ is_refused gathered.ends.items g) → gathered.orders.items ≡ orders_told refused marks → gathered.tables.items ≡ rows → IsGathered scenario story gathered
+  is_gathered gathered refused telling begins ends refuses ordered shown =
+      let tids = begins ∙ ap (λ (t : Told). tids_told t) telling in
+      let ended = ends ∙ ap (outcomes_by committed) tids in
+      record {
+        one_order = one_order scenario whole commands;
+        ordered = ordered ∙ orders_are refused (λ g. refuses g ∙ ap (λ (os : List Outcome). is_refused os g) ended);
+        read = λ order merged. ap (λ (t : Told). map (reads_told t) order) telling ∙ reads_are order merged;
+        ended = ended ∙ outcomes_are;
+        begun = tids ∙ forgotten_are;
+        shown = shown ∙ session.shown;
+      }

@@ -1,4 +1,5 @@
 pub mod Entries
+pub mod Gathering
 pub mod InOrder
 pub mod Marks
 pub mod Outcomes

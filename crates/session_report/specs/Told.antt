@@ -1,14 +1,12 @@
 -- What the lines of a session tell of its attempts: which were begun, and which values they read.
 use Rattle.std.specs.Prelude.{ℕ, Bool, false, cond, Option, Some, None, List, [], ◌∷◌, ◌++◌, map}
-use Rattle.std.specs.declared.cmp.Ordering.{Ordering}
 use Rattle.std.specs.BTreeMap.{insert_entry, is_at}
 use Rattle.std.specs.Map.{lookup}
-use Rattle.std.specs.Ordering.{nat_cmp, ordering_then}
 use Rattle.mdb_base.specs.declared.names.SiteId.{SiteId}
 use Rattle.mdb_base.specs.declared.names.Tid.{Tid}
 use Rattle.mdb_base.specs.declared.names.Tx.{Tx}
 use Rattle.mdb_base.specs.declared.replies.Reply.TheVariants as Reply_is
-use Rattle.mdb_base.specs.Names.{same_site}
+use Rattle.mdb_base.specs.Names.{same_site, tid_cmp, tx_cmp}
 use Rattle.mdb_base.specs.Words.{item_at, or_else}
 use Rattle.fed_rules.specs.declared.answers.Answer.{Answer}
 use Rattle.fed_rules.specs.declared.answers.Answer.TheVariants as Say
@@ -20,13 +18,6 @@ use Rattle.fed_rules.specs.declared.messages.FromSite.TheVariants as From
 use Rattle.fed_rules.specs.declared.report.TxReads.{TxReads}
 use Rattle.fed_rules.specs.CoordPast.{counts}
 use Rattle.session_report.specs.declared.session.Channel.{Channel}
-
--- by transaction, and then by attempt
-abbrev pub tid_cmp : Tid → Tid → Ordering
-tid_cmp a b = ordering_then (nat_cmp a.tx.0 b.tx.0) (nat_cmp a.attempt b.attempt)
-
-abbrev pub tx_cmp : Tx → Tx → Ordering
-tx_cmp a b = nat_cmp a.0 b.0
 
 -- values with the attempts that read them, by rising attempt
 abbrev pub Reads : Type 0

@@ -4,7 +4,7 @@ ghost use Rattle.std.specs.BTreeSet.{contains};
 ghost use Rattle.mdb_base.specs.declared.names.Tid.{Tid as TheTid};
 ghost use Rattle.mdb_base.specs.declared.names.Tx.{Tx as TheTx};
 ghost use Rattle.session_report.specs.Outcomes.{Gives, decision_by, is_refused, outcomes_by};
-ghost use Rattle.session_report.specs.Told.{tid_cmp};
+ghost use Rattle.mdb_base.specs.Names.{tid_cmp};
 
 use fed_rules::Outcome;
 use mdb_base::{Memory, Tid, Tx};

@@ -3,6 +3,7 @@
 #![tactic(auto)]
 
 mod commits;
+mod gathering;
 mod laws;
 mod marks;
 mod orders;

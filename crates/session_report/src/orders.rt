@@ -2,7 +2,7 @@
 ghost use Rattle.std.specs.Prelude.{◌≡◌, IfOk, map};
 ghost use Rattle.std.specs.BTreeSet.{contains};
 ghost use Rattle.session_report.specs.Ranks.{order_told, orders_told, rising_marks, unrefused};
-ghost use Rattle.session_report.specs.Told.{tid_cmp};
+ghost use Rattle.mdb_base.specs.Names.{tid_cmp};
 
 use crate::marks::{Mark, Marks};
 use mdb_base::{Memory, Tid, Tids};

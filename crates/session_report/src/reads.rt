@@ -4,7 +4,8 @@ ghost use Rattle.std.specs.BTreeMap.{is_at, keys};
 ghost use Rattle.std.specs.Map.{lookup};
 ghost use Rattle.std.specs.Option.{option_copied};
 ghost use Rattle.session_report.specs.Entries.{entries_of};
-ghost use Rattle.session_report.specs.Told.{tid_cmp, with_begun, with_value};
+ghost use Rattle.session_report.specs.Told.{with_begun, with_value};
+ghost use Rattle.mdb_base.specs.Names.{tid_cmp};
 
 use mdb_base::{Memory, Tid};
 use std::alloc::Global;

@@ -3,7 +3,8 @@ ghost use Rattle.std.specs.Prelude.{◌≡◌, IfOk, OnOk, reverse};
 ghost use Rattle.std.specs.BTreeMap.{is_at};
 ghost use Rattle.std.specs.Map.{lookup};
 ghost use Rattle.mdb_base.specs.Words.{item_at};
-ghost use Rattle.session_report.specs.Told.{after_begin, after_line, after_step, is_counted, message_at, reads_told, tids_told, told_by, tx_cmp, untold, with_go, with_taken};
+ghost use Rattle.session_report.specs.Told.{after_begin, after_line, after_step, is_counted, message_at, reads_told, tids_told, told_by, untold, with_go, with_taken};
+ghost use Rattle.mdb_base.specs.Names.{tx_cmp};
 
 use crate::reads::{begun, note_begun, note_value, values_of};
 use crate::session::Channel;

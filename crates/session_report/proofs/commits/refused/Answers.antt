@@ -6,7 +6,7 @@ use Rattle.presumptions.specs.declared.Decision.TheVariants as Decided
 use Rattle.presumptions.specs.contracts.Decision.{the_type}
 use Rattle.fed_rules.specs.declared.report.Outcome.{Outcome}
 use Rattle.session_report.specs.Outcomes.{is_abort, is_refused}
-use Rattle.session_report.specs.Told.{tid_cmp}
+use Rattle.mdb_base.specs.Names.{tid_cmp}
 use Rattle.session_report.proofs.Members.{refused_none, refused_one}
 use Rattle.session_report.proofs.commits.refused.Goals as goal
 use Rattle.session_report.proofs.commits.refused.Goals.{then-eq+in_ok-insert, else-eq}

@@ -2,7 +2,7 @@ use Rattle.std.proofs.Common.{◌≡◌, ◌||◌, drop}
 use Rattle.std.specs.BTreeSet.{contains}
 use Rattle.mdb_base.specs.declared.names.Tid.{Tid}
 use Rattle.session_report.specs.Outcomes.{is_refused}
-use Rattle.session_report.specs.Told.{tid_cmp}
+use Rattle.mdb_base.specs.Names.{tid_cmp}
 use Rattle.session_report.proofs.commits.refused.Given as goal
 
 abbrev pub invariant-loop-outcome : goal.invariant-loop-outcome

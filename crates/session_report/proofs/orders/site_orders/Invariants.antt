@@ -1,7 +1,7 @@
 use Rattle.std.proofs.Common.{◌≡◌, take}
 use Rattle.std.specs.BTreeSet.{contains}
 use Rattle.session_report.specs.Ranks.{orders_told}
-use Rattle.session_report.specs.Told.{tid_cmp}
+use Rattle.mdb_base.specs.Names.{tid_cmp}
 use Rattle.session_report.proofs.orders.site_orders.Given as goal
 
 abbrev pub invariant-loop-one : goal.invariant-loop-one

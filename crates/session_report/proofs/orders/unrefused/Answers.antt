@@ -1,7 +1,7 @@
 use Rattle.std.proofs.Common.{◌++◌, List, [], ◌∷◌, get_or, sym, ap, ◌∙◌}
 use Rattle.std.specs.BTreeSet.{contains}
 use Rattle.session_report.specs.declared.marks.Mark.{Mark}
-use Rattle.session_report.specs.Told.{tid_cmp}
+use Rattle.mdb_base.specs.Names.{tid_cmp}
 use Rattle.session_report.proofs.Members.{unrefused_none, unrefused_one}
 use Rattle.session_report.proofs.orders.unrefused.Goals as goal
 use Rattle.session_report.proofs.orders.unrefused.Goals.{then-not-is_refused+in_ok-push, else-not-is_refused}

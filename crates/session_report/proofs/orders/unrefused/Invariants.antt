@@ -1,7 +1,7 @@
 use Rattle.std.proofs.Common.{◌≡◌, take}
 use Rattle.std.specs.BTreeSet.{contains}
 use Rattle.session_report.specs.Ranks.{unrefused}
-use Rattle.session_report.specs.Told.{tid_cmp}
+use Rattle.mdb_base.specs.Names.{tid_cmp}
 use Rattle.session_report.proofs.orders.unrefused.Given as goal
 
 abbrev pub invariant-loop-mark : goal.invariant-loop-mark

@@ -1,6 +1,6 @@
 use Rattle.std.proofs.Common.{List, sym, subst}
 use Rattle.fed_rules.specs.declared.commands.Line.{Line}
-use Rattle.fed_world.specs.Worlds.{AreLines}
+use Rattle.fed_rules.specs.Right.{AreLines}
 use Rattle.fed_world.proofs.world.World.lines.Goals as goal
 
 pub returns-clause-right : goal.returns-clause-right
