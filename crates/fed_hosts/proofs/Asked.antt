@@ -47,14 +47,14 @@ command_untripped Asks.Commit tx = refl
 command_untripped Asks.Abort tx = refl
 command_untripped Asks.Fate tx = refl
 
-command_own : (plan : SitePlan) (turns : List SiteTurn) (verb : Verb) (tx : Tx) → IsSome (plan.programs tx) → IsCommand plan turns (command_of verb tx) None
+pub command_own : (plan : SitePlan) (turns : List SiteTurn) (verb : Verb) (tx : Tx) → IsSome (plan.programs tx) → IsCommand plan turns (command_of verb tx) None
 command_own plan turns Asks.Begin tx own = (own, refl)
 command_own plan turns Asks.Step tx own = (own, refl)
 command_own plan turns Asks.Commit tx own = (own, refl)
 command_own plan turns Asks.Abort tx own = (own, refl)
 command_own plan turns Asks.Fate tx own = (own, refl)
 
-request_is : (plan : SitePlan) (past : SitePast) (verb : Verb) (tx : Tx) → request_of plan past (command_of verb tx) None ≡ own_request (rule_of verb) plan.home (plan.programs tx) past tx
+pub request_is : (plan : SitePlan) (past : SitePast) (verb : Verb) (tx : Tx) → request_of plan past (command_of verb tx) None ≡ own_request (rule_of verb) plan.home (plan.programs tx) past tx
 request_is plan past Asks.Begin tx = refl
 request_is plan past Asks.Step tx = refl
 request_is plan past Asks.Commit tx = refl

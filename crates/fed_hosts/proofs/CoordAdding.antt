@@ -1,6 +1,6 @@
 -- A line that is added to right ones of the coordinator is right, and what is kept beside the lines stays theirs.
-use Rattle.std.proofs.Common.{◌≡◌, ℕ, suc, ◌+◌, ◌≤◌, ◌<◌, ◌^◌, Bool, true, false, cond, Option, Some, None, List, [], ◌∷◌, ◌++◌, length, reverse, map, slice_get, refl, sym, ap, ap₂, ◌∙◌, subst, arith}
-use Rattle.std.specs.Prelude.{max, option_to_list}
+use Rattle.std.proofs.Common.{◌≡◌, ℕ, suc, ◌+◌, ◌≤◌, ◌<◌, ◌^◌, Bool, true, false, cond, Option, Some, List, [], ◌∷◌, ◌++◌, length, map, slice_get, refl, sym, ap, ap₂, ◌∙◌, subst, arith}
+use Rattle.std.specs.Prelude.{option_to_list}
 use Rattle.std.proofs.lemmas.Option.{same_Some}
 use Rattle.mdb_base.specs.declared.names.SiteId.{SiteId}
 use Rattle.mdb_base.specs.declared.names.Tx.{Tx}
@@ -17,8 +17,8 @@ use Rattle.fed_messages.specs.declared.Envelope.{Envelope}
 use Rattle.fed_messages.specs.declared.Packet.{Packet}
 use Rattle.session_routes.specs.Posting.{message_to}
 use Rattle.scripted_link.specs.declared.inlet.Inlet.{Inlet}
-use Rattle.scripted_link.specs.Inlets.{inlet_ring, taken}
-use Rattle.scripted_link.specs.Outlets.{offered, outlet_wire}
+use Rattle.scripted_link.specs.Inlets.{inlet_ring}
+use Rattle.scripted_link.specs.Outlets.{outlet_wire}
 use Rattle.scripted_link.specs.Rings.{Ring, Wire}
 use Rattle.fed_hosts.specs.declared.coord_actor.CoordActor.{CoordActor}
 use Rattle.fed_hosts.specs.declared.coord_actor.CoordTold.{CoordTold}

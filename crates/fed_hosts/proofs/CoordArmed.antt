@@ -1,28 +1,21 @@
 -- The arming of a stop behind the lines of the coordinator's host, where one has to be armed.
-use Rattle.std.proofs.Common.{◌≡◌, ℕ, suc, ◌+◌, ◌≤◌, ◌<◌, Bool, true, false, cond, is_some, Option, Some, None, List, [], ◌∷◌, ◌++◌, length, slice_get, append-nil, refl, sym, ap, ap₂, ◌∙◌, subst, arith}
-use Rattle.mdb_base.specs.Words.{Each, found}
+use Rattle.std.proofs.Common.{◌≡◌, ℕ, suc, ◌+◌, ◌≤◌, ◌<◌, Bool, true, false, cond, is_some, Some, None, List, [], ◌∷◌, ◌++◌, length, slice_get, append-nil, refl, sym, ap, ◌∙◌, subst, arith}
 use Rattle.mdb_base.proofs.EachLaws.{each_at_place}
-use Rattle.presumptions.specs.declared.Participant.{Participant}
 use Rattle.fed_rules.specs.declared.answers.Answer.{Answer}
 use Rattle.fed_rules.specs.declared.answers.Answer.TheVariants as Say
 use Rattle.fed_rules.specs.declared.commands.Command.TheVariants as Cmd
 use Rattle.fed_rules.specs.declared.commands.Place.{Place}
-use Rattle.fed_rules.specs.declared.commands.Stamped.{Stamped}
 use Rattle.fed_rules.specs.declared.events.CoordEvent.TheVariants as Ev
-use Rattle.fed_rules.specs.declared.events.CoordStep.{CoordStep}
 use Rattle.fed_rules.specs.declared.messages.Sent.{Sent}
 use Rattle.fed_rules.specs.declared.scenario.StopLine.{StopLine}
 use Rattle.fed_rules.specs.CoordPast.{CoordHappening, attempts_of, trip}
 use Rattle.fed_rules.specs.Policies.{Policy}
-use Rattle.fed_rules.specs.Requests.{Submits}
 use Rattle.fed_rules.specs.Right.{MayPrint}
 use Rattle.fed_rules.specs.SitePast.{begins_tx}
-use Rattle.fed_messages.specs.declared.Packet.{Packet}
 use Rattle.journal_disk.specs.Disk.{Seen}
-use Rattle.coord_tables.specs.Terms.{line_of}
 use Rattle.coord_core.proofs.Endings.{trip_line}
 use Rattle.global_manager.specs.declared.manager.GlobalManager.{GlobalManager}
-use Rattle.global_manager.specs.Stands.{Sends, Serves, Stands}
+use Rattle.global_manager.specs.Stands.{Sends, Stands}
 use Rattle.scripted_link.specs.Rings.{Wire}
 use Rattle.fed_hosts.specs.declared.coord_actor.CoordActor.{CoordActor}
 use Rattle.fed_hosts.specs.declared.coord_actor.CoordTold.{CoordTold}
@@ -30,13 +23,13 @@ use Rattle.fed_hosts.specs.declared.ports.Port.{Port}
 use Rattle.fed_hosts.specs.CoordCarrying.{HasCoordArmed, IsCoordTold, coord_turn_of}
 use Rattle.fed_hosts.specs.CoordKeeps.{IsCoordLogged, IsCoordPlanned}
 use Rattle.host_laws.specs.CoordPlans.{CoordPlan}
-use Rattle.fed_hosts.specs.CoordRooms.{HasCoordAdded, coord_line_of}
+use Rattle.fed_hosts.specs.CoordRooms.{HasCoordAdded}
 use Rattle.host_laws.specs.CoordTurns.{CoordTurn, coord_is_due, coord_past_of, coord_trips_of}
 use Rattle.fed_hosts.specs.Keeps.{IsStop}
 use Rattle.host_laws.specs.Plans.{most_lines}
 use Rattle.host_laws.specs.Lines.{next_stamp}
 use Rattle.fed_hosts.specs.Ports.{ArePosted, IsPosted, places_at}
-use Rattle.fed_hosts.proofs.Changes.{became, becomes_self}
+use Rattle.fed_hosts.proofs.Changes.{becomes_self}
 use Rattle.fed_hosts.proofs.CoordAdding.{coord_logged_more}
 use Rattle.fed_hosts.proofs.CoordTrips.{coord_none_left, coord_one_due, coord_one_set, coord_settles}
 use Rattle.fed_hosts.proofs.Words.{length_turned}

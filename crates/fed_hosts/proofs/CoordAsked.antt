@@ -1,26 +1,23 @@
 -- What a client asks of the coordinator is told as the rules say.
-use Rattle.std.proofs.Common.{◌≡◌, ℕ, suc, ◌≤◌, ◌<◌, ◌⊎◌, inl, inr, Bool, true, false, cond, IsSome, Option, Some, None, List, [], ◌∷◌, length, eq-eqb, refl, sym, ap, ◌∙◌, subst, arith}
+use Rattle.std.proofs.Common.{◌≡◌, ℕ, suc, ◌<◌, inl, inr, Bool, true, false, cond, IsSome, Option, Some, None, List, ◌∷◌, length, eq-eqb, refl, sym, ap, ◌∙◌, subst, arith}
 use Rattle.mdb_base.specs.declared.acts.Step.{Step}
 use Rattle.mdb_base.specs.declared.names.Tid.{Tid}
 use Rattle.mdb_base.specs.declared.names.Tx.{Tx}
 use Rattle.fed_rules.specs.declared.answers.Answer.{Answer}
 use Rattle.fed_rules.specs.declared.answers.Answer.TheVariants as Say
-use Rattle.fed_rules.specs.declared.answers.Cause.{Cause}
 use Rattle.fed_rules.specs.declared.answers.Cause.TheVariants as For
 use Rattle.fed_rules.specs.declared.commands.Command.{Command}
 use Rattle.fed_rules.specs.declared.commands.Stamped.{Stamped}
 use Rattle.fed_rules.specs.declared.events.CoordEvent.{CoordEvent}
 use Rattle.fed_rules.specs.declared.events.CoordEvent.TheVariants as Ev
 use Rattle.fed_rules.specs.declared.events.CoordStep.{CoordStep}
-use Rattle.fed_rules.specs.declared.messages.FromSite.{FromSite}
-use Rattle.fed_rules.specs.declared.messages.Sent.{Sent}
 use Rattle.fed_rules.specs.CoordPast.{CoordHappening, CoordPast, attempts_of, message_tid}
 use Rattle.fed_rules.specs.Policies.{Policy}
 use Rattle.fed_rules.specs.CoordCommands.{go_request}
 use Rattle.fed_rules.specs.Requests.{Request, Submits, Declines, attempt, unless_begun}
 use Rattle.fed_rules.specs.Right.{IsRefusal, MayPrint, SameButCycle}
 use Rattle.fed_rules.specs.SitePast.{begins_tx}
-use Rattle.fed_messages.specs.declared.Envelope.{Envelope}
+use Rattle.fed_messages.specs.declared.Packet.{Packet}
 use Rattle.journal_disk.specs.Disk.{Seen}
 use Rattle.mdb_base.specs.declared.replies.Edge.{Edge}
 use Rattle.coord_tables.specs.Terms.{Terms, line_of}
@@ -36,7 +33,7 @@ use Rattle.fed_hosts.specs.declared.coord_asks.CoordCall.TheVariants as Call
 use Rattle.fed_rules.specs.Short.{IsShortAnswer}
 use Rattle.fed_hosts.specs.CoordCarrying.{IsBesideCoordLines, IsCoordTold, coord_turn_of}
 use Rattle.host_laws.specs.CoordHistory.{IsCoordCommand}
-use Rattle.fed_hosts.specs.CoordKeeps.{CoordKeeps, IsCoordLogged}
+use Rattle.fed_hosts.specs.CoordKeeps.{CoordKeeps, IsBorneFrom, IsCoordLogged}
 use Rattle.host_laws.specs.CoordPlans.{CoordPlan}
 use Rattle.fed_hosts.specs.CoordServing.{IsLastAttempt, IsLastGo, MayCall, MayGo, request_of_call}
 use Rattle.host_laws.specs.CoordTurns.{CoordTurn, MayAnswer, coord_behind, coord_past_of, coord_request, coord_sends}
@@ -54,17 +51,24 @@ call_untripped (Call.Fate tx) = refl
 call_untripped (Call.Again tid) = refl
 call_untripped (Call.Late tid) = refl
 
-call_known : (plan : CoordPlan) (turns : List CoordTurn) (call : CoordCall) → IsKnown plan.programs call → IsCoordCommand plan turns (command_of_call call) None
+pub call_known : (plan : CoordPlan) (turns : List CoordTurn) (call : CoordCall) → IsKnown plan.programs call → IsCoordCommand plan turns (command_of_call call) None
 call_known plan turns (Call.Go tx) own = (own, refl)
 call_known plan turns (Call.Fate tx) own = (own, refl)
 call_known plan turns (Call.Again tid) own = refl
 call_known plan turns (Call.Late tid) own = refl
 
-request_is : (plan : CoordPlan) (past : CoordPast) (call : CoordCall) → coord_request plan past (command_of_call call) None ≡ request_of_call plan.terms plan.programs past call
+pub request_is : (plan : CoordPlan) (past : CoordPast) (call : CoordCall) → coord_request plan past (command_of_call call) None ≡ request_of_call plan.terms plan.programs past call
 request_is plan past (Call.Go tx) = refl
 request_is plan past (Call.Fate tx) = refl
 request_is plan past (Call.Again tid) = refl
 request_is plan past (Call.Late tid) = refl
+
+-- it takes no message
+pub none_borne : (plan : CoordPlan) (backs : List (Option Packet)) (call : CoordCall) → IsBorneFrom plan backs (command_of_call call) None
+none_borne plan backs (Call.Go tx) = tt
+none_borne plan backs (Call.Fate tx) = tt
+none_borne plan backs (Call.Again tid) = tt
+none_borne plan backs (Call.Late tid) = tt
 
 -- what is printed begins an attempt where the line does
 begins_cycle : (tx : Tx) (IsOne : List Edge → Type 0) (printed told : Answer) → SameButCycle IsOne printed told → begins_tx tx printed ≡ begins_tx tx told

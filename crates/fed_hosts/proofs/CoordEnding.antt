@@ -1,17 +1,13 @@
 -- How the coordinator's host begins, and what it leaves.
-use Rattle.std.proofs.Common.{◌≡◌, ℕ, ◌≤◌, ◌<◌, Bool, false, Some, List, [], ◌∷◌, map, slice_get, refl, sym, ap, ◌∙◌, subst, arith}
-use Rattle.mdb_base.specs.declared.names.SiteId.{SiteId}
+use Rattle.std.proofs.Common.{◌≡◌, Bool, false, List, [], ◌∷◌, map, refl, sym, ◌∙◌, subst, arith}
 use Rattle.mdb_base.specs.Rising.{IsRising}
 use Rattle.fed_rules.specs.declared.commands.Stamped.{Stamped}
 use Rattle.fed_rules.specs.Policies.{Policy}
 use Rattle.fed_messages.specs.declared.Packet.{Packet}
 use Rattle.journal_disk.specs.Disk.{Seen}
-use Rattle.scripted_link.specs.Inlets.{taken}
 use Rattle.scripted_link.specs.Rings.{Wire}
 use Rattle.scripted_link.proofs.Waiting.{unoffered_moved}
 use Rattle.fed_hosts.specs.declared.coord_actor.CoordActor.{CoordActor}
-use Rattle.fed_hosts.specs.declared.coord_parts.CoordParts.{CoordParts}
-use Rattle.fed_hosts.specs.declared.ports.Port.{Port}
 use Rattle.host_laws.specs.CoordHearing.{HasHeardFrom}
 use Rattle.host_laws.specs.CoordHistory.{IsCoordHistory}
 use Rattle.fed_hosts.specs.CoordHosts.{CanOpenCoord, IsHeldCoord}

@@ -1,20 +1,18 @@
 -- What the coordinator makes of what a client asks: its lines answer no cycle, and what is declined begins nothing.
-use Rattle.std.proofs.Common.{◌≡◌, ℕ, suc, ◌<◌, ◌⊎◌, inl, inr, ◌==◌, Bool, true, false, cond, IsSome, Option, Some, None, List, [], ◌∷◌, length, refl, sym, ap, ◌∙◌, subst}
+use Rattle.std.proofs.Common.{◌≡◌, ℕ, suc, ◌==◌, Bool, true, false, cond, IsSome, Option, Some, None, List, [], ◌∷◌, length, refl, ap, ◌∙◌}
 use Rattle.std.specs.Prelude.{nat_le}
 use Rattle.mdb_base.specs.declared.acts.Step.{Step}
 use Rattle.mdb_base.specs.declared.names.Tid.{Tid}
 use Rattle.mdb_base.specs.declared.names.Tx.{Tx}
-use Rattle.mdb_base.specs.Names.{same_tid, same_tx}
-use Rattle.mdb_base.specs.Words.{how_many, pick, some_of, when, with_some}
+use Rattle.mdb_base.specs.Names.{same_tx}
+use Rattle.mdb_base.specs.Words.{how_many, pick, when, with_some}
 use Rattle.mdb_base.proofs.NameLaws.{same_tx-equal}
 use Rattle.fed_rules.specs.declared.answers.Answer.{Answer}
 use Rattle.fed_rules.specs.declared.answers.Answer.TheVariants as Say
-use Rattle.fed_rules.specs.declared.answers.Cause.{Cause}
-use Rattle.fed_rules.specs.declared.answers.Cause.TheVariants as For
 use Rattle.fed_rules.specs.declared.events.CoordEvent.{CoordEvent}
 use Rattle.fed_rules.specs.declared.events.CoordEvent.TheVariants as Ev
 use Rattle.fed_rules.specs.declared.messages.Due.{Due}
-use Rattle.fed_rules.specs.Coord.{again_while, all_outstanding, answered, aborts, coord_line, defers_all, defers_some, held_back, let_through, of_again, of_back, of_fate, of_go, of_late, sends_all, sends_dues, unless_tripped}
+use Rattle.fed_rules.specs.Coord.{again_while, all_outstanding, answered, aborts, coord_line, defers_all, defers_some, held_back, let_through, of_again, of_fate, of_go, of_late, sends_all, sends_dues, unless_tripped}
 use Rattle.fed_rules.specs.CoordCommands.{attempt_request, fate_request, go_next, go_request}
 use Rattle.fed_rules.specs.CoordPast.{CoordHappening, CoordPast, Standing, Undecided, Decided, Gone, attempts_of, begun_by, begun_tids, disk, standing, trip}
 use Rattle.fed_rules.specs.CoordRecords.{coord_frame}

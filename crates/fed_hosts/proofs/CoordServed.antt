@@ -25,13 +25,13 @@ use Rattle.fed_hosts.specs.declared.coord_actor.CoordTold.{CoordTold}
 use Rattle.fed_hosts.specs.declared.ports.Port.{Port}
 use Rattle.fed_hosts.specs.CoordCarrying.{HasCoordArmed, IsBesideCoordLines, IsCoordTold, coord_turn_of}
 use Rattle.host_laws.specs.CoordHearing.{HasHeardFrom}
-use Rattle.fed_hosts.specs.CoordKeeps.{CoordKeeps, CoordKeepsFor, HaveHeard, IsCoordKept, IsCoordPlanned, IsCoordStanding}
+use Rattle.fed_hosts.specs.CoordKeeps.{CoordKeeps, CoordKeepsFor, HaveHeard, IsCoordKept, IsCoordPlanned, IsCoordStanding, IsCoordUnfinished}
 use Rattle.host_laws.specs.CoordPlans.{CoordPlan}
 use Rattle.fed_hosts.specs.CoordRooms.{IsSameCoord}
 use Rattle.host_laws.specs.CoordTurns.{CoordTurn, coord_behind, coord_past_of, coord_request, from_site, took_from}
 use Rattle.fed_hosts.specs.CoordViews.{CoordView, coord_view_of}
 use Rattle.fed_hosts.specs.Keeps.{IsCounting}
-use Rattle.fed_hosts.specs.Ports.{HaveMovedOn}
+use Rattle.fed_hosts.specs.Ports.{backs_of, HaveMovedOn}
 use Rattle.host_laws.specs.Plans.{most_lines}
 use Rattle.fed_hosts.specs.Serving.{has_failed}
 use Rattle.host_laws.specs.Turns.{is_trip}
@@ -62,6 +62,10 @@ heard_alone turn turns ports alone heard = heard_took turns (turn ∷ turns) por
     none_more : (o : Option (Envelope FromSite)) (es : List (Envelope FromSite)) → o ≡ None → with_some o es ≡ es
     none_more o es none = ap (λ (e : Option (Envelope FromSite)). with_some e es) none
 
+-- what submits an event submits no other one
+pub submitted : (event other : CoordEvent) → Submits event ≡ Submits other → event ≡ other
+submitted event other e = cc
+
 -- what a line that is carried leaves of all that the actor stands for
 abbrev pub CoordCarries : {P D : Type 0} → (P → Policy) → Bool → Seen → CoordActor P D → CoordActor P D → CoordTold → Type 0
 CoordCarries test tells seen old new told =
@@ -75,17 +79,17 @@ coord_view_beside old new beside =
     coord_view_from (coord_view_of new false) (record (coord_view_of old false) { lines = new.lines.items }) refl (tooks_beside old.ports.items new.ports.items beside.ports) (empties_beside old.ports.items new.ports.items beside.ports) beside.first refl
 
 module _ {P D : Type 0} (test : P → Policy) (tells : Bool) (seen : D → Seen) (plan : CoordPlan) (rings : List Wire) where
-  abbrev pub coord_keeps_for_same : (failed : Bool) (ports : List Port) (old new : CoordActor P D) → IsSameCoord old new → CoordKeepsFor test tells seen plan rings failed ports old → CoordKeepsFor test tells seen plan rings failed ports new
-  coord_keeps_for_same failed ports old new same k =
+  abbrev pub coord_keeps_for_same : (ports : List Port) (old new : CoordActor P D) → IsSameCoord old new → CoordKeepsFor test tells seen plan rings false ports old → CoordKeepsFor test tells seen plan rings false ports new
+  coord_keeps_for_same ports old new same k =
       record {
         turns = k.turns;
         planned = ports_planned rings plan old.ports.items new.ports.items (same_beside old.ports.items new.ports.items same.ports) k.planned;
         kept = coord_kept_same old new same plan k.turns k.kept;
         moved_on = moved_same_ports old.ports.items new.ports.items same.ports k.moved_on;
         heard = k.heard;
-        standing = subst (λ (d : D). IsCoordStanding test tells failed new.manager (seen d) plan k.turns) (sym same.disk)
-            (subst (λ (m : GlobalManager P). IsCoordStanding test tells failed m (seen old.disk) plan k.turns) (sym same.manager) k.standing);
-        faults = subst (λ (d : D). IsCounting failed plan.faults (seen d).faults) (sym same.disk) k.faults;
+        standing = subst (λ (d : D). Stands test tells new.manager (seen d) plan.terms plan.programs (coord_past_of plan k.turns)) (sym same.disk)
+            (subst (λ (m : GlobalManager P). Stands test tells m (seen old.disk) plan.terms plan.programs (coord_past_of plan k.turns)) (sym same.manager) k.standing);
+        faults = subst (λ (d : D). (seen d).faults ≡ plan.faults) (sym same.disk) k.faults;
       }
 
   -- what other ports heard
@@ -93,9 +97,9 @@ module _ {P D : Type 0} (test : P → Policy) (tells : Bool) (seen : D → Seen)
       → CoordKeepsFor test tells seen plan rings failed others actor
   coord_keeps_heard failed ports others actor k heard = record { turns = k.turns; planned = k.planned; kept = k.kept; moved_on = k.moved_on; heard = heard; standing = k.standing; faults = k.faults }
 
-  abbrev pub coord_keeps_same : (failed : Bool) (old new : CoordActor P D) → IsSameCoord old new → CoordKeeps test tells seen plan rings failed old → CoordKeeps test tells seen plan rings failed new
-  coord_keeps_same failed old new same k =
-      coord_keeps_heard failed old.ports.items new.ports.items new (coord_keeps_for_same failed old.ports.items old new same k)
+  abbrev pub coord_keeps_same : (old new : CoordActor P D) → IsSameCoord old new → CoordKeeps test tells seen plan rings false old → CoordKeeps test tells seen plan rings false new
+  coord_keeps_same old new same k =
+      coord_keeps_heard false old.ports.items new.ports.items new (coord_keeps_for_same old.ports.items old new same k)
       (heard_beside k.turns old.ports.items new.ports.items (same_beside old.ports.items new.ports.items same.ports) k.heard)
 
   -- behind a line that was carried
@@ -113,9 +117,9 @@ module _ {P D : Type 0} (test : P → Policy) (tells : Bool) (seen : D → Seen)
 
   -- behind an event that wasn't answered
   pub coord_keeps_failed : {T : Type 0} (ports : List Port) (old new : CoordActor P D) (manager : GlobalManager P) (disk : D) (why : StepErr) (k : CoordKeepsFor test tells seen plan rings false ports old) (request : Request CoordEvent)
-      → Fails (Stands test tells manager (seen disk)) why plan.terms plan.programs (coord_past_of plan k.turns) request → HasCauseOf {T = T} Err_is.Disk (seen old.disk).faults (seen disk).faults (Err why)
+      → ((event : CoordEvent) → request ≡ Submits event → IsCoordUnfinished plan (backs_of new.ports.items) k.turns event) → Fails (Stands test tells manager (seen disk)) why plan.terms plan.programs (coord_past_of plan k.turns) request → HasCauseOf {T = T} Err_is.Disk (seen old.disk).faults (seen disk).faults (Err why)
       → IsSameCoord (record old { manager = manager; disk = disk }) new → CoordKeepsFor test tells seen plan rings (has_failed why) ports new
-  coord_keeps_failed ports old new manager disk why k request fails cause same =
+  coord_keeps_failed ports old new manager disk why k request could fails cause same =
       let beside = same_beside old.ports.items new.ports.items same.ports in
       record {
         turns = k.turns;
@@ -123,15 +127,16 @@ module _ {P D : Type 0} (test : P → Policy) (tells : Bool) (seen : D → Seen)
         kept = coord_kept_same (record old { manager = manager; disk = disk }) new same plan k.turns (coord_kept_for old manager disk plan k.turns k.kept);
         moved_on = moved_same_ports old.ports.items new.ports.items same.ports k.moved_on;
         heard = k.heard;
-        standing = subst (λ (d : D). IsCoordStanding test tells (has_failed why) new.manager (seen d) plan k.turns) (sym same.disk)
-            (subst (λ (m : GlobalManager P). IsCoordStanding test tells (has_failed why) m (seen disk) plan k.turns) (sym same.manager) (standing why request fails));
+        standing = subst (λ (d : D). IsCoordStanding test tells (has_failed why) new.manager (seen d) plan (backs_of new.ports.items) k.turns) (sym same.disk)
+            (subst (λ (m : GlobalManager P). IsCoordStanding test tells (has_failed why) m (seen disk) plan (backs_of new.ports.items) k.turns) (sym same.manager) (standing why request refl fails));
         faults = subst (λ (d : D). IsCounting (has_failed why) plan.faults (seen d).faults) (sym same.disk) (subst (λ (n : ℕ). IsCounting (has_failed why) n (seen disk).faults) k.faults (counting _ _ why cause));
       }
     where
-      standing : (w : StepErr) (r : Request CoordEvent) → Fails (Stands test tells manager (seen disk)) w plan.terms plan.programs (coord_past_of plan k.turns) r → IsCoordStanding test tells (has_failed w) manager (seen disk) plan k.turns
-      standing Err_is.Memory r f = f
-      standing Err_is.Disk (Submits event) f = record { event = event; stood = f }
-      standing Err_is.Disk (Declines answer) f = absurd f
+      standing : (w : StepErr) (r : Request CoordEvent) → request ≡ r → Fails (Stands test tells manager (seen disk)) w plan.terms plan.programs (coord_past_of plan k.turns) r
+          → IsCoordStanding test tells (has_failed w) manager (seen disk) plan (backs_of new.ports.items) k.turns
+      standing Err_is.Memory r e f = f
+      standing Err_is.Disk (Submits event) e f = record { event = event; unfinished = could event e; stood = f }
+      standing Err_is.Disk (Declines answer) e f = absurd f
 
   -- what a line leaves
   pub record HasCoordLine (old new : CoordActor P D) (told : CoordTold) : Type 0 where

@@ -1,13 +1,15 @@
 -- What a turn of the coordinator's host leaves: of a start, and of a packet.
-use Rattle.std.proofs.Common.{◌≡◌, ℕ, zero, suc, ◌||◌, ◌+◌, ◌≤◌, ◌<◌, ◌^◌, Bool, true, false, cond, Option, Some, None, List, [], ◌∷◌, ◌++◌, length, slice_get, slice_set, append-nil, eq-eqb, refl, sym, ap, ◌∙◌, subst, arith}
+use Rattle.std.proofs.Common.{◌≡◌, ℕ, zero, suc, ◌||◌, ◌+◌, ◌≤◌, ◌<◌, ◌^◌, Bool, true, false, cond, Err, Option, Some, None, List, [], ◌∷◌, ◌++◌, length, slice_get, slice_set, append-nil, eq-eqb, refl, sym, ap, ◌∙◌, subst, arith}
 use Rattle.std.specs.Global.{Vec}
-use Rattle.std.specs.Prelude.{option_to_list}
+use Rattle.std.specs.Prelude.{option_map, option_to_list}
 use Rattle.std.specs.Vec.{vec_capacity, vec_len}
-use Rattle.std.proofs.lemmas.Option.{same_Some}
+use Rattle.std.proofs.lemmas.Option.{same_Some, slice_get-map}
 use Rattle.mdb_base.specs.declared.names.SiteId.{SiteId}
 use Rattle.mdb_base.specs.Names.{same_site}
+use Rattle.mdb_base.specs.Counts.{HasCauseOf}
 use Rattle.mdb_base.specs.Words.{some_of}
 use Rattle.mdb_base.proofs.PlaceLaws.{slice_get-there}
+use Rattle.session_routes.proofs.Posts.{get_put}
 use Rattle.presumptions.specs.declared.Participant.{Participant}
 use Rattle.fed_rules.specs.declared.commands.Command.TheVariants as Cmd
 use Rattle.fed_rules.specs.declared.commands.Place.{Place}
@@ -29,9 +31,11 @@ use Rattle.journal_disk.specs.Disk.{Seen}
 use Rattle.rules_laws.proofs.CoordPasts.{BeginsNothing}
 use Rattle.coord_tables.specs.Terms.{line_of}
 use Rattle.global_manager.specs.declared.manager.GlobalManager.{GlobalManager}
-use Rattle.global_manager.specs.Stands.{AsksNothing, Sends, SomeManaged, Stands}
+use Rattle.actor_store.specs.declared.errors.StepErr.{StepErr}
+use Rattle.actor_store.specs.declared.errors.StepErr.TheVariants as Err_is
+use Rattle.global_manager.specs.Stands.{AsksNothing, Fails, Sends, SomeManaged, Stands}
 use Rattle.scripted_link.specs.declared.inlet.Inlet.{Inlet}
-use Rattle.scripted_link.specs.Inlets.{inlet_ring, taken}
+use Rattle.scripted_link.specs.Inlets.{inlet_ring, returned, taken}
 use Rattle.scripted_link.specs.declared.outlet.Outlet.{Outlet}
 use Rattle.scripted_link.specs.Outlets.{HasMovedOn, IsReserved, offered, outlet_wire}
 use Rattle.scripted_link.specs.Rings.{Wire}
@@ -42,23 +46,24 @@ use Rattle.fed_hosts.specs.declared.rounds.Arrived.{Arrived}
 use Rattle.fed_hosts.specs.CoordCarrying.{IsBesideCoordLines, IsCoordTold, coord_turn_of}
 use Rattle.host_laws.specs.CoordHearing.{BearsFrom, IsReadFrom}
 use Rattle.host_laws.specs.CoordHistory.{IsCoordCommand}
-use Rattle.fed_hosts.specs.CoordKeeps.{CoordKeeps, CoordKeepsFor, IsCoordKept, IsCoordPlanned}
+use Rattle.fed_hosts.specs.CoordKeeps.{CoordKeeps, CoordKeepsFor, IsCoordKept, IsCoordPlanned, IsCoordUnfinished}
 use Rattle.host_laws.specs.CoordPlans.{CoordPlan}
 use Rattle.fed_hosts.specs.CoordRooms.{HasCoordRoom, IsCoordReady}
 use Rattle.fed_hosts.specs.CoordServing.{HoldsFrom}
+use Rattle.fed_hosts.specs.Serving.{has_failed}
 use Rattle.fed_hosts.specs.CoordTurns.{TakesFrom}
 use Rattle.host_laws.specs.CoordTurns.{CoordTurn, MayAnswer, coord_behind, coord_past_of, coord_request, coord_sends}
 use Rattle.host_laws.specs.Plans.{most_lines}
 use Rattle.host_laws.specs.Lines.{stamp_of}
-use Rattle.fed_hosts.specs.Ports.{EachBecomes, HaveFewSent, HaveMovedOn, HasPortRoom, HavePortRoom}
+use Rattle.fed_hosts.specs.Ports.{EachBecomes, backs_of, HaveFewSent, HaveMovedOn, HasPortRoom, HavePortRoom}
 use Rattle.fed_hosts.specs.Rounds.{ArePolled, ArePutBack, IsBesideInlet, IsPolled, IsPutBack, arrived_at}
 use Rattle.fed_hosts.proofs.Changes.{became, becomes_into, changed_one}
 use Rattle.fed_hosts.proofs.CoordAdding.{KeepsRings, rings_planned}
 use Rattle.fed_hosts.proofs.CoordAsked.{begins_printed, submit_counts}
 use Rattle.fed_hosts.proofs.CoordHeard.{heard_aside, heard_back, heard_none, heard_taken}
 use Rattle.fed_hosts.proofs.CoordOwn.{line_goes}
-use Rattle.fed_hosts.proofs.CoordSame.{HasSentSame, coord_kept_ports, moved_ports}
-use Rattle.fed_hosts.proofs.CoordServed.{CoordCarries, HasCoordLine, coord_line_carried, heard_alone}
+use Rattle.fed_hosts.proofs.CoordSame.{HasSentSame, coord_kept_ports, moved_ports, same_coord}
+use Rattle.fed_hosts.proofs.CoordServed.{CoordCarries, HasCoordLine, coord_keeps_failed, coord_keeps_heard, coord_line_carried, heard_alone, submitted}
 use Rattle.fed_hosts.proofs.Polled.{arrived_elsewhere, arrived_here, beside_inlet, with_inlet}
 
 module _ (plan : CoordPlan) (turns : List CoordTurn) (told : CoordTold) (took : Option (Envelope FromSite)) (event : CoordEvent) where
@@ -180,9 +185,9 @@ module _ {P D : Type 0} (test : P → Policy) (tells : Bool) (seen : D → Seen)
   stood_managed ports actor k = record { terms = plan.terms; programs = plan.programs; past = coord_past_of plan k.turns; stood = k.standing; holds = tt }
 
   -- what the host keeps whatever its inlets become
-  abbrev keeps_inlets : (failed : Bool) (before : List Port) (old : CoordActor P D) (ports : Vec Port) → EachBecomes (λ place a b. IsBesideInlet a b) old.ports.items ports.items → CoordKeepsFor test tells seen plan rings failed before old
-      → CoordKeepsFor test tells seen plan rings failed before (record old { ports = ports })
-  keeps_inlets failed before old ports beside k = record {
+  abbrev keeps_inlets : (before : List Port) (old : CoordActor P D) (ports : Vec Port) → EachBecomes (λ place a b. IsBesideInlet a b) old.ports.items ports.items → CoordKeepsFor test tells seen plan rings false before old
+      → CoordKeepsFor test tells seen plan rings false before (record old { ports = ports })
+  keeps_inlets before old ports beside k = record {
     turns = k.turns;
     planned = rings_planned rings plan old.ports.items ports.items (beside_inlets old.ports.items ports.items beside) k.planned;
     kept = coord_kept_ports old ports plan k.turns (sent_inlets old.ports.items ports.items beside) k.kept;
@@ -198,14 +203,14 @@ module _ {P D : Type 0} (test : P → Policy) (tells : Bool) (seen : D → Seen)
   -- where each inlet gave none
   pub keeps_none : (old : CoordActor P D) (ports : Vec Port) → ArePolled None old.ports.items ports.items → CoordKeeps test tells seen plan rings false old → CoordKeeps test tells seen plan rings false (record old { ports = ports })
   keeps_none old ports polled k =
-      let kept = keeps_inlets false old.ports.items old ports (polled_inlets None old.ports.items ports.items polled) k in
+      let kept = keeps_inlets old.ports.items old ports (polled_inlets None old.ports.items ports.items polled) k in
       record { turns = k.turns; planned = kept.planned; kept = kept.kept; moved_on = kept.moved_on; heard = heard_none k.turns old.ports.items ports.items polled k.heard; standing = k.standing; faults = k.faults }
 
   -- where a packet came in
   pub holds_arrived : (old : CoordActor P D) (ports : Vec Port) (arrived : Arrived) → ArePolled (Some arrived) old.ports.items ports.items → CoordKeeps test tells seen plan rings false old
       → HoldsFrom test tells seen plan rings arrived (record old { ports = ports })
   holds_arrived old ports arrived polled k =
-      record { before = old.ports.items; polled = polled; keeps = keeps_inlets false old.ports.items old ports (polled_inlets (Some arrived) old.ports.items ports.items polled) k }
+      record { before = old.ports.items; polled = polled; keeps = keeps_inlets old.ports.items old ports (polled_inlets (Some arrived) old.ports.items ports.items polled) k }
 
   -- one that is left aside
   pub aside_keeps : (arrived : Arrived) (actor : CoordActor P D) → HoldsFrom test tells seen plan rings arrived actor → IsReadFrom arrived.packet None → CoordKeeps test tells seen plan rings false actor
@@ -213,12 +218,45 @@ module _ {P D : Type 0} (test : P → Policy) (tells : Bool) (seen : D → Seen)
       let k = h.keeps in
       record { turns = k.turns; planned = k.planned; kept = k.kept; moved_on = k.moved_on; heard = heard_aside k.turns h.before actor.ports.items arrived h.polled k.heard none; standing = k.standing; faults = k.faults }
 
-  -- one that was put back
-  pub back_keeps : (failed : Bool) (arrived : Arrived) (before : List Port) (actor : CoordActor P D) (ports : Vec Port) → ArePolled (Some arrived) before actor.ports.items → ArePutBack arrived actor.ports.items ports.items
-      → CoordKeepsFor test tells seen plan rings failed before actor → CoordKeeps test tells seen plan rings failed (record actor { ports = ports })
-  back_keeps failed arrived before actor ports polled back k =
-      let kept = keeps_inlets failed before actor ports (becomes_into (λ place a b. IsPutBack (arrived_at (Some arrived) place) a b) (λ place a b. IsBesideInlet a b) actor.ports.items ports.items (λ place a b is. is.beside) back) k in
-      record { turns = k.turns; planned = kept.planned; kept = kept.kept; moved_on = kept.moved_on; heard = heard_back k.turns arrived before actor.ports.items ports.items polled back k.heard; standing = k.standing; faults = k.faults }
+  -- one that was put back, where its message wasn't answered
+  pub back_keeps : {T : Type 0} (arrived : Arrived) (old : CoordActor P D) (h : HoldsFrom test tells seen plan rings arrived old) (manager : GlobalManager P) (disk : D) (ports : Vec Port) (why : StepErr) (event : CoordEvent)
+      → ArePutBack arrived old.ports.items ports.items → IsCoordUnfinished plan (backs_of ports.items) h.keeps.turns event
+      → Fails (Stands test tells manager (seen disk)) why plan.terms plan.programs (coord_past_of plan h.keeps.turns) (Submits event)
+      → HasCauseOf {T = T} Err_is.Disk (seen old.disk).faults (seen disk).faults (Err why)
+      → CoordKeeps test tells seen plan rings (has_failed why) (record old { manager = manager; disk = disk; ports = ports })
+  back_keeps arrived old h manager disk ports why event back unfinished fails cause =
+      let k = h.keeps in
+      let mid = record old { ports = ports } in
+      let new = record mid { manager = manager; disk = disk } in
+      let beside = becomes_into (λ place a b. IsPutBack (arrived_at (Some arrived) place) a b) (λ place a b. IsBesideInlet a b) old.ports.items ports.items (λ place a b is. is.beside) back in
+      let failed = coord_keeps_failed test tells seen plan rings h.before mid new manager disk why (keeps_inlets h.before old ports beside k) (Submits event)
+      (λ other e. subst (IsCoordUnfinished plan (backs_of ports.items) k.turns) (submitted event other e) unfinished) fails cause (same_coord new) in
+      coord_keeps_heard test tells seen plan rings (has_failed why) h.before ports.items new failed (heard_back failed.turns arrived h.before old.ports.items ports.items h.polled back failed.heard)
+
+  -- what such a command takes
+  pub unfinished_take : (ports : List Port) (turns : List CoordTurn) (arrived : Arrived) (port : Port) (inlet : Inlet) (envelope : Envelope FromSite) → IsCoordPlanned rings plan ports → arrived.place < length ports
+      → slice_get ports arrived.place ≡ Some port → returned inlet ≡ Some arrived.packet → BearsFrom arrived.packet envelope
+      → IsCoordUnfinished plan (backs_of (slice_set ports arrived.place (with_inlet port inlet))) turns (Ev.Take port.ends.site envelope.message)
+  unfinished_take ports turns arrived port inlet envelope planned within at back bears =
+      let member = planned.each arrived.place port at in
+      let back_of = λ (other : Port). returned other.ends.inlet in
+      record {
+        command = Cmd.Take port.ends.site envelope.index;
+        took = Some envelope;
+        could = (port_among rings plan ports arrived.place port planned at, record { envelope = envelope; is = refl; place_is = refl });
+        borne = record {
+          place = arrived.place;
+          member = member.member;
+          at = member.at;
+          site_is = member.site;
+          packet = arrived.packet;
+          back = slice_get-map back_of (slice_set ports arrived.place (with_inlet port inlet)) arrived.place
+              ∙ ap (option_map back_of) (get_put ports arrived.place (with_inlet port inlet) within)
+              ∙ ap (λ (o : Option Packet). Some o) back;
+          bears = bears;
+        };
+        is = refl;
+      }
 
   module _ (old : CoordActor P D) (manager : GlobalManager P) (disk : D) (new : CoordActor P D) (few : length old.lines.items < most_lines) (faults : (seen disk).faults ≡ (seen old.disk).faults)
       (beside : IsBesideCoordLines (record old { manager = manager; disk = disk }) new) (moved_on : HaveMovedOn new.ports.items) where

@@ -1,5 +1,5 @@
 -- What a call of a site's host leaves.
-use Rattle.std.proofs.Common.{Err, ◌≡◌, ℕ, Bool, false, Option, List, [], ◌∷◌, ◌++◌, map, append_assoc, sym, ap, ◌∙◌, subst}
+use Rattle.std.proofs.Common.{Err, ◌≡◌, ℕ, Bool, false, Option, List, [], ◌∷◌, ◌++◌, map, append_assoc, refl, sym, ap, ◌∙◌, subst}
 use Rattle.mdb_base.specs.Counts.{HasCauseOf}
 use Rattle.mdb_base.specs.Words.{found, with_some}
 use Rattle.mdb_base.proofs.JoinLaws.{reverse_more}
@@ -18,14 +18,14 @@ use Rattle.actor_store.specs.declared.errors.StepErr.TheVariants as Err_is
 use Rattle.local_dbms.specs.declared.dbms.LocalDbms.{LocalDbms}
 use Rattle.local_dbms.specs.Stands.{Fails, OwnPrograms, Stands}
 use Rattle.scripted_link.specs.declared.inlet.Inlet.{Inlet}
-use Rattle.scripted_link.specs.Inlets.{inlet_ring, taken}
+use Rattle.scripted_link.specs.Inlets.{inlet_ring, returned, taken}
 use Rattle.scripted_link.specs.Outlets.{HasMovedOn}
 use Rattle.scripted_link.specs.Rings.{Wire}
 use Rattle.scripted_link.proofs.Waiting.{moved_same}
 use Rattle.fed_hosts.specs.declared.site_actor.SiteActor.{SiteActor}
 use Rattle.fed_hosts.specs.Carrying.{HasArmed, IsBesideLines}
 use Rattle.host_laws.specs.Hearing.{HasHeard, IsRead, Taking}
-use Rattle.fed_hosts.specs.Keeps.{IsCounting, IsKept, IsPlanned, IsStanding, Keeps, KeepsFor}
+use Rattle.fed_hosts.specs.Keeps.{IsCounting, IsKept, IsPlanned, IsStanding, IsUnfinished, Keeps, KeepsFor}
 use Rattle.host_laws.specs.Plans.{SitePlan}
 use Rattle.fed_hosts.specs.Rooms.{IsSame}
 use Rattle.fed_hosts.specs.Serving.{has_failed}
@@ -33,6 +33,10 @@ use Rattle.host_laws.specs.Turns.{SiteTurn, past_of}
 use Rattle.fed_hosts.specs.Views.{Adds, IsArming}
 use Rattle.fed_hosts.proofs.Faults.{counting}
 use Rattle.fed_hosts.proofs.Same.{kept_same, planned_kept, planned_same}
+
+-- what submits an event submits no other one
+pub submitted : (event other : SiteEvent) → Submits event ≡ Submits other → event ≡ other
+submitted event other e = cc
 
 -- a packet more that is taken
 pub heard_more : (programs : OwnPrograms) (packets : List Packet) (envelopes : List (Envelope ToSite)) (packet : Packet) (read : Option (Envelope ToSite)) → HasHeard programs packets envelopes → IsRead programs packet read
@@ -77,8 +81,9 @@ module _ {E D : Type 0} (stands : E → Start → List EngineLine → Type 0) (t
     kept = kept_same old new same k.plan k.turns k.kept;
     moved_on = moved_same old.ends.outlet new.ends.outlet same.waiting same.free k.moved_on;
     heard = subst (λ (i : Inlet). HasHeard k.plan.programs (taken i) (found (λ (t : SiteTurn). t.took) k.turns)) (sym same.inlet) k.heard;
-    standing = subst (λ (d : D). IsStanding stands tells failed new.dbms (seen d) k.plan k.turns) (sym same.disk)
-        (subst (λ (m : LocalDbms E). IsStanding stands tells failed m (seen old.disk) k.plan k.turns) (sym same.dbms) k.standing);
+    standing = subst (λ (d : D). IsStanding stands tells failed new.dbms (seen d) k.plan (returned new.ends.inlet) k.turns) (sym same.disk)
+        (subst (λ (m : LocalDbms E). IsStanding stands tells failed m (seen old.disk) k.plan (returned new.ends.inlet) k.turns) (sym same.dbms)
+        (subst (λ (i : Inlet). IsStanding stands tells failed old.dbms (seen old.disk) k.plan (returned i) k.turns) (sym same.inlet) k.standing));
     faults = subst (λ (d : D). IsCounting failed k.plan.faults (seen d).faults) (sym same.disk) k.faults;
   }
 
@@ -100,22 +105,22 @@ module _ {E D : Type 0} (stands : E → Start → List EngineLine → Type 0) (t
 
   -- behind an event that wasn't answered
   pub keeps_failed : {T : Type 0} (packets : List Packet) (old new : SiteActor E D) (dbms : LocalDbms E) (disk : D) (why : StepErr) (k : KeepsFor stands tells seen sites rings false packets old) (request : Request SiteEvent)
-      → Fails (Stands stands tells dbms (seen disk)) why k.plan.home k.plan.programs (past_of k.plan k.turns) request
+      → ((event : SiteEvent) → request ≡ Submits event → IsUnfinished k.plan (returned new.ends.inlet) k.turns event) → Fails (Stands stands tells dbms (seen disk)) why k.plan.home k.plan.programs (past_of k.plan k.turns) request
       → HasCauseOf {T = T} Err_is.Disk (seen old.disk).faults (seen disk).faults (Err why)
       → IsSame (record old { dbms = dbms; disk = disk }) new → KeepsFor stands tells seen sites rings (has_failed why) packets new
-  keeps_failed packets old new dbms disk why k request fails cause same = record {
+  keeps_failed packets old new dbms disk why k request could fails cause same = record {
     plan = k.plan;
     turns = k.turns;
     planned = planned_kept (record old { dbms = dbms; disk = disk }) new same sites rings k.plan k.planned;
     kept = kept_same (record old { dbms = dbms; disk = disk }) new same k.plan k.turns (kept_beside old dbms disk k.plan k.turns k.kept);
     moved_on = moved_same old.ends.outlet new.ends.outlet same.waiting same.free k.moved_on;
     heard = k.heard;
-    standing = subst (λ (d : D). IsStanding stands tells (has_failed why) new.dbms (seen d) k.plan k.turns) (sym same.disk)
-        (subst (λ (m : LocalDbms E). IsStanding stands tells (has_failed why) m (seen disk) k.plan k.turns) (sym same.dbms) (standing why request fails));
+    standing = subst (λ (d : D). IsStanding stands tells (has_failed why) new.dbms (seen d) k.plan (returned new.ends.inlet) k.turns) (sym same.disk)
+        (subst (λ (m : LocalDbms E). IsStanding stands tells (has_failed why) m (seen disk) k.plan (returned new.ends.inlet) k.turns) (sym same.dbms) (standing why request refl fails));
     faults = subst (λ (d : D). IsCounting (has_failed why) k.plan.faults (seen d).faults) (sym same.disk) (subst (λ (n : ℕ). IsCounting (has_failed why) n (seen disk).faults) k.faults (counting _ _ why cause));
   } where
-    standing : (w : StepErr) (r : Request SiteEvent) → Fails (Stands stands tells dbms (seen disk)) w k.plan.home k.plan.programs (past_of k.plan k.turns) r
-        → IsStanding stands tells (has_failed w) dbms (seen disk) k.plan k.turns
-    standing Err_is.Memory r f = f
-    standing Err_is.Disk (Submits event) f = record { event = event; at = f.0; stood = f.1 }
-    standing Err_is.Disk (Declines answer) f = absurd f
+    standing : (w : StepErr) (r : Request SiteEvent) → request ≡ r → Fails (Stands stands tells dbms (seen disk)) w k.plan.home k.plan.programs (past_of k.plan k.turns) r
+        → IsStanding stands tells (has_failed w) dbms (seen disk) k.plan (returned new.ends.inlet) k.turns
+    standing Err_is.Memory r e f = f
+    standing Err_is.Disk (Submits event) e f = record { event = event; unfinished = could event e; at = f.0; stood = f.1 }
+    standing Err_is.Disk (Declines answer) e f = absurd f

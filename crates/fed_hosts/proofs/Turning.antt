@@ -1,9 +1,10 @@
 -- What a turn of a site's host leaves: of a start, of an inquiry, and of a packet.
-use Rattle.std.proofs.Common.{◌≡◌, ◌+◌, ◌≤◌, ◌<◌, ◌^◌, Bool, true, false, is_some, Option, Some, None, List, [], ◌∷◌, ◌++◌, length, refl, sym, ap, ap₂, ◌∙◌, subst, arith}
+use Rattle.std.proofs.Common.{◌≡◌, ◌+◌, ◌≤◌, ◌<◌, ◌^◌, Bool, true, false, is_some, Err, Option, Some, None, List, [], ◌∷◌, ◌++◌, length, refl, sym, ap, ap₂, ◌∙◌, subst, arith}
 use Rattle.std.specs.Global.{Vec}
 use Rattle.std.specs.Vec.{vec_capacity}
 use Rattle.mdb_base.specs.declared.names.SiteId.{SiteId}
 use Rattle.mdb_base.specs.declared.names.Tid.{Tid}
+use Rattle.mdb_base.specs.Counts.{HasCauseOf}
 use Rattle.mdb_base.specs.Words.{found}
 use Rattle.mdb_base.proofs.JoinLaws.{length-append}
 use Rattle.fed_rules.specs.declared.answers.Answer.{Answer}
@@ -12,7 +13,6 @@ use Rattle.fed_rules.specs.declared.commands.Place.{Place}
 use Rattle.fed_rules.specs.declared.events.SiteEvent.TheVariants as Ev
 use Rattle.fed_rules.specs.declared.events.SiteStep.{SiteStep}
 use Rattle.fed_rules.specs.declared.messages.ToSite.{ToSite}
-use Rattle.fed_rules.specs.declared.messages.ToSite.TheVariants as To
 use Rattle.fed_rules.specs.Requests.{Submits}
 use Rattle.fed_rules.specs.Runs.{Start, EngineLine}
 use Rattle.fed_messages.specs.declared.Envelope.{Envelope}
@@ -21,25 +21,28 @@ use Rattle.fed_messages.specs.Packets.{IsEnvelope, Spells, envelope_bytes}
 use Rattle.fed_messages.specs.Spelling.{IsToSite, to_site_bytes}
 use Rattle.journal_disk.specs.Disk.{Seen}
 use Rattle.local_dbms.specs.declared.dbms.LocalDbms.{LocalDbms}
-use Rattle.local_dbms.specs.Stands.{OwnPrograms, Sends, Serves, Stands}
+use Rattle.actor_store.specs.declared.errors.StepErr.{StepErr}
+use Rattle.actor_store.specs.declared.errors.StepErr.TheVariants as Err_is
+use Rattle.local_dbms.specs.Stands.{Fails, OwnPrograms, Sends, Serves, Stands}
 use Rattle.site_core.specs.Made.{about}
 use Rattle.scripted_link.specs.declared.inlet.Inlet.{Inlet}
-use Rattle.scripted_link.specs.Inlets.{inlet_ring, taken}
+use Rattle.scripted_link.specs.Inlets.{inlet_ring, returned, taken}
 use Rattle.scripted_link.specs.Outlets.{HasMovedOn}
 use Rattle.scripted_link.specs.Rings.{Wire}
 use Rattle.fed_hosts.specs.declared.site_actor.SiteActor.{SiteActor}
 use Rattle.fed_hosts.specs.declared.site_actor.Told.{Told}
 use Rattle.fed_hosts.specs.Carrying.{IsBesideLines}
 use Rattle.host_laws.specs.Hearing.{Bears, HasHeard, IsRead}
-use Rattle.fed_hosts.specs.Keeps.{HoldsPacket, IsKept, Keeps, KeepsFor}
+use Rattle.fed_hosts.specs.Keeps.{HoldsPacket, IsBorne, IsKept, IsUnfinished, Keeps, KeepsFor}
 use Rattle.host_laws.specs.Plans.{SitePlan, most_lines}
 use Rattle.fed_hosts.specs.Rooms.{HasRoom, IsReady}
+use Rattle.fed_hosts.specs.Serving.{has_failed}
 use Rattle.host_laws.specs.Turns.{SiteTurn, past_of}
 use Rattle.fed_hosts.proofs.Events.{event_told}
 use Rattle.fed_hosts.proofs.Lines.{Carries, HasLine, line_carried}
 use Rattle.fed_hosts.proofs.Own.{line_back}
-use Rattle.fed_hosts.proofs.Same.{planned_same}
-use Rattle.fed_hosts.proofs.Served.{heard_more}
+use Rattle.fed_hosts.proofs.Same.{planned_same, same_self}
+use Rattle.fed_hosts.proofs.Served.{heard_more, keeps_failed, submitted}
 
 pub snoc_same : {A : Type 0} (xs ys : List A) (x : A) → xs ++ x ∷ [] ≡ ys ++ x ∷ [] → xs ≡ ys
 snoc_same [] [] x e = refl
@@ -77,9 +80,9 @@ unread_own programs packet decoded envelope only is own = λ e bears. (
 
 module _ {E D : Type 0} (stands : E → Start → List EngineLine → Type 0) (tells : Bool) (seen : D → Seen) (sites : List SitePlan) (rings : List Wire) where
   -- what the host keeps whatever its inlet becomes
-  pub keeps_polled : (failed : Bool) (packets : List Packet) (old : SiteActor E D) (inlet : Inlet) → inlet_ring inlet ≡ inlet_ring old.ends.inlet → KeepsFor stands tells seen sites rings failed packets old
-      → KeepsFor stands tells seen sites rings failed packets (record old { ends = record old.ends { inlet = inlet } })
-  keeps_polled failed packets old inlet ring k =
+  abbrev pub keeps_polled : (packets : List Packet) (old : SiteActor E D) (inlet : Inlet) → inlet_ring inlet ≡ inlet_ring old.ends.inlet → KeepsFor stands tells seen sites rings false packets old
+      → KeepsFor stands tells seen sites rings false packets (record old { ends = record old.ends { inlet = inlet } })
+  keeps_polled packets old inlet ring k =
       let l = k.kept.logged in
       record {
         plan = k.plan;
@@ -101,7 +104,7 @@ module _ {E D : Type 0} (stands : E → Start → List EngineLine → Type 0) (t
   -- a packet that was taken
   pub holds_next : (old : SiteActor E D) (inlet : Inlet) (packet : Packet) → inlet_ring inlet ≡ inlet_ring old.ends.inlet → taken inlet ≡ taken old.ends.inlet ++ packet ∷ [] → Keeps stands tells seen sites rings false old
       → HoldsPacket stands tells seen sites rings packet (record old { ends = record old.ends { inlet = inlet } })
-  holds_next old inlet packet ring took k = record { before = taken old.ends.inlet; took = took; keeps = keeps_polled false (taken old.ends.inlet) old inlet ring k }
+  holds_next old inlet packet ring took k = record { before = taken old.ends.inlet; took = took; keeps = keeps_polled (taken old.ends.inlet) old inlet ring k }
 
   -- one that is left aside
   pub left_aside : (packet : Packet) (actor : SiteActor E D) (h : HoldsPacket stands tells seen sites rings packet actor) → IsRead h.keeps.plan.programs packet None → Keeps stands tells seen sites rings false actor
@@ -119,11 +122,27 @@ module _ {E D : Type 0} (stands : E → Start → List EngineLine → Type 0) (t
         faults = k.faults;
       }
 
-  -- one that was put back
-  pub put_back : (failed : Bool) (packet : Packet) (before : List Packet) (old : SiteActor E D) (inlet : Inlet) → taken old.ends.inlet ≡ before ++ packet ∷ [] → taken old.ends.inlet ≡ taken inlet ++ packet ∷ []
-      → inlet_ring inlet ≡ inlet_ring old.ends.inlet → KeepsFor stands tells seen sites rings failed before old → Keeps stands tells seen sites rings failed (record old { ends = record old.ends { inlet = inlet } })
-  put_back failed packet before old inlet took back ring k =
-      keeps_as failed before (taken inlet) (record old { ends = record old.ends { inlet = inlet } }) (snoc_same before (taken inlet) packet (sym took ∙ back)) (keeps_polled failed before old inlet ring k)
+  -- one that was put back, where its message wasn't answered
+  pub put_back : {T : Type 0} (packet : Packet) (old : SiteActor E D) (h : HoldsPacket stands tells seen sites rings packet old) (dbms : LocalDbms E) (disk : D) (inlet : Inlet) (why : StepErr) (envelope : Envelope ToSite)
+      → Bears h.keeps.plan.programs packet envelope → taken old.ends.inlet ≡ taken inlet ++ packet ∷ [] → returned inlet ≡ Some packet → inlet_ring inlet ≡ inlet_ring old.ends.inlet
+      → Fails (Stands stands tells dbms (seen disk)) why h.keeps.plan.home h.keeps.plan.programs (past_of h.keeps.plan h.keeps.turns) (Submits (Ev.Give envelope.message))
+      → HasCauseOf {T = T} Err_is.Disk (seen old.disk).faults (seen disk).faults (Err why)
+      → Keeps stands tells seen sites rings (has_failed why) (record old { dbms = dbms; disk = disk; ends = record old.ends { inlet = inlet } })
+  put_back packet old h dbms disk inlet why envelope bears took back ring fails cause =
+      let k = h.keeps in
+      let mid = record old { ends = record old.ends { inlet = inlet } } in
+      let new = record mid { dbms = dbms; disk = disk } in
+      let unfinished : IsUnfinished k.plan (returned inlet) k.turns (Ev.Give envelope.message) =
+      record {
+        command = Cmd.Give old.ends.site envelope.index;
+        took = Some envelope;
+        could = (k.planned.site, record { envelope = envelope; is = refl; place_is = refl });
+        borne = subst (λ (o : Option Packet). IsBorne k.plan.programs o (Some envelope)) (sym back) bears;
+        is = refl;
+      } in
+      keeps_as (has_failed why) h.before (taken inlet) new (snoc_same h.before (taken inlet) packet (sym h.took ∙ took))
+      (keeps_failed stands tells seen sites rings h.before mid new dbms disk why (keeps_polled h.before old inlet ring k) (Submits (Ev.Give envelope.message))
+      (λ event e. subst (IsUnfinished k.plan (returned inlet) k.turns) (submitted (Ev.Give envelope.message) event e) unfinished) fails cause (same_self new))
 
   module _ (old : SiteActor E D) (dbms : LocalDbms E) (disk : D) (new : SiteActor E D) (few : length old.lines.items < most_lines) (faults : (seen disk).faults ≡ (seen old.disk).faults)
       (beside : IsBesideLines (record old { dbms = dbms; disk = disk }) new) (moved_on : HasMovedOn new.ends.outlet) where

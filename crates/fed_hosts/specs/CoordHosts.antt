@@ -8,7 +8,7 @@ use Rattle.fed_rules.specs.Policies.{Policy}
 use Rattle.journal_disk.specs.Disk.{Seen}
 use Rattle.global_manager.specs.declared.manager.GlobalManager.{GlobalManager}
 use Rattle.global_manager.specs.Stands.{Stands}
-use Rattle.scripted_link.specs.Inlets.{empty_count, taken}
+use Rattle.scripted_link.specs.Inlets.{taken}
 use Rattle.scripted_link.specs.Outlets.{offered}
 use Rattle.scripted_link.specs.Rings.{Wire}
 use Rattle.fed_hosts.specs.declared.coord_parts.CoordParts.{CoordParts}
@@ -20,7 +20,7 @@ use Rattle.host_laws.specs.CoordTurns.{CoordTurn, coord_begun_in, coord_is_due}
 use Rattle.fed_hosts.specs.CoordViews.{CoordView}
 use Rattle.fed_hosts.specs.Keeps.{IsCounting, most_begun}
 use Rattle.host_laws.specs.Plans.{most_lines}
-use Rattle.fed_hosts.specs.Ports.{HaveMovedOn, tooks_of}
+use Rattle.fed_hosts.specs.Ports.{HaveMovedOn, backs_of, tooks_of}
 
 -- nothing was sent to the site of the port or taken from it
 pub record IsNewPort (port : Port) : Type 0 where
@@ -39,7 +39,7 @@ pub record CanOpenCoord {P : Type 0} (test : P → Policy) (tells : Bool) (plan 
 -- What a host leaves: its lines, with the packets that it took, are what the rules make of its past; its stamps rise, at most 31 of them begin
 -- an attempt of a transaction, and no stop has still to be armed; its outlets were offered what they sent, and no packet waits at one while
 -- a slot of its ring is known to be free; and until a disk call failed its coordinator stands for what the events of the lines made, and its
--- disk's count stands where it stood.
+-- disk's count stands where it stood; behind that it stands for what a stop before or within the event of a further command leaves.
 pub record IsHeldCoord {P D : Type 0} (test : P → Policy) (tells : Bool) (seen : D → Seen) (plan : CoordPlan) (rings : List Wire) (parts : CoordParts P D) : Type 0 where
   pub turns : List CoordTurn
   pub planned : IsCoordPlanned rings plan parts.ports.items
@@ -52,7 +52,7 @@ pub record IsHeldCoord {P D : Type 0} (test : P → Policy) (tells : Bool) (seen
   pub short : length turns ≤ most_lines
   pub few : (tx : Tx) → coord_begun_in tx turns ≤ most_begun
   pub settled : length turns < most_lines → coord_is_due plan turns ≡ false
-  pub standing : IsCoordStanding test tells parts.failed parts.manager (seen parts.disk) plan turns
+  pub standing : IsCoordStanding test tells parts.failed parts.manager (seen parts.disk) plan (backs_of parts.ports.items) turns
   pub faults : IsCounting parts.failed plan.faults (seen parts.disk).faults
 
 -- it is what was seen of the host

@@ -1,27 +1,32 @@
 -- What the coordinator's host keeps.
-use Rattle.std.specs.Prelude.{◌≡◌, ◌+◌, ◌*◌, ◌<◌, ◌≤◌, ◌^◌, ◌⊎◌, ◌++◌, Bool, true, false, ℕ, Some, List, [], ◌∷◌, length, map, reverse, option_map, slice_get, slice_set}
+use Rattle.std.specs.Prelude.{◌≡◌, ◌+◌, ◌*◌, ◌<◌, ◌≤◌, ◌^◌, ◌⊎◌, Bool, true, false, ℕ, Option, Some, List, length, map, reverse, option_map, slice_get}
 use Rattle.mdb_base.specs.declared.names.SiteId.{SiteId}
 use Rattle.mdb_base.specs.declared.names.Tx.{Tx}
 use Rattle.mdb_base.specs.Words.{Each}
 use Rattle.presumptions.specs.declared.Participant.{Participant}
+use Rattle.fed_rules.specs.declared.commands.Command.{Command}
+use Rattle.fed_rules.specs.declared.commands.Command.TheVariants as Cmd
 use Rattle.fed_rules.specs.declared.events.CoordEvent.{CoordEvent}
-use Rattle.fed_rules.specs.CoordPast.{CoordPast, attempts_of}
+use Rattle.fed_rules.specs.declared.messages.FromSite.{FromSite}
+use Rattle.fed_rules.specs.CoordPast.{attempts_of}
 use Rattle.fed_rules.specs.Policies.{Policy}
+use Rattle.fed_rules.specs.Requests.{Submits}
+use Rattle.fed_messages.specs.declared.Envelope.{Envelope}
+use Rattle.fed_messages.specs.declared.Packet.{Packet}
 use Rattle.journal_disk.specs.Disk.{Seen}
-use Rattle.coord_tables.specs.Terms.{Terms}
 use Rattle.global_manager.specs.declared.manager.GlobalManager.{GlobalManager}
-use Rattle.global_manager.specs.Stands.{OwnPrograms, Stands, StopsBefore, StopsWithin}
+use Rattle.global_manager.specs.Stands.{Stands, StopsBefore, StopsWithin}
 use Rattle.scripted_link.specs.Inlets.{inlet_ring, taken}
 use Rattle.scripted_link.specs.Outlets.{offered, outlet_wire}
 use Rattle.scripted_link.specs.Rings.{Wire}
 use Rattle.fed_hosts.specs.declared.coord_actor.CoordActor.{CoordActor}
 use Rattle.fed_hosts.specs.declared.ports.Port.{Port}
-use Rattle.host_laws.specs.CoordHearing.{HasHeardFrom}
-use Rattle.host_laws.specs.CoordHistory.{IsCoordHistory}
+use Rattle.host_laws.specs.CoordHearing.{BearsFrom, HasHeardFrom}
+use Rattle.host_laws.specs.CoordHistory.{IsCoordCommand, IsCoordHistory}
 use Rattle.host_laws.specs.CoordPlans.{CoordPlan}
-use Rattle.host_laws.specs.CoordTurns.{CoordTurn, coord_begun_in, coord_is_due, coord_last_stamp, coord_past_of, coord_trips_of, offered_to, sent_to, took_from}
+use Rattle.host_laws.specs.CoordTurns.{CoordTurn, coord_begun_in, coord_is_due, coord_last_stamp, coord_past_of, coord_request, coord_trips_of, offered_to, sent_to, took_from}
 use Rattle.fed_hosts.specs.Keeps.{IsCounting, IsStop, most_begun}
-use Rattle.fed_hosts.specs.Ports.{HaveMovedOn}
+use Rattle.fed_hosts.specs.Ports.{HaveMovedOn, backs_of}
 use Rattle.host_laws.specs.Plans.{most_lines}
 
 -- the port is that of the site at its place, and its rings are those of the ends: first the one to the site, then the one from it
@@ -62,16 +67,40 @@ pub record IsCoordKept {P D : Type 0} (plan : CoordPlan) (turns : List CoordTurn
   pub logged : IsCoordLogged plan turns actor
   pub settled : length turns < most_lines → coord_is_due plan turns ≡ false
 
--- what a failed disk call leaves: what a stop before one further event, or within it, leaves
-pub record IsCoordBroken {P : Type 0} (test : P → Policy) (tells : Bool) (manager : GlobalManager P) (disk : Seen) (plan : CoordPlan) (turns : List CoordTurn) : Type 0 where
+-- the envelope is that of the packet from the site that was put back; there is one place for each site, by rising site
+pub record IsPutBackFrom (plan : CoordPlan) (backs : List (Option Packet)) (site : SiteId) (envelope : Envelope FromSite) : Type 0 where
+  pub place : ℕ
+  pub member : Participant
+  pub at : slice_get plan.terms.protocols place ≡ Some member
+  pub site_is : site ≡ member.site
+  pub packet : Packet
+  pub back : slice_get backs place ≡ Some (Some packet)
+  pub bears : BearsFrom packet envelope
+
+-- so is that which a command takes, where it takes one
+abbrev pub IsBorneFrom : CoordPlan → List (Option Packet) → Command → Option (Envelope FromSite) → Type 0
+IsBorneFrom plan backs (Cmd.Take site place) (Some envelope) = IsPutBackFrom plan backs site envelope
+IsBorneFrom plan backs command took = Unit {0}
+
+-- the event is that of a command that the host could have had next; a message in it is that of a packet that was put back
+pub record IsCoordUnfinished (plan : CoordPlan) (backs : List (Option Packet)) (turns : List CoordTurn) (event : CoordEvent) : Type 0 where
+  pub command : Command
+  pub took : Option (Envelope FromSite)
+  pub could : IsCoordCommand plan turns command took
+  pub borne : IsBorneFrom plan backs command took
+  pub is : coord_request plan (coord_past_of plan turns) command took ≡ Submits event
+
+-- what a failed disk call leaves: what a stop before one further event, or within it, leaves, which a command of the host left unfinished
+pub record IsCoordBroken {P : Type 0} (test : P → Policy) (tells : Bool) (manager : GlobalManager P) (disk : Seen) (plan : CoordPlan) (backs : List (Option Packet)) (turns : List CoordTurn) : Type 0 where
   pub event : CoordEvent
+  pub unfinished : IsCoordUnfinished plan backs turns event
   pub stood : StopsBefore (Stands test tells manager disk) plan.terms plan.programs (coord_past_of plan turns)
       ⊎ StopsWithin (Stands test tells manager disk) plan.terms plan.programs (coord_past_of plan turns) event
 
 -- until a disk call fails, the coordinator stands for what the events of the lines made
-abbrev pub IsCoordStanding : {P : Type 0} → (P → Policy) → Bool → Bool → GlobalManager P → Seen → CoordPlan → List CoordTurn → Type 0
-IsCoordStanding test tells false manager disk plan turns = Stands test tells manager disk plan.terms plan.programs (coord_past_of plan turns)
-IsCoordStanding test tells true manager disk plan turns = IsCoordBroken test tells manager disk plan turns
+abbrev pub IsCoordStanding : {P : Type 0} → (P → Policy) → Bool → Bool → GlobalManager P → Seen → CoordPlan → List (Option Packet) → List CoordTurn → Type 0
+IsCoordStanding test tells false manager disk plan backs turns = Stands test tells manager disk plan.terms plan.programs (coord_past_of plan turns)
+IsCoordStanding test tells true manager disk plan backs turns = IsCoordBroken test tells manager disk plan backs turns
 
 -- the envelopes that the lines took from each site are those that the packets from it bear
 abbrev pub HaveHeard : List CoordTurn → List Port → Type 0
@@ -84,7 +113,7 @@ pub record CoordKeepsFor {P D : Type 0} (test : P → Policy) (tells : Bool) (se
   pub kept : IsCoordKept plan turns actor
   pub moved_on : HaveMovedOn actor.ports.items
   pub heard : HaveHeard turns ports
-  pub standing : IsCoordStanding test tells failed actor.manager (seen actor.disk) plan turns
+  pub standing : IsCoordStanding test tells failed actor.manager (seen actor.disk) plan (backs_of actor.ports.items) turns
   pub faults : IsCounting failed plan.faults (seen actor.disk).faults
 
 -- where it has answered for all that it took

@@ -9,7 +9,7 @@ use Rattle.fed_rules.specs.Runs.{Start, EngineLine}
 use Rattle.journal_disk.specs.Disk.{Seen}
 use Rattle.local_dbms.specs.declared.dbms.LocalDbms.{LocalDbms}
 use Rattle.local_dbms.specs.Stands.{Stands}
-use Rattle.scripted_link.specs.Inlets.{empty_count, taken}
+use Rattle.scripted_link.specs.Inlets.{empty_count, returned, taken}
 use Rattle.scripted_link.specs.Outlets.{HasMovedOn, offered}
 use Rattle.scripted_link.specs.Rings.{Wire}
 use Rattle.fed_hosts.specs.declared.ends.HostEnds.{HostEnds}
@@ -35,7 +35,7 @@ pub record CanOpen {E : Type 0} (stands : E → Start → List EngineLine → Ty
 -- What a host leaves: its lines, with the packets that it took, are what the rules make of its past; its stamps rise, at most 31 of them begin
 -- an attempt of a transaction, and no stop has still to be armed; its outlet was offered what they sent, and no packet waits there while a
 -- slot of its ring is known to be free; and until a disk call failed its site stands for what the events of the lines made, and its disk's
--- count stands where it stood.
+-- count stands where it stood; behind that it stands for what a stop within the event of a further command leaves.
 pub record IsHeld {E D : Type 0} (stands : E → Start → List EngineLine → Type 0) (tells : Bool) (seen : D → Seen) (sites : List SitePlan) (rings : List Wire) (parts : SiteParts E D) : Type 0 where
   pub plan : SitePlan
   pub turns : List SiteTurn
@@ -50,7 +50,7 @@ pub record IsHeld {E D : Type 0} (stands : E → Start → List EngineLine → T
   pub short : length turns ≤ most_lines
   pub few : (tx : Tx) → begun_in tx turns ≤ most_begun
   pub settled : length turns < most_lines → is_due plan turns ≡ false
-  pub standing : IsStanding stands tells parts.failed parts.dbms (seen parts.disk) plan turns
+  pub standing : IsStanding stands tells parts.failed parts.dbms (seen parts.disk) plan (returned parts.ends.inlet) turns
   pub faults : IsCounting parts.failed plan.faults (seen parts.disk).faults
 
 -- it is what was seen of the host

@@ -1,26 +1,31 @@
 -- What a site's host keeps.
-use Rattle.std.specs.Prelude.{◌≡◌, ◌+◌, ◌*◌, ◌<◌, ◌≤◌, ◌^◌, ◌++◌, [], ◌∷◌, Bool, true, false, ℕ, Some, List, length, map, reverse, option_map, slice_get}
+use Rattle.std.specs.Prelude.{◌≡◌, ◌+◌, ◌*◌, ◌<◌, ◌≤◌, ◌^◌, ◌++◌, [], ◌∷◌, Bool, true, false, ℕ, Option, Some, None, List, length, map, reverse, option_map, slice_get}
 use Rattle.mdb_base.specs.declared.names.Tx.{Tx}
 use Rattle.mdb_base.specs.Counts.{HasRisen}
 use Rattle.mdb_base.specs.Words.{Each, found}
+use Rattle.fed_rules.specs.declared.commands.Command.{Command}
 use Rattle.fed_rules.specs.declared.events.SiteEvent.{SiteEvent}
+use Rattle.fed_rules.specs.declared.messages.ToSite.{ToSite}
 use Rattle.fed_rules.specs.declared.scenario.StopLine.{StopLine}
+use Rattle.fed_rules.specs.OwnPrograms.{OwnPrograms}
+use Rattle.fed_rules.specs.Requests.{Submits}
 use Rattle.fed_rules.specs.Runs.{Start, EngineLine}
 use Rattle.fed_rules.specs.SitePast.{attempts_of}
+use Rattle.fed_messages.specs.declared.Envelope.{Envelope}
 use Rattle.fed_messages.specs.declared.Packet.{Packet}
 use Rattle.journal_disk.specs.Disk.{Seen}
 use Rattle.site_core.specs.Stands.{StopAt, stopped_past}
 use Rattle.local_dbms.specs.declared.dbms.LocalDbms.{LocalDbms}
 use Rattle.local_dbms.specs.Stands.{Stands}
-use Rattle.scripted_link.specs.Inlets.{inlet_ring, taken}
+use Rattle.scripted_link.specs.Inlets.{inlet_ring, returned, taken}
 use Rattle.scripted_link.specs.Outlets.{HasMovedOn, offered, outlet_wire}
 use Rattle.scripted_link.specs.Rings.{Wire}
 use Rattle.fed_hosts.specs.declared.ends.HostEnds.{HostEnds}
 use Rattle.fed_hosts.specs.declared.site_actor.SiteActor.{SiteActor}
-use Rattle.host_laws.specs.Hearing.{HasHeard}
-use Rattle.host_laws.specs.History.{IsHistory}
+use Rattle.host_laws.specs.Hearing.{Bears, HasHeard}
+use Rattle.host_laws.specs.History.{IsCommand, IsHistory}
 use Rattle.host_laws.specs.Plans.{SitePlan, most_lines}
-use Rattle.host_laws.specs.Turns.{SiteTurn, begun_in, is_due, last_stamp, packets_by, past_of, sent_by, trips_of}
+use Rattle.host_laws.specs.Turns.{SiteTurn, begun_in, is_due, last_stamp, packets_by, past_of, request_of, sent_by, trips_of}
 
 -- how many attempts of a transaction it begins at most
 abbrev pub most_begun : ℕ
@@ -60,16 +65,31 @@ pub record IsKept {E D : Type 0} (plan : SitePlan) (turns : List SiteTurn) (acto
   pub logged : IsLogged plan turns actor
   pub settled : length turns < most_lines → is_due plan turns ≡ false
 
--- what a failed disk call leaves: what a stop within one further event leaves
-pub record IsBroken {E : Type 0} (stands : E → Start → List EngineLine → Type 0) (tells : Bool) (dbms : LocalDbms E) (disk : Seen) (plan : SitePlan) (turns : List SiteTurn) : Type 0 where
+-- the envelope that a command takes, where it takes one, is that of the packet that was put back
+abbrev pub IsBorne : OwnPrograms → Option Packet → Option (Envelope ToSite) → Type 0
+IsBorne programs back None = Unit {0}
+IsBorne programs None (Some envelope) = ⊥
+IsBorne programs (Some packet) (Some envelope) = Bears programs packet envelope
+
+-- the event is that of a command that the host could have had next; a message in it is that of the packet that was put back
+pub record IsUnfinished (plan : SitePlan) (back : Option Packet) (turns : List SiteTurn) (event : SiteEvent) : Type 0 where
+  pub command : Command
+  pub took : Option (Envelope ToSite)
+  pub could : IsCommand plan turns command took
+  pub borne : IsBorne plan.programs back took
+  pub is : request_of plan (past_of plan turns) command took ≡ Submits event
+
+-- what a failed disk call leaves: what a stop within one further event leaves, which a command of the host left unfinished
+pub record IsBroken {E : Type 0} (stands : E → Start → List EngineLine → Type 0) (tells : Bool) (dbms : LocalDbms E) (disk : Seen) (plan : SitePlan) (back : Option Packet) (turns : List SiteTurn) : Type 0 where
   pub event : SiteEvent
+  pub unfinished : IsUnfinished plan back turns event
   pub at : StopAt
   pub stood : Stands stands tells dbms disk plan.home plan.programs (stopped_past plan.home (past_of plan turns) event at)
 
 -- until a disk call fails, the site stands for what the events of the lines made
-abbrev pub IsStanding : {E : Type 0} → (E → Start → List EngineLine → Type 0) → Bool → Bool → LocalDbms E → Seen → SitePlan → List SiteTurn → Type 0
-IsStanding stands tells false dbms disk plan turns = Stands stands tells dbms disk plan.home plan.programs (past_of plan turns)
-IsStanding stands tells true dbms disk plan turns = IsBroken stands tells dbms disk plan turns
+abbrev pub IsStanding : {E : Type 0} → (E → Start → List EngineLine → Type 0) → Bool → Bool → LocalDbms E → Seen → SitePlan → Option Packet → List SiteTurn → Type 0
+IsStanding stands tells false dbms disk plan back turns = Stands stands tells dbms disk plan.home plan.programs (past_of plan turns)
+IsStanding stands tells true dbms disk plan back turns = IsBroken stands tells dbms disk plan back turns
 
 -- the disk's count stands where it stood until a disk call fails, and has risen then
 abbrev pub IsCounting : Bool → ℕ → ℕ → Type 0
@@ -84,7 +104,7 @@ pub record KeepsFor {E D : Type 0} (stands : E → Start → List EngineLine →
   pub kept : IsKept plan turns actor
   pub moved_on : HasMovedOn actor.ends.outlet
   pub heard : HasHeard plan.programs took (found (λ (turn : SiteTurn). turn.took) turns)
-  pub standing : IsStanding stands tells failed actor.dbms (seen actor.disk) plan turns
+  pub standing : IsStanding stands tells failed actor.dbms (seen actor.disk) plan (returned actor.ends.inlet) turns
   pub faults : IsCounting failed plan.faults (seen actor.disk).faults
 
 -- where it has answered for all that it took

@@ -1,12 +1,12 @@
 -- The coordinator's ends of the rings to and from the sites, and what is put into them.
-use Rattle.std.specs.Prelude.{ℕ, ◌≡◌, ◌+◌, ◌<◌, ◌≤◌, ◌^◌, ◌++◌, Option, Some, List, length, map, option_to_list, slice_get}
+use Rattle.std.specs.Prelude.{ℕ, ◌≡◌, ◌<◌, ◌^◌, ◌++◌, Option, Some, List, length, map, option_to_list, slice_get}
 use Rattle.std.specs.Vec.{vec_len, vec_capacity}
 use Rattle.mdb_base.specs.Words.{Each, found, map_some}
 use Rattle.fed_rules.specs.declared.commands.Place.{Place}
 use Rattle.fed_rules.specs.declared.messages.Sent.{Sent}
 use Rattle.session_routes.specs.Posting.{message_to}
 use Rattle.fed_messages.specs.declared.Packet.{Packet}
-use Rattle.scripted_link.specs.Inlets.{empty_count, taken}
+use Rattle.scripted_link.specs.Inlets.{empty_count, returned, taken}
 use Rattle.scripted_link.specs.Outlets.{HasMovedOn, IsReserved, offered, outlet_wire}
 use Rattle.fed_hosts.specs.declared.ports.Port.{Port}
 use Rattle.host_laws.specs.CoordLines.{packets_to}
@@ -84,6 +84,10 @@ places_behind places place = places ++ option_to_list place
 -- the packets that were taken from each site, by rising site
 abbrev pub tooks_of : List Port → List (List Packet)
 tooks_of ports = map (λ (port : Port). taken port.ends.inlet) ports
+
+-- the packets that were put back, by rising site
+abbrev pub backs_of : List Port → List (Option Packet)
+backs_of ports = map (λ (port : Port). returned port.ends.inlet) ports
 
 -- how often each inlet gave none
 abbrev pub empties_of : List Port → List ℕ

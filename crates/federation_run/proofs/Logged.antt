@@ -1,6 +1,6 @@
 -- What the hosts of a run left, as the histories of its hosts.
-use Rattle.std.proofs.Common.{◌≡◌, ℕ, zero, ◌+◌, ◌*◌, ◌≤◌, ◌<◌, Bool, true, false, Option, Some, None, List, [], length, map, reverse, slice_get, slice_index_or, refl, sym, ap, ◌∙◌, subst, arith}
-use Rattle.std.specs.Prelude.{nat_le, option_map}
+use Rattle.std.proofs.Common.{◌≡◌, ℕ, zero, ◌+◌, ◌*◌, ◌≤◌, ◌<◌, Bool, true, false, Option, Some, None, List, [], ◌++◌, length, map, reverse, slice_get, slice_index_or, refl, sym, ap, ◌∙◌, subst, arith}
+use Rattle.std.specs.Prelude.{nat_le, option_map, option_to_list}
 use mathlib.Core.List.{IsPrefix}
 use Rattle.std.proofs.lemmas.Bool.{leb-false, leb-true}
 use Rattle.std.proofs.lemmas.List.{get_or_past}
@@ -25,7 +25,7 @@ use Rattle.fed_messages.specs.declared.Packet.{Packet}
 use Rattle.journal_disk.specs.Disk.{Seen}
 use Rattle.conservative_take.specs.AnyPolicies.{policy_is}
 use Rattle.scripted_link.specs.declared.script.FateAt.{FateAt}
-use Rattle.scripted_link.specs.Inlets.{inlet_ring, taken}
+use Rattle.scripted_link.specs.Inlets.{inlet_ring, returned, taken}
 use Rattle.scripted_link.specs.Outlets.{offered, outlet_wire}
 use Rattle.scripted_link.specs.Rings.{Ring, Wire}
 use Rattle.scripted_link.specs.Script.{let_through}
@@ -39,19 +39,20 @@ use Rattle.host_laws.specs.Hearing.{HasHeard}
 use Rattle.host_laws.specs.CoordPlans.{CoordPlan}
 use Rattle.host_laws.specs.CoordTurns.{CoordTurn, offered_to, sent_to, took_from}
 use Rattle.host_laws.specs.Links.{script_of}
-use Rattle.host_laws.specs.Logs.{AreLists, AreLogs, CoordLog, IsCoordLog, IsLinked, IsSiteLog, SiteLog}
+use Rattle.host_laws.specs.Logs.{AreLists, AreLogs, CoordLog, IsCoordLog, IsDelivered, IsLinked, IsSiteLog, SiteLog}
 use Rattle.host_laws.specs.Plans.{SitePlan}
 use Rattle.host_laws.specs.Turns.{SiteTurn, packets_by}
 use Rattle.host_laws.specs.Written.{FitsFromSite, FitsToSite}
 use Rattle.fed_hosts.specs.declared.ports.Port.{Port}
 use Rattle.fed_hosts.specs.CoordHosts.{IsHeldCoord}
 use Rattle.fed_hosts.specs.CoordKeeps.{IsPortPlanned}
-use Rattle.fed_hosts.specs.Ports.{tooks_of}
+use Rattle.fed_hosts.specs.Ports.{backs_of, tooks_of}
 use Rattle.federation_run.specs.declared.lefts.CoordLeft.{CoordLeft}
 use Rattle.federation_run.specs.declared.lefts.Left.{Left}
 use Rattle.federation_run.specs.declared.lefts.SiteLeft.{SiteLeft}
 use Rattle.federation_run.specs.Lefts.{ArePlaced, AreScripted, IsCoordHeldAt, IsLeft, coord_parts_of, itself}
 use Rattle.federation_run.specs.Plans.{coord_plan, site_plan, stops_in}
+use Rattle.federation_run.specs.Running.{AreCarriedBack}
 use Rattle.federation_run.specs.Sorting.{AllFit, AreListed, AreSortable, HaveMet, IsPair}
 use Rattle.federation_run.proofs.Homes.{home_site}
 use Rattle.federation_run.proofs.Owned.{IsOwnLog, own_log}
@@ -192,28 +193,56 @@ module _ (tells : Bool) (counts : List ℕ) (disks : List Seen) (scenario : Scen
     heard = port_heard;
   }
 
+  -- what the rings have to do with the logs of a site and of the coordinator
+  to_site : (place : ℕ) (site : SiteId) (port : Port) (packets : List Packet) → slice_get (sites scenario) place ≡ Some site → slice_get ports place ≡ Some port
+      → IsPrefix packets (let_through (outlet_wire port.ends.outlet).script (offered port.ends.outlet)) → IsDelivered (script_of scenario true site) (offered_to (coord_plan scenario counts) site coord_held.turns) packets
+  to_site place site port packets there at prefix =
+      let planned = port_planned place port at in
+      let logged = coord_held.ports place port at in
+      let script : (outlet_wire port.ends.outlet).script ≡ script_of scenario true site = l.scripted.to place site (outlet_wire port.ends.outlet) there planned.to in
+      let sent : offered port.ends.outlet ≡ offered_to (coord_plan scenario counts) site coord_held.turns = logged.offers ∙ ap (λ (z : SiteId). offered_to (coord_plan scenario counts) z coord_held.turns) (port_site place site port there at) in
+      subst (λ (fs : List FateAt). IsPrefix packets (let_through fs (offered_to (coord_plan scenario counts) site coord_held.turns))) script
+      (subst (λ (ps : List Packet). IsPrefix packets (let_through (outlet_wire port.ends.outlet).script ps)) sent prefix)
+
+  from_site : (place : ℕ) (site : SiteId) (log : SiteLog) (one : SiteLeft) (packets : List Packet) → slice_get (sites scenario) place ≡ Some site → IsOwnLog tells counts disks scenario l.rings place one log
+      → IsPrefix packets (let_through (outlet_wire one.ends.outlet).script (offered one.ends.outlet)) → IsDelivered (script_of scenario false site) (packets_by log.plan log.turns) packets
+  from_site place site log one packets there o prefix =
+      let script : (outlet_wire one.ends.outlet).script ≡ script_of scenario false site = l.scripted.from place site (outlet_wire one.ends.outlet) there o.from in
+      subst (λ (fs : List FateAt). IsPrefix packets (let_through fs (packets_by log.plan log.turns))) script
+      (subst (λ (ps : List Packet). IsPrefix packets (let_through (outlet_wire one.ends.outlet).script ps)) o.offers prefix)
+
   module _ (met : (place : ℕ) (one : SiteLeft) (port : Port) → slice_get left.sites.items place ≡ Some one → slice_get ports place ≡ Some port → HaveMet one port) where
     linked : (place : ℕ) (site : SiteId) (log : SiteLog) (took : List Packet) → slice_get (sites scenario) place ≡ Some site → slice_get logs place ≡ Some log
         → slice_get (tooks_of ports) place ≡ Some took → IsLinked (script_of scenario) coord_log site log took
     linked place site log took there at took_at =
         let f = own_is place site log there at in
-        let o = f.2 in
         let p = made_of (λ (port : Port). taken port.ends.inlet) ports place took took_at in
-        let port = p.0 in
-        let m = met place f.0 port f.1 p.1 in
-        let planned = port_planned place port p.1 in
-        let logged = coord_held.ports place port p.1 in
-        let to_script : (outlet_wire port.ends.outlet).script ≡ script_of scenario true site = l.scripted.to place site (outlet_wire port.ends.outlet) there planned.to in
-        let from_script : (outlet_wire f.0.ends.outlet).script ≡ script_of scenario false site = l.scripted.from place site (outlet_wire f.0.ends.outlet) there o.from in
-        let sent : offered port.ends.outlet ≡ offered_to (coord_plan scenario counts) site coord_held.turns = logged.offers ∙ ap (λ (z : SiteId). offered_to (coord_plan scenario counts) z coord_held.turns) (port_site place site port there p.1) in
+        let m = met place f.0 p.0 f.1 p.1 in
         record {
-          to = subst (λ (ps : List Packet). IsPrefix ps (let_through (script_of scenario true site) (offered_to (coord_plan scenario counts) site coord_held.turns))) (sym o.took)
-              (subst (λ (fs : List FateAt). IsPrefix (taken f.0.ends.inlet) (let_through fs (offered_to (coord_plan scenario counts) site coord_held.turns))) to_script
-              (subst (λ (ps : List Packet). IsPrefix (taken f.0.ends.inlet) (let_through (outlet_wire port.ends.outlet).script ps)) sent m.to));
-          from = subst (λ (ps : List Packet). IsPrefix ps (let_through (script_of scenario false site) (packets_by log.plan log.turns))) p.2
-              (subst (λ (fs : List FateAt). IsPrefix (taken port.ends.inlet) (let_through fs (packets_by log.plan log.turns))) from_script
-              (subst (λ (ps : List Packet). IsPrefix (taken port.ends.inlet) (let_through (outlet_wire f.0.ends.outlet).script ps)) o.offers m.from));
+          to = subst (λ (ps : List Packet). IsDelivered (script_of scenario true site) (offered_to (coord_plan scenario counts) site coord_held.turns) ps) (sym f.2.took) (to_site place site p.0 (taken f.0.ends.inlet) there p.1 m.to);
+          from = subst (λ (ps : List Packet). IsDelivered (script_of scenario false site) (packets_by log.plan log.turns) ps) p.2 (from_site place site log f.0 (taken p.0.ends.inlet) there f.2 m.from);
         }
+
+    -- a packet that a site's host put back came over its ring
+    pub back_carried : (place : ℕ) (site : SiteId) (log : SiteLog) → slice_get (sites scenario) place ≡ Some site → slice_get logs place ≡ Some log → (one : SiteLeft) → slice_get left.sites.items place ≡ Some one
+        → IsDelivered (script_of scenario true site) (offered_to (coord_plan scenario counts) site coord_held.turns) (log.took ++ option_to_list (returned one.ends.inlet))
+    back_carried place site log there at one one_at =
+        let o = own place one log one_at at in
+        let port = has_item ports (sites scenario) place site ports_count there in
+        subst (λ (ps : List Packet). IsDelivered (script_of scenario true site) (offered_to (coord_plan scenario counts) site coord_held.turns) (ps ++ option_to_list (returned one.ends.inlet))) (sym o.took)
+        (to_site place site port.0 (taken one.ends.inlet ++ option_to_list (returned one.ends.inlet)) there port.1 (met place one port.0 one_at port.1).back_to)
+
+    -- and so did those that the coordinator's host put back
+    pub backs_carried : AreCarriedBack scenario coord_log logs (backs_of ports)
+    backs_carried place site log took back there at took_at back_at =
+        let f = own_is place site log there at in
+        let p = made_of (λ (port : Port). taken port.ends.inlet) ports place took took_at in
+        let q = made_of (λ (port : Port). returned port.ends.inlet) ports place back back_at in
+        let same : q.0 ≡ p.0 = slice_get-one ports place q.0 p.0 q.1 p.1 in
+        let returned_is : returned p.0.ends.inlet ≡ back = ap (λ (port : Port). returned port.ends.inlet) (sym same) ∙ q.2 in
+        subst (λ (ps : List Packet). IsDelivered (script_of scenario false site) (packets_by log.plan log.turns) (ps ++ option_to_list back)) p.2
+        (subst (λ (b : Option Packet). IsDelivered (script_of scenario false site) (packets_by log.plan log.turns) (taken p.0.ends.inlet ++ option_to_list b)) returned_is
+        (from_site place site log f.0 (taken p.0.ends.inlet ++ option_to_list (returned p.0.ends.inlet)) there f.2 (met place f.0 p.0 f.1 p.1).back_from))
 
     -- these are the histories of the hosts of the scenario
     pub are_logs : AreLogs (script_of scenario) scenario coord_log logs

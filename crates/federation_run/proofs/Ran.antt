@@ -62,6 +62,8 @@ use Rattle.host_laws.proofs.Sides.{few_sent}
 use Rattle.fed_hosts.specs.declared.ports.Port.{Port}
 use Rattle.fed_hosts.specs.CoordKeeps.{IsCoordStanding, IsPortLogged}
 use Rattle.fed_hosts.specs.Keeps.{IsCounting, IsStanding, most_begun}
+use Rattle.fed_hosts.specs.Ports.{backs_of}
+use Rattle.scripted_link.specs.Inlets.{returned}
 use Rattle.federation_run.specs.declared.lefts.Left.{Left}
 use Rattle.federation_run.specs.declared.lefts.SiteLeft.{SiteLeft}
 use Rattle.federation_run.specs.declared.sorting.Sorted.{Sorted}
@@ -70,7 +72,7 @@ use Rattle.federation_run.specs.Plans.{coord_plan, count_at, site_plan, stops_in
 use Rattle.federation_run.specs.Running.{EndsCoord, EndsSite, HasBroken, HaveRun}
 use Rattle.federation_run.specs.Sorting.{AllFit, AreMarks, AreSorted, FailedAt, IsSent, NoneFailed}
 use Rattle.federation_run.proofs.Counted.{few_begun, few_lines}
-use Rattle.federation_run.proofs.Logged.{are_lists, are_logs, coord_at, coord_held, coord_log, left_of, logs, logs_count, own, own_is, port_site, ports_count}
+use Rattle.federation_run.proofs.Logged.{are_lists, are_logs, back_carried, backs_carried, coord_at, coord_held, coord_log, left_of, logs, logs_count, own, own_is, port_site, ports_count}
 use Rattle.federation_run.proofs.Owned.{IsOwnLog}
 use Rattle.federation_run.proofs.Unchecked.{marks_kept}
 
@@ -155,7 +157,7 @@ module _ (right : MergedLinesAreRight) (carries : MessagesAreCarried) (arms : St
       let one = left_of tells counts disks scenario whole left l placed fits place log at in
       (own tells counts disks scenario whole left l placed fits place one.0 log one.1 at).few
 
-  coordinator_ends : EndsCoord tells counts disks scenario coordinator
+  coordinator_ends : EndsCoord tells counts disks scenario sites_logs coordinator
   coordinator_ends =
       let at = coord_at tells counts disks scenario whole left l placed fits in
       let held = coord_held tells counts disks scenario whole left l placed fits in
@@ -163,10 +165,21 @@ module _ (right : MergedLinesAreRight) (carries : MessagesAreCarried) (arms : St
         stops = refl;
         few = held.few;
         armed = held.settled;
-        disk = record { disk = at.disk; own = at.own; holds = record { failed = left.coordinator.failed; manager = left.coordinator.manager; standing = held.standing; faults = held.faults } };
+        disk = record {
+          disk = at.disk;
+          own = at.own;
+          holds = record {
+            failed = left.coordinator.failed;
+            manager = left.coordinator.manager;
+            backs = backs_of left.coordinator.ports.items;
+            carried = backs_carried tells counts disks scenario whole left l placed fits s.met;
+            standing = held.standing;
+            faults = held.faults;
+          };
+        };
       }
 
-  sites_end : (place : ℕ) (site : SiteId) (log : SiteLog) → slice_get (sites scenario) place ≡ Some site → slice_get sites_logs place ≡ Some log → EndsSite tells counts disks scenario site log
+  sites_end : (place : ℕ) (site : SiteId) (log : SiteLog) → slice_get (sites scenario) place ≡ Some site → slice_get sites_logs place ≡ Some log → EndsSite tells counts disks scenario site coordinator log
   sites_end place site log there at =
       let f = own_is tells counts disks scenario whole left l placed fits place site log there at in
       let o = f.2 in
@@ -180,6 +193,8 @@ module _ (right : MergedLinesAreRight) (carries : MessagesAreCarried) (arms : St
           holds = record {
             failed = f.0.failed;
             dbms = f.0.dbms;
+            back = returned f.0.ends.inlet;
+            carried = back_carried tells counts disks scenario whole left l placed fits s.met place site log there at f.0 f.1;
             standing = o.standing;
             faults = subst (λ (n : ℕ). IsCounting f.0.failed n o.disk.faults) (ap (λ (p : SitePlan). p.faults) o.plan_is ∙ ap (λ (z : SiteId). count_at counts z.0) f.3) o.faults;
           };
@@ -310,7 +325,7 @@ module _ (right : MergedLinesAreRight) (carries : MessagesAreCarried) (arms : St
           programs_are = ap (λ (p : SitePlan). p.programs) o.plan_is ∙ ap (λ (z : SiteId). own_programs z scenario.transactions) f.3
 
           standing : Dbms.Stands Engines.Stands tells f.0.dbms o.disk log.plan.home log.plan.programs (Turns.past_of log.plan log.turns)
-          standing = subst (λ (b : Bool). IsStanding Engines.Stands tells b f.0.dbms o.disk log.plan log.turns) (none.sites_run place f.0 f.1) o.standing
+          standing = subst (λ (b : Bool). IsStanding Engines.Stands tells b f.0.dbms o.disk log.plan (returned f.0.ends.inlet) log.turns) (none.sites_run place f.0 f.1) o.standing
 
           stands : Dbms.Stands Engines.Stands tells dbms o.disk o.home (own_programs site scenario.transactions) (Told.past_of site story)
           stands =
@@ -356,7 +371,7 @@ module _ (right : MergedLinesAreRight) (carries : MessagesAreCarried) (arms : St
             disk = c.disk;
             own = c.own;
             holds = subst (λ (past : CoordPast). Manager.Stands policy_is tells left.coordinator.manager c.disk (terms_of scenario) (global_program scenario) past) (sym told.coordinator_is)
-                (subst (λ (b : Bool). IsCoordStanding policy_is tells b left.coordinator.manager c.disk (coord_plan scenario counts) coordinator.turns) none.coordinator_runs held.standing);
+                (subst (λ (b : Bool). IsCoordStanding policy_is tells b left.coordinator.manager c.disk (coord_plan scenario counts) (backs_of left.coordinator.ports.items) coordinator.turns) none.coordinator_runs held.standing);
           }
 
       -- what the hosts left is that of a world

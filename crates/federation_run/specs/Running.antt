@@ -1,5 +1,5 @@
 -- What became of a scenario that ran in threads.
-use Rattle.std.specs.Prelude.{ℕ, ◌≡◌, ◌≤◌, ◌<◌, ◌*◌, ◌⊎◌, Bool, false, Some, None, List, [], ◌∷◌, ◌++◌, length, slice_get}
+use Rattle.std.specs.Prelude.{ℕ, ◌≡◌, ◌≤◌, ◌<◌, ◌*◌, ◌⊎◌, Bool, true, false, Option, Some, None, List, [], ◌∷◌, ◌++◌, length, option_to_list, slice_get}
 use Rattle.mdb_base.specs.declared.names.SiteId.{SiteId}
 use Rattle.mdb_base.specs.declared.names.Tx.{Tx}
 use Rattle.mdb_base.specs.Counts.{HasRisen}
@@ -23,48 +23,58 @@ use Rattle.fed_world.specs.declared.world.World.{World}
 use Rattle.fed_world.specs.Faults.{RisesAt, faults_of}
 use Rattle.fed_world.specs.SettingUp.{StopsForDisk}
 use Rattle.fed_world.specs.Worlds.{AreDisks, OnDisk, Stands}
-use Rattle.host_laws.specs.CoordTurns.{coord_begun_in, coord_is_due}
+use Rattle.host_laws.specs.CoordTurns.{coord_begun_in, coord_is_due, offered_to}
 use Rattle.host_laws.specs.Links.{script_of}
-use Rattle.host_laws.specs.Logs.{AreLists, AreLogs, CoordLog, SiteLog}
+use Rattle.host_laws.specs.Logs.{AreLists, AreLogs, CoordLog, IsDelivered, SiteLog}
 use Rattle.host_laws.specs.Merged.{CarriesSite, TellsLogs, commands_of, lines_in, story_in}
 use Rattle.host_laws.specs.Plans.{most_lines}
 use Rattle.host_laws.specs.Stops.{ArmsFirst, stop_left, story_to, trip_at}
-use Rattle.host_laws.specs.Turns.{begun_in, is_due}
+use Rattle.host_laws.specs.Turns.{begun_in, is_due, packets_by}
 use Rattle.fed_hosts.specs.CoordKeeps.{IsCoordStanding}
 use Rattle.fed_hosts.specs.Keeps.{IsCounting, IsStanding, most_begun}
 use Rattle.federation_run.specs.declared.errors.RunErr.{RunErr}
 use Rattle.federation_run.specs.declared.errors.RunErr.TheVariants as Err_is
 use Rattle.federation_run.specs.Plans.{count_at, stops_in}
 
--- a disk holds what the host of the site left there: it is what its lines made until a disk call failed, and then what some stop within one
--- further event leaves; and its count rose exactly where a call failed
-pub record LeavesSite (tells : Bool) (count : ℕ) (log : SiteLog) (disk : Seen) : Type 0 where
+-- a disk holds what the host of the site left there: it is what its lines made until a disk call failed, and then what some stop within the event
+-- of a further command leaves; a packet that was put back then came over the ring; and its count rose exactly where a call failed
+pub record LeavesSite (tells : Bool) (count : ℕ) (scenario : Scenario) (site : SiteId) (coordinator : CoordLog) (log : SiteLog) (disk : Seen) : Type 0 where
   pub failed : Bool
   pub dbms : LocalDbms AnyEngine
-  pub standing : IsStanding Engines.Stands tells failed dbms disk log.plan log.turns
+  pub back : Option Packet
+  pub carried : IsDelivered (script_of scenario true site) (offered_to coordinator.plan site coordinator.turns) (log.took ++ option_to_list back)
+  pub standing : IsStanding Engines.Stands tells failed dbms disk log.plan back log.turns
   pub faults : IsCounting failed count disk.faults
 
+-- these packets, by rising site, came over the rings behind those that were taken
+abbrev pub AreCarriedBack : Scenario → CoordLog → List SiteLog → List (Option Packet) → Type 0
+AreCarriedBack scenario coordinator logs backs = (place : ℕ) (site : SiteId) (log : SiteLog) (took : List Packet) (back : Option Packet)
+    → slice_get (sites scenario) place ≡ Some site → slice_get logs place ≡ Some log → slice_get coordinator.tooks place ≡ Some took → slice_get backs place ≡ Some back
+    → IsDelivered (script_of scenario false site) (packets_by log.plan log.turns) (took ++ option_to_list back)
+
 -- so of the coordinator's host
-pub record LeavesCoord (tells : Bool) (count : ℕ) (log : CoordLog) (disk : Seen) : Type 0 where
+pub record LeavesCoord (tells : Bool) (count : ℕ) (scenario : Scenario) (logs : List SiteLog) (log : CoordLog) (disk : Seen) : Type 0 where
   pub failed : Bool
   pub manager : GlobalManager AnyPolicy
-  pub standing : IsCoordStanding policy_is tells failed manager disk log.plan log.turns
+  pub backs : List (Option Packet)
+  pub carried : AreCarriedBack scenario log logs backs
+  pub standing : IsCoordStanding policy_is tells failed manager disk log.plan backs log.turns
   pub faults : IsCounting failed count disk.faults
 
 -- how a site's host ended: at most so many of its lines began an attempt of a transaction, no stop of its script has still to be armed, and
 -- its disk holds what it left
-pub record EndsSite (tells : Bool) (counts : List ℕ) (disks : List Seen) (scenario : Scenario) (site : SiteId) (log : SiteLog) : Type 0 where
+pub record EndsSite (tells : Bool) (counts : List ℕ) (disks : List Seen) (scenario : Scenario) (site : SiteId) (coordinator : CoordLog) (log : SiteLog) : Type 0 where
   pub stops : log.plan.stops ≡ stops_in scenario site.0
   pub few : (tx : Tx) → begun_in tx log.turns ≤ most_begun
   pub armed : length log.turns < most_lines → is_due log.plan log.turns ≡ false
-  pub disk : OnDisk disks site.0 (LeavesSite tells (count_at counts site.0) log)
+  pub disk : OnDisk disks site.0 (LeavesSite tells (count_at counts site.0) scenario site coordinator log)
 
 -- and how the coordinator's did
-pub record EndsCoord (tells : Bool) (counts : List ℕ) (disks : List Seen) (scenario : Scenario) (log : CoordLog) : Type 0 where
+pub record EndsCoord (tells : Bool) (counts : List ℕ) (disks : List Seen) (scenario : Scenario) (logs : List SiteLog) (log : CoordLog) : Type 0 where
   pub stops : log.plan.stops ≡ stops_in scenario 0
   pub few : (tx : Tx) → coord_begun_in tx log.turns ≤ most_begun
   pub armed : length log.turns < most_lines → coord_is_due log.plan log.turns ≡ false
-  pub disk : OnDisk disks 0 (LeavesCoord tells (count_at counts 0) log)
+  pub disk : OnDisk disks 0 (LeavesCoord tells (count_at counts 0) scenario logs log)
 
 -- Scripted stops are armed. Take one of the entries behind which no trip of its actor is in force, so one that arms no stop, and a stop of that
 -- actor is left. Where the actor has made fewer lines than a host may, its next line arms the next stop that is left.
@@ -96,9 +106,9 @@ pub record HaveRun (tells : Bool) (counts : List ℕ) (disks : List Seen) (scena
   pub few_lines : length (commands_of (lines_in merged)) ≤ most_merged
   pub coordinator_short : length coordinator.turns ≤ most_lines
   pub sites_short : (place : ℕ) (log : SiteLog) → slice_get logs place ≡ Some log → length log.turns ≤ most_lines
-  pub coordinator_ends : EndsCoord tells counts disks scenario coordinator
+  pub coordinator_ends : EndsCoord tells counts disks scenario logs coordinator
   pub sites_end : (place : ℕ) (site : SiteId) (log : SiteLog) → slice_get (sites scenario) place ≡ Some site → slice_get logs place ≡ Some log
-      → EndsSite tells counts disks scenario site log
+      → EndsSite tells counts disks scenario site coordinator log
   pub others : AreDisks disks scenario
 
 -- the world, with these disks, stands for the scenario and the commands of the merged lines of its hosts, which are its lines, and no disk failed

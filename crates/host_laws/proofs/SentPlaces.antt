@@ -14,7 +14,7 @@ use Rattle.fed_rules.specs.declared.messages.Sent.{Sent}
 use Rattle.fed_rules.specs.declared.messages.ToSite.{ToSite}
 use Rattle.fed_rules.specs.Site_of.{message_to}
 use Rattle.rules_laws.proofs.Scenarios.{MembersRise}
-use Rattle.rules_laws.proofs.Sends.{OverSends}
+use Rattle.rules_laws.proofs.Sends.{OverSends, none_to}
 use Rattle.host_laws.proofs.SendsRise.{BySite}
 
 abbrev OverMembers : SiteId → List Participant → Type 0
@@ -35,14 +35,6 @@ members_behind member (next ∷ members) r = over member.site next members r.0 r
     over : (site : SiteId) (m : Participant) (ms : List Participant) → site.0 < m.site.0 → MembersRise (m ∷ ms) → OverMembers site (m ∷ ms)
     over site m [] h r = (h, tt)
     over site m (n ∷ ns) h r = (h, over site n ns (let more = r.0 in omega (arith, h, more)) r.1)
-
--- nothing is sent to a lesser site
-none_to : (site : SiteId) (sends : List Sent) → OverSends site sends → message_to site sends ≡ None
-none_to site [] h = refl
-none_to site (sent ∷ sends) h =
-    let more = h.0 in
-    let other : same_site sent.site site ≡ false = ne_eqb sent.site.0 site.0 (λ same. omega (arith, same, more)) in
-    ap (λ (o : Option Sent). map_some (λ (z : Sent). z.message) o) (cond-false _ _ _ other) ∙ none_to site sends h.1
 
 none_among : (site : SiteId) (sends : List Sent) → OverSends site sends → map (λ (z : Sent). z.message) (those (λ (z : Sent). same_site z.site site) sends) ≡ []
 none_among site [] h = refl

@@ -1,7 +1,8 @@
 //! A ring with its two ends.
 ghost use Rattle.std.specs.Prelude.{◌≡◌, [], ◌++◌, IfOk};
 ghost use mathlib.Core.List.{IsPrefix};
-ghost use Rattle.scripted_link.specs.Inlets.{inlet_ring, taken, ahead, empty_count};
+ghost use Rattle.std.specs.Option.{option_to_list};
+ghost use Rattle.scripted_link.specs.Inlets.{inlet_ring, taken, ahead, returned, empty_count};
 ghost use Rattle.scripted_link.specs.Outlets.{outlet_wire, offered, moved, queued, free_slots};
 ghost use Rattle.scripted_link.specs.Script.{let_through};
 
@@ -38,11 +39,12 @@ pub fn channel(alloc: Global, script: LinkScript) -> Result<Ends, Memory>
     })
 }
 
-/// Both ends of a ring in one thread: what was taken is a prefix of what the script lets through, and the inlet knows of all
-/// that was moved into the ring, so its next `None` says that all of that was taken.
+/// Both ends of a ring in one thread: what was taken is a prefix of what the script lets through, also with a packet that was
+/// put back, and the inlet knows of all that was moved into the ring, so its next `None` says that all of that was taken.
 pub fn meet(outlet: &mut Outlet, inlet: &mut Inlet)
     requires { inlet_ring inlet.old ≡ (outlet_wire outlet.old).ring }
     ensures prefix { IsPrefix (taken inlet.old) (let_through (outlet_wire outlet.old).script (offered outlet.old)) }
+    ensures back { IsPrefix (taken inlet.old ++ option_to_list (returned inlet.old)) (let_through (outlet_wire outlet.old).script (offered outlet.old)) }
     ensures wire { outlet_wire outlet.new ≡ outlet_wire outlet.old }
     ensures ring { inlet_ring inlet.new ≡ inlet_ring inlet.old }
     ensures offered { offered outlet.new ≡ offered outlet.old }

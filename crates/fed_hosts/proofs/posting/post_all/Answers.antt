@@ -1,7 +1,6 @@
-use Rattle.std.proofs.Common.{◌≡◌, ◌<◌, ◌≤◌, ◌∙◌, Some, length, take, slice_get, refl, sym, ap, vec_len, vec_capacity, arith}
+use Rattle.std.proofs.Common.{◌≡◌, ◌<◌, ◌≤◌, ◌∙◌, Some, length, slice_get, refl, sym, ap, arith}
 use Rattle.std.proofs.lemmas.List.{take_all}
 use Rattle.std.proofs.lemmas.Option.{slice_get_read}
-use Rattle.fed_hosts.specs.declared.ports.Port.{Port}
 use Rattle.fed_hosts.specs.Ports.{IsPosted, places_at}
 use Rattle.fed_hosts.proofs.Changes.{changed_all, changed_next, changed_none}
 use Rattle.fed_hosts.proofs.PortPlaces.{places_next}

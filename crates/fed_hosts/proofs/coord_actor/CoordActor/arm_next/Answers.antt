@@ -1,10 +1,9 @@
-use Rattle.std.proofs.Common.{sym, ◌≡◌, ◌≤◌, ◌∙◌, [], refl, length, subst, arith}
+use Rattle.std.proofs.Common.{sym, ◌∙◌, [], refl, subst, arith}
 use Rattle.fed_rules.specs.declared.commands.Command.TheVariants as Cmd
 use Rattle.fed_rules.specs.declared.events.CoordEvent.TheVariants as Ev
 use Rattle.global_manager.specs.declared.manager.GlobalManager.{GlobalManager}
 use Rattle.global_manager.specs.Stands.{Sends, Stands}
 use Rattle.fed_hosts.specs.declared.coord_actor.CoordTold.{CoordTold}
-use Rattle.host_laws.specs.Plans.{most_lines}
 use Rattle.host_laws.specs.CoordTurns.{coord_past_of}
 use Rattle.fed_hosts.proofs.CoordArmed.{coord_arms, coord_as_many, coord_unarmed, coord_unarmed_full, coord_unarmed_left, coord_unarmed_set, noted_added}
 use Rattle.fed_hosts.proofs.coord_actor.CoordActor.arm_next.Goals as goal

@@ -1,22 +1,22 @@
-use Rattle.std.proofs.Common.{◌≡◌, true, Some, slice_get, length, refl, subst, arith}
-use Rattle.std.proofs.lemmas.Option.{slice_get_read}
+use Rattle.std.proofs.Common.{◌≡◌, true, Some, slice_get, slice_set, length, refl, sym, ◌∙◌, subst, arith}
+use Rattle.std.proofs.lemmas.Option.{same_Some, slice_get_read}
 use Rattle.mdb_base.specs.declared.names.SiteId.{SiteId}
 use Rattle.mdb_base.proofs.OptionLaws.{none_left}
 use Rattle.fed_rules.specs.declared.commands.Command.TheVariants as Cmd
 use Rattle.fed_rules.specs.declared.events.CoordEvent.TheVariants as Ev
-use Rattle.fed_rules.specs.Requests.{Submits}
 use Rattle.fed_hosts.specs.declared.coord_actor.CoordTold.{CoordTold}
 use Rattle.fed_hosts.specs.declared.ports.Port.{Port}
 use Rattle.host_laws.specs.CoordHearing.{BearsFrom}
 use Rattle.host_laws.specs.CoordTurns.{coord_past_of}
-use Rattle.fed_hosts.specs.Serving.{has_failed}
+use Rattle.fed_hosts.specs.CoordKeeps.{IsCoordUnfinished}
+use Rattle.fed_hosts.specs.Ports.{backs_of}
 use Rattle.fed_hosts.specs.Turns.{MakesOne}
 use Rattle.fed_hosts.proofs.CoordHeard.{late_from, unread_from}
-use Rattle.fed_hosts.proofs.CoordSame.{coord_kept_for, same_coord}
-use Rattle.fed_hosts.proofs.CoordServed.{coord_keeps_failed, coord_view_beside}
-use Rattle.fed_hosts.proofs.CoordTurning.{aside_keeps, back_keeps, coord_last_fits, coord_line_ready, coord_take_line, leaves_aside, port_among, was_put_back}
+use Rattle.fed_hosts.proofs.CoordSame.{coord_kept_for}
+use Rattle.fed_hosts.proofs.CoordServed.{coord_view_beside}
+use Rattle.fed_hosts.proofs.CoordTurning.{aside_keeps, back_keeps, coord_last_fits, coord_line_ready, coord_take_line, leaves_aside, port_among, unfinished_take, was_put_back}
 use Rattle.fed_hosts.proofs.Faults.{clean}
-use Rattle.fed_hosts.proofs.Polled.{arrived_last}
+use Rattle.fed_hosts.proofs.Polled.{arrived_last, with_inlet}
 use Rattle.fed_hosts.proofs.coord_actor.CoordActor.hear.Goals as goal
 
 pub returns-in_default-clause-keeps : goal.returns-in_default-clause-keeps
@@ -212,11 +212,13 @@ returns-in-Err-clause-failed g c =
     let envelope = c.in-Some.envelope in
     let port : Port = c.index_mut.result.now in
     let there : slice_get ports arrived.place ≡ Some port = slice_get_read ports (length ports) arrived.place port refl c.requires.arrived.within c.index_mut.ensures.value in
-    let why = c.in-Err.why in
-    let mid = record old { manager = c.take.new.self; disk = c.take.new.disk } in
-    let fails = c.in-Err.ensures.failed plan.terms plan.programs past k.standing among in
-    back_keeps test tells seen plan rings (has_failed why) arrived held.before mid _ held.polled (was_put_back ports arrived port c.put_back.new.self c.requires.arrived.within there c.put_back.ensures.ring c.put_back.ensures.taken)
-    (coord_keeps_failed test tells seen plan rings held.before old mid c.take.new.self c.take.new.disk why k (Submits (Ev.Take from.ends.site envelope.message)) fails c.in-Err.ensures.cause (same_coord mid))
+    let bears : BearsFrom arrived.packet envelope = record { in_range = c.in-Some.ensures.in_range; spelled = c.in-Some.ensures.spelled; small = omega (arith, c.if-envelope-ge-MOST_STAMP.false) } in
+    let same : port ≡ from = same_Some port from (sym there ∙ at) in
+    let unfinished = subst (λ (other : Port). IsCoordUnfinished plan (backs_of (slice_set ports arrived.place (with_inlet port c.put_back.new.self))) k.turns (Ev.Take other.ends.site envelope.message)) same
+    (unfinished_take test tells seen plan rings ports k.turns arrived port c.put_back.new.self envelope k.planned c.requires.arrived.within there c.put_back.ensures.back bears) in
+    back_keeps test tells seen plan rings arrived old held c.take.new.self c.take.new.disk _ c.in-Err.why (Ev.Take from.ends.site envelope.message)
+    (was_put_back ports arrived port c.put_back.new.self c.requires.arrived.within there c.put_back.ensures.ring c.put_back.ensures.taken) unfinished
+    (c.in-Err.ensures.failed plan.terms plan.programs past k.standing among) c.in-Err.ensures.cause
 
 pub returns-in-Err-clause-back : goal.returns-in-Err-clause-back
 returns-in-Err-clause-back g c =

@@ -1,4 +1,4 @@
-use Rattle.std.proofs.Common.{◌≡◌, false, length, IfErr, inl, inr, refl, sym, ap, ◌∙◌, subst, arith}
+use Rattle.std.proofs.Common.{◌≡◌, false, None, length, IfErr, inl, inr, refl, sym, ap, ◌∙◌, subst, arith}
 use Rattle.fed_rules.specs.declared.answers.Answer.{Answer}
 use Rattle.global_manager.proofs.Fit.{recalled}
 use Rattle.global_manager.specs.Stands.{Stands}
@@ -6,9 +6,10 @@ use Rattle.fed_hosts.specs.declared.coord_actor.CoordTold.{CoordTold}
 use Rattle.fed_hosts.specs.CoordRooms.{HasCoordRoom}
 use Rattle.fed_hosts.specs.CoordServing.{HasCoordFailed, request_of_call}
 use Rattle.host_laws.specs.CoordTurns.{coord_past_of}
+use Rattle.fed_hosts.specs.Ports.{backs_of}
 use Rattle.fed_hosts.specs.CoordViews.{MayAnswerNext, command_of_call, coord_view_of}
 use Rattle.fed_hosts.proofs.CoordArmed.{coord_as_many}
-use Rattle.fed_hosts.proofs.CoordAsked.{call_right, call_short, call_unspent, coord_call_line, full_spent, last_spent, may_answer, unknown_unspent}
+use Rattle.fed_hosts.proofs.CoordAsked.{call_known, call_right, call_short, call_unspent, coord_call_line, full_spent, last_spent, may_answer, none_borne, request_is, unknown_unspent}
 use Rattle.fed_hosts.proofs.CoordOwn.{soft_call}
 use Rattle.fed_hosts.proofs.CoordSame.{coord_kept_for, coord_view_same, same_coord}
 use Rattle.fed_hosts.proofs.CoordServed.{coord_keeps_failed, coord_keeps_same, coord_line_adds, coord_line_view}
@@ -79,7 +80,7 @@ ask-requires-clause-stood g c =
     let plan = g.N.Plan.coordinator in
     let rings = g.N.Wires.rings in
     let ready = c.reserve.new.self in
-    stood_managed test tells seen plan rings ready.ports.items ready (coord_keeps_same test tells seen plan rings false c.args.self.now ready c.reserve.ensures.same c.requires.keeps)
+    stood_managed test tells seen plan rings ready.ports.items ready (coord_keeps_same test tells seen plan rings c.args.self.now ready c.reserve.ensures.same c.requires.keeps)
 
 pub returns-in_err-step-clause-failed : goal.returns-in_err-step-clause-failed
 returns-in_err-step-clause-failed g c =
@@ -90,11 +91,21 @@ returns-in_err-step-clause-failed g c =
     let rings = g.N.Wires.rings in
     let ready = c.reserve.new.self in
     let new = record ready { manager = c.ask.new.manager; disk = c.ask.new.disk } in
-    let k = coord_keeps_same test tells seen plan rings false c.args.self.now ready c.reserve.ensures.same c.requires.keeps in
+    let k = coord_keeps_same test tells seen plan rings c.args.self.now ready c.reserve.ensures.same c.requires.keeps in
     let past = coord_past_of plan k.turns in
     let why = c.in_err-step.field-0.0 in
+    let old = c.args.self.now in
+    let recalls = recalled test tells old.manager (seen old.disk) plan.terms plan.programs past c.requires.keeps.standing in
+    let known = c.if-is_unknown.ensures.known refl plan.terms plan.programs past recalls in
     subst (λ r. IfErr r (HasCoordFailed test tells seen plan rings new)) (sym (handed_on c.from_residual.result why c.from_residual.ensures))
     (coord_keeps_failed test tells seen plan rings ready.ports.items ready new c.ask.new.manager c.ask.new.disk why k (request_of_call plan.terms plan.programs past c.args.call)
+    (λ event e. record {
+      command = command_of_call c.args.call;
+      took = None;
+      could = call_known plan k.turns c.args.call known;
+      borne = none_borne plan (backs_of new.ports.items) c.args.call;
+      is = request_is plan past c.args.call ∙ e;
+    })
     (c.in_err-step.ensures.failed plan.terms plan.programs past k.standing) c.in_err-step.ensures.cause (same_coord new))
 
 pub again-copy-requires : goal.again-copy-requires
@@ -105,7 +116,7 @@ again-copy-requires g c =
     let plan = g.N.Plan.coordinator in
     let rings = g.N.Wires.rings in
     let ready = c.reserve.new.self in
-    let k = coord_keeps_same test tells seen plan rings false c.args.self.now ready c.reserve.ensures.same c.requires.keeps in
+    let k = coord_keeps_same test tells seen plan rings c.args.self.now ready c.reserve.ensures.same c.requires.keeps in
     let past = coord_past_of plan k.turns in
     let r = request_of_call plan.terms plan.programs past c.args.call in
     let served = c.in_ok-step.ensures.served plan.terms plan.programs past k.standing in
@@ -120,7 +131,7 @@ carry-requires-clause-ready g c =
     let plan = g.N.Plan.coordinator in
     let rings = g.N.Wires.rings in
     let ready = c.reserve.new.self in
-    let k = coord_keeps_same test tells seen plan rings false c.args.self.now ready c.reserve.ensures.same c.requires.keeps in
+    let k = coord_keeps_same test tells seen plan rings c.args.self.now ready c.reserve.ensures.same c.requires.keeps in
     let mid = record ready { manager = c.ask.new.manager; disk = c.ask.new.disk } in
     let step = c.in_ok-step.step in
     let told : CoordTold = record { command = c.command.result; answer = step.answer; sends = step.sends; after = 0; places = c.in-Ok.places } in
@@ -137,7 +148,7 @@ carry-requires-clause-last g c =
     let plan = g.N.Plan.coordinator in
     let rings = g.N.Wires.rings in
     let ready = c.reserve.new.self in
-    let k = coord_keeps_same test tells seen plan rings false c.args.self.now ready c.reserve.ensures.same c.requires.keeps in
+    let k = coord_keeps_same test tells seen plan rings c.args.self.now ready c.reserve.ensures.same c.requires.keeps in
     coord_last_fits ready plan k.turns k.kept
 
 pub returns-clause-keeps : goal.returns-clause-keeps
@@ -150,7 +161,7 @@ returns-clause-keeps g c =
     let old = c.args.self.now in
     let ready = c.reserve.new.self in
     let now = c.requires.keeps in
-    let k = coord_keeps_same test tells seen plan rings false old ready c.reserve.ensures.same now in
+    let k = coord_keeps_same test tells seen plan rings old ready c.reserve.ensures.same now in
     let past = coord_past_of plan k.turns in
     let step = c.in_ok-step.step in
     let served = c.in_ok-step.ensures.served plan.terms plan.programs past k.standing in
@@ -173,7 +184,7 @@ returns-clause-served g c =
     let old = c.args.self.now in
     let ready = c.reserve.new.self in
     let now = c.requires.keeps in
-    let k = coord_keeps_same test tells seen plan rings false old ready c.reserve.ensures.same now in
+    let k = coord_keeps_same test tells seen plan rings old ready c.reserve.ensures.same now in
     let past = coord_past_of plan k.turns in
     let step = c.in_ok-step.step in
     let served = c.in_ok-step.ensures.served plan.terms plan.programs past k.standing in
@@ -203,7 +214,7 @@ returns-clause-served g c =
 
 pub returns-then-is_err-clause-failed : goal.returns-then-is_err-clause-failed
 returns-then-is_err-clause-failed g c =
-    coord_keeps_same g.P.TakePolicy.policy g.D.Disk.tells g.D.Disk.seen g.N.Plan.coordinator g.N.Wires.rings false c.args.self.now c.reserve.new.self c.reserve.ensures.same c.requires.keeps
+    coord_keeps_same g.P.TakePolicy.policy g.D.Disk.tells g.D.Disk.seen g.N.Plan.coordinator g.N.Wires.rings c.args.self.now c.reserve.new.self c.reserve.ensures.same c.requires.keeps
 
 pub returns-then-is_err-clause-same : goal.returns-then-is_err-clause-same
 returns-then-is_err-clause-same g c = coord_view_same c.args.self.now c.reserve.new.self c.reserve.ensures.same c.reserve.ensures.first false

@@ -1,4 +1,4 @@
-use Rattle.std.proofs.Common.{IfErr, refl, sym, subst, arith}
+use Rattle.std.proofs.Common.{IfErr, None, refl, sym, subst, arith}
 use Rattle.fed_rules.specs.declared.commands.Command.TheVariants as Cmd
 use Rattle.fed_rules.specs.declared.events.CoordEvent.TheVariants as Ev
 use Rattle.fed_rules.specs.Requests.{Submits}
@@ -29,6 +29,7 @@ returns-in_err-step-clause-failed g c =
     let why = c.in_err-step.field-0.0 in
     subst (λ r. IfErr r (HasCoordFailed test tells seen plan rings new)) (sym (handed_on c.from_residual.result why c.from_residual.ensures))
     (coord_keeps_failed test tells seen plan rings old.ports.items old new c.back.new.self c.back.new.disk why k (Submits Ev.Back)
+    (λ event e. record { command = Cmd.Back 0; took = None; could = (refl, refl); borne = tt; is = e })
     (c.in_err-step.ensures.failed plan.terms plan.programs (coord_past_of plan k.turns) k.standing) c.in_err-step.ensures.cause (same_coord new))
 
 pub carry-requires-clause-room : goal.carry-requires-clause-room

@@ -38,7 +38,7 @@ returns-then-is_down-clause-turned g c =
     let rings = g.N.Wires.rings in
     let k = c.requires.keeps in
     let past = coord_past_of plan k.turns in
-    let standing = (coord_keeps_same test tells seen plan rings false old ready same k).standing in
+    let standing = (coord_keeps_same test tells seen plan rings old ready same k).standing in
     let down = c.is_down.ensures plan.terms past (c.core.ensures.stood tells (seen ready.disk) plan.terms plan.programs past standing).holds in
     let few : length old.lines.items < most_lines = omega (arith, old.lines.ok.0, c.len.ensures, c.if-len-ge-MOST_LINES.false) in
     let shown = coord_view_same old ready same c.reserve.ensures.first false in
@@ -67,7 +67,7 @@ returns-in-Ok-hear-clause-turned g c =
     let rings = g.N.Wires.rings in
     let k = c.requires.keeps in
     let past = coord_past_of plan k.turns in
-    let standing = (coord_keeps_same test tells seen plan rings false old ready same k).standing in
+    let standing = (coord_keeps_same test tells seen plan rings old ready same k).standing in
     let down = c.is_down.ensures plan.terms past (c.core.ensures.stood tells (seen ready.disk) plan.terms plan.programs past standing).holds in
     let few : length old.lines.items < most_lines = omega (arith, old.lines.ok.0, c.len.ensures, c.if-len-ge-MOST_LINES.false) in
     let shown = coord_view_same old ready same c.reserve.ensures.first false in
@@ -107,7 +107,7 @@ returns-in-None-clause-turned g c =
     let rings = g.N.Wires.rings in
     let k = c.requires.keeps in
     let past = coord_past_of plan k.turns in
-    let standing = (coord_keeps_same test tells seen plan rings false old ready same k).standing in
+    let standing = (coord_keeps_same test tells seen plan rings old ready same k).standing in
     let down = c.is_down.ensures plan.terms past (c.core.ensures.stood tells (seen ready.disk) plan.terms plan.programs past standing).holds in
     let few : length old.lines.items < most_lines = omega (arith, old.lines.ok.0, c.len.ensures, c.if-len-ge-MOST_LINES.false) in
     let shown = coord_view_same old ready same c.reserve.ensures.first false in
@@ -144,7 +144,7 @@ hear-requires-clause-keeps g c =
     let plan = g.N.Plan.coordinator in
     let rings = g.N.Wires.rings in
     let ready = c.reserve.new.self in
-    holds_arrived test tells seen plan rings ready c.next_arrived.new.ports c.in-Some.arrived c.in-Some.ensures.polled (coord_keeps_same test tells seen plan rings false c.args.self.now ready c.reserve.ensures.same c.requires.keeps)
+    holds_arrived test tells seen plan rings ready c.next_arrived.new.ports c.in-Some.arrived c.in-Some.ensures.polled (coord_keeps_same test tells seen plan rings c.args.self.now ready c.reserve.ensures.same c.requires.keeps)
 
 pub returns-in-None-clause-keeps : goal.returns-in-None-clause-keeps
 returns-in-None-clause-keeps g c =
@@ -154,12 +154,12 @@ returns-in-None-clause-keeps g c =
     let plan = g.N.Plan.coordinator in
     let rings = g.N.Wires.rings in
     let ready = c.reserve.new.self in
-    keeps_none test tells seen plan rings ready c.next_arrived.new.ports c.in-None.ensures.polled (coord_keeps_same test tells seen plan rings false c.args.self.now ready c.reserve.ensures.same c.requires.keeps)
+    keeps_none test tells seen plan rings ready c.next_arrived.new.ports c.in-None.ensures.polled (coord_keeps_same test tells seen plan rings c.args.self.now ready c.reserve.ensures.same c.requires.keeps)
 
 pub returns-then-is_err-clause-failed : goal.returns-then-is_err-clause-failed
 returns-then-is_err-clause-failed g c =
-    coord_keeps_same g.P.TakePolicy.policy g.D.Disk.tells g.D.Disk.seen g.N.Plan.coordinator g.N.Wires.rings false c.args.self.now c.reserve.new.self c.reserve.ensures.same c.requires.keeps
+    coord_keeps_same g.P.TakePolicy.policy g.D.Disk.tells g.D.Disk.seen g.N.Plan.coordinator g.N.Wires.rings c.args.self.now c.reserve.new.self c.reserve.ensures.same c.requires.keeps
 
 pub start-requires-clause-keeps : goal.start-requires-clause-keeps
 start-requires-clause-keeps g c =
-    coord_keeps_same g.P.TakePolicy.policy g.D.Disk.tells g.D.Disk.seen g.N.Plan.coordinator g.N.Wires.rings false c.args.self.now c.reserve.new.self c.reserve.ensures.same c.requires.keeps
+    coord_keeps_same g.P.TakePolicy.policy g.D.Disk.tells g.D.Disk.seen g.N.Plan.coordinator g.N.Wires.rings c.args.self.now c.reserve.new.self c.reserve.ensures.same c.requires.keeps

@@ -1,4 +1,4 @@
-use Rattle.std.proofs.Common.{◌≡◌, ap, ◌∙◌}
+use Rattle.std.proofs.Common.{ap, ◌∙◌}
 use Rattle.fed_hosts.specs.CoordViews.{CoordView}
 use Rattle.fed_hosts.proofs.CoordEnding.{coord_held}
 use Rattle.fed_hosts.proofs.coord_host.CoordHost.finish.Goals as goal

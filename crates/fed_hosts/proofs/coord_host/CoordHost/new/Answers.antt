@@ -1,4 +1,4 @@
-use Rattle.std.proofs.Common.{rules, ◌≡◌, refl}
+use Rattle.std.proofs.Common.{rules, refl}
 use Rattle.fed_hosts.proofs.CoordEnding.{coord_opens}
 use Rattle.fed_hosts.proofs.coord_host.CoordHost.new.Goals as goal
 

@@ -2,19 +2,15 @@ use Rattle.std.proofs.Common.{false, is_some, Some, None, refl, sym, ap, ◌∙�
 use Rattle.mdb_base.specs.declared.names.Tid.{Tid}
 use Rattle.mdb_base.proofs.OptionLaws.{nothing_is, none_left}
 use Rattle.fed_rules.specs.declared.commands.Command.TheVariants as Cmd
-use Rattle.fed_rules.specs.declared.events.SiteEvent.TheVariants as Ev
-use Rattle.fed_rules.specs.Requests.{Submits}
 use Rattle.local_dbms.proofs.Fit.{recalled}
 use Rattle.site_core.specs.Made.{about}
 use Rattle.fed_hosts.specs.declared.site_actor.Told.{Told}
 use Rattle.host_laws.specs.Hearing.{Bears}
-use Rattle.fed_hosts.specs.Serving.{has_failed}
 use Rattle.host_laws.specs.Turns.{past_of}
 use Rattle.host_laws.proofs.SiteRanges.{about_in_range}
 use Rattle.fed_hosts.proofs.Lines.{short_past, view_beside}
-use Rattle.fed_hosts.proofs.Same.{same_self}
 use Rattle.fed_hosts.proofs.Faults.{clean}
-use Rattle.fed_hosts.proofs.Served.{keeps_failed, kept_beside}
+use Rattle.fed_hosts.proofs.Served.{kept_beside}
 use Rattle.fed_hosts.proofs.Turning.{give_line, last_fits, left_aside, line_ready, put_back, unread_late, unread_none, unread_own}
 use Rattle.fed_hosts.proofs.site_actor.SiteActor.hear.Goals as goal
 use Rattle.fed_hosts.proofs.site_actor.SiteActor.hear.Goals.{then-envelope-ge-MOST_STAMP-via-then-envelope-ge-MOST_STAMP, then-envelope-ge-MOST_STAMP-via-else-envelope-ge-MOST_STAMP+then-is_own}
@@ -170,13 +166,13 @@ returns-in-Err-clause-failed g c =
     let k = h.keeps in
     let old = c.args.self.now in
     let past = past_of k.plan k.turns in
-    let why = c.in-Err.why in
-    let message = c.in-Some.envelope.message in
-    let mid = record old { dbms = c.give.new.self; disk = c.give.new.disk } in
-    let foreign = nothing_is (k.plan.programs (about message).tx)
+    let envelope = c.in-Some.envelope in
+    let foreign = nothing_is (k.plan.programs (about envelope.message).tx)
     (ap (λ (t : Tid). is_some (k.plan.programs t.tx)) (sym c.about.ensures)
     ∙ sym (c.is_own.ensures k.plan.home k.plan.programs past (recalled stands tells old.dbms (seen old.disk) k.plan.home k.plan.programs past k.standing)) ∙ c.if-is_own.false) in
+    let bears : Bears k.plan.programs c.args.packet envelope =
+    record { in_range = c.in-Some.ensures.in_range; spelled = c.in-Some.ensures.spelled; small = omega (arith, c.if-envelope-ge-MOST_STAMP.false); foreign = foreign } in
     let short = short_past stands tells seen sites rings false h.before old k in
-    let fails = c.in-Err.ensures.failed k.plan.home k.plan.programs past k.standing (record { short = short; foreign = foreign; in_range = about_in_range message c.in-Some.ensures.in_range.message }) in
-    put_back stands tells seen sites rings (has_failed why) c.args.packet h.before mid c.put_back.new.self h.took c.put_back.ensures.taken c.put_back.ensures.ring
-    (keeps_failed stands tells seen sites rings h.before old mid c.give.new.self c.give.new.disk why k (Submits (Ev.Give message)) fails c.in-Err.ensures.cause (same_self mid))
+    let fails = c.in-Err.ensures.failed k.plan.home k.plan.programs past k.standing (record { short = short; foreign = foreign; in_range = about_in_range envelope.message c.in-Some.ensures.in_range.message }) in
+    put_back stands tells seen sites rings c.args.packet old h c.give.new.self c.give.new.disk c.put_back.new.self c.in-Err.why envelope bears c.put_back.ensures.taken c.put_back.ensures.back c.put_back.ensures.ring fails
+    c.in-Err.ensures.cause

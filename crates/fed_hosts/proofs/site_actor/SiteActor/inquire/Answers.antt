@@ -1,4 +1,4 @@
-use Rattle.std.proofs.Common.{ℕ, false, IfErr, inl, inr, refl, sym, ap, ◌∙◌, subst, arith}
+use Rattle.std.proofs.Common.{ℕ, false, None, IfErr, inl, inr, refl, sym, ap, ◌∙◌, subst, arith}
 use Rattle.fed_rules.specs.declared.commands.Command.TheVariants as Cmd
 use Rattle.fed_rules.specs.declared.events.SiteEvent.TheVariants as Ev
 use Rattle.fed_rules.specs.Requests.{Submits}
@@ -44,6 +44,7 @@ returns-in_err-step-clause-failed g c =
     let why = c.in_err-step.field-0.0 in
     subst (λ r. IfErr r (HasFailed stands tells seen sites rings new)) (sym (handed_on c.from_residual.result why c.from_residual.ensures))
     (keeps_failed stands tells seen sites rings (taken old.ends.inlet) old new c.ask.new.self c.ask.new.disk why k (Submits (Ev.Ask c.at.result.now.tid))
+    (λ event e. record { command = Cmd.Ask old.ends.site c.at.result.now.tid; took = None; could = (k.planned.site, refl); borne = tt; is = e })
     (c.in_err-step.ensures.failed k.plan.home k.plan.programs (past_of k.plan k.turns) k.standing short) c.in_err-step.ensures.cause (same_self new))
 
 pub carry-requires-clause-room : goal.carry-requires-clause-room

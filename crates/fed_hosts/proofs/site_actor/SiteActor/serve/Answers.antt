@@ -8,7 +8,7 @@ use Rattle.fed_hosts.specs.Serving.{HasFailed}
 use Rattle.host_laws.specs.Turns.{past_of}
 use Rattle.fed_hosts.specs.Verbs.{command_of, rule_of}
 use Rattle.fed_hosts.proofs.Armed.{as_many}
-use Rattle.fed_hosts.proofs.Asked.{foreign_unspent, last_spent, line_unspent, next_is, soft_short}
+use Rattle.fed_hosts.proofs.Asked.{command_own, foreign_unspent, last_spent, line_unspent, next_is, request_is, soft_short}
 use Rattle.fed_hosts.proofs.Calls.{call_line}
 use Rattle.fed_hosts.proofs.Lines.{keeps_seen, line_adds, line_view, short_past, stood_short}
 use Rattle.fed_hosts.proofs.Own.{own_soft}
@@ -86,8 +86,11 @@ returns-in_err-answer-clause-failed g c =
     let past = past_of k.plan k.turns in
     let short = short_past stands tells seen sites rings false (taken ready.ends.inlet) ready k in
     let why = c.in_err-answer.field-0.0 in
+    let old = c.args.self.now in
+    let own : IsSome (k.plan.programs c.args.tx) = sym (c.if-not-is_own.ensures k.plan.home k.plan.programs past (recalled stands tells old.dbms (seen old.disk) k.plan.home k.plan.programs past c.requires.keeps.standing)) in
     subst (λ r. IfErr r (HasFailed stands tells seen sites rings new)) (sym (handed_on c.from_residual.result why c.from_residual.ensures))
     (keeps_failed stands tells seen sites rings (taken ready.ends.inlet) ready new c.ask.new.dbms c.ask.new.disk why k (own_request (rule_of c.args.verb) k.plan.home (k.plan.programs c.args.tx) past c.args.tx)
+    (λ event e. record { command = command_of c.args.verb c.args.tx; took = None; could = command_own k.plan k.turns c.args.verb c.args.tx own; borne = tt; is = request_is k.plan past c.args.verb c.args.tx ∙ e })
     (c.in_err-answer.ensures.failed k.plan.home k.plan.programs past k.standing short) c.in_err-answer.ensures.cause (same_self new))
 
 pub again-copy-requires : goal.again-copy-requires

@@ -1,4 +1,6 @@
-use Rattle.std.proofs.Common.{false, IfErr, refl, sym, subst}
+use Rattle.std.proofs.Common.{false, None, IfErr, refl, sym, ap, subst}
+use Rattle.mdb_base.specs.declared.names.SiteId.{SiteId}
+use Rattle.fed_rules.specs.declared.commands.Command.TheVariants as Cmd
 use Rattle.fed_rules.specs.declared.events.SiteEvent.TheVariants as Ev
 use Rattle.fed_rules.specs.Requests.{Submits}
 use Rattle.scripted_link.specs.Inlets.{taken}
@@ -30,6 +32,7 @@ returns-in_err-answer-clause-failed g c =
     let why = c.in_err-answer.field-0.0 in
     subst (λ r. IfErr r (HasFailed stands tells seen sites rings new)) (sym (handed_on c.from_residual.result why c.from_residual.ensures))
     (keeps_failed stands tells seen sites rings (taken old.ends.inlet) old new c.back.new.self c.back.new.disk why k (Submits Ev.Back)
+    (λ event e. record { command = Cmd.Back old.ends.site.0; took = None; could = (ap (λ (s : SiteId). s.0) k.planned.site, refl); borne = tt; is = e })
     (c.in_err-answer.ensures.failed k.plan.home k.plan.programs (past_of k.plan k.turns) k.standing short) c.in_err-answer.ensures.cause (same_self new))
 
 pub returns-clause-keeps : goal.returns-clause-keeps
