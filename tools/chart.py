@@ -12,6 +12,7 @@ its engine and its protocol, and one for the coordinator where it has a line. Th
   square, grey  a stop, and the lane while its actor is down
   grey attempt  behind an answer that names none: the one that it is about
   closing       above the first line that no command asked for; of a run in threads only where a trip was still armed then
+  red band      the line that `audit` named, with its reason (--verdict)
 
 The places of messages aren't written behind the answers, since the arrows show them. The report stands below the lanes of a
 whole run, and below it the cycle of each refusal as a graph, whose edges bear the site where the tickets stand so.
@@ -97,9 +98,9 @@ class Canvas:
 class Chart(Canvas):
     """The drawing. The coordinator's answers stand at the left of its lane, and those of a site at the right."""
 
-    def __init__(self, run, lines):
+    def __init__(self, run, lines, named=None):
         super().__init__()
-        self.run, self.lines, self.places = run, lines, {}
+        self.run, self.lines, self.places, self.named = run, lines, {}, named
         self.rows = {line.number: row for row, line in enumerate(lines)}
         self.digits = len(str(lines[-1].number)) if lines else 1
         self.lay_out()
@@ -129,6 +130,21 @@ class Chart(Canvas):
     def down(row):
         """The height of a row, below the heads that stand before it."""
         return TOP + ROW * row + ROW // 2 + AGAIN * (row // PAGE)
+
+    def draw_verdict(self):
+        """A band behind the line that the audit named, and its reason; below the lanes where it is one of the report."""
+        if not self.named:
+            return
+        number, what = self.named
+        behind = number - len(self.run.lines)
+        if number in self.rows:
+            y, height = self.down(self.rows[number]) - ROW // 2, ROW
+        elif behind > 0 and self.report:
+            y, height = self.foot + 18 * (behind - 1) + 2 * GAP - 14, 18
+        else:
+            return
+        self.parts.append(f'<rect x="0" y="{y:.0f}" width="{self.width:.0f}" height="{height}" fill="#f9e1df"/>')
+        self.text(self.width - GAP, y + height / 2 + 4, what, BAD, "end", "bold")
 
     def draw_rows(self):
         for row, line in enumerate(self.lines):
@@ -255,7 +271,7 @@ class Chart(Canvas):
             self.text(x, y + 4, node, BAD if node == line.attempt else INK, "middle", "bold")
 
     def whole(self):
-        for draw in (self.draw_rows, self.draw_lanes, self.draw_pages, self.draw_closing, self.draw_messages):
+        for draw in (self.draw_verdict, self.draw_rows, self.draw_lanes, self.draw_pages, self.draw_closing, self.draw_messages):
             draw()
         for draw in (self.draw_losses, self.draw_lines, self.draw_report, self.draw_cycles):
             draw()
@@ -286,18 +302,37 @@ def only_of(word):
     return word
 
 
+def verdict_of(text):
+    """The line and the reason of a verdict."""
+    found = re.fullmatch(r"differs at line ([1-9]\d*) ([a-z]+)\s*", text)
+    if not found:
+        raise argparse.ArgumentTypeError(f"{text!r} isn't `differs at line N WHAT`")
+    return int(found[1]), found[2]
+
+
+def named_by(verdict, session):
+    """The line of the output that a verdict names: the lines of the scenario and `printed` stand before it in the text that was audited."""
+    if not verdict:
+        return None
+    with open(session, encoding="ascii", errors="replace") as file:
+        lines = file.read().split("\n")
+    before = lines.index("commands") if "commands" in lines else len(lines) - 1
+    return verdict[0] - before - 1, verdict[1]
+
+
 def main():
     reader = argparse.ArgumentParser(description=__doc__, formatter_class=argparse.RawDescriptionHelpFormatter)
     reader.add_argument("session", metavar="SESSION", help="the input that the run was made of")
     reader.add_argument("output", metavar="OUTPUT", help="what the program printed for it")
     reader.add_argument("--rows", metavar="A-B", type=rows_of, help="draw these lines of the output alone, counted from 1")
     reader.add_argument("--only", metavar="WHAT", type=only_of, help="draw what concerns a transaction (7), an attempt (7.0) or a site (site2)")
+    reader.add_argument("--verdict", metavar="TEXT", type=verdict_of, help="mark the line that `audit` named, as `differs at line 31 cycle`")
     words = reader.parse_args()
     run = read_run(words.session, words.output)
     lines = chosen(run, words.rows, words.only)
     if not lines and (words.rows or words.only):
         raise Wrong(f"{words.output}: no line of the {len(run.lines)} is one to draw")
-    print(Chart(run, lines).whole(), end="")
+    print(Chart(run, lines, named_by(words.verdict, words.session)).whole(), end="")
 
 
 if __name__ == "__main__":

@@ -9,7 +9,7 @@ use Rattle.mdb_top.specs.Streams.{longest}
 use Rattle.mdb_top.specs.Verdicts.{TooLong, verdict_on, verdict}
 
 -- a front that is not the whole is longer than the limit, as the whole is
-front_or_longer : (m : ℕ) (bytes : List ℕ) → (take (m + 1) bytes ≡ bytes) ⊎ ((m < length bytes) × (m < length (take (m + 1) bytes)))
+pub front_or_longer : (m : ℕ) (bytes : List ℕ) → (take (m + 1) bytes ≡ bytes) ⊎ ((m < length bytes) × (m < length (take (m + 1) bytes)))
 front_or_longer m bytes = by_order (cases_lt (m + 1) (length bytes))
   where
     by_order : (m + 1 < length bytes) ⊎ (length bytes ≤ m + 1) → (take (m + 1) bytes ≡ bytes) ⊎ ((m < length bytes) × (m < length (take (m + 1) bytes)))

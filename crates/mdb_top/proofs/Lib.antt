@@ -1,3 +1,4 @@
+mod AuditLemmas
 mod InputLemmas
 mod OpenLemmas
 mod Progress

@@ -6,15 +6,12 @@ use Rattle.std.proofs.Math.Seq.{drop-append_seam, take-add, take-append_seam}
 use Rattle.mdb_base.proofs.JoinLaws.{nothing_left}
 use Rattle.mdb_top.specs.Streams.{Gives, Takes}
 use Rattle.mdb_top.specs.Progress.{HasPut, ReadsOn, HasTaken}
-
--- the rest of the bytes
-pub rest-of : (bytes : List ℕ) (place : ℕ) → take (length bytes - place) (drop place bytes) ≡ drop place bytes
-rest-of bytes place = let e = length-drop place bytes in take_all (length bytes - place) (drop place bytes) (omega (arith, e))
+use Rattle.mdb_base.proofs.PlaceLaws.{take_left}
 
 -- a front of the rest is put behind what was put
 pub put-more : (tells : Bool) (before now new : List ℕ) (f g h : ℕ) (bytes : List ℕ) (place n : ℕ) → HasPut tells before now f g bytes place → Takes n (length (take (length bytes - place) (drop place bytes))) → (IsTrue tells → new ≡ now ++ take n (take (length bytes - place) (drop place bytes))) → h ≡ g → HasPut tells before new f h bytes (place + n)
 put-more tells before now new f g h bytes place n p le w gh =
-    let rest = rest-of bytes place in
+    let rest = take_left bytes place in
     record {
       within = (let a = p.within in let b = length-drop place bytes in let c = ap length rest in let d = le.within in omega arith);
       written = (λ t. w t ∙ ap (λ xs. now ++ take n xs) rest ∙ ap (λ xs. xs ++ take n (drop place bytes)) (p.written t)
@@ -25,7 +22,7 @@ put-more tells before now new f g h bytes place n p le w gh =
 -- each turn leaves fewer bytes
 pub fewer-left : (bytes : List ℕ) (place n : ℕ) → place < length bytes → Takes n (length (take (length bytes - place) (drop place bytes))) → length bytes - (place + n) < length bytes - place
 fewer-left bytes place n l t =
-    let c = ap length (rest-of bytes place) in let b = length-drop place bytes in
+    let c = ap length (take_left bytes place) in let b = length-drop place bytes in
     let some : 0 < length (take (length bytes - place) (drop place bytes)) = omega (arith, c, b, l) in
     let a = t.some some in omega arith
 

@@ -6,7 +6,7 @@ use Rattle.scenario_text.specs.declared.bad.BadWhy.TheVariants as Bad
 use Rattle.session_outputs.specs.Texts.{line}
 
 abbrev pub usage_text : List ℕ
-usage_text = line (codes "usage: mdbfed replay | run | make NUMBER SITES TRANSACTIONS | store FOLDER")
+usage_text = line (codes "usage: mdbfed replay | run | make NUMBER SITES TRANSACTIONS | audit | store FOLDER")
 
 abbrev pub read_failed_text : List ℕ
 read_failed_text = line (codes "read failed")

@@ -5,13 +5,15 @@ use Rattle.mdb_base.specs.Words.{map_some}
 use Rattle.scenario_text.specs.declared.bad.BadLine.{BadLine}
 use Rattle.session_outputs.specs.Makes.{IsMakeable}
 use Rattle.mdb_top.specs.declared.words.Job.{Job}
-use Rattle.mdb_top.specs.declared.words.Job.TheVariants.{Make, Replay, Run}
+use Rattle.mdb_top.specs.declared.words.Job.TheVariants.{Audit, Make, Replay, Run}
 use Rattle.mdb_top.specs.Made.{made_by}
 use Rattle.mdb_top.specs.Streams.{longest}
 
 -- what one word asks for
 abbrev pub job_of : List ℕ → Option Job
-job_of word = cond (bytes_eq word (codes "replay")) (Some Replay) (cond (bytes_eq word (codes "run")) (Some Run) None)
+job_of word =
+    cond (bytes_eq word (codes "replay")) (Some Replay)
+    (cond (bytes_eq word (codes "run")) (Some Run) (cond (bytes_eq word (codes "audit")) (Some Audit) None))
 
 -- the name of a folder: it isn't empty and doesn't begin with `-`
 abbrev pub is_folder : List ℕ → Bool

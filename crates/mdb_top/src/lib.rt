@@ -1,6 +1,7 @@
 //! The top of the federation: words, bytes and nine disks in, lines and a report out, and a status.
 #![tactic(auto)]
 
+mod audit_call;
 mod bad_lines;
 mod input;
 mod made;

@@ -32,7 +32,7 @@ pub(crate) fn put_usage<K: Sink>(sink: &mut K) -> u8
     told(
         sink,
         1,
-        b"usage: mdbfed replay | run | make NUMBER SITES TRANSACTIONS | store FOLDER\n",
+        b"usage: mdbfed replay | run | make NUMBER SITES TRANSACTIONS | audit | store FOLDER\n",
     )
 }
 

@@ -9,12 +9,14 @@ ghost use Rattle.session_outputs.specs.Makes.{IsMakeable};
 ghost use Rattle.session_outputs.specs.Replays.{replaying};
 ghost use Rattle.session_outputs.specs.Runs.{running};
 ghost use Rattle.mdb_top.specs.declared.words.Job.TheVariants as asks;
+ghost use Rattle.mdb_top.specs.Audits.{AuditEnds};
 ghost use Rattle.mdb_top.specs.Endings.{Carries, Ends};
 ghost use Rattle.mdb_top.specs.Inputs.{SomeInput};
 ghost use Rattle.mdb_top.specs.Streams.{Gets, stream};
 ghost use Rattle.mdb_top.specs.Texts as texts;
 ghost use Rattle.mdb_top.specs.Verdicts.{asked_by};
 
+use crate::audit_call::audit;
 use crate::input::{Unplayed, read_plan, read_session};
 use crate::streams::{Sink, Source};
 use crate::telling::{put_made, put_usage, refused, told, used};
@@ -155,9 +157,10 @@ fn made<R: Threads + Wait + Sync, K: Sink, D: Disk + Send, G: Gate + Sync>(
 /// Carries out what the words ask for, over the source's bytes and with nine disks, of which disk a is that of actor a; puts what there
 /// is to say, and answers the status: 0 where all is done; 1 where the words are no command; 2 where the bytes are no session, or no
 /// scenario of a run; 3 where a read failed; 4 where the sink failed while the output was put; 5 where a call of a disk failed; 6 where
-/// memory was wanting; 7 where there are more than 4,194,304 bytes; 8 where a disk isn't empty, the least of which is named (this
-/// project's profile). The words don't hold the program's name. What a source or a sink doesn't tell, nothing is said of. The gate is
-/// called at the start of each call on a host of a run, under that host's lock.
+/// memory was wanting; 7 where there are more than 4,194,304 bytes; 8 where a disk isn't empty, the least of which is named; 9 where an
+/// audited run doesn't agree with its scenario, with the first line that differs (this project's profile). The words don't hold the
+/// program's name; `store FOLDER` is a replay on the disks that are handed in. What a source or a sink doesn't tell, nothing is said of. The
+/// gate is called at the start of each call on a host of a run, under that host's lock.
 pub fn federate<R: Threads + Wait + Sync, S: Source, K: Sink, D: Disk + Send, G: Gate + Sync>(
     rt: &R,
     alloc: Global,
@@ -195,6 +198,12 @@ pub fn federate<R: Threads + Wait + Sync, S: Source, K: Sink, D: Disk + Send, G:
         (map D.seen disks.old.items) (map D.seen disks.new.items) asked }
     ensures unread_made { (asked : TheMaking) → asked_by (map string_bytes words.now) ≡ Some (asks.Make asked) → source.new ≡ source.old }
 
+    // An audit: of the verdict on one input, which is the defined one exactly. A yes implies the headline, with the printed order.
+    ensures audits { asked_by (map string_bytes words.now) ≡ Some asks.Audit → SomeInput S.tells (S.left source.old) (AuditEnds result
+        (stream S.tells (S.left source.old) (S.left source.new) (S.faults source.old) (S.faults source.new))
+        (stream K.tells (K.written sink.old) (K.written sink.new) (K.faults sink.old) (K.faults sink.new))
+        (map D.seen disks.old.items) (map D.seen disks.new.items)) }
+
     // No disk is touched but for an input that is carried out, and there are nine still.
     ensures untouched { In result (1 ∷ 2 ∷ 3 ∷ 7 ∷ 8 ∷ []) → disks.new ≡ disks.old }
     ensures still_nine { length disks.new.items ≡ 9 }
@@ -203,6 +212,7 @@ pub fn federate<R: Threads + Wait + Sync, S: Source, K: Sink, D: Disk + Send, G:
         Some(Job::Replay) => replay(alloc, source, sink, disks),
         Some(Job::Run) => run(rt, alloc, source, sink, disks, gate),
         Some(Job::Make(making)) => made(rt, alloc, sink, making, disks, gate),
+        Some(Job::Audit) => audit(alloc, source, sink, disks),
         None => put_usage(sink),
     }
 }

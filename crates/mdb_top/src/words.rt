@@ -15,10 +15,12 @@ pub(crate) enum Job {
     Run,
     /// A made scenario does.
     Make(Making),
+    /// A printed run is compared with its scenario.
+    Audit,
 }
 
-/// What the words ask for: `replay` alone, `run` alone, `make NUMBER SITES TRANSACTIONS`, or `store FOLDER`, which is a replay. Other
-/// words are no command.
+/// What the words ask for: `replay`, `run` or `audit` alone, `make NUMBER SITES TRANSACTIONS`, or `store FOLDER`, which is a replay.
+/// Other words are no command.
 pub(crate) fn job_of(words: &[String]) -> Option<Job>
     ensures exact { result ≡ asked_by (map string_bytes words.now) }
     ensures doable { IfSome result CanBeDone }
@@ -57,6 +59,7 @@ fn command_of(words: &[String]) -> Option<Job>
     match words[0].as_str() {
         "replay" => Some(Job::Replay),
         "run" => Some(Job::Run),
+        "audit" => Some(Job::Audit),
         _ => None,
     }
 }

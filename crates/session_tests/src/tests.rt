@@ -1,6 +1,7 @@
 //! The top call on whole inputs: what it puts, and its status.
 ghost use Rattle.std.specs.Prelude.{◌≡◌, IfOk, length};
 
+mod audits;
 mod checkpoints;
 mod cuts;
 mod disks;
@@ -36,6 +37,10 @@ const TAKEN: usize = 10;
 
 /// How many bytes a sink has room for.
 const ROOM: usize = 1_048_576;
+
+/// What words that are no command are told.
+const USAGE: &[u8] =
+    b"usage: mdbfed replay | run | make NUMBER SITES TRANSACTIONS | audit | store FOLDER\n";
 
 /// Nine empty disks, of which no call fails.
 fn empty_disks(alloc: Global) -> Result<Vec<MemDisk>, Memory>

@@ -1,5 +1,5 @@
 //! Words and inputs that are refused.
-use super::{called, empty_disks, expect};
+use super::{USAGE, called, empty_disks, expect};
 use mdb_top::NoGate;
 use std::test::Fail;
 
@@ -79,9 +79,10 @@ fn the_first_bad_line_is_named(rt: HostRuntime) {
 }
 
 /// What is none of the calls: words with one space between each two.
-const UNKNOWN: [&str; 17] = [
+const UNKNOWN: [&str; 18] = [
     "replay x",
     "run x",
+    "audit x",
     "-h run",
     "ran ",
     "make",
@@ -101,8 +102,6 @@ const UNKNOWN: [&str; 17] = [
 
 #[test]
 fn other_words_are_told_the_usage(rt: HostRuntime) -> Result<(), Fail> {
-    let usage =
-        b"usage: mdbfed replay | run | make NUMBER SITES TRANSACTIONS | store FOLDER\n".as_slice();
     for text in UNKNOWN.iter() {
         let mut words = Vec::new(rt.alloc());
         for word in text.split(' ') {
@@ -111,7 +110,7 @@ fn other_words_are_told_the_usage(rt: HostRuntime) -> Result<(), Fail> {
         let mut disks = empty_disks(rt.alloc())?;
         let (status, put) = called(&rt, &words, b"", (0, 0), &mut disks, &NoGate)?;
         assert_eq!(rt; status, 1, "{text}");
-        assert_eq!(rt; put.as_slice(), usage, "{text}");
+        assert_eq!(rt; put.as_slice(), USAGE, "{text}");
     }
     Ok(())
 }

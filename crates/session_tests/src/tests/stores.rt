@@ -1,7 +1,7 @@
 //! The top call over stores: what it says where a disk isn't opened, and a session whose journals lie in a folder.
 ghost use Rattle.std.specs.Prelude.{◌≡◌, [], IsTrue};
 
-use super::{GIVEN, ROOM, TAKEN, called, empty_disks};
+use super::{GIVEN, ROOM, TAKEN, USAGE, called, empty_disks};
 use file_disks::{FileStore, MemStore, Store};
 use mdb_base::Memory;
 use mdb_top::{Disk, MemDisk, MemSink, MemSource, NoGate, federate_store};
@@ -53,9 +53,6 @@ fn stored<R: Threads + Wait + Sync + AllocGlobal, D: Disk + Send, T: Store<D>>(
 // One committed local transaction at one site.
 const SESSION: &[u8] =
     b"site 1 locking nothing\nlocal 1 1 set:5:7\ncommands\nbegin 1\nstep 1\ncommit 1\n";
-
-const USAGE: &[u8] =
-    b"usage: mdbfed replay | run | make NUMBER SITES TRANSACTIONS | store FOLDER\n";
 
 // Words, the disk that has a byte, the call of the store that fails, the status, what is put, and how many disks
 // are opened.

@@ -1,9 +1,9 @@
 use Rattle.std.proofs.Common.{◌≡◌, ◌∷◌, ◌++◌, [], length, map, sym, ap, subst, ◌∙◌, arith}
-use Rattle.std.proofs.lemmas.List.{length_push}
+use Rattle.std.proofs.lemmas.List.{length_push, map_push}
 use Rattle.journal_disk.specs.Disk.{synced_bytes}
 use Rattle.file_disks.specs.Stores.{journal_of}
 use Rattle.mdb_top.specs.Opening.{IsOpened, Opens}
-use Rattle.mdb_top.proofs.OpenLemmas.{map-more, opens-more}
+use Rattle.mdb_top.proofs.OpenLemmas.{opens-more}
 use Rattle.mdb_top.proofs.store.open_all.Goals as goal
 
 -- where there is no room for the disk, those before it stay
@@ -20,7 +20,7 @@ loop-number-preserved g c =
     let opened = map g.D.Disk.seen c.loop-number.disks.items in
     let seen = g.D.Disk.seen c.in_ok-disk.disk in
     let more : map g.D.Disk.seen c.push.new.self.items ≡ opened ++ seen ∷ [] =
-    subst (λ items. map g.D.Disk.seen items ≡ opened ++ seen ∷ []) (sym c.in_ok-push.ensures.items) (map-more g.D.Disk.seen c.loop-number.disks.items c.in_ok-disk.disk) in
+    subst (λ items. map g.D.Disk.seen items ≡ opened ++ seen ∷ []) (sym c.in_ok-push.ensures.items) (map_push g.D.Disk.seen c.loop-number.disks.items c.in_ok-disk.disk) in
     let next : IsOpened g.T.Store.tells journals c.loop-number.number seen = record {
       journal = λ tells. c.in_ok-disk.ensures.journal tells c.requires.told ∙ ap (λ js. synced_bytes (journal_of c.loop-number.number js)) (kept tells);
       synced = c.in_ok-disk.ensures.synced c.requires.told;

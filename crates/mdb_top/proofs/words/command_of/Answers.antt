@@ -7,9 +7,10 @@ untrue : {P : Type 0} (b : Bool) → Decides b P → (P → ⊥) → b ≡ false
 untrue true d f = absurd (f (d.0 refl))
 untrue false d f = refl
 
--- a word that is neither command asks for nothing
-neither : (word : List ℕ) → (word ≡ codes "replay" → ⊥) → (word ≡ codes "run" → ⊥) → job_of word ≡ None
-neither word not_replay not_run = rw (untrue _ (bytes_eq-Decides word (codes "replay")) not_replay, untrue _ (bytes_eq-Decides word (codes "run")) not_run) refl
+-- a word that is none of the commands asks for nothing
+none_of_them : (word : List ℕ) → (word ≡ codes "replay" → ⊥) → (word ≡ codes "run" → ⊥) → (word ≡ codes "audit" → ⊥) → job_of word ≡ None
+none_of_them word not_replay not_run not_audit =
+    rw (untrue _ (bytes_eq-Decides word (codes "replay")) not_replay, untrue _ (bytes_eq-Decides word (codes "run")) not_run, untrue _ (bytes_eq-Decides word (codes "audit")) not_audit) refl
 
 -- one word asks for what it says
 one_word : (words : List (String Global)) (word : String Global) → length words ≡ 1 → word ≡ get_or words 0 word → command_of (map string_bytes words) ≡ job_of (string_bytes word)
@@ -20,5 +21,5 @@ one_word (w ∷ v ∷ ws) word one is = absurd (omega (arith, one))
 pub returns-in_default-clause-exact : goal.returns-in_default-clause-exact
 returns-in_default-clause-exact c =
     let is = c.as_str.ensures.value in
-    let none = neither (string_bytes c.index-words-0.result) (λ e. c.in_default.not-replay (is ∙ e)) (λ e. c.in_default.not-run (is ∙ e)) in
+    let none = none_of_them (string_bytes c.index-words-0.result) (λ e. c.in_default.not-replay (is ∙ e)) (λ e. c.in_default.not-run (is ∙ e)) (λ e. c.in_default.not-audit (is ∙ e)) in
     sym (one_word c.args.words.now c.index-words-0.result c.if-words-ne1.false c.index-words-0.is ∙ none)

@@ -1,0 +1,4 @@
+pub mod Parts
+pub mod DueLines
+pub mod LastBytes
+pub mod Verdicts

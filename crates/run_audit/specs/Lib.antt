@@ -1,0 +1,8 @@
+-- what an audit answers, and its causes
+pub mod Audits
+pub mod Causes
+-- one printed line
+pub mod Voters
+pub mod Turns
+-- the end of the lines
+pub mod Resting
