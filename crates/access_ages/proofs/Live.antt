@@ -18,7 +18,7 @@ use Rattle.engine_laws.proofs.Runs.{may_wait, Own, begins, stays, got, wrote, ta
 use Rattle.engine_laws.proofs.Takers.{IsTaker, HasOneTaker}
 use Rattle.engine_laws.proofs.AgeRuns.{IsByAge}
 use Rattle.engine_laws.proofs.AgeTickets.{age_one_taker}
-use Rattle.engine_laws.proofs.RunLines.{run_at_own, run_at_other}
+use Rattle.fed_rules.proofs.RunLines.{run_at_other, run_at_own}
 use Rattle.run_book.specs.declared.rival.Rival.{Rival}
 use Rattle.run_book.specs.Rivals.{rival_by}
 use Rattle.access_ages.specs.Takers.{takes_ticket}

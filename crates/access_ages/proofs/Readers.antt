@@ -19,7 +19,7 @@ use Rattle.engine_laws.specs.ReplyLaws.{IsUnended, IsAmong}
 use Rattle.engine_laws.specs.Unended.{EachRun}
 use Rattle.engine_laws.proofs.Runs.{Own, begins, stays, got, wrote, takes, seals, own, each_run, each_restored, each_committed, tid_is}
 use Rattle.engine_laws.proofs.Drawers.{each_aborted}
-use Rattle.engine_laws.proofs.RunLines.{run_at_own, run_at_other}
+use Rattle.fed_rules.proofs.RunLines.{run_at_other, run_at_own}
 use Rattle.engine_laws.proofs.Conflicts.{read_none}
 use Rattle.run_book.specs.declared.rival.Rival.{Rival}
 use Rattle.run_book.specs.Rivals.{rival_by}

@@ -16,7 +16,7 @@ use Rattle.fed_rules.specs.Replies.{age_of}
 use Rattle.fed_rules.specs.EngineLines.{IsStart, IsRightLine, IsRight, AreApart, AllApart}
 use Rattle.engine_laws.specs.Unended.{EachRun}
 use Rattle.engine_laws.proofs.Runs.{Own, begins, stays, got, wrote, takes, seals, own, each_run, tid_is}
-use Rattle.engine_laws.proofs.RunLines.{run_at_own, run_at_other}
+use Rattle.fed_rules.proofs.RunLines.{run_at_other, run_at_own}
 use Rattle.run_book.specs.Rivals.{rival_by}
 use Rattle.run_book.proofs.Ages.{ages-differ}
 use Rattle.access_ages.specs.Ages.{rival_of}

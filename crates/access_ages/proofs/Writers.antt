@@ -21,7 +21,7 @@ use Rattle.engine_laws.specs.Unended.{EachRun}
 use Rattle.engine_laws.proofs.Runs.{Own, begins, stays, got, wrote, takes, seals, own, each_run, tid_is}
 use Rattle.engine_laws.proofs.AgeRuns.{IsByAge, age_sound}
 use Rattle.engine_laws.proofs.TimestampReplies.{one_writer}
-use Rattle.engine_laws.proofs.RunLines.{run_at_own, run_at_other}
+use Rattle.fed_rules.proofs.RunLines.{run_at_other, run_at_own}
 use Rattle.engine_laws.proofs.Conflicts.{written_rows}
 use Rattle.run_book.specs.declared.rival.Rival.{Rival}
 use Rattle.run_book.specs.Rivals.{rival_by}

@@ -9,31 +9,24 @@ use Rattle.journal_disk.specs.Frames.{AreRight, AreWhole, Frame, IsFrame, IsPayl
 use Rattle.journal_disk.proofs.Whole.{written_is_frame}
 use Rattle.frame_journal.specs.Journal.{IsKeptOn, Kept}
 use Rattle.frame_journal.specs.Records.{AreRecordsOf, as_written, entry_frame, values}
-use Rattle.frame_journal.proofs.Keeping.{length-frames}
+use Rattle.frame_journal.proofs.Keeping.{length-frames, frames_append}
 use Rattle.journal_rules.specs.Stands.{CountsFrames, StandsFor, record_frame}
 use Rattle.journal_rules.proofs.Journals.{all_reverse, all_standing, written_frames, written_values}
 use Rattle.journal_rules.proofs.Keeps.{journal_stands, sizes_agree}
 use Rattle.actor_store.specs.declared.store.Standing.TheVariants.{Down}
 use Rattle.actor_store.specs.Store.{IsFoundAs, Keeps}
 use Rattle.actor_store.proofs.StoreLaws.{built}
-
-pub all_both : {A : Type 0} (P : A → Type 0) (xs ys : List A) → AllByRecursion P xs → AllByRecursion P ys → AllByRecursion P (xs ++ ys)
-all_both P [] ys p q = q
-all_both P (x ∷ xs) ys p q = (p.0, all_both P xs ys p.1 q)
-
-frames_both : (xs ys : List Frame) → frames (xs ++ ys) ≡ frames xs ++ frames ys
-frames_both [] ys = refl
-frames_both (x ∷ xs) ys = ap (λ rest. frame_bytes x ++ rest) (frames_both xs ys) ∙ sym (append_assoc (frame_bytes x) (frames xs) (frames ys))
+use Rattle.mdb_base.proofs.EachLaws.{all_append}
 
 -- right frames behind right ones
 whole_both : (before found : List Frame) (bytes : List ℕ) → AreRight before → AreWhole bytes found → AreWhole (frames before ++ bytes) (before ++ found)
 whole_both before found bytes r w = record {
   right = record {
-    are_frames = all_both IsFrame before found r.are_frames w.right.are_frames;
-    are_right = all_both IsRight before found r.are_right w.right.are_right;
+    are_frames = all_append IsFrame before found r.are_frames w.right.are_frames;
+    are_right = all_append IsRight before found r.are_right w.right.are_right;
   };
   rest = w.rest;
-  parts = ap (λ bs. frames before ++ bs) w.parts ∙ sym (append_assoc (frames before) (frames found) w.rest) ∙ ap (λ bs. bs ++ w.rest) (sym (frames_both before found));
+  parts = ap (λ bs. frames before ++ bs) w.parts ∙ sym (append_assoc (frames before) (frames found) w.rest) ∙ ap (λ bs. bs ++ w.rest) (sym (frames_append before found));
   is_torn = w.is_torn;
 }
 

@@ -4,7 +4,7 @@ use Rattle.std.proofs.lemmas.Bool.{and_from, and_parts, not-true}
 use Rattle.mdb_base.specs.declared.names.SiteId.{SiteId}
 use Rattle.mdb_base.specs.declared.names.Tid.{Tid}
 use Rattle.mdb_base.specs.Names.{same_tid}
-use Rattle.mdb_base.specs.Words.{Each, each_of, those}
+use Rattle.mdb_base.specs.Words.{Each, each_of, those, is_empty}
 use Rattle.mdb_base.proofs.NameLaws.{same_tid-equal, same_tid-refl}
 use Rattle.mdb_base.proofs.OptionLaws.{is_none-true}
 use Rattle.order_laws.specs.Merge as merge
@@ -17,13 +17,10 @@ use Rattle.fed_rules.specs.Scenarios.{home_of, sites}
 use Rattle.fed_rules.specs.SitePast.{trip}
 use Rattle.fed_rules.specs.Story.{Story, coord_past, past_of}
 use Rattle.audit_rules.specs.Agreements.{SiteRests, Rests}
-use Rattle.audit_rules.specs.Ends.{is_empty, site_rests, rests, same_tids, merges}
+use Rattle.audit_rules.specs.Ends.{site_rests, rests, same_tids, merges}
+use Rattle.mdb_base.proofs.ListLaws.{empty_means}
 
 -- ---- at rest
-
-empty_means : {A : Type 0} (xs : List A) → is_empty xs ≡ true → xs ≡ []
-empty_means [] e = refl
-empty_means (x ∷ xs) e = cc
 
 four : (a b c d : Bool) → (a && b && c && d) ≡ true → (a ≡ true) × (b ≡ true) × (c ≡ true) × (d ≡ true)
 four true true true true e = (refl, refl, refl, refl)

@@ -3,7 +3,7 @@ use Rattle.std.specs.Prelude.{Bool, true, false, not, ◌&&◌, is_none, List, [
 use Rattle.mdb_base.specs.declared.names.SiteId.{SiteId}
 use Rattle.mdb_base.specs.declared.names.Tid.{Tid}
 use Rattle.mdb_base.specs.Names.{same_tid}
-use Rattle.mdb_base.specs.Words.{each_of, some_of, those}
+use Rattle.mdb_base.specs.Words.{each_of, some_of, those, is_empty}
 use Rattle.order_laws.specs.Orders.{is_in}
 use Rattle.fed_rules.specs.declared.scenario.Scenario.{Scenario}
 use Rattle.fed_rules.specs.Closing.{live, in_doubt_at, known}
@@ -12,10 +12,6 @@ use Rattle.fed_rules.specs.Happenings.{is_down}
 use Rattle.fed_rules.specs.Scenarios.{home_of, sites}
 use Rattle.fed_rules.specs.SitePast.{trip}
 use Rattle.fed_rules.specs.Story.{Story, coord_past, past_of}
-
-abbrev pub is_empty : {A : Type 0} → List A → Bool
-is_empty [] = true
-is_empty (x ∷ xs) = false
 
 -- whether the site is up, no trip of it is armed, and nothing is live or in doubt there
 abbrev pub site_rests : Scenario → Story → SiteId → Bool

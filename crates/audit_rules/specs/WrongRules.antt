@@ -4,7 +4,7 @@ use Rattle.mdb_base.specs.declared.names.SiteId.{SiteId}
 use Rattle.mdb_base.specs.declared.names.Tid.{Tid}
 use Rattle.mdb_base.specs.declared.replies.Edge.{Edge}
 use Rattle.mdb_base.specs.Names.{same_tid}
-use Rattle.mdb_base.specs.Words.{each_of, some_of, those, when}
+use Rattle.mdb_base.specs.Words.{each_of, some_of, those, when, is_empty}
 use Rattle.order_laws.specs.Merge as merge
 use Rattle.order_laws.specs.Orders.{is_in}
 use Rattle.order_laws.specs.Tickets.{Ticketed, IsCycle}
@@ -22,7 +22,6 @@ use Rattle.audit_rules.specs.declared.verdict.What.TheVariants as Fails
 use Rattle.audit_rules.specs.Agreement.{Printed, Says, Orders, Neither, unless_fault, verdict_at_order, verdict_from}
 use Rattle.audit_rules.specs.Agreements.{Rests}
 use Rattle.audit_rules.specs.Differences.{DiffersBehind, FailsAsLine}
-use Rattle.audit_rules.specs.Ends.{is_empty}
 use Rattle.audit_rules.specs.Faults.{fault_of, is_edge, names_declared}
 use Rattle.audit_rules.specs.Same.{same_answer, same_places}
 

@@ -7,9 +7,8 @@ use Rattle.fed_rules.specs.declared.commands.Line.{Line}
 use Rattle.fed_rules.specs.declared.commands.Place.{Place}
 use Rattle.fed_rules.specs.declared.scenario.Scenario.{Scenario}
 use Rattle.fed_rules.specs.Closing.{last_sends, sent_next}
-use Rattle.fed_rules.specs.Right.{IsRightStory}
+use Rattle.fed_rules.specs.Right.{IsRightStory, AreLines}
 use Rattle.fed_rules.specs.Sessions.{fresh}
-use Rattle.fed_world.specs.Worlds.{AreLines}
 
 newest_first : (scenario : Scenario) (lines : List Line) (d : Line) → 0 < length lines → IsRightStory scenario lines
     → (get_or lines 0 d).sends ≡ last_sends (fresh scenario) (map (λ (line : Line). line.command) lines)

@@ -31,7 +31,7 @@ use Rattle.rules_laws.proofs.RisingLists.{rising_in}
 use Rattle.site_history.proofs.Agreement.{live_is}
 use Rattle.federation_laws.proofs.Told.{local_home-declared}
 use Rattle.closing_laws.proofs.Calm.{aborts_here, drops, ended_run}
-use Rattle.closing_laws.proofs.Declared.{listed}
+use Rattle.federation_laws.proofs.Declared.{declared-in}
 use Rattle.closing_laws.proofs.Locals.{local_at_home, live_is_found}
 use Rattle.closing_laws.proofs.Onward.{IsCalm, Onward, onward_here, onward_on, onward_next, at_home, gentle_abort, gentle_drop}
 use Rattle.fed_rules.specs.SiteCommands.{request, with_live}
@@ -250,4 +250,4 @@ module _ (rights : StoriesHaveRightLines) (scenario : Scenario) where
   pub cleared : (commands : List Command) → IsScenario scenario → IsCalm (story_of scenario commands) → IsClear (story_of scenario commands) (story_of scenario (clear (fresh scenario) commands))
   cleared commands whole c =
       let all = all_cleared commands (sites scenario) commands whole (onward_here scenario (story_of scenario commands) c) in
-      record { onward = all.onward; clear = λ home tid d. all.clear home tid d (listed scenario home d) }
+      record { onward = all.onward; clear = λ home tid d. all.clear home tid d (declared-in scenario home.site home d) }

@@ -18,33 +18,7 @@ use Rattle.fed_rules.specs.Plans.{AreSites, is_between, all_differ, one_site}
 use Rattle.fed_rules.specs.Scenarios.{home_in, home_of, items_of, protocols_in, protocols, sites}
 use Rattle.fed_rules.specs.SiteRecords.{Home}
 use Rattle.fed_rules.specs.Story.{Story, Nowhere, at_site, on_site, on_actor}
-use Rattle.commit_laws.proofs.Declared.{is-declared}
-
--- a declared site is listed
-pub listed : (scenario : Scenario) (home : Home) → home_of scenario home.site ≡ Some home → In home.site (sites scenario)
-listed scenario home d =
-    map_among (λ s. s ≡ home.site) (λ (m : Participant). m.site) (protocols scenario)
-    (among_weaker (λ m. (m.site ≡ home.site) × (m.protocol ≡ home.protocol)) (λ m. m.site ≡ home.site) (λ m p. p.0) (protocols scenario) (is-declared scenario home.site home d).0)
-
--- its number isn't that of the coordinator
-numbered : (lines : List SiteLine) (items : List ItemLine) (site : SiteId) (home : Home) → each_of (λ line. is_between 1 8 line.site.0) lines ≡ true → home_in lines items site ≡ Some home → 0 < site.0
-numbered [] items site home r e = cc
-numbered (line ∷ lines) items site home r e = by_test (same_site line.site site) refl e (numbered lines items site home)
-  where
-    parts : (is_between 1 8 line.site.0 ≡ true) × (each_of (λ l. is_between 1 8 l.site.0) lines ≡ true)
-    parts = and_parts (is_between 1 8 line.site.0) (each_of (λ l. is_between 1 8 l.site.0) lines) r
-
-    some : 0 < line.site.0
-    some = let least = leb-true 1 line.site.0 (and_parts _ _ parts.0).0 in omega arith
-
-    by_test : (b : Bool) → same_site line.site site ≡ b
-        → cond b (Some (record { site = line.site; engine = line.engine; protocol = line.protocol; items = items_of items site })) (home_in lines items site) ≡ Some home
-        → (each_of (λ l. is_between 1 8 l.site.0) lines ≡ true → home_in lines items site ≡ Some home → 0 < site.0) → 0 < site.0
-    by_test true q e k = subst (λ s. 0 < s.0) (same_site-equal line.site site q) some
-    by_test false q e k = k parts.1 e
-
-pub number_some : (scenario : Scenario) (site : SiteId) (home : Home) → AreSites scenario.sites → home_of scenario site ≡ Some home → 0 < site.0
-number_some scenario site home whole d = numbered scenario.sites scenario.items site home whole.range d
+use Rattle.federation_laws.proofs.Declared.{number_some}
 
 -- an event of the actor with a declared site's number is that site's
 pub actor_hears : (scenario : Scenario) (home : Home) (story : Story) (c : CoordEvent) (s : SiteEvent) → AreSites scenario.sites → home_of scenario home.site ≡ Some home

@@ -56,6 +56,7 @@ use Rattle.closing_laws.proofs.Quiet.{IsQuiet, rests_quiet}
 use Rattle.fed_rules.specs.Policies.{Policy}
 use Rattle.fed_rules.specs.CoordCommands.{go_request, go_next}
 use Rattle.site_history.proofs.LiveOnes.{found_in}
+use Rattle.mdb_base.proofs.BoolLaws.{and_fails}
 
 go_here : (protocols : List Participant) (policy : Policy) (past : CoordPast) (tid : Tid) (steps : List Step) → IsReady Coordinator.trip_of past → coord_line protocols policy past (Ev.Go tid steps) ≡ of_go protocols past tid steps
 unfolding coord_line answered tripped
@@ -130,10 +131,6 @@ first_none : {A : Type 0} (test : A → Bool) (xs : List A) → ((x : A) → tes
 first_none test [] f = refl
 first_none test (x ∷ xs) f = cond-false _ _ _ (f x) ∙ first_none test xs f
 
-and_none : (a b : Bool) → b ≡ false → (a && b) ≡ false
-and_none true b e = e
-and_none false b e = refl
-
 pub global_commits : UnbegunAreOpen → CommittedTicketsArePublished → StoriesHaveRightLines → OfSites HasEpochs → GlobalsCommitAlone
 unfolding happens on_go go_request go_next of_go
 global_commits unbegun published_law rights epochs scenario commands tx steps whole rest is_program undone few =
@@ -188,7 +185,7 @@ global_commits unbegun published_law rights epochs scenario commands tx steps wh
 
     none_undecided : undecided_of past tx ≡ None
     none_undecided = first_none (λ tid. same_tx tid.tx tx && is_open past tid) (begun_tids past)
-        (λ tid. and_none (same_tx tid.tx tx) (is_open past tid) (gone_closed (is_open past tid) (known_decision (protocols scenario) past tid) (q.gone tid)))
+        (λ tid. and_fails (same_tx tid.tx tx) (is_open past tid) (gone_closed (is_open past tid) (known_decision (protocols scenario) past tid) (q.gone tid)))
 
     told : happens scenario story (Cmd.Go tx) ≡ AtCoordinator y
     told =

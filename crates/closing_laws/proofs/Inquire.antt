@@ -35,7 +35,7 @@ use Rattle.commit_laws.proofs.Links.{its-site, home-again}
 use Rattle.rules_laws.proofs.RisingLists.{rising_in}
 use Rattle.closing_laws.proofs.Calm.{asks, takes}
 use Rattle.closing_laws.proofs.CoordTurns.{takes_there, gentle_inquiry}
-use Rattle.closing_laws.proofs.Declared.{listed}
+use Rattle.federation_laws.proofs.Declared.{declared-in}
 use Rattle.closing_laws.proofs.Delivered.{item_behind, give_told, sent_behind}
 use Rattle.closing_laws.proofs.Onward.{IsCalm, Onward, onward_here, onward_on, onward_next, at_home, gentle_ask, gentle_give}
 use Rattle.fed_rules.specs.Attempts.{each_attempt}
@@ -276,4 +276,4 @@ module _ (session : Session) (fits : CoordinatorFits session) where
       → IsSettled (story_in session commands) (story_in session (ask_all session commands))
   settled commands c g =
       let all = asked_sites commands (sites session.plan) commands (onward_here session.plan (story_in session commands) c) g in
-      record { onward = all.onward; settled = λ home tid d. all.settled home tid d (listed session.plan home d) }
+      record { onward = all.onward; settled = λ home tid d. all.settled home tid d (declared-in session.plan home.site home d) }

@@ -30,7 +30,8 @@ use Rattle.fed_rules.specs.SiteRecords.{Home, site_frame}
 use Rattle.fed_rules.specs.Story.{Story, Nowhere, past_of, coord_past, with_site, with_coordinator, at_site, on_site, on_actor, happens, story_in}
 use Rattle.commit_laws.proofs.Links.{its-site, home-again}
 use Rattle.closing_laws.proofs.Calm.{IsReady, ready_next}
-use Rattle.closing_laws.proofs.Declared.{listed, actor_hears}
+use Rattle.federation_laws.proofs.Declared.{declared-in}
+use Rattle.closing_laws.proofs.Declared.{actor_hears}
 use Rattle.closing_laws.proofs.Onward.{IsCalm}
 use Rattle.fed_rules.specs.Policies.{Policy}
 
@@ -45,7 +46,7 @@ site_listed of_coordinator of_site scenario story home d e =
     in_one (of_coordinator (coord_past story)) home.site.0 0 _
     (map_among (λ n. n ≡ home.site.0) (λ (s : SiteId). s.0) (those (λ s. of_site (past_of s story)) (sites scenario))
     (among_weaker (λ s. s ≡ home.site) (λ s. s.0 ≡ home.site.0) (λ s q. ap (λ (z : SiteId). z.0) q) _
-    (in_those (λ s. of_site (past_of s story)) home.site (sites scenario) (listed scenario home d) e)))
+    (in_those (λ s. of_site (past_of s story)) home.site (sites scenario) (declared-in scenario home.site home d) e)))
 
 zero_in_one : (b : Bool) (xs : List ℕ) → b ≡ true → In {A = ℕ} 0 (one b 0 xs)
 zero_in_one true xs e = inl refl

@@ -18,7 +18,7 @@ use Rattle.fed_rules.specs.SiteRecords.{Home}
 use Rattle.fed_rules.specs.Story.{coord_past, past_of}
 use Rattle.fed_rules.proofs.Opened.{opened}
 use Rattle.fed_rules.proofs.Spelled.{at, tid, set, site, step_at, global, scenario_of, go, give, take, ask, late, again, halt, trip, back}
-use Rattle.commit_laws.specs.WrongRules.{Rules, story_by, aborts_acknowledged_early, commits_forgotten_at_once, abort_always_presumed, prepares_sent_early, epochs_ignored, torn_records_kept, BreaksTheOutcome, SealsElsewhere, BreaksTheEpoch, SealsALaterRun}
+use Rattle.commit_laws.specs.WrongRules.{Rules, story_by, aborts_acknowledged_early, commits_forgotten_at_once, abort_always_presumed, commit_always_presumed, prepares_sent_early, epochs_ignored, torn_records_kept, BreaksTheOutcome, SealsElsewhere, BreaksTheEpoch, SealsALaterRun}
 use Rattle.commit_laws.specs.Seals.{seals, IsPrepareOf}
 
 -- a global transaction that writes at one site of this protocol
@@ -125,9 +125,52 @@ abort_always_presumed_refuted = record {
   wrong = (λ e. let no : Decided.Abort ≡ Decided.Commit = e ∙ presumed_outcome in cc);
 }
 
+-- the coordinator stops before it decides, of which it has no record, and a site in doubt that presumes nothing is answered commit
+abbrev undecided_commands : List Command
+undecided_commands = behind_the_vote (halt 0 0 ∷ back 0 ∷ ask 1 attempt ∷ take 1 3 ∷ give 1 3 ∷ [])
+
+undecided_outcome : outcome_by commit_always_presumed By.Nothing undecided_commands ≡ Decided.Abort
+unfolding opened
+undecided_outcome = refl
+
+pub commit_always_presumed_refuted : BreaksTheOutcome commit_always_presumed By.Nothing
+unfolding opened
+commit_always_presumed_refuted = record {
+  scenario = one_site By.Nothing;
+  commands = undecided_commands;
+  site = at 1;
+  home = home By.Nothing;
+  declared = refl;
+  follows = refl;
+  tid = attempt;
+  decision = Decided.Commit;
+  settles = inl refl;
+  wrong = (λ e. let no : Decided.Commit ≡ Decided.Abort = e ∙ undecided_outcome in cc);
+}
+
+-- and so is one that presumes abort
+undecided_by_abort : outcome_by commit_always_presumed By.Abort undecided_commands ≡ Decided.Abort
+unfolding opened
+undecided_by_abort = refl
+
+pub commit_presumed_by_abort_refuted : BreaksTheOutcome commit_always_presumed By.Abort
+unfolding opened
+commit_presumed_by_abort_refuted = record {
+  scenario = one_site By.Abort;
+  commands = undecided_commands;
+  site = at 1;
+  home = home By.Abort;
+  declared = refl;
+  follows = refl;
+  tid = attempt;
+  decision = Decided.Commit;
+  settles = inl refl;
+  wrong = (λ e. let no : Decided.Commit ≡ Decided.Abort = e ∙ undecided_by_abort in cc);
+}
+
 -- the coordinator loses the Initiation of an attempt that is prepared, and a site that presumes commit is answered commit
 abbrev unsynced_commands : List Command
-unsynced_commands = behind_the_vote (halt 0 0 ∷ back 0 ∷ ask 1 attempt ∷ take 1 3 ∷ give 1 3 ∷ [])
+unsynced_commands = undecided_commands
 
 unsynced_outcome : outcome_by prepares_sent_early By.Commit unsynced_commands ≡ Decided.Abort
 unfolding opened

@@ -96,6 +96,22 @@ abbrev pub abort_always_presumed : Rules
 abort_always_presumed =
     record right_rules { coordinator = λ protocols policy past event. (let x = coord_line protocols policy past event in presumed_abort x x.answer) }
 
+abbrev pub commit_message : ToSite → ToSite
+commit_message (To.Decide tid decision) = To.Decide tid Decided.Commit
+commit_message message = message
+
+abbrev pub commit_sent : Sent → Sent
+commit_sent sent = record sent { message = commit_message sent.message }
+
+-- a coordinator that answers every inquiry about an attempt that it doesn't know by commit
+abbrev pub presumed_commit : CoordHappening → Answer → CoordHappening
+presumed_commit x (Say.Presumes decision) = record x { answer = Say.Presumes Decided.Commit; sends = map commit_sent x.sends }
+presumed_commit x answer = x
+
+abbrev pub commit_always_presumed : Rules
+commit_always_presumed =
+    record right_rules { coordinator = λ protocols policy past event. (let x = coord_line protocols policy past event in presumed_commit x x.answer) }
+
 -- a coordinator that sends a Prepare while the Initiation is only appended
 abbrev pub unsynced_initiation : CoordHappening → Answer → CoordHappening
 unsynced_initiation x Say.Initiates = record x { calls = take 1 x.calls }

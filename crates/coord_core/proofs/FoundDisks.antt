@@ -34,7 +34,8 @@ use Rattle.coord_journal.specs.Spelling.{IsRecord, reading, spelling}
 use Rattle.actor_store.specs.declared.store.Standing.{Standing}
 use Rattle.actor_store.specs.declared.store.Standing.TheVariants.{Down}
 use Rattle.actor_store.specs.Store.{IsFoundAs, IsInOrder, taken_as}
-use Rattle.actor_store.proofs.FoundLaws.{all_both, found_stands}
+use Rattle.actor_store.proofs.FoundLaws.{found_stands}
+use Rattle.mdb_base.proofs.EachLaws.{all_append}
 use Rattle.actor_store.proofs.StoreLaws.{sizes}
 use Rattle.coord_core.specs.declared.coord.CoordCore.{CoordCore}
 use Rattle.coord_core.specs.Found.{IsFoundOn, found_disk}
@@ -66,8 +67,8 @@ fit_ends test (c ∷ cs) f = by_test (test c) (fit_ends test cs f.1)
 fit_sum : (sum : CoordSum) → IsRecord (Rec.Checkpoint sum) → AllByRecursion Fits (coord_sum_read sum)
 fit_sum sum f =
     let ended : CommittedAttempt → Bool = λ attempt. not (is_open_in sum attempt.tid) in
-    all_both Fits (map end_read (those ended sum.committed) ++ map commit_read sum.committed) (map initiation_read sum.open_attempts)
-    (all_both Fits (map end_read (those ended sum.committed)) (map commit_read sum.committed) (fit_ends ended sum.committed f.1.2) (fit_commits sum.committed f.1.2)) (fit_opens sum.open_attempts f.0.2)
+    all_append Fits (map end_read (those ended sum.committed) ++ map commit_read sum.committed) (map initiation_read sum.open_attempts)
+    (all_append Fits (map end_read (those ended sum.committed)) (map commit_read sum.committed) (fit_ends ended sum.committed f.1.2) (fit_commits sum.committed f.1.2)) (fit_opens sum.open_attempts f.0.2)
 
 fit_first : (first : CoordRecord) → IsRecord first → AllByRecursion Fits (coord_reads_as first)
 fit_first (Rec.Checkpoint sum) f = fit_sum sum f
@@ -124,7 +125,7 @@ frames_found image (newest ∷ older) torn whole held kept all =
     record {
       stands = found_stands spelling coord_frame frame_has_size image rules (newest ∷ older) under whole (all_payloads under fits) parts border
           (omega (arith, long, sums, border, held)) (omega (arith, synced, long, sums, border, held, kept));
-      written = subst (AllByRecursion IsRecord) (sym parts) (all_both IsRecord (newest ∷ older) under all (all_records under fits));
+      written = subst (AllByRecursion IsRecord) (sym parts) (all_append IsRecord (newest ∷ older) under all (all_records under fits));
       front = omega (arith, border, synced, long, sums);
       synced = synced;
     }

@@ -1,8 +1,6 @@
 -- A record's payload has as many bytes as the rules count for it.
-use Rattle.std.proofs.Common.{◌≡◌, ◌+◌, ◌*◌, List, [], ◌∷◌, length, refl, arith}
+use Rattle.std.proofs.Common.{◌≡◌, ◌+◌, List, [], ◌∷◌, length, refl, arith}
 use Rattle.std.proofs.lemmas.List.{length-append}
-use Rattle.mdb_base.specs.declared.names.SiteTicket.{SiteTicket}
-use Rattle.presumptions.specs.declared.Participant.{Participant}
 use Rattle.fed_rules.specs.declared.records.CoordRecord.{CoordRecord}
 use Rattle.fed_rules.specs.declared.records.CoordRecord.TheVariants.{Initiation, Commit, Abort, End, Checkpoint}
 use Rattle.fed_rules.specs.declared.sums.CommittedAttempt.{CommittedAttempt}
@@ -10,16 +8,9 @@ use Rattle.fed_rules.specs.declared.sums.CoordSum.{CoordSum}
 use Rattle.fed_rules.specs.declared.sums.OpenAttempt.{OpenAttempt}
 use Rattle.fed_rules.specs.CoordRecords.{coord_payload, open_size, committed_size}
 use Rattle.record_fields.specs.Items.{joined}
-use Rattle.record_fields.specs.Named.{a_participant, a_ticket}
 use Rattle.record_fields.specs.Sums.{an_open_attempt, a_committed_attempt, open_attempts, committed_attempts}
 use Rattle.record_fields.proofs.Sizes as sizes
 use Rattle.coord_journal.specs.Spelling.{checkpoint, spelling}
-
-pub participants_size : (sites : List Participant) → length (joined a_participant.spelling sites) ≡ 2 * length sites
-participants_size = sizes.participants_size
-
-pub tickets_size : (sites : List SiteTicket) → length (joined a_ticket.spelling sites) ≡ 9 * length sites
-tickets_size = sizes.tickets_size
 
 pub open_sizes : (attempts : List OpenAttempt) → length (joined an_open_attempt.spelling attempts) ≡ open_size attempts
 open_sizes [] = refl
@@ -37,8 +28,8 @@ parts_size sum =
 
 -- a record's payload has as many bytes as the rules count for it
 pub payload_has_size : (entry : CoordRecord) → length (spelling entry) ≡ coord_payload entry
-payload_has_size (Initiation tid sites) = omega (arith, participants_size sites)
-payload_has_size (Commit tid sites) = omega (arith, tickets_size sites)
-payload_has_size (Abort tid sites) = omega (arith, participants_size sites)
+payload_has_size (Initiation tid sites) = omega (arith, sizes.participants_size sites)
+payload_has_size (Commit tid sites) = omega (arith, sizes.tickets_size sites)
+payload_has_size (Abort tid sites) = omega (arith, sizes.participants_size sites)
 payload_has_size (End tid) = refl
 payload_has_size (Checkpoint sum) = omega (arith, parts_size sum)

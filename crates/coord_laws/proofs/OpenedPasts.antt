@@ -21,9 +21,9 @@ use Rattle.fed_rules.specs.Attempts.{with_attempt}
 use Rattle.fed_rules.specs.CoordPast.{CoordPast, Decided, attempts_of, begins, begun_by, begun_tids, disk, has_sent, kept_decision, or_steps, participants, participants_of, program, records, standing, standing_of}
 use Rattle.fed_rules.specs.Coord.{missing}
 use Rattle.fed_rules.specs.CoordRecords.{commits, coord_frame, has_end, is_kept, is_nobody, named, outcome, recorded, required, required_of, ticketed}
-use Rattle.fed_rules.specs.Disk.{Append, Call, Disk, Stops, Sync, after_call, after_calls, empty_disk}
+use Rattle.fed_rules.specs.Disk.{Append, Sync, after_calls, empty_disk}
 use Rattle.fed_rules.specs.Found.{Journal}
-use Rattle.fed_rules.specs.Reopened.{all_gone, all_heard, coord_opening, coord_read, coord_reads_as, go_on, goes, heard_of, long_coord, opened_coordinator, rewritten, torn_off, visit}
+use Rattle.fed_rules.specs.Reopened.{all_gone, all_heard, coord_opening, coord_read, coord_reads_as, go_on, goes, heard_of, long_coord, opened_coordinator, rewritten, visit}
 use Rattle.rules_laws.specs.Durable.{IsFirm, IsSound}
 use Rattle.rules_laws.proofs.Durable.{firm_stop, sound_calls}
 use Rattle.order_laws.specs.Tickets.{HasNoCycle, OneEach}
@@ -33,6 +33,7 @@ use Rattle.coord_laws.specs.Records.{IsCommit, IsEnd}
 use Rattle.coord_laws.proofs.Begun.{AreNumbered, below_listed, begun_in, more_attempts, numbered_below, one_attempt}
 use Rattle.coord_laws.proofs.Facts.{IsOpen, is_undecided}
 use Rattle.coord_laws.proofs.Sound.{CoordSound, Declared, IsAcked, IsBegun, IsClear, IsMark, IsYes}
+use Rattle.rules_laws.proofs.OpenedDisks.{calls_split}
 
 -- ---- who is recorded
 
@@ -275,11 +276,6 @@ in_begun (x ∷ past) g i = by_answer x.answer i (in_begun past g)
     by_answer a i k = by_begun (begun_by a) a refl i k
 
 -- ---- the law
-
-calls_split : {R : Type 0} (size : R → ℕ) (d : Disk R) (cs : List (Call R)) (long : R) (torn : ℕ)
-    → after_calls size d (cs ++ torn_off long torn) ≡ after_call size (after_calls size d (cs ++ Sync ∷ Append long ∷ [])) (Stops torn)
-calls_split size d [] long torn = refl
-calls_split size d (c ∷ cs) long torn = calls_split size (after_call size d c) cs long torn
 
 module _ (protocols : List Participant) (journal : Journal CoordRecord) (declared : NameDeclared protocols (coord_read journal)) where
   abbrev rs : List CoordRecord

@@ -13,7 +13,8 @@ use Rattle.mdb_base.proofs.NameLaws.{same_tid-equal, same_tid-refl, same_tid-sym
 use Rattle.mdb_base.proofs.JoinLaws.{reverse_more}
 use Rattle.order_laws.specs.Chains.{In}
 use Rattle.order_laws.proofs.Lists.{each_from, those_in}
-use Rattle.order_laws.proofs.Reversed.{in_reverse, map_push}
+use Rattle.order_laws.proofs.Reversed.{in_reverse}
+use Rattle.std.proofs.lemmas.List.{map_push}
 use Rattle.presumptions.specs.declared.Decision.{Decision}
 use Rattle.presumptions.specs.declared.Participant.{Participant}
 use Rattle.fed_rules.specs.declared.answers.Answer.TheVariants as Say

@@ -1,6 +1,6 @@
 -- The graph of the committed attempts: its floors, and the lists that it stands for.
 use Rattle.std.proofs.Common.{◌≡◌, ℕ, ◌+◌, ◌<◌, ◌≤◌, List, [], ◌∷◌, ◌++◌, length, map, take, get_or, inl, inr, sym, ap, subst, ◌∙◌, arith}
-use Rattle.std.proofs.lemmas.List.{take_more}
+use Rattle.std.proofs.lemmas.List.{take_more, map_push}
 use Rattle.mdb_base.specs.declared.names.SiteId.{SiteId}
 use Rattle.mdb_base.specs.declared.names.SiteTicket.{SiteTicket}
 use Rattle.mdb_base.specs.declared.names.Tid.{Tid}
@@ -9,7 +9,7 @@ use Rattle.mdb_base.proofs.ListLaws.{append_each, each_all}
 use Rattle.order_laws.specs.Chains.{In}
 use Rattle.order_laws.specs.Tickets.{Ticketed}
 use Rattle.order_laws.proofs.Lists.{in_front, in_last}
-use Rattle.order_laws.proofs.Reversed.{in_push, map_push}
+use Rattle.order_laws.proofs.Reversed.{in_push}
 use Rattle.fed_rules.specs.declared.sums.CommittedAttempt.{CommittedAttempt}
 use Rattle.ticket_graph.specs.Graph.{AreAbove, Graph, StandsFor, floor_of, tids_of}
 use Rattle.ticket_graph.proofs.GraphLemmas.{in_tids, tid_in}

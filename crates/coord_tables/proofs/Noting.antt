@@ -1,8 +1,7 @@
 -- The least tickets of the stages.
 use Rattle.std.proofs.Common.{◌≡◌, ℕ, ◌+◌, ◌<◌, Option, None, List, ◌++◌, length, map, take, get_or, sym, ap, subst, ◌∙◌, add-one, append_assoc}
-use Rattle.std.proofs.lemmas.List.{take_more}
+use Rattle.std.proofs.lemmas.List.{take_more, map_push}
 use Rattle.mdb_base.specs.declared.names.SiteTicket.{SiteTicket}
-use Rattle.order_laws.proofs.Reversed.{map_push}
 use Rattle.ticket_graph.specs.Reach.{IsLowest, joined}
 use Rattle.ticket_graph.proofs.Meeting.{joined_last}
 use Rattle.coord_tables.specs.declared.stages.Stage.{Stage}

@@ -20,7 +20,7 @@ use Rattle.fed_rules.specs.Policies.{Policy}
 use Rattle.fed_rules.specs.Reopened.{coord_read, opened_coordinator}
 use Rattle.fed_rules.specs.Usable.{CommitOnce, IsCommitOf}
 use Rattle.fed_rules.specs.Usable as Usable
-use Rattle.rules_laws.proofs.CoordPasts.{IsActive}
+use Rattle.rules_laws.specs.Active.{IsActive}
 use Rattle.rules_laws.proofs.CoordRecords.{none_committed}
 use Rattle.coord_laws.specs.Pasts.{IsGoingOn, IsNextLine, NameDeclared}
 use Rattle.coord_laws.proofs.Begun.{begun_answer}

@@ -28,6 +28,7 @@ use Rattle.coord_tables.specs.Waiting.{ticket_in, waiting}
 use Rattle.coord_tables.proofs.Lines.{IsAsBefore, known_stays, live_stays, sites_stay}
 use Rattle.coord_tables.proofs.Serving.{open_same}
 use Rattle.coord_tables.proofs.Waiting.{noted_more, noted_stays}
+use Rattle.mdb_base.proofs.BoolLaws.{or_swapped}
 
 -- what holds of an attempt and of each other one holds of all
 pub by_tid : (P : Tid → Type 0) (tid : Tid) → P tid → ((t : Tid) → same_tid tid t ≡ false → P t) → (t : Tid) → P t
@@ -68,12 +69,6 @@ pub record Sends (past : CoordPast) (x : CoordHappening) (tid : Tid) (taken : Op
   pub counted : counted (x ∷ past) tid ≡ with_some (reply_in taken) (counted past tid)
   pub takes : some_of (is_take_of tid) x.sends ≡ some_take
   pub prepares : some_of (is_prepare_of tid) x.sends ≡ some_prepare
-
-or_turned : (a b : Bool) → (a || b) ≡ (b || a)
-or_turned true true = refl
-or_turned true false = refl
-or_turned false true = refl
-or_turned false false = refl
 
 -- the stage has the tickets of the one past, and is what the other says else
 record IsTakenOf (protocols : List Participant) (past now : CoordPast) (stage : Stage) : Type 0 where
@@ -133,10 +128,10 @@ module _ (protocols : List Participant) (past : CoordPast) (x : CoordHappening) 
         record {
           sites = sites_stay protocols past x stage.tid stage.sites own_here.program s.sites;
           takes =
-              or_turned stage.takes takes
+              or_swapped stage.takes takes
               ∙ ap₂ (λ a b. a || b) (sym own_here.takes) s.takes;
           prepares =
-              or_turned stage.prepares prepares
+              or_swapped stage.prepares prepares
               ∙ ap₂ (λ a b. a || b) (sym own_here.prepares) s.prepares;
           tickets = s.tickets;
         }

@@ -1,42 +1,33 @@
 -- What a tree by transaction has after an entry was put or written.
-use Rattle.std.proofs.Common.{◌≡◌, ℕ, ◌+◌, ◌<◌, [], ◌∷◌, ◌++◌, length, map, take, get_or, Bool, true, false, cond, Option, Some, None, IsSome, List, refl, sym, ap, ◌∙◌, arith}
-use Rattle.std.specs.Cmp.{IsTotalOrder, eq_by_cmp_equiv, nat_cmp_total}
-use Rattle.std.specs.Ordering.{eq_by_cmp, is_eq}
+use Rattle.std.proofs.Common.{◌≡◌, ℕ, ◌+◌, ◌<◌, [], ◌∷◌, ◌++◌, length, map, take, get_or, Bool, true, false, cond, Option, Some, None, IsSome, List, refl, sym, ap, ◌∙◌}
+use Rattle.std.specs.Cmp.{eq_by_cmp_equiv}
+use Rattle.std.specs.Ordering.{eq_by_cmp}
 use Rattle.std.specs.BTreeMap.{is_at}
 use Rattle.std.specs.Map.{set_value}
-use Rattle.std.proofs.lemmas.Bool.Decides.{nat_tests}
-use Rattle.std.proofs.lemmas.List.{reverse-append, take_more}
-use Rattle.std.proofs.lemmas.Cmp.{on_total}
+use Rattle.std.proofs.lemmas.List.{reverse-append, take_more, map_push}
 use Rattle.std.proofs.lemmas.Map.{lookup-set_value}
 use Rattle.mdb_base.specs.declared.names.Tid.{Tid}
 use Rattle.mdb_base.specs.declared.names.Tx.{Tx}
-use Rattle.mdb_base.specs.Names.{same_tx}
+use Rattle.mdb_base.specs.Names.{same_tx, tx_cmp}
 use Rattle.mdb_base.specs.Words.{first_where, or_else}
-use Rattle.order_laws.proofs.Reversed.{map_push}
 use Rattle.fed_rules.specs.declared.sums.CommittedAttempt.{CommittedAttempt}
 use Rattle.coord_tables.specs.Attempts.{last_of}
-use Rattle.coord_tables.specs.Trees.{committed_in, entry_of, tx_cmp}
-
--- transactions tie where they are the same
-pub ties : (a b : Tx) → is_eq (tx_cmp a b) ≡ same_tx a b
-ties a b = grind (arith, nat_tests)
-
-total : IsTotalOrder tx_cmp
-total = on_total (λ t. t.0) nat_cmp_total
+use Rattle.coord_tables.specs.Trees.{committed_in, entry_of}
+use Rattle.mdb_base.proofs.NameOrders.{tx_ties, txs_total}
 
 own_test : (t x y : Tx) → eq_by_cmp tx_cmp t x ≡ true → eq_by_cmp tx_cmp t y ≡ eq_by_cmp tx_cmp x y
-own_test t x y e = (eq_by_cmp_equiv total).congr t x y e
+own_test t x y e = (eq_by_cmp_equiv txs_total).congr t x y e
 
 -- one entry differs
 pub entry_put : {X : Type 0} (old new : List (Tx × X)) (t : Tx) (v : X) → ((q : Tx) → entry_of new q ≡ cond (is_at (tx_cmp t) q) (Some v) (entry_of old q))
     → (q : Tx) → entry_of new q ≡ cond (same_tx t q) (Some v) (entry_of old q)
-entry_put old new t v h q = h q ∙ ap (λ (b : Bool). cond b (Some v) (entry_of old q)) (ties t q)
+entry_put old new t v h q = h q ∙ ap (λ (b : Bool). cond b (Some v) (entry_of old q)) (tx_ties t q)
 
 -- a value was written in place of one
 pub entry_set : {X : Type 0} (old new : List (Tx × X)) (t : Tx) (v : X) → new ≡ set_value (is_at (tx_cmp t)) old v → IsSome (entry_of old t)
     → (q : Tx) → entry_of new q ≡ cond (same_tx t q) (Some v) (entry_of old q)
 entry_set {X} old new t v is there =
-    entry_put old new t v (λ q. ap (λ (es : List (Tx × X)). entry_of es q) is ∙ lookup-set_value (eq_by_cmp_equiv total) (is_at (tx_cmp t)) (own_test t) q v old there)
+    entry_put old new t v (λ q. ap (λ (es : List (Tx × X)). entry_of es q) is ∙ lookup-set_value (eq_by_cmp_equiv txs_total) (is_at (tx_cmp t)) (own_test t) q v old there)
 
 -- so it is with the value or one that stands for none
 pub value_put : {X : Type 0} (d v : X) (old new : List (Tx × X)) (t : Tx) → ((q : Tx) → entry_of new q ≡ cond (same_tx t q) (Some v) (entry_of old q))

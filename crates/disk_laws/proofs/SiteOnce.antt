@@ -28,8 +28,7 @@ use Rattle.site_history.proofs.UsableSites.{locals_from}
 use Rattle.site_history.specs.Records.{Binds, BindOnce}
 use Rattle.site_history.specs.SiteOrders.{OfSortedEvents}
 use Rattle.site_history.proofs.Histories.{IsSortedRecord}
-use Rattle.site_history.proofs.Records.{doubt_in, record_of}
-use Rattle.site_history.proofs.Starts.{doubt_tid}
+use Rattle.site_history.proofs.Records.{doubt_in, record_of, doubt_prepared}
 use Rattle.site_history.proofs.SitesOfStories.{of_events, sites_serial, stories_right}
 use Rattle.site_history.proofs.WellKept.{StartsWell, well_past}
 use Rattle.site_history.specs.Sums.{AreSums, ComeInOrder}
@@ -299,14 +298,6 @@ sum_no home local tx before s (inl m) =
     here (x ∷ hs) h (inl e) = inl (ap (λ (y : Held). y.tid) e)
     here (x ∷ hs) h (inr i) = inr (here hs h i)
 sum_no home local tx before s (inr (t, owned, e)) = ap local (sym e) ∙ prepared_no local t before s (owner_prepared before t owned)
-
-doubt_prepared : (rs : List SiteRecord) (t : Tid) (held : Held) → doubt_of rs t ≡ Some held → Among (IsPreparedOf t) rs
-doubt_prepared rs t held e = place rs (record_of held) (doubt_in rs t held e) (doubt_tid rs t held e)
-  where
-    place : (xs : List SiteRecord) (r : SiteRecord) → In r xs → IsPreparedOf t r → Among (IsPreparedOf t) xs
-    place [] r i p = i
-    place (x ∷ xs) r (inl q) p = inl (subst (IsPreparedOf t) (sym q) p)
-    place (x ∷ xs) r (inr i) p = inr (place xs r i p)
 
 global_no : (home : Home) (local : Tx → Bool) (tx : Tx) (rs : List SiteRecord) → AreSums home rs → Each (IsSortedRecord local) rs → AreWritten rs → Among (IsGlobalOf tx) rs → local tx ≡ false
 global_no home local tx [] a s w m = absurd m

@@ -16,6 +16,7 @@ use Rattle.fed_rules.specs.Usable.{counted}
 use Rattle.site_history.proofs.Behind.{carried_same, doubt_behind, unsorted}
 use Rattle.site_history.proofs.Doubtful.{doubts_alike}
 use Rattle.site_history.proofs.Founded.{foundation}
+use Rattle.site_history.proofs.Records.{locals_undoubted}
 
 -- what counts of a first Checkpoint
 abbrev pub counts_as : SiteSum → List SiteRecord
@@ -41,16 +42,11 @@ count_founded home (Prepared t e n k w ∷ newer) = ap (λ xs. Prepared t e n k 
 count_founded home (Ended t d ∷ newer) = ap (λ xs. Ended t d ∷ xs) (count_founded home newer)
 count_founded home (Local t n w ∷ newer) = ap (λ xs. Local t n w ∷ xs) (count_founded home newer)
 
--- the locals that a Checkpoint has are in doubt of nothing
-no_doubts : (n : ℕ) (tids : List Tid) (tid : Tid) → doubt_of (map (local_read n) tids) tid ≡ None
-no_doubts n [] tid = refl
-no_doubts n (t ∷ tids) tid = no_doubts n tids tid
-
 same_doubt : (home : Home) (before : List SiteRecord) (tid : Tid) → doubt_of (counts_as (site_sum home before)) tid ≡ doubt_of (Checkpoint (site_sum home before) ∷ before) tid
 same_doubt home before tid =
     let sum = site_sum home before in
     let none : List SiteRecord = [] in
-    doubt_behind (carried sum.doubtful) none (map (local_read sum.counter) sum.locals) (λ t. no_doubts sum.counter sum.locals t) tid
+    doubt_behind (carried sum.doubtful) none (map (local_read sum.counter) sum.locals) (λ t. locals_undoubted sum.counter sum.locals t) tid
     ∙ ap (λ rs. doubt_of rs tid) (append_nil (carried sum.doubtful))
     ∙ carried_same before tid
 

@@ -7,9 +7,9 @@ use Rattle.mdb_base.specs.declared.names.Key.{Key}
 use Rattle.mdb_base.specs.declared.replies.Reply.{Reply}
 use Rattle.mdb_base.specs.declared.replies.Why.{Why}
 use Rattle.mdb_base.specs.Rows.{look_up}
-use Rattle.mdb_base.specs.Words.{Each, those, least, greatest}
+use Rattle.mdb_base.specs.Words.{Each, those, least, greatest, is_empty}
 use Rattle.fed_rules.specs.Runs.{Start, EngineLine, Run, unended, committed, committed_since, published, is_sealed, number, table}
-use Rattle.fed_rules.specs.Replies.{is_in_the_way, has_written, has_read, is_other, is_younger, is_empty, key_of, access_key, age_of, wait_die, late_or_wait, older_writers, younger_in_the_way, or_why, invalid_by, moved, Rule, locking, timestamp, validation, multiversion}
+use Rattle.fed_rules.specs.Replies.{is_in_the_way, has_written, has_read, is_other, is_younger, key_of, access_key, age_of, wait_die, late_or_wait, older_writers, younger_in_the_way, or_why, invalid_by, moved, Rule, locking, timestamp, validation, multiversion}
 use Rattle.fed_rules.specs.EngineLines.{IsRight, IsRightBy, IsStart}
 use Rattle.fed_rules.specs.SerialRuns.{IsSerial}
 use Rattle.engine_laws.specs.Laws.{IsLeft, EachOnce}

@@ -1,5 +1,6 @@
 pub mod Spelled
 pub mod Opened
+pub mod RunLines
 mod EmptySession
 mod FinishedAlone
 mod OneLocalTransaction

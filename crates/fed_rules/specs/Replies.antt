@@ -2,7 +2,7 @@
 -- Strict two-phase locking with wait-die, strict timestamp order and multiversion timestamp order are of Bernstein, Hadzilacos and Goodman (1987),
 -- backward validation of Härder (1984), tickets of Georgakopoulos, Rusinkiewicz and Sheth (1994). Prepared runs in validation, and that a ticket is published at
 -- sealing, are this project's profile.
-use Rattle.std.specs.Prelude.{ℕ, ◌+◌, nat_lt, Bool, true, false, cond, not, ◌&&◌, ◌==◌, Option, Some, None, List, [], ◌∷◌, ◌++◌, map}
+use Rattle.std.specs.Prelude.{ℕ, ◌+◌, nat_lt, Bool, true, false, cond, not, ◌&&◌, ◌==◌, Option, Some, None, List, ◌++◌, map}
 use Rattle.mdb_base.specs.declared.names.Engine.{Engine}
 use Rattle.mdb_base.specs.declared.names.Engine.TheVariants.{Locking, Timestamp, Validation, Multiversion}
 use Rattle.mdb_base.specs.declared.names.Key.{Key}
@@ -15,7 +15,7 @@ use Rattle.mdb_base.specs.declared.replies.Why.{Why}
 use Rattle.mdb_base.specs.declared.replies.Why.TheVariants.{Die, Late, Invalid, TicketMoved}
 use Rattle.mdb_base.specs.Names.{same_tid, same_key}
 use Rattle.mdb_base.specs.Rows.{Table, look_up}
-use Rattle.mdb_base.specs.Words.{some_of, those, least, greatest}
+use Rattle.mdb_base.specs.Words.{some_of, those, least, greatest, is_empty}
 use Rattle.fed_rules.specs.Runs.{Start, EngineLine, Access, Got, Wrote, Run, unended, committed, aborted, committed_since, published, owner, counter, is_sealed, has_ticket, number, after, table_of, table}
 
 -- whether an act conflicts with an access of another run: the same key, and one of them a write
@@ -118,10 +118,6 @@ abbrev pub spoilers : Start → List EngineLine → Run → Key → List Run
 spoilers start lines me key =
     those (λ run. has_read key me && has_written key run) (committed_since start lines me.tid)
     ++ those (λ run. is_other me run && is_sealed run && has_written key run) (unended start lines)
-
-abbrev pub is_empty : {A : Type 0} → List A → Bool
-is_empty [] = true
-is_empty (x ∷ xs) = false
 
 -- Validation: the keys read or written that are bad
 abbrev pub bad_keys : Start → List EngineLine → Run → List Key

@@ -1,6 +1,6 @@
 -- When a list of printed lines is right: each line's answer and places are those of the story of the commands before it.
 -- One thing is free: which cycle a refusal prints. It is a cycle of ticket edges that begins and ends at the refused attempt.
-use Rattle.std.specs.Prelude.{◌≡◌, Some, List, [], ◌∷◌, map}
+use Rattle.std.specs.Prelude.{◌≡◌, Some, List, [], ◌∷◌, map, reverse}
 use Rattle.mdb_base.specs.declared.names.Tid.{Tid}
 use Rattle.mdb_base.specs.declared.replies.Edge.{Edge}
 use Rattle.presumptions.specs.declared.Participant.{Participant}
@@ -8,6 +8,7 @@ use Rattle.order_laws.specs.Tickets.{Ticketed, IsCycle}
 use Rattle.fed_rules.specs.declared.answers.Answer.{Answer}
 use Rattle.fed_rules.specs.declared.answers.Answer.TheVariants as Say
 use Rattle.fed_rules.specs.declared.answers.Cause.TheVariants as For
+use Rattle.fed_rules.specs.declared.commands.Command.{Command}
 use Rattle.fed_rules.specs.declared.commands.Line.{Line}
 use Rattle.fed_rules.specs.declared.events.CoordEvent.{CoordEvent}
 use Rattle.fed_rules.specs.declared.events.CoordEvent.TheVariants as Ev
@@ -57,3 +58,8 @@ story_told scenario lines = story_of scenario (map (λ line. line.command) lines
 abbrev pub IsRightStory : Scenario → List Line → Type 0
 IsRightStory scenario [] = Unit {0}
 IsRightStory scenario (line ∷ lines) = IsRightStory scenario lines × IsNext scenario (story_told scenario lines) line
+
+-- these are the right lines of these commands, the first line first
+pub record AreLines (lines : List Line) (scenario : Scenario) (commands : List Command) : Type 0 where
+  pub commands_are : map (λ line. line.command) (reverse lines) ≡ commands
+  pub right : IsRightStory scenario (reverse lines)

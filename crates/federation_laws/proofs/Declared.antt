@@ -1,9 +1,10 @@
 -- The declared sites of a scenario, and their orders.
-use Rattle.std.proofs.Common.{◌∙◌, ◌≡◌, Bool, true, false, cond, nat_lt, ◌⊎◌, Option, Some, None, List, [], ◌∷◌, refl, sym, ap, subst, map, inl, inr}
+use Rattle.std.proofs.Common.{◌∙◌, ◌≡◌, ◌<◌, Bool, true, false, cond, nat_lt, ◌⊎◌, Option, Some, None, List, [], ◌∷◌, refl, sym, ap, subst, map, inl, inr, arith, leb-true}
+use Rattle.std.proofs.lemmas.Bool.{and_parts}
 use Rattle.mdb_base.specs.declared.names.SiteId.{SiteId}
 use Rattle.mdb_base.specs.declared.names.Tid.{Tid}
 use Rattle.mdb_base.specs.Names.{same_site}
-use Rattle.mdb_base.specs.Words.{Among, inserted}
+use Rattle.mdb_base.specs.Words.{Among, each_of, inserted}
 use Rattle.mdb_base.proofs.NameLaws.{same_site-equal, same_site-refl}
 use Rattle.mdb_base.proofs.OptionLaws.{some_parts}
 use Rattle.presumptions.specs.declared.Participant.{Participant}
@@ -12,6 +13,7 @@ use Rattle.order_laws.proofs.Lists.{map_among}
 use Rattle.fed_rules.specs.declared.scenario.ItemLine.{ItemLine}
 use Rattle.fed_rules.specs.declared.scenario.Scenario.{Scenario}
 use Rattle.fed_rules.specs.declared.scenario.SiteLine.{SiteLine}
+use Rattle.fed_rules.specs.Plans.{AreSites, is_between}
 use Rattle.fed_rules.specs.Orders.{is_committed, records_at, order_at, orders}
 use Rattle.fed_rules.specs.Scenarios.{home_in, home_of, items_of, protocols_in, protocols, sites}
 use Rattle.fed_rules.specs.SiteRecords.{Home, order_of}
@@ -115,3 +117,23 @@ undeclared (line ∷ lines) items s e i = by_test (same_site line.site s) refl e
     by_test true q e h c = cc
     by_test false q e h (inl own) = (let yes : same_site line.site s ≡ true = subst (λ z. same_site line.site z ≡ true) own (same_site-refl line.site) in let clash = sym yes ∙ q in cc)
     by_test false q e h (inr j) = h e j
+
+-- the number of a declared site isn't that of the coordinator
+numbered : (lines : List SiteLine) (items : List ItemLine) (site : SiteId) (home : Home) → each_of (λ line. is_between 1 8 line.site.0) lines ≡ true → home_in lines items site ≡ Some home → 0 < site.0
+numbered [] items site home r e = cc
+numbered (line ∷ lines) items site home r e = by_test (same_site line.site site) refl e (numbered lines items site home)
+  where
+    parts : (is_between 1 8 line.site.0 ≡ true) × (each_of (λ l. is_between 1 8 l.site.0) lines ≡ true)
+    parts = and_parts (is_between 1 8 line.site.0) (each_of (λ l. is_between 1 8 l.site.0) lines) r
+
+    some : 0 < line.site.0
+    some = let least = leb-true 1 line.site.0 (and_parts _ _ parts.0).0 in omega arith
+
+    by_test : (b : Bool) → same_site line.site site ≡ b
+        → cond b (Some (record { site = line.site; engine = line.engine; protocol = line.protocol; items = items_of items site })) (home_in lines items site) ≡ Some home
+        → (each_of (λ l. is_between 1 8 l.site.0) lines ≡ true → home_in lines items site ≡ Some home → 0 < site.0) → 0 < site.0
+    by_test true q e k = subst (λ s. 0 < s.0) (same_site-equal line.site site q) some
+    by_test false q e k = k parts.1 e
+
+pub number_some : (scenario : Scenario) (site : SiteId) (home : Home) → AreSites scenario.sites → home_of scenario site ≡ Some home → 0 < site.0
+number_some scenario site home whole d = numbered scenario.sites scenario.items site home whole.range d

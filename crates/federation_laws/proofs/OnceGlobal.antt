@@ -21,7 +21,7 @@ use Rattle.federation_laws.proofs.StoryGlobals.{coord-made}
 use Rattle.federation_laws.proofs.Told.{IsLine, line_is}
 use Rattle.std.proofs.lemmas.Bool.{or_left}
 use Rattle.mdb_base.proofs.NameLaws.{same_tid-equal, same_tx-from}
-use Rattle.rules_laws.proofs.CoordPasts.{IsActive}
+use Rattle.rules_laws.specs.Active.{IsActive}
 use Rattle.rules_laws.proofs.CoordRecords.{none_committed}
 use Rattle.coord_laws.proofs.Begins.{begins_same, made-begins, active_from}
 

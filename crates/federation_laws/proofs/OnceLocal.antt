@@ -35,16 +35,16 @@ use Rattle.site_history.proofs.Agreement.{live_is}
 use Rattle.federation_laws.proofs.Told.{SiteCause, IsSiteLine, IsLine, line_is}
 
 -- a run of the attempt is live, or a Local record of it is kept
-abbrev pub IsActive : Home → SitePast → Tid → Type 0
-IsActive home past t = ((run : Run) × (live home past t ≡ Some run)) ⊎ IsLocal (records home past) t
+abbrev pub IsActiveThere : Home → SitePast → Tid → Type 0
+IsActiveThere home past t = ((run : Run) × (live home past t ≡ Some run)) ⊎ IsLocal (records home past) t
 
 -- no two attempts of the site's own transactions are so
 abbrev pub LocalOnce : Scenario → Home → SitePast → Type 0
 LocalOnce scenario home past =
-    (a b : Tid) → local_home scenario a.tx ≡ Some home → a.tx ≡ b.tx → IsActive home past a → IsActive home past b → a ≡ b
+    (a b : Tid) → local_home scenario a.tx ≡ Some home → a.tx ≡ b.tx → IsActiveThere home past a → IsActiveThere home past b → a ≡ b
 
 -- who is active after a line was so, or begins
-active-from : (home : Home) (past : SitePast) (event : SiteEvent) (x : SiteHappening) (t : Tid) → LocalMove home past t event x → IsActive home (x ∷ past) t → IsActive home past t ⊎ Opens home past t event x
+active-from : (home : Home) (past : SitePast) (event : SiteEvent) (x : SiteHappening) (t : Tid) → LocalMove home past t event x → IsActiveThere home (x ∷ past) t → IsActiveThere home past t ⊎ Opens home past t event x
 active-from home past event x t (Rests i s) (inl l) = inl (inl (l.0, sym s ∙ l.1))
 active-from home past event x t (Gone i none) (inl l) = (let found = l.1 in let clash = sym none ∙ found in cc)
 active-from home past event x t (Opening o) (inl l) = inr o
@@ -110,7 +110,7 @@ none-live home past tx t run right none s alive = (let clash = sym passes ∙ fa
     passes = ap (λ b. b && not (is_sealed run)) (same_tx-from run.tid.tx tx (ap (λ (u : Tid). u.tx) own ∙ s)) ∙ ap (λ (o : Option ℕ). not (is_some o)) at.1
 
 -- where an attempt begins, no other one of its transaction is active
-opens-alone : (home : Home) (past : SitePast) (event : SiteEvent) (x : SiteHappening) (a b : Tid) → IsRight (epoch_start home past) (engine_lines past) → Opens home past a event x → b.tx ≡ a.tx → IsActive home past b → ⊥
+opens-alone : (home : Home) (past : SitePast) (event : SiteEvent) (x : SiteHappening) (a b : Tid) → IsRight (epoch_start home past) (engine_lines past) → Opens home past a event x → b.tx ≡ a.tx → IsActiveThere home past b → ⊥
 opens-alone home past event x a b right o s (inl l) = none-live home past a.tx b l.0 right o.alone s l.1
 opens-alone home past event x a b right o s (inr l) = none-local (records home past) a.tx b l.number l.writes o.uncommitted s l.kept
 
@@ -121,7 +121,7 @@ once-next : (scenario : Scenario) (home : Home) (past : SitePast) (event : SiteE
 once-next scenario home past event x right moves h a b here s p q =
     either (active-from home past event x a (moves a here) p) (active-from home past event x b (moves b (ap (local_home scenario) (sym s) ∙ here)) q)
   where
-    either : IsActive home past a ⊎ Opens home past a event x → IsActive home past b ⊎ Opens home past b event x → a ≡ b
+    either : IsActiveThere home past a ⊎ Opens home past a event x → IsActiveThere home past b ⊎ Opens home past b event x → a ≡ b
     either (inl p) (inl q) = h a b here s p q
     either (inl p) (inr q) = absurd (opens-alone home past event x b a right q s p)
     either (inr p) (inl q) = absurd (opens-alone home past event x a b right p (sym s) q)

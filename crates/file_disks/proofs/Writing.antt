@@ -1,17 +1,15 @@
 -- One write more.
-use Rattle.std.proofs.Common.{◌≡◌, ℕ, ◌+◌, ◌-◌, ◌≤◌, List, ◌++◌, length, take, drop, sym, ◌∙◌, ap, arith, append_assoc, length-append, length-drop, length-take-le, take_all, take-add}
+use Rattle.std.proofs.Common.{◌≡◌, ℕ, ◌+◌, ◌-◌, ◌≤◌, List, ◌++◌, length, take, drop, sym, ◌∙◌, ap, arith, append_assoc, length-append, length-drop, length-take-le, take-add}
 use Rattle.journal_disk.specs.Disk.{Image, appended}
 use Rattle.file_disks.specs.Files.{IsEnd}
-
-rest-of : (piece : List ℕ) (done : ℕ) → take (length piece - done) (drop done piece) ≡ drop done piece
-rest-of piece done = let e = length-drop done piece in take_all (length piece - done) (drop done piece) (omega (arith, e))
+use Rattle.mdb_base.proofs.PlaceLaws.{take_left}
 
 -- a front of the rest goes behind the front that was written
 pub appended-more : (piece : List ℕ) (before : Image) (done count : ℕ) → appended (take count (take (length piece - done) (drop done piece))) (appended (take done piece) before) ≡ appended (take (done + count) piece) before
 appended-more piece before done count =
     let make : List ℕ → Image = λ bytes. record { bytes = bytes; synced = before.synced } in
     ap make (append_assoc before.bytes (take done piece) (take count (take (length piece - done) (drop done piece)))
-    ∙ ap (λ rest. before.bytes ++ (take done piece ++ take count rest)) (rest-of piece done)
+    ∙ ap (λ rest. before.bytes ++ (take done piece ++ take count rest)) (take_left piece done)
     ∙ ap (λ front. before.bytes ++ front) (sym (take-add done count piece)))
 
 -- the next byte stands behind the front that was written
@@ -25,6 +23,6 @@ next-end piece before now done place within at e =
 -- the front that is written is one of the piece
 pub within-more : (piece : List ℕ) (done count : ℕ) → done ≤ length piece → count ≤ length (take (length piece - done) (drop done piece)) → done + count ≤ length piece
 within-more piece done count within le =
-    let a = ap length (rest-of piece done) in
+    let a = ap length (take_left piece done) in
     let b = length-drop done piece in
     omega (arith, a, b, within, le)

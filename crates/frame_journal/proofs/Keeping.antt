@@ -19,6 +19,10 @@ pub length-frames : (ps : List Frame) → length (frames ps) ≡ frames_size ps
 length-frames [] = refl
 length-frames (p ∷ ps) = length-append (frame_bytes p) (frames ps) ∙ ap (λ (n : ℕ). frame_size p + n) (length-frames ps)
 
+pub frames_append : (ps qs : List Frame) → frames (ps ++ qs) ≡ frames ps ++ frames qs
+frames_append [] qs = refl
+frames_append (p ∷ ps) qs = ap (λ rest. frame_bytes p ++ rest) (frames_append ps qs) ∙ sym (append_assoc (frame_bytes p) (frames ps) (frames qs))
+
 -- frames alone are whole
 pub frames_are_whole : (ps : List Frame) → AreRight ps → AreWhole (frames ps) ps
 frames_are_whole ps right = record { right = right; rest = []; parts = sym (append-nil (frames ps)); is_torn = none_is_part }

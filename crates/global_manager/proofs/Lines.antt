@@ -4,12 +4,11 @@ use Rattle.std.specs.FinMap.{FinMap, get}
 use Rattle.mdb_base.specs.declared.acts.Step.{Step}
 use Rattle.mdb_base.specs.declared.names.SiteId.{SiteId}
 use Rattle.mdb_base.specs.declared.names.Tx.{Tx}
-use Rattle.mdb_base.specs.Names.{same_tx}
+use Rattle.mdb_base.specs.Names.{same_tx, tx_cmp}
 use Rattle.mdb_base.specs.Words.{Each, first_where}
 use Rattle.presumptions.specs.declared.Participant.{Participant}
 use Rattle.fed_rules.specs.declared.scenario.TxLine.{TxLine}
-use Rattle.site_book.specs.Book.{tx_cmp}
-use Rattle.site_book.proofs.Keys.{tx_ties, txs_exact, txs_total}
+use Rattle.mdb_base.proofs.NameOrders.{tx_ties, txs_total, txs_exact}
 use Rattle.site_book.proofs.Maps.{get-gone, get-put}
 use Rattle.global_manager.specs.Stands.{IsDeclared, IsSited, IsSitedFrom, noted, own_programs, program_at}
 

@@ -5,7 +5,7 @@ use Rattle.mdb_base.specs.declared.acts.Step.{Step}
 use Rattle.mdb_base.specs.declared.names.SiteId.{SiteId}
 use Rattle.mdb_base.specs.declared.names.Tid.{Tid}
 use Rattle.mdb_base.specs.declared.names.Tx.{Tx}
-use Rattle.mdb_base.specs.Names.{same_tx}
+use Rattle.mdb_base.specs.Names.{same_tx, tx_cmp}
 use Rattle.mdb_base.specs.Words.{Each, first_where, map_some}
 use Rattle.presumptions.specs.declared.Participant.{Participant}
 use Rattle.fed_rules.specs.declared.answers.Answer.{Answer}
@@ -25,7 +25,6 @@ use Rattle.journal_disk.specs.Disk.{Seen}
 use Rattle.actor_store.specs.declared.errors.StepErr.{StepErr}
 use Rattle.actor_store.specs.declared.errors.StepErr.TheVariants as Err_is
 use Rattle.fed_rules.specs.Terms.{IsAmong}
-use Rattle.site_book.specs.Book.{tx_cmp}
 use Rattle.coord_core.specs.Stands.{Holds, Stands as CoreStands, stopped_before, stopped_within, with_trip}
 use Rattle.coord_core.specs.Steps.{CanStep}
 use Rattle.coord_tables.specs.Terms.{Terms, line_of}

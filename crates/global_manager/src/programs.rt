@@ -2,7 +2,7 @@
 ghost use Rattle.std.specs.Prelude.{◌≡◌, IfOk, OnOk, Some};
 ghost use Rattle.std.specs.Option.{option_copied};
 ghost use Rattle.std.specs.FinMap.{from_entries, get, insert, remove};
-ghost use Rattle.site_book.specs.Book.{tx_cmp};
+ghost use Rattle.mdb_base.specs.Names.{tx_cmp};
 ghost use Rattle.global_manager.specs.Stands.{noted, own_programs, program_at};
 
 use fed_rules::TxLine;

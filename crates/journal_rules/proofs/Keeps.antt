@@ -2,14 +2,14 @@
 use Rattle.std.proofs.Common.{◌≡◌, ℕ, ◌+◌, ◌-◌, ◌<◌, ◌≤◌, min, Bool, true, false, cond, leb, List, [], ◌∷◌, ◌++◌, length, take, map, refl, sym, ap, ◌∙◌, arith, inl, inr, subst, drop}
 use Rattle.std.specs.Prelude.{reverse}
 use Rattle.std.proofs.lemmas.Bool.{cases_lt, le-leb, lt-leb, ltb-false}
-use Rattle.std.proofs.lemmas.List.{length-append, length-take-le, reverse-append, take_all, take-append-drop}
+use Rattle.std.proofs.lemmas.List.{length-append, length-take-le, map-append, reverse-append, take_all, take-append-drop, append_assoc}
 use Rattle.fed_rules.specs.Disk.{Call, Append, Sync, CutBack, TrimFront, Stops, Disk, before_last, bytes_of, whole, after_call, after_calls, empty_disk, is_torn, standing, journal}
 use Rattle.journal_disk.specs.Disk.{Image, no_bytes, appended, cut_to, stopped, kept_bytes, trimmed_to}
-use Rattle.journal_disk.specs.Frames.{Frame, IsPayload, AreRight, frame, frame_bytes, frame_size, frames}
+use Rattle.journal_disk.specs.Frames.{Frame, IsPayload, AreRight, frame, frame_size, frames}
 use Rattle.journal_disk.proofs.Whole.{written_is_frame}
 use Rattle.frame_journal.specs.Records.{AreRecordsOf, spelled, spelled_size, records_within}
 use Rattle.frame_journal.proofs.Apart.{whole_records}
-use Rattle.frame_journal.proofs.Keeping.{none_is_part, length-frames, cut_image, cut_holds, note_whole}
+use Rattle.frame_journal.proofs.Keeping.{none_is_part, length-frames, cut_image, cut_holds, note_whole, frames_append}
 use Rattle.frame_journal.proofs.Sizes.{spelled_size_push}
 use Rattle.frame_journal.proofs.Within.{within_all, within_last}
 use Rattle.journal_rules.specs.Stands.{StandsWhole, StandsFor, CountsFrames, with_front, record_frame, image_after, MayCome, image_after_calls, AllMayCome}
@@ -82,10 +82,6 @@ module _ {R : Type 0} (spelling : R → List ℕ) (size : R → ℕ) (counts : C
   -- what was trimmed put back in front
   same_image : {a b : List ℕ} {m n : ℕ} → a ≡ b → m ≡ n → (let i : Image = record { bytes = a; synced = m } in i) ≡ (let i : Image = record { bytes = b; synced = n } in i)
   same_image e f = cc
-
-  append_assoc : (xs ys zs : List ℕ) → (xs ++ ys) ++ zs ≡ xs ++ (ys ++ zs)
-  append_assoc [] ys zs = refl
-  append_assoc (x ∷ xs) ys zs = ap (λ rest. x ∷ rest) (append_assoc xs ys zs)
 
   take_behind : (front bytes : List ℕ) (n : ℕ) → length front ≤ n → take n (front ++ bytes) ≡ front ++ take (n - length front) bytes
   take_behind front bytes n le =
@@ -236,14 +232,6 @@ module _ {R : Type 0} (spelling : R → List ℕ) (size : R → ℕ) (counts : C
       ap (λ b. cond b (r ∷ standing size (bytes_of size older) (newer ++ older)) []) (le-leb _ _ (bytes_behind newer older))
       ∙ ap (λ rs. r ∷ rs) (standing_newer newer older)
 
-  frames_append : (xs ys : List Frame) → frames (xs ++ ys) ≡ frames xs ++ frames ys
-  frames_append [] ys = refl
-  frames_append (x ∷ xs) ys = ap (λ rest. frame_bytes x ++ rest) (frames_append xs ys) ∙ sym (append_assoc (frame_bytes x) (frames xs) (frames ys))
-
-  map_append : (xs ys : List R) → map (record_frame spelling) (xs ++ ys) ≡ map (record_frame spelling) xs ++ map (record_frame spelling) ys
-  map_append [] ys = refl
-  map_append (x ∷ xs) ys = ap (λ rest. record_frame spelling x ∷ rest) (map_append xs ys)
-
   right_behind : (xs ys : List Frame) → AreRight (xs ++ ys) → AreRight ys
   right_behind [] ys right = right
   right_behind (x ∷ xs) ys right = right_behind xs ys (record { are_frames = right.are_frames.1; are_right = right.are_right.1 })
@@ -263,7 +251,7 @@ module _ {R : Type 0} (spelling : R → List ℕ) (size : R → ℕ) (counts : C
       let newer = reverse s.newer in
       let turned : reverse disk.records ≡ older ++ newer = ap reverse s.parts ∙ reverse-append s.newer s.older in
       let is : reverse (journal size disk) ≡ newer = ap reverse (journal_is image disk s) in
-      let mapped : map (record_frame spelling) (reverse disk.records) ≡ map (record_frame spelling) older ++ map (record_frame spelling) newer = ap (map (record_frame spelling)) turned ∙ map_append older newer in
+      let mapped : map (record_frame spelling) (reverse disk.records) ≡ map (record_frame spelling) older ++ map (record_frame spelling) newer = ap (map (record_frame spelling)) turned ∙ map-append (record_frame spelling) older newer in
       let whole : s.front ++ image.bytes ≡ frames (map (record_frame spelling) older) ++ (frames (map (record_frame spelling) newer) ++ s.all.records.rest) =
       s.all.records.parts ∙ ap (λ ps. frames ps ++ s.all.records.rest) mapped
       ∙ ap (λ bs. bs ++ s.all.records.rest) (frames_append (map (record_frame spelling) older) (map (record_frame spelling) newer))

@@ -39,7 +39,7 @@ use Rattle.fed_rules.specs.Story.{Happened, AtSite, AtCoordinator, Nowhere, Stor
 use Rattle.coord_laws.proofs.Past.{decided_awaited, records_name}
 use Rattle.commit_laws.proofs.Links.{story_goes_on}
 use Rattle.commit_laws.proofs.Trips.{HasCalls as SiteArmed, trips_have_calls}
-use Rattle.closing_laws.proofs.Declared.{listed, number_some}
+use Rattle.federation_laws.proofs.Declared.{declared-in, number_some}
 use Rattle.federation_laws.proofs.ScenarioFacts.{global-declared, global_program-is, program_fits}
 use Rattle.rules_laws.specs.Lines.{CoordCause, IsCoordLine, IsSiteLine, SiteCause}
 use Rattle.rules_laws.proofs.Declared.{its-site, local-declared}
@@ -77,7 +77,7 @@ sender_member scenario commands site place message at = by_home (home_of scenari
     by_home None e = (let none : None ≡ Some message = sym (ap (λ (ms : List FromSite). item_at ms place) (messages_declared scenario commands site e).1) ∙ at in cc)
     by_home (Some home) e =
         let here : home.site ≡ site = its-site scenario site home e in
-        subst (IsMember (protocols scenario)) here (member_of scenario home.site (listed scenario home (ap (home_of scenario) here ∙ e)))
+        subst (IsMember (protocols scenario)) here (member_of scenario home.site (declared-in scenario home.site home (ap (home_of scenario) here ∙ e)))
 
 -- the program of a global transaction may begin
 pub sited_program : (scenario : Scenario) → IsScenario scenario → (tx : Tx) (steps : List Step) → global_program scenario tx ≡ Some steps

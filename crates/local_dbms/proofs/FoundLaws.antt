@@ -7,10 +7,9 @@ use Rattle.mdb_base.specs.declared.names.Tid.{Tid}
 use Rattle.mdb_base.specs.declared.names.Tx.{Tx}
 use Rattle.mdb_base.specs.Names.{same_tx}
 use Rattle.mdb_base.specs.Words.{some_of}
-use Rattle.mdb_base.proofs.BoolLaws.{or_false, or_true}
-use Rattle.mdb_base.proofs.JoinLaws.{reverse_more}
+use Rattle.mdb_base.proofs.BoolLaws.{or_false}
 use Rattle.mdb_base.proofs.NameLaws.{same_tx-equal}
-use Rattle.mdb_base.proofs.TestLaws.{some_of-push}
+use Rattle.mdb_base.proofs.TestLaws.{some_reverse}
 use Rattle.fed_rules.specs.declared.records.SiteRecord.{SiteRecord}
 use Rattle.fed_rules.specs.declared.records.SiteRecord.TheVariants as Rec
 use Rattle.fed_rules.specs.Found.{Journal}
@@ -28,16 +27,6 @@ use Rattle.local_dbms.proofs.OpenedOwned.{AreFound}
 pub cond_or : {A : Type 0} (a b : Bool) (x y : A) → cond a x (cond b x y) ≡ cond (a || b) x y
 cond_or true b x y = refl
 cond_or false b x y = refl
-
--- the order of the records doesn't matter
-or_comm : (a b : Bool) → (a || b) ≡ (b || a)
-or_comm true b = sym (or_true b)
-or_comm false b = sym (or_false b)
-
-some_reverse : {A : Type 0} (test : A → Bool) (xs : List A) → some_of test (reverse xs) ≡ some_of test xs
-some_reverse test [] = refl
-some_reverse test (x ∷ xs) =
-    ap (some_of test) (reverse_more x xs) ∙ some_of-push test (reverse xs) x ∙ ap (λ b. b || test x) (some_reverse test xs) ∙ or_comm (some_of test xs) (test x)
 
 -- what a record has as local its lines name as local
 no_held : (tx : Tx) (held : List Held) → was_local tx (map (λ (h : Held). named_global h.tid) held) ≡ false

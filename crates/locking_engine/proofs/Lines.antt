@@ -14,7 +14,7 @@ use Rattle.fed_rules.specs.Replies.{access_key, reads, writes, has_read, has_wri
 use Rattle.fed_rules.specs.EngineLines.{IsRightLine}
 use Rattle.engine_laws.proofs.LockingTickets.{locking_one_taker}
 use Rattle.engine_laws.proofs.Takers.{IsTaker, HasOneTaker}
-use Rattle.engine_laws.proofs.RunLines.{run_at_own, run_at_other}
+use Rattle.fed_rules.proofs.RunLines.{run_at_other, run_at_own}
 use Rattle.run_book.specs.declared.rival.Rival.{Rival}
 use Rattle.run_book.specs.Held.{Held, held_in}
 use Rattle.run_book.specs.Book.{grants, drops}

@@ -22,7 +22,7 @@ use Rattle.fed_rules.specs.EngineLines.{IsRightLine, IsFree, IsStart}
 use Rattle.engine_contract.specs.Calls.{start_from}
 use Rattle.engine_laws.proofs.LockingTickets.{locking_one_taker}
 use Rattle.engine_laws.proofs.Takers.{HasOneTaker}
-use Rattle.engine_laws.proofs.RunLines.{run_at_own, run_at_other}
+use Rattle.fed_rules.proofs.RunLines.{run_at_other, run_at_own}
 use Rattle.run_book.specs.declared.marks.Marks.{Marks}
 use Rattle.run_book.specs.declared.rival.Rival.{Rival}
 use Rattle.run_book.specs.Held.{Held, held_in}

@@ -46,7 +46,7 @@ use Rattle.federation_laws.proofs.LocalStories.{local-record}
 use Rattle.federation_laws.proofs.Members.{IsLocal}
 use Rattle.federation_laws.proofs.ScenarioFacts.{global_program-is}
 use Rattle.federation_laws.proofs.Told.{local_home-declared}
-use Rattle.closing_laws.proofs.Declared.{listed}
+use Rattle.federation_laws.proofs.Declared.{declared-in}
 use Rattle.closing_laws.proofs.Lengths.{distinct_in_others, numbers_differ}
 use Rattle.report_text.specs.Summaries.{is_global_commit, is_local_commit}
 use Rattle.made_laws.specs.Counted.{AreDone, CommitsAreCounted, kept_commits}
@@ -298,7 +298,7 @@ module _ (scenario : Scenario) (whole : IsScenario scenario) (commands : List Co
           let declared = local_home-declared scenario tx home e in
           let (t, i, same) = local_found tx (records home (past_of home.site story)) d in (
             t,
-            among_append (λ u. u ≡ t) (locals_at (sites scenario)) (tids_in kept) (in_all (sites scenario) home.site t (listed scenario home declared) (subst (λ o. In t (locals_in (records_at o story))) (sym declared) i)),
+            among_append (λ u. u ≡ t) (locals_at (sites scenario)) (tids_in kept) (in_all (sites scenario) home.site t (declared-in scenario home.site home declared) (subst (λ o. In t (locals_in (records_at o story))) (sym declared) i)),
             same,
           )
 

@@ -1,5 +1,5 @@
 -- Laws of tests and of their joins.
-use Rattle.std.proofs.Common.{◌≡◌, Bool, true, false, ◌&&◌, refl, ◌||◌, IsTrue, cond, not}
+use Rattle.std.proofs.Common.{◌≡◌, Bool, true, false, ◌&&◌, refl, ◌||◌, IsTrue, cond, not, sym}
 use Rattle.mdb_base.specs.Words.{when}
 
 pub and_false : (b : Bool) → (b && false) ≡ false
@@ -45,3 +45,15 @@ pub when_either : {A : Type 0} (P : A → Type 0) (b : Bool) (x y : A) → P x �
 unfolding when
 when_either P true x y p q = p
 when_either P false x y p q = q
+
+pub or_swapped : (a b : Bool) → (a || b) ≡ (b || a)
+or_swapped true b = sym (or_true b)
+or_swapped false b = sym (or_false b)
+
+pub and_fails : (a b : Bool) → b ≡ false → (a && b) ≡ false
+and_fails true b e = e
+and_fails false b e = refl
+
+pub or_fails : (a b : Bool) → (a || b) ≡ false → (a ≡ false) × (b ≡ false)
+or_fails true b e = cc
+or_fails false b e = (refl, e)

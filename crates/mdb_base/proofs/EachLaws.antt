@@ -1,5 +1,6 @@
 -- What holds of each item, or of some item, of a list.
 use Rattle.std.proofs.Common.{List, [], ◌∷◌, ◌++◌, ◌≡◌, ℕ, Some, slice_get, ◌∙◌, inl, inr, zero, suc, subst, ◌<◌, length, get_or, arith, refl, ◌⊎◌, Bool, true, false, cond, take, Option, None, map}
+use Rattle.std.specs.List.{AllByRecursion}
 use Rattle.mdb_base.specs.Words.{Each, Among, item_at, inserted, found, with_some}
 use Rattle.mdb_base.proofs.Words.{item_at-slice_get}
 
@@ -64,3 +65,12 @@ each_of_found {A} {B} P look (x ∷ xs) h = with-one (look x) (h x) (each_of_fou
 pub each_of_mapped : {A B : Type 0} (P : B → Type 0) (f : A → B) (xs : List A) → Each (λ x. P (f x)) xs → Each P (map f xs)
 each_of_mapped P f [] h = tt
 each_of_mapped P f (x ∷ xs) h = (h.0, each_of_mapped P f xs h.1)
+
+-- the same of std's word
+pub all_append : {A : Type 0} (P : A → Type 0) (xs ys : List A) → AllByRecursion P xs → AllByRecursion P ys → AllByRecursion P (xs ++ ys)
+all_append P [] ys h k = k
+all_append P (x ∷ xs) ys h k = (h.0, all_append P xs ys h.1 k)
+
+pub each_recursion : {A : Type 0} (P : A → Type 0) (xs : List A) → Each P xs → AllByRecursion P xs
+each_recursion P [] h = tt
+each_recursion P (x ∷ xs) h = (h.0, each_recursion P xs h.1)

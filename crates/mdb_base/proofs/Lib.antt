@@ -4,6 +4,7 @@ pub mod EachLaws
 pub mod JoinLaws
 pub mod ListLaws
 pub mod NameLaws
+pub mod NameOrders
 pub mod NumberLaws
 pub mod OptionLaws
 pub mod PlaceLaws

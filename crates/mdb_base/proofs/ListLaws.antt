@@ -1,7 +1,7 @@
 -- Laws of the words on lists.
 use Rattle.std.proofs.Common.{◌≡◌, ℕ, ◌≤◌, Bool, true, false, cond, ◌||◌, ltb, Option, Some, None, List, [], ◌∷◌, ◌++◌, map, refl, sym, ap, ◌∙◌, subst, inl, inr, arith, ltb-true, ltb-false}
 use Rattle.std.proofs.lemmas.Bool.{or_left, or_right}
-use Rattle.mdb_base.specs.Words.{Each, Among, some_of, those, found, with_some, inserted, least, lesser, greatest, greater}
+use Rattle.mdb_base.specs.Words.{Each, Among, some_of, those, found, with_some, inserted, least, lesser, greatest, greater, is_empty}
 
 -- what holds of each item and gives another fact, gives that of each
 pub each_map : {A : Type 0} (P Q : A → Type 0) → ((x : A) → P x → Q x) → (xs : List A) → Each P xs → Each Q xs
@@ -256,3 +256,7 @@ map_among f (x ∷ xs) = (
   each_map (λ y. Among (λ z. f z ≡ y) xs) (λ y. Among (λ z. f z ≡ y) (x ∷ xs)) (λ y m. inr m)
       (map f xs) (map_among f xs),
 )
+
+pub empty_means : {A : Type 0} (xs : List A) → is_empty xs ≡ true → xs ≡ []
+empty_means [] e = refl
+empty_means (x ∷ xs) e = cc

@@ -1,5 +1,5 @@
 -- The items of lists by their places.
-use Rattle.std.proofs.Common.{◌≡◌, ℕ, zero, suc, ◌<◌, Some, List, [], ◌∷◌, length, arith, slice_get, refl, drop, drop-cons, get_or, sym, ap₂, ◌∙◌, map, take, ◌++◌, ◌+◌, Option, None, option_to_list, ap, subst}
+use Rattle.std.proofs.Common.{◌≡◌, ℕ, zero, suc, ◌<◌, Some, List, [], ◌∷◌, length, arith, slice_get, refl, drop, drop-cons, get_or, sym, ap₂, ◌∙◌, map, take, ◌++◌, ◌+◌, Option, None, option_to_list, ap, subst, ◌-◌, length-drop, take_all}
 use Rattle.std.proofs.lemmas.Option.{same_Some}
 use Rattle.mdb_base.specs.Words.{item_at, found, with_some}
 
@@ -71,3 +71,7 @@ found_next {A} {B} look (y ∷ xs) (suc n) x e = subst (λ (k : ℕ). found look
   by_look : (o : Option B) → found look (take (n + 1) xs) ≡ found look (take n xs) ++ option_to_list (look x) → with_some o (found look (take (n + 1) xs)) ≡ with_some o (found look (take n xs)) ++ option_to_list (look x)
   by_look None h = h
   by_look (Some b) h = ap (λ (bs : List B). b ∷ bs) h
+
+-- as many items as are left are all that are left
+pub take_left : {A : Type 0} (xs : List A) (n : ℕ) → take (length xs - n) (drop n xs) ≡ drop n xs
+take_left xs n = let e = length-drop n xs in take_all (length xs - n) (drop n xs) (omega (arith, e))

@@ -1,8 +1,9 @@
 -- What a test answers over the items of a list.
 use Rattle.std.specs.List.{list_any, list_all}
-use Rattle.std.proofs.Common.{◌≡◌, Bool, ◌||◌, List, [], ◌∷◌, refl, ap, true, false, cond, Some, sym, ◌∙◌, ◌&&◌, suc, ◌≤◌, length, arith, ◌++◌, ◌+◌}
+use Rattle.std.proofs.Common.{◌≡◌, Bool, ◌||◌, List, [], ◌∷◌, refl, ap, true, false, cond, Some, sym, ◌∙◌, ◌&&◌, suc, ◌≤◌, length, arith, ◌++◌, ◌+◌, reverse}
 use Rattle.mdb_base.specs.Words.{some_of, first_where, each_of, how_many, those}
-use Rattle.mdb_base.proofs.BoolLaws.{or_false}
+use Rattle.mdb_base.proofs.BoolLaws.{or_false, or_swapped}
+use Rattle.std.proofs.lemmas.List.{reverse-append}
 
 pub some_of-list_any : {A : Type 0} (test : A → Bool) (xs : List A) → some_of test xs ≡ list_any test xs
 some_of-list_any test [] = refl
@@ -62,3 +63,9 @@ those-append_step test x xs ys false e = e
 pub those_append : {A : Type 0} (test : A → Bool) (xs ys : List A) → those test (xs ++ ys) ≡ those test xs ++ those test ys
 those_append test [] ys = refl
 those_append test (x ∷ xs) ys = those-append_step test x xs ys (test x) (those_append test xs ys)
+
+pub some_reverse : {A : Type 0} (test : A → Bool) (xs : List A) → some_of test (reverse xs) ≡ some_of test xs
+some_reverse test [] = refl
+some_reverse test (x ∷ xs) =
+    ap (some_of test) (reverse-append (x ∷ []) xs) ∙ some_of-push test (reverse xs) x ∙ ap (λ b. b || test x) (some_reverse test xs)
+    ∙ or_swapped (some_of test xs) (test x)

@@ -51,6 +51,11 @@ abbrev pub each_of : {A : Type 0} → (A → Bool) → List A → Bool
 each_of test [] = true
 each_of test (x ∷ xs) = test x && each_of test xs
 
+-- whether there is no item
+abbrev pub is_empty : {A : Type 0} → List A → Bool
+is_empty [] = true
+is_empty (x ∷ xs) = false
+
 -- how many items the test holds of
 abbrev pub how_many : {A : Type 0} → (A → Bool) → List A → ℕ
 how_many test [] = 0

@@ -1,6 +1,7 @@
 //! A list whose items rise by a number that each of them bears.
 ghost use Rattle.std.specs.Prelude.{◌≡◌, ◌<◌, ℕ, length, slice_get, Some};
 
+use std::alloc::AllocError;
 use std::marker::Model;
 
 /// What bears the number by which a rising list is kept.
@@ -68,5 +69,17 @@ impl<T: Keyed> Rising<T> {
     {
         let Rising { items } = self;
         items
+    }
+}
+
+/// The copy is the same list, in memory of its own.
+impl<T: Keyed + Copy> Clone for Rising<T> {
+    ghost is_clone = { λ list copy. copy ≡ list };
+
+    fn clone(&self) -> Result<Self, AllocError> {
+        let alloc = *self.items.allocator();
+        Ok(Rising {
+            items: Vec::from_slice(alloc, self.items.as_slice())?,
+        })
     }
 }

@@ -6,7 +6,7 @@ use Rattle.mdb_base.specs.declared.names.Tid.{Tid}
 use Rattle.fed_rules.specs.Runs.{Start, EngineLine, Begins, Seals, Run, begun, run_at, has_ticket}
 use Rattle.fed_rules.specs.Replies.{age_of}
 use Rattle.engine_laws.proofs.MultiversionRuns.{multiversion_by_age}
-use Rattle.engine_laws.proofs.RunLines.{run_at_own, run_at_other}
+use Rattle.fed_rules.proofs.RunLines.{run_at_other, run_at_own}
 use Rattle.access_ages.specs.Ages.{Ages}
 use Rattle.access_ages.specs.Takers.{Takers, ByAge}
 use Rattle.access_ages.specs.Lines.{KeepsAges}

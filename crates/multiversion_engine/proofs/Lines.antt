@@ -29,7 +29,7 @@ use Rattle.multiversion_engine.proofs.Ages.{ChangesOne, unended_on, unended_more
 use Rattle.multiversion_engine.proofs.Commits.{versions_commit}
 use Rattle.multiversion_engine.proofs.Versions.{is_commit, NotesItsWrite, versions_next}
 use Rattle.fed_rules.specs.Runs.{number}
-use Rattle.engine_laws.proofs.RunLines.{run_at_own, run_at_other}
+use Rattle.fed_rules.proofs.RunLines.{run_at_other, run_at_own}
 
 -- a call that changes nothing, but that it may leave more room, and old versions that serve as well
 pub stands_kept : (old new : MultiversionEngine) (start : Start) (lines : List EngineLine) → Stands old start lines → new.book.book ≡ old.book.book → old.book.room ≤ new.book.room →

@@ -9,11 +9,10 @@ use Rattle.std.proofs.lemmas.List.{append_assoc, append-nil}
 use Rattle.std.proofs.lemmas.List.Sorted.{IsPermutation-reverse, sum_by-IsPermutation}
 use Rattle.std.proofs.lemmas.List.Sums.{sum_by-cons}
 use Rattle.mdb_base.specs.declared.names.Tid.{Tid}
-use Rattle.mdb_base.specs.Names.{same_tid, tid_before}
+use Rattle.mdb_base.specs.Names.{same_tid, tid_before, tid_cmp}
 use Rattle.mdb_base.specs.Words.{Each, inserted}
 use Rattle.mdb_base.proofs.ListLaws.{each_map, each_inserted}
 use Rattle.mdb_base.proofs.NameLaws.{same_tid-refl, not_before_onward, before_itself}
-use Rattle.order_laws.specs.Ranked.{tid_cmp}
 use Rattle.order_laws.proofs.Names.{ranks_tids}
 use Rattle.order_laws.specs.SortedLists.{also, merged}
 

@@ -1,6 +1,5 @@
 pub mod Chains
 pub mod Orders
-pub mod Ranked
 pub mod Search
 pub mod Sites
 pub mod Merge

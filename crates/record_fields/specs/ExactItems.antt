@@ -1,5 +1,5 @@
 -- A rising list of exact items is exact.
-use Rattle.std.specs.Prelude.{ℕ, zero, suc, ◌≡◌, ◌<◌, Bool, true, false, cond, List, [], ◌∷◌, ◌++◌, length, Some, None, refl}
+use Rattle.std.specs.Prelude.{ℕ, zero, suc, ◌≡◌, ◌<◌, true, cond, List, [], ◌∷◌, ◌++◌, length, Some, None, refl}
 use Rattle.std.specs.List.{AllByRecursion}
 use Rattle.std.proofs.Common.{ap, subst, ◌∙◌, ltb, append_assoc, arith}
 use Rattle.std.proofs.lemmas.Bool.{and_parts, ltb-true, lt-ltb}
@@ -10,6 +10,7 @@ use Rattle.record_fields.specs.Field.{Field, IsExact}
 use Rattle.record_fields.specs.Items.{joined, items_at, rises, rising_at, rising_list}
 use Rattle.field_bytes.proofs.Steps.{bind_some, takes_both}
 use Rattle.record_fields.specs.Exact.{some_is}
+use Rattle.mdb_base.proofs.OptionLaws.{cond_some}
 
 -- fewer than two items rise
 pub short_rises : {A : Type 0} (key : A → ℕ) (xs : List A) → length xs < 2 → rises key xs ≡ true
@@ -54,10 +55,6 @@ module _ {A : Type 0} (item : Field A) (exact : IsExact item) where
       let two = items_again xs rest fits.1 in
       ap (items_at item.reading (suc (length xs))) grouped ∙ rw (one, two) refl
 
-pub guard_passed : {B : Type 0} (test : Bool) (x y : B) → cond test (Some x) None ≡ Some y → (test ≡ true) × (x ≡ y)
-guard_passed true x y e = (refl, some_is x y e)
-guard_passed false x y e = absurd cc
-
 pub exact_rising : {A : Type 0} (n : ℕ) (key : A → ℕ) (item : Field A) → IsExact item → IsExact (rising_list n key item)
 exact_rising {A = A} n key item exact = record {
   takes = λ bytes found fits e.
@@ -65,7 +62,7 @@ exact_rising {A = A} n key item exact = record {
       let t = number_takes n bytes a.0 fits a.1 in
       let b = bind_some (items_at item.reading a.0.0 a.0.1) (λ found. cond (rises key found.0) (Some found) None) found a.2 in
       let u = items_take item exact a.0.0 a.0.1 b.0 t.0.fits b.1 in
-      let g = guard_passed (rises key b.0.0) b.0 found b.2 in
+      let g = cond_some (rises key b.0.0) b.0 found b.2 in
       let count : length b.0.0 ≡ a.0.0 = u.1 in
       let whole : Takes bytes (number n (length b.0.0) ++ joined item.spelling b.0.0) b.0.1 = takes_both bytes (number n (length b.0.0)) a.0.1 (joined item.spelling b.0.0) b.0.1 (rw count t.0) u.0 in
       subst (λ (x : List A × List ℕ). Takes bytes ((rising_list n key item).spelling x.0) x.1 × (rising_list n key item).Fits x.0) g.1 (whole, (rw count t.1, rising_passes key b.0.0 g.0, u.2));

@@ -10,14 +10,15 @@ use Rattle.presumptions.specs.declared.Protocol.TheVariants as By
 use Rattle.field_bytes.proofs.Laws.{tid_takes, tid_again, decision_takes, decision_again}
 use Rattle.record_fields.specs.Field.{IsExact, a_number, both}
 use Rattle.record_fields.specs.Exact.{some_is, IsCode, exact_number, exact_both, exact_made, exact_coded}
-use Rattle.record_fields.specs.ExactItems.{guard_passed, exact_rising}
+use Rattle.record_fields.specs.ExactItems.{exact_rising}
+use Rattle.mdb_base.proofs.OptionLaws.{cond_some}
 use Rattle.record_fields.specs.Named.{IsSite, site_of, a_site, engine_code, engine_of, an_engine, protocol_code, protocol_of, a_protocol, a_tid, a_decision, a_put, a_participant, a_ticket, writes, participants, tickets}
 
 site_code : IsCode 1 (λ (site : SiteId). site.0) site_of IsSite
 site_code = record {
   low = λ site fits. omega (arith, fits.greatest);
   back = λ k site e.
-      let g = guard_passed (leb 1 k && leb k 8) (record { 0 = k }) site e in
+      let g = cond_some (leb 1 k && leb k 8) (record { 0 = k }) site e in
       let parts = and_parts (leb 1 k) (leb k 8) g.0 in
       let same = g.1 in
       (ap (λ (s : SiteId). s.0) (sym same), subst IsSite same (record { least = leb-true _ _ parts.0; greatest = leb-true _ _ parts.1 }));

@@ -8,7 +8,8 @@ use Rattle.fed_rules.specs.Story.{story_of}
 use Rattle.closing_laws.specs.AtRest.{IsAtRest}
 use Rattle.line_laws.specs.Printed.{printed}
 use Rattle.line_laws.specs.Refusals.{RefuseNone}
-use Rattle.replay_laws.specs.Replayed.{AreLines, bare}
+use Rattle.replay_laws.specs.Replayed.{bare}
+use Rattle.fed_rules.specs.Right.{AreLines}
 
 -- what the same commands print again behind which closing stands: the same text but for the edges of cycles, and where no line refuses a commit for
 -- a cycle the very same bytes

@@ -8,7 +8,7 @@ use Rattle.fed_rules.specs.declared.commands.Line.{Line}
 use Rattle.fed_rules.specs.declared.scenario.Scenario.{Scenario}
 use Rattle.fed_rules.specs.Closing.{closed}
 use Rattle.fed_rules.specs.Reports.{report_of}
-use Rattle.fed_rules.specs.Right.{IsRightStory}
+use Rattle.fed_rules.specs.Right.{IsRightStory, AreLines}
 use Rattle.fed_rules.specs.Story.{story_of}
 use Rattle.closing_laws.specs.AtRest.{IsAtRest}
 use Rattle.line_laws.specs.Refusals.{RefuseNone}
@@ -42,11 +42,6 @@ abbrev pub RightLinesAreOne : Type 0
 RightLinesAreOne =
     (scenario : Scenario) (lines others : List Line) → IsRightStory scenario lines → IsRightStory scenario others
     → commands_in lines ≡ commands_in others → RefuseNone lines → lines ≡ others
-
--- these are the right lines of these commands, the first line first
-pub record AreLines (lines : List Line) (scenario : Scenario) (commands : List Command) : Type 0 where
-  pub commands_are : commands_in (reverse lines) ≡ commands
-  pub right : IsRightStory scenario (reverse lines)
 
 -- what the same commands give again, with closing behind them: as many lines, each but for the edges of cycles, and the same report; where no
 -- line refuses a commit for a cycle the very same lines

@@ -1,13 +1,12 @@
 -- What the past of the coordinator says.
-use Rattle.std.proofs.Common.{◌≡◌, ℕ, true, ◌⊎◌}
+use Rattle.std.proofs.Common.{◌≡◌, ℕ, true}
 use Rattle.std.proofs.lemmas.Bool.{and_parts}
 use Rattle.mdb_base.specs.declared.names.SiteId.{SiteId}
 use Rattle.mdb_base.specs.declared.names.Tid.{Tid}
 use Rattle.mdb_base.specs.declared.replies.Reply.{Reply}
 use Rattle.fed_rules.specs.Coord.{did_counts}
-use Rattle.fed_rules.specs.CoordPast.{CoordPast, is_open, records}
+use Rattle.fed_rules.specs.CoordPast.{CoordPast, is_open}
 use Rattle.fed_rules.specs.declared.events.CoordEvent.{CoordEvent}
-use Rattle.fed_rules.specs.CoordRecords.{has_commit}
 use Rattle.fed_rules.specs.declared.events.CoordEvent.TheVariants as Ev
 
 -- what may count: the attempt is undecided, the reply fits, and its epoch is the known one
@@ -22,7 +21,3 @@ BeginsNothing event = Unit {0}
 abbrev pub IsNoGo : CoordEvent → Type 0
 IsNoGo (Ev.Go tid steps) = ⊥
 IsNoGo event = Unit {0}
-
--- the attempt is undecided, or a Commit of it is kept
-abbrev pub IsActive : CoordPast → Tid → Type 0
-IsActive past g = (is_open past g ≡ true) ⊎ (has_commit (records past) g ≡ true)

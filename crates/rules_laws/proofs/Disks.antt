@@ -6,6 +6,7 @@ use Rattle.order_laws.proofs.Joined.{each_not}
 use Rattle.fed_rules.specs.Disk.{Disk, Call, Append, Sync, CutBack, TrimFront, Stops, bytes_of, whole, after_call, after_calls}
 use Rattle.rules_laws.specs.Durable.{IsSound, LooseFirst, IsFirm, IsFrontOf}
 use Rattle.rules_laws.proofs.Durable.{whole_all, sound_call, all_synced, firm_append, firm_sync, firm_cut, firm_stop}
+use Rattle.std.proofs.lemmas.List.{append_assoc}
 
 -- the records that these calls append, the newest first, before those that were appended so far
 abbrev pub appended : {R : Type 0} → List (Call R) → List R → List R
@@ -171,10 +172,6 @@ whole_keeps {R = R} size Loose a b (r ∷ news) old le f = by_test (nat_le (byte
       by_test true k = inl (r ∷ news, ([], refl), refl)
       by_test false (inl (kept, (newer, e), is)) = inl (kept, (r ∷ newer, ap (λ xs. r ∷ xs) e), is)
       by_test false (inr c) = inr c
-
-append_assoc : {A : Type 0} (xs ys zs : List A) → (xs ++ ys) ++ zs ≡ xs ++ (ys ++ zs)
-append_assoc [] ys zs = refl
-append_assoc (x ∷ xs) ys zs = ap (λ r. x ∷ r) (append_assoc xs ys zs)
 
 pub front_of_front : {A : Type 0} (xs ys zs : List A) → IsFrontOf xs ys → IsFrontOf ys zs → IsFrontOf xs zs
 front_of_front xs ys zs (a, e) (b, f) = (a ++ b, e ∙ ap (λ r. a ++ r) f ∙ sym (append_assoc a b zs))

@@ -5,15 +5,12 @@ use Rattle.std.proofs.lemmas.Bool.{lt-leb}
 use Rattle.fed_rules.specs.Disk.{Disk, Call, Append, Sync, CutBack, TrimFront, Stops, bytes_of, whole, standing, journal, after_call, after_calls}
 use Rattle.fed_rules.specs.Reopened.{appends, oldest, rewritten, torn_off, written}
 use Rattle.rules_laws.proofs.Durable.{whole_all}
+use Rattle.std.proofs.lemmas.List.{append_assoc}
 
 -- the records of a journal, with what the first one is read as behind it
 abbrev pub expanded : {R : Type 0} → (R → List R) → R → List R → List R
 expanded read_as first [] = first ∷ read_as first
 expanded read_as newest (next ∷ older) = newest ∷ expanded read_as next older
-
-append_assoc : {A : Type 0} (xs ys zs : List A) → (xs ++ ys) ++ zs ≡ xs ++ (ys ++ zs)
-append_assoc [] ys zs = refl
-append_assoc (x ∷ xs) ys zs = ap (λ r. x ∷ r) (append_assoc xs ys zs)
 
 -- a disk with these records appended
 abbrev pub with_all : {R : Type 0} → (R → ℕ) → List R → Disk R → Disk R
@@ -130,6 +127,12 @@ module _ {R : Type 0} (size : R → ℕ) where
   opened_synced read_as newest older long torn d =
       ap (λ (k : Disk R). k.synced) (written_is read_as newest older d (torn_off long torn))
       ∙ sym (ap (λ (k : Disk R). k.length) (written_is read_as newest older d (torn_off long torn)))
+
+-- the torn rest is a frame that a stop cuts
+pub calls_split : {R : Type 0} (size : R → ℕ) (d : Disk R) (cs : List (Call R)) (long : R) (torn : ℕ)
+    → after_calls size d (cs ++ torn_off long torn) ≡ after_call size (after_calls size d (cs ++ Sync ∷ Append long ∷ [])) (Stops torn)
+calls_split size d [] long torn = refl
+calls_split size d (c ∷ cs) long torn = calls_split size (after_call size d c) cs long torn
 
 -- the first record, with what it is read as behind it, stands last
 pub expanded_is : {R : Type 0} (read_as : R → List R) (newest : R) (older : List R)

@@ -1,3 +1,4 @@
+pub mod Active
 pub mod Durable
 pub mod Heard
 pub mod Lines

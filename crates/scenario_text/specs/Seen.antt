@@ -6,7 +6,7 @@ use Rattle.std.specs.BTreeSet.{BTreeSet, contains}
 use Rattle.mdb_base.specs.declared.names.SiteId.{SiteId}
 use Rattle.mdb_base.specs.declared.names.Key.{Key}
 use Rattle.mdb_base.specs.declared.names.Tx.{Tx}
-use Rattle.mdb_base.specs.Names.{same_site, same_key, same_tx}
+use Rattle.mdb_base.specs.Names.{same_site, same_key, same_tx, tx_cmp}
 use Rattle.mdb_base.specs.Words.{some_of, how_many}
 use Rattle.fed_rules.specs.declared.scenario.ItemLine.{ItemLine}
 use Rattle.fed_rules.specs.declared.scenario.TxLine.{TxLine}
@@ -20,9 +20,6 @@ row_order a b = ordering_then (nat_cmp a.0.0 b.0.0) (nat_cmp a.1.0 b.1.0)
 
 abbrev pub place_order : SiteId × ℕ → SiteId × ℕ → Ordering
 place_order a b = ordering_then (nat_cmp a.0.0 b.0.0) (nat_cmp a.1 b.1)
-
-abbrev pub tx_order : Tx → Tx → Ordering
-tx_order a b = nat_cmp a.0 b.0
 
 -- whether a line is of this row, this transaction, this message
 abbrev pub is_of_row : SiteId × Key → ItemLine → Bool
@@ -40,7 +37,7 @@ pub record IsItemDraft (lines : List ItemLine) (rows : BTreeSet (SiteId × Key))
   pub counted : (site : SiteId) → site.0 ≤ 8 → slice_index counts site.0 ≡ how_many (has_site site) lines
 
 pub record IsTxDraft (lines : List TxLine) (numbers : BTreeSet Tx) : Type 0 where
-  pub numbers_seen : (tx : Tx) → contains tx_order numbers tx ≡ some_of (is_of_tx tx) lines
+  pub numbers_seen : (tx : Tx) → contains tx_cmp numbers tx ≡ some_of (is_of_tx tx) lines
 
 pub record IsLinkDraft (lines : List LinkLine) (to from : BTreeSet (SiteId × ℕ)) : Type 0 where
   pub to_seen : (place : SiteId × ℕ) → contains place_order to place ≡ some_of (is_of_message true place) lines

@@ -7,7 +7,7 @@ use Rattle.fed_rules.specs.declared.scenario.Scenario.{Scenario}
 use Rattle.fed_rules.specs.Closing.{closed}
 use Rattle.fed_rules.specs.Story.{story_of}
 use Rattle.closing_laws.specs.AtRest.{IsAtRest}
-use Rattle.fed_world.specs.Worlds.{AreLines}
+use Rattle.fed_rules.specs.Right.{AreLines}
 use Rattle.journal_disk.specs.Disk.{Seen}
 use Rattle.line_laws.specs.Printed.{printed}
 use Rattle.line_laws.specs.Refusals.{RefuseNone}

@@ -11,4 +11,4 @@ mod RunLemmas
 mod Stores
 mod Totals
 mod Unrefused
-mod UsedDisks
+pub mod UsedDisks

@@ -8,7 +8,8 @@ use Rattle.fed_rules.specs.Headline.{Headline, OfStories}
 use Rattle.fed_rules.specs.Story.{story_of}
 use Rattle.journal_disk.specs.Disk.{Seen}
 use Rattle.fed_world.specs.declared.world.World.{World}
-use Rattle.fed_world.specs.Worlds.{AreLines, EachStory, Recalls, Rests}
+use Rattle.fed_world.specs.Worlds.{EachStory, Recalls, Rests}
+use Rattle.fed_rules.specs.Right.{AreLines}
 use Rattle.host_laws.specs.Merged.{commands_of}
 use Rattle.made_laws.specs.Summaries.{MadeLinesAreFixed}
 use Rattle.made_laws.specs.Unchecked.{EndsAreUnchecked}

@@ -8,7 +8,7 @@ use Rattle.mdb_base.specs.declared.names.Memory.{Memory}
 use Rattle.closing.specs.Towards as towards
 use Rattle.fed_world.specs.declared.world.World.{World}
 use Rattle.fed_world.specs.Faults.{RisesAt, faults_of}
-use Rattle.fed_world.specs.Worlds.{AreLines}
+use Rattle.fed_rules.specs.Right.{AreLines}
 use Rattle.scenario_text.specs.declared.session.Session.{Session}
 use Rattle.line_text.specs.Spelling.{lines_bytes}
 use Rattle.session_outputs.specs.declared.output.Output.{Output}

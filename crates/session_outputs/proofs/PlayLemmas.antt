@@ -18,7 +18,7 @@ use Rattle.closing.specs.Steps.{FitWith, with_commands}
 use Rattle.closing.proofs.Loops.{each_extends}
 use Rattle.closing.proofs.Parts.{fifth, fifth_in, fifth_on}
 use Rattle.closing.proofs.Towards.{Extends, extends_one, extends_twice}
-use Rattle.fed_world.specs.Worlds.{AreLines}
+use Rattle.fed_rules.specs.Right.{AreLines}
 use Rattle.line_laws.specs.Lines.{ClosingIsHeard, IsHeard, RightLinesFit}
 use Rattle.scenario_text.specs.declared.session.Session.{Session}
 use Rattle.scenario_text.specs.Kept.{AreCommands, is_command}

@@ -3,7 +3,7 @@ use Rattle.std.proofs.Common.{◌≡◌, ℕ, zero, suc, ◌<◌, Some, List, []
 use Rattle.std.proofs.lemmas.Option.{slice_get_within}
 use Rattle.mdb_base.specs.declared.names.SiteId.{SiteId}
 use Rattle.order_laws.specs.Chains.{In}
-use Rattle.closing_laws.proofs.Declared.{listed}
+use Rattle.federation_laws.proofs.Declared.{declared-in}
 use Rattle.fed_rules.specs.declared.scenario.Scenario.{Scenario}
 use Rattle.fed_rules.specs.Scenarios.{home_of, sites}
 use Rattle.fed_rules.specs.SiteRecords.{Home}
@@ -32,7 +32,7 @@ pub record HeldAt (K : OfDbms) (scenario : Scenario) (home : Home) (story : Stor
 
 pub site_held : (K : OfDbms) (cores : List (LocalDbms AnyEngine)) (marks : List Marks) (channels : List Traffic) (scenario : Scenario) (story : Story) (home : Home)
     → home_of scenario home.site ≡ Some home → SitesAt K cores marks channels scenario story → HeldAt K scenario home story
-site_held K cores marks channels scenario story home declared s = by_place (place_in (sites scenario) home.site (listed scenario home declared))
+site_held K cores marks channels scenario story home declared s = by_place (place_in (sites scenario) home.site (declared-in scenario home.site home declared))
   where
     by_place : (place : ℕ) × (slice_get (sites scenario) place ≡ Some home.site) → HeldAt K scenario home story
     by_place (place, at) = by_parts (some_at cores place (omega (arith, s.all_cores, slice_get_within (sites scenario) place home.site at)))

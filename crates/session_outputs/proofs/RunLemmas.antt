@@ -7,12 +7,11 @@ use Rattle.fed_rules.specs.declared.commands.Line.{Line}
 use Rattle.fed_rules.specs.declared.scenario.Scenario.{Scenario}
 use Rattle.fed_rules.specs.Headline.{Headline, OfStories}
 use Rattle.fed_rules.specs.Plans.{IsScenario}
-use Rattle.fed_rules.specs.Right.{IsRightStory}
+use Rattle.fed_rules.specs.Right.{IsRightStory, AreLines}
 use Rattle.fed_rules.specs.Story.{story_of}
 use Rattle.journal_disk.specs.Disk.{Seen}
 use Rattle.fed_world.specs.declared.world.World.{World}
 use Rattle.fed_world.specs.Faults.{faults_of}
-use Rattle.fed_world.specs.Worlds.{AreLines}
 use Rattle.federation_run.specs.Running.{HasBroken, HasNotBegun}
 use Rattle.host_laws.specs.Merged.{commands_of}
 use Rattle.line_laws.specs.Lines.{ClosingIsHeard, IsHeard, RightLinesFit}

@@ -6,7 +6,7 @@ use Rattle.fed_rules.specs.declared.commands.Command.{Command}
 use Rattle.fed_rules.specs.declared.commands.Line.{Line}
 use Rattle.fed_rules.specs.declared.scenario.Scenario.{Scenario}
 use Rattle.fed_rules.specs.Plans.{IsScenario}
-use Rattle.fed_world.specs.Worlds.{AreLines}
+use Rattle.fed_rules.specs.Right.{AreLines}
 use Rattle.federation_laws.specs.Conservative.{RefusesForCycle}
 use Rattle.line_laws.specs.Refusals.{ConservativeLinesRefuseNone, RefuseNone}
 use Rattle.session_outputs.specs.Outcomes.{AreUnrefused}

@@ -7,7 +7,7 @@ use Rattle.fed_rules.specs.declared.scenario.Scenario.{Scenario}
 use Rattle.fed_rules.specs.Story.{Story, story_of}
 use Rattle.journal_disk.specs.Disk.{Seen}
 use Rattle.fed_world.specs.Faults.{faults_of}
-use Rattle.fed_world.specs.Worlds.{AreLines}
+use Rattle.fed_rules.specs.Right.{AreLines}
 use Rattle.report_text.specs.Summaries.{summary_text}
 use Rattle.made_laws.specs.Summaries.{made_line}
 use Rattle.scenario_maker.specs.Made.{made}

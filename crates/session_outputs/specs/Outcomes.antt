@@ -8,7 +8,7 @@ use Rattle.fed_rules.specs.Scenarios.{sites}
 use Rattle.fed_rules.specs.Story.{story_of}
 use Rattle.journal_disk.specs.Disk.{Seen}
 use Rattle.fed_world.specs.Faults.{faults_of}
-use Rattle.fed_world.specs.Worlds.{AreLines}
+use Rattle.fed_rules.specs.Right.{AreLines}
 use Rattle.line_laws.specs.Refusals.{RefuseNone}
 use Rattle.session_outputs.specs.Breaks.{BreaksAtNext}
 use Rattle.session_outputs.specs.Disks.{AreSetUp, HoldAll, HoldFrames, NothingBut}

@@ -4,7 +4,7 @@ use Rattle.fed_rules.specs.declared.commands.Command.{Command}
 use Rattle.fed_rules.specs.declared.commands.Line.{Line}
 use Rattle.journal_disk.specs.Disk.{Seen}
 use Rattle.fed_world.specs.Faults.{faults_of}
-use Rattle.fed_world.specs.Worlds.{AreLines}
+use Rattle.fed_rules.specs.Right.{AreLines}
 use Rattle.scenario_text.specs.declared.session.Session.{Session}
 use Rattle.line_laws.specs.Printed.{printed}
 use Rattle.line_text.specs.Spelling.{lines_bytes}

@@ -10,7 +10,7 @@ use Rattle.host_laws.specs.Logs.{CoordLog, SiteLog}
 use Rattle.host_laws.specs.Merged.{commands_of, lines_in}
 use Rattle.journal_disk.specs.Disk.{Seen}
 use Rattle.fed_world.specs.Faults.{faults_of}
-use Rattle.fed_world.specs.Worlds.{AreLines}
+use Rattle.fed_rules.specs.Right.{AreLines}
 use Rattle.federation_run.specs.Running.{HasBroken, HaveRun}
 use Rattle.line_laws.specs.Printed.{printed}
 use Rattle.line_text.specs.Spelling.{lines_bytes}

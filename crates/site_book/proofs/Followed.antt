@@ -20,7 +20,7 @@ use Rattle.site_book.specs.Noted.{Noted, noted_of, fresh, with_read, with_write}
 use Rattle.site_book.specs.Book.{Book, Attempts, progress_of, live_part, live_in, sealed_part, closed_part, is_closed_in, changed_in, on_live, replied, taken, enters, notes_reply, notes_take}
 use Rattle.site_book.specs.Follows.{Follows, progress_by}
 use Rattle.site_book.specs.Laws.{AnswersBy, AnswersWell, ClosesBy, CallsWell, CommitsWell, DecidesWell, StaysClosed}
-use Rattle.site_book.proofs.Keys.{tids_exact, tids_total, tid_ties}
+use Rattle.mdb_base.proofs.NameOrders.{tid_ties, tids_total, tids_exact}
 use Rattle.site_book.proofs.Maps.{get-put, put-put}
 
 -- how far an attempt is after one is put in or changed

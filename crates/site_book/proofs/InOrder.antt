@@ -4,7 +4,7 @@ use Rattle.std.specs.FinMap.{empty, get, insert, get-empty}
 use Rattle.std.proofs.lemmas.Bool.{cond-false, and_parts, and_from}
 use Rattle.mdb_base.specs.declared.names.Tid.{Tid}
 use Rattle.mdb_base.specs.declared.names.Tx.{Tx}
-use Rattle.mdb_base.specs.Names.{same_tid, same_tx}
+use Rattle.mdb_base.specs.Names.{same_tid, same_tx, tid_cmp, tx_cmp}
 use Rattle.mdb_base.specs.Words.{Among, found, first_where, map_some, with_some}
 use Rattle.mdb_base.proofs.NameLaws.{same_tid-refl, same_tid-equal, same_tx-equal, same_tx-refl}
 use Rattle.mdb_base.proofs.OptionLaws.{nothing_is, is_some-true}
@@ -15,7 +15,7 @@ use Rattle.site_book.specs.declared.progress.Progress.TheVariants as Is
 use Rattle.site_book.specs.declared.progress.Standing.{Standing}
 use Rattle.site_book.specs.declared.progress.Standing.TheVariants as Has
 use Rattle.site_book.specs.Noted.{Noted, fresh, noted_of}
-use Rattle.site_book.specs.Book.{Book, Attempts, Standings, progress_of, live_part, live_in, standing_of, running_part, running_in, on_live, replied, taken, refuses, runs, enters, closes, changes_live, begins_local, commits_local, stopped, restarted, with_doubtful, with_committed, tid_cmp, tx_cmp}
+use Rattle.site_book.specs.Book.{Book, Attempts, Standings, progress_of, live_part, live_in, standing_of, running_part, running_in, on_live, replied, taken, refuses, runs, enters, closes, changes_live, begins_local, commits_local, stopped, restarted, with_doubtful, with_committed}
 use Rattle.site_book.specs.Follows.{IsInOrder, progress_by}
 use Rattle.site_book.specs.Calls.{Begin_global, Begin_local, Note_reply, Note_take, Seal, Close, Close_unheld, Commit_local, Stop, Restart, NoneLives, OrdersWell, NoneRunning, RunsWell}
 use Rattle.site_book.proofs.Followed.{get-put_tid, get-changed_tid, live_of, progress_live}

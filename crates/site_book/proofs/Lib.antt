@@ -1,6 +1,5 @@
 pub mod Followed
 pub mod InOrder
-pub mod Keys
 pub mod Listed
 pub mod Maps
 pub mod Numbered

@@ -8,12 +8,12 @@ use Rattle.std.specs.Ordering.{is_eq}
 use Rattle.std.specs.List.{AllByRecursion}
 use Rattle.std.specs.List.Sorted.{IsStrictlySortedBy}
 use Rattle.mdb_base.specs.declared.names.Tid.{Tid}
-use Rattle.mdb_base.specs.Names.{same_tid, tid_before}
+use Rattle.mdb_base.specs.Names.{same_tid, tid_before, tid_cmp}
 use Rattle.mdb_base.specs.Words.{Among, Each}
 use Rattle.site_book.specs.declared.progress.Progress.{Progress}
-use Rattle.site_book.specs.Book.{live_part, tid_cmp}
+use Rattle.site_book.specs.Book.{live_part}
 use Rattle.site_book.specs.Listing.{AreRising, Lists, is_live_in}
-use Rattle.site_book.proofs.Keys.{tid_ties, tids_exact, tids_total}
+use Rattle.mdb_base.proofs.NameOrders.{tid_ties, tids_total, tids_exact, less_before}
 
 -- the keys of those entries that are live
 abbrev pub live_keys : List (Tid × Progress) → List Tid
@@ -23,9 +23,6 @@ live_keys (e ∷ es) = cond (is_some (live_part (Some e.1))) (e.0 ∷ live_keys 
 -- an entry more
 pub live_keys_one : (p : Progress) (tids rest : List Tid) (tid : Tid) → live_part (Some p) ≡ None → cond (is_some (live_part (Some p))) (tid ∷ rest) rest ≡ rest
 live_keys_one p tids rest tid e = ap (λ o. cond (is_some o) (tid ∷ rest) rest) e
-
-before_less : (a b : Tid) → tid_cmp a b ≡ Less → tid_before a b ≡ true
-before_less a b e = grind arith
 
 tied : (o : Ordering) → is_eq o ≡ true → o ≡ Equal
 tied Less e = cc
@@ -54,7 +51,7 @@ rises tid [] h = tt
 rises tid (e ∷ es) h = by_test (is_some (live_part (Some e.1))) (rises tid es h.1)
   where
     by_test : (b : Bool) → Each (λ later. tid_before tid later ≡ true) (live_keys es) → Each (λ later. tid_before tid later ≡ true) (cond b (e.0 ∷ live_keys es) (live_keys es))
-    by_test true rest = (before_less tid e.0 h.0, rest)
+    by_test true rest = (less_before tid e.0 h.0, rest)
     by_test false rest = rest
 
 -- the live keys of entries whose keys rise are rising

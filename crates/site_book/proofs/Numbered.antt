@@ -6,11 +6,10 @@ use Rattle.std.proofs.lemmas.Bool.{cond-true, cond-false}
 use Rattle.std.proofs.lemmas.Bool.Decides.{nat_tests}
 use Rattle.std.proofs.lemmas.Option.{slice_get_past}
 use Rattle.mdb_base.specs.declared.names.Tx.{Tx}
-use Rattle.mdb_base.specs.Names.{same_tx}
+use Rattle.mdb_base.specs.Names.{same_tx, tx_cmp}
 use Rattle.mdb_base.specs.Words.{or_else}
-use Rattle.site_book.specs.Book.{tx_cmp}
 use Rattle.site_book.specs.Numbered.{by_number, items_from}
-use Rattle.site_book.proofs.Keys.{txs_exact, txs_total, tx_ties}
+use Rattle.mdb_base.proofs.NameOrders.{tx_ties, txs_total, txs_exact}
 use Rattle.site_book.proofs.Maps.{get-gone, get-put, get_look, look, same}
 
 -- what stands at this place, where anything does

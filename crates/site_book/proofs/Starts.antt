@@ -2,11 +2,11 @@
 use Rattle.std.proofs.Common.{◌≡◌, Bool, true, false, cond, is_some, Option, Some, None, List, [], ◌∷◌, map, refl, sym, ap, ◌∙◌}
 use Rattle.std.specs.FinMap.{empty, get, insert, get-empty}
 use Rattle.mdb_base.specs.declared.names.Tid.{Tid}
-use Rattle.mdb_base.specs.Names.{same_tid}
+use Rattle.mdb_base.specs.Names.{same_tid, tid_cmp}
 use Rattle.fed_rules.specs.declared.runs.Kept.{Kept}
 use Rattle.fed_rules.specs.Runs.{Run, restored, restored_at}
 use Rattle.site_book.specs.declared.progress.Progress.TheVariants as Is
-use Rattle.site_book.specs.Book.{Attempts, with_doubtful, tid_cmp}
+use Rattle.site_book.specs.Book.{Attempts, with_doubtful}
 use Rattle.site_book.specs.Follows.{progress_by}
 use Rattle.site_book.specs.Laws.{StartsWell}
 use Rattle.site_book.proofs.Followed.{get-put_tid}

@@ -1,7 +1,5 @@
 -- What a site's book holds, and what each of its calls makes of it.
 use Rattle.std.specs.Prelude.{ℕ, zero, suc, Bool, true, false, cond, Option, Some, None, List, [], ◌∷◌}
-use Rattle.std.specs.declared.cmp.Ordering.{Ordering}
-use Rattle.std.specs.Ordering.{nat_cmp, ordering_then}
 use Rattle.std.specs.FinMap.{FinMap, empty, get, insert, remove}
 use Rattle.mdb_base.specs.declared.acts.PlainAct.{PlainAct}
 use Rattle.mdb_base.specs.declared.acts.PlainAct.TheVariants.{Read, Write}
@@ -9,20 +7,13 @@ use Rattle.mdb_base.specs.declared.names.Tid.{Tid}
 use Rattle.mdb_base.specs.declared.names.Tx.{Tx}
 use Rattle.mdb_base.specs.declared.replies.Reply.{Reply}
 use Rattle.mdb_base.specs.declared.replies.Reply.TheVariants as Reply_is
-use Rattle.mdb_base.specs.Names.{same_tid}
+use Rattle.mdb_base.specs.Names.{same_tid, tid_cmp, tx_cmp}
 use Rattle.mdb_base.specs.Words.{or_else, map_some}
 use Rattle.site_book.specs.declared.progress.Progress.{Progress}
 use Rattle.site_book.specs.declared.progress.Progress.TheVariants as Is
 use Rattle.site_book.specs.declared.progress.Standing.{Standing}
 use Rattle.site_book.specs.declared.progress.Standing.TheVariants as Has
 use Rattle.site_book.specs.Noted.{Noted, fresh, with_read, with_write, with_ticket}
-
--- by transaction, and then by attempt
-abbrev pub tid_cmp : Tid → Tid → Ordering
-tid_cmp a b = ordering_then (nat_cmp a.tx.0 b.tx.0) (nat_cmp a.attempt b.attempt)
-
-abbrev pub tx_cmp : Tx → Tx → Ordering
-tx_cmp a b = nat_cmp a.0 b.0
 
 abbrev pub Attempts : Type 0
 Attempts = FinMap tid_cmp Progress

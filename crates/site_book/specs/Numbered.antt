@@ -2,7 +2,7 @@
 use Rattle.std.specs.Prelude.{ℕ, suc, Option, Some, None, List, [], ◌∷◌}
 use Rattle.std.specs.FinMap.{FinMap, from_entries}
 use Rattle.mdb_base.specs.declared.names.Tx.{Tx}
-use Rattle.site_book.specs.Book.{tx_cmp}
+use Rattle.mdb_base.specs.Names.{tx_cmp}
 
 -- the items with their transactions, where the list begins at this number
 abbrev pub items_from : {A : Type 0} → ℕ → List (Option A) → List (Tx × A)

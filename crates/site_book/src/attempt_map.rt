@@ -3,7 +3,8 @@ ghost use Rattle.std.specs.Prelude.{◌≡◌, ◌<◌, OnOk, OnErr, IfOk, IsSom
 ghost use Rattle.std.specs.Option.{option_copied};
 ghost use Rattle.std.specs.FinMap.{empty, from_entries, get, insert, remove};
 ghost use Rattle.site_book.specs.Listing.{Lists, is_live_in};
-ghost use Rattle.site_book.specs.Book.{changed_in, live_part, on_live, replied, taken, tid_cmp, with_doubtful};
+ghost use Rattle.site_book.specs.Book.{changed_in, live_part, on_live, replied, taken, with_doubtful};
+ghost use Rattle.mdb_base.specs.Names.{tid_cmp};
 
 use crate::progress::Progress;
 use mdb_base::{Memory, PlainAct, Reply, Tid};

@@ -2,7 +2,8 @@
 //! reaches as far as a number that was put into it; else each call takes the same time however many there are.
 ghost use Rattle.std.specs.Prelude.{◌≡◌, ◌<◌, ◌+◌, OnOk, OnErr, IfOk, IsSome, length};
 ghost use Rattle.std.specs.FinMap.{empty, get, insert, remove};
-ghost use Rattle.site_book.specs.Book.{count_of, counted, tx_cmp, uncounted, with_committed};
+ghost use Rattle.site_book.specs.Book.{count_of, counted, uncounted, with_committed};
+ghost use Rattle.mdb_base.specs.Names.{tx_cmp};
 ghost use Rattle.site_book.specs.Numbered.{by_number};
 
 use crate::progress::Standing;

@@ -14,7 +14,8 @@ use Rattle.prepared_state.specs.Book.{doubt_about}
 use Rattle.actor_store.specs.declared.store.Standing.{Standing}
 use Rattle.actor_store.specs.declared.store.Standing.TheVariants.{Up}
 use Rattle.actor_store.specs.Store.{is_up}
-use Rattle.site_book.specs.Book.{Book, begun_in, blank, committed_part, count_of, live_in, live_part, progress_of, running_in, running_part, tid_cmp, tx_cmp}
+use Rattle.site_book.specs.Book.{Book, begun_in, blank, committed_part, count_of, live_in, live_part, progress_of, running_in, running_part}
+use Rattle.mdb_base.specs.Names.{tx_cmp, tid_cmp}
 use Rattle.site_core.specs.Order.{IsInOrder}
 use Rattle.site_core.specs.declared.site.SiteCore.{SiteCore}
 use Rattle.site_core.specs.Notes.{NotesPast}

@@ -9,7 +9,8 @@ use Rattle.journal_disk.specs.Frames.{IsPayload}
 use Rattle.frame_journal.specs.Records.{AreRecordsOf}
 use Rattle.journal_rules.specs.Stands.{CountsFrames, record_frame}
 use Rattle.actor_store.specs.Store.{IsFoundAs}
-use Rattle.actor_store.proofs.FoundLaws.{all_both, found_stands}
+use Rattle.actor_store.proofs.FoundLaws.{found_stands}
+use Rattle.mdb_base.proofs.EachLaws.{all_append}
 
 module _ {R : Type 0} (spelling : R → List ℕ) (is_record : R → Type 0) (size : R → ℕ) (counts : CountsFrames spelling size) where
   pub found_before : (image : Image) (found rules : Disk R) (older : List R) → IsFoundAs spelling is_record size image found → found.trimmed ≡ 0
@@ -27,7 +28,7 @@ module _ {R : Type 0} (spelling : R → List ℕ) (is_record : R → Type 0) (si
       record {
         stands = found_stands spelling size counts image rules found.records older those fits parts border (omega (arith, long, bytes))
             (omega (arith, synced, long, kept, long_front, f.synced));
-        written = subst (AllByRecursion is_record) (sym parts) (all_both is_record found.records older f.written are_records);
+        written = subst (AllByRecursion is_record) (sym parts) (all_append is_record found.records older f.written are_records);
         front = omega (arith, synced, long);
         synced = synced;
       }

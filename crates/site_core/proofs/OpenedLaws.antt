@@ -46,7 +46,8 @@ use Rattle.actor_store.specs.declared.store.Standing.{Standing}
 use Rattle.actor_store.specs.declared.store.Standing.TheVariants.{Down}
 use Rattle.actor_store.specs.Store.{IsFoundAs, IsInOrder, is_up, taken_as}
 use Rattle.actor_store.proofs.StoreLaws.{sizes}
-use Rattle.site_book.specs.Book.{Book, begun_in, blank, count_of, tx_cmp}
+use Rattle.site_book.specs.Book.{Book, begun_in, blank, count_of}
+use Rattle.mdb_base.specs.Names.{tx_cmp}
 use Rattle.site_core.specs.declared.site.SiteCore.{SiteCore}
 use Rattle.site_core.specs.Found.{IsFoundOn, disk_with}
 use Rattle.site_core.specs.Made.{IsOpened}

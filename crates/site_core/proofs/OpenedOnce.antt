@@ -14,7 +14,7 @@ use Rattle.fed_rules.specs.SiteRecords.{Held, Home, local_of}
 use Rattle.fed_rules.specs.SiteSums.{carried, locals_with}
 use Rattle.fed_rules.specs.Usable.{AreParted, IsGlobalOf, IsLocalOf, OnceEach, counted}
 use Rattle.site_history.specs.Sums.{AreSums}
-use Rattle.site_history.proofs.OpenedSums.{all_read}
+use Rattle.site_history.proofs.OpenedSums.{all_read, counted_more}
 use Rattle.site_history.proofs.UsableSites.{locals_from}
 use Rattle.site_history.proofs.ReadSums.{below, beside, foundation, in_parts}
 use Rattle.site_core.specs.Made.{is_of_global, is_of_local, was_global, was_local}
@@ -99,14 +99,6 @@ first_counted home tx (Rec.Local t n writes) (inr (inl w)) = absurd w
 first_counted home tx (Rec.Local t n writes) (inr (inr (inl w))) = absurd w
 first_counted home tx (Rec.Local t n writes) (inr (inr (inr (inl w)))) = absurd w
 first_counted home tx (Rec.Local t n writes) (inr (inr (inr (inr w)))) = absurd w
-
-counted_more : (newest next : SiteRecord) (older : List SiteRecord) → counted (newest ∷ next ∷ older) ≡ newest ∷ counted (next ∷ older)
-counted_more (Rec.Setup site engine protocol items) next older = refl
-counted_more (Rec.Start n) next older = refl
-counted_more (Rec.Prepared t e n ticket writes) next older = refl
-counted_more (Rec.Ended t d) next older = refl
-counted_more (Rec.Local t n writes) next older = refl
-counted_more (Rec.Checkpoint sum) next older = refl
 
 among_counted : (home : Home) (tx : Tx) (newest : SiteRecord) (older : List SiteRecord) → Among (IsLocalOf tx) (all_read home newest older) → Among (IsLocalOf tx) (counted (newest ∷ older))
 among_counted home tx first [] a = first_counted home tx first a

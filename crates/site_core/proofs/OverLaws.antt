@@ -1,13 +1,13 @@
 -- An attempt of a global transaction that is closed or in doubt has no live run.
-use Rattle.std.proofs.Common.{◌≡◌, ℕ, Bool, false, ◌==◌, ◌&&◌, Option, Some, None, List, [], ◌∷◌, ◌++◌, inl, inr, refl, sym, ap, ◌∙◌, subst, arith}
+use Rattle.std.proofs.Common.{◌≡◌, Bool, false, ◌==◌, ◌&&◌, Option, Some, None, List, [], ◌∷◌, ◌++◌, inl, inr, refl, sym, ap, ◌∙◌, subst, arith}
 use Rattle.std.proofs.lemmas.Bool.{or_parts}
 use Rattle.mdb_base.specs.declared.names.Tid.{Tid}
 use Rattle.fed_rules.specs.declared.events.SiteEvent.{SiteEvent}
 use Rattle.fed_rules.specs.declared.events.SiteEvent.TheVariants as Ev
 use Rattle.fed_rules.specs.declared.records.SiteRecord.{SiteRecord}
-use Rattle.fed_rules.specs.Disk.{Append, Call, Disk, Stops, Sync, after_call, after_calls, empty_disk}
+use Rattle.fed_rules.specs.Disk.{Append, Call, Sync, after_calls, empty_disk}
 use Rattle.fed_rules.specs.Found.{Journal}
-use Rattle.fed_rules.specs.Reopened.{all_named, long_site, opened_site, rewritten, site_reads_as, torn_off}
+use Rattle.fed_rules.specs.Reopened.{all_named, long_site, opened_site, rewritten, site_reads_as}
 use Rattle.fed_rules.specs.Runs.{run_at}
 use Rattle.fed_rules.specs.SitePast.{SiteHappening, SitePast, disk, live_one, records, set_up_calls}
 use Rattle.fed_rules.specs.SiteRecords.{Held, Home, doubt_of, site_frame, start_of}
@@ -20,6 +20,7 @@ use Rattle.commit_laws.specs.Records.{IsLooseEnded}
 use Rattle.commit_laws.proofs.SiteFacts.{NotBegun, Shut}
 use Rattle.commit_laws.proofs.SiteLines.{site-lines}
 use Rattle.site_core.specs.Made.{IsGoingOn, IsOpened, is_of_local, was_local}
+use Rattle.rules_laws.proofs.OpenedDisks.{calls_split}
 
 -- an event that is of no local attempt of its transaction doesn't begin an attempt
 not_begun : (tid : Tid) (event : SiteEvent) → is_of_local tid.tx event ≡ false → NotBegun tid event
@@ -40,11 +41,6 @@ first_firm : (home : Home) → IsFirm site_frame (IsLooseEnded home.protocol) (d
 first_firm home =
     firm_quiet site_frame (IsLooseEnded home.protocol) empty_disk (set_up_calls home) (inr tt)
     (record { sound = record { frames = omega arith; synced = omega arith }; loose = tt })
-
-calls_split : {R : Type 0} (size : R → ℕ) (d : Disk R) (cs : List (Call R)) (long : R) (torn : ℕ)
-    → after_calls size d (cs ++ torn_off long torn) ≡ after_call size (after_calls size d (cs ++ Sync ∷ Append long ∷ [])) (Stops torn)
-calls_split size d [] long torn = refl
-calls_split size d (c ∷ cs) long torn = calls_split size (after_call size d c) cs long torn
 
 -- behind the stop that leaves a journal all that stands is synced
 pub opened_firm : (Loose : SiteRecord → Type 0) (home : Home) (journal : Journal SiteRecord) → IsFirm site_frame Loose (disk home (opened_site journal))

@@ -7,7 +7,7 @@ use Rattle.std.proofs.lemmas.Bool.{and_from, cond-true, cond-false, eqb-true, eq
 use Rattle.std.proofs.lemmas.List.Elements.{All-from_recursion}
 use Rattle.mdb_base.specs.declared.names.Tid.{Tid}
 use Rattle.mdb_base.specs.declared.names.Tx.{Tx}
-use Rattle.mdb_base.specs.Names.{same_tid, same_tx, tid_before}
+use Rattle.mdb_base.specs.Names.{same_tid, same_tx, tid_before, tx_cmp}
 use Rattle.mdb_base.specs.Rising.{IsRising}
 use Rattle.mdb_base.specs.Words.{Each, first_where, found, inserted, map_some, or_else}
 use Rattle.mdb_base.proofs.NameLaws.{same_tid-equal, same_tid-sym}
@@ -31,7 +31,7 @@ use Rattle.record_fields.specs.AttemptOrder.{before-less}
 use Rattle.journal_sums.specs.Starts.{doubt_held}
 use Rattle.site_book.specs.declared.progress.Standing.{Standing}
 use Rattle.site_book.specs.declared.progress.Standing.TheVariants as Has
-use Rattle.site_book.specs.Book.{Standings, committed_part, tx_cmp, with_committed}
+use Rattle.site_book.specs.Book.{Standings, committed_part, with_committed}
 use Rattle.site_history.proofs.Founded.{IsFounded, foundation}
 use Rattle.site_book.proofs.Ordered.{get-put_tx}
 use Rattle.journal_sums.proofs.DoubtLaws.{are_doubts}

@@ -67,7 +67,7 @@ first_says home (Ended t d) = says_more (Ended t d) _ _ (nothing_below home)
 first_says home (Local t n writes) = says_more (Local t n writes) _ _ (nothing_below home)
 
 -- the records say what those read say
-all_says : (home : Home) (newest : SiteRecord) (older : List SiteRecord) → SameSays (all_read home newest older) (read (newest ∷ older))
+pub all_says : (home : Home) (newest : SiteRecord) (older : List SiteRecord) → SameSays (all_read home newest older) (read (newest ∷ older))
 all_says home first [] = first_says home first
 all_says home newest (next ∷ older) =
     subst (SameSays (all_read home newest (next ∷ older))) (sym (read_more newest next older))

@@ -1,5 +1,5 @@
 -- Laws of the records of a site: bound attempts, and attempts in doubt.
-use Rattle.std.proofs.Common.{◌≡◌, ℕ, ◌≤◌, Bool, true, false, cond, Option, Some, None, List, [], ◌∷◌, refl, sym, ap, ◌∙◌, subst, inl, inr, arith}
+use Rattle.std.proofs.Common.{◌≡◌, ℕ, ◌≤◌, Bool, true, false, cond, Option, Some, None, List, [], ◌∷◌, refl, sym, ap, ◌∙◌, subst, inl, inr, arith, map}
 use Rattle.mdb_base.specs.declared.names.Tid.{Tid}
 use Rattle.mdb_base.specs.Names.{same_tid}
 use Rattle.order_laws.specs.Chains.{In, Distinct}
@@ -8,6 +8,10 @@ use Rattle.fed_rules.specs.declared.records.SiteRecord.TheVariants.{Setup, Start
 use Rattle.fed_rules.specs.SiteRecords.{Held, Install, doubt_of, last_number, prepared_tids}
 use Rattle.site_history.specs.Records.{Binds, IsBound, BindOnce}
 use Rattle.site_history.proofs.Starts.{doubt_tid}
+use Rattle.mdb_base.specs.Words.{Among}
+use Rattle.order_laws.proofs.Lists.{is_among}
+use Rattle.fed_rules.specs.Usable.{IsPreparedOf}
+use Rattle.fed_rules.specs.Reopened.{local_read}
 
 -- the install of a record in doubt
 abbrev pub due_install : Held → Install
@@ -45,6 +49,15 @@ doubt_in (Setup site engine protocol items ∷ records) tid held e = inr (doubt_
 doubt_in (Checkpoint sum ∷ records) tid held e = inr (doubt_in records tid held e)
 doubt_in (Start epoch ∷ records) tid held e = inr (doubt_in records tid held e)
 doubt_in (Local local number writes ∷ records) tid held e = inr (doubt_in records tid held e)
+
+-- so one of the records prepared it
+pub doubt_prepared : (records : List SiteRecord) (tid : Tid) (held : Held) → doubt_of records tid ≡ Some held → Among (IsPreparedOf tid) records
+doubt_prepared records tid held e = is_among (IsPreparedOf tid) (record_of held) records (doubt_in records tid held e) (doubt_tid records tid held e)
+
+-- local commits leave nothing in doubt
+pub locals_undoubted : (n : ℕ) (tids : List Tid) (tid : Tid) → doubt_of (map (local_read n) tids) tid ≡ None
+locals_undoubted n [] tid = refl
+locals_undoubted n (t ∷ tids) tid = locals_undoubted n tids tid
 
 -- a record that binds an attempt binds it among them
 pub bound_by : (records : List SiteRecord) (kept : SiteRecord) (tid : Tid) → In kept records → Binds tid kept → IsBound tid records

@@ -2,7 +2,6 @@
 use Rattle.std.proofs.Common.{◌≡◌, ◌+◌, ◌*◌, List, [], ◌∷◌, ◌++◌, length, Option, Some, None, refl, arith}
 use Rattle.std.proofs.lemmas.List.{length-append}
 use Rattle.mdb_base.specs.declared.names.Tid.{Tid}
-use Rattle.mdb_base.specs.declared.rows.Put.{Put}
 use Rattle.presumptions.specs.declared.Decision.TheVariants as Decided
 use Rattle.fed_rules.specs.declared.records.SiteRecord.{SiteRecord}
 use Rattle.fed_rules.specs.declared.records.SiteRecord.TheVariants.{Setup, Start, Prepared, Ended, Local, Checkpoint}
@@ -10,14 +9,11 @@ use Rattle.fed_rules.specs.declared.sums.DoubtfulSum.{DoubtfulSum}
 use Rattle.fed_rules.specs.declared.sums.SiteSum.{SiteSum}
 use Rattle.fed_rules.specs.SiteRecords.{site_payload, doubtful_size, owner_size}
 use Rattle.record_fields.specs.Items.{joined}
-use Rattle.record_fields.specs.Named.{a_put, a_tid, writes}
+use Rattle.record_fields.specs.Named.{a_tid, writes}
 use Rattle.record_fields.specs.Sums.{maybe, a_doubtful, tids, doubtful}
 use Rattle.record_fields.proofs.Joined.{length-joined}
 use Rattle.record_fields.proofs.Sizes as sizes
 use Rattle.site_journal.specs.Spelling.{checkpoint, spelling}
-
-pub rows_size : (rows : List Put) → length (joined a_put.spelling rows) ≡ 10 * length rows
-rows_size = sizes.rows_size
 
 pub tids_size : (locals : List Tid) → length (joined a_tid.spelling locals) ≡ 5 * length locals
 tids_size = length-joined a_tid.spelling 5 (λ tid. refl)
@@ -41,17 +37,17 @@ parts_size sum =
       length-append (writes.spelling sum.rows) lists,
       length-append (tids.spelling sum.locals) (doubtful.spelling sum.doubtful),
       owner_sizes sum.owner,
-      rows_size sum.rows,
+      sizes.rows_size sum.rows,
       tids_size sum.locals,
       doubtful_sizes sum.doubtful,
     )
 
 -- a record's payload has as many bytes as the rules count for it
 pub payload_has_size : (entry : SiteRecord) → length (spelling entry) ≡ site_payload entry
-payload_has_size (Setup site engine protocol items) = omega (arith, rows_size items)
+payload_has_size (Setup site engine protocol items) = omega (arith, sizes.rows_size items)
 payload_has_size (Start epoch) = refl
-payload_has_size (Prepared tid epoch serial ticket rows) = omega (arith, rows_size rows)
+payload_has_size (Prepared tid epoch serial ticket rows) = omega (arith, sizes.rows_size rows)
 payload_has_size (Ended tid Decided.Commit) = refl
 payload_has_size (Ended tid Decided.Abort) = refl
-payload_has_size (Local tid serial rows) = omega (arith, rows_size rows)
+payload_has_size (Local tid serial rows) = omega (arith, sizes.rows_size rows)
 payload_has_size (Checkpoint sum) = omega (arith, parts_size sum)

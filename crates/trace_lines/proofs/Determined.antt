@@ -12,7 +12,8 @@ use Rattle.line_text.specs.declared.word.Word.TheVariants.{Plain}
 use Rattle.line_text.specs.Range.{is_line}
 use Rattle.line_text.specs.Words.{word_text}
 use Rattle.line_text.specs.Spelling.{command_words, answer_words, sends_words, line_words, words_bytes, line_bytes, lines_bytes}
-use Rattle.trace_lines.proofs.Bytes.{Lacks, all_of_both}
+use Rattle.trace_lines.proofs.Bytes.{Lacks}
+use Rattle.mdb_base.proofs.EachLaws.{all_append}
 use Rattle.trace_lines.proofs.Pairs.{one_parting}
 use Rattle.trace_lines.proofs.Pieces.{AreWords}
 use Rattle.trace_lines.proofs.Visible.{is_visible, AreVisible, visible_word}
@@ -32,7 +33,7 @@ words_no_feed : (words : List Word) → AreWords words → Lacks 10 (words_bytes
 words_no_feed [] h = tt
 words_no_feed (word ∷ []) h = visible_no_feed (word_text word) (visible_word word h.0)
 words_no_feed (word ∷ next ∷ more) h =
-    all_of_both (λ b. b ≢ 10) (word_text word) (32 ∷ words_bytes (next ∷ more)) (visible_no_feed (word_text word) (visible_word word h.0)) ((λ e. omega arith), words_no_feed (next ∷ more) h.1)
+    all_append (λ b. b ≢ 10) (word_text word) (32 ∷ words_bytes (next ∷ more)) (visible_no_feed (word_text word) (visible_word word h.0)) ((λ e. omega arith), words_no_feed (next ∷ more) h.1)
 
 line_no_feed : (line : Line) → IsTrue (is_line line) → Lacks 10 (line_bytes line)
 line_no_feed line h = words_no_feed (line_words line) (line_is_words line h)

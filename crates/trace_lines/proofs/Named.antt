@@ -13,7 +13,8 @@ use Rattle.line_text.specs.Range.{is_large, is_small, is_site, is_tx, is_tid, is
 use Rattle.line_text.specs.Words.{place_text, edge_text}
 use Rattle.trace_lines.specs.Lexing.{Spells, are_large, numbers_text, tid_at, place_at, site_text, is_target, target_text, are_both, pair_text}
 use Rattle.trace_lines.specs.Reading.{site_of}
-use Rattle.trace_lines.proofs.Bytes.{Lacks, lacks-decimal, all_of_both}
+use Rattle.trace_lines.proofs.Bytes.{Lacks, lacks-decimal}
+use Rattle.mdb_base.proofs.EachLaws.{all_append}
 use Rattle.trace_lines.proofs.Pairs.{one_parting}
 
 -- a number has one spelling
@@ -90,8 +91,8 @@ place_read = through are_large (numbers_text 47) is_place place_text place_at (�
 pub lacks_in_tid : (c : ℕ) → (c < 48) ⊎ (57 < c) → 46 ≢ c → (tid : Tid) → IsTrue (is_tid tid) → Lacks c (tid_text tid)
 lacks_in_tid c outside dot tid h =
     let large = is_true_parts (is_large tid.tx.0) (is_large tid.attempt) (tid_is_large tid h) in
-    all_of_both (λ b. b ≢ c) (decimal tid.tx.0 ++ codes ".") (decimal tid.attempt)
-    (all_of_both (λ b. b ≢ c) (decimal tid.tx.0) (codes ".") (lacks-decimal c tid.tx.0 outside (ltb-true tid.tx.0 (2 ^ 64) large.0)) (dot, tt))
+    all_append (λ b. b ≢ c) (decimal tid.tx.0 ++ codes ".") (decimal tid.attempt)
+    (all_append (λ b. b ≢ c) (decimal tid.tx.0) (codes ".") (lacks-decimal c tid.tx.0 outside (ltb-true tid.tx.0 (2 ^ 64) large.0)) (dot, tt))
     (lacks-decimal c tid.attempt outside (ltb-true tid.attempt (2 ^ 64) large.1))
 
 pub lacks-tid : (c : ℕ) → 57 < c → (tid : Tid) → IsTrue (is_tid tid) → Lacks c (tid_text tid)

@@ -18,7 +18,8 @@ use Rattle.line_text.specs.Range.{is_large, is_site, is_tid, is_place, is_edge, 
 use Rattle.line_text.specs.Words.{keyword_text, place_text, edge_text, word_text}
 use Rattle.trace_lines.specs.Lexing.{target_text, site_text}
 use Rattle.trace_lines.specs.Lexed.{keyword_in}
-use Rattle.trace_lines.proofs.Bytes.{AreDigits, Lacks, digits-decimal, lacks-decimal, all_of_both}
+use Rattle.trace_lines.proofs.Bytes.{AreDigits, Lacks, digits-decimal, lacks-decimal}
+use Rattle.mdb_base.proofs.EachLaws.{all_append}
 use Rattle.trace_lines.proofs.Pairs.{one_parting}
 use Rattle.trace_lines.proofs.Named.{one_number, one_pair, site_is_large, tid_is_large, place_is_large, lacks-tid, lacks_in_tid, tid_parts, place_parts, edge_parts}
 use Rattle.trace_lines.proofs.Pieces.{AreWords}
@@ -90,8 +91,8 @@ number_lacks c n outside h = lacks-decimal c n outside (ltb-true n (2 ^ 64) h)
 place_lacks : (sent : Place) → IsTrue (is_place sent) → Lacks 62 (place_text sent)
 place_lacks sent h =
     let large = is_true_parts (is_large sent.site.0) (is_large sent.place) (place_is_large sent h) in
-    all_of_both (λ b. b ≢ 62) (decimal sent.site.0 ++ codes "/") (decimal sent.place)
-    (all_of_both (λ b. b ≢ 62) (decimal sent.site.0) (codes "/") (number_lacks 62 sent.site.0 (inr (omega arith)) large.0) ((λ e. omega arith), tt))
+    all_append (λ b. b ≢ 62) (decimal sent.site.0 ++ codes "/") (decimal sent.place)
+    (all_append (λ b. b ≢ 62) (decimal sent.site.0) (codes "/") (number_lacks 62 sent.site.0 (inr (omega arith)) large.0) ((λ e. omega arith), tt))
     (number_lacks 62 sent.place (inr (omega arith)) large.1)
 
 -- each word but a keyword begins with a number

@@ -44,8 +44,7 @@ pub fn read_line(alloc: Global, text: &[u8]) -> Result<Line, LineErr>
     reading::line_of(alloc, &words)
 }
 
-/// The attempts that are spelled so, with one space between each two, as they are computed of the bytes. Where some word is none, or there is
-/// none at all, they are no such text.
+/// The attempts that a text spells, with one space between each two. It is `NoLine` where some word spells none, or where there is no word.
 pub fn read_tids(alloc: Global, text: &[u8]) -> Result<Vec<Tid>, LineErr>
     ensures { Reads (λ tids. tids.items) result (tids_in text.now) }
 {

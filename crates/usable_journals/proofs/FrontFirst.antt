@@ -7,14 +7,14 @@ use Rattle.mdb_base.specs.Words.{Among, Each}
 use Rattle.mdb_base.proofs.ListLaws.{each_all, each_inserted}
 use Rattle.mdb_base.proofs.NameLaws.{before_apart, same_tid-refl, same_tid-sym}
 use Rattle.order_laws.specs.Chains.{In}
-use Rattle.order_laws.proofs.Lists.{among_is, each_at, is_among}
+use Rattle.order_laws.proofs.Lists.{among_is, each_at}
 use Rattle.fed_rules.specs.declared.records.SiteRecord.{SiteRecord}
 use Rattle.fed_rules.specs.declared.records.SiteRecord.TheVariants.{Setup, Start, Prepared, Ended, Local, Checkpoint}
 use Rattle.fed_rules.specs.Reopened.{home_by, local_read}
 use Rattle.fed_rules.specs.SiteRecords.{Held, Home, Install, doubt_of, installs}
-use Rattle.fed_rules.specs.Usable.{AreSumsOfSome, AreWithin, IsPreparedOf, KeepClear, OnceEach, RiseBy, TicketsRise, counted, tickets}
+use Rattle.fed_rules.specs.Usable.{AreSumsOfSome, AreWithin, KeepClear, OnceEach, RiseBy, TicketsRise, counted, tickets}
 use Rattle.site_history.proofs.ReadSums.{WritesNothing, carried_installs}
-use Rattle.site_history.proofs.Records.{doubt_in, record_of}
+use Rattle.site_history.proofs.Records.{doubt_prepared, locals_undoubted}
 use Rattle.site_history.proofs.SameSays.{SameDue, all_due}
 use Rattle.site_history.proofs.Starts.{doubt_tid}
 use Rattle.usable_journals.specs.declared.fronts.Front.{Front}
@@ -25,10 +25,6 @@ use Rattle.usable_journals.proofs.FrontOrder.{all_stand, apart_back, apart_there
 use Rattle.usable_journals.proofs.OnceLaws.{counted_behind}
 
 -- ---- committed local ones of a first Checkpoint
-
-locals_free : (n : ℕ) (ts : List Tid) (tid : Tid) → doubt_of (map (local_read n) ts) tid ≡ None
-locals_free n [] tid = refl
-locals_free n (t ∷ ts) tid = locals_free n ts tid
 
 locals_quiet : (n : ℕ) (ts : List Tid) → Each WritesNothing (installs (map (local_read n) ts))
 locals_quiet n [] = tt
@@ -172,7 +168,7 @@ first_is front home (Checkpoint sum) base is some (sorted, by, e) t = subst (IsF
     ls = map (local_read sum.counter) sum.locals
 
     free : (tid : Tid) → doubt_of ls tid ≡ None
-    free tid = locals_free sum.counter sum.locals tid
+    free tid = locals_undoubted sum.counter sum.locals tid
 
     one_sum : OneEach sum.doubtful
     one_sum = one_each sum.doubtful some.doubtful_rise
@@ -202,13 +198,10 @@ first_is front home (Local u n w) base is some e t = cc
 
 -- ---- each record behind it is new
 
-prepared_among : (rs : List SiteRecord) (tid : Tid) (h : Held) → doubt_of rs tid ≡ Some h → Among (IsPreparedOf tid) rs
-prepared_among rs tid h e = is_among (IsPreparedOf tid) (record_of h) rs (doubt_in rs tid h e) (doubt_tid rs tid h e)
-
 ticket_listed : (journal : List SiteRecord) → Each AreWithin journal → (x : Held) → IsDoubt (counted journal) x → Among (λ n. x.ticket ≤ n) (tickets journal)
 ticket_listed [] within x is = cc
 ticket_listed (Checkpoint sum ∷ []) within x is =
-    let i = in_carried (map (local_read sum.counter) sum.locals) (λ tid. locals_free sum.counter sum.locals tid) sum.doubtful x is in
+    let i = in_carried (map (local_read sum.counter) sum.locals) (λ tid. locals_undoubted sum.counter sum.locals tid) sum.doubtful x is in
     inl (each_at (λ (h : Held). h.ticket ≤ sum.published) x sum.doubtful within.0.tickets i)
 ticket_listed (Checkpoint sum ∷ next ∷ older) within x is = inr (ticket_listed (next ∷ older) within.1 x is)
 ticket_listed (Prepared t m n k w ∷ older) within x is =
@@ -226,7 +219,7 @@ new_of (Prepared t m n k w) journal within once rise = (none (doubt_of (counted 
   where
     none : (o : Option Held) → doubt_of (counted journal) t ≡ o → doubt_of (counted journal) t ≡ None
     none None e = e
-    none (Some h) e = absurd (once.0 (prepared_among (counted journal) t h e))
+    none (Some h) e = absurd (once.0 (doubt_prepared (counted journal) t h e))
 
     low : (x : Held) → IsDoubt (counted journal) x → x.ticket < k
     low x is =

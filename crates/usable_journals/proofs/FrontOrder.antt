@@ -18,6 +18,7 @@ use Rattle.site_history.proofs.Starts.{doubt_tid}
 use Rattle.usable_journals.proofs.OnceLaws.{counted_behind}
 use Rattle.usable_journals.specs.Fronts.{AreInOrder, IsDoubt, IsNew, MayAllStand, MayStand}
 use Rattle.usable_journals.proofs.FrontLaws.{AreAllApart, apart_more, may_hold_from, new_or_old, newly, was_doubt}
+use Rattle.site_history.proofs.OpenedSums.{counted_more}
 
 -- ---- the rules in the words of who is in doubt
 
@@ -111,14 +112,6 @@ on_top (Ended t d) rs may = tt
 on_top (Checkpoint sum) rs may = tt
 
 -- ---- a front with one more record
-
-pub counted_more : (r next : SiteRecord) (older : List SiteRecord) → counted (r ∷ next ∷ older) ≡ r ∷ counted (next ∷ older)
-counted_more (Setup site engine protocol items) next older = refl
-counted_more (Start n) next older = refl
-counted_more (Prepared t e n k w) next older = refl
-counted_more (Ended t d) next older = refl
-counted_more (Local t n w) next older = refl
-counted_more (Checkpoint sum) next older = refl
 
 top_parts : (r next : SiteRecord) (older : List SiteRecord) → LocalsOnTop (r ∷ next ∷ older) → IsOnTop r (counted (next ∷ older)) × LocalsOnTop (next ∷ older)
 top_parts (Local t n w) next older t2 = t2

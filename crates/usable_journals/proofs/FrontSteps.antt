@@ -9,11 +9,10 @@ use Rattle.mdb_base.specs.declared.names.Key.{Key}
 use Rattle.mdb_base.specs.declared.names.SiteId.{SiteId}
 use Rattle.mdb_base.specs.declared.names.Tid.{Tid}
 use Rattle.mdb_base.specs.declared.rows.Put.{Put}
-use Rattle.mdb_base.specs.Names.{same_tid}
+use Rattle.mdb_base.specs.Names.{same_tid, tid_cmp}
 use Rattle.mdb_base.specs.Words.{each_of}
 use Rattle.mdb_base.proofs.NameLaws.{same_tid-equal}
 use Rattle.order_laws.specs.Chains.{In}
-use Rattle.order_laws.specs.Ranked.{tid_cmp}
 use Rattle.order_laws.proofs.InLaws.{in_inserted}
 use Rattle.presumptions.specs.declared.Decision.{Decision}
 use Rattle.presumptions.specs.declared.Protocol.{Protocol}
@@ -31,7 +30,7 @@ use Rattle.usable_journals.specs.Fronts as tests
 use Rattle.usable_journals.specs.Fronts.{CanHold, IsDoubt, IsHeldBy, IsLast, IsNew, IsWrittenUpTo, MayAllStand, MayStand, AreNew, Takes, Tells, held_read, walk}
 use Rattle.usable_journals.specs.SiteTests.{greater_of}
 use Rattle.usable_journals.proofs.FrontLaws.{AreAllApart, apart_more, apart_numbers, both_write, hold_back, hold_there, new_or_old, newly, one_doubt, stays_doubt, still, was_doubt, write_back, write_there}
-use Rattle.usable_journals.proofs.Sets.{is_eq-tid}
+use Rattle.mdb_base.proofs.NameOrders.{tid_ties}
 use Rattle.usable_journals.proofs.Words.{is_eq-nat}
 use Rattle.usable_journals.proofs.WalkLaws.{OfEveryFront}
 
@@ -94,7 +93,7 @@ pub prepared_tells : (old : Front) (doubts : BTreeMap Tid Held) (numbers : BTree
     → ((key : Key) → get key_cmp held_keys key ≡ cond (has_row key held.writes) (Some held.number) (get key_cmp old.held key))
     → Tells old rs → Tells (record { doubts = doubts; numbers = numbers; held = held_keys; committed = old.committed }) (held_read held ∷ rs)
 prepared_tells old doubts numbers held_keys held rs new d n k t = record {
-  doubts = λ q. d q ∙ ap₂ (λ b o. cond b (Some held) o) (is_eq-tid held.tid q) (t.doubts q);
+  doubts = λ q. d q ∙ ap₂ (λ b o. cond b (Some held) o) (tid_ties held.tid q) (t.doubts q);
   numbers = λ m has. by_number_of m (is_eq (nat_cmp held.number m)) refl (sym (n m) ∙ has);
   all_numbers = λ x is. elim (new_or_old held x rs is) [
     | inl same ↦ n x.number ∙ ap (λ b. cond b true (contains nat_cmp old.numbers x.number)) (is_eq-self held.number x.number (ap (λ (h : Held). h.number) same))
@@ -136,7 +135,7 @@ pub ends_nothing : (old : Front) (doubts : BTreeMap Tid Held) (tid : Tid) (decis
 ends_nothing old doubts tid decision gone d rs given t keeps = (
   (λ e. (tt, keeps), λ k. refl),
   λ e. record {
-    doubts = λ q. d q ∙ ap₂ (λ b o. cond b None o) (is_eq-tid tid q) (t.doubts q);
+    doubts = λ q. d q ∙ ap₂ (λ b o. cond b None o) (tid_ties tid q) (t.doubts q);
     numbers = λ n has. (let (x, is, same) = t.numbers n has in (x, on x is, same));
     all_numbers = λ x is. t.all_numbers x (was_doubt tid decision x rs is).1;
     held = λ key. by_look key (get key_cmp old.held key) (t.held key);
@@ -171,7 +170,7 @@ pub ended_tells : (old : Front) (doubts : BTreeMap Tid Held) (numbers : BTreeSet
     → ((key : Key) → IsWrittenUpTo (installs (Ended tid decision ∷ rs)) key (get key_cmp committed key))
     → Tells old rs → Tells (record { doubts = doubts; numbers = numbers; held = held_keys; committed = committed }) (Ended tid decision ∷ rs)
 ended_tells old doubts numbers held_keys committed tid decision held rs apart at own d n k up t = record {
-  doubts = λ q. d q ∙ ap₂ (λ b o. cond b None o) (is_eq-tid tid q) (t.doubts q);
+  doubts = λ q. d q ∙ ap₂ (λ b o. cond b None o) (tid_ties tid q) (t.doubts q);
   numbers = λ m has. by_number_of m (is_eq (nat_cmp held.number m)) refl (sym (n m) ∙ has);
   all_numbers = λ x is. let was = was_doubt tid decision x rs is in n x.number ∙ by_equal x was (is_eq (nat_cmp held.number x.number)) refl;
   held = λ key. subst (IsHeldBy (Ended tid decision ∷ rs) key) (sym (k key)) (by_row key (has_row key held.writes) refl (get key_cmp old.held key) (t.held key));

@@ -4,11 +4,11 @@ use Rattle.std.specs.BTreeSet.{BTreeSet, IsDisjoint, contains}
 use Rattle.std.specs.Ordering.{is_eq}
 use Rattle.mdb_base.specs.declared.names.Tid.{Tid}
 use Rattle.mdb_base.specs.declared.names.Tx.{Tx}
-use Rattle.mdb_base.specs.Names.{same_tx}
+use Rattle.mdb_base.specs.Names.{same_tx, tx_cmp}
 use Rattle.mdb_base.specs.Words.{some_of, those}
 use Rattle.mdb_base.proofs.BoolLaws.{or_false}
 use Rattle.mdb_base.proofs.NameLaws.{same_tx-equal, same_tx-refl}
-use Rattle.mdb_base.proofs.TestLaws.{or_assoc}
+use Rattle.mdb_base.proofs.TestLaws.{or_assoc, some_reverse}
 use Rattle.fed_rules.specs.declared.records.CoordRecord.{CoordRecord}
 use Rattle.fed_rules.specs.declared.records.CoordRecord.TheVariants.{Initiation, Commit, Abort, End, Checkpoint}
 use Rattle.fed_rules.specs.declared.records.SiteRecord.{SiteRecord}
@@ -18,10 +18,9 @@ use Rattle.fed_rules.specs.declared.sums.OpenAttempt.{OpenAttempt}
 use Rattle.fed_rules.specs.Reopened.{commit_read, end_read, initiation_read, is_open_in}
 use Rattle.fed_rules.specs.Usable.{AreUnnamed, IsAttemptOf, IsLocalOf, coord_read, counted}
 use Rattle.usable_journals.specs.Named.{AddsTo, is_attempt_of, is_committed_of, is_named_in, is_open_of}
-use Rattle.usable_journals.specs.Recorded.{tx_cmp}
 use Rattle.usable_journals.specs.SiteTests.{is_local_of}
 use Rattle.usable_journals.proofs.OnceLaws.{local_tells}
-use Rattle.usable_journals.proofs.PartedLaws.{apart_by, empty_has, some_append, some_reverse}
+use Rattle.usable_journals.proofs.PartedLaws.{apart_by, empty_has, some_append}
 use Rattle.usable_journals.proofs.Recording.{read_first}
 use Rattle.usable_journals.proofs.Reflected.{Tells}
 use Rattle.usable_journals.proofs.Sets.{with_tx}

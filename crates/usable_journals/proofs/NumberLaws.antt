@@ -7,7 +7,7 @@ use Rattle.std.specs.BTreeSet.{BTreeSet, contains}
 use Rattle.std.specs.List.{list_any}
 use Rattle.std.specs.Ordering.{is_eq, nat_cmp}
 use Rattle.order_laws.specs.Chains.{Distinct, In}
-use Rattle.mdb_base.proofs.BoolLaws.{is_true_both, is_true_parts}
+use Rattle.mdb_base.proofs.BoolLaws.{is_true_both, is_true_parts, and_fails}
 use Rattle.fed_rules.specs.declared.records.SiteRecord.{SiteRecord}
 use Rattle.fed_rules.specs.declared.records.SiteRecord.TheVariants.{Setup, Start, Prepared, Ended, Local, Checkpoint}
 use Rattle.fed_rules.specs.declared.sums.SiteSum.{SiteSum}
@@ -16,7 +16,7 @@ use Rattle.fed_rules.specs.Usable as usable
 use Rattle.usable_journals.specs.Numbers.{HasAll, Puts, all_numbers, differ, has, numbers_of}
 use Rattle.usable_journals.proofs.Recording.{drop_one, fronts, reverse_more, reverse_rest}
 use Rattle.usable_journals.proofs.Reflected.{Tells, tells_not, tells_some}
-use Rattle.usable_journals.proofs.Words.{choice, falls}
+use Rattle.usable_journals.proofs.Words.{choice}
 
 -- ---- one number
 
@@ -41,7 +41,7 @@ puts_none a ns all are = (sym are, λ e. all)
 
 stays_same : (more ns : List ℕ) → differ ns ≡ false → differ (more ++ ns) ≡ false
 stays_same [] ns e = e
-stays_same (n ∷ more) ns e = falls (not (has (more ++ ns) n)) (differ (more ++ ns)) (stays_same more ns e)
+stays_same (n ∷ more) ns e = and_fails (not (has (more ++ ns) n)) (differ (more ++ ns)) (stays_same more ns e)
 
 pub puts_then : (a b c : BTreeSet ℕ) (xs ys : List ℕ) (fits : Bool) → Puts a b xs true → Puts b c ys fits → Puts a c (ys ++ xs) fits
 puts_then a b c xs ys fits first second ns all are =

@@ -6,9 +6,8 @@ use Rattle.std.specs.BTreeSet.{BTreeSet, contains}
 use Rattle.mdb_base.specs.declared.names.Tid.{Tid}
 use Rattle.mdb_base.specs.declared.names.Tx.{Tx}
 use Rattle.mdb_base.specs.declared.rows.Put.{Put}
-use Rattle.mdb_base.specs.Names.{same_tid, same_tx}
+use Rattle.mdb_base.specs.Names.{same_tid, same_tx, tid_cmp, tx_cmp}
 use Rattle.mdb_base.specs.Words.{Among, some_of}
-use Rattle.order_laws.specs.Ranked.{tid_cmp}
 use Rattle.presumptions.specs.declared.Decision.{Decision}
 use Rattle.fed_rules.specs.declared.records.SiteRecord.{SiteRecord}
 use Rattle.fed_rules.specs.declared.records.SiteRecord.TheVariants.{Setup, Start, Prepared, Ended, Local, Checkpoint}
@@ -16,16 +15,15 @@ use Rattle.fed_rules.specs.SiteRecords.{Held, doubt_of}
 use Rattle.fed_rules.specs.Usable.{IsLocalOf, IsPreparedOf, OnceEach, counted}
 use Rattle.order_laws.proofs.Alike.{same_of}
 use Rattle.mdb_base.proofs.NameLaws.{same_tx-equal, same_tx-refl}
-use Rattle.mdb_base.proofs.BoolLaws.{is_true_both, is_true_parts}
+use Rattle.mdb_base.proofs.BoolLaws.{is_true_both, is_true_parts, and_fails}
 use Rattle.mdb_base.proofs.NameLaws.{same_tid-equal}
 use Rattle.usable_journals.proofs.Reflected as Told
 use Rattle.usable_journals.specs.declared.site_once.Once.{Once}
 use Rattle.usable_journals.specs.SiteTests.{is_local_of, is_prepared_of, may_stand, once_each}
-use Rattle.usable_journals.specs.Recorded.{tx_cmp}
 use Rattle.usable_journals.specs.OnceTold.{IsGood, Takes, TakesAll, Tells}
-use Rattle.usable_journals.proofs.Words.{falls}
 use Rattle.usable_journals.proofs.Recording.{Gets, GetsTx, drop_one, fronts, reverse_more, reverse_rest}
-use Rattle.usable_journals.proofs.Sets.{is_eq-tid, with_tid, with_tx}
+use Rattle.usable_journals.proofs.Sets.{with_tid, with_tx}
+use Rattle.mdb_base.proofs.NameOrders.{tid_ties}
 
 some_held : (b : Bool) (held : Held) (o : Option Held) → is_some (cond b (Some held) o) ≡ cond b true (is_some o)
 some_held true held o = refl
@@ -43,7 +41,7 @@ prepares old prepared in_doubt tid epoch number ticket writes added is d p recor
   record {
     prepared = λ q. with_tid tid q _ _ _ (p q) (t.prepared q);
     in_doubt = λ q.
-        d q ∙ ap₂ (λ a b. cond a true b) (is_eq-tid tid q) (t.in_doubt q)
+        d q ∙ ap₂ (λ a b. cond a true b) (tid_ties tid q) (t.in_doubt q)
         ∙ sym (some_held (same_tid tid q) (record { tid = tid; epoch = epoch; number = number; ticket = ticket; writes = writes }) (doubt_of records q));
     locals = t.locals;
   },
@@ -56,7 +54,7 @@ ends old in_doubt tid decision was held is one gone records t = (
   ap₂ (λ a b. a || not b) (is ∙ t.in_doubt tid) (one ∙ t.prepared tid),
   record {
     prepared = t.prepared;
-    in_doubt = λ q. gone q ∙ ap₂ (λ a b. cond a false b) (is_eq-tid tid q) (t.in_doubt q) ∙ sym (none_held (same_tid tid q) (doubt_of records q));
+    in_doubt = λ q. gone q ∙ ap₂ (λ a b. cond a false b) (tid_ties tid q) (t.in_doubt q) ∙ sym (none_held (same_tid tid q) (doubt_of records q));
     locals = t.locals;
   },
 )
@@ -70,7 +68,7 @@ commits old locals tid number writes added is l records t =
 
 stays_false : (newer older : List SiteRecord) → once_each older ≡ false → once_each (newer ++ older) ≡ false
 stays_false [] older e = e
-stays_false (newest ∷ newer) older e = falls (may_stand newest (newer ++ older)) (once_each (newer ++ older)) (stays_false newer older e)
+stays_false (newest ∷ newer) older e = and_fails (may_stand newest (newer ++ older)) (once_each (newer ++ older)) (stays_false newer older e)
 
 pub takes_none : (r : Once) → TakesAll r r [] true
 takes_none r records good = (sym good.stands, λ e. good.tells)

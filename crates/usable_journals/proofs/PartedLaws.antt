@@ -6,11 +6,11 @@ use Rattle.std.specs.BTreeSet.{BTreeSet, IsDisjoint, contains}
 use Rattle.std.specs.List.{list_any}
 use Rattle.mdb_base.specs.declared.names.Tid.{Tid}
 use Rattle.mdb_base.specs.declared.names.Tx.{Tx}
-use Rattle.mdb_base.specs.Names.{same_tx}
+use Rattle.mdb_base.specs.Names.{same_tx, tx_cmp}
 use Rattle.mdb_base.specs.Words.{Among, some_of}
-use Rattle.mdb_base.proofs.BoolLaws.{or_false}
+use Rattle.mdb_base.proofs.BoolLaws.{or_false, or_swapped}
 use Rattle.mdb_base.proofs.NameLaws.{same_tx-equal, same_tx-refl}
-use Rattle.mdb_base.proofs.TestLaws.{or_assoc, some_of-push}
+use Rattle.mdb_base.proofs.TestLaws.{or_assoc, some_of-push, some_reverse}
 use Rattle.fed_rules.specs.declared.records.SiteRecord.{SiteRecord}
 use Rattle.fed_rules.specs.declared.records.SiteRecord.TheVariants.{Setup, Start, Prepared, Ended, Local, Checkpoint}
 use Rattle.fed_rules.specs.declared.sums.SiteSum.{SiteSum}
@@ -20,13 +20,12 @@ use Rattle.fed_rules.specs.SiteSums.{carried}
 use Rattle.fed_rules.specs.Usable.{AreParted, IsGlobalOf, IsLocalOf, counted}
 use Rattle.usable_journals.specs.declared.parted.Parted.{Parted}
 use Rattle.usable_journals.specs.PartedTold.{Adds, is_global_of, is_held_of, is_of, is_owner_of, is_sum_of, none}
-use Rattle.usable_journals.specs.Recorded.{tx_cmp}
 use Rattle.usable_journals.specs.SiteTests.{is_local_of}
 use Rattle.usable_journals.proofs.OnceLaws.{counted_split, local_tells}
 use Rattle.usable_journals.proofs.Recording.{GetsTx}
 use Rattle.usable_journals.proofs.Reflected.{Tells, tells_some}
 use Rattle.usable_journals.proofs.Sets.{with_tx}
-use Rattle.usable_journals.proofs.Words.{or_second, swapped}
+use Rattle.usable_journals.proofs.Words.{or_second}
 
 or_cases : (a b : Bool) → (a || b) ≡ true → (a ≡ true) ⊎ (b ≡ true)
 or_cases true b e = inl refl
@@ -54,7 +53,7 @@ adds_then l1 g1 l2 g2 l g a b c first second ls gs = record {
 
 pub more_at : {A : Type 0} (test : A → Bool) (xs : List A) (n : ℕ) (d : A) → n < length xs → (test (get_or xs n d) || some_of test (take n xs)) ≡ some_of test (take (n + 1) xs)
 more_at test xs n d within =
-    swapped (test (get_or xs n d)) (some_of test (take n xs)) ∙ sym (some_of-push test (take n xs) (get_or xs n d)) ∙ ap (some_of test) (sym (take_more xs n d within))
+    or_swapped (test (get_or xs n d)) (some_of test (take n xs)) ∙ sym (some_of-push test (take n xs) (get_or xs n d)) ∙ ap (some_of test) (sym (take_more xs n d within))
 
 pub more : {A : Type 0} (test : A → Bool) (xs : List A) (n : ℕ) (x : A) → n < length xs → x ≡ get_or xs n x → (test x || some_of test (take n xs)) ≡ some_of test (take (n + 1) xs)
 more test xs n x within here = ap (λ a. test a || some_of test (take n xs)) here ∙ more_at test xs n x within
@@ -93,11 +92,6 @@ adds_first first a b other h = record { locals = λ tx. h.locals tx ∙ ap (λ x
 pub some_append : {A : Type 0} (test : A → Bool) (xs ys : List A) → some_of test (xs ++ ys) ≡ (some_of test xs || some_of test ys)
 some_append test [] ys = refl
 some_append test (x ∷ xs) ys = ap (λ b. test x || b) (some_append test xs ys) ∙ or_assoc (test x) (some_of test xs) (some_of test ys)
-
-pub some_reverse : {A : Type 0} (test : A → Bool) (xs : List A) → some_of test (reverse xs) ≡ some_of test xs
-some_reverse test [] = refl
-some_reverse test (x ∷ xs) =
-    ap (some_of test) (reverse-append (x ∷ []) xs) ∙ some_of-push test (reverse xs) x ∙ ap (λ b. b || test x) (some_reverse test xs) ∙ swapped (some_of test xs) (test x)
 
 global_tells : (tx : Tx) → Tells (is_global_of tx) (IsGlobalOf tx)
 global_tells tx = record { there = there; back = back }

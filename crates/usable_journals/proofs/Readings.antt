@@ -6,11 +6,10 @@ use Rattle.std.specs.BTreeSet.{BTreeSet, contains}
 use Rattle.std.specs.Ordering.{is_eq}
 use Rattle.mdb_base.specs.declared.names.SiteTicket.{SiteTicket}
 use Rattle.mdb_base.specs.declared.names.Tid.{Tid}
-use Rattle.mdb_base.specs.Names.{same_tid, tid_before}
+use Rattle.mdb_base.specs.Names.{same_tid, tid_before, tid_cmp}
 use Rattle.mdb_base.specs.Words.{Each, inserted, some_of, those}
 use Rattle.mdb_base.proofs.ListLaws.{each_filtered, each_inserted, each_map}
 use Rattle.mdb_base.proofs.NameLaws.{same_tid-equal}
-use Rattle.order_laws.specs.Ranked.{tid_cmp}
 use Rattle.order_laws.proofs.Names.{ranks_tids}
 use Rattle.presumptions.specs.declared.Participant.{Participant}
 use Rattle.fed_rules.specs.declared.records.CoordRecord.{CoordRecord}
@@ -27,7 +26,7 @@ use Rattle.usable_journals.specs.Reads.{Reads, Says, begun, ended, ends_of, forg
 use Rattle.fed_rules.specs.Reopened.{commit_read, coord_sum_read, initiation_read}
 use Rattle.usable_journals.proofs.Adding.{and_parts, stays_true}
 use Rattle.usable_journals.proofs.Recording.{drop_one, end_at, ends_of as ends_in, ends_one, sum_reads}
-use Rattle.usable_journals.proofs.Sets.{is_eq-tid}
+use Rattle.mdb_base.proofs.NameOrders.{tid_ties}
 use Rattle.usable_journals.proofs.Words.{or_second}
 
 -- ---- lists by rising attempt
@@ -309,7 +308,7 @@ reads_begin protocols old attempts tid participants now records says q =
     ∙ sym (open_also tid participants (open_with protocols [] records) q)
 
 at_name : {V : Type 0} (tid q : Tid) (x y : Option V) → cond (is_eq (tid_cmp tid q)) x y ≡ cond (same_tid tid q) x y
-at_name tid q x y = ap (λ b. cond b x y) (is_eq-tid tid q)
+at_name tid q x y = ap (λ b. cond b x y) (tid_ties tid q)
 
 pub reads_commit : (protocols : List Participant) (old : Reading) (mid attempts : BTreeMap Tid (List Participant)) (before committed : BTreeMap Tid (List SiteTicket)) (tid : Tid) (tickets : List SiteTicket) →
     ((q : Tid) → get tid_cmp mid q ≡ begun tid (ticketed protocols tickets) (get tid_cmp old.attempts) q) →

@@ -9,8 +9,7 @@ use Rattle.mdb_base.specs.declared.names.SiteTicket.{SiteTicket}
 use Rattle.mdb_base.specs.declared.names.Tid.{Tid}
 use Rattle.mdb_base.specs.declared.names.Tx.{Tx}
 use Rattle.mdb_base.specs.Words.{some_of, those}
-use Rattle.mdb_base.specs.Names.{same_tid}
-use Rattle.order_laws.specs.Ranked.{tid_cmp}
+use Rattle.mdb_base.specs.Names.{same_tid, tid_cmp, tx_cmp}
 use Rattle.order_laws.proofs.Lists.{those_same}
 use Rattle.presumptions.specs.declared.Participant.{Participant}
 use Rattle.fed_rules.specs.declared.records.CoordRecord.{CoordRecord}
@@ -22,9 +21,9 @@ use Rattle.fed_rules.specs.Reopened.{commit_read, coord_sum_read, end_read, init
 use Rattle.fed_rules.specs.Usable.{coord_read}
 use Rattle.usable_journals.specs.declared.coord_order.Recorded.{Recorded}
 use Rattle.usable_journals.specs.CoordTests.{in_order, may_stand}
-use Rattle.usable_journals.specs.Recorded.{IsGood, Takes, TakesAll, Tells, end_unless, not_in, tx_cmp}
+use Rattle.usable_journals.specs.Recorded.{IsGood, Takes, TakesAll, Tells, end_unless, not_in}
 use Rattle.usable_journals.proofs.Sets.{with_tid, with_tx}
-use Rattle.usable_journals.proofs.Words.{falls}
+use Rattle.mdb_base.proofs.BoolLaws.{and_fails}
 
 -- the set has the attempt, and else what it had
 abbrev pub Gets : BTreeSet Tid → BTreeSet Tid → Tid → Type 0
@@ -88,7 +87,7 @@ passes old sum records t = (refl, record { named = t.named; decided = t.decided;
 -- what stands behind others that don't stand in order doesn't either
 pub stays_false : (newer older : List CoordRecord) → in_order older ≡ false → in_order (newer ++ older) ≡ false
 stays_false [] older e = e
-stays_false (newest ∷ newer) older e = falls (may_stand newest (newer ++ older)) (in_order (newer ++ older)) (stays_false newer older e)
+stays_false (newest ∷ newer) older e = and_fails (may_stand newest (newer ++ older)) (in_order (newer ++ older)) (stays_false newer older e)
 
 pub takes_none : (r : Recorded) → TakesAll r r [] true
 takes_none r records good = (sym good.stands, λ e. good.tells)

@@ -11,9 +11,8 @@ use Rattle.std.specs.Ordering.{is_eq}
 use Rattle.std.proofs.lemmas.Bool.Decides.{nat_tests}
 use Rattle.mdb_base.specs.declared.names.SiteTicket.{SiteTicket}
 use Rattle.mdb_base.specs.declared.names.Tid.{Tid}
-use Rattle.mdb_base.specs.Names.{tid_before}
+use Rattle.mdb_base.specs.Names.{tid_before, tid_cmp}
 use Rattle.mdb_base.specs.Words.{Each}
-use Rattle.order_laws.specs.Ranked.{tid_cmp}
 use Rattle.mdb_base.proofs.OptionLaws.{some_parts}
 use Rattle.order_laws.proofs.Names.{is_eq-tid_cmp, ranks_tids}
 use Rattle.mdb_base.proofs.NameLaws.{same_tid-refl}
@@ -32,6 +31,7 @@ use Rattle.usable_journals.proofs.Adding.{stays_true}
 use Rattle.usable_journals.proofs.Readings.{committed_rise, open_rise}
 use Rattle.usable_journals.proofs.Recording.{read_behind, reverse_more, reverse_rest}
 use Rattle.usable_journals.proofs.Reflected.{member_back, member_there}
+use Rattle.mdb_base.proofs.NameOrders.{less_before}
 
 pub member_decides : (a b : Participant) → Decides (same_member a b) (a ≡ b)
 member_decides a b = (member_there b a, member_back b a)
@@ -52,12 +52,6 @@ ticket_decides a b = (ticket_there a b, ticket_back a b)
 
 abbrev look : {V : Type 0} → List (Tid × V) → Tid → Option V
 look entries tid = lookup (is_at (tid_cmp tid)) entries
-
-less_before : (a b : Tid) → tid_cmp a b ≡ Less → tid_before a b ≡ true
-less_before a b e = grind (arith, nat_tests)
-
-before_less : (a b : Tid) → tid_before a b ≡ true → tid_cmp a b ≡ Less
-before_less a b e = grind (arith, nat_tests)
 
 before_differs : (a b : Tid) → tid_before a b ≡ true → is_eq (tid_cmp a b) ≡ false
 before_differs a b e = grind (arith, nat_tests)

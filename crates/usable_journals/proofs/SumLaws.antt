@@ -4,12 +4,11 @@ use Rattle.std.proofs.lemmas.Bool.Decides.{nat_tests}
 use Rattle.std.proofs.lemmas.List.{append-nil}
 use Rattle.std.specs.BTreeSet.{BTreeSet}
 use Rattle.mdb_base.specs.declared.names.Tid.{Tid}
-use Rattle.mdb_base.specs.Words.{Each, each_of}
-use Rattle.mdb_base.proofs.ListLaws.{each_map}
+use Rattle.mdb_base.specs.Words.{Each, each_of, is_empty}
+use Rattle.mdb_base.proofs.ListLaws.{each_map, empty_means}
 use Rattle.mdb_base.proofs.BoolLaws.{is_true_both, is_true_parts}
 use Rattle.fed_rules.specs.declared.records.SiteRecord.{SiteRecord}
 use Rattle.fed_rules.specs.declared.records.SiteRecord.TheVariants.{Setup, Start, Prepared, Ended, Local, Checkpoint}
-use Rattle.fed_rules.specs.Replies.{is_empty}
 use Rattle.fed_rules.specs.SiteRecords.{Held}
 use Rattle.fed_rules.specs.Usable.{AreSumsOfSome, AreWithin}
 use Rattle.usable_journals.specs.Numbers.{Puts, differ}
@@ -17,11 +16,9 @@ use Rattle.usable_journals.specs.Rising.{rises}
 use Rattle.usable_journals.specs.SiteTests as tests
 use Rattle.usable_journals.proofs.NumberLaws.{differ_back, differ_there, empty_has}
 use Rattle.usable_journals.proofs.Reflected.{Says, Tells, rise_tells, says_each, tells_each}
+use Rattle.std.proofs.lemmas.Bool.{leb-true}
 
 -- ---- those in doubt are at most the counter and the published ticket
-
-up_there : (m n : ℕ) → nat_le m n ≡ true → m ≤ n
-up_there m n e = grind (arith, nat_tests)
 
 up_back : (m n : ℕ) → m ≤ n → nat_le m n ≡ true
 up_back m n h = grind (arith, nat_tests)
@@ -31,7 +28,7 @@ UpTo counter published held = (held.number ≤ counter) × (held.ticket ≤ publ
 
 up_tells : (counter published : ℕ) → Tells (tests.is_up_to counter published) (UpTo counter published)
 up_tells counter published = record {
-  there = λ held e. let both = is_true_parts (nat_le held.number counter) (nat_le held.ticket published) e in (up_there held.number counter both.0, up_there held.ticket published both.1);
+  there = λ held e. let both = is_true_parts (nat_le held.number counter) (nat_le held.ticket published) e in (leb-true held.number counter both.0, leb-true held.ticket published both.1);
   back = λ held h. is_true_both (nat_le held.number counter) (nat_le held.ticket published) (up_back held.number counter h.0) (up_back held.ticket published h.1);
 }
 
@@ -81,7 +78,7 @@ owned_there : (o : Option Tid) (published counter : ℕ) (no_locals : Bool) → 
     (((o ≡ None) × (published ≡ 0)) ⊎ ((owner : Tid) × (o ≡ Some owner) × (1 ≤ published) × (1 ≤ counter))) × (o ≡ None → no_locals ≡ true → counter ≡ 0)
 owned_there (Some owner) published counter no_locals e =
     let both = is_true_parts (nat_le 1 published) (nat_le 1 counter) e in
-    (inr (owner, refl, up_there 1 published both.0, up_there 1 counter both.1), λ f g. absurd cc)
+    (inr (owner, refl, leb-true 1 published both.0, leb-true 1 counter both.1), λ f g. absurd cc)
 owned_there None published counter no_locals e =
     let both = is_true_parts (published == 0) (not no_locals || (counter == 0)) e in
     (inl (refl, eqb-true published 0 both.0), λ f g. counts no_locals (counter == 0) refl g both.1)
@@ -102,10 +99,6 @@ owned_back None published counter no_locals (inl h) c =
     counts : (n : Bool) → (n ≡ true → (counter == 0) ≡ true) → (not n || (counter == 0)) ≡ true
     counts true f = f refl
     counts false f = refl
-
-none_there : {A : Type 0} (xs : List A) → is_empty xs ≡ true → xs ≡ []
-none_there [] e = refl
-none_there (x ∷ xs) e = absurd cc
 
 none_back : {A : Type 0} (xs : List A) → xs ≡ [] → is_empty xs ≡ true
 none_back [] e = refl
@@ -132,7 +125,7 @@ some_there (Local tid number writes) e = tt
 some_back : (r : SiteRecord) → AreSumsOfSome r → tests.is_of_some r ≡ true
 some_back (Checkpoint sum) h =
     is_true_both (tests.is_owned sum.owner sum.published sum.counter (is_empty sum.locals)) (rises (λ (held : Held). held.tid) None sum.doubtful && rises (λ (tid : Tid). tid) None sum.locals)
-    (owned_back sum.owner sum.published sum.counter (is_empty sum.locals) h.owned (λ f g. h.counts f (none_there sum.locals g)))
+    (owned_back sum.owner sum.published sum.counter (is_empty sum.locals) h.owned (λ f g. h.counts f (empty_means sum.locals g)))
     (is_true_both (rises (λ (held : Held). held.tid) None sum.doubtful) (rises (λ (tid : Tid). tid) None sum.locals)
     ((rise_tells (λ (held : Held). held.tid)).back sum.doubtful h.doubtful_rise) ((rise_tells (λ (tid : Tid). tid)).back sum.locals h.locals_rise))
 some_back (Setup site engine protocol items) h = refl

@@ -1,6 +1,6 @@
 -- Where the other rules of a site's journal hold, its Checkpoints are sums exactly where each says what stands before it, the older ones standing for all
 -- before them.
-use Rattle.std.proofs.Common.{◌≡◌, ◌↔◌, Option, Some, None, List, [], ◌∷◌, refl, sym, ap, ◌∙◌, subst}
+use Rattle.std.proofs.Common.{◌≡◌, ◌↔◌, Option, Some, None, List, [], ◌∷◌, refl, sym, ap, ◌∙◌}
 use Rattle.mdb_base.specs.Words.{Each}
 use Rattle.fed_rules.specs.declared.records.SiteRecord.{SiteRecord}
 use Rattle.fed_rules.specs.declared.records.SiteRecord.TheVariants.{Setup, Start, Prepared, Ended, Local, Checkpoint}
@@ -10,15 +10,9 @@ use Rattle.fed_rules.specs.SiteRecords.{Home}
 use Rattle.fed_rules.specs.SiteSums.{behind_sum, journal_sum, last_sum, site_sum, sum_behind, sum_with}
 use Rattle.fed_rules.specs.Usable.{AreBehind, AreSumsOfSome, AreWithin, LocalsOnTop, OfFronts, SumsFit, read}
 use Rattle.site_history.proofs.Journals.{whole_sum}
-use Rattle.site_history.proofs.OpenedSums.{all_in_order, all_read, all_sums, first_says, read_more}
-use Rattle.site_history.proofs.SameSays.{SameSays, same_sum, says_more}
+use Rattle.site_history.proofs.OpenedSums.{all_in_order, all_read, all_sums, all_says}
+use Rattle.site_history.proofs.SameSays.{same_sum}
 use Rattle.usable_journals.specs.SiteReads.{AllFit}
-
-all_says : (home : Home) (newest : SiteRecord) (older : List SiteRecord) → SameSays (all_read home newest older) (read (newest ∷ older))
-all_says home first [] = first_says home first
-all_says home newest (next ∷ older) =
-    subst (SameSays (all_read home newest (next ∷ older))) (sym (read_more newest next older))
-    (says_more newest (all_read home next older) (read (next ∷ older)) (all_says home next older))
 
 -- a journal with a Checkpoint says the same with what stands below it
 record HasSum (home : Home) (newest : SiteRecord) (older : List SiteRecord) (sum : SiteSum) : Type 0 where

@@ -10,19 +10,9 @@ use Rattle.usable_journals.specs.CoordTests.{is_awaited_by}
 
 -- ---- truth values
 
-pub falls : (a b : Bool) → b ≡ false → (a && b) ≡ false
-falls true b e = e
-falls false b e = refl
-
 pub or_second : (a b : Bool) → b ≡ true → (a || b) ≡ true
 or_second true b e = refl
 or_second false b e = e
-
-pub swapped : (a b : Bool) → (a || b) ≡ (b || a)
-swapped true true = refl
-swapped true false = refl
-swapped false true = refl
-swapped false false = refl
 
 pub choice : (a b c : Bool) → a ≡ b → cond a true c ≡ (b || c)
 choice true b c e = ap (λ (x : Bool). x || c) e

@@ -9,7 +9,7 @@ use Rattle.mdb_base.specs.declared.names.Tid.{Tid}
 use Rattle.mdb_base.specs.declared.rows.Put.{Put}
 use Rattle.mdb_base.specs.Words.{Each, each_of}
 use Rattle.order_laws.specs.Chains.{Distinct, In}
-use Rattle.order_laws.specs.Ranked.{tid_cmp}
+use Rattle.mdb_base.specs.Names.{tid_cmp}
 use Rattle.fed_rules.specs.declared.records.SiteRecord.{SiteRecord}
 use Rattle.fed_rules.specs.declared.records.SiteRecord.TheVariants.{Prepared, Local, Checkpoint}
 use Rattle.fed_rules.specs.EngineLines.{has_row}

@@ -2,14 +2,13 @@
 use Rattle.std.specs.Prelude.{◌≡◌, Bool, false, ◌||◌}
 use Rattle.std.specs.BTreeSet.{BTreeSet, contains}
 use Rattle.mdb_base.specs.declared.names.Tx.{Tx}
-use Rattle.mdb_base.specs.Names.{same_tx}
+use Rattle.mdb_base.specs.Names.{same_tx, tx_cmp}
 use Rattle.mdb_base.specs.Words.{some_of}
 use Rattle.fed_rules.specs.declared.records.CoordRecord.{CoordRecord}
 use Rattle.fed_rules.specs.declared.records.CoordRecord.TheVariants.{Initiation, Commit, Abort, End, Checkpoint}
 use Rattle.fed_rules.specs.declared.sums.CommittedAttempt.{CommittedAttempt}
 use Rattle.fed_rules.specs.declared.sums.CoordSum.{CoordSum}
 use Rattle.fed_rules.specs.declared.sums.OpenAttempt.{OpenAttempt}
-use Rattle.usable_journals.specs.Recorded.{tx_cmp}
 
 -- a record of an attempt of the transaction
 abbrev pub is_attempt_of : Tx → CoordRecord → Bool

@@ -4,11 +4,10 @@ use Rattle.std.specs.BTreeSet.{contains}
 use Rattle.mdb_base.specs.declared.names.Tid.{Tid}
 use Rattle.mdb_base.specs.declared.names.Tx.{Tx}
 use Rattle.mdb_base.specs.Words.{some_of}
-use Rattle.order_laws.specs.Ranked.{tid_cmp}
+use Rattle.mdb_base.specs.Names.{tid_cmp, tx_cmp}
 use Rattle.fed_rules.specs.declared.records.SiteRecord.{SiteRecord}
 use Rattle.fed_rules.specs.SiteRecords.{doubt_of}
 use Rattle.usable_journals.specs.declared.site_once.Once.{Once}
-use Rattle.usable_journals.specs.Recorded.{tx_cmp}
 use Rattle.usable_journals.specs.SiteTests.{is_local_of, is_prepared_of, may_stand, once_each}
 
 pub record Tells (once : Once) (records : List SiteRecord) : Type 0 where

@@ -3,14 +3,13 @@ use Rattle.std.specs.Prelude.{◌≡◌, Bool, false, ◌||◌, Option, Some, No
 use Rattle.std.specs.BTreeSet.{contains}
 use Rattle.mdb_base.specs.declared.names.Tid.{Tid}
 use Rattle.mdb_base.specs.declared.names.Tx.{Tx}
-use Rattle.mdb_base.specs.Names.{same_tx}
+use Rattle.mdb_base.specs.Names.{same_tx, tx_cmp}
 use Rattle.mdb_base.specs.Words.{some_of}
 use Rattle.fed_rules.specs.declared.records.SiteRecord.{SiteRecord}
 use Rattle.fed_rules.specs.declared.records.SiteRecord.TheVariants.{Prepared, Ended, Checkpoint}
 use Rattle.fed_rules.specs.declared.sums.SiteSum.{SiteSum}
 use Rattle.fed_rules.specs.SiteRecords.{Held}
 use Rattle.usable_journals.specs.declared.parted.Parted.{Parted}
-use Rattle.usable_journals.specs.Recorded.{tx_cmp}
 
 -- an attempt of the transaction
 abbrev pub is_of : Tx → Tid → Bool

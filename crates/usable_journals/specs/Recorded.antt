@@ -1,20 +1,15 @@
 -- What the sets of recorded attempts tell of the records so far.
 use Rattle.std.specs.Prelude.{◌≡◌, Bool, true, false, not, List, [], ◌∷◌, ◌++◌}
 use Rattle.std.specs.BTreeSet.{BTreeSet, contains}
-use Rattle.std.specs.declared.cmp.Ordering.{Ordering}
-use Rattle.std.specs.Ordering.{nat_cmp}
 use Rattle.mdb_base.specs.declared.names.Tid.{Tid}
 use Rattle.mdb_base.specs.declared.names.Tx.{Tx}
 use Rattle.mdb_base.specs.Words.{some_of}
-use Rattle.order_laws.specs.Ranked.{tid_cmp}
+use Rattle.mdb_base.specs.Names.{tid_cmp, tx_cmp}
 use Rattle.fed_rules.specs.declared.records.CoordRecord.{CoordRecord}
 use Rattle.fed_rules.specs.declared.records.CoordRecord.TheVariants.{End}
 use Rattle.fed_rules.specs.declared.sums.CommittedAttempt.{CommittedAttempt}
 use Rattle.usable_journals.specs.declared.coord_order.Recorded.{Recorded}
 use Rattle.usable_journals.specs.CoordTests.{in_order, is_any_of, is_commit_of, is_decided_of, is_end_of, may_stand}
-
-abbrev pub tx_cmp : Tx → Tx → Ordering
-tx_cmp a b = nat_cmp a.0 b.0
 
 pub record Tells (recorded : Recorded) (records : List CoordRecord) : Type 0 where
   pub named : (tid : Tid) → contains tid_cmp recorded.named tid ≡ some_of (is_any_of tid) records

@@ -3,12 +3,11 @@ use Rattle.std.specs.Prelude.{ℕ, max, ◌^◌, ◌==◌, Bool, true, false, no
 use Rattle.mdb_base.specs.declared.names.Tid.{Tid}
 use Rattle.mdb_base.specs.declared.names.Tx.{Tx}
 use Rattle.mdb_base.specs.Names.{same_tid, same_tx}
-use Rattle.mdb_base.specs.Words.{each_of, some_of}
+use Rattle.mdb_base.specs.Words.{each_of, some_of, is_empty}
 use Rattle.fed_rules.specs.declared.records.SiteRecord.{SiteRecord}
 use Rattle.fed_rules.specs.declared.records.SiteRecord.TheVariants.{Setup, Start, Prepared, Ended, Local, Checkpoint}
 use Rattle.fed_rules.specs.declared.sums.SiteSum.{SiteSum}
 use Rattle.presumptions.specs.declared.Participant.{Participant}
-use Rattle.fed_rules.specs.Replies.{is_empty}
 use Rattle.fed_rules.specs.SiteRecords.{Held, Home}
 use Rattle.fed_rules.specs.SiteRecords.{doubt_of}
 use Rattle.usable_journals.specs.Numbers.{differ}

@@ -2,9 +2,8 @@
 ghost use Rattle.std.specs.Prelude.{◌≡◌, IfOk};
 ghost use Rattle.std.specs.BTreeSet.{contains};
 ghost use Rattle.mdb_base.specs.declared.names.Tid.{Tid as TheTid};
-ghost use Rattle.mdb_base.specs.Names.{same_tid};
+ghost use Rattle.mdb_base.specs.Names.{same_tid, tid_cmp};
 ghost use Rattle.mdb_base.specs.Words.{each_of, some_of};
-ghost use Rattle.order_laws.specs.Ranked.{tid_cmp};
 ghost use Rattle.presumptions.specs.declared.Protocol.TheVariants as By;
 ghost use Rattle.fed_rules.specs.CoordRecords as rules;
 ghost use Rattle.usable_journals.specs.CoordTests as tests;

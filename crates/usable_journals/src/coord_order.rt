@@ -4,9 +4,8 @@ ghost use Rattle.std.specs.Prelude.{◌≡◌, IfOk, List, [], ◌∷◌, map, r
 ghost use Rattle.std.specs.BTreeSet.{contains};
 ghost use Rattle.mdb_base.specs.declared.names.SiteTicket.{SiteTicket as TheTicket};
 ghost use Rattle.mdb_base.specs.declared.names.Tid.{Tid as TheTid};
-ghost use Rattle.mdb_base.specs.Names.{same_tid};
+ghost use Rattle.mdb_base.specs.Names.{same_tid, tid_cmp};
 ghost use Rattle.mdb_base.specs.Words.{some_of, those};
-ghost use Rattle.order_laws.specs.Ranked.{tid_cmp};
 ghost use Rattle.presumptions.specs.declared.Participant.{Participant};
 ghost use Rattle.fed_rules.specs.declared.records.CoordRecord.TheVariants as Rec;
 ghost use Rattle.fed_rules.specs.Reopened.{commit_read, coord_sum_read, end_read, initiation_read};

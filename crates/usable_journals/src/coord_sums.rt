@@ -3,9 +3,8 @@ ghost use Rattle.std.specs.Prelude.{◌≡◌, ◌↔◌, true, false, cond, Non
 ghost use Rattle.std.specs.BTreeMap.{IsOrdered, get};
 ghost use Rattle.mdb_base.specs.declared.names.SiteTicket.{SiteTicket as TheTicket};
 ghost use Rattle.mdb_base.specs.declared.names.Tid.{Tid as TheTid};
-ghost use Rattle.mdb_base.specs.Names.{same_tid};
+ghost use Rattle.mdb_base.specs.Names.{same_tid, tid_cmp};
 ghost use Rattle.mdb_base.specs.Words.{those};
-ghost use Rattle.order_laws.specs.Ranked.{tid_cmp};
 ghost use Rattle.presumptions.specs.declared.Participant.{Participant as TheMember};
 ghost use Rattle.std.specs.Cmp.Lexicographic.{pointwise};
 ghost use Rattle.fed_rules.specs.declared.records.CoordRecord.TheVariants as Rec;

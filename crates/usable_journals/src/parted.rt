@@ -5,7 +5,7 @@ ghost use Rattle.mdb_base.specs.declared.names.Tx.{Tx as TheTx};
 ghost use Rattle.mdb_base.specs.Words.{some_of};
 ghost use Rattle.fed_rules.specs.Usable.{AreParted, counted};
 ghost use Rattle.usable_journals.specs.PartedTold.{Adds, is_global_of, is_held_of, is_of, is_sum_of, none};
-ghost use Rattle.usable_journals.specs.Recorded.{tx_cmp};
+ghost use Rattle.mdb_base.specs.Names.{tx_cmp};
 ghost use Rattle.usable_journals.specs.SiteTests.{is_local_of};
 
 use fed_rules::{DoubtfulSum, SiteRecord, SiteSum};

@@ -7,7 +7,7 @@ ghost use Rattle.fed_rules.specs.declared.records.CoordRecord.{CoordRecord as Th
 ghost use Rattle.fed_rules.specs.Usable.{AreUnnamed, coord_read};
 ghost use Rattle.usable_journals.specs.Named.{AddsTo, is_attempt_of, is_committed_of, is_named_in, is_open_of};
 ghost use Rattle.usable_journals.specs.PartedTold.{is_of};
-ghost use Rattle.usable_journals.specs.Recorded.{tx_cmp};
+ghost use Rattle.mdb_base.specs.Names.{tx_cmp};
 
 use crate::parted::local_transactions;
 use fed_rules::{CommittedAttempt, CoordRecord, CoordSum, OpenAttempt, SiteRecord};

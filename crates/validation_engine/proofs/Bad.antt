@@ -9,9 +9,9 @@ use Rattle.mdb_base.specs.declared.names.Tid.{Tid}
 use Rattle.mdb_base.specs.declared.replies.Why.{Why}
 use Rattle.mdb_base.specs.declared.replies.Why.TheVariants.{Invalid}
 use Rattle.mdb_base.specs.Names.{same_key}
-use Rattle.mdb_base.specs.Words.{map_some, some_of, least, greatest}
+use Rattle.mdb_base.specs.Words.{map_some, some_of, least, greatest, is_empty}
 use Rattle.fed_rules.specs.Runs.{Start, EngineLine, Access, Got, Wrote, Run, run_at, number}
-use Rattle.fed_rules.specs.Replies.{access_key, reads, has_read, spoilers, is_empty, bad_keys, invalid, invalid_at, invalid_by, moved, moved_by, or_why, seal_stop}
+use Rattle.fed_rules.specs.Replies.{access_key, reads, has_read, spoilers, bad_keys, invalid, invalid_at, invalid_by, moved, moved_by, or_why, seal_stop}
 use Rattle.fed_rules.specs.EngineLines.{IsRight, IsStart}
 use Rattle.engine_laws.proofs.ValidationRuns.{or_why_none}
 use Rattle.engine_laws.proofs.ValidationTickets.{owned, unmoved}

@@ -21,7 +21,7 @@ use Rattle.engine_contract.specs.declared.seal_err.SealErr.TheVariants as Err_is
 use Rattle.engine_contract.specs.Calls.{HidesNone, PassesRule}
 use Rattle.engine_contract.specs.Past.{EachPast}
 use Rattle.engine_laws.proofs.Runs.{tid_is}
-use Rattle.engine_laws.proofs.RunLines.{run_at_own, run_at_other}
+use Rattle.fed_rules.proofs.RunLines.{run_at_other, run_at_own}
 use Rattle.run_book.specs.declared.marks.Marks.{Marks}
 use Rattle.run_book.specs.Held.{Held, held_in}
 use Rattle.run_book.specs.Book.{Book, begins, unbegins, grants, tickets, seals, unseals, drops, commits, table_in, taken_by}

@@ -7,7 +7,7 @@
 
 ghost use Rattle.std.specs.Prelude.{◌≡◌, ◌≤◌, ◌+◌, IfOk, OnOk};
 ghost use Rattle.journal_disk.specs.MemDisk.{mem_size};
-ghost use Rattle.world_by_hand.specs.Worlds.{AreNew, IsOfCommands};
+ghost use Rattle.fed_world.specs.FewCommands.{AreNew, IsOfCommands};
 
 use fed_rules::{Answer, Command};
 use fed_world::{World, WorldErr};

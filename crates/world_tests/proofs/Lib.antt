@@ -1,3 +1,2 @@
 mod CoordSessions
 mod Made
-mod Sessions

@@ -1,2 +1,1 @@
 pub mod HostSessions
-pub mod Sessions

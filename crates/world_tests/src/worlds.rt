@@ -1,7 +1,7 @@
 //! Sessions of a world on disks in memory: each command's line is the one that is printed.
 ghost use Rattle.std.specs.Prelude.{◌≡◌, ◌≤◌, ◌+◌, None, IfOk, OnOk};
 ghost use Rattle.journal_disk.specs.MemDisk.{mem_size};
-ghost use Rattle.world_tests.specs.Sessions.{AreNew, IsOfCommands};
+ghost use Rattle.fed_world.specs.FewCommands.{AreNew, IsOfCommands};
 
 mod conservative;
 mod failing;

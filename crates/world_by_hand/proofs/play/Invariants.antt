@@ -1,4 +1,4 @@
-use Rattle.world_by_hand.specs.Worlds.{IsOfCommands}
+use Rattle.fed_world.specs.FewCommands.{IsOfCommands}
 use Rattle.world_by_hand.proofs.play.Given as goal
 
 abbrev pub invariant-loop-command : goal.invariant-loop-command

@@ -1,5 +1,5 @@
 use Rattle.std.proofs.Common.{sym, ◌∙◌}
-use Rattle.site_book.proofs.Keys.{txs_exact, txs_total}
+use Rattle.mdb_base.proofs.NameOrders.{txs_total, txs_exact}
 use Rattle.site_book.proofs.Maps.{get_look}
 use Rattle.global_manager.proofs.programs.find.Goals as goal
 

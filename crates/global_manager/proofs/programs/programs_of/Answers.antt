@@ -4,8 +4,8 @@ use Rattle.mdb_base.specs.declared.acts.Step.{Step}
 use Rattle.mdb_base.specs.declared.names.Tx.{Tx}
 use Rattle.mdb_base.proofs.PlaceLaws.{drop_all, drop_before}
 use Rattle.fed_rules.specs.declared.scenario.TxLine.{TxLine}
-use Rattle.site_book.specs.Book.{tx_cmp}
-use Rattle.site_book.proofs.Keys.{txs_exact, txs_total}
+use Rattle.mdb_base.specs.Names.{tx_cmp}
+use Rattle.mdb_base.proofs.NameOrders.{txs_total, txs_exact}
 use Rattle.site_book.proofs.Maps.{get_look}
 use Rattle.global_manager.specs.Stands.{own_programs}
 use Rattle.global_manager.proofs.Lines.{noted_more}

@@ -1,7 +1,7 @@
 use Rattle.std.proofs.Common.{◌≡◌, ◌≤◌, drop, length}
 use Rattle.std.specs.FinMap.{from_entries, get}
 use Rattle.mdb_base.specs.declared.names.Tx.{Tx}
-use Rattle.site_book.specs.Book.{tx_cmp}
+use Rattle.mdb_base.specs.Names.{tx_cmp}
 use Rattle.global_manager.specs.Stands.{own_programs}
 use Rattle.global_manager.proofs.programs.programs_of.Given as goal
 

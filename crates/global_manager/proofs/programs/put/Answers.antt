@@ -1,4 +1,4 @@
-use Rattle.site_book.proofs.Keys.{txs_exact, txs_total}
+use Rattle.mdb_base.proofs.NameOrders.{txs_total, txs_exact}
 use Rattle.site_book.proofs.Maps.{entries_put}
 use Rattle.global_manager.proofs.programs.put.Goals as goal
 

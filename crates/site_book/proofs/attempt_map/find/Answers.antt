@@ -1,5 +1,5 @@
 use Rattle.std.proofs.Common.{sym, ◌∙◌}
-use Rattle.site_book.proofs.Keys.{tids_exact, tids_total}
+use Rattle.mdb_base.proofs.NameOrders.{tids_total, tids_exact}
 use Rattle.site_book.proofs.Maps.{get_look}
 use Rattle.site_book.proofs.attempt_map.find.Goals as goal
 

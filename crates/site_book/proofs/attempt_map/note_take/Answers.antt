@@ -4,8 +4,9 @@ use Rattle.std.specs.FinMap.{from_entries}
 use Rattle.std.specs.Option.{option_copied_mut}
 use Rattle.mdb_base.specs.declared.names.Tid.{Tid}
 use Rattle.site_book.specs.declared.progress.Progress.{Progress}
-use Rattle.site_book.specs.Book.{on_live, taken, tid_cmp}
-use Rattle.site_book.proofs.Keys.{tids_exact, tids_total}
+use Rattle.site_book.specs.Book.{on_live, taken}
+use Rattle.mdb_base.specs.Names.{tid_cmp}
+use Rattle.mdb_base.proofs.NameOrders.{tids_total, tids_exact}
 use Rattle.site_book.proofs.Maps.{entries_changed, entries_kept}
 use Rattle.site_book.proofs.attempt_map.note_take.Goals as goal
 

@@ -1,4 +1,4 @@
-use Rattle.site_book.proofs.Keys.{tids_exact, tids_total}
+use Rattle.mdb_base.proofs.NameOrders.{tids_total, tids_exact}
 use Rattle.site_book.proofs.Maps.{entries_put}
 use Rattle.site_book.proofs.attempt_map.put.Goals as goal
 

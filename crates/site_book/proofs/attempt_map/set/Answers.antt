@@ -2,9 +2,9 @@ use Rattle.std.proofs.Common.{Option, IsSome, List, sym, ap, subst, ◌∙◌}
 use Rattle.std.specs.FinMap.{from_entries}
 use Rattle.mdb_base.specs.declared.names.Tid.{Tid}
 use Rattle.mdb_base.proofs.OptionLaws.{lent}
-use Rattle.site_book.specs.Book.{tid_cmp}
+use Rattle.mdb_base.specs.Names.{tid_cmp}
 use Rattle.site_book.specs.declared.progress.Progress.{Progress}
-use Rattle.site_book.proofs.Keys.{tids_exact, tids_total}
+use Rattle.mdb_base.proofs.NameOrders.{tids_total, tids_exact}
 use Rattle.site_book.proofs.Maps.{entries_set, get_look}
 use Rattle.site_book.proofs.attempt_map.set.Goals as goal
 

@@ -1,4 +1,4 @@
-use Rattle.site_book.proofs.Keys.{tids_exact, tids_total}
+use Rattle.mdb_base.proofs.NameOrders.{tids_total, tids_exact}
 use Rattle.site_book.proofs.Maps.{entries_gone}
 use Rattle.site_book.proofs.attempt_map.take_out.Goals as goal
 

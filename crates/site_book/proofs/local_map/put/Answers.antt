@@ -1,6 +1,6 @@
 use Rattle.std.proofs.Common.{ap, ◌∙◌}
 use Rattle.std.specs.FinMap.{FinMap, insert}
-use Rattle.site_book.specs.Book.{tx_cmp}
+use Rattle.mdb_base.specs.Names.{tx_cmp}
 use Rattle.site_book.proofs.Numbered.{put_number}
 use Rattle.site_book.proofs.local_map.put.Goals as goal
 

@@ -1,7 +1,7 @@
 use Rattle.std.proofs.Common.{◌≡◌, drop}
 use Rattle.std.specs.BTreeSet.{contains}
 use Rattle.mdb_base.specs.Words.{each_of}
-use Rattle.order_laws.specs.Ranked.{tid_cmp}
+use Rattle.mdb_base.specs.Names.{tid_cmp}
 use Rattle.usable_journals.specs.CoordTests.{is_awaited_by}
 use Rattle.usable_journals.proofs.awaited.all_awaited.Given as goal
 

@@ -1,8 +1,7 @@
 use Rattle.std.proofs.Common.{List, ap, ◌∙◌}
 use Rattle.std.specs.BTreeSet.{contains}
-use Rattle.mdb_base.specs.Names.{same_tid}
+use Rattle.mdb_base.specs.Names.{same_tid, tid_cmp}
 use Rattle.mdb_base.specs.Words.{each_of, some_of}
-use Rattle.order_laws.specs.Ranked.{tid_cmp}
 use Rattle.fed_rules.specs.declared.sums.CommittedAttempt.{CommittedAttempt}
 use Rattle.fed_rules.specs.declared.sums.OpenAttempt.{OpenAttempt}
 use Rattle.usable_journals.specs.CoordTests.{is_awaited_by, is_committed_in}

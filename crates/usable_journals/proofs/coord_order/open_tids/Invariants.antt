@@ -1,9 +1,8 @@
 use Rattle.std.proofs.Common.{◌≡◌, take}
 use Rattle.std.specs.BTreeSet.{contains}
 use Rattle.mdb_base.specs.declared.names.Tid.{Tid}
-use Rattle.mdb_base.specs.Names.{same_tid}
+use Rattle.mdb_base.specs.Names.{same_tid, tid_cmp}
 use Rattle.mdb_base.specs.Words.{some_of}
-use Rattle.order_laws.specs.Ranked.{tid_cmp}
 use Rattle.usable_journals.proofs.coord_order.open_tids.Given as goal
 
 -- those of the first ones

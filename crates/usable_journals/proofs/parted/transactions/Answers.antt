@@ -4,7 +4,7 @@ use Rattle.mdb_base.specs.Words.{some_of}
 use Rattle.fed_rules.specs.declared.records.SiteRecord.{SiteRecord}
 use Rattle.fed_rules.specs.Usable.{counted}
 use Rattle.usable_journals.specs.PartedTold.{is_global_of}
-use Rattle.usable_journals.specs.Recorded.{tx_cmp}
+use Rattle.mdb_base.specs.Names.{tx_cmp}
 use Rattle.usable_journals.specs.SiteTests.{is_local_of}
 use Rattle.usable_journals.proofs.PartedLaws.{globals_are, locals_are, none_global, none_local}
 use Rattle.usable_journals.proofs.parted.transactions.Goals as goal

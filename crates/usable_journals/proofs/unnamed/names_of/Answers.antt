@@ -4,7 +4,7 @@ use Rattle.mdb_base.specs.Words.{some_of}
 use Rattle.fed_rules.specs.declared.records.CoordRecord.{CoordRecord}
 use Rattle.fed_rules.specs.Usable.{coord_read}
 use Rattle.usable_journals.specs.Named.{is_attempt_of}
-use Rattle.usable_journals.specs.Recorded.{tx_cmp}
+use Rattle.mdb_base.specs.Names.{tx_cmp}
 use Rattle.usable_journals.proofs.NamedLaws.{names_are, no_names}
 use Rattle.usable_journals.proofs.unnamed.names_of.Goals as goal
 

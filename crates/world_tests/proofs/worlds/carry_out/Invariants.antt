@@ -1,5 +1,5 @@
 use Rattle.std.proofs.Common.{◌+◌, ◌≤◌}
-use Rattle.world_tests.specs.Sessions.{IsOfCommands}
+use Rattle.fed_world.specs.FewCommands.{IsOfCommands}
 use Rattle.world_tests.proofs.worlds.carry_out.Given as goal
 
 abbrev pub invariant-loop-text : goal.invariant-loop-text

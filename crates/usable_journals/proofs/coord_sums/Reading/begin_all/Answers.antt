@@ -1,6 +1,6 @@
 use Rattle.std.proofs.Common.{List, [], ◌∷◌, ap, ◌∙◌, subst, arith}
 use Rattle.std.specs.BTreeMap.{get}
-use Rattle.order_laws.specs.Ranked.{tid_cmp}
+use Rattle.mdb_base.specs.Names.{tid_cmp}
 use Rattle.presumptions.specs.declared.Participant.{Participant}
 use Rattle.fed_rules.specs.Reopened.{initiation_read}
 use Rattle.usable_journals.specs.Reads.{Reads, begun}

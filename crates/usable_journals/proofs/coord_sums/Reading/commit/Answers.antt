@@ -2,7 +2,7 @@ use Rattle.std.proofs.Common.{List, Some, cond, ap, ◌∙◌}
 use Rattle.std.specs.BTreeMap.{get}
 use Rattle.std.specs.Ordering.{is_eq}
 use Rattle.mdb_base.specs.declared.names.SiteTicket.{SiteTicket}
-use Rattle.order_laws.specs.Ranked.{tid_cmp}
+use Rattle.mdb_base.specs.Names.{tid_cmp}
 use Rattle.presumptions.specs.declared.Participant.{Participant}
 use Rattle.usable_journals.specs.Reads.{begun}
 use Rattle.usable_journals.proofs.Readings.{reads_commit}

@@ -1,6 +1,6 @@
 use Rattle.std.proofs.Common.{List, [], ◌∷◌, ap, ◌∙◌, sym, subst}
 use Rattle.std.specs.BTreeMap.{get}
-use Rattle.order_laws.specs.Ranked.{tid_cmp}
+use Rattle.mdb_base.specs.Names.{tid_cmp}
 use Rattle.presumptions.specs.declared.Participant.{Participant}
 use Rattle.usable_journals.specs.Reads.{Reads, begun}
 use Rattle.usable_journals.proofs.Readings.{reads_abort, reads_initiation}

@@ -1,14 +1,15 @@
--- The orders of attempts and of transactions tie only the same ones.
-use Rattle.std.proofs.Common.{◌≡◌, ℕ, Bool, ◌&&◌, nat_eq, ap, ◌∙◌}
+-- The orders of attempts and of transactions: they are total, and tie only the same ones.
+use Rattle.std.proofs.Common.{◌≡◌, ℕ, Bool, true, ◌&&◌, nat_eq, ap, ◌∙◌, arith}
+use Rattle.std.specs.declared.cmp.Ordering.TheVariants.{Less}
+use Rattle.std.proofs.lemmas.Bool.Decides.{nat_tests}
 use Rattle.std.specs.Cmp.{IsTotalOrder, nat_cmp_total}
 use Rattle.std.specs.Ordering.{nat_cmp, is_eq}
 use Rattle.std.proofs.lemmas.Cmp.{on_total, then_total}
 use Rattle.std.proofs.lemmas.Map.Lookups.{CmpEqualImpliesEq, exact_pairs, exact_unsigned}
 use Rattle.mdb_base.specs.declared.names.Tid.{Tid}
 use Rattle.mdb_base.specs.declared.names.Tx.{Tx}
-use Rattle.mdb_base.specs.Names.{same_tid, same_tx}
+use Rattle.mdb_base.specs.Names.{same_tid, same_tx, tid_before, tid_cmp, tx_cmp}
 use Rattle.mdb_base.proofs.NumberLaws.{is_eq-nat_cmp, is_eq-then}
-use Rattle.site_book.specs.Book.{tid_cmp, tx_cmp}
 
 pub tids_exact : CmpEqualImpliesEq tid_cmp
 tids_exact a b h =
@@ -33,3 +34,10 @@ tid_ties a b =
 
 pub tx_ties : (a b : Tx) → is_eq (tx_cmp a b) ≡ same_tx a b
 tx_ties a b = is_eq-nat_cmp a.0 b.0
+
+-- the order and the test of what comes before say the same
+pub less_before : (a b : Tid) → tid_cmp a b ≡ Less → tid_before a b ≡ true
+less_before a b e = grind (arith, nat_tests)
+
+pub before_less : (a b : Tid) → tid_before a b ≡ true → tid_cmp a b ≡ Less
+before_less a b e = grind (arith, nat_tests)
