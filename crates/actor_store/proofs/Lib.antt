@@ -5,3 +5,5 @@ pub mod FoundLaws
 pub mod TrimLaws
 pub mod NewLaws
 pub mod TripLaws
+pub mod BehindLaws
+pub mod FromLaws

@@ -1,5 +1,5 @@
 -- What a store stands for after each call.
-use Rattle.std.proofs.Common.{◌≡◌, ℕ, ◌+◌, ◌-◌, ◌≤◌, min, Bool, true, false, cond, leb, ltb, IsTrue, Option, None, List, [], ◌∷◌, ◌++◌, length, take, refl, sym, ap, subst, ◌∙◌, arith, inl, inr, Some}
+use Rattle.std.proofs.Common.{◌≡◌, ℕ, ◌+◌, ◌-◌, ◌≤◌, min, Bool, true, false, cond, leb, ltb, IsTrue, Option, None, List, [], ◌∷◌, ◌++◌, length, map, take, refl, sym, ap, subst, ◌∙◌, arith, inl, inr, Some}
 use Rattle.std.specs.Prelude.{reverse}
 use Rattle.std.specs.List.{AllByRecursion}
 use Rattle.std.proofs.Math.Seq.{take-append-add}
@@ -13,7 +13,7 @@ use Rattle.frame_journal.specs.Journal.{Kept, IsKeptOn, NotesOrNot, with_entry}
 use Rattle.frame_journal.specs.Records.{Entry, as_written, entry_frame, spelled_size, values}
 use Rattle.journal_rules.specs.Stands.{CountsFrames, StandsFor}
 use Rattle.journal_rules.proofs.Keeps.{call_stands}
-use Rattle.journal_rules.proofs.Journals.{entries_follow, torn_follows}
+use Rattle.journal_rules.proofs.Journals.{entries_follow, torn_follows, written_values}
 use Rattle.actor_store.specs.declared.store.SetTrip.{SetTrip}
 use Rattle.actor_store.specs.declared.store.Standing.{Standing}
 use Rattle.actor_store.specs.declared.store.Standing.TheVariants.{Up, Down, Failing}
@@ -90,17 +90,21 @@ module _ {R : Type 0} (spelling : R → List ℕ) (reading : List ℕ → Option
     pub built : (seen : Seen) (journal : Kept R) (standing : Standing) (trip : Option SetTrip) (rules : Disk R) (in_force : Option Trip) → IsKeptOn spelling tells seen journal → StandsFor spelling frame_bytes (taken_as standing seen.image) rules
         → AllByRecursion is_record (values journal.entries) → AllByRecursion is_record rules.records → rules.trimmed ≤ rules.synced → map_some trip_of_rules trip ≡ in_force → IsArmed trip → IsInOrder standing journal rules
         → Keeps spelling is_record frame_bytes tells seen (record { journal = journal; trip = trip; standing = standing }) rules in_force
-    built seen journal standing trip rules in_force kept stands entries written front is armed in_order = record {
-      kept_on = kept;
-      stands = stands;
-      records = entries_follow spelling reading is_record frame_bytes counts again tells (taken standing seen) journal rules told (kept_taken spelling tells standing seen journal kept) stands entries written;
-      are_records = entries;
-      written = written;
-      front = front;
-      trip = is;
-      armed = armed;
-      in_order = in_order;
-    }
+    built seen journal standing trip rules in_force kept stands entries written front is armed in_order =
+        let records : journal.entries ≡ map as_written (reverse (journal_of frame_bytes rules)) =
+        entries_follow spelling reading is_record frame_bytes counts again tells (taken standing seen) journal rules told (kept_taken spelling tells standing seen journal kept) stands entries written in
+        record {
+          kept_on = kept;
+          stands = stands;
+          records = records;
+          are = ap values records ∙ written_values (reverse (journal_of frame_bytes rules));
+          are_records = entries;
+          written = written;
+          front = front;
+          trip = is;
+          armed = armed;
+          in_order = in_order;
+        }
 
     -- the journal knows whether the disk of the rules is torn
     pub torn_agrees : (seen : Seen) (store : Stored R) (rules : Disk R) (trip : Option Trip) → length seen.image.bytes ≡ seen.size → Keeps spelling is_record frame_bytes tells seen store rules trip → store.journal.is_torn ≡ is_torn frame_bytes rules

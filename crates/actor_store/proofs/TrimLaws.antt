@@ -46,7 +46,7 @@ before_written {R} newest rest =
 
 module _ {R : Type 0} (spelling : R → List ℕ) (reading : List ℕ → Option R) (is_record : R → Type 0) (frame_bytes : R → ℕ) (counts : CountsFrames spelling frame_bytes) (again : (entry : R) → is_record entry → reading (spelling entry) ≡ Some entry) (tells : Bool) (told : IsTrue tells) where
   -- where the last record's frame begins
-  front_is : (P : R → Type 0) (seen : Seen) (store : Stored R) (rules : Disk R) (trip : Option Trip) → Keeps spelling is_record frame_bytes tells seen store rules trip → EndsWith P (values store.journal.entries)
+  pub front_is : (P : R → Type 0) (seen : Seen) (store : Stored R) (rules : Disk R) (trip : Option Trip) → Keeps spelling is_record frame_bytes tells seen store rules trip → EndsWith P (values store.journal.entries)
       → bytes_of frame_bytes (before_newest rules.records) ≡ rules.trimmed + spelled_size (entry_frame spelling) (before_last store.journal.entries)
   front_is P seen store rules trip k ends =
       let s = k.stands in

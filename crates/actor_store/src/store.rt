@@ -1,11 +1,11 @@
 //! An actor's journal on its disk, with the trip that is set: each disk call may be the last one before a stop.
 ghost use Rattle.std.specs.Prelude.{◌≡◌, ◌≤◌, ◌<◌, ◌+◌, [], ◌∷◌, ◌++◌, false, true, Option, None, IfOk, IsErrOf, OnOk, OnErr, IsTrue, length};
 ghost use Rattle.mdb_base.specs.Counts.{HasCauseOf};
-ghost use Rattle.fed_rules.specs.Disk.{Append, CutBack, Sync, TrimFront, Disk as RulesDisk, after_calls, empty_disk};
+ghost use Rattle.fed_rules.specs.Disk.{Append, CutBack, Sync, TrimFront, Disk as RulesDisk, after_calls};
 ghost use Rattle.fed_rules.specs.Happenings.{Trip as RulesTrip};
 ghost use Rattle.frame_journal.specs.Journal.{EndsWith, HasRoom, new_journal, records, with_entry, with_room_for, written_size};
 ghost use Rattle.journal_disk.specs.Frames.{IsPayload};
-ghost use Rattle.actor_store.specs.Store.{Counts, Ends, IsFoundAs, Keeps, SomeFound, SomeKept, StopsWith, cut_calls, is_failing, is_up, stored, trip_to};
+ghost use Rattle.actor_store.specs.Store.{Counts, Ends, IsFoundBehind, KeepsBehind, Old, SomeFound, SomeKeptBehind, StopsWith, cut_calls, is_failing, is_up, old_standing, stored, trip_to};
 
 use crate::errors::StepErr;
 use frame_journal::{Format, Journal};
@@ -59,12 +59,13 @@ impl<R: Drop, F: Format<R>> Store<R, F> {
         }
     }
 
-    /// The store of an actor that is down, whose journal is found on the disk. The disk isn't changed.
+    /// The store of an actor that is down, whose journal is found on the disk, in frames of either version. The disk isn't changed: what is
+    /// written later is of version 2, and the old frames stay as they are until a trim drops them. Fails only where the disk does, or memory.
     pub fn found<D: Disk>(alloc: Global, disk: &mut D) -> Result<Self, StepErr>
         requires told { IsTrue D.tells }
         requires found { SomeFound F.spelling F.is_record F.frame_bytes (D.seen disk.old).image }
-        ensures keeps { IfOk result (λ store. (rules : RulesDisk R) → IsFoundAs F.spelling F.is_record F.frame_bytes (D.seen disk.old).image rules
-            → Keeps F.spelling F.is_record F.frame_bytes D.tells (D.seen disk.new) (stored store) rules None) }
+        ensures keeps { IfOk result (λ store. (old : Old R) (rules : RulesDisk R) → IsFoundBehind F.spelling F.is_record F.frame_bytes (D.seen disk.old).image old rules
+            → KeepsBehind F.spelling F.is_record F.frame_bytes D.tells (D.seen disk.new) (stored store) old rules None) }
         ensures down { IfOk result (λ store. store.standing ≡ Standing.Down) }
         ensures image { (D.seen disk.new).image ≡ (D.seen disk.old).image }
         ensures size { (D.seen disk.new).size ≡ (D.seen disk.old).size }
@@ -110,10 +111,10 @@ impl<R: Drop, F: Format<R>> Store<R, F> {
     /// Stops the disk with this cut, and answers how many records are kept. The trip is disarmed.
     pub fn stop<D: Disk>(&mut self, disk: &mut D, cut: u64) -> u64
         requires told { IsTrue D.tells }
-        requires kept { SomeKept (Keeps F.spelling F.is_record F.frame_bytes D.tells (D.seen disk.old) (stored self.old)) }
+        requires kept { SomeKeptBehind (KeepsBehind F.spelling F.is_record F.frame_bytes D.tells (D.seen disk.old) (stored self.old)) }
         requires sound { is_failing self.old.standing ≡ false }
-        ensures stops { (rules : RulesDisk R) (trip : Option RulesTrip) → Keeps F.spelling F.is_record F.frame_bytes D.tells (D.seen disk.old) (stored self.old) rules trip
-            → StopsWith F.frame_bytes (Keeps F.spelling F.is_record F.frame_bytes D.tells (D.seen disk.new) (stored self.new)) rules cut result }
+        ensures stops { (old : Old R) (rules : RulesDisk R) (trip : Option RulesTrip) → KeepsBehind F.spelling F.is_record F.frame_bytes D.tells (D.seen disk.old) (stored self.old) old rules trip
+            → StopsWith F.frame_bytes (KeepsBehind F.spelling F.is_record F.frame_bytes D.tells (D.seen disk.new) (stored self.new) old) rules cut result }
         ensures down { self.new.standing ≡ Standing.Down }
         ensures faults { (D.seen disk.new).faults ≡ (D.seen disk.old).faults }
     {
@@ -125,10 +126,10 @@ impl<R: Drop, F: Format<R>> Store<R, F> {
     /// Counts a disk call that was made: where it was the last one of the trip, the actor stops.
     fn counted<D: Disk>(&mut self, disk: &mut D) -> Result<(), Break>
         requires told { IsTrue D.tells }
-        requires kept { SomeKept (Keeps F.spelling F.is_record F.frame_bytes D.tells (D.seen disk.old) (stored self.old)) }
+        requires kept { SomeKeptBehind (KeepsBehind F.spelling F.is_record F.frame_bytes D.tells (D.seen disk.old) (stored self.old)) }
         requires sound { is_failing self.old.standing ≡ false }
-        ensures ends { (rules : RulesDisk R) (trip : Option RulesTrip) → Keeps F.spelling F.is_record F.frame_bytes D.tells (D.seen disk.old) (stored self.old) rules trip
-            → Counts F.frame_bytes (Keeps F.spelling F.is_record F.frame_bytes D.tells (D.seen disk.new) (stored self.new)) rules trip result }
+        ensures ends { (old : Old R) (rules : RulesDisk R) (trip : Option RulesTrip) → KeepsBehind F.spelling F.is_record F.frame_bytes D.tells (D.seen disk.old) (stored self.old) old rules trip
+            → Counts F.frame_bytes (KeepsBehind F.spelling F.is_record F.frame_bytes D.tells (D.seen disk.new) (stored self.new) old) rules trip result }
         ensures journal { OnOk result (self.new.journal ≡ self.old.journal) }
         ensures standing { OnOk result (self.new.standing ≡ self.old.standing) }
         ensures down { OnErr result (is_up self.new.standing ≡ false) }
@@ -159,9 +160,9 @@ impl<R: Drop, F: Format<R>> Store<R, F> {
         bytes: usize,
     ) -> Result<(), Memory>
         requires told { IsTrue D.tells }
-        requires kept { SomeKept (Keeps F.spelling F.is_record F.frame_bytes D.tells (D.seen disk.old) (stored self.old)) }
-        ensures keeps { (rules : RulesDisk R) (trip : Option RulesTrip) → Keeps F.spelling F.is_record F.frame_bytes D.tells (D.seen disk.old) (stored self.old) rules trip
-            → Keeps F.spelling F.is_record F.frame_bytes D.tells (D.seen disk.new) (stored self.new) rules trip }
+        requires kept { SomeKeptBehind (KeepsBehind F.spelling F.is_record F.frame_bytes D.tells (D.seen disk.old) (stored self.old)) }
+        ensures keeps { (old : Old R) (rules : RulesDisk R) (trip : Option RulesTrip) → KeepsBehind F.spelling F.is_record F.frame_bytes D.tells (D.seen disk.old) (stored self.old) old rules trip
+            → KeepsBehind F.spelling F.is_record F.frame_bytes D.tells (D.seen disk.new) (stored self.new) old rules trip }
         ensures room { OnOk result (self.new.journal ≡ with_room_for places bytes self.old.journal) }
         ensures memory { OnErr result (self.new.journal ≡ self.old.journal) }
         ensures standing { self.new.standing ≡ self.old.standing }
@@ -174,10 +175,10 @@ impl<R: Drop, F: Format<R>> Store<R, F> {
     /// Cuts a torn rest back, and comes up.
     fn cut_torn<D: Disk>(&mut self, disk: &mut D) -> Result<(), Break>
         requires told { IsTrue D.tells }
-        requires kept { SomeKept (Keeps F.spelling F.is_record F.frame_bytes D.tells (D.seen disk.old) (stored self.old)) }
+        requires kept { SomeKeptBehind (KeepsBehind F.spelling F.is_record F.frame_bytes D.tells (D.seen disk.old) (stored self.old)) }
         requires stopped { is_up self.old.standing ≡ false }
-        ensures ends { (rules : RulesDisk R) (trip : Option RulesTrip) → Keeps F.spelling F.is_record F.frame_bytes D.tells (D.seen disk.old) (stored self.old) rules trip
-            → Ends F.frame_bytes (Keeps F.spelling F.is_record F.frame_bytes D.tells (D.seen disk.new) (stored self.new)) rules trip (CutBack ∷ []) result }
+        ensures ends { (old : Old R) (rules : RulesDisk R) (trip : Option RulesTrip) → KeepsBehind F.spelling F.is_record F.frame_bytes D.tells (D.seen disk.old) (stored self.old) old rules trip
+            → Ends F.frame_bytes (KeepsBehind F.spelling F.is_record F.frame_bytes D.tells (D.seen disk.new) (stored self.new) old) rules trip (CutBack ∷ []) result }
         ensures journal { OnOk result (self.new.journal ≡ record self.old.journal { is_torn = false }) }
         ensures standing { OnOk result (self.new.standing ≡ Standing.Up) }
         ensures down { OnErr result (is_up self.new.standing ≡ false) }
@@ -199,11 +200,11 @@ impl<R: Drop, F: Format<R>> Store<R, F> {
     /// Comes up where nothing is torn. Where a disk call failed, a cut back to the end of the whole frames syncs them; it doesn't count.
     fn come_up<D: Disk>(&mut self, disk: &mut D) -> Result<(), Break>
         requires told { IsTrue D.tells }
-        requires kept { SomeKept (Keeps F.spelling F.is_record F.frame_bytes D.tells (D.seen disk.old) (stored self.old)) }
+        requires kept { SomeKeptBehind (KeepsBehind F.spelling F.is_record F.frame_bytes D.tells (D.seen disk.old) (stored self.old)) }
         requires stopped { is_up self.old.standing ≡ false }
         requires whole { self.old.journal.is_torn ≡ false }
-        ensures ends { (rules : RulesDisk R) (trip : Option RulesTrip) → Keeps F.spelling F.is_record F.frame_bytes D.tells (D.seen disk.old) (stored self.old) rules trip
-            → Ends F.frame_bytes (Keeps F.spelling F.is_record F.frame_bytes D.tells (D.seen disk.new) (stored self.new)) rules trip [] result }
+        ensures ends { (old : Old R) (rules : RulesDisk R) (trip : Option RulesTrip) → KeepsBehind F.spelling F.is_record F.frame_bytes D.tells (D.seen disk.old) (stored self.old) old rules trip
+            → Ends F.frame_bytes (KeepsBehind F.spelling F.is_record F.frame_bytes D.tells (D.seen disk.new) (stored self.new) old) rules trip [] result }
         ensures journal { OnOk result (self.new.journal ≡ record self.old.journal { is_torn = false }) }
         ensures standing { OnOk result (self.new.standing ≡ Standing.Up) }
         ensures down { OnErr result (is_up self.new.standing ≡ false) }
@@ -229,10 +230,10 @@ impl<R: Drop, F: Format<R>> Store<R, F> {
     /// Begins a start: a torn rest is cut back, and the actor is up.
     pub fn open<D: Disk>(&mut self, disk: &mut D) -> Result<(), Break>
         requires told { IsTrue D.tells }
-        requires kept { SomeKept (Keeps F.spelling F.is_record F.frame_bytes D.tells (D.seen disk.old) (stored self.old)) }
+        requires kept { SomeKeptBehind (KeepsBehind F.spelling F.is_record F.frame_bytes D.tells (D.seen disk.old) (stored self.old)) }
         requires stopped { is_up self.old.standing ≡ false }
-        ensures ends { (rules : RulesDisk R) (trip : Option RulesTrip) → Keeps F.spelling F.is_record F.frame_bytes D.tells (D.seen disk.old) (stored self.old) rules trip
-            → Ends F.frame_bytes (Keeps F.spelling F.is_record F.frame_bytes D.tells (D.seen disk.new) (stored self.new)) rules trip (cut_calls F.frame_bytes rules) result }
+        ensures ends { (old : Old R) (rules : RulesDisk R) (trip : Option RulesTrip) → KeepsBehind F.spelling F.is_record F.frame_bytes D.tells (D.seen disk.old) (stored self.old) old rules trip
+            → Ends F.frame_bytes (KeepsBehind F.spelling F.is_record F.frame_bytes D.tells (D.seen disk.new) (stored self.new) old) rules trip (cut_calls F.frame_bytes rules) result }
         ensures journal { OnOk result (self.new.journal ≡ record self.old.journal { is_torn = false }) }
         ensures standing { OnOk result (self.new.standing ≡ Standing.Up) }
         ensures down { OnErr result (is_up self.new.standing ≡ false) }
@@ -248,9 +249,9 @@ impl<R: Drop, F: Format<R>> Store<R, F> {
     /// Reads the journal again: a stop loses what was in memory. A failed read changes nothing.
     pub fn reload<D: Disk>(&mut self, alloc: Global, disk: &mut D) -> Result<(), StepErr>
         requires told { IsTrue D.tells }
-        requires kept { SomeKept (Keeps F.spelling F.is_record F.frame_bytes D.tells (D.seen disk.old) (stored self.old)) }
-        ensures keeps { (rules : RulesDisk R) (trip : Option RulesTrip) → Keeps F.spelling F.is_record F.frame_bytes D.tells (D.seen disk.old) (stored self.old) rules trip
-            → Keeps F.spelling F.is_record F.frame_bytes D.tells (D.seen disk.new) (stored self.new) rules trip }
+        requires kept { SomeKeptBehind (KeepsBehind F.spelling F.is_record F.frame_bytes D.tells (D.seen disk.old) (stored self.old)) }
+        ensures keeps { (old : Old R) (rules : RulesDisk R) (trip : Option RulesTrip) → KeepsBehind F.spelling F.is_record F.frame_bytes D.tells (D.seen disk.old) (stored self.old) old rules trip
+            → KeepsBehind F.spelling F.is_record F.frame_bytes D.tells (D.seen disk.new) (stored self.new) old rules trip }
         ensures journal { OnOk result (self.new.journal ≡ record self.old.journal { places = 0; room = 0 }) }
         ensures same { OnErr result (self.new.journal ≡ self.old.journal) }
         ensures standing { self.new.standing ≡ self.old.standing }
@@ -272,13 +273,13 @@ impl<R: Drop, F: Format<R>> Store<R, F> {
     /// Appends a record, which isn't synced yet.
     pub fn append<D: Disk>(&mut self, disk: &mut D, entry: R) -> Result<(), Break>
         requires told { IsTrue D.tells }
-        requires kept { SomeKept (Keeps F.spelling F.is_record F.frame_bytes D.tells (D.seen disk.old) (stored self.old)) }
+        requires kept { SomeKeptBehind (KeepsBehind F.spelling F.is_record F.frame_bytes D.tells (D.seen disk.old) (stored self.old)) }
         requires up { self.old.standing ≡ Standing.Up }
         requires reserved { HasRoom (written_size F.spelling entry) self.old.journal }
         requires in_range { F.in_range entry }
         requires payload { IsPayload (F.spelling entry) }
-        ensures ends { (rules : RulesDisk R) (trip : Option RulesTrip) → Keeps F.spelling F.is_record F.frame_bytes D.tells (D.seen disk.old) (stored self.old) rules trip
-            → Ends F.frame_bytes (Keeps F.spelling F.is_record F.frame_bytes D.tells (D.seen disk.new) (stored self.new)) rules trip (Append entry ∷ []) result }
+        ensures ends { (old : Old R) (rules : RulesDisk R) (trip : Option RulesTrip) → KeepsBehind F.spelling F.is_record F.frame_bytes D.tells (D.seen disk.old) (stored self.old) old rules trip
+            → Ends F.frame_bytes (KeepsBehind F.spelling F.is_record F.frame_bytes D.tells (D.seen disk.new) (stored self.new) old) rules trip (Append entry ∷ []) result }
         ensures journal { OnOk result (self.new.journal ≡ with_entry F.spelling entry self.old.journal) }
         ensures standing { OnOk result (self.new.standing ≡ Standing.Up) }
         ensures down { OnErr result (is_up self.new.standing ≡ false) }
@@ -297,10 +298,10 @@ impl<R: Drop, F: Format<R>> Store<R, F> {
     /// Syncs the disk.
     fn sync<D: Disk>(&mut self, disk: &mut D) -> Result<(), Break>
         requires told { IsTrue D.tells }
-        requires kept { SomeKept (Keeps F.spelling F.is_record F.frame_bytes D.tells (D.seen disk.old) (stored self.old)) }
+        requires kept { SomeKeptBehind (KeepsBehind F.spelling F.is_record F.frame_bytes D.tells (D.seen disk.old) (stored self.old)) }
         requires up { self.old.standing ≡ Standing.Up }
-        ensures ends { (rules : RulesDisk R) (trip : Option RulesTrip) → Keeps F.spelling F.is_record F.frame_bytes D.tells (D.seen disk.old) (stored self.old) rules trip
-            → Ends F.frame_bytes (Keeps F.spelling F.is_record F.frame_bytes D.tells (D.seen disk.new) (stored self.new)) rules trip (Sync ∷ []) result }
+        ensures ends { (old : Old R) (rules : RulesDisk R) (trip : Option RulesTrip) → KeepsBehind F.spelling F.is_record F.frame_bytes D.tells (D.seen disk.old) (stored self.old) old rules trip
+            → Ends F.frame_bytes (KeepsBehind F.spelling F.is_record F.frame_bytes D.tells (D.seen disk.new) (stored self.new) old) rules trip (Sync ∷ []) result }
         ensures journal { OnOk result (self.new.journal ≡ self.old.journal) }
         ensures standing { OnOk result (self.new.standing ≡ Standing.Up) }
         ensures down { OnErr result (is_up self.new.standing ≡ false) }
@@ -319,13 +320,13 @@ impl<R: Drop, F: Format<R>> Store<R, F> {
     /// Appends a record and syncs.
     pub fn force<D: Disk>(&mut self, disk: &mut D, entry: R) -> Result<(), Break>
         requires told { IsTrue D.tells }
-        requires kept { SomeKept (Keeps F.spelling F.is_record F.frame_bytes D.tells (D.seen disk.old) (stored self.old)) }
+        requires kept { SomeKeptBehind (KeepsBehind F.spelling F.is_record F.frame_bytes D.tells (D.seen disk.old) (stored self.old)) }
         requires up { self.old.standing ≡ Standing.Up }
         requires reserved { HasRoom (written_size F.spelling entry) self.old.journal }
         requires in_range { F.in_range entry }
         requires payload { IsPayload (F.spelling entry) }
-        ensures ends { (rules : RulesDisk R) (trip : Option RulesTrip) → Keeps F.spelling F.is_record F.frame_bytes D.tells (D.seen disk.old) (stored self.old) rules trip
-            → Ends F.frame_bytes (Keeps F.spelling F.is_record F.frame_bytes D.tells (D.seen disk.new) (stored self.new)) rules trip (Append entry ∷ Sync ∷ []) result }
+        ensures ends { (old : Old R) (rules : RulesDisk R) (trip : Option RulesTrip) → KeepsBehind F.spelling F.is_record F.frame_bytes D.tells (D.seen disk.old) (stored self.old) old rules trip
+            → Ends F.frame_bytes (KeepsBehind F.spelling F.is_record F.frame_bytes D.tells (D.seen disk.new) (stored self.new) old) rules trip (Append entry ∷ Sync ∷ []) result }
         ensures journal { OnOk result (self.new.journal ≡ with_entry F.spelling entry self.old.journal) }
         ensures standing { OnOk result (self.new.standing ≡ Standing.Up) }
         ensures down { OnErr result (is_up self.new.standing ≡ false) }
@@ -340,11 +341,11 @@ impl<R: Drop, F: Format<R>> Store<R, F> {
     /// Trims the disk up to the last record, a checkpoint, where all is synced.
     fn trim<D: Disk>(&mut self, disk: &mut D) -> Result<(), Break>
         requires told { IsTrue D.tells }
-        requires kept { SomeKept (λ rules trip. Keeps F.spelling F.is_record F.frame_bytes D.tells (D.seen disk.old) (stored self.old) rules trip × (rules.synced ≡ rules.length)) }
+        requires kept { SomeKeptBehind (λ old rules trip. KeepsBehind F.spelling F.is_record F.frame_bytes D.tells (D.seen disk.old) (stored self.old) old rules trip × (rules.synced ≡ rules.length) × (length (old_standing old rules) < length self.old.journal.entries)) }
         requires up { self.old.standing ≡ Standing.Up }
         requires checkpoint { EndsWith F.is_checkpoint (records self.old.journal) }
-        ensures ends { (rules : RulesDisk R) (trip : Option RulesTrip) → Keeps F.spelling F.is_record F.frame_bytes D.tells (D.seen disk.old) (stored self.old) rules trip
-            → rules.synced ≡ rules.length → Ends F.frame_bytes (Keeps F.spelling F.is_record F.frame_bytes D.tells (D.seen disk.new) (stored self.new)) rules trip (TrimFront ∷ []) result }
+        ensures ends { (old : Old R) (rules : RulesDisk R) (trip : Option RulesTrip) → KeepsBehind F.spelling F.is_record F.frame_bytes D.tells (D.seen disk.old) (stored self.old) old rules trip
+            → rules.synced ≡ rules.length → length (old_standing old rules) < length self.old.journal.entries → Ends F.frame_bytes (KeepsBehind F.spelling F.is_record F.frame_bytes D.tells (D.seen disk.new) (stored self.new) old) rules trip (TrimFront ∷ []) result }
         ensures standing { OnOk result (self.new.standing ≡ Standing.Up) }
         ensures down { OnErr result (is_up self.new.standing ≡ false) }
         ensures cause { HasCauseOf Break.Failed (D.seen disk.old).faults (D.seen disk.new).faults result }
@@ -362,14 +363,14 @@ impl<R: Drop, F: Format<R>> Store<R, F> {
     /// Forces a checkpoint, and then trims what stands before it.
     pub fn check<D: Disk>(&mut self, disk: &mut D, entry: R) -> Result<(), Break>
         requires told { IsTrue D.tells }
-        requires kept { SomeKept (Keeps F.spelling F.is_record F.frame_bytes D.tells (D.seen disk.old) (stored self.old)) }
+        requires kept { SomeKeptBehind (KeepsBehind F.spelling F.is_record F.frame_bytes D.tells (D.seen disk.old) (stored self.old)) }
         requires up { self.old.standing ≡ Standing.Up }
         requires reserved { HasRoom (written_size F.spelling entry) self.old.journal }
         requires in_range { F.in_range entry }
         requires payload { IsPayload (F.spelling entry) }
         requires checkpoint { F.is_checkpoint entry }
-        ensures ends { (rules : RulesDisk R) (trip : Option RulesTrip) → Keeps F.spelling F.is_record F.frame_bytes D.tells (D.seen disk.old) (stored self.old) rules trip
-            → Ends F.frame_bytes (Keeps F.spelling F.is_record F.frame_bytes D.tells (D.seen disk.new) (stored self.new)) rules trip (Append entry ∷ Sync ∷ TrimFront ∷ []) result }
+        ensures ends { (old : Old R) (rules : RulesDisk R) (trip : Option RulesTrip) → KeepsBehind F.spelling F.is_record F.frame_bytes D.tells (D.seen disk.old) (stored self.old) old rules trip
+            → Ends F.frame_bytes (KeepsBehind F.spelling F.is_record F.frame_bytes D.tells (D.seen disk.new) (stored self.new) old) rules trip (Append entry ∷ Sync ∷ TrimFront ∷ []) result }
         ensures standing { OnOk result (self.new.standing ≡ Standing.Up) }
         ensures down { OnErr result (is_up self.new.standing ≡ false) }
         ensures cause { HasCauseOf Break.Failed (D.seen disk.old).faults (D.seen disk.new).faults result }
@@ -383,13 +384,13 @@ impl<R: Drop, F: Format<R>> Store<R, F> {
     /// Starts an actor that is down: a torn rest is cut back, and this record is appended and synced.
     pub fn start<D: Disk>(&mut self, disk: &mut D, entry: R) -> Result<(), Break>
         requires told { IsTrue D.tells }
-        requires kept { SomeKept (Keeps F.spelling F.is_record F.frame_bytes D.tells (D.seen disk.old) (stored self.old)) }
+        requires kept { SomeKeptBehind (KeepsBehind F.spelling F.is_record F.frame_bytes D.tells (D.seen disk.old) (stored self.old)) }
         requires stopped { is_up self.old.standing ≡ false }
         requires reserved { HasRoom (written_size F.spelling entry) self.old.journal }
         requires in_range { F.in_range entry }
         requires payload { IsPayload (F.spelling entry) }
-        ensures ends { (rules : RulesDisk R) (trip : Option RulesTrip) → Keeps F.spelling F.is_record F.frame_bytes D.tells (D.seen disk.old) (stored self.old) rules trip
-            → Ends F.frame_bytes (Keeps F.spelling F.is_record F.frame_bytes D.tells (D.seen disk.new) (stored self.new)) rules trip (cut_calls F.frame_bytes rules ++ Append entry ∷ Sync ∷ []) result }
+        ensures ends { (old : Old R) (rules : RulesDisk R) (trip : Option RulesTrip) → KeepsBehind F.spelling F.is_record F.frame_bytes D.tells (D.seen disk.old) (stored self.old) old rules trip
+            → Ends F.frame_bytes (KeepsBehind F.spelling F.is_record F.frame_bytes D.tells (D.seen disk.new) (stored self.new) old) rules trip (cut_calls F.frame_bytes rules ++ Append entry ∷ Sync ∷ []) result }
         ensures standing { OnOk result (self.new.standing ≡ Standing.Up) }
         ensures down { OnErr result (is_up self.new.standing ≡ false) }
         ensures cause { HasCauseOf Break.Failed (D.seen disk.old).faults (D.seen disk.new).faults result }

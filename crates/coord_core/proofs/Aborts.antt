@@ -1,5 +1,5 @@
 -- The line that decides an attempt abort, before its disk calls.
-use Rattle.std.proofs.Common.{◌≡◌, Bool, false, ◌&&◌, option_to_list, Option, Some, [], ◌∷◌, ◌++◌, refl, sym, ap, subst, ◌∙◌}
+use Rattle.std.proofs.Common.{◌≡◌, Bool, false, option_to_list, Option, Some, ◌∷◌, ◌++◌, refl, sym, ap, subst, ◌∙◌}
 use Rattle.mdb_base.specs.declared.names.Tid.{Tid}
 use Rattle.presumptions.specs.declared.Decision.TheVariants as Decided
 use Rattle.fed_rules.specs.declared.answers.Answer.{Answer}
@@ -20,6 +20,7 @@ use Rattle.coord_core.specs.declared.coord.CoordCore.{CoordCore}
 use Rattle.coord_tables.specs.Trees.{noted}
 use Rattle.coord_tables.specs.Deciding.{IsAborting, abort_of}
 use Rattle.coord_core.specs.Pending.{IsPending}
+use Rattle.coord_core.specs.Found.{was_found}
 use Rattle.coord_core.specs.Stands.{Stands}
 use Rattle.coord_core.specs.Store.{Keeps}
 use Rattle.coord_tables.specs.Tables.{IsServing}
@@ -38,7 +39,7 @@ module _ (terms : Terms) (past : CoordPast) (event : CoordEvent) (tid : Tid) (pr
   pub abort_pending : {P : Type 0} (test : P → Policy) (tells : Bool) (step : CoordStep) (old new : CoordCore P) (before after : Seen) (written : Option CoordRecord) (result : Bool)
       → Stands test tells old before terms past → written ≡ abort_of terms.protocols past tid → result ≡ forgets
       → step.answer ≡ Say.Decides Decided.Abort (Some printed) result → step.sends ≡ decide_to tid Decided.Abort (participants terms.protocols past tid)
-      → Keeps tells after new.store (Past.disk past) (Past.trip past) → is_down past ≡ false → new.protocols ≡ old.protocols → new.policy ≡ old.policy → new.begun ≡ old.begun
+      → Keeps (was_found past) tells after new.store (Past.disk past) (Past.trip past) → is_down past ≡ false → new.protocols ≡ old.protocols → new.policy ≡ old.policy → new.begun ≡ old.begun
       → IsServing new.tables terms (x ∷ past) → IsPending test tells (forced (option_to_list written)) step new after terms past event x
   abort_pending test tells step old new before after written result k w r said sends stored up sites policy begun serving = record {
     answered = record {

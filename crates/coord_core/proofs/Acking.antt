@@ -8,7 +8,6 @@ use Rattle.fed_rules.specs.declared.events.CoordEvent.TheVariants as Ev
 use Rattle.fed_rules.specs.declared.events.CoordStep.{CoordStep}
 use Rattle.fed_rules.specs.declared.messages.FromSite.TheVariants as From
 use Rattle.fed_rules.specs.Happenings.{is_down}
-use Rattle.fed_rules.specs.Coord.{answered}
 use Rattle.fed_rules.specs.CoordPast.{CoordPast, Decided, standing}
 use Rattle.fed_rules.specs.CoordPast as Past
 use Rattle.fed_rules.specs.Policies.{Policy}
@@ -20,6 +19,7 @@ use Rattle.coord_core.specs.declared.coord.CoordCore.{CoordCore}
 use Rattle.coord_tables.specs.declared.tables.Tables.{Tables}
 use Rattle.coord_tables.specs.Trees.{noted}
 use Rattle.coord_core.specs.Pending.{IsPending}
+use Rattle.coord_core.specs.Found.{was_found}
 use Rattle.coord_core.specs.Stands.{Stands}
 use Rattle.coord_core.specs.Store.{Keeps}
 use Rattle.coord_tables.specs.Tables.{IsServing}
@@ -31,7 +31,7 @@ use Rattle.coord_tables.proofs.Acking.{ack_line, ack_goes, ack_stays, ack_begins
 pub ack_pending : {P : Type 0} (test : P → Policy) (tells : Bool) (step : CoordStep) (old new : CoordCore P) (before after : Seen) (terms : Terms) (past : CoordPast) (site : SiteId) (tid : Tid) (d : Decision) (end : AckEnd)
     → Stands test tells old before terms past → IsServing old.tables terms past → is_down past ≡ false → standing terms.protocols past tid ≡ Decided d
     → end ≡ table_end old.tables tid site → new.tables ≡ record old.tables { known = ends.after_ack end tid site old.tables.known }
-    → step.answer ≡ (ack_line site tid end).answer → step.sends ≡ [] → Keeps tells after new.store (Past.disk past) (Past.trip past)
+    → step.answer ≡ (ack_line site tid end).answer → step.sends ≡ [] → Keeps (was_found past) tells after new.store (Past.disk past) (Past.trip past)
     → new.protocols ≡ old.protocols → new.policy ≡ old.policy → new.begun ≡ old.begun
     → IsPending test tells (ack_line site tid end).calls step new after terms past (Ev.Take site (From.Ack tid)) (ack_line site tid end)
 ack_pending test tells step old new before after terms past site tid d end k s up st is tables said silent stored sites policy begun =

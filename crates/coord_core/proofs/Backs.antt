@@ -22,8 +22,10 @@ use Rattle.actor_store.specs.declared.store.Break.TheVariants.{Stopped, Failed}
 use Rattle.actor_store.specs.declared.store.Standing.{Standing}
 use Rattle.actor_store.specs.declared.store.Standing.TheVariants.{Up, Down, Failing}
 use Rattle.actor_store.specs.Store.{Ends, IsInOrder, Passes, cut_calls, is_up}
+use Rattle.actor_store.proofs.FromLaws.{from_later, from_trip}
 use Rattle.coord_core.specs.declared.coord.CoordCore.{CoordCore}
 use Rattle.coord_tables.specs.Trees.{noted}
+use Rattle.coord_core.specs.Found.{opens, was_found}
 use Rattle.coord_core.specs.Stands.{Fails, Stands, Steps, StopsBefore, StopsWithin, TablesStand}
 use Rattle.coord_core.specs.Store.{Keeps, Store}
 use Rattle.coord_tables.specs.Tables.{IsServing}
@@ -84,7 +86,7 @@ all_within terms past s = (past_sound terms.protocols terms.policy any_member (r
 module _ {P : Type 0} (test : P → Policy) (tells : Bool) where
   -- a core that is down stands for a past whose disk its store keeps
   pub stands_down : (core : CoordCore P) (seen : Seen) (terms : Terms) (past : CoordPast) → IsSound terms past → core.protocols ≡ terms.protocols → test core.policy ≡ terms.policy
-      → ((tx : Tx) → noted core.begun.listed tx ≡ attempts_of past tx) → Keeps tells seen core.store (Past.disk past) (Past.trip past) → is_up core.store.standing ≡ false → is_down past ≡ true
+      → ((tx : Tx) → noted core.begun.listed tx ≡ attempts_of past tx) → Keeps (was_found past) tells seen core.store (Past.disk past) (Past.trip past) → is_up core.store.standing ≡ false → is_down past ≡ true
       → Stands test tells core seen terms past
   stands_down core seen terms past sound sites policy begun kept down is = record {
     holds = record {
@@ -92,8 +94,8 @@ module _ {P : Type 0} (test : P → Policy) (tells : Bool) where
       policy = policy;
       sound = sound;
       records = kept_records tells seen core.store (Past.disk past) (Past.trip past) kept;
-      trip = kept.trip;
-      armed = kept.armed;
+      trip = kept.behind.trip;
+      armed = kept.behind.armed;
       standing = is ∙ sym (ap not down);
       tables = off core.store.standing down;
       begun = begun;
@@ -107,7 +109,7 @@ module _ {P : Type 0} (test : P → Policy) (tells : Bool) where
 
   -- one with other tables, and another store that keeps the same
   pub stays_down : (old new : CoordCore P) (before after : Seen) (terms : Terms) (past : CoordPast) → Stands test tells old before terms past → is_up old.store.standing ≡ false
-      → Keeps tells after new.store (Past.disk past) (Past.trip past) → new.store.standing ≡ old.store.standing → new.protocols ≡ old.protocols → new.policy ≡ old.policy → new.begun ≡ old.begun
+      → Keeps (was_found past) tells after new.store (Past.disk past) (Past.trip past) → new.store.standing ≡ old.store.standing → new.protocols ≡ old.protocols → new.policy ≡ old.policy → new.begun ≡ old.begun
       → Stands test tells new after terms past
   stays_down old new before after terms past k down kept standing sites policy begun =
       stands_down new after terms past k.holds.sound (sites ∙ k.holds.protocols) (ap test policy ∙ k.holds.policy) (λ tx. ap (λ b. noted b.listed tx) begun ∙ k.holds.begun tx) kept
@@ -115,7 +117,7 @@ module _ {P : Type 0} (test : P → Policy) (tells : Bool) where
 
   -- a stop before a start: nothing changes but the trip
   stops_before : (core : CoordCore P) (seen : Seen) (terms : Terms) (past : CoordPast) (cut : ℕ) → IsSound terms past → core.protocols ≡ terms.protocols → test core.policy ≡ terms.policy
-      → ((tx : Tx) → noted core.begun.listed tx ≡ attempts_of past tx) → Keeps tells seen core.store (Past.disk past) None → is_up core.store.standing ≡ false → is_down past ≡ true
+      → ((tx : Tx) → noted core.begun.listed tx ≡ attempts_of past tx) → Keeps (was_found past) tells seen core.store (Past.disk past) None → is_up core.store.standing ≡ false → is_down past ≡ true
       → StopsBefore test tells core seen terms past
   stops_before core seen terms past cut sound sites policy begun kept down is =
       let y = quiet (Ev.Trip 0 0) Say.Set in
@@ -133,7 +135,7 @@ module _ {P : Type 0} (test : P → Policy) (tells : Bool) where
   -- a start that a failed call stops
   stops_within : (core : CoordCore P) (seen : Seen) (terms : Terms) (past : CoordPast) (n cut : ℕ) → n ≡ how_many (is_kept terms.protocols (Past.records past)) (recorded (Past.records past))
       → IsSound terms past → core.protocols ≡ terms.protocols → test core.policy ≡ terms.policy → ((tx : Tx) → noted core.begun.listed tx ≡ attempts_of past tx)
-      → 1 ≤ length (back_calls past) → Keeps tells seen core.store (after_calls coord_frame (Past.disk past) (take 1 (back_calls past) ++ Stops cut ∷ [])) None
+      → 1 ≤ length (back_calls past) → Keeps (was_found past) tells seen core.store (after_calls coord_frame (Past.disk past) (take 1 (back_calls past) ++ Stops cut ∷ [])) None
       → is_up core.store.standing ≡ false → is_down past ≡ true → StopsWithin test tells core seen terms past Ev.Back
   stops_within core seen terms past n cut count sound sites policy begun some kept down is =
       let y = quiet (Ev.Trip 1 cut) Say.Set in
@@ -155,11 +157,10 @@ module _ {P : Type 0} (test : P → Policy) (tells : Bool) where
 
   -- the records weren't read: the coordinator stays down, and the trip is disarmed
   pub read_failed : (old new : CoordCore P) (store : Store) (before after : Seen) (terms : Terms) (past : CoordPast) → Stands test tells old before terms past → is_up old.store.standing ≡ false
-      → Keeps tells after store (Past.disk past) (Past.trip past) → store.standing ≡ old.store.standing → new ≡ record old { store = record store { trip = None } }
+      → Keeps (was_found past) tells after store (Past.disk past) (Past.trip past) → store.standing ≡ old.store.standing → new ≡ record old { store = record store { trip = None } }
       → Fails test tells Err_is.Disk new after terms past Ev.Back
   read_failed old new store before after terms past k down kept standing same =
-      let disarmed : Keeps tells after (record store { trip = None }) (Past.disk past) None =
-      record { kept_on = kept.kept_on; stands = kept.stands; records = kept.records; are_records = kept.are_records; written = kept.written; front = kept.front; trip = refl; armed = tt; in_order = kept.in_order } in
+      let disarmed : Keeps (was_found past) tells after (record store { trip = None }) (Past.disk past) None = from_trip kept None refl tt in
       let core : CoordCore P = record old { store = record store { trip = None } } in
       subst (λ (c : CoordCore P). Fails test tells Err_is.Disk c after terms past Ev.Back) (sym same)
       (inl (stops_before core after terms past 0 k.holds.sound k.holds.protocols k.holds.policy k.holds.begun disarmed (ap is_up standing ∙ down) (down_is test tells old terms past k.holds down)))
@@ -174,7 +175,7 @@ module _ {P : Type 0} (test : P → Policy) (tells : Bool) where
     noted_as tx = ap (λ b. noted b.listed tx) begun ∙ k.holds.begun tx
 
     -- it comes through
-    pub back_done : (step : CoordStep) → Passes (Past.trip past) (length (back_calls past)) × Keeps tells after new.store (after_calls coord_frame (Past.disk past) (back_calls past)) (used (length (back_calls past)) (Past.trip past))
+    pub back_done : (step : CoordStep) → Passes (Past.trip past) (length (back_calls past)) × Keeps (was_found past) tells after new.store (after_calls coord_frame (Past.disk past) (back_calls past)) (used (length (back_calls past)) (Past.trip past))
         → new.store.standing ≡ Up → IsServing new.tables terms (up_line n past ∷ past) → step.answer ≡ Say.UpCoord n → step.sends ≡ []
         → Steps test tells step new after terms past (line_of terms past Ev.Back)
     back_done step ends up serving said silent =
@@ -191,18 +192,18 @@ module _ {P : Type 0} (test : P → Policy) (tells : Bool) where
               policy = ap test policy ∙ k.holds.policy;
               sound = sound_more terms past Ev.Back x k.holds.sound line tt k.holds.sound.in_range;
               records = kept_records tells after new.store (Past.disk (x ∷ past)) (Past.trip (x ∷ past)) ends.1;
-              trip = ends.1.trip;
-              armed = ends.1.armed;
+              trip = ends.1.behind.trip;
+              armed = ends.1.behind.armed;
               standing = sym (ap (λ s. not (is_up s)) up);
               tables = subst T (sym up) serving;
               begun = noted_as;
             };
-            stored = ends.1;
+            stored = from_later (opens x) ends.1;
           };
         })
 
     -- the trip comes within its calls
-    pub back_stopped : (step : CoordStep) (kept : ℕ) → Ends {A = ℕ} coord_frame (Keeps tells after new.store) (Past.disk past) (Past.trip past) (back_calls past) (Err (Stopped kept))
+    pub back_stopped : (step : CoordStep) (kept : ℕ) → Ends {A = ℕ} coord_frame (Keeps (was_found past) tells after new.store) (Past.disk past) (Past.trip past) (back_calls past) (Err (Stopped kept))
         → is_up new.store.standing ≡ false → step.answer ≡ Say.Stopped kept → step.sends ≡ [] → Steps test tells step new after terms past (line_of terms past Ev.Back)
     back_stopped step kept (s, set, few, keeps, count_kept) off said silent =
         let x = up_line n past in
@@ -217,29 +218,29 @@ module _ {P : Type 0} (test : P → Policy) (tells : Bool) where
         })
 
     -- a call fails
-    pub back_failed : Ends {A = ℕ} coord_frame (Keeps tells after new.store) (Past.disk past) (Past.trip past) (back_calls past) (Err Failed)
+    pub back_failed : Ends {A = ℕ} coord_frame (Keeps (was_found past) tells after new.store) (Past.disk past) (Past.trip past) (back_calls past) (Err Failed)
         → is_up new.store.standing ≡ false → Fails test tells Err_is.Disk new after terms past Ev.Back
     back_failed (m, cut, keeps) off = by_torn (is_torn coord_frame (Past.disk past)) refl m keeps where
       synced : (Past.disk past).synced ≡ (Past.disk past).length
-      synced = settled old.store.standing old.store (Past.disk past) down k.stored.in_order
+      synced = settled old.store.standing old.store (Past.disk past) down k.stored.behind.in_order
 
-      before_it : Keeps tells after new.store (after_calls coord_frame (Past.disk past) (Stops cut ∷ [])) None → Fails test tells Err_is.Disk new after terms past Ev.Back
+      before_it : Keeps (was_found past) tells after new.store (after_calls coord_frame (Past.disk past) (Stops cut ∷ [])) None → Fails test tells Err_is.Disk new after terms past Ev.Back
       before_it j =
-          let here = subst (λ (d : Disk CoordRecord). Keeps tells after new.store d None) (stop_same (Past.disk past) cut synced (all_within terms past k.holds.sound)) j in
+          let here = subst (λ (d : Disk CoordRecord). Keeps (was_found past) tells after new.store d None) (stop_same (Past.disk past) cut synced (all_within terms past k.holds.sound)) j in
           inl (stops_before new after terms past cut k.holds.sound (sites ∙ k.holds.protocols) (ap test policy ∙ k.holds.policy) noted_as here off is)
 
-      by_torn : (b : Bool) → is_torn coord_frame (Past.disk past) ≡ b → (i : ℕ) → Keeps tells after new.store (after_calls coord_frame (Past.disk past) (take i (back_calls past) ++ Stops cut ∷ [])) None
+      by_torn : (b : Bool) → is_torn coord_frame (Past.disk past) ≡ b → (i : ℕ) → Keeps (was_found past) tells after new.store (after_calls coord_frame (Past.disk past) (take i (back_calls past) ++ Stops cut ∷ [])) None
           → Fails test tells Err_is.Disk new after terms past Ev.Back
-      by_torn false e i j = before_it (subst (λ (cs : List (Call CoordRecord)). Keeps tells after new.store (after_calls coord_frame (Past.disk past) (cs ++ Stops cut ∷ [])) None) (ap (λ b. take i (cond b one_cut no_cut)) e ∙ nothing i) j) where
+      by_torn false e i j = before_it (subst (λ (cs : List (Call CoordRecord)). Keeps (was_found past) tells after new.store (after_calls coord_frame (Past.disk past) (cs ++ Stops cut ∷ [])) None) (ap (λ b. take i (cond b one_cut no_cut)) e ∙ nothing i) j) where
         nothing : (h : ℕ) → take h no_cut ≡ no_cut
         nothing zero = refl
         nothing (suc h) = refl
-      by_torn true e zero j = before_it (subst (λ (cs : List (Call CoordRecord)). Keeps tells after new.store (after_calls coord_frame (Past.disk past) (cs ++ Stops cut ∷ [])) None) (ap (λ b. take 0 (cond b one_cut no_cut)) e) j)
+      by_torn true e zero j = before_it (subst (λ (cs : List (Call CoordRecord)). Keeps (was_found past) tells after new.store (after_calls coord_frame (Past.disk past) (cs ++ Stops cut ∷ [])) None) (ap (λ b. take 0 (cond b one_cut no_cut)) e) j)
       by_torn true e (suc i) j =
           let one : take (suc i) (back_calls past) ≡ take 1 (back_calls past) = ap (λ b. take (suc i) (cond b one_cut no_cut)) e ∙ nothing_more i ∙ sym (ap (λ b. take 1 (cond b one_cut no_cut)) e) in
           let some : length (back_calls past) ≡ 1 = ap (λ b. length (cond b one_cut no_cut)) e in
           inr (stops_within new after terms past n cut count k.holds.sound (sites ∙ k.holds.protocols) (ap test policy ∙ k.holds.policy) noted_as (omega (arith, some))
-          (subst (λ (cs : List (Call CoordRecord)). Keeps tells after new.store (after_calls coord_frame (Past.disk past) (cs ++ Stops cut ∷ [])) None) one j) off is)
+          (subst (λ (cs : List (Call CoordRecord)). Keeps (was_found past) tells after new.store (after_calls coord_frame (Past.disk past) (cs ++ Stops cut ∷ [])) None) one j) off is)
         where
           nothing_more : (h : ℕ) → take (suc h) one_cut ≡ one_cut
           nothing_more zero = refl

@@ -1,5 +1,5 @@
 -- The step of a new attempt.
-use Rattle.std.proofs.Common.{◌≡◌, ℕ, ◌+◌, Bool, cond, not, ◌&&◌, ◌||◌, List, [], ◌∷◌, ◌++◌, map, refl, sym, ap, subst, ◌∙◌}
+use Rattle.std.proofs.Common.{◌≡◌, ◌+◌, Bool, cond, not, List, [], ◌∷◌, map, refl, sym, ap, subst, ◌∙◌}
 use Rattle.mdb_base.specs.declared.acts.Step.{Step}
 use Rattle.mdb_base.specs.declared.names.Tid.{Tid}
 use Rattle.mdb_base.specs.declared.names.Tx.{Tx}
@@ -34,6 +34,7 @@ use Rattle.actor_store.specs.Store.{IsArmed, is_up, trip_of_rules}
 use Rattle.mdb_base.specs.Words.{map_some}
 use Rattle.coord_tables.specs.Beginning.{CanBegin, ListTheSame}
 use Rattle.coord_tables.specs.Stages.{AreStagesOf}
+use Rattle.coord_core.specs.Found.{was_found}
 use Rattle.coord_core.specs.Stands.{Stands, Steps, TablesStand}
 use Rattle.coord_core.specs.Store.{Keeps, Store}
 use Rattle.coord_tables.specs.Terms.{Terms, answer_of, line_of}
@@ -69,7 +70,7 @@ begun_steps test tells step old new seen terms past tid steps set members k up c
       sends = sends;
     })
     (record {
-      stored = subst (λ (st : Store). Keeps tells seen st (Past.disk past) (Past.trip past)) (sym store) k.stored;
+      stored = subst (λ (st : Store). Keeps (was_found past) tells seen st (Past.disk past) (Past.trip past)) (sym store) k.stored;
       up = up_is test tells old terms past k.holds up;
       protocols = sites ∙ k.holds.protocols;
       policy = ap test policy ∙ k.holds.policy;
@@ -96,7 +97,7 @@ stands_listed test tells old new seen terms past sites policy store same begun k
     tables = subst (λ (st : Store). TablesStand new.tables st.standing terms past) (sym store) (by_standing old.store.standing k.holds.tables);
     begun = λ tx. begun tx ∙ k.holds.begun tx;
   };
-  stored = subst (λ (st : Store). Keeps tells seen st (Past.disk past) (Past.trip past)) (sym store) k.stored;
+  stored = subst (λ (st : Store). Keeps (was_found past) tells seen st (Past.disk past) (Past.trip past)) (sym store) k.stored;
 } where
   by_standing : (up : StoreStanding) → TablesStand old.tables up terms past → TablesStand new.tables up terms past
   by_standing Up s = record {

@@ -26,13 +26,13 @@ use Rattle.frame_journal.specs.Journal.{records}
 use Rattle.coord_journal.specs.PayloadSizes.{payload_has_size}
 use Rattle.coord_journal.specs.Spelling.{spelling}
 use Rattle.actor_store.specs.declared.store.Standing.TheVariants.{Up}
-use Rattle.coord_laws.proofs.CoordRestarts.{made_journals_say_all}
 use Rattle.coord_laws.proofs.CoordRestarts.{going_journals_say_all}
 use Rattle.global_exec.specs.Live.{live_of}
 use Rattle.protocol_table.specs.Attempts.{known_of}
 use Rattle.coord_core.specs.declared.coord.CoordCore.{CoordCore}
 use Rattle.coord_tables.specs.declared.tables.Tables.{Tables}
 use Rattle.coord_core.specs.Pending.{IsPending}
+use Rattle.coord_core.specs.Found.{was_found}
 use Rattle.coord_core.specs.Stands.{Holds, Stands, Steps}
 use Rattle.coord_core.specs.Store.{Keeps, Store}
 use Rattle.coord_tables.specs.Tables.{IsServing}
@@ -107,7 +107,7 @@ module _ {P : Type 0} (test : P → Policy) (tells : Bool) where
       (record { answer = said; sends = silent }) refl
 
   pub check_pending : (step : CoordStep) (old : CoordCore P) (store : Store) (before after : Seen) (terms : Terms) (past : CoordPast) (sum : CoordSum) → Stands test tells old before terms past
-      → old.store.standing ≡ Up → Keeps tells after store (Past.disk past) (Past.trip past)
+      → old.store.standing ≡ Up → Keeps (was_found past) tells after store (Past.disk past) (Past.trip past)
       → sum ≡ coord_sum terms.protocols (Past.records past) → nat_lt longest (coord_payload (Rec.Checkpoint sum)) ≡ false → step.answer ≡ Say.Checked → step.sends ≡ []
       → IsPending test tells (Append (Rec.Checkpoint sum) ∷ Sync ∷ TrimFront ∷ []) step (record old { store = store }) after terms past Ev.Check (check_line sum)
   check_pending step old store before after terms past sum k up kept is small said silent = record {

@@ -1,6 +1,5 @@
 -- The line of a commit, before its disk calls, and the core before the decision.
-use Rattle.std.proofs.Common.{◌≡◌, ℕ, ◌≤◌, Bool, true, false, cond, Option, Some, None, List, [], ◌∷◌, map, refl, sym, ap, subst, ◌∙◌}
-use Rattle.std.proofs.lemmas.Bool.{false≢true}
+use Rattle.std.proofs.Common.{◌≡◌, ℕ, Bool, true, false, cond, Option, Some, None, List, [], ◌∷◌, map, refl, sym, ap, subst, ◌∙◌}
 use Rattle.mdb_base.specs.declared.names.SiteId.{SiteId}
 use Rattle.mdb_base.specs.declared.names.SiteTicket.{SiteTicket}
 use Rattle.mdb_base.specs.declared.names.Tid.{Tid}
@@ -19,7 +18,7 @@ use Rattle.fed_rules.specs.declared.events.CoordStep.{CoordStep}
 use Rattle.fed_rules.specs.declared.records.CoordRecord.TheVariants as Rec
 use Rattle.fed_rules.specs.Disk.{Append, Sync}
 use Rattle.fed_rules.specs.Happenings.{is_down}
-use Rattle.fed_rules.specs.Coord.{commits_it, decide_to, forgets_at_once, last_vote}
+use Rattle.fed_rules.specs.Coord.{commits_it, decide_to, last_vote}
 use Rattle.fed_rules.specs.CoordRecords.{commits}
 use Rattle.fed_rules.specs.CoordPast.{CoordHappening, CoordPast, is_open, participants, records, standing}
 use Rattle.fed_rules.specs.CoordPast as Past
@@ -42,6 +41,7 @@ use Rattle.coord_tables.specs.Trees.{committed_in, noted}
 use Rattle.coord_tables.specs.Deciding.{recorded}
 use Rattle.coord_core.specs.Pending.{IsPending}
 use Rattle.coord_tables.specs.Stages.{AreStagesOf, is_of, stage_tickets}
+use Rattle.coord_core.specs.Found.{was_found}
 use Rattle.coord_core.specs.Stands.{Stands, TablesStand}
 use Rattle.coord_core.specs.Store.{Keeps}
 use Rattle.coord_tables.specs.Tables.{IsServing}
@@ -72,7 +72,7 @@ module _ (terms : Terms) (past : CoordPast) (site : SiteId) (tid : Tid) (ticket 
       → new.tables.exec ≡ taken_out (live.is_of tid) old.tables.exec → live.AreApart (map (λ (l : Live). l.tid) old.tables.exec) → new.tables.stages.listed ≡ taken_out (is_of tid) old.tables.stages.listed
       → ((tx : Tx) → committed_in new.tables.committed.listed tx ≡ cond (same_tx tid.tx tx) (Some tid) (committed_in old.tables.committed.listed tx)) → StandsFor (attempt ∷ commits (records past)) new.tables.graph → AreHeld (map stage_tickets new.tables.stages.listed) new.tables.graph
       → step.answer ≡ Say.Decides Decided.Commit None result → step.sends ≡ decide_to tid Decided.Commit (participants terms.protocols past tid)
-      → Keeps tells after new.store (Past.disk past) (Past.trip past) → new.protocols ≡ old.protocols → new.policy ≡ old.policy → new.begun ≡ old.begun
+      → Keeps (was_found past) tells after new.store (Past.disk past) (Past.trip past) → new.protocols ≡ old.protocols → new.policy ≡ old.policy → new.begun ≡ old.begun
       → IsPending test tells (Append (Rec.Commit tid written) ∷ Sync ∷ []) step new after terms past event x
   commit_pending test tells step old new before after result written same k s up none r known exec apart stages more graph pruned said sends stored sites policy begun =
       let is = commit_forgets terms past site tid ticket tickets sound l old.tables result s r in

@@ -29,11 +29,13 @@ use Rattle.actor_store.specs.declared.store.Standing.{Standing}
 use Rattle.actor_store.specs.declared.store.Standing.TheVariants.{Up}
 use Rattle.actor_store.specs.Store.{Ends, Passes, is_up, stopped_disk}
 use Rattle.actor_store.proofs.EndsLaws.{passes_none, stopped_disk-all, used_none}
+use Rattle.actor_store.proofs.FromLaws.{from_later}
 use Rattle.coord_core.specs.declared.coord.CoordCore.{CoordCore}
 use Rattle.coord_tables.specs.declared.tables.Tables.{Tables}
 use Rattle.coord_tables.specs.Trees.{noted}
 use Rattle.coord_core.specs.Pending.{IsAnswered, IsPending, IsReady}
 use Rattle.coord_tables.specs.Terms.{IsSound, IsUsual, Terms, answer_of, line_of}
+use Rattle.coord_core.specs.Found.{opens, was_found}
 use Rattle.coord_core.specs.Stands.{Fails, Stands, Steps, StopsBefore, StopsWithin, TablesStand}
 use Rattle.coord_core.specs.Store.{Keeps}
 use Rattle.coord_tables.proofs.Serving.{attempts_same, sound_more}
@@ -131,11 +133,11 @@ module _ {P : Type 0} (test : P → Policy) (tells : Bool) (terms : Terms) (past
   module _ (core : CoordCore P) (seen : Seen) (sound : IsSound terms past) (up : is_down past ≡ false) (sites : core.protocols ≡ terms.protocols) (policy : test core.policy ≡ terms.policy)
       (begun : (tx : Tx) → noted core.begun.listed tx ≡ attempts_of past tx) (down : is_up core.store.standing ≡ false) where
     -- a call failed before any was made
-    before : (cut : ℕ) (calls : List (Call CoordRecord)) → calls ≡ Stops cut ∷ [] → Keeps tells seen core.store (after_calls coord_frame (Past.disk past) calls) None → StopsBefore test tells core seen terms past
+    before : (cut : ℕ) (calls : List (Call CoordRecord)) → calls ≡ Stops cut ∷ [] → Keeps (was_found past) tells seen core.store (after_calls coord_frame (Past.disk past) calls) None → StopsBefore test tells core seen terms past
     before cut calls one k =
         let y = quiet (Ev.Trip 0 0) Say.Set in
-        let kept : Keeps tells seen core.store (after_calls coord_frame (Past.disk (y ∷ past)) (Stops cut ∷ [])) None =
-        subst (λ (cs : List (Call CoordRecord)). Keeps tells seen core.store (after_calls coord_frame (Past.disk past) cs) None) one k in
+        let kept : Keeps (was_found past) tells seen core.store (after_calls coord_frame (Past.disk (y ∷ past)) (Stops cut ∷ [])) None =
+        subst (λ (cs : List (Call CoordRecord)). Keeps (was_found past) tells seen core.store (after_calls coord_frame (Past.disk past) cs) None) one k in
         let stood = stands_stop test tells core seen terms (y ∷ past) (Ev.Halt cut) (Stops cut ∷ []) (halt_line terms (y ∷ past) cut up) tt (sound_trip 0 0 sound) sites policy begun kept down in
         let lines : CoordPast → CoordHappening → Type 0 = λ q h. Stands test tells core seen terms (h ∷ q) in
         let told = subst (λ h. lines (y ∷ past) h) (sym (halt_line terms (y ∷ past) cut up)) stood in
@@ -146,7 +148,7 @@ module _ {P : Type 0} (test : P → Policy) (tells : Bool) (terms : Terms) (past
 
     -- a call failed after so many were made
     within : (event : CoordEvent) (x : CoordHappening) → IsUsual event → answer_of terms past event ≡ x → x.event ≡ event → IsNumbered past event → (n cut : ℕ) → suc n ≤ length x.calls
-        → Keeps tells seen core.store (after_calls coord_frame (Past.disk past) (take (suc n) x.calls ++ Stops cut ∷ [])) None → StopsWithin test tells core seen terms past event
+        → Keeps (was_found past) tells seen core.store (after_calls coord_frame (Past.disk past) (take (suc n) x.calls ++ Stops cut ∷ [])) None → StopsWithin test tells core seen terms past event
     within event x usual is heard numbered n cut few k =
         let y = quiet (Ev.Trip (suc n) cut) Say.Set in
         let calls = take (suc n) x.calls ++ Stops cut ∷ [] in
@@ -167,13 +169,13 @@ module _ {P : Type 0} (test : P → Policy) (tells : Bool) (terms : Terms) (past
 
     -- a call failed
     pub fails_by : (event : CoordEvent) (x : CoordHappening) → IsUsual event → answer_of terms past event ≡ x → x.event ≡ event → IsNumbered past event
-        → (n : ℕ) × (cut : ℕ) × Keeps tells seen core.store (stopped_disk coord_frame n cut (Past.disk past) x.calls) None → Fails test tells Err_is.Disk core seen terms past event
+        → (n : ℕ) × (cut : ℕ) × Keeps (was_found past) tells seen core.store (stopped_disk coord_frame n cut (Past.disk past) x.calls) None → Fails test tells Err_is.Disk core seen terms past event
     fails_by event x usual is heard numbered (n, cut, k) = elim (cases_lt (length x.calls) n) [
-      | inl more ↦ few (length x.calls) (omega arith) (subst (λ (d : Disk CoordRecord). Keeps tells seen core.store d None) (stopped_disk-all coord_frame n cut (Past.disk past) x.calls (omega arith)) k)
+      | inl more ↦ few (length x.calls) (omega arith) (subst (λ (d : Disk CoordRecord). Keeps (was_found past) tells seen core.store d None) (stopped_disk-all coord_frame n cut (Past.disk past) x.calls (omega arith)) k)
       | inr less ↦ few n (omega arith) k
     ]
       where
-        few : (m : ℕ) → m ≤ length x.calls → Keeps tells seen core.store (stopped_disk coord_frame m cut (Past.disk past) x.calls) None
+        few : (m : ℕ) → m ≤ length x.calls → Keeps (was_found past) tells seen core.store (stopped_disk coord_frame m cut (Past.disk past) x.calls) None
             → StopsBefore test tells core seen terms past ⊎ StopsWithin test tells core seen terms past event
         few zero le k = inl (before cut (take 0 x.calls ++ Stops cut ∷ []) (ap (λ (cs : List (Call CoordRecord)). cs ++ Stops cut ∷ []) (take_none x.calls)) k)
         few (suc m) le k = inr (within event x usual is heard numbered m cut le k)
@@ -186,13 +188,13 @@ module _ {P : Type 0} (test : P → Policy) (tells : Bool) (step : CoordStep) (o
   line_is = usual_line terms past event a.usual r.up ∙ ap (unless_tripped past) a.line
 
   -- all calls are made
-  pub ends_made : Passes (Past.trip past) (length x.calls) → Keeps tells after new.store (after_calls coord_frame (Past.disk past) x.calls) (used (length x.calls) (Past.trip past))
+  pub ends_made : Passes (Past.trip past) (length x.calls) → Keeps (was_found past) tells after new.store (after_calls coord_frame (Past.disk past) x.calls) (used (length x.calls) (Past.trip past))
       → new.store.standing ≡ Up → Steps test tells step new after terms past (line_of terms past event)
   ends_made passes kept up =
       let is = line_is ∙ passes_is past x passes in
       let left : used (length x.calls) (Past.trip past) ≡ Past.trip (x ∷ past) =
       sym (cond-false _ _ _ a.goes ∙ ap (λ o. set o (used (length x.calls) (Past.trip past))) (ap trip_of a.heard ∙ usual_sets event a.usual)) in
-      let k = subst (λ (t : Option Trip). Keeps tells after new.store (after_calls coord_frame (Past.disk past) x.calls) t) left kept in
+      let k = subst (λ (t : Option Trip). Keeps (was_found past) tells after new.store (after_calls coord_frame (Past.disk past) x.calls) t) left kept in
       let T : Tables → Standing → Type 0 = λ t s. TablesStand t s terms (x ∷ past) in
       subst (λ (y : CoordHappening). Steps test tells step new after terms past y) (sym is)
       (record {
@@ -204,13 +206,13 @@ module _ {P : Type 0} (test : P → Policy) (tells : Bool) (step : CoordStep) (o
             policy = ap test policy ∙ r.policy;
             sound = sound_more terms past event x r.sound is a.numbered r.in_range;
             records = kept_records tells after new.store (Past.disk (x ∷ past)) (Past.trip (x ∷ past)) k;
-            trip = k.trip;
-            armed = k.armed;
+            trip = k.behind.trip;
+            armed = k.behind.armed;
             standing = cond-false _ _ _ a.goes ∙ cond-false _ _ _ a.stays ∙ r.up ∙ sym (ap (λ s. not (is_up s)) up);
             tables = subst (λ s. T new.tables s) (sym up) (subst (λ t. T t Up) (sym tables) r.serving);
             begun = λ tx. ap (λ b. noted b.listed tx) begun ∙ r.begun tx;
           };
-          stored = k;
+          stored = from_later (opens x) k;
         };
       })
 
@@ -221,18 +223,18 @@ module _ {P : Type 0} (test : P → Policy) (tells : Bool) (calls : List (Call C
   begun_behind : (tx : Tx) → noted new.begun.listed tx ≡ attempts_of past tx
   begun_behind tx = ap (λ b. noted b.listed tx) begun ∙ p.ready.begun tx ∙ attempts_same past x p.none_begun tx
 
-  pub pending_made : Passes (Past.trip past) (length calls) × Keeps tells after new.store (after_calls coord_frame (Past.disk past) calls) (used (length calls) (Past.trip past))
+  pub pending_made : Passes (Past.trip past) (length calls) × Keeps (was_found past) tells after new.store (after_calls coord_frame (Past.disk past) calls) (used (length calls) (Past.trip past))
       → new.store.standing ≡ Up → Steps test tells step new after terms past (line_of terms past event)
   pending_made e up =
-      let M : List (Call CoordRecord) → Type 0 = λ cs. Passes (Past.trip past) (length cs) × Keeps tells after new.store (after_calls coord_frame (Past.disk past) cs) (used (length cs) (Past.trip past)) in
+      let M : List (Call CoordRecord) → Type 0 = λ cs. Passes (Past.trip past) (length cs) × Keeps (was_found past) tells after new.store (after_calls coord_frame (Past.disk past) cs) (used (length cs) (Past.trip past)) in
       let m = subst M (sym p.makes) e in
       ends_made test tells step old new before after terms past event x p.answered p.ready sites policy tables begun m.0 m.1 up
 
   -- the trip comes within the calls
-  pub pending_stopped : (ended : CoordStep) (kept : ℕ) → Ends {A = ℕ} coord_frame (Keeps tells after new.store) (Past.disk past) (Past.trip past) calls (Err (Stopped kept))
+  pub pending_stopped : (ended : CoordStep) (kept : ℕ) → Ends {A = ℕ} coord_frame (Keeps (was_found past) tells after new.store) (Past.disk past) (Past.trip past) calls (Err (Stopped kept))
       → is_up new.store.standing ≡ false → ended.answer ≡ Say.Stopped kept → ended.sends ≡ [] → Steps test tells ended new after terms past (line_of terms past event)
   pending_stopped ended kept e down said silent =
-      let ends = subst (λ (cs : List (Call CoordRecord)). Ends {A = ℕ} coord_frame (Keeps tells after new.store) (Past.disk past) (Past.trip past) cs (Err (Stopped kept))) (sym p.makes) e in
+      let ends = subst (λ (cs : List (Call CoordRecord)). Ends {A = ℕ} coord_frame (Keeps (was_found past) tells after new.store) (Past.disk past) (Past.trip past) cs (Err (Stopped kept))) (sym p.makes) e in
       let (s, is, few, k, count) = ends in
       let stop = take s.calls x.calls ++ Stops s.cut ∷ [] in
       let line : line_of terms past event ≡ stop_line past event stop =
@@ -245,10 +247,10 @@ module _ {P : Type 0} (test : P → Policy) (tells : Bool) (calls : List (Call C
       })
 
   -- a call fails
-  pub pending_failed : Ends {A = ℕ} coord_frame (Keeps tells after new.store) (Past.disk past) (Past.trip past) calls (Err Failed)
+  pub pending_failed : Ends {A = ℕ} coord_frame (Keeps (was_found past) tells after new.store) (Past.disk past) (Past.trip past) calls (Err Failed)
       → is_up new.store.standing ≡ false → Fails test tells Err_is.Disk new after terms past event
   pending_failed e down =
-      let ends = subst (λ (cs : List (Call CoordRecord)). Ends {A = ℕ} coord_frame (Keeps tells after new.store) (Past.disk past) (Past.trip past) cs (Err Failed)) (sym p.makes) e in
+      let ends = subst (λ (cs : List (Call CoordRecord)). Ends {A = ℕ} coord_frame (Keeps (was_found past) tells after new.store) (Past.disk past) (Past.trip past) cs (Err Failed)) (sym p.makes) e in
       fails_by test tells terms past new after p.ready.sound p.ready.up (sites ∙ p.ready.protocols) (ap test policy ∙ p.ready.policy) begun_behind down
       event x p.answered.usual p.answered.line p.answered.heard p.answered.numbered ends
 
@@ -256,16 +258,16 @@ module _ {P : Type 0} (test : P → Policy) (tells : Bool) (calls : List (Call C
 pub pending_quiet : {P : Type 0} (test : P → Policy) (tells : Bool) (step : CoordStep) (core : CoordCore P) (seen : Seen) (terms : Terms) (past : CoordPast) (event : CoordEvent) (x : CoordHappening)
     → IsPending test tells [] step core seen terms past event x → core.store.standing ≡ Up → Steps test tells step core seen terms past (line_of terms past event)
 pending_quiet test tells step core seen terms past event x p up =
-    let passes : Passes (Past.trip past) 0 = subst (λ t. Passes t 0) p.ready.stored.trip (passes_none core.store.trip p.ready.stored.armed) in
-    let kept : Keeps tells seen core.store (Past.disk past) (used 0 (Past.trip past)) = subst (λ (t : Option Trip). Keeps tells seen core.store (Past.disk past) t) (sym (used_none (Past.trip past))) p.ready.stored in
+    let passes : Passes (Past.trip past) 0 = subst (λ t. Passes t 0) p.ready.stored.behind.trip (passes_none core.store.trip p.ready.stored.behind.armed) in
+    let kept : Keeps (was_found past) tells seen core.store (Past.disk past) (used 0 (Past.trip past)) = subst (λ (t : Option Trip). Keeps (was_found past) tells seen core.store (Past.disk past) t) (sym (used_none (Past.trip past))) p.ready.stored in
     pending_made test tells [] step core core seen seen terms past event x p refl refl refl refl (passes, kept) up
 
 -- the same of a line that begins an attempt
 pub ready_quiet : {P : Type 0} (test : P → Policy) (tells : Bool) (step : CoordStep) (core : CoordCore P) (seen : Seen) (terms : Terms) (past : CoordPast) (event : CoordEvent) (x : CoordHappening)
     → IsAnswered step terms past event x → IsReady test tells core seen terms past x → x.calls ≡ [] → core.store.standing ≡ Up → Steps test tells step core seen terms past (line_of terms past event)
 ready_quiet test tells step core seen terms past event x a r none up =
-    let M : List (Call CoordRecord) → Type 0 = λ cs. Passes (Past.trip past) (length cs) × Keeps tells seen core.store (after_calls coord_frame (Past.disk past) cs) (used (length cs) (Past.trip past)) in
-    let passes : Passes (Past.trip past) 0 = subst (λ t. Passes t 0) r.stored.trip (passes_none core.store.trip r.stored.armed) in
-    let kept : Keeps tells seen core.store (Past.disk past) (used 0 (Past.trip past)) = subst (λ (t : Option Trip). Keeps tells seen core.store (Past.disk past) t) (sym (used_none (Past.trip past))) r.stored in
+    let M : List (Call CoordRecord) → Type 0 = λ cs. Passes (Past.trip past) (length cs) × Keeps (was_found past) tells seen core.store (after_calls coord_frame (Past.disk past) cs) (used (length cs) (Past.trip past)) in
+    let passes : Passes (Past.trip past) 0 = subst (λ t. Passes t 0) r.stored.behind.trip (passes_none core.store.trip r.stored.behind.armed) in
+    let kept : Keeps (was_found past) tells seen core.store (Past.disk past) (used 0 (Past.trip past)) = subst (λ (t : Option Trip). Keeps (was_found past) tells seen core.store (Past.disk past) t) (sym (used_none (Past.trip past))) r.stored in
     let m = subst M (sym none) (passes, kept) in
     ends_made test tells step core core seen seen terms past event x a r refl refl refl refl m.0 m.1 up

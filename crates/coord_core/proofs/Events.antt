@@ -25,6 +25,7 @@ use Rattle.actor_store.proofs.EndsLaws.{passes_none}
 use Rattle.actor_store.proofs.TripLaws.{trip_to-armed, trip_to-rules}
 use Rattle.coord_core.specs.declared.coord.CoordCore.{CoordCore}
 use Rattle.coord_tables.specs.Terms.{IsUsual, Terms, answer_of, line_of}
+use Rattle.coord_core.specs.Found.{was_found}
 use Rattle.coord_core.specs.Stands.{Stands, Steps}
 use Rattle.coord_core.specs.Steps.{CanStep, Says}
 use Rattle.coord_core.specs.Store.{Keeps}
@@ -140,7 +141,7 @@ module _ {P : Type 0} (test : P → Policy) (tells : Bool) where
 
   -- a halt
   pub halt_steps : (step : CoordStep) (old new : CoordCore P) (before after : Seen) (terms : Terms) (past : CoordPast) (cut kept : ℕ)
-      → Stands test tells old before terms past → old.store.standing ≡ Up → StopsWith coord_frame (Keeps tells after new.store) (Past.disk past) cut kept → is_up new.store.standing ≡ false
+      → Stands test tells old before terms past → old.store.standing ≡ Up → StopsWith coord_frame (Keeps (was_found past) tells after new.store) (Past.disk past) cut kept → is_up new.store.standing ≡ false
       → new.protocols ≡ old.protocols → new.policy ≡ old.policy → new.begun ≡ old.begun → step.answer ≡ Say.Stopped kept → step.sends ≡ []
       → Steps test tells step new after terms past (line_of terms past (Ev.Halt cut))
   halt_steps step old new before after terms past cut kept k up (stored, count) down sites policy begun said silent =

@@ -1,10 +1,8 @@
 -- A journal whose frames stand on a disk, all of them synced, is found there; and so is the one that a core that stopped leaves.
-use Rattle.std.proofs.Common.{◌≡◌, ℕ, ◌+◌, ◌-◌, ◌<◌, ◌^◌, Bool, true, false, cond, not, List, [], ◌∷◌, ◌++◌, length, map, refl, sym, ap, subst, ◌∙◌, arith}
-use Rattle.std.specs.Prelude.{reverse}
+use Rattle.std.proofs.Common.{◌≡◌, ℕ, ◌+◌, ◌-◌, ◌<◌, ◌^◌, Bool, true, false, IsTrue, cond, not, List, [], ◌∷◌, ◌++◌, length, map, refl, sym, ap, ◌∙◌, arith}
 use Rattle.std.specs.List.{AllByRecursion}
-use Rattle.std.proofs.lemmas.List.{append-nil, length-append}
+use Rattle.std.proofs.lemmas.List.{append-nil}
 use Rattle.mdb_base.specs.Words.{those}
-use Rattle.presumptions.specs.declared.Participant.{Participant}
 use Rattle.record_fields.specs.Sums.{a_committed_attempt, an_open_attempt}
 use Rattle.fed_rules.specs.declared.records.CoordRecord.{CoordRecord}
 use Rattle.fed_rules.specs.declared.records.CoordRecord.TheVariants as Rec
@@ -15,6 +13,7 @@ use Rattle.fed_rules.specs.CoordPast.{CoordPast}
 use Rattle.fed_rules.specs.CoordPast as Past
 use Rattle.fed_rules.specs.CoordRecords.{coord_frame, coord_payload}
 use Rattle.fed_rules.specs.Disk.{bytes_of, empty_disk}
+use Rattle.fed_rules.specs.Found.{Journal}
 use Rattle.fed_rules.specs.Policies.{Policy}
 use Rattle.fed_rules.specs.Reopened.{commit_read, coord_reads_as, coord_sum_read, end_read, initiation_read, is_open_in, long_coord, oldest}
 use Rattle.fed_rules.specs.Usable.{IsUsableCoordinator}
@@ -22,21 +21,16 @@ use Rattle.rules_laws.proofs.OpenedDisks.{expanded, opened_length, opened_record
 use Rattle.coord_laws.proofs.CoordOpened.{no_length, nothing_read, torn_short}
 use Rattle.journal_disk.specs.Disk.{Image, Seen}
 use Rattle.journal_disk.specs.Frames.{IsPayload}
-use Rattle.frame_journal.specs.Records.{AreRecordsOf, spelled}
-use Rattle.frame_journal.proofs.Keeping.{length-frames}
-use Rattle.journal_rules.specs.Stands.{StandsFor, record_frame}
-use Rattle.journal_rules.proofs.Journals.{all_standing, bytes_of_append}
-use Rattle.journal_rules.proofs.Keeps.{journal_stands, sizes_agree}
+use Rattle.frame_journal.specs.Records.{entry_frame, spelled_size}
 use Rattle.coord_journal.specs.Exact.{spelled_is_read}
 use Rattle.coord_journal.specs.Frames.{frame_has_size}
 use Rattle.coord_journal.specs.PayloadSizes.{payload_has_size}
 use Rattle.coord_journal.specs.Spelling.{IsRecord, reading, spelling}
-use Rattle.actor_store.specs.declared.store.Standing.{Standing}
 use Rattle.actor_store.specs.declared.store.Standing.TheVariants.{Down}
-use Rattle.actor_store.specs.Store.{IsFoundAs, IsInOrder, taken_as}
-use Rattle.actor_store.proofs.FoundLaws.{found_stands}
+use Rattle.actor_store.specs.Found.{IsFoundIn}
+use Rattle.actor_store.specs.Store.{IsFoundBehind, Old, stored}
+use Rattle.actor_store.proofs.FoundLaws.{found_in, left_in}
 use Rattle.mdb_base.proofs.EachLaws.{all_append}
-use Rattle.actor_store.proofs.StoreLaws.{sizes}
 use Rattle.coord_core.specs.declared.coord.CoordCore.{CoordCore}
 use Rattle.coord_core.specs.Found.{IsFoundOn, found_disk}
 use Rattle.coord_core.specs.Stands.{Stands}
@@ -97,60 +91,37 @@ oldest_is : (P : CoordRecord → Type 0) (newest : CoordRecord) (older : List Co
 oldest_is P first [] all = all.0
 oldest_is P newest (next ∷ older) all = oldest_is P next older all.1
 
--- the bytes stand for the disk that the journal stands for
-frames_found : (image : Image) (found : List CoordRecord) (torn : ℕ) → AreRecordsOf (record_frame spelling) image.bytes (reverse found) → length image.bytes ≡ bytes_of coord_frame found + torn
-    → image.synced ≡ length image.bytes → AllByRecursion IsRecord found → IsFoundAs spelling IsRecord coord_frame image (found_disk (record { records = found; torn = torn }))
-frames_found image [] torn whole held kept all =
-    let rules = found_disk (record { records = []; torn = torn }) in
-    let short = torn_short torn in
-    record {
-      stands = found_stands spelling coord_frame frame_has_size image rules [] [] whole tt (nothing_read torn) refl (omega (arith, short, held)) (omega (arith, short, held, kept));
-      written = subst (AllByRecursion IsRecord) (sym (nothing_read torn)) tt;
-      front = omega arith;
-      synced = refl;
-    }
-frames_found image (newest ∷ older) torn whole held kept all =
-    let rules = found_disk (record { records = newest ∷ older; torn = torn }) in
-    let under = coord_reads_as (oldest newest older) in
-    let fits : AllByRecursion Fits under = fit_first (oldest newest older) (oldest_is IsRecord newest older all) in
-    let parts : rules.records ≡ (newest ∷ older) ++ under =
-    opened_records coord_frame coord_reads_as newest older (long_coord torn) torn empty_disk (torn_short torn) no_length ∙ append-nil (expanded coord_reads_as newest older) ∙ split newest older in
-    let border : rules.trimmed ≡ bytes_of coord_frame under =
-    opened_trimmed coord_frame coord_reads_as newest older (long_coord torn) torn empty_disk ∙ ap (bytes_of coord_frame) (append-nil under) in
-    let long : rules.length ≡ bytes_of coord_frame (expanded coord_reads_as newest older ++ []) + torn =
-    opened_length coord_frame coord_reads_as newest older (long_coord torn) torn empty_disk (torn_short torn) no_length in
-    let sums : bytes_of coord_frame (expanded coord_reads_as newest older ++ []) ≡ bytes_of coord_frame (newest ∷ older) + bytes_of coord_frame under =
-    ap (bytes_of coord_frame) (append-nil (expanded coord_reads_as newest older) ∙ split newest older) ∙ bytes_of_append coord_frame (newest ∷ older) under in
-    let synced : rules.synced ≡ rules.length = opened_synced coord_frame coord_reads_as newest older (long_coord torn) torn empty_disk in
-    record {
-      stands = found_stands spelling coord_frame frame_has_size image rules (newest ∷ older) under whole (all_payloads under fits) parts border
-          (omega (arith, long, sums, border, held)) (omega (arith, synced, long, sums, border, held, kept));
-      written = subst (AllByRecursion IsRecord) (sym parts) (all_append IsRecord (newest ∷ older) under all (all_records under fits));
-      front = omega (arith, border, synced, long, sums);
-      synced = synced;
-    }
-
--- so the journal is found, where it is usable
-pub found_on : (image : Image) (protocols : List Participant) (found : List CoordRecord) (torn : ℕ) → AreRecordsOf (record_frame spelling) image.bytes (reverse found)
-    → length image.bytes ≡ bytes_of coord_frame found + torn → image.synced ≡ length image.bytes → AllByRecursion IsRecord found → IsUsableCoordinator protocols found
-    → IsFoundOn image protocols (record { records = found; torn = torn })
-found_on image protocols found torn whole held kept all usable = record { stands = frames_found image found torn whole held kept all; usable = usable }
+-- behind some entries the bytes stand for the disk that the journal stands for
+pub disk_found : (image : Image) (journal : Journal CoordRecord) → IsFoundIn spelling IsRecord image journal → (old : Old CoordRecord) × IsFoundBehind spelling IsRecord coord_frame image old (found_disk journal)
+disk_found image journal f = by_records journal.records journal.torn f
+  where
+    by_records : (found : List CoordRecord) (torn : ℕ) → IsFoundIn spelling IsRecord image (record { records = found; torn = torn })
+        → (old : Old CoordRecord) × IsFoundBehind spelling IsRecord coord_frame image old (found_disk (record { records = found; torn = torn }))
+    by_records [] torn g =
+        let none : Journal CoordRecord = record { records = []; torn = torn } in
+        let short = torn_short torn in
+        found_in spelling IsRecord coord_frame frame_has_size image none (found_disk none) [] g tt tt (nothing_read torn) refl (omega (arith, short, ap (bytes_of coord_frame) (nothing_read torn))) refl
+    by_records (newest ∷ older) torn g =
+        let those : Journal CoordRecord = record { records = newest ∷ older; torn = torn } in
+        let rules = found_disk those in
+        let under = coord_reads_as (oldest newest older) in
+        let fits : AllByRecursion Fits under = fit_first (oldest newest older) (oldest_is IsRecord newest older g.in_range) in
+        let parts : rules.records ≡ (newest ∷ older) ++ under =
+        opened_records coord_frame coord_reads_as newest older (long_coord torn) torn empty_disk (torn_short torn) no_length ∙ append-nil (expanded coord_reads_as newest older) ∙ split newest older in
+        let border : rules.trimmed ≡ bytes_of coord_frame under =
+        opened_trimmed coord_frame coord_reads_as newest older (long_coord torn) torn empty_disk ∙ ap (bytes_of coord_frame) (append-nil under) in
+        let long : rules.length ≡ bytes_of coord_frame (expanded coord_reads_as newest older ++ []) + torn =
+        opened_length coord_frame coord_reads_as newest older (long_coord torn) torn empty_disk (torn_short torn) no_length in
+        let same : bytes_of coord_frame (expanded coord_reads_as newest older ++ []) ≡ bytes_of coord_frame rules.records =
+        ap (bytes_of coord_frame) (append-nil (expanded coord_reads_as newest older) ∙ split newest older ∙ sym parts) in
+        let synced : rules.synced ≡ rules.length = opened_synced coord_frame coord_reads_as newest older (long_coord torn) torn empty_disk in
+        found_in spelling IsRecord coord_frame frame_has_size image those rules under g (all_records under fits) (all_payloads under fits) parts border (long ∙ ap (λ (n : ℕ). n + torn) same) synced
 
 -- what a core that stopped has on its disk is found there again, where it is usable
-pub left_found : {P : Type 0} (test : P → Policy) (tells : Bool) (core : CoordCore P) (seen : Seen) (terms : Terms) (past : CoordPast) → Stands test tells core seen terms past → core.store.standing ≡ Down
-    → IsUsableCoordinator terms.protocols (Past.journal past)
-    → IsFoundOn seen.image terms.protocols (record { records = Past.journal past; torn = length seen.image.bytes - bytes_of coord_frame (Past.journal past) })
-left_found test tells core seen terms past k down usable =
-    let rules = Past.disk past in
-    let those = Past.journal past in
-    let S : Standing → Type 0 = λ s. StandsFor spelling coord_frame (taken_as s seen.image) rules in
-    let O : Standing → Type 0 = λ s. IsInOrder s core.store.journal rules in
-    let here : StandsFor spelling coord_frame seen.image rules = subst S down k.stored.stands in
-    let settled : rules.synced ≡ rules.length = subst O down k.stored.in_order in
-    let n = sizes spelling reading IsRecord coord_frame frame_has_size spelled_is_read seen.image rules here in
-    let whole = journal_stands spelling coord_frame frame_has_size seen.image rules here in
-    let long : length seen.image.bytes ≡ length (spelled (record_frame spelling) (reverse those)) + length whole.rest = ap length whole.parts ∙ length-append (spelled (record_frame spelling) (reverse those)) whole.rest in
-    let counted = length-frames (map (record_frame spelling) (reverse those)) in
-    let size = sizes_agree spelling coord_frame frame_has_size those in
-    let torn = length seen.image.bytes - bytes_of coord_frame those in
-    found_on seen.image terms.protocols those torn whole (omega (arith, long, counted, size)) (omega (arith, n.0, n.1, settled)) (all_standing IsRecord coord_frame rules.trimmed rules.records k.stored.written) usable
+pub left_found : {P : Type 0} (test : P → Policy) (tells : Bool) (core : CoordCore P) (seen : Seen) (terms : Terms) (past : CoordPast) → IsTrue tells → Stands test tells core seen terms past
+    → core.store.standing ≡ Down → IsUsableCoordinator terms.protocols (Past.journal past)
+    → IsFoundOn seen.image terms.protocols (record { records = Past.journal past; torn = length seen.image.bytes - spelled_size (entry_frame spelling) core.store.journal.entries })
+left_found test tells core seen terms past told k down usable = record {
+  stands = left_in spelling reading IsRecord coord_frame frame_has_size spelled_is_read tells told seen (stored core.store) k.stored.old (Past.disk past) (Past.trip past) k.stored.behind down;
+  usable = usable;
+}

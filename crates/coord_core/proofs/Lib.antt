@@ -7,6 +7,7 @@ pub mod Committing
 pub mod Endings
 pub mod Events
 pub mod FoundDisks
+pub mod FoundPasts
 pub mod New
 pub mod Opened
 pub mod Roomed

@@ -1,5 +1,5 @@
 -- What a new coordinator stands for.
-use Rattle.std.proofs.Common.{◌≡◌, ℕ, Bool, not, None, List, [], refl, sym, ap, subst}
+use Rattle.std.proofs.Common.{◌≡◌, ℕ, Bool, not, None, List, [], refl, sym, ap, subst, false}
 use Rattle.mdb_base.specs.declared.names.Tx.{Tx}
 use Rattle.mdb_base.specs.Rising.{IsRising}
 use Rattle.mdb_base.specs.Words.{Each}
@@ -17,6 +17,7 @@ use Rattle.coord_journal.specs.Spelling.{spelling, reading, IsRecord}
 use Rattle.actor_store.specs.declared.store.Standing.{Standing}
 use Rattle.actor_store.specs.declared.store.Standing.TheVariants.{Up}
 use Rattle.actor_store.specs.Store.{Stored, Keeps, is_up, stored}
+use Rattle.actor_store.proofs.FromLaws.{from_none}
 use Rattle.actor_store.proofs.NewLaws.{new_keeps}
 use Rattle.coord_core.specs.declared.coord.CoordCore.{CoordCore}
 use Rattle.coord_tables.specs.Trees.{noted}
@@ -32,8 +33,8 @@ pub new_stands : {P : Type 0} (test : P → Policy) (core : CoordCore P) (protoc
     → (tells : Bool) (seen : Seen) → IsEmptyDisk tells seen → Stands test tells core seen (record { protocols = protocols; policy = test core.policy }) []
 new_stands test core protocols rising declared sites tables begun store tells seen empty =
     let terms : Terms = record { protocols = protocols; policy = test core.policy } in
-    let kept = subst (λ (s : Stored CoordRecord). Keeps spelling IsRecord coord_frame tells seen s empty_disk None) (sym store)
-    (new_keeps spelling reading IsRecord coord_frame frame_has_size spelled_is_read tells seen empty.told empty.empty empty.bytes empty.sound) in
+    let kept = from_none false (subst (λ (s : Stored CoordRecord). Keeps spelling IsRecord coord_frame tells seen s empty_disk None) (sym store)
+    (new_keeps spelling reading IsRecord coord_frame frame_has_size spelled_is_read tells seen empty.told empty.empty empty.bytes empty.sound)) in
     let standing : core.store.standing ≡ Up = ap (λ (s : Stored CoordRecord). s.standing) store in
     record {
       holds = record {
@@ -41,8 +42,8 @@ new_stands test core protocols rising declared sites tables begun store tells se
         policy = refl;
         sound = record { rising = rising; declared = declared; made = tt; alone = nothing_alone; in_range = tt };
         records = kept_records tells seen core.store empty_disk None kept;
-        trip = kept.trip;
-        armed = kept.armed;
+        trip = kept.behind.trip;
+        armed = kept.behind.armed;
         standing = sym (ap (λ s. not (is_up s)) standing);
         tables = subst (λ (s : Standing). TablesStand core.tables s terms []) (sym standing) (nothing_served core.tables terms tables);
         begun = λ tx. ap (λ (cs : List (Tx × ℕ)). noted cs tx) begun;

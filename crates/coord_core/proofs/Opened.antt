@@ -1,5 +1,5 @@
 -- A core that goes on from a journal that was found on its disk stands for the past that the journal stands for.
-use Rattle.std.proofs.Common.{◌≡◌, ℕ, ◌+◌, ◌-◌, ◌<◌, ◌≤◌, ◌^◌, Bool, not, None, List, [], ◌∷◌, ◌++◌, length, map, refl, sym, ap, subst, ◌∙◌, inl, arith, Result, Ok, Err, IsErr, IsErrAnd}
+use Rattle.std.proofs.Common.{◌≡◌, ℕ, ◌<◌, ◌≤◌, Bool, None, List, [], ◌∷◌, map, refl, sym, ap, subst, ◌∙◌, inl, arith, Result, Ok, Err, IsErr, IsErrAnd}
 use Rattle.std.specs.Result.{IsErrOf}
 use Rattle.std.specs.Prelude.{reverse, All}
 use Rattle.std.specs.List.{AllByRecursion}
@@ -31,7 +31,6 @@ use Rattle.fed_rules.specs.Disk as DiskWords
 use Rattle.fed_rules.specs.Found.{Journal}
 use Rattle.fed_rules.specs.Policies.{Policy}
 use Rattle.fed_rules.specs.Reopened.{coord_read, coord_reads_as, long_coord, opened_coordinator}
-use Rattle.fed_rules.specs.Usable as Usable
 use Rattle.rules_laws.proofs.OpenedDisks.{opened_journal}
 use Rattle.coord_laws.specs.FoundCoordinators.{MembersRise, RiseBySite}
 use Rattle.coord_laws.specs.Pasts.{IsOpened, NameDeclared}
@@ -46,9 +45,9 @@ use Rattle.actor_store.specs.declared.errors.StepErr.TheVariants as Err_is
 use Rattle.actor_store.specs.declared.store.Standing.TheVariants.{Down}
 use Rattle.actor_store.specs.Store.{is_up}
 use Rattle.coord_core.specs.declared.coord.CoordCore.{CoordCore}
-use Rattle.coord_core.specs.Found.{IsFoundOn, found_disk}
+use Rattle.coord_core.specs.Found.{IsFoundOn, found_disk, was_found}
 use Rattle.coord_core.specs.Stands.{Stands}
-use Rattle.coord_core.specs.Store.{Keeps, Store}
+use Rattle.coord_core.specs.Store.{Keeps}
 use Rattle.coord_core.proofs.Backs.{stands_down}
 use Rattle.coord_core.proofs.Still.{kept_records}
 use Rattle.coord_tables.specs.Found.{attempts_in, found_attempts}
@@ -108,16 +107,6 @@ small_range (r ∷ rs) f = (each_map IsTid (λ (tid : Tid). tid.attempt < 32) (�
 pub attempts_small : (rs : List CoordRecord) → AllByRecursion IsRecord rs → All (λ (r : CoordRecord). Each (λ (tid : Tid). tid.attempt < 32) (attempts_in r)) rs
 attempts_small rs f = All-from_recursion (λ (r : CoordRecord). Each (λ (tid : Tid). tid.attempt < 32) (attempts_in r)) rs (small_range rs f)
 
--- the records are among those that they are read as
-all_of_read : (P : CoordRecord → Type 0) (rs : List CoordRecord) → AllByRecursion P (Usable.coord_read rs) → AllByRecursion P rs
-all_of_read P [] f = tt
-all_of_read P (Rec.Initiation t ms ∷ rs) f = (f.0, all_of_read P rs f.1)
-all_of_read P (Rec.Commit t ks ∷ rs) f = (f.0, all_of_read P rs f.1)
-all_of_read P (Rec.Abort t ms ∷ rs) f = (f.0, all_of_read P rs f.1)
-all_of_read P (Rec.End t ∷ rs) f = (f.0, all_of_read P rs f.1)
-all_of_read P (Rec.Checkpoint sum ∷ []) f = (f.0, tt)
-all_of_read P (Rec.Checkpoint sum ∷ r ∷ rs) f = (f.0, all_of_read P (r ∷ rs) f.1)
-
 -- ---- the disk
 
 -- the journal stands on the disk that it stands for
@@ -139,7 +128,7 @@ module _ (image : Image) (protocols : List Participant) (journal : Journal Coord
   rise = rise_all protocols rising
 
   in_range : AllByRecursion IsRecord journal.records
-  in_range = all_of_read IsRecord journal.records (subst (AllByRecursion IsRecord) (read_is journal.records journal.torn) found.stands.written)
+  in_range = found.stands.in_range
 
   members : Each MembersRise journal.records
   members = members_rise journal.records in_range
@@ -182,14 +171,14 @@ module _ (image : Image) (protocols : List Participant) (journal : Journal Coord
 
   -- the core stands for it
   pub stands_opened : {P : Type 0} (test : P → Policy) (tells : Bool) (core : CoordCore P) (seen : Seen) → Each (λ (m : Participant). IsSite m.site) protocols → core.protocols ≡ protocols
-      → Keeps tells seen core.store (found_disk journal) None → core.store.standing ≡ Down → ((tx : Tx) → noted core.begun.listed tx ≡ found_attempts tx (records core.store.journal))
+      → Keeps (was_found past) tells seen core.store (found_disk journal) None → core.store.standing ≡ Down → ((tx : Tx) → noted core.begun.listed tx ≡ found_attempts tx (records core.store.journal))
       → Stands test tells core seen (record { protocols = protocols; policy = test core.policy }) past
   stands_opened test tells core seen sites same kept down begun =
       let terms : Terms = record { protocols = protocols; policy = test core.policy } in
       let here : records core.store.journal ≡ reverse journal.records = kept_records tells seen core.store (found_disk journal) None kept ∙ ap reverse (found_journal journal) in
       stands_down test tells core seen terms past (sound_opened (test core.policy) sites) same refl
       (λ tx. begun tx ∙ ap (found_attempts tx) here ∙ attempts_found protocols journal declared found.usable.sums tx)
-      (subst (λ (d : Disk CoordRecord). Keeps tells seen core.store d None) (sym disk_is) kept) (ap is_up down) refl
+      (subst (λ (d : Disk CoordRecord). Keeps (was_found past) tells seen core.store d None) (sym disk_is) kept) (ap is_up down) refl
 
 error_is : {B : Type 0} (e f : StepErr) → IsErrOf {T = B} (Err e) f → e ≡ f
 error_is {B} e f same = let here : (let r : Result B StepErr = Err e in r) ≡ Err f = same in cc

@@ -1,5 +1,5 @@
 -- The line that sends what is outstanding, before its disk calls.
-use Rattle.std.proofs.Common.{◌≡◌, Bool, false, cond, ◌&&◌, ◌||◌, option_to_list, Option, Some, None, List, [], ◌∷◌, map, refl, sym, ap, subst, ◌∙◌}
+use Rattle.std.proofs.Common.{◌≡◌, Bool, false, cond, ◌&&◌, option_to_list, Option, Some, None, List, ◌∷◌, map, refl, sym, ap, ◌∙◌}
 use Rattle.mdb_base.specs.declared.names.Tid.{Tid}
 use Rattle.mdb_base.specs.Words.{some_of}
 use Rattle.fed_rules.specs.declared.events.CoordEvent.{CoordEvent}
@@ -19,6 +19,7 @@ use Rattle.coord_tables.specs.Trees.{noted}
 use Rattle.coord_core.specs.Pending.{IsPending}
 use Rattle.coord_tables.specs.declared.replies.Taken.{Taken}
 use Rattle.coord_tables.specs.Sending.{IsSending, initiation_of, says_sent}
+use Rattle.coord_core.specs.Found.{was_found}
 use Rattle.coord_core.specs.Stands.{Stands}
 use Rattle.coord_core.specs.Store.{Keeps}
 use Rattle.coord_tables.specs.Tables.{IsServing}
@@ -38,7 +39,7 @@ module _ (terms : Terms) (past : CoordPast) (event : CoordEvent) (tid : Tid) (ta
   pub sent_pending : {P : Type 0} (test : P → Policy) (tells : Bool) (step : CoordStep) (old new : CoordCore P) (before after : Seen) (entry : Option CoordRecord)
       → Stands test tells old before terms past → b ≡ (some_of is_prepare dues && lacks_initiation terms.protocols past tid) → entry ≡ initiation_of terms.protocols past tid dues
       → step.answer ≡ says_sent b defers → step.sends ≡ map (send_due tid) dues
-      → Keeps tells after new.store (Past.disk past) (Past.trip past) → is_down past ≡ false → new.protocols ≡ old.protocols → new.policy ≡ old.policy → new.begun ≡ old.begun
+      → Keeps (was_found past) tells after new.store (Past.disk past) (Past.trip past) → is_down past ≡ false → new.protocols ≡ old.protocols → new.policy ≡ old.policy → new.begun ≡ old.begun
       → IsServing new.tables terms (x ∷ past) → IsPending test tells (forced (option_to_list entry)) step new after terms past event x
   sent_pending test tells step old new before after entry k is entry_is said sends stored up sites policy begun serving = record {
     answered = record {

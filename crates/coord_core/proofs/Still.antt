@@ -1,5 +1,5 @@
 -- What a core stands for after a line that says nothing new, which may set a trip, and after a stop.
-use Rattle.std.proofs.Common.{◌≡◌, Bool, true, false, not, Option, None, List, [], ◌∷◌, length, map, refl, sym, ap, ap₂, subst, ◌∙◌}
+use Rattle.std.proofs.Common.{◌≡◌, Bool, true, false, not, Option, None, List, [], ◌∷◌, length, refl, sym, ap, ap₂, subst, ◌∙◌}
 use Rattle.std.specs.Prelude.{reverse}
 use Rattle.std.proofs.lemmas.Bool.{cond-false}
 use Rattle.mdb_base.specs.declared.names.Tx.{Tx}
@@ -17,15 +17,16 @@ use Rattle.fed_rules.specs.Policies.{Policy}
 use Rattle.coord_laws.specs.Pasts.{IsNumbered}
 use Rattle.journal_disk.specs.Disk.{Seen}
 use Rattle.frame_journal.specs.Journal.{records}
-use Rattle.frame_journal.specs.Records.{as_written, values}
 use Rattle.actor_store.specs.declared.store.SetTrip.{SetTrip}
 use Rattle.actor_store.specs.declared.store.Standing.{Standing}
 use Rattle.actor_store.specs.declared.store.Standing.TheVariants.{Up, Down, Failing}
 use Rattle.actor_store.specs.Store.{IsArmed, is_up, trip_of_rules}
 use Rattle.actor_store.proofs.EndsLaws.{used_none}
+use Rattle.actor_store.proofs.FromLaws.{from_later, from_trip}
 use Rattle.coord_core.specs.declared.coord.CoordCore.{CoordCore}
 use Rattle.coord_tables.specs.declared.tables.Tables.{Tables}
 use Rattle.coord_tables.specs.Trees.{noted}
+use Rattle.coord_core.specs.Found.{opens, was_found}
 use Rattle.coord_core.specs.Stands.{Holds, Stands, TablesStand}
 use Rattle.coord_core.specs.Store.{Keeps, Store}
 use Rattle.coord_tables.specs.Tables.{IsServing}
@@ -33,13 +34,9 @@ use Rattle.coord_tables.specs.Terms.{Terms, IsSound, line_of}
 use Rattle.coord_tables.proofs.Lines.{IsCalm}
 use Rattle.coord_tables.proofs.Serving.{attempts_same, range_same, serving_calm, sound_more}
 
-written_values : (entries : List CoordRecord) → values (map as_written entries) ≡ entries
-written_values [] = refl
-written_values (entry ∷ entries) = ap (λ es. entry ∷ es) (written_values entries)
-
 -- a store has the records that stand on its disk
-pub kept_records : (tells : Bool) (seen : Seen) (store : Store) (rules : Disk CoordRecord) (trip : Option Trip) → Keeps tells seen store rules trip → records store.journal ≡ reverse (DiskWords.journal coord_frame rules)
-kept_records tells seen store rules trip k = ap values k.records ∙ written_values (reverse (DiskWords.journal coord_frame rules))
+pub kept_records : {found : Bool} (tells : Bool) (seen : Seen) (store : Store) (rules : Disk CoordRecord) (trip : Option Trip) → Keeps found tells seen store rules trip → records store.journal ≡ reverse (DiskWords.journal coord_frame rules)
+kept_records tells seen store rules trip k = k.behind.are
 
 -- the line that a stop ends
 abbrev pub stop_line : CoordPast → CoordEvent → List (Call CoordRecord) → CoordHappening
@@ -71,7 +68,7 @@ module _ {P : Type 0} (test : P → Policy) (tells : Bool) where
   pub stands_stop : (core : CoordCore P) (seen : Seen) (terms : Terms) (past : CoordPast) (event : CoordEvent) (calls : List (Call CoordRecord))
       → line_of terms past event ≡ stop_line past event calls → IsNumbered past event → IsSound terms past
       → core.protocols ≡ terms.protocols → test core.policy ≡ terms.policy → ((tx : Tx) → noted core.begun.listed tx ≡ attempts_of past tx)
-      → Keeps tells seen core.store (after_calls coord_frame (Past.disk past) calls) None → is_up core.store.standing ≡ false
+      → Keeps (was_found past) tells seen core.store (after_calls coord_frame (Past.disk past) calls) None → is_up core.store.standing ≡ false
       → Stands test tells core seen terms (stop_line past event calls ∷ past)
   stands_stop core seen terms past event calls is numbered sound sites policy begun kept down = record {
     holds = record {
@@ -79,13 +76,13 @@ module _ {P : Type 0} (test : P → Policy) (tells : Bool) where
       policy = policy;
       sound = sound_more terms past event (stop_line past event calls) sound is numbered sound.in_range;
       records = kept_records tells seen core.store (after_calls coord_frame (Past.disk past) calls) None kept;
-      trip = kept.trip;
-      armed = kept.armed;
+      trip = kept.behind.trip;
+      armed = kept.behind.armed;
       standing = sym (ap not down);
       tables = off core.store.standing down;
       begun = begun;
     };
-    stored = kept;
+    stored = from_later (opens (stop_line past event calls)) kept;
   } where
     off : (up : Standing) → is_up up ≡ false → TablesStand core.tables up terms (stop_line past event calls ∷ past)
     off Up e = cc
@@ -104,19 +101,9 @@ module _ {P : Type 0} (test : P → Policy) (tells : Bool) where
       ap₂ (λ e (cs : List (Call CoordRecord)). set (trip_of e) (used (length cs) (Past.trip past))) (sym heard) (sym c.calls)
       ∙ sym (cond-false _ _ _ c.runs) in
       let zeroed : set (trip_of event) (Past.trip past) ≡ set (trip_of event) (used 0 (Past.trip past)) = ap (set (trip_of event)) (sym (used_none (Past.trip past))) in
-      let moved : Keeps tells seen (record old.store { trip = to }) (Past.disk past) (Past.trip (x ∷ past)) = record {
-        kept_on = k.stored.kept_on;
-        stands = k.stored.stands;
-        records = k.stored.records;
-        are_records = k.stored.are_records;
-        written = k.stored.written;
-        front = k.stored.front;
-        trip = sets ∙ zeroed ∙ in_force;
-        armed = armed;
-        in_order = k.stored.in_order;
-      } in
-      let A : Store → Type 0 = λ s. Keeps tells seen s (Past.disk past) (Past.trip (x ∷ past)) in
-      let B : Disk CoordRecord → Type 0 = λ d. Keeps tells seen new.store d (Past.trip (x ∷ past)) in
+      let moved : Keeps (was_found past) tells seen (record old.store { trip = to }) (Past.disk past) (Past.trip (x ∷ past)) = from_trip k.stored to (sets ∙ zeroed ∙ in_force) armed in
+      let A : Store → Type 0 = λ s. Keeps (was_found past) tells seen s (Past.disk past) (Past.trip (x ∷ past)) in
+      let B : Disk CoordRecord → Type 0 = λ d. Keeps (was_found past) tells seen new.store d (Past.trip (x ∷ past)) in
       let kept = subst B (sym disk) (subst A (sym store) moved) in
       let standing : new.store.standing ≡ old.store.standing = ap (λ (s : Store). s.standing) store in
       let T : Tables → Standing → Type 0 = λ t s. TablesStand t s terms (x ∷ past) in
@@ -126,13 +113,13 @@ module _ {P : Type 0} (test : P → Policy) (tells : Bool) where
           policy = ap test policy ∙ k.holds.policy;
           sound = sound_more terms past event x k.holds.sound is numbered (range_same past x c.begun k.holds.sound.in_range);
           records = kept_records tells seen new.store (Past.disk (x ∷ past)) (Past.trip (x ∷ past)) kept;
-          trip = kept.trip;
-          armed = kept.armed;
+          trip = kept.behind.trip;
+          armed = kept.behind.armed;
           standing = cond-false _ _ _ c.runs ∙ cond-false _ _ _ c.stays ∙ k.holds.standing ∙ ap (λ s. not (is_up s)) (sym standing);
           tables = subst (λ t. T t new.store.standing) (sym tables) (subst (λ s. T old.tables s) (sym standing) (still old.store.standing k.holds.tables));
           begun = λ tx. ap (λ b. noted b.listed tx) begun ∙ k.holds.begun tx ∙ sym (attempts_same past x c.begun tx);
         };
-        stored = kept;
+        stored = from_later (opens x) kept;
       } where
         still : (s : Standing) → TablesStand old.tables s terms past → TablesStand old.tables s terms (x ∷ past)
         still Up t = serving_calm old.tables terms past x c t

@@ -1,13 +1,12 @@
 -- The steps of votes.
-use Rattle.std.proofs.Common.{◌≡◌, ℕ, ◌<◌, Bool, false, ◌&&◌, ◌||◌, Option, Some, None, [], ◌∷◌, refl, sym, ap, subst, ◌∙◌}
-use Rattle.std.proofs.lemmas.Bool.{false≢true}
+use Rattle.std.proofs.Common.{◌≡◌, ℕ, Bool, false, Option, Some, None, [], refl, sym, ap, subst, ◌∙◌}
 use Rattle.mdb_base.specs.declared.names.SiteId.{SiteId}
 use Rattle.mdb_base.specs.declared.names.Tid.{Tid}
 use Rattle.mdb_base.specs.Words.{holds_of}
 use Rattle.fed_rules.specs.declared.answers.Answer.TheVariants as Say
 use Rattle.fed_rules.specs.declared.events.CoordStep.{CoordStep}
 use Rattle.fed_rules.specs.Happenings.{quiet}
-use Rattle.fed_rules.specs.Coord.{answered, vote_counts}
+use Rattle.fed_rules.specs.Coord.{vote_counts}
 use Rattle.fed_rules.specs.CoordPast.{CoordPast, standing}
 use Rattle.fed_rules.specs.CoordPast as Past
 use Rattle.fed_rules.specs.Policies.{Policy}
@@ -20,6 +19,7 @@ use Rattle.protocol_table.specs.Attempts.{changed}
 use Rattle.protocol_table.specs.Ends as ends
 use Rattle.coord_core.specs.declared.coord.CoordCore.{CoordCore}
 use Rattle.coord_tables.specs.Trees.{noted}
+use Rattle.coord_core.specs.Found.{was_found}
 use Rattle.coord_core.specs.Stands.{Stands, Steps}
 use Rattle.coord_core.specs.Store.{Keeps}
 use Rattle.coord_tables.specs.Terms.{Terms, line_of}
@@ -68,7 +68,7 @@ vote_steps test tells step old new seen terms past site tid ticket k up counted 
         sends = silent;
       };
       ready = record {
-        stored = subst (λ st. Keeps tells seen st (Past.disk past) (Past.trip past)) (sym store) k.stored;
+        stored = subst (λ st. Keeps (was_found past) tells seen st (Past.disk past) (Past.trip past)) (sym store) k.stored;
         up = up_is test tells old terms past k.holds up;
         protocols = sites ∙ k.holds.protocols;
         policy = ap test policy ∙ k.holds.policy;

@@ -1,5 +1,5 @@
 -- The step of a wait.
-use Rattle.std.proofs.Common.{◌≡◌, ℕ, Bool, true, Some, [], ◌∷◌, refl, sym, ap, subst, ◌∙◌}
+use Rattle.std.proofs.Common.{◌≡◌, ℕ, Bool, true, Some, [], refl, sym, ap, subst, ◌∙◌}
 use Rattle.mdb_base.specs.declared.names.SiteId.{SiteId}
 use Rattle.mdb_base.specs.declared.names.Tid.{Tid}
 use Rattle.mdb_base.specs.declared.replies.Reply.{Reply}
@@ -13,10 +13,10 @@ use Rattle.fed_rules.specs.CoordPast as Past
 use Rattle.fed_rules.specs.Policies.{Policy}
 use Rattle.journal_disk.specs.Disk.{Seen}
 use Rattle.actor_store.specs.declared.store.Standing.TheVariants.{Up}
-use Rattle.global_exec.specs.Counted.{counts}
 use Rattle.global_exec.specs.Pasts.{IsAmong}
 use Rattle.coord_core.specs.declared.coord.CoordCore.{CoordCore}
 use Rattle.coord_tables.specs.Trees.{noted}
+use Rattle.coord_core.specs.Found.{was_found}
 use Rattle.coord_core.specs.Store.{Keeps}
 use Rattle.coord_tables.specs.declared.replies.Taken.{Taken}
 use Rattle.coord_tables.specs.Replies.{CountsReply, reply_event}
@@ -28,7 +28,7 @@ use Rattle.coord_tables.proofs.Dids.{did_event, did_waits}
 use Rattle.coord_core.proofs.Endings.{pending_quiet}
 use Rattle.coord_tables.proofs.Sent.{prints_calm}
 use Rattle.coord_core.proofs.Still.{serves, up_is}
-use Rattle.coord_tables.proofs.Waits.{wait_line, wait_serving}
+use Rattle.coord_tables.proofs.Waits.{wait_serving}
 
 -- the line of a wait
 pub wait_steps : {P : Type 0} (test : P → Policy) (tells : Bool) (step : CoordStep) (old new : CoordCore P) (seen : Seen) (terms : Terms) (past : CoordPast) (site : SiteId) (tid : Tid) (epoch n : ℕ) (by : Tid)
@@ -52,7 +52,7 @@ wait_steps test tells step old new seen terms past site tid epoch n by k up amon
         sends = silent;
       };
       ready = record {
-        stored = subst (λ st. Keeps tells seen st (Past.disk past) (Past.trip past)) (sym store) k.stored;
+        stored = subst (λ st. Keeps (was_found past) tells seen st (Past.disk past) (Past.trip past)) (sym store) k.stored;
         up = up_is test tells old terms past k.holds up;
         protocols = sites ∙ k.holds.protocols;
         policy = ap test policy ∙ k.holds.policy;

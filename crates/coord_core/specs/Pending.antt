@@ -16,6 +16,7 @@ use Rattle.coord_laws.specs.Pasts.{IsNumbered}
 use Rattle.journal_disk.specs.Disk.{Seen}
 use Rattle.coord_core.specs.declared.coord.CoordCore.{CoordCore}
 use Rattle.coord_tables.specs.Trees.{noted}
+use Rattle.coord_core.specs.Found.{was_found}
 use Rattle.coord_core.specs.Store.{Keeps}
 use Rattle.coord_tables.specs.Tables.{IsServing}
 use Rattle.coord_tables.specs.Terms.{Terms, IsSound, IsUsual, answer_of}
@@ -33,7 +34,7 @@ pub record IsAnswered (step : CoordStep) (terms : Terms) (past : CoordPast) (eve
 
 -- the core's tables stand for the line, and its store for the lines before it
 pub record IsReady {P : Type 0} (test : P → Policy) (tells : Bool) (core : CoordCore P) (seen : Seen) (terms : Terms) (past : CoordPast) (x : CoordHappening) : Type 0 where
-  pub stored : Keeps tells seen core.store (Past.disk past) (Past.trip past)
+  pub stored : Keeps (was_found past) tells seen core.store (Past.disk past) (Past.trip past)
   pub up : is_down past ≡ false
   pub protocols : core.protocols ≡ terms.protocols
   pub policy : test core.policy ≡ terms.policy

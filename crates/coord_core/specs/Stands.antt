@@ -20,6 +20,7 @@ use Rattle.actor_store.specs.Store.{IsArmed, is_up, trip_of_rules}
 use Rattle.coord_core.specs.declared.coord.CoordCore.{CoordCore}
 use Rattle.coord_tables.specs.declared.tables.Tables.{Tables}
 use Rattle.coord_tables.specs.Trees.{noted}
+use Rattle.coord_core.specs.Found.{was_found}
 use Rattle.coord_core.specs.Store.{Keeps}
 use Rattle.coord_tables.specs.Tables.{IsServing}
 use Rattle.coord_tables.specs.Terms.{Terms, IsSound, line_of}
@@ -45,7 +46,7 @@ pub record Holds {P : Type 0} (test : P → Policy) (core : CoordCore P) (terms 
 -- the core, with this disk, stands for this past of a coordinator on these terms
 pub record Stands {P : Type 0} (test : P → Policy) (tells : Bool) (core : CoordCore P) (seen : Seen) (terms : Terms) (past : CoordPast) : Type 0 where
   pub holds : Holds test core terms past
-  pub stored : Keeps tells seen core.store (Past.disk past) (Past.trip past)
+  pub stored : Keeps (was_found past) tells seen core.store (Past.disk past) (Past.trip past)
 
 -- the step says and sends what the line does, but that another cycle may be printed, and the core with this disk stands for the line added
 pub record Steps {P : Type 0} (test : P → Policy) (tells : Bool) (step : CoordStep) (core : CoordCore P) (seen : Seen) (terms : Terms) (past : CoordPast) (x : CoordHappening) : Type 0 where

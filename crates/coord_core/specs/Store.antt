@@ -13,6 +13,10 @@ use Rattle.actor_store.specs.Store as actor
 abbrev pub Store : Type 0
 Store = ActorStore CoordRecord CoordFormat
 
--- on this disk the store stands for the disk of the rules with this trip in force
-abbrev pub Keeps : Bool → Seen → Store → Disk CoordRecord → Option Trip → Type 0
-Keeps tells seen store rules in_force = actor.Keeps spelling IsRecord coord_frame tells seen (actor.stored store) rules in_force
+-- on this disk the store stands for the disk of the rules with this trip in force, behind these entries that were found
+abbrev pub KeepsBehind : Bool → Seen → Store → actor.Old CoordRecord → Disk CoordRecord → Option Trip → Type 0
+KeepsBehind tells seen store old rules in_force = actor.KeepsBehind spelling IsRecord coord_frame tells seen (actor.stored store) old rules in_force
+
+-- behind some that were found, or behind none where the coordinator began with an empty disk
+abbrev pub Keeps : Bool → Bool → Seen → Store → Disk CoordRecord → Option Trip → Type 0
+Keeps found tells seen store rules in_force = actor.KeepsFrom spelling IsRecord coord_frame found tells seen (actor.stored store) rules in_force

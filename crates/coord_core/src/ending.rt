@@ -9,10 +9,10 @@ ghost use Rattle.std.specs.Prelude.{Option as OptionOf};
 ghost use Rattle.journal_disk.specs.Frames.{IsPayload};
 ghost use Rattle.frame_journal.specs.Journal.{HasRoom, written_size};
 ghost use Rattle.coord_journal.specs.Spelling.{InRange, spelling};
-ghost use Rattle.actor_store.specs.Store.{SomeKept};
+ghost use Rattle.actor_store.specs.Store.{Old, SomeKeptBehind};
 ghost use Rattle.coord_core.specs.Pending.{EachLine, IsPending};
 ghost use Rattle.coord_core.specs.Stands.{Fails, Steps};
-ghost use Rattle.coord_core.specs.Store.{Keeps};
+ghost use Rattle.coord_core.specs.Store.{KeepsBehind};
 ghost use Rattle.coord_tables.specs.Terms.{line_of};
 
 use crate::coord::{CoordCore, CoordStore, silent};
@@ -32,9 +32,10 @@ pub(crate) fn room_for<D: Disk>(
     entry: &Option<CoordRecord>,
 ) -> Result<(), Memory>
     requires told { IsTrue D.tells }
-    requires kept { SomeKept (Keeps D.tells (D.seen disk.old) store.old) }
+    requires kept { SomeKeptBehind (KeepsBehind D.tells (D.seen disk.old) store.old) }
     requires fits { IfSome entry.now (λ entry. IsPayload (spelling entry)) }
-    ensures keeps { (rules : RulesDisk TheRecord) (trip : OptionOf RulesTrip) → Keeps D.tells (D.seen disk.old) store.old rules trip → Keeps D.tells (D.seen disk.new) store.new rules trip }
+    ensures keeps { (old : Old TheRecord) (rules : RulesDisk TheRecord) (trip : OptionOf RulesTrip) → KeepsBehind D.tells (D.seen disk.old) store.old old rules trip
+        → KeepsBehind D.tells (D.seen disk.new) store.new old rules trip }
     ensures room { OnOk result (IfSome entry.now (λ entry. HasRoom (written_size spelling entry) store.new.journal)) }
     ensures standing { store.new.standing ≡ store.old.standing }
     ensures faults { (D.seen disk.new).faults ≡ (D.seen disk.old).faults }
@@ -59,7 +60,7 @@ impl<P: TakePolicy> CoordCore<P> {
         step: CoordStep,
     ) -> Result<CoordStep, StepErr>
         requires told { IsTrue D.tells }
-        requires kept { SomeKept (Keeps D.tells (D.seen disk.old) self.old.store) }
+        requires kept { SomeKeptBehind (KeepsBehind D.tells (D.seen disk.old) self.old.store) }
         requires up { self.old.store.standing ≡ Standing.Up }
         requires reserved { IfSome entry (λ entry. HasRoom (written_size spelling entry) self.old.store.journal) }
         requires in_range { IfSome entry InRange }
@@ -90,7 +91,7 @@ impl<P: TakePolicy> CoordCore<P> {
         step: CoordStep,
     ) -> Result<CoordStep, StepErr>
         requires told { IsTrue D.tells }
-        requires kept { SomeKept (Keeps D.tells (D.seen disk.old) self.old.store) }
+        requires kept { SomeKeptBehind (KeepsBehind D.tells (D.seen disk.old) self.old.store) }
         requires up { self.old.store.standing ≡ Standing.Up }
         requires reserved { HasRoom (written_size spelling entry) self.old.store.journal }
         requires in_range { InRange entry }

@@ -5,12 +5,12 @@ ghost use Rattle.journal_disk.specs.Disk.{Seen};
 ghost use Rattle.journal_disk.specs.Frames.{IsPayload};
 ghost use Rattle.frame_journal.specs.Journal.{HasRoom, written_size};
 ghost use Rattle.coord_journal.specs.Spelling.{spelling};
-ghost use Rattle.actor_store.specs.Store.{SomeKept};
+ghost use Rattle.actor_store.specs.Store.{SomeKeptBehind};
 ghost use Rattle.fed_rules.specs.declared.messages.FromSite.TheVariants as From;
 ghost use Rattle.fed_rules.specs.CoordPast.{CoordPast};
 ghost use Rattle.coord_core.specs.Stands.{Fails, Stands, Steps};
 ghost use Rattle.coord_core.specs.Steps.{Answers, CanStep, EachPast, Refuses, SomePast};
-ghost use Rattle.coord_core.specs.Store.{Keeps};
+ghost use Rattle.coord_core.specs.Store.{KeepsBehind};
 ghost use Rattle.coord_tables.specs.Terms.{Terms, line_of};
 ghost use Rattle.coord_tables.specs.Trees.{entry_of};
 ghost use Rattle.coord_tables.specs.Voting as spec;
@@ -56,7 +56,7 @@ impl<P: TakePolicy> CoordCore<P> {
         entry: &Option<CoordRecord>,
     ) -> Result<(), Memory>
         requires told { IsTrue D.tells }
-        requires kept { SomeKept (Keeps D.tells (D.seen disk.old) self.old.store) }
+        requires kept { SomeKeptBehind (KeepsBehind D.tells (D.seen disk.old) self.old.store) }
         requires fits { IfSome entry.now (λ entry. IsPayload (spelling entry)) }
         ensures stands { EachPast (Stands P.policy D.tells self.old (D.seen disk.old)) (Stands P.policy D.tells self.new (D.seen disk.new)) }
         ensures room { OnOk result (IfSome entry.now (λ entry. HasRoom (written_size spelling entry) self.new.store.journal)) }

@@ -1,2 +1,3 @@
 pub mod Keeps
 pub mod Journals
+pub mod Respelling

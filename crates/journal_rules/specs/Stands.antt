@@ -4,7 +4,7 @@ use Rattle.fed_rules.specs.Disk.{Call, Append, Sync, CutBack, TrimFront, Stops, 
 use Rattle.journal_disk.specs.Disk.{Image, appended, all_synced, cut_to, stopped, trimmed_to}
 use Rattle.journal_disk.specs.Frames.{Frame, IsPayload, written, frame}
 use Rattle.frame_journal.specs.Journal.{written_size}
-use Rattle.frame_journal.specs.Records.{AreRecordsOf}
+use Rattle.frame_journal.specs.Records.{Entry, AreRecordsOf, entry_frame, spelled, spelled_size, values}
 
 -- the frame of a record
 abbrev pub record_frame : {R : Type 0} → (R → List ℕ) → R → Frame
@@ -58,3 +58,9 @@ image_after_calls spelling size disk image (call ∷ calls) =
 abbrev pub AllMayCome : {R : Type 0} → (R → List ℕ) → (R → ℕ) → Disk R → List (Call R) → Type 0
 AllMayCome spelling size disk [] = Unit {0}
 AllMayCome spelling size disk (call ∷ calls) = MayCome spelling size disk call × AllMayCome spelling size (after_call size disk call) calls
+
+-- the image with the frames of these entries at its front spelled as version 2. They are synced, and so is what stands in their place
+abbrev pub respelled : {R : Type 0} → (R → List ℕ) → List (Entry R) → Image → Image
+respelled spelling [] image = image
+respelled spelling (entry ∷ entries) image =
+    with_front (spelled (record_frame spelling) (values (entry ∷ entries))) (trimmed_to (spelled_size (entry_frame spelling) (entry ∷ entries)) image)

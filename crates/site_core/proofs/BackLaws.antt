@@ -1,12 +1,10 @@
 -- What a core stands for after a start: where it comes through, where a trip stops it, and where a disk call fails.
-use Rattle.std.proofs.Common.{◌≡◌, ℕ, ◌+◌, ◌<◌, ◌≤◌, Bool, true, false, cond, not, ◌||◌, ◌⊎◌, is_some, Option, Some, None, Err, List, [], ◌∷◌, ◌++◌, length, map, take, inl, inr, refl, sym, ap, ap₂, ◌∙◌, subst, arith}
+use Rattle.std.proofs.Common.{◌≡◌, ℕ, ◌+◌, Bool, true, false, cond, not, ◌||◌, ◌⊎◌, is_some, Option, Some, None, Err, List, [], ◌∷◌, ◌++◌, length, map, take, inl, inr, refl, sym, ap, ap₂, ◌∙◌, subst}
 use Rattle.std.specs.Prelude.{option_to_list}
-use Rattle.std.specs.FinMap.{empty, get}
 use Rattle.mdb_base.specs.declared.names.Engine.{Engine}
 use Rattle.mdb_base.specs.declared.names.Tid.{Tid}
 use Rattle.mdb_base.specs.declared.names.Tx.{Tx}
 use Rattle.mdb_base.specs.declared.rows.Put.{Put}
-use Rattle.mdb_base.specs.Names.{same_tid}
 use Rattle.mdb_base.specs.Words.{map_some, some_of, when}
 use Rattle.fed_rules.specs.declared.answers.Answer.TheVariants as Say
 use Rattle.fed_rules.specs.declared.events.SiteEvent.TheVariants as Ev
@@ -38,26 +36,26 @@ use Rattle.actor_store.specs.declared.store.Standing.{Standing}
 use Rattle.actor_store.specs.declared.store.Standing.TheVariants.{Up, Down, Failing}
 use Rattle.actor_store.specs.Store.{Passes, is_up}
 use Rattle.actor_store.proofs.StoreLaws.{settled}
-use Rattle.rules_laws.specs.Durable.{IsFrontOf}
 use Rattle.rules_laws.proofs.SiteRecords.{epoch_same}
 use Rattle.site_history.proofs.Restarts.{once_doubts}
 use Rattle.site_book.specs.Book.{Book, begun_in, committed_in, restarted}
 use Rattle.site_book.specs.Follows.{Follows, progress_by}
+use Rattle.actor_store.proofs.FromLaws.{from_later, from_trip}
 use Rattle.site_core.specs.Order.{IsInOrder}
 use Rattle.site_book.proofs.Starts as Book_starts
 use Rattle.site_core.specs.declared.site.SiteCore.{SiteCore}
-use Rattle.site_core.specs.Made.{IsGoingOn}
+use Rattle.site_core.specs.Made.{IsGoingOn, opens, was_found}
 use Rattle.site_core.specs.Notes.{Notes}
-use Rattle.site_core.specs.Recovered.{LocalsOnce, held_tid}
+use Rattle.site_core.specs.Recovered.{held_tid}
 use Rattle.site_core.specs.Stands.{Answers, Breaks, Carries, IsIn, IsOfKind, IsStopped, IsUp, Remembers, Stands}
 use Rattle.site_core.specs.Store.{Ends, Keeps, Store, cut_calls}
-use Rattle.site_history.proofs.Founded.{all_within, founded}
+use Rattle.site_history.proofs.Founded.{all_within}
 use Rattle.commit_laws.proofs.SiteShut.{restored-sealed}
 use Rattle.journal_sums.proofs.DifferLaws.{apart_once}
 use Rattle.site_core.proofs.MadeLaws.{made_starts}
 use Rattle.site_core.proofs.NotesLaws.{IsKnown, order_restarted}
 use Rattle.site_core.proofs.OnceLaws.{AppendsOnce, once_calls, once_stopped}
-use Rattle.site_core.proofs.RememberLaws.{answers_as, carries_same, carries_stop, down_is, kept_records, kind_at, passes_is, stop_line, stopped_at, trips_is}
+use Rattle.site_core.proofs.RememberLaws.{answers_as, carries_same, carries_stop, down_is, kept_records, passes_is, stop_line, stopped_at, trips_is}
 use Rattle.site_core.proofs.StopLaws.{GoesOn, breaks_down, breaks_start, trip_line}
 use Rattle.site_core.proofs.SumLaws.{committed_from, doubts_about}
 
@@ -167,7 +165,7 @@ module _ {E : Type 0} (stands : E → Lines.Start → List EngineLine → Type 0
   pub back_done : (old new : SiteCore E) (step : SiteStep) (disk disk' : Seen) (home : Home) (past : SitePast) (sum : SiteSum) (doubtful : ℕ) → Stands stands tells old disk home past → is_up old.store.standing ≡ false
       → sum ≡ site_sum home (Past.records home past) → doubtful ≡ length sum.doubtful → new.epoch ≡ sum.epoch + 1
       → Passes (Past.trip past) (length (back_calls new.epoch (Past.disk home past)))
-      × Keeps tells disk' new.store (after_calls site_frame (Past.disk home past) (back_calls new.epoch (Past.disk home past))) (used (length (back_calls new.epoch (Past.disk home past))) (Past.trip past))
+      × Keeps (was_found past) tells disk' new.store (after_calls site_frame (Past.disk home past) (back_calls new.epoch (Past.disk home past))) (used (length (back_calls new.epoch (Past.disk home past))) (Past.trip past))
       → new.store.standing ≡ Up
       → stands new.engine (start_from home.engine sum.rows (map kept_held sum.doubtful) sum.counter sum.published sum.owner) []
       → new.book ≡ restarted sum.locals (map held_tid sum.doubtful) old.book
@@ -192,22 +190,22 @@ module _ {E : Type 0} (stands : E → Lines.Start → List EngineLine → Type 0
         carries = record {
           memory = record {
             records = kept_records tells disk' new.store _ _ ends.1;
-            trip = ends.1.trip;
-            armed = ends.1.armed;
+            trip = ends.1.behind.trip;
+            armed = ends.1.behind.armed;
             standing = sym (ap (λ s. not (is_up s)) now);
             standing_in = subst P (sym now) here;
             begun = (λ tx. ap (λ (b : Book). begun_in b tx) book ∙ m.begun tx);
             protocol = protocol ∙ m.protocol;
             once = once_calls (Past.disk home past) (back_calls n (Past.disk home past)) (back_appends n (Past.disk home past)) m.once;
           };
-          stored = ends.1;
+          stored = from_later (opens y) ends.1;
         };
       })
 
   -- a start that a trip stopped
   pub back_stopped : (old new : SiteCore E) (step : SiteStep) (disk disk' : Seen) (home : Home) (past : SitePast) (sum : SiteSum) (kept : ℕ) → Stands stands tells old disk home past → is_up old.store.standing ≡ false
       → sum ≡ site_sum home (Past.records home past) → new.epoch ≡ sum.epoch + 1
-      → Ends {A = ℕ} (Keeps tells disk' new.store) (Past.disk home past) (Past.trip past) (back_calls new.epoch (Past.disk home past)) (Err (Stopped kept))
+      → Ends {A = ℕ} (Keeps (was_found past) tells disk' new.store) (Past.disk home past) (Past.trip past) (back_calls new.epoch (Past.disk home past)) (Err (Stopped kept))
       → is_up new.store.standing ≡ false → IsOfKind stands new.engine home.engine → ((tx : Tx) → begun_in new.book tx ≡ begun_in old.book tx) → new.protocol ≡ old.protocol
       → step ≡ record { answer = Say.Stopped kept; sends = None }
       → Answers stands tells step new disk' home past (site_line home past Ev.Back)
@@ -230,7 +228,7 @@ module _ {E : Type 0} (stands : E → Lines.Start → List EngineLine → Type 0
   -- a start whose disk call failed
   pub back_failed : (old new : SiteCore E) (disk disk' : Seen) (home : Home) (past : SitePast) (sum : SiteSum) → Stands stands tells old disk home past → is_up old.store.standing ≡ false
       → sum ≡ site_sum home (Past.records home past) → new.epoch ≡ sum.epoch + 1
-      → Ends {A = ℕ} (Keeps tells disk' new.store) (Past.disk home past) (Past.trip past) (back_calls new.epoch (Past.disk home past)) (Err Failed)
+      → Ends {A = ℕ} (Keeps (was_found past) tells disk' new.store) (Past.disk home past) (Past.trip past) (back_calls new.epoch (Past.disk home past)) (Err Failed)
       → is_up new.store.standing ≡ false → IsOfKind stands new.engine home.engine → ((tx : Tx) → begun_in new.book tx ≡ begun_in old.book tx) → new.protocol ≡ old.protocol
       → Breaks stands tells Err_is.Disk new disk' home past Ev.Back
   back_failed old new disk disk' home past sum k down is next ends still engine begun protocol =
@@ -243,19 +241,18 @@ module _ {E : Type 0} (stands : E → Lines.Start → List EngineLine → Type 0
       let goes : GoesOn home past Ev.Back (up_line n (length (doubts rs)) home past) = λ calls cut.
       back_down home (trip_line calls cut ∷ past) here ∙ ap (unless_tripped home (trip_line calls cut ∷ past)) (back_goes home past calls cut ∙ back_is home past n (length (doubts rs)) next_is refl) in
       breaks_start stands tells new disk' home past Ev.Back (up_line n (length (doubts rs)) home past) here goes
-      (settled spelling reading IsRecord site_frame frame_has_size spelled_is_read old.store.standing old.store.journal (Past.disk home past) down k.stored.in_order) (all_within home past)
+      (settled spelling reading IsRecord site_frame frame_has_size spelled_is_read old.store.standing old.store.journal (Past.disk home past) down k.stored.behind.in_order) (all_within home past)
       ends still engine stopped.start stopped.lines (λ tx. begun tx ∙ m.begun tx) (protocol ∙ m.protocol) (back_appends n (Past.disk home past)) m.once
 
   -- a read of the records that failed: the site stays down, and the trip is disarmed
   pub read_failed : (old new : SiteCore E) (store : Store) (disk disk' : Seen) (home : Home) (past : SitePast) → Stands stands tells old disk home past → is_up old.store.standing ≡ false
-      → Keeps tells disk' store (Past.disk home past) (Past.trip past) → store.standing ≡ old.store.standing → new ≡ record old { store = record store { trip = None } }
+      → Keeps (was_found past) tells disk' store (Past.disk home past) (Past.trip past) → store.standing ≡ old.store.standing → new ≡ record old { store = record store { trip = None } }
       → Breaks stands tells Err_is.Disk new disk' home past Ev.Back
   read_failed old new store disk disk' home past k down kept standing is =
       let m = k.holds.memory in
       let stopped = stopped_at stands old home past m down in
-      let disarmed : Keeps tells disk' (record store { trip = None }) (Past.disk home past) None =
-      record { kept_on = kept.kept_on; stands = kept.stands; records = kept.records; are_records = kept.are_records; written = kept.written; front = kept.front; trip = refl; armed = tt; in_order = kept.in_order } in
-      let S : Store → Type 0 = λ s. Keeps tells disk' s (Past.disk home past) None in
+      let disarmed : Keeps (was_found past) tells disk' (record store { trip = None }) (Past.disk home past) None = from_trip kept None refl tt in
+      let S : Store → Type 0 = λ s. Keeps (was_found past) tells disk' s (Past.disk home past) None in
       let store_is : new.store ≡ record store { trip = None } = ap (λ (c : SiteCore E). c.store) is in
       let K : E → Type 0 = λ e. IsOfKind stands e home.engine in
       breaks_down stands tells new disk' home past Ev.Back (down_is stands old home past m down) (subst S (sym store_is) disarmed) (ap (λ (s : Store). is_up s.standing) store_is ∙ ap is_up standing ∙ down)
@@ -263,7 +260,7 @@ module _ {E : Type 0} (stands : E → Lines.Start → List EngineLine → Type 0
 
   -- a site that stays down, in other memory and on a disk that keeps the same
   pub stays_down : (old new : SiteCore E) (disk disk' : Seen) (home : Home) (past : SitePast) → Stands stands tells old disk home past → is_up old.store.standing ≡ false
-      → Keeps tells disk' new.store (Past.disk home past) (Past.trip past) → new.store.standing ≡ old.store.standing
+      → Keeps (was_found past) tells disk' new.store (Past.disk home past) (Past.trip past) → new.store.standing ≡ old.store.standing
       → IsOfKind stands new.engine home.engine → ((tx : Tx) → begun_in new.book tx ≡ begun_in old.book tx) → new.protocol ≡ old.protocol
       → Carries stands tells new disk' home past
   stays_down old new disk disk' home past k down kept standing engine begun protocol =

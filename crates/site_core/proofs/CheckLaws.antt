@@ -1,8 +1,7 @@
 -- A Checkpoint: what the core stands for behind it.
-use Rattle.std.proofs.Common.{◌≡◌, ℕ, ◌<◌, ◌≤◌, ◌^◌, Bool, true, false, Option, Some, None, Err, List, [], ◌∷◌, ◌++◌, length, take, refl, sym, ap, ◌∙◌, subst, arith}
+use Rattle.std.proofs.Common.{◌≡◌, ℕ, Bool, true, false, None, Err, List, [], ◌∷◌, ◌++◌, take, refl, sym, ap, ◌∙◌, subst, arith}
 use Rattle.std.specs.Prelude.{nat_lt, option_to_list}
 use Rattle.std.proofs.lemmas.Bool.{ltb-false}
-use Rattle.mdb_base.specs.declared.names.Tx.{Tx}
 use Rattle.mdb_base.specs.Words.{when}
 use Rattle.fed_rules.specs.declared.answers.Answer.TheVariants as Say
 use Rattle.fed_rules.specs.declared.events.SiteEvent.TheVariants as Ev
@@ -30,7 +29,8 @@ use Rattle.actor_store.specs.Store.{Passes, is_up}
 use Rattle.site_book.specs.Book.{begun_in}
 use Rattle.site_core.specs.declared.site.SiteCore.{SiteCore}
 use Rattle.site_core.specs.Stands.{Answers, Breaks, Carries, IsIn, IsOfKind, IsUp, Stands}
-use Rattle.site_core.specs.Store.{Ends, Keeps, Store}
+use Rattle.site_core.specs.Made.{was_found}
+use Rattle.site_core.specs.Store.{Ends, Keeps}
 use Rattle.site_core.proofs.LineLaws.{check_up}
 use Rattle.site_core.proofs.NotesLaws.{notes_same}
 use Rattle.site_core.proofs.OnceLaws.{once_stopped}
@@ -75,7 +75,7 @@ module _ {E : Type 0} (stands : E → Lines.Start → List EngineLine → Type 0
 
   pub check_done : (old new : SiteCore E) (step : SiteStep) (disk disk' : Seen) (home : Home) (past : SitePast) (sum : SiteSum) → Stands stands tells old disk home past → old.store.standing ≡ Up
       → sum ≡ site_sum home (Past.records home past) → nat_lt longest (site_payload (Rec.Checkpoint sum)) ≡ false
-      → Passes (Past.trip past) 3 × Keeps tells disk' new.store (after_calls site_frame (Past.disk home past) (check_line sum).calls) (used 3 (Past.trip past))
+      → Passes (Past.trip past) 3 × Keeps (was_found past) tells disk' new.store (after_calls site_frame (Past.disk home past) (check_line sum).calls) (used 3 (Past.trip past))
       → new.store.standing ≡ Up → new ≡ record old { store = new.store } → step ≡ record { answer = Say.Checked; sends = None }
       → Answers stands tells step new disk' home past (unless_tripped home past (of_check home past))
   check_done old new step disk disk' home past sum k up is small ends now same says =
@@ -96,7 +96,7 @@ module _ {E : Type 0} (stands : E → Lines.Start → List EngineLine → Type 0
 
   pub check_stopped : (old new : SiteCore E) (step : SiteStep) (disk disk' : Seen) (home : Home) (past : SitePast) (sum : SiteSum) (kept : ℕ) → Stands stands tells old disk home past → old.store.standing ≡ Up
       → sum ≡ site_sum home (Past.records home past) → nat_lt longest (site_payload (Rec.Checkpoint sum)) ≡ false
-      → Ends {A = ℕ} (Keeps tells disk' new.store) (Past.disk home past) (Past.trip past) (check_line sum).calls (Err (Stopped kept))
+      → Ends {A = ℕ} (Keeps (was_found past) tells disk' new.store) (Past.disk home past) (Past.trip past) (check_line sum).calls (Err (Stopped kept))
       → is_up new.store.standing ≡ false → new ≡ record old { store = new.store } → step ≡ record { answer = Say.Stopped kept; sends = None }
       → Answers stands tells step new disk' home past (unless_tripped home past (of_check home past))
   check_stopped old new step disk disk' home past sum kept k up is small (set, trip, within, keeps, count) down same says =
@@ -114,7 +114,7 @@ module _ {E : Type 0} (stands : E → Lines.Start → List EngineLine → Type 0
 
   pub check_failed : (old new : SiteCore E) (disk disk' : Seen) (home : Home) (past : SitePast) (sum : SiteSum) → Stands stands tells old disk home past → old.store.standing ≡ Up
       → sum ≡ site_sum home (Past.records home past) → nat_lt longest (site_payload (Rec.Checkpoint sum)) ≡ false
-      → Ends {A = ℕ} (Keeps tells disk' new.store) (Past.disk home past) (Past.trip past) (check_line sum).calls (Err Failed)
+      → Ends {A = ℕ} (Keeps (was_found past) tells disk' new.store) (Past.disk home past) (Past.trip past) (check_line sum).calls (Err Failed)
       → is_up new.store.standing ≡ false → new ≡ record old { store = new.store } → Breaks stands tells Err_is.Disk new disk' home past Ev.Check
   check_failed old new disk disk' home past sum k up is small ends down same =
       let m = k.holds.memory in
@@ -127,7 +127,7 @@ module _ {E : Type 0} (stands : E → Lines.Start → List EngineLine → Type 0
 
   -- a store with more room, where nothing else changed
   pub roomier : (old new : SiteCore E) (disk disk' : Seen) (home : Home) (past : SitePast) → Stands stands tells old disk home past
-      → Keeps tells disk' new.store (Past.disk home past) (Past.trip past) → new.store.standing ≡ old.store.standing → new ≡ record old { store = new.store } → Carries stands tells new disk' home past
+      → Keeps (was_found past) tells disk' new.store (Past.disk home past) (Past.trip past) → new.store.standing ≡ old.store.standing → new ≡ record old { store = new.store } → Carries stands tells new disk' home past
   roomier old new disk disk' home past k kept standing same =
       let m = k.holds.memory in
       carries_same stands tells old new disk' home past m kept standing (from old.store.standing m.standing_in) (λ tx. ap (λ (c : SiteCore E). begun_in c.book tx) same) (ap (λ (c : SiteCore E). c.protocol) same) where

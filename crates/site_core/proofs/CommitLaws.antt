@@ -37,7 +37,7 @@ use Rattle.site_book.specs.declared.progress.Standing.TheVariants as Has
 use Rattle.site_book.specs.Book.{Book, begun_in, commits_local, committed_part, live_in, running_in, running_part, standing_of}
 use Rattle.site_book.proofs.Followed.{commits_well}
 use Rattle.site_core.specs.declared.site.SiteCore.{SiteCore}
-use Rattle.site_core.specs.Made.{was_global}
+use Rattle.site_core.specs.Made.{was_global, was_found}
 use Rattle.site_core.specs.Notes.{Notes}
 use Rattle.site_core.specs.Sealing.{SealsLive, StandsSealing}
 use Rattle.site_core.specs.Stands.{Answers, Breaks, Stands}
@@ -150,7 +150,7 @@ module _ {E : Type 0} (stands : E → Lines.Start → List EngineLine → Type 0
   -- the forced record ends as the line says
   pub commit_done : (old new : SiteCore E) (step : SiteStep) (disk disk' : Seen) (home : Home) (past : SitePast) (k : StandsSealing stands tells tid sealed old disk home past)
       → old.store.standing ≡ Up → was_global tid.tx past ≡ false
-      → Passes (Past.trip past) 2 × Keeps tells disk' new.store (after_calls site_frame (Past.disk home past) (commit_line tid sealed).calls) (used 2 (Past.trip past))
+      → Passes (Past.trip past) 2 × Keeps (was_found past) tells disk' new.store (after_calls site_frame (Past.disk home past) (commit_line tid sealed).calls) (used 2 (Past.trip past))
       → new.store.standing ≡ Up → new ≡ record old { engine = new.engine; book = commits_local tid old.book; store = new.store }
       → stands new.engine (epoch_start home past) (Commits tid ∷ Seals tid sealed.number ∷ engine_lines past)
       → step ≡ record { answer = Say.Sealed tid sealed.number; sends = None }
@@ -191,7 +191,7 @@ module _ {E : Type 0} (stands : E → Lines.Start → List EngineLine → Type 0
 
   pub commit_stopped : (old new : SiteCore E) (step : SiteStep) (disk disk' : Seen) (home : Home) (past : SitePast) (kept : ℕ) (k : StandsSealing stands tells tid sealed old disk home past)
       → old.store.standing ≡ Up → was_global tid.tx past ≡ false
-      → Ends {A = ℕ} (Keeps tells disk' new.store) (Past.disk home past) (Past.trip past) (commit_line tid sealed).calls (Err (Stopped kept))
+      → Ends {A = ℕ} (Keeps (was_found past) tells disk' new.store) (Past.disk home past) (Past.trip past) (commit_line tid sealed).calls (Err (Stopped kept))
       → is_up new.store.standing ≡ false → new ≡ record old { store = new.store }
       → step ≡ record { answer = Say.Stopped kept; sends = None }
       → Answers stands tells step new disk' home past (unless_tripped home past (of_commit home past tid))
@@ -201,7 +201,7 @@ module _ {E : Type 0} (stands : E → Lines.Start → List EngineLine → Type 0
 
   pub commit_failed : (old new : SiteCore E) (disk disk' : Seen) (home : Home) (past : SitePast) (k : StandsSealing stands tells tid sealed old disk home past)
       → old.store.standing ≡ Up → was_global tid.tx past ≡ false
-      → Ends {A = ℕ} (Keeps tells disk' new.store) (Past.disk home past) (Past.trip past) (commit_line tid sealed).calls (Err Failed)
+      → Ends {A = ℕ} (Keeps (was_found past) tells disk' new.store) (Past.disk home past) (Past.trip past) (commit_line tid sealed).calls (Err Failed)
       → is_up new.store.standing ≡ false → new ≡ record old { store = new.store }
       → Breaks stands tells Err_is.Disk new disk' home past (Ev.Commit tid)
   commit_failed old new disk disk' home past k up local ends down is =

@@ -46,7 +46,7 @@ use Rattle.site_book.proofs.Followed.{calls_well, decides_well, get-put_tid, sta
 use Rattle.site_history.specs.Lines.{Agrees}
 use Rattle.site_history.proofs.Agreement.{IsKept, free_here}
 use Rattle.site_core.specs.declared.site.SiteCore.{SiteCore}
-use Rattle.site_core.specs.Made.{IsGoingOn, is_of_global, was_global}
+use Rattle.site_core.specs.Made.{IsGoingOn, is_of_global, was_global, was_found}
 use Rattle.site_core.specs.Notes.{Notes, NotesPast}
 use Rattle.site_core.specs.Order.{IsInOrder}
 use Rattle.site_core.specs.Stands.{Adds, Answers, Breaks, Holds, IsOfKind, IsUp, Stands}
@@ -369,7 +369,7 @@ module _ {E : Type 0} (stands : E → Lines.Start → List EngineLine → Type 0
     pub settle_done : (old mid new : SiteCore E) (step : SiteStep) (disk disk' : Seen) (home : Home) (past : SitePast) (tid : Tid) (decision : Decision) (held : Held) → Stands stands tells old disk home past
         → old.store.standing ≡ Up → doubt_of (Past.records home past) tid ≡ Some held
         → Passes (Past.trip past) (length (written_calls old.protocol tid decision))
-        × Keeps tells disk' new.store (after_calls site_frame (Past.disk home past) (written_calls old.protocol tid decision)) (used (length (written_calls old.protocol tid decision)) (Past.trip past))
+        × Keeps (was_found past) tells disk' new.store (after_calls site_frame (Past.disk home past) (written_calls old.protocol tid decision)) (used (length (written_calls old.protocol tid decision)) (Past.trip past))
         → new.store.standing ≡ Up → mid ≡ record old { store = mid.store } → new ≡ record mid { engine = new.engine; book = closes tid mid.book; doubts = new.doubts }
         → new.doubts.doubts ≡ others tid mid.doubts.doubts → stands new.engine (epoch_start home past) (settling_line tid decision ∷ engine_lines past)
         → step.answer ≡ Say.Settles tid decision → option_to_list step.sends ≡ ack_of home tid decision
@@ -379,7 +379,7 @@ module _ {E : Type 0} (stands : E → Lines.Start → List EngineLine → Type 0
         ended ∙ ap (λ (c : SiteCore E). let after : SiteCore E = record c { engine = new.engine; book = closes tid c.book; doubts = new.doubts } in after) rest in
         let y = settle_line home tid decision in
         let m = k.holds.memory in
-        let C : List (Call SiteRecord) → Type 0 = λ cs. Passes (Past.trip past) (length cs) × Keeps tells disk' new.store (after_calls site_frame (Past.disk home past) cs) (used (length cs) (Past.trip past)) in
+        let C : List (Call SiteRecord) → Type 0 = λ cs. Passes (Past.trip past) (length cs) × Keeps (was_found past) tells disk' new.store (after_calls site_frame (Past.disk home past) cs) (used (length cs) (Past.trip past)) in
         let ends = subst C (written_is old.protocol home tid decision m.protocol) done in
         let u = is_up_at stands old home past m up in
         let p : IsPlain y = record { goes = refl; stays = refl; sets = refl } in
@@ -400,13 +400,13 @@ module _ {E : Type 0} (stands : E → Lines.Start → List EngineLine → Type 0
 
     pub settle_stopped : (old new : SiteCore E) (step : SiteStep) (disk disk' : Seen) (home : Home) (past : SitePast) (tid : Tid) (decision : Decision) (held : Held) (kept : ℕ) → Stands stands tells old disk home past
         → old.store.standing ≡ Up → doubt_of (Past.records home past) tid ≡ Some held
-        → Ends {A = ℕ} (Keeps tells disk' new.store) (Past.disk home past) (Past.trip past) (written_calls old.protocol tid decision) (Err (Stopped kept))
+        → Ends {A = ℕ} (Keeps (was_found past) tells disk' new.store) (Past.disk home past) (Past.trip past) (written_calls old.protocol tid decision) (Err (Stopped kept))
         → is_up new.store.standing ≡ false → new ≡ record old { store = new.store } → step ≡ record { answer = Say.Stopped kept; sends = None }
         → Answers stands tells step new disk' home past (unless_tripped home past (of_decide home past tid decision))
     settle_stopped old new step disk disk' home past tid decision held kept k up doubt stop down is says =
         let y = settle_line home tid decision in
         let m = k.holds.memory in
-        let C : List (Call SiteRecord) → Type 0 = λ cs. Ends {A = ℕ} (Keeps tells disk' new.store) (Past.disk home past) (Past.trip past) cs (Err (Stopped kept)) in
+        let C : List (Call SiteRecord) → Type 0 = λ cs. Ends {A = ℕ} (Keeps (was_found past) tells disk' new.store) (Past.disk home past) (Past.trip past) cs (Err (Stopped kept)) in
         let (set, trip, within, keeps, count) = subst C (written_is old.protocol home tid decision m.protocol) stop in
         let calls : List (Call SiteRecord) = take set.calls y.calls ++ Stops set.cut ∷ [] in
         let K : E → Type 0 = λ e. IsOfKind stands e home.engine in
@@ -422,12 +422,12 @@ module _ {E : Type 0} (stands : E → Lines.Start → List EngineLine → Type 0
 
     pub settle_failed : (old new : SiteCore E) (disk disk' : Seen) (home : Home) (past : SitePast) (tid : Tid) (decision : Decision) (held : Held) → Stands stands tells old disk home past
         → old.store.standing ≡ Up → doubt_of (Past.records home past) tid ≡ Some held
-        → Ends {A = ℕ} (Keeps tells disk' new.store) (Past.disk home past) (Past.trip past) (written_calls old.protocol tid decision) (Err Failed)
+        → Ends {A = ℕ} (Keeps (was_found past) tells disk' new.store) (Past.disk home past) (Past.trip past) (written_calls old.protocol tid decision) (Err Failed)
         → is_up new.store.standing ≡ false → new ≡ record old { store = new.store } → Breaks stands tells Err_is.Disk new disk' home past (Ev.Give (To.Decide tid decision))
     settle_failed old new disk disk' home past tid decision held k up doubt failed down is =
         let y = settle_line home tid decision in
         let m = k.holds.memory in
-        let C : List (Call SiteRecord) → Type 0 = λ cs. Ends {A = ℕ} (Keeps tells disk' new.store) (Past.disk home past) (Past.trip past) cs (Err Failed) in
+        let C : List (Call SiteRecord) → Type 0 = λ cs. Ends {A = ℕ} (Keeps (was_found past) tells disk' new.store) (Past.disk home past) (Past.trip past) cs (Err Failed) in
         let ends = subst C (written_is old.protocol home tid decision m.protocol) failed in
         let here = up_is stands old home past m up in
         let K : E → Type 0 = λ e. IsOfKind stands e home.engine in

@@ -1,20 +1,20 @@
 -- A site that was just set up stands for the past in which nothing happened.
-use Rattle.std.proofs.Common.{◌≡◌, ℕ, Bool, true, false, not, ◌⊎◌, is_some, IsSome, Option, Some, None, List, [], ◌∷◌, length, inl, inr, refl, sym, ap, ◌∙◌, subst, arith}
-use Rattle.std.specs.FinMap.{empty, get, get-empty}
+use Rattle.std.proofs.Common.{◌≡◌, Bool, true, false, not, ◌⊎◌, is_some, Option, Some, None, List, [], inl, inr, sym, ap, ◌∙◌, subst}
+use Rattle.std.specs.FinMap.{get-empty}
 use Rattle.mdb_base.specs.declared.names.Tid.{Tid}
 use Rattle.mdb_base.specs.declared.names.Tx.{Tx}
 use Rattle.fed_rules.specs.Runs as Lines
 use Rattle.fed_rules.specs.Runs.{EngineLine, Run}
 use Rattle.fed_rules.specs.SitePast.{SitePast, epoch_start, is_closed}
 use Rattle.fed_rules.specs.SitePast as Past
-use Rattle.fed_rules.specs.SiteRecords.{Home, local_of}
+use Rattle.fed_rules.specs.SiteRecords.{Home}
 use Rattle.journal_disk.specs.Disk.{Seen}
 use Rattle.engine_contract.specs.Calls.{fresh_start}
 use Rattle.prepared_state.specs.Book.{doubt_about}
 use Rattle.actor_store.specs.declared.store.Standing.{Standing}
 use Rattle.actor_store.specs.declared.store.Standing.TheVariants.{Up}
 use Rattle.actor_store.specs.Store.{is_up}
-use Rattle.site_book.specs.Book.{Book, begun_in, blank, committed_part, count_of, live_in, live_part, progress_of, running_in, running_part}
+use Rattle.site_book.specs.Book.{Book, begun_in, blank, committed_part, count_of, live_in, live_part, running_in, running_part}
 use Rattle.mdb_base.specs.Names.{tx_cmp, tid_cmp}
 use Rattle.site_core.specs.Order.{IsInOrder}
 use Rattle.site_core.specs.declared.site.SiteCore.{SiteCore}
@@ -56,7 +56,7 @@ notes_blank home = record {
   unknown (inr e) = absurd (false_true e)
 
 pub stands_first : {E : Type 0} (stands : E → Lines.Start → List EngineLine → Type 0) (tells : Bool) (core : SiteCore E) (disk : Seen) (home : Home)
-    → Keeps tells disk core.store (Past.disk home []) None → core.store.standing ≡ Up → stands core.engine (fresh_start home.engine home.items) [] → core.book ≡ blank → core.doubts.doubts ≡ []
+    → Keeps false tells disk core.store (Past.disk home []) None → core.store.standing ≡ Up → stands core.engine (fresh_start home.engine home.items) [] → core.book ≡ blank → core.doubts.doubts ≡ []
     → core.epoch ≡ 1 → core.protocol ≡ home.protocol → Stands stands tells core disk home []
 stands_first stands tells core disk home kept up engine book doubts epoch protocol =
     let N : Book → Type 0 = λ b. NotesPast b home [] in
@@ -72,8 +72,8 @@ stands_first stands tells core disk home kept up engine book doubts epoch protoc
         made = tt;
         memory = record {
           records = kept_records tells disk core.store _ _ kept;
-          trip = kept.trip;
-          armed = kept.armed;
+          trip = kept.behind.trip;
+          armed = kept.behind.armed;
           standing = sym (ap (λ s. not (is_up s)) up);
           standing_in = subst P (sym up) here;
           begun = (λ tx. ap (λ (b : Book). begun_in b tx) book ∙ ap count_of (get-empty tx_cmp tx));

@@ -4,7 +4,7 @@ pub mod CheckLaws
 pub mod CommitLaws
 pub mod DecideLaws
 pub mod FirstLaws
-pub mod FoundBefore
+pub mod FoundPasts
 pub mod GlobalLaws
 pub mod InquiryLaws
 pub mod JournalLaws

@@ -1,5 +1,5 @@
 -- What the store of a new site stands for.
-use Rattle.std.proofs.Common.{◌≡◌, ℕ, Bool, Option, None, Err, List, [], length, refl, sym, ap, subst, arith}
+use Rattle.std.proofs.Common.{◌≡◌, ℕ, Bool, Option, None, Err, List, [], length, refl, sym, ap, subst, arith, false}
 use Rattle.std.specs.Prelude.{reverse}
 use Rattle.std.proofs.lemmas.List.{nil_from_length}
 use Rattle.fed_rules.specs.declared.records.SiteRecord.{SiteRecord}
@@ -19,6 +19,7 @@ use Rattle.actor_store.specs.declared.store.Break.TheVariants.{Failed, Stopped}
 use Rattle.actor_store.specs.declared.store.Standing.TheVariants.{Up}
 use Rattle.actor_store.specs.Store as actor
 use Rattle.actor_store.specs.Store.{HoldsBytes, taken_as}
+use Rattle.actor_store.proofs.FromLaws.{all_written, from_none}
 use Rattle.actor_store.proofs.StoreLaws.{sizes, taken_bytes}
 use Rattle.site_core.specs.Store.{Store, Keeps, SomeStop, Ends, stopped_disk}
 
@@ -46,7 +47,7 @@ no_bytes_there : (seen : Seen) → seen.size ≡ 0 → length seen.image.bytes �
 no_bytes_there seen empty told = nil_from_length seen.image.bytes (omega (arith, told, empty))
 
 pub keeps_new : (tells : Bool) (seen : Seen) (store : Store) → seen.size ≡ 0 → length seen.image.bytes ≡ seen.size → IsSound seen.image
-    → actor.stored store ≡ record { journal = new_journal; trip = None; standing = Up } → Keeps tells seen store empty_disk None
+    → actor.stored store ≡ record { journal = new_journal; trip = None; standing = Up } → Keeps false tells seen store empty_disk None
 keeps_new tells seen store empty told sound is =
     let none = no_bytes_there seen empty told in
     let here : actor.Keeps spelling IsRecord site_frame tells seen (record { journal = new_journal; trip = None; standing = Up }) empty_disk None =
@@ -54,6 +55,7 @@ keeps_new tells seen store empty told sound is =
       kept_on = new_is_kept spelling tells seen empty (λ t. none);
       stands = nothing_stands seen.image none (omega (arith, sound, told, empty));
       records = refl;
+      are = refl;
       are_records = tt;
       written = tt;
       front = omega arith;
@@ -61,7 +63,7 @@ keeps_new tells seen store empty told sound is =
       armed = tt;
       in_order = refl;
     } in
-    subst (λ (s : actor.Stored SiteRecord). actor.Keeps spelling IsRecord site_frame tells seen s empty_disk None) (sym is) here
+    from_none false (subst (λ (s : actor.Stored SiteRecord). actor.Keeps spelling IsRecord site_frame tells seen s empty_disk None) (sym is) here)
 
 -- an empty disk holds what a stop before the first call leaves
 pub stops_at_once : (seen : Seen) (calls : List (Call SiteRecord)) → seen.size ≡ 0 → length seen.image.bytes ≡ seen.size → SomeStop seen.image empty_disk calls
@@ -76,9 +78,10 @@ stops_at_once seen calls empty told =
     )
 
 -- a store's disk holds the bytes of the rules, synced or not
-pub keeps_bytes : (tells : Bool) (seen : Seen) (store : Store) (rules : Disk SiteRecord) (trip : Option Trip) → Keeps tells seen store rules trip
+pub keeps_bytes : (tells : Bool) (seen : Seen) (store : Store) (rules : Disk SiteRecord) (trip : Option Trip) → Keeps false tells seen store rules trip
     → HoldsBytes spelling site_frame seen.image rules
-keeps_bytes tells seen store rules trip k =
+keeps_bytes tells seen store rules trip from =
+    let k = all_written refl from in
     let same = taken_bytes store.standing seen.image in
     let all = sizes spelling reading IsRecord site_frame frame_has_size spelled_is_read (taken_as store.standing seen.image) rules k.stands in
     record {
@@ -89,7 +92,7 @@ keeps_bytes tells seen store rules trip k =
 
 -- where no trip is set, calls of which one failed leave what some stop within them leaves
 pub broken_holds : (tells : Bool) (seen : Seen) (store : Store) (rules : Disk SiteRecord) (calls : List (Call SiteRecord))
-    → Ends {A = ℕ} (Keeps tells seen store) rules None calls (Err Failed) → SomeStop seen.image rules calls
+    → Ends {A = ℕ} (Keeps false tells seen store) rules None calls (Err Failed) → SomeStop seen.image rules calls
 broken_holds tells seen store rules calls e = let (n, cut, k) = e in (n, cut, keeps_bytes tells seen store (stopped_disk n cut rules calls) None k)
 
 -- and no trip stops them

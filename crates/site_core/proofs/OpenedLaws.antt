@@ -1,10 +1,10 @@
 -- A core that goes on from a journal that was found on its disk: the disk stands for that of the past that the journal stands for, and the core for
 -- this past.
-use Rattle.std.proofs.Common.{◌≡◌, ℕ, ◌+◌, ◌-◌, ◌≤◌, ◌<◌, ◌^◌, Bool, not, Option, Some, None, List, [], ◌∷◌, ◌++◌, length, map, reverse, refl, sym, ap, ◌∙◌, subst, inl, arith}
+use Rattle.std.proofs.Common.{◌≡◌, ℕ, ◌+◌, ◌-◌, ◌≤◌, ◌<◌, ◌^◌, Bool, true, false, IsTrue, not, Option, Some, None, List, [], ◌∷◌, ◌++◌, length, map, reverse, refl, sym, ap, ◌∙◌, subst, inl, arith}
 use Rattle.std.specs.Prelude.{slice_get}
 use Rattle.std.specs.FinMap.{get-empty}
 use Rattle.std.specs.List.{AllByRecursion}
-use Rattle.std.proofs.lemmas.List.{append-nil, append_assoc, length-append, reverse-reverse}
+use Rattle.std.proofs.lemmas.List.{append-nil, append_assoc, reverse-reverse}
 use Rattle.mdb_base.specs.declared.names.Tid.{Tid}
 use Rattle.mdb_base.specs.Rising.{IsRising}
 use Rattle.mdb_base.specs.Words.{Each}
@@ -14,6 +14,7 @@ use Rattle.fed_rules.specs.declared.records.SiteRecord.TheVariants as Rec
 use Rattle.fed_rules.specs.declared.sums.SiteSum.{SiteSum}
 use Rattle.fed_rules.specs.Disk.{Disk, bytes_of, journal as journal_of}
 use Rattle.fed_rules.specs.Found.{Journal}
+use Rattle.fed_rules.specs.Happenings.{Trip}
 use Rattle.fed_rules.specs.Reopened.{first_of, local_read, long_site, oldest, opened_site, owner_read, site_reads_as, site_sum_read}
 use Rattle.fed_rules.specs.Runs as Lines
 use Rattle.fed_rules.specs.Runs.{EngineLine}
@@ -33,29 +34,28 @@ use Rattle.field_bytes.specs.Fields.{IsTid}
 use Rattle.record_fields.specs.Named.{writes}
 use Rattle.record_fields.specs.Sums.{MaybeFits, a_doubtful}
 use Rattle.frame_journal.specs.Journal.{records}
-use Rattle.frame_journal.specs.Records.{spelled}
-use Rattle.frame_journal.proofs.Keeping.{length-frames}
-use Rattle.journal_rules.specs.Stands.{StandsFor, record_frame}
-use Rattle.journal_rules.proofs.Journals.{all_reverse, all_standing, bytes_of_append}
-use Rattle.journal_rules.proofs.Keeps.{journal_stands, sizes_agree}
+use Rattle.frame_journal.specs.Records.{entry_frame, spelled_size}
+use Rattle.journal_rules.specs.Stands.{record_frame}
+use Rattle.journal_rules.proofs.Journals.{all_reverse}
 use Rattle.site_journal.specs.Exact.{spelled_is_read}
 use Rattle.site_journal.specs.Frames.{frame_has_size}
 use Rattle.site_journal.specs.PayloadSizes.{payload_has_size}
 use Rattle.site_journal.specs.Spelling.{IsRecord, reading, spelling}
 use Rattle.actor_store.specs.declared.store.Standing.{Standing}
 use Rattle.actor_store.specs.declared.store.Standing.TheVariants.{Down}
-use Rattle.actor_store.specs.Store.{IsFoundAs, IsInOrder, is_up, taken_as}
-use Rattle.actor_store.proofs.StoreLaws.{sizes}
+use Rattle.actor_store.specs.Found.{IsFoundIn}
+use Rattle.actor_store.specs.Store.{IsFoundBehind, Old, is_up, stored}
+use Rattle.actor_store.proofs.FoundLaws.{found_in, left_in, whole_respelled}
 use Rattle.site_book.specs.Book.{Book, begun_in, blank, count_of}
 use Rattle.mdb_base.specs.Names.{tx_cmp}
 use Rattle.site_core.specs.declared.site.SiteCore.{SiteCore}
-use Rattle.site_core.specs.Found.{IsFoundOn, disk_with}
-use Rattle.site_core.specs.Made.{IsOpened}
+use Rattle.site_core.specs.Found.{IsFoundOn}
+use Rattle.site_core.specs.Made.{IsOpened, was_found}
 use Rattle.site_core.specs.Recovered.{LocalsOnce}
 use Rattle.site_core.specs.Stands.{IsIn, IsOfKind, IsStopped, Stands}
-use Rattle.site_core.specs.Store.{Keeps, Store}
+use Rattle.site_core.specs.Store.{Keeps, KeepsBehind, Store}
 use Rattle.site_core.proofs.BegunLaws.{none_opened}
-use Rattle.site_core.proofs.FoundBefore.{found_before}
+use Rattle.site_core.proofs.FoundPasts.{opened_was_found}
 use Rattle.site_core.proofs.OpenedDisk.{stands_behind, trimmed_off}
 use Rattle.site_core.proofs.OpenedOnce.{all_once}
 use Rattle.site_core.proofs.RememberLaws.{kept_records}
@@ -146,28 +146,36 @@ all_frames (r ∷ rs) f = (let size = payload_has_size r in let less = f.0.0 in 
 all_turned : (P : SiteRecord → Type 0) (rs : List SiteRecord) → AllByRecursion P (reverse rs) → AllByRecursion P rs
 all_turned P rs all = subst (AllByRecursion P) (reverse-reverse rs) (all_reverse P (reverse rs) all)
 
-short_first : (image : Image) (newest : SiteRecord) (older : List SiteRecord) (torn : ℕ) → IsFoundAs spelling IsRecord site_frame image (disk_with (record { records = newest ∷ older; torn = torn }))
+-- right frames of either version have payloads that are short enough
+short_first : (image : Image) (newest : SiteRecord) (older : List SiteRecord) (torn : ℕ) → IsFoundIn spelling IsRecord image (record { records = newest ∷ older; torn = torn })
     → site_payload (oldest newest older) < 2 ^ 16
 short_first image newest older torn f =
-    oldest_is (λ (r : SiteRecord). site_payload r < 2 ^ 16) newest older (all_turned (λ (r : SiteRecord). site_payload r < 2 ^ 16) (newest ∷ older)
-    (all_frames (reverse (newest ∷ older)) f.stands.all.records.right.are_frames))
+    let those = whole_respelled spelling IsRecord site_frame frame_has_size image f.entries f.whole in
+    let frames : AllByRecursion IsFrame (map (record_frame spelling) (reverse (newest ∷ older))) =
+    subst (λ (rs : List SiteRecord). AllByRecursion IsFrame (map (record_frame spelling) rs)) f.are those.right.are_frames in
+    oldest_is (λ (r : SiteRecord). site_payload r < 2 ^ 16) newest older (all_turned (λ (r : SiteRecord). site_payload r < 2 ^ 16) (newest ∷ older) (all_frames (reverse (newest ∷ older)) frames))
 
--- the bytes stand for the disk of the past that the journal stands for
-pub opened_found : (image : Image) (home : Home) (journal : Journal SiteRecord) → IsFoundOn image home journal → IsFoundAs spelling IsRecord site_frame image (Past.disk home (opened_site journal))
+-- behind some entries the bytes stand for the disk of the past that the journal stands for
+pub opened_found : (image : Image) (home : Home) (journal : Journal SiteRecord) → IsFoundOn image home journal
+    → (old : Old SiteRecord) × IsFoundBehind spelling IsRecord site_frame image old (Past.disk home (opened_site journal))
 opened_found image home journal f = by_records journal.records journal.torn f
   where
-    by_records : (rs : List SiteRecord) (torn : ℕ) → IsFoundOn image home (record { records = rs; torn = torn }) → IsFoundAs spelling IsRecord site_frame image (Past.disk home (opened_site (record { records = rs; torn = torn })))
+    by_records : (rs : List SiteRecord) (torn : ℕ) → IsFoundOn image home (record { records = rs; torn = torn })
+        → (old : Old SiteRecord) × IsFoundBehind spelling IsRecord site_frame image old (Past.disk home (opened_site (record { records = rs; torn = torn })))
     by_records [] torn g = let none : None ≡ Some home = g.is_home in cc
     by_records (newest ∷ older) torn g =
-        let found = disk_with (record { records = newest ∷ older; torn = torn }) in
         let first = oldest newest older in
         let is_first : home_of_first (Some first) ≡ Some home = g.is_home in
         let fits : AllByRecursion Fits (trimmed_off home newest older) =
-        fit_first home first (oldest_is IsRecord newest older g.stands.written) (short_first image newest older torn g.stands) is_first in
+        fit_first home first (oldest_is IsRecord newest older g.stands.in_range) (short_first image newest older torn g.stands) is_first in
         let s = stands_behind home newest older torn in
-        let all = ap (bytes_of site_frame) s.parts ∙ bytes_of_append site_frame (newest ∷ older) (trimmed_off home newest older) in
-        found_before spelling IsRecord site_frame frame_has_size image found (Past.disk home (opened_site (record { records = newest ∷ older; torn = torn }))) (trimmed_off home newest older)
-        g.stands refl (all_records (trimmed_off home newest older) fits) (all_payloads (trimmed_off home newest older) fits) s.parts s.border (omega (arith, s.long, s.border, all)) s.synced
+        found_in spelling IsRecord site_frame frame_has_size image (record { records = newest ∷ older; torn = torn }) (Past.disk home (opened_site (record { records = newest ∷ older; torn = torn })))
+        (trimmed_off home newest older) g.stands (all_records (trimmed_off home newest older) fits) (all_payloads (trimmed_off home newest older) fits) s.parts s.border s.long s.synced
+
+-- a store that keeps that disk behind them keeps it of that past
+pub found_kept : {tells : Bool} {seen : Seen} {store : Store} {rules : Disk SiteRecord} {trip : Option Trip} (journal : Journal SiteRecord) (old : Old SiteRecord) → KeepsBehind tells seen store old rules trip
+    → Keeps (was_found (opened_site journal)) tells seen store rules trip
+found_kept journal old k = record { old = old; none = (λ e. let both : true ≡ false = sym (opened_was_found journal) ∙ e in cc); behind = k }
 
 -- ---- the past
 
@@ -178,7 +186,7 @@ found_opened image home journal f = record {
   number = f.number;
   usable = f.usable;
   is_home = f.is_home;
-  rising = writes_rise journal.records f.stands.written;
+  rising = writes_rise journal.records f.stands.in_range;
 }
 
 found_once : (image : Image) (home : Home) (journal : Journal SiteRecord) → IsFoundOn image home journal → LocalsOnce (Past.records home (opened_site journal))
@@ -190,7 +198,7 @@ found_once image home journal f = by_records journal.records journal.torn f
 
 -- the core stands for it
 pub stands_opened : {E : Type 0} (stands : E → Lines.Start → List EngineLine → Type 0) (tells : Bool) (core : SiteCore E) (image : Image) (disk : Seen) (home : Home) (journal : Journal SiteRecord)
-    → IsFoundOn image home journal → Keeps tells disk core.store (Past.disk home (opened_site journal)) None → core.store.standing ≡ Down → IsOfKind stands core.engine home.engine → core.book ≡ blank
+    → IsFoundOn image home journal → Keeps (was_found (opened_site journal)) tells disk core.store (Past.disk home (opened_site journal)) None → core.store.standing ≡ Down → IsOfKind stands core.engine home.engine → core.book ≡ blank
     → core.protocol ≡ home.protocol → Stands stands tells core disk home (opened_site journal)
 stands_opened stands tells core image disk home journal f kept down engine book protocol =
     let o = found_opened image home journal f in
@@ -201,8 +209,8 @@ stands_opened stands tells core image disk home journal f kept down engine book 
         made = inl o;
         memory = record {
           records = kept_records tells disk core.store _ _ kept;
-          trip = kept.trip;
-          armed = kept.armed;
+          trip = kept.behind.trip;
+          armed = kept.behind.armed;
           standing = sym (ap (λ s. not (is_up s)) down);
           standing_in = subst P (sym down) here;
           begun = (λ tx. ap (λ (b : Book). begun_in b tx) book ∙ ap count_of (get-empty tx_cmp tx) ∙ sym (none_opened home (opened_site journal) o tx));
@@ -239,50 +247,20 @@ first_home (newest ∷ older) home is =
 
 -- a store that keeps the disk of that past has the journal's first record first
 pub found_first : (tells : Bool) (disk : Seen) (store : Store) (image : Image) (home : Home) (journal : Journal SiteRecord) → IsFoundOn image home journal
-    → Keeps tells disk store (Past.disk home (opened_site journal)) None → home_of_first (slice_get (records store.journal) 0) ≡ Some home
+    → Keeps (was_found (opened_site journal)) tells disk store (Past.disk home (opened_site journal)) None → home_of_first (slice_get (records store.journal) 0) ≡ Some home
 found_first tells disk store image home journal f kept =
     let read : records store.journal ≡ reverse journal.records = kept_records tells disk store _ _ kept ∙ ap reverse (found_journal image home journal f) in
     ap (λ l. home_of_first (slice_get l 0)) read ∙ first_home journal.records home f.is_home
 
 -- ---- what a core leaves
 
--- how many bytes stand behind the last whole frame
-abbrev torn_rest : Image → List SiteRecord → ℕ
-torn_rest image rs = length image.bytes - bytes_of site_frame rs
-
 -- what a core that stopped has on its disk is found there again, where it is usable
-pub left_found : {E : Type 0} (stands : E → Lines.Start → List EngineLine → Type 0) (tells : Bool) (core : SiteCore E) (seen : Seen) (home next : Home) (past : SitePast) (number : ℕ)
+pub left_found : {E : Type 0} (stands : E → Lines.Start → List EngineLine → Type 0) (tells : Bool) (core : SiteCore E) (seen : Seen) (home next : Home) (past : SitePast) (number : ℕ) → IsTrue tells
     → Stands stands tells core seen home past → core.store.standing ≡ Down → IsUsableSite number (Past.journal home past) → home_of_first (first_of (Past.journal home past)) ≡ Some next
-    → IsFoundOn seen.image next (record { records = Past.journal home past; torn = torn_rest seen.image (Past.journal home past) })
-left_found stands tells core seen home next past number k down usable is_home =
-    let rules = Past.disk home past in
-    let those = Past.journal home past in
-    let S : Standing → Type 0 = λ s. StandsFor spelling site_frame (taken_as s seen.image) rules in
-    let O : Standing → Type 0 = λ s. IsInOrder s core.store.journal rules in
-    let here : StandsFor spelling site_frame seen.image rules = subst S down k.stored.stands in
-    let settled : rules.synced ≡ rules.length = subst O down k.stored.in_order in
-    let n = sizes spelling reading IsRecord site_frame frame_has_size spelled_is_read seen.image rules here in
-    let whole = journal_stands spelling site_frame frame_has_size seen.image rules here in
-    let long : length seen.image.bytes ≡ length (spelled (record_frame spelling) (reverse those)) + length whole.rest = ap length whole.parts ∙ length-append (spelled (record_frame spelling) (reverse those)) whole.rest in
-    let counted = length-frames (map (record_frame spelling) (reverse those)) in
-    let size = sizes_agree spelling site_frame frame_has_size those in
-    let bytes : length seen.image.bytes ≡ bytes_of site_frame those + torn_rest seen.image those = omega (arith, long, counted, size) in
-    record {
-      stands = record {
-        stands = record {
-          front = [];
-          trimmed = refl;
-          all = record { records = whole; bytes = bytes; synced = omega (arith, n.0, n.1, settled, bytes) };
-          newer = those;
-          older = [];
-          parts = sym (append-nil those);
-          border = refl;
-        };
-        written = all_standing IsRecord site_frame rules.trimmed rules.records k.stored.written;
-        front = omega arith;
-        synced = refl;
-      };
-      number = number;
-      usable = usable;
-      is_home = is_home;
-    }
+    → IsFoundOn seen.image next (record { records = Past.journal home past; torn = length seen.image.bytes - spelled_size (entry_frame spelling) core.store.journal.entries })
+left_found stands tells core seen home next past number told k down usable is_home = record {
+  stands = left_in spelling reading IsRecord site_frame frame_has_size spelled_is_read tells told seen (stored core.store) k.stored.old (Past.disk home past) (Past.trip past) k.stored.behind down;
+  number = number;
+  usable = usable;
+  is_home = is_home;
+}

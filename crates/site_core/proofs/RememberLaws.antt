@@ -1,46 +1,40 @@
 -- What a core remembers behind a line: of a site that is up, and behind a stop.
-use Rattle.std.proofs.Common.{◌≡◌, ℕ, ◌≤◌, ◌==◌, leb, Bool, true, false, cond, not, ◌||◌, Option, Some, None, List, [], ◌∷◌, ◌++◌, length, map, reverse, take, refl, sym, ap, ap₂, ◌∙◌, subst}
+use Rattle.std.proofs.Common.{◌≡◌, ℕ, ◌≤◌, leb, Bool, true, false, not, ◌||◌, Option, Some, None, List, [], ◌∷◌, ◌++◌, length, reverse, take, refl, sym, ap, ◌∙◌, subst}
 use Rattle.std.proofs.lemmas.Bool.{cond-true, cond-false, le-leb, lt-leb}
-use Rattle.mdb_base.specs.declared.names.Tid.{Tid}
 use Rattle.mdb_base.specs.declared.names.Tx.{Tx}
 use Rattle.mdb_base.specs.Words.{map_some, when}
-use Rattle.fed_rules.specs.declared.answers.Answer.{Answer}
 use Rattle.fed_rules.specs.declared.answers.Answer.TheVariants as Say
 use Rattle.fed_rules.specs.declared.events.SiteEvent.{SiteEvent}
 use Rattle.fed_rules.specs.declared.events.SiteStep.{SiteStep}
-use Rattle.fed_rules.specs.declared.messages.FromSite.{FromSite}
 use Rattle.fed_rules.specs.declared.records.SiteRecord.{SiteRecord}
 use Rattle.fed_rules.specs.Disk.{Call, Stops, Disk, after_calls}
 use Rattle.fed_rules.specs.Disk as Rules
-use Rattle.fed_rules.specs.Happenings.{Trip, comes_up, is_down, quiet, set, stopped, stops, tripped, used}
+use Rattle.fed_rules.specs.Happenings.{Trip, comes_up, is_down, set, stopped, stops, tripped, used}
 use Rattle.fed_rules.specs.Runs as Lines
 use Rattle.fed_rules.specs.Runs.{EngineLine}
 use Rattle.fed_rules.specs.Site.{unless_tripped}
 use Rattle.fed_rules.specs.SitePast.{SiteHappening, SitePast, attempts_of, engine_lines, epoch_start, journal, trip_of}
 use Rattle.fed_rules.specs.SitePast as Past
-use Rattle.fed_rules.specs.SiteRecords.{Home, site_frame, start_of}
+use Rattle.fed_rules.specs.SiteRecords.{Home, site_frame}
 use Rattle.journal_disk.specs.Disk.{Seen}
 use Rattle.frame_journal.specs.Journal.{records}
-use Rattle.frame_journal.specs.Records.{as_written, values}
 use Rattle.actor_store.specs.declared.store.Standing.{Standing}
 use Rattle.actor_store.specs.declared.store.Standing.TheVariants.{Up, Down, Failing}
 use Rattle.actor_store.specs.Store.{Passes, is_up, trip_of_rules}
 use Rattle.actor_store.proofs.EndsLaws.{passes_none, used_none}
+use Rattle.actor_store.proofs.FromLaws.{from_later, from_trip}
 use Rattle.site_book.specs.Book.{begun_in}
 use Rattle.site_core.specs.declared.site.SiteCore.{SiteCore}
-use Rattle.site_core.specs.Stands.{Adds, Answers, Carries, Holds, IsIn, IsOfKind, IsStopped, IsUp, Remembers, Stands}
+use Rattle.site_core.specs.Stands.{Adds, Answers, Carries, IsIn, IsOfKind, IsStopped, IsUp, Remembers, Stands}
 use Rattle.site_core.specs.Recovered.{LocalsOnce}
+use Rattle.site_core.specs.Made.{opens, was_found}
 use Rattle.site_core.specs.Store.{Keeps, Store}
 use Rattle.site_core.proofs.OnceLaws.{AppendsOnce, once_calls}
 
-written_values : (entries : List SiteRecord) → values (map as_written entries) ≡ entries
-written_values [] = refl
-written_values (entry ∷ entries) = ap (λ es. entry ∷ es) (written_values entries)
-
 -- a store has the records that stand on its disk
-pub kept_records : (tells : Bool) (disk : Seen) (store : Store) (rules : Disk SiteRecord) (trip : Option Trip) → Keeps tells disk store rules trip
+pub kept_records : {found : Bool} (tells : Bool) (disk : Seen) (store : Store) (rules : Disk SiteRecord) (trip : Option Trip) → Keeps found tells disk store rules trip
     → records store.journal ≡ reverse (Rules.journal site_frame rules)
-kept_records tells disk store rules trip kept = ap values kept.records ∙ written_values (reverse (Rules.journal site_frame rules))
+kept_records tells disk store rules trip kept = kept.behind.are
 
 -- a line of a site that is up, which neither stops it nor sets a trip
 pub record IsPlain (x : SiteHappening) : Type 0 where
@@ -164,61 +158,60 @@ module _ {E : Type 0} (stands : E → Lines.Start → List EngineLine → Type 0
   module _ (tells : Bool) where
     -- behind a line that was carried out, with its disk calls
     pub carries_line : (old new : SiteCore E) (disk : Seen) (home : Home) (past : SitePast) (x : SiteHappening) → Remembers stands old home past → old.store.standing ≡ Up
-        → Keeps tells disk new.store (after_calls site_frame (Past.disk home past) x.calls) (used (length x.calls) (Past.trip past)) → new.store.standing ≡ Up
+        → Keeps (was_found past) tells disk new.store (after_calls site_frame (Past.disk home past) x.calls) (used (length x.calls) (Past.trip past)) → new.store.standing ≡ Up
         → IsPlain x → IsUp stands new home (x ∷ past) → ((tx : Tx) → begun_in new.book tx ≡ attempts_of (x ∷ past) tx) → new.protocol ≡ old.protocol
         → AppendsOnce (Past.disk home past) x.calls → Carries stands tells new disk home (x ∷ past)
     carries_line old new disk home past x m up kept here p now begun protocol fits =
         let in_force : used (length x.calls) (Past.trip past) ≡ Past.trip (x ∷ past) = sym (trip_used past x p) in
-        let T : Option Trip → Type 0 = λ t. Keeps tells disk new.store (after_calls site_frame (Past.disk home past) x.calls) t in
+        let T : Option Trip → Type 0 = λ t. Keeps (was_found past) tells disk new.store (after_calls site_frame (Past.disk home past) x.calls) t in
         let P : Standing → Type 0 = λ s. IsIn stands new s home (x ∷ past) in
         record {
           memory = record {
             records = kept_records tells disk new.store _ _ kept;
-            trip = kept.trip ∙ in_force;
-            armed = kept.armed;
+            trip = kept.behind.trip ∙ in_force;
+            armed = kept.behind.armed;
             standing = still_up past x p (up_is old home past m up) ∙ sym (ap (λ s. not (is_up s)) here);
             standing_in = subst P (sym here) now;
             begun = begun;
             protocol = protocol ∙ m.protocol;
             once = once_calls (Past.disk home past) x.calls fits m.once;
           };
-          stored = subst T in_force kept;
+          stored = from_later (opens x) (subst T in_force kept);
         }
 
     -- behind a stop
     pub carries_stop : (core : SiteCore E) (disk : Seen) (home : Home) (past : SitePast) (event : SiteEvent) (calls : List (Call SiteRecord))
-        → Keeps tells disk core.store (after_calls site_frame (Past.disk home past) calls) None → is_up core.store.standing ≡ false
+        → Keeps (was_found past) tells disk core.store (after_calls site_frame (Past.disk home past) calls) None → is_up core.store.standing ≡ false
         → IsOfKind stands core.engine home.engine → ((tx : Tx) → begun_in core.book tx ≡ attempts_of past tx) → core.protocol ≡ home.protocol
         → LocalsOnce (after_calls site_frame (Past.disk home past) calls).records → Carries stands tells core disk home (stop_line home past event calls ∷ past)
     carries_stop core disk home past event calls kept down engine begun protocol once = record {
       memory = record {
         records = kept_records tells disk core.store _ _ kept;
-        trip = kept.trip;
-        armed = kept.armed;
+        trip = kept.behind.trip;
+        armed = kept.behind.armed;
         standing = sym (ap not down);
         standing_in = in_stopped core core.store.standing home (stop_line home past event calls ∷ past) down (record { engine = engine; start = refl; lines = refl });
         begun = begun;
         protocol = protocol;
         once = once;
       };
-      stored = kept;
+      stored = from_later (opens (stop_line home past event calls)) kept;
     }
 
     -- a line without disk calls, on the same disk
-    pub carries_quiet : (old new : SiteCore E) (disk : Seen) (home : Home) (past : SitePast) (x : SiteHappening) → Keeps tells disk old.store (Past.disk home past) (Past.trip past) → new.store ≡ old.store
+    pub carries_quiet : (old new : SiteCore E) (disk : Seen) (home : Home) (past : SitePast) (x : SiteHappening) → Keeps (was_found past) tells disk old.store (Past.disk home past) (Past.trip past) → new.store ≡ old.store
         → x.calls ≡ [] → Remembers stands new home (x ∷ past) → Carries stands tells new disk home (x ∷ past)
     carries_quiet old new disk home past x stored store none m =
         let same : Past.disk home (x ∷ past) ≡ Past.disk home past = ap (after_calls site_frame (Past.disk home past)) none in
-        let P : Store → Type 0 = λ s. Keeps tells disk s (Past.disk home past) (Past.trip past) in
+        let P : Store → Type 0 = λ s. Keeps (was_found past) tells disk s (Past.disk home past) (Past.trip past) in
         let kept = subst P (sym store) stored in
-        let moved : Keeps tells disk new.store (Past.disk home past) (Past.trip (x ∷ past)) =
-        record { kept_on = kept.kept_on; stands = kept.stands; records = kept.records; are_records = kept.are_records; written = kept.written; front = kept.front; trip = m.trip; armed = kept.armed; in_order = kept.in_order } in
-        let Q : Disk SiteRecord → Type 0 = λ d. Keeps tells disk new.store d (Past.trip (x ∷ past)) in
-        record { memory = m; stored = subst Q (sym same) moved }
+        let moved : Keeps (was_found past) tells disk new.store (Past.disk home past) (Past.trip (x ∷ past)) = from_trip kept new.store.trip m.trip kept.behind.armed in
+        let Q : Disk SiteRecord → Type 0 = λ d. Keeps (was_found past) tells disk new.store d (Past.trip (x ∷ past)) in
+        record { memory = m; stored = from_later (opens x) (subst Q (sym same) moved) }
 
     -- the same past in other memory, on another disk that keeps the same
     pub carries_same : (old new : SiteCore E) (disk : Seen) (home : Home) (past : SitePast) → Remembers stands old home past
-        → Keeps tells disk new.store (Past.disk home past) (Past.trip past) → new.store.standing ≡ old.store.standing
+        → Keeps (was_found past) tells disk new.store (Past.disk home past) (Past.trip past) → new.store.standing ≡ old.store.standing
         → IsIn stands new old.store.standing home past → ((tx : Tx) → begun_in new.book tx ≡ begun_in old.book tx) → new.protocol ≡ old.protocol
         → Carries stands tells new disk home past
     carries_same old new disk home past m kept standing now begun protocol =
@@ -226,8 +219,8 @@ module _ {E : Type 0} (stands : E → Lines.Start → List EngineLine → Type 0
         record {
           memory = record {
             records = kept_records tells disk new.store _ _ kept;
-            trip = kept.trip;
-            armed = kept.armed;
+            trip = kept.behind.trip;
+            armed = kept.behind.armed;
             standing = m.standing ∙ sym (ap (λ s. not (is_up s)) standing);
             standing_in = subst P (sym standing) now;
             begun = (λ tx. begun tx ∙ m.begun tx);

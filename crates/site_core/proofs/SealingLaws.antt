@@ -26,6 +26,7 @@ use Rattle.site_history.proofs.Agreement.{live_is}
 use Rattle.site_core.specs.declared.site.SiteCore.{SiteCore}
 use Rattle.site_core.specs.Sealing.{StandsSealing}
 use Rattle.site_core.specs.Stands.{Answers, Breaks, Carries, IsIn, IsOfKind, IsUp}
+use Rattle.site_core.specs.Made.{was_found}
 use Rattle.site_core.specs.Store.{Ends, Keeps}
 use Rattle.site_core.proofs.OnceLaws.{AppendsOnce, once_stopped}
 use Rattle.site_core.proofs.RememberLaws.{answers_as, carries_same, carries_stop, epoch_kind, is_up_at, stop_line, trips_is, up_is}
@@ -46,7 +47,7 @@ module _ {E : Type 0} (stands : E → Lines.Start → List EngineLine → Type 0
   -- a trip comes within the disk calls of the line
   pub sealed_stopped : (old new : SiteCore E) (step : SiteStep) (disk disk' : Seen) (home : Home) (past : SitePast) (x y : SiteHappening) (kept : ℕ) (k : StandsSealing stands tells tid sealed old disk home past)
       → x ≡ y → AppendsOnce (Past.disk home past) y.calls
-      → Ends {A = ℕ} (Keeps tells disk' new.store) (Past.disk home past) (Past.trip past) y.calls (Err (Stopped kept))
+      → Ends {A = ℕ} (Keeps (was_found past) tells disk' new.store) (Past.disk home past) (Past.trip past) y.calls (Err (Stopped kept))
       → is_up new.store.standing ≡ false → new ≡ record old { store = new.store }
       → step ≡ record { answer = Say.Stopped kept; sends = None }
       → Answers stands tells step new disk' home past (unless_tripped home past x)
@@ -66,7 +67,7 @@ module _ {E : Type 0} (stands : E → Lines.Start → List EngineLine → Type 0
   -- one of them fails
   pub sealed_failed : (old new : SiteCore E) (disk disk' : Seen) (home : Home) (past : SitePast) (event : SiteEvent) (y : SiteHappening) (k : StandsSealing stands tells tid sealed old disk home past)
       → old.store.standing ≡ Up → GoesOn home past event y → AppendsOnce (Past.disk home past) y.calls
-      → Ends {A = ℕ} (Keeps tells disk' new.store) (Past.disk home past) (Past.trip past) y.calls (Err Failed)
+      → Ends {A = ℕ} (Keeps (was_found past) tells disk' new.store) (Past.disk home past) (Past.trip past) y.calls (Err Failed)
       → is_up new.store.standing ≡ false → new ≡ record old { store = new.store }
       → Breaks stands tells Err_is.Disk new disk' home past event
   sealed_failed old new disk disk' home past event y k up goes appends ends down is =
@@ -78,7 +79,7 @@ module _ {E : Type 0} (stands : E → Lines.Start → List EngineLine → Type 0
 
   -- where there is no memory for the record, the sealing was taken back
   pub unsealed_stands : (old new : SiteCore E) (disk disk' : Seen) (home : Home) (past : SitePast) (k : StandsSealing stands tells tid sealed old disk home past)
-      → old.store.standing ≡ Up → Keeps tells disk' new.store (Past.disk home past) (Past.trip past) → new.store.standing ≡ Up
+      → old.store.standing ≡ Up → Keeps (was_found past) tells disk' new.store (Past.disk home past) (Past.trip past) → new.store.standing ≡ Up
       → new ≡ record old { engine = new.engine; store = new.store } → stands new.engine (epoch_start home past) (engine_lines past)
       → Carries stands tells new disk' home past
   unsealed_stands old new disk disk' home past k up kept now is engine =

@@ -1,7 +1,7 @@
 -- What a failed disk call leaves is what a stop leaves that events make; and what a halt and a trip that is set leave.
 use Rattle.std.proofs.Common.{◌≡◌, ℕ, zero, suc, ◌+◌, ◌≤◌, ◌⊎◌, ◌||◌, min, Bool, true, false, not, Option, None, Err, List, [], ◌∷◌, ◌++◌, length, take, inl, inr, refl, sym, ap, ap₂, ◌∙◌, subst, arith}
 use Rattle.std.specs.Prelude.{option_to_list}
-use Rattle.std.proofs.lemmas.Bool.{cond-true, cond-false, ne_eqb}
+use Rattle.std.proofs.lemmas.Bool.{cond-false, ne_eqb}
 use Rattle.mdb_base.specs.declared.names.Tid.{Tid}
 use Rattle.mdb_base.specs.declared.names.Tx.{Tx}
 use Rattle.mdb_base.specs.Words.{map_some, when}
@@ -12,7 +12,7 @@ use Rattle.fed_rules.specs.declared.events.SiteEvent.TheVariants as Ev
 use Rattle.fed_rules.specs.declared.events.SiteStep.{SiteStep}
 use Rattle.fed_rules.specs.declared.records.SiteRecord.{SiteRecord}
 use Rattle.fed_rules.specs.Disk.{Call, Stops, Disk, after_call, after_calls, bytes_of, whole}
-use Rattle.fed_rules.specs.Happenings.{Trip, comes_up, is_down, quiet, set, stopped, stops, used}
+use Rattle.fed_rules.specs.Happenings.{comes_up, is_down, quiet, set, stopped, stops}
 use Rattle.fed_rules.specs.Runs as Lines
 use Rattle.fed_rules.specs.Runs.{EngineLine}
 use Rattle.fed_rules.specs.Site.{site_line, unless_tripped}
@@ -21,23 +21,25 @@ use Rattle.fed_rules.specs.SitePast as Past
 use Rattle.fed_rules.specs.SiteRecords.{Home, local_of, site_frame, start_of}
 use Rattle.journal_disk.specs.Disk.{Seen}
 use Rattle.actor_store.specs.declared.errors.StepErr.TheVariants as Err_is
-use Rattle.actor_store.specs.declared.store.Break.TheVariants.{Stopped, Failed}
+use Rattle.actor_store.specs.declared.store.Break.TheVariants.{Failed}
 use Rattle.actor_store.specs.declared.store.SetTrip.{SetTrip}
 use Rattle.actor_store.specs.declared.store.Standing.{Standing}
 use Rattle.actor_store.specs.declared.store.Standing.TheVariants.{Up, Down, Failing}
 use Rattle.actor_store.specs.Store.{IsArmed, StopsWith, is_up, trip_of_rules, trip_to}
 use Rattle.actor_store.proofs.EndsLaws.{used_none}
 use Rattle.site_book.specs.Book.{begun_in}
+use Rattle.actor_store.proofs.FromLaws.{from_later, from_trip}
 use Rattle.site_core.specs.declared.site.SiteCore.{SiteCore}
-use Rattle.site_core.specs.Stands.{Answers, Before, Breaks, Carries, IsIn, IsOfKind, IsStopped, IsUp, Remembers, Stands, StopAt, Within, behind, stopped_past}
+use Rattle.site_core.specs.Stands.{Answers, Before, Breaks, Carries, IsIn, IsOfKind, IsStopped, IsUp, Stands, StopAt, Within, stopped_past}
 use Rattle.site_core.specs.Recovered.{LocalsOnce}
+use Rattle.site_core.specs.Made.{opens, was_found}
 use Rattle.site_core.specs.Store.{Ends, Keeps, Store}
 use Rattle.site_core.proofs.NotesLaws.{notes_same}
 use Rattle.site_core.proofs.OnceLaws.{AppendsOnce, once_stopped}
 use Rattle.site_core.proofs.UpLaws.{closed_same}
 use Rattle.site_history.proofs.Founded.{whole-all}
 use Rattle.actor_store.proofs.TripLaws.{trip_to-rules, trip_to-armed}
-use Rattle.site_core.proofs.RememberLaws.{answers_as, carries_quiet, carries_stop, down_is, kept_records, kind_at, stop_line, stopped_at, stopped_is, trips_is, up_is}
+use Rattle.site_core.proofs.RememberLaws.{answers_as, carries_stop, down_is, kept_records, kind_at, stop_line, trips_is, up_is}
 
 -- the line of a trip that is set
 abbrev pub trip_line : ℕ → ℕ → SiteHappening
@@ -125,30 +127,30 @@ module _ {E : Type 0} (stands : E → Lines.Start → List EngineLine → Type 0
   -- what a failed call leaves where it comes behind some calls
   within_breaks : (core : SiteCore E) (disk : Seen) (home : Home) (past : SitePast) (event : SiteEvent) (x : SiteHappening) (n m cut : ℕ)
       → GoesOn home past event x → 1 ≤ m → m ≤ length x.calls → take n x.calls ≡ take m x.calls
-      → Keeps tells disk core.store (after_calls site_frame (Past.disk home past) (take n x.calls ++ Stops cut ∷ [])) None → is_up core.store.standing ≡ false
+      → Keeps (was_found past) tells disk core.store (after_calls site_frame (Past.disk home past) (take n x.calls ++ Stops cut ∷ [])) None → is_up core.store.standing ≡ false
       → IsOfKind stands core.engine home.engine → ((tx : Tx) → begun_in core.book tx ≡ attempts_of past tx) → core.protocol ≡ home.protocol
       → AppendsOnce (Past.disk home past) x.calls → LocalsOnce (Past.records home past) → Breaks stands tells Err_is.Disk core disk home past event
   within_breaks core disk home past event x n m cut goes some few same kept down engine begun protocol fits once =
-      let K : List (Call SiteRecord) → Type 0 = λ cs. Keeps tells disk core.store (after_calls site_frame (Past.disk home past) (cs ++ Stops cut ∷ [])) None in
+      let K : List (Call SiteRecord) → Type 0 = λ cs. Keeps (was_found past) tells disk core.store (after_calls site_frame (Past.disk home past) (cs ++ Stops cut ∷ [])) None in
       breaks_as core disk home past event (Within m cut) _ (within_is home past event x m cut goes some few)
       (carries_stop stands tells core disk home (trip_line m cut ∷ past) x.event (take m x.calls ++ Stops cut ∷ []) (subst K same kept) down engine begun protocol (once_stopped (Past.disk home past) m cut x.calls fits once)) refl
 
   -- a disk call of an event of a site that is up fails
   pub breaks_up : (core : SiteCore E) (disk : Seen) (home : Home) (past : SitePast) (event : SiteEvent) (x : SiteHappening)
-      → is_down past ≡ false → GoesOn home past event x → Ends {A = ℕ} (Keeps tells disk core.store) (Past.disk home past) (Past.trip past) x.calls (Err Failed)
+      → is_down past ≡ false → GoesOn home past event x → Ends {A = ℕ} (Keeps (was_found past) tells disk core.store) (Past.disk home past) (Past.trip past) x.calls (Err Failed)
       → is_up core.store.standing ≡ false → IsOfKind stands core.engine home.engine → ((tx : Tx) → begun_in core.book tx ≡ attempts_of past tx) → core.protocol ≡ home.protocol
       → AppendsOnce (Past.disk home past) x.calls → LocalsOnce (Past.records home past) → Breaks stands tells Err_is.Disk core disk home past event
   breaks_up core disk home past event x up goes (n, cut, kept) down engine begun protocol fits once = from (first_calls n x.calls) where
     from : (take n x.calls ≡ []) ⊎ ((m : ℕ) × (1 ≤ m) × (m ≤ length x.calls) × (take n x.calls ≡ take m x.calls)) → Breaks stands tells Err_is.Disk core disk home past event
     from (inl none) =
-        let K : List (Call SiteRecord) → Type 0 = λ cs. Keeps tells disk core.store (after_calls site_frame (Past.disk home past) (cs ++ Stops cut ∷ [])) None in
+        let K : List (Call SiteRecord) → Type 0 = λ cs. Keeps (was_found past) tells disk core.store (after_calls site_frame (Past.disk home past) (cs ++ Stops cut ∷ [])) None in
         breaks_as core disk home past event (Before cut) _ (before_up home past event cut up)
         (carries_stop stands tells core disk home (trip_line 0 0 ∷ past) (Ev.Halt cut) (Stops cut ∷ []) (subst K none kept) down engine begun protocol (once_stopped (Past.disk home past) 0 cut [] tt once)) refl
     from (inr (m, some, few, same)) = within_breaks core disk home past event x n m cut goes some few same kept down engine begun protocol fits once
 
   -- a site that is down stays so, with its disk as it was and no trip
   pub breaks_down : (core : SiteCore E) (disk : Seen) (home : Home) (past : SitePast) (event : SiteEvent) → is_down past ≡ true
-      → Keeps tells disk core.store (Past.disk home past) None → is_up core.store.standing ≡ false
+      → Keeps (was_found past) tells disk core.store (Past.disk home past) None → is_up core.store.standing ≡ false
       → IsOfKind stands core.engine home.engine → epoch_start home past ≡ start_of home (Past.records home past) → engine_lines past ≡ []
       → ((tx : Tx) → begun_in core.book tx ≡ attempts_of past tx) → core.protocol ≡ home.protocol
       → LocalsOnce (Past.records home past) → Breaks stands tells Err_is.Disk core disk home past event
@@ -158,8 +160,8 @@ module _ {E : Type 0} (stands : E → Lines.Start → List EngineLine → Type 0
       (record {
         memory = record {
           records = kept_records tells disk core.store _ _ kept;
-          trip = kept.trip;
-          armed = kept.armed;
+          trip = kept.behind.trip;
+          armed = kept.behind.armed;
           standing = down ∙ sym (ap not still);
           standing_in = from core.store.standing still (record { engine = engine; start = start; lines = lines });
           begun = begun;
@@ -176,7 +178,7 @@ module _ {E : Type 0} (stands : E → Lines.Start → List EngineLine → Type 0
   -- a disk call of an event of a site that is down fails
   pub breaks_start : (core : SiteCore E) (disk : Seen) (home : Home) (past : SitePast) (event : SiteEvent) (x : SiteHappening) → is_down past ≡ true → GoesOn home past event x
       → (Past.disk home past).synced ≡ (Past.disk home past).length → bytes_of site_frame (Past.records home past) ≤ (Past.disk home past).length
-      → Ends {A = ℕ} (Keeps tells disk core.store) (Past.disk home past) (Past.trip past) x.calls (Err Failed)
+      → Ends {A = ℕ} (Keeps (was_found past) tells disk core.store) (Past.disk home past) (Past.trip past) x.calls (Err Failed)
       → is_up core.store.standing ≡ false → IsOfKind stands core.engine home.engine
       → epoch_start home past ≡ start_of home (Past.records home past) → engine_lines past ≡ []
       → ((tx : Tx) → begun_in core.book tx ≡ attempts_of past tx) → core.protocol ≡ home.protocol
@@ -184,15 +186,15 @@ module _ {E : Type 0} (stands : E → Lines.Start → List EngineLine → Type 0
   breaks_start core disk home past event x down goes synced within (n, cut, kept) still engine start lines begun protocol fits once = from (first_calls n x.calls) where
     from : (take n x.calls ≡ []) ⊎ ((m : ℕ) × (1 ≤ m) × (m ≤ length x.calls) × (take n x.calls ≡ take m x.calls)) → Breaks stands tells Err_is.Disk core disk home past event
     from (inl none) =
-        let K : List (Call SiteRecord) → Type 0 = λ cs. Keeps tells disk core.store (after_calls site_frame (Past.disk home past) (cs ++ Stops cut ∷ [])) None in
-        let R : Disk SiteRecord → Type 0 = λ d. Keeps tells disk core.store d None in
+        let K : List (Call SiteRecord) → Type 0 = λ cs. Keeps (was_found past) tells disk core.store (after_calls site_frame (Past.disk home past) (cs ++ Stops cut ∷ [])) None in
+        let R : Disk SiteRecord → Type 0 = λ d. Keeps (was_found past) tells disk core.store d None in
         breaks_down core disk home past event down (subst R (stop_same (Past.disk home past) cut synced within) (subst K none kept)) still engine start lines begun protocol once
     from (inr (m, some, few, same)) = within_breaks core disk home past event x n m cut goes some few same kept still engine begun protocol fits once
 
   -- a halt
   pub halt_stops : (old new : SiteCore E) (step : SiteStep) (disk disk' : Seen) (home : Home) (past : SitePast) (cut kept : ℕ)
       → Stands stands tells old disk home past → old.store.standing ≡ Up
-      → StopsWith site_frame (Keeps tells disk' new.store) (Past.disk home past) cut kept
+      → StopsWith site_frame (Keeps (was_found past) tells disk' new.store) (Past.disk home past) cut kept
       → new.store.standing ≡ Down → new.engine ≡ old.engine → new.book ≡ old.book → new.protocol ≡ old.protocol
       → step ≡ record { answer = Say.Stopped kept; sends = None }
       → Answers stands tells step new disk' home past (site_line home past (Ev.Halt cut))
@@ -236,18 +238,8 @@ module _ {E : Type 0} (stands : E → Lines.Start → List EngineLine → Type 0
   stands_still old new step disk home past event answer to k is goes stays none sets armed up says =
       let m = k.holds.memory in
       let in_force : set (trip_of event) (Past.trip past) ≡ Past.trip (quiet event answer ∷ past) = ap (set (trip_of event)) (sym (used_none (Past.trip past))) ∙ sym (cond-false _ _ _ goes) in
-      let moved : Keeps tells disk (record old.store { trip = to }) (Past.disk home past) (Past.trip (quiet event answer ∷ past)) = record {
-        kept_on = k.stored.kept_on;
-        stands = k.stored.stands;
-        records = k.stored.records;
-        are_records = k.stored.are_records;
-        written = k.stored.written;
-        front = k.stored.front;
-        trip = sets ∙ in_force;
-        armed = armed;
-        in_order = k.stored.in_order;
-      } in
-      let P : Store → Type 0 = λ s. Keeps tells disk s (Past.disk home past) (Past.trip (quiet event answer ∷ past)) in
+      let moved : Keeps (was_found past) tells disk (record old.store { trip = to }) (Past.disk home past) (Past.trip (quiet event answer ∷ past)) = from_trip k.stored to (sets ∙ in_force) armed in
+      let P : Store → Type 0 = λ s. Keeps (was_found past) tells disk s (Past.disk home past) (Past.trip (quiet event answer ∷ past)) in
       let store : new.store ≡ record old.store { trip = to } = ap (λ (c : SiteCore E). c.store) is in
       let kept = subst P (sym store) moved in
       let Q : Standing → Type 0 = λ s. IsIn stands new s home (quiet event answer ∷ past) in
@@ -257,15 +249,15 @@ module _ {E : Type 0} (stands : E → Lines.Start → List EngineLine → Type 0
         carries = record {
           memory = record {
             records = kept_records tells disk new.store _ _ kept;
-            trip = kept.trip;
-            armed = kept.armed;
+            trip = kept.behind.trip;
+            armed = kept.behind.armed;
             standing = cond-false _ _ _ goes ∙ cond-false _ _ _ stays ∙ m.standing ∙ ap (λ s. not (is_up s)) (sym (ap (λ (s : Store). s.standing) store));
             standing_in = subst Q (sym (ap (λ (s : Store). s.standing) store)) (still old.store.standing refl m.standing_in);
             begun = (λ tx. ap (λ (c : SiteCore E). begun_in c.book tx) is ∙ m.begun tx ∙ sym (cond-false _ _ _ (none tx)));
             protocol = ap (λ (c : SiteCore E). c.protocol) is ∙ m.protocol;
             once = m.once;
           };
-          stored = kept;
+          stored = from_later (opens (quiet event answer)) kept;
         };
       } where
         quiet_test : (stops answer || comes_up answer) ≡ false

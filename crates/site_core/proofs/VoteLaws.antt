@@ -46,7 +46,7 @@ use Rattle.site_book.specs.Book.{Book, begun_in, closes, live_in, live_part, pro
 use Rattle.site_book.proofs.Followed.{calls_well}
 use Rattle.site_history.proofs.Agreement.{live_is}
 use Rattle.site_core.specs.declared.site.SiteCore.{SiteCore}
-use Rattle.site_core.specs.Made.{was_local}
+use Rattle.site_core.specs.Made.{was_local, was_found}
 use Rattle.site_core.specs.Notes.{Notes, NotesPast}
 use Rattle.site_core.specs.Operations.{finished_ticket}
 use Rattle.site_core.specs.Sealing.{HasFinished, SealsLive, StandsSealing}
@@ -356,6 +356,16 @@ module _ {E : Type 0} (stands : E → Lines.Start → List EngineLine → Type 0
         }
 
     module _ (tid : Tid) (sealed : Sealed) where
+      -- one whose engine sealed the attempt too
+      pub reserved_sealing : (core : SiteCore E) (doubts : Doubts.Book) (disk : Seen) (home : Home) (past : SitePast) → core.store.standing ≡ Up → doubts.doubts ≡ core.doubts.doubts
+          → StandsSealing stands tells tid sealed core disk home past → StandsSealing stands tells tid sealed (record core { doubts = doubts }) disk home past
+      reserved_sealing core doubts disk home past up same k = record {
+        engine = k.engine;
+        stood = reserved_stands (record core { engine = k.engine }) doubts disk home past up same k.stood;
+        sealing = k.sealing;
+        seals = k.seals;
+      }
+
       -- the record fits a frame
       pub vote_fits : (core : SiteCore E) (disk : Seen) (home : Home) (past : SitePast) (ticket : ℕ) (k : StandsSealing stands tells tid sealed core disk home past) → core.store.standing ≡ Up
           → IsPayload (spelling (Rec.Prepared tid core.epoch sealed.number ticket sealed.writes))
@@ -381,7 +391,7 @@ module _ {E : Type 0} (stands : E → Lines.Start → List EngineLine → Type 0
       -- the forced record ends as the line says
       pub vote_done : (old new : SiteCore E) (step : SiteStep) (disk disk' : Seen) (home : Home) (past : SitePast) (n ticket : ℕ) (k : StandsSealing stands tells tid sealed old disk home past)
           → old.store.standing ≡ Up → was_local tid.tx past ≡ false → doubt_about tid old.doubts.doubts ≡ None → sealed.ticket ≡ Some ticket → HasFinished tid n home past
-          → Passes (Past.trip past) 2 × Keeps tells disk' new.store (after_calls site_frame (Past.disk home past) (vote_line tid old.epoch n sealed ticket).calls) (used 2 (Past.trip past))
+          → Passes (Past.trip past) 2 × Keeps (was_found past) tells disk' new.store (after_calls site_frame (Past.disk home past) (vote_line tid old.epoch n sealed ticket).calls) (used 2 (Past.trip past))
           → new.store.standing ≡ Up → new ≡ record old { book = seals tid old.book; doubts = new.doubts; store = new.store }
           → new.doubts.doubts ≡ inserted stands_before (record { tid = tid; epoch = old.epoch; ticket = ticket }) old.doubts.doubts
           → step ≡ record { answer = Say.VotesYes tid ticket; sends = Some (From.Vote tid (Some ticket)) }
@@ -422,7 +432,7 @@ module _ {E : Type 0} (stands : E → Lines.Start → List EngineLine → Type 0
 
       pub vote_stopped : (old new : SiteCore E) (step : SiteStep) (disk disk' : Seen) (home : Home) (past : SitePast) (n ticket kept : ℕ) (k : StandsSealing stands tells tid sealed old disk home past)
           → old.store.standing ≡ Up → doubt_about tid old.doubts.doubts ≡ None → sealed.ticket ≡ Some ticket → HasFinished tid n home past
-          → Ends {A = ℕ} (Keeps tells disk' new.store) (Past.disk home past) (Past.trip past) (vote_line tid old.epoch n sealed ticket).calls (Err (Stopped kept))
+          → Ends {A = ℕ} (Keeps (was_found past) tells disk' new.store) (Past.disk home past) (Past.trip past) (vote_line tid old.epoch n sealed ticket).calls (Err (Stopped kept))
           → is_up new.store.standing ≡ false → new ≡ record old { store = new.store }
           → step ≡ record { answer = Say.Stopped kept; sends = None }
           → Answers stands tells step new disk' home past (unless_tripped home past (of_prepare home past tid old.epoch n))
@@ -432,7 +442,7 @@ module _ {E : Type 0} (stands : E → Lines.Start → List EngineLine → Type 0
 
       pub vote_failed : (old new : SiteCore E) (disk disk' : Seen) (home : Home) (past : SitePast) (n ticket : ℕ) (k : StandsSealing stands tells tid sealed old disk home past)
           → old.store.standing ≡ Up → doubt_about tid old.doubts.doubts ≡ None → sealed.ticket ≡ Some ticket → HasFinished tid n home past
-          → Ends {A = ℕ} (Keeps tells disk' new.store) (Past.disk home past) (Past.trip past) (vote_line tid old.epoch n sealed ticket).calls (Err Failed)
+          → Ends {A = ℕ} (Keeps (was_found past) tells disk' new.store) (Past.disk home past) (Past.trip past) (vote_line tid old.epoch n sealed ticket).calls (Err Failed)
           → is_up new.store.standing ≡ false → new ≡ record old { store = new.store }
           → Breaks stands tells Err_is.Disk new disk' home past (Ev.Give (To.Prepare tid old.epoch n))
       vote_failed old new disk disk' home past n ticket k up absent given finished ends down is =

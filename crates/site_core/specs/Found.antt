@@ -1,27 +1,20 @@
 -- A journal that is found on the disk of a site whose core is to go on from it.
-use Rattle.std.specs.Prelude.{ℕ, ◌≡◌, ◌+◌, Some, List}
+use Rattle.std.specs.Prelude.{ℕ, ◌≡◌, Some, List}
 use Rattle.fed_rules.specs.declared.records.SiteRecord.{SiteRecord}
-use Rattle.fed_rules.specs.Disk.{Disk, bytes_of}
 use Rattle.fed_rules.specs.Found.{Journal}
 use Rattle.fed_rules.specs.Reopened.{first_of}
 use Rattle.fed_rules.specs.Runs as Lines
 use Rattle.fed_rules.specs.Runs.{EngineLine}
-use Rattle.fed_rules.specs.SiteRecords.{Home, site_frame}
+use Rattle.fed_rules.specs.SiteRecords.{Home}
 use Rattle.fed_rules.specs.Usable.{IsUsableSite, home_of_first}
 use Rattle.journal_disk.specs.Disk.{Image}
 use Rattle.site_journal.specs.Spelling.{IsRecord, spelling}
-use Rattle.actor_store.specs.Store.{IsFoundAs}
+use Rattle.actor_store.specs.Found.{IsFoundIn}
 use Rattle.site_core.specs.Stands.{IsOfKind}
-
--- the disk on which this journal stands with its torn rest, all of it synced and nothing in front of it
-abbrev pub disk_with : Journal SiteRecord → Disk SiteRecord
-disk_with journal =
-    let length : ℕ = bytes_of site_frame journal.records + journal.torn in
-    record { records = journal.records; length = length; synced = length; trimmed = 0 }
 
 -- this journal stands in the bytes, in records of the format, and is usable as that of this site
 pub record IsFoundOn (image : Image) (home : Home) (journal : Journal SiteRecord) : Type 0 where
-  pub stands : IsFoundAs spelling IsRecord site_frame image (disk_with journal)
+  pub stands : IsFoundIn spelling IsRecord image journal
   pub number : ℕ
   pub usable : IsUsableSite number journal.records
   pub is_home : home_of_first (first_of journal.records) ≡ Some home

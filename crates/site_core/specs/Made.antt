@@ -1,5 +1,5 @@
 -- The pasts of a site that events make: each line is the rules' answer to an event that may come there.
-use Rattle.std.specs.Prelude.{ℕ, ◌≡◌, ◌⊎◌, Bool, false, Some, [], ◌∷◌}
+use Rattle.std.specs.Prelude.{ℕ, ◌≡◌, ◌⊎◌, ◌&&◌, Bool, true, false, Some, [], ◌∷◌}
 use Rattle.mdb_base.specs.declared.names.Tid.{Tid}
 use Rattle.mdb_base.specs.declared.names.Tx.{Tx}
 use Rattle.mdb_base.specs.Names.{same_tid, same_tx}
@@ -16,6 +16,7 @@ use Rattle.fed_rules.specs.SitePast.{SiteHappening, SitePast}
 use Rattle.fed_rules.specs.SiteRecords.{Home}
 use Rattle.fed_rules.specs.Usable.{IsUsableSite, home_of_first}
 use Rattle.site_history.specs.FoundSites.{WritesRise}
+use Rattle.actor_store.specs.Store.{writes}
 pub use Rattle.fed_rules.specs.Site_of.{about}
 
 -- whether the event is of a local attempt of this transaction
@@ -47,6 +48,19 @@ begins_tid tid answer = false
 -- whether the attempt was begun as a local one
 abbrev pub was_begun : Tid → SitePast → Bool
 was_begun tid past = some_of (λ x. begins_tid tid x.answer) past
+
+-- whether the event is a halt
+abbrev pub is_halt : SiteEvent → Bool
+is_halt (Ev.Halt cut) = true
+is_halt event = false
+
+-- whether the line begins a past with a journal that was found: it is a halt, and the records of the journal are what it writes
+abbrev pub opens : SiteHappening → Bool
+opens x = is_halt x.event && writes x.calls
+
+-- whether the past goes on from a journal that was found
+abbrev pub was_found : SitePast → Bool
+was_found past = some_of opens past
 
 -- local and global transactions are told apart: an event of a local attempt names no transaction that an earlier message was about, and a
 -- message is about none that an earlier event of a local attempt named

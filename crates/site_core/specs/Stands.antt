@@ -1,5 +1,5 @@
 -- What the core of a site stands for: a home, and the list of what happened there, the newest first.
-use Rattle.std.specs.Prelude.{ℕ, ◌≡◌, ◌==◌, Bool, true, not, option_to_list, List, [], ◌∷◌, reverse}
+use Rattle.std.specs.Prelude.{ℕ, ◌≡◌, Bool, true, not, option_to_list, List, [], ◌∷◌, reverse}
 use Rattle.mdb_base.specs.declared.names.Engine.{Engine}
 use Rattle.mdb_base.specs.declared.names.Tid.{Tid}
 use Rattle.mdb_base.specs.declared.names.Tx.{Tx}
@@ -25,7 +25,7 @@ use Rattle.actor_store.specs.declared.errors.StepErr.TheVariants as Err_is
 use Rattle.actor_store.specs.declared.store.Standing.{Standing}
 use Rattle.actor_store.specs.declared.store.Standing.TheVariants.{Up, Down, Failing}
 use Rattle.actor_store.specs.Store.{IsArmed, is_up, trip_of_rules}
-use Rattle.site_core.specs.Made.{IsGoingOn}
+use Rattle.site_core.specs.Made.{IsGoingOn, was_found}
 use Rattle.site_core.specs.Notes.{NotesPast}
 use Rattle.site_core.specs.Recovered.{LocalsOnce}
 use Rattle.site_core.specs.Store.{Keeps}
@@ -76,12 +76,12 @@ pub record Holds {E : Type 0} (stands : E → Lines.Start → List EngineLine �
 -- the core, with this disk, stands for it
 pub record Stands {E : Type 0} (stands : E → Lines.Start → List EngineLine → Type 0) (tells : Bool) (core : SiteCore E) (disk : Seen) (home : Home) (past : SitePast) : Type 0 where
   pub holds : Holds stands core home past
-  pub stored : Keeps tells disk core.store (Past.disk home past) (Past.trip past)
+  pub stored : Keeps (was_found past) tells disk core.store (Past.disk home past) (Past.trip past)
 
 -- the core, with this disk, has this past in memory and on the disk
 pub record Carries {E : Type 0} (stands : E → Lines.Start → List EngineLine → Type 0) (tells : Bool) (core : SiteCore E) (disk : Seen) (home : Home) (past : SitePast) : Type 0 where
   pub memory : Remembers stands core home past
-  pub stored : Keeps tells disk core.store (Past.disk home past) (Past.trip past)
+  pub stored : Keeps (was_found past) tells disk core.store (Past.disk home past) (Past.trip past)
 
 -- the step says and sends what the line does, and the core has the line in memory
 pub record Adds {E : Type 0} (stands : E → Lines.Start → List EngineLine → Type 0) (step : SiteStep) (core : SiteCore E) (home : Home) (past : SitePast) (x : SiteHappening) : Type 0 where

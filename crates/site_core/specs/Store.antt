@@ -14,9 +14,13 @@ use Rattle.actor_store.specs.Store as actor
 abbrev pub Store : Type 0
 Store = ActorStore SiteRecord SiteFormat
 
--- on this disk the store stands for the disk of the rules with this trip in force
-abbrev pub Keeps : Bool → Seen → Store → Disk SiteRecord → Option Trip → Type 0
-Keeps tells seen store rules in_force = actor.Keeps spelling IsRecord site_frame tells seen (actor.stored store) rules in_force
+-- on this disk the store stands for the disk of the rules with this trip in force, behind these entries that were found
+abbrev pub KeepsBehind : Bool → Seen → Store → actor.Old SiteRecord → Disk SiteRecord → Option Trip → Type 0
+KeepsBehind tells seen store old rules in_force = actor.KeepsBehind spelling IsRecord site_frame tells seen (actor.stored store) old rules in_force
+
+-- behind some that were found, or behind none where the site began with an empty disk
+abbrev pub Keeps : Bool → Bool → Seen → Store → Disk SiteRecord → Option Trip → Type 0
+Keeps found tells seen store rules in_force = actor.KeepsFrom spelling IsRecord site_frame found tells seen (actor.stored store) rules in_force
 
 abbrev pub stopped_disk : ℕ → ℕ → Disk SiteRecord → List (Call SiteRecord) → Disk SiteRecord
 stopped_disk n cut rules calls = actor.stopped_disk site_frame n cut rules calls

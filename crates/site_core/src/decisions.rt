@@ -12,13 +12,13 @@ ghost use Rattle.fed_rules.specs.SiteRecords.{Home};
 ghost use Rattle.frame_journal.specs.Journal.{HasRoom, written_size};
 ghost use Rattle.journal_disk.specs.Frames.{IsPayload};
 ghost use Rattle.site_journal.specs.Spelling.{InRange, spelling};
-ghost use Rattle.actor_store.specs.Store.{SomeKept, is_up};
+ghost use Rattle.actor_store.specs.Store.{Old, SomeKeptBehind, is_up};
 ghost use Rattle.engine_contract.specs.Calls.{CanCommit as CanCommitRun};
 ghost use Rattle.engine_contract.specs.Past.{AddsLine, SomePast as SomeLines};
 ghost use Rattle.prepared_state.specs.Book.{doubt_about};
 ghost use Rattle.site_core.specs.Stands.{Answers, Breaks, Stands};
 ghost use Rattle.site_core.specs.Steps.{CanDecide, EachPast, SomePast};
-ghost use Rattle.site_core.specs.Store.{Ends, Keeps};
+ghost use Rattle.site_core.specs.Store.{Ends, KeepsBehind};
 
 use crate::answers::says;
 use crate::site::SiteCore;
@@ -114,13 +114,13 @@ impl<E: LocalEngine> SiteCore<E> {
         decision: Decision,
     ) -> Result<(), Break>
         requires told { IsTrue D.tells }
-        requires kept { SomeKept (Keeps D.tells (D.seen disk.old) self.old.store) }
+        requires kept { SomeKeptBehind (KeepsBehind D.tells (D.seen disk.old) self.old.store) }
         requires up { self.old.store.standing ≡ Standing.Up }
         requires reserved { HasRoom (written_size spelling entry) self.old.store.journal }
         requires in_range { InRange entry }
         requires payload { IsPayload (spelling entry) }
-        ensures ends { (rules : RulesDisk SiteRecord) (trip : Option Trip) → Keeps D.tells (D.seen disk.old) self.old.store rules trip
-            → Ends (Keeps D.tells (D.seen disk.new) self.new.store) rules trip (Append entry ∷ cond (forces self.old.protocol decision) (Sync ∷ []) []) result }
+        ensures ends { (old : Old SiteRecord) (rules : RulesDisk SiteRecord) (trip : Option Trip) → KeepsBehind D.tells (D.seen disk.old) self.old.store old rules trip
+            → Ends (KeepsBehind D.tells (D.seen disk.new) self.new.store old) rules trip (Append entry ∷ cond (forces self.old.protocol decision) (Sync ∷ []) []) result }
         ensures standing { OnOk result (self.new.store.standing ≡ Standing.Up) }
         ensures down { OnErr result (is_up self.new.store.standing ≡ false) }
         ensures rest { self.new ≡ record self.old { store = self.new.store } }

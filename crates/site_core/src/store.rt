@@ -1,5 +1,5 @@
 //! The journal of a new site on its disk.
-ghost use Rattle.std.specs.Prelude.{◌≡◌, ◌≤◌, ◌+◌, [], ◌∷◌, None, Some, IfOk, IsErrOf, IsTrue, length, slice_get};
+ghost use Rattle.std.specs.Prelude.{◌≡◌, ◌≤◌, ◌+◌, [], ◌∷◌, false, None, Some, IfOk, IsErrOf, IsTrue, length, slice_get};
 ghost use Rattle.mdb_base.specs.Counts.{HasCauseOf};
 ghost use Rattle.fed_rules.specs.Disk.{Append, Sync, after_calls, empty_disk};
 ghost use Rattle.fed_rules.specs.SitePast.{disk as disk_of, set_up_calls};
@@ -34,7 +34,7 @@ pub fn set_up_store<D: Disk>(
     requires empty { (D.seen disk.old).size ≡ 0 }
     requires site { IsSite site }
     requires few { length items ≤ 4096 }
-    ensures keeps { IfOk result (λ store. Keeps D.tells (D.seen disk.new) store
+    ensures keeps { IfOk result (λ store. Keeps false D.tells (D.seen disk.new) store
         (disk_of (record { site = site; engine = engine; protocol = protocol; items = items }) []) None) }
     ensures up { IfOk result (λ store. store.standing ≡ Standing.Up) }
     ensures memory { IsErrOf result StepErr.Memory → (D.seen disk.new).image ≡ (D.seen disk.old).image }
@@ -77,7 +77,7 @@ fn begin_journal<D: Disk>(
     start: SiteRecord,
 ) -> Result<SiteStore, StepErr>
     requires told { IsTrue D.tells }
-    requires kept { Keeps D.tells (D.seen disk.old) store empty_disk None }
+    requires kept { Keeps false D.tells (D.seen disk.old) store empty_disk None }
     requires up { store.standing ≡ Standing.Up }
     requires places { store.journal.places ≡ 2 }
     requires room { store.journal.room ≡ written_size spelling setup + written_size spelling start }
@@ -85,7 +85,7 @@ fn begin_journal<D: Disk>(
     requires start { InRange start }
     requires setup_fits { IsPayload (spelling setup) }
     requires start_fits { IsPayload (spelling start) }
-    ensures keeps { IfOk result (λ store. Keeps D.tells (D.seen disk.new) store
+    ensures keeps { IfOk result (λ store. Keeps false D.tells (D.seen disk.new) store
         (after_calls site_frame empty_disk (Append setup ∷ Append start ∷ Sync ∷ [])) None) }
     ensures up { IfOk result (λ store. store.standing ≡ Standing.Up) }
     ensures memory { IsErrOf result StepErr.Memory → (D.seen disk.new).image ≡ (D.seen disk.old).image }

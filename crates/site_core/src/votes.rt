@@ -1,5 +1,5 @@
 //! The vote of a site on a subtransaction: its run is sealed, its Prepared record is forced, and the site is in doubt of it.
-ghost use Rattle.std.specs.Prelude.{◌≡◌, ◌≤◌, ℕ, None, Some, IfOk, IfErr, IsTrue};
+ghost use Rattle.std.specs.Prelude.{◌≡◌, ℕ, None, Some, IfOk, IfErr, IsTrue};
 ghost use Rattle.mdb_base.specs.Counts.{HasCauseOf};
 ghost use Rattle.fed_rules.specs.Site.{of_prepare, unless_tripped};
 ghost use Rattle.fed_rules.specs.declared.answers.Answer.TheVariants as Say;
@@ -52,9 +52,6 @@ impl<E: LocalEngine> SiteCore<E> {
         let Some(ticket) = self.finished_ticket(tid, epoch, n) else {
             return Ok(votes_no(tid, None));
         };
-        let Ok(()) = self.doubts.reserve(alloc) else {
-            return Err(StepErr::Memory);
-        };
         match self.engine.seal(alloc, tid) {
             Ok(sealed) => self.record_vote(alloc, disk, tid, sealed, ticket),
             Err(SealErr::Refused(why)) => {
@@ -79,7 +76,7 @@ impl<E: LocalEngine> SiteCore<E> {
     }
 
     /// Forces the Prepared record of an attempt that is sealed and has this ticket, and votes yes: from now on the site is in doubt of
-    /// it. Where there is no memory for the record, the sealing is taken back.
+    /// it. Where there is no memory for the record or for the doubt, the sealing is taken back.
     fn record_vote<D: Disk>(
         &mut self,
         alloc: Global,
@@ -90,7 +87,6 @@ impl<E: LocalEngine> SiteCore<E> {
     ) -> Result<SiteStep, StepErr>
         requires told { IsTrue D.tells }
         requires up { self.old.store.standing ≡ Standing.Up }
-        requires room { 1 ≤ self.old.doubts.spare }
         requires apart { doubt_about tid self.old.doubts.doubts ≡ None }
         requires ticket { sealed.ticket ≡ Some ticket }
         requires may { SomePast (StandsSealing E.stands D.tells tid sealed self.old (D.seen disk.old)) (CanPrepare tid) }
@@ -101,6 +97,10 @@ impl<E: LocalEngine> SiteCore<E> {
             (λ home past. CanPrepare tid home past → (n : ℕ) → HasFinished tid n home past → Breaks E.stands D.tells why self.new (D.seen disk.new) home past (SiteEvent.Give (To.Prepare tid self.old.epoch n)))) }
         ensures cause { HasCauseOf StepErr.Disk (D.seen disk.old).faults (D.seen disk.new).faults result }
     {
+        let Ok(()) = self.doubts.reserve(alloc) else {
+            self.engine.unseal(tid);
+            return Err(StepErr::Memory);
+        };
         let Sealed {
             number,
             ticket: _,

@@ -2,6 +2,7 @@ use Rattle.std.proofs.Common.{None, arith}
 use Rattle.fed_rules.specs.Disk.{empty_disk}
 use Rattle.fed_rules.specs.declared.records.SiteRecord.TheVariants as Rec
 use Rattle.site_journal.specs.Frames.{frame_has_size}
+use Rattle.actor_store.proofs.FromLaws.{from_kept}
 use Rattle.site_core.proofs.NewStore.{keeps_new}
 use Rattle.site_core.proofs.SetUpLaws.{setup_fits}
 use Rattle.site_core.proofs.store.set_up_store.Goals as goal
@@ -17,12 +18,13 @@ overflow_add-bytes g c =
 
 pub make_room-requires-clause-kept : goal.make_room-requires-clause-kept
 make_room-requires-clause-kept g c =
-    (empty_disk, None, keeps_new g.D.Disk.tells (g.D.Disk.seen c.args.disk.now) c.create-store.result c.requires.empty (g.met.D.Disk.told_size c.args.disk.now c.requires.told) (g.met.D.Disk.is_sound c.args.disk.now c.requires.told) c.create-store.ensures)
+    let k = keeps_new g.D.Disk.tells (g.D.Disk.seen c.args.disk.now) c.create-store.result c.requires.empty (g.met.D.Disk.told_size c.args.disk.now c.requires.told) (g.met.D.Disk.is_sound c.args.disk.now c.requires.told) c.create-store.ensures in
+    (k.old, (empty_disk, None, k.behind))
 
 pub begin_journal-requires-clause-kept : goal.begin_journal-requires-clause-kept
 begin_journal-requires-clause-kept g c =
-    c.make_room.ensures.keeps empty_disk None
-    (keeps_new g.D.Disk.tells (g.D.Disk.seen c.args.disk.now) c.create-store.result c.requires.empty (g.met.D.Disk.told_size c.args.disk.now c.requires.told) (g.met.D.Disk.is_sound c.args.disk.now c.requires.told) c.create-store.ensures)
+    let k = keeps_new g.D.Disk.tells (g.D.Disk.seen c.args.disk.now) c.create-store.result c.requires.empty (g.met.D.Disk.told_size c.args.disk.now c.requires.told) (g.met.D.Disk.is_sound c.args.disk.now c.requires.told) c.create-store.ensures in
+    from_kept k (c.make_room.ensures.keeps _ _ _ k.behind)
 
 pub begin_journal-requires-clause-setup_fits : goal.begin_journal-requires-clause-setup_fits
 begin_journal-requires-clause-setup_fits g c = setup_fits c.args.site c.args.engine c.args.protocol c.args.items c.requires.few

@@ -1,27 +1,30 @@
 use Rattle.actor_store.specs.Store.{stored}
 use Rattle.fed_rules.specs.Disk.{Append, after_call}
-use Rattle.actor_store.specs.Store.{Keeps}
+use Rattle.actor_store.specs.Store.{KeepsBehind}
 use Rattle.actor_store.proofs.EndsLaws.{counts_end}
-use Rattle.actor_store.proofs.StoreLaws.{append_keeps, append_fails}
+use Rattle.actor_store.proofs.BehindLaws.{append_fails, append_keeps}
 use Rattle.actor_store.proofs.store.Store.append.Goals as goal
 
 pub counted-requires-clause-kept : goal.counted-requires-clause-kept
 counted-requires-clause-kept g c =
-    let (rules, trip, k) = c.requires.kept in (
-      after_call g.F.Format.frame_bytes rules (Append c.args.entry),
-      trip,
-      append_keeps g.F.Format.spelling g.F.Format.reading g.F.Format.is_record g.F.Format.frame_bytes g.met.F.Format.counts_frames g.met.F.Format.spelled_is_read g.D.Disk.tells c.requires.told (g.D.Disk.seen c.args.disk.now) (g.D.Disk.seen c.note.new.disk) (stored c.args.self.now) c.note.new.self rules trip c.args.entry (g.met.D.Disk.told_size c.args.disk.now c.requires.told)
-          k c.requires.up c.note.ensures.kept_on c.in-Ok.ensures.ok c.in-Ok.ensures.image_ok c.note.ensures.is_record c.requires.payload,
+    let (old, (rules, trip, k)) = c.requires.kept in (
+      old,
+      (
+        after_call g.F.Format.frame_bytes rules (Append c.args.entry),
+        trip,
+        append_keeps g.F.Format.spelling g.F.Format.reading g.F.Format.is_record g.F.Format.frame_bytes g.met.F.Format.counts_frames g.met.F.Format.spelled_is_read g.D.Disk.tells c.requires.told (g.D.Disk.seen c.args.disk.now) (g.D.Disk.seen c.note.new.disk) (stored c.args.self.now) c.note.new.self old rules trip c.args.entry (g.met.D.Disk.told_size c.args.disk.now c.requires.told)
+            k c.requires.up c.note.ensures.kept_on c.in-Ok.ensures.ok c.in-Ok.ensures.image_ok c.note.ensures.is_record c.requires.payload,
+      ),
     )
 
 pub returns-in-Ok-clause-ends : goal.returns-in-Ok-clause-ends
-returns-in-Ok-clause-ends g c = λ rules trip k.
-    counts_end g.F.Format.frame_bytes (Keeps g.F.Format.spelling g.F.Format.is_record g.F.Format.frame_bytes g.D.Disk.tells (g.D.Disk.seen c.counted.new.disk) (stored c.counted.new.self)) rules trip (Append c.args.entry) c.counted.result
-    (c.counted.ensures.ends (after_call g.F.Format.frame_bytes rules (Append c.args.entry)) trip
-    (append_keeps g.F.Format.spelling g.F.Format.reading g.F.Format.is_record g.F.Format.frame_bytes g.met.F.Format.counts_frames g.met.F.Format.spelled_is_read g.D.Disk.tells c.requires.told (g.D.Disk.seen c.args.disk.now) (g.D.Disk.seen c.note.new.disk) (stored c.args.self.now) c.note.new.self rules trip c.args.entry (g.met.D.Disk.told_size c.args.disk.now c.requires.told)
+returns-in-Ok-clause-ends g c = λ old rules trip k.
+    counts_end g.F.Format.frame_bytes (KeepsBehind g.F.Format.spelling g.F.Format.is_record g.F.Format.frame_bytes g.D.Disk.tells (g.D.Disk.seen c.counted.new.disk) (stored c.counted.new.self) old) rules trip (Append c.args.entry) c.counted.result
+    (c.counted.ensures.ends old (after_call g.F.Format.frame_bytes rules (Append c.args.entry)) trip
+    (append_keeps g.F.Format.spelling g.F.Format.reading g.F.Format.is_record g.F.Format.frame_bytes g.met.F.Format.counts_frames g.met.F.Format.spelled_is_read g.D.Disk.tells c.requires.told (g.D.Disk.seen c.args.disk.now) (g.D.Disk.seen c.note.new.disk) (stored c.args.self.now) c.note.new.self old rules trip c.args.entry (g.met.D.Disk.told_size c.args.disk.now c.requires.told)
     k c.requires.up c.note.ensures.kept_on c.in-Ok.ensures.ok c.in-Ok.ensures.image_ok c.note.ensures.is_record c.requires.payload))
 
 pub returns-in-Err-clause-ends : goal.returns-in-Err-clause-ends
-returns-in-Err-clause-ends g c = λ rules trip k.
-    append_fails g.F.Format.spelling g.F.Format.reading g.F.Format.is_record g.F.Format.frame_bytes g.met.F.Format.counts_frames g.met.F.Format.spelled_is_read g.D.Disk.tells c.requires.told (g.D.Disk.seen c.args.disk.now) (g.D.Disk.seen c.note.new.disk) (stored c.args.self.now) c.note.new.self rules trip c.args.entry (g.met.D.Disk.told_size c.args.disk.now c.requires.told)
+returns-in-Err-clause-ends g c = λ old rules trip k.
+    append_fails g.F.Format.spelling g.F.Format.reading g.F.Format.is_record g.F.Format.frame_bytes g.met.F.Format.counts_frames g.met.F.Format.spelled_is_read g.D.Disk.tells c.requires.told (g.D.Disk.seen c.args.disk.now) (g.D.Disk.seen c.note.new.disk) (stored c.args.self.now) c.note.new.self old rules trip c.args.entry (g.met.D.Disk.told_size c.args.disk.now c.requires.told)
     k c.requires.up (g.met.D.Disk.is_sound c.args.disk.now c.requires.told) c.note.ensures.kept_on c.in-Err.ensures.err c.in-Err.ensures.image_err c.note.ensures.is_record c.requires.payload

@@ -1,26 +1,27 @@
-use Rattle.std.proofs.Common.{[], ◌∷◌, refl}
-use Rattle.fed_rules.specs.Disk.{Append, Sync, TrimFront, after_calls}
+use Rattle.std.proofs.Common.{[], ◌∷◌, reverse, refl, ap}
+use Rattle.fed_rules.specs.Disk.{Append, Sync, TrimFront, after_calls, journal as journal_of}
 use Rattle.fed_rules.specs.Happenings.{used}
 use Rattle.frame_journal.proofs.Trimmed.{ends_with_last}
-use Rattle.actor_store.specs.Store.{Keeps, stored}
+use Rattle.actor_store.specs.Store.{KeepsBehind, old_standing, stored}
+use Rattle.actor_store.proofs.BehindLaws.{newer_entry}
 use Rattle.actor_store.proofs.EndsLaws.{ends_more, ends_early}
 use Rattle.actor_store.proofs.store.Store.check.Goals as goal
 
 pub trim-requires-clause-kept : goal.trim-requires-clause-kept
 trim-requires-clause-kept g c =
-    let (rules, trip, k) = c.requires.kept in
-    let e = c.in-Ok.ensures.ends rules trip k in
-    (after_calls g.F.Format.frame_bytes rules (Append c.args.entry ∷ Sync ∷ []), used 2 trip, (e.1, refl))
+    let (old, (rules, trip, k)) = c.requires.kept in
+    let e = c.in-Ok.ensures.ends old rules trip k in
+    (old, (after_calls g.F.Format.frame_bytes rules (Append c.args.entry ∷ Sync ∷ []), used 2 trip, (e.1, refl, newer_entry (old_standing old rules) (reverse (journal_of g.F.Format.frame_bytes rules)) c.args.self.now.journal.entries c.force.new.self.journal.entries c.args.entry k.records (ap (λ j. j.entries) c.in-Ok.ensures.journal))))
 
 pub trim-requires-clause-checkpoint : goal.trim-requires-clause-checkpoint
 trim-requires-clause-checkpoint g c = rw c.in-Ok.ensures.journal (ends_with_last g.F.Format.is_checkpoint c.args.self.now.journal.entries c.args.entry c.requires.checkpoint)
 
 pub returns-in-Ok-clause-ends : goal.returns-in-Ok-clause-ends
-returns-in-Ok-clause-ends g c = λ rules trip k.
-    let e = c.in-Ok.ensures.ends rules trip k in
-    ends_more g.F.Format.frame_bytes (Keeps g.F.Format.spelling g.F.Format.is_record g.F.Format.frame_bytes g.D.Disk.tells (g.D.Disk.seen c.trim.new.disk) (stored c.trim.new.self)) rules trip (Append c.args.entry ∷ Sync ∷ []) (TrimFront ∷ []) c.trim.result e.0
-    (c.trim.ensures.ends (after_calls g.F.Format.frame_bytes rules (Append c.args.entry ∷ Sync ∷ [])) (used 2 trip) e.1 refl)
+returns-in-Ok-clause-ends g c = λ old rules trip k.
+    let e = c.in-Ok.ensures.ends old rules trip k in
+    ends_more g.F.Format.frame_bytes (KeepsBehind g.F.Format.spelling g.F.Format.is_record g.F.Format.frame_bytes g.D.Disk.tells (g.D.Disk.seen c.trim.new.disk) (stored c.trim.new.self) old) rules trip (Append c.args.entry ∷ Sync ∷ []) (TrimFront ∷ []) c.trim.result e.0
+    (c.trim.ensures.ends old (after_calls g.F.Format.frame_bytes rules (Append c.args.entry ∷ Sync ∷ [])) (used 2 trip) e.1 refl (newer_entry (old_standing old rules) (reverse (journal_of g.F.Format.frame_bytes rules)) c.args.self.now.journal.entries c.force.new.self.journal.entries c.args.entry k.records (ap (λ j. j.entries) c.in-Ok.ensures.journal)))
 
 pub returns-in-Err-clause-ends : goal.returns-in-Err-clause-ends
-returns-in-Err-clause-ends g c = λ rules trip k.
-    ends_early g.F.Format.frame_bytes (Keeps g.F.Format.spelling g.F.Format.is_record g.F.Format.frame_bytes g.D.Disk.tells (g.D.Disk.seen c.force.new.disk) (stored c.force.new.self)) rules trip (Append c.args.entry ∷ Sync ∷ []) (TrimFront ∷ []) c.in-Err.why (c.in-Err.ensures.ends rules trip k)
+returns-in-Err-clause-ends g c = λ old rules trip k.
+    ends_early g.F.Format.frame_bytes (KeepsBehind g.F.Format.spelling g.F.Format.is_record g.F.Format.frame_bytes g.D.Disk.tells (g.D.Disk.seen c.force.new.disk) (stored c.force.new.self) old) rules trip (Append c.args.entry ∷ Sync ∷ []) (TrimFront ∷ []) c.in-Err.why (c.in-Err.ensures.ends old rules trip k)

@@ -2,20 +2,20 @@ use Rattle.actor_store.specs.Store.{stored}
 use Rattle.std.proofs.Common.{List, sym, ◌∙◌, subst}
 use Rattle.std.proofs.lemmas.Bool.{cond-true, cond-false}
 use Rattle.fed_rules.specs.Disk.{Call}
-use Rattle.actor_store.specs.Store.{Keeps, Ends}
-use Rattle.actor_store.proofs.StoreLaws.{torn_agrees}
+use Rattle.actor_store.specs.Store.{KeepsBehind, Ends}
+use Rattle.actor_store.proofs.BehindLaws.{torn_agrees}
 use Rattle.actor_store.proofs.store.Store.open.Goals as goal
 
 pub returns-then-is_torn-clause-ends : goal.returns-then-is_torn-clause-ends
-returns-then-is_torn-clause-ends g c = λ rules trip k.
-    let agrees = torn_agrees g.F.Format.spelling g.F.Format.reading g.F.Format.is_record g.F.Format.frame_bytes g.met.F.Format.counts_frames g.met.F.Format.spelled_is_read g.D.Disk.tells c.requires.told (g.D.Disk.seen c.args.disk.now) (stored c.args.self.now) rules trip (g.met.D.Disk.told_size c.args.disk.now c.requires.told) k in
+returns-then-is_torn-clause-ends g c = λ old rules trip k.
+    let agrees = torn_agrees g.F.Format.spelling g.F.Format.reading g.F.Format.is_record g.F.Format.frame_bytes g.met.F.Format.counts_frames g.met.F.Format.spelled_is_read g.D.Disk.tells c.requires.told (g.D.Disk.seen c.args.disk.now) (stored c.args.self.now) old rules trip (g.met.D.Disk.told_size c.args.disk.now c.requires.told) k in
     let torn = sym agrees ∙ sym c.is_torn.ensures ∙ c.if-is_torn.true in
-    let P : List (Call g.row.R.Denot) → Type 0 = λ calls. Ends g.F.Format.frame_bytes (Keeps g.F.Format.spelling g.F.Format.is_record g.F.Format.frame_bytes g.D.Disk.tells (g.D.Disk.seen c.cut_torn.new.disk) (stored c.cut_torn.new.self)) rules trip calls c.cut_torn.result in
-    subst P (sym (cond-true _ _ _ torn)) (c.cut_torn.ensures.ends rules trip k)
+    let P : List (Call g.row.R.Denot) → Type 0 = λ calls. Ends g.F.Format.frame_bytes (KeepsBehind g.F.Format.spelling g.F.Format.is_record g.F.Format.frame_bytes g.D.Disk.tells (g.D.Disk.seen c.cut_torn.new.disk) (stored c.cut_torn.new.self) old) rules trip calls c.cut_torn.result in
+    subst P (sym (cond-true _ _ _ torn)) (c.cut_torn.ensures.ends old rules trip k)
 
 pub returns-else-is_torn-clause-ends : goal.returns-else-is_torn-clause-ends
-returns-else-is_torn-clause-ends g c = λ rules trip k.
-    let agrees = torn_agrees g.F.Format.spelling g.F.Format.reading g.F.Format.is_record g.F.Format.frame_bytes g.met.F.Format.counts_frames g.met.F.Format.spelled_is_read g.D.Disk.tells c.requires.told (g.D.Disk.seen c.args.disk.now) (stored c.args.self.now) rules trip (g.met.D.Disk.told_size c.args.disk.now c.requires.told) k in
+returns-else-is_torn-clause-ends g c = λ old rules trip k.
+    let agrees = torn_agrees g.F.Format.spelling g.F.Format.reading g.F.Format.is_record g.F.Format.frame_bytes g.met.F.Format.counts_frames g.met.F.Format.spelled_is_read g.D.Disk.tells c.requires.told (g.D.Disk.seen c.args.disk.now) (stored c.args.self.now) old rules trip (g.met.D.Disk.told_size c.args.disk.now c.requires.told) k in
     let torn = sym agrees ∙ sym c.is_torn.ensures ∙ c.if-is_torn.false in
-    let P : List (Call g.row.R.Denot) → Type 0 = λ calls. Ends g.F.Format.frame_bytes (Keeps g.F.Format.spelling g.F.Format.is_record g.F.Format.frame_bytes g.D.Disk.tells (g.D.Disk.seen c.come_up.new.disk) (stored c.come_up.new.self)) rules trip calls c.come_up.result in
-    subst P (sym (cond-false _ _ _ torn)) (c.come_up.ensures.ends rules trip k)
+    let P : List (Call g.row.R.Denot) → Type 0 = λ calls. Ends g.F.Format.frame_bytes (KeepsBehind g.F.Format.spelling g.F.Format.is_record g.F.Format.frame_bytes g.D.Disk.tells (g.D.Disk.seen c.come_up.new.disk) (stored c.come_up.new.self) old) rules trip calls c.come_up.result in
+    subst P (sym (cond-false _ _ _ torn)) (c.come_up.ensures.ends old rules trip k)

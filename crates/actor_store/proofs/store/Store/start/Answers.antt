@@ -2,22 +2,22 @@ use Rattle.actor_store.specs.Store.{stored}
 use Rattle.std.proofs.Common.{[], ◌∷◌, length}
 use Rattle.fed_rules.specs.Disk.{Append, Sync, after_calls}
 use Rattle.fed_rules.specs.Happenings.{used}
-use Rattle.actor_store.specs.Store.{Keeps, cut_calls}
+use Rattle.actor_store.specs.Store.{KeepsBehind, cut_calls}
 use Rattle.actor_store.proofs.EndsLaws.{ends_more, ends_early}
 use Rattle.actor_store.proofs.store.Store.start.Goals as goal
 
 pub force-requires-clause-kept : goal.force-requires-clause-kept
 force-requires-clause-kept g c =
-    let (rules, trip, k) = c.requires.kept in
-    let e = c.in-Ok.ensures.ends rules trip k in
-    (after_calls g.F.Format.frame_bytes rules (cut_calls g.F.Format.frame_bytes rules), used (length (cut_calls g.F.Format.frame_bytes rules)) trip, e.1)
+    let (old, (rules, trip, k)) = c.requires.kept in
+    let e = c.in-Ok.ensures.ends old rules trip k in
+    (old, (after_calls g.F.Format.frame_bytes rules (cut_calls g.F.Format.frame_bytes rules), used (length (cut_calls g.F.Format.frame_bytes rules)) trip, e.1))
 
 pub returns-in-Ok-clause-ends : goal.returns-in-Ok-clause-ends
-returns-in-Ok-clause-ends g c = λ rules trip k.
-    let e = c.in-Ok.ensures.ends rules trip k in
-    ends_more g.F.Format.frame_bytes (Keeps g.F.Format.spelling g.F.Format.is_record g.F.Format.frame_bytes g.D.Disk.tells (g.D.Disk.seen c.force.new.disk) (stored c.force.new.self)) rules trip (cut_calls g.F.Format.frame_bytes rules) (Append c.args.entry ∷ Sync ∷ []) c.force.result e.0
-    (c.force.ensures.ends (after_calls g.F.Format.frame_bytes rules (cut_calls g.F.Format.frame_bytes rules)) (used (length (cut_calls g.F.Format.frame_bytes rules)) trip) e.1)
+returns-in-Ok-clause-ends g c = λ old rules trip k.
+    let e = c.in-Ok.ensures.ends old rules trip k in
+    ends_more g.F.Format.frame_bytes (KeepsBehind g.F.Format.spelling g.F.Format.is_record g.F.Format.frame_bytes g.D.Disk.tells (g.D.Disk.seen c.force.new.disk) (stored c.force.new.self) old) rules trip (cut_calls g.F.Format.frame_bytes rules) (Append c.args.entry ∷ Sync ∷ []) c.force.result e.0
+    (c.force.ensures.ends old (after_calls g.F.Format.frame_bytes rules (cut_calls g.F.Format.frame_bytes rules)) (used (length (cut_calls g.F.Format.frame_bytes rules)) trip) e.1)
 
 pub returns-in-Err-clause-ends : goal.returns-in-Err-clause-ends
-returns-in-Err-clause-ends g c = λ rules trip k.
-    ends_early g.F.Format.frame_bytes (Keeps g.F.Format.spelling g.F.Format.is_record g.F.Format.frame_bytes g.D.Disk.tells (g.D.Disk.seen c.open.new.disk) (stored c.open.new.self)) rules trip (cut_calls g.F.Format.frame_bytes rules) (Append c.args.entry ∷ Sync ∷ []) c.in-Err.why (c.in-Err.ensures.ends rules trip k)
+returns-in-Err-clause-ends g c = λ old rules trip k.
+    ends_early g.F.Format.frame_bytes (KeepsBehind g.F.Format.spelling g.F.Format.is_record g.F.Format.frame_bytes g.D.Disk.tells (g.D.Disk.seen c.open.new.disk) (stored c.open.new.self) old) rules trip (cut_calls g.F.Format.frame_bytes rules) (Append c.args.entry ∷ Sync ∷ []) c.in-Err.why (c.in-Err.ensures.ends old rules trip k)

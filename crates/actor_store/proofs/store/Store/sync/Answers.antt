@@ -1,27 +1,30 @@
 use Rattle.actor_store.specs.Store.{stored}
 use Rattle.fed_rules.specs.Disk.{Sync, after_call}
-use Rattle.actor_store.specs.Store.{Keeps}
+use Rattle.actor_store.specs.Store.{KeepsBehind}
 use Rattle.actor_store.proofs.EndsLaws.{counts_end}
-use Rattle.actor_store.proofs.StoreLaws.{sync_keeps, sync_fails}
+use Rattle.actor_store.proofs.BehindLaws.{sync_fails, sync_keeps}
 use Rattle.actor_store.proofs.store.Store.sync.Goals as goal
 
 pub counted-requires-clause-kept : goal.counted-requires-clause-kept
 counted-requires-clause-kept g c =
-    let (rules, trip, k) = c.requires.kept in (
-      after_call g.F.Format.frame_bytes rules Sync,
-      trip,
-      sync_keeps g.F.Format.spelling g.F.Format.reading g.F.Format.is_record g.F.Format.frame_bytes g.met.F.Format.counts_frames g.met.F.Format.spelled_is_read g.D.Disk.tells c.requires.told (g.D.Disk.seen c.args.disk.now) (g.D.Disk.seen c.sync.new.self) (stored c.args.self.now) rules trip
-          k c.requires.up (g.met.D.Disk.is_sound c.args.disk.now c.requires.told) c.in-Ok.ensures.ok c.sync.ensures.size c.sync.ensures.spare,
+    let (old, (rules, trip, k)) = c.requires.kept in (
+      old,
+      (
+        after_call g.F.Format.frame_bytes rules Sync,
+        trip,
+        sync_keeps g.F.Format.spelling g.F.Format.reading g.F.Format.is_record g.F.Format.frame_bytes g.met.F.Format.counts_frames g.met.F.Format.spelled_is_read g.D.Disk.tells c.requires.told (g.D.Disk.seen c.args.disk.now) (g.D.Disk.seen c.sync.new.self) (stored c.args.self.now) old rules trip
+            k c.requires.up (g.met.D.Disk.is_sound c.args.disk.now c.requires.told) c.in-Ok.ensures.ok c.sync.ensures.size c.sync.ensures.spare,
+      ),
     )
 
 pub returns-in-Ok-clause-ends : goal.returns-in-Ok-clause-ends
-returns-in-Ok-clause-ends g c = λ rules trip k.
-    counts_end g.F.Format.frame_bytes (Keeps g.F.Format.spelling g.F.Format.is_record g.F.Format.frame_bytes g.D.Disk.tells (g.D.Disk.seen c.counted.new.disk) (stored c.counted.new.self)) rules trip Sync c.counted.result
-    (c.counted.ensures.ends (after_call g.F.Format.frame_bytes rules Sync) trip
-    (sync_keeps g.F.Format.spelling g.F.Format.reading g.F.Format.is_record g.F.Format.frame_bytes g.met.F.Format.counts_frames g.met.F.Format.spelled_is_read g.D.Disk.tells c.requires.told (g.D.Disk.seen c.args.disk.now) (g.D.Disk.seen c.sync.new.self) (stored c.args.self.now) rules trip
+returns-in-Ok-clause-ends g c = λ old rules trip k.
+    counts_end g.F.Format.frame_bytes (KeepsBehind g.F.Format.spelling g.F.Format.is_record g.F.Format.frame_bytes g.D.Disk.tells (g.D.Disk.seen c.counted.new.disk) (stored c.counted.new.self) old) rules trip Sync c.counted.result
+    (c.counted.ensures.ends old (after_call g.F.Format.frame_bytes rules Sync) trip
+    (sync_keeps g.F.Format.spelling g.F.Format.reading g.F.Format.is_record g.F.Format.frame_bytes g.met.F.Format.counts_frames g.met.F.Format.spelled_is_read g.D.Disk.tells c.requires.told (g.D.Disk.seen c.args.disk.now) (g.D.Disk.seen c.sync.new.self) (stored c.args.self.now) old rules trip
     k c.requires.up (g.met.D.Disk.is_sound c.args.disk.now c.requires.told) c.in-Ok.ensures.ok c.sync.ensures.size c.sync.ensures.spare))
 
 pub returns-in-Err-clause-ends : goal.returns-in-Err-clause-ends
-returns-in-Err-clause-ends g c = λ rules trip k.
-    sync_fails g.F.Format.spelling g.F.Format.reading g.F.Format.is_record g.F.Format.frame_bytes g.met.F.Format.counts_frames g.met.F.Format.spelled_is_read g.D.Disk.tells c.requires.told (g.D.Disk.seen c.args.disk.now) (g.D.Disk.seen c.sync.new.self) (stored c.args.self.now) rules trip
+returns-in-Err-clause-ends g c = λ old rules trip k.
+    sync_fails g.F.Format.spelling g.F.Format.reading g.F.Format.is_record g.F.Format.frame_bytes g.met.F.Format.counts_frames g.met.F.Format.spelled_is_read g.D.Disk.tells c.requires.told (g.D.Disk.seen c.args.disk.now) (g.D.Disk.seen c.sync.new.self) (stored c.args.self.now) old rules trip
     k c.requires.up c.in-Err.ensures.err c.sync.ensures.size c.sync.ensures.spare

@@ -6,6 +6,7 @@ use Rattle.fed_rules.specs.declared.events.CoordStep.{CoordStep}
 use Rattle.fed_rules.specs.CoordPast.{disk, records, trip}
 use Rattle.fed_rules.specs.CoordRecords.{commits}
 use Rattle.ticket_graph.specs.Graph.{AreHeld, Graph, StandsFor}
+use Rattle.actor_store.proofs.FromLaws.{from_kept}
 use Rattle.coord_core.specs.declared.coord.CoordCore.{CoordCore}
 use Rattle.coord_tables.specs.declared.stages.Stage.{Stage}
 use Rattle.coord_tables.specs.declared.tables.Tables.{Tables}
@@ -29,7 +30,7 @@ returns-in_default-room_for-clause-failed g c = λ terms past event k i.
 pub end-requires-clause-kept : goal.end-requires-clause-kept
 end-requires-clause-kept g c =
     let m = c.requires.may in
-    (disk m.past, trip m.past, c.room_for.ensures.keeps (disk m.past) (trip m.past) m.stood.stored)
+    (m.stood.stored.old, (disk m.past, trip m.past, c.room_for.ensures.keeps _ _ _ m.stood.stored.behind))
 
 pub end-requires-clause-in_range : goal.end-requires-clause-in_range
 end-requires-clause-in_range g c =
@@ -62,7 +63,7 @@ returns-clause-answered g c =
     each terms past event (aborted terms past event c.args.tid c.args.cause i sound)
     (abort_pending terms past event c.args.tid c.args.cause i sound g.P.TakePolicy.policy g.D.Disk.tells step old core (g.D.Disk.seen c.args.disk.now) (g.D.Disk.seen c.room_for.new.disk) c.in-Ok-abort_record.entry c.decide-forgets.result k entry is.0 refl
     sends
-    (c.room_for.ensures.keeps (disk past) (trip past) k.stored) (up_is g.P.TakePolicy.policy g.D.Disk.tells old terms past k.holds c.requires.up) refl refl refl served))
+    (from_kept k.stored (c.room_for.ensures.keeps _ _ _ k.stored.behind)) (up_is g.P.TakePolicy.policy g.D.Disk.tells old terms past k.holds c.requires.up) refl refl refl served))
 
 pub returns-clause-failed : goal.returns-clause-failed
 returns-clause-failed g c =
@@ -83,4 +84,4 @@ returns-clause-failed g c =
     each terms past event (aborted terms past event c.args.tid c.args.cause i sound)
     (abort_pending terms past event c.args.tid c.args.cause i sound g.P.TakePolicy.policy g.D.Disk.tells step old core (g.D.Disk.seen c.args.disk.now) (g.D.Disk.seen c.room_for.new.disk) c.in-Ok-abort_record.entry c.decide-forgets.result k entry is.0 refl
     sends
-    (c.room_for.ensures.keeps (disk past) (trip past) k.stored) (up_is g.P.TakePolicy.policy g.D.Disk.tells old terms past k.holds c.requires.up) refl refl refl served))
+    (from_kept k.stored (c.room_for.ensures.keeps _ _ _ k.stored.behind)) (up_is g.P.TakePolicy.policy g.D.Disk.tells old terms past k.holds c.requires.up) refl refl refl served))

@@ -6,6 +6,7 @@ use Rattle.fed_rules.specs.CoordPast.{disk, trip}
 use Rattle.protocol_table.specs.declared.ends.AckEnd.{AckEnd}
 use Rattle.protocol_table.specs.declared.ends.AckEnd.TheVariants as Ack
 use Rattle.protocol_table.specs.Ends.{after_ack}
+use Rattle.actor_store.proofs.FromLaws.{from_kept}
 use Rattle.coord_core.specs.declared.coord.CoordCore.{CoordCore}
 use Rattle.coord_tables.proofs.Acking.{ack_line, decided_in_range, end_fits}
 use Rattle.coord_core.proofs.Acking.{ack_pending}
@@ -30,7 +31,7 @@ returns-in-Ignored-clause-answered g c = λ terms past k st.
     pending_quiet g.P.TakePolicy.policy g.D.Disk.tells c.silent.result core (g.D.Disk.seen c.room_for.new.disk) terms past (Ev.Take c.args.site (From.Ack c.args.tid)) (ack_line c.args.site c.args.tid Ack.Ignored)
     (ack_pending g.P.TakePolicy.policy g.D.Disk.tells c.silent.result old core (g.D.Disk.seen c.args.disk.now) (g.D.Disk.seen c.room_for.new.disk) terms past c.args.site c.args.tid c.args.decision Ack.Ignored
     k s (up_is g.P.TakePolicy.policy g.D.Disk.tells old terms past k.holds c.requires.up) st (sym c.in-Ignored.is ∙ c.ack.ensures.end) tables c.silent.ensures.answer c.silent.ensures.sends
-    (c.room_for.ensures.keeps (disk past) (trip past) k.stored) refl refl refl)
+    (from_kept k.stored (c.room_for.ensures.keeps _ _ _ k.stored.behind)) refl refl refl)
     (c.room_for.ensures.standing ∙ c.requires.up)
 
 pub returns-in-Acked-clause-answered : goal.returns-in-Acked-clause-answered
@@ -42,13 +43,13 @@ returns-in-Acked-clause-answered g c = λ terms past k st.
     pending_quiet g.P.TakePolicy.policy g.D.Disk.tells c.silent-in-Acked.result core (g.D.Disk.seen c.room_for.new.disk) terms past (Ev.Take c.args.site (From.Ack c.args.tid)) (ack_line c.args.site c.args.tid Ack.Acked)
     (ack_pending g.P.TakePolicy.policy g.D.Disk.tells c.silent-in-Acked.result old core (g.D.Disk.seen c.args.disk.now) (g.D.Disk.seen c.room_for.new.disk) terms past c.args.site c.args.tid c.args.decision Ack.Acked
     k s (up_is g.P.TakePolicy.policy g.D.Disk.tells old terms past k.holds c.requires.up) st (sym c.in-Acked.is ∙ c.ack.ensures.end) tables c.silent-in-Acked.ensures.answer c.silent-in-Acked.ensures.sends
-    (c.room_for.ensures.keeps (disk past) (trip past) k.stored) refl refl refl)
+    (from_kept k.stored (c.room_for.ensures.keeps _ _ _ k.stored.behind)) refl refl refl)
     (c.room_for.ensures.standing ∙ c.requires.up)
 
 pub note-requires-clause-kept : goal.note-requires-clause-kept
 note-requires-clause-kept g c =
     let m = c.requires.may in
-    (disk m.past, trip m.past, c.room_for.ensures.keeps (disk m.past) (trip m.past) m.stood.stored)
+    (m.stood.stored.old, (disk m.past, trip m.past, c.room_for.ensures.keeps _ _ _ m.stood.stored.behind))
 
 pub note-requires-clause-in_range : goal.note-requires-clause-in_range
 note-requires-clause-in_range g c =
@@ -67,7 +68,7 @@ returns-clause-answered g c = map_ok _ _ c.note.result c.note.ensures.answered (
     each terms past (Ev.Take c.args.site (From.Ack c.args.tid)) (ack_line c.args.site c.args.tid Ack.Forgets)
     (ack_pending g.P.TakePolicy.policy g.D.Disk.tells c.silent-step.result old core (g.D.Disk.seen c.args.disk.now) (g.D.Disk.seen c.room_for.new.disk) terms past c.args.site c.args.tid c.args.decision Ack.Forgets
     k s (up_is g.P.TakePolicy.policy g.D.Disk.tells old terms past k.holds c.requires.up) st (sym c.in-Forgets.is ∙ c.ack.ensures.end) tables c.silent-step.ensures.answer c.silent-step.ensures.sends
-    (c.room_for.ensures.keeps (disk past) (trip past) k.stored) refl refl refl))
+    (from_kept k.stored (c.room_for.ensures.keeps _ _ _ k.stored.behind)) refl refl refl))
 
 pub returns-clause-failed : goal.returns-clause-failed
 returns-clause-failed g c = map_err _ _ c.note.result c.note.ensures.failed (λ why each terms past k st.
@@ -78,4 +79,4 @@ returns-clause-failed g c = map_err _ _ c.note.result c.note.ensures.failed (λ 
     each terms past (Ev.Take c.args.site (From.Ack c.args.tid)) (ack_line c.args.site c.args.tid Ack.Forgets)
     (ack_pending g.P.TakePolicy.policy g.D.Disk.tells c.silent-step.result old core (g.D.Disk.seen c.args.disk.now) (g.D.Disk.seen c.room_for.new.disk) terms past c.args.site c.args.tid c.args.decision Ack.Forgets
     k s (up_is g.P.TakePolicy.policy g.D.Disk.tells old terms past k.holds c.requires.up) st (sym c.in-Forgets.is ∙ c.ack.ensures.end) tables c.silent-step.ensures.answer c.silent-step.ensures.sends
-    (c.room_for.ensures.keeps (disk past) (trip past) k.stored) refl refl refl))
+    (from_kept k.stored (c.room_for.ensures.keeps _ _ _ k.stored.behind)) refl refl refl))

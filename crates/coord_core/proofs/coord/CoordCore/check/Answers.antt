@@ -7,6 +7,7 @@ use Rattle.fed_rules.specs.declared.sums.CoordSum.{CoordSum}
 use Rattle.fed_rules.specs.Disk.{Append, Sync, TrimFront}
 use Rattle.fed_rules.specs.CoordPast.{disk, trip}
 use Rattle.coord_journal.specs.Spelling.{IsSumInRange}
+use Rattle.actor_store.proofs.FromLaws.{from_done, from_failed, from_kept, from_stopped}
 use Rattle.coord_core.proofs.Checks.{check_large, check_line, check_pending, checkpoint_fits, sum_is}
 use Rattle.coord_core.proofs.Endings.{pending_failed, pending_made, pending_stopped}
 use Rattle.coord_core.proofs.Roomed.{stands_roomed}
@@ -29,13 +30,13 @@ returns-in_default-make_room-clause-failed g c = λ terms past k can.
 pub check-requires-clause-kept : goal.check-requires-clause-kept
 check-requires-clause-kept g c =
     let m = c.requires.may in
-    (disk m.past, trip m.past, c.make_room.ensures.keeps (disk m.past) (trip m.past) m.stood.stored)
+    (m.stood.stored.old, (disk m.past, trip m.past, c.make_room.ensures.keeps _ _ _ m.stood.stored.behind))
 
 pub check-requires-clause-in_range : goal.check-requires-clause-in_range
 check-requires-clause-in_range g c =
     let m = c.requires.may in
     let is = sum_is g.P.TakePolicy.policy c.args.self.now m.terms m.past c.records.result.now c.in-Ok.sum m.stood.holds c.records.ensures c.in-Ok.ensures in
-    subst (λ (s : CoordSum). IsSumInRange s) (sym is) (sum_in_range m.terms m.past m.stood.holds.sound m.stood.stored.written)
+    subst (λ (s : CoordSum). IsSumInRange s) (sym is) (sum_in_range m.terms m.past m.stood.holds.sound m.stood.stored.behind.written)
 
 pub check-requires-clause-payload : goal.check-requires-clause-payload
 check-requires-clause-payload g c = checkpoint_fits c.in-Ok.sum (sym c.is_large.ensures ∙ c.if-is_large.false)
@@ -44,21 +45,22 @@ pub returns-in-Ok-check-clause-answered : goal.returns-in-Ok-check-clause-answer
 returns-in-Ok-check-clause-answered g c = λ terms past k can.
     let old = c.args.self.now in
     let is = sum_is g.P.TakePolicy.policy old terms past c.records.result.now c.in-Ok.sum k.holds c.records.ensures c.in-Ok.ensures in
-    let kept = c.make_room.ensures.keeps (disk past) (trip past) k.stored in
+    let kept = from_kept k.stored (c.make_room.ensures.keeps _ _ _ k.stored.behind) in
     let p = check_pending g.P.TakePolicy.policy g.D.Disk.tells c.silent-in-Ok-check.result old c.make_room.new.self (g.D.Disk.seen c.args.disk.now) (g.D.Disk.seen c.make_room.new.disk) terms past c.in-Ok.sum k c.requires.up kept is
     (sym c.is_large.ensures ∙ c.if-is_large.false) c.silent-in-Ok-check.ensures.answer c.silent-in-Ok-check.ensures.sends in
     pending_made g.P.TakePolicy.policy g.D.Disk.tells (Append (Rec.Checkpoint c.in-Ok.sum) ∷ Sync ∷ TrimFront ∷ []) c.silent-in-Ok-check.result (record old { store = c.make_room.new.self }) (record old { store = c.check.new.self })
-    (g.D.Disk.seen c.make_room.new.disk) (g.D.Disk.seen c.check.new.disk) terms past Ev.Check (check_line c.in-Ok.sum) p refl refl refl refl (c.in-Ok-check.ensures.ends (disk past) (trip past) kept) c.in-Ok-check.ensures.standing
+    (g.D.Disk.seen c.make_room.new.disk) (g.D.Disk.seen c.check.new.disk) terms past Ev.Check (check_line c.in-Ok.sum) p refl refl refl refl (from_done kept (c.in-Ok-check.ensures.ends _ _ _ kept.behind)) c.in-Ok-check.ensures.standing
 
 pub returns-in-Err-Stopped-clause-answered : goal.returns-in-Err-Stopped-clause-answered
 returns-in-Err-Stopped-clause-answered g c = λ terms past k can.
     let old = c.args.self.now in
     let is = sum_is g.P.TakePolicy.policy old terms past c.records.result.now c.in-Ok.sum k.holds c.records.ensures c.in-Ok.ensures in
-    let kept = c.make_room.ensures.keeps (disk past) (trip past) k.stored in
+    let kept = from_kept k.stored (c.make_room.ensures.keeps _ _ _ k.stored.behind) in
     let step : CoordStep = record { answer = Say.Checked; sends = [] } in
     let p = check_pending g.P.TakePolicy.policy g.D.Disk.tells step old c.make_room.new.self (g.D.Disk.seen c.args.disk.now) (g.D.Disk.seen c.make_room.new.disk) terms past c.in-Ok.sum k c.requires.up kept is
     (sym c.is_large.ensures ∙ c.if-is_large.false) refl refl in
-    let ends = rw c.in-Err-Stopped.field-0-is at (c.in-Err-Stopped.ensures.ends (disk past) (trip past) kept) in
+    let told = rw c.in-Err-Stopped.field-0-is at (c.in-Err-Stopped.ensures.ends _ _ _ kept.behind) in
+    let ends = from_stopped kept told in
     pending_stopped g.P.TakePolicy.policy g.D.Disk.tells (Append (Rec.Checkpoint c.in-Ok.sum) ∷ Sync ∷ TrimFront ∷ []) step (record old { store = c.make_room.new.self }) (record old { store = c.check.new.self })
     (g.D.Disk.seen c.make_room.new.disk) (g.D.Disk.seen c.check.new.disk) terms past Ev.Check (check_line c.in-Ok.sum) p refl refl refl refl c.silent-in-Err-Stopped.result c.in-Err-Stopped.kept ends c.in-Err-Stopped.ensures.down
     c.silent-in-Err-Stopped.ensures.answer c.silent-in-Err-Stopped.ensures.sends
@@ -67,10 +69,11 @@ pub returns-in-Err-Failed-clause-failed : goal.returns-in-Err-Failed-clause-fail
 returns-in-Err-Failed-clause-failed g c = λ terms past k can.
     let old = c.args.self.now in
     let is = sum_is g.P.TakePolicy.policy old terms past c.records.result.now c.in-Ok.sum k.holds c.records.ensures c.in-Ok.ensures in
-    let kept = c.make_room.ensures.keeps (disk past) (trip past) k.stored in
+    let kept = from_kept k.stored (c.make_room.ensures.keeps _ _ _ k.stored.behind) in
     let step : CoordStep = record { answer = Say.Checked; sends = [] } in
     let p = check_pending g.P.TakePolicy.policy g.D.Disk.tells step old c.make_room.new.self (g.D.Disk.seen c.args.disk.now) (g.D.Disk.seen c.make_room.new.disk) terms past c.in-Ok.sum k c.requires.up kept is
     (sym c.is_large.ensures ∙ c.if-is_large.false) refl refl in
-    let ends = rw c.in-Err-Failed.field-0-is at (c.in-Err-Failed.ensures.ends (disk past) (trip past) kept) in
+    let told = rw c.in-Err-Failed.field-0-is at (c.in-Err-Failed.ensures.ends _ _ _ kept.behind) in
+    let ends = from_failed kept told in
     pending_failed g.P.TakePolicy.policy g.D.Disk.tells (Append (Rec.Checkpoint c.in-Ok.sum) ∷ Sync ∷ TrimFront ∷ []) step (record old { store = c.make_room.new.self }) (record old { store = c.check.new.self })
     (g.D.Disk.seen c.make_room.new.disk) (g.D.Disk.seen c.check.new.disk) terms past Ev.Check (check_line c.in-Ok.sum) p refl refl refl refl ends c.in-Err-Failed.ensures.down

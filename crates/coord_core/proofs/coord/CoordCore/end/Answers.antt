@@ -1,6 +1,6 @@
 use Rattle.std.proofs.Common.{refl, [], ◌∷◌}
 use Rattle.fed_rules.specs.Disk.{Append, Sync}
-use Rattle.fed_rules.specs.CoordPast.{disk, trip}
+use Rattle.actor_store.proofs.FromLaws.{from_done, from_failed, from_stopped}
 use Rattle.coord_core.proofs.Endings.{pending_failed, pending_made, pending_quiet, pending_stopped}
 use Rattle.coord_core.proofs.coord.CoordCore.end.Goals as goal
 
@@ -13,18 +13,20 @@ pub returns-in-Ok-clause-answered : goal.returns-in-Ok-clause-answered
 returns-in-Ok-clause-answered g c = λ terms past event x p.
     let q = rw c.in-Some.is at p in
     pending_made g.P.TakePolicy.policy g.D.Disk.tells (Append c.in-Some.entry ∷ Sync ∷ []) c.args.step c.args.self.now (record c.args.self.now { store = c.force.new.self }) (g.D.Disk.seen c.args.disk.now) (g.D.Disk.seen c.force.new.disk)
-    terms past event x q refl refl refl refl (c.in-Ok.ensures.ends (disk past) (trip past) q.ready.stored) c.in-Ok.ensures.standing
+    terms past event x q refl refl refl refl (from_done q.ready.stored (c.in-Ok.ensures.ends _ _ _ q.ready.stored.behind)) c.in-Ok.ensures.standing
 
 pub returns-in-Err-Stopped-clause-answered : goal.returns-in-Err-Stopped-clause-answered
 returns-in-Err-Stopped-clause-answered g c = λ terms past event x p.
     let q = rw c.in-Some.is at p in
-    let ends = rw c.in-Err-Stopped.field-0-is at (c.in-Err-Stopped.ensures.ends (disk past) (trip past) q.ready.stored) in
+    let told = rw c.in-Err-Stopped.field-0-is at (c.in-Err-Stopped.ensures.ends _ _ _ q.ready.stored.behind) in
+    let ends = from_stopped q.ready.stored told in
     pending_stopped g.P.TakePolicy.policy g.D.Disk.tells (Append c.in-Some.entry ∷ Sync ∷ []) c.args.step c.args.self.now (record c.args.self.now { store = c.force.new.self }) (g.D.Disk.seen c.args.disk.now) (g.D.Disk.seen c.force.new.disk)
     terms past event x q refl refl refl refl c.silent.result c.in-Err-Stopped.kept ends c.in-Err-Stopped.ensures.down c.silent.ensures.answer c.silent.ensures.sends
 
 pub returns-clause-failed : goal.returns-clause-failed
 returns-clause-failed g c = λ terms past event x p.
     let q = rw c.in-Some.is at p in
-    let ends = rw c.in-Err-Failed.field-0-is at (c.in-Err-Failed.ensures.ends (disk past) (trip past) q.ready.stored) in
+    let told = rw c.in-Err-Failed.field-0-is at (c.in-Err-Failed.ensures.ends _ _ _ q.ready.stored.behind) in
+    let ends = from_failed q.ready.stored told in
     pending_failed g.P.TakePolicy.policy g.D.Disk.tells (Append c.in-Some.entry ∷ Sync ∷ []) c.args.step c.args.self.now (record c.args.self.now { store = c.force.new.self }) (g.D.Disk.seen c.args.disk.now) (g.D.Disk.seen c.force.new.disk)
     terms past event x q refl refl refl refl ends c.in-Err-Failed.ensures.down

@@ -17,7 +17,8 @@ use Rattle.coord_core.specs.declared.coord.CoordCore.{CoordCore}
 use Rattle.coord_tables.specs.declared.stages.Stage.{Stage}
 use Rattle.coord_tables.specs.declared.tables.Tables.{Tables}
 use Rattle.coord_tables.specs.Stages.{stage_tickets}
-use Rattle.coord_core.specs.Store.{Keeps, Store}
+use Rattle.coord_core.specs.Found.{was_found}
+use Rattle.coord_core.specs.Store.{Keeps, KeepsBehind, Store}
 use Rattle.coord_tables.specs.Trees.{Tree, committed_in, entry_of}
 use Rattle.mdb_base.specs.Names.{same_tx}
 use Rattle.mdb_base.proofs.ResultLaws.{map_err, map_ok}
@@ -113,12 +114,10 @@ add-requires g c =
 
 pub end-requires-clause-kept : goal.end-requires-clause-kept
 end-requires-clause-kept g c =
-    let m = c.requires.may in (
-      disk m.past,
-      trip m.past,
-      subst (λ (s : Store). Keeps g.D.Disk.tells (g.D.Disk.seen c.room_for_commit.new.disk) s (disk m.past) (trip m.past)) (sym (ap (λ (core : CoordCore g.row.P.Denot). core.store) c.try_tickets.ensures.others))
-          (c.room_for_commit.ensures.stands m.terms m.past m.stood).stored,
-    )
+    let m = c.requires.may in
+    let k = (c.room_for_commit.ensures.stands m.terms m.past m.stood).stored in
+    let P : Store → Type 0 = λ s. KeepsBehind g.D.Disk.tells (g.D.Disk.seen c.room_for_commit.new.disk) s k.old (disk m.past) (trip m.past) in
+    (k.old, (disk m.past, trip m.past, subst P (sym (ap (λ (core : CoordCore g.row.P.Denot). core.store) c.try_tickets.ensures.others)) k.behind))
 
 pub end-requires-clause-up : goal.end-requires-clause-up
 end-requires-clause-up g c =
@@ -179,7 +178,7 @@ returns-in-Ok-Added-clause-answered g c =
     (subst (λ (h : Graph). StandsFor (record { tid = c.args.tid; tickets = c.args.tickets.now } ∷ commits (records past)) h) (sym c.decide-forgets.ensures.graph) graph))
     (subst (λ (ss : List Stage). AreHeld (map stage_tickets ss) core.tables.graph) (sym (ap (λ (t : Tables). t.stages.listed) kept)) c.prune.ensures.held)
     refl sends
-    (subst (λ (st : Store). Keeps g.D.Disk.tells (g.D.Disk.seen c.room_for_commit.new.disk) st (disk past) (trip past)) (sym (ap (λ (one : CoordCore g.row.P.Denot). one.store) others)) k2.stored)
+    (subst (λ (st : Store). Keeps (was_found past) g.D.Disk.tells (g.D.Disk.seen c.room_for_commit.new.disk) st (disk past) (trip past)) (sym (ap (λ (one : CoordCore g.row.P.Denot). one.store) others)) k2.stored)
     (ap (λ (one : CoordCore g.row.P.Denot). one.protocols) others) (ap (λ (one : CoordCore g.row.P.Denot). one.policy) others) (ap (λ (one : CoordCore g.row.P.Denot). one.begun) others)))
 
 pub returns-in-Ok-Added-clause-failed : goal.returns-in-Ok-Added-clause-failed
@@ -220,5 +219,5 @@ returns-in-Ok-Added-clause-failed g c =
     (subst (λ (h : Graph). StandsFor (record { tid = c.args.tid; tickets = c.args.tickets.now } ∷ commits (records past)) h) (sym c.decide-forgets.ensures.graph) graph))
     (subst (λ (ss : List Stage). AreHeld (map stage_tickets ss) core.tables.graph) (sym (ap (λ (t : Tables). t.stages.listed) kept)) c.prune.ensures.held)
     refl sends
-    (subst (λ (st : Store). Keeps g.D.Disk.tells (g.D.Disk.seen c.room_for_commit.new.disk) st (disk past) (trip past)) (sym (ap (λ (one : CoordCore g.row.P.Denot). one.store) others)) k2.stored)
+    (subst (λ (st : Store). Keeps (was_found past) g.D.Disk.tells (g.D.Disk.seen c.room_for_commit.new.disk) st (disk past) (trip past)) (sym (ap (λ (one : CoordCore g.row.P.Denot). one.store) others)) k2.stored)
     (ap (λ (one : CoordCore g.row.P.Denot). one.protocols) others) (ap (λ (one : CoordCore g.row.P.Denot). one.policy) others) (ap (λ (one : CoordCore g.row.P.Denot). one.begun) others)))

@@ -5,17 +5,23 @@ use Rattle.mdb_base.specs.Words.{Each}
 use Rattle.fed_rules.specs.declared.records.CoordRecord.{CoordRecord}
 use Rattle.frame_journal.specs.Journal.{records}
 use Rattle.coord_core.specs.Found.{found_disk}
+use Rattle.coord_core.proofs.FoundDisks.{disk_found}
+use Rattle.coord_core.proofs.FoundPasts.{found_kept}
 use Rattle.coord_core.proofs.Opened.{attempts_small, cause_on, stands_opened}
 use Rattle.coord_core.proofs.coord.CoordCore.reopen.Goals as goal
 use Rattle.coord_tables.specs.Found.{attempts_in, found_attempts}
 
 pub found-requires-clause-found : goal.found-requires-clause-found
-found-requires-clause-found g c = let s = c.requires.found in (found_disk s.0, s.1.stands)
+found-requires-clause-found g c =
+    let s = c.requires.found in
+    let o = disk_found _ s.0 s.1.stands in
+    (o.0, found_disk s.0, o.1)
 
 pub begun_by-requires : goal.begun_by-requires
 begun_by-requires g c =
     let s = c.requires.found in
-    let kept = c.in_ok-store.ensures.keeps (found_disk s.0) s.1.stands in
+    let o = disk_found _ s.0 s.1.stands in
+    let kept = c.in_ok-store.ensures.keeps o.0 (found_disk s.0) o.1 in
     subst (λ (rs : List CoordRecord). All (λ (r : CoordRecord). Each (λ (tid : Tid). tid.attempt < 32) (attempts_in r)) rs) (sym c.records.ensures) (attempts_small (records c.in_ok-store.store.journal) kept.are_records)
 
 pub returns-in_err-store-clause-cause : goal.returns-in_err-store-clause-cause
@@ -24,7 +30,8 @@ returns-in_err-store-clause-cause g c =
 
 pub returns-clause-stands : goal.returns-clause-stands
 returns-clause-stands g c journal f =
-    let kept = c.in_ok-store.ensures.keeps (found_disk journal) f.stands in
+    let o = disk_found _ journal f.stands in
+    let kept = found_kept c.args.protocols journal o.0 (c.in_ok-store.ensures.keeps o.0 (found_disk journal) o.1) in
     stands_opened (g.D.Disk.seen c.args.disk.now).image c.args.protocols journal c.len.ensures.rising f g.P.TakePolicy.policy g.D.Disk.tells
     (record { protocols = c.args.protocols; policy = c.args.policy; tables = c.in_ok-tables.tables; begun = c.in_ok-begun.begun; store = c.in_ok-store.store }) (g.D.Disk.seen c.found.new.disk)
     c.requires.sites refl kept c.in_ok-store.ensures.down (λ tx. c.in_ok-begun.ensures tx ∙ ap (found_attempts tx) c.records.ensures)

@@ -2,6 +2,7 @@ use Rattle.std.proofs.Common.{refl, ◌∙◌}
 use Rattle.mdb_base.proofs.ResultLaws.{map_err, map_ok}
 use Rattle.fed_rules.specs.declared.events.CoordStep.{CoordStep}
 use Rattle.fed_rules.specs.CoordPast.{disk, trip}
+use Rattle.actor_store.proofs.FromLaws.{from_kept}
 use Rattle.coord_core.specs.declared.coord.CoordCore.{CoordCore}
 use Rattle.coord_tables.specs.Sending.{after_taken}
 use Rattle.coord_tables.proofs.Initiations.{initiation_fits, initiation_in_range}
@@ -24,7 +25,7 @@ returns-in_default-room_for-clause-failed g c = λ terms past event k i.
 pub end-requires-clause-kept : goal.end-requires-clause-kept
 end-requires-clause-kept g c =
     let m = c.requires.may in
-    (disk m.past, trip m.past, c.room_for.ensures.keeps (disk m.past) (trip m.past) m.stood.stored)
+    (m.stood.stored.old, (disk m.past, trip m.past, c.room_for.ensures.keeps _ _ _ m.stood.stored.behind))
 
 pub end-requires-clause-in_range : goal.end-requires-clause-in_range
 end-requires-clause-in_range g c =
@@ -51,7 +52,7 @@ returns-clause-answered g c =
     refl c.take_reply.ensures.known c.take_reply.ensures.exec c.take_reply.ensures.stages c.take_reply.ensures.committed c.take_reply.ensures.graph c.sent.ensures.known c.sent.ensures.stages c.sent.ensures.exec c.sent.ensures.committed c.sent.ensures.graph s in
     each terms past event (sent_line terms.protocols past event c.args.tid c.args.defers c.args.dues.now c.is_some-initiates.result)
     (sent_pending terms past event c.args.tid c.args.taken c.args.defers c.args.dues.now old.tables.exec (after_taken c.args.tid c.args.taken old.tables.exec) i c.is_some-initiates.result g.P.TakePolicy.policy g.D.Disk.tells step old core
-    (g.D.Disk.seen c.args.disk.now) (g.D.Disk.seen c.room_for.new.disk) c.in-Ok.entry k forces entry c.said-answer.ensures c.in-Ok-send_dues.ensures (c.room_for.ensures.keeps (disk past) (trip past) k.stored)
+    (g.D.Disk.seen c.args.disk.now) (g.D.Disk.seen c.room_for.new.disk) c.in-Ok.entry k forces entry c.said-answer.ensures c.in-Ok-send_dues.ensures (from_kept k.stored (c.room_for.ensures.keeps _ _ _ k.stored.behind))
     (up_is g.P.TakePolicy.policy g.D.Disk.tells old terms past k.holds c.requires.up) refl refl refl served))
 
 pub returns-clause-failed : goal.returns-clause-failed
@@ -67,5 +68,5 @@ returns-clause-failed g c =
     refl c.take_reply.ensures.known c.take_reply.ensures.exec c.take_reply.ensures.stages c.take_reply.ensures.committed c.take_reply.ensures.graph c.sent.ensures.known c.sent.ensures.stages c.sent.ensures.exec c.sent.ensures.committed c.sent.ensures.graph s in
     each terms past event (sent_line terms.protocols past event c.args.tid c.args.defers c.args.dues.now c.is_some-initiates.result)
     (sent_pending terms past event c.args.tid c.args.taken c.args.defers c.args.dues.now old.tables.exec (after_taken c.args.tid c.args.taken old.tables.exec) i c.is_some-initiates.result g.P.TakePolicy.policy g.D.Disk.tells step old core
-    (g.D.Disk.seen c.args.disk.now) (g.D.Disk.seen c.room_for.new.disk) c.in-Ok.entry k forces entry c.said-answer.ensures c.in-Ok-send_dues.ensures (c.room_for.ensures.keeps (disk past) (trip past) k.stored)
+    (g.D.Disk.seen c.args.disk.now) (g.D.Disk.seen c.room_for.new.disk) c.in-Ok.entry k forces entry c.said-answer.ensures c.in-Ok-send_dues.ensures (from_kept k.stored (c.room_for.ensures.keeps _ _ _ k.stored.behind))
     (up_is g.P.TakePolicy.policy g.D.Disk.tells old terms past k.holds c.requires.up) refl refl refl served))

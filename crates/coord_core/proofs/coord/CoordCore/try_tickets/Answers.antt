@@ -40,13 +40,13 @@ try_anew-requires-clause-apart g c =
     let m = c.requires.may in
     let is = sum_is g.P.TakePolicy.policy c.args.self.now m.terms m.past c.records.result.now c.in_ok-sum.sum m.stood.holds c.records.ensures c.in_ok-sum.ensures in
     subst (λ (ts : List Ticketed). OneEach (record { tid = c.args.tid; tickets = c.args.tickets.now } ∷ ts)) (sym (c.in_ok-commits.ensures ∙ ap (λ (s : CoordSum). map ticketed_by s.committed) is))
-    (fresh_apart m.terms m.past m.stood.holds.sound m.stood.stored.written c.args.tid c.args.tickets.now m.holds)
+    (fresh_apart m.terms m.past m.stood.holds.sound m.stood.stored.behind.written c.args.tid c.args.tickets.now m.holds)
 
 pub try_anew-requires-clause-no_cycle : goal.try_anew-requires-clause-no_cycle
 try_anew-requires-clause-no_cycle g c =
     let m = c.requires.may in
     let is = sum_is g.P.TakePolicy.policy c.args.self.now m.terms m.past c.records.result.now c.in_ok-sum.sum m.stood.holds c.records.ensures c.in_ok-sum.ensures in
-    subst (λ (ts : List Ticketed). HasNoCycle ts) (sym (c.in_ok-commits.ensures ∙ ap (λ (s : CoordSum). map ticketed_by s.committed) is)) (commits_free m.terms m.past m.stood.holds.sound m.stood.stored.written)
+    subst (λ (ts : List Ticketed). HasNoCycle ts) (sym (c.in_ok-commits.ensures ∙ ap (λ (s : CoordSum). map ticketed_by s.committed) is)) (commits_free m.terms m.past m.stood.holds.sound m.stood.stored.behind.written)
 
 pub returns : goal.returns
 returns g c =
@@ -55,11 +55,11 @@ returns g c =
       verdict = map_ok _ _ c.try_anew.result c.try_anew.ensures.over_all (λ verdict over terms past k fresh.
           let is = sum_is g.P.TakePolicy.policy old terms past c.records.result.now c.in_ok-sum.sum k.holds c.records.ensures c.in_ok-sum.ensures in
           let commits_are = c.in_ok-commits.ensures ∙ ap (λ (s : CoordSum). map ticketed_by s.committed) is in
-          over (commits (records past)) (λ graph st. graph_stands terms past k.holds.sound k.stored.written graph (subst (λ (ts : List Ticketed). StandsFor ts graph) commits_are st)) fresh);
+          over (commits (records past)) (λ graph st. graph_stands terms past k.holds.sound k.stored.behind.written graph (subst (λ (ts : List Ticketed). StandsFor ts graph) commits_are st)) fresh);
       stands = map_ok _ _ c.try_anew.result c.try_anew.ensures.stands (λ verdict stands terms past k fresh.
           let is = sum_is g.P.TakePolicy.policy old terms past c.records.result.now c.in_ok-sum.sum k.holds c.records.ensures c.in_ok-sum.ensures in
           let commits_are = c.in_ok-commits.ensures ∙ ap (λ (s : CoordSum). map ticketed_by s.committed) is in
-          stands (commits (records past)) (λ graph st. graph_stands terms past k.holds.sound k.stored.written graph (subst (λ (ts : List Ticketed). StandsFor ts graph) commits_are st))
+          stands (commits (records past)) (λ graph st. graph_stands terms past k.holds.sound k.stored.behind.written graph (subst (λ (ts : List Ticketed). StandsFor ts graph) commits_are st))
           (serves g.P.TakePolicy.policy g.D.Disk.tells old terms past k.holds c.requires.up).graph);
       refused = c.try_anew.ensures.refused;
       others = refl;

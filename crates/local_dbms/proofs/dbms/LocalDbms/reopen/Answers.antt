@@ -14,7 +14,7 @@ returns-in-Ok-programs_found-clause-stands g c home journal f of_kind =
       core = stood;
       owns = record {
         held = (λ tx. c.in-Ok-programs_found.ensures tx ∙ ap (λ rs. found_programs rs tx) (c.records.ensures home past stood.holds ∙ ap reverse (found_journal _ home journal f)) ∙ found_same journal.records tx);
-        named = found_named journal.records f.stands.written;
+        named = found_named journal.records f.stands.in_range;
         owned = opened_owned home (found_programs journal.records) past (found_opened _ home journal f) (are_found journal);
       };
     }

@@ -6,6 +6,7 @@ use Rattle.fed_rules.specs.Site.{site_line}
 use Rattle.fed_rules.specs.SitePast.{SitePast, disk, trip}
 use Rattle.fed_rules.specs.SiteRecords.{Home}
 use Rattle.actor_store.specs.declared.errors.StepErr.{StepErr}
+use Rattle.actor_store.proofs.FromLaws.{from_kept}
 use Rattle.site_core.specs.declared.site.SiteCore.{SiteCore}
 use Rattle.site_core.specs.Stands.{Answers, Breaks, Stands}
 use Rattle.site_core.specs.Steps.{EachPast}
@@ -17,7 +18,7 @@ use Rattle.site_core.proofs.site.SiteCore.back.Goals as goal
 pub reload-requires-clause-kept : goal.reload-requires-clause-kept
 reload-requires-clause-kept g c =
     let m = c.requires.may in
-    (disk m.home m.past, trip m.past, m.stood.stored)
+    (m.stood.stored.old, (disk m.home m.past, trip m.past, m.stood.stored.behind))
 
 pub start_epoch-requires-clause-may : goal.start_epoch-requires-clause-may
 start_epoch-requires-clause-may g c =
@@ -27,7 +28,7 @@ start_epoch-requires-clause-may g c =
       home = m.home;
       past = m.past;
       stood = stands_from g.E.LocalEngine.stands g.D.Disk.tells core _ (g.D.Disk.seen c.args.disk.now) (g.D.Disk.seen c.reload.new.disk) m.home m.past m.stood
-          (roomier g.E.LocalEngine.stands g.D.Disk.tells core _ (g.D.Disk.seen c.args.disk.now) (g.D.Disk.seen c.reload.new.disk) m.home m.past m.stood (c.reload.ensures.keeps _ _ m.stood.stored) c.reload.ensures.standing refl);
+          (roomier g.E.LocalEngine.stands g.D.Disk.tells core _ (g.D.Disk.seen c.args.disk.now) (g.D.Disk.seen c.reload.new.disk) m.home m.past m.stood (from_kept m.stood.stored (c.reload.ensures.keeps _ _ _ m.stood.stored.behind)) c.reload.ensures.standing refl);
       holds = m.holds;
     }
 
@@ -40,7 +41,7 @@ returns-in-Ok-clause-answered g c =
     let says : SiteStep → Home → SitePast → Type 0 = λ step home past. Answers g.E.LocalEngine.stands g.D.Disk.tells step c.start_epoch.new.self (g.D.Disk.seen c.start_epoch.new.disk) home past (site_line home past Ev.Back) in
     map_ok (λ step. EachPast K (says step)) (λ step. EachPast L (says step)) c.start_epoch.result c.start_epoch.ensures.answered
     (λ step p home past k. p home past (stands_from g.E.LocalEngine.stands g.D.Disk.tells core loaded (g.D.Disk.seen c.args.disk.now) (g.D.Disk.seen c.reload.new.disk) home past k
-    (roomier g.E.LocalEngine.stands g.D.Disk.tells core loaded (g.D.Disk.seen c.args.disk.now) (g.D.Disk.seen c.reload.new.disk) home past k (c.reload.ensures.keeps _ _ k.stored) c.reload.ensures.standing refl)))
+    (roomier g.E.LocalEngine.stands g.D.Disk.tells core loaded (g.D.Disk.seen c.args.disk.now) (g.D.Disk.seen c.reload.new.disk) home past k (from_kept k.stored (c.reload.ensures.keeps _ _ _ k.stored.behind)) c.reload.ensures.standing refl)))
 
 pub returns-in-Ok-clause-failed : goal.returns-in-Ok-clause-failed
 returns-in-Ok-clause-failed g c =
@@ -51,13 +52,13 @@ returns-in-Ok-clause-failed g c =
     let fails : StepErr → Home → SitePast → Type 0 = λ why home past. Breaks g.E.LocalEngine.stands g.D.Disk.tells why c.start_epoch.new.self (g.D.Disk.seen c.start_epoch.new.disk) home past Ev.Back in
     map_err (λ why. EachPast K (fails why)) (λ why. EachPast L (fails why)) c.start_epoch.result c.start_epoch.ensures.failed
     (λ why p home past k. p home past (stands_from g.E.LocalEngine.stands g.D.Disk.tells core loaded (g.D.Disk.seen c.args.disk.now) (g.D.Disk.seen c.reload.new.disk) home past k
-    (roomier g.E.LocalEngine.stands g.D.Disk.tells core loaded (g.D.Disk.seen c.args.disk.now) (g.D.Disk.seen c.reload.new.disk) home past k (c.reload.ensures.keeps _ _ k.stored) c.reload.ensures.standing refl)))
+    (roomier g.E.LocalEngine.stands g.D.Disk.tells core loaded (g.D.Disk.seen c.args.disk.now) (g.D.Disk.seen c.reload.new.disk) home past k (from_kept k.stored (c.reload.ensures.keeps _ _ _ k.stored.behind)) c.reload.ensures.standing refl)))
 
 pub returns-in-Err-Memory-clause-failed : goal.returns-in-Err-Memory-clause-failed
 returns-in-Err-Memory-clause-failed g c = λ home past k.
-    roomier g.E.LocalEngine.stands g.D.Disk.tells c.args.self.now _ (g.D.Disk.seen c.args.disk.now) (g.D.Disk.seen c.reload.new.disk) home past k (c.reload.ensures.keeps _ _ k.stored) c.reload.ensures.standing refl
+    roomier g.E.LocalEngine.stands g.D.Disk.tells c.args.self.now _ (g.D.Disk.seen c.args.disk.now) (g.D.Disk.seen c.reload.new.disk) home past k (from_kept k.stored (c.reload.ensures.keeps _ _ _ k.stored.behind)) c.reload.ensures.standing refl
 
 pub returns-in-Err-Disk-clause-failed : goal.returns-in-Err-Disk-clause-failed
 returns-in-Err-Disk-clause-failed g c = λ home past k.
     read_failed g.E.LocalEngine.stands g.D.Disk.tells c.args.self.now _ c.reload.new.self (g.D.Disk.seen c.args.disk.now) (g.D.Disk.seen c.reload.new.disk) home past k c.requires.down
-    (c.reload.ensures.keeps _ _ k.stored) c.reload.ensures.standing refl
+    (from_kept k.stored (c.reload.ensures.keeps _ _ _ k.stored.behind)) c.reload.ensures.standing refl

@@ -1,10 +1,10 @@
-use Rattle.std.proofs.Common.{◌≡◌, ℕ, None, refl, sym, ap, ◌∙◌, subst}
+use Rattle.std.proofs.Common.{ℕ, None, refl, sym, ap, ◌∙◌, subst}
 use Rattle.fed_rules.specs.declared.answers.Answer.TheVariants as Say
 use Rattle.fed_rules.specs.declared.events.SiteStep.{SiteStep}
 use Rattle.fed_rules.specs.declared.sums.SiteSum.{SiteSum}
 use Rattle.fed_rules.specs.SitePast.{disk, records, trip}
-use Rattle.fed_rules.specs.SiteSums.{site_sum}
 use Rattle.site_journal.specs.Spelling.{IsSumInRange}
+use Rattle.actor_store.proofs.FromLaws.{from_done, from_failed, from_kept, from_stopped}
 use Rattle.site_core.proofs.CheckLaws.{check_done, check_failed, check_large, check_stopped, checkpoint_fits, roomier}
 use Rattle.site_history.proofs.Founded.{founded}
 use Rattle.site_core.proofs.JournalLaws.{is_journal, sum_is}
@@ -26,18 +26,18 @@ frame_len-bytes-requires g c = checkpoint_fits c.in-Ok.sum (sym c.is_large.ensur
 
 pub returns-in_default-make_room-clause-failed : goal.returns-in_default-make_room-clause-failed
 returns-in_default-make_room-clause-failed g c = λ home past k.
-    roomier g.E.LocalEngine.stands g.D.Disk.tells c.args.self.now _ (g.D.Disk.seen c.args.disk.now) (g.D.Disk.seen c.make_room.new.disk) home past k (c.make_room.ensures.keeps _ _ k.stored) c.make_room.ensures.standing refl
+    roomier g.E.LocalEngine.stands g.D.Disk.tells c.args.self.now _ (g.D.Disk.seen c.args.disk.now) (g.D.Disk.seen c.make_room.new.disk) home past k (from_kept k.stored (c.make_room.ensures.keeps _ _ _ k.stored.behind)) c.make_room.ensures.standing refl
 
 pub check-requires-clause-kept : goal.check-requires-clause-kept
 check-requires-clause-kept g c =
     let m = c.requires.may in
-    (disk m.home m.past, trip m.past, c.make_room.ensures.keeps _ _ m.stood.stored)
+    (m.stood.stored.old, (disk m.home m.past, trip m.past, c.make_room.ensures.keeps _ _ _ m.stood.stored.behind))
 
 pub check-requires-clause-in_range : goal.check-requires-clause-in_range
 check-requires-clause-in_range g c =
     let m = c.requires.may in
     let is = sum_is g.E.LocalEngine.stands c.args.self.now m.home m.past c.records.result.now c.in-Ok.sum m.stood.holds.made m.stood.holds.memory c.records.ensures c.in-Ok.ensures in
-    subst (λ (s : SiteSum). IsSumInRange s) (sym is) (sum_in_range m.home (records m.home m.past) (founded m.home m.past) m.stood.stored.written m.stood.holds.memory.once)
+    subst (λ (s : SiteSum). IsSumInRange s) (sym is) (sum_in_range m.home (records m.home m.past) (founded m.home m.past) m.stood.stored.behind.written m.stood.holds.memory.once)
 
 pub check-requires-clause-payload : goal.check-requires-clause-payload
 check-requires-clause-payload g c = checkpoint_fits c.in-Ok.sum (sym c.is_large.ensures ∙ c.if-is_large.false)
@@ -46,17 +46,19 @@ pub returns-in-Ok-check-clause-answered : goal.returns-in-Ok-check-clause-answer
 returns-in-Ok-check-clause-answered g c = λ home past k.
     let is = sum_is g.E.LocalEngine.stands c.args.self.now home past c.records.result.now c.in-Ok.sum k.holds.made k.holds.memory c.records.ensures c.in-Ok.ensures in
     check_done g.E.LocalEngine.stands g.D.Disk.tells c.args.self.now _ c.says-in-Ok-check.result (g.D.Disk.seen c.args.disk.now) (g.D.Disk.seen c.check.new.disk) home past c.in-Ok.sum k c.requires.up is (sym c.is_large.ensures ∙ c.if-is_large.false)
-    (c.in-Ok-check.ensures.ends _ _ (c.make_room.ensures.keeps _ _ k.stored)) c.in-Ok-check.ensures.standing refl c.says-in-Ok-check.ensures
+    (from_done k.stored (c.in-Ok-check.ensures.ends _ _ _ (c.make_room.ensures.keeps _ _ _ k.stored.behind))) c.in-Ok-check.ensures.standing refl c.says-in-Ok-check.ensures
 
 pub returns-in-Err-Stopped-clause-answered : goal.returns-in-Err-Stopped-clause-answered
 returns-in-Err-Stopped-clause-answered g c = λ home past k.
     let is = sum_is g.E.LocalEngine.stands c.args.self.now home past c.records.result.now c.in-Ok.sum k.holds.made k.holds.memory c.records.ensures c.in-Ok.ensures in
-    let ends = rw c.in-Err-Stopped.field-0-is at (c.in-Err-Stopped.ensures.ends (disk home past) (trip past) (c.make_room.ensures.keeps (disk home past) (trip past) k.stored)) in
+    let told = rw c.in-Err-Stopped.field-0-is at (c.in-Err-Stopped.ensures.ends _ _ _ (c.make_room.ensures.keeps _ _ _ k.stored.behind)) in
+    let ends = from_stopped k.stored told in
     check_stopped g.E.LocalEngine.stands g.D.Disk.tells c.args.self.now _ c.says-in-Err-Stopped.result (g.D.Disk.seen c.args.disk.now) (g.D.Disk.seen c.check.new.disk) home past c.in-Ok.sum _ k c.requires.up is (sym c.is_large.ensures ∙ c.if-is_large.false)
     ends c.in-Err-Stopped.ensures.down refl (c.says-in-Err-Stopped.ensures ∙ ap (λ (n : ℕ). let s : SiteStep = record { answer = Say.Stopped n; sends = None } in s) c.in-Err-Stopped.kept-is)
 
 pub returns-in-Err-Failed-clause-failed : goal.returns-in-Err-Failed-clause-failed
 returns-in-Err-Failed-clause-failed g c = λ home past k.
     let is = sum_is g.E.LocalEngine.stands c.args.self.now home past c.records.result.now c.in-Ok.sum k.holds.made k.holds.memory c.records.ensures c.in-Ok.ensures in
-    let ends = rw c.in-Err-Failed.field-0-is at (c.in-Err-Failed.ensures.ends (disk home past) (trip past) (c.make_room.ensures.keeps (disk home past) (trip past) k.stored)) in
+    let told = rw c.in-Err-Failed.field-0-is at (c.in-Err-Failed.ensures.ends _ _ _ (c.make_room.ensures.keeps _ _ _ k.stored.behind)) in
+    let ends = from_failed k.stored told in
     check_failed g.E.LocalEngine.stands g.D.Disk.tells c.args.self.now _ (g.D.Disk.seen c.args.disk.now) (g.D.Disk.seen c.check.new.disk) home past c.in-Ok.sum k c.requires.up is (sym c.is_large.ensures ∙ c.if-is_large.false) ends c.in-Err-Failed.ensures.down refl

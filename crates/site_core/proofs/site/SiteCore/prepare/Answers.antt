@@ -20,7 +20,7 @@ use Rattle.site_core.specs.Steps.{CanPrepare, EachPast}
 use Rattle.site_core.proofs.CommitLaws.{refused_by, sealing_stands}
 use Rattle.site_core.proofs.InquiryLaws.{none_doubted}
 use Rattle.site_core.proofs.RememberLaws.{answers_as, answers_quiet, is_up_at}
-use Rattle.site_core.proofs.VoteLaws.{again_adds, again_here, again_late, again_line, finished_count, finished_epoch, finished_live, finishes, no_adds, no_is, no_line, noted_ticket, prepare_unfinished, refused_adds, refused_here, reserved_stands, sealed_ticket}
+use Rattle.site_core.proofs.VoteLaws.{again_adds, again_here, again_late, again_line, finished_count, finished_epoch, finished_live, finishes, no_adds, no_is, no_line, noted_ticket, prepare_unfinished, refused_adds, refused_here, sealed_ticket}
 use Rattle.site_core.proofs.site.SiteCore.prepare.Goals as goal
 
 pub returns-then-doubt-epoch-clause-answered : goal.returns-then-doubt-epoch-clause-answered
@@ -66,7 +66,7 @@ record_vote-requires-clause-ticket g c =
     let u = is_up_at g.E.LocalEngine.stands core m.home m.past m.stood.holds.memory c.requires.up in
     let noted = noted_ticket core.book m.home m.past tid core.epoch c.args.epoch c.args.n u.notes u.epoch in
     let f = finishes m.home m.past tid c.args.epoch c.args.n ticket (sym noted ∙ sym c.finished_ticket.ensures ∙ c.in-Some-finished_ticket.is) in
-    sealed_ticket m.home m.past tid c.args.epoch c.args.n ticket c.in-Ok-seal.sealed f (c.in-Ok-seal.ensures.given (epoch_start m.home m.past) (engine_lines m.past) u.engine)
+    sealed_ticket m.home m.past tid c.args.epoch c.args.n ticket c.in-Ok.sealed f (c.in-Ok.ensures.given (epoch_start m.home m.past) (engine_lines m.past) u.engine)
 
 pub record_vote-requires-clause-may : goal.record_vote-requires-clause-may
 record_vote-requires-clause-may g c =
@@ -78,27 +78,24 @@ record_vote-requires-clause-may g c =
     let noted = noted_ticket core.book m.home m.past tid core.epoch c.args.epoch c.args.n u.notes u.epoch in
     let f = finishes m.home m.past tid c.args.epoch c.args.n ticket (sym noted ∙ sym c.finished_ticket.ensures ∙ c.in-Some-finished_ticket.is) in
     let l = finished_live core.book m.home m.past tid c.args.epoch c.args.n ticket u.notes f in
-    let ready = reserved_stands g.E.LocalEngine.stands g.D.Disk.tells core c.reserve.new.self (g.D.Disk.seen c.args.disk.now) m.home m.past c.requires.up c.reserve.ensures.doubts m.stood in
-    let stood = c.in-Ok-seal.ensures.sealed (epoch_start m.home m.past) (engine_lines m.past) u.engine in
-    let reserved : SiteCore _ = record core { doubts = c.reserve.new.self } in
+    let stood = c.in-Ok.ensures.sealed (epoch_start m.home m.past) (engine_lines m.past) u.engine in
     record {
       home = m.home;
       past = m.past;
-      stood = sealing_stands g.E.LocalEngine.stands g.D.Disk.tells tid c.in-Ok-seal.sealed reserved c.seal.new.self (g.D.Disk.seen c.args.disk.now) m.home m.past ready l stood (g.met.E.LocalEngine.right _ _ _ stood)
-          (c.in-Ok-seal.ensures.given (epoch_start m.home m.past) (engine_lines m.past) u.engine);
+      stood = sealing_stands g.E.LocalEngine.stands g.D.Disk.tells tid c.in-Ok.sealed core c.seal.new.self (g.D.Disk.seen c.args.disk.now) m.home m.past m.stood l stood (g.met.E.LocalEngine.right _ _ _ stood)
+          (c.in-Ok.ensures.given (epoch_start m.home m.past) (engine_lines m.past) u.engine);
       holds = m.holds;
     }
 
-pub returns-in-Ok-seal-clause-answered : goal.returns-in-Ok-seal-clause-answered
-returns-in-Ok-seal-clause-answered g c =
+pub returns-in-Ok-clause-answered : goal.returns-in-Ok-clause-answered
+returns-in-Ok-clause-answered g c =
     let core = c.args.self.now in
     let tid = c.args.tid in
     let ticket = c.in-Some-finished_ticket.ticket in
-    let reserved : SiteCore _ = record core { doubts = c.reserve.new.self } in
-    let sealed_core : SiteCore _ = record reserved { engine = c.seal.new.self } in
+    let sealed_core : SiteCore _ = record core { engine = c.seal.new.self } in
     let new = c.record_vote.new.self in
     let after = g.D.Disk.seen c.record_vote.new.disk in
-    let K : Home → SitePast → Type 0 = StandsSealing g.E.LocalEngine.stands g.D.Disk.tells tid c.in-Ok-seal.sealed sealed_core (g.D.Disk.seen c.args.disk.now) in
+    let K : Home → SitePast → Type 0 = StandsSealing g.E.LocalEngine.stands g.D.Disk.tells tid c.in-Ok.sealed sealed_core (g.D.Disk.seen c.args.disk.now) in
     let L : Home → SitePast → Type 0 = Stands g.E.LocalEngine.stands g.D.Disk.tells core (g.D.Disk.seen c.args.disk.now) in
     let says : SiteStep → Home → SitePast → Type 0 = λ step home past. CanPrepare tid home past → (n : ℕ) → HasFinished tid n home past → Answers g.E.LocalEngine.stands g.D.Disk.tells step new after home past (unless_tripped home past (of_prepare home past tid core.epoch n)) in
     let said : SiteStep → Home → SitePast → Type 0 = λ step home past. CanPrepare tid home past → Answers g.E.LocalEngine.stands g.D.Disk.tells step new after home past (unless_tripped home past (of_prepare home past tid c.args.epoch c.args.n)) in
@@ -108,23 +105,21 @@ returns-in-Ok-seal-clause-answered g c =
     let noted = noted_ticket core.book home past tid core.epoch c.args.epoch c.args.n u.notes u.epoch in
     let f = finishes home past tid c.args.epoch c.args.n ticket (sym noted ∙ sym c.finished_ticket.ensures ∙ c.in-Some-finished_ticket.is) in
     let l = finished_live core.book home past tid c.args.epoch c.args.n ticket u.notes f in
-    let ready = reserved_stands g.E.LocalEngine.stands g.D.Disk.tells core c.reserve.new.self (g.D.Disk.seen c.args.disk.now) home past c.requires.up c.reserve.ensures.doubts k in
-    let stood = c.in-Ok-seal.ensures.sealed (epoch_start home past) (engine_lines past) u.engine in
+    let stood = c.in-Ok.ensures.sealed (epoch_start home past) (engine_lines past) u.engine in
     let here : c.args.epoch ≡ core.epoch = finished_epoch home past tid c.args.epoch c.args.n ticket f ∙ sym u.epoch in
     answers_as g.E.LocalEngine.stands g.D.Disk.tells step new after home past _ _ (ap (λ (e : ℕ). unless_tripped home past (of_prepare home past tid e c.args.n)) here)
-    (p home past (sealing_stands g.E.LocalEngine.stands g.D.Disk.tells tid c.in-Ok-seal.sealed reserved c.seal.new.self (g.D.Disk.seen c.args.disk.now) home past ready l stood (g.met.E.LocalEngine.right _ _ _ stood)
-    (c.in-Ok-seal.ensures.given (epoch_start home past) (engine_lines past) u.engine)) may c.args.n (finished_count home past tid c.args.epoch c.args.n ticket f)))
+    (p home past (sealing_stands g.E.LocalEngine.stands g.D.Disk.tells tid c.in-Ok.sealed core c.seal.new.self (g.D.Disk.seen c.args.disk.now) home past k l stood (g.met.E.LocalEngine.right _ _ _ stood)
+    (c.in-Ok.ensures.given (epoch_start home past) (engine_lines past) u.engine)) may c.args.n (finished_count home past tid c.args.epoch c.args.n ticket f)))
 
-pub returns-in-Ok-seal-clause-failed : goal.returns-in-Ok-seal-clause-failed
-returns-in-Ok-seal-clause-failed g c =
+pub returns-in-Ok-clause-failed : goal.returns-in-Ok-clause-failed
+returns-in-Ok-clause-failed g c =
     let core = c.args.self.now in
     let tid = c.args.tid in
     let ticket = c.in-Some-finished_ticket.ticket in
-    let reserved : SiteCore _ = record core { doubts = c.reserve.new.self } in
-    let sealed_core : SiteCore _ = record reserved { engine = c.seal.new.self } in
+    let sealed_core : SiteCore _ = record core { engine = c.seal.new.self } in
     let new = c.record_vote.new.self in
     let after = g.D.Disk.seen c.record_vote.new.disk in
-    let K : Home → SitePast → Type 0 = StandsSealing g.E.LocalEngine.stands g.D.Disk.tells tid c.in-Ok-seal.sealed sealed_core (g.D.Disk.seen c.args.disk.now) in
+    let K : Home → SitePast → Type 0 = StandsSealing g.E.LocalEngine.stands g.D.Disk.tells tid c.in-Ok.sealed sealed_core (g.D.Disk.seen c.args.disk.now) in
     let L : Home → SitePast → Type 0 = Stands g.E.LocalEngine.stands g.D.Disk.tells core (g.D.Disk.seen c.args.disk.now) in
     let breaks : StepErr → ℕ → ℕ → Home → SitePast → Type 0 = λ why e n home past. Breaks g.E.LocalEngine.stands g.D.Disk.tells why new after home past (Ev.Give (To.Prepare tid e n)) in
     let fails : StepErr → Home → SitePast → Type 0 = λ why home past. CanPrepare tid home past → (n : ℕ) → HasFinished tid n home past → breaks why core.epoch n home past in
@@ -135,13 +130,12 @@ returns-in-Ok-seal-clause-failed g c =
     let noted = noted_ticket core.book home past tid core.epoch c.args.epoch c.args.n u.notes u.epoch in
     let f = finishes home past tid c.args.epoch c.args.n ticket (sym noted ∙ sym c.finished_ticket.ensures ∙ c.in-Some-finished_ticket.is) in
     let l = finished_live core.book home past tid c.args.epoch c.args.n ticket u.notes f in
-    let ready = reserved_stands g.E.LocalEngine.stands g.D.Disk.tells core c.reserve.new.self (g.D.Disk.seen c.args.disk.now) home past c.requires.up c.reserve.ensures.doubts k in
-    let stood = c.in-Ok-seal.ensures.sealed (epoch_start home past) (engine_lines past) u.engine in
+    let stood = c.in-Ok.ensures.sealed (epoch_start home past) (engine_lines past) u.engine in
     let here : c.args.epoch ≡ core.epoch = finished_epoch home past tid c.args.epoch c.args.n ticket f ∙ sym u.epoch in
     let B : ℕ → Type 0 = λ e. breaks why e c.args.n home past in
     subst B (sym here)
-    (p home past (sealing_stands g.E.LocalEngine.stands g.D.Disk.tells tid c.in-Ok-seal.sealed reserved c.seal.new.self (g.D.Disk.seen c.args.disk.now) home past ready l stood (g.met.E.LocalEngine.right _ _ _ stood)
-    (c.in-Ok-seal.ensures.given (epoch_start home past) (engine_lines past) u.engine)) may c.args.n (finished_count home past tid c.args.epoch c.args.n ticket f)))
+    (p home past (sealing_stands g.E.LocalEngine.stands g.D.Disk.tells tid c.in-Ok.sealed core c.seal.new.self (g.D.Disk.seen c.args.disk.now) home past k l stood (g.met.E.LocalEngine.right _ _ _ stood)
+    (c.in-Ok.ensures.given (epoch_start home past) (engine_lines past) u.engine)) may c.args.n (finished_count home past tid c.args.epoch c.args.n ticket f)))
 
 pub returns-in-Err-Refused-clause-answered : goal.returns-in-Err-Refused-clause-answered
 returns-in-Err-Refused-clause-answered g c = λ home past k may.
@@ -149,19 +143,17 @@ returns-in-Err-Refused-clause-answered g c = λ home past k may.
     let tid = c.args.tid in
     let why = c.in-Err-Refused.why in
     let ticket = c.in-Some-finished_ticket.ticket in
-    let reserved : SiteCore _ = record core { doubts = c.reserve.new.self } in
     let u = is_up_at g.E.LocalEngine.stands core home past k.holds.memory c.requires.up in
     let none = none_doubted (doubt_of (records home past) tid) (sym (u.doubts tid) ∙ sym c.doubtful.ensures ∙ none_left c.doubtful.result c.in_default.not-Some) in
     let noted = noted_ticket core.book home past tid core.epoch c.args.epoch c.args.n u.notes u.epoch in
     let f = finishes home past tid c.args.epoch c.args.n ticket (sym noted ∙ sym c.finished_ticket.ensures ∙ c.in-Some-finished_ticket.is) in
     let l = finished_live core.book home past tid c.args.epoch c.args.n ticket u.notes f in
-    let ready = reserved_stands g.E.LocalEngine.stands g.D.Disk.tells core c.reserve.new.self (g.D.Disk.seen c.args.disk.now) home past c.requires.up c.reserve.ensures.doubts k in
     let failed = rw c.in-Err-Refused.field-0-is at c.in-Err-Refused.ensures.failed in
     let stood = failed (epoch_start home past) (engine_lines past) u.engine in
     let stops = refused_by core.book home past tid why l (g.met.E.LocalEngine.right _ _ _ stood) in
     let x = no_line tid c.args.epoch c.args.n (Some why) (Refuses tid why ∷ []) in
-    answers_quiet g.E.LocalEngine.stands g.D.Disk.tells c.votes_no-in-Err-Refused.result reserved _ (g.D.Disk.seen c.args.disk.now) home past _ x ready refl refl
+    answers_quiet g.E.LocalEngine.stands g.D.Disk.tells c.votes_no-in-Err-Refused.result core _ (g.D.Disk.seen c.args.disk.now) home past _ x k refl refl
     (ap (unless_tripped home past) (refused_here core.book home past tid c.args.epoch c.args.n ticket why l none f stops))
-    (refused_adds g.E.LocalEngine.stands reserved _ home past tid c.args.epoch c.args.n why c.votes_no-in-Err-Refused.result l ready.holds c.requires.up
-    (ap (λ b. let new : SiteCore _ = record reserved { engine = c.seal.new.self; book = b } in new) c.close.ensures) stood
+    (refused_adds g.E.LocalEngine.stands core _ home past tid c.args.epoch c.args.n why c.votes_no-in-Err-Refused.result l k.holds c.requires.up
+    (ap (λ b. let new : SiteCore _ = record core { engine = c.seal.new.self; book = b } in new) c.close.ensures) stood
     (c.votes_no-in-Err-Refused.ensures ∙ ap (λ (w : Why). let s : SiteStep = record { answer = Say.VotesNo tid (Some w); sends = Some (From.Vote tid None) } in s) c.in-Err-Refused.why-is))

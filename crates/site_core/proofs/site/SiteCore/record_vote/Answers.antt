@@ -2,9 +2,11 @@ use Rattle.std.proofs.Common.{ℕ, None, refl, ap, ◌∙◌}
 use Rattle.fed_rules.specs.declared.answers.Answer.TheVariants as Say
 use Rattle.fed_rules.specs.declared.events.SiteStep.{SiteStep}
 use Rattle.fed_rules.specs.SitePast.{disk, engine_lines, epoch_start, trip}
+use Rattle.actor_store.proofs.FromLaws.{from_done, from_failed, from_kept, from_stopped}
 use Rattle.site_core.specs.declared.site.SiteCore.{SiteCore}
 use Rattle.site_core.proofs.SealingLaws.{unsealed_stands}
-use Rattle.site_core.proofs.VoteLaws.{vote_done, vote_failed, vote_fits, vote_stopped}
+use Rattle.prepared_state.specs.Book.{doubt_about}
+use Rattle.site_core.proofs.VoteLaws.{reserved_sealing, vote_done, vote_failed, vote_fits, vote_stopped}
 use Rattle.site_core.proofs.site.SiteCore.record_vote.Goals as goal
 
 pub frame_len-bytes-requires : goal.frame_len-bytes-requires
@@ -20,28 +22,56 @@ force-requires-clause-payload g c =
 pub force-requires-clause-kept : goal.force-requires-clause-kept
 force-requires-clause-kept g c =
     let m = c.requires.may in
-    (disk m.home m.past, trip m.past, c.make_room.ensures.keeps _ _ m.stood.stood.stored)
+    (m.stood.stood.stored.old, (disk m.home m.past, trip m.past, c.make_room.ensures.keeps _ _ _ m.stood.stood.stored.behind))
+
+pub add-requires-clause-apart : goal.add-requires-clause-apart
+add-requires-clause-apart g c = ap (doubt_about c.args.tid) c.reserve.ensures.doubts ∙ c.requires.apart
 
 pub returns-in_default-clause-failed : goal.returns-in_default-clause-failed
 returns-in_default-clause-failed g c = λ home past k may n finished.
-    unsealed_stands g.E.LocalEngine.stands g.D.Disk.tells c.args.tid c.args.sealed c.args.self.now _ (g.D.Disk.seen c.args.disk.now) (g.D.Disk.seen c.make_room.new.disk) home past k c.requires.up
-    (c.make_room.ensures.keeps _ _ k.stood.stored) (c.make_room.ensures.standing ∙ c.requires.up) refl (c.unseal.ensures (epoch_start home past) (engine_lines past) c.args.sealed.number k.sealing)
+    let core = c.args.self.now in
+    let reserved : SiteCore _ = record core { doubts = c.reserve.new.self } in
+    let ready = reserved_sealing g.E.LocalEngine.stands g.D.Disk.tells c.args.tid c.args.sealed core c.reserve.new.self (g.D.Disk.seen c.args.disk.now) home past c.requires.up c.reserve.ensures.doubts k in
+    unsealed_stands g.E.LocalEngine.stands g.D.Disk.tells c.args.tid c.args.sealed reserved _ (g.D.Disk.seen c.args.disk.now) (g.D.Disk.seen c.args.disk.now) home past ready c.requires.up
+    k.stood.stored c.requires.up refl (c.unseal.ensures (epoch_start home past) (engine_lines past) c.args.sealed.number k.sealing)
+
+pub returns-in_default-make_room-clause-failed : goal.returns-in_default-make_room-clause-failed
+returns-in_default-make_room-clause-failed g c = λ home past k may n finished.
+    let core = c.args.self.now in
+    let reserved : SiteCore _ = record core { doubts = c.reserve.new.self } in
+    let ready = reserved_sealing g.E.LocalEngine.stands g.D.Disk.tells c.args.tid c.args.sealed core c.reserve.new.self (g.D.Disk.seen c.args.disk.now) home past c.requires.up c.reserve.ensures.doubts k in
+    unsealed_stands g.E.LocalEngine.stands g.D.Disk.tells c.args.tid c.args.sealed reserved _ (g.D.Disk.seen c.args.disk.now) (g.D.Disk.seen c.make_room.new.disk) home past ready c.requires.up
+    (from_kept k.stood.stored (c.make_room.ensures.keeps _ _ _ k.stood.stored.behind)) (c.make_room.ensures.standing ∙ c.requires.up) refl
+    (c.unseal-in_default-make_room.ensures (epoch_start home past) (engine_lines past) c.args.sealed.number k.sealing)
 
 pub returns-in-Ok-force-clause-answered : goal.returns-in-Ok-force-clause-answered
 returns-in-Ok-force-clause-answered g c = λ home past k may n finished.
     let core = c.args.self.now in
-    vote_done g.E.LocalEngine.stands g.D.Disk.tells c.args.tid c.args.sealed core _ c.votes_yes.result (g.D.Disk.seen c.args.disk.now) (g.D.Disk.seen c.force.new.disk) home past n c.args.ticket k c.requires.up may.apart
-    c.requires.apart c.requires.ticket finished (c.in-Ok-force.ensures.ends _ _ (c.make_room.ensures.keeps _ _ k.stood.stored)) c.in-Ok-force.ensures.standing
-    (ap (λ b. let new : SiteCore _ = record core { book = b; doubts = c.add.new.self; store = c.force.new.self } in new) c.seal.ensures) c.add.ensures.doubts c.votes_yes.ensures
+    let reserved : SiteCore _ = record core { doubts = c.reserve.new.self } in
+    let ready = reserved_sealing g.E.LocalEngine.stands g.D.Disk.tells c.args.tid c.args.sealed core c.reserve.new.self (g.D.Disk.seen c.args.disk.now) home past c.requires.up c.reserve.ensures.doubts k in
+    let absent = ap (doubt_about c.args.tid) c.reserve.ensures.doubts ∙ c.requires.apart in
+    vote_done g.E.LocalEngine.stands g.D.Disk.tells c.args.tid c.args.sealed reserved _ c.votes_yes.result (g.D.Disk.seen c.args.disk.now) (g.D.Disk.seen c.force.new.disk) home past n c.args.ticket ready c.requires.up may.apart
+    absent c.requires.ticket finished (from_done k.stood.stored (c.in-Ok-force.ensures.ends _ _ _ (c.make_room.ensures.keeps _ _ _ k.stood.stored.behind))) c.in-Ok-force.ensures.standing
+    (ap (λ b. let new : SiteCore _ = record reserved { book = b; doubts = c.add.new.self; store = c.force.new.self } in new) c.seal.ensures) c.add.ensures.doubts c.votes_yes.ensures
 
 pub returns-in-Err-Stopped-clause-answered : goal.returns-in-Err-Stopped-clause-answered
 returns-in-Err-Stopped-clause-answered g c = λ home past k may n finished.
-    let ends = rw c.in-Err-Stopped.field-0-is at (c.in-Err-Stopped.ensures.ends (disk home past) (trip past) (c.make_room.ensures.keeps (disk home past) (trip past) k.stood.stored)) in
-    vote_stopped g.E.LocalEngine.stands g.D.Disk.tells c.args.tid c.args.sealed c.args.self.now _ c.says.result (g.D.Disk.seen c.args.disk.now) (g.D.Disk.seen c.force.new.disk) home past n c.args.ticket _ k c.requires.up
-    c.requires.apart c.requires.ticket finished ends c.in-Err-Stopped.ensures.down refl (c.says.ensures ∙ ap (λ (m : ℕ). let s : SiteStep = record { answer = Say.Stopped m; sends = None } in s) c.in-Err-Stopped.kept-is)
+    let core = c.args.self.now in
+    let reserved : SiteCore _ = record core { doubts = c.reserve.new.self } in
+    let ready = reserved_sealing g.E.LocalEngine.stands g.D.Disk.tells c.args.tid c.args.sealed core c.reserve.new.self (g.D.Disk.seen c.args.disk.now) home past c.requires.up c.reserve.ensures.doubts k in
+    let absent = ap (doubt_about c.args.tid) c.reserve.ensures.doubts ∙ c.requires.apart in
+    let told = rw c.in-Err-Stopped.field-0-is at (c.in-Err-Stopped.ensures.ends _ _ _ (c.make_room.ensures.keeps _ _ _ k.stood.stored.behind)) in
+    let ends = from_stopped k.stood.stored told in
+    vote_stopped g.E.LocalEngine.stands g.D.Disk.tells c.args.tid c.args.sealed reserved _ c.says.result (g.D.Disk.seen c.args.disk.now) (g.D.Disk.seen c.force.new.disk) home past n c.args.ticket _ ready c.requires.up
+    absent c.requires.ticket finished ends c.in-Err-Stopped.ensures.down refl (c.says.ensures ∙ ap (λ (m : ℕ). let s : SiteStep = record { answer = Say.Stopped m; sends = None } in s) c.in-Err-Stopped.kept-is)
 
 pub returns-in-Err-Failed-clause-failed : goal.returns-in-Err-Failed-clause-failed
 returns-in-Err-Failed-clause-failed g c = λ home past k may n finished.
-    let ends = rw c.in-Err-Failed.field-0-is at (c.in-Err-Failed.ensures.ends (disk home past) (trip past) (c.make_room.ensures.keeps (disk home past) (trip past) k.stood.stored)) in
-    vote_failed g.E.LocalEngine.stands g.D.Disk.tells c.args.tid c.args.sealed c.args.self.now _ (g.D.Disk.seen c.args.disk.now) (g.D.Disk.seen c.force.new.disk) home past n c.args.ticket k c.requires.up
-    c.requires.apart c.requires.ticket finished ends c.in-Err-Failed.ensures.down refl
+    let core = c.args.self.now in
+    let reserved : SiteCore _ = record core { doubts = c.reserve.new.self } in
+    let ready = reserved_sealing g.E.LocalEngine.stands g.D.Disk.tells c.args.tid c.args.sealed core c.reserve.new.self (g.D.Disk.seen c.args.disk.now) home past c.requires.up c.reserve.ensures.doubts k in
+    let absent = ap (doubt_about c.args.tid) c.reserve.ensures.doubts ∙ c.requires.apart in
+    let told = rw c.in-Err-Failed.field-0-is at (c.in-Err-Failed.ensures.ends _ _ _ (c.make_room.ensures.keeps _ _ _ k.stood.stored.behind)) in
+    let ends = from_failed k.stood.stored told in
+    vote_failed g.E.LocalEngine.stands g.D.Disk.tells c.args.tid c.args.sealed reserved _ (g.D.Disk.seen c.args.disk.now) (g.D.Disk.seen c.force.new.disk) home past n c.args.ticket ready c.requires.up
+    absent c.requires.ticket finished ends c.in-Err-Failed.ensures.down refl

@@ -4,13 +4,15 @@ use Rattle.fed_rules.specs.declared.answers.Answer.TheVariants as Say
 use Rattle.fed_rules.specs.declared.events.SiteStep.{SiteStep}
 use Rattle.fed_rules.specs.declared.sums.SiteSum.{SiteSum}
 use Rattle.fed_rules.specs.EngineLines.{IsStart}
-use Rattle.fed_rules.specs.SitePast.{SitePast, disk, epoch, records, trip}
-use Rattle.fed_rules.specs.SiteRecords.{Home, doubts, kept_held}
+use Rattle.fed_rules.specs.SitePast.{disk, epoch, records, trip}
+use Rattle.fed_rules.specs.SiteRecords.{doubts, kept_held}
 use Rattle.prepared_state.specs.Book.{AreApart}
 use Rattle.engine_contract.specs.Calls.{start_from}
 use Rattle.journal_sums.specs.Starts.{doubt_held}
+use Rattle.actor_store.proofs.FromLaws.{from_done, from_failed, from_kept, from_stopped}
 use Rattle.site_core.specs.declared.site.SiteCore.{SiteCore}
-use Rattle.site_core.specs.Store.{Keeps, Store}
+use Rattle.site_core.specs.Made.{was_found}
+use Rattle.site_core.specs.Store.{Keeps, KeepsBehind, Store}
 use Rattle.site_core.proofs.BackLaws.{back_done, back_failed, back_stopped, doubts_apart_here, epoch_read, kind_kept, start_good, started_kind, stays_down}
 use Rattle.site_core.proofs.CheckLaws.{roomier}
 use Rattle.site_core.proofs.JournalLaws.{is_journal, sum_is}
@@ -35,13 +37,13 @@ pub overflow_cast-doubtful : goal.overflow_cast-doubtful
 overflow_cast-doubtful g c =
     let m = c.requires.may in
     let is = sum_is g.E.LocalEngine.stands c.args.self.now m.home m.past c.records.result.now c.in-Ok.sum m.stood.holds.made m.stood.holds.memory c.records.ensures c.in-Ok.ensures in
-    let few = few_doubts (records m.home m.past) m.stood.stored.written in
+    let few = few_doubts (records m.home m.past) m.stood.stored.behind.written in
     let same : length c.in-Ok.sum.doubtful ≡ length (doubts (records m.home m.past)) = ap (λ (s : SiteSum). length s.doubtful) is in
     omega (arith, c.len-doubtful.ensures, same, few)
 
 pub returns-in_default-make_room-clause-failed : goal.returns-in_default-make_room-clause-failed
 returns-in_default-make_room-clause-failed g c = λ home past k.
-    roomier g.E.LocalEngine.stands g.D.Disk.tells c.args.self.now _ (g.D.Disk.seen c.args.disk.now) (g.D.Disk.seen c.make_room.new.disk) home past k (c.make_room.ensures.keeps _ _ k.stored) c.make_room.ensures.standing refl
+    roomier g.E.LocalEngine.stands g.D.Disk.tells c.args.self.now _ (g.D.Disk.seen c.args.disk.now) (g.D.Disk.seen c.make_room.new.disk) home past k (from_kept k.stored (c.make_room.ensures.keeps _ _ _ k.stored.behind)) c.make_room.ensures.standing refl
 
 pub recover-requires-clause-start : goal.recover-requires-clause-start
 recover-requires-clause-start g c =
@@ -63,9 +65,9 @@ pub returns-in_default-recover-clause-failed : goal.returns-in_default-recover-c
 returns-in_default-recover-clause-failed g c = λ home past k.
     let core = c.args.self.now in
     let store : c.recover.new.self.store ≡ c.make_room.new.self = ap (λ (x : SiteCore _). x.store) c.recover.ensures.rest in
-    let P : Store → Type 0 = λ s. Keeps g.D.Disk.tells (g.D.Disk.seen c.make_room.new.disk) s (disk home past) (trip past) in
+    let P : Store → Type 0 = λ s. Keeps (was_found past) g.D.Disk.tells (g.D.Disk.seen c.make_room.new.disk) s (disk home past) (trip past) in
     stays_down g.E.LocalEngine.stands g.D.Disk.tells core c.recover.new.self (g.D.Disk.seen c.args.disk.now) (g.D.Disk.seen c.make_room.new.disk) home past k c.requires.down
-    (subst P (sym store) (c.make_room.ensures.keeps _ _ k.stored)) (ap (λ (s : Store). s.standing) store ∙ c.make_room.ensures.standing)
+    (subst P (sym store) (from_kept k.stored (c.make_room.ensures.keeps _ _ _ k.stored.behind))) (ap (λ (s : Store). s.standing) store ∙ c.make_room.ensures.standing)
     (kind_kept g.E.LocalEngine.stands core.engine c.recover.new.self.engine home.engine (kind_at g.E.LocalEngine.stands core home past k.holds.memory) c.in_default-recover.ensures.memory)
     c.recover.ensures.begun (ap (λ (x : SiteCore _). x.protocol) c.recover.ensures.rest)
 
@@ -73,30 +75,31 @@ pub start-requires-clause-kept : goal.start-requires-clause-kept
 start-requires-clause-kept g c =
     let m = c.requires.may in
     let store : c.recover.new.self.store ≡ c.make_room.new.self = ap (λ (x : SiteCore _). x.store) c.recover.ensures.rest in
-    let P : Store → Type 0 = λ s. Keeps g.D.Disk.tells (g.D.Disk.seen c.make_room.new.disk) s (disk m.home m.past) (trip m.past) in
-    (disk m.home m.past, trip m.past, subst P (sym store) (c.make_room.ensures.keeps _ _ m.stood.stored))
+    let P : Store → Type 0 = λ s. KeepsBehind g.D.Disk.tells (g.D.Disk.seen c.make_room.new.disk) s m.stood.stored.old (disk m.home m.past) (trip m.past) in
+    (m.stood.stored.old, (disk m.home m.past, trip m.past, subst P (sym store) (c.make_room.ensures.keeps _ _ _ m.stood.stored.behind)))
 
 pub returns-in-Ok-start-clause-answered : goal.returns-in-Ok-start-clause-answered
 returns-in-Ok-start-clause-answered g c = λ home past k.
     let core = c.args.self.now in
     let store : c.recover.new.self.store ≡ c.make_room.new.self = ap (λ (x : SiteCore _). x.store) c.recover.ensures.rest in
-    let P : Store → Type 0 = λ s. Keeps g.D.Disk.tells (g.D.Disk.seen c.make_room.new.disk) s (disk home past) (trip past) in
-    let kept = subst P (sym store) (c.make_room.ensures.keeps (disk home past) (trip past) k.stored) in
+    let P : Store → Type 0 = λ s. KeepsBehind g.D.Disk.tells (g.D.Disk.seen c.make_room.new.disk) s k.stored.old (disk home past) (trip past) in
+    let kept = subst P (sym store) (c.make_room.ensures.keeps _ _ _ k.stored.behind) in
     let is = sum_is g.E.LocalEngine.stands core home past c.records.result.now c.in-Ok.sum k.holds.made k.holds.memory c.records.ensures c.in-Ok.ensures in
     let kind = kind_at g.E.LocalEngine.stands core home past k.holds.memory in
     let S : Engine → Type 0 = λ e. g.E.LocalEngine.stands c.recover.new.self.engine (start_from e c.in-Ok.sum.rows (map kept_held c.in-Ok.sum.doubtful) c.in-Ok.sum.counter c.in-Ok.sum.published c.in-Ok.sum.owner) [] in
     back_done g.E.LocalEngine.stands g.D.Disk.tells core _ c.says.result (g.D.Disk.seen c.args.disk.now) (g.D.Disk.seen c.start.new.disk) home past c.in-Ok.sum c.len-doubtful.result k c.requires.down is c.len-doubtful.ensures refl
-    (c.in-Ok-start.ensures.ends (disk home past) (trip past) kept) c.in-Ok-start.ensures.standing
+    (from_done k.stored (c.in-Ok-start.ensures.ends _ _ _ kept)) c.in-Ok-start.ensures.standing
     (subst S kind.of_kind (c.in-Ok-recover.ensures.engine kind.start kind.lines kind.stood)) c.in-Ok-recover.ensures.book c.in-Ok-recover.ensures.doubts (ap (λ (x : SiteCore _). x.protocol) c.recover.ensures.rest) c.says.ensures
 
 pub returns-in-Err-Stopped-clause-answered : goal.returns-in-Err-Stopped-clause-answered
 returns-in-Err-Stopped-clause-answered g c = λ home past k.
     let core = c.args.self.now in
     let store : c.recover.new.self.store ≡ c.make_room.new.self = ap (λ (x : SiteCore _). x.store) c.recover.ensures.rest in
-    let P : Store → Type 0 = λ s. Keeps g.D.Disk.tells (g.D.Disk.seen c.make_room.new.disk) s (disk home past) (trip past) in
-    let kept = subst P (sym store) (c.make_room.ensures.keeps (disk home past) (trip past) k.stored) in
+    let P : Store → Type 0 = λ s. KeepsBehind g.D.Disk.tells (g.D.Disk.seen c.make_room.new.disk) s k.stored.old (disk home past) (trip past) in
+    let kept = subst P (sym store) (c.make_room.ensures.keeps _ _ _ k.stored.behind) in
     let is = sum_is g.E.LocalEngine.stands core home past c.records.result.now c.in-Ok.sum k.holds.made k.holds.memory c.records.ensures c.in-Ok.ensures in
-    let ends = rw c.in-Err-Stopped.field-0-is at (c.in-Err-Stopped.ensures.ends (disk home past) (trip past) kept) in
+    let told = rw c.in-Err-Stopped.field-0-is at (c.in-Err-Stopped.ensures.ends _ _ _ kept) in
+    let ends = from_stopped k.stored told in
     back_stopped g.E.LocalEngine.stands g.D.Disk.tells core _ c.says-in-Err-Stopped.result (g.D.Disk.seen c.args.disk.now) (g.D.Disk.seen c.start.new.disk) home past c.in-Ok.sum _ k c.requires.down is refl
     ends c.in-Err-Stopped.ensures.down (started_kind g.E.LocalEngine.stands core.engine c.recover.new.self.engine home.engine (kind_at g.E.LocalEngine.stands core home past k.holds.memory) c.in-Ok-recover.ensures.engine)
     c.recover.ensures.begun (ap (λ (x : SiteCore _). x.protocol) c.recover.ensures.rest)
@@ -106,10 +109,11 @@ pub returns-in-Err-Failed-clause-failed : goal.returns-in-Err-Failed-clause-fail
 returns-in-Err-Failed-clause-failed g c = λ home past k.
     let core = c.args.self.now in
     let store : c.recover.new.self.store ≡ c.make_room.new.self = ap (λ (x : SiteCore _). x.store) c.recover.ensures.rest in
-    let P : Store → Type 0 = λ s. Keeps g.D.Disk.tells (g.D.Disk.seen c.make_room.new.disk) s (disk home past) (trip past) in
-    let kept = subst P (sym store) (c.make_room.ensures.keeps (disk home past) (trip past) k.stored) in
+    let P : Store → Type 0 = λ s. KeepsBehind g.D.Disk.tells (g.D.Disk.seen c.make_room.new.disk) s k.stored.old (disk home past) (trip past) in
+    let kept = subst P (sym store) (c.make_room.ensures.keeps _ _ _ k.stored.behind) in
     let is = sum_is g.E.LocalEngine.stands core home past c.records.result.now c.in-Ok.sum k.holds.made k.holds.memory c.records.ensures c.in-Ok.ensures in
-    let ends = rw c.in-Err-Failed.field-0-is at (c.in-Err-Failed.ensures.ends (disk home past) (trip past) kept) in
+    let told = rw c.in-Err-Failed.field-0-is at (c.in-Err-Failed.ensures.ends _ _ _ kept) in
+    let ends = from_failed k.stored told in
     back_failed g.E.LocalEngine.stands g.D.Disk.tells core _ (g.D.Disk.seen c.args.disk.now) (g.D.Disk.seen c.start.new.disk) home past c.in-Ok.sum k c.requires.down is refl
     ends c.in-Err-Failed.ensures.down (started_kind g.E.LocalEngine.stands core.engine c.recover.new.self.engine home.engine (kind_at g.E.LocalEngine.stands core home past k.holds.memory) c.in-Ok-recover.ensures.engine)
     c.recover.ensures.begun (ap (λ (x : SiteCore _). x.protocol) c.recover.ensures.rest)
