@@ -33,7 +33,7 @@ deliver_few scenario (suc n) (place ∷ places) commands =
     let given : List Command = Cmd.Give place.site place.place ∷ commands in
     let answered = taken (fresh scenario) given in
     let many = taken_many (last_sends (fresh scenario) given) given in
-    let few = give_places scenario commands place in
+    let few = give_places (fresh scenario) commands place in
     let rest = deliver_few scenario n (places ++ sent_next scenario answered (last_sends (fresh scenario) given)) answered in
     omega (arith, many, few, rest)
 

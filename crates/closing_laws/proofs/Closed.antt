@@ -34,7 +34,7 @@ closed_rests rights scenario commands whole =
       gone = λ tid. sixth.onward.gone tid (fifth.gone tid);
     })
 
-calm_up : (story : Story) → IsCalm story → AllUp story
+pub calm_up : (story : Story) → IsCalm story → AllUp story
 calm_up story c = record { coordinator = c.coordinator.up; sites = λ site. (c.sites site).up }
 
 -- and every actor is up from the second step on

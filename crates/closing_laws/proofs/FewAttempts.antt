@@ -1,5 +1,5 @@
 -- An attempt that is known, live or in doubt is one of 32 of a declared transaction, so different ones are at most 32,768.
-use Rattle.std.proofs.Common.{◌≡◌, ℕ, zero, suc, ◌*◌, ◌<◌, ◌≤◌, Bool, true, false, cond, not, nat_le, is_some, Option, Some, None, List, [], ◌∷◌, ◌++◌, map, length, inl, inr, refl, sym, ap, subst, ◌∙◌, arith, eq-eqb}
+use Rattle.std.proofs.Common.{◌≡◌, ℕ, suc, ◌<◌, ◌≤◌, Bool, true, false, cond, not, nat_le, is_some, Option, Some, None, List, [], ◌∷◌, map, length, inl, inr, refl, sym, ap, subst, ◌∙◌, arith, eq-eqb}
 use Rattle.std.proofs.lemmas.Bool.{and_parts, cases_lt, leb-true, leb-false}
 use Rattle.mdb_base.specs.declared.acts.Step.{Step}
 use Rattle.mdb_base.specs.declared.names.SiteId.{SiteId}
@@ -8,10 +8,9 @@ use Rattle.mdb_base.specs.declared.names.Tx.{Tx}
 use Rattle.mdb_base.specs.Names.{same_tx}
 use Rattle.mdb_base.specs.Words.{Among, each_of, found, how_many, map_some, pick, those, when, with_some}
 use Rattle.mdb_base.proofs.NameLaws.{same_tx-equal}
-use Rattle.mdb_base.proofs.EachLaws.{among_append, among_behind}
-use Rattle.mdb_base.proofs.JoinLaws.{length-append, length-map}
-use Rattle.order_laws.specs.Chains.{Distinct, In}
-use Rattle.order_laws.proofs.Lists.{among_is, among_map, each_of_at, first_where_some, is_among}
+use Rattle.mdb_base.proofs.JoinLaws.{length-map}
+use Rattle.order_laws.specs.Chains.{In}
+use Rattle.order_laws.proofs.Lists.{among_is, among_map, among_weaker, each_of_at, first_where_some, is_among}
 use Rattle.fed_rules.specs.declared.commands.Command.{Command}
 use Rattle.fed_rules.specs.declared.commands.Command.TheVariants as Cmd
 use Rattle.fed_rules.specs.declared.events.CoordEvent.TheVariants as Coord_event
@@ -46,8 +45,10 @@ use Rattle.commit_laws.proofs.Links.{home-again, story_goes_on}
 use Rattle.commit_laws.proofs.PreparedLaws.{nowhere}
 use Rattle.commit_laws.proofs.SiteWork.{held-prepared}
 use Rattle.site_history.specs.Led.{IsAsked, IsLed}
+use Rattle.closing_laws.specs.Bound.{IsInRange}
 use Rattle.closing_laws.proofs.BegunOnce.{IsOthers, led_story, locals_numbered, sites_begin_once}
-use Rattle.closing_laws.proofs.Lengths.{distinct_in_others, few_numbers, found_in_others, length_rising, length_sorted, numbers_differ}
+use Rattle.closing_laws.proofs.FewTids.{few_found, few_tids}
+use Rattle.closing_laws.proofs.Lengths.{few_numbers, length_rising, length_sorted, numbers_differ}
 use Rattle.closing_laws.proofs.Locals.{Begins, IsBeginOf, by_line}
 use Rattle.closing_laws.proofs.Unbegun.{unbegun_none}
 
@@ -191,56 +192,19 @@ record IsAttempt (scenario : Scenario) (tid : Tid) : Type 0 where
 is_attempt : (scenario : Scenario) (tid : Tid) (count : ℕ) → AreFew scenario tid.tx count → tid.attempt < count → IsAttempt scenario tid
 is_attempt scenario tid count few less = record { few = (let most = few.most in omega (arith, most, less)); listed = few.listed (omega (arith, less)) }
 
--- the attempts of a transaction with numbers below this one, and 32 of the transaction of each line
-attempts_below : Tx → ℕ → List Tid
-attempts_below tx zero = []
-attempts_below tx (suc n) = attempt tx n ∷ attempts_below tx n
-
-all_attempts : List TxLine → List Tid
-all_attempts [] = []
-all_attempts (line ∷ lines) = attempts_below line.tx 32 ++ all_attempts lines
-
-below_many : (tx : Tx) (n : ℕ) → length (attempts_below tx n) ≡ n
-unfolding attempts_below
-below_many tx zero = refl
-below_many tx (suc n) = ap suc (below_many tx n)
-
-all_many : (lines : List TxLine) → length (all_attempts lines) ≡ 32 * length lines
-unfolding all_attempts
-all_many [] = refl
-all_many (line ∷ lines) =
-    let both = length-append (attempts_below line.tx 32) (all_attempts lines) in
-    let own = below_many line.tx 32 in
-    let rest = all_many lines in omega (arith, both, own, rest)
-
-in_below : (tid : Tid) (n : ℕ) → tid.attempt < n → In tid (attempts_below tid.tx n)
-unfolding attempts_below
-in_below tid zero less = absurd (omega (arith, less))
-in_below tid (suc n) less = elim (cases_lt tid.attempt n) [
-  | inl below ↦ inr (in_below tid n below)
-  | inr above ↦ inl (let last : n ≡ tid.attempt = omega (arith, less, above) in ap (attempt tid.tx) last)
-]
-
-in_all : (tid : Tid) (lines : List TxLine) → tid.attempt < 32 → Among (λ (line : TxLine). line.tx ≡ tid.tx) lines → In tid (all_attempts lines)
-unfolding all_attempts
-in_all tid [] few listed = absurd listed
-in_all tid (line ∷ lines) few (inl own) =
-    among_append (λ t. t ≡ tid) (attempts_below line.tx 32) (all_attempts lines) (subst (λ tx. In tid (attempts_below tx 32)) (sym own) (in_below tid 32 few))
-in_all tid (line ∷ lines) few (inr other) = among_behind (λ t. t ≡ tid) (attempts_below line.tx 32) (all_attempts lines) (in_all tid lines few other)
-
 -- a scenario has at most 1,024 transactions
 module _ (scenario : Scenario) (whole : IsScenario scenario) where
+  of_line : (k : ℕ) → Among (λ (l : TxLine). l.tx.0 ≡ k) scenario.transactions → (0 < k) × (k ≤ 1024)
+  of_line k m =
+      let (line, listed, is) = among_is (λ (l : TxLine). l.tx.0 ≡ k) scenario.transactions m in
+      let ok = each_of_at (is_transaction scenario.sites) scenario.transactions line whole.transactions.in_place listed in
+      let between = (and_parts (is_between 1 1024 line.tx.0) (each_of (is_in_place scenario.sites line.home) line.program) ok).0 in
+      let parts = and_parts (nat_le 1 line.tx.0) (nat_le line.tx.0 1024) between in
+      let low = leb-true 1 line.tx.0 parts.0 in
+      let high = leb-true line.tx.0 1024 parts.1 in (omega (arith, low, is), omega (arith, high, is))
+
   in_range : (k : ℕ) → In k (map (λ (l : TxLine). l.tx.0) scenario.transactions) → (0 < k) × (k ≤ 1024)
-  in_range k i = of_line (among_map (λ n. n ≡ k) (λ (l : TxLine). l.tx.0) scenario.transactions i)
-    where
-      of_line : Among (λ (l : TxLine). l.tx.0 ≡ k) scenario.transactions → (0 < k) × (k ≤ 1024)
-      of_line m =
-          let (line, listed, is) = among_is (λ (l : TxLine). l.tx.0 ≡ k) scenario.transactions m in
-          let ok = each_of_at (is_transaction scenario.sites) scenario.transactions line whole.transactions.in_place listed in
-          let between = (and_parts (is_between 1 1024 line.tx.0) (each_of (is_in_place scenario.sites line.home) line.program) ok).0 in
-          let parts = and_parts (nat_le 1 line.tx.0) (nat_le line.tx.0 1024) between in
-          let low = leb-true 1 line.tx.0 parts.0 in
-          let high = leb-true line.tx.0 1024 parts.1 in (omega (arith, low, is), omega (arith, high, is))
+  in_range k i = of_line k (among_map (λ n. n ≡ k) (λ (l : TxLine). l.tx.0) scenario.transactions i)
 
   pub few_transactions : length scenario.transactions ≤ 1024
   few_transactions =
@@ -248,16 +212,10 @@ module _ (scenario : Scenario) (whole : IsScenario scenario) where
       let few = few_numbers (map (λ (l : TxLine). l.tx.0) scenario.transactions) 1024 numbers in_range in
       let all = length-map (λ (l : TxLine). l.tx.0) scenario.transactions in omega (arith, few, all)
 
-  -- so it has at most 32,768 attempts
-  all_few : length (all_attempts scenario.transactions) ≤ 32768
-  all_few = let all = all_many scenario.transactions in let few = few_transactions in omega (arith, all, few)
-
-  -- different attempts for which something is found
-  few_found : {A : Type 0} (look : Tid → Option A) (tids : List Tid) → Distinct tids → ((tid : Tid) (a : A) → In tid tids → look tid ≡ Some a → IsAttempt scenario tid)
-      → length (found look tids) ≤ 32768
-  few_found look tids apart each =
-      let within = found_in_others look tids (all_attempts scenario.transactions) apart (λ tid a i e. let is = each tid a i e in in_all tid scenario.transactions is.few is.listed) in
-      let few = all_few in omega (arith, within, few)
+  attempt_range : (tid : Tid) → IsAttempt scenario tid → IsInRange tid
+  attempt_range tid is =
+      let tx = of_line tid.tx.0 (among_weaker (λ (l : TxLine). l.tx ≡ tid.tx) (λ (l : TxLine). l.tx.0 ≡ tid.tx.0) (λ l e. ap (λ (t : Tx). t.0) e) scenario.transactions is.listed) in
+      let least = tx.0 in (omega (arith, least), tx.1, is.few)
 
   module _ (commands : List Command) where
     abbrev story : Story
@@ -267,11 +225,10 @@ module _ (scenario : Scenario) (whole : IsScenario scenario) where
     pub begun_few : length (begun_tids (coord_past story)) ≤ 32768
     begun_few =
         let made = story_goes_on scenario commands in
-        let within = distinct_in_others (begun_tids (coord_past story)) (all_attempts scenario.transactions) (begin_once (protocols scenario) (policy scenario) (coord_past story) made)
+        few_tids (begun_tids (coord_past story)) (begin_once (protocols scenario) (policy scenario) (coord_past story) made)
         (λ tid i.
         let less = (begin_in_order (protocols scenario) (policy scenario) (coord_past story) made tid).0 i in
-        let is = is_attempt scenario tid _ (coord_few scenario commands tid.tx) less in in_all tid scenario.transactions is.few is.listed) in
-        let few = all_few in omega (arith, within, few)
+        attempt_range tid (is_attempt scenario tid _ (coord_few scenario commands tid.tx) less))
 
     module _ (home : Home) (declared : home_of scenario home.site ≡ Some home) where
       abbrev past : SitePast
@@ -324,7 +281,8 @@ module _ (scenario : Scenario) (whole : IsScenario scenario) where
             let sorted = length_rising (map (λ (run : Run). run.tid) runs) in
             let named = length-map (λ (run : Run). run.tid) runs in
             let open_ones = live_many (run_at start lines) (attempts start lines) in
-            let few = few_found (Site.live home (past_of home.site story)) (attempts start lines) (sites_begin_once scenario commands site home e) (live_attempt home declared) in
+            let few = few_found (Site.live home (past_of home.site story)) (attempts start lines) (sites_begin_once scenario commands site home e)
+            (λ tid run i alive. attempt_range tid (live_attempt home declared tid run i alive)) in
             omega (arith, sorted, named, open_ones, few)
 
     pub doubt_few : (site : SiteId) → length (in_doubt_at (home_of scenario site) story) ≤ 32768
@@ -338,5 +296,6 @@ module _ (scenario : Scenario) (whole : IsScenario scenario) where
             let sorted = length_rising (map (λ (held : Held). held.tid) (doubts rs)) in
             let named = length-map (λ (held : Held). held.tid) (doubts rs) in
             let listed = length_sorted looked in
-            let few = few_found (doubt_of rs) (each_attempt (prepared_tids rs)) (each_distinct (prepared_tids rs)) (λ tid held i d. doubt_attempt home (home-again scenario site home e) tid held d) in
+            let few = few_found (doubt_of rs) (each_attempt (prepared_tids rs)) (each_distinct (prepared_tids rs))
+            (λ tid held i d. attempt_range tid (doubt_attempt home (home-again scenario site home e) tid held d)) in
             omega (arith, sorted, named, listed, few)

@@ -95,7 +95,7 @@ unfolding up_to
 up_to_length zero = refl
 up_to_length (suc n) = ap suc (up_to_length n)
 
-least_or_less : (k n : ℕ) → k ≤ suc n → (suc n ≡ k) ⊎ (k ≤ n)
+pub least_or_less : (k n : ℕ) → k ≤ suc n → (suc n ≡ k) ⊎ (k ≤ n)
 least_or_less zero n h = inr (omega arith)
 least_or_less (suc k) zero h = inl (let e : 1 ≡ suc k = omega (arith, h) in e)
 least_or_less (suc k) (suc n) h = elim (least_or_less k n (omega (arith, h))) [ inl e ↦ inl (ap suc e) | inr l ↦ inr (omega (arith, l)) ]

@@ -17,6 +17,7 @@ pub mod Exchange
 pub mod FewAttempts
 pub mod FewSends
 pub mod FewSites
+pub mod FewTids
 pub mod Flow
 pub mod FlowSteps
 pub mod FlowVotes

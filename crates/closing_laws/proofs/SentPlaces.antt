@@ -16,7 +16,6 @@ use Rattle.fed_rules.specs.declared.messages.FromSite.{FromSite}
 use Rattle.fed_rules.specs.declared.messages.FromSite.TheVariants as From
 use Rattle.fed_rules.specs.declared.messages.Sent.{Sent}
 use Rattle.fed_rules.specs.declared.records.SiteRecord.{SiteRecord}
-use Rattle.fed_rules.specs.declared.scenario.Scenario.{Scenario}
 use Rattle.fed_rules.specs.Closing.{last_sends, take_answers}
 use Rattle.fed_rules.specs.Coord.{coord_line}
 use Rattle.fed_rules.specs.CoordPast as Coordinator
@@ -24,15 +23,15 @@ use Rattle.fed_rules.specs.CoordRecords.{named}
 use Rattle.fed_rules.specs.Disk.{Disk}
 use Rattle.fed_rules.specs.Happenings.{Trip, is_down, quiet, stopped, tripped}
 use Rattle.fed_rules.specs.Scenarios.{policy, protocols}
-use Rattle.fed_rules.specs.Sessions.{fresh}
+use Rattle.fed_rules.specs.Sessions.{Session}
 use Rattle.fed_rules.specs.Site.{answered, of_ask, site_line}
 use Rattle.fed_rules.specs.SitePast.{SiteHappening, SitePast, disk, records, trip}
 use Rattle.fed_rules.specs.SiteRecords.{Held, Home, doubt_of, site_frame}
-use Rattle.fed_rules.specs.Story.{Story, Happened, AtSite, AtCoordinator, Nowhere, coord_past, happens, past_of, place_from, places_of, sent_from, sent_to, story_of}
+use Rattle.fed_rules.specs.Story.{Story, Happened, AtSite, AtCoordinator, Nowhere, coord_past, happens, past_of, place_from, places_of, sent_from, sent_to, story_in}
 use Rattle.rules_laws.specs.Lines.{CoordCause, IsLine}
 use Rattle.rules_laws.proofs.Lines.{line_is}
-use Rattle.commit_laws.proofs.Agreed.{coord-sound}
-use Rattle.commit_laws.proofs.PreparedLaws.{nowhere}
+use Rattle.commit_laws.proofs.FoundSessions.{CoordinatorFits, session_sound}
+use Rattle.coord_laws.proofs.Past.{any_member}
 use Rattle.closing_laws.proofs.CoordTurns.{takes_there}
 use Rattle.closing_laws.proofs.Delivered.{sent_behind}
 use Rattle.closing_laws.proofs.FewSends.{SendsFew, agains_few, inquiries_few}
@@ -42,23 +41,23 @@ place_few : (site : SiteId) (sent : ℕ) (messages : List FromSite) → length (
 place_few site sent [] = omega arith
 place_few site sent (message ∷ messages) = omega arith
 
-site_places : (scenario : Scenario) (commands : List Command) (command : Command)
-    → ((x : CoordEvent) → CoordCause scenario (story_of scenario commands) command x → ⊥) → length (last_sends (fresh scenario) (command ∷ commands)) ≤ 1
-site_places scenario commands command none = by_line (happens scenario story command) (line_is scenario story command)
+site_places : (session : Session) (commands : List Command) (command : Command)
+    → ((x : CoordEvent) → CoordCause session.plan (story_in session commands) command x → ⊥) → length (last_sends session (command ∷ commands)) ≤ 1
+site_places session commands command none = by_line (happens session.plan story command) (line_is session.plan story command)
   where
     story : Story
-    story = story_of scenario commands
+    story = story_in session commands
 
-    by_line : (happened : Happened) → IsLine scenario story command happened → length (places_of story happened) ≤ 1
+    by_line : (happened : Happened) → IsLine session.plan story command happened → length (places_of story happened) ≤ 1
     by_line (Nowhere answer) line = omega arith
     by_line (AtSite site x) line = place_few site (length (sent_from site story)) x.sends
     by_line (AtCoordinator x) line = absurd (none line.event line.cause)
 
-pub give_places : (scenario : Scenario) (commands : List Command) (place : Place) → length (last_sends (fresh scenario) (Cmd.Give place.site place.place ∷ commands)) ≤ 1
-give_places scenario commands place = site_places scenario commands (Cmd.Give place.site place.place) (λ x c. c)
+pub give_places : (session : Session) (commands : List Command) (place : Place) → length (last_sends session (Cmd.Give place.site place.place ∷ commands)) ≤ 1
+give_places session commands place = site_places session commands (Cmd.Give place.site place.place) (λ x c. c)
 
-pub ask_places : (scenario : Scenario) (commands : List Command) (site : SiteId) (tid : Tid) → length (last_sends (fresh scenario) (Cmd.Ask site tid ∷ commands)) ≤ 1
-ask_places scenario commands site tid = site_places scenario commands (Cmd.Ask site tid) (λ x c. c)
+pub ask_places : (session : Session) (commands : List Command) (site : SiteId) (tid : Tid) → length (last_sends session (Cmd.Ask site tid ∷ commands)) ≤ 1
+ask_places session commands site tid = site_places session commands (Cmd.Ask site tid) (λ x c. c)
 
 abbrev place_of : Story → Sent → Place
 place_of story sent = record { site = sent.site; place = length (sent_to sent.site story) }
@@ -95,30 +94,30 @@ unfolding site_line answered
 asks home past tid = asks_when tid (is_down past) _ _ (record { sends = inl refl }) (asks_tripped tid (disk home past) (trip past) (of_ask home past tid) (asks_doubt home past tid))
 
 -- so the line that takes what a site just sent when it asked sends one message at most
-pub answer_places : (scenario : Scenario) (commands : List Command) (site : SiteId) (tid : Tid) (place : Place)
-    → last_sends (fresh scenario) (Cmd.Ask site tid ∷ commands) ≡ place ∷ [] → length (last_sends (fresh scenario) (Cmd.Take place.site place.place ∷ Cmd.Ask site tid ∷ commands)) ≤ 1
-answer_places scenario commands site tid place only = by_line (happens scenario story (Cmd.Ask site tid)) refl (line_is scenario story (Cmd.Ask site tid)) only
+pub answer_places : (session : Session) (commands : List Command) (site : SiteId) (tid : Tid) (place : Place)
+    → last_sends session (Cmd.Ask site tid ∷ commands) ≡ place ∷ [] → length (last_sends session (Cmd.Take place.site place.place ∷ Cmd.Ask site tid ∷ commands)) ≤ 1
+answer_places session commands site tid place only = by_line (happens session.plan story (Cmd.Ask site tid)) refl (line_is session.plan story (Cmd.Ask site tid)) only
   where
     story : Story
-    story = story_of scenario commands
+    story = story_in session commands
 
     now : Happened → Story
     now happened = record { command = Cmd.Ask site tid; happened = happened } ∷ story
 
     taken_at : Happened → Place → List Place
-    taken_at happened at = places_of (now happened) (happens scenario (now happened) (Cmd.Take at.site at.place))
+    taken_at happened at = places_of (now happened) (happens session.plan (now happened) (Cmd.Take at.site at.place))
 
     answered_at : (s : SiteId) (x : SiteHappening) → x.sends ≡ From.Inquiry tid ∷ [] → length (taken_at (AtSite s x) (record { site = s; place = length (sent_from s story) })) ≤ 1
     answered_at s x e =
         let there = sent_behind story (Cmd.Ask site tid) s x (From.Inquiry tid) e in
-        let told = takes_there scenario (now (AtSite s x)) s (length (sent_from s story)) (From.Inquiry tid) there in
-        let line = coord_line (protocols scenario) (policy scenario) (coord_past (now (AtSite s x))) (Coord_event.Take s (From.Inquiry tid)) in
-        let few = (inquiries_few (protocols scenario) (coord_past (now (AtSite s x))) s tid (policy scenario)).few in
+        let told = takes_there session.plan (now (AtSite s x)) s (length (sent_from s story)) (From.Inquiry tid) there in
+        let line = coord_line (protocols session.plan) (policy session.plan) (coord_past (now (AtSite s x))) (Coord_event.Take s (From.Inquiry tid)) in
+        let few = (inquiries_few (protocols session.plan) (coord_past (now (AtSite s x))) s tid (policy session.plan)).few in
         let same = coord_places (now (AtSite s x)) line.sends in
         subst (λ h. length (places_of (now (AtSite s x)) h) ≤ 1) (sym told) (omega (arith, few, same))
 
-    by_line : (happened : Happened) → happens scenario story (Cmd.Ask site tid) ≡ happened → IsLine scenario story (Cmd.Ask site tid) happened → places_of story happened ≡ place ∷ []
-        → length (last_sends (fresh scenario) (Cmd.Take place.site place.place ∷ Cmd.Ask site tid ∷ commands)) ≤ 1
+    by_line : (happened : Happened) → happens session.plan story (Cmd.Ask site tid) ≡ happened → IsLine session.plan story (Cmd.Ask site tid) happened → places_of story happened ≡ place ∷ []
+        → length (last_sends session (Cmd.Take place.site place.place ∷ Cmd.Ask site tid ∷ commands)) ≤ 1
     by_line (Nowhere answer) told line at = cc
     by_line (AtCoordinator x) told line at = absurd line.cause
     by_line (AtSite s x) told line at =
@@ -130,24 +129,24 @@ answer_places scenario commands site tid place only = by_line (happens scenario 
               subst (λ h. length (taken_at h place) ≤ 1) (sym told) (subst (λ p. length (taken_at (AtSite s x) p) ≤ 1) here (answered_at s x inquiry))
         ]
 
-pub again_places : (scenario : Scenario) (commands : List Command) (tid : Tid) → length (last_sends (fresh scenario) (Cmd.Again tid ∷ commands)) ≤ length (protocols scenario)
-again_places scenario commands tid = by_line (happens scenario story (Cmd.Again tid)) (line_is scenario story (Cmd.Again tid))
+pub again_places : (session : Session) → CoordinatorFits session → (commands : List Command) (tid : Tid) → length (last_sends session (Cmd.Again tid ∷ commands)) ≤ length (protocols session.plan)
+again_places session fits commands tid = by_line (happens session.plan story (Cmd.Again tid)) (line_is session.plan story (Cmd.Again tid))
   where
     story : Story
-    story = story_of scenario commands
+    story = story_in session commands
 
-    names : (ms : List Participant) → named (protocols scenario) (Coordinator.records (coord_past story)) tid ≡ Some ms → length ms ≤ length (protocols scenario)
+    names : (ms : List Participant) → named (protocols session.plan) (Coordinator.records (coord_past story)) tid ≡ Some ms → length ms ≤ length (protocols session.plan)
     names ms e =
-        let s = (coord-sound scenario nowhere tid commands).names ms e in
-        subst (λ ks. length ks ≤ length (protocols scenario)) (sym s.1) (length_those _ (protocols scenario))
+        let s = (session_sound session fits any_member tid commands).names ms e in
+        subst (λ ks. length ks ≤ length (protocols session.plan)) (sym s.1) (length_those _ (protocols session.plan))
 
-    by_line : (happened : Happened) → IsLine scenario story (Cmd.Again tid) happened → length (places_of story happened) ≤ length (protocols scenario)
+    by_line : (happened : Happened) → IsLine session.plan story (Cmd.Again tid) happened → length (places_of story happened) ≤ length (protocols session.plan)
     by_line (Nowhere answer) line = omega arith
     by_line (AtSite s x) line = absurd line.cause
     by_line (AtCoordinator x) line =
-        let is : x ≡ coord_line (protocols scenario) (policy scenario) (coord_past story) (Coord_event.Again tid) =
-        line.is_next ∙ ap (coord_line (protocols scenario) (policy scenario) (coord_past story)) line.cause in
-        let few = (subst (SendsFew (length (protocols scenario))) (sym is) (agains_few (protocols scenario) (coord_past story) tid (policy scenario) names)).few in
+        let is : x ≡ coord_line (protocols session.plan) (policy session.plan) (coord_past story) (Coord_event.Again tid) =
+        line.is_next ∙ ap (coord_line (protocols session.plan) (policy session.plan) (coord_past story)) line.cause in
+        let few = (subst (SendsFew (length (protocols session.plan))) (sym is) (agains_few (protocols session.plan) (coord_past story) tid (policy session.plan) names)).few in
         let same = coord_places story x.sends in omega (arith, few, same)
 
 pub taken_many : (places : List Place) (commands : List Command) → length (take_answers places commands) ≡ length places + length commands

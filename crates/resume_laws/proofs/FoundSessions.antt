@@ -33,12 +33,12 @@ use Rattle.order_laws.specs.Chains.{In}
 use Rattle.order_laws.proofs.InLaws.{item_at-in}
 use Rattle.fed_rules.specs.declared.commands.Command.{Command}
 use Rattle.fed_rules.specs.declared.records.SiteRecord.{SiteRecord}
-use Rattle.fed_rules.specs.Closing.{bring_up, disarm}
+use Rattle.fed_rules.specs.Closing.{bring_up, closed_in, disarm}
 use Rattle.fed_rules.specs.CoordPast.{is_open}
 use Rattle.fed_rules.specs.Found.{Found, Journal}
 use Rattle.fed_rules.specs.Plans.{AreSites}
 use Rattle.fed_rules.specs.Reopened.{first_of, opened_coordinator, opened_site}
-use Rattle.fed_rules.specs.Resumed.{going_on, homes, plan_of, resumed}
+use Rattle.fed_rules.specs.Resumed.{going_on, homes, plan_of}
 use Rattle.fed_rules.specs.Scenarios.{home_of, items_of, protocols}
 use Rattle.fed_rules.specs.Sessions.{Session}
 use Rattle.fed_rules.specs.SiteRecords.{Home}
@@ -48,20 +48,19 @@ use Rattle.rules_laws.specs.Lines.{IsLine}
 use Rattle.rules_laws.proofs.Lines.{line_is}
 use Rattle.coord_laws.specs.Pasts.{IsOpened}
 use Rattle.commit_laws.proofs.FoundSessions.{CoordinatorFits}
-use Rattle.closing_laws.specs.AtRest.{IsAtRest}
+use Rattle.closing_laws.specs.AtRest.{IsAtRest, StaysUp}
 use Rattle.coord_laws.proofs.UsableCoordinators.{usable_go_on}
 use Rattle.resume_laws.specs.FoundSessions.{AreUsable, BeginsWith, IsOfFormat, RowsRise, UsableSessionsBegin, UsableSessionsGoOn, UsableSessionsRest}
 use Rattle.site_history.specs.FoundSites.{IsFoundSite}
 use Rattle.commit_laws.proofs.Declared.{protocols_rise}
 use Rattle.resume_laws.specs.Gentle.{IsResuming}
-use Rattle.resume_laws.proofs.GentleClosing.{brought_gentle}
 use Rattle.resume_laws.proofs.GoesOn.{idle}
-use Rattle.resume_laws.proofs.LiveWalk.{IsDormantIn, dormant_on, opens_dormant}
 use Rattle.resume_laws.proofs.Opening.{session_begins}
 use Rattle.resume_laws.proofs.OutcomeWalk.{outcomes_on}
 use Rattle.resume_laws.proofs.PlanSites.{homes_differ, homes_range, rise_all}
 use Rattle.resume_laws.proofs.Readable.{same_home}
-use Rattle.resume_laws.proofs.Rest.{closed_rests}
+use Rattle.resume_laws.proofs.Rest.{IsLifeless, closed_rests, closed_up}
+use Rattle.resume_laws.proofs.SiteLives.{NobodyLives, lifeless_on}
 use Rattle.resume_laws.proofs.FoundJournals.{AreHomes, all_homes, first_rows_of, none_undeclared, past_declared, rows_alone}
 
 -- ---- the session
@@ -77,6 +76,14 @@ longer : (home : Home) (n : ℕ) (first past : SitePast) → IsResumedOn home n 
 longer home n first past p = record { events = p.events; resuming = p.resuming; few = (let f = p.few in omega (arith, f)); is = p.is }
 
 -- and that one is what a journal stands for that was found
+pub record IsResumedFrom (journals : List (Journal SiteRecord)) (home : Home) (past : SitePast) : Type 0 where
+  pub journal : Journal SiteRecord
+  pub among : In journal journals
+  pub events : List SiteEvent
+  pub resuming : Each IsResuming events
+  pub is : past ≡ site_past_on home (opened_site journal) events
+
+-- which is of the format
 pub record IsResumedPast (journals : List (Journal SiteRecord)) (home : Home) (n : ℕ) (past : SitePast) : Type 0 where
   pub local : Tx → Bool
   pub journal : Journal SiteRecord
@@ -125,31 +132,17 @@ module _ (found : Found) (u : AreUsable found) where
       by_test true q =
           let clash : None ≡ Some line.home = sym none ∙ ap (home_of (plan_of found)) (sym (same_site-equal at site q) ∙ line.here) ∙ line.declared in cc
 
-  quiet : (site : SiteId) (more : List Command) → home_of (plan_of found) site ≡ None → past_of site (story_in session more) ≡ []
+  pub quiet : (site : SiteId) (more : List Command) → home_of (plan_of found) site ≡ None → past_of site (story_in session more) ≡ []
   quiet site [] none = (session_begins session u.coordinator u.is site).here ∙ none_undeclared (plan_of found).items 0 found.sites site u.sites none
   quiet site (command ∷ more) none =
       quiet_next site (story_in session more) command (happens (plan_of found) (story_in session more) command) none
       (line_is (plan_of found) (story_in session more) command) (quiet site more none)
-
-  abbrev up : List Command
-  up = bring_up session (disarm session [])
 
   pub any : Tid
   any = record { tx = record { 0 = 0 }; attempt = 0 }
 
   pub nobody_first : (tid : Tid) → is_open (coord_past (story_in session [])) tid ≡ false
   nobody_first tid = ap (λ p. is_open p tid) begins.at_coordinator
-
-  dormant : (home : Home) → home_of (plan_of found) home.site ≡ Some home → IsDormantIn home (story_in session up)
-  dormant home declared =
-      let p = past_declared (plan_of found).items 0 found.sites home.site home u.sites declared in
-      dormant_on session (idle found) home declared (opens_dormant session u.coordinator u.is home p.journal p.past) up (brought_gentle session [] tt)
-
-  rests : IsAtRest (plan_of found) (resumed found)
-  rests = closed_rests session fits plan_sites [] (λ site more none. quiet site more none) (record {
-    nobody = (outcomes_on session fits (idle found) any nobody_first up).nobody;
-    lives = λ home declared. (dormant home declared).lives;
-  })
 
   -- ---- the sites go on
 
@@ -230,6 +223,38 @@ module _ (found : Found) (u : AreUsable found) where
         next_resumed commands command (happens (plan_of found) (story_in session commands) command) (length commands) (past_of home.site (story_in session []))
         (line_is (plan_of found) (story_in session commands) command) (resumed_on commands)
 
+  -- each declared site goes on from a journal that was found
+  pub resumed_from : (home : Home) → home_of (plan_of found) home.site ≡ Some home → (commands : List Command)
+      → IsResumedFrom found.sites home (past_of home.site (story_in session commands))
+  resumed_from home declared commands =
+      let p = past_declared (plan_of found).items 0 found.sites home.site home u.sites declared in
+      let s = resumed_on home declared commands in
+      record {
+        journal = p.journal;
+        among = p.among;
+        events = s.events;
+        resuming = s.resuming;
+        is = s.is ∙ ap (λ first. site_past_on home first s.events) ((session_begins session u.coordinator u.is home.site).here ∙ p.past);
+      }
+
+  -- ---- it closes
+
+  pub lives_on : (commands : List Command) (home : Home) → home_of (plan_of found) home.site ≡ Some home → NobodyLives home (past_of home.site (story_in session commands))
+  lives_on commands home declared =
+      let r = resumed_from home declared commands in
+      subst (NobodyLives home) (sym r.is) (lifeless_on home r.journal r.events r.resuming)
+
+  lifeless : (commands : List Command) → IsLifeless session (bring_up session (disarm session commands))
+  lifeless commands =
+      let up = bring_up session (disarm session commands) in
+      record { nobody = nobody_on up; lives = lives_on up }
+
+  pub rests : (commands : List Command) → IsAtRest (plan_of found) (story_in session (closed_in session commands))
+  rests commands = closed_rests session fits plan_sites commands (λ site more none. quiet site more none) (lifeless commands)
+
+  pub stays_up : (commands : List Command) → StaysUp session commands
+  stays_up commands = closed_up session fits plan_sites commands (λ site more none. quiet site more none) (lifeless commands)
+
   pub resumes : Each IsOfFormat found.sites → (commands : List Command) (site : SiteId) (home : Home) → home_of (plan_of found) site ≡ Some home
       → IsResumedPast found.sites home (length commands) (past_of home.site (story_in session commands))
   resumes format commands site home declared =
@@ -287,4 +312,4 @@ pub sessions_begin : UsableSessionsBegin
 sessions_begin found usable = begins found usable
 
 pub sessions_rest : UsableSessionsRest
-sessions_rest found usable = rests found usable
+sessions_rest found usable = rests found usable []

@@ -1,11 +1,14 @@
 pub mod AgainSessions
+pub mod ClosedSessions
 pub mod CoordAgain
 pub mod CoordGentle
 pub mod CoordMore
 pub mod DueLists
 pub mod DueNumbers
+pub mod FoundFew
 pub mod FoundHomes
 pub mod FoundJournals
+pub mod FoundLines
 pub mod FoundSessions
 pub mod GentleClosing
 pub mod GoesOn
@@ -27,6 +30,7 @@ pub mod SiteAgain
 pub mod SiteGentle
 pub mod SiteGoes
 pub mod SiteLives
+pub mod SitePrepares
 pub mod TablesAgain
 pub mod Tails
 pub mod Walk

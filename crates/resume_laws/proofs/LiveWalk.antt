@@ -30,7 +30,7 @@ use Rattle.resume_laws.specs.Gentle.{IsGentle}
 use Rattle.resume_laws.proofs.CoordGentle.{NobodyIsOpen, decisions_alone, still_nobody}
 use Rattle.resume_laws.proofs.Opening.{session_begins}
 use Rattle.resume_laws.proofs.Settling.{each_here}
-use Rattle.resume_laws.proofs.SiteGentle.{IsDecide, gentle_line}
+use Rattle.resume_laws.proofs.SiteGentle.{IsDecide, gentle_line, gentle_resumes}
 use Rattle.resume_laws.proofs.SiteLives.{NobodyLives, still_lifeless}
 use Rattle.resume_laws.proofs.Walk.{IsIdle, begins_nothing, of_cause}
 
@@ -75,7 +75,7 @@ module _ (scenario : Scenario) (idle : IsIdle scenario) (home : Home) (declared 
             untripped = (gentle_line home (past_of home.site story) line.event r.untripped q.gentle).untripped;
             nobody = r.nobody;
             decides = r.decides;
-            lives = still_lifeless home (past_of home.site story) line.event r.untripped q.gentle r.lives;
+            lives = still_lifeless home (past_of home.site story) line.event (gentle_resumes line.event q.gentle) r.lives;
           })
 
       by_test : (b : Bool) → same_site at home.site ≡ b → IsDormant home (coord_past story) (cond b (x ∷ past_of home.site story) (past_of home.site story)) (sent_to home.site story)

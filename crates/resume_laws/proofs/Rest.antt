@@ -18,10 +18,12 @@ use Rattle.fed_rules.specs.Story.{Story, coord_past, past_of, story_in}
 use Rattle.coord_laws.proofs.Facts.{is_undecided}
 use Rattle.commit_laws.proofs.FoundSessions.{CoordinatorFits}
 use Rattle.commit_laws.proofs.Links.{home-again}
-use Rattle.closing_laws.specs.AtRest.{IsAtRest}
+use Rattle.closing_laws.specs.AtRest.{AllUp, IsAtRest, StaysUp}
+use Rattle.closing_laws.proofs.Closed.{calm_up}
+use Rattle.closing_laws.proofs.Onward.{IsCalm}
 use Rattle.closing_laws.proofs.Quiet.{none_live_at, nothing_passes, quiet_rests}
 use Rattle.resume_laws.proofs.CoordGentle.{NobodyIsOpen}
-use Rattle.closing_laws.proofs.EndKnown.{ended}
+use Rattle.closing_laws.proofs.EndKnown.{IsUnknown, ended}
 use Rattle.closing_laws.proofs.Inquire.{settled}
 use Rattle.closing_laws.proofs.Ready.{UndeclaredAreSilent, brought_calm}
 use Rattle.resume_laws.proofs.SiteLives.{NobodyLives}
@@ -54,36 +56,47 @@ pub record IsLifeless (session : Session) (commands : List Command) : Type 0 whe
   pub nobody : NobodyIsOpen (coord_past (story_in session commands))
   pub lives : (home : Home) → home_of session.plan home.site ≡ Some home → NobodyLives home (past_of home.site (story_in session commands))
 
-pub closed_rests : (session : Session) → CoordinatorFits session → AreSites session.plan.sites → (commands : List Command)
-    → UndeclaredAreSilent session → IsLifeless session (bring_up session (disarm session commands)) → IsAtRest session.plan (story_in session (closed_in session commands))
-closed_rests session fits whole commands silent lifeless =
-    subst (λ cs. IsAtRest session.plan (story_in session (ask_all session (end_known session cs)))) (sym same) at_rest
-  where
-    up : List Command
-    up = bring_up session (disarm session commands)
+module _ (session : Session) (fits : CoordinatorFits session) (whole : AreSites session.plan.sites) (commands : List Command) (silent : UndeclaredAreSilent session)
+    (lifeless : IsLifeless session (bring_up session (disarm session commands))) where
+  abbrev up : List Command
+  up = bring_up session (disarm session commands)
 
-    late : give_up session up ≡ up
-    late = ap (λ tids. for_each (λ (tid : Tid) more. Cmd.Late tid ∷ more) (rising tids) up) (nothing_passes (is_open (coord_past (story_in session up))) (begun_tids (coord_past (story_in session up))) lifeless.nobody)
+  late : give_up session up ≡ up
+  late = ap (λ tids. for_each (λ (tid : Tid) more. Cmd.Late tid ∷ more) (rising tids) up) (nothing_passes (is_open (coord_past (story_in session up))) (begun_tids (coord_past (story_in session up))) lifeless.nobody)
 
-    lifeless_at : (site : SiteId) (o : Option Home) → home_of session.plan site ≡ o → live_at o (story_in session up) ≡ []
-    lifeless_at site None e = refl
-    lifeless_at site (Some home) e = none_live_at home (story_in session up) (lifeless.lives home (home-again session.plan site home e))
+  lifeless_at : (site : SiteId) (o : Option Home) → home_of session.plan site ≡ o → live_at o (story_in session up) ≡ []
+  lifeless_at site None e = refl
+  lifeless_at site (Some home) e = none_live_at home (story_in session up) (lifeless.lives home (home-again session.plan site home e))
 
-    swept : clear session up ≡ up
-    swept = each_nothing session.plan (story_in session up) (sites session.plan) up (λ site. lifeless_at site (home_of session.plan site) refl)
+  swept : clear session up ≡ up
+  swept = each_nothing session.plan (story_in session up) (sites session.plan) up (λ site. lifeless_at site (home_of session.plan site) refl)
 
-    same : clear session (give_up session up) ≡ up
-    same = ap (clear session) late ∙ swept
+  same : clear session (give_up session up) ≡ up
+  same = ap (clear session) late ∙ swept
 
-    at_rest : IsAtRest session.plan (story_in session (ask_all session (end_known session up)))
-    at_rest =
-        let told = end_known session up in
-        let calm = brought_calm session silent commands whole in
-        let fifth = ended session fits up whole calm (λ tid. not_undecided (is_open (coord_past (story_in session up)) tid) (known_decision (protocols session.plan) (coord_past (story_in session up)) tid) (lifeless.nobody tid)) in
-        let sixth = settled session fits told fifth.onward.calm fifth.gone in
-        quiet_rests session.plan (story_in session (ask_all session told)) (record {
-          calm = sixth.onward.calm;
-          clear = λ home tid d. sixth.onward.quiets home tid d (fifth.onward.quiets home tid d (lifeless.lives home d tid));
-          settled = sixth.settled;
-          gone = λ tid. sixth.onward.gone tid (fifth.gone tid);
-        })
+  calm : IsCalm (story_in session up)
+  calm = brought_calm session silent commands whole
+
+  all_ended : IsUnknown session fits (story_in session up) (story_in session (end_known session up))
+  all_ended = ended session fits up whole calm (λ tid. not_undecided (is_open (coord_past (story_in session up)) tid) (known_decision (protocols session.plan) (coord_past (story_in session up)) tid) (lifeless.nobody tid))
+
+  pub closed_rests : IsAtRest session.plan (story_in session (closed_in session commands))
+  closed_rests =
+      let told = end_known session up in
+      let settles = settled session fits told all_ended.onward.calm all_ended.gone in
+      subst (λ cs. IsAtRest session.plan (story_in session (ask_all session (end_known session cs)))) (sym same)
+      (quiet_rests session.plan (story_in session (ask_all session told)) (record {
+        calm = settles.onward.calm;
+        clear = λ home tid d. settles.onward.quiets home tid d (all_ended.onward.quiets home tid d (lifeless.lives home d tid));
+        settled = settles.settled;
+        gone = λ tid. settles.onward.gone tid (all_ended.gone tid);
+      }))
+
+  -- and every actor is up from the second step on
+  pub closed_up : StaysUp session commands
+  closed_up = record {
+    brought_up = calm_up (story_in session up) calm;
+    given_up = subst (λ cs. AllUp (story_in session cs)) (sym late) (calm_up (story_in session up) calm);
+    cleared = subst (λ cs. AllUp (story_in session cs)) (sym same) (calm_up (story_in session up) calm);
+    ended = subst (λ cs. AllUp (story_in session (end_known session cs))) (sym same) (calm_up (story_in session (end_known session up)) all_ended.onward.calm);
+  }

@@ -23,6 +23,7 @@ use Rattle.fed_rules.specs.Runs.{EngineLine, Aborts}
 use Rattle.fed_rules.specs.Site.{answered, checkpoint, of_ask, of_back, of_check, of_decide, of_drop, of_give, settles, site_line, unheld, with_lines}
 use Rattle.fed_rules.specs.SitePast.{SiteHappening, SitePast, disk, epoch, is_local, live, records, trip, trip_of}
 use Rattle.fed_rules.specs.SiteRecords.{Held, Home, doubt_of, site_frame}
+use Rattle.resume_laws.specs.Gentle.{IsResuming}
 
 -- a decision
 abbrev pub IsDecide : ToSite → Type 0
@@ -38,6 +39,23 @@ IsGentleEvent (Ev.Drop tid) = Unit {0}
 IsGentleEvent Ev.Back = Unit {0}
 IsGentleEvent Ev.Check = Unit {0}
 IsGentleEvent event = ⊥
+
+pub gentle_resumes : (event : SiteEvent) → IsGentleEvent event → IsResuming event
+gentle_resumes (Ev.Give (To.Decide tid decision)) i = tt
+gentle_resumes (Ev.Give (To.Work tid e n act)) i = absurd i
+gentle_resumes (Ev.Give (To.Take tid e n)) i = absurd i
+gentle_resumes (Ev.Give (To.Prepare tid e n)) i = absurd i
+gentle_resumes (Ev.Trip calls cut) i = tt
+gentle_resumes (Ev.Ask tid) i = tt
+gentle_resumes (Ev.Drop tid) i = tt
+gentle_resumes Ev.Back i = tt
+gentle_resumes Ev.Check i = tt
+gentle_resumes (Ev.Halt cut) i = absurd i
+gentle_resumes (Ev.Begin tid) i = absurd i
+gentle_resumes (Ev.Act tid act) i = absurd i
+gentle_resumes (Ev.Commit tid) i = absurd i
+gentle_resumes (Ev.Abort tid) i = absurd i
+gentle_resumes (Ev.Fate tx) i = absurd i
 
 -- what such a line does
 pub record Gentle (home : Home) (here : SitePast) (event : SiteEvent) (x : SiteHappening) : Type 0 where

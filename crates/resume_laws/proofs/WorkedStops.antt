@@ -2,16 +2,22 @@
 use Rattle.std.proofs.Common.{◌≡◌, ◌⊎◌, false, [], ◌∷◌, reverse, refl, sym, ap, subst, inl, inr, arith}
 use Rattle.mdb_base.specs.declared.names.SiteTicket.{SiteTicket}
 use Rattle.mdb_base.specs.Names.{same_tid}
+use Rattle.mdb_base.specs.Words.{Each}
+use Rattle.mdb_base.proofs.OptionLaws.{some_parts}
 use Rattle.order_laws.specs.Chains.{In}
 use Rattle.order_laws.specs.Tickets.{HasNoCycle, Ticketed}
 use Rattle.presumptions.specs.declared.Protocol.TheVariants as By
+use Rattle.fed_rules.specs.declared.records.CoordRecord.{CoordRecord}
 use Rattle.fed_rules.specs.EngineLines.{AreApart}
-use Rattle.fed_rules.specs.Resumed.{plan_of, rest_of, resumed, resumed_lines}
+use Rattle.fed_rules.specs.Found.{Journal}
+use Rattle.fed_rules.specs.Resumed.{going_on, plan_of, rest_of, resumed, resumed_lines}
 use Rattle.fed_rules.specs.Scenarios.{protocols}
 use Rattle.fed_rules.specs.SiteRecords.{Held, kept_held}
 use Rattle.fed_rules.specs.Usable.{AreUnnamed, IsUsableCoordinator, IsUsableSite}
 use Rattle.fed_rules.proofs.Opened.{opened}
 use Rattle.resume_laws.specs.Again.{left_again}
+use Rattle.closing_laws.specs.Bound.{IsInRange}
+use Rattle.resume_laws.specs.Closed.{CoordInRange, IsSession}
 use Rattle.resume_laws.specs.FoundSessions.{AreOfDisks, AreUsable}
 use Rattle.resume_laws.specs.WorkedDisks.{first_try}
 use Rattle.resume_laws.specs.WorkedStops.{KnowsAForgottenOne, committed, in_doubt, left_behind, lines_behind, newest_left, one, prepared, set_up, stopped_session}
@@ -129,3 +135,17 @@ usable = record {
   sites = (1, omega arith, omega arith, usable_site, tt);
   unnamed = (unnamed, tt);
 }
+
+-- so closing is short behind them: the one attempt that is named lies in its range
+in_range : IsInRange (first_try 1)
+in_range = (omega arith, omega arith, omega arith)
+
+pub is_session : IsSession (going_on in_doubt)
+is_session = inr (record {
+  is = refl;
+  usable = usable;
+  range = record {
+    coordinator = λ journal e. subst (λ (j : Journal CoordRecord). Each CoordInRange j.records) (some_parts e) (in_range, tt);
+    sites = (((in_range, tt), (tt, (tt, tt))), tt);
+  };
+})

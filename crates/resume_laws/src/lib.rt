@@ -2,6 +2,7 @@
 #![tactic(auto)]
 
 mod again;
+mod closed;
 mod outcomes;
 mod rests;
 mod tables;
@@ -10,6 +11,9 @@ mod worked;
 pub use again::{
     left_disks_are_found, stopped_sessions_keep_outcomes, stopped_sessions_rest,
     stops_keep_outcomes, usable_sessions_leave_usable,
+};
+pub use closed::{
+    found_lines_are_few, sessions_close_at_rest, sessions_close_shortly, sessions_stay_up,
 };
 pub use outcomes::{outcomes_stay, settles_agree};
 pub use rests::{

@@ -1,9 +1,10 @@
 //! Worked examples: usable disks, and disks that contradict each other.
 ghost use Rattle.std.specs.Prelude.{◌≡◌, reverse};
-ghost use Rattle.fed_rules.specs.Resumed.{plan_of, rest_of, resumed, resumed_lines};
+ghost use Rattle.fed_rules.specs.Resumed.{going_on, plan_of, rest_of, resumed, resumed_lines};
 ghost use Rattle.fed_rules.specs.Scenarios.{protocols};
 ghost use Rattle.fed_rules.specs.Usable.{IsUsableCoordinator, IsUsableSite};
 ghost use Rattle.resume_laws.specs.Again.{left_again};
+ghost use Rattle.resume_laws.specs.Closed.{IsSession};
 ghost use Rattle.resume_laws.specs.FoundSessions.{AreUsable};
 ghost use Rattle.resume_laws.specs.WorkedDisks.{begun, one_local, two_disks, worked_lines};
 ghost use Rattle.resume_laws.specs.WorkedStops.{KnowsAForgottenOne, in_doubt, left_behind, lines_behind, newest_left, stopped_session};
@@ -28,6 +29,7 @@ pub fn a_local_transaction_is_also_begun()
 /// stopped before the coordinator hears of it. The session that goes on from what this leaves ends as the first one ends where nothing stops it.
 pub fn a_session_is_stopped_and_goes_on()
     ensures usable { AreUsable in_doubt }
+    ensures session { IsSession (going_on in_doubt) }
     ensures left { left_again in_doubt stopped_session ≡ left_behind }
     ensures lines { resumed_lines left_behind ≡ reverse lines_behind }
     ensures rest { rest_of left_behind (resumed left_behind) ≡ rest_of in_doubt (resumed in_doubt) }

@@ -4,6 +4,9 @@ use Rattle.resume_laws.proofs.worked.a_session_is_stopped_and_goes_on.Goals as g
 pub returns-clause-usable : goal.returns-clause-usable
 returns-clause-usable c = Worked.usable
 
+pub returns-clause-session : goal.returns-clause-session
+returns-clause-session c = Worked.is_session
+
 pub returns-clause-left : goal.returns-clause-left
 returns-clause-left c = Worked.disks_left
 
