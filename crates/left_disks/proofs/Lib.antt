@@ -1,0 +1,9 @@
+mod Accepted
+mod FoundSites
+mod HaltedStories
+mod Halts
+mod Laws
+mod LeftJournals
+mod OneDisk
+mod Readable
+mod Trims
