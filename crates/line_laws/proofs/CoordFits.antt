@@ -1,6 +1,6 @@
 -- What the coordinator answers to a command is one of the answers that the command can have, with places where it can send; and each undecided
 -- attempt is ready behind it.
-use Rattle.std.proofs.Common.{◌≡◌, ℕ, ◌<◌, ◌==◌, ◌&&◌, ◌||◌, nat_le, nat_lt, Bool, true, false, cond, is_some, Option, Some, None, List, [], ◌∷◌, ◌++◌, length, map, take, inl, inr, refl, sym, ◌∙◌, ap, subst, arith}
+use Rattle.std.proofs.Common.{◌≡◌, ℕ, ◌<◌, ◌==◌, ◌&&◌, nat_le, nat_lt, Bool, true, false, cond, is_some, Option, Some, None, List, [], ◌∷◌, ◌++◌, length, map, take, inl, inr, refl, sym, ◌∙◌, ap, subst, arith}
 use Rattle.std.proofs.lemmas.Bool.{and_parts, leb-true}
 use Rattle.mdb_base.specs.declared.acts.Step.{Step}
 use Rattle.mdb_base.specs.declared.names.SiteId.{SiteId}
@@ -8,7 +8,7 @@ use Rattle.mdb_base.specs.declared.names.Tid.{Tid}
 use Rattle.mdb_base.specs.declared.names.Tx.{Tx}
 use Rattle.mdb_base.specs.Names.{same_site, same_tid}
 use Rattle.mdb_base.specs.Words.{Each, each_of, pick, when}
-use Rattle.mdb_base.proofs.NameLaws.{same_site-equal, same_site-refl, same_tid-equal, same_tid-refl}
+use Rattle.mdb_base.proofs.NameLaws.{same_site-equal, same_tid-equal, same_tid-refl}
 use Rattle.order_laws.specs.Chains.{In}
 use Rattle.order_laws.specs.Search.{cycle_through}
 use Rattle.order_laws.specs.Tickets.{edge_between}
@@ -34,7 +34,7 @@ use Rattle.fed_rules.specs.Policies.{Policy}
 use Rattle.coord_laws.proofs.Dues.{owed}
 use Rattle.line_text.specs.Fits.{answer_fits}
 use Rattle.coord_laws.proofs.MadeLines.{outstanding_site}
-use Rattle.line_laws.proofs.Outstanding.{IsMember, Ready, ReadyFor, participant_at, ticket_in}
+use Rattle.line_laws.proofs.Outstanding.{IsMember, Ready, ReadyFor, participant_at, ticket_in, visits_own}
 use Rattle.line_laws.proofs.Sorted.{Sorted, number_of, those_sorted}
 use Rattle.line_laws.proofs.CoordLines.{CoordGood, IsOf, aborts_good, commits_good, down_good, dues_sorted, found_cycle, late_of, other_open, others_ready, out_sorted, ready_as, same_either, tripped_good, vote_of}
 use Rattle.line_laws.proofs.CoordSends.{KnowsDecided, again_good, no_calls}
@@ -161,18 +161,9 @@ module _ (protocols : List Participant) (past : CoordPast) (ready : (g : Tid) �
   begun_missing : (steps : List Step) → IsSited steps → each_of (λ (m : Participant). is_some (let none : Option ℕ = None in none)) (participants_of protocols steps) ≡ false
   begun_missing steps s =
       let (step, i) = s.some in
-      let (m, j, here) = participant_at protocols steps step.site (each_at (λ (x : Step). IsMember protocols x.site) step steps s.each i) (visited steps step i) in
+      let (m, j, here) = participant_at protocols steps step.site (each_at (λ (x : Step). IsMember protocols x.site) step steps s.each i) (visits_own steps step i) in
       one_there (participants_of protocols steps) m j
     where
-      visited : (ss : List Step) (step : Step) → In step ss → visits step.site ss ≡ true
-      visited [] step i = absurd i
-      visited (x ∷ ss) step (inl e) = ap (λ b. b || visits step.site ss) (ap (λ (y : Step). same_site y.site step.site) e ∙ same_site-refl step.site)
-      visited (x ∷ ss) step (inr i) = ap (λ b. same_site x.site step.site || b) (visited ss step i) ∙ or_right (same_site x.site step.site)
-        where
-          or_right : (b : Bool) → (b || true) ≡ true
-          or_right true = refl
-          or_right false = refl
-
       one_there : (ms : List Participant) (m : Participant) → In m ms → each_of (λ (x : Participant). is_some (let none : Option ℕ = None in none)) ms ≡ false
       one_there [] m i = absurd i
       one_there (x ∷ ms) m i = refl

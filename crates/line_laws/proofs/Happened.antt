@@ -1,15 +1,12 @@
--- What happens at a command to declared sites fits the command, behind commands whose attempts are ready.
-use Rattle.std.proofs.Common.{◌≡◌, ℕ, zero, suc, ◌<◌, ◌||◌, Bool, true, false, cond, Option, Some, None, List, [], ◌∷◌, length, inl, inr, refl, sym, ◌∙◌, ap, subst, arith}
+-- What happens at a command to declared sites fits the command, behind commands whose attempts are ready, whatever the session found on its disks.
+use Rattle.std.proofs.Common.{◌≡◌, ◌⊎◌, ℕ, zero, suc, ◌<◌, ◌||◌, Bool, true, false, cond, Option, Some, None, List, [], ◌∷◌, inl, inr, refl, sym, ◌∙◌, ap, subst}
 use Rattle.std.proofs.lemmas.Bool.{ne_eqb}
 use Rattle.mdb_base.specs.declared.acts.Step.{Step}
 use Rattle.mdb_base.specs.declared.names.SiteId.{SiteId}
 use Rattle.mdb_base.specs.declared.names.Tid.{Tid}
 use Rattle.mdb_base.specs.declared.names.Tx.{Tx}
 use Rattle.mdb_base.specs.Names.{same_site}
-use Rattle.mdb_base.specs.Words.{Each, item_at, pick, when}
-use Rattle.mdb_base.proofs.NameLaws.{same_site-refl}
-use Rattle.order_laws.specs.Chains.{In}
-use Rattle.order_laws.proofs.Lists.{among_is, among_map}
+use Rattle.mdb_base.specs.Words.{item_at, pick, when}
 use Rattle.presumptions.specs.declared.Participant.{Participant}
 use Rattle.fed_rules.specs.declared.answers.Answer.{Answer}
 use Rattle.fed_rules.specs.declared.answers.Answer.TheVariants as Say
@@ -25,35 +22,34 @@ use Rattle.fed_rules.specs.declared.scenario.Scenario.{Scenario}
 use Rattle.fed_rules.specs.declared.scenario.SiteLine.{SiteLine}
 use Rattle.fed_rules.specs.Coord.{coord_line}
 use Rattle.fed_rules.specs.CoordCommands.{attempt_request, fate_request, go_next, go_request}
-use Rattle.fed_rules.specs.CoordPast as Coordinator
-use Rattle.fed_rules.specs.CoordPast.{CoordHappening, CoordPast, is_open}
-use Rattle.fed_rules.specs.Plans.{IsScenario, is_actor, is_declared}
+use Rattle.fed_rules.specs.CoordPast.{CoordHappening, CoordPast}
+use Rattle.fed_rules.specs.Plans.{is_actor, is_declared}
 use Rattle.fed_rules.specs.Requests.{Request, Submits, Declines, unless_begun}
 use Rattle.fed_rules.specs.Runs.{Run}
-use Rattle.fed_rules.specs.Scenarios.{global_program, home_in, items_of, home_of, local_home, local_site, policy, program_of, protocols, sites}
+use Rattle.fed_rules.specs.Scenarios.{global_program, home_in, items_of, home_of, local_home, policy, program_of, protocols}
+use Rattle.fed_rules.specs.Sessions.{Session}
 use Rattle.fed_rules.specs.Site.{site_line}
 use Rattle.fed_rules.specs.SiteCommands.{Verb, Begin, Step_on, Commit, Abort, Fate, begin_next, next_step, request, when_done, with_live}
 use Rattle.fed_rules.specs.SitePast.{SiteHappening, SitePast, trip}
 use Rattle.fed_rules.specs.SiteRecords.{Home}
-use Rattle.fed_rules.specs.Story.{Happened, AtSite, AtCoordinator, Nowhere, Story, coord_past, coord_requested, happens, on_actor, on_attempt, on_fate, on_give, on_go, on_local, on_site, on_take, past_of, requested, sent_from, sent_to, story_of}
+use Rattle.fed_rules.specs.Story.{Happened, AtSite, AtCoordinator, Nowhere, Story, coord_past, coord_requested, happens, on_actor, on_attempt, on_fate, on_give, on_go, on_local, on_site, on_take, past_of, requested, sent_from, sent_to, story_in}
 use Rattle.coord_laws.proofs.Past.{decided_awaited, records_name}
-use Rattle.commit_laws.proofs.Links.{story_goes_on}
-use Rattle.commit_laws.proofs.Trips.{HasCalls as SiteArmed, trips_have_calls}
-use Rattle.federation_laws.proofs.Declared.{declared-in, number_some}
-use Rattle.federation_laws.proofs.ScenarioFacts.{global-declared, global_program-is, program_fits}
+use Rattle.commit_laws.proofs.FoundSessions.{session_goes_on}
+use Rattle.commit_laws.proofs.Trips.{HasCalls}
+use Rattle.federation_laws.proofs.Declared.{number_some}
 use Rattle.rules_laws.specs.Lines.{CoordCause, IsCoordLine, IsSiteLine, SiteCause}
-use Rattle.rules_laws.proofs.Declared.{its-site, local-declared}
-use Rattle.world_laws.proofs.Sent.{messages_declared}
+use Rattle.rules_laws.proofs.Declared.{local-declared}
 use Rattle.line_text.specs.Fits.{answer_fits, is_begin_answer, is_only}
 use Rattle.line_laws.specs.Lines.{IsHeard}
 use Rattle.line_laws.proofs.CoordFits as Coord
 use Rattle.line_laws.proofs.CoordFits.{IsSited}
 use Rattle.line_laws.proofs.CoordLines.{CoordGood}
 use Rattle.line_laws.proofs.CoordSends.{KnowsDecided}
-use Rattle.line_laws.proofs.Outstanding.{IsMember, Ready}
+use Rattle.line_laws.proofs.Outstanding.{IsMember}
 use Rattle.line_laws.proofs.SiteFits as Site
 use Rattle.line_laws.proofs.SiteFits.{IsFit}
 use Rattle.line_laws.proofs.Sorted.{Sorted, number_of, participants_sorted}
+use Rattle.line_laws.proofs.Starts.{Starts, State}
 
 -- ---- where sites are declared
 
@@ -66,91 +62,54 @@ declared_home (line ∷ lines) items site e none =
     by_test true h e none rest = cc
     by_test false h e none rest = rest e none
 
-pub member_of : (scenario : Scenario) (site : SiteId) → In site (sites scenario) → IsMember (protocols scenario) site
-member_of scenario site i = among_is (λ (p : Participant). p.site ≡ site) (protocols scenario) (among_map (λ s. s ≡ site) (λ (p : Participant). p.site) (protocols scenario) i)
+module _ (session : Session) (start : Starts session) (commands : List Command) (state : State session commands) where
+  abbrev plan : Scenario
+  plan = session.plan
 
--- a message comes from a declared site
-pub sender_member : (scenario : Scenario) (commands : List Command) (site : SiteId) (place : ℕ) (message : FromSite) → item_at (sent_from site (story_of scenario commands)) place ≡ Some message → IsMember (protocols scenario) site
-sender_member scenario commands site place message at = by_home (home_of scenario site) refl
-  where
-    by_home : (o : Option Home) → home_of scenario site ≡ o → IsMember (protocols scenario) site
-    by_home None e = (let none : None ≡ Some message = sym (ap (λ (ms : List FromSite). item_at ms place) (messages_declared scenario commands site e).1) ∙ at in cc)
-    by_home (Some home) e =
-        let here : home.site ≡ site = its-site scenario site home e in
-        subst (IsMember (protocols scenario)) here (member_of scenario home.site (declared-in scenario home.site home (ap (home_of scenario) here ∙ e)))
-
--- the program of a global transaction may begin
-pub sited_program : (scenario : Scenario) → IsScenario scenario → (tx : Tx) (steps : List Step) → global_program scenario tx ≡ Some steps
-    → Each (λ (step : Step). IsMember (protocols scenario) step.site) steps × ((step : Step) × In step steps)
-sited_program scenario whole tx steps e =
-    let parts = global_program-is scenario tx steps e in
-    (all steps (λ step i. subst (IsMember (protocols scenario)) refl (there parts step (subst (In step) (sym parts.0) i))), first steps (program_fits scenario tx steps whole e).some)
-  where
-    visited : (ss : List Step) (step : Step) → In step ss → Coordinator.visits step.site ss ≡ true
-    visited [] step i = absurd i
-    visited (x ∷ ss) step (inl e) = ap (λ b. b || Coordinator.visits step.site ss) (ap (λ (y : Step). same_site y.site step.site) e ∙ same_site-refl step.site)
-    visited (x ∷ ss) step (inr i) = ap (λ b. same_site x.site step.site || b) (visited ss step i) ∙ or_right (same_site x.site step.site)
-      where
-        or_right : (b : Bool) → (b || true) ≡ true
-        or_right true = refl
-        or_right false = refl
-
-    there : (program_of scenario tx ≡ steps) × (local_site scenario tx ≡ None) → (step : Step) → In step (program_of scenario tx) → IsMember (protocols scenario) step.site
-    there parts step i =
-        among_is (λ (p : Participant). p.site ≡ step.site) (protocols scenario) (global-declared scenario whole tx parts.1 step.site (visited (program_of scenario tx) step i))
-
-    all : (ss : List Step) → ((step : Step) → In step ss → IsMember (protocols scenario) step.site) → Each (λ (step : Step). IsMember (protocols scenario) step.site) ss
-    all [] f = tt
-    all (s ∷ ss) f = (f s (inl refl), all ss (λ x i. f x (inr i)))
-
-    first : (ss : List Step) → 0 < length ss → (step : Step) × In step ss
-    first [] lt = absurd (omega (arith, lt))
-    first (s ∷ ss) lt = (s, inl refl)
-
--- ---- behind some commands
-
--- each undecided attempt is ready, and what is armed at the coordinator has calls left
-pub record State (scenario : Scenario) (commands : List Command) : Type 0 where
-  pub ready : (g : Tid) → is_open (coord_past (story_of scenario commands)) g ≡ true → Ready (protocols scenario) (coord_past (story_of scenario commands)) g
-  pub armed : SiteArmed (Coordinator.trip (coord_past (story_of scenario commands)))
-
-module _ (scenario : Scenario) (whole : IsScenario scenario) (commands : List Command) (state : State scenario commands) where
   abbrev story : Story
-  story = story_of scenario commands
+  story = story_in session commands
 
   abbrev past : CoordPast
   past = coord_past story
 
   abbrev table : List Participant
-  table = protocols scenario
+  table = protocols plan
 
   pub sorted : Sorted number_of table
-  sorted = participants_sorted scenario.sites whole.sites.differ
+  sorted = participants_sorted plan.sites start.sites.differ
 
   knows : KnowsDecided table past state.ready sorted
   knows = record {
-    awaited = λ t d e. decided_awaited table (policy scenario) past (story_goes_on scenario commands) t d e;
-    named = λ t ms e. records_name table (policy scenario) past (story_goes_on scenario commands) t ms e;
+    awaited = λ t d e. decided_awaited table (policy plan) past (session_goes_on session start.fits commands) t d e;
+    named = λ t ms e. records_name table (policy plan) past (session_goes_on session start.fits commands) t ms e;
   }
 
-  go_sited : (tx : Tx) (steps : List Step) → global_program scenario tx ≡ Some steps → IsSited table past state.ready sorted steps
-  go_sited tx steps e = let p = sited_program scenario whole tx steps e in record { each = p.0; some = p.1 }
+  -- a message comes from a declared site
+  sender_member : (site : SiteId) (place : ℕ) (message : FromSite) → item_at (sent_from site story) place ≡ Some message → IsMember table site
+  sender_member site place message at = by_sender (state.senders site)
+    where
+      by_sender : (sent_from site story ≡ []) ⊎ IsMember table site → IsMember table site
+      by_sender (inl none) = (let clash : None ≡ Some message = sym (ap (λ (ms : List FromSite). item_at ms place) none) ∙ at in cc)
+      by_sender (inr member) = member
+
+  go_sited : (tx : Tx) (steps : List Step) → global_program plan tx ≡ Some steps → IsSited table past state.ready sorted steps
+  go_sited tx steps e = let p = start.programs tx steps e in record { each = p.0; some = p.1 }
 
   -- the coordinator's line of a command
-  coord_good : (command : Command) (event : CoordEvent) → CoordCause scenario story command event → CoordGood table past state.ready sorted command (coord_line table (policy scenario) past event)
-  coord_good (Cmd.Go tx) event c = subst (λ v. CoordGood table past state.ready sorted (Cmd.Go tx) (coord_line table (policy scenario) past v)) (sym c.is) (Coord.go_line table past state.ready sorted (policy scenario) state.armed _ c.steps tx (go_sited tx c.steps c.program))
-  coord_good (Cmd.Fate tx) event c = subst (λ v. CoordGood table past state.ready sorted (Cmd.Fate tx) (coord_line table (policy scenario) past v)) (sym c.is) (Coord.fate_line table past state.ready sorted (policy scenario) state.armed tx tx)
-  coord_good (Cmd.Again tid) event c = subst (λ v. CoordGood table past state.ready sorted (Cmd.Again tid) (coord_line table (policy scenario) past v)) (sym c) (Coord.again_line table past state.ready sorted (policy scenario) state.armed tid knows)
-  coord_good (Cmd.Late tid) event c = subst (λ v. CoordGood table past state.ready sorted (Cmd.Late tid) (coord_line table (policy scenario) past v)) (sym c) (Coord.late_line table past state.ready sorted (policy scenario) state.armed tid)
+  coord_good : (command : Command) (event : CoordEvent) → CoordCause plan story command event → CoordGood table past state.ready sorted command (coord_line table (policy plan) past event)
+  coord_good (Cmd.Go tx) event c = subst (λ v. CoordGood table past state.ready sorted (Cmd.Go tx) (coord_line table (policy plan) past v)) (sym c.is) (Coord.go_line table past state.ready sorted (policy plan) state.armed _ c.steps tx (go_sited tx c.steps c.program))
+  coord_good (Cmd.Fate tx) event c = subst (λ v. CoordGood table past state.ready sorted (Cmd.Fate tx) (coord_line table (policy plan) past v)) (sym c.is) (Coord.fate_line table past state.ready sorted (policy plan) state.armed tx tx)
+  coord_good (Cmd.Again tid) event c = subst (λ v. CoordGood table past state.ready sorted (Cmd.Again tid) (coord_line table (policy plan) past v)) (sym c) (Coord.again_line table past state.ready sorted (policy plan) state.armed tid knows)
+  coord_good (Cmd.Late tid) event c = subst (λ v. CoordGood table past state.ready sorted (Cmd.Late tid) (coord_line table (policy plan) past v)) (sym c) (Coord.late_line table past state.ready sorted (policy plan) state.armed tid)
   coord_good (Cmd.Take site place) event c =
-      subst (λ v. CoordGood table past state.ready sorted (Cmd.Take site place) (coord_line table (policy scenario) past v)) (sym c.is)
-      (Coord.take_line table past state.ready sorted (policy scenario) state.armed site c.message place (sender_member scenario commands site place c.message c.at))
-  coord_good (Cmd.Halt actor cut) event c = subst (λ v. CoordGood table past state.ready sorted (Cmd.Halt actor cut) (coord_line table (policy scenario) past v)) (sym c.1) (Coord.halt_line table past state.ready sorted (policy scenario) state.armed actor cut)
-  coord_good (Cmd.Trip actor calls cut) event c = subst (λ v. CoordGood table past state.ready sorted (Cmd.Trip actor calls cut) (coord_line table (policy scenario) past v)) (sym c.1) (Coord.trip_line table past state.ready sorted (policy scenario) state.armed actor calls cut)
+      subst (λ v. CoordGood table past state.ready sorted (Cmd.Take site place) (coord_line table (policy plan) past v)) (sym c.is)
+      (Coord.take_line table past state.ready sorted (policy plan) state.armed site c.message place (sender_member site place c.message c.at))
+  coord_good (Cmd.Halt actor cut) event c = subst (λ v. CoordGood table past state.ready sorted (Cmd.Halt actor cut) (coord_line table (policy plan) past v)) (sym c.1) (Coord.halt_line table past state.ready sorted (policy plan) state.armed actor cut)
+  coord_good (Cmd.Trip actor calls cut) event c = subst (λ v. CoordGood table past state.ready sorted (Cmd.Trip actor calls cut) (coord_line table (policy plan) past v)) (sym c.1) (Coord.trip_line table past state.ready sorted (policy plan) state.armed actor calls cut)
   coord_good (Cmd.Back actor) event c =
-      subst (λ v. CoordGood table past state.ready sorted (Cmd.Back actor) (coord_line table (policy scenario) past v)) (sym c.1)
-      (subst (λ n. CoordGood table past state.ready sorted (Cmd.Back n) (coord_line table (policy scenario) past To_coord.Back)) (sym c.0) (Coord.back_line table past state.ready sorted (policy scenario) state.armed))
-  coord_good (Cmd.Check actor) event c = subst (λ v. CoordGood table past state.ready sorted (Cmd.Check actor) (coord_line table (policy scenario) past v)) (sym c.1) (Coord.check_line table past state.ready sorted (policy scenario) state.armed actor)
+      subst (λ v. CoordGood table past state.ready sorted (Cmd.Back actor) (coord_line table (policy plan) past v)) (sym c.1)
+      (subst (λ n. CoordGood table past state.ready sorted (Cmd.Back n) (coord_line table (policy plan) past To_coord.Back)) (sym c.0) (Coord.back_line table past state.ready sorted (policy plan) state.armed))
+  coord_good (Cmd.Check actor) event c = subst (λ v. CoordGood table past state.ready sorted (Cmd.Check actor) (coord_line table (policy plan) past v)) (sym c.1) (Coord.check_line table past state.ready sorted (policy plan) state.armed actor)
   coord_good (Cmd.Begin tx) event c = absurd c
   coord_good (Cmd.Step tx) event c = absurd c
   coord_good (Cmd.Commit tx) event c = absurd c
@@ -159,18 +118,18 @@ module _ (scenario : Scenario) (whole : IsScenario scenario) (commands : List Co
   coord_good (Cmd.Ask site tid) event c = absurd c
   coord_good (Cmd.Drop site tid) event c = absurd c
 
-  pub coord_line_good : (command : Command) (x : CoordHappening) → IsCoordLine scenario story command x → CoordGood table past state.ready sorted command x
+  pub coord_line_good : (command : Command) (x : CoordHappening) → IsCoordLine plan story command x → CoordGood table past state.ready sorted command x
   coord_line_good command x line = subst (CoordGood table past state.ready sorted command) (sym line.is_next) (coord_good command line.event line.cause)
 
   -- a site's line of a command
-  module _ (home : Home) (declared : home_of scenario home.site ≡ Some home) where
+  module _ (home : Home) (declared : home_of plan home.site ≡ Some home) where
     abbrev there : SitePast
     there = past_of home.site story
 
-    site_armed : SiteArmed (trip there)
-    site_armed = trips_have_calls scenario home commands
+    site_armed : HasCalls (trip there)
+    site_armed = state.site_armed home declared
 
-    site_fit : (command : Command) (event : SiteEvent) → SiteCause scenario home story command event → IsFit command home.site (site_line home there event)
+    site_fit : (command : Command) (event : SiteEvent) → SiteCause plan home story command event → IsFit command home.site (site_line home there event)
     site_fit (Cmd.Begin tx) event c = subst (λ v. IsFit (Cmd.Begin tx) home.site (site_line home there v)) (sym c.asks.is) (Site.begin_line home there _ tx home.site site_armed)
     site_fit (Cmd.Step tx) event c = subst (λ v. IsFit (Cmd.Step tx) home.site (site_line home there v)) (sym c.asks.is) (Site.act_line home there _ _ tx home.site site_armed)
     site_fit (Cmd.Commit tx) event c = subst (λ v. IsFit (Cmd.Commit tx) home.site (site_line home there v)) (sym c.asks.is) (Site.commit_line home there _ tx home.site)
@@ -189,14 +148,14 @@ module _ (scenario : Scenario) (whole : IsScenario scenario) (commands : List Co
     site_fit (Cmd.Trip actor calls cut) event c = subst (λ v. IsFit (Cmd.Trip actor calls cut) home.site (site_line home there v)) (sym c.1) (Site.trip_line home there actor calls cut home.site)
     site_fit (Cmd.Back actor) event c =
         subst (λ v. IsFit (Cmd.Back actor) home.site (site_line home there v)) (sym c.1)
-        (Site.back_line home there actor home.site (subst (λ n. 0 < n) (sym c.0) (number_some scenario home.site home whole.sites declared)))
+        (Site.back_line home there actor home.site (subst (λ n. 0 < n) (sym c.0) (number_some plan home.site home start.sites declared)))
     site_fit (Cmd.Check actor) event c = subst (λ v. IsFit (Cmd.Check actor) home.site (site_line home there v)) (sym c.1) (Site.check_line home there actor home.site)
     site_fit (Cmd.Go tx) event c = absurd c
     site_fit (Cmd.Again tid) event c = absurd c
     site_fit (Cmd.Late tid) event c = absurd c
     site_fit (Cmd.Take site place) event c = absurd c
 
-  pub site_line_fit : (command : Command) (site : SiteId) (x : SiteHappening) → IsSiteLine scenario story command site x → IsFit command site x
+  pub site_line_fit : (command : Command) (site : SiteId) (x : SiteHappening) → IsSiteLine plan story command site x → IsFit command site x
   site_line_fit command site x line =
       subst (λ s. IsFit command s x) (sym line.here) (subst (IsFit command line.home.site) (sym line.is_next) (site_fit line.home line.declared command line.event line.cause))
 
@@ -252,10 +211,10 @@ module _ (scenario : Scenario) (whole : IsScenario scenario) (commands : List Co
   spent (Say.Begun tid) f = (refl, refl)
   spent answer f = cc
 
-  begin_asked : (home : Home) (tx : Tx) (n : ℕ) → home_of scenario home.site ≡ Some home → Asked (Cmd.Begin tx) home (begin_next home (past_of home.site story) tx n)
+  begin_asked : (home : Home) (tx : Tx) (n : ℕ) → home_of plan home.site ≡ Some home → Asked (Cmd.Begin tx) home (begin_next home (past_of home.site story) tx n)
   unfolding begin_next
   begin_asked home tx n declared =
-      let fit = Site.begin_line home (past_of home.site story) _ tx home.site (trips_have_calls scenario home commands) in
+      let fit = Site.begin_line home (past_of home.site story) _ tx home.site (state.site_armed home declared) in
       let s = spent _ fit.answer in
       asked_when (Cmd.Begin tx) home _ _ _ (declines (Cmd.Begin tx) home _ s.0 s.1) (submits (Cmd.Begin tx) home _)
 
@@ -281,7 +240,7 @@ module _ (scenario : Scenario) (whole : IsScenario scenario) (commands : List Co
   command_of Abort tx = Cmd.Abort tx
   command_of Fate tx = Cmd.Fate tx
 
-  verb_asked : (verb : Verb) (home : Home) (steps : List Step) (tx : Tx) → home_of scenario home.site ≡ Some home → Asked (command_of verb tx) home (request verb home steps (past_of home.site story) tx)
+  verb_asked : (verb : Verb) (home : Home) (steps : List Step) (tx : Tx) → home_of plan home.site ≡ Some home → Asked (command_of verb tx) home (request verb home steps (past_of home.site story) tx)
   unfolding request
   verb_asked Begin home steps tx d = begin_asked home tx _ d
   verb_asked Step_on home steps tx d = live_asked (Cmd.Step tx) home tx (next_step steps) refl refl (λ tid run. step_asked home steps tx tid run)
@@ -289,14 +248,14 @@ module _ (scenario : Scenario) (whole : IsScenario scenario) (commands : List Co
   verb_asked Abort home steps tx d = live_asked (Cmd.Abort tx) home tx (λ tid run. Submits (To_site.Abort tid)) refl refl (λ tid run. submits (Cmd.Abort tx) home _)
   verb_asked Fate home steps tx d = submits (Cmd.Fate tx) home _
 
-  local_word : (verb : Verb) (tx : Tx) (other : Happened) → Word (command_of verb tx) other → Word (command_of verb tx) (on_local scenario story verb tx other)
+  local_word : (verb : Verb) (tx : Tx) (other : Happened) → Word (command_of verb tx) other → Word (command_of verb tx) (on_local plan story verb tx other)
   unfolding on_local
   local_word verb tx other w =
-      word_pick (command_of verb tx) (local_home scenario tx) _ _ (λ e. w) (λ home e. (verb_asked verb home (program_of scenario tx) tx (local-declared scenario tx home e)).asked)
+      word_pick (command_of verb tx) (local_home plan tx) _ _ (λ e. w) (λ home e. (verb_asked verb home (program_of plan tx) tx (local-declared plan tx home e)).asked)
 
   -- a request of the coordinator
   record CoordAsked (command : Command) (r : Request CoordEvent) : Type 0 where
-    asked : Word command (coord_requested scenario story r)
+    asked : Word command (coord_requested plan story r)
 
   coord_when : (command : Command) (b : Bool) (r s : Request CoordEvent) → CoordAsked command r → CoordAsked command s → CoordAsked command (when b r s)
   unfolding when
@@ -314,50 +273,50 @@ module _ (scenario : Scenario) (whole : IsScenario scenario) (commands : List Co
   coord_submits : (command : Command) (event : CoordEvent) → CoordAsked command (Submits event)
   coord_submits command event = record { asked = record { word = tt } }
 
-  next_asked : (tx : Tx) (steps : List Step) (n : ℕ) → global_program scenario tx ≡ Some steps → CoordAsked (Cmd.Go tx) (go_next table (policy scenario) past tx steps n)
+  next_asked : (tx : Tx) (steps : List Step) (n : ℕ) → global_program plan tx ≡ Some steps → CoordAsked (Cmd.Go tx) (go_next table (policy plan) past tx steps n)
   unfolding go_next
   next_asked tx steps n e =
-      let good = Coord.go_line table past state.ready sorted (policy scenario) state.armed _ steps tx (go_sited tx steps e) in
+      let good = Coord.go_line table past state.ready sorted (policy plan) state.armed _ steps tx (go_sited tx steps e) in
       let s = spent _ good.answer in
       coord_when (Cmd.Go tx) _ _ _ (coord_declines (Cmd.Go tx) _ s.0 s.1) (coord_submits (Cmd.Go tx) _)
 
-  go_word : (tx : Tx) → Word (Cmd.Go tx) (on_go scenario story tx)
+  go_word : (tx : Tx) → Word (Cmd.Go tx) (on_go plan story tx)
   unfolding on_go go_request
-  go_word tx = (coord_pick (Cmd.Go tx) (global_program scenario tx) _ _ (coord_declines (Cmd.Go tx) Say.None refl refl) (λ steps e. next_asked tx steps _ e)).asked
+  go_word tx = (coord_pick (Cmd.Go tx) (global_program plan tx) _ _ (coord_declines (Cmd.Go tx) Say.None refl refl) (λ steps e. next_asked tx steps _ e)).asked
 
-  fate_word : (tx : Tx) → Word (Cmd.Fate tx) (on_fate scenario story tx)
+  fate_word : (tx : Tx) → Word (Cmd.Fate tx) (on_fate plan story tx)
   unfolding on_fate fate_request
   fate_word tx =
-      local_word Fate tx _ (coord_pick (Cmd.Fate tx) (global_program scenario tx) _ _ (coord_declines (Cmd.Fate tx) Say.None refl refl) (λ steps e. coord_submits (Cmd.Fate tx) _)).asked
+      local_word Fate tx _ (coord_pick (Cmd.Fate tx) (global_program plan tx) _ _ (coord_declines (Cmd.Fate tx) Say.None refl refl) (λ steps e. coord_submits (Cmd.Fate tx) _)).asked
 
-  attempt_word : (command : Command) (tid : Tid) (event : CoordEvent) → answer_fits command Say.None ≡ true → Word command (on_attempt scenario story tid event)
+  attempt_word : (command : Command) (tid : Tid) (event : CoordEvent) → answer_fits command Say.None ≡ true → Word command (on_attempt plan story tid event)
   unfolding on_attempt attempt_request
   attempt_word command tid event f = (coord_when command _ _ _ (coord_submits command event) (coord_declines command Say.None f refl)).asked
 
-  site_word : (command : Command) (site : SiteId) (event : SiteEvent) → (home_of scenario site ≡ None → answer_fits command Say.None ≡ true) → Word command (on_site scenario story site event)
+  site_word : (command : Command) (site : SiteId) (event : SiteEvent) → (home_of plan site ≡ None → answer_fits command Say.None ≡ true) → Word command (on_site plan story site event)
   unfolding on_site
-  site_word command site event f = word_pick command (home_of scenario site) _ _ (λ e. said command Say.None (f e) refl) (λ home e. record { word = tt })
+  site_word command site event f = word_pick command (home_of plan site) _ _ (λ e. said command Say.None (f e) refl) (λ home e. record { word = tt })
 
-  give_word : (site : SiteId) (place : ℕ) → Word (Cmd.Give site place) (on_give scenario story site place)
+  give_word : (site : SiteId) (place : ℕ) → Word (Cmd.Give site place) (on_give plan story site place)
   unfolding on_give
   give_word site place = word_pick (Cmd.Give site place) (item_at (sent_to site story) place) _ _ (λ e. said (Cmd.Give site place) Say.None refl refl) (λ message e. site_word (Cmd.Give site place) site _ (λ n. refl))
 
-  take_word : (site : SiteId) (place : ℕ) → Word (Cmd.Take site place) (on_take scenario story site place)
+  take_word : (site : SiteId) (place : ℕ) → Word (Cmd.Take site place) (on_take plan story site place)
   unfolding on_take
   take_word site place = word_pick (Cmd.Take site place) (item_at (sent_from site story) place) _ _ (λ e. said (Cmd.Take site place) Say.None refl refl) (λ message e. record { word = tt })
 
-  heard_site : (command : Command) (site : SiteId) → is_declared scenario.sites site ≡ true → home_of scenario site ≡ None → answer_fits command Say.None ≡ true
-  heard_site command site d none = absurd (declared_home scenario.sites scenario.items site d none)
+  heard_site : (command : Command) (site : SiteId) → is_declared plan.sites site ≡ true → home_of plan site ≡ None → answer_fits command Say.None ≡ true
+  heard_site command site d none = absurd (declared_home plan.sites plan.items site d none)
 
-  actor_word : (command : Command) (actor : ℕ) (at_coord : CoordEvent) (at : SiteEvent) → is_actor scenario.sites actor ≡ true → Word command (on_actor scenario story actor at_coord at)
+  actor_word : (command : Command) (actor : ℕ) (at_coord : CoordEvent) (at : SiteEvent) → is_actor plan.sites actor ≡ true → Word command (on_actor plan story actor at_coord at)
   unfolding on_actor
   actor_word command zero at_coord at a = record { word = tt }
   actor_word command (suc n) at_coord at a = site_word command (record { 0 = suc n }) at (λ none. heard_site command (record { 0 = suc n }) declared none)
     where
-      declared : is_declared scenario.sites (record { 0 = suc n }) ≡ true
-      declared = sym (ap (λ b. b || is_declared scenario.sites (record { 0 = suc n })) (ne_eqb (suc n) 0 (λ e. cc))) ∙ a
+      declared : is_declared plan.sites (record { 0 = suc n }) ≡ true
+      declared = sym (ap (λ b. b || is_declared plan.sites (record { 0 = suc n })) (ne_eqb (suc n) 0 (λ e. cc))) ∙ a
 
-  pub word : (command : Command) → IsHeard scenario.sites command → Word command (happens scenario story command)
+  pub word : (command : Command) → IsHeard plan.sites command → Word command (happens plan story command)
   unfolding happens
   word (Cmd.Begin tx) h = local_word Begin tx _ (said (Cmd.Begin tx) Say.None refl refl)
   word (Cmd.Step tx) h = local_word Step_on tx _ (said (Cmd.Step tx) Say.None refl refl)

@@ -1,11 +1,12 @@
--- The commands that close a session speak of the coordinator and of declared sites.
-use Rattle.std.proofs.Common.{◌≡◌, ◌⊎◌, ℕ, ◌==◌, ◌||◌, nat_lt, Bool, true, false, cond, not, is_some, List, [], ◌∷◌, map, inl, inr, refl, ◌∙◌, ap, subst}
+-- The commands that close a session speak of the coordinator and of declared sites, whatever it found on its disks.
+use Rattle.std.proofs.Common.{◌≡◌, ◌⊎◌, ℕ, ◌==◌, ◌||◌, nat_lt, Bool, true, false, cond, not, is_some, List, [], ◌∷◌, map, inl, inr, refl, sym, ◌∙◌, ap, subst}
 use Rattle.mdb_base.specs.declared.names.SiteId.{SiteId}
 use Rattle.mdb_base.specs.declared.names.Tid.{Tid}
 use Rattle.mdb_base.specs.Names.{same_site}
 use Rattle.mdb_base.specs.Words.{Each, inserted, some_of, those}
 use Rattle.mdb_base.proofs.NameLaws.{same_site-refl}
 use Rattle.mdb_base.proofs.BoolLaws.{or_true}
+use Rattle.mdb_base.proofs.ListLaws.{each_append}
 use Rattle.order_laws.specs.Chains.{In}
 use Rattle.presumptions.specs.declared.Participant.{Participant}
 use Rattle.fed_rules.specs.declared.commands.Command.{Command}
@@ -13,16 +14,18 @@ use Rattle.fed_rules.specs.declared.commands.Command.TheVariants as Cmd
 use Rattle.fed_rules.specs.declared.commands.Place.{Place}
 use Rattle.fed_rules.specs.declared.scenario.Scenario.{Scenario}
 use Rattle.fed_rules.specs.declared.scenario.SiteLine.{SiteLine}
-use Rattle.fed_rules.specs.Closing.{actors, ask_all, ask_site, bring_up, clear, clear_site, closed, deliver, disarm, end_known, for_each, give_up, in_doubt_at, inquire, known, last_sends, live, one, send_again, take_answers, taken, undecided}
+use Rattle.fed_rules.specs.Closing.{actors, ask_all, ask_site, bring_up, clear, clear_site, closed_in, deliver, disarm, end_known, for_each, give_up, in_doubt_at, inquire, known, last_sends, live, one, send_again, take_answers, taken, undecided}
 use Rattle.fed_rules.specs.CoordPast as Coordinator
 use Rattle.fed_rules.specs.CoordPast.{CoordPast}
 use Rattle.fed_rules.specs.Happenings.{is_down}
 use Rattle.fed_rules.specs.Plans.{declares, is_actor, is_declared}
+use Rattle.fed_rules.specs.Resumed.{going_on, plan_of}
 use Rattle.fed_rules.specs.Scenarios.{home_of, protocols_in, sites}
-use Rattle.fed_rules.specs.Sessions.{fresh}
+use Rattle.fed_rules.specs.Sessions.{Session, fresh}
 use Rattle.fed_rules.specs.SitePast.{SitePast, is_local, trip}
-use Rattle.fed_rules.specs.Story.{Story, coord_past, past_of, story_of}
+use Rattle.fed_rules.specs.Story.{Story, coord_past, past_of, story_in}
 use Rattle.line_laws.specs.Lines.{ClosingIsHeard, IsHeard}
+use Rattle.line_laws.specs.Resumed.{ResumingIsHeard, SessionsCloseHeard}
 
 -- ---- a listed site is declared
 
@@ -48,15 +51,18 @@ in_declared (line ∷ lines) site i = by_place (put_in (λ a b. nat_lt a.site.0 
     by_place (inl e) more = ap (λ b. b || some_of (declares site) lines) (ap (λ s. same_site s site) e ∙ same_site-refl site)
     by_place (inr j) more = ap (λ b. declares site line || b) (more j) ∙ or_true (declares site line)
 
-module _ (scenario : Scenario) where
-  site_declared : (site : SiteId) → In site (sites scenario) → is_declared scenario.sites site ≡ true
-  site_declared site i = in_declared scenario.sites site i
+module _ (session : Session) where
+  abbrev plan : Scenario
+  plan = session.plan
 
-  actor_declared : (site : SiteId) → In site (sites scenario) → is_actor scenario.sites site.0 ≡ true
+  site_declared : (site : SiteId) → In site (sites plan) → is_declared plan.sites site ≡ true
+  site_declared site i = in_declared plan.sites site i
+
+  actor_declared : (site : SiteId) → In site (sites plan) → is_actor plan.sites site.0 ≡ true
   actor_declared site i = ap (λ b. (site.0 == 0) || b) (site_declared site i) ∙ or_true (site.0 == 0)
 
   abbrev Heard : List Command → Type 0
-  Heard commands = Each (IsHeard scenario.sites) commands
+  Heard commands = Each (IsHeard plan.sites) commands
 
   -- what each item of a list adds
   each_adds : {A : Type 0} (add : A → List Command → List Command) (xs : List A) → ((x : A) → In x xs → (commands : List Command) → Heard commands → Heard (add x commands))
@@ -73,14 +79,14 @@ module _ (scenario : Scenario) where
       by_test true (inr j) more = more j
       by_test false j more = more j
 
-  actor_heard : (of_coordinator : CoordPast → Bool) (of_site : SitePast → Bool) (story : Story) (actor : ℕ) → In actor (actors of_coordinator of_site scenario story) → is_actor scenario.sites actor ≡ true
+  actor_heard : (of_coordinator : CoordPast → Bool) (of_site : SitePast → Bool) (story : Story) (actor : ℕ) → In actor (actors of_coordinator of_site plan story) → is_actor plan.sites actor ≡ true
   actor_heard of_coordinator of_site story actor i = by_test (of_coordinator (coord_past story)) i
     where
-      sited : In actor (map (λ (site : SiteId). site.0) (those (λ site. of_site (past_of site story)) (sites scenario))) → is_actor scenario.sites actor ≡ true
-      sited j = actors_heard (λ n. is_actor scenario.sites n ≡ true) (sites scenario) (λ site. of_site (past_of site story)) actor_declared actor j
+      sited : In actor (map (λ (site : SiteId). site.0) (those (λ site. of_site (past_of site story)) (sites plan))) → is_actor plan.sites actor ≡ true
+      sited j = actors_heard (λ n. is_actor plan.sites n ≡ true) (sites plan) (λ site. of_site (past_of site story)) actor_declared actor j
 
-      by_test : (b : Bool) → In actor (one b 0 (map (λ (site : SiteId). site.0) (those (λ site. of_site (past_of site story)) (sites scenario)))) → is_actor scenario.sites actor ≡ true
-      by_test true (inl e) = subst (λ n. is_actor scenario.sites n ≡ true) e refl
+      by_test : (b : Bool) → In actor (one b 0 (map (λ (site : SiteId). site.0) (those (λ site. of_site (past_of site story)) (sites plan)))) → is_actor plan.sites actor ≡ true
+      by_test true (inl e) = subst (λ n. is_actor plan.sites n ≡ true) e refl
       by_test true (inr j) = sited j
       by_test false j = sited j
 
@@ -90,56 +96,63 @@ module _ (scenario : Scenario) where
   takes_heard [] commands h = h
   takes_heard (place ∷ places) commands h = takes_heard places (Cmd.Take place.site place.place ∷ commands) (tt, h)
 
-  taken_heard : (commands : List Command) → Heard commands → Heard (taken (fresh scenario) commands)
-  taken_heard commands h = takes_heard (last_sends (fresh scenario) commands) commands h
+  taken_heard : (commands : List Command) → Heard commands → Heard (taken session commands)
+  taken_heard commands h = takes_heard (last_sends session commands) commands h
 
-  deliver_heard : (place : Place) (commands : List Command) → Heard commands → Heard (deliver (fresh scenario) place commands)
+  deliver_heard : (place : Place) (commands : List Command) → Heard commands → Heard (deliver session place commands)
   deliver_heard place commands h = taken_heard (Cmd.Give place.site place.place ∷ commands) (tt, h)
 
-  again_heard : (tid : Tid) (commands : List Command) → Heard commands → Heard (send_again (fresh scenario) tid commands)
+  again_heard : (tid : Tid) (commands : List Command) → Heard commands → Heard (send_again session tid commands)
   again_heard tid commands h =
-      each_adds (deliver (fresh scenario)) (last_sends (fresh scenario) (Cmd.Again tid ∷ commands)) (λ place i. deliver_heard place) (Cmd.Again tid ∷ commands) (tt, h)
+      each_adds (deliver session) (last_sends session (Cmd.Again tid ∷ commands)) (λ place i. deliver_heard place) (Cmd.Again tid ∷ commands) (tt, h)
 
-  inquire_heard : (site : SiteId) (tid : Tid) → In site (sites scenario) → (commands : List Command) → Heard commands → Heard (inquire (fresh scenario) site tid commands)
+  inquire_heard : (site : SiteId) (tid : Tid) → In site (sites plan) → (commands : List Command) → Heard commands → Heard (inquire session site tid commands)
   inquire_heard site tid i commands h =
-      let asked = taken (fresh scenario) (Cmd.Ask site tid ∷ commands) in
-      each_adds (λ place more. Cmd.Give place.site place.place ∷ more) (last_sends (fresh scenario) asked) (λ place j more k. (tt, k)) asked
+      let asked = taken session (Cmd.Ask site tid ∷ commands) in
+      each_adds (λ place more. Cmd.Give place.site place.place ∷ more) (last_sends session asked) (λ place j more k. (tt, k)) asked
       (taken_heard (Cmd.Ask site tid ∷ commands) (site_declared site i, h))
 
-  disarm_heard : (commands : List Command) → Heard commands → Heard (disarm (fresh scenario) commands)
+  disarm_heard : (commands : List Command) → Heard commands → Heard (disarm session commands)
   disarm_heard commands h =
-      each_adds (λ actor more. Cmd.Trip actor 0 0 ∷ more) (actors (λ past. is_some (Coordinator.trip past)) (λ past. is_some (trip past)) scenario (story_of scenario commands))
-      (λ actor i more k. (actor_heard (λ past. is_some (Coordinator.trip past)) (λ past. is_some (trip past)) (story_of scenario commands) actor i, k)) commands h
+      each_adds (λ actor more. Cmd.Trip actor 0 0 ∷ more) (actors (λ past. is_some (Coordinator.trip past)) (λ past. is_some (trip past)) plan (story_in session commands))
+      (λ actor i more k. (actor_heard (λ past. is_some (Coordinator.trip past)) (λ past. is_some (trip past)) (story_in session commands) actor i, k)) commands h
 
-  bring_up_heard : (commands : List Command) → Heard commands → Heard (bring_up (fresh scenario) commands)
+  bring_up_heard : (commands : List Command) → Heard commands → Heard (bring_up session commands)
   bring_up_heard commands h =
-      each_adds (λ actor more. Cmd.Back actor ∷ more) (actors (λ past. is_down past) (λ past. is_down past) scenario (story_of scenario commands))
-      (λ actor i more k. (actor_heard (λ past. is_down past) (λ past. is_down past) (story_of scenario commands) actor i, k)) commands h
+      each_adds (λ actor more. Cmd.Back actor ∷ more) (actors (λ past. is_down past) (λ past. is_down past) plan (story_in session commands))
+      (λ actor i more k. (actor_heard (λ past. is_down past) (λ past. is_down past) (story_in session commands) actor i, k)) commands h
 
-  give_up_heard : (commands : List Command) → Heard commands → Heard (give_up (fresh scenario) commands)
-  give_up_heard commands h = each_adds (λ tid more. Cmd.Late tid ∷ more) (undecided (story_of scenario commands)) (λ tid i more k. (tt, k)) commands h
+  give_up_heard : (commands : List Command) → Heard commands → Heard (give_up session commands)
+  give_up_heard commands h = each_adds (λ tid more. Cmd.Late tid ∷ more) (undecided (story_in session commands)) (λ tid i more k. (tt, k)) commands h
 
-  clear_site_heard : (story : Story) (site : SiteId) → In site (sites scenario) → (commands : List Command) → Heard commands → Heard (clear_site scenario story site commands)
+  clear_site_heard : (story : Story) (site : SiteId) → In site (sites plan) → (commands : List Command) → Heard commands → Heard (clear_site plan story site commands)
   clear_site_heard story site i commands h =
-      each_adds (λ tid more. Cmd.Drop site tid ∷ more) (those (λ tid. not (is_local (past_of site story) tid)) (live scenario story site)) (λ tid j more k. (site_declared site i, k))
-      (for_each (λ (tid : Tid) more. Cmd.Abort tid.tx ∷ more) (those (is_local (past_of site story)) (live scenario story site)) commands)
-      (each_adds (λ (tid : Tid) more. Cmd.Abort tid.tx ∷ more) (those (is_local (past_of site story)) (live scenario story site)) (λ tid j more k. (tt, k)) commands h)
+      each_adds (λ tid more. Cmd.Drop site tid ∷ more) (those (λ tid. not (is_local (past_of site story) tid)) (live plan story site)) (λ tid j more k. (site_declared site i, k))
+      (for_each (λ (tid : Tid) more. Cmd.Abort tid.tx ∷ more) (those (is_local (past_of site story)) (live plan story site)) commands)
+      (each_adds (λ (tid : Tid) more. Cmd.Abort tid.tx ∷ more) (those (is_local (past_of site story)) (live plan story site)) (λ tid j more k. (tt, k)) commands h)
 
-  clear_heard : (commands : List Command) → Heard commands → Heard (clear (fresh scenario) commands)
-  clear_heard commands h = each_adds (clear_site scenario (story_of scenario commands)) (sites scenario) (λ site i. clear_site_heard (story_of scenario commands) site i) commands h
+  clear_heard : (commands : List Command) → Heard commands → Heard (clear session commands)
+  clear_heard commands h = each_adds (clear_site plan (story_in session commands)) (sites plan) (λ site i. clear_site_heard (story_in session commands) site i) commands h
 
-  end_known_heard : (commands : List Command) → Heard commands → Heard (end_known (fresh scenario) commands)
-  end_known_heard commands h = each_adds (send_again (fresh scenario)) (known scenario (story_of scenario commands)) (λ tid i. again_heard tid) commands h
+  end_known_heard : (commands : List Command) → Heard commands → Heard (end_known session commands)
+  end_known_heard commands h = each_adds (send_again session) (known plan (story_in session commands)) (λ tid i. again_heard tid) commands h
 
-  ask_site_heard : (story : Story) (site : SiteId) → In site (sites scenario) → (commands : List Command) → Heard commands → Heard (ask_site (fresh scenario) story site commands)
-  ask_site_heard story site i commands h = each_adds (inquire (fresh scenario) site) (in_doubt_at (home_of scenario site) story) (λ tid j. inquire_heard site tid i) commands h
+  ask_site_heard : (story : Story) (site : SiteId) → In site (sites plan) → (commands : List Command) → Heard commands → Heard (ask_site session story site commands)
+  ask_site_heard story site i commands h = each_adds (inquire session site) (in_doubt_at (home_of plan site) story) (λ tid j. inquire_heard site tid i) commands h
 
-  ask_all_heard : (commands : List Command) → Heard commands → Heard (ask_all (fresh scenario) commands)
-  ask_all_heard commands h = each_adds (ask_site (fresh scenario) (story_of scenario commands)) (sites scenario) (λ site i. ask_site_heard (story_of scenario commands) site i) commands h
+  ask_all_heard : (commands : List Command) → Heard commands → Heard (ask_all session commands)
+  ask_all_heard commands h = each_adds (ask_site session (story_in session commands)) (sites plan) (λ site i. ask_site_heard (story_in session commands) site i) commands h
 
-  closed_heard : (commands : List Command) → Heard commands → Heard (closed scenario commands)
+  closed_heard : (commands : List Command) → Heard commands → Heard (closed_in session commands)
   closed_heard commands h =
       ask_all_heard _ (end_known_heard _ (clear_heard _ (give_up_heard _ (bring_up_heard _ (disarm_heard commands h)))))
 
 pub closing_heard : ClosingIsHeard
-closing_heard scenario whole commands h = closed_heard scenario commands h
+closing_heard scenario whole commands h = closed_heard (fresh scenario) commands h
+
+pub sessions_heard : SessionsCloseHeard
+sessions_heard session commands h = closed_heard session commands h
+
+pub resuming_heard : ResumingIsHeard
+resuming_heard found behind commands is =
+    (each_append (IsHeard (plan_of found).sites) behind commands (subst (Each (IsHeard (plan_of found).sites)) (sym is) (closed_heard (going_on found) [] tt))).1

@@ -2,13 +2,15 @@ mod CoordFits
 mod CoordLines
 mod CoordReplies
 mod CoordSends
-mod CoordTrips
 mod Happened
 mod Heard
 mod News
 mod Outstanding
+mod ResumedLines
 mod RightLines
 mod SiteFits
 mod SiteReplies
 mod Sorted
+mod Starts
+mod Trips
 mod Unrefused

@@ -9,6 +9,7 @@ use Rattle.mdb_base.specs.declared.replies.Reply.{Reply}
 use Rattle.mdb_base.specs.Names.{same_site}
 use Rattle.mdb_base.specs.Programs.{plain_act}
 use Rattle.mdb_base.specs.Words.{Each, each_of, item_at, some_of, those}
+use Rattle.mdb_base.proofs.BoolLaws.{or_true}
 use Rattle.mdb_base.proofs.NameLaws.{same_site-equal, same_site-refl}
 use Rattle.order_laws.specs.Chains.{In}
 use Rattle.order_laws.proofs.Lists.{each_at, in_those, those_in}
@@ -48,6 +49,12 @@ visited_in site (step ∷ steps) e = by_test (same_site step.site site) refl e (
     by_test : (b : Bool) → same_site step.site site ≡ b → (b || visits site steps) ≡ true → (visits site steps ≡ true → (s : Step) × In s steps × (s.site ≡ site)) → (s : Step) × In s (step ∷ steps) × (s.site ≡ site)
     by_test true q e rest = (step, inl refl, same_site-equal step.site site q)
     by_test false q e rest = let (s, i, here) = rest e in (s, inr i, here)
+
+-- and each step of it visits its own site
+pub visits_own : (steps : List Step) (step : Step) → In step steps → visits step.site steps ≡ true
+visits_own [] step i = absurd i
+visits_own (x ∷ steps) step (inl e) = ap (λ b. b || visits step.site steps) (ap (λ (y : Step). same_site y.site step.site) e ∙ same_site-refl step.site)
+visits_own (x ∷ steps) step (inr i) = ap (λ b. same_site x.site step.site || b) (visits_own steps step i) ∙ or_true (same_site x.site step.site)
 
 -- where some are left there is a next one
 pub next_there : (n : ℕ) (site : SiteId) (steps : List Step) → visits site (drop n steps) ≡ true → (step : Step) × (item_at steps n ≡ Some step)

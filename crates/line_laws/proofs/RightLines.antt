@@ -1,9 +1,13 @@
 -- Each right line is one that its command can have.
-use Rattle.std.proofs.Common.{◌≡◌, ◌⊎◌, ◌&&◌, ◌||◌, Bool, true, false, not, Option, Some, List, [], ◌∷◌, length, map, inl, inr, refl, sym, ◌∙◌, ap, ap₂, subst}
+use Rattle.std.proofs.Common.{◌≡◌, ◌⊎◌, ◌&&◌, ◌||◌, Bool, true, false, cond, not, IsTrue, Option, Some, List, [], ◌∷◌, ◌++◌, length, map, inl, inr, refl, sym, ◌∙◌, ap, ap₂, subst}
 use Rattle.std.proofs.lemmas.Bool.{eq-eqb}
+use Rattle.std.proofs.lemmas.List.{append-nil}
 use Rattle.mdb_base.specs.declared.names.SiteId.{SiteId}
 use Rattle.mdb_base.specs.declared.names.Tid.{Tid}
 use Rattle.mdb_base.specs.declared.replies.Edge.{Edge}
+use Rattle.mdb_base.specs.Names.{same_site}
+use Rattle.mdb_base.specs.Words.{Each}
+use Rattle.mdb_base.proofs.NameLaws.{same_site-equal}
 use Rattle.presumptions.specs.declared.Decision.{Decision}
 use Rattle.presumptions.specs.declared.Decision.TheVariants as Decision_is
 use Rattle.presumptions.specs.declared.Participant.{Participant}
@@ -22,32 +26,40 @@ use Rattle.fed_rules.specs.declared.messages.Sent.{Sent}
 use Rattle.fed_rules.specs.declared.scenario.Scenario.{Scenario}
 use Rattle.fed_rules.specs.CoordPast as Coordinator
 use Rattle.fed_rules.specs.CoordPast.{CoordHappening, CoordPast, is_open}
-use Rattle.fed_rules.specs.Plans.{IsScenario}
 use Rattle.fed_rules.specs.Right.{IsAnswer, IsNext, IsRefusal, MayPrint, SameButCycle}
-use Rattle.fed_rules.specs.Scenarios.{policy, protocols}
-use Rattle.fed_rules.specs.SitePast.{SiteHappening}
-use Rattle.fed_rules.specs.Story.{Happened, AtSite, AtCoordinator, Nowhere, Story, coord_past, happens, place_from, places_of, sent_from, sent_to, story_of, with_coordinator}
+use Rattle.fed_rules.specs.Scenarios.{home_of, policy, protocols}
+use Rattle.fed_rules.specs.Sessions.{Session, fresh}
+use Rattle.fed_rules.specs.SitePast.{SiteHappening, trip}
+use Rattle.fed_rules.specs.SiteRecords.{Home}
+use Rattle.fed_rules.specs.Story.{Happened, AtSite, AtCoordinator, Nowhere, Story, coord_past, happens, past_of, place_from, places_of, sends_from, sent_from, sent_to, story_in, with_coordinator, with_site}
 use Rattle.rules_laws.specs.Lines.{IsLine}
 use Rattle.rules_laws.proofs.Lines.{line_is}
 use Rattle.line_text.specs.Fits.{answer_fits, coordinator_sends, is_cause, is_one_of, is_only, line_fits, places_fit, sending_site, sites_rise}
+use Rattle.commit_laws.proofs.Links.{IsNext as NextIs, linked, linked-here}
 use Rattle.commit_laws.proofs.Trips.{HasCalls}
+use Rattle.federation_laws.proofs.Declared.{declared-in}
 use Rattle.line_laws.specs.Lines.{IsHeard, RightLinesFit}
+use Rattle.line_laws.specs.Resumed.{IsRightIn}
 use Rattle.line_laws.proofs.CoordLines.{CoordGood, sent_number}
-use Rattle.line_laws.proofs.CoordTrips.{line_calls}
-use Rattle.line_laws.proofs.Outstanding.{Ready}
+use Rattle.line_laws.proofs.Outstanding.{IsMember, Ready}
 use Rattle.line_laws.proofs.SiteFits.{IsFit}
 use Rattle.line_laws.proofs.Sorted.{map_sorted, places_rise}
-use Rattle.line_laws.proofs.Happened.{State, Word, coord_line_good, site_line_fit, sorted, word}
+use Rattle.line_laws.proofs.Happened.{Word, coord_line_good, site_line_fit, sorted, word}
+use Rattle.line_laws.proofs.Starts.{Starts, State, fresh_starts, member_of}
+use Rattle.line_laws.proofs.Trips.{coord_calls, site_calls}
 
-module _ (scenario : Scenario) (whole : IsScenario scenario) (commands : List Command) (state : State scenario commands) where
+module _ (session : Session) (start : Starts session) (commands : List Command) (state : State session commands) where
+  abbrev plan : Scenario
+  plan = session.plan
+
   abbrev story : Story
-  story = story_of scenario commands
+  story = story_in session commands
 
   abbrev past : CoordPast
   past = coord_past story
 
   abbrev table : List Participant
-  table = protocols scenario
+  table = protocols plan
 
   -- ---- what is printed
 
@@ -101,7 +113,7 @@ module _ (scenario : Scenario) (whole : IsScenario scenario) (commands : List Co
   cycle_some x tid (e ∷ edges) c = refl
 
   -- a line of the coordinator
-  coord_printed : (command : Command) (x : CoordHappening) (printed : Answer) (places : List Place) → CoordGood table past state.ready (sorted scenario whole commands state) command x → places ≡ places_of story (AtCoordinator x)
+  coord_printed : (command : Command) (x : CoordHappening) (printed : Answer) (places : List Place) → CoordGood table past state.ready (sorted session start commands state) command x → places ≡ places_of story (AtCoordinator x)
       → MayPrint table past x x.event printed → Printed command printed places
   coord_printed command x printed places good e may = by_event x.event may
     where
@@ -152,44 +164,79 @@ module _ (scenario : Scenario) (whole : IsScenario scenario) (commands : List Co
           or_right true = refl
           or_right false = refl
 
-  line_printed : (command : Command) (h : Happened) (printed : Answer) (places : List Place) → IsLine scenario story command h → Word scenario whole commands state command h → places ≡ places_of story h → IsAnswer table story h printed → Printed command printed places
-  line_printed command (AtSite site x) printed places line w e a = site_printed command site x printed places (site_line_fit scenario whole commands state command site x line) e a
-  line_printed command (AtCoordinator x) printed places line w e a = coord_printed command x printed places (coord_line_good scenario whole commands state command x line) e a
+  line_printed : (command : Command) (h : Happened) (printed : Answer) (places : List Place) → IsLine plan story command h → Word session start commands state command h → places ≡ places_of story h → IsAnswer table story h printed → Printed command printed places
+  line_printed command (AtSite site x) printed places line w e a = site_printed command site x printed places (site_line_fit session start commands state command site x line) e a
+  line_printed command (AtCoordinator x) printed places line w e a = coord_printed command x printed places (coord_line_good session start commands state command x line) e a
   line_printed command (Nowhere answer) printed places line w e a = record {
     fits = ap (answer_fits command) a ∙ w.word.fits;
     placed = ap₂ (λ b ps. places_fit command b ps) a e ∙ ap not w.word.other;
   }
 
-  pub next_fits : (line : Line) → IsHeard scenario.sites line.command → IsNext scenario story line → line_fits line ≡ true
+  pub next_fits : (line : Line) → IsHeard plan.sites line.command → IsNext plan story line → line_fits line ≡ true
   next_fits line h n =
-      let p = line_printed line.command (happens scenario story line.command) line.answer line.sends (line_is scenario story line.command) (word scenario whole commands state line.command h) n.sends n.answer in
+      let p = line_printed line.command (happens plan story line.command) line.answer line.sends (line_is plan story line.command) (word session start commands state line.command h) n.sends n.answer in
       ap₂ (λ a b. a && b) p.fits p.placed
 
   -- the state behind a line
   record After (h : Happened) : Type 0 where
     ready : (g : Tid) → is_open (with_coordinator h past) g ≡ true → Ready table (with_coordinator h past) g
     armed : HasCalls (Coordinator.trip (with_coordinator h past))
+    site_armed : (home : Home) → home_of plan home.site ≡ Some home → HasCalls (trip (with_site home.site h (past_of home.site story)))
+    senders : (site : SiteId) → (sent_from site story ++ sends_from site h ≡ []) ⊎ IsMember table site
 
-  after : (command : Command) (h : Happened) → IsLine scenario story command h → After h
-  after command (AtSite site x) line = record { ready = state.ready; armed = state.armed }
-  after command (Nowhere answer) line = record { ready = state.ready; armed = state.armed }
-  after command (AtCoordinator x) line = record {
-    ready = (coord_line_good scenario whole commands state command x line).next;
-    armed = subst (λ (y : CoordHappening). HasCalls (Coordinator.trip (y ∷ past))) (sym line.is_next) (line_calls table (policy scenario) past line.event state.armed);
+  -- who sent before
+  sent_before : (site : SiteId) → (sent_from site story ++ [] ≡ []) ⊎ IsMember table site
+  sent_before site = elim (state.senders site) [ inl none ↦ inl (append-nil (sent_from site story) ∙ none) | inr member ↦ inr member ]
+
+  after : (command : Command) (h : Happened) → IsLine plan story command h → NextIs plan story h → After h
+  after command (Nowhere answer) line next = record { ready = state.ready; armed = state.armed; site_armed = state.site_armed; senders = sent_before }
+  after command (AtCoordinator x) line next = record {
+    ready = (coord_line_good session start commands state command x line).next;
+    armed = subst (λ (y : CoordHappening). HasCalls (Coordinator.trip (y ∷ past))) (sym line.is_next) (coord_calls table (policy plan) past state.armed line.event);
+    site_armed = state.site_armed;
+    senders = sent_before;
   }
+  after command (AtSite at x) line next = record { ready = state.ready; armed = state.armed; site_armed = armed_there; senders = sends_there }
+    where
+      armed_there : (home : Home) → home_of plan home.site ≡ Some home → HasCalls (trip (with_site home.site (AtSite at x) (past_of home.site story)))
+      armed_there home declared = by_test (same_site at home.site) refl
+        where
+          by_test : (b : Bool) → same_site at home.site ≡ b → HasCalls (trip (cond b (x ∷ past_of home.site story) (past_of home.site story)))
+          by_test false q = state.site_armed home declared
+          by_test true q =
+              let (event, is, came) = linked-here plan home story x at declared q next in
+              subst (λ (y : SiteHappening). HasCalls (trip (y ∷ past_of home.site story))) (sym is) (site_calls home (past_of home.site story) (state.site_armed home declared) event)
+
+      sends_there : (site : SiteId) → (sent_from site story ++ sends_from site (AtSite at x) ≡ []) ⊎ IsMember table site
+      sends_there site = by_test (same_site at site) refl
+        where
+          by_test : (b : Bool) → same_site at site ≡ b → (sent_from site story ++ cond b x.sends [] ≡ []) ⊎ IsMember table site
+          by_test false q = sent_before site
+          by_test true q =
+              inr (subst (IsMember table) (sym line.here ∙ same_site-equal at site q) (member_of plan line.home.site (declared-in plan line.home.site line.home line.declared)))
 
   -- behind one more command
-  pub state_next : (command : Command) → State scenario (command ∷ commands)
+  pub state_next : (command : Command) → State session (command ∷ commands)
   state_next command =
-      let a = after command (happens scenario story command) (line_is scenario story command) in
-      record { ready = a.ready; armed = a.armed }
+      let a = after command (happens plan story command) (line_is plan story command) (linked plan story command).next in
+      record { ready = a.ready; armed = a.armed; site_armed = a.site_armed; senders = a.senders }
 
 -- so it is behind all commands
-pub state_of : (scenario : Scenario) → IsScenario scenario → (commands : List Command) → State scenario commands
-state_of scenario whole [] = record { ready = λ g o. cc; armed = λ t e. cc }
-state_of scenario whole (command ∷ commands) = state_next scenario whole commands (state_of scenario whole commands) command
+pub state_of : (session : Session) → Starts session → (commands : List Command) → State session commands
+state_of session start [] = start.first
+state_of session start (command ∷ commands) = state_next session start commands (state_of session start commands) command
+
+-- the next line of a session
+pub next_line_fits : (session : Session) → Starts session → (commands : List Command) (line : Line) → IsHeard session.plan.sites line.command → IsNext session.plan (story_in session commands) line
+    → line_fits line ≡ true
+next_line_fits session start commands line heard next = next_fits session start commands (state_of session start commands) line heard next
+
+-- and each right line
+pub each_line_fits : (session : Session) → Starts session → (lines : List Line) → Each (IsHeard session.plan.sites) (map (λ line. line.command) lines) → IsRightIn session lines
+    → Each (λ line. IsTrue (line_fits line)) lines
+each_line_fits session start [] heard right = tt
+each_line_fits session start (line ∷ lines) heard right =
+    (next_line_fits session start (map (λ (l : Line). l.command) lines) line heard.0 right.1, each_line_fits session start lines heard.1 right.0)
 
 pub lines_fit : RightLinesFit
-lines_fit scenario whole [] heard right = tt
-lines_fit scenario whole (line ∷ lines) heard right =
-    (next_fits scenario whole (map (λ (l : Line). l.command) lines) (state_of scenario whole (map (λ (l : Line). l.command) lines)) line heard.0 right.1, lines_fit scenario whole lines heard.1 right.0)
+lines_fit scenario whole lines heard right = each_line_fits (fresh scenario) (fresh_starts scenario whole) lines heard right

@@ -1,6 +1,5 @@
 -- Where tickets are taken conservatively, a printed line refuses a commit for a cycle no more than the line of the story does.
-use Rattle.std.proofs.Common.{◌≡◌, ℕ, zero, suc, Bool, true, false, Option, Some, None, List, [], ◌∷◌, map, refl, subst, sym}
-use Rattle.presumptions.specs.declared.Participant.{Participant}
+use Rattle.std.proofs.Common.{◌≡◌, ℕ, zero, suc, Bool, true, false, Option, Some, None, List, [], ◌∷◌, map, refl, subst}
 use Rattle.fed_rules.specs.declared.answers.Answer.{Answer}
 use Rattle.fed_rules.specs.declared.answers.Answer.TheVariants as Say
 use Rattle.fed_rules.specs.declared.answers.Cause.TheVariants as For
@@ -11,29 +10,29 @@ use Rattle.fed_rules.specs.declared.events.CoordEvent.TheVariants as Ev
 use Rattle.fed_rules.specs.declared.scenario.Scenario.{Scenario}
 use Rattle.fed_rules.specs.CoordPast.{CoordHappening, CoordPast}
 use Rattle.fed_rules.specs.Plans.{IsScenario}
-use Rattle.fed_rules.specs.Right.{IsAnswer, IsNext, IsRightStory, MayPrint, SameButCycle, story_told}
+use Rattle.fed_rules.specs.Right.{IsAnswer, IsNext, MayPrint, SameButCycle}
 use Rattle.fed_rules.specs.Scenarios.{protocols}
-use Rattle.fed_rules.specs.Story.{Happened, AtSite, AtCoordinator, Nowhere, Story, coord_past, happens, story_of, tell}
+use Rattle.fed_rules.specs.Sessions.{fresh}
+use Rattle.fed_rules.specs.Story.{Happened, AtSite, AtCoordinator, Nowhere, Story, coord_past, happens, story_of}
 use Rattle.federation_laws.specs.Conservative.{ConservativeTicketsCloseNoCycle, RefusesForCycle}
 use Rattle.line_laws.specs.Refusals.{ConservativeLinesRefuseNone, ConservativeNextLinesRefuseNone}
 use Rattle.mdb_base.specs.declared.names.SiteId.{SiteId}
 use Rattle.mdb_base.specs.declared.names.Tid.{Tid}
 use Rattle.fed_rules.specs.SiteRecords.{Home}
-use Rattle.mdb_base.specs.Words.{Each, item_at, pick, when}
+use Rattle.mdb_base.specs.Words.{item_at, pick, when}
 use Rattle.fed_rules.specs.declared.commands.Command.{Command}
 use Rattle.fed_rules.specs.declared.commands.Command.TheVariants as Cmd
 use Rattle.fed_rules.specs.declared.events.SiteEvent.{SiteEvent}
-use Rattle.fed_rules.specs.SitePast.{SiteHappening}
-use Rattle.fed_rules.specs.Requests.{Request, Submits, Declines}
+use Rattle.fed_rules.specs.Requests.{Submits, Declines}
 use Rattle.fed_rules.specs.CoordCommands.{attempt_request}
 use Rattle.fed_rules.specs.Scenarios.{home_of}
 use Rattle.fed_rules.specs.Story.{coord_requested, on_actor, on_attempt, on_give, on_site, on_take, sent_from, sent_to}
-use Rattle.presumptions.specs.declared.Decision.{Decision}
-use Rattle.rules_laws.specs.Lines.{IsLine, IsSiteLine, SiteCause}
+use Rattle.rules_laws.specs.Lines.{IsLine, SiteCause}
 use Rattle.rules_laws.proofs.Lines.{line_is}
 use Rattle.line_text.specs.Fits.{answer_fits}
-use Rattle.line_laws.proofs.Happened.{State, Word, site_line_fit, word}
+use Rattle.line_laws.proofs.Happened.{Word, site_line_fit, word}
 use Rattle.line_laws.proofs.RightLines.{state_of}
+use Rattle.line_laws.proofs.Starts.{Starts, State, fresh_starts}
 
 -- what may be answered a refusal for a cycle
 abbrev MayRefuse : Command → Type 0
@@ -72,7 +71,13 @@ module _ (scenario : Scenario) (whole : IsScenario scenario) (commands : List Co
   abbrev story : Story
   story = story_of scenario commands
 
-  from_word : (command : Command) (h : Happened) → (MayRefuse command → ⊥) → Word scenario whole commands (state_of scenario whole commands) command h → Quiet h
+  start : Starts (fresh scenario)
+  start = fresh_starts scenario whole
+
+  state : State (fresh scenario) commands
+  state = state_of (fresh scenario) start commands
+
+  from_word : (command : Command) (h : Happened) → (MayRefuse command → ⊥) → Word (fresh scenario) start commands state command h → Quiet h
   from_word command (AtSite site x) never w = record { quiet = tt }
   from_word command (AtCoordinator x) never w = record { quiet = tt }
   from_word command (Nowhere answer) never w = record { quiet = no_refusal command answer never w.word.fits }
@@ -102,17 +107,14 @@ module _ (scenario : Scenario) (whole : IsScenario scenario) (commands : List Co
   quiet_actor zero at_coord at = record { quiet = tt }
   quiet_actor (suc n) at_coord at = quiet_site (record { 0 = suc n }) at
 
-  by_words : (command : Command) → (MayRefuse command → ⊥) → Word scenario whole commands (state_of scenario whole commands) command (happens scenario story command) → Quiet (happens scenario story command)
-  by_words command never w = from_word command (happens scenario story command) never w
-
   quiet_command : (command : Command) → Quiet (happens scenario story command)
   unfolding happens
-  quiet_command (Cmd.Begin tx) = from_word (Cmd.Begin tx) _ (λ x. x) (word scenario whole commands (state_of scenario whole commands) (Cmd.Begin tx) tt)
-  quiet_command (Cmd.Step tx) = from_word (Cmd.Step tx) _ (λ x. x) (word scenario whole commands (state_of scenario whole commands) (Cmd.Step tx) tt)
-  quiet_command (Cmd.Commit tx) = from_word (Cmd.Commit tx) _ (λ x. x) (word scenario whole commands (state_of scenario whole commands) (Cmd.Commit tx) tt)
-  quiet_command (Cmd.Abort tx) = from_word (Cmd.Abort tx) _ (λ x. x) (word scenario whole commands (state_of scenario whole commands) (Cmd.Abort tx) tt)
-  quiet_command (Cmd.Fate tx) = from_word (Cmd.Fate tx) _ (λ x. x) (word scenario whole commands (state_of scenario whole commands) (Cmd.Fate tx) tt)
-  quiet_command (Cmd.Go tx) = from_word (Cmd.Go tx) _ (λ x. x) (word scenario whole commands (state_of scenario whole commands) (Cmd.Go tx) tt)
+  quiet_command (Cmd.Begin tx) = from_word (Cmd.Begin tx) _ (λ x. x) (word (fresh scenario) start commands state (Cmd.Begin tx) tt)
+  quiet_command (Cmd.Step tx) = from_word (Cmd.Step tx) _ (λ x. x) (word (fresh scenario) start commands state (Cmd.Step tx) tt)
+  quiet_command (Cmd.Commit tx) = from_word (Cmd.Commit tx) _ (λ x. x) (word (fresh scenario) start commands state (Cmd.Commit tx) tt)
+  quiet_command (Cmd.Abort tx) = from_word (Cmd.Abort tx) _ (λ x. x) (word (fresh scenario) start commands state (Cmd.Abort tx) tt)
+  quiet_command (Cmd.Fate tx) = from_word (Cmd.Fate tx) _ (λ x. x) (word (fresh scenario) start commands state (Cmd.Fate tx) tt)
+  quiet_command (Cmd.Go tx) = from_word (Cmd.Go tx) _ (λ x. x) (word (fresh scenario) start commands state (Cmd.Go tx) tt)
   quiet_command (Cmd.Again tid) = quiet_attempt tid _
   quiet_command (Cmd.Late tid) = quiet_attempt tid _
   quiet_command (Cmd.Give site place) = quiet_give site place
@@ -143,7 +145,7 @@ module _ (scenario : Scenario) (whole : IsScenario scenario) (commands : List Co
   module _ (conservative : scenario.conservative ≡ true) (law : ConservativeTicketsCloseNoCycle) where
     unrefused : (command : Command) (h : Happened) (printed : Answer) → happens scenario story command ≡ h → IsLine scenario story command h → Quiet h → IsAnswer (protocols scenario) story h printed → RefusesForCycle printed → ⊥
     unrefused command (AtSite site x) printed e line q a r =
-        no_refusal command x.answer (site_never line.home command line.event line.cause) (site_line_fit scenario whole commands (state_of scenario whole commands) command site x line).answer (subst RefusesForCycle a r)
+        no_refusal command x.answer (site_never line.home command line.event line.cause) (site_line_fit (fresh scenario) start commands state command site x line).answer (subst RefusesForCycle a r)
     unrefused command (AtCoordinator x) printed e line q a r = law scenario whole conservative commands x (command, e) (coord_refuses (coord_past story) x x.event printed a r)
     unrefused command (Nowhere answer) printed e line q a r = q.quiet (subst RefusesForCycle a r)
 

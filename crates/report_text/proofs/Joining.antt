@@ -5,7 +5,7 @@ use Rattle.std.proofs.lemmas.Grind.{flat_map-append}
 use Rattle.std.proofs.lemmas.List.Folds.{flat_map-map}
 use Rattle.std.proofs.lemmas.Result.{on_ok_weaker}
 use Rattle.fed_rules.specs.declared.report.Report.{Report}
-use Rattle.report_text.specs.Spelling.{spaced, line_bytes, order_words, reads_words, outcome_words, forgotten_words, table_words, report_bytes}
+use Rattle.report_text.specs.Spelling.{spaced, line_bytes, order_words, reads_words, outcome_words, forgotten_words, table_words, report_bytes, rest_bytes, rest_lines}
 
 -- the first word, and each other one behind a space
 pub joined_by_spaces : (word : List ℕ) (words : List (List ℕ)) → join_with_byte 32 (word ∷ words) ≡ word ++ spaced words
@@ -32,26 +32,38 @@ in_four result old first second others all word next words e f g =
 abbrev pub lines_bytes : {A : Type 0} → (A → List (List ℕ)) → List A → List ℕ
 lines_bytes words = flat_map (λ x. line_bytes (words x))
 
--- a report's bytes, part by part
-report_parts : (report : Report) → report_bytes report
-    ≡ (((line_bytes (order_words report.order) ++ lines_bytes reads_words report.reads) ++ lines_bytes outcome_words report.outcomes) ++ (line_bytes (forgotten_words report.forgotten) ++ lines_bytes table_words report.tables)) ++ codes "end\n"
-report_parts report =
-    flat_map-append line_bytes (order_words report.order ∷ map reads_words report.reads ++ map outcome_words report.outcomes ++ forgotten_words report.forgotten ∷ map table_words report.tables) ((codes "end" ∷ []) ∷ [])
+-- the bytes behind the reads, part by part
+rest_parts : (report : Report) → rest_bytes report
+    ≡ (lines_bytes outcome_words report.outcomes ++ (line_bytes (forgotten_words report.forgotten) ++ lines_bytes table_words report.tables)) ++ codes "end\n"
+rest_parts report =
+    flat_map-append line_bytes (map outcome_words report.outcomes ++ forgotten_words report.forgotten ∷ map table_words report.tables) ((codes "end" ∷ []) ∷ [])
     ∙ ap (λ bytes. bytes ++ codes "end\n")
-    (flat_map-append line_bytes (order_words report.order ∷ map reads_words report.reads ++ map outcome_words report.outcomes) (forgotten_words report.forgotten ∷ map table_words report.tables)
-    ∙ ap (λ bytes. bytes ++ flat_map line_bytes (forgotten_words report.forgotten ∷ map table_words report.tables))
-    (flat_map-append line_bytes (order_words report.order ∷ map reads_words report.reads) (map outcome_words report.outcomes))
-    ∙ ap (λ bytes. ((line_bytes (order_words report.order) ++ bytes) ++ flat_map line_bytes (map outcome_words report.outcomes)) ++ flat_map line_bytes (forgotten_words report.forgotten ∷ map table_words report.tables)) (flat_map-map line_bytes reads_words report.reads)
-    ∙ ap (λ bytes. ((line_bytes (order_words report.order) ++ lines_bytes reads_words report.reads) ++ bytes) ++ flat_map line_bytes (forgotten_words report.forgotten ∷ map table_words report.tables)) (flat_map-map line_bytes outcome_words report.outcomes)
-    ∙ ap (λ bytes. ((line_bytes (order_words report.order) ++ lines_bytes reads_words report.reads) ++ lines_bytes outcome_words report.outcomes) ++ (line_bytes (forgotten_words report.forgotten) ++ bytes)) (flat_map-map line_bytes table_words report.tables))
+    (flat_map-append line_bytes (map outcome_words report.outcomes) (forgotten_words report.forgotten ∷ map table_words report.tables)
+    ∙ ap (λ bytes. bytes ++ flat_map line_bytes (forgotten_words report.forgotten ∷ map table_words report.tables)) (flat_map-map line_bytes outcome_words report.outcomes)
+    ∙ ap (λ bytes. lines_bytes outcome_words report.outcomes ++ (line_bytes (forgotten_words report.forgotten) ++ bytes)) (flat_map-map line_bytes table_words report.tables))
 
--- a report that is written in six steps
-pub in_six : (report : Report) (none a b c d e all : List ℕ) → none ≡ [] → a ≡ none ++ line_bytes (order_words report.order) → b ≡ a ++ lines_bytes reads_words report.reads → c ≡ b ++ lines_bytes outcome_words report.outcomes
-    → d ≡ c ++ line_bytes (forgotten_words report.forgotten) → e ≡ d ++ lines_bytes table_words report.tables → all ≡ e ++ codes "end\n" → all ≡ report_bytes report
-in_six report none a b c d e all n1 a1 b1 c1 d1 e1 all1 =
-    let a2 : a ≡ line_bytes (order_words report.order) = a1 ∙ ap (λ bytes. bytes ++ line_bytes (order_words report.order)) n1 in
-    let c2 : c ≡ (line_bytes (order_words report.order) ++ lines_bytes reads_words report.reads) ++ lines_bytes outcome_words report.outcomes =
-    c1 ∙ ap (λ bytes. bytes ++ lines_bytes outcome_words report.outcomes) (b1 ∙ ap (λ bytes. bytes ++ lines_bytes reads_words report.reads) a2) in
-    let e2 : e ≡ c ++ (line_bytes (forgotten_words report.forgotten) ++ lines_bytes table_words report.tables) =
-    e1 ∙ ap (λ bytes. bytes ++ lines_bytes table_words report.tables) d1 ∙ append_assoc c (line_bytes (forgotten_words report.forgotten)) (lines_bytes table_words report.tables) in
-    all1 ∙ ap (λ bytes. bytes ++ codes "end\n") (e2 ∙ ap (λ bytes. bytes ++ (line_bytes (forgotten_words report.forgotten) ++ lines_bytes table_words report.tables)) c2) ∙ sym (report_parts report)
+-- they are written in four steps
+pub in_four_parts : {E : Type 0} (result : Result (Unit {0}) E) (report : Report) (old a b c all : List ℕ) → a ≡ old ++ lines_bytes outcome_words report.outcomes
+    → b ≡ a ++ line_bytes (forgotten_words report.forgotten) → c ≡ b ++ lines_bytes table_words report.tables → OnOk result (all ≡ c ++ codes "end\n") → OnOk result (all ≡ old ++ rest_bytes report)
+in_four_parts result report old a b c all a1 b1 c1 =
+    let outcomes = lines_bytes outcome_words report.outcomes in
+    let forgotten = line_bytes (forgotten_words report.forgotten) in
+    let tables = lines_bytes table_words report.tables in
+    let c2 : c ≡ old ++ (outcomes ++ (forgotten ++ tables)) =
+    c1 ∙ ap (λ bytes. bytes ++ tables) (b1 ∙ ap (λ bytes. bytes ++ forgotten) a1) ∙ append_assoc (old ++ outcomes) forgotten tables ∙ append_assoc old outcomes (forgotten ++ tables) in
+    on_ok_weaker result (λ all1.
+    all1 ∙ ap (λ bytes. bytes ++ codes "end\n") c2 ∙ append_assoc old (outcomes ++ (forgotten ++ tables)) (codes "end\n") ∙ ap (λ bytes. old ++ bytes) (sym (rest_parts report)))
+
+-- a report's bytes, part by part
+report_parts : (report : Report) → report_bytes report ≡ (line_bytes (order_words report.order) ++ lines_bytes reads_words report.reads) ++ rest_bytes report
+report_parts report =
+    flat_map-append line_bytes (order_words report.order ∷ map reads_words report.reads) (rest_lines report)
+    ∙ ap (λ bytes. (line_bytes (order_words report.order) ++ bytes) ++ rest_bytes report) (flat_map-map line_bytes reads_words report.reads)
+
+-- it is written in three steps
+pub in_three_parts : (report : Report) (none a b all : List ℕ) → none ≡ [] → a ≡ none ++ line_bytes (order_words report.order) → b ≡ a ++ lines_bytes reads_words report.reads
+    → all ≡ b ++ rest_bytes report → all ≡ report_bytes report
+in_three_parts report none a b all n1 a1 b1 all1 =
+    let order = line_bytes (order_words report.order) in
+    all1 ∙ ap (λ bytes. bytes ++ rest_bytes report) (b1 ∙ ap (λ bytes. bytes ++ lines_bytes reads_words report.reads) (a1 ∙ ap (λ bytes. bytes ++ order) n1))
+    ∙ sym (report_parts report)

@@ -40,15 +40,22 @@ forgotten_words forgotten = codes "forgotten" ∷ map tid_text forgotten
 abbrev pub table_words : SiteRows → List (List ℕ)
 table_words table = codes "table" ∷ decimal table.site.0 ∷ map row_text table.rows
 
--- the words of each line of a report: the order, the reads of its members, the outcomes, the forgotten ones, the tables, and `end`
+-- the words of each line of a report that stands behind the reads: the outcomes, the forgotten ones, the tables, and `end`
+abbrev pub rest_lines : Report → List (List (List ℕ))
+rest_lines report =
+    map outcome_words report.outcomes ++ forgotten_words report.forgotten ∷ map table_words report.tables ++ (codes "end" ∷ []) ∷ []
+
+-- and of each line: the order and the reads of its members stand before these
 abbrev pub report_lines : Report → List (List (List ℕ))
-report_lines report =
-    order_words report.order ∷ map reads_words report.reads ++ map outcome_words report.outcomes ++ forgotten_words report.forgotten
-    ∷ map table_words report.tables ++ (codes "end" ∷ []) ∷ []
+report_lines report = order_words report.order ∷ map reads_words report.reads ++ rest_lines report
 
 -- the bytes of a line: its words with one space between each two, and a line feed
 abbrev pub line_bytes : List (List ℕ) → List ℕ
 line_bytes words = join_with_byte 32 words ++ 10 ∷ []
+
+-- the bytes of the lines behind the reads
+abbrev pub rest_bytes : Report → List ℕ
+rest_bytes report = flat_map line_bytes (rest_lines report)
 
 -- the bytes of a report
 abbrev pub report_bytes : Report → List ℕ

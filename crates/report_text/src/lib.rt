@@ -2,7 +2,7 @@
 #![tactic(auto)]
 
 ghost use Rattle.std.specs.Prelude.{◌≡◌, ◌++◌, OnOk, OnErr, IfOk};
-ghost use Rattle.report_text.specs.Spelling.{report_bytes};
+ghost use Rattle.report_text.specs.Spelling.{report_bytes, rest_bytes};
 
 mod lines;
 mod words;
@@ -12,16 +12,23 @@ pub use lines::{put_forgotten, put_outcome, put_reads, put_table};
 use mdb_base::{Memory, put_text};
 use std::alloc::Global;
 
+/// Appends the lines of a report that stand behind the reads: the outcomes, the forgotten ones, the tables, and `end`.
+pub fn put_rest(out: &mut Vec<u8>, report: &Report) -> Result<(), Memory>
+    ensures { OnOk result (out.new.items ≡ out.old.items ++ rest_bytes report.now) }
+{
+    lines::put_outcomes(out, report.outcomes.as_slice())?;
+    lines::put_forgotten(out, report.forgotten.as_slice())?;
+    lines::put_tables(out, report.tables.as_slice())?;
+    put_text(out, "end\n")
+}
+
 fn report_text(alloc: Global, report: &Report) -> Result<Vec<u8>, Memory>
     ensures { IfOk result (λ text. text.items ≡ report_bytes report.now) }
 {
     let mut text = Vec::new(alloc);
     lines::put_order(&mut text, report.order.as_slice())?;
     lines::put_all_reads(&mut text, report.reads.as_slice())?;
-    lines::put_outcomes(&mut text, report.outcomes.as_slice())?;
-    lines::put_forgotten(&mut text, report.forgotten.as_slice())?;
-    lines::put_tables(&mut text, report.tables.as_slice())?;
-    put_text(&mut text, "end\n")?;
+    put_rest(&mut text, report)?;
     Ok(text)
 }
 
