@@ -1,8 +1,8 @@
 -- What an actor hears of a command, from what it answers to what is asked of it.
 use Rattle.std.proofs.Common.{ℕ, Bool, List, Result, Ok, Err, IfOk, IfErr}
 use Rattle.fed_rules.specs.declared.commands.Command.{Command}
-use Rattle.fed_rules.specs.declared.scenario.Scenario.{Scenario}
-use Rattle.fed_rules.specs.Story.{story_of}
+use Rattle.fed_rules.specs.Sessions.{Session}
+use Rattle.fed_rules.specs.Story.{story_in}
 use Rattle.journal_disk.specs.Disk.{Seen}
 use Rattle.fed_world.specs.declared.site_asks.Heard.{Heard}
 use Rattle.fed_world.specs.declared.site_asks.SiteAsk.{SiteAsk}
@@ -15,63 +15,63 @@ use Rattle.fed_world.proofs.Recalled.{recalls}
 
 -- a fact on a command behind others
 abbrev OfCommand : Type 1
-OfCommand = Command → Scenario → List Command → Type 0
+OfCommand = Command → Session → List Command → Type 0
 
 module _ (tells : Bool) (world : World) (disks : List Seen) (command : Command) where
   -- the command asks this of the site at this place
-  pub some_site_ask : (place : ℕ) (ask : SiteAsk) → EachStory (Recalls world) (λ scenario commands. AsksSite place ask command scenario (story_of scenario commands))
+  pub some_site_ask : (place : ℕ) (ask : SiteAsk) → EachStory (Recalls world) (λ session commands. AsksSite place ask command session (story_in session commands))
       → SomeStory (Stands tells world disks) HasRoom → SomeSiteAsk (Stands tells world disks) place ask
   some_site_ask place ask asked r = record {
-    scenario = r.scenario;
+    session = r.session;
     commands = r.commands;
     command = command;
     stood = r.stood;
-    asks = asked r.scenario r.commands (recalls tells world disks r.scenario r.commands r.stood);
+    asks = asked r.session r.commands (recalls tells world disks r.session r.commands r.stood);
     room = r.holds;
   }
 
   -- or of the coordinator
-  pub some_coord_ask : (ask : CoordAsk) → EachStory (Recalls world) (λ scenario commands. AsksCoordinator ask command scenario (story_of scenario commands))
+  pub some_coord_ask : (ask : CoordAsk) → EachStory (Recalls world) (λ session commands. AsksCoordinator ask command session (story_in session commands))
       → SomeStory (Stands tells world disks) HasRoom → SomeCoordAsk (Stands tells world disks) ask
   some_coord_ask ask asked r = record {
-    scenario = r.scenario;
+    session = r.session;
     commands = r.commands;
     command = command;
     stood = r.stood;
-    asks = asked r.scenario r.commands (recalls tells world disks r.scenario r.commands r.stood);
+    asks = asked r.session r.commands (recalls tells world disks r.session r.commands r.stood);
     room = r.holds;
   }
 
-  site_told : (place : ℕ) (ask : SiteAsk) → EachStory (Recalls world) (λ scenario commands. AsksSite place ask command scenario (story_of scenario commands)) → (P : OfCommand)
-      → EachSiteAsk (Stands tells world disks) place ask P → EachStory (Stands tells world disks) (λ scenario commands. HasRoom scenario commands → P command scenario commands)
-  site_told place ask asked P told scenario commands stood room = told scenario commands command stood (asked scenario commands (recalls tells world disks scenario commands stood)) room
+  site_told : (place : ℕ) (ask : SiteAsk) → EachStory (Recalls world) (λ session commands. AsksSite place ask command session (story_in session commands)) → (P : OfCommand)
+      → EachSiteAsk (Stands tells world disks) place ask P → EachStory (Stands tells world disks) (λ session commands. HasRoom session commands → P command session commands)
+  site_told place ask asked P told session commands stood room = told session commands command stood (asked session commands (recalls tells world disks session commands stood)) room
 
-  coord_told : (ask : CoordAsk) → EachStory (Recalls world) (λ scenario commands. AsksCoordinator ask command scenario (story_of scenario commands)) → (P : OfCommand)
-      → EachCoordAsk (Stands tells world disks) ask P → EachStory (Stands tells world disks) (λ scenario commands. HasRoom scenario commands → P command scenario commands)
-  coord_told ask asked P told scenario commands stood room = told scenario commands command stood (asked scenario commands (recalls tells world disks scenario commands stood)) room
+  coord_told : (ask : CoordAsk) → EachStory (Recalls world) (λ session commands. AsksCoordinator ask command session (story_in session commands)) → (P : OfCommand)
+      → EachCoordAsk (Stands tells world disks) ask P → EachStory (Stands tells world disks) (λ session commands. HasRoom session commands → P command session commands)
+  coord_told ask asked P told session commands stood room = told session commands command stood (asked session commands (recalls tells world disks session commands stood)) room
 
   -- the site's answer is that to the command
-  pub site_heard : (place : ℕ) (ask : SiteAsk) → EachStory (Recalls world) (λ scenario commands. AsksSite place ask command scenario (story_of scenario commands))
+  pub site_heard : (place : ℕ) (ask : SiteAsk) → EachStory (Recalls world) (λ session commands. AsksSite place ask command session (story_in session commands))
       → (P : Heard → OfCommand) (r : Result Heard WorldErr) → IfOk r (λ heard. EachSiteAsk (Stands tells world disks) place ask (P heard))
-      → IfOk r (λ heard. EachStory (Stands tells world disks) (λ scenario commands. HasRoom scenario commands → P heard command scenario commands))
+      → IfOk r (λ heard. EachStory (Stands tells world disks) (λ session commands. HasRoom session commands → P heard command session commands))
   site_heard place ask asked P (Ok heard) told = site_told place ask asked (P heard) told
   site_heard place ask asked P (Err why) told = tt
 
-  pub site_unheard : (place : ℕ) (ask : SiteAsk) → EachStory (Recalls world) (λ scenario commands. AsksSite place ask command scenario (story_of scenario commands))
+  pub site_unheard : (place : ℕ) (ask : SiteAsk) → EachStory (Recalls world) (λ session commands. AsksSite place ask command session (story_in session commands))
       → (P : WorldErr → OfCommand) (r : Result Heard WorldErr) → IfErr r (λ why. EachSiteAsk (Stands tells world disks) place ask (P why))
-      → IfErr r (λ why. EachStory (Stands tells world disks) (λ scenario commands. HasRoom scenario commands → P why command scenario commands))
+      → IfErr r (λ why. EachStory (Stands tells world disks) (λ session commands. HasRoom session commands → P why command session commands))
   site_unheard place ask asked P (Ok heard) told = tt
   site_unheard place ask asked P (Err why) told = site_told place ask asked (P why) told
 
   -- so is the coordinator's
-  pub coord_heard : (ask : CoordAsk) → EachStory (Recalls world) (λ scenario commands. AsksCoordinator ask command scenario (story_of scenario commands))
+  pub coord_heard : (ask : CoordAsk) → EachStory (Recalls world) (λ session commands. AsksCoordinator ask command session (story_in session commands))
       → (P : Heard → OfCommand) (r : Result Heard WorldErr) → IfOk r (λ heard. EachCoordAsk (Stands tells world disks) ask (P heard))
-      → IfOk r (λ heard. EachStory (Stands tells world disks) (λ scenario commands. HasRoom scenario commands → P heard command scenario commands))
+      → IfOk r (λ heard. EachStory (Stands tells world disks) (λ session commands. HasRoom session commands → P heard command session commands))
   coord_heard ask asked P (Ok heard) told = coord_told ask asked (P heard) told
   coord_heard ask asked P (Err why) told = tt
 
-  pub coord_unheard : (ask : CoordAsk) → EachStory (Recalls world) (λ scenario commands. AsksCoordinator ask command scenario (story_of scenario commands))
+  pub coord_unheard : (ask : CoordAsk) → EachStory (Recalls world) (λ session commands. AsksCoordinator ask command session (story_in session commands))
       → (P : WorldErr → OfCommand) (r : Result Heard WorldErr) → IfErr r (λ why. EachCoordAsk (Stands tells world disks) ask (P why))
-      → IfErr r (λ why. EachStory (Stands tells world disks) (λ scenario commands. HasRoom scenario commands → P why command scenario commands))
+      → IfErr r (λ why. EachStory (Stands tells world disks) (λ session commands. HasRoom session commands → P why command session commands))
   coord_unheard ask asked P (Ok heard) told = tt
   coord_unheard ask asked P (Err why) told = coord_told ask asked (P why) told

@@ -20,6 +20,7 @@ use Rattle.fed_rules.specs.declared.events.SiteEvent.{SiteEvent}
 use Rattle.fed_rules.specs.declared.events.SiteEvent.TheVariants as Site_event
 use Rattle.fed_rules.specs.declared.messages.FromSite.{FromSite}
 use Rattle.fed_rules.specs.declared.messages.ToSite.{ToSite}
+use Rattle.fed_rules.specs.declared.records.SiteRecord.{SiteRecord}
 use Rattle.fed_rules.specs.declared.scenario.Scenario.{Scenario}
 use Rattle.fed_rules.specs.declared.scenario.TxLine.{TxLine}
 use Rattle.fed_rules.specs.CoordCommands.{fate_request}
@@ -28,11 +29,15 @@ use Rattle.fed_rules.specs.Requests.{Request, Submits, Declines}
 use Rattle.fed_rules.specs.Scenarios.{global_line, global_program, home_at, home_of, home_of_line, local_home, local_site, program_of, program_of_line, sites, transaction}
 use Rattle.fed_rules.specs.SiteCommands.{Verb, Abort, Begin, Commit, Fate, Step_on, own_request, request}
 use Rattle.fed_rules.specs.SitePast.{SitePast}
+use Rattle.fed_rules.specs.Found.{Journal}
+use Rattle.fed_rules.specs.Sessions.{Session}
 use Rattle.fed_rules.specs.SiteRecords.{Home}
 use Rattle.fed_rules.specs.Story.{Story, Happened, Nowhere, at_coordinator, coord_past, coord_requested, happens, on_actor, on_attempt, on_fate, on_give, on_go, on_local, on_site, on_take, past_of, requested, sent_from, sent_to}
 use Rattle.coord_tables.specs.Terms.{Terms}
+use Rattle.local_dbms.specs.Found.{found_programs}
 use Rattle.local_dbms.specs.Stands.{OwnPrograms, own_programs, program_at}
 use Rattle.session_routes.specs.Routes.{place_in}
+use Rattle.fed_world.specs.Beginnings.{either, journal_at, programs_at, with_found}
 use Rattle.fed_world.specs.SiteAsks.{site_request}
 use Rattle.fed_world.specs.declared.site_asks.SiteAsk.{SiteAsk}
 use Rattle.fed_world.specs.declared.site_asks.SiteAsk.TheVariants as At
@@ -54,9 +59,15 @@ program_of_home : (site : SiteId) (o : Option TxLine) → home_of_line o ≡ Som
 program_of_home site None e = cc
 program_of_home site (Some line) e = program_at_home site line.tx line.home line.program e
 
--- the site's own program of a local transaction is that of the scenario
-pub own_program : (scenario : Scenario) (site : SiteId) (tx : Tx) → local_site scenario tx ≡ Some site → own_programs site scenario.transactions tx ≡ Some (program_of scenario tx)
-own_program scenario site tx e = program_of_home site (transaction scenario tx) e
+-- a program of a local transaction counts before what is found
+found_besides : (o : Option (Journal SiteRecord)) (own : OwnPrograms) (tx : Tx) (steps : List Step) → own tx ≡ Some steps → with_found o own tx ≡ Some steps
+found_besides None own tx steps e = e
+found_besides (Some journal) own tx steps e = ap (λ (p : Option (List Step)). either p (found_programs journal.records tx)) e
+
+-- the site's own program of a local transaction is that of the plan
+pub own_program : (session : Session) (site : SiteId) (tx : Tx) → local_site session.plan tx ≡ Some site → programs_at session site tx ≡ Some (program_of session.plan tx)
+own_program session site tx e =
+    found_besides (journal_at session.found.sites site) (own_programs site session.plan.transactions) tx (program_of session.plan tx) (program_of_home site (transaction session.plan tx) e)
 
 line_at_home : (site : SiteId) (tx : Tx) (home : Option SiteId) (program : List Step) → home ≡ Some site → global_line (Some (record { tx = tx; home = home; program = program })) ≡ None
 line_at_home site tx None program e = cc
@@ -75,192 +86,192 @@ unfolding own_request
 own_some verb home program past tx steps e = pick_some program _ _ steps e
 
 -- what comes to the one command comes to the other
-pub asked_same : (asked made : Asked) (command given : Command) (scenario : Scenario) (story : Story) → asked ≡ made → command ≡ given → IsAsked made given scenario story → IsAsked asked command scenario story
-asked_same asked made command given scenario story is same h =
-    subst (λ (a : Asked). IsAsked a command scenario story) (sym is) (subst (λ (c : Command). IsAsked made c scenario story) (sym same) h)
+pub asked_same : (asked made : Asked) (command given : Command) (session : Session) (story : Story) → asked ≡ made → command ≡ given → IsAsked made given session story → IsAsked asked command session story
+asked_same asked made command given session story is same h =
+    subst (λ (a : Asked). IsAsked a command session story) (sym is) (subst (λ (c : Command). IsAsked made c session story) (sym same) h)
 
-module _ (scenario : Scenario) (story : Story) where
+module _ (session : Session) (story : Story) where
   -- what comes to a declared site, and without it to nobody
   pub site_asked : (site : SiteId) (ask : SiteAsk) (command : Command) (none : Happened) (r : Home → Request SiteEvent) → none ≡ Nowhere Say.None
-      → happens scenario story command ≡ pick (home_of scenario site) none (λ home. requested home story (r home))
-      → ((home : Home) → home.site ≡ site → r home ≡ site_request ask home (own_programs home.site scenario.transactions) (past_of home.site story))
-      → WasSent ask site story → IsAsked (to_site scenario site ask) command scenario story
-  site_asked site ask command none r nothing is asks sent = by_place (place_in (sites scenario) site) refl
+      → happens session.plan story command ≡ pick (home_of session.plan site) none (λ home. requested home story (r home))
+      → ((home : Home) → home.site ≡ site → r home ≡ site_request ask home (programs_at session home.site) (past_of home.site story))
+      → WasSent ask site story → IsAsked (to_site session.plan site ask) command session story
+  site_asked site ask command none r nothing is asks sent = by_place (place_in (sites session.plan) site) refl
     where
-      by_place : (o : Option ℕ) → place_in (sites scenario) site ≡ o → IsAsked (at_place o ask) command scenario story
-      by_place None e = is ∙ (pick_none (home_of scenario site) none _ (no_home_placeless scenario site e) ∙ nothing)
+      by_place : (o : Option ℕ) → place_in (sites session.plan) site ≡ o → IsAsked (at_place o ask) command session story
+      by_place None e = is ∙ (pick_none (home_of session.plan site) none _ (no_home_placeless session.plan site e) ∙ nothing)
       by_place (Some place) e =
-          let there : slice_get (sites scenario) place ≡ Some site = at_its_place (sites scenario) site place e in
-          let found = home_at_place scenario site place there in
+          let there : slice_get (sites session.plan) place ≡ Some site = at_its_place (sites session.plan) site place e in
+          let found = home_at_place session.plan site place there in
           let home : Home = found.0 in
-          let own : home.site ≡ site = its-site scenario site home found.1 in
+          let own : home.site ≡ site = its-site session.plan site home found.1 in
           record {
             home = home;
-            declared = home-again scenario site home found.1;
+            declared = home-again session.plan site home found.1;
             at = there ∙ ap (λ (s : SiteId). Some s) (sym own);
-            happens = is ∙ (pick_some (home_of scenario site) none _ home found.1 ∙ ap (requested home story) (asks home own));
+            happens = is ∙ (pick_some (home_of session.plan site) none _ home found.1 ∙ ap (requested home story) (asks home own));
             sent = subst (λ (s : SiteId). WasSent ask s story) (sym own) sent;
           }
 
   -- an event of a declared site
-  pub event_asked : (site : SiteId) (ask : SiteAsk) (command : Command) (event : SiteEvent) → happens scenario story command ≡ on_site scenario story site event
-      → ((home : Home) (programs : OwnPrograms) (past : SitePast) → site_request ask home programs past ≡ Submits event) → WasSent ask site story → IsAsked (to_site scenario site ask) command scenario story
+  pub event_asked : (site : SiteId) (ask : SiteAsk) (command : Command) (event : SiteEvent) → happens session.plan story command ≡ on_site session.plan story site event
+      → ((home : Home) (programs : OwnPrograms) (past : SitePast) → site_request ask home programs past ≡ Submits event) → WasSent ask site story → IsAsked (to_site session.plan site ask) command session story
   unfolding on_site
   event_asked site ask command event is submits sent =
-      site_asked site ask command (Nowhere Say.None) (λ home. Submits event) refl is (λ home own. sym (submits home (own_programs home.site scenario.transactions) (past_of home.site story))) sent
+      site_asked site ask command (Nowhere Say.None) (λ home. Submits event) refl is (λ home own. sym (submits home (programs_at session home.site) (past_of home.site story))) sent
 
-  local_none : (verb : Verb) (tx : Tx) (none : Happened) → local_site scenario tx ≡ None → on_local scenario story verb tx none ≡ none
+  local_none : (verb : Verb) (tx : Tx) (none : Happened) → local_site session.plan tx ≡ None → on_local session.plan story verb tx none ≡ none
   unfolding on_local
-  local_none verb tx none e = pick_none (local_home scenario tx) none _ (ap (home_at scenario) e)
+  local_none verb tx none e = pick_none (local_home session.plan tx) none _ (ap (home_at session.plan) e)
 
-  local_some : (verb : Verb) (tx : Tx) (none : Happened) (site : SiteId) → local_site scenario tx ≡ Some site
-      → on_local scenario story verb tx none ≡ pick (home_of scenario site) none (λ home. requested home story (request verb home (program_of scenario tx) (past_of home.site story) tx))
+  local_some : (verb : Verb) (tx : Tx) (none : Happened) (site : SiteId) → local_site session.plan tx ≡ Some site
+      → on_local session.plan story verb tx none ≡ pick (home_of session.plan site) none (λ home. requested home story (request verb home (program_of session.plan tx) (past_of home.site story) tx))
   unfolding on_local
   local_some verb tx none site e =
-      ap (λ (o : Option SiteId). pick (home_at scenario o) none (λ (home : Home). requested home story (request verb home (program_of scenario tx) (past_of home.site story) tx))) e
+      ap (λ (o : Option SiteId). pick (home_at session.plan o) none (λ (home : Home). requested home story (request verb home (program_of session.plan tx) (past_of home.site story) tx))) e
 
   -- a command of a transaction: it comes to its site, and where it is not local, so much holds
-  pub home_asked : (verb : Verb) (tx : Tx) (ask : SiteAsk) (command : Command) (none : Happened) (other : Asked) → happens scenario story command ≡ on_local scenario story verb tx none
+  pub home_asked : (verb : Verb) (tx : Tx) (ask : SiteAsk) (command : Command) (none : Happened) (other : Asked) → happens session.plan story command ≡ on_local session.plan story verb tx none
       → ((home : Home) (programs : OwnPrograms) (past : SitePast) → site_request ask home programs past ≡ own_request verb home (programs tx) past tx) → ((site : SiteId) → WasSent ask site story)
-      → ((site : SiteId) → local_site scenario tx ≡ Some site → none ≡ Nowhere Say.None) → (happens scenario story command ≡ none → IsAsked other command scenario story)
-      → IsAsked (to_home scenario (local_site scenario tx) ask other) command scenario story
-  home_asked verb tx ask command none other is asks sent nothing otherwise = by_site (local_site scenario tx) refl
+      → ((site : SiteId) → local_site session.plan tx ≡ Some site → none ≡ Nowhere Say.None) → (happens session.plan story command ≡ none → IsAsked other command session story)
+      → IsAsked (to_home session.plan (local_site session.plan tx) ask other) command session story
+  home_asked verb tx ask command none other is asks sent nothing otherwise = by_site (local_site session.plan tx) refl
     where
-      by_site : (o : Option SiteId) → local_site scenario tx ≡ o → IsAsked (to_home scenario o ask other) command scenario story
+      by_site : (o : Option SiteId) → local_site session.plan tx ≡ o → IsAsked (to_home session.plan o ask other) command session story
       by_site None e = otherwise (is ∙ local_none verb tx none e)
       by_site (Some site) e =
-          site_asked site ask command none (λ home. request verb home (program_of scenario tx) (past_of home.site story) tx) (nothing site e) (is ∙ local_some verb tx none site e)
+          site_asked site ask command none (λ home. request verb home (program_of session.plan tx) (past_of home.site story) tx) (nothing site e) (is ∙ local_some verb tx none site e)
           (λ home own.
           let past : SitePast = past_of home.site story in
-          let program : own_programs home.site scenario.transactions tx ≡ Some (program_of scenario tx) = ap (λ (s : SiteId). own_programs s scenario.transactions tx) own ∙ own_program scenario site tx e in
-          sym (asks home (own_programs home.site scenario.transactions) past ∙ own_some verb home (own_programs home.site scenario.transactions tx) past tx (program_of scenario tx) program)) (sent site)
+          let program : programs_at session home.site tx ≡ Some (program_of session.plan tx) = ap (λ (s : SiteId). programs_at session s tx) own ∙ own_program session site tx e in
+          sym (asks home (programs_at session home.site) past ∙ own_some verb home (programs_at session home.site tx) past tx (program_of session.plan tx) program)) (sent site)
 
   -- of a local transaction
-  pub local_asked : (verb : Verb) (tx : Tx) (ask : SiteAsk) (command : Command) → happens scenario story command ≡ on_local scenario story verb tx (Nowhere Say.None)
+  pub local_asked : (verb : Verb) (tx : Tx) (ask : SiteAsk) (command : Command) → happens session.plan story command ≡ on_local session.plan story verb tx (Nowhere Say.None)
       → ((home : Home) (programs : OwnPrograms) (past : SitePast) → site_request ask home programs past ≡ own_request verb home (programs tx) past tx) → ((site : SiteId) → WasSent ask site story)
-      → IsAsked (to_local scenario tx ask) command scenario story
+      → IsAsked (to_local session.plan tx ask) command session story
   local_asked verb tx ask command is asks sent = home_asked verb tx ask command (Nowhere Say.None) Nobody is asks sent (λ site e. refl) (λ e. e)
 
-  fate_nobody : (tx : Tx) (site : SiteId) → local_site scenario tx ≡ Some site → coord_requested scenario story (fate_request (global_program scenario tx) tx) ≡ Nowhere Say.None
+  fate_nobody : (tx : Tx) (site : SiteId) → local_site session.plan tx ≡ Some site → coord_requested session.plan story (fate_request (global_program session.plan tx) tx) ≡ Nowhere Say.None
   unfolding fate_request
-  fate_nobody tx site e = ap (coord_requested scenario story) (pick_none (global_program scenario tx) (Declines Say.None) _ (no_global_program scenario site tx e))
+  fate_nobody tx site e = ap (coord_requested session.plan story) (pick_none (global_program session.plan tx) (Declines Say.None) _ (no_global_program session.plan site tx e))
 
-  fate_happens : (tx : Tx) → happens scenario story (Cmd.Fate tx) ≡ on_local scenario story Fate tx (coord_requested scenario story (fate_request (global_program scenario tx) tx))
+  fate_happens : (tx : Tx) → happens session.plan story (Cmd.Fate tx) ≡ on_local session.plan story Fate tx (coord_requested session.plan story (fate_request (global_program session.plan tx) tx))
   unfolding happens on_fate
   fate_happens tx = refl
 
   -- `fate`
-  pub fate_asked : (tx : Tx) → IsAsked (to_fate scenario tx) (Cmd.Fate tx) scenario story
+  pub fate_asked : (tx : Tx) → IsAsked (to_fate session.plan tx) (Cmd.Fate tx) session story
   fate_asked tx =
-      home_asked Fate tx (At.Fate tx) (Cmd.Fate tx) (coord_requested scenario story (fate_request (global_program scenario tx) tx)) (Coordinator (Coord.Fate tx)) (fate_happens tx) (λ home programs past. refl) (λ site. tt)
+      home_asked Fate tx (At.Fate tx) (Cmd.Fate tx) (coord_requested session.plan story (fate_request (global_program session.plan tx) tx)) (Coordinator (Coord.Fate tx)) (fate_happens tx) (λ home programs past. refl) (λ site. tt)
       (fate_nobody tx) (λ is. record { happens = is; from = tt })
 
   -- commands of a global transaction and of its attempts
-  pub go_asked : (tx : Tx) → IsAsked (Coordinator (Coord.Go tx)) (Cmd.Go tx) scenario story
+  pub go_asked : (tx : Tx) → IsAsked (Coordinator (Coord.Go tx)) (Cmd.Go tx) session story
   unfolding happens on_go
   go_asked tx = record { happens = refl; from = tt }
 
-  pub again_asked : (tid : Tid) → IsAsked (Coordinator (Coord.Again tid)) (Cmd.Again tid) scenario story
+  pub again_asked : (tid : Tid) → IsAsked (Coordinator (Coord.Again tid)) (Cmd.Again tid) session story
   unfolding happens on_attempt
   again_asked tid = record { happens = refl; from = tt }
 
-  pub late_asked : (tid : Tid) → IsAsked (Coordinator (Coord.Late tid)) (Cmd.Late tid) scenario story
+  pub late_asked : (tid : Tid) → IsAsked (Coordinator (Coord.Late tid)) (Cmd.Late tid) session story
   unfolding happens on_attempt
   late_asked tid = record { happens = refl; from = tt }
 
-  give_happens : (site : SiteId) (n : ℕ) → happens scenario story (Cmd.Give site n) ≡ pick (item_at (sent_to site story) n) (Nowhere Say.None) (λ message. on_site scenario story site (Site_event.Give message))
+  give_happens : (site : SiteId) (n : ℕ) → happens session.plan story (Cmd.Give site n) ≡ pick (item_at (sent_to site story) n) (Nowhere Say.None) (λ message. on_site session.plan story site (Site_event.Give message))
   unfolding happens on_give
   give_happens site n = refl
 
   -- `give`
-  pub give_asked : (site : SiteId) (n : ℕ) → IsAsked (to_give scenario site (item_at (sent_to site story) n)) (Cmd.Give site n) scenario story
+  pub give_asked : (site : SiteId) (n : ℕ) → IsAsked (to_give session.plan site (item_at (sent_to site story) n)) (Cmd.Give site n) session story
   give_asked site n = by_message (item_at (sent_to site story) n) refl
     where
-      by_message : (o : Option ToSite) → item_at (sent_to site story) n ≡ o → IsAsked (to_give scenario site o) (Cmd.Give site n) scenario story
+      by_message : (o : Option ToSite) → item_at (sent_to site story) n ≡ o → IsAsked (to_give session.plan site o) (Cmd.Give site n) session story
       by_message None e = give_happens site n ∙ pick_none (item_at (sent_to site story) n) _ _ e
       by_message (Some message) e =
           event_asked site (At.Give message) (Cmd.Give site n) (Site_event.Give message) (give_happens site n ∙ pick_some (item_at (sent_to site story) n) _ _ message e) (λ home programs past. refl)
           (item_at-in (sent_to site story) n message e)
 
-  take_happens : (site : SiteId) (n : ℕ) → happens scenario story (Cmd.Take site n) ≡ pick (item_at (sent_from site story) n) (Nowhere Say.None) (λ message. at_coordinator scenario story (Coord_event.Take site message))
+  take_happens : (site : SiteId) (n : ℕ) → happens session.plan story (Cmd.Take site n) ≡ pick (item_at (sent_from site story) n) (Nowhere Say.None) (λ message. at_coordinator session.plan story (Coord_event.Take site message))
   unfolding happens on_take
   take_happens site n = refl
 
   -- `take`, where messages come from declared sites alone
-  pub take_asked : (site : SiteId) (n : ℕ) → (home_of scenario site ≡ None → sent_from site story ≡ []) → IsAsked (to_take site (item_at (sent_from site story) n)) (Cmd.Take site n) scenario story
+  pub take_asked : (site : SiteId) (n : ℕ) → (home_of session.plan site ≡ None → sent_from site story ≡ []) → IsAsked (to_take site (item_at (sent_from site story) n)) (Cmd.Take site n) session story
   take_asked site n none = by_message (item_at (sent_from site story) n) refl
     where
-      by_home : (message : FromSite) → item_at (sent_from site story) n ≡ Some message → (o : Option Home) → home_of scenario site ≡ o → IsFromSite (Coord.Take site message) scenario
+      by_home : (message : FromSite) → item_at (sent_from site story) n ≡ Some message → (o : Option Home) → home_of session.plan site ≡ o → IsFromSite (Coord.Take site message) session.plan
       by_home message e None is = absurd (subst (λ (ms : List FromSite). In message ms) (none is) (item_at-in (sent_from site story) n message e))
-      by_home message e (Some home) is = among_sites scenario site home is
+      by_home message e (Some home) is = among_sites session.plan site home is
 
-      by_message : (o : Option FromSite) → item_at (sent_from site story) n ≡ o → IsAsked (to_take site o) (Cmd.Take site n) scenario story
+      by_message : (o : Option FromSite) → item_at (sent_from site story) n ≡ o → IsAsked (to_take site o) (Cmd.Take site n) session story
       by_message None e = take_happens site n ∙ pick_none (item_at (sent_from site story) n) _ _ e
       by_message (Some message) e =
-          record { happens = take_happens site n ∙ pick_some (item_at (sent_from site story) n) _ _ message e; from = by_home message e (home_of scenario site) refl }
+          record { happens = take_happens site n ∙ pick_some (item_at (sent_from site story) n) _ _ message e; from = by_home message e (home_of session.plan site) refl }
 
-  actor_zero : (at_coord : CoordEvent) (event : SiteEvent) → on_actor scenario story zero at_coord event ≡ at_coordinator scenario story at_coord
+  actor_zero : (at_coord : CoordEvent) (event : SiteEvent) → on_actor session.plan story zero at_coord event ≡ at_coordinator session.plan story at_coord
   unfolding on_actor
   actor_zero at_coord event = refl
 
-  actor_next : (n : ℕ) (at_coord : CoordEvent) (event : SiteEvent) → on_actor scenario story (suc n) at_coord event ≡ on_site scenario story (record { 0 = suc n }) event
+  actor_next : (n : ℕ) (at_coord : CoordEvent) (event : SiteEvent) → on_actor session.plan story (suc n) at_coord event ≡ on_site session.plan story (record { 0 = suc n }) event
   unfolding on_actor
   actor_next n at_coord event = refl
 
   -- an event of an actor
-  pub actor_asked : (actor : ℕ) (coordinator : CoordAsk) (ask : SiteAsk) (command : Command) (at_coord : CoordEvent) (event : SiteEvent) → happens scenario story command ≡ on_actor scenario story actor at_coord event
-      → ((terms : Terms) (programs : OwnPrograms) (past : CoordPast) → coord_request coordinator terms programs past ≡ Submits at_coord) → IsFromSite coordinator scenario
+  pub actor_asked : (actor : ℕ) (coordinator : CoordAsk) (ask : SiteAsk) (command : Command) (at_coord : CoordEvent) (event : SiteEvent) → happens session.plan story command ≡ on_actor session.plan story actor at_coord event
+      → ((terms : Terms) (programs : OwnPrograms) (past : CoordPast) → coord_request coordinator terms programs past ≡ Submits at_coord) → IsFromSite coordinator session.plan
       → ((home : Home) (programs : OwnPrograms) (past : SitePast) → site_request ask home programs past ≡ Submits event) → ((site : SiteId) → WasSent ask site story)
-      → IsAsked (to_actor scenario actor coordinator ask) command scenario story
+      → IsAsked (to_actor session.plan actor coordinator ask) command session story
   actor_asked zero coordinator ask command at_coord event is asks from submits sent = record {
-    happens = is ∙ (actor_zero at_coord event ∙ ap (coord_requested scenario story) (sym (asks (terms_of scenario) (global_program scenario) (coord_past story))));
+    happens = is ∙ (actor_zero at_coord event ∙ ap (coord_requested session.plan story) (sym (asks (terms_of session.plan) (global_program session.plan) (coord_past story))));
     from = from;
   }
   actor_asked (suc n) coordinator ask command at_coord event is asks from submits sent =
       event_asked (record { 0 = suc n }) ask command event (is ∙ actor_next n at_coord event) submits (sent (record { 0 = suc n }))
 
   -- commands of a local transaction
-  pub begin_asked : (tx : Tx) → IsAsked (to_local scenario tx (At.Begin tx)) (Cmd.Begin tx) scenario story
+  pub begin_asked : (tx : Tx) → IsAsked (to_local session.plan tx (At.Begin tx)) (Cmd.Begin tx) session story
   unfolding happens
   begin_asked tx = local_asked Begin tx (At.Begin tx) (Cmd.Begin tx) refl (λ home programs past. refl) (λ site. tt)
 
-  pub step_asked : (tx : Tx) → IsAsked (to_local scenario tx (At.Step tx)) (Cmd.Step tx) scenario story
+  pub step_asked : (tx : Tx) → IsAsked (to_local session.plan tx (At.Step tx)) (Cmd.Step tx) session story
   unfolding happens
   step_asked tx = local_asked Step_on tx (At.Step tx) (Cmd.Step tx) refl (λ home programs past. refl) (λ site. tt)
 
-  pub commit_asked : (tx : Tx) → IsAsked (to_local scenario tx (At.Commit tx)) (Cmd.Commit tx) scenario story
+  pub commit_asked : (tx : Tx) → IsAsked (to_local session.plan tx (At.Commit tx)) (Cmd.Commit tx) session story
   unfolding happens
   commit_asked tx = local_asked Commit tx (At.Commit tx) (Cmd.Commit tx) refl (λ home programs past. refl) (λ site. tt)
 
-  pub abort_asked : (tx : Tx) → IsAsked (to_local scenario tx (At.Abort tx)) (Cmd.Abort tx) scenario story
+  pub abort_asked : (tx : Tx) → IsAsked (to_local session.plan tx (At.Abort tx)) (Cmd.Abort tx) session story
   unfolding happens
   abort_asked tx = local_asked Abort tx (At.Abort tx) (Cmd.Abort tx) refl (λ home programs past. refl) (λ site. tt)
 
   -- what a declared site is asked of an attempt
-  pub ask_asked : (site : SiteId) (tid : Tid) → IsAsked (to_site scenario site (At.Ask tid)) (Cmd.Ask site tid) scenario story
+  pub ask_asked : (site : SiteId) (tid : Tid) → IsAsked (to_site session.plan site (At.Ask tid)) (Cmd.Ask site tid) session story
   unfolding happens
   ask_asked site tid = event_asked site (At.Ask tid) (Cmd.Ask site tid) (Site_event.Ask tid) refl (λ home programs past. refl) tt
 
-  pub drop_asked : (site : SiteId) (tid : Tid) → IsAsked (to_site scenario site (At.Drop tid)) (Cmd.Drop site tid) scenario story
+  pub drop_asked : (site : SiteId) (tid : Tid) → IsAsked (to_site session.plan site (At.Drop tid)) (Cmd.Drop site tid) session story
   unfolding happens
   drop_asked site tid = event_asked site (At.Drop tid) (Cmd.Drop site tid) (Site_event.Drop tid) refl (λ home programs past. refl) tt
 
   -- what an actor is
-  pub halt_asked : (actor cut : ℕ) → IsAsked (to_actor scenario actor (Coord.Halt cut) (At.Halt cut)) (Cmd.Halt actor cut) scenario story
+  pub halt_asked : (actor cut : ℕ) → IsAsked (to_actor session.plan actor (Coord.Halt cut) (At.Halt cut)) (Cmd.Halt actor cut) session story
   unfolding happens
   halt_asked actor cut =
       actor_asked actor (Coord.Halt cut) (At.Halt cut) (Cmd.Halt actor cut) (Coord_event.Halt cut) (Site_event.Halt cut) refl (λ terms programs past. refl) tt (λ home programs past. refl) (λ site. tt)
 
-  pub trip_asked : (actor calls cut : ℕ) → IsAsked (to_actor scenario actor (Coord.Trip calls cut) (At.Trip calls cut)) (Cmd.Trip actor calls cut) scenario story
+  pub trip_asked : (actor calls cut : ℕ) → IsAsked (to_actor session.plan actor (Coord.Trip calls cut) (At.Trip calls cut)) (Cmd.Trip actor calls cut) session story
   unfolding happens
   trip_asked actor calls cut =
       actor_asked actor (Coord.Trip calls cut) (At.Trip calls cut) (Cmd.Trip actor calls cut) (Coord_event.Trip calls cut) (Site_event.Trip calls cut) refl (λ terms programs past. refl) tt (λ home programs past. refl) (λ site. tt)
 
-  pub back_asked : (actor : ℕ) → IsAsked (to_actor scenario actor Coord.Back At.Back) (Cmd.Back actor) scenario story
+  pub back_asked : (actor : ℕ) → IsAsked (to_actor session.plan actor Coord.Back At.Back) (Cmd.Back actor) session story
   unfolding happens
   back_asked actor = actor_asked actor Coord.Back At.Back (Cmd.Back actor) Coord_event.Back Site_event.Back refl (λ terms programs past. refl) tt (λ home programs past. refl) (λ site. tt)
 
-  pub check_asked : (actor : ℕ) → IsAsked (to_actor scenario actor Coord.Check At.Check) (Cmd.Check actor) scenario story
+  pub check_asked : (actor : ℕ) → IsAsked (to_actor session.plan actor Coord.Check At.Check) (Cmd.Check actor) session story
   unfolding happens
   check_asked actor = actor_asked actor Coord.Check At.Check (Cmd.Check actor) Coord_event.Check Site_event.Check refl (λ terms programs past. refl) tt (λ home programs past. refl) (λ site. tt)
 

@@ -2,8 +2,8 @@
 use Rattle.std.proofs.Common.{◌≡◌, ℕ, zero, suc, ◌<◌, ◌≤◌, None, Some, List, [], ◌∷◌, length, map, option_map, slice_get, slice_set, refl, sym, ap, ◌∙◌, subst}
 use Rattle.std.proofs.lemmas.Option.{same_Some, slice_get-map, slice_get_within}
 use Rattle.mdb_base.specs.declared.names.SiteId.{SiteId}
-use Rattle.fed_rules.specs.declared.scenario.Scenario.{Scenario}
 use Rattle.fed_rules.specs.Scenarios.{home_of}
+use Rattle.fed_rules.specs.Sessions.{Session}
 use Rattle.journal_disk.specs.Disk.{Seen}
 use Rattle.session_routes.proofs.Posts.{get_other, get_put, length_set}
 use Rattle.fed_world.specs.Worlds.{AreDisks, OnDisk}
@@ -38,8 +38,8 @@ module _ (disks : List Seen) (n : ℕ) (old new : Seen) (at : slice_get disks n 
   on_other k K apart o = record { disk = o.disk; own = get_other disks n k new apart ∙ o.own; holds = o.holds }
 
   -- nothing is on the disk of a site that isn't declared, where the disk is of none of them
-  pub put_disks : (scenario : Scenario) → ((site : SiteId) → 1 ≤ site.0 → home_of scenario site ≡ None → site.0 ≡ n → ⊥) → AreDisks disks scenario → AreDisks (slice_set disks n new) scenario
-  put_disks scenario never are = record {
+  pub put_disks : (session : Session) → ((site : SiteId) → 1 ≤ site.0 → home_of session.plan site ≡ None → site.0 ≡ n → ⊥) → AreDisks disks session → AreDisks (slice_set disks n new) session
+  put_disks session never are = record {
     nine = length_set disks n new ∙ are.nine;
     others = λ site disk least none e. are.others site disk least none (sym (get_other disks n site.0 new (λ same. never site least none same)) ∙ e);
   }

@@ -15,13 +15,15 @@ use Rattle.fed_rules.specs.declared.events.SiteEvent.TheVariants as Ev
 use Rattle.fed_rules.specs.declared.records.SiteRecord.{SiteRecord}
 use Rattle.fed_rules.specs.declared.records.SiteRecord.TheVariants as Rec
 use Rattle.fed_rules.specs.Disk.{Call, Stops}
+use Rattle.fed_rules.specs.Reopened.{all_named, opened_site, site_opening}
 use Rattle.fed_rules.specs.Happenings.{Trip, comes_up, is_down, stopped, stops, tripped}
 use Rattle.fed_rules.specs.Runs as Runs
 use Rattle.fed_rules.specs.Runs.{Commits, EngineLine, Run, Seals, Start, committed, puts_of, rows, rows_of, run_at}
-use Rattle.fed_rules.specs.Site.{answered, number_of, of_back, site_line, site_past, unless_tripped}
+use Rattle.fed_rules.specs.Site.{answered, number_of, of_back, site_line, site_past_on, unless_tripped}
 use Rattle.fed_rules.specs.SitePast.{SiteHappening, SitePast, disk, engine_lines, epoch_start, records, run_of, trip}
 use Rattle.fed_rules.specs.SiteRecords.{Held, Home, Install, by_number, doubt_of, install_held, installs, rows_after, site_frame, site_rows, start_of}
 use Rattle.fed_rules.proofs.RunLines.{run_at_own}
+use Rattle.fed_rules.specs.Sessions.{fresh}
 use Rattle.engine_laws.proofs.Runs.{number_is, tid_is}
 use Rattle.fed_world.proofs.LocalInstalls.{install_of, installed_inserted}
 use Rattle.site_history.specs.Events.{AreSorted, IsFresh, IsSorted}
@@ -38,9 +40,11 @@ use Rattle.site_history.proofs.Moves.{IsMove, Moves, begins_local, begins_work, 
 use Rattle.site_history.proofs.Records.{due_install}
 use Rattle.site_history.proofs.RightLines.{good_answered, is_back}
 use Rattle.site_history.proofs.Starts.{doubt_tid}
-use Rattle.site_history.proofs.WellKept.{IsWellKept, well_past}
+use Rattle.site_history.proofs.WellKept.{IsWellKept, well_first, well_on}
 use Rattle.site_history.specs.Sums.{ComeInOrder, HeldComes, StaysBelow}
-use Rattle.site_history.proofs.InOrderPasts.{comes_in_order}
+use Rattle.site_history.proofs.InOrderPasts.{OrdersPast, orders_on, orders_past}
+use Rattle.site_history.proofs.OpenedSites.{reopened}
+use Rattle.site_history.specs.FoundSites.{OfFoundSites}
 use Rattle.site_history.proofs.RowsOnTop.{rows_on_top}
 
 -- the rows of the runs that committed are those of the records, and each of these runs is installed there
@@ -224,12 +228,25 @@ next_line home local past (Ev.Ask tid) h t sorted = up home local past (Ev.Ask t
 next_line home local past (Ev.Drop tid) h t sorted = up home local past (Ev.Drop tid) h t sorted tt refl
 next_line home local past Ev.Check h t sorted = up home local past Ev.Check h t sorted tt refl
 
-tabled_past : (home : Home) (local : Tx → Bool) (events : List SiteEvent) → AreSorted local events → TabledPast home (site_past home events)
-tabled_past home local [] sorted = record { tabled = record { same = refl; among = λ i k. absurd k } }
-tabled_past home local (event ∷ events) (now, before) =
-    (next_line home local (site_past home events) event (well_past home local events before) (tabled_past home local events before) now).next
-    (comes_in_order home local (event ∷ events) (now, before))
+in_order : (home : Home) (past : SitePast) → OrdersPast home past → ComeInOrder (records home past)
+in_order home past o = o.orderly.all.order
+
+-- behind a past that is well kept and in order
+tabled_on : (home : Home) (local : Tx → Bool) (first : SitePast) → IsWellKept home local first → OrdersPast home first → TabledPast home first → (events : List SiteEvent) → AreSorted local events
+    → TabledPast home (site_past_on home first events)
+tabled_on home local first well orders t [] sorted = t
+tabled_on home local first well orders t (event ∷ events) (now, before) =
+    (next_line home local (site_past_on home first events) event (well_on home local first well events before) (tabled_on home local first well orders t events before) now).next
+    (in_order home (site_past_on home first (event ∷ events)) (orders_on home local first well orders (event ∷ events) (now, before)))
 
 -- in every past that sorted events make
 pub engine_rows : OfSortedEvents (λ home past. rows (epoch_start home past) (engine_lines past) ≡ site_rows home (records home past))
-engine_rows home local events sorted = (tabled_past home local events sorted).tabled.same
+engine_rows home local events sorted =
+    (tabled_on home local [] (well_first home local) (orders_past home local [] tt) (record { tabled = record { same = refl; among = λ i k. absurd k } }) events sorted).tabled.same
+
+-- and behind a journal that was found
+pub found_rows : OfFoundSites (λ home past. rows (epoch_start home past) (engine_lines past) ≡ site_rows home (records home past))
+found_rows home local journal found events sorted =
+    let first = reopened home local journal found in
+    let opened = anew home (all_named journal.records) (site_opening journal) refl in
+    (tabled_on home local (opened_site journal) first.well first.orders (opened.next (in_order home (opened_site journal) first.orders)) events sorted).tabled.same

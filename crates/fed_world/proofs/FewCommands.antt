@@ -3,6 +3,7 @@ use Rattle.std.proofs.Common.{◌≡◌, ℕ, zero, suc, ◌+◌, ◌≤◌, Res
 use Rattle.mdb_base.specs.Words.{Each}
 use Rattle.fed_rules.specs.declared.commands.Command.{Command}
 use Rattle.fed_rules.specs.declared.scenario.Scenario.{Scenario}
+use Rattle.fed_rules.specs.Sessions.{Session, fresh}
 use Rattle.journal_disk.specs.declared.mem_disk.MemDisk.{MemDisk}
 use Rattle.journal_disk.specs.Disk.{Seen}
 use Rattle.journal_disk.specs.MemDisk.{mem_size}
@@ -12,19 +13,20 @@ use Rattle.fed_world.specs.SettingUp.{AreEmpty}
 use Rattle.fed_world.specs.Worlds.{EachStory, HasRoom, SomeStory}
 
 -- so many commands leave room for one more
-pub has_room : (K : Scenario → List Command → Type 0) (n : ℕ) → n ≤ 1000 → SomeStory K (IsWithin n) → SomeStory K HasRoom
-has_room K n few s = record { scenario = s.scenario; commands = s.commands; stood = s.stood; holds = let h = s.holds in omega (arith, h, few) }
+pub has_room : (K : Session → List Command → Type 0) (n : ℕ) → n ≤ 1000 → SomeStory (λ (scenario : Scenario). K (fresh scenario)) (IsWithin n) → SomeStory K HasRoom
+has_room K n few s = record { session = fresh s.session; commands = s.commands; stood = s.stood; holds = let h = s.holds in omega (arith, h, few) }
 
 -- one command more
-pub one_more : {E : Type 0} {T : Type 0} (K L : Scenario → List Command → Type 0) (n : ℕ) (command : Command) (r : Result T E) → n ≤ 1000 → SomeStory K (IsWithin n)
-    → OnOk r (EachStory K (λ scenario commands. HasRoom scenario commands → L scenario (command ∷ commands))) → OnOk r (SomeStory L (IsWithin (n + 1)))
+pub one_more : {E : Type 0} {T : Type 0} (K L : Session → List Command → Type 0) (n : ℕ) (command : Command) (r : Result T E) → n ≤ 1000
+    → SomeStory (λ (scenario : Scenario). K (fresh scenario)) (IsWithin n)
+    → OnOk r (EachStory K (λ session commands. HasRoom session commands → L session (command ∷ commands))) → OnOk r (SomeStory (λ (scenario : Scenario). L (fresh scenario)) (IsWithin (n + 1)))
 one_more K L n command (Ok x) few s f =
-    record { scenario = s.scenario; commands = command ∷ s.commands; stood = f s.scenario s.commands s.stood (let h = s.holds in omega (arith, h, few)); holds = let h = s.holds in omega (arith, h) }
+    record { session = s.session; commands = command ∷ s.commands; stood = f (fresh s.session) s.commands s.stood (let h = s.holds in omega (arith, h, few)); holds = let h = s.holds in omega (arith, h) }
 one_more K L n command (Err e) few s f = tt
 
 -- where so many suffice, more do
 pub within : (K : Scenario → List Command → Type 0) (n m : ℕ) → n ≤ m → SomeStory K (IsWithin n) → SomeStory K (IsWithin m)
-within K n m le s = record { scenario = s.scenario; commands = s.commands; stood = s.stood; holds = let h = s.holds in omega (arith, h, le) }
+within K n m le s = record { session = s.session; commands = s.commands; stood = s.stood; holds = let h = s.holds in omega (arith, h, le) }
 
 -- disks with nothing on them are seen so
 pub are_empty : (disks : List MemDisk) → Each (λ disk. mem_size disk ≡ 0) disks → AreEmpty (map mem_seen disks)

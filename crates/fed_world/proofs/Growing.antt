@@ -1,8 +1,9 @@
 -- How much one line adds to the pasts and channels of a story.
-use Rattle.std.proofs.Common.{ℕ, suc, ◌≤◌, ◌<◌, ◌^◌, Bool, true, false, cond, [], ◌∷◌, length, arith}
+use Rattle.std.proofs.Common.{ℕ, suc, ◌≤◌, ◌<◌, ◌+◌, ◌^◌, Bool, true, false, cond, List, [], ◌∷◌, length, arith}
 use Rattle.std.proofs.lemmas.List.{length-append}
 use Rattle.mdb_base.specs.declared.names.SiteId.{SiteId}
 use Rattle.mdb_base.specs.Names.{same_site}
+use Rattle.fed_rules.specs.declared.commands.Command.{Command}
 use Rattle.fed_rules.specs.declared.events.CoordEvent.{CoordEvent}
 use Rattle.fed_rules.specs.declared.events.SiteEvent.{SiteEvent}
 use Rattle.fed_rules.specs.declared.scenario.Scenario.{Scenario}
@@ -10,8 +11,11 @@ use Rattle.fed_rules.specs.Requests.{Request, Submits, Declines}
 use Rattle.fed_rules.specs.Site.{site_line}
 use Rattle.fed_rules.specs.SiteRecords.{Home}
 use Rattle.fed_rules.specs.Story.{Story, Told, coord_requested, past_of, requested, sends_from, sends_to, sent_from, sent_to}
+use Rattle.fed_rules.specs.Sessions.{Session}
 use Rattle.world_laws.proofs.SiteSays.{sites_few}
 use Rattle.fed_world.specs.Seats.{AreFew}
+use Rattle.fed_world.specs.Worlds.{HasRoom}
+use Rattle.fed_world.specs.Beginnings.{made_up}
 
 -- one line more, with at most one message to each site and from it
 pub few_behind : (story : Story) (told : Told) (most : ℕ) → AreFew story most → ((site : SiteId) → length (sends_to site told.happened) ≤ 1) → ((site : SiteId) → length (sends_from site told.happened) ≤ 1) → AreFew (told ∷ story) (suc most)
@@ -38,6 +42,13 @@ site_sends_to home story (Submits event) site = omega arith
 pub coord_sends_from : (scenario : Scenario) (story : Story) (r : Request CoordEvent) (site : SiteId) → length (sends_from site (coord_requested scenario story r)) ≤ 1
 coord_sends_from scenario story (Declines answer) site = omega arith
 coord_sends_from scenario story (Submits event) site = omega arith
+
+-- where there is room for one more line, there are few commands
+pub few_commands : (session : Session) (commands : List Command) → HasRoom session commands → length commands < 2 ^ 30
+few_commands session commands room = less (made_up session) (length commands) (2 ^ 30) room
+  where
+    less : (a b c : ℕ) → a + b < c → b < c
+    less a b c under = omega (arith, under)
 
 -- where there is room for one more line, the numbers of so many messages fit
 pub numbers_fit : (n most : ℕ) → n ≤ most → most < 2 ^ 30 → n < 2 ^ 32

@@ -1,5 +1,5 @@
 -- A world whose sites were just set up stands for no line.
-use Rattle.std.proofs.Common.{◌≡◌, Bool, false, IsTrue, Some, List, [], length, map, reverse, slice_get, refl, sym, ◌∙◌, ap, subst, arith}
+use Rattle.std.proofs.Common.{◌≡◌, Bool, false, IsTrue, Option, Some, None, inl, List, [], length, map, reverse, slice_get, refl, sym, ◌∙◌, ap, subst, arith}
 use Rattle.mdb_base.specs.declared.names.SiteId.{SiteId}
 use Rattle.mdb_base.proofs.PlaceLaws.{slice_get-there}
 use Rattle.order_laws.specs.Chains.{In}
@@ -9,7 +9,8 @@ use Rattle.record_fields.specs.Named.{IsSite}
 use Rattle.fed_rules.specs.declared.commands.Line.{Line}
 use Rattle.fed_rules.specs.declared.scenario.Scenario.{Scenario}
 use Rattle.fed_rules.specs.Plans.{IsScenario}
-use Rattle.fed_rules.specs.Right.{IsRightStory}
+use Rattle.fed_rules.specs.Found.{nothing}
+use Rattle.fed_rules.specs.Sessions.{fresh}
 use Rattle.fed_rules.specs.Scenarios.{home_of, sites}
 use Rattle.fed_rules.specs.SiteRecords.{Home}
 use Rattle.rules_laws.proofs.Declared.{its-site}
@@ -22,6 +23,10 @@ use Rattle.session_report.specs.declared.marks.Marks.{Marks}
 use Rattle.session_report.specs.Marks.{kept_marks}
 use Rattle.session_routes.specs.declared.traffic.Traffic.{Traffic}
 use Rattle.session_routes.specs.Routes.{IsRouted}
+use Rattle.std.specs.Global.{Vec}
+use Rattle.mdb_base.specs.declared.names.Tid.{Tid}
+use Rattle.fed_world.specs.Beginnings.{Remembers}
+use Rattle.fed_world.specs.Lines.{IsRightIn}
 use Rattle.fed_world.specs.Seats.{SiteAt}
 use Rattle.fed_world.specs.declared.world.World.{World}
 use Rattle.fed_world.specs.SettingUp.{AreSetUp, EmptyBut, IsNewChannel, IsNewManager, IsNewMarks}
@@ -42,21 +47,23 @@ pub record TellsBytes (seen : Seen) : Type 0 where
   pub sound : IsSound seen.image
 
 -- no line yet
-new_lines : (world : World) (scenario : Scenario) → world.cores.scenario ≡ scenario → world.lines.items ≡ [] → HasLines world scenario []
-new_lines world scenario same none = record {
+new_lines : (world : World) (scenario : Scenario) → world.cores.scenario ≡ scenario → world.begun ≡ None → world.lines.items ≡ [] → HasLines world (fresh scenario) []
+new_lines world scenario same begun none = record {
+  begins = inl refl;
   scenario_is = same;
+  remembers = subst (λ (tids : Option (Vec Tid)). Remembers tids nothing) (sym begun) refl;
   commands_are = ap (λ (ls : List Line). map (λ (line : Line). line.command) (reverse ls)) none;
-  right = subst (λ (ls : List Line). IsRightStory scenario (reverse ls)) (sym none) tt;
+  right = subst (λ (ls : List Line). IsRightIn (fresh scenario) (reverse ls)) (sym none) tt;
 }
 
 -- the disks of undeclared sites are empty
-new_disks : (disks : List Seen) (scenario : Scenario) → length disks ≡ 9 → EmptyBut (sites scenario) disks → AreDisks disks scenario
+new_disks : (disks : List Seen) (scenario : Scenario) → length disks ≡ 9 → EmptyBut (sites scenario) disks → AreDisks disks (fresh scenario)
 new_disks disks scenario nine empty = record { nine = nine; others = λ site disk least none at. empty site.0 disk at (homeless scenario.sites scenario.items site none) }
 
 -- a site with its new marks and channel
 new_site : (tells : Bool) (disks : List Seen) (dbms : LocalDbms AnyEngine) (own : Marks) (traffic : Traffic) (scenario : Scenario) (site : SiteId) → In site (sites scenario)
     → ((home : Home) → home_of scenario site ≡ Some home → DbmsStands tells disks dbms home (own_programs site scenario.transactions) [])
-    → (own.site ≡ site) × (own.kept.items ≡ []) → (traffic.site ≡ site) × (traffic.to.items ≡ []) × (traffic.from.items ≡ []) → SiteAt (DbmsStands tells disks) dbms own traffic scenario site []
+    → (own.site ≡ site) × (own.kept.items ≡ []) → (traffic.site ≡ site) × (traffic.to.items ≡ []) × (traffic.from.items ≡ []) → SiteAt (DbmsStands tells disks) dbms own traffic (fresh scenario) site []
 new_site tells disks dbms own traffic scenario site i stood marks channel =
     let (home, declared) = site_home scenario site i in
     let same : home.site ≡ site = its-site scenario site home declared in
@@ -76,17 +83,17 @@ new_site tells disks dbms own traffic scenario site i stood marks channel =
 
 -- the world of the sites that were set up, with the coordinator and its empty disk
 pub new_stands : (tells : Bool) (world : World) (disks : List Seen) (scenario : Scenario) → IsScenario scenario → IsTrue tells → length disks ≡ 9 → ((seen : Seen) → slice_get disks 0 ≡ Some seen → TellsBytes seen)
-    → world.cores.scenario ≡ scenario → world.lines.items ≡ [] → world.broken ≡ false → IsRouted world.routes scenario → IsNewManager world.cores.coordinator scenario
+    → world.cores.scenario ≡ scenario → world.begun ≡ None → world.lines.items ≡ [] → world.broken ≡ false → IsRouted world.routes scenario → IsNewManager world.cores.coordinator scenario
     → AreSetUp tells world.cores.sites.items.items disks scenario → length world.cores.marks.items ≡ length (sites scenario) → IsNewMarks (sites scenario) world.cores.marks.items
-    → length world.traffic.items ≡ length (sites scenario) → IsNewChannel (sites scenario) world.traffic.items → Stands tells world disks scenario []
-new_stands tells world disks scenario whole told nine bytes same none unbroken routed manager up all_marks marks all_channels channels = record {
-  has = new_lines world scenario same none;
+    → length world.traffic.items ≡ length (sites scenario) → IsNewChannel (sites scenario) world.traffic.items → Stands tells world disks (fresh scenario) []
+new_stands tells world disks scenario whole told nine bytes same begun none unbroken routed manager up all_marks marks all_channels channels = record {
+  has = new_lines world scenario same begun none;
   whole = unbroken;
   routed = routed;
   stand = stand;
 }
   where
-    stand : ActorsStand tells world disks scenario []
+    stand : ActorsStand tells world disks (fresh scenario) []
     stand =
         let (seen, own) = slice_get-there disks 0 (omega (arith, nine)) in
         let b = bytes seen own in

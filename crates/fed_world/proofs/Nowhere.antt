@@ -6,13 +6,14 @@ use Rattle.fed_rules.specs.declared.answers.Answer.TheVariants as Say
 use Rattle.fed_rules.specs.declared.commands.Command.{Command}
 use Rattle.fed_rules.specs.declared.messages.FromSite.{FromSite}
 use Rattle.fed_rules.specs.declared.messages.ToSite.{ToSite}
-use Rattle.fed_rules.specs.declared.scenario.Scenario.{Scenario}
 use Rattle.fed_rules.specs.CoordPast.{CoordPast}
 use Rattle.fed_rules.specs.Right.{IsAnswer}
 use Rattle.fed_rules.specs.Scenarios.{global_program, protocols}
 use Rattle.fed_rules.specs.SitePast.{SitePast}
 use Rattle.fed_rules.specs.SiteRecords.{Home}
-use Rattle.fed_rules.specs.Story.{Story, Happened, Nowhere, coord_past, happens, past_of, places_of, sends_from, sends_to, sent_from, sent_to, story_of, with_coordinator, with_site}
+use Rattle.fed_rules.specs.Story.{Story, Happened, Nowhere, coord_past, happens, past_of, places_of, sends_from, sends_to, sent_from, sent_to, with_coordinator, with_site, story_in}
+use Rattle.fed_rules.specs.Sessions.{Session}
+use Rattle.session_report.specs.declared.marks.Mark.{Mark}
 use Rattle.journal_disk.specs.Disk.{Seen}
 use Rattle.local_dbms.specs.Stands.{OwnPrograms}
 use Rattle.session_report.specs.declared.marks.Marks.{Marks}
@@ -33,10 +34,10 @@ pub record IsSameStory (old new : Story) : Type 0 where
   pub from : (site : SiteId) → sent_from site old ≡ sent_from site new
 
 -- so it is behind a command of which nobody hears
-pub same_story : (scenario : Scenario) (commands : List Command) (command : Command) → happens scenario (story_of scenario commands) command ≡ Nowhere Say.None
-    → IsSameStory (story_of scenario commands) (story_of scenario (command ∷ commands))
-same_story scenario commands command is =
-    let story : Story = story_of scenario commands in
+pub same_story : (session : Session) (commands : List Command) (command : Command) → happens session.plan (story_in session commands) command ≡ Nowhere Say.None
+    → IsSameStory (story_in session commands) (story_in session (command ∷ commands))
+same_story session commands command is =
+    let story : Story = story_in session commands in
     record {
       coordinator = sym (ap (λ (h : Happened). with_coordinator h (coord_past story)) is);
       sites = λ site. sym (ap (λ (h : Happened). with_site site h (past_of site story)) is);
@@ -44,18 +45,18 @@ same_story scenario commands command is =
       from = λ site. sym (ap (λ (h : Happened). sent_from site story ++ sends_from site h) is ∙ append-nil (sent_from site story));
     }
 
-part_same : (K : Home → OwnPrograms → SitePast → Type 0) (own : Marks) (traffic : Traffic) (home : Home) (programs : OwnPrograms) (past later : SitePast) (to into : List ToSite) (from out : List FromSite)
-    → past ≡ later → to ≡ into → from ≡ out → PartAt K own traffic home programs past to from → PartAt K own traffic home programs later into out
-part_same K own traffic home programs past later to into from out e f g part =
-    subst (λ (xs : List FromSite). PartAt K own traffic home programs later into xs) g
-    (subst (λ (xs : List ToSite). PartAt K own traffic home programs later xs from) f
-    (subst (λ (xs : SitePast). PartAt K own traffic home programs xs to from) e part))
+part_same : (K : Home → OwnPrograms → SitePast → Type 0) (own : Marks) (traffic : Traffic) (home : Home) (programs : OwnPrograms) (past later : SitePast) (first : List Mark) (to into : List ToSite) (from out : List FromSite)
+    → past ≡ later → to ≡ into → from ≡ out → PartAt K own traffic home programs past first to from → PartAt K own traffic home programs later first into out
+part_same K own traffic home programs past later first to into from out e f g part =
+    subst (λ (xs : List FromSite). PartAt K own traffic home programs later first into xs) g
+    (subst (λ (xs : List ToSite). PartAt K own traffic home programs later first xs from) f
+    (subst (λ (xs : SitePast). PartAt K own traffic home programs xs first to from) e part))
 
 -- actors that stand for the one stand for the other
-pub actors_same_story : (M : OfManager) (K : OfDbms) (cores : Cores) (channels : List Traffic) (scenario : Scenario) (old new : Story) → IsSameStory old new
-    → ActorsAt M K cores channels scenario old → ActorsAt M K cores channels scenario new
-actors_same_story M K cores channels scenario old new same s = record {
-  coordinator = subst (λ (past : CoordPast). M cores.coordinator (terms_of scenario) (global_program scenario) past) same.coordinator s.coordinator;
+pub actors_same_story : (M : OfManager) (K : OfDbms) (cores : Cores) (channels : List Traffic) (session : Session) (old new : Story) → IsSameStory old new
+    → ActorsAt M K cores channels session old → ActorsAt M K cores channels session new
+actors_same_story M K cores channels session old new same s = record {
+  coordinator = subst (λ (past : CoordPast). M cores.coordinator (terms_of session.plan) (global_program session.plan) past) same.coordinator s.coordinator;
   sites = record {
     all_cores = s.sites.all_cores;
     all_marks = s.sites.all_marks;
@@ -66,7 +67,7 @@ actors_same_story M K cores channels scenario old new same s = record {
           home = at.home;
           is = at.is;
           declared = at.declared;
-          part = part_same (K dbms) own traffic at.home _ _ _ _ _ _ _ (same.sites site) (same.to site) (same.from site) at.part;
+          part = part_same (K dbms) own traffic at.home _ _ _ _ _ _ _ _ (same.sites site) (same.to site) (same.from site) at.part;
         };
   };
 }
@@ -81,22 +82,22 @@ few_same old new most same few = record {
 }
 
 -- the actors stay as they are
-pub actors_stay : (tells : Bool) (world : World) (disks : List Seen) (scenario : Scenario) (commands : List Command) (command : Command) → happens scenario (story_of scenario commands) command ≡ Nowhere Say.None
-    → ActorsStand tells world disks scenario commands → ActorsStand tells world disks scenario (command ∷ commands)
-actors_stay tells world disks scenario commands command is s =
-    let same = same_story scenario commands command is in
+pub actors_stay : (tells : Bool) (world : World) (disks : List Seen) (session : Session) (commands : List Command) (command : Command) → happens session.plan (story_in session commands) command ≡ Nowhere Say.None
+    → ActorsStand tells world disks session commands → ActorsStand tells world disks session (command ∷ commands)
+actors_stay tells world disks session commands command is s =
+    let same = same_story session commands command is in
     record {
-      actors = actors_same_story _ _ world.cores world.traffic.items scenario (story_of scenario commands) (story_of scenario (command ∷ commands)) same s.actors;
-      few = few_same (story_of scenario commands) (story_of scenario (command ∷ commands)) (length commands) same s.few;
+      actors = actors_same_story _ _ world.cores world.traffic.items session (story_in session commands) (story_in session (command ∷ commands)) same s.actors;
+      few = few_same (story_in session commands) (story_in session (command ∷ commands)) (length commands) same s.few;
       others = s.others;
     }
 
 -- and it is answered by none
-pub nobody_hears : (tells : Bool) (world : World) (disks : List Seen) (heard : Heard) (scenario : Scenario) (commands : List Command) (command : Command)
-    → happens scenario (story_of scenario commands) command ≡ Nowhere Say.None → heard.answer ≡ Say.None → heard.sends ≡ []
-    → ActorsStand tells world disks scenario commands → IsHeard tells world disks heard command scenario commands
-nobody_hears tells world disks heard scenario commands command is answer sends s = record {
-  answer = subst (λ (h : Happened). IsAnswer (protocols scenario) (story_of scenario commands) h heard.answer) (sym is) answer;
-  sends = sends ∙ sym (ap (places_of (story_of scenario commands)) is);
-  next = actors_stay tells world disks scenario commands command is s;
+pub nobody_hears : (tells : Bool) (world : World) (disks : List Seen) (heard : Heard) (session : Session) (commands : List Command) (command : Command)
+    → happens session.plan (story_in session commands) command ≡ Nowhere Say.None → heard.answer ≡ Say.None → heard.sends ≡ []
+    → ActorsStand tells world disks session commands → IsHeard tells world disks heard command session commands
+nobody_hears tells world disks heard session commands command is answer sends s = record {
+  answer = subst (λ (h : Happened). IsAnswer (protocols session.plan) (story_in session commands) h heard.answer) (sym is) answer;
+  sends = sends ∙ sym (ap (places_of (story_in session commands)) is);
+  next = actors_stay tells world disks session commands command is s;
 }

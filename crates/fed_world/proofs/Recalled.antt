@@ -1,11 +1,11 @@
 -- What a world stands for with its disks it recalls without them.
 use Rattle.std.proofs.Common.{Bool, List}
 use Rattle.fed_rules.specs.declared.commands.Command.{Command}
-use Rattle.fed_rules.specs.declared.scenario.Scenario.{Scenario}
 use Rattle.fed_rules.specs.Scenarios.{global_program}
 use Rattle.fed_rules.specs.SitePast.{SitePast}
 use Rattle.fed_rules.specs.SiteRecords.{Home}
-use Rattle.fed_rules.specs.Story.{Story, coord_past, story_of}
+use Rattle.fed_rules.specs.Story.{Story, coord_past, story_in}
+use Rattle.fed_rules.specs.Sessions.{Session}
 use Rattle.journal_disk.specs.Disk.{Seen}
 use Rattle.any_engine.specs.declared.engine.AnyEngine.{AnyEngine}
 use Rattle.any_engine.specs.Stands as Engines
@@ -23,9 +23,9 @@ use Rattle.fed_world.specs.Worlds.{DbmsRecalls, DbmsStands, Recalls, Stands}
 
 -- what holds of each site in its seat holds of it in weaker words
 pub sites_weaker : (K L : OfDbms) → ((dbms : LocalDbms AnyEngine) (home : Home) (programs : OwnPrograms) (past : SitePast) → K dbms home programs past → L dbms home programs past)
-    → (cores : List (LocalDbms AnyEngine)) (marks : List Marks) (channels : List Traffic) (scenario : Scenario) (story : Story)
-    → SitesAt K cores marks channels scenario story → SitesAt L cores marks channels scenario story
-sites_weaker K L weaker cores marks channels scenario story s = record {
+    → (cores : List (LocalDbms AnyEngine)) (marks : List Marks) (channels : List Traffic) (session : Session) (story : Story)
+    → SitesAt K cores marks channels session story → SitesAt L cores marks channels session story
+sites_weaker K L weaker cores marks channels session story s = record {
   all_cores = s.all_cores;
   all_marks = s.all_marks;
   all_channels = s.all_channels;
@@ -40,17 +40,17 @@ sites_weaker K L weaker cores marks channels scenario story s = record {
 }
 
 -- the world recalls what it stands for
-pub recalls : (tells : Bool) (world : World) (disks : List Seen) (scenario : Scenario) (commands : List Command) → Stands tells world disks scenario commands → Recalls world scenario commands
-recalls tells world disks scenario commands s =
+pub recalls : (tells : Bool) (world : World) (disks : List Seen) (session : Session) (commands : List Command) → Stands tells world disks session commands → Recalls world session commands
+recalls tells world disks session commands s =
     let actors = s.stand.actors in
-    let story : Story = story_of scenario commands in
+    let story : Story = story_in session commands in
     record {
       has = s.has;
       routed = s.routed;
       actors = record {
-        coordinator = Manager.recalled policy_is tells world.cores.coordinator actors.coordinator.disk (terms_of scenario) (global_program scenario) (coord_past story) actors.coordinator.holds;
+        coordinator = Manager.recalled policy_is tells world.cores.coordinator actors.coordinator.disk (terms_of session.plan) (global_program session.plan) (coord_past story) actors.coordinator.holds;
         sites = sites_weaker (DbmsStands tells disks) DbmsRecalls
             (λ dbms home programs past at. Dbms.recalled Engines.Stands tells dbms at.disk home programs past at.holds)
-            world.cores.sites.items.items world.cores.marks.items world.traffic.items scenario story actors.sites;
+            world.cores.sites.items.items world.cores.marks.items world.traffic.items session story actors.sites;
       };
     }

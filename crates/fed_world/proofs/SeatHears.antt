@@ -1,7 +1,7 @@
 -- What a seat holds behind a line, from what its site was told.
-use Rattle.std.proofs.Common.{◌≡◌, ℕ, Option, Some, None, List, [], ◌∷◌, ◌++◌, length, reverse, option_to_list, refl, sym, ap, ap₂, ◌∙◌, arith}
+use Rattle.std.proofs.Common.{◌≡◌, ℕ, List, [], ◌∷◌, ◌++◌, length, reverse, option_to_list, refl, sym, ap, ap₂, ◌∙◌, arith}
 use Rattle.std.proofs.lemmas.Bool.{cond-false, le-ltb}
-use Rattle.std.proofs.lemmas.List.{append-nil, reverse-reverse, length-reverse}
+use Rattle.std.proofs.lemmas.List.{append_assoc, append-nil, reverse-reverse, length-reverse}
 use Rattle.mdb_base.specs.declared.names.SiteId.{SiteId}
 use Rattle.fed_rules.specs.declared.commands.Place.{Place}
 use Rattle.fed_rules.specs.declared.events.SiteEvent.{SiteEvent}
@@ -38,15 +38,16 @@ request_marks home past (Submits event) m = sym (line_marks_one home past event 
 request_marks home past (Declines answer) m = ap (λ (ms : List Mark). kept_marks home past ++ ms) (none_new (journal home past)) ∙ append-nil (kept_marks home past)
 
 -- the marks, from the records that stood on the disk before and stand there behind
-pub seat_marks : (home : Home) (past : SitePast) (r : Request SiteEvent) (kept now : List Mark) (before : ℕ) (old new : List SiteRecord) → IsGoingOn home past → kept ≡ kept_marks home past
-    → before ≡ length old → old ≡ reverse (journal home past) → new ≡ reverse (journal home (past_behind home past r)) → now ≡ kept ++ new_marks before (reverse new)
-    → now ≡ kept_marks home (past_behind home past r)
-seat_marks home past r kept now before old new m is count was are added =
+pub seat_marks : (home : Home) (past : SitePast) (r : Request SiteEvent) (first kept now : List Mark) (before : ℕ) (old new : List SiteRecord) → IsGoingOn home past
+    → first ++ kept ≡ kept_marks home past → before ≡ length old → old ≡ reverse (journal home past) → new ≡ reverse (journal home (past_behind home past r))
+    → now ≡ kept ++ new_marks before (reverse new) → first ++ now ≡ kept_marks home (past_behind home past r)
+seat_marks home past r first kept now before old new m is count was are added =
     let turned : reverse new ≡ journal home (past_behind home past r) = ap (λ (rs : List SiteRecord). reverse rs) are ∙ reverse-reverse (journal home (past_behind home past r)) in
     let many : before ≡ length (journal home past) = count ∙ (ap (λ (rs : List SiteRecord). length rs) was ∙ length-reverse (journal home past)) in
-    added
+    ap (λ (ms : List Mark). first ++ ms) added
+    ∙ (sym (append_assoc first kept (new_marks before (reverse new)))
     ∙ (ap (λ (ms : List Mark). ms ++ new_marks before (reverse new)) is
-    ∙ (ap₂ (λ (n : ℕ) (rs : List SiteRecord). kept_marks home past ++ new_marks n rs) many turned ∙ request_marks home past r m))
+    ∙ (ap₂ (λ (n : ℕ) (rs : List SiteRecord). kept_marks home past ++ new_marks n rs) many turned ∙ request_marks home past r m)))
 
 -- what the site sends is put behind what it sent, and its place is noted
 pub record Sets (step : SiteStep) (old traffic : Traffic) (sends : List Place) : Type 0 where
@@ -55,11 +56,11 @@ pub record Sets (step : SiteStep) (old traffic : Traffic) (sends : List Place) :
   pub to : traffic.to.items ≡ old.to.items
   pub from : traffic.from.items ≡ old.from.items ++ option_to_list step.sends
 
-module _ (K L : Home → OwnPrograms → SitePast → Type 0) (step : SiteStep) (home : Home) (programs : OwnPrograms) (past : SitePast) (to : List ToSite) (from : List FromSite) (r : Request SiteEvent) where
+module _ (K L : Home → OwnPrograms → SitePast → Type 0) (step : SiteStep) (home : Home) (programs : OwnPrograms) (past : SitePast) (first : List Mark) (to : List ToSite) (from : List FromSite) (r : Request SiteEvent) where
   -- the seat behind the line
-  pub seat_hears : (heard : Heard) (own marks : Marks) (old traffic : Traffic) → PartAt K own old home programs past to from → Tells L step home programs past r
-      → heard.answer ≡ step.answer → marks.site ≡ own.site → marks.kept.items ≡ kept_marks home (past_behind home past r) → Sets step old traffic heard.sends
-      → PartHears L heard marks traffic home programs past to from r
+  pub seat_hears : (heard : Heard) (own marks : Marks) (old traffic : Traffic) → PartAt K own old home programs past first to from → Tells L step home programs past r
+      → heard.answer ≡ step.answer → marks.site ≡ own.site → first ++ marks.kept.items ≡ kept_marks home (past_behind home past r) → Sets step old traffic heard.sends
+      → PartHears L heard marks traffic home programs past first to from r
   seat_hears heard own marks old traffic p t answer named marked s = record {
     said = answer ∙ t.said;
     places = s.places ∙ (ap₂ (λ (n : ℕ) (ms : List FromSite). place_from old.site n ms) (ap (λ (ms : List FromSite). length ms) p.from) t.sent

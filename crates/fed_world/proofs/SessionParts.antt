@@ -1,5 +1,5 @@
 -- What a world hands to the report of its session is that of its story.
-use Rattle.std.proofs.Common.{◌≡◌, ℕ, zero, suc, ◌+◌, Option, Some, List, [], ◌∷◌, ◌++◌, length, map, take, reverse, slice_get, refl, sym, ◌∙◌, ap, ap₂, subst, add-one, arith}
+use Rattle.std.proofs.Common.{◌≡◌, ℕ, zero, suc, ◌+◌, Option, Some, List, [], ◌∷◌, ◌++◌, length, map, take, reverse, slice_get, inl, inr, refl, sym, ◌∙◌, ap, ap₂, subst, add-one, arith}
 use Rattle.std.proofs.lemmas.Option.{slice_get_within}
 use Rattle.mdb_base.specs.declared.names.SiteId.{SiteId}
 use Rattle.mdb_base.specs.declared.names.Tid.{Tid}
@@ -19,12 +19,16 @@ use Rattle.fed_rules.specs.Runs.{rows}
 use Rattle.fed_rules.specs.Scenarios.{home_of, sites}
 use Rattle.fed_rules.specs.SitePast.{SitePast, engine_lines, epoch_start, records}
 use Rattle.fed_rules.specs.SiteRecords.{Home, site_rows}
-use Rattle.fed_rules.specs.Story.{Story, coord_past, past_of, sent_from, story_of}
+use Rattle.fed_rules.specs.Found.{Found}
+use Rattle.fed_rules.specs.Resumed.{going_on}
+use Rattle.fed_rules.specs.Sessions.{Session, fresh}
+use Rattle.fed_rules.specs.Story.{Story, coord_past, past_of, sent_from, story_in, story_of}
+use Rattle.resume_laws.specs.FoundSessions.{AreUsable, IsOfFormat}
+use Rattle.resume_laws.proofs.FoundSessions.{sessions_go_on_so}
 use Rattle.site_history.proofs.MadeSorted.{events_sorted}
 use Rattle.any_engine.specs.declared.engine.AnyEngine.{AnyEngine}
 use Rattle.closing_laws.specs.AtRest.{IsAtRest}
 use Rattle.local_dbms.specs.declared.dbms.LocalDbms.{LocalDbms}
-use Rattle.local_dbms.specs.Stands.{own_programs}
 use Rattle.session_report.specs.declared.marks.Marks.{Marks}
 use Rattle.session_report.specs.declared.session.Channel.{Channel}
 use Rattle.session_report.specs.Marks.{kept_marks}
@@ -34,7 +38,9 @@ use Rattle.fed_world.specs.Seats.{OfDbms, SiteAt, SitesAt}
 use Rattle.fed_world.specs.declared.world.World.{World}
 use Rattle.fed_world.specs.Reporting.{Tells, channel_of, rows_at}
 use Rattle.fed_world.specs.Worlds.{DbmsRecalls, HasLines, Recalls}
-use Rattle.fed_world.proofs.EngineRows.{engine_rows}
+use Rattle.fed_world.specs.Beginnings.{Begins, programs_at}
+use Rattle.fed_world.proofs.EngineRows.{engine_rows, found_rows}
+use Rattle.fed_world.proofs.RightLines.{right_fresh}
 
 -- ---- lists place by place
 
@@ -61,22 +67,25 @@ taken_more f xs n x e = ap (λ m. map f (take m xs)) (add-one n) ∙ by_place xs
     by_place (z ∷ ys) zero y e = let same : z ≡ y = cc in ap (λ w. f w ∷ []) same
     by_place (z ∷ ys) (suc m) y e = ap (λ ws. f z ∷ ws) (by_place ys m y e)
 
+same_one : {A : Type 0} (x y : A) (o : Option A) → o ≡ Some x → o ≡ Some y → x ≡ y
+same_one x y o p q = let e : Some x ≡ Some y = sym p ∙ q in cc
+
 -- ---- the parts of a site
 
 -- what stands at the place of a site
-pub record StandsThere (K : OfDbms) (cores : List (LocalDbms AnyEngine)) (marks : List Marks) (channels : List Traffic) (scenario : Scenario) (story : Story) (place : ℕ) (site : SiteId) : Type 0 where
+pub record StandsThere (K : OfDbms) (cores : List (LocalDbms AnyEngine)) (marks : List Marks) (channels : List Traffic) (session : Session) (story : Story) (place : ℕ) (site : SiteId) : Type 0 where
   pub dbms : LocalDbms AnyEngine
   pub own : Marks
   pub traffic : Traffic
   pub core_is : slice_get cores place ≡ Some dbms
   pub marks_are : slice_get marks place ≡ Some own
   pub traffic_is : slice_get channels place ≡ Some traffic
-  pub site_at : SiteAt K dbms own traffic scenario site story
+  pub site_at : SiteAt K dbms own traffic session site story
 
-module _ (K : OfDbms) (cores : List (LocalDbms AnyEngine)) (marks : List Marks) (channels : List Traffic) (scenario : Scenario) (story : Story) (all : SitesAt K cores marks channels scenario story) where
-  pub there : (place : ℕ) (site : SiteId) → slice_get (sites scenario) place ≡ Some site → StandsThere K cores marks channels scenario story place site
+module _ (K : OfDbms) (cores : List (LocalDbms AnyEngine)) (marks : List Marks) (channels : List Traffic) (session : Session) (story : Story) (all : SitesAt K cores marks channels session story) where
+  pub there : (place : ℕ) (site : SiteId) → slice_get (sites session.plan) place ≡ Some site → StandsThere K cores marks channels session story place site
   there place site e =
-      let within = slice_get_within (sites scenario) place site e in
+      let within = slice_get_within (sites session.plan) place site e in
       let (dbms, core_is) = slice_get-there cores place (let n = all.all_cores in omega (arith, within, n)) in
       let (own, marks_are) = slice_get-there marks place (let n = all.all_marks in omega (arith, within, n)) in
       let (traffic, traffic_is) = slice_get-there channels place (let n = all.all_channels in omega (arith, within, n)) in
@@ -94,17 +103,14 @@ module _ (K : OfDbms) (cores : List (LocalDbms AnyEngine)) (marks : List Marks) 
   abbrev IsOf : Traffic → SiteId → Type 0
   IsOf traffic site = (traffic.site ≡ site) × (traffic.from.items ≡ sent_from site story)
 
-  some_is : {A : Type 0} (x y : A) (o : Option A) → o ≡ Some x → o ≡ Some y → x ≡ y
-  some_is x y o p q = let e : Some x ≡ Some y = sym p ∙ q in cc
-
-  are_of : AllPairs IsOf channels (sites scenario)
-  are_of = paired IsOf channels (sites scenario) all.all_channels (λ n traffic site at e.
+  are_of : AllPairs IsOf channels (sites session.plan)
+  are_of = paired IsOf channels (sites session.plan) all.all_channels (λ n traffic site at e.
       let t = there n site e in
-      let same = some_is t.traffic traffic (slice_get channels n) t.traffic_is at in
+      let same = same_one t.traffic traffic (slice_get channels n) t.traffic_is at in
       subst (λ (one : Traffic). IsOf one site) same (t.site_at.part.site ∙ t.site_at.is, t.site_at.part.from))
 
-  pub messages_held : HoldsMessages scenario story (map channel_of channels)
-  messages_held = record { sites = named channels (sites scenario) are_of; sent = sent channels (sites scenario) are_of }
+  pub messages_held : HoldsMessages session.plan story (map channel_of channels)
+  messages_held = record { sites = named channels (sites session.plan) are_of; sent = sent channels (sites session.plan) are_of }
     where
       named : (ts : List Traffic) (ss : List SiteId) → AllPairs IsOf ts ss → map (λ (channel : Channel). channel.site) (map channel_of ts) ≡ ss
       named [] [] h = refl
@@ -118,14 +124,15 @@ module _ (K : OfDbms) (cores : List (LocalDbms AnyEngine)) (marks : List Marks) 
       sent [] (s ∷ ss) h = absurd h
       sent (t ∷ ts) [] h = absurd h
 
+module _ (K : OfDbms) (cores : List (LocalDbms AnyEngine)) (marks : List Marks) (channels : List Traffic) (scenario : Scenario) (story : Story) (all : SitesAt K cores marks channels (fresh scenario) story) where
   -- the marks of a site are those of its records
   abbrev Marks_of : Marks → SiteId → Type 0
   Marks_of own site = (own.site ≡ site) × (own.kept.items ≡ marks_of scenario story site)
 
   are_marked : AllPairs Marks_of marks (sites scenario)
   are_marked = paired Marks_of marks (sites scenario) all.all_marks (λ n own site at e.
-      let t = there n site e in
-      let same = some_is t.own own (slice_get marks n) t.marks_are at in
+      let t = there K cores marks channels (fresh scenario) story all n site e in
+      let same = same_one t.own own (slice_get marks n) t.marks_are at in
       let s = t.site_at in
       let kept : t.own.kept.items ≡ marks_of scenario story site =
       s.part.marks ∙ (ap (λ z. kept_marks s.home (past_of z story)) (sym s.is) ∙ ap (λ o. marks_at o story) (sym s.declared)) in
@@ -148,49 +155,69 @@ module _ (K : OfDbms) (cores : List (LocalDbms AnyEngine)) (marks : List Marks) 
 
 -- ---- the rows of a site
 
--- the rows of the engine of a declared site are those of its table
-pub engine_table : (scenario : Scenario) (commands : List Command) (site : SiteId) (home : Home) → home.site ≡ site → home_of scenario site ≡ Some home
-    → rows (epoch_start home (past_of site (story_of scenario commands))) (engine_lines (past_of site (story_of scenario commands))) ≡ table_of scenario (story_of scenario commands) site
-engine_table scenario commands site home is declared =
-    let story = story_of scenario commands in
-    let m = events_sorted scenario commands site home declared in
-    let made : past_of site story ≡ _ = ap (λ z. past_of z story) (sym is) ∙ m.made in
+-- the rows of the engine of a site are those of its records
+abbrev HasRows : Session → Type 0
+HasRows session =
+    (commands : List Command) (home : Home) → home_of session.plan home.site ≡ Some home
+    → rows (epoch_start home (past_of home.site (story_in session commands))) (engine_lines (past_of home.site (story_in session commands)))
+    ≡ site_rows home (records home (past_of home.site (story_in session commands)))
+
+fresh_rows : (scenario : Scenario) → HasRows (fresh scenario)
+fresh_rows scenario commands home declared =
+    let m = events_sorted scenario commands home.site home declared in
+    subst (λ (past : SitePast). rows (epoch_start home past) (engine_lines past) ≡ site_rows home (records home past)) (sym m.made) (engine_rows home _ m.events m.sorted)
+
+going_rows : (found : Found) → AreUsable found → Each IsOfFormat found.sites → HasRows (going_on found)
+going_rows found usable format commands home declared =
+    let p = sessions_go_on_so found usable format commands home.site home declared in
+    subst (λ (past : SitePast). rows (epoch_start home past) (engine_lines past) ≡ site_rows home (records home past)) (sym p.is) (found_rows home p.local p.journal p.found p.events p.sorted)
+
+session_rows : (session : Session) → Begins session → HasRows session
+session_rows session (inl is) = subst (λ (s : Session). HasRows s) (sym is) (fresh_rows session.plan)
+session_rows session (inr goes) = subst (λ (s : Session). HasRows s) (sym goes.is) (going_rows session.found goes.usable goes.format)
+
+-- so those of a declared site are those of its table
+pub engine_table : (session : Session) → Begins session → (commands : List Command) (site : SiteId) (home : Home) → home.site ≡ site → home_of session.plan site ≡ Some home
+    → rows (epoch_start home (past_of site (story_in session commands))) (engine_lines (past_of site (story_in session commands))) ≡ table_of session.plan (story_in session commands) site
+engine_table session begins commands site home is declared =
+    let story : Story = story_in session commands in
+    let here : home_of session.plan home.site ≡ Some home = ap (home_of session.plan) is ∙ declared in
     let same : rows (epoch_start home (past_of site story)) (engine_lines (past_of site story)) ≡ site_rows home (records home (past_of site story)) =
-    subst (λ (past : SitePast). rows (epoch_start home past) (engine_lines past) ≡ site_rows home (records home past)) (sym made) (engine_rows home _ m.events m.sorted) in
+    subst (λ (z : SiteId). rows (epoch_start home (past_of z story)) (engine_lines (past_of z story)) ≡ site_rows home (records home (past_of z story))) is (session_rows session begins commands home here) in
     same ∙ (ap (λ z. site_rows home (records home (past_of z story))) (sym is) ∙ ap (λ o. table_at o story) (sym declared))
 
 -- what the core of the site at a place gives
-pub rows_are : (scenario : Scenario) (commands : List Command) (world : World) → Recalls world scenario commands → (place : ℕ) (site : SiteId) → slice_get (sites scenario) place ≡ Some site
+pub rows_are : (session : Session) (commands : List Command) (world : World) → Recalls world session commands → (place : ℕ) (site : SiteId) → slice_get (sites session.plan) place ≡ Some site
     → (dbms : LocalDbms AnyEngine) (traffic : Traffic) → slice_get world.cores.sites.items.items place ≡ Some dbms → slice_get world.traffic.items place ≡ Some traffic
-    → (puts : List Put) → ((home : Home) → DbmsRecalls dbms home (own_programs site scenario.transactions) (past_of site (story_of scenario commands))
-    → puts ≡ rows (epoch_start home (past_of site (story_of scenario commands))) (engine_lines (past_of site (story_of scenario commands))))
-    → record { site = traffic.site; rows = puts } ≡ rows_at scenario (story_of scenario commands) site
-rows_are scenario commands world r place site e dbms traffic core channel puts gives =
-    let story = story_of scenario commands in
+    → (puts : List Put) → ((home : Home) → DbmsRecalls dbms home (programs_at session site) (past_of site (story_in session commands))
+    → puts ≡ rows (epoch_start home (past_of site (story_in session commands))) (engine_lines (past_of site (story_in session commands))))
+    → record { site = traffic.site; rows = puts } ≡ rows_at session.plan (story_in session commands) site
+rows_are session commands world r place site e dbms traffic core channel puts gives =
+    let story = story_in session commands in
     let all = r.actors.sites in
-    let t = there DbmsRecalls world.cores.sites.items.items world.cores.marks.items world.traffic.items scenario story all place site e in
+    let t = there DbmsRecalls world.cores.sites.items.items world.cores.marks.items world.traffic.items session story all place site e in
     let s = all.each place site dbms t.own traffic e core t.marks_are channel in
     let named = s.part.site ∙ s.is in
-    let same = gives s.home s.part.dbms ∙ engine_table scenario commands site s.home s.is s.declared in
+    let same = gives s.home s.part.dbms ∙ engine_table session r.has.begins commands site s.home s.is s.declared in
     λ i. record { site = named i; rows = same i }
 
 -- ---- the session
 
 -- the lines determine the commands
-pub told_story : (world : World) (scenario : Scenario) (commands : List Command) → HasLines world scenario commands → story_of_lines world.cores.scenario world.lines.items ≡ story_of scenario commands
+pub told_story : (world : World) (scenario : Scenario) (commands : List Command) → HasLines world (fresh scenario) commands → story_of_lines world.cores.scenario world.lines.items ≡ story_of scenario commands
 told_story world scenario commands h =
     ap₂ (λ (z : Scenario) (cs : List Command). story_of z cs) h.scenario_is (ap (λ (z : Scenario). map (λ (line : Line). line.command) (reverse world.lines.items)) h.scenario_is ∙ h.commands_are)
 
 -- it is a session, with these rows
-pub is_session : (scenario : Scenario) (commands : List Command) (world : World) → Recalls world scenario commands → IsAtRest scenario (story_of scenario commands) → (puts : List SiteRows)
+pub is_session : (scenario : Scenario) (commands : List Command) (world : World) → Recalls world (fresh scenario) commands → IsAtRest scenario (story_of scenario commands) → (puts : List SiteRows)
     → puts ≡ tables scenario (story_of scenario commands) → IsSession world.cores.scenario world.lines.items (map channel_of world.traffic.items) world.cores.marks.items puts
 is_session scenario commands world r rest puts shown =
     subst (λ (z : Scenario). IsSession z world.lines.items (map channel_of world.traffic.items) world.cores.marks.items puts) (sym r.has.scenario_is)
     (record {
-      right = r.has.right;
+      right = right_fresh scenario (reverse world.lines.items) r.has.right;
       over = subst (λ (cs : List Command). IsOver scenario (story_of scenario cs)) (sym r.has.commands_are) (record { up = rest.coordinator_up; none_known = rest.none_known });
       messages = subst (λ (cs : List Command). HoldsMessages scenario (story_of scenario cs) (map channel_of world.traffic.items)) (sym r.has.commands_are)
-          (messages_held DbmsRecalls world.cores.sites.items.items world.cores.marks.items world.traffic.items scenario (story_of scenario commands) r.actors.sites);
+          (messages_held DbmsRecalls world.cores.sites.items.items world.cores.marks.items world.traffic.items (fresh scenario) (story_of scenario commands) r.actors.sites);
       marked = subst (λ (cs : List Command). HoldsMarks scenario (story_of scenario cs) world.cores.marks.items) (sym r.has.commands_are)
           (marks_held DbmsRecalls world.cores.sites.items.items world.cores.marks.items world.traffic.items scenario (story_of scenario commands) r.actors.sites);
       shown = shown ∙ ap (λ (cs : List Command). tables scenario (story_of scenario cs)) (sym r.has.commands_are);
@@ -205,7 +232,7 @@ session_again world channels puts session lines sent marks told copied kept =
     (subst (λ (ms : List Marks). IsSession world.cores.scenario world.lines.items channels ms puts) (sym kept) session))
 
 -- the coordinator tells of its commits
-pub tells_commits : (scenario : Scenario) (commands : List Command) (world : World) → Recalls world scenario commands → IsAtRest scenario (story_of scenario commands) → (lines : List Line) → lines ≡ world.lines.items
+pub tells_commits : (scenario : Scenario) (commands : List Command) (world : World) → Recalls world (fresh scenario) commands → IsAtRest scenario (story_of scenario commands) → (lines : List Line) → lines ≡ world.lines.items
     → (tx : Tx) (found : Option Tid) → Tells world tx found → found ≡ committed_of (Coordinator.records (coord_past (story_of_lines world.cores.scenario lines))) tx
 tells_commits scenario commands world r rest lines told tx found gives =
     gives _ _ _ r.actors.coordinator rest.coordinator_up

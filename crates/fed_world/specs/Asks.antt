@@ -12,10 +12,12 @@ use Rattle.fed_rules.specs.CoordCommands.{go_request, fate_request, attempt_requ
 use Rattle.fed_rules.specs.CoordPast.{CoordPast}
 use Rattle.fed_rules.specs.Requests.{Request, Submits}
 use Rattle.fed_rules.specs.Scenarios.{global_program, home_of, policy, protocols, sites}
+use Rattle.fed_rules.specs.Sessions.{Session}
 use Rattle.fed_rules.specs.SiteRecords.{Home}
 use Rattle.fed_rules.specs.Story.{Story, Nowhere, coord_past, coord_requested, happens, past_of, requested, sent_to}
 use Rattle.coord_tables.specs.Terms.{Terms}
-use Rattle.local_dbms.specs.Stands.{OwnPrograms, own_programs}
+use Rattle.local_dbms.specs.Stands.{OwnPrograms}
+use Rattle.fed_world.specs.Beginnings.{programs_at}
 use Rattle.fed_world.specs.SiteAsks.{site_request}
 use Rattle.fed_world.specs.declared.asks.Asked.{Asked}
 use Rattle.fed_world.specs.declared.asks.Asked.TheVariants.{Site, Coordinator, Nobody}
@@ -56,20 +58,20 @@ IsFromSite (Coord.Take site message) scenario = IsAmong site (protocols scenario
 IsFromSite ask scenario = Unit {0}
 
 -- the command makes happen what this request of the site at this place comes to
-pub record AsksSite (place : ℕ) (ask : SiteAsk) (command : Command) (scenario : Scenario) (story : Story) : Type 0 where
+pub record AsksSite (place : ℕ) (ask : SiteAsk) (command : Command) (session : Session) (story : Story) : Type 0 where
   pub home : Home
-  pub declared : home_of scenario home.site ≡ Some home
-  pub at : slice_get (sites scenario) place ≡ Some home.site
-  pub happens : happens scenario story command ≡ requested home story (site_request ask home (own_programs home.site scenario.transactions) (past_of home.site story))
+  pub declared : home_of session.plan home.site ≡ Some home
+  pub at : slice_get (sites session.plan) place ≡ Some home.site
+  pub happens : happens session.plan story command ≡ requested home story (site_request ask home (programs_at session home.site) (past_of home.site story))
   pub sent : WasSent ask home.site story
 
 -- what this request of the coordinator comes to
-pub record AsksCoordinator (ask : CoordAsk) (command : Command) (scenario : Scenario) (story : Story) : Type 0 where
-  pub happens : happens scenario story command ≡ coord_requested scenario story (coord_request ask (terms_of scenario) (global_program scenario) (coord_past story))
-  pub from : IsFromSite ask scenario
+pub record AsksCoordinator (ask : CoordAsk) (command : Command) (session : Session) (story : Story) : Type 0 where
+  pub happens : happens session.plan story command ≡ coord_requested session.plan story (coord_request ask (terms_of session.plan) (global_program session.plan) (coord_past story))
+  pub from : IsFromSite ask session.plan
 
 -- who hears of the command, and what is asked
-abbrev pub IsAsked : Asked → Command → Scenario → Story → Type 0
-IsAsked (Site place ask) command scenario story = AsksSite place ask command scenario story
-IsAsked (Coordinator ask) command scenario story = AsksCoordinator ask command scenario story
-IsAsked Nobody command scenario story = happens scenario story command ≡ Nowhere Say.None
+abbrev pub IsAsked : Asked → Command → Session → Story → Type 0
+IsAsked (Site place ask) command session story = AsksSite place ask command session story
+IsAsked (Coordinator ask) command session story = AsksCoordinator ask command session story
+IsAsked Nobody command session story = happens session.plan story command ≡ Nowhere Say.None

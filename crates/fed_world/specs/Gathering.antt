@@ -5,6 +5,7 @@ use Rattle.fed_rules.specs.declared.commands.Command.{Command}
 use Rattle.fed_rules.specs.declared.commands.Line.{Line}
 use Rattle.fed_rules.specs.declared.scenario.Scenario.{Scenario}
 use Rattle.fed_rules.specs.Scenarios.{global_program, home_of, sites}
+use Rattle.fed_rules.specs.Sessions.{fresh}
 use Rattle.fed_rules.specs.SiteRecords.{Home}
 use Rattle.fed_rules.specs.Story.{Story, coord_past, past_of, sent_from, sent_to, story_of}
 use Rattle.journal_disk.specs.Disk.{Seen}
@@ -68,4 +69,4 @@ Gathers cores lines channels scenario commands = GathersAt ManagerRecalls DbmsRe
 pub record GathersOn (tells : Bool) (disks : List Seen) (cores : Cores) (lines : List Line) (channels : List Channel) (scenario : Scenario) (commands : List Command) : Type 0 where
   pub parts : GathersAt (ManagerStands tells disks) (DbmsStands tells disks) cores lines channels scenario commands
   pub few : AreFew (story_of scenario commands) (length commands)
-  pub others : AreDisks disks scenario
+  pub others : AreDisks disks (fresh scenario)

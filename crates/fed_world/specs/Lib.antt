@@ -1,8 +1,12 @@
 pub mod Asks
+pub mod Beginnings
 pub mod Faults
+pub mod FoundBegun
 pub mod Gathering
 pub mod Hearers
+pub mod Lines
 pub mod Messages
+pub mod Reopening
 pub mod Reporting
 pub mod SettingUp
 pub mod Worlds
@@ -10,3 +14,4 @@ pub mod SiteAsks
 pub mod SeatParts
 pub mod Seats
 pub mod FewCommands
+pub mod FreshWorlds

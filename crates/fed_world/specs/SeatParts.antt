@@ -11,6 +11,7 @@ use Rattle.fed_rules.specs.SiteRecords.{Home}
 use Rattle.fed_rules.specs.Story.{place_from}
 use Rattle.actor_store.specs.declared.errors.StepErr.{StepErr}
 use Rattle.local_dbms.specs.Stands.{Fails, OwnPrograms}
+use Rattle.session_report.specs.declared.marks.Mark.{Mark}
 use Rattle.session_report.specs.declared.marks.Marks.{Marks}
 use Rattle.session_report.specs.Marks.{kept_marks}
 use Rattle.fed_world.specs.declared.site_asks.Heard.{Heard}
@@ -23,26 +24,26 @@ pub record Tells (K : Home → OwnPrograms → SitePast → Type 0) (step : Site
   pub sent : option_to_list step.sends ≡ sends_of home past r
   pub next : K home programs (past_behind home past r)
 
--- the site stands for its past, the marks are those of its records, and these are its messages
-pub record PartAt (K : Home → OwnPrograms → SitePast → Type 0) (own : Marks) (traffic : Traffic) (home : Home) (programs : OwnPrograms) (past : SitePast) (sent : List ToSite) (back : List FromSite) : Type 0 where
+-- the site stands for its past, the marks are those of its records behind the first ones, and these are its messages
+pub record PartAt (K : Home → OwnPrograms → SitePast → Type 0) (own : Marks) (traffic : Traffic) (home : Home) (programs : OwnPrograms) (past : SitePast) (first : List Mark) (sent : List ToSite) (back : List FromSite) : Type 0 where
   pub dbms : K home programs past
   pub marked : own.site ≡ home.site
   pub site : traffic.site ≡ home.site
-  pub marks : own.kept.items ≡ kept_marks home past
+  pub marks : first ++ own.kept.items ≡ kept_marks home past
   pub to : traffic.to.items ≡ sent
   pub from : traffic.from.items ≡ back
 
 -- a request is answered, what it sends is numbered behind what was sent, and the site stands for what it leaves
-pub record PartHears (K : Home → OwnPrograms → SitePast → Type 0) (heard : Heard) (marks : Marks) (traffic : Traffic) (home : Home) (programs : OwnPrograms) (past : SitePast) (to : List ToSite) (from : List FromSite) (r : Request SiteEvent) : Type 0 where
+pub record PartHears (K : Home → OwnPrograms → SitePast → Type 0) (heard : Heard) (marks : Marks) (traffic : Traffic) (home : Home) (programs : OwnPrograms) (past : SitePast) (first : List Mark) (to : List ToSite) (from : List FromSite) (r : Request SiteEvent) : Type 0 where
   pub said : heard.answer ≡ answer_to home past r
   pub places : heard.sends ≡ place_from home.site (length from) (sends_of home past r)
-  pub next : PartAt K marks traffic home programs (past_behind home past r) to (from ++ sends_of home past r)
+  pub next : PartAt K marks traffic home programs (past_behind home past r) first to (from ++ sends_of home past r)
 
 -- what isn't heard: want of memory changes nothing, and a failed disk call only the local database system
-pub record PartFails (K : Home → OwnPrograms → SitePast → Type 0) (why : StepErr) (own : Marks) (traffic : Traffic) (home : Home) (programs : OwnPrograms) (past : SitePast) (sent : List ToSite) (back : List FromSite) (r : Request SiteEvent) : Type 0 where
+pub record PartFails (K : Home → OwnPrograms → SitePast → Type 0) (why : StepErr) (own : Marks) (traffic : Traffic) (home : Home) (programs : OwnPrograms) (past : SitePast) (first : List Mark) (sent : List ToSite) (back : List FromSite) (r : Request SiteEvent) : Type 0 where
   pub dbms : Fails K why home programs past r
   pub marked : own.site ≡ home.site
   pub site : traffic.site ≡ home.site
-  pub marks : own.kept.items ≡ kept_marks home past
+  pub marks : first ++ own.kept.items ≡ kept_marks home past
   pub to : traffic.to.items ≡ sent
   pub from : traffic.from.items ≡ back

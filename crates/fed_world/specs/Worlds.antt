@@ -1,17 +1,17 @@
--- The scenarios and commands that a world stands for, and what a call does to them. Commands stand newest first.
-use Rattle.std.specs.Prelude.{ℕ, zero, suc, ◌≡◌, ◌≤◌, ◌<◌, ◌^◌, Bool, true, false, Some, None, List, [], ◌∷◌, ◌++◌, length, map, reverse, slice_get}
+-- The sessions and commands that a world stands for, and what a call does to them. Commands stand newest first.
+use Rattle.std.specs.Prelude.{ℕ, zero, suc, ◌≡◌, ◌≤◌, ◌<◌, ◌^◌, ◌+◌, Bool, true, false, Some, None, List, [], ◌∷◌, ◌++◌, length, map, reverse, slice_get}
 use Rattle.mdb_base.specs.declared.names.SiteId.{SiteId}
 use Rattle.fed_rules.specs.declared.commands.Command.{Command}
 use Rattle.fed_rules.specs.declared.commands.Line.{Line}
 use Rattle.fed_rules.specs.declared.events.CoordEvent.{CoordEvent}
 use Rattle.fed_rules.specs.declared.events.SiteEvent.{SiteEvent}
-use Rattle.fed_rules.specs.declared.scenario.Scenario.{Scenario}
 use Rattle.fed_rules.specs.CoordPast.{CoordPast}
 use Rattle.fed_rules.specs.Requests.{Request}
-use Rattle.fed_rules.specs.Right.{IsAnswer, IsRightStory}
+use Rattle.fed_rules.specs.Right.{IsAnswer}
 use Rattle.fed_rules.specs.Scenarios.{global_program, home_of, protocols, sites}
+use Rattle.fed_rules.specs.Sessions.{Session}
 use Rattle.fed_rules.specs.SiteRecords.{Home}
-use Rattle.fed_rules.specs.Story.{Story, coord_past, coord_requested, happens, past_of, places_of, requested, story_of, tell}
+use Rattle.fed_rules.specs.Story.{Story, coord_past, coord_requested, happens, past_of, places_of, requested, story_in, tell}
 use Rattle.journal_disk.specs.Disk.{Seen}
 use Rattle.actor_store.specs.declared.errors.StepErr.{StepErr}
 use Rattle.actor_store.specs.declared.errors.StepErr.TheVariants as Step_err
@@ -25,7 +25,7 @@ use Rattle.global_manager.specs.declared.manager.GlobalManager.{GlobalManager}
 use Rattle.global_manager.specs.Stands as Manager
 use Rattle.local_dbms.specs.declared.dbms.LocalDbms.{LocalDbms}
 use Rattle.local_dbms.specs.Stands as Dbms
-use Rattle.local_dbms.specs.Stands.{OwnPrograms, own_programs}
+use Rattle.local_dbms.specs.Stands.{OwnPrograms}
 use Rattle.fed_world.specs.declared.site_asks.Heard.{Heard}
 use Rattle.fed_world.specs.declared.cores.Cores.{Cores}
 use Rattle.fed_world.specs.declared.errors.WorldErr.{WorldErr}
@@ -35,6 +35,8 @@ use Rattle.fed_world.specs.declared.world.World.{World}
 use Rattle.fed_world.specs.declared.asks.CoordAsk.{CoordAsk}
 use Rattle.fed_world.specs.declared.site_asks.SiteAsk.{SiteAsk}
 use Rattle.fed_world.specs.Asks.{AsksCoordinator, AsksSite, terms_of}
+use Rattle.fed_world.specs.Beginnings.{Begins, IsBlank, Remembers, made_up, programs_at, scenario_of}
+use Rattle.fed_world.specs.Lines.{IsRightIn}
 use Rattle.fed_world.specs.Seats.{AreFew, OfDbms, SitesAt}
 use Rattle.session_routes.specs.Routes.{IsRouted}
 
@@ -69,87 +71,90 @@ DbmsStands tells disks dbms home programs past = OnDisk disks home.site.0 (λ di
 -- ---- the parts of a world
 
 -- the coordinator and the sites
-pub record ActorsAt (M : OfManager) (K : OfDbms) (cores : Cores) (channels : List Traffic) (scenario : Scenario) (story : Story) : Type 0 where
-  pub coordinator : M cores.coordinator (terms_of scenario) (global_program scenario) (coord_past story)
-  pub sites : SitesAt K cores.sites.items.items cores.marks.items channels scenario story
+pub record ActorsAt (M : OfManager) (K : OfDbms) (cores : Cores) (channels : List Traffic) (session : Session) (story : Story) : Type 0 where
+  pub coordinator : M cores.coordinator (terms_of session.plan) (global_program session.plan) (coord_past story)
+  pub sites : SitesAt K cores.sites.items.items cores.marks.items channels session story
 
--- the world has this scenario, and its lines are right and of these commands
-pub record HasLines (world : World) (scenario : Scenario) (commands : List Command) : Type 0 where
-  pub scenario_is : world.cores.scenario ≡ scenario
+-- the world is of this session, and its lines are right and of these commands
+pub record HasLines (world : World) (session : Session) (commands : List Command) : Type 0 where
+  pub begins : Begins session
+  pub scenario_is : world.cores.scenario ≡ scenario_of session
+  pub remembers : Remembers world.begun session.found
   pub commands_are : map (λ line. line.command) (reverse world.lines.items) ≡ commands
-  pub right : IsRightStory scenario (reverse world.lines.items)
+  pub right : IsRightIn session (reverse world.lines.items)
 
--- the world, whatever is on its disks, stands for this scenario and these commands
-pub record Recalls (world : World) (scenario : Scenario) (commands : List Command) : Type 0 where
-  pub has : HasLines world scenario commands
-  pub routed : IsRouted world.routes scenario
-  pub actors : ActorsAt ManagerRecalls DbmsRecalls world.cores world.traffic.items scenario (story_of scenario commands)
+-- the world, whatever is on its disks, stands for this session and these commands
+pub record Recalls (world : World) (session : Session) (commands : List Command) : Type 0 where
+  pub has : HasLines world session commands
+  pub routed : IsRouted world.routes session.plan
+  pub actors : ActorsAt ManagerRecalls DbmsRecalls world.cores world.traffic.items session (story_in session commands)
 
--- there are nine disks, and nothing is on the disk of a site that isn't declared
-pub record AreDisks (disks : List Seen) (scenario : Scenario) : Type 0 where
+-- there are nine disks, and nothing is on the disk of a site that isn't declared, or no whole frame where the session goes on from disks
+pub record AreDisks (disks : List Seen) (session : Session) : Type 0 where
   pub nine : length disks ≡ 9
-  pub others : (site : SiteId) (disk : Seen) → 1 ≤ site.0 → home_of scenario site ≡ None → slice_get disks site.0 ≡ Some disk → disk.size ≡ 0
+  pub others : (site : SiteId) (disk : Seen) → 1 ≤ site.0 → home_of session.plan site ≡ None → slice_get disks site.0 ≡ Some disk → IsBlank session.found.coordinator disk
 
 -- what the actors of a world with these disks are behind these commands, whatever its lines
-pub record ActorsStand (tells : Bool) (world : World) (disks : List Seen) (scenario : Scenario) (commands : List Command) : Type 0 where
-  pub actors : ActorsAt (ManagerStands tells disks) (DbmsStands tells disks) world.cores world.traffic.items scenario (story_of scenario commands)
-  pub few : AreFew (story_of scenario commands) (length commands)
-  pub others : AreDisks disks scenario
+pub record ActorsStand (tells : Bool) (world : World) (disks : List Seen) (session : Session) (commands : List Command) : Type 0 where
+  pub actors : ActorsAt (ManagerStands tells disks) (DbmsStands tells disks) world.cores world.traffic.items session (story_in session commands)
+  pub few : AreFew (story_in session commands) (length commands)
+  pub others : AreDisks disks session
 
 -- the world with these disks stands for it
-pub record Stands (tells : Bool) (world : World) (disks : List Seen) (scenario : Scenario) (commands : List Command) : Type 0 where
-  pub has : HasLines world scenario commands
+pub record Stands (tells : Bool) (world : World) (disks : List Seen) (session : Session) (commands : List Command) : Type 0 where
+  pub has : HasLines world session commands
   pub whole : world.broken ≡ false
-  pub routed : IsRouted world.routes scenario
-  pub stand : ActorsStand tells world disks scenario commands
+  pub routed : IsRouted world.routes session.plan
+  pub stand : ActorsStand tells world disks session commands
 
 -- ---- what is asked of a world
 
 -- the local database system is that of the site, and has its past in memory
-pub record IsLocalAt (dbms : LocalDbms AnyEngine) (scenario : Scenario) (site : SiteId) (story : Story) : Type 0 where
+pub record IsLocalAt (dbms : LocalDbms AnyEngine) (session : Session) (site : SiteId) (story : Story) : Type 0 where
   pub home : Home
-  pub declared : home_of scenario site ≡ Some home
-  pub recalls : DbmsRecalls dbms home (own_programs site scenario.transactions) (past_of site story)
+  pub declared : home_of session.plan site ≡ Some home
+  pub recalls : DbmsRecalls dbms home (programs_at session site) (past_of site story)
 
 -- the actors have their pasts in memory, the sites by rising site
-pub record ActorsRecall (cores : Cores) (scenario : Scenario) (story : Story) : Type 0 where
-  pub scenario_is : cores.scenario ≡ scenario
-  pub coordinator : ManagerRecalls cores.coordinator (terms_of scenario) (global_program scenario) (coord_past story)
-  pub count : length cores.sites.items.items ≡ length (sites scenario)
-  pub sites : (place : ℕ) (site : SiteId) (dbms : LocalDbms AnyEngine) → slice_get (sites scenario) place ≡ Some site → slice_get cores.sites.items.items place ≡ Some dbms
-      → IsLocalAt dbms scenario site story
+pub record ActorsRecall (cores : Cores) (session : Session) (story : Story) : Type 0 where
+  pub scenario_is : cores.scenario ≡ scenario_of session
+  pub coordinator : ManagerRecalls cores.coordinator (terms_of session.plan) (global_program session.plan) (coord_past story)
+  pub count : length cores.sites.items.items ≡ length (sites session.plan)
+  pub sites : (place : ℕ) (site : SiteId) (dbms : LocalDbms AnyEngine) → slice_get (sites session.plan) place ≡ Some site → slice_get cores.sites.items.items place ≡ Some dbms
+      → IsLocalAt dbms session site story
 
 -- the session is at rest
-abbrev pub Rests : Scenario → List Command → Type 0
-Rests scenario commands = IsAtRest scenario (story_of scenario commands)
+abbrev pub Rests : Session → List Command → Type 0
+Rests session commands = IsAtRest session.plan (story_in session commands)
 
--- for some scenario and commands that it stands for the fact holds
-pub record SomeStory (K : Scenario → List Command → Type 0) (P : Scenario → List Command → Type 0) : Type 0 where
-  pub scenario : Scenario
+-- for some session and commands that it stands for the fact holds; where it stands for sessions that begin with empty disks alone, a session is told
+-- by its scenario
+pub record SomeStory {S : Type 0} (K : S → List Command → Type 0) (P : S → List Command → Type 0) : Type 0 where
+  pub session : S
   pub commands : List Command
-  pub stood : K scenario commands
-  pub holds : P scenario commands
+  pub stood : K session commands
+  pub holds : P session commands
 
--- the fact holds of every scenario and commands that it stands for
-abbrev pub EachStory : (Scenario → List Command → Type 0) → (Scenario → List Command → Type 0) → Type 0
-EachStory K P = (scenario : Scenario) (commands : List Command) → K scenario commands → P scenario commands
+-- the fact holds of every session and commands that it stands for
+abbrev pub EachStory : {S : Type 0} → (S → List Command → Type 0) → (S → List Command → Type 0) → Type 0
+EachStory {S} K P = (session : S) (commands : List Command) → K session commands → P session commands
 
 -- any commands
-abbrev pub AnyStory : Scenario → List Command → Type 0
-AnyStory scenario commands = Unit {0}
+abbrev pub AnyStory : {S : Type 0} → S → List Command → Type 0
+AnyStory session commands = Unit {0}
 
--- there are few enough commands that the numbers of one more fit
-abbrev pub HasRoom : Scenario → List Command → Type 0
-HasRoom scenario commands = length commands < 2 ^ 30
+-- there are few enough lines that the numbers of one more fit
+abbrev pub HasRoom : Session → List Command → Type 0
+HasRoom session commands = made_up session + length commands < 2 ^ 30
 
 -- ---- a failed disk call
 
 -- the coordinator, in memory and on disk 0, is as some stop within the event of this command leaves it, and each site stands for its past
-pub record CoordinatorBroke (tells : Bool) (world : World) (disks : List Seen) (command : Command) (scenario : Scenario) (story : Story) : Type 0 where
+pub record CoordinatorBroke (tells : Bool) (world : World) (disks : List Seen) (command : Command) (session : Session) (story : Story) : Type 0 where
   pub asked : Request CoordEvent
-  pub happens : happens scenario story command ≡ coord_requested scenario story asked
-  pub coordinator : Manager.Fails (ManagerStands tells disks world.cores.coordinator) Step_err.Disk (terms_of scenario) (global_program scenario) (coord_past story) asked
-  pub sites : SitesAt (DbmsStands tells disks) world.cores.sites.items.items world.cores.marks.items world.traffic.items scenario story
+  pub happens : happens session.plan story command ≡ coord_requested session.plan story asked
+  pub coordinator : Manager.Fails (ManagerStands tells disks world.cores.coordinator) Step_err.Disk (terms_of session.plan) (global_program session.plan) (coord_past story) asked
+  pub sites : SitesAt (DbmsStands tells disks) world.cores.sites.items.items world.cores.marks.items world.traffic.items session story
 
 -- a site stands for its past, unless it has this number
 abbrev pub StandsBut : ℕ → Bool → List Seen → OfDbms
@@ -157,65 +162,65 @@ StandsBut number tells disks dbms home programs past = (home.site.0 ≡ number �
 
 -- the site of this number, in memory and on its disk, is as some stop within the event of this command leaves it, and each other actor stands
 -- for its past
-pub record SiteBroke (number : ℕ) (tells : Bool) (world : World) (disks : List Seen) (command : Command) (scenario : Scenario) (story : Story) : Type 0 where
+pub record SiteBroke (number : ℕ) (tells : Bool) (world : World) (disks : List Seen) (command : Command) (session : Session) (story : Story) : Type 0 where
   pub home : Home
-  pub declared : home_of scenario home.site ≡ Some home
+  pub declared : home_of session.plan home.site ≡ Some home
   pub number_is : number ≡ home.site.0
   pub asked : Request SiteEvent
-  pub happens : happens scenario story command ≡ requested home story asked
+  pub happens : happens session.plan story command ≡ requested home story asked
   pub place : ℕ
-  pub at : slice_get (sites scenario) place ≡ Some home.site
+  pub at : slice_get (sites session.plan) place ≡ Some home.site
   pub dbms : LocalDbms AnyEngine
   pub own : slice_get world.cores.sites.items.items place ≡ Some dbms
-  pub broken : Dbms.Fails (DbmsStands tells disks dbms) Step_err.Disk home (own_programs home.site scenario.transactions) (past_of home.site story) asked
-  pub coordinator : ManagerStands tells disks world.cores.coordinator (terms_of scenario) (global_program scenario) (coord_past story)
-  pub sites : SitesAt (StandsBut number tells disks) world.cores.sites.items.items world.cores.marks.items world.traffic.items scenario story
+  pub broken : Dbms.Fails (DbmsStands tells disks dbms) Step_err.Disk home (programs_at session home.site) (past_of home.site story) asked
+  pub coordinator : ManagerStands tells disks world.cores.coordinator (terms_of session.plan) (global_program session.plan) (coord_past story)
+  pub sites : SitesAt (StandsBut number tells disks) world.cores.sites.items.items world.cores.marks.items world.traffic.items session story
 
 -- the actor of this number is broken: 0 is the coordinator
-abbrev pub ActorBroke : ℕ → Bool → World → List Seen → Command → Scenario → Story → Type 0
-ActorBroke zero tells world disks command scenario story = CoordinatorBroke tells world disks command scenario story
-ActorBroke (suc n) tells world disks command scenario story = SiteBroke (suc n) tells world disks command scenario story
+abbrev pub ActorBroke : ℕ → Bool → World → List Seen → Command → Session → Story → Type 0
+ActorBroke zero tells world disks command session story = CoordinatorBroke tells world disks command session story
+ActorBroke (suc n) tells world disks command session story = SiteBroke (suc n) tells world disks command session story
 
 -- the world of which this actor's disk failed at this command has the lines of the commands before
-pub record IsBroken (number : ℕ) (tells : Bool) (world : World) (disks : List Seen) (command : Command) (scenario : Scenario) (commands : List Command) : Type 0 where
-  pub has : HasLines world scenario commands
+pub record IsBroken (number : ℕ) (tells : Bool) (world : World) (disks : List Seen) (command : Command) (session : Session) (commands : List Command) : Type 0 where
+  pub has : HasLines world session commands
   pub broken : world.broken ≡ true
-  pub actor : ActorBroke number tells world disks command scenario (story_of scenario commands)
-  pub others : AreDisks disks scenario
+  pub actor : ActorBroke number tells world disks command session (story_in session commands)
+  pub others : AreDisks disks session
 
 -- a command without a line: want of memory changes nothing, and a failed disk call breaks the world within the event of this command
-abbrev pub FailsAt : Bool → WorldErr → World → List Seen → Command → Scenario → List Command → Type 0
-FailsAt tells Err_is.Memory world disks command scenario commands = Stands tells world disks scenario commands
-FailsAt tells (Err_is.Disk number) world disks command scenario commands = IsBroken number tells world disks command scenario commands
+abbrev pub FailsAt : Bool → WorldErr → World → List Seen → Command → Session → List Command → Type 0
+FailsAt tells Err_is.Memory world disks command session commands = Stands tells world disks session commands
+FailsAt tells (Err_is.Disk number) world disks command session commands = IsBroken number tells world disks command session commands
 
 -- ---- what is asked of the actors
 
 -- a command that asks this of the site at this place, behind commands that the world stands for
-pub record SomeSiteAsk (K : Scenario → List Command → Type 0) (place : ℕ) (ask : SiteAsk) : Type 0 where
-  pub scenario : Scenario
+pub record SomeSiteAsk (K : Session → List Command → Type 0) (place : ℕ) (ask : SiteAsk) : Type 0 where
+  pub session : Session
   pub commands : List Command
   pub command : Command
-  pub stood : K scenario commands
-  pub asks : AsksSite place ask command scenario (story_of scenario commands)
-  pub room : HasRoom scenario commands
+  pub stood : K session commands
+  pub asks : AsksSite place ask command session (story_in session commands)
+  pub room : HasRoom session commands
 
 -- and for all such
-abbrev pub EachSiteAsk : (Scenario → List Command → Type 0) → ℕ → SiteAsk → (Command → Scenario → List Command → Type 0) → Type 0
-EachSiteAsk K place ask P = (scenario : Scenario) (commands : List Command) (command : Command) → K scenario commands
-    → AsksSite place ask command scenario (story_of scenario commands) → HasRoom scenario commands → P command scenario commands
+abbrev pub EachSiteAsk : (Session → List Command → Type 0) → ℕ → SiteAsk → (Command → Session → List Command → Type 0) → Type 0
+EachSiteAsk K place ask P = (session : Session) (commands : List Command) (command : Command) → K session commands
+    → AsksSite place ask command session (story_in session commands) → HasRoom session commands → P command session commands
 
 -- a command that asks this of the coordinator
-pub record SomeCoordAsk (K : Scenario → List Command → Type 0) (ask : CoordAsk) : Type 0 where
-  pub scenario : Scenario
+pub record SomeCoordAsk (K : Session → List Command → Type 0) (ask : CoordAsk) : Type 0 where
+  pub session : Session
   pub commands : List Command
   pub command : Command
-  pub stood : K scenario commands
-  pub asks : AsksCoordinator ask command scenario (story_of scenario commands)
-  pub room : HasRoom scenario commands
+  pub stood : K session commands
+  pub asks : AsksCoordinator ask command session (story_in session commands)
+  pub room : HasRoom session commands
 
-abbrev pub EachCoordAsk : (Scenario → List Command → Type 0) → CoordAsk → (Command → Scenario → List Command → Type 0) → Type 0
-EachCoordAsk K ask P = (scenario : Scenario) (commands : List Command) (command : Command) → K scenario commands
-    → AsksCoordinator ask command scenario (story_of scenario commands) → HasRoom scenario commands → P command scenario commands
+abbrev pub EachCoordAsk : (Session → List Command → Type 0) → CoordAsk → (Command → Session → List Command → Type 0) → Type 0
+EachCoordAsk K ask P = (session : Session) (commands : List Command) (command : Command) → K session commands
+    → AsksCoordinator ask command session (story_in session commands) → HasRoom session commands → P command session commands
 
 -- the lines of the world, the first line first
 abbrev pub lines_of : World → List Line
@@ -228,16 +233,16 @@ pub record AddsLine (old new : World) (command : Command) : Type 0 where
   pub lines : lines_of new ≡ lines_of old ++ line ∷ []
 
 -- what is heard is the answer of the line that the command becomes with its places, and the actors stand for the command too
-pub record IsHeard (tells : Bool) (world : World) (disks : List Seen) (heard : Heard) (command : Command) (scenario : Scenario) (commands : List Command) : Type 0 where
-  pub answer : IsAnswer (protocols scenario) (story_of scenario commands) (tell scenario (story_of scenario commands) command).happened heard.answer
-  pub sends : heard.sends ≡ places_of (story_of scenario commands) (tell scenario (story_of scenario commands) command).happened
-  pub next : ActorsStand tells world disks scenario (command ∷ commands)
+pub record IsHeard (tells : Bool) (world : World) (disks : List Seen) (heard : Heard) (command : Command) (session : Session) (commands : List Command) : Type 0 where
+  pub answer : IsAnswer (protocols session.plan) (story_in session commands) (tell session.plan (story_in session commands) command).happened heard.answer
+  pub sends : heard.sends ≡ places_of (story_in session commands) (tell session.plan (story_in session commands) command).happened
+  pub next : ActorsStand tells world disks session (command ∷ commands)
 
 -- what isn't heard: want of memory changes nothing, and a failed disk call breaks an actor
-abbrev pub IsUnheard : Bool → WorldErr → World → List Seen → Command → Scenario → List Command → Type 0
-IsUnheard tells Err_is.Memory world disks command scenario commands = ActorsStand tells world disks scenario commands
-IsUnheard tells (Err_is.Disk number) world disks command scenario commands =
-    ActorBroke number tells world disks command scenario (story_of scenario commands) × AreDisks disks scenario
+abbrev pub IsUnheard : Bool → WorldErr → World → List Seen → Command → Session → List Command → Type 0
+IsUnheard tells Err_is.Memory world disks command session commands = ActorsStand tells world disks session commands
+IsUnheard tells (Err_is.Disk number) world disks command session commands =
+    ActorBroke number tells world disks command session (story_in session commands) × AreDisks disks session
 
 -- the rest of a world stays
 pub record KeepsLines (old new : World) : Type 0 where
@@ -245,6 +250,7 @@ pub record KeepsLines (old new : World) : Type 0 where
   pub broken : new.broken ≡ old.broken
   pub routes : new.routes ≡ old.routes
   pub scenario : new.cores.scenario ≡ old.cores.scenario
+  pub begun : new.begun ≡ old.begun
 
 -- why the disk of this number gave no line
 abbrev pub error_of : ℕ → StepErr → WorldErr

@@ -1,7 +1,7 @@
 //! Who hears of a command.
 ghost use Rattle.std.specs.Prelude.{◌≡◌};
 ghost use Rattle.mdb_base.specs.Words.{item_at};
-ghost use Rattle.fed_rules.specs.Story.{sent_from, sent_to, story_of};
+ghost use Rattle.fed_rules.specs.Story.{sent_from, sent_to, story_in};
 ghost use Rattle.fed_world.specs.Asks.{IsAsked};
 ghost use Rattle.fed_world.specs.Hearers.{to_actor, to_fate, to_give, to_local, to_site, to_take};
 ghost use Rattle.fed_world.specs.Worlds.{EachStory, Recalls};
@@ -15,7 +15,7 @@ use mdb_base::{SiteId, Tx};
 impl World {
     /// A declared site is asked this.
     fn of_site(&self, site: SiteId, ask: SiteAsk) -> Asked
-        ensures { EachStory (Recalls self.now) (λ scenario commands. result ≡ to_site scenario site ask) }
+        ensures { EachStory (Recalls self.now) (λ session commands. result ≡ to_site session.plan site ask) }
     {
         match self.routes.place_of(site) {
             Some(place) => Asked::Site { place, ask },
@@ -25,7 +25,7 @@ impl World {
 
     /// The site of a local transaction is asked this.
     fn of_local(&self, tx: Tx, ask: SiteAsk) -> Asked
-        ensures { EachStory (Recalls self.now) (λ scenario commands. result ≡ to_local scenario tx ask) }
+        ensures { EachStory (Recalls self.now) (λ session commands. result ≡ to_local session.plan tx ask) }
     {
         match self.routes.home_of(tx) {
             Some(site) => self.of_site(site, ask),
@@ -35,7 +35,7 @@ impl World {
 
     /// The site of a local transaction is asked how it ended, and of another one the coordinator.
     fn of_fate(&self, tx: Tx) -> Asked
-        ensures { EachStory (Recalls self.now) (λ scenario commands. result ≡ to_fate scenario tx) }
+        ensures { EachStory (Recalls self.now) (λ session commands. result ≡ to_fate session.plan tx) }
     {
         match self.routes.home_of(tx) {
             Some(site) => self.of_site(site, SiteAsk::Fate(tx)),
@@ -45,7 +45,7 @@ impl World {
 
     /// The site takes the message at this place of the channel to it.
     fn of_give(&self, site: SiteId, place: u32) -> Asked
-        ensures { EachStory (Recalls self.now) (λ scenario commands. result ≡ to_give scenario site (item_at (sent_to site (story_of scenario commands)) place)) }
+        ensures { EachStory (Recalls self.now) (λ session commands. result ≡ to_give session.plan site (item_at (sent_to site (story_in session commands)) place)) }
     {
         match self.sent_to(site).get(place as usize) {
             Some(message) => self.of_site(site, SiteAsk::Give(*message)),
@@ -55,7 +55,7 @@ impl World {
 
     /// The coordinator takes the message at this place of the channel from the site.
     fn of_take(&self, site: SiteId, place: u32) -> Asked
-        ensures { EachStory (Recalls self.now) (λ scenario commands. result ≡ to_take site (item_at (sent_from site (story_of scenario commands)) place)) }
+        ensures { EachStory (Recalls self.now) (λ session commands. result ≡ to_take site (item_at (sent_from site (story_in session commands)) place)) }
     {
         match self.sent_from(site).get(place as usize) {
             Some(message) => Asked::Coordinator(CoordAsk::Take {
@@ -68,7 +68,7 @@ impl World {
 
     /// An actor is asked this: 0 is the coordinator.
     fn of_actor(&self, actor: u8, coordinator: CoordAsk, site: SiteAsk) -> Asked
-        ensures { EachStory (Recalls self.now) (λ scenario commands. result ≡ to_actor scenario actor coordinator site) }
+        ensures { EachStory (Recalls self.now) (λ session commands. result ≡ to_actor session.plan actor coordinator site) }
     {
         if actor == 0 {
             Asked::Coordinator(coordinator)
@@ -79,7 +79,7 @@ impl World {
 
     /// Who hears of a command, and what it asks.
     pub(crate) fn asked(&self, command: Command) -> Asked
-        ensures { EachStory (Recalls self.now) (λ scenario commands. IsAsked result command scenario (story_of scenario commands)) }
+        ensures { EachStory (Recalls self.now) (λ session commands. IsAsked result command session (story_in session commands)) }
     {
         match command {
             Command::Begin(tx) => self.of_local(tx, SiteAsk::Begin(tx)),

@@ -1,9 +1,9 @@
 //! How a world is taken apart, and made of its parts again.
 ghost use Rattle.std.specs.Prelude.{◌≡◌, Bool, List, IfOk};
 ghost use Rattle.journal_disk.specs.Disk.{Seen};
-ghost use Rattle.fed_rules.specs.Story.{story_of};
+ghost use Rattle.fed_rules.specs.Sessions.{fresh};
 ghost use Rattle.fed_world.specs.Gathering.{AreTraffic, Gathers, GathersOn, IsTraffic};
-ghost use Rattle.fed_world.specs.Worlds.{ActorsRecall, AnyStory, EachStory, Recalls, SomeStory, Stands};
+ghost use Rattle.fed_world.specs.Worlds.{AnyStory, EachStory, Recalls, SomeStory, Stands};
 
 use crate::cores::Cores;
 use crate::setting_up::routes_of;
@@ -52,6 +52,7 @@ impl World {
             traffic: _,
             lines: _,
             broken: _,
+            begun: _,
         } = self;
         cores
     }
@@ -66,9 +67,9 @@ impl World {
         channels: Channels,
     ) -> Result<World, Memory>
         requires { SomeStory (Gathers cores lines channels) AnyStory }
-        ensures recalls { IfOk result (λ world. EachStory (Gathers cores lines channels) (Recalls world)) }
+        ensures recalls { IfOk result (λ world. EachStory (Gathers cores lines channels) (λ scenario. Recalls world (fresh scenario))) }
         ensures lines { IfOk result (λ world. world.lines.items ≡ lines) }
-        ensures stands { IfOk result (λ world. (tells : Bool) (disks : List Seen) → EachStory (GathersOn tells disks cores lines channels) (Stands tells world disks)) }
+        ensures stands { IfOk result (λ world. (tells : Bool) (disks : List Seen) → EachStory (GathersOn tells disks cores lines channels) (λ scenario. Stands tells world disks (fresh scenario))) }
     {
         let Ok(routes) = routes_of(alloc, &cores.scenario) else {
             return Err(Memory);
@@ -82,6 +83,7 @@ impl World {
             traffic,
             lines: lines.into_items(),
             broken: false,
+            begun: None,
         })
     }
 }

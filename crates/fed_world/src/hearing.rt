@@ -101,10 +101,10 @@ impl World {
     ) -> Result<Heard, WorldErr>
         requires told { IsTrue D.tells }
         requires stood { SomeStory (Stands D.tells self.old (map D.seen disks.old.items)) HasRoom }
-        ensures heard { IfOk result (λ heard. EachStory (Stands D.tells self.old (map D.seen disks.old.items)) (λ scenario commands. HasRoom scenario commands
-            → IsHeard D.tells self.new (map D.seen disks.new.items) heard command scenario commands)) }
-        ensures failed { IfErr result (λ why. EachStory (Stands D.tells self.old (map D.seen disks.old.items)) (λ scenario commands. HasRoom scenario commands
-            → IsUnheard D.tells why self.new (map D.seen disks.new.items) command scenario commands)) }
+        ensures heard { IfOk result (λ heard. EachStory (Stands D.tells self.old (map D.seen disks.old.items)) (λ session commands. HasRoom session commands
+            → IsHeard D.tells self.new (map D.seen disks.new.items) heard command session commands)) }
+        ensures failed { IfErr result (λ why. EachStory (Stands D.tells self.old (map D.seen disks.old.items)) (λ session commands. HasRoom session commands
+            → IsUnheard D.tells why self.new (map D.seen disks.new.items) command session commands)) }
         ensures keeps { KeepsLines self.old self.new }
         ensures cause { CountsTell result (map D.seen disks.old.items) (map D.seen disks.new.items) }
     {

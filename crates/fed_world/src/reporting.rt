@@ -3,7 +3,8 @@ ghost use Rattle.std.specs.Prelude.{◌≡◌, ◌<◌, IfOk, Some, length, map,
 ghost use Rattle.mdb_base.specs.declared.names.SiteId.{SiteId as TheSite};
 ghost use Rattle.fed_rules.specs.Reports.{report_of, tables};
 ghost use Rattle.fed_rules.specs.Scenarios.{sites};
-ghost use Rattle.fed_rules.specs.Story.{story_of};
+ghost use Rattle.fed_rules.specs.Sessions.{fresh};
+ghost use Rattle.fed_rules.specs.Story.{story_in, story_of};
 ghost use Rattle.session_report.specs.InOrder.{IsReportIn};
 ghost use Rattle.session_report.specs.Session.{IsSession};
 ghost use Rattle.fed_world.specs.Reporting as reporting;
@@ -53,8 +54,8 @@ impl World {
     fn rows_at(&self, alloc: Global, place: usize) -> Result<SiteRows, Memory>
         requires cores { place < length self.now.cores.sites.items.items }
         requires channels { place < length self.now.traffic.items }
-        ensures { IfOk result (λ rows. EachStory (Recalls self.now) (λ scenario commands. Rests scenario commands
-            → (site : TheSite) → slice_get (sites scenario) place ≡ Some site → rows ≡ reporting.rows_at scenario (story_of scenario commands) site)) }
+        ensures { IfOk result (λ rows. EachStory (Recalls self.now) (λ session commands. Rests session commands
+            → (site : TheSite) → slice_get (sites session.plan) place ≡ Some site → rows ≡ reporting.rows_at session.plan (story_in session commands) site)) }
     {
         let rows = self.cores.sites.at(place).core().rows(alloc)?;
         Ok(SiteRows {
@@ -64,10 +65,10 @@ impl World {
     }
 
     /// The rows of each site, by rising site, in a session at rest.
-    fn tables(&self, alloc: Global) -> Result<Vec<SiteRows>, Memory>
+    pub(crate) fn tables(&self, alloc: Global) -> Result<Vec<SiteRows>, Memory>
         requires { SomeStory (Recalls self.now) AnyStory }
-        ensures { IfOk result (λ rows. EachStory (Recalls self.now) (λ scenario commands. Rests scenario commands
-            → rows.items ≡ tables scenario (story_of scenario commands))) }
+        ensures { IfOk result (λ rows. EachStory (Recalls self.now) (λ session commands. Rests session commands
+            → rows.items ≡ tables session.plan (story_in session commands))) }
     {
         let mut tables = Vec::new(alloc);
         for place in 0..self.traffic.len() {
@@ -77,9 +78,9 @@ impl World {
         Ok(tables)
     }
 
-    /// What the report of a session at rest reads beside the lines and the marks: with them, it is the session's.
+    /// What the report of a session at rest that began with empty disks reads beside the lines and the marks: with them, it is the session's.
     fn handed(&self, alloc: Global) -> Result<Handed, Memory>
-        requires { SomeStory (Recalls self.now) Rests }
+        requires { SomeStory (λ scenario. Recalls self.now (fresh scenario)) (λ scenario. Rests (fresh scenario)) }
         ensures { IfOk result (λ handed. IsSession self.now.cores.scenario self.now.lines.items handed.channels.items self.now.cores.marks.items handed.tables.items) }
     {
         let channels = channels_of(alloc, self.traffic.as_slice())?;
@@ -95,10 +96,23 @@ impl World {
         coordinator.core().committed(tx)
     }
 
-    /// The report of a session at rest.
+    /// The report of a session at rest. Where the session goes on from disks, it has no order and no reads: nothing is known of those of what
+    /// committed before.
     pub fn report(&self, alloc: Global) -> Result<Report, Memory>
         requires { SomeStory (Recalls self.now) Rests }
-        ensures { IfOk result (λ report. EachStory (Recalls self.now) (λ scenario commands. report ≡ report_of scenario (story_of scenario commands))) }
+        ensures reported { IfOk result (λ report. EachStory (Recalls self.now) (λ session commands. Rests session commands → report ≡ reporting.report_for session (story_in session commands))) }
+        ensures fresh { IfOk result (λ report. EachStory (λ scenario. Recalls self.now (fresh scenario)) (λ scenario commands. report ≡ report_of scenario (story_of scenario commands))) }
+    {
+        match &self.begun {
+            None => self.fresh_report(alloc),
+            Some(begun) => self.found_report(alloc, begun.as_slice()),
+        }
+    }
+
+    /// The report of a session at rest that began with empty disks.
+    fn fresh_report(&self, alloc: Global) -> Result<Report, Memory>
+        requires { SomeStory (λ scenario. Recalls self.now (fresh scenario)) (λ scenario. Rests (fresh scenario)) }
+        ensures { IfOk result (λ report. EachStory (λ scenario. Recalls self.now (fresh scenario)) (λ scenario commands. report ≡ report_of scenario (story_of scenario commands))) }
     {
         let Handed { channels, tables } = self.handed(alloc)?;
         let committed = |tx: Tx|
@@ -115,10 +129,11 @@ impl World {
         )
     }
 
-    /// The report of a session at rest in this order, in place of the least merge: none where it isn't a merge of the site orders.
+    /// The report of a session at rest that began with empty disks, in this order in place of the least merge: none where it isn't a merge of
+    /// the site orders.
     pub fn report_in(&self, alloc: Global, order: &[Tid]) -> Result<Option<Report>, Memory>
-        requires { SomeStory (Recalls self.now) Rests }
-        ensures { IfOk result (λ report. EachStory (Recalls self.now) (λ scenario commands. IsReportIn scenario (story_of scenario commands) order.now report)) }
+        requires { SomeStory (λ scenario. Recalls self.now (fresh scenario)) (λ scenario. Rests (fresh scenario)) }
+        ensures { IfOk result (λ report. EachStory (λ scenario. Recalls self.now (fresh scenario)) (λ scenario commands. IsReportIn scenario (story_of scenario commands) order.now report)) }
     {
         let Handed { channels, tables } = self.handed(alloc)?;
         let committed = |tx: Tx|

@@ -8,6 +8,7 @@ ghost use Rattle.fed_rules.specs.Story.{place_from};
 ghost use Rattle.local_dbms.specs.Stands as Dbms;
 ghost use Rattle.local_dbms.specs.Stands.{Each_site, Some_site};
 ghost use Rattle.fed_world.specs.SiteAsks.{CanTell, can_send, site_request};
+ghost use Rattle.session_report.specs.declared.marks.Mark.{Mark as TheMark};
 ghost use Rattle.fed_world.specs.SeatParts.{PartAt, PartFails, PartHears};
 
 use crate::seat_telling::tell_site;
@@ -76,11 +77,11 @@ pub fn tell_seat<D: Disk>(
     requires stood { Some_site (Dbms.Stands Engines.Stands D.tells dbms.old (D.seen disk.old)) (CanTell ask) }
     requires few { length traffic.old.from.items < 2 ^ 32 }
     ensures served { IfOk result (λ heard. Each_site (Dbms.Stands Engines.Stands D.tells dbms.old (D.seen disk.old)) (λ home programs past. CanTell ask home programs past
-        → (to : List TheTo) (from : List TheFrom) → PartAt (Dbms.Stands Engines.Stands D.tells dbms.old (D.seen disk.old)) marks.old traffic.old home programs past to from
-        → PartHears (Dbms.Stands Engines.Stands D.tells dbms.new (D.seen disk.new)) heard marks.new traffic.new home programs past to from (site_request ask home programs past))) }
+        → (first : List TheMark) (to : List TheTo) (from : List TheFrom) → PartAt (Dbms.Stands Engines.Stands D.tells dbms.old (D.seen disk.old)) marks.old traffic.old home programs past first to from
+        → PartHears (Dbms.Stands Engines.Stands D.tells dbms.new (D.seen disk.new)) heard marks.new traffic.new home programs past first to from (site_request ask home programs past))) }
     ensures failed { IfErr result (λ why. Each_site (Dbms.Stands Engines.Stands D.tells dbms.old (D.seen disk.old)) (λ home programs past. CanTell ask home programs past
-        → (to : List TheTo) (from : List TheFrom) → PartAt (Dbms.Stands Engines.Stands D.tells dbms.old (D.seen disk.old)) marks.old traffic.old home programs past to from
-        → PartFails (Dbms.Stands Engines.Stands D.tells dbms.new (D.seen disk.new)) why marks.new traffic.new home programs past to from (site_request ask home programs past))) }
+        → (first : List TheMark) (to : List TheTo) (from : List TheFrom) → PartAt (Dbms.Stands Engines.Stands D.tells dbms.old (D.seen disk.old)) marks.old traffic.old home programs past first to from
+        → PartFails (Dbms.Stands Engines.Stands D.tells dbms.new (D.seen disk.new)) why marks.new traffic.new home programs past first to from (site_request ask home programs past))) }
     ensures cause { HasCauseOf StepErr.Disk (D.seen disk.old).faults (D.seen disk.new).faults result }
 {
     let Ok(()) = make_room(&mut traffic.from, ask) else {

@@ -6,6 +6,7 @@ ghost use Rattle.any_engine.specs.Stands as Engines;
 ghost use Rattle.fed_rules.specs.Disk.{empty_disk};
 ghost use Rattle.fed_rules.specs.Plans.{IsScenario};
 ghost use Rattle.fed_rules.specs.Scenarios.{home_of, protocols, sites};
+ghost use Rattle.fed_rules.specs.Sessions.{fresh};
 ghost use Rattle.fed_rules.specs.SitePast.{set_up_calls};
 ghost use Rattle.fed_rules.specs.SiteRecords.{Home};
 ghost use Rattle.local_dbms.specs.Stands.{own_programs};
@@ -122,7 +123,7 @@ fn set_up_sites<D: Disk>(
 }
 
 /// The channels of these sites, in which nothing was sent.
-fn new_channels(alloc: Global, sites: &[SiteId]) -> Result<Vec<Traffic>, Memory>
+pub(crate) fn new_channels(alloc: Global, sites: &[SiteId]) -> Result<Vec<Traffic>, Memory>
     ensures count { IfOk result (λ channels. length channels.items ≡ length sites.now) }
     ensures each { IfOk result (λ channels. IsNewChannel sites.now channels.items) }
 {
@@ -139,7 +140,7 @@ fn new_channels(alloc: Global, sites: &[SiteId]) -> Result<Vec<Traffic>, Memory>
 }
 
 /// The marks of these sites, of which there are none.
-fn new_marks(alloc: Global, sites: &[SiteId]) -> Result<Vec<Marks>, Memory>
+pub(crate) fn new_marks(alloc: Global, sites: &[SiteId]) -> Result<Vec<Marks>, Memory>
     ensures count { IfOk result (λ marks. length marks.items ≡ length sites.now) }
     ensures each { IfOk result (λ marks. IsNewMarks sites.now marks.items) }
 {
@@ -214,7 +215,7 @@ impl World {
         requires told { IsTrue D.tells }
         requires nine { length disks.old.items ≡ 9 }
         requires empty { AreEmpty (map D.seen disks.old.items) }
-        ensures stands { IfOk result (λ world. Stands D.tells world (map D.seen disks.new.items) scenario []) }
+        ensures stands { IfOk result (λ world. Stands D.tells world (map D.seen disks.new.items) (fresh scenario) []) }
         ensures failed { IfErr result (λ why. FailsToStart D.tells why (map D.seen disks.new.items) scenario) }
         ensures cause { CountsTell result (map D.seen disks.old.items) (map D.seen disks.new.items) }
         ensures count { length disks.new.items ≡ 9 }
@@ -244,6 +245,7 @@ impl World {
                     traffic,
                     lines: Vec::new(alloc),
                     broken: false,
+                    begun: None,
                 })
             }
             Err(why) => Err(why),

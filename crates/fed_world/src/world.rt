@@ -7,11 +7,12 @@ use crate::cores::Cores;
 use crate::errors::WorldErr;
 use fed_rules::{Command, Line};
 use journal_disk::Disk;
+use mdb_base::Tid;
 use session_routes::{Routes, Traffic};
 use std::alloc::Global;
 
 /// A session: its actors with the scenario, who hears of a command, the messages to and from each site, by rising site, the lines made so
-/// far, and whether a disk call failed.
+/// far, whether a disk call failed, and where it goes on from disks the global attempts that a record there names.
 #[derive(Drop)]
 pub struct World {
     pub(crate) cores: Cores,
@@ -19,6 +20,7 @@ pub struct World {
     pub(crate) traffic: Vec<Traffic>,
     pub(crate) lines: Vec<Line>,
     pub(crate) broken: bool,
+    pub(crate) begun: Option<Vec<Tid>>,
 }
 
 impl World {
@@ -34,9 +36,9 @@ impl World {
         requires told { IsTrue D.tells }
         requires stood { SomeStory (Stands D.tells self.old (map D.seen disks.old.items)) HasRoom }
         ensures applied { OnOk result (EachStory (Stands D.tells self.old (map D.seen disks.old.items))
-            (λ scenario commands. HasRoom scenario commands → Stands D.tells self.new (map D.seen disks.new.items) scenario (command ∷ commands))) }
+            (λ session commands. HasRoom session commands → Stands D.tells self.new (map D.seen disks.new.items) session (command ∷ commands))) }
         ensures failed { IfErr result (λ why. EachStory (Stands D.tells self.old (map D.seen disks.old.items))
-            (λ scenario commands. HasRoom scenario commands → FailsAt D.tells why self.new (map D.seen disks.new.items) command scenario commands)) }
+            (λ session commands. HasRoom session commands → FailsAt D.tells why self.new (map D.seen disks.new.items) command session commands)) }
         ensures added { OnOk result (AddsLine self.old self.new command) }
         ensures kept { OnErr result (lines_of self.new ≡ lines_of self.old) }
         ensures cause { CountsTell result (map D.seen disks.old.items) (map D.seen disks.new.items) }

@@ -4,24 +4,25 @@ use Rattle.fed_world.specs.declared.errors.WorldErr.{WorldErr}
 use Rattle.fed_world.specs.Faults.{FailedAs}
 use Rattle.fed_world.proofs.CoordHeard.{fails_told, few_messages, first_disk, hears_told, may_tell_coord, roomed_stands}
 use Rattle.fed_world.proofs.Disks.{seen_put}
+use Rattle.fed_world.proofs.Growing.{few_commands}
 use Rattle.fed_world.proofs.Faults.{failure_told, line_told}
 use Rattle.fed_world.proofs.world.World.at_coordinator.Goals as goal
 
 pub returns-in_default-clause-failed : goal.returns-in_default-clause-failed
-returns-in_default-clause-failed g c scenario commands command s asks room = s.stand
+returns-in_default-clause-failed g c session commands command s asks room = s.stand
 
 pub returns-in_default-clause-keeps : goal.returns-in_default-clause-keeps
-returns-in_default-clause-keeps g c = record { lines = refl; broken = refl; routes = refl; scenario = refl }
+returns-in_default-clause-keeps g c = record { lines = refl; broken = refl; routes = refl; scenario = refl; begun = refl }
 
 pub returns-in_default-clause-cause : goal.returns-in_default-clause-cause
 returns-in_default-clause-cause g c = refl
 
 pub returns-in_default-make_room-clause-failed : goal.returns-in_default-make_room-clause-failed
-returns-in_default-make_room-clause-failed g c scenario commands command s asks room =
-    roomed_stands g.D.Disk.tells c.args.self.now (map g.D.Disk.seen c.args.disks.now.items) scenario commands s.stand _ refl (record { cores_are = refl; marks_are = refl; channels_are = c.make_room.ensures.same })
+returns-in_default-make_room-clause-failed g c session commands command s asks room =
+    roomed_stands g.D.Disk.tells c.args.self.now (map g.D.Disk.seen c.args.disks.now.items) session commands s.stand _ refl (record { cores_are = refl; marks_are = refl; channels_are = c.make_room.ensures.same })
 
 pub returns-in_default-make_room-clause-keeps : goal.returns-in_default-make_room-clause-keeps
-returns-in_default-make_room-clause-keeps g c = record { lines = refl; broken = refl; routes = refl; scenario = refl }
+returns-in_default-make_room-clause-keeps g c = record { lines = refl; broken = refl; routes = refl; scenario = refl; begun = refl }
 
 pub returns-in_default-make_room-clause-cause : goal.returns-in_default-make_room-clause-cause
 returns-in_default-make_room-clause-cause g c = refl
@@ -39,8 +40,8 @@ tell_coordinator-requires-clause-told g c = c.requires.told
 pub tell_coordinator-requires-clause-stood : goal.tell_coordinator-requires-clause-stood
 tell_coordinator-requires-clause-stood g c =
     let r = c.requires.stood in
-    let at = first_disk g.D.Disk.seen c.args.disks.now.items c.index_mut.result.now r.scenario r.stood.stand.others c.index_mut.ensures.value in
-    may_tell_coord g.D.Disk.tells c.args.self.now (map g.D.Disk.seen c.args.disks.now.items) r.scenario r.commands r.stood.stand (g.D.Disk.seen c.index_mut.result.now) (g.D.Disk.seen c.index_mut.result.now) at c.args.ask r.command r.asks
+    let at = first_disk g.D.Disk.seen c.args.disks.now.items c.index_mut.result.now r.session r.stood.stand.others c.index_mut.ensures.value in
+    may_tell_coord g.D.Disk.tells c.args.self.now (map g.D.Disk.seen c.args.disks.now.items) r.session r.commands r.stood.stand (g.D.Disk.seen c.index_mut.result.now) (g.D.Disk.seen c.index_mut.result.now) at c.args.ask r.command r.asks
 
 pub post-requires-clause-room : goal.post-requires-clause-room
 post-requires-clause-room g c = c.in-Ok-make_room.ensures.room
@@ -59,42 +60,42 @@ post-requires-clause-places g c =
 pub post-requires-clause-few : goal.post-requires-clause-few
 post-requires-clause-few g c =
     let r = c.requires.stood in
-    few_messages g.D.Disk.tells c.args.self.now (map g.D.Disk.seen c.args.disks.now.items) r.scenario r.commands r.stood.stand c.make_room.new.traffic.items c.make_room.ensures.same r.room
+    few_messages g.D.Disk.tells c.args.self.now (map g.D.Disk.seen c.args.disks.now.items) r.session r.commands r.stood.stand c.make_room.new.traffic.items c.make_room.ensures.same (few_commands r.session r.commands r.room)
 
 pub as_slice-requires : goal.as_slice-requires
 as_slice-requires g c = search rules
 
 pub returns-in-Ok-tell_coordinator-clause-heard : goal.returns-in-Ok-tell_coordinator-clause-heard
-returns-in-Ok-tell_coordinator-clause-heard g c scenario commands command s asks room =
-    let at = first_disk g.D.Disk.seen c.args.disks.now.items c.index_mut.result.now scenario s.stand.others c.index_mut.ensures.value in
-    hears_told g.D.Disk.tells c.args.self.now (map g.D.Disk.seen c.args.disks.now.items) scenario commands s.stand (g.D.Disk.seen c.index_mut.result.now) (g.D.Disk.seen c.tell_coordinator.new.disk) at c.args.ask command asks
-    _ _ c.make_room.new.traffic.items c.as_slice.result.now c.in-Ok-tell_coordinator.step _ (seen_put g.D.Disk.seen c.args.disks.now.items 0 c.tell_coordinator.new.disk)
+returns-in-Ok-tell_coordinator-clause-heard g c session commands command s asks room =
+    let at = first_disk g.D.Disk.seen c.args.disks.now.items c.index_mut.result.now session s.stand.others c.index_mut.ensures.value in
+    hears_told g.D.Disk.tells c.args.self.now (map g.D.Disk.seen c.args.disks.now.items) session commands s.stand (g.D.Disk.seen c.index_mut.result.now) (g.D.Disk.seen c.tell_coordinator.new.disk) at c.args.ask command asks
+    s.has.begins _ _ c.make_room.new.traffic.items c.as_slice.result.now c.in-Ok-tell_coordinator.step _ (seen_put g.D.Disk.seen c.args.disks.now.items 0 c.tell_coordinator.new.disk)
     (record { cores_are = refl; marks_are = refl; room = c.make_room.ensures.same; posted = c.post.ensures.posted }) c.as_slice.ensures.items c.in-Ok-tell_coordinator.ensures.served c.as_slice.ensures.rising refl (c.taken.ensures.taken ∙ c.post.ensures.places)
 
 pub returns-in-Ok-tell_coordinator-clause-keeps : goal.returns-in-Ok-tell_coordinator-clause-keeps
-returns-in-Ok-tell_coordinator-clause-keeps g c = record { lines = refl; broken = refl; routes = refl; scenario = refl }
+returns-in-Ok-tell_coordinator-clause-keeps g c = record { lines = refl; broken = refl; routes = refl; scenario = refl; begun = refl }
 
 pub returns-in-Ok-tell_coordinator-clause-cause : goal.returns-in-Ok-tell_coordinator-clause-cause
 returns-in-Ok-tell_coordinator-clause-cause g c =
     let r = c.requires.stood in
-    let at = first_disk g.D.Disk.seen c.args.disks.now.items c.index_mut.result.now r.scenario r.stood.stand.others c.index_mut.ensures.value in
+    let at = first_disk g.D.Disk.seen c.args.disks.now.items c.index_mut.result.now r.session r.stood.stand.others c.index_mut.ensures.value in
     line_told (map g.D.Disk.seen c.args.disks.now.items) _ 0 (g.D.Disk.seen c.index_mut.result.now) (g.D.Disk.seen c.tell_coordinator.new.disk) at
     (seen_put g.D.Disk.seen c.args.disks.now.items 0 c.tell_coordinator.new.disk) _ c.in-Ok-tell_coordinator.step refl c.in-Ok-tell_coordinator.ensures.cause
 
 pub returns-clause-failed : goal.returns-clause-failed
-returns-clause-failed g c scenario commands command s asks room =
-    let at = first_disk g.D.Disk.seen c.args.disks.now.items c.index_mut.result.now scenario s.stand.others c.index_mut.ensures.value in
-    fails_told g.D.Disk.tells c.args.self.now (map g.D.Disk.seen c.args.disks.now.items) scenario commands s.stand (g.D.Disk.seen c.index_mut.result.now) (g.D.Disk.seen c.tell_coordinator.new.disk) at c.args.ask command asks
+returns-clause-failed g c session commands command s asks room =
+    let at = first_disk g.D.Disk.seen c.args.disks.now.items c.index_mut.result.now session s.stand.others c.index_mut.ensures.value in
+    fails_told g.D.Disk.tells c.args.self.now (map g.D.Disk.seen c.args.disks.now.items) session commands s.stand (g.D.Disk.seen c.index_mut.result.now) (g.D.Disk.seen c.tell_coordinator.new.disk) at c.args.ask command asks
     c.in-Err.why c.world_err.result _ _ c.world_err.ensures (seen_put g.D.Disk.seen c.args.disks.now.items 0 c.tell_coordinator.new.disk)
     (record { cores_are = refl; marks_are = refl; channels_are = c.make_room.ensures.same }) c.in-Err.ensures.failed
 
 pub returns-clause-keeps : goal.returns-clause-keeps
-returns-clause-keeps g c = record { lines = refl; broken = refl; routes = refl; scenario = refl }
+returns-clause-keeps g c = record { lines = refl; broken = refl; routes = refl; scenario = refl; begun = refl }
 
 pub returns-clause-cause : goal.returns-clause-cause
 returns-clause-cause g c =
     let r = c.requires.stood in
-    let at = first_disk g.D.Disk.seen c.args.disks.now.items c.index_mut.result.now r.scenario r.stood.stand.others c.index_mut.ensures.value in
+    let at = first_disk g.D.Disk.seen c.args.disks.now.items c.index_mut.result.now r.session r.stood.stand.others c.index_mut.ensures.value in
     subst (λ (why : WorldErr). FailedAs why (map g.D.Disk.seen c.args.disks.now.items) (map g.D.Disk.seen (slice_set c.args.disks.now.items 0 c.tell_coordinator.new.disk))) (sym c.world_err.ensures)
     (failure_told (map g.D.Disk.seen c.args.disks.now.items) _ 0 (g.D.Disk.seen c.index_mut.result.now) (g.D.Disk.seen c.tell_coordinator.new.disk) at
     (seen_put g.D.Disk.seen c.args.disks.now.items 0 c.tell_coordinator.new.disk) _ c.in-Err.why refl c.in-Err.ensures.cause)

@@ -33,6 +33,6 @@ returns-in-Coordinator-clause-failed g c =
     (λ why. IsUnheard g.D.Disk.tells why c.at_coordinator.new.self (map g.D.Disk.seen c.at_coordinator.new.disks.items)) c.at_coordinator.result c.at_coordinator.ensures.failed
 
 pub returns-in-Nobody-clause-heard : goal.returns-in-Nobody-clause-heard
-returns-in-Nobody-clause-heard g c scenario commands stood room =
-    nobody_hears g.D.Disk.tells c.args.self.now (map g.D.Disk.seen c.args.disks.now.items) (record { answer = Say.None; sends = c.none.result }) scenario commands c.args.command
-    (c.in-Nobody.ensures scenario commands (recalls g.D.Disk.tells c.args.self.now (map g.D.Disk.seen c.args.disks.now.items) scenario commands stood)) refl c.none.ensures stood.stand
+returns-in-Nobody-clause-heard g c session commands stood room =
+    nobody_hears g.D.Disk.tells c.args.self.now (map g.D.Disk.seen c.args.disks.now.items) (record { answer = Say.None; sends = c.none.result }) session commands c.args.command
+    (c.in-Nobody.ensures session commands (recalls g.D.Disk.tells c.args.self.now (map g.D.Disk.seen c.args.disks.now.items) session commands stood)) refl c.none.ensures stood.stand

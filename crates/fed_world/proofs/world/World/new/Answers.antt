@@ -1,4 +1,4 @@
-use Rattle.std.proofs.Common.{◌≡◌, List, false, map, refl, sym, ap, subst, ◌∙◌, length}
+use Rattle.std.proofs.Common.{◌≡◌, List, None, false, map, refl, sym, ap, subst, ◌∙◌, length}
 use Rattle.std.proofs.lemmas.List.{length-map}
 use Rattle.std.specs.Global.{Vec}
 use Rattle.mdb_base.specs.declared.names.SiteId.{SiteId}
@@ -60,10 +60,11 @@ returns-in-Ok-set_up_sites-clause-stands g c =
       traffic = beginning.traffic;
       lines = c.new.result;
       broken = false;
+      begun = None;
     } in
     new_stands g.D.Disk.tells world (map g.D.Disk.seen disks) scenario c.in-Ok.ensures.whole c.requires.told (length-map disks g.D.Disk.seen ∙ c.set_up_sites.ensures.count)
     (λ (seen : Seen) at. (let (disk, got, is) = made_of g.D.Disk.seen disks 0 seen at in subst (λ (s : Seen). TellsBytes s) is (record { bytes = g.met.D.Disk.told_size disk c.requires.told; sound = g.met.D.Disk.is_sound disk c.requires.told })))
-    refl c.new.ensures.items refl begun.routed begun.manager
+    refl refl c.new.ensures.items refl begun.routed begun.manager
     (subst (λ (ds : List (LocalDbms AnyEngine)). AreSetUp g.D.Disk.tells ds (map g.D.Disk.seen disks) scenario) (sym (ap (λ (v : Vec (LocalDbms AnyEngine)). v.items) c.of.ensures)) c.in-Ok-set_up_sites.ensures.stands)
     (begun.marks ∙ ap (λ (zs : List SiteId). length zs) same) (subst (λ (zs : List SiteId). IsNewMarks zs beginning.marks.items) same begun.unmarked)
     (begun.channels ∙ ap (λ (zs : List SiteId). length zs) same) (subst (λ (zs : List SiteId). IsNewChannel zs beginning.traffic.items) same begun.unsent)

@@ -4,7 +4,7 @@ use Rattle.fed_world.proofs.world.World.report_in.Goals as goal
 pub report_in-requires-clause-told : goal.report_in-requires-clause-told
 report_in-requires-clause-told c = λ tx found small post.
     let r = c.requires in
-    tells_commits r.scenario r.commands c.args.self.now r.stood r.holds c.as_slice.result.now c.as_slice.ensures.value tx found post.1
+    tells_commits r.session r.commands c.args.self.now r.stood r.holds c.as_slice.result.now c.as_slice.ensures.value tx found post.1
 
 pub report_in-requires-clause-session : goal.report_in-requires-clause-session
 report_in-requires-clause-session c =
