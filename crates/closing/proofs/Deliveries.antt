@@ -12,11 +12,11 @@ use Rattle.fed_rules.specs.declared.scenario.Scenario.{Scenario}
 use Rattle.fed_rules.specs.declared.scenario.TxLine.{TxLine}
 use Rattle.fed_rules.specs.Closing as rules
 use Rattle.fed_rules.specs.Closing.{deliver_all, for_each, last_sends, sent_next, taken}
-use Rattle.fed_rules.specs.Sessions.{fresh}
+use Rattle.fed_rules.specs.Sessions.{Session, fresh}
 use Rattle.fed_rules.specs.Story.{story_of}
 use Rattle.journal_disk.specs.Disk.{Seen}
 use Rattle.fed_world.specs.declared.world.World.{World}
-use Rattle.fed_world.specs.Worlds.{Stands}
+use Rattle.fed_world.specs.FreshWorlds.{Stands}
 use Rattle.closing.specs.Alone.{delivered_next, queue_after}
 use Rattle.closing.specs.Towards.{Fits}
 use Rattle.closing.proofs.Grows.{taken_grows}
@@ -59,14 +59,16 @@ module _ (tx : Tx) (steps : List Step) (i : ℕ) (commands : List Command) (lt :
       (subst (λ cs. Extends cs (rules.steps_alone tx (take (i + 1) steps) commands)) (sym (steps_each tx steps commands))
       (subst (λ cs. Extends (for_each (step_on tx) steps commands) cs) (sym (steps_each tx (take (i + 1) steps) commands)) (each_begins (step_on tx) (step_grows tx) (i + 1) steps commands)))
 
-  pub steps_fit : Fits (rules.steps_alone tx steps commands) → Fits (Cmd.Step tx ∷ rules.steps_alone tx (take i steps) commands)
-  steps_fit fits = fits_less (rules.steps_alone tx steps commands) (Cmd.Step tx ∷ rules.steps_alone tx (take i steps) commands) front_steps fits
+pub steps_fit : (session : Session) (tx : Tx) (steps : List Step) (i : ℕ) (commands : List Command) → i < length steps
+    → Fits session (rules.steps_alone tx steps commands) → Fits session (Cmd.Step tx ∷ rules.steps_alone tx (take i steps) commands)
+steps_fit session tx steps i commands lt fits =
+    fits_less session (rules.steps_alone tx steps commands) (Cmd.Step tx ∷ rules.steps_alone tx (take i steps) commands) (front_steps tx steps i commands lt) fits
 
 module _ (scenario : Scenario) where
   pub next_grows : (place : Place) (commands : List Command) → Extends (delivered_next place scenario commands) commands
   next_grows place commands =
       let one : List Command = Cmd.Give place.site place.place ∷ commands in
-      extends_twice commands one (taken (fresh scenario) one) (taken_grows scenario one) (extends_one (Cmd.Give place.site place.place) commands)
+      extends_twice commands one (taken (fresh scenario) one) (taken_grows (fresh scenario) one) (extends_one (Cmd.Give place.site place.place) commands)
 
   pub delivers_grow : (n : ℕ) (places : List Place) (commands : List Command) → Extends (deliver_all scenario n places commands) commands
   delivers_grow zero places commands = extends_here commands

@@ -1,5 +1,6 @@
 pub mod Cores
 pub mod Deliveries
+pub mod FreshTowards
 pub mod Grows
 pub mod LastLine
 pub mod Listed

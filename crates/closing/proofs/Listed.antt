@@ -13,11 +13,15 @@ use Rattle.fed_rules.specs.declared.scenario.Scenario.{Scenario}
 use Rattle.fed_rules.specs.Closing.{live_at, rising}
 use Rattle.fed_rules.specs.EngineLines.{IsRight}
 use Rattle.fed_rules.specs.Runs.{EngineLine, Run, Start, attempts, is_sealed, restored_at, run_at}
+use Rattle.fed_rules.specs.Found.{Found}
+use Rattle.fed_rules.specs.Resumed.{going_on, plan_of}
 use Rattle.fed_rules.specs.Scenarios.{home_of}
+use Rattle.fed_rules.specs.Sessions.{Session}
 use Rattle.fed_rules.specs.SitePast.{SitePast, engine_lines, epoch_start, live, live_one}
 use Rattle.fed_rules.specs.SiteRecords.{Home, Held, doubt_of, doubts, kept_held, start_of}
-use Rattle.fed_rules.specs.Story.{past_of, story_of}
+use Rattle.fed_rules.specs.Story.{past_of, story_in, story_of}
 use Rattle.engine_laws.proofs.Runs.{attempts_have, tid_is}
+use Rattle.rules_laws.proofs.Declared.{home-again}
 use Rattle.rules_laws.proofs.RisingLists.{rising_one}
 use Rattle.site_history.specs.Stories.{StoriesHaveRightLines}
 use Rattle.site_history.proofs.Restarts.{once_doubts}
@@ -25,6 +29,10 @@ use Rattle.site_history.proofs.Starts.{restored_doubt, restored_held}
 use Rattle.site_book.specs.Listing.{AreRising, Lists}
 use Rattle.closing_laws.specs.Runs.{SitesBeginOnce}
 use Rattle.closing_laws.proofs.BegunOnce.{once_distinct, restored_some}
+use Rattle.closing_laws.proofs.Quiet.{none_live_at}
+use Rattle.resume_laws.specs.FoundSessions.{AreUsable}
+use Rattle.resume_laws.proofs.FoundSessions.{lives_on}
+use Rattle.fed_world.specs.Beginnings.{Begins}
 
 -- none of a rising list stands behind itself
 not_behind : (t : Tid) (tids : List Tid) → Each (λ later. tid_before t later ≡ true) tids → In t tids → ⊥
@@ -128,6 +136,26 @@ live_listed rights once scenario commands site home declared tids l =
         by_run : (o : Option Run) → look t ≡ o → is_some (live_one o) ≡ true → In t begun
         by_run None q e = cc
         by_run (Some run) q e = attempts_have start lines right t run q
+
+-- where nothing is live none is listed
+none_listed : (test : Tid → Bool) (tids : List Tid) → Lists test tids → ((t : Tid) → test t ≡ false) → tids ≡ []
+none_listed test [] l none = refl
+none_listed test (t ∷ tids) l none = (let yes : test t ≡ true = (l.members t).0 (inl refl) in let no = none t in cc)
+
+-- what is live at a declared site of a session that a world stands for
+abbrev ListsLive : Session → Type 0
+ListsLive session = (commands : List Command) (site : SiteId) (home : Home) → home_of session.plan site ≡ Some home
+    → (tids : List Tid) → Lists (λ tid. is_some (live home (past_of home.site (story_in session commands)) tid)) tids → tids ≡ live_at (Some home) (story_in session commands)
+
+-- where the session goes on from disks, nothing
+found_live : (found : Found) → AreUsable found → ListsLive (going_on found)
+found_live found usable commands site home declared tids l =
+    let none = lives_on found usable commands home (home-again (plan_of found) site home declared) in
+    none_listed _ tids l (λ tid. ap is_some (none tid)) ∙ sym (none_live_at home (story_in (going_on found) commands) none)
+
+pub lives_in : StoriesHaveRightLines → SitesBeginOnce → (session : Session) → Begins session → ListsLive session
+lives_in rights once session (inl e) = subst ListsLive (sym e) (live_listed rights once session.plan)
+lives_in rights once session (inr goes) = subst ListsLive (sym goes.is) (found_live session.found goes.usable)
 
 held_tids : (hs : List Held) → map (λ (k : Kept). k.tid) (map kept_held hs) ≡ map (λ (h : Held). h.tid) hs
 held_tids [] = refl

@@ -2,6 +2,7 @@
 use Rattle.std.proofs.Common.{◌≡◌, ℕ, zero, suc, ◌+◌, ◌<◌, List, [], ◌∷◌, length, take, get_or, refl, sym, subst, add-one, arith}
 use Rattle.fed_rules.specs.declared.commands.Command.{Command}
 use Rattle.fed_rules.specs.Closing.{for_each}
+use Rattle.fed_rules.specs.Sessions.{Session}
 use Rattle.closing.specs.Towards.{Fits}
 use Rattle.closing.proofs.Towards.{Extends, extends_here, extends_twice, fits_less}
 
@@ -33,5 +34,5 @@ module _ {A : Type 0} (add : A → List Command → List Command) (grows : (x : 
   next_begins xs i d before lt = subst (Extends (for_each add xs before)) (each_more add xs i d before lt) (each_begins add grows (i + 1) xs before)
 
   -- and its numbers fit
-  pub room_for : (xs : List A) (i : ℕ) (d : A) (before : List Command) → i < length xs → Fits (for_each add xs before) → Fits (add (get_or xs i d) (for_each add (take i xs) before))
-  room_for xs i d before lt fits = fits_less (for_each add xs before) (add (get_or xs i d) (for_each add (take i xs) before)) (next_begins xs i d before lt) fits
+  pub room_for : (session : Session) (xs : List A) (i : ℕ) (d : A) (before : List Command) → i < length xs → Fits session (for_each add xs before) → Fits session (add (get_or xs i d) (for_each add (take i xs) before))
+  room_for session xs i d before lt fits = fits_less session (for_each add xs before) (add (get_or xs i d) (for_each add (take i xs) before)) (next_begins xs i d before lt) fits

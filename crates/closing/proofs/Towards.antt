@@ -1,12 +1,12 @@
 -- Calls one after another on the way to all of some commands.
-use Rattle.std.proofs.Common.{◌≡◌, Result, Ok, Err, OnOk, IfErr, ◌<◌, ◌^◌, Bool, List, [], ◌∷◌, ◌++◌, length, refl, sym, ◌∙◌, ap, subst, append_assoc, length-append, arith}
+use Rattle.std.proofs.Common.{◌≡◌, Result, Ok, Err, OnOk, IfErr, Bool, List, [], ◌∷◌, ◌++◌, length, refl, sym, ◌∙◌, ap, subst, append_assoc, length-append, arith}
 use Rattle.fed_rules.specs.declared.commands.Command.{Command}
-use Rattle.fed_rules.specs.declared.scenario.Scenario.{Scenario}
+use Rattle.fed_rules.specs.Sessions.{Session}
 use Rattle.journal_disk.specs.Disk.{Seen}
 use Rattle.fed_world.specs.declared.errors.WorldErr.{WorldErr}
 use Rattle.fed_world.specs.declared.errors.WorldErr.TheVariants as Err_is
 use Rattle.fed_world.specs.declared.world.World.{World}
-use Rattle.fed_world.specs.Worlds.{FailsAt, IsBroken, Stands}
+use Rattle.fed_world.specs.Worlds.{FailsAt, HasRoom, IsBroken, Stands}
 use Rattle.closing.specs.Towards.{FailsToward, Fits}
 
 -- what follows where a call succeeds
@@ -34,36 +34,36 @@ pub extends_twice : (a b c : List Command) → Extends c b → Extends b a → E
 extends_twice a b c x y = record { front = x.front ++ y.front; is = x.is ∙ (ap (λ cs. x.front ++ cs) y.is ∙ sym (append_assoc x.front y.front a)) }
 
 -- where the numbers of all fit, those of the first ones do
-pub fits_less : (whole commands : List Command) → Extends whole commands → Fits whole → Fits commands
-fits_less whole commands x fits =
+pub fits_less : (session : Session) (whole commands : List Command) → Extends whole commands → Fits session whole → Fits session commands
+fits_less session whole commands x fits =
     let same = ap (λ (cs : List Command). length cs) x.is in
-    let parts = length-append x.front commands in omega arith
+    let parts = length-append x.front commands in omega (arith, fits, same, parts)
 
 -- so there is room for the last one
-pub room_one : (command : Command) (commands : List Command) → Fits (command ∷ commands) → length commands < 2 ^ 30
-room_one command commands fits = omega (arith, fits)
+pub room_one : (session : Session) (command : Command) (commands : List Command) → Fits session (command ∷ commands) → HasRoom session commands
+room_one session command commands fits = omega (arith, fits)
 
-module _ (tells : Bool) (world : World) (disks : List Seen) (scenario : Scenario) where
+module _ (tells : Bool) (world : World) (disks : List Seen) (session : Session) where
   -- memory was wanting before the first command
-  pub short_here : (whole commands : List Command) → Extends whole commands → Stands tells world disks scenario commands → FailsToward tells Err_is.Memory world disks whole scenario commands
+  pub short_here : (whole commands : List Command) → Extends whole commands → Stands tells world disks session commands → FailsToward tells Err_is.Memory world disks whole session commands
   short_here whole commands x s = record { done = []; left = x.front; of_whole = x.is; stood = s }
 
   -- the first command fails
-  pub fails_at : (why : WorldErr) (command : Command) (commands : List Command) → FailsAt tells why world disks command scenario commands
-      → FailsToward tells why world disks (command ∷ commands) scenario commands
+  pub fails_at : (why : WorldErr) (command : Command) (commands : List Command) → FailsAt tells why world disks command session commands
+      → FailsToward tells why world disks (command ∷ commands) session commands
   fails_at Err_is.Memory command commands f = record { done = []; left = command ∷ []; of_whole = refl; stood = f }
   fails_at (Err_is.Disk number) command commands f = record { command = command; done = []; left = []; of_whole = refl; broken = f }
 
   -- what fails toward some commands fails toward further ones, and from earlier ones on
   pub fails_within : (why : WorldErr) (longer whole mid commands : List Command) → Extends longer whole → Extends mid commands
-      → FailsToward tells why world disks whole scenario mid → FailsToward tells why world disks longer scenario commands
+      → FailsToward tells why world disks whole session mid → FailsToward tells why world disks longer session commands
   fails_within Err_is.Memory longer whole mid commands x y f =
       let same : f.done ++ mid ≡ (f.done ++ y.front) ++ commands = ap (λ cs. f.done ++ cs) y.is ∙ sym (append_assoc f.done y.front commands) in
       record {
         done = f.done ++ y.front;
         left = x.front ++ f.left;
         of_whole = x.is ∙ (ap (λ cs. x.front ++ cs) (f.of_whole ∙ ap (λ cs. f.left ++ cs) same) ∙ sym (append_assoc x.front f.left ((f.done ++ y.front) ++ commands)));
-        stood = subst (λ cs. Stands tells world disks scenario cs) same f.stood;
+        stood = subst (λ cs. Stands tells world disks session cs) same f.stood;
       }
   fails_within (Err_is.Disk number) longer whole mid commands x y f =
       let same : f.done ++ mid ≡ (f.done ++ y.front) ++ commands = ap (λ cs. f.done ++ cs) y.is ∙ sym (append_assoc f.done y.front commands) in
@@ -72,5 +72,5 @@ module _ (tells : Bool) (world : World) (disks : List Seen) (scenario : Scenario
         done = f.done ++ y.front;
         left = x.front ++ f.left;
         of_whole = x.is ∙ (ap (λ cs. x.front ++ cs) (f.of_whole ∙ ap (λ cs. f.left ++ f.command ∷ cs) same) ∙ sym (append_assoc x.front f.left (f.command ∷ ((f.done ++ y.front) ++ commands))));
-        broken = subst (λ cs. IsBroken number tells world disks f.command scenario cs) same f.broken;
+        broken = subst (λ cs. IsBroken number tells world disks f.command session cs) same f.broken;
       }

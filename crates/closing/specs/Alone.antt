@@ -1,5 +1,5 @@
 -- What finishing a transaction alone adds to the commands, message by message.
-use Rattle.std.specs.Prelude.{nat_lt, Bool, List, ◌∷◌}
+use Rattle.std.specs.Prelude.{◌≤◌, ◌+◌, ◌^◌, nat_lt, Bool, List, ◌∷◌, length}
 use Rattle.fed_rules.specs.declared.commands.Command.{Command}
 use Rattle.fed_rules.specs.declared.commands.Command.TheVariants as Cmd
 use Rattle.fed_rules.specs.declared.commands.Place.{Place}
@@ -8,8 +8,9 @@ use Rattle.fed_rules.specs.declared.scenario.TxLine.{TxLine}
 use Rattle.fed_rules.specs.Closing.{for_each, last_sends, one_alone, sent_next, taken}
 use Rattle.fed_rules.specs.Sessions.{fresh}
 use Rattle.fed_rules.specs.Story.{story_of}
+use Rattle.closing_laws.specs.AtRest.{AllUp}
 use Rattle.closing_laws.specs.Finished.{AllFinished, HaveAttemptsLeft}
-use Rattle.fed_world.specs.Worlds.{Rests}
+use Rattle.fed_world.specs.FreshWorlds.{Rests}
 
 -- a message is given, and what the site sends is taken
 abbrev pub delivered_next : Place → Scenario → List Command → List Command
@@ -23,6 +24,11 @@ queue_after scenario place commands =
 -- each of these transactions alone
 abbrev pub all_alone : List TxLine → Scenario → List Command → List Command
 all_alone lines scenario = for_each (λ line. one_alone scenario line line.home) lines
+
+-- every actor is up, and there are few enough commands that the numbers of those that finish each transaction alone fit: at most 263,168
+pub record CanFinish (scenario : Scenario) (commands : List Command) : Type 0 where
+  pub up : AllUp (story_of scenario commands)
+  pub few : length commands + 2 ^ 20 ≤ 2 ^ 30
 
 -- the session is at rest, and of no transaction without a commit all attempts were begun
 pub record CanAllCommit (scenario : Scenario) (commands : List Command) : Type 0 where

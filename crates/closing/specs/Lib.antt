@@ -1,3 +1,4 @@
 pub mod Alone
+pub mod FreshTowards
 pub mod Steps
 pub mod Towards

@@ -1,5 +1,5 @@
 -- The steps of closing, as what they add to the commands.
-use Rattle.std.specs.Prelude.{ℕ, ◌≡◌, ◌<◌, ◌≤◌, ◌+◌, ◌^◌, Bool, true, false, not, List, [], ◌∷◌, ◌++◌, length, map}
+use Rattle.std.specs.Prelude.{ℕ, ◌≡◌, ◌<◌, ◌+◌, ◌^◌, Bool, true, false, not, List, [], ◌∷◌, ◌++◌, length, map}
 use Rattle.mdb_base.specs.declared.names.SiteId.{SiteId}
 use Rattle.mdb_base.specs.declared.names.Tid.{Tid}
 use Rattle.mdb_base.specs.Words.{those}
@@ -7,46 +7,38 @@ use Rattle.fed_rules.specs.declared.commands.Command.{Command}
 use Rattle.fed_rules.specs.declared.commands.Command.TheVariants as Cmd
 use Rattle.fed_rules.specs.declared.commands.Place.{Place}
 use Rattle.fed_rules.specs.declared.scenario.Scenario.{Scenario}
-use Rattle.fed_rules.specs.Closing.{closed, deliver, for_each, in_doubt_at, inquire, last_sends, live, send_again}
-use Rattle.fed_rules.specs.Plans.{IsScenario}
+use Rattle.fed_rules.specs.Closing.{closed_in, deliver, for_each, in_doubt_at, inquire, last_sends, live, send_again}
 use Rattle.fed_rules.specs.Scenarios.{home_of}
-use Rattle.fed_rules.specs.Sessions.{Session, fresh}
+use Rattle.fed_rules.specs.Sessions.{Session}
 use Rattle.fed_rules.specs.SitePast.{is_local}
-use Rattle.fed_rules.specs.Story.{Story, past_of, story_of}
-use Rattle.closing_laws.specs.AtRest.{AllUp}
+use Rattle.fed_rules.specs.Story.{Story, past_of, story_in}
+use Rattle.closing_laws.specs.AtRest.{AllUp, StaysUp}
+use Rattle.fed_world.specs.Beginnings.{made_up}
 use Rattle.closing.specs.declared.actors.SiteTids.{SiteTids}
 use Rattle.closing.specs.Towards.{Fits}
-
--- a step of closing, of a session that begins with empty disks
-abbrev pub afresh : (Session → List Command → List Command) → Scenario → List Command → List Command
-afresh step scenario = step (fresh scenario)
 
 -- the commands with these behind them, the first one first
 abbrev pub with_commands : List Command → List Command → List Command
 with_commands more commands = for_each (λ command commands. command ∷ commands) more commands
 
 -- the numbers of them all fit
-abbrev pub FitWith : List Command → Scenario → List Command → Type 0
-FitWith more scenario commands = Fits (with_commands more commands)
+abbrev pub FitWith : List Command → Session → List Command → Type 0
+FitWith more session commands = Fits session (with_commands more commands)
 
 -- every actor is up, and the numbers of what a step makes of the commands fit
-pub record MayStep (step : Scenario → List Command → List Command) (scenario : Scenario) (commands : List Command) : Type 0 where
-  pub up : AllUp (story_of scenario commands)
-  pub fits : Fits (step scenario commands)
+pub record MayStep (step : Session → List Command → List Command) (session : Session) (commands : List Command) : Type 0 where
+  pub up : AllUp (story_in session commands)
+  pub fits : Fits session (step session commands)
 
--- there are few enough commands that the numbers of those that close the session fit: they are at most 1,638,418, however long it was
-abbrev pub CanClose : Scenario → List Command → Type 0
-CanClose scenario commands = length commands < 2 ^ 29
+-- with the lines with which the session begins there are few enough commands that the numbers of those that close it fit: they are at most 1,638,418,
+-- however long it was
+abbrev pub CanClose : Session → List Command → Type 0
+CanClose session commands = made_up session + length commands < 2 ^ 29
 
--- the scenario is one, as that of every world, and the numbers of the commands that close the session fit
-pub record MayClose (scenario : Scenario) (commands : List Command) : Type 0 where
-  pub whole : IsScenario scenario
-  pub fits : Fits (closed scenario commands)
-
--- every actor is up, and there are few enough commands that the numbers of those that finish each transaction alone fit: at most 263,168
-pub record CanFinish (scenario : Scenario) (commands : List Command) : Type 0 where
-  pub up : AllUp (story_of scenario commands)
-  pub few : length commands + 2 ^ 20 ≤ 2 ^ 30
+-- every actor is up from the second step of closing on, and the numbers of the commands that close the session fit
+pub record MayClose (session : Session) (commands : List Command) : Type 0 where
+  pub stays : StaysUp session commands
+  pub fits : Fits session (closed_in session commands)
 
 -- the command by which the message at this place is given
 abbrev pub give_of : Place → Command
@@ -57,16 +49,16 @@ abbrev pub take_of : Place → Command
 take_of place = Cmd.Take place.site place.place
 
 -- what the coordinator just sent is given
-abbrev pub given : Scenario → List Command → List Command
-given scenario commands = for_each (λ place more. Cmd.Give place.site place.place ∷ more) (last_sends (fresh scenario) commands) commands
+abbrev pub given : Session → List Command → List Command
+given session commands = for_each (λ place more. Cmd.Give place.site place.place ∷ more) (last_sends session commands) commands
 
 -- the messages at these places are delivered
-abbrev pub deliver_all : List Place → Scenario → List Command → List Command
-deliver_all places scenario = for_each (deliver (fresh scenario)) places
+abbrev pub deliver_all : List Place → Session → List Command → List Command
+deliver_all places session = for_each (deliver session) places
 
 -- a site asks about each of these attempts
-abbrev pub asks_about : SiteId → List Tid → Scenario → List Command → List Command
-asks_about site tids scenario = for_each (inquire (fresh scenario) site) tids
+abbrev pub asks_about : SiteId → List Tid → Session → List Command → List Command
+asks_about site tids session = for_each (inquire session site) tids
 
 -- the commands of the first steps
 abbrev pub disarm_of : ℕ → Command
@@ -79,12 +71,12 @@ abbrev pub late_of : Tid → Command
 late_of tid = Cmd.Late tid
 
 -- each of these decisions is sent again
-abbrev pub sent_for : List Tid → Scenario → List Command → List Command
-sent_for tids scenario = for_each (send_again (fresh scenario)) tids
+abbrev pub sent_for : List Tid → Session → List Command → List Command
+sent_for tids session = for_each (send_again session) tids
 
 -- each of these sites asks about its attempts
-abbrev pub asks_all : List SiteTids → Scenario → List Command → List Command
-asks_all sites scenario = for_each (λ at. for_each (inquire (fresh scenario) at.site) at.tids.items) sites
+abbrev pub asks_all : List SiteTids → Session → List Command → List Command
+asks_all sites session = for_each (λ at. for_each (inquire session at.site) at.tids.items) sites
 
 -- the command that ends a local attempt, or another one
 abbrev pub end_of : SiteId → Bool → Tid → Command

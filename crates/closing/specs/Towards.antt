@@ -1,47 +1,48 @@
 -- What a world comes to that carries out some commands, or only the first of them.
-use Rattle.std.specs.Prelude.{ℕ, ◌≡◌, ◌≤◌, ◌^◌, Bool, List, ◌∷◌, ◌++◌, length}
+use Rattle.std.specs.Prelude.{ℕ, ◌≡◌, ◌≤◌, ◌+◌, ◌^◌, Bool, List, ◌∷◌, ◌++◌, length}
 use Rattle.fed_rules.specs.declared.commands.Command.{Command}
-use Rattle.fed_rules.specs.declared.scenario.Scenario.{Scenario}
+use Rattle.fed_rules.specs.Sessions.{Session}
 use Rattle.journal_disk.specs.Disk.{Seen}
 use Rattle.fed_world.specs.declared.errors.WorldErr.{WorldErr}
 use Rattle.fed_world.specs.declared.errors.WorldErr.TheVariants as Err_is
 use Rattle.fed_world.specs.declared.world.World.{World}
+use Rattle.fed_world.specs.Beginnings.{made_up}
 use Rattle.fed_world.specs.Worlds.{EachStory, IsBroken, Stands}
 
--- the numbers of all these commands fit
-abbrev pub Fits : List Command → Type 0
-Fits commands = length commands ≤ 2 ^ 30
+-- the numbers of all these commands fit, behind the lines with which the session begins
+abbrev pub Fits : Session → List Command → Type 0
+Fits session commands = made_up session + length commands ≤ 2 ^ 30
 
 -- the numbers of what these become fit
-abbrev pub WillFit : (Scenario → List Command → List Command) → Scenario → List Command → Type 0
-WillFit whole scenario commands = Fits (whole scenario commands)
+abbrev pub WillFit : (Session → List Command → List Command) → Session → List Command → Type 0
+WillFit whole session commands = Fits session (whole session commands)
 
 -- memory was wanting behind some of the commands: they were carried out
-pub record IsShort (tells : Bool) (world : World) (disks : List Seen) (whole : List Command) (scenario : Scenario) (commands : List Command) : Type 0 where
+pub record IsShort (tells : Bool) (world : World) (disks : List Seen) (whole : List Command) (session : Session) (commands : List Command) : Type 0 where
   pub done : List Command
   pub left : List Command
   pub of_whole : whole ≡ left ++ (done ++ commands)
-  pub stood : Stands tells world disks scenario (done ++ commands)
+  pub stood : Stands tells world disks session (done ++ commands)
 
 -- a disk call failed at one of the commands: those before it were carried out
-pub record BreaksAt (number : ℕ) (tells : Bool) (world : World) (disks : List Seen) (whole : List Command) (scenario : Scenario) (commands : List Command) : Type 0 where
+pub record BreaksAt (number : ℕ) (tells : Bool) (world : World) (disks : List Seen) (whole : List Command) (session : Session) (commands : List Command) : Type 0 where
   pub command : Command
   pub done : List Command
   pub left : List Command
   pub of_whole : whole ≡ left ++ command ∷ (done ++ commands)
-  pub broken : IsBroken number tells world disks command scenario (done ++ commands)
+  pub broken : IsBroken number tells world disks command session (done ++ commands)
 
 -- a world that has these commands behind it fails on the way to all of them
-abbrev pub FailsToward : Bool → WorldErr → World → List Seen → List Command → Scenario → List Command → Type 0
-FailsToward tells Err_is.Memory world disks whole scenario commands = IsShort tells world disks whole scenario commands
-FailsToward tells (Err_is.Disk number) world disks whole scenario commands = BreaksAt number tells world disks whole scenario commands
+abbrev pub FailsToward : Bool → WorldErr → World → List Seen → List Command → Session → List Command → Type 0
+FailsToward tells Err_is.Memory world disks whole session commands = IsShort tells world disks whole session commands
+FailsToward tells (Err_is.Disk number) world disks whole session commands = BreaksAt number tells world disks whole session commands
 
 -- behind this the world, with its disks, has all these commands behind it
-abbrev pub Reaches : Bool → World → List Seen → World → List Seen → (Scenario → List Command → Type 0) → (Scenario → List Command → List Command) → Type 0
+abbrev pub Reaches : Bool → World → List Seen → World → List Seen → (Session → List Command → Type 0) → (Session → List Command → List Command) → Type 0
 Reaches tells old before new after Can whole =
-    EachStory (Stands tells old before) (λ scenario commands. Can scenario commands → Stands tells new after scenario (whole scenario commands))
+    EachStory (Stands tells old before) (λ session commands. Can session commands → Stands tells new after session (whole session commands))
 
 -- it fails on the way to them
-abbrev pub FallsShort : Bool → World → List Seen → WorldErr → World → List Seen → (Scenario → List Command → Type 0) → (Scenario → List Command → List Command) → Type 0
+abbrev pub FallsShort : Bool → World → List Seen → WorldErr → World → List Seen → (Session → List Command → Type 0) → (Session → List Command → List Command) → Type 0
 FallsShort tells old before why new after Can whole =
-    EachStory (Stands tells old before) (λ scenario commands. Can scenario commands → FailsToward tells why new after (whole scenario commands) scenario commands)
+    EachStory (Stands tells old before) (λ session commands. Can session commands → FailsToward tells why new after (whole session commands) session commands)

@@ -6,7 +6,7 @@ ghost use Rattle.fed_rules.specs.CoordPast as Coordinator;
 ghost use Rattle.fed_rules.specs.Happenings as happenings;
 ghost use Rattle.fed_rules.specs.Scenarios.{home_of, sites};
 ghost use Rattle.fed_rules.specs.SitePast.{is_local, trip};
-ghost use Rattle.fed_rules.specs.Story.{past_of, story_of};
+ghost use Rattle.fed_rules.specs.Story.{past_of, story_in};
 ghost use Rattle.closing_laws.specs.AtRest.{AllUp};
 ghost use Rattle.fed_world.specs.Worlds.{EachStory, Recalls};
 ghost use Rattle.closing.specs.Steps.{AreDoubtful, clearing_at, clearing_of, end_of, ending_of};
@@ -39,7 +39,7 @@ fn rising_sites(alloc: Global, scenario: &Scenario) -> Result<Vec<SiteId>, Memor
 
 /// Whether a trip is armed at a site.
 fn is_armed(world: &World, site: SiteId) -> bool
-    ensures { EachStory (Recalls world.now) (λ scenario commands. result ≡ is_some (trip (past_of site (story_of scenario commands)))) }
+    ensures { EachStory (Recalls world.now) (λ session commands. result ≡ is_some (trip (past_of site (story_in session commands)))) }
 {
     match world.site(site) {
         None => false,
@@ -49,7 +49,7 @@ fn is_armed(world: &World, site: SiteId) -> bool
 
 /// Whether a site is down.
 fn is_stopped(world: &World, site: SiteId) -> bool
-    ensures { EachStory (Recalls world.now) (λ scenario commands. result ≡ happenings.is_down (past_of site (story_of scenario commands))) }
+    ensures { EachStory (Recalls world.now) (λ session commands. result ≡ happenings.is_down (past_of site (story_in session commands))) }
 {
     match world.site(site) {
         None => false,
@@ -59,8 +59,8 @@ fn is_stopped(world: &World, site: SiteId) -> bool
 
 /// The attempts that are live at a site that is up.
 fn live_at(alloc: Global, world: &World, site: SiteId) -> Result<Vec<Tid>, Memory>
-    ensures { IfOk result (λ tids. EachStory (Recalls world.now) (λ scenario commands.
-        AllUp (story_of scenario commands) → tids.items ≡ rules.live scenario (story_of scenario commands) site)) }
+    ensures { IfOk result (λ tids. EachStory (Recalls world.now) (λ session commands.
+        AllUp (story_in session commands) → tids.items ≡ rules.live session.plan (story_in session commands) site)) }
 {
     stories_have_right_lines();
     sites_begin_attempts_once();
@@ -72,8 +72,8 @@ fn live_at(alloc: Global, world: &World, site: SiteId) -> Result<Vec<Tid>, Memor
 
 /// The attempts that a site that is up is in doubt of.
 fn doubtful_at(alloc: Global, world: &World, site: SiteId) -> Result<Vec<Tid>, Memory>
-    ensures { IfOk result (λ tids. EachStory (Recalls world.now) (λ scenario commands.
-        AllUp (story_of scenario commands) → tids.items ≡ rules.in_doubt_at (home_of scenario site) (story_of scenario commands))) }
+    ensures { IfOk result (λ tids. EachStory (Recalls world.now) (λ session commands.
+        AllUp (story_in session commands) → tids.items ≡ rules.in_doubt_at (home_of session.plan site) (story_in session commands))) }
 {
     match world.site(site) {
         None => Ok(Vec::new(alloc)),
@@ -83,7 +83,7 @@ fn doubtful_at(alloc: Global, world: &World, site: SiteId) -> Result<Vec<Tid>, M
 
 /// Whether the transaction of an attempt was begun as a local one at a site.
 fn is_own(world: &World, site: SiteId, tid: Tid) -> bool
-    ensures { EachStory (Recalls world.now) (λ scenario commands. result ≡ is_local (past_of site (story_of scenario commands)) tid) }
+    ensures { EachStory (Recalls world.now) (λ session commands. result ≡ is_local (past_of site (story_in session commands)) tid) }
 {
     match world.site(site) {
         None => false,
@@ -110,7 +110,7 @@ fn clear_tids(
     local: bool,
     commands: &mut Vec<Command>,
 ) -> Result<(), Memory>
-    ensures { OnOk result (EachStory (Recalls world.now) (λ scenario before. commands.new.items ≡ commands.old.items ++ ending_of (is_local (past_of site (story_of scenario before))) site local tids.now)) }
+    ensures { OnOk result (EachStory (Recalls world.now) (λ session before. commands.new.items ≡ commands.old.items ++ ending_of (is_local (past_of site (story_in session before))) site local tids.now)) }
 {
     for tid in tids {
         if is_own(world, site, *tid) == local {
@@ -127,8 +127,8 @@ fn clear_site(
     site: SiteId,
     commands: &mut Vec<Command>,
 ) -> Result<(), Memory>
-    ensures { OnOk result (EachStory (Recalls world.now) (λ scenario before.
-        AllUp (story_of scenario before) → commands.new.items ≡ commands.old.items ++ clearing_at scenario (story_of scenario before) site)) }
+    ensures { OnOk result (EachStory (Recalls world.now) (λ session before.
+        AllUp (story_in session before) → commands.new.items ≡ commands.old.items ++ clearing_at session.plan (story_in session before) site)) }
 {
     let tids = live_at(alloc, world, site)?;
     clear_tids(world, site, &tids, true, commands)?;
@@ -148,8 +148,8 @@ fn first_actor(alloc: Global, is_one: bool) -> Result<Vec<u8>, Memory>
 
 /// The actors where a trip is armed, the coordinator first.
 pub(crate) fn armed_actors(alloc: Global, world: &World) -> Result<Vec<u8>, Memory>
-    ensures { IfOk result (λ found. EachStory (Recalls world.now) (λ scenario commands.
-        found.items ≡ actors (λ past. is_some (Coordinator.trip past)) (λ past. is_some (trip past)) scenario (story_of scenario commands))) }
+    ensures { IfOk result (λ found. EachStory (Recalls world.now) (λ session commands.
+        found.items ≡ actors (λ past. is_some (Coordinator.trip past)) (λ past. is_some (trip past)) session.plan (story_in session commands))) }
 {
     let armed = world.coordinator().core().is_armed();
     let mut found = first_actor(alloc, armed)?;
@@ -164,8 +164,8 @@ pub(crate) fn armed_actors(alloc: Global, world: &World) -> Result<Vec<u8>, Memo
 
 /// The actors that are down, the coordinator first.
 pub(crate) fn down_actors(alloc: Global, world: &World) -> Result<Vec<u8>, Memory>
-    ensures { IfOk result (λ found. EachStory (Recalls world.now) (λ scenario commands.
-        found.items ≡ actors (λ past. happenings.is_down past) (λ past. happenings.is_down past) scenario (story_of scenario commands))) }
+    ensures { IfOk result (λ found. EachStory (Recalls world.now) (λ session commands.
+        found.items ≡ actors (λ past. happenings.is_down past) (λ past. happenings.is_down past) session.plan (story_in session commands))) }
 {
     let down = world.coordinator().core().is_down();
     let mut found = first_actor(alloc, down)?;
@@ -180,24 +180,24 @@ pub(crate) fn down_actors(alloc: Global, world: &World) -> Result<Vec<u8>, Memor
 
 /// The attempts that are known without a decision, where every actor is up.
 pub(crate) fn undecided(alloc: Global, world: &World) -> Result<Vec<Tid>, Memory>
-    ensures { IfOk result (λ tids. EachStory (Recalls world.now) (λ scenario commands.
-        AllUp (story_of scenario commands) → tids.items ≡ rules.undecided (story_of scenario commands))) }
+    ensures { IfOk result (λ tids. EachStory (Recalls world.now) (λ session commands.
+        AllUp (story_in session commands) → tids.items ≡ rules.undecided (story_in session commands))) }
 {
     world.coordinator().core().undecided_tids(alloc)
 }
 
 /// The attempts that are known, where every actor is up.
 pub(crate) fn known(alloc: Global, world: &World) -> Result<Vec<Tid>, Memory>
-    ensures { IfOk result (λ tids. EachStory (Recalls world.now) (λ scenario commands.
-        AllUp (story_of scenario commands) → tids.items ≡ rules.known scenario (story_of scenario commands))) }
+    ensures { IfOk result (λ tids. EachStory (Recalls world.now) (λ session commands.
+        AllUp (story_in session commands) → tids.items ≡ rules.known session.plan (story_in session commands))) }
 {
     world.coordinator().core().known_tids(alloc)
 }
 
 /// The commands that end what is live, where every actor is up: site by site, the local attempts first.
 pub(crate) fn clearing(alloc: Global, world: &World) -> Result<Vec<Command>, Memory>
-    ensures { IfOk result (λ commands. EachStory (Recalls world.now) (λ scenario before.
-        AllUp (story_of scenario before) → commands.items ≡ clearing_of scenario (story_of scenario before) (sites scenario))) }
+    ensures { IfOk result (λ commands. EachStory (Recalls world.now) (λ session before.
+        AllUp (story_in session before) → commands.items ≡ clearing_of session.plan (story_in session before) (sites session.plan))) }
 {
     let mut commands = Vec::new(alloc);
     let sites = rising_sites(alloc, world.scenario())?;
@@ -209,8 +209,8 @@ pub(crate) fn clearing(alloc: Global, world: &World) -> Result<Vec<Command>, Mem
 
 /// The attempts that each site is in doubt of, where every actor is up.
 pub(crate) fn doubtful(alloc: Global, world: &World) -> Result<Vec<SiteTids>, Memory>
-    ensures { IfOk result (λ all. EachStory (Recalls world.now) (λ scenario commands.
-        AllUp (story_of scenario commands) → AreDoubtful scenario (story_of scenario commands) (sites scenario) all.items)) }
+    ensures { IfOk result (λ all. EachStory (Recalls world.now) (λ session commands.
+        AllUp (story_in session commands) → AreDoubtful session.plan (story_in session commands) (sites session.plan) all.items)) }
 {
     let mut all = Vec::new(alloc);
     let sites = rising_sites(alloc, world.scenario())?;

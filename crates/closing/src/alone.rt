@@ -3,10 +3,10 @@ ghost use Rattle.std.specs.Prelude.{◌≡◌, IfErr, IfOk, OnOk, IsTrue, map};
 ghost use Rattle.fed_rules.specs.Closing as rules;
 ghost use Rattle.fed_rules.specs.Closing.{finished_alone, sent_next};
 ghost use Rattle.fed_world.specs.Faults.{CountsTell};
-ghost use Rattle.fed_world.specs.Worlds.{EachStory, HasLines, SomeStory, Stands};
-ghost use Rattle.closing.specs.Steps.{CanFinish};
-ghost use Rattle.closing.specs.Alone.{AllCommit, CanAllCommit, all_alone, delivered_next, queue_after};
-ghost use Rattle.closing.specs.Towards.{FallsShort, Reaches, WillFit};
+ghost use Rattle.fed_world.specs.FreshWorlds.{HasLines, Stands};
+ghost use Rattle.fed_world.specs.Worlds.{EachStory, SomeStory};
+ghost use Rattle.closing.specs.Alone.{AllCommit, CanAllCommit, CanFinish, all_alone, delivered_next, queue_after};
+ghost use Rattle.closing.specs.FreshTowards.{FallsShort, Reaches, WillFit};
 
 use crate::delivering::take_sent;
 use crate::reading::every_scenario_is_one;

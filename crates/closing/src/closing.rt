@@ -1,27 +1,28 @@
 //! The commands that close a session.
 ghost use Rattle.std.specs.Prelude.{IfErr, OnOk, IsTrue, map};
 ghost use Rattle.fed_rules.specs.Closing as rules;
-ghost use Rattle.fed_rules.specs.Closing.{closed};
+ghost use Rattle.fed_rules.specs.Closing.{closed_in};
 ghost use Rattle.fed_world.specs.Faults.{CountsTell};
+ghost use Rattle.fed_world.specs.FreshWorlds as Fresh;
 ghost use Rattle.fed_world.specs.Worlds.{EachStory, Rests, SomeStory, Stands};
-ghost use Rattle.closing.specs.Steps.{CanClose, MayClose, MayStep, afresh};
+ghost use Rattle.closing.specs.Steps.{CanClose, MayClose, MayStep};
 ghost use Rattle.closing.specs.Towards.{FallsShort, Reaches, WillFit};
 
 use crate::actors::{armed_actors, clearing, doubtful, down_actors, known, undecided};
 use crate::carrying::carry_out;
 use crate::exchanging::{ask_each, send_each};
 use crate::reading::{bringing_up, disarming, every_scenario_is_one, giving_up};
-use closing_laws::{closed_sessions_rest, closing_is_bounded, closing_stays_up};
 use fed_world::{World, WorldErr};
 use journal_disk::Disk;
+use resume_laws::{sessions_close_at_rest, sessions_close_shortly, sessions_stay_up};
 use std::alloc::Global;
 
 /// Each armed trip is disarmed.
 fn disarm<D: Disk>(alloc: Global, world: &mut World, disks: &mut Vec<D>) -> Result<(), WorldErr>
     requires told { IsTrue D.tells }
-    requires stood { SomeStory (Stands D.tells world.old (map D.seen disks.old.items)) (WillFit (afresh rules.disarm)) }
-    ensures done { OnOk result (Reaches D.tells world.old (map D.seen disks.old.items) world.new (map D.seen disks.new.items) (WillFit (afresh rules.disarm)) (afresh rules.disarm)) }
-    ensures failed { IfErr result (λ why. FallsShort D.tells world.old (map D.seen disks.old.items) why world.new (map D.seen disks.new.items) (WillFit (afresh rules.disarm)) (afresh rules.disarm)) }
+    requires stood { SomeStory (Stands D.tells world.old (map D.seen disks.old.items)) (WillFit rules.disarm) }
+    ensures done { OnOk result (Reaches D.tells world.old (map D.seen disks.old.items) world.new (map D.seen disks.new.items) (WillFit rules.disarm) rules.disarm) }
+    ensures failed { IfErr result (λ why. FallsShort D.tells world.old (map D.seen disks.old.items) why world.new (map D.seen disks.new.items) (WillFit rules.disarm) rules.disarm) }
     ensures cause { CountsTell result (map D.seen disks.old.items) (map D.seen disks.new.items) }
 {
     let Ok(armed) = armed_actors(alloc, world) else {
@@ -36,9 +37,9 @@ fn disarm<D: Disk>(alloc: Global, world: &mut World, disks: &mut Vec<D>) -> Resu
 /// Each actor that is down comes back.
 fn bring_up<D: Disk>(alloc: Global, world: &mut World, disks: &mut Vec<D>) -> Result<(), WorldErr>
     requires told { IsTrue D.tells }
-    requires stood { SomeStory (Stands D.tells world.old (map D.seen disks.old.items)) (WillFit (afresh rules.bring_up)) }
-    ensures done { OnOk result (Reaches D.tells world.old (map D.seen disks.old.items) world.new (map D.seen disks.new.items) (WillFit (afresh rules.bring_up)) (afresh rules.bring_up)) }
-    ensures failed { IfErr result (λ why. FallsShort D.tells world.old (map D.seen disks.old.items) why world.new (map D.seen disks.new.items) (WillFit (afresh rules.bring_up)) (afresh rules.bring_up)) }
+    requires stood { SomeStory (Stands D.tells world.old (map D.seen disks.old.items)) (WillFit rules.bring_up) }
+    ensures done { OnOk result (Reaches D.tells world.old (map D.seen disks.old.items) world.new (map D.seen disks.new.items) (WillFit rules.bring_up) rules.bring_up) }
+    ensures failed { IfErr result (λ why. FallsShort D.tells world.old (map D.seen disks.old.items) why world.new (map D.seen disks.new.items) (WillFit rules.bring_up) rules.bring_up) }
     ensures cause { CountsTell result (map D.seen disks.old.items) (map D.seen disks.new.items) }
 {
     let Ok(down) = down_actors(alloc, world) else {
@@ -53,9 +54,9 @@ fn bring_up<D: Disk>(alloc: Global, world: &mut World, disks: &mut Vec<D>) -> Re
 /// Each attempt that is known without a decision is given up.
 fn give_up<D: Disk>(alloc: Global, world: &mut World, disks: &mut Vec<D>) -> Result<(), WorldErr>
     requires told { IsTrue D.tells }
-    requires stood { SomeStory (Stands D.tells world.old (map D.seen disks.old.items)) (MayStep (afresh rules.give_up)) }
-    ensures done { OnOk result (Reaches D.tells world.old (map D.seen disks.old.items) world.new (map D.seen disks.new.items) (MayStep (afresh rules.give_up)) (afresh rules.give_up)) }
-    ensures failed { IfErr result (λ why. FallsShort D.tells world.old (map D.seen disks.old.items) why world.new (map D.seen disks.new.items) (MayStep (afresh rules.give_up)) (afresh rules.give_up)) }
+    requires stood { SomeStory (Stands D.tells world.old (map D.seen disks.old.items)) (MayStep rules.give_up) }
+    ensures done { OnOk result (Reaches D.tells world.old (map D.seen disks.old.items) world.new (map D.seen disks.new.items) (MayStep rules.give_up) rules.give_up) }
+    ensures failed { IfErr result (λ why. FallsShort D.tells world.old (map D.seen disks.old.items) why world.new (map D.seen disks.new.items) (MayStep rules.give_up) rules.give_up) }
     ensures cause { CountsTell result (map D.seen disks.old.items) (map D.seen disks.new.items) }
 {
     let Ok(tids) = undecided(alloc, world) else {
@@ -70,9 +71,9 @@ fn give_up<D: Disk>(alloc: Global, world: &mut World, disks: &mut Vec<D>) -> Res
 /// At each site each live local transaction is aborted, and then each live subtransaction dropped.
 fn clear<D: Disk>(alloc: Global, world: &mut World, disks: &mut Vec<D>) -> Result<(), WorldErr>
     requires told { IsTrue D.tells }
-    requires stood { SomeStory (Stands D.tells world.old (map D.seen disks.old.items)) (MayStep (afresh rules.clear)) }
-    ensures done { OnOk result (Reaches D.tells world.old (map D.seen disks.old.items) world.new (map D.seen disks.new.items) (MayStep (afresh rules.clear)) (afresh rules.clear)) }
-    ensures failed { IfErr result (λ why. FallsShort D.tells world.old (map D.seen disks.old.items) why world.new (map D.seen disks.new.items) (MayStep (afresh rules.clear)) (afresh rules.clear)) }
+    requires stood { SomeStory (Stands D.tells world.old (map D.seen disks.old.items)) (MayStep rules.clear) }
+    ensures done { OnOk result (Reaches D.tells world.old (map D.seen disks.old.items) world.new (map D.seen disks.new.items) (MayStep rules.clear) rules.clear) }
+    ensures failed { IfErr result (λ why. FallsShort D.tells world.old (map D.seen disks.old.items) why world.new (map D.seen disks.new.items) (MayStep rules.clear) rules.clear) }
     ensures cause { CountsTell result (map D.seen disks.old.items) (map D.seen disks.new.items) }
 {
     let Ok(commands) = clearing(alloc, world) else {
@@ -84,9 +85,9 @@ fn clear<D: Disk>(alloc: Global, world: &mut World, disks: &mut Vec<D>) -> Resul
 /// Each known attempt is ended.
 fn end_known<D: Disk>(alloc: Global, world: &mut World, disks: &mut Vec<D>) -> Result<(), WorldErr>
     requires told { IsTrue D.tells }
-    requires stood { SomeStory (Stands D.tells world.old (map D.seen disks.old.items)) (MayStep (afresh rules.end_known)) }
-    ensures done { OnOk result (Reaches D.tells world.old (map D.seen disks.old.items) world.new (map D.seen disks.new.items) (MayStep (afresh rules.end_known)) (afresh rules.end_known)) }
-    ensures failed { IfErr result (λ why. FallsShort D.tells world.old (map D.seen disks.old.items) why world.new (map D.seen disks.new.items) (MayStep (afresh rules.end_known)) (afresh rules.end_known)) }
+    requires stood { SomeStory (Stands D.tells world.old (map D.seen disks.old.items)) (MayStep rules.end_known) }
+    ensures done { OnOk result (Reaches D.tells world.old (map D.seen disks.old.items) world.new (map D.seen disks.new.items) (MayStep rules.end_known) rules.end_known) }
+    ensures failed { IfErr result (λ why. FallsShort D.tells world.old (map D.seen disks.old.items) why world.new (map D.seen disks.new.items) (MayStep rules.end_known) rules.end_known) }
     ensures cause { CountsTell result (map D.seen disks.old.items) (map D.seen disks.new.items) }
 {
     let Ok(tids) = known(alloc, world) else {
@@ -98,9 +99,9 @@ fn end_known<D: Disk>(alloc: Global, world: &mut World, disks: &mut Vec<D>) -> R
 /// Each doubt of each site is cleared.
 fn ask_all<D: Disk>(alloc: Global, world: &mut World, disks: &mut Vec<D>) -> Result<(), WorldErr>
     requires told { IsTrue D.tells }
-    requires stood { SomeStory (Stands D.tells world.old (map D.seen disks.old.items)) (MayStep (afresh rules.ask_all)) }
-    ensures done { OnOk result (Reaches D.tells world.old (map D.seen disks.old.items) world.new (map D.seen disks.new.items) (MayStep (afresh rules.ask_all)) (afresh rules.ask_all)) }
-    ensures failed { IfErr result (λ why. FallsShort D.tells world.old (map D.seen disks.old.items) why world.new (map D.seen disks.new.items) (MayStep (afresh rules.ask_all)) (afresh rules.ask_all)) }
+    requires stood { SomeStory (Stands D.tells world.old (map D.seen disks.old.items)) (MayStep rules.ask_all) }
+    ensures done { OnOk result (Reaches D.tells world.old (map D.seen disks.old.items) world.new (map D.seen disks.new.items) (MayStep rules.ask_all) rules.ask_all) }
+    ensures failed { IfErr result (λ why. FallsShort D.tells world.old (map D.seen disks.old.items) why world.new (map D.seen disks.new.items) (MayStep rules.ask_all) rules.ask_all) }
     ensures cause { CountsTell result (map D.seen disks.old.items) (map D.seen disks.new.items) }
 {
     let Ok(sites) = doubtful(alloc, world) else {
@@ -113,11 +114,10 @@ fn ask_all<D: Disk>(alloc: Global, world: &mut World, disks: &mut Vec<D>) -> Res
 fn each_step<D: Disk>(alloc: Global, world: &mut World, disks: &mut Vec<D>) -> Result<(), WorldErr>
     requires told { IsTrue D.tells }
     requires stood { SomeStory (Stands D.tells world.old (map D.seen disks.old.items)) MayClose }
-    ensures done { OnOk result (Reaches D.tells world.old (map D.seen disks.old.items) world.new (map D.seen disks.new.items) MayClose closed) }
-    ensures failed { IfErr result (λ why. FallsShort D.tells world.old (map D.seen disks.old.items) why world.new (map D.seen disks.new.items) MayClose closed) }
+    ensures done { OnOk result (Reaches D.tells world.old (map D.seen disks.old.items) world.new (map D.seen disks.new.items) MayClose closed_in) }
+    ensures failed { IfErr result (λ why. FallsShort D.tells world.old (map D.seen disks.old.items) why world.new (map D.seen disks.new.items) MayClose closed_in) }
     ensures cause { CountsTell result (map D.seen disks.old.items) (map D.seen disks.new.items) }
 {
-    closing_stays_up();
     disarm(alloc, world, disks)?;
     bring_up(alloc, world, disks)?;
     give_up(alloc, world, disks)?;
@@ -128,18 +128,21 @@ fn each_step<D: Disk>(alloc: Global, world: &mut World, disks: &mut Vec<D>) -> R
 
 /// Closes a session by the commands that this project's profile names, and by no others: each armed trip is disarmed, each actor that is down
 /// comes back, each undecided attempt is given up, at each site what is live ends, each known attempt is ended, and each doubt is cleared;
-/// attempts and sites in rising order. Behind that the session is at rest. After want of memory or a failed disk call the lines made until
-/// then stand.
+/// attempts and sites in rising order. Behind that the session is at rest, whether it began with empty disks or goes on from disks. After want
+/// of memory or a failed disk call the lines made until then stand.
 pub fn close<D: Disk>(alloc: Global, world: &mut World, disks: &mut Vec<D>) -> Result<(), WorldErr>
     requires told { IsTrue D.tells }
     requires stood { SomeStory (Stands D.tells world.old (map D.seen disks.old.items)) CanClose }
-    ensures done { OnOk result (Reaches D.tells world.old (map D.seen disks.old.items) world.new (map D.seen disks.new.items) CanClose closed) }
-    ensures rests { OnOk result (EachStory (Stands D.tells world.new (map D.seen disks.new.items)) Rests) }
-    ensures failed { IfErr result (λ why. FallsShort D.tells world.old (map D.seen disks.old.items) why world.new (map D.seen disks.new.items) CanClose closed) }
+    ensures done { OnOk result (Reaches D.tells world.old (map D.seen disks.old.items) world.new (map D.seen disks.new.items) CanClose closed_in) }
+    ensures rests { OnOk result (EachStory (Stands D.tells world.old (map D.seen disks.old.items))
+        (λ session commands. CanClose session commands → Rests session (closed_in session commands))) }
+    ensures fresh { OnOk result (EachStory (Fresh.Stands D.tells world.new (map D.seen disks.new.items)) Fresh.Rests) }
+    ensures failed { IfErr result (λ why. FallsShort D.tells world.old (map D.seen disks.old.items) why world.new (map D.seen disks.new.items) CanClose closed_in) }
     ensures cause { CountsTell result (map D.seen disks.old.items) (map D.seen disks.new.items) }
 {
-    closing_is_bounded();
-    closed_sessions_rest();
+    sessions_stay_up();
+    sessions_close_at_rest();
+    sessions_close_shortly();
     every_scenario_is_one(world.scenario());
     each_step(alloc, world, disks)
 }

@@ -1,10 +1,9 @@
 //! A message that is delivered: its site is given it, and what the site sends is taken.
 ghost use Rattle.std.specs.Prelude.{IfErr, OnOk, IsTrue, map};
 ghost use Rattle.fed_rules.specs.Closing.{deliver as delivered, taken};
-ghost use Rattle.fed_rules.specs.Sessions.{fresh};
 ghost use Rattle.fed_world.specs.Faults.{CountsTell};
 ghost use Rattle.fed_world.specs.Worlds.{SomeStory, Stands};
-ghost use Rattle.closing.specs.Steps.{afresh, given};
+ghost use Rattle.closing.specs.Steps.{given};
 ghost use Rattle.closing.specs.Towards.{FallsShort, Reaches, WillFit};
 
 use crate::carrying::carry_out;
@@ -21,9 +20,9 @@ pub(crate) fn take_sent<D: Disk>(
     disks: &mut Vec<D>,
 ) -> Result<(), WorldErr>
     requires told { IsTrue D.tells }
-    requires stood { SomeStory (Stands D.tells world.old (map D.seen disks.old.items)) (WillFit (afresh taken)) }
-    ensures done { OnOk result (Reaches D.tells world.old (map D.seen disks.old.items) world.new (map D.seen disks.new.items) (WillFit (afresh taken)) (afresh taken)) }
-    ensures failed { IfErr result (λ why. FallsShort D.tells world.old (map D.seen disks.old.items) why world.new (map D.seen disks.new.items) (WillFit (afresh taken)) (afresh taken)) }
+    requires stood { SomeStory (Stands D.tells world.old (map D.seen disks.old.items)) (WillFit taken) }
+    ensures done { OnOk result (Reaches D.tells world.old (map D.seen disks.old.items) world.new (map D.seen disks.new.items) (WillFit taken) taken) }
+    ensures failed { IfErr result (λ why. FallsShort D.tells world.old (map D.seen disks.old.items) why world.new (map D.seen disks.new.items) (WillFit taken) taken) }
     ensures cause { CountsTell result (map D.seen disks.old.items) (map D.seen disks.new.items) }
 {
     let Ok(places) = last_places(alloc, world) else {
@@ -64,9 +63,9 @@ pub(crate) fn deliver<D: Disk>(
     place: Place,
 ) -> Result<(), WorldErr>
     requires told { IsTrue D.tells }
-    requires stood { SomeStory (Stands D.tells world.old (map D.seen disks.old.items)) (WillFit (λ scenario. delivered (fresh scenario) place)) }
-    ensures done { OnOk result (Reaches D.tells world.old (map D.seen disks.old.items) world.new (map D.seen disks.new.items) (WillFit (λ scenario. delivered (fresh scenario) place)) (λ scenario. delivered (fresh scenario) place)) }
-    ensures failed { IfErr result (λ why. FallsShort D.tells world.old (map D.seen disks.old.items) why world.new (map D.seen disks.new.items) (WillFit (λ scenario. delivered (fresh scenario) place)) (λ scenario. delivered (fresh scenario) place)) }
+    requires stood { SomeStory (Stands D.tells world.old (map D.seen disks.old.items)) (WillFit (λ session. delivered session place)) }
+    ensures done { OnOk result (Reaches D.tells world.old (map D.seen disks.old.items) world.new (map D.seen disks.new.items) (WillFit (λ session. delivered session place)) (λ session. delivered session place)) }
+    ensures failed { IfErr result (λ why. FallsShort D.tells world.old (map D.seen disks.old.items) why world.new (map D.seen disks.new.items) (WillFit (λ session. delivered session place)) (λ session. delivered session place)) }
     ensures cause { CountsTell result (map D.seen disks.old.items) (map D.seen disks.new.items) }
 {
     let command = Command::Give {

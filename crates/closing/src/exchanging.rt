@@ -1,7 +1,6 @@
 //! The steps in which actors send to one another: decisions that are sent again, and inquiries.
 ghost use Rattle.std.specs.Prelude.{IfErr, OnOk, IsTrue, map};
 ghost use Rattle.fed_rules.specs.Closing.{inquire as inquired, send_again as sent_again};
-ghost use Rattle.fed_rules.specs.Sessions.{fresh};
 ghost use Rattle.fed_world.specs.Faults.{CountsTell};
 ghost use Rattle.fed_world.specs.Worlds.{SomeStory, Stands};
 ghost use Rattle.closing.specs.Towards.{FallsShort, Reaches, WillFit};
@@ -43,9 +42,9 @@ fn send_again<D: Disk>(
     tid: Tid,
 ) -> Result<(), WorldErr>
     requires told { IsTrue D.tells }
-    requires stood { SomeStory (Stands D.tells world.old (map D.seen disks.old.items)) (WillFit (λ scenario. sent_again (fresh scenario) tid)) }
-    ensures done { OnOk result (Reaches D.tells world.old (map D.seen disks.old.items) world.new (map D.seen disks.new.items) (WillFit (λ scenario. sent_again (fresh scenario) tid)) (λ scenario. sent_again (fresh scenario) tid)) }
-    ensures failed { IfErr result (λ why. FallsShort D.tells world.old (map D.seen disks.old.items) why world.new (map D.seen disks.new.items) (WillFit (λ scenario. sent_again (fresh scenario) tid)) (λ scenario. sent_again (fresh scenario) tid)) }
+    requires stood { SomeStory (Stands D.tells world.old (map D.seen disks.old.items)) (WillFit (λ session. sent_again session tid)) }
+    ensures done { OnOk result (Reaches D.tells world.old (map D.seen disks.old.items) world.new (map D.seen disks.new.items) (WillFit (λ session. sent_again session tid)) (λ session. sent_again session tid)) }
+    ensures failed { IfErr result (λ why. FallsShort D.tells world.old (map D.seen disks.old.items) why world.new (map D.seen disks.new.items) (WillFit (λ session. sent_again session tid)) (λ session. sent_again session tid)) }
     ensures cause { CountsTell result (map D.seen disks.old.items) (map D.seen disks.new.items) }
 {
     world.apply(alloc, disks, Command::Again(tid))?;
@@ -64,9 +63,9 @@ fn inquire<D: Disk>(
     tid: Tid,
 ) -> Result<(), WorldErr>
     requires told { IsTrue D.tells }
-    requires stood { SomeStory (Stands D.tells world.old (map D.seen disks.old.items)) (WillFit (λ scenario. inquired (fresh scenario) site tid)) }
-    ensures done { OnOk result (Reaches D.tells world.old (map D.seen disks.old.items) world.new (map D.seen disks.new.items) (WillFit (λ scenario. inquired (fresh scenario) site tid)) (λ scenario. inquired (fresh scenario) site tid)) }
-    ensures failed { IfErr result (λ why. FallsShort D.tells world.old (map D.seen disks.old.items) why world.new (map D.seen disks.new.items) (WillFit (λ scenario. inquired (fresh scenario) site tid)) (λ scenario. inquired (fresh scenario) site tid)) }
+    requires stood { SomeStory (Stands D.tells world.old (map D.seen disks.old.items)) (WillFit (λ session. inquired session site tid)) }
+    ensures done { OnOk result (Reaches D.tells world.old (map D.seen disks.old.items) world.new (map D.seen disks.new.items) (WillFit (λ session. inquired session site tid)) (λ session. inquired session site tid)) }
+    ensures failed { IfErr result (λ why. FallsShort D.tells world.old (map D.seen disks.old.items) why world.new (map D.seen disks.new.items) (WillFit (λ session. inquired session site tid)) (λ session. inquired session site tid)) }
     ensures cause { CountsTell result (map D.seen disks.old.items) (map D.seen disks.new.items) }
 {
     world.apply(alloc, disks, Command::Ask { site, tid })?;

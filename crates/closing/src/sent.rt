@@ -1,7 +1,6 @@
 //! The messages that were sent last.
 ghost use Rattle.std.specs.Prelude.{◌≡◌, IfOk, map};
 ghost use Rattle.fed_rules.specs.Closing.{last_sends};
-ghost use Rattle.fed_rules.specs.Sessions.{fresh};
 ghost use Rattle.fed_world.specs.Worlds.{EachStory, HasLines};
 ghost use Rattle.closing.specs.Steps.{give_of, take_of};
 
@@ -19,7 +18,7 @@ fn copied(alloc: Global, places: &[Place]) -> Result<Vec<Place>, Memory>
 
 /// The places of what the last line sent.
 fn sent_last(world: &World) -> &[Place]
-    ensures { EachStory (HasLines world.now) (λ scenario commands. result.now ≡ last_sends (fresh scenario) commands) }
+    ensures { EachStory (HasLines world.now) (λ session commands. result.now ≡ last_sends session commands) }
 {
     let lines = world.lines();
     if lines.is_empty() {
@@ -30,7 +29,7 @@ fn sent_last(world: &World) -> &[Place]
 
 /// The places of what the last line sent, in memory of their own.
 pub(crate) fn last_places(alloc: Global, world: &World) -> Result<Vec<Place>, Memory>
-    ensures { IfOk result (λ places. EachStory (HasLines world.now) (λ scenario commands. places.items ≡ last_sends (fresh scenario) commands)) }
+    ensures { IfOk result (λ places. EachStory (HasLines world.now) (λ session commands. places.items ≡ last_sends session commands)) }
 {
     copied(alloc, sent_last(world))
 }

@@ -1,7 +1,7 @@
 use Rattle.std.proofs.Common.{List, take}
 use Rattle.fed_rules.specs.declared.commands.Command.{Command}
-use Rattle.fed_rules.specs.declared.scenario.Scenario.{Scenario}
-use Rattle.fed_rules.specs.Story.{story_of}
+use Rattle.fed_rules.specs.Sessions.{Session}
+use Rattle.fed_rules.specs.Story.{story_in}
 use Rattle.closing_laws.specs.AtRest.{AllUp}
 use Rattle.fed_world.specs.Worlds.{Recalls}
 use Rattle.closing.specs.Steps.{AreDoubtful}
@@ -10,5 +10,5 @@ use Rattle.closing.proofs.actors.doubtful.Given as goal
 -- those of the first sites
 abbrev pub invariant-loop-site : goal.invariant-loop-site
 invariant-loop-site l =
-    (scenario : Scenario) (commands : List Command) → Recalls l.world scenario commands → AllUp (story_of scenario commands)
-    → AreDoubtful scenario (story_of scenario commands) (take l.site-index l.site-items) l.all.items
+    (session : Session) (commands : List Command) → Recalls l.world session commands → AllUp (story_in session commands)
+    → AreDoubtful session.plan (story_in session commands) (take l.site-index l.site-items) l.all.items

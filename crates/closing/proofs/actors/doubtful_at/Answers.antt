@@ -2,7 +2,7 @@ use Rattle.std.proofs.Common.{is_some, sym, ap, ◌∙◌, subst}
 use Rattle.fed_rules.specs.SitePast.{records}
 use Rattle.fed_rules.specs.SiteRecords.{doubt_of}
 use Rattle.fed_rules.specs.Closing as rules
-use Rattle.fed_rules.specs.Story.{past_of, story_of}
+use Rattle.fed_rules.specs.Story.{past_of, story_in}
 use Rattle.rules_laws.proofs.Declared.{its-site}
 use Rattle.site_book.specs.Listing.{Lists}
 use Rattle.closing.proofs.Cores.{on_ok}
@@ -10,16 +10,16 @@ use Rattle.closing.proofs.Listed.{doubts_listed}
 use Rattle.closing.proofs.actors.doubtful_at.Goals as goal
 
 pub returns-in-None : goal.returns-in-None
-returns-in-None c scenario commands r up = c.new.ensures.items ∙ ap (λ o. rules.in_doubt_at o (story_of scenario commands)) (sym (c.in-None.ensures scenario commands r))
+returns-in-None c session commands r up = c.new.ensures.items ∙ ap (λ o. rules.in_doubt_at o (story_in session commands)) (sym (c.in-None.ensures session commands r))
 
 pub returns-in-Some : goal.returns-in-Some
 returns-in-Some c =
     on_ok _ _ c.doubtful_tids.result
-    (λ tids listed scenario commands r up.
-    let l = c.in-Some.ensures scenario commands r in
-    let own = its-site scenario c.args.site l.home l.declared in
-    doubts_listed l.home (records l.home (past_of l.home.site (story_of scenario commands))) tids.items
-    (subst (λ s. Lists (λ tid. is_some (doubt_of (records l.home (past_of s (story_of scenario commands))) tid)) tids.items) (sym own)
+    (λ tids listed session commands r up.
+    let l = c.in-Some.ensures session commands r in
+    let own = its-site session.plan c.args.site l.home l.declared in
+    doubts_listed l.home (records l.home (past_of l.home.site (story_in session commands))) tids.items
+    (subst (λ s. Lists (λ tid. is_some (doubt_of (records l.home (past_of s (story_in session commands))) tid)) tids.items) (sym own)
     (listed l.home _ (c.core.ensures.held l.home _ _ l.recalls) (up.sites c.args.site)))
-    ∙ ap (λ o. rules.in_doubt_at o (story_of scenario commands)) (sym l.declared))
+    ∙ ap (λ o. rules.in_doubt_at o (story_in session commands)) (sym l.declared))
     c.doubtful_tids.ensures

@@ -4,5 +4,5 @@ use Rattle.closing.proofs.actors.undecided.Goals as goal
 pub returns : goal.returns
 returns c =
     on_ok _ _ c.undecided_tids.result
-    (λ tids listed scenario commands r up. listed _ _ (c.core.ensures.held _ _ _ (c.coordinator.ensures scenario commands r)) up.coordinator)
+    (λ tids listed session commands r up. listed _ _ (c.core.ensures.held _ _ _ (c.coordinator.ensures session commands r)) up.coordinator)
     c.undecided_tids.ensures

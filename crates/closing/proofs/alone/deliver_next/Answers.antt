@@ -1,12 +1,14 @@
-use Rattle.std.proofs.Common.{◌<◌, ◌^◌, ◌∷◌, List, length, map, ◌∙◌, ap}
+use Rattle.std.proofs.Common.{◌∷◌, List, map, ◌∙◌, ap}
 use Rattle.std.proofs.lemmas.Result.{err_from_is_err_and}
 use Rattle.fed_rules.specs.declared.commands.Command.{Command}
 use Rattle.fed_rules.specs.declared.commands.Place.{Place}
 use Rattle.fed_world.specs.declared.errors.WorldErr.TheVariants as Err_is
 use Rattle.fed_rules.specs.declared.scenario.Scenario.{Scenario}
 use Rattle.fed_rules.specs.Closing.{sent_next}
+use Rattle.fed_rules.specs.Sessions.{fresh}
 use Rattle.closing.specs.Alone.{delivered_next}
 use Rattle.closing.specs.Steps.{give_of}
+use Rattle.fed_world.specs.Worlds.{HasRoom}
 use Rattle.closing.specs.Towards.{Fits}
 use Rattle.closing.proofs.Deliveries.{next_grows}
 use Rattle.fed_world.proofs.Faults.{failed_later}
@@ -15,15 +17,15 @@ use Rattle.closing.proofs.Towards.{extends_here, extends_one, fails_at, fails_wi
 use Rattle.closing.proofs.World.{has_lines}
 use Rattle.closing.proofs.alone.deliver_next.Goals as goal
 
-room : (scenario : Scenario) (place : Place) (commands : List Command) → Fits (delivered_next place scenario commands) → length commands < 2 ^ 30
+room : (scenario : Scenario) (place : Place) (commands : List Command) → Fits (fresh scenario) (delivered_next place scenario commands) → HasRoom (fresh scenario) commands
 room scenario place commands fits =
     let one = give_of place ∷ commands in
-    room_one (give_of place) commands (fits_less (delivered_next place scenario commands) one (taken_grows scenario one) fits)
+    room_one (fresh scenario) (give_of place) commands (fits_less (fresh scenario) (delivered_next place scenario commands) one (taken_grows (fresh scenario) one) fits)
 
 pub apply-requires-clause-stood : goal.apply-requires-clause-stood
 apply-requires-clause-stood g c =
     let r = c.requires.stood in
-    record { scenario = r.scenario; commands = r.commands; stood = r.stood; holds = room r.scenario c.args.place r.commands r.holds }
+    record { session = fresh r.session; commands = r.commands; stood = r.stood; holds = room r.session c.args.place r.commands r.holds }
 
 pub returns-in_err-apply-clause-failed : goal.returns-in_err-apply-clause-failed
 returns-in_err-apply-clause-failed g c =
@@ -31,27 +33,27 @@ returns-in_err-apply-clause-failed g c =
     rw (p.1, p.2) (λ scenario commands s fits.
     let place = c.args.place in
     let one = give_of place ∷ commands in
-    fails_within g.D.Disk.tells c.apply.new.self (map g.D.Disk.seen c.apply.new.disks.items) scenario c.in_err-apply.field-0.0 (delivered_next place scenario commands) one commands commands
-    (taken_grows scenario one) (extends_here commands)
-    (fails_at g.D.Disk.tells c.apply.new.self (map g.D.Disk.seen c.apply.new.disks.items) scenario c.in_err-apply.field-0.0 (give_of place) commands
-    (c.in_err-apply.ensures.failed scenario commands s (room scenario place commands fits))))
+    fails_within g.D.Disk.tells c.apply.new.self (map g.D.Disk.seen c.apply.new.disks.items) (fresh scenario) c.in_err-apply.field-0.0 (delivered_next place scenario commands) one commands commands
+    (taken_grows (fresh scenario) one) (extends_here commands)
+    (fails_at g.D.Disk.tells c.apply.new.self (map g.D.Disk.seen c.apply.new.disks.items) (fresh scenario) c.in_err-apply.field-0.0 (give_of place) commands
+    (c.in_err-apply.ensures.failed (fresh scenario) commands s (room scenario place commands fits))))
 
 pub returns-in_default-clause-failed : goal.returns-in_default-clause-failed
 returns-in_default-clause-failed g c scenario commands s fits =
     let place = c.args.place in
     let one = give_of place ∷ commands in
-    fails_within g.D.Disk.tells c.apply.new.self (map g.D.Disk.seen c.apply.new.disks.items) scenario Err_is.Memory (delivered_next place scenario commands) (delivered_next place scenario commands) one commands
+    fails_within g.D.Disk.tells c.apply.new.self (map g.D.Disk.seen c.apply.new.disks.items) (fresh scenario) Err_is.Memory (delivered_next place scenario commands) (delivered_next place scenario commands) one commands
     (extends_here (delivered_next place scenario commands)) (extends_one (give_of place) commands)
-    (short_here g.D.Disk.tells c.apply.new.self (map g.D.Disk.seen c.apply.new.disks.items) scenario (delivered_next place scenario commands) one (taken_grows scenario one)
-    (c.in_ok-apply.ensures.applied scenario commands s (room scenario place commands fits)))
+    (short_here g.D.Disk.tells c.apply.new.self (map g.D.Disk.seen c.apply.new.disks.items) (fresh scenario) (delivered_next place scenario commands) one (taken_grows (fresh scenario) one)
+    (c.in_ok-apply.ensures.applied (fresh scenario) commands s (room scenario place commands fits)))
 
 pub take_sent-requires-clause-stood : goal.take_sent-requires-clause-stood
 take_sent-requires-clause-stood g c =
     let r = c.requires.stood in
     record {
-      scenario = r.scenario;
+      session = fresh r.session;
       commands = give_of c.args.place ∷ r.commands;
-      stood = c.in_ok-apply.ensures.applied r.scenario r.commands r.stood (room r.scenario c.args.place r.commands r.holds);
+      stood = c.in_ok-apply.ensures.applied (fresh r.session) r.commands r.stood (room r.session c.args.place r.commands r.holds);
       holds = r.holds;
     }
 
@@ -62,8 +64,8 @@ returns-in_err-take_sent-clause-failed g c =
     let place = c.args.place in
     let one = give_of place ∷ commands in
     let whole = delivered_next place scenario commands in
-    fails_within g.D.Disk.tells c.take_sent.new.world (map g.D.Disk.seen c.take_sent.new.disks.items) scenario c.in_err-take_sent.field-0.0 whole whole one commands (extends_here whole) (extends_one (give_of place) commands)
-    (c.in_err-take_sent.ensures.failed scenario one (c.in_ok-apply.ensures.applied scenario commands s (room scenario place commands fits)) fits))
+    fails_within g.D.Disk.tells c.take_sent.new.world (map g.D.Disk.seen c.take_sent.new.disks.items) (fresh scenario) c.in_err-take_sent.field-0.0 whole whole one commands (extends_here whole) (extends_one (give_of place) commands)
+    (c.in_err-take_sent.ensures.failed (fresh scenario) one (c.in_ok-apply.ensures.applied (fresh scenario) commands s (room scenario place commands fits)) fits))
 
 pub returns-in_err-take_sent-clause-cause : goal.returns-in_err-take_sent-clause-cause
 returns-in_err-take_sent-clause-cause g c =
@@ -74,14 +76,14 @@ pub returns-in-Ok-sent_at-clause-sent : goal.returns-in-Ok-sent_at-clause-sent
 returns-in-Ok-sent_at-clause-sent g c scenario commands s fits =
     let place = c.args.place in
     let one = give_of place ∷ commands in
-    let next = c.in_ok-apply.ensures.applied scenario commands s (room scenario place commands fits) in
-    let last = c.in_ok-take_sent.ensures.done scenario one next fits in
+    let next = c.in_ok-apply.ensures.applied (fresh scenario) commands s (room scenario place commands fits) in
+    let last = c.in_ok-take_sent.ensures.done (fresh scenario) one next fits in
     c.in-Ok-sent_at.ensures scenario (delivered_next place scenario commands) (has_lines _ _ _ _ _ last)
-    ∙ ap (sent_next scenario (delivered_next place scenario commands)) (c.deref.ensures.value ∙ c.in-Ok.ensures scenario one (has_lines _ _ _ _ _ next))
+    ∙ ap (sent_next scenario (delivered_next place scenario commands)) (c.deref.ensures.value ∙ c.in-Ok.ensures (fresh scenario) one (has_lines _ _ _ _ _ next))
 
 pub returns-in-Ok-sent_at-clause-done : goal.returns-in-Ok-sent_at-clause-done
 returns-in-Ok-sent_at-clause-done g c scenario commands s fits =
-    c.in_ok-take_sent.ensures.done scenario (give_of c.args.place ∷ commands) (c.in_ok-apply.ensures.applied scenario commands s (room scenario c.args.place commands fits)) fits
+    c.in_ok-take_sent.ensures.done (fresh scenario) (give_of c.args.place ∷ commands) (c.in_ok-apply.ensures.applied (fresh scenario) commands s (room scenario c.args.place commands fits)) fits
 
 pub returns-in-Ok-sent_at-clause-cause : goal.returns-in-Ok-sent_at-clause-cause
 returns-in-Ok-sent_at-clause-cause g c =
@@ -92,9 +94,9 @@ returns-clause-failed g c scenario commands s fits =
     let place = c.args.place in
     let one = give_of place ∷ commands in
     let whole = delivered_next place scenario commands in
-    let last = c.in_ok-take_sent.ensures.done scenario one (c.in_ok-apply.ensures.applied scenario commands s (room scenario place commands fits)) fits in
-    fails_within g.D.Disk.tells c.take_sent.new.world (map g.D.Disk.seen c.take_sent.new.disks.items) scenario Err_is.Memory whole whole whole commands (extends_here whole) (next_grows scenario place commands)
-    (short_here g.D.Disk.tells c.take_sent.new.world (map g.D.Disk.seen c.take_sent.new.disks.items) scenario whole whole (extends_here whole) last)
+    let last = c.in_ok-take_sent.ensures.done (fresh scenario) one (c.in_ok-apply.ensures.applied (fresh scenario) commands s (room scenario place commands fits)) fits in
+    fails_within g.D.Disk.tells c.take_sent.new.world (map g.D.Disk.seen c.take_sent.new.disks.items) (fresh scenario) Err_is.Memory whole whole whole commands (extends_here whole) (next_grows scenario place commands)
+    (short_here g.D.Disk.tells c.take_sent.new.world (map g.D.Disk.seen c.take_sent.new.disks.items) (fresh scenario) whole whole (extends_here whole) last)
 
 pub returns-clause-cause : goal.returns-clause-cause
 returns-clause-cause g c =

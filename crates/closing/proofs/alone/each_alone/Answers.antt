@@ -5,9 +5,11 @@ use Rattle.fed_rules.specs.declared.commands.Command.{Command}
 use Rattle.fed_rules.specs.declared.scenario.Scenario.{Scenario}
 use Rattle.fed_rules.specs.declared.scenario.TxLine.{TxLine}
 use Rattle.fed_rules.specs.Closing as rules
-use Rattle.fed_world.specs.Worlds.{Stands}
+use Rattle.fed_rules.specs.Sessions.{fresh}
+use Rattle.fed_world.specs.FreshWorlds.{Stands}
 use Rattle.closing.specs.Alone.{all_alone}
-use Rattle.closing.specs.Towards.{FailsToward, Fits}
+use Rattle.closing.specs.FreshTowards.{FailsToward}
+use Rattle.closing.specs.Towards.{Fits}
 use Rattle.closing.proofs.Deliveries.{one_grows}
 use Rattle.fed_world.proofs.Faults.{failed_later}
 use Rattle.closing.proofs.Loops.{each_extends, each_more, next_begins, room_for}
@@ -24,10 +26,10 @@ one_alone-requires-clause-stood g c =
     let items = c.args.lines.now in
     let i = c.loop-line.line-index in
     record {
-      scenario = r.scenario;
-      commands = all_alone (take i items) r.scenario r.commands;
-      stood = c.loop-line.invariant.stands r.scenario r.commands r.stood r.holds;
-      holds = subst (λ (line : TxLine). Fits (add_line r.scenario line (all_alone (take i items) r.scenario r.commands))) (sym c.line-item.is) (room_for (add_line r.scenario) (one_grows r.scenario) items i c.line-item.result r.commands c.loop-line-test.true r.holds);
+      session = r.session;
+      commands = all_alone (take i items) r.session r.commands;
+      stood = c.loop-line.invariant.stands r.session r.commands r.stood r.holds;
+      holds = subst (λ (line : TxLine). Fits (fresh r.session) (add_line r.session line (all_alone (take i items) r.session r.commands))) (sym c.line-item.is) (room_for (add_line r.session) (one_grows r.session) (fresh r.session) items i c.line-item.result r.commands c.loop-line-test.true r.holds);
     }
 
 pub returns-in_err-one_alone-clause-failed : goal.returns-in_err-one_alone-clause-failed
@@ -39,11 +41,11 @@ returns-in_err-one_alone-clause-failed g c =
     let add = add_line scenario in
     let grows = one_grows scenario in
     let mid = all_alone (take i items) scenario before in
-    fails_within g.D.Disk.tells c.one_alone.new.world (map g.D.Disk.seen c.one_alone.new.disks.items) scenario c.in_err-one_alone.field-0.0 (all_alone items scenario before) (add (get_or items i c.line-item.result) mid) mid before
+    fails_within g.D.Disk.tells c.one_alone.new.world (map g.D.Disk.seen c.one_alone.new.disks.items) (fresh scenario) c.in_err-one_alone.field-0.0 (all_alone items scenario before) (add (get_or items i c.line-item.result) mid) mid before
     (next_begins add grows items i c.line-item.result before c.loop-line-test.true) (each_extends add grows (take i items) before)
     (subst (λ (line : TxLine). FailsToward g.D.Disk.tells c.in_err-one_alone.field-0.0 c.one_alone.new.world (map g.D.Disk.seen c.one_alone.new.disks.items) (add line mid) scenario mid) c.line-item.is
     (c.in_err-one_alone.ensures.failed scenario mid (c.loop-line.invariant.stands scenario before s fits)
-    (subst (λ (line : TxLine). Fits (add line mid)) (sym c.line-item.is) (room_for add grows items i c.line-item.result before c.loop-line-test.true fits)))))
+    (subst (λ (line : TxLine). Fits (fresh scenario) (add line mid)) (sym c.line-item.is) (room_for add grows (fresh scenario) items i c.line-item.result before c.loop-line-test.true fits)))))
 
 pub returns-in_err-one_alone-clause-cause : goal.returns-in_err-one_alone-clause-cause
 returns-in_err-one_alone-clause-cause g c =
@@ -60,7 +62,7 @@ loop-line-preserved g c =
           (let mid = all_alone (take i items) scenario before in
           subst (λ (line : TxLine). Stands g.D.Disk.tells c.one_alone.new.world (map g.D.Disk.seen c.one_alone.new.disks.items) scenario (add_line scenario line mid)) c.line-item.is
           (c.in_ok-one_alone.ensures.done scenario mid (c.loop-line.invariant.stands scenario before s fits)
-          (subst (λ (line : TxLine). Fits (add_line scenario line mid)) (sym c.line-item.is) (room_for (add_line scenario) (one_grows scenario) items i c.line-item.result before c.loop-line-test.true fits))));
+          (subst (λ (line : TxLine). Fits (fresh scenario) (add_line scenario line mid)) (sym c.line-item.is) (room_for (add_line scenario) (one_grows scenario) (fresh scenario) items i c.line-item.result before c.loop-line-test.true fits))));
       calm = c.in_ok-one_alone.ensures.cause ∙ c.loop-line.invariant.calm;
     }
 

@@ -1,4 +1,4 @@
-use Rattle.std.proofs.Common.{◌≡◌, ℕ, suc, ◌+◌, ◌-◌, ◌*◌, ◌<◌, ◌^◌, ◌∷◌, ◌++◌, List, length, map, drop, get_or, ◌∙◌, ap, arith}
+use Rattle.std.proofs.Common.{◌≡◌, ℕ, suc, ◌+◌, ◌-◌, ◌*◌, ◌<◌, ◌∷◌, ◌++◌, List, length, map, drop, get_or, ◌∙◌, ap, arith}
 use Rattle.std.proofs.lemmas.List.{drop_all}
 use Rattle.std.proofs.lemmas.Result.{err_from_is_err_and}
 use Rattle.mdb_base.specs.declared.acts.Step.{Step}
@@ -12,6 +12,7 @@ use Rattle.fed_rules.specs.Closing.{deliver_all, last_sends}
 use Rattle.fed_rules.specs.Sessions.{fresh}
 use Rattle.fed_world.specs.declared.errors.WorldErr.TheVariants as Err_is
 use Rattle.closing.specs.Alone.{delivered_next}
+use Rattle.fed_world.specs.Worlds.{HasRoom}
 use Rattle.closing.specs.Towards.{Fits}
 use Rattle.closing.proofs.Deliveries.{all_delivered, delivers_grow, fuel_spent, delivery_begins, next_grows, delivery_rest}
 use Rattle.fed_world.proofs.Faults.{failed_later}
@@ -25,8 +26,8 @@ one tx commands = Cmd.Go tx ∷ commands
 first : (scenario : Scenario) (tx : Tx) (steps : List Step) (commands : List Command) → Extends (rules.global_alone scenario tx steps commands) (one tx commands)
 first scenario tx steps commands = delivers_grow scenario (4 * length steps) (last_sends (fresh scenario) (one tx commands)) (one tx commands)
 
-room : (scenario : Scenario) (tx : Tx) (steps : List Step) (commands : List Command) → Fits (rules.global_alone scenario tx steps commands) → length commands < 2 ^ 30
-room scenario tx steps commands fits = room_one (Cmd.Go tx) commands (fits_less (rules.global_alone scenario tx steps commands) (one tx commands) (first scenario tx steps commands) fits)
+room : (scenario : Scenario) (tx : Tx) (steps : List Step) (commands : List Command) → Fits (fresh scenario) (rules.global_alone scenario tx steps commands) → HasRoom (fresh scenario) commands
+room scenario tx steps commands fits = room_one (fresh scenario) (Cmd.Go tx) commands (fits_less (fresh scenario) (rules.global_alone scenario tx steps commands) (one tx commands) (first scenario tx steps commands) fits)
 
 -- at first all are left, and then one less
 all_left : (n : ℕ) → n - 0 ≡ n
@@ -38,7 +39,7 @@ one_less n k lt = omega (arith, lt)
 pub apply-requires-clause-stood : goal.apply-requires-clause-stood
 apply-requires-clause-stood g c =
     let r = c.requires.stood in
-    record { scenario = r.scenario; commands = r.commands; stood = r.stood; holds = room r.scenario c.args.tx c.args.steps.now r.commands r.holds }
+    record { session = fresh r.session; commands = r.commands; stood = r.stood; holds = room r.session c.args.tx c.args.steps.now r.commands r.holds }
 
 pub returns-in_err-apply-clause-failed : goal.returns-in_err-apply-clause-failed
 returns-in_err-apply-clause-failed g c =
@@ -46,29 +47,29 @@ returns-in_err-apply-clause-failed g c =
     rw (p.1, p.2) (λ scenario commands s fits.
     let tx = c.args.tx in
     let steps = c.args.steps.now in
-    fails_within g.D.Disk.tells c.apply.new.self (map g.D.Disk.seen c.apply.new.disks.items) scenario c.in_err-apply.field-0.0 (rules.global_alone scenario tx steps commands) (one tx commands) commands commands
+    fails_within g.D.Disk.tells c.apply.new.self (map g.D.Disk.seen c.apply.new.disks.items) (fresh scenario) c.in_err-apply.field-0.0 (rules.global_alone scenario tx steps commands) (one tx commands) commands commands
     (first scenario tx steps commands) (extends_here commands)
-    (fails_at g.D.Disk.tells c.apply.new.self (map g.D.Disk.seen c.apply.new.disks.items) scenario c.in_err-apply.field-0.0 (Cmd.Go tx) commands
-    (c.in_err-apply.ensures.failed scenario commands s (room scenario tx steps commands fits))))
+    (fails_at g.D.Disk.tells c.apply.new.self (map g.D.Disk.seen c.apply.new.disks.items) (fresh scenario) c.in_err-apply.field-0.0 (Cmd.Go tx) commands
+    (c.in_err-apply.ensures.failed (fresh scenario) commands s (room scenario tx steps commands fits))))
 
 pub returns-in_default-clause-failed : goal.returns-in_default-clause-failed
 returns-in_default-clause-failed g c scenario commands s fits =
     let tx = c.args.tx in
     let steps = c.args.steps.now in
     let whole = rules.global_alone scenario tx steps commands in
-    fails_within g.D.Disk.tells c.apply.new.self (map g.D.Disk.seen c.apply.new.disks.items) scenario Err_is.Memory whole whole (one tx commands) commands (extends_here whole) (extends_one (Cmd.Go tx) commands)
-    (short_here g.D.Disk.tells c.apply.new.self (map g.D.Disk.seen c.apply.new.disks.items) scenario whole (one tx commands) (first scenario tx steps commands)
-    (c.in_ok-apply.ensures.applied scenario commands s (room scenario tx steps commands fits)))
+    fails_within g.D.Disk.tells c.apply.new.self (map g.D.Disk.seen c.apply.new.disks.items) (fresh scenario) Err_is.Memory whole whole (one tx commands) commands (extends_here whole) (extends_one (Cmd.Go tx) commands)
+    (short_here g.D.Disk.tells c.apply.new.self (map g.D.Disk.seen c.apply.new.disks.items) (fresh scenario) whole (one tx commands) (first scenario tx steps commands)
+    (c.in_ok-apply.ensures.applied (fresh scenario) commands s (room scenario tx steps commands fits)))
 
 pub loop-next-init : goal.loop-next-init
 loop-next-init g c = record {
   stands = λ scenario commands s fits.
-      let next = c.in_ok-apply.ensures.applied scenario commands s (room scenario c.args.tx c.args.steps.now commands fits) in
+      let next = c.in_ok-apply.ensures.applied (fresh scenario) commands s (room scenario c.args.tx c.args.steps.now commands fits) in
       record {
         mid = one c.args.tx commands;
         stood = next;
         rest = ap (λ n. deliver_all scenario n c.in-Ok.places.items (one c.args.tx commands)) (all_left (4 * length c.args.steps.now))
-            ∙ ap (λ ps. deliver_all scenario (4 * length c.args.steps.now) ps (one c.args.tx commands)) (c.in-Ok.ensures scenario (one c.args.tx commands) (has_lines _ _ _ _ _ next));
+            ∙ ap (λ ps. deliver_all scenario (4 * length c.args.steps.now) ps (one c.args.tx commands)) (c.in-Ok.ensures (fresh scenario) (one c.args.tx commands) (has_lines _ _ _ _ _ next));
         on = extends_one (Cmd.Go c.args.tx) commands;
       };
   calm = c.in_ok-apply.ensures.cause;
@@ -76,9 +77,9 @@ loop-next-init g c = record {
 
 -- the numbers of one message more fit
 next_fits : (scenario : Scenario) (tx : Tx) (steps : List Step) (commands mid : List Command) (places : List Place) (n : ℕ) (place : Place) → n < length places → place ≡ get_or places n place → n < 4 * length steps
-    → deliver_all scenario (4 * length steps - n) (drop n places) mid ≡ rules.global_alone scenario tx steps commands → Fits (rules.global_alone scenario tx steps commands) → Fits (delivered_next place scenario mid)
+    → deliver_all scenario (4 * length steps - n) (drop n places) mid ≡ rules.global_alone scenario tx steps commands → Fits (fresh scenario) (rules.global_alone scenario tx steps commands) → Fits (fresh scenario) (delivered_next place scenario mid)
 next_fits scenario tx steps commands mid places n place lt is few rest fits =
-    fits_less (rules.global_alone scenario tx steps commands) (delivered_next place scenario mid)
+    fits_less (fresh scenario) (rules.global_alone scenario tx steps commands) (delivered_next place scenario mid)
     (delivery_begins scenario places n (4 * length steps - n) (4 * length steps - (n + 1)) place mid (rules.global_alone scenario tx steps commands) lt is (one_less (4 * length steps) n few) rest) fits
 
 pub deliver_next-requires-clause-stood : goal.deliver_next-requires-clause-stood
@@ -86,13 +87,13 @@ deliver_next-requires-clause-stood g c =
     let r = c.requires.stood in
     let tx = c.args.tx in
     let steps = c.args.steps.now in
-    let w = c.loop-next.invariant.stands r.scenario r.commands r.stood r.holds in
+    let w = c.loop-next.invariant.stands r.session r.commands r.stood r.holds in
     let n = c.loop-next.next in
     record {
-      scenario = r.scenario;
+      session = r.session;
       commands = w.mid;
       stood = w.stood;
-      holds = next_fits r.scenario tx steps r.commands w.mid c.loop-next.places.items n c.index-place.result.now (omega (arith, c.loop-next.places.ok.0, c.len.ensures, c.if-next-len.false)) c.index-place.ensures c.loop-next-test.true w.rest r.holds;
+      holds = next_fits r.session tx steps r.commands w.mid c.loop-next.places.items n c.index-place.result.now (omega (arith, c.loop-next.places.ok.0, c.len.ensures, c.if-next-len.false)) c.index-place.ensures c.loop-next-test.true w.rest r.holds;
     }
 
 pub returns-then-next-len-clause-done : goal.returns-then-next-len-clause-done
@@ -110,7 +111,7 @@ returns-in_err-sent-clause-failed g c =
     let n = c.loop-next.next in
     let place = c.index-place.result.now in
     let whole = rules.global_alone scenario tx steps commands in
-    fails_within g.D.Disk.tells c.deliver_next.new.world (map g.D.Disk.seen c.deliver_next.new.disks.items) scenario c.in_err-sent.field-0.0 whole (delivered_next place scenario w.mid) w.mid commands
+    fails_within g.D.Disk.tells c.deliver_next.new.world (map g.D.Disk.seen c.deliver_next.new.disks.items) (fresh scenario) c.in_err-sent.field-0.0 whole (delivered_next place scenario w.mid) w.mid commands
     (delivery_begins scenario c.loop-next.places.items n (4 * length steps - n) (4 * length steps - (n + 1)) c.index-place.result.now w.mid whole (omega (arith, c.loop-next.places.ok.0, c.len.ensures, c.if-next-len.false)) c.index-place.ensures (one_less (4 * length steps) n c.loop-next-test.true) w.rest) w.on
     (c.in_err-sent.ensures.failed scenario w.mid w.stood (next_fits scenario tx steps commands w.mid c.loop-next.places.items n c.index-place.result.now (omega (arith, c.loop-next.places.ok.0, c.len.ensures, c.if-next-len.false)) c.index-place.ensures c.loop-next-test.true w.rest fits)))
 
@@ -130,8 +131,8 @@ returns-in_default-extend_from_slice-clause-failed g c scenario commands s fits 
     let next = delivered_next place scenario w.mid in
     let begins = delivery_begins scenario c.loop-next.places.items n (4 * length steps - n) (4 * length steps - (n + 1)) c.index-place.result.now w.mid whole (omega (arith, c.loop-next.places.ok.0, c.len.ensures, c.if-next-len.false)) c.index-place.ensures (one_less (4 * length steps) n c.loop-next-test.true) w.rest in
     let stood = c.in_ok-sent.ensures.done scenario w.mid w.stood (next_fits scenario tx steps commands w.mid c.loop-next.places.items n c.index-place.result.now (omega (arith, c.loop-next.places.ok.0, c.len.ensures, c.if-next-len.false)) c.index-place.ensures c.loop-next-test.true w.rest fits) in
-    fails_within g.D.Disk.tells c.deliver_next.new.world (map g.D.Disk.seen c.deliver_next.new.disks.items) scenario Err_is.Memory whole whole next commands (extends_here whole) (extends_twice commands w.mid next (next_grows scenario place w.mid) w.on)
-    (short_here g.D.Disk.tells c.deliver_next.new.world (map g.D.Disk.seen c.deliver_next.new.disks.items) scenario whole next begins stood)
+    fails_within g.D.Disk.tells c.deliver_next.new.world (map g.D.Disk.seen c.deliver_next.new.disks.items) (fresh scenario) Err_is.Memory whole whole next commands (extends_here whole) (extends_twice commands w.mid next (next_grows scenario place w.mid) w.on)
+    (short_here g.D.Disk.tells c.deliver_next.new.world (map g.D.Disk.seen c.deliver_next.new.disks.items) (fresh scenario) whole next begins stood)
 
 pub returns-in_default-extend_from_slice-clause-cause : goal.returns-in_default-extend_from_slice-clause-cause
 returns-in_default-extend_from_slice-clause-cause g c =

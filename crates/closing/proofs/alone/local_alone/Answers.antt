@@ -1,10 +1,13 @@
-use Rattle.std.proofs.Common.{◌<◌, ◌^◌, ◌∷◌, List, length, map, ◌∙◌}
+use Rattle.std.proofs.Common.{◌∷◌, List, map, ◌∙◌}
 use Rattle.std.proofs.lemmas.Result.{err_from_is_err_and}
 use Rattle.mdb_base.specs.declared.acts.Step.{Step}
 use Rattle.mdb_base.specs.declared.names.Tx.{Tx}
 use Rattle.fed_rules.specs.declared.commands.Command.{Command}
 use Rattle.fed_rules.specs.declared.commands.Command.TheVariants as Cmd
+use Rattle.fed_rules.specs.declared.scenario.Scenario.{Scenario}
 use Rattle.fed_rules.specs.Closing as rules
+use Rattle.fed_rules.specs.Sessions.{fresh}
+use Rattle.fed_world.specs.Worlds.{HasRoom}
 use Rattle.closing.specs.Towards.{Fits}
 use Rattle.closing.proofs.Deliveries.{steps_grow}
 use Rattle.fed_world.proofs.Faults.{failed_later, told_later}
@@ -24,19 +27,19 @@ first tx steps commands = extends_twice (one tx commands) (two tx steps commands
 second : (tx : Tx) (steps : List Step) (commands : List Command) → Extends (two tx steps commands) commands
 second tx steps commands = extends_twice commands (one tx commands) (two tx steps commands) (steps_grow tx steps (one tx commands)) (extends_one (Cmd.Begin tx) commands)
 
-room : (tx : Tx) (steps : List Step) (commands : List Command) → Fits (rules.local_alone tx steps commands) → length commands < 2 ^ 30
-room tx steps commands fits = room_one (Cmd.Begin tx) commands (fits_less (rules.local_alone tx steps commands) (one tx commands) (first tx steps commands) fits)
+room : (scenario : Scenario) (tx : Tx) (steps : List Step) (commands : List Command) → Fits (fresh scenario) (rules.local_alone tx steps commands) → HasRoom (fresh scenario) commands
+room scenario tx steps commands fits = room_one (fresh scenario) (Cmd.Begin tx) commands (fits_less (fresh scenario) (rules.local_alone tx steps commands) (one tx commands) (first tx steps commands) fits)
 
-fits_two : (tx : Tx) (steps : List Step) (commands : List Command) → Fits (rules.local_alone tx steps commands) → Fits (two tx steps commands)
-fits_two tx steps commands fits = fits_less (rules.local_alone tx steps commands) (two tx steps commands) (extends_one (Cmd.Commit tx) (two tx steps commands)) fits
+fits_two : (scenario : Scenario) (tx : Tx) (steps : List Step) (commands : List Command) → Fits (fresh scenario) (rules.local_alone tx steps commands) → Fits (fresh scenario) (two tx steps commands)
+fits_two scenario tx steps commands fits = fits_less (fresh scenario) (rules.local_alone tx steps commands) (two tx steps commands) (extends_one (Cmd.Commit tx) (two tx steps commands)) fits
 
-last_room : (tx : Tx) (steps : List Step) (commands : List Command) → Fits (rules.local_alone tx steps commands) → length (two tx steps commands) < 2 ^ 30
-last_room tx steps commands fits = room_one (Cmd.Commit tx) (two tx steps commands) fits
+last_room : (scenario : Scenario) (tx : Tx) (steps : List Step) (commands : List Command) → Fits (fresh scenario) (rules.local_alone tx steps commands) → HasRoom (fresh scenario) (two tx steps commands)
+last_room scenario tx steps commands fits = room_one (fresh scenario) (Cmd.Commit tx) (two tx steps commands) fits
 
 pub apply-requires-clause-stood : goal.apply-requires-clause-stood
 apply-requires-clause-stood g c =
     let r = c.requires.stood in
-    record { scenario = r.scenario; commands = r.commands; stood = r.stood; holds = room c.args.tx c.args.steps.now r.commands r.holds }
+    record { session = fresh r.session; commands = r.commands; stood = r.stood; holds = room r.session c.args.tx c.args.steps.now r.commands r.holds }
 
 pub returns-in_err-apply-clause-failed : goal.returns-in_err-apply-clause-failed
 returns-in_err-apply-clause-failed g c =
@@ -44,19 +47,19 @@ returns-in_err-apply-clause-failed g c =
     rw (p.1, p.2) (λ scenario commands s fits.
     let tx = c.args.tx in
     let steps = c.args.steps.now in
-    fails_within g.D.Disk.tells c.apply.new.self (map g.D.Disk.seen c.apply.new.disks.items) scenario c.in_err-apply.field-0.0 (rules.local_alone tx steps commands) (one tx commands) commands commands
+    fails_within g.D.Disk.tells c.apply.new.self (map g.D.Disk.seen c.apply.new.disks.items) (fresh scenario) c.in_err-apply.field-0.0 (rules.local_alone tx steps commands) (one tx commands) commands commands
     (first tx steps commands) (extends_here commands)
-    (fails_at g.D.Disk.tells c.apply.new.self (map g.D.Disk.seen c.apply.new.disks.items) scenario c.in_err-apply.field-0.0 (Cmd.Begin tx) commands
-    (c.in_err-apply.ensures.failed scenario commands s (room tx steps commands fits))))
+    (fails_at g.D.Disk.tells c.apply.new.self (map g.D.Disk.seen c.apply.new.disks.items) (fresh scenario) c.in_err-apply.field-0.0 (Cmd.Begin tx) commands
+    (c.in_err-apply.ensures.failed (fresh scenario) commands s (room scenario tx steps commands fits))))
 
 pub steps_alone-requires-clause-stood : goal.steps_alone-requires-clause-stood
 steps_alone-requires-clause-stood g c =
     let r = c.requires.stood in
     record {
-      scenario = r.scenario;
+      session = r.session;
       commands = one c.args.tx r.commands;
-      stood = c.in_ok-apply.ensures.applied r.scenario r.commands r.stood (room c.args.tx c.args.steps.now r.commands r.holds);
-      holds = fits_two c.args.tx c.args.steps.now r.commands r.holds;
+      stood = c.in_ok-apply.ensures.applied (fresh r.session) r.commands r.stood (room r.session c.args.tx c.args.steps.now r.commands r.holds);
+      holds = fits_two r.session c.args.tx c.args.steps.now r.commands r.holds;
     }
 
 pub returns-in_err-steps_alone-clause-failed : goal.returns-in_err-steps_alone-clause-failed
@@ -65,10 +68,10 @@ returns-in_err-steps_alone-clause-failed g c =
     rw (p.1, p.2) (λ scenario commands s fits.
     let tx = c.args.tx in
     let steps = c.args.steps.now in
-    let next = c.in_ok-apply.ensures.applied scenario commands s (room tx steps commands fits) in
-    fails_within g.D.Disk.tells c.steps_alone.new.world (map g.D.Disk.seen c.steps_alone.new.disks.items) scenario c.in_err-steps_alone.field-0.0 (rules.local_alone tx steps commands) (two tx steps commands) (one tx commands) commands
+    let next = c.in_ok-apply.ensures.applied (fresh scenario) commands s (room scenario tx steps commands fits) in
+    fails_within g.D.Disk.tells c.steps_alone.new.world (map g.D.Disk.seen c.steps_alone.new.disks.items) (fresh scenario) c.in_err-steps_alone.field-0.0 (rules.local_alone tx steps commands) (two tx steps commands) (one tx commands) commands
     (extends_one (Cmd.Commit tx) (two tx steps commands)) (extends_one (Cmd.Begin tx) commands)
-    (c.in_err-steps_alone.ensures.failed scenario (one tx commands) next (fits_two tx steps commands fits)))
+    (c.in_err-steps_alone.ensures.failed scenario (one tx commands) next (fits_two scenario tx steps commands fits)))
 
 pub returns-in_err-steps_alone-clause-cause : goal.returns-in_err-steps_alone-clause-cause
 returns-in_err-steps_alone-clause-cause g c =
@@ -80,12 +83,12 @@ apply-requires-2-clause-stood g c =
     let r = c.requires.stood in
     let tx = c.args.tx in
     let steps = c.args.steps.now in
-    let next = c.in_ok-apply.ensures.applied r.scenario r.commands r.stood (room tx steps r.commands r.holds) in
+    let next = c.in_ok-apply.ensures.applied (fresh r.session) r.commands r.stood (room r.session tx steps r.commands r.holds) in
     record {
-      scenario = r.scenario;
+      session = fresh r.session;
       commands = two tx steps r.commands;
-      stood = c.in_ok-steps_alone.ensures.done r.scenario (one tx r.commands) next (fits_two tx steps r.commands r.holds);
-      holds = last_room tx steps r.commands r.holds;
+      stood = c.in_ok-steps_alone.ensures.done r.session (one tx r.commands) next (fits_two r.session tx steps r.commands r.holds);
+      holds = last_room r.session tx steps r.commands r.holds;
     }
 
 pub returns-clause-done : goal.returns-clause-done
@@ -94,9 +97,9 @@ returns-clause-done g c =
     (λ applied scenario commands s fits.
     let tx = c.args.tx in
     let steps = c.args.steps.now in
-    let next = c.in_ok-apply.ensures.applied scenario commands s (room tx steps commands fits) in
-    let last = c.in_ok-steps_alone.ensures.done scenario (one tx commands) next (fits_two tx steps commands fits) in
-    applied scenario (two tx steps commands) last (last_room tx steps commands fits))
+    let next = c.in_ok-apply.ensures.applied (fresh scenario) commands s (room scenario tx steps commands fits) in
+    let last = c.in_ok-steps_alone.ensures.done scenario (one tx commands) next (fits_two scenario tx steps commands fits) in
+    applied (fresh scenario) (two tx steps commands) last (last_room scenario tx steps commands fits))
     c.apply-2.ensures.applied
 
 pub returns-clause-failed : goal.returns-clause-failed
@@ -105,11 +108,11 @@ returns-clause-failed g c =
     (λ why failed scenario commands s fits.
     let tx = c.args.tx in
     let steps = c.args.steps.now in
-    let next = c.in_ok-apply.ensures.applied scenario commands s (room tx steps commands fits) in
-    let last = c.in_ok-steps_alone.ensures.done scenario (one tx commands) next (fits_two tx steps commands fits) in
+    let next = c.in_ok-apply.ensures.applied (fresh scenario) commands s (room scenario tx steps commands fits) in
+    let last = c.in_ok-steps_alone.ensures.done scenario (one tx commands) next (fits_two scenario tx steps commands fits) in
     let whole = rules.local_alone tx steps commands in
-    fails_within g.D.Disk.tells c.apply-2.new.self (map g.D.Disk.seen c.apply-2.new.disks.items) scenario why whole whole (two tx steps commands) commands (extends_here whole) (second tx steps commands)
-    (fails_at g.D.Disk.tells c.apply-2.new.self (map g.D.Disk.seen c.apply-2.new.disks.items) scenario why (Cmd.Commit tx) (two tx steps commands) (failed scenario (two tx steps commands) last (last_room tx steps commands fits))))
+    fails_within g.D.Disk.tells c.apply-2.new.self (map g.D.Disk.seen c.apply-2.new.disks.items) (fresh scenario) why whole whole (two tx steps commands) commands (extends_here whole) (second tx steps commands)
+    (fails_at g.D.Disk.tells c.apply-2.new.self (map g.D.Disk.seen c.apply-2.new.disks.items) (fresh scenario) why (Cmd.Commit tx) (two tx steps commands) (failed (fresh scenario) (two tx steps commands) last (last_room scenario tx steps commands fits))))
     c.apply-2.ensures.failed
 
 pub returns-clause-cause : goal.returns-clause-cause

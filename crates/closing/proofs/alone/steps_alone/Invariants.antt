@@ -2,14 +2,15 @@ use Rattle.std.proofs.Common.{◌≡◌, List, map, take}
 use Rattle.fed_rules.specs.declared.commands.Command.{Command}
 use Rattle.fed_rules.specs.declared.scenario.Scenario.{Scenario}
 use Rattle.fed_rules.specs.Closing as rules
+use Rattle.fed_rules.specs.Sessions.{fresh}
 use Rattle.fed_world.specs.Faults.{faults_of}
-use Rattle.fed_world.specs.Worlds.{Stands}
+use Rattle.fed_world.specs.FreshWorlds.{Stands}
 use Rattle.closing.specs.Towards.{Fits}
 use Rattle.closing.proofs.alone.steps_alone.Given as goal
 
 abbrev pub invariant-loop-done : goal.invariant-loop-done
 invariant-loop-done g l = record {
-  stands : (scenario : Scenario) (commands : List Command) → Stands g.D.Disk.tells l.fn.world (map g.D.Disk.seen l.fn.disks.items) scenario commands → Fits (rules.steps_alone l.tx l.steps commands)
+  stands : (scenario : Scenario) (commands : List Command) → Stands g.D.Disk.tells l.fn.world (map g.D.Disk.seen l.fn.disks.items) scenario commands → Fits (fresh scenario) (rules.steps_alone l.tx l.steps commands)
       → Stands g.D.Disk.tells l.world (map g.D.Disk.seen l.disks.items) scenario (rules.steps_alone l.tx (take l.done l.steps) commands);
   calm : faults_of (map g.D.Disk.seen l.disks.items) ≡ faults_of (map g.D.Disk.seen l.fn.disks.items);
 }

@@ -23,23 +23,23 @@ apply-requires-clause-stood g c =
     let items = c.args.commands.now in
     let i = c.loop-command.command-index in
     record {
-      scenario = r.scenario;
+      session = r.session;
       commands = with_commands (take i items) r.commands;
-      stood = c.loop-command.invariant.stands r.scenario r.commands r.stood r.holds;
-      holds = room_one (get_or items i none) _ (room_for push extends_one items i none r.commands c.loop-command-test.true r.holds);
+      stood = c.loop-command.invariant.stands r.session r.commands r.stood r.holds;
+      holds = room_one r.session (get_or items i none) _ (room_for push extends_one r.session items i none r.commands c.loop-command-test.true r.holds);
     }
 
 pub returns-in_err-apply-clause-failed : goal.returns-in_err-apply-clause-failed
 returns-in_err-apply-clause-failed g c =
     let p = err_from_is_err_and c.from_residual.result c.from_residual.ensures.1 in
-    rw (p.1, p.2) (λ scenario before s fits.
+    rw (p.1, p.2) (λ session before s fits.
     let items = c.args.commands.now in
     let i = c.loop-command.command-index in
     let mid = with_commands (take i items) before in
-    let failed = c.in_err-apply.ensures.failed scenario mid (c.loop-command.invariant.stands scenario before s fits) (room_one (get_or items i none) _ (room_for push extends_one items i none before c.loop-command-test.true fits)) in
-    fails_within g.D.Disk.tells c.apply.new.self (map g.D.Disk.seen c.apply.new.disks.items) scenario c.in_err-apply.field-0.0 (with_commands items before) (get_or items i none ∷ mid) mid before
+    let failed = c.in_err-apply.ensures.failed session mid (c.loop-command.invariant.stands session before s fits) (room_one session (get_or items i none) _ (room_for push extends_one session items i none before c.loop-command-test.true fits)) in
+    fails_within g.D.Disk.tells c.apply.new.self (map g.D.Disk.seen c.apply.new.disks.items) session c.in_err-apply.field-0.0 (with_commands items before) (get_or items i none ∷ mid) mid before
     (next_begins push extends_one items i none before c.loop-command-test.true) (each_extends push extends_one (take i items) before)
-    (fails_at g.D.Disk.tells c.apply.new.self (map g.D.Disk.seen c.apply.new.disks.items) scenario c.in_err-apply.field-0.0 (get_or items i none) mid failed))
+    (fails_at g.D.Disk.tells c.apply.new.self (map g.D.Disk.seen c.apply.new.disks.items) session c.in_err-apply.field-0.0 (get_or items i none) mid failed))
 
 pub returns-in_err-apply-clause-cause : goal.returns-in_err-apply-clause-cause
 returns-in_err-apply-clause-cause g c =
@@ -51,13 +51,13 @@ loop-command-preserved g c =
     let items = c.args.commands.now in
     let i = c.loop-command.command-index in
     record {
-      stands = λ scenario before s fits.
-          subst (λ more. Stands g.D.Disk.tells c.apply.new.self (map g.D.Disk.seen c.apply.new.disks.items) scenario more) (sym (each_more push items i none before c.loop-command-test.true))
-          (c.in_ok-apply.ensures.applied scenario (with_commands (take i items) before) (c.loop-command.invariant.stands scenario before s fits) (room_one (get_or items i none) _ (room_for push extends_one items i none before c.loop-command-test.true fits)));
+      stands = λ session before s fits.
+          subst (λ more. Stands g.D.Disk.tells c.apply.new.self (map g.D.Disk.seen c.apply.new.disks.items) session more) (sym (each_more push items i none before c.loop-command-test.true))
+          (c.in_ok-apply.ensures.applied session (with_commands (take i items) before) (c.loop-command.invariant.stands session before s fits) (room_one session (get_or items i none) _ (room_for push extends_one session items i none before c.loop-command-test.true fits)));
       calm = c.in_ok-apply.ensures.cause ∙ c.loop-command.invariant.calm;
     }
 
 pub returns-clause-done : goal.returns-clause-done
-returns-clause-done g c scenario before s fits =
-    subst (λ cs. Stands g.D.Disk.tells c.loop-command.world (map g.D.Disk.seen c.loop-command.disks.items) scenario (with_commands cs before)) (take_all c.loop-command.command-index c.args.commands.now c.loop-command-test.false)
-    (c.loop-command.invariant.stands scenario before s fits)
+returns-clause-done g c session before s fits =
+    subst (λ cs. Stands g.D.Disk.tells c.loop-command.world (map g.D.Disk.seen c.loop-command.disks.items) session (with_commands cs before)) (take_all c.loop-command.command-index c.args.commands.now c.loop-command-test.false)
+    (c.loop-command.invariant.stands session before s fits)

@@ -2,8 +2,7 @@ use Rattle.std.proofs.Common.{map, sym, subst, ◌∙◌, ap}
 use Rattle.fed_rules.specs.Closing as rules
 use Rattle.fed_rules.specs.Closing.{for_each}
 use Rattle.fed_rules.specs.Scenarios.{sites}
-use Rattle.fed_rules.specs.Sessions.{fresh}
-use Rattle.fed_rules.specs.Story.{story_of}
+use Rattle.fed_rules.specs.Story.{story_in}
 use Rattle.fed_world.specs.Worlds.{Stands}
 use Rattle.fed_world.proofs.Recalled.{recalls}
 use Rattle.closing.specs.Steps.{asks_all}
@@ -13,27 +12,27 @@ use Rattle.closing.proofs.Towards.{on_failure, on_success, short_here}
 use Rattle.closing.proofs.closing.ask_all.Goals as goal
 
 pub returns-in_default-clause-failed : goal.returns-in_default-clause-failed
-returns-in_default-clause-failed g c scenario commands s can =
-    short_here g.D.Disk.tells c.args.world.now (map g.D.Disk.seen c.args.disks.now.items) scenario (rules.ask_all (fresh scenario) commands) commands (ask_all_grows scenario commands) s
+returns-in_default-clause-failed g c session commands s can =
+    short_here g.D.Disk.tells c.args.world.now (map g.D.Disk.seen c.args.disks.now.items) session (rules.ask_all session commands) commands (ask_all_grows session commands) s
 
 pub ask_each-requires-clause-stood : goal.ask_each-requires-clause-stood
 ask_each-requires-clause-stood g c =
     let r = c.requires.stood in
-    let are = (ap (λ all. asks_all all r.scenario r.commands) c.deref.ensures.value ∙ asking_is r.scenario (story_of r.scenario r.commands) (sites r.scenario) c.in-Ok.sites.items r.commands (c.in-Ok.ensures r.scenario r.commands (recalls _ _ _ _ _ r.stood) r.holds.up)) in
-    record { scenario = r.scenario; commands = r.commands; stood = r.stood; holds = subst Fits (sym are) r.holds.fits }
+    let are = (ap (λ all. asks_all all r.session r.commands) c.deref.ensures.value ∙ asking_is r.session (story_in r.session r.commands) (sites r.session.plan) c.in-Ok.sites.items r.commands (c.in-Ok.ensures r.session r.commands (recalls _ _ _ _ _ r.stood) r.holds.up)) in
+    record { session = r.session; commands = r.commands; stood = r.stood; holds = subst (Fits r.session) (sym are) r.holds.fits }
 
 pub returns-clause-done : goal.returns-clause-done
 returns-clause-done g c =
     on_success c.ask_each.result
-    (λ done scenario commands s can.
-    let are = (ap (λ all. asks_all all scenario commands) c.deref.ensures.value ∙ asking_is scenario (story_of scenario commands) (sites scenario) c.in-Ok.sites.items commands (c.in-Ok.ensures scenario commands (recalls _ _ _ _ _ s) can.up)) in
-    subst (λ all. Stands g.D.Disk.tells c.ask_each.new.world (map g.D.Disk.seen c.ask_each.new.disks.items) scenario all) are (done scenario commands s (subst Fits (sym are) can.fits)))
+    (λ done session commands s can.
+    let are = (ap (λ all. asks_all all session commands) c.deref.ensures.value ∙ asking_is session (story_in session commands) (sites session.plan) c.in-Ok.sites.items commands (c.in-Ok.ensures session commands (recalls _ _ _ _ _ s) can.up)) in
+    subst (λ all. Stands g.D.Disk.tells c.ask_each.new.world (map g.D.Disk.seen c.ask_each.new.disks.items) session all) are (done session commands s (subst (Fits session) (sym are) can.fits)))
     c.ask_each.ensures.done
 
 pub returns-clause-failed : goal.returns-clause-failed
 returns-clause-failed g c =
     on_failure _ _ c.ask_each.result
-    (λ why failed scenario commands s can.
-    let are = (ap (λ all. asks_all all scenario commands) c.deref.ensures.value ∙ asking_is scenario (story_of scenario commands) (sites scenario) c.in-Ok.sites.items commands (c.in-Ok.ensures scenario commands (recalls _ _ _ _ _ s) can.up)) in
-    subst (λ all. FailsToward g.D.Disk.tells why c.ask_each.new.world (map g.D.Disk.seen c.ask_each.new.disks.items) all scenario commands) are (failed scenario commands s (subst Fits (sym are) can.fits)))
+    (λ why failed session commands s can.
+    let are = (ap (λ all. asks_all all session commands) c.deref.ensures.value ∙ asking_is session (story_in session commands) (sites session.plan) c.in-Ok.sites.items commands (c.in-Ok.ensures session commands (recalls _ _ _ _ _ s) can.up)) in
+    subst (λ all. FailsToward g.D.Disk.tells why c.ask_each.new.world (map g.D.Disk.seen c.ask_each.new.disks.items) all session commands) are (failed session commands s (subst (Fits session) (sym are) can.fits)))
     c.ask_each.ensures.failed

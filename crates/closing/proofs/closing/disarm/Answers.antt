@@ -4,39 +4,38 @@ use Rattle.closing.specs.Towards.{FailsToward, Fits}
 use Rattle.closing.proofs.Grows.{disarm_made, disarm_grows}
 use Rattle.closing.proofs.Towards.{on_failure, on_success, short_here}
 use Rattle.fed_rules.specs.Closing as rules
-use Rattle.fed_rules.specs.Sessions.{fresh}
 use Rattle.fed_world.proofs.Recalled.{recalls}
 use Rattle.closing.proofs.closing.disarm.Goals as goal
 
 pub returns-in_default-clause-failed : goal.returns-in_default-clause-failed
-returns-in_default-clause-failed g c scenario commands s fits =
-    short_here g.D.Disk.tells c.args.world.now (map g.D.Disk.seen c.args.disks.now.items) scenario (rules.disarm (fresh scenario) commands) commands (disarm_grows scenario commands) s
+returns-in_default-clause-failed g c session commands s fits =
+    short_here g.D.Disk.tells c.args.world.now (map g.D.Disk.seen c.args.disks.now.items) session (rules.disarm session commands) commands (disarm_grows session commands) s
 
 pub returns-in_default-disarming-clause-failed : goal.returns-in_default-disarming-clause-failed
-returns-in_default-disarming-clause-failed g c scenario commands s fits =
-    short_here g.D.Disk.tells c.args.world.now (map g.D.Disk.seen c.args.disks.now.items) scenario (rules.disarm (fresh scenario) commands) commands (disarm_grows scenario commands) s
+returns-in_default-disarming-clause-failed g c session commands s fits =
+    short_here g.D.Disk.tells c.args.world.now (map g.D.Disk.seen c.args.disks.now.items) session (rules.disarm session commands) commands (disarm_grows session commands) s
 
 pub carry_out-requires-clause-stood : goal.carry_out-requires-clause-stood
 carry_out-requires-clause-stood g c =
     let r = c.requires.stood in
-    let are = disarm_made r.scenario r.commands c.deref-2.result.now c.in-Ok-disarming.commands.items c.deref.result.now c.in-Ok.armed.items c.deref-2.ensures.value c.in-Ok-disarming.ensures c.deref.ensures.value
-    (c.in-Ok.ensures r.scenario r.commands (recalls _ _ _ _ _ r.stood)) in
-    record { scenario = r.scenario; commands = r.commands; stood = r.stood; holds = subst Fits (sym are) r.holds }
+    let are = disarm_made r.session r.commands c.deref-2.result.now c.in-Ok-disarming.commands.items c.deref.result.now c.in-Ok.armed.items c.deref-2.ensures.value c.in-Ok-disarming.ensures c.deref.ensures.value
+    (c.in-Ok.ensures r.session r.commands (recalls _ _ _ _ _ r.stood)) in
+    record { session = r.session; commands = r.commands; stood = r.stood; holds = subst (Fits r.session) (sym are) r.holds }
 
 pub returns-clause-done : goal.returns-clause-done
 returns-clause-done g c =
     on_success c.carry_out.result
-    (λ done scenario commands s fits.
-    let are = disarm_made scenario commands c.deref-2.result.now c.in-Ok-disarming.commands.items c.deref.result.now c.in-Ok.armed.items c.deref-2.ensures.value c.in-Ok-disarming.ensures c.deref.ensures.value
-    (c.in-Ok.ensures scenario commands (recalls _ _ _ _ _ s)) in
-    subst (λ all. Stands g.D.Disk.tells c.carry_out.new.world (map g.D.Disk.seen c.carry_out.new.disks.items) scenario all) are (done scenario commands s (subst Fits (sym are) fits)))
+    (λ done session commands s fits.
+    let are = disarm_made session commands c.deref-2.result.now c.in-Ok-disarming.commands.items c.deref.result.now c.in-Ok.armed.items c.deref-2.ensures.value c.in-Ok-disarming.ensures c.deref.ensures.value
+    (c.in-Ok.ensures session commands (recalls _ _ _ _ _ s)) in
+    subst (λ all. Stands g.D.Disk.tells c.carry_out.new.world (map g.D.Disk.seen c.carry_out.new.disks.items) session all) are (done session commands s (subst (Fits session) (sym are) fits)))
     c.carry_out.ensures.done
 
 pub returns-clause-failed : goal.returns-clause-failed
 returns-clause-failed g c =
     on_failure _ _ c.carry_out.result
-    (λ why failed scenario commands s fits.
-    let are = disarm_made scenario commands c.deref-2.result.now c.in-Ok-disarming.commands.items c.deref.result.now c.in-Ok.armed.items c.deref-2.ensures.value c.in-Ok-disarming.ensures c.deref.ensures.value
-    (c.in-Ok.ensures scenario commands (recalls _ _ _ _ _ s)) in
-    subst (λ all. FailsToward g.D.Disk.tells why c.carry_out.new.world (map g.D.Disk.seen c.carry_out.new.disks.items) all scenario commands) are (failed scenario commands s (subst Fits (sym are) fits)))
+    (λ why failed session commands s fits.
+    let are = disarm_made session commands c.deref-2.result.now c.in-Ok-disarming.commands.items c.deref.result.now c.in-Ok.armed.items c.deref-2.ensures.value c.in-Ok-disarming.ensures c.deref.ensures.value
+    (c.in-Ok.ensures session commands (recalls _ _ _ _ _ s)) in
+    subst (λ all. FailsToward g.D.Disk.tells why c.carry_out.new.world (map g.D.Disk.seen c.carry_out.new.disks.items) all session commands) are (failed session commands s (subst (Fits session) (sym are) fits)))
     c.carry_out.ensures.failed

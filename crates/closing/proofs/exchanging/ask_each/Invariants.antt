@@ -1,6 +1,6 @@
 use Rattle.std.proofs.Common.{◌≡◌, List, map, take}
 use Rattle.fed_rules.specs.declared.commands.Command.{Command}
-use Rattle.fed_rules.specs.declared.scenario.Scenario.{Scenario}
+use Rattle.fed_rules.specs.Sessions.{Session}
 use Rattle.fed_world.specs.Faults.{faults_of}
 use Rattle.fed_world.specs.Worlds.{Stands}
 use Rattle.closing.specs.Steps.{asks_all}
@@ -9,7 +9,7 @@ use Rattle.closing.proofs.exchanging.ask_each.Given as goal
 
 abbrev pub invariant-loop-at : goal.invariant-loop-at
 invariant-loop-at g l = record {
-  stands : (scenario : Scenario) (commands : List Command) → Stands g.D.Disk.tells l.fn.world (map g.D.Disk.seen l.fn.disks.items) scenario commands → Fits (asks_all l.sites scenario commands)
-      → Stands g.D.Disk.tells l.world (map g.D.Disk.seen l.disks.items) scenario (asks_all (take l.at-index l.sites) scenario commands);
+  stands : (session : Session) (commands : List Command) → Stands g.D.Disk.tells l.fn.world (map g.D.Disk.seen l.fn.disks.items) session commands → Fits session (asks_all l.sites session commands)
+      → Stands g.D.Disk.tells l.world (map g.D.Disk.seen l.disks.items) session (asks_all (take l.at-index l.sites) session commands);
   calm : faults_of (map g.D.Disk.seen l.disks.items) ≡ faults_of (map g.D.Disk.seen l.fn.disks.items);
 }

@@ -1,6 +1,6 @@
 use Rattle.std.proofs.Common.{◌≡◌, List, map, take}
 use Rattle.fed_rules.specs.declared.commands.Command.{Command}
-use Rattle.fed_rules.specs.declared.scenario.Scenario.{Scenario}
+use Rattle.fed_rules.specs.Sessions.{Session}
 use Rattle.fed_world.specs.Faults.{faults_of}
 use Rattle.fed_world.specs.Worlds.{Stands}
 use Rattle.closing.specs.Steps.{sent_for}
@@ -9,7 +9,7 @@ use Rattle.closing.proofs.exchanging.send_each.Given as goal
 
 abbrev pub invariant-loop-tid : goal.invariant-loop-tid
 invariant-loop-tid g l = record {
-  stands : (scenario : Scenario) (commands : List Command) → Stands g.D.Disk.tells l.fn.world (map g.D.Disk.seen l.fn.disks.items) scenario commands → Fits (sent_for l.tids scenario commands)
-      → Stands g.D.Disk.tells l.world (map g.D.Disk.seen l.disks.items) scenario (sent_for (take l.tid-index l.tids) scenario commands);
+  stands : (session : Session) (commands : List Command) → Stands g.D.Disk.tells l.fn.world (map g.D.Disk.seen l.fn.disks.items) session commands → Fits session (sent_for l.tids session commands)
+      → Stands g.D.Disk.tells l.world (map g.D.Disk.seen l.disks.items) session (sent_for (take l.tid-index l.tids) session commands);
   calm : faults_of (map g.D.Disk.seen l.disks.items) ≡ faults_of (map g.D.Disk.seen l.fn.disks.items);
 }

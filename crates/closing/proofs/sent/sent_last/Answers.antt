@@ -1,8 +1,12 @@
 use Rattle.std.proofs.Common.{◌∙◌, arith}
-use Rattle.closing.proofs.LastLine.{last_line}
+use Rattle.closing.proofs.LastLine.{last_line, none_sent}
 use Rattle.closing.proofs.sent.sent_last.Goals as goal
 
+pub returns-then-is_empty : goal.returns-then-is_empty
+returns-then-is_empty c session commands h =
+    none_sent session commands c.lines-lines.result.now h.begins (c.lines-lines.ensures.right session commands h) c.if-is_empty.ensures
+
 pub returns : goal.returns
-returns c scenario commands h =
+returns c session commands h =
     let some = c.if-is_empty.ensures in
-    c.as_slice.ensures ∙ last_line scenario commands c.lines-lines.result.now _ (grind (arith, some)) (c.lines-lines.ensures.right scenario commands h)
+    c.as_slice.ensures ∙ last_line session commands c.lines-lines.result.now _ (grind (arith, some)) (c.lines-lines.ensures.right session commands h)

@@ -1,0 +1,47 @@
+-- What a world comes to whose session began with empty disks: the session is told by its scenario.
+use Rattle.std.specs.Prelude.{ℕ, ◌<◌, ◌^◌, Bool, List, length}
+use Rattle.fed_rules.specs.declared.commands.Command.{Command}
+use Rattle.fed_rules.specs.declared.scenario.Scenario.{Scenario}
+use Rattle.fed_rules.specs.Sessions.{fresh}
+use Rattle.journal_disk.specs.Disk.{Seen}
+use Rattle.fed_world.specs.declared.errors.WorldErr.{WorldErr}
+use Rattle.fed_world.specs.declared.world.World.{World}
+use Rattle.fed_world.specs.FreshWorlds.{Stands}
+use Rattle.fed_world.specs.Worlds.{EachStory}
+use Rattle.closing.specs.Steps as Steps
+use Rattle.closing.specs.Towards as Towards
+use Rattle.closing.specs.Towards.{Fits}
+
+-- the numbers of what these become fit
+abbrev pub WillFit : (Scenario → List Command → List Command) → Scenario → List Command → Type 0
+WillFit whole scenario commands = Fits (fresh scenario) (whole scenario commands)
+
+-- the numbers of these commands behind those before fit
+abbrev pub FitWith : List Command → Scenario → List Command → Type 0
+FitWith more scenario commands = Steps.FitWith more (fresh scenario) commands
+
+-- there are few enough commands that the numbers of those that close the session fit: they are at most 1,638,418, however long it was
+abbrev pub CanClose : Scenario → List Command → Type 0
+CanClose scenario commands = length commands < 2 ^ 29
+
+-- memory was wanting behind some of the commands: they were carried out
+abbrev pub IsShort : Bool → World → List Seen → List Command → Scenario → List Command → Type 0
+IsShort tells world disks whole scenario commands = Towards.IsShort tells world disks whole (fresh scenario) commands
+
+-- a disk call failed at one of the commands: those before it were carried out
+abbrev pub BreaksAt : ℕ → Bool → World → List Seen → List Command → Scenario → List Command → Type 0
+BreaksAt number tells world disks whole scenario commands = Towards.BreaksAt number tells world disks whole (fresh scenario) commands
+
+-- a world that has these commands behind it fails on the way to all of them
+abbrev pub FailsToward : Bool → WorldErr → World → List Seen → List Command → Scenario → List Command → Type 0
+FailsToward tells why world disks whole scenario commands = Towards.FailsToward tells why world disks whole (fresh scenario) commands
+
+-- behind this the world, with its disks, has all these commands behind it
+abbrev pub Reaches : Bool → World → List Seen → World → List Seen → (Scenario → List Command → Type 0) → (Scenario → List Command → List Command) → Type 0
+Reaches tells old before new after Can whole =
+    EachStory (Stands tells old before) (λ scenario commands. Can scenario commands → Stands tells new after scenario (whole scenario commands))
+
+-- it fails on the way to them
+abbrev pub FallsShort : Bool → World → List Seen → WorldErr → World → List Seen → (Scenario → List Command → Type 0) → (Scenario → List Command → List Command) → Type 0
+FallsShort tells old before why new after Can whole =
+    EachStory (Stands tells old before) (λ scenario commands. Can scenario commands → FailsToward tells why new after (whole scenario commands) scenario commands)
