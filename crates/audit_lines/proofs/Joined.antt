@@ -44,10 +44,6 @@ pub and_true : (a b : Bool) → a ≡ b → (a && true) ≡ b
 and_true true b e = e
 and_true false b e = e
 
-pub and_false : (a : Bool) → (a && false) ≡ false
-and_false true = refl
-and_false false = refl
-
 five : (a b c d e f : Bool) → (((a && b) && ((c && d) && e)) && f) ≡ (a && (b && (c && (d && (e && f)))))
 five true true true true e f = refl
 five true true true false e f = refl

@@ -26,9 +26,6 @@ next_first entries n entry within here =
     ∙ reverse-append (take n entries) (get_or entries n entry ∷ [])
     ∙ ap (λ (e : CoordRecord). e ∷ reverse (take n entries)) (sym here)
 
-Test : Type 0
-Test = Tid → List SiteTicket → Bool
-
 -- an attempt put among others
 some_put : (test : CommittedAttempt → Bool) (x : CommittedAttempt) (ys : List CommittedAttempt) → some_of test (inserted (λ a b. tid_before a.tid b.tid) x ys) ≡ (test x || some_of test ys)
 some_put test x [] = refl
@@ -70,13 +67,9 @@ some_same : {A : Type 0} (p q : A → Bool) (xs : List A) → ((x : A) → p x �
 some_same p q [] h = refl
 some_same p q (x ∷ xs) h = ap₂ (λ (a b : Bool). a || b) (h x) (some_same p q xs h)
 
-each_same : {A : Type 0} (p q : A → Bool) (xs : List A) → ((x : A) → p x ≡ q x) → each_of p xs ≡ each_of q xs
-each_same p q [] h = refl
-each_same p q (x ∷ xs) h = ap₂ (λ (a b : Bool). a && b) (h x) (each_same p q xs h)
-
-module _ (protocols : List Participant) (past : CoordPast) (says : CoordJournalSaysAll protocols past) (voter : Ticketed) where
+module _ (protocols : List Participant) (past : CoordPast) (says : CoordJournalSaysAll protocols past) (candidate : Ticketed) where
   attempts : List Ticketed
-  attempts = voter ∷ commits (records past)
+  attempts = candidate ∷ commits (records past)
 
   -- of a journal that says all
   told : (test : Tid → List SiteTicket → Bool) → some_commit test (journal past) ≡ some_of (λ (c : Ticketed). test c.tid c.tickets) (commits (records past))
@@ -84,16 +77,16 @@ module _ (protocols : List Participant) (past : CoordPast) (says : CoordJournalS
       in_sum protocols test (journal past)
       ∙ (ap (λ (sum : CoordSum). some_attempt test sum.committed) says ∙ in_records test (records past))
 
-  entered : (edge : Edge) (a : Ticketed) → enters_some voter.tid voter.tickets (journal past) edge a.tickets
-      ≡ some_of (λ (b : Ticketed). same_tid b.tid edge.to && rules.precedes a b edge.site) (voter ∷ commits (records past))
-  entered edge a = ap (λ b. enters edge a.tickets voter.tid voter.tickets || b) (told (enters edge a.tickets))
+  entered : (edge : Edge) (a : Ticketed) → enters_some candidate.tid candidate.tickets (journal past) edge a.tickets
+      ≡ some_of (λ (b : Ticketed). same_tid b.tid edge.to && rules.precedes a b edge.site) (candidate ∷ commits (records past))
+  entered edge a = ap (λ b. enters edge a.tickets candidate.tid candidate.tickets || b) (told (enters edge a.tickets))
 
-  edge_is : (edge : Edge) → is_edge voter.tid voter.tickets (journal past) edge ≡ rules.is_edge (voter ∷ commits (records past)) edge
+  edge_is : (edge : Edge) → is_edge candidate.tid candidate.tickets (journal past) edge ≡ rules.is_edge (candidate ∷ commits (records past)) edge
   edge_is edge =
-      ap (λ b. leaves voter.tid voter.tickets (journal past) edge voter.tid voter.tickets || b) (told (leaves voter.tid voter.tickets (journal past) edge))
-      ∙ some_same (λ (a : Ticketed). leaves voter.tid voter.tickets (journal past) edge a.tid a.tickets)
-      (λ (a : Ticketed). same_tid a.tid edge.from && some_of (λ (b : Ticketed). same_tid b.tid edge.to && rules.precedes a b edge.site) (voter ∷ commits (records past)))
-      (voter ∷ commits (records past))
+      ap (λ b. leaves candidate.tid candidate.tickets (journal past) edge candidate.tid candidate.tickets || b) (told (leaves candidate.tid candidate.tickets (journal past) edge))
+      ∙ some_same (λ (a : Ticketed). leaves candidate.tid candidate.tickets (journal past) edge a.tid a.tickets)
+      (λ (a : Ticketed). same_tid a.tid edge.from && some_of (λ (b : Ticketed). same_tid b.tid edge.to && rules.precedes a b edge.site) (candidate ∷ commits (records past)))
+      (candidate ∷ commits (records past))
       (λ a. ap (λ b. same_tid a.tid edge.from && b) (entered edge a))
 
   swapped : (a b c d : Bool) → (a && (b && (c && d))) ≡ ((b && c) && (a && d))
@@ -103,14 +96,14 @@ module _ (protocols : List Participant) (past : CoordPast) (says : CoordJournalS
   swapped false true false d = refl
   swapped false false c d = refl
 
-  on_is : (at to : Tid) (edges : List Edge) → goes_on (is_edge voter.tid voter.tickets (journal past)) at edges to
-      ≡ (each_of (rules.is_edge (voter ∷ commits (records past))) edges && rules.leads at edges to)
+  on_is : (at to : Tid) (edges : List Edge) → goes_on (is_edge candidate.tid candidate.tickets (journal past)) at edges to
+      ≡ (each_of (rules.is_edge (candidate ∷ commits (records past))) edges && rules.leads at edges to)
   on_is at to [] = refl
   on_is at to (edge ∷ edges) =
       ap₂ (λ (b c : Bool). same_tid edge.from at && (b && c)) (edge_is edge) (on_is edge.to to edges)
-      ∙ swapped (same_tid edge.from at) (rules.is_edge (voter ∷ commits (records past)) edge) (each_of (rules.is_edge (voter ∷ commits (records past))) edges) (rules.leads edge.to edges to)
+      ∙ swapped (same_tid edge.from at) (rules.is_edge (candidate ∷ commits (records past)) edge) (each_of (rules.is_edge (candidate ∷ commits (records past))) edges) (rules.leads edge.to edges to)
 
-  -- the edges go round by the journal where they are a cycle of the committed attempts and the voter
-  pub round_is : (edges : List Edge) → goes_round voter.tid voter.tickets (journal past) edges ≡ rules.is_cycle (voter ∷ commits (records past)) voter.tid edges
+  -- the edges go round by the journal where they are a cycle of the committed attempts and the candidate
+  pub round_is : (edges : List Edge) → goes_round candidate.tid candidate.tickets (journal past) edges ≡ rules.is_cycle (candidate ∷ commits (records past)) candidate.tid edges
   round_is [] = refl
-  round_is (edge ∷ edges) = on_is voter.tid voter.tid (edge ∷ edges)
+  round_is (edge ∷ edges) = on_is candidate.tid candidate.tid (edge ∷ edges)

@@ -3,6 +3,6 @@ pub mod Journals
 pub mod Alike
 pub mod Takes
 pub mod DueLine
-pub mod Voters
+pub mod Candidates
 pub mod Refusals
 pub mod WrongEdges

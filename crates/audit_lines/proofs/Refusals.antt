@@ -138,8 +138,8 @@ module _ (protocols : List Participant) (policy : Policy) (past : CoordPast) (si
     still_members : participants protocols (x ∷ past) tid ≡ participants protocols past tid
     still_members = ap (λ b. participants_of protocols (cond b (or_steps (program_in tid x.event) []) (program past tid))) old
 
-    voter_now : refused protocols (x ∷ past) tid ≡ record { tid = tid; tickets = tickets_with site vote (map (voter past tid) (participants protocols past tid)) }
-    voter_now =
+    candidate_now : refused protocols (x ∷ past) tid ≡ record { tid = tid; tickets = tickets_with site vote (map (voter past tid) (participants protocols past tid)) }
+    candidate_now =
         let named : List SiteTicket → Ticketed = λ (ts : List SiteTicket). record { tid = tid; tickets = ts } in
         ap (λ ms. named (vote_tickets (x ∷ past) tid ms)) still_members ∙ ap named (sym (tickets_now (participants protocols past tid)))
 
@@ -156,7 +156,7 @@ module _ (protocols : List Participant) (policy : Policy) (past : CoordPast) (si
     may_is known undecided says own votes e f edges =
         let x = taken (From.Vote tid (Some ticket)) in
         let heard = (coord_made protocols policy past (Ev.Take site (From.Vote tid (Some ticket)))).heard in
-        let voter_is : record { tid = own; tickets = votes } ≡ refused protocols (x ∷ past) tid =
+        let candidate_is : record { tid = own; tickets = votes } ≡ refused protocols (x ∷ past) tid =
         ap₂ (λ (t : Tid) (ts : List SiteTicket). let one : Ticketed = record { tid = t; tickets = ts } in one) (e ∙ undecided.name) (f ∙ ap (tickets_with site (Some ticket)) undecided.members)
-        ∙ sym (voter_now x tid (Some ticket) heard (decides_counts x.answer names) (decides_begins tid x.answer names)) in
-        round_is protocols past says (record { tid = own; tickets = votes }) edges ∙ ap (λ (v : Ticketed). is_cycle (v ∷ commits (records past)) v.tid edges) voter_is
+        ∙ sym (candidate_now x tid (Some ticket) heard (decides_counts x.answer names) (decides_begins tid x.answer names)) in
+        round_is protocols past says (record { tid = own; tickets = votes }) edges ∙ ap (λ (v : Ticketed). is_cycle (v ∷ commits (records past)) v.tid edges) candidate_is

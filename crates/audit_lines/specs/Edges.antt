@@ -35,25 +35,25 @@ has_smaller site from to = some_of (λ ticket. same_site ticket.site site && has
 abbrev pub enters : Edge → List SiteTicket → Tid → List SiteTicket → Bool
 enters edge from tid tickets = same_tid tid edge.to && has_smaller edge.site from tickets
 
--- whether it enters the voter or a committed attempt from one with these tickets
+-- whether it enters the candidate or a committed attempt from one with these tickets
 abbrev pub enters_some : Tid → List SiteTicket → List CoordRecord → Edge → List SiteTicket → Bool
-enters_some voter votes records edge from = enters edge from voter votes || some_commit (enters edge from) records
+enters_some candidate votes records edge from = enters edge from candidate votes || some_commit (enters edge from) records
 
--- whether the edge leaves the attempt with these tickets, and enters the voter or a committed one
+-- whether the edge leaves the attempt with these tickets, and enters the candidate or a committed one
 abbrev pub leaves : Tid → List SiteTicket → List CoordRecord → Edge → Tid → List SiteTicket → Bool
-leaves voter votes records edge tid tickets = same_tid tid edge.from && enters_some voter votes records edge tickets
+leaves candidate votes records edge tid tickets = same_tid tid edge.from && enters_some candidate votes records edge tickets
 
--- whether the edge leads from the voter or a committed attempt to one of them
+-- whether the edge leads from the candidate or a committed attempt to one of them
 abbrev pub is_edge : Tid → List SiteTicket → List CoordRecord → Edge → Bool
-is_edge voter votes records edge =
-    leaves voter votes records edge voter votes || some_commit (leaves voter votes records edge) records
+is_edge candidate votes records edge =
+    leaves candidate votes records edge candidate votes || some_commit (leaves candidate votes records edge) records
 
 -- whether the first edge leaves the attempt, each enters the one that the next leaves, the last enters the other, and the test holds of each
 abbrev pub goes_on : (Edge → Bool) → Tid → List Edge → Tid → Bool
 goes_on test at [] to = same_tid at to
 goes_on test at (edge ∷ edges) to = same_tid edge.from at && (test edge && goes_on test edge.to edges to)
 
--- whether these are one or more edges that go round from the voter to itself
+-- whether these are one or more edges that go round from the candidate to itself
 abbrev pub goes_round : Tid → List SiteTicket → List CoordRecord → List Edge → Bool
-goes_round voter votes records [] = false
-goes_round voter votes records (edge ∷ edges) = goes_on (is_edge voter votes records) voter (edge ∷ edges) voter
+goes_round candidate votes records [] = false
+goes_round candidate votes records (edge ∷ edges) = goes_on (is_edge candidate votes records) candidate (edge ∷ edges) candidate

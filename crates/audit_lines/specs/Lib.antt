@@ -2,5 +2,5 @@
 pub mod Compared
 -- the committed attempts and the ticket edges, as a journal tells them
 pub mod Edges
--- the tickets of a voter
+-- the tickets of a candidate
 pub mod Votes

@@ -3,12 +3,12 @@ ghost use Rattle.std.specs.Prelude.{◌≡◌, reverse};
 ghost use Rattle.audit_lines.specs.Edges as spec;
 
 use crate::edges::is_edge;
-use crate::votes::Voter;
+use crate::votes::Candidate;
 use fed_rules::CoordRecord;
 use mdb_base::Edge;
 
-impl Voter {
-    /// Whether these are one or more edges that go round from the voter to itself, over the committed attempts that the coordinator's records tell,
+impl Candidate {
+    /// Whether these are one or more edges that go round from the candidate to itself, over the committed attempts that the coordinator's records tell,
     /// the oldest first. An edge takes time linear in the records.
     pub fn goes_round(&self, records: &[CoordRecord], edges: &[Edge]) -> bool
         ensures { result ≡ spec.goes_round self.now.tid self.now.tickets.items (reverse records.now) edges.now }

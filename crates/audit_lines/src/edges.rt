@@ -3,7 +3,7 @@ ghost use Rattle.std.specs.Prelude.{◌≡◌, ◌∷◌, List, reverse};
 ghost use Rattle.fed_rules.specs.declared.records.CoordRecord.{CoordRecord as TheRecord};
 ghost use Rattle.audit_lines.specs.Edges as spec;
 
-use crate::votes::Voter;
+use crate::votes::Candidate;
 use fed_rules::{CommittedAttempt, CoordRecord};
 use mdb_base::{Edge, SiteId, SiteTicket, Tid};
 
@@ -74,38 +74,44 @@ fn enters_commit(edge: Edge, from: &[SiteTicket], records: &[CoordRecord]) -> bo
     found
 }
 
-/// Whether the edge enters the voter or a committed attempt from one with these tickets.
-fn enters_some(voter: &Voter, records: &[CoordRecord], edge: Edge, from: &[SiteTicket]) -> bool
-    ensures { result ≡ spec.enters_some voter.now.tid voter.now.tickets.items (reverse records.now) edge from.now }
+/// Whether the edge enters the candidate or a committed attempt from one with these tickets.
+fn enters_some(
+    candidate: &Candidate,
+    records: &[CoordRecord],
+    edge: Edge,
+    from: &[SiteTicket],
+) -> bool
+    ensures { result ≡ spec.enters_some candidate.now.tid candidate.now.tickets.items (reverse records.now) edge from.now }
 {
-    enters(edge, from, voter.tid, voter.tickets.as_slice()) || enters_commit(edge, from, records)
+    enters(edge, from, candidate.tid, candidate.tickets.as_slice())
+        || enters_commit(edge, from, records)
 }
 
-/// Whether the edge leaves the attempt with these tickets, and enters the voter or a committed one.
+/// Whether the edge leaves the attempt with these tickets, and enters the candidate or a committed one.
 fn leaves(
-    voter: &Voter,
+    candidate: &Candidate,
     records: &[CoordRecord],
     edge: Edge,
     tid: Tid,
     tickets: &[SiteTicket],
 ) -> bool
-    ensures { result ≡ spec.leaves voter.now.tid voter.now.tickets.items (reverse records.now) edge tid tickets.now }
+    ensures { result ≡ spec.leaves candidate.now.tid candidate.now.tickets.items (reverse records.now) edge tid tickets.now }
 {
-    tid == edge.from && enters_some(voter, records, edge, tickets)
+    tid == edge.from && enters_some(candidate, records, edge, tickets)
 }
 
 /// Whether the edge leaves one of these attempts so.
 fn leaves_attempt(
-    voter: &Voter,
+    candidate: &Candidate,
     records: &[CoordRecord],
     edge: Edge,
     attempts: &[CommittedAttempt],
 ) -> bool
-    ensures { result ≡ spec.some_attempt (spec.leaves voter.now.tid voter.now.tickets.items (reverse records.now) edge) attempts.now }
+    ensures { result ≡ spec.some_attempt (spec.leaves candidate.now.tid candidate.now.tickets.items (reverse records.now) edge) attempts.now }
 {
     for attempt in attempts {
         if leaves(
-            voter,
+            candidate,
             records,
             edge,
             attempt.tid,
@@ -119,41 +125,46 @@ fn leaves_attempt(
 
 /// Whether the edge leaves a committed attempt so, by one record more; whether it does by those before it is known.
 fn leaves_with(
-    voter: &Voter,
+    candidate: &Candidate,
     records: &[CoordRecord],
     edge: Edge,
     before: bool,
     entry: &CoordRecord,
 ) -> bool
-    ensures { (looked : List TheRecord) → before ≡ spec.some_commit (spec.leaves voter.now.tid voter.now.tickets.items (reverse records.now) edge) looked
-        → result ≡ spec.some_commit (spec.leaves voter.now.tid voter.now.tickets.items (reverse records.now) edge) (entry.now ∷ looked) }
+    ensures { (looked : List TheRecord) → before ≡ spec.some_commit (spec.leaves candidate.now.tid candidate.now.tickets.items (reverse records.now) edge) looked
+        → result ≡ spec.some_commit (spec.leaves candidate.now.tid candidate.now.tickets.items (reverse records.now) edge) (entry.now ∷ looked) }
 {
     match entry {
         CoordRecord::Commit { tid, tickets } => {
-            leaves(voter, records, edge, *tid, tickets.as_slice()) || before
+            leaves(candidate, records, edge, *tid, tickets.as_slice()) || before
         }
         CoordRecord::Checkpoint(sum) => {
-            leaves_attempt(voter, records, edge, sum.committed.as_slice())
+            leaves_attempt(candidate, records, edge, sum.committed.as_slice())
         }
         _ => before,
     }
 }
 
 /// Whether the edge leaves a committed attempt so, by the records, the oldest first.
-fn leaves_commit(voter: &Voter, records: &[CoordRecord], edge: Edge) -> bool
-    ensures { result ≡ spec.some_commit (spec.leaves voter.now.tid voter.now.tickets.items (reverse records.now) edge) (reverse records.now) }
+fn leaves_commit(candidate: &Candidate, records: &[CoordRecord], edge: Edge) -> bool
+    ensures { result ≡ spec.some_commit (spec.leaves candidate.now.tid candidate.now.tickets.items (reverse records.now) edge) (reverse records.now) }
 {
     let mut found = false;
     for entry in records {
-        found = leaves_with(voter, records, edge, found, entry);
+        found = leaves_with(candidate, records, edge, found, entry);
     }
     found
 }
 
-/// Whether the edge leads from the voter or a committed attempt to one of them.
-pub(crate) fn is_edge(voter: &Voter, records: &[CoordRecord], edge: Edge) -> bool
-    ensures { result ≡ spec.is_edge voter.now.tid voter.now.tickets.items (reverse records.now) edge }
+/// Whether the edge leads from the candidate or a committed attempt to one of them.
+pub(crate) fn is_edge(candidate: &Candidate, records: &[CoordRecord], edge: Edge) -> bool
+    ensures { result ≡ spec.is_edge candidate.now.tid candidate.now.tickets.items (reverse records.now) edge }
 {
-    leaves(voter, records, edge, voter.tid, voter.tickets.as_slice())
-        || leaves_commit(voter, records, edge)
+    leaves(
+        candidate,
+        records,
+        edge,
+        candidate.tid,
+        candidate.tickets.as_slice(),
+    ) || leaves_commit(candidate, records, edge)
 }

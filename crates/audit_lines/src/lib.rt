@@ -1,5 +1,5 @@
 //! Whether a printed line is the one that is due: its answer, its places, and the cycle that a refusal names. Nothing here has a world; the due line, the
-//! coordinator's records and what it knows of the voter are handed in.
+//! coordinator's records and what it knows of the candidate are handed in.
 #![tactic(auto)]
 
 mod answers;
@@ -13,4 +13,4 @@ mod votes;
 pub use answers::edges_named;
 pub use faults::fault_of;
 pub use names::names_declared;
-pub use votes::Voter;
+pub use votes::Candidate;

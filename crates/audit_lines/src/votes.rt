@@ -1,4 +1,4 @@
-//! The attempt whose last vote comes.
+//! The attempt that a vote may decide.
 ghost use Rattle.std.specs.Prelude.{◌≡◌, IfOk};
 ghost use Rattle.audit_lines.specs.Votes as spec;
 
@@ -6,9 +6,9 @@ use mdb_base::{Memory, SiteId, SiteTicket, Tid};
 use protocol_table::{Known, Member};
 use std::alloc::Global;
 
-/// An attempt of which a vote comes, with the tickets of its yes votes, this one among them, by rising site.
+/// A candidate for a commit: an attempt whose vote comes, with the tickets of its yes votes, this one among them, by rising site.
 #[derive(Drop)]
-pub struct Voter {
+pub struct Candidate {
     pub tid: Tid,
     pub tickets: Vec<SiteTicket>,
 }
@@ -48,18 +48,18 @@ fn tickets_with(
     Ok(tickets)
 }
 
-impl Voter {
+impl Candidate {
     /// A known attempt, with this vote of the site.
     pub fn of(
         alloc: Global,
         known: &Known,
         site: SiteId,
         vote: Option<u64>,
-    ) -> Result<Voter, Memory>
-        ensures tid { IfOk result (λ voter. voter.tid ≡ known.now.tid) }
-        ensures tickets { IfOk result (λ voter. voter.tickets.items ≡ spec.tickets_with site vote known.now.members) }
+    ) -> Result<Candidate, Memory>
+        ensures tid { IfOk result (λ candidate. candidate.tid ≡ known.now.tid) }
+        ensures tickets { IfOk result (λ candidate. candidate.tickets.items ≡ spec.tickets_with site vote known.now.members) }
     {
-        Ok(Voter {
+        Ok(Candidate {
             tid: known.tid,
             tickets: tickets_with(alloc, known.members.as_slice(), site, vote)?,
         })

@@ -45,7 +45,8 @@ use Rattle.fed_world.specs.declared.cores.Cores.{Cores}
 use Rattle.fed_world.specs.Asks.{terms_of}
 use Rattle.fed_world.specs.Faults.{faults_of}
 use Rattle.fed_world.specs.Gathering.{Gathers, GathersAt, GathersOn, IsChannel, IsGathered}
-use Rattle.fed_world.specs.Worlds.{AreDisks, DbmsRecalls, DbmsStands, ManagerRecalls, ManagerStands, OfManager, OnDisk}
+use Rattle.fed_world.specs.FreshWorlds.{AreDisks}
+use Rattle.fed_world.specs.Worlds.{DbmsRecalls, DbmsStands, ManagerRecalls, ManagerStands, OfManager, OnDisk}
 use Rattle.fed_world.proofs.DeclaredPlaces.{at_its_place, no_home_placeless}
 use Rattle.fed_world.proofs.DeclaredSites.{declared_rise}
 use Rattle.session_routes.specs.Routes.{place_in}

@@ -9,7 +9,8 @@ use Rattle.session_report.specs.declared.session.Channel.{Channel}
 use Rattle.fed_world.specs.declared.cores.Cores.{Cores}
 use Rattle.fed_world.specs.declared.world.World.{World}
 use Rattle.fed_world.specs.Gathering.{Gathers, GathersAt, GathersOn}
-use Rattle.fed_world.specs.Worlds.{AnyStory, DbmsStands, EachStory, ManagerStands, SomeStory, Stands}
+use Rattle.fed_world.specs.FreshWorlds.{Stands}
+use Rattle.fed_world.specs.Worlds.{AnyStory, DbmsStands, EachStory, ManagerStands, SomeStory}
 use Rattle.host_laws.specs.Merged.{MergedLinesAreRight, MessagesAreCarried, commands_of, lines_in}
 use Rattle.host_laws.specs.Stops.{StopsAreArmed}
 use Rattle.federation_run.specs.declared.lefts.Left.{Left}
@@ -55,7 +56,7 @@ module _ (right : MergedLinesAreRight) (carries : MessagesAreCarried) (arms : St
     -- what is left may be gathered
     pub may_gather : SomeStory (Gathers (cores_of scenario left.coordinator.manager sorted) lines sorted.channels.items) AnyStory
     may_gather = record {
-      scenario = scenario;
+      session = scenario;
       commands = commands_of (lines_in m.merged);
       stood = gathers_recall tells disks (cores_of scenario left.coordinator.manager sorted) lines sorted.channels.items scenario (commands_of (lines_in m.merged)) gathers.parts;
       holds = tt;

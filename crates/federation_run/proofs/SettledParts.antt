@@ -16,7 +16,8 @@ use Rattle.fed_world.specs.declared.cores.Cores.{Cores}
 use Rattle.fed_world.specs.declared.cores.SiteCores.{SiteCores}
 use Rattle.fed_world.specs.declared.world.World.{World}
 use Rattle.fed_world.specs.Gathering.{Gathers, GathersOn}
-use Rattle.fed_world.specs.Worlds.{AnyStory, EachStory, SomeStory, Stands}
+use Rattle.fed_world.specs.FreshWorlds.{Stands}
+use Rattle.fed_world.specs.Worlds.{AnyStory, EachStory, SomeStory}
 use Rattle.fed_hosts.specs.declared.ports.Port.{Port}
 use Rattle.federation_run.specs.declared.lefts.Left.{Left}
 use Rattle.federation_run.specs.declared.lefts.SiteLeft.{SiteLeft}

@@ -8,7 +8,7 @@ use Rattle.any_engine.specs.declared.engine.AnyEngine.{AnyEngine}
 use Rattle.local_dbms.specs.declared.dbms.LocalDbms.{LocalDbms}
 use Rattle.fed_world.specs.declared.cores.Cores.{Cores}
 use Rattle.fed_world.specs.declared.world.World.{World}
-use Rattle.fed_world.specs.Worlds.{Stands}
+use Rattle.fed_world.specs.FreshWorlds.{Stands}
 use Rattle.fed_world.proofs.SeatsByPlace.{has_item}
 use Rattle.federation_run.specs.Crews.{IsManned, IsStood}
 

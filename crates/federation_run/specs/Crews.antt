@@ -13,7 +13,8 @@ use Rattle.local_dbms.specs.Stands.{own_programs}
 use Rattle.scripted_link.specs.Inlets.{empty_count, inlet_ring, taken}
 use Rattle.scripted_link.specs.Outlets.{offered, outlet_wire}
 use Rattle.fed_world.specs.Asks.{terms_of}
-use Rattle.fed_world.specs.Worlds.{AreDisks, DbmsStands, ManagerStands}
+use Rattle.fed_world.specs.FreshWorlds.{AreDisks}
+use Rattle.fed_world.specs.Worlds.{DbmsStands, ManagerStands}
 use Rattle.host_laws.specs.Links.{script_of}
 use Rattle.fed_hosts.specs.declared.ends.HostEnds.{HostEnds}
 use Rattle.fed_hosts.specs.declared.ports.Port.{Port}

@@ -22,7 +22,8 @@ use Rattle.trace_merge.specs.Traces.{Entry, IsTrace, lines_of, list_of}
 use Rattle.fed_world.specs.declared.world.World.{World}
 use Rattle.fed_world.specs.Faults.{RisesAt, faults_of}
 use Rattle.fed_world.specs.SettingUp.{StopsForDisk}
-use Rattle.fed_world.specs.Worlds.{AreDisks, OnDisk, Stands}
+use Rattle.fed_world.specs.FreshWorlds.{AreDisks, Stands}
+use Rattle.fed_world.specs.Worlds.{OnDisk}
 use Rattle.host_laws.specs.CoordTurns.{coord_begun_in, coord_is_due, offered_to}
 use Rattle.host_laws.specs.Links.{script_of}
 use Rattle.host_laws.specs.Logs.{AreLists, AreLogs, CoordLog, IsDelivered, SiteLog}

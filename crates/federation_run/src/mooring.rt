@@ -3,7 +3,7 @@ ghost use Rattle.std.specs.Prelude.{◌≡◌, Bool, IfOk, List, length};
 ghost use Rattle.fed_rules.specs.Plans.{IsScenario};
 ghost use Rattle.fed_rules.specs.Scenarios.{global_program, sites};
 ghost use Rattle.journal_disk.specs.Disk.{Seen};
-ghost use Rattle.fed_world.specs.Worlds.{Stands};
+ghost use Rattle.fed_world.specs.FreshWorlds.{Stands};
 ghost use Rattle.federation_run.specs.Crews.{AreMoored, AreRinged, IsCrew, IsManned, IsMoored};
 
 use crate::crews::{Berth, Crew};

@@ -6,10 +6,13 @@ use Rattle.mdb_base.proofs.OptionLaws.{some_parts}
 use Rattle.fed_rules.specs.declared.commands.Command.{Command}
 use Rattle.fed_rules.specs.declared.commands.Line.{Line}
 use Rattle.fed_rules.specs.declared.scenario.Scenario.{Scenario}
-use Rattle.fed_rules.specs.Right.{IsNext, IsRightStory}
+use Rattle.fed_rules.specs.Right.{IsNext}
+use Rattle.fed_rules.specs.Sessions.{fresh}
 use Rattle.fed_rules.specs.Story.{Story, story_of, tell}
 use Rattle.fed_world.specs.declared.world.World.{World}
-use Rattle.fed_world.specs.Worlds.{AddsLine, HasLines, lines_of}
+use Rattle.fed_world.specs.FreshWorlds.{HasLines}
+use Rattle.fed_world.specs.Lines.{IsRightIn}
+use Rattle.fed_world.specs.Worlds.{AddsLine, lines_of}
 use Rattle.audit_rules.specs.declared.verdict.What.{What}
 use Rattle.audit_rules.specs.declared.verdict.What.TheVariants as Fails
 use Rattle.audit_rules.specs.Faults.{fault_in, fault_of, names_declared}
@@ -29,8 +32,8 @@ module _ (old new : World) (scenario : Scenario) (commands : List Command) (comm
       let at : slice_get (lines_of new) (length (lines_of new) - 1) ≡ Some line =
       ap (λ (xs : List Line). slice_get xs (length xs - 1)) adds.lines ∙ (ap (λ k. slice_get (front ++ line ∷ []) k) n ∙ last_added front line) in
       let same : line ≡ due = some_parts (sym at ∙ found) in
-      let right : IsRightStory scenario (line ∷ reverse front) =
-      subst (λ (ls : List Line). IsRightStory scenario ls) (ap (λ (xs : List Line). reverse xs) adds.lines ∙ reverse-append front (line ∷ [])) after.right in
+      let right : IsRightIn (fresh scenario) (line ∷ reverse front) =
+      subst (λ (ls : List Line). IsRightIn (fresh scenario) ls) (ap (λ (xs : List Line). reverse xs) adds.lines ∙ reverse-append front (line ∷ [])) after.right in
       subst (λ (l : Line). (l.command ≡ command) × IsNext scenario (story_of scenario commands) l) same
       (adds.is, subst (λ (cs : List Command). IsNext scenario (story_of scenario cs) line) before.commands_are right.1)
 

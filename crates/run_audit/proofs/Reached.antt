@@ -1,8 +1,9 @@
 -- How far an audit has come.
-use Rattle.std.proofs.Common.{◌≡◌, ℕ, ◌+◌, ◌<◌, ◌^◌, List, [], ◌∷◌, length, add-one, sym, ap, ◌∙◌, arith}
+use Rattle.std.proofs.Common.{◌≡◌, ℕ, ◌+◌, ◌<◌, List, [], ◌∷◌, length, add-one, sym, ap, ◌∙◌, arith}
 use Rattle.fed_rules.specs.declared.commands.Command.{Command}
 use Rattle.fed_rules.specs.declared.scenario.Scenario.{Scenario}
 use Rattle.fed_rules.specs.Story.{story_of}
+use Rattle.fed_world.specs.FreshWorlds.{HasRoom}
 use Rattle.scenario_text.specs.Pieces.{TextLine, lines}
 use Rattle.audit_rules.specs.declared.verdict.Verdict.{Verdict}
 use Rattle.audit_rules.specs.declared.verdict.Verdict.TheVariants.{Differs}
@@ -22,8 +23,8 @@ pub record HasReached (K : Scenario → List Command → Type 0) (rest : List �
 
 module _ (K : Scenario → List Command → Type 0) (rest : List ℕ) (number : ℕ) (scenario : Scenario) (verdict : Verdict) (so : HasReached K rest number scenario verdict) where
   -- there is room for one more
-  pub has_room : length so.commands < 2 ^ 30
-  has_room = let f = so.fits in omega arith
+  pub has_room : HasRoom scenario so.commands
+  has_room = let f = so.fits in omega (arith, f)
 
   -- one line further
   pub one_further : (New : Scenario → List Command → Type 0) (line : TextLine) (behind : List ℕ) → lines rest ≡ line ∷ lines behind → length behind < length rest → GoesOn New scenario so.commands number line (lines behind)

@@ -18,12 +18,12 @@ use Rattle.fed_rules.specs.Scenarios.{policy, protocols}
 use Rattle.fed_rules.specs.Story.{Story, coord_past, happens, sent_from}
 use Rattle.coord_laws.specs.CoordRestarts.{CoordJournalSaysAll}
 use Rattle.audit_rules.specs.Faults.{edges_of, may_name, names_cycle}
-use Rattle.audit_lines.specs.declared.votes.Voter.{Voter}
+use Rattle.audit_lines.specs.declared.votes.Candidate.{Candidate}
 use Rattle.audit_lines.specs.Compared.{TellsWrong}
 use Rattle.audit_lines.specs.Edges.{goes_round}
 use Rattle.audit_lines.proofs.Refusals.{may_is, names_up, names_yes, stands_open, taken}
 use Rattle.audit_lines.proofs.WrongEdges.{TellsOf, tells_wrong}
-use Rattle.run_audit.specs.Voters.{IsFoundVoter, IsVoterAt, IsVoterOf, vote_of}
+use Rattle.run_audit.specs.Candidates.{IsFoundCandidate, IsCandidateAt, IsCandidateOf, vote_of}
 
 -- an answer that names no cycle has no edges
 pub unnamed_edges : (a : Answer) → names_cycle a ≡ false → edges_of a ≡ []
@@ -40,37 +40,37 @@ place_in command = 0
 
 module _ (scenario : Scenario) (story : Story) (command : Command) where
   -- what was found of a vote
-  abbrev pub IsFoundBy : SiteId → Option (Tid × Option ℕ) → Option Voter → Type 0
+  abbrev pub IsFoundBy : SiteId → Option (Tid × Option ℕ) → Option Candidate → Type 0
   IsFoundBy site None found = Unit {0}
-  IsFoundBy site (Some vote) found = IsVoterAt (protocols scenario) (coord_past story) site vote.0 vote.1 found
+  IsFoundBy site (Some vote) found = IsCandidateAt (protocols scenario) (coord_past story) site vote.0 vote.1 found
 
-  by_vote : (site : SiteId) (o : Option (Tid × Option ℕ)) (found : Option Voter) (tid : Tid) (vote : Option ℕ) → o ≡ Some (tid, vote) → IsFoundBy site o found
-      → IsVoterAt (protocols scenario) (coord_past story) site tid vote found
+  by_vote : (site : SiteId) (o : Option (Tid × Option ℕ)) (found : Option Candidate) (tid : Tid) (vote : Option ℕ) → o ≡ Some (tid, vote) → IsFoundBy site o found
+      → IsCandidateAt (protocols scenario) (coord_past story) site tid vote found
   by_vote site None found tid vote e f = cc
   by_vote site (Some pair) found tid vote e f =
       let one : Tid × Option ℕ = (tid, vote) in
       let same : pair ≡ one = some_parts e in
-      subst (λ (q : Tid × Option ℕ). IsVoterAt (protocols scenario) (coord_past story) site q.0 q.1 found) same f
+      subst (λ (q : Tid × Option ℕ). IsCandidateAt (protocols scenario) (coord_past story) site q.0 q.1 found) same f
 
   -- it is the one of the command
-  pub voter_by : (site : SiteId) (place : ℕ) (o : Option (Tid × Option ℕ)) (found : Option Voter) → command ≡ Cmd.Take site place → o ≡ vote_of (item_at (sent_from site story) place) → IsFoundBy site o found
-      → IsVoterOf scenario story command found
+  pub candidate_by : (site : SiteId) (place : ℕ) (o : Option (Tid × Option ℕ)) (found : Option Candidate) → command ≡ Cmd.Take site place → o ≡ vote_of (item_at (sent_from site story) place) → IsFoundBy site o found
+      → IsCandidateOf scenario story command found
   unfolding site_in place_in
-  voter_by site place o found is told f = λ site' place' tid vote e there.
+  candidate_by site place o found is told f = λ site' place' tid vote e there.
       let both = sym is ∙ e in
       let sites : site ≡ site' = ap (site_in site) both in
       let places : place ≡ place' = ap place_in both in
       let here : o ≡ Some (tid, vote) = told ∙ (ap₂ (λ (s : SiteId) (p : ℕ). vote_of (item_at (sent_from s story) p)) sites places ∙ ap vote_of there) in
-      subst (λ (s : SiteId). IsVoterAt (protocols scenario) (coord_past story) s tid vote found) sites (by_vote site o found tid vote here f)
+      subst (λ (s : SiteId). IsCandidateAt (protocols scenario) (coord_past story) s tid vote found) sites (by_vote site o found tid vote here f)
 
-  module _ (edges : List Edge) (wrong : Bool) (found : Option Voter) (of_command : IsVoterOf scenario story command found) (says : CoordJournalSaysAll (protocols scenario) (coord_past story))
-      (told : (voter : Voter) → found ≡ Some voter → wrong ≡ not (goes_round voter.tid voter.tickets.items (journal (coord_past story)) edges)) where
-    by_found : (site : SiteId) (tid : Tid) (ticket : ℕ) (o : Option Voter) → found ≡ o → IsFoundVoter (protocols scenario) (coord_past story) site tid (Some ticket) o
+  module _ (edges : List Edge) (wrong : Bool) (found : Option Candidate) (of_command : IsCandidateOf scenario story command found) (says : CoordJournalSaysAll (protocols scenario) (coord_past story))
+      (told : (candidate : Candidate) → found ≡ Some candidate → wrong ≡ not (goes_round candidate.tid candidate.tickets.items (journal (coord_past story)) edges)) where
+    by_found : (site : SiteId) (tid : Tid) (ticket : ℕ) (o : Option Candidate) → found ≡ o → IsFoundCandidate (protocols scenario) (coord_past story) site tid (Some ticket) o
         → names_cycle (taken (protocols scenario) (policy scenario) (coord_past story) site (From.Vote tid (Some ticket))).answer ≡ true
         → wrong ≡ not (may_name (protocols scenario) (coord_past story) (taken (protocols scenario) (policy scenario) (coord_past story) site (From.Vote tid (Some ticket))) tid edges)
     by_found site tid ticket None is v names = absurd v
-    by_found site tid ticket (Some voter) is v names =
-        told voter is ∙ ap not (may_is (protocols scenario) (policy scenario) (coord_past story) site tid ticket names v.known v.is says voter.tid voter.tickets.items v.tid v.tickets edges)
+    by_found site tid ticket (Some candidate) is v names =
+        told candidate is ∙ ap not (may_is (protocols scenario) (policy scenario) (coord_past story) site tid ticket names v.known v.is says candidate.tid candidate.tickets.items v.tid v.tickets edges)
 
     of_message : (site : SiteId) (place : ℕ) (message : FromSite) → command ≡ Cmd.Take site place → item_at (sent_from site story) place ≡ Some message → TellsOf scenario story edges wrong site message
     of_message site place (From.Vote tid (Some ticket)) e there = λ names.

@@ -8,13 +8,18 @@ use Rattle.fed_world.specs.Faults.{CountsTell, FailedAs, faults_of}
 use Rattle.scenario_text.specs.declared.bad.TextErr.{TextErr}
 use Rattle.scenario_text.specs.declared.bad.TextErr.TheVariants as Text_err
 use Rattle.audit_rules.specs.declared.verdict.Verdict.{Verdict}
-use Rattle.run_audit.specs.Audits.{Answers, Hands}
+use Rattle.run_audit.specs.Audits.{Answers, Hands, IsRefused}
 use Rattle.run_audit.specs.Causes.{CauseTells, of_text, of_world}
 
 -- a world that gives none says nothing of the text
 pub world_answers : (why : WorldErr) (text : List ℕ) → Answers (Err (of_world why)) text
 world_answers (World_err.Disk number) text = tt
 world_answers World_err.Memory text = tt
+
+-- nor refuses it
+pub world_refuses : (why : WorldErr) → IsRefused (Err (of_world why)) → ⊥
+world_refuses (World_err.Disk number) refused = refused
+world_refuses World_err.Memory refused = refused
 
 -- and the counts of the disks tell which failed
 pub world_tells : (why : WorldErr) (old new : List Seen) → FailedAs why old new → CauseTells {T = Verdict} (Err (of_world why)) old new

@@ -73,6 +73,13 @@ Answers (Err (Audit_err.Bad bad)) text = audit_of text ≡ Err bad
 Answers (Err (Audit_err.Disk number)) text = Unit {0}
 Answers (Err Audit_err.Memory) text = Unit {0}
 
+-- the text is refused with a bad line of its scenario
+abbrev pub IsRefused : Result Verdict AuditErr → Type 0
+IsRefused (Ok verdict) = ⊥
+IsRefused (Err (Audit_err.Bad bad)) = Unit {0}
+IsRefused (Err (Audit_err.Disk number)) = ⊥
+IsRefused (Err Audit_err.Memory) = ⊥
+
 -- the lines before `printed` spell a scenario, and the printed run behind it agrees with it, so it has the headline with its printed order
 pub record AgreesWhole (text : List ℕ) : Type 0 where
   pub scenario : Plan

@@ -2,7 +2,7 @@
 pub mod Audits
 pub mod Causes
 -- one printed line
-pub mod Voters
+pub mod Candidates
 pub mod Turns
 -- the end of the lines
 pub mod Resting

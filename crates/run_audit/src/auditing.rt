@@ -1,7 +1,7 @@
 //! The audit of a whole text.
 ghost use Rattle.std.specs.Prelude.{◌≡◌, ◌≤◌, IsTrue, length, map};
 ghost use Rattle.fed_world.specs.SettingUp.{AreEmpty};
-ghost use Rattle.run_audit.specs.Audits.{Answers, YesImplies};
+ghost use Rattle.run_audit.specs.Audits.{Answers, IsRefused, YesImplies};
 ghost use Rattle.run_audit.specs.Causes.{CauseTells};
 
 use crate::errors::{AuditErr, of_text, of_world};
@@ -19,6 +19,7 @@ pub fn audit<D: Disk>(alloc: Global, text: &[u8], disks: &mut Vec<D>) -> Result<
     requires short { length text.now ≤ 4194304 }
     ensures exact { Answers result text.now }
     ensures headline { YesImplies result text.now }
+    ensures untouched { IsRefused result → disks.new ≡ disks.old }
     ensures cause { CauseTells result (map D.seen disks.old.items) (map D.seen disks.new.items) }
     ensures count { length disks.new.items ≡ 9 }
 {

@@ -2,7 +2,8 @@
 ghost use Rattle.std.specs.Prelude.{◌≡◌, ◌&&◌, IfOk};
 ghost use Rattle.mdb_base.specs.Words.{is_empty};
 ghost use Rattle.fed_rules.specs.Story.{story_of};
-ghost use Rattle.fed_world.specs.Worlds.{EachStory, Recalls};
+ghost use Rattle.fed_world.specs.FreshWorlds.{Recalls};
+ghost use Rattle.fed_world.specs.Worlds.{EachStory};
 ghost use Rattle.audit_rules.specs.Ends as rules;
 ghost use Rattle.run_audit.specs.Resting as resting;
 

@@ -3,12 +3,12 @@
 #![tactic(auto)]
 
 mod auditing;
+mod candidates;
 mod ends;
 mod errors;
 mod lines;
 mod submitted;
 mod turns;
-mod voters;
 
 pub use audit_rules::{Verdict, What};
 pub use auditing::audit;

@@ -1,7 +1,8 @@
 //! The printed lines, one by one.
 ghost use Rattle.std.specs.Prelude.{◌≡◌, ◌<◌, ◌+◌, ◌^◌, IfOk, IsTrue, length, map};
 ghost use Rattle.fed_world.specs.Faults.{CountsTell};
-ghost use Rattle.fed_world.specs.Worlds.{EachStory, SomeStory, Stands};
+ghost use Rattle.fed_world.specs.FreshWorlds.{Stands};
+ghost use Rattle.fed_world.specs.Worlds.{EachStory, SomeStory};
 ghost use Rattle.run_audit.specs.Audits.{WillFit, verdict_behind};
 
 use crate::turns::check_printed;

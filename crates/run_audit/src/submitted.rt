@@ -1,5 +1,5 @@
 //! A text that is handed in to be audited.
-ghost use Rattle.std.specs.Prelude.{◌≡◌, ◌≤◌, IfOk, IsTrue, length, map};
+ghost use Rattle.std.specs.Prelude.{◌≡◌, ◌≤◌, IfOk, IsTrue, None, length, map};
 ghost use Rattle.fed_rules.specs.Plans.{IsScenario};
 ghost use Rattle.fed_world.specs.Faults.{CountsTell};
 ghost use Rattle.audit_rules.specs.declared.verdict.Verdict.TheVariants.{Agrees};
@@ -53,8 +53,8 @@ fn every_scenario_is_one(scenario: &Scenario)
 
 impl Submitted<'_> {
     /// Whether the printed run agrees with the scenario, or the first line at which it doesn't, counted from 1 in the whole text, with the first
-    /// reason that fits. It goes once over the text. The disks are used as a replay of the printed commands uses them; where no line `printed`
-    /// stands they aren't touched.
+    /// reason that fits. It goes once over the text. The disks are used as a replay of the printed commands uses them. Where no line
+    /// `printed` stands they aren't touched.
     pub fn audit<D: Disk>(self, alloc: Global, disks: &mut Vec<D>) -> Result<Verdict, WorldErr>
         requires told { IsTrue D.tells }
         requires nine { length disks.old.items ≡ 9 }
@@ -62,6 +62,7 @@ impl Submitted<'_> {
         requires short { IsShort self }
         ensures exact { IfOk result (λ verdict. verdict ≡ verdict_of self.entry) }
         ensures headline { IfOk result (λ verdict. verdict ≡ Agrees → RunIsAudited self.entry.scenario self.entry.printed) }
+        ensures untouched { self.entry.printed ≡ None → disks.new ≡ disks.old }
         ensures cause { CountsTell result (map D.seen disks.old.items) (map D.seen disks.new.items) }
         ensures count { length disks.new.items ≡ 9 }
     {

@@ -3,13 +3,14 @@ ghost use Rattle.std.specs.Prelude.{◌≡◌, ◌<◌, ◌+◌, ◌^◌, IfOk, 
 ghost use Rattle.scenario_text.specs.Pieces.{lines};
 ghost use Rattle.fed_rules.specs.Story.{story_of};
 ghost use Rattle.fed_world.specs.Faults.{CountsTell};
-ghost use Rattle.fed_world.specs.Worlds.{AnyStory, EachStory, HasRoom, Recalls, SomeStory, Stands};
+ghost use Rattle.fed_world.specs.FreshWorlds.{HasRoom, Recalls, Stands};
+ghost use Rattle.fed_world.specs.Worlds.{AnyStory, EachStory, SomeStory};
 ghost use Rattle.audit_rules.specs.Agreement.{verdict_at_order};
 ghost use Rattle.audit_text.specs.Lines.{is_entry};
 ghost use Rattle.run_audit.specs.Turns.{Checks, Turns, line_of};
 
+use crate::candidates::is_wrong;
 use crate::ends::is_at_rest;
-use crate::voters::is_wrong;
 use audit_laws::quiet_runs_rest;
 use audit_lines::{fault_of, names_declared};
 use audit_rules::{Verdict, What};
@@ -41,10 +42,8 @@ fn check_line<D: Disk>(
         return Err(WorldErr::Memory);
     };
     world.apply(alloc, disks, printed.command)?;
-    match world.lines().last() {
-        Some(due) => Ok(fault_of(printed, due, wrong)),
-        None => Err(WorldErr::Memory),
-    }
+    let due = world.lines().last().unwrap();
+    Ok(fault_of(printed, due, wrong))
 }
 
 /// The verdict at the line of the order, which has this number, with the text behind it.

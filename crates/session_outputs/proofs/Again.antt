@@ -1,5 +1,5 @@
 -- The commands of a session at rest, given to `replay`, print its text again.
-use Rattle.std.proofs.Common.{◌≡◌, ℕ, List, reverse, sym, ap, subst, ◌∙◌}
+use Rattle.std.proofs.Common.{◌≡◌, ℕ, List, sym, ap, subst, ◌∙◌}
 use Rattle.order_laws.proofs.Reversed.{map_reverse}
 use Rattle.fed_rules.specs.declared.commands.Command.{Command}
 use Rattle.fed_rules.specs.declared.commands.Line.{Line}
@@ -10,9 +10,8 @@ use Rattle.closing_laws.specs.AtRest.{IsAtRest}
 use Rattle.fed_rules.specs.Right.{AreLines}
 use Rattle.journal_disk.specs.Disk.{Seen}
 use Rattle.line_laws.specs.Printed.{printed}
-use Rattle.line_laws.specs.Refusals.{RefuseNone}
 use Rattle.replay_laws.specs.Replayed.{ClosingAddsNothing, CommandsGiveAgain, GivesAgain}
-use Rattle.session_outputs.specs.Again.{PrintsButCycles, ReplaysAlike, session_again}
+use Rattle.session_outputs.specs.Again.{ReplaysAlike, session_again}
 use Rattle.session_outputs.specs.Replays.{PlaysWhole}
 use Rattle.session_outputs.specs.Sessions.{commands_of}
 

@@ -9,18 +9,20 @@ use Rattle.fed_rules.specs.declared.scenario.Scenario.{Scenario}
 use Rattle.fed_rules.specs.declared.scenario.SiteLine.{SiteLine}
 use Rattle.fed_rules.specs.Closing.{closed, finished_alone}
 use Rattle.fed_rules.specs.Plans.{IsScenario}
+use Rattle.fed_rules.specs.Sessions.{fresh}
 use Rattle.fed_rules.specs.Story.{Story, story_of}
 use Rattle.journal_disk.specs.Disk.{Seen}
 use Rattle.closing_laws.specs.AtRest.{AllUp, ClosedSessionsRest, IsAtRest}
 use Rattle.closing_laws.specs.Bound.{ClosingIsShort}
 use Rattle.closing_laws.specs.Finished.{FinishedSessionsCommit, HaveAttemptsLeft, begun}
-use Rattle.closing.specs.Steps.{CanClose, CanFinish}
+use Rattle.closing.specs.Alone.{CanFinish}
+use Rattle.closing.specs.Steps.{CanClose}
 use Rattle.progress_laws.specs.Added.{ClosingAddsItsOwn, FinishingAddsItsOwn, is_of_clients, is_of_closing}
 use Rattle.progress_laws.proofs.BegunNone.{closing_begins_nothing, keeps_all}
 use Rattle.rules_laws.proofs.Commands.{begins_nothing}
 use Rattle.fed_world.specs.declared.world.World.{World}
 use Rattle.fed_world.specs.Faults.{faults_of}
-use Rattle.fed_world.specs.Worlds.{Stands}
+use Rattle.fed_world.specs.FreshWorlds.{Stands}
 use Rattle.federation_run.specs.Running.{HasRun}
 use Rattle.line_laws.specs.Lines.{ClosingIsHeard, IsHeard}
 use Rattle.session_outputs.specs.Ends.{CanEnd, IsEnded}
@@ -28,7 +30,7 @@ use Rattle.session_outputs.specs.Runs.{AreOfHosts, host_commands, run_commands}
 use Rattle.session_outputs.proofs.HostsHeard.{hosts_heard}
 
 -- as few commands as all hosts make can be closed
-pub can_close : (scenario : Scenario) (commands : List Command) → CanEnd scenario commands → CanClose scenario commands
+pub can_close : (scenario : Scenario) (commands : List Command) → CanEnd scenario commands → CanClose (fresh scenario) commands
 can_close scenario commands few = omega (arith, few)
 
 -- at rest every actor is up

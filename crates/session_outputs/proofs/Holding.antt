@@ -1,5 +1,5 @@
 -- What is on the nine disks of a world: behind some commands, where it is at rest, and where a call of a disk failed.
-use Rattle.std.proofs.Common.{◌≡◌, ℕ, zero, suc, ◌<◌, Bool, true, IsTrue, Option, Some, None, List, [], ◌∷◌, length, map, slice_get, inl, inr, refl, sym, ◌∙◌, ap, subst, arith}
+use Rattle.std.proofs.Common.{◌≡◌, ℕ, zero, suc, ◌<◌, Bool, true, false, IsTrue, Option, Some, None, List, [], ◌∷◌, length, map, slice_get, inl, inr, refl, sym, ◌∙◌, ap, subst, arith}
 use Rattle.std.proofs.lemmas.Bool.{not-false}
 use Rattle.mdb_base.specs.declared.names.SiteId.{SiteId}
 use Rattle.mdb_base.specs.Words.{Each}
@@ -18,6 +18,7 @@ use Rattle.fed_rules.specs.Story.{Story, coord_past, coord_requested, happens, p
 use Rattle.journal_disk.specs.Disk.{Seen}
 use Rattle.actor_store.specs.declared.errors.StepErr.TheVariants as Step_err
 use Rattle.actor_store.specs.Store.{is_up, stored}
+use Rattle.actor_store.proofs.FromLaws.{all_written}
 use Rattle.closing_laws.specs.AtRest.{IsAtRest}
 use Rattle.fed_rules.specs.CoordPast.{CoordPast}
 use Rattle.fed_rules.specs.CoordPast as Coordinator
@@ -28,15 +29,20 @@ use Rattle.any_engine.specs.declared.engine.AnyEngine.{AnyEngine}
 use Rattle.local_dbms.specs.declared.dbms.LocalDbms.{LocalDbms}
 use Rattle.local_dbms.specs.Stands as Dbms
 use Rattle.local_dbms.specs.Stands.{own_programs}
+use Rattle.site_core.specs.Made.{was_found}
 use Rattle.site_core.specs.Stands.{stopped_past}
+use Rattle.coord_core.specs.Found as Coord_found
 use Rattle.fed_world.specs.declared.world.World.{World}
 use Rattle.fed_world.specs.Asks.{terms_of}
 use Rattle.fed_world.specs.Faults.{RisesAt, faults_of}
-use Rattle.fed_world.specs.Worlds.{AreDisks, CoordinatorBroke, DbmsStands, IsBroken, ManagerStands, SiteBroke, Stands, StandsBut}
+use Rattle.fed_world.specs.FreshWorlds.{AreDisks, CoordinatorBroke, IsBroken, SiteBroke, Stands}
+use Rattle.fed_world.specs.Worlds.{DbmsStands, ManagerStands, StandsBut}
 use Rattle.fed_world.specs.SettingUp.{EmptyBut, IsSetUp, StopsForDisk, StopsForMemory}
 use Rattle.session_outputs.specs.Breaks.{BreaksAtNext, BreaksSetUp, CoordinatorStops, SiteStops}
-use Rattle.session_outputs.specs.Disks.{AreSetUp, CoordHolds, HoldAll, HoldFrames, HoldOthers, HoldsAt, NothingBut, SiteHolds, frames_at, site_frames}
+use Rattle.left_disks.specs.Holding.{CoordHolds, HoldAll, HoldOthers, HoldsAt, SiteHolds}
+use Rattle.session_outputs.specs.Disks.{AreSetUp, HoldFrames, NothingBut, frames_at, site_frames}
 use Rattle.session_outputs.specs.Outcomes.{StartsShort}
+use Rattle.session_outputs.proofs.NotFound.{before_not_found, coord_not_found, site_not_found, stopped_not_found, within_not_found}
 use Rattle.session_outputs.proofs.Recalled.{site_held}
 use Rattle.session_outputs.proofs.Stores.{coord_bytes, coord_whole, site_bytes, site_whole}
 
@@ -62,16 +68,17 @@ numbered scenario n home declared = ap (λ (s : SiteId). s.0) (its-site scenario
 
 -- that of an actor that stands for its past
 coord_holds : (tells : Bool) (disks : List Seen) (manager : GlobalManager AnyPolicy) (scenario : Scenario) (story : Story) (seen : Seen)
-    → ManagerStands tells disks manager (terms_of scenario) (global_program scenario) (coord_past story) → slice_get disks 0 ≡ Some seen → CoordHolds seen.image (coord_past story)
-coord_holds tells disks manager scenario story seen m at =
+    → Coord_found.was_found (coord_past story) ≡ false → ManagerStands tells disks manager (terms_of scenario) (global_program scenario) (coord_past story) → slice_get disks 0 ≡ Some seen
+    → CoordHolds seen.image (coord_past story)
+coord_holds tells disks manager scenario story seen new m at =
     subst (λ (s : Seen). CoordHolds s.image (coord_past story)) (one_at disks 0 m.disk seen m.own at)
-    (coord_bytes tells m.disk (stored manager.core.store) (Coordinator.disk (coord_past story)) _ m.holds.core.stored)
+    (coord_bytes tells m.disk (stored manager.core.store) (Coordinator.disk (coord_past story)) _ (all_written new m.holds.core.stored))
 
 site_holds : (tells : Bool) (disks : List Seen) (dbms : LocalDbms AnyEngine) (scenario : Scenario) (home : Home) (past : SitePast) (seen : Seen)
-    → DbmsStands tells disks dbms home (own_programs home.site scenario.transactions) past → slice_get disks home.site.0 ≡ Some seen → SiteHolds seen.image home past
-site_holds tells disks dbms scenario home past seen d at =
+    → was_found past ≡ false → DbmsStands tells disks dbms home (own_programs home.site scenario.transactions) past → slice_get disks home.site.0 ≡ Some seen → SiteHolds seen.image home past
+site_holds tells disks dbms scenario home past seen new d at =
     subst (λ (s : Seen). SiteHolds s.image home past) (one_at disks home.site.0 d.disk seen d.own at)
-    (site_bytes tells d.disk (stored dbms.core.store) (disk home past) _ d.holds.core.stored)
+    (site_bytes tells d.disk (stored dbms.core.store) (disk home past) _ (all_written new d.holds.core.stored))
 
 -- a disk of no size has no byte
 no_byte : (disks : List Seen) (place : ℕ) (seen : Seen) → AreSized disks → slice_get disks place ≡ Some seen → seen.size ≡ 0 → seen.image.bytes ≡ []
@@ -80,7 +87,7 @@ no_byte disks place seen sized at none = nothing_left seen.image.bytes (sized pl
 pub stands_hold_all : (tells : Bool) (world : World) (disks : List Seen) (scenario : Scenario) (commands : List Command) → AreSized disks → Stands tells world disks scenario commands
     → HoldAll disks scenario (story_of scenario commands)
 stands_hold_all tells world disks scenario commands sized s zero seen at =
-    coord_holds tells disks world.cores.coordinator scenario (story_of scenario commands) seen s.stand.actors.coordinator at
+    coord_holds tells disks world.cores.coordinator scenario (story_of scenario commands) seen (coord_not_found scenario commands) s.stand.actors.coordinator at
 stands_hold_all tells world disks scenario commands sized s (suc n) seen at = by_home (home_of scenario (record { 0 = suc n })) refl
   where
     by_home : (o : Option Home) → home_of scenario (record { 0 = suc n }) ≡ o → HoldsAt seen.image o (story_of scenario commands)
@@ -88,7 +95,7 @@ stands_hold_all tells world disks scenario commands sized s (suc n) seen at = by
     by_home (Some home) e =
         let held = site_held (DbmsStands tells disks) world.cores.sites.items.items world.cores.marks.items world.traffic.items scenario (story_of scenario commands) home
         (home-again scenario (record { 0 = suc n }) home e) s.stand.actors.sites in
-        site_holds tells disks held.dbms scenario home (past_of home.site (story_of scenario commands)) seen held.holds
+        site_holds tells disks held.dbms scenario home (past_of home.site (story_of scenario commands)) seen (site_not_found scenario commands home (home-again scenario (record { 0 = suc n }) home e)) held.holds
         (subst (λ k. slice_get disks k ≡ Some seen) (sym (numbered scenario (suc n) home e)) at)
 
 -- at rest each holds the frames of its actor's records alone
@@ -99,7 +106,7 @@ stands_hold_frames tells world disks scenario commands told sized rest s zero se
     let store = world.cores.coordinator.core.store in
     let up : is_up store.standing ≡ true = not-false (is_up store.standing) (sym m.holds.core.holds.standing ∙ rest.coordinator_up) in
     subst (λ (x : Seen). x.image.bytes ≡ frames_at scenario (story_of scenario commands) 0) (one_at disks 0 m.disk seen m.own at)
-    (coord_whole tells m.disk (stored store) (Coordinator.disk (coord_past (story_of scenario commands))) _ told (sized 0 m.disk m.own) up m.holds.core.stored)
+    (coord_whole tells m.disk (stored store) (Coordinator.disk (coord_past (story_of scenario commands))) _ told (sized 0 m.disk m.own) up (all_written (coord_not_found scenario commands) m.holds.core.stored))
 stands_hold_frames tells world disks scenario commands told sized rest s (suc n) seen at = by_home (home_of scenario (record { 0 = suc n })) refl
   where
     by_home : (o : Option Home) → home_of scenario (record { 0 = suc n }) ≡ o → seen.image.bytes ≡ site_frames o (story_of scenario commands)
@@ -112,24 +119,24 @@ stands_hold_frames tells world disks scenario commands told sized rest s (suc n)
         let up : is_up store.standing ≡ true = not-false (is_up store.standing) (sym d.holds.core.holds.memory.standing ∙ rest.sites_up home.site) in
         let there : slice_get disks home.site.0 ≡ Some seen = subst (λ k. slice_get disks k ≡ Some seen) (sym (numbered scenario (suc n) home e)) at in
         subst (λ (x : Seen). x.image.bytes ≡ site_frames (Some home) (story_of scenario commands)) (one_at disks home.site.0 d.disk seen d.own there)
-        (site_whole tells d.disk (stored store) (disk home (past_of home.site (story_of scenario commands))) _ told (sized home.site.0 d.disk d.own) up d.holds.core.stored)
+        (site_whole tells d.disk (stored store) (disk home (past_of home.site (story_of scenario commands))) _ told (sized home.site.0 d.disk d.own) up (all_written (site_not_found scenario commands home (home-again scenario (record { 0 = suc n }) home e)) d.holds.core.stored))
 
 -- ---- a call of a disk failed at a command
 
 -- what the coordinator's disk holds then
-module _ (tells : Bool) (manager : GlobalManager AnyPolicy) (disks : List Seen) (scenario : Scenario) (story : Story) (seen : Seen) (at : slice_get disks 0 ≡ Some seen) where
-  coord_past_holds : (past : CoordPast) → ManagerStands tells disks manager (terms_of scenario) (global_program scenario) past → CoordHolds seen.image past
-  coord_past_holds past m =
-      subst (λ (s : Seen). CoordHolds s.image past) (one_at disks 0 m.disk seen m.own at) (coord_bytes tells m.disk (stored manager.core.store) (Coordinator.disk past) _ m.holds.core.stored)
+module _ (tells : Bool) (manager : GlobalManager AnyPolicy) (disks : List Seen) (scenario : Scenario) (story : Story) (seen : Seen) (at : slice_get disks 0 ≡ Some seen) (new : Coord_found.was_found (coord_past story) ≡ false) where
+  coord_past_holds : (past : CoordPast) → Coord_found.was_found past ≡ false → ManagerStands tells disks manager (terms_of scenario) (global_program scenario) past → CoordHolds seen.image past
+  coord_past_holds past begun m =
+      subst (λ (s : Seen). CoordHolds s.image past) (one_at disks 0 m.disk seen m.own at) (coord_bytes tells m.disk (stored manager.core.store) (Coordinator.disk past) _ (all_written begun m.holds.core.stored))
 
   pub coord_stops : (command : Command) (asked : Request CoordEvent) → happens scenario story command ≡ coord_requested scenario story asked
       → Manager.Fails (ManagerStands tells disks manager) Step_err.Disk (terms_of scenario) (global_program scenario) (coord_past story) asked → CoordinatorStops seen.image command scenario story
   coord_stops command (Declines answer) e f = absurd f
-  coord_stops command (Submits event) e (inl before) = record { event = event; happens = e; stop = inl (before.cut, coord_past_holds _ before.stood) }
-  coord_stops command (Submits event) e (inr within) = record { event = event; happens = e; stop = inr (within.calls, within.cut, within.stops, coord_past_holds _ within.stood) }
+  coord_stops command (Submits event) e (inl before) = record { event = event; happens = e; stop = inl (before.cut, coord_past_holds _ (before_not_found (terms_of scenario) (coord_past story) before.cut new) before.stood) }
+  coord_stops command (Submits event) e (inr within) = record { event = event; happens = e; stop = inr (within.calls, within.cut, within.stops, coord_past_holds _ (within_not_found (terms_of scenario) (coord_past story) event within.calls within.cut new) within.stood) }
 
 -- what a site's disk holds then
-module _ (tells : Bool) (dbms : LocalDbms AnyEngine) (disks : List Seen) (scenario : Scenario) (story : Story) (home : Home) (seen : Seen) (at : slice_get disks home.site.0 ≡ Some seen) where
+module _ (tells : Bool) (dbms : LocalDbms AnyEngine) (disks : List Seen) (scenario : Scenario) (story : Story) (home : Home) (seen : Seen) (at : slice_get disks home.site.0 ≡ Some seen) (new : was_found (past_of home.site story) ≡ false) where
   site_stops : (command : Command) (asked : Request SiteEvent) (number : ℕ) → number ≡ home.site.0 → home_of scenario home.site ≡ Some home → happens scenario story command ≡ requested home story asked
       → Dbms.Fails (DbmsStands tells disks dbms) Step_err.Disk home (own_programs home.site scenario.transactions) (past_of home.site story) asked → SiteStops number seen.image command scenario story
   site_stops command (Declines answer) number n declared e f = absurd f
@@ -139,7 +146,7 @@ module _ (tells : Bool) (dbms : LocalDbms AnyEngine) (disks : List Seen) (scenar
     number_is = n;
     event = event;
     happens = e;
-    stop = (f.0, site_holds tells disks dbms scenario home (stopped_past home (past_of home.site story) event f.0) seen f.1 at, f.2);
+    stop = (f.0, site_holds tells disks dbms scenario home (stopped_past home (past_of home.site story) event f.0) seen (stopped_not_found home (past_of home.site story) event f.0 new) f.1 at, f.2);
   }
 
   -- some disk of this number is there
@@ -167,7 +174,7 @@ coord_breaks tells world old disks command scenario commands sized are rose b = 
         by_home (Some home) e =
             let held = site_held (DbmsStands tells disks) world.cores.sites.items.items world.cores.marks.items world.traffic.items scenario (story_of scenario commands) home
             (home-again scenario (record { 0 = suc n }) home e) b.sites in
-            site_holds tells disks held.dbms scenario home (past_of home.site (story_of scenario commands)) seen held.holds
+            site_holds tells disks held.dbms scenario home (past_of home.site (story_of scenario commands)) seen (site_not_found scenario commands home (home-again scenario (record { 0 = suc n }) home e)) held.holds
             (subst (λ k. slice_get disks k ≡ Some seen) (sym (numbered scenario (suc n) home e)) at)
 
     by_disk : (seen : Seen) × (slice_get disks 0 ≡ Some seen) → BreaksAtNext 0 old disks command scenario (story_of scenario commands)
@@ -175,7 +182,7 @@ coord_breaks tells world old disks command scenario commands sized are rose b = 
       rose = rose;
       disk = seen;
       own = at;
-      stop = coord_stops tells world.cores.coordinator disks scenario (story_of scenario commands) seen at command b.asked b.happens b.coordinator;
+      stop = coord_stops tells world.cores.coordinator disks scenario (story_of scenario commands) seen at (coord_not_found scenario commands) command b.asked b.happens b.coordinator;
       others = others;
     }
 
@@ -188,7 +195,7 @@ site_breaks n tells world old disks command scenario commands sized are rose b =
     story = story_of scenario commands
 
     others : HoldOthers (suc n) disks scenario story
-    others zero seen at apart = coord_holds tells disks world.cores.coordinator scenario story seen b.coordinator at
+    others zero seen at apart = coord_holds tells disks world.cores.coordinator scenario story seen (coord_not_found scenario commands) b.coordinator at
     others (suc k) seen at apart = by_home (home_of scenario (record { 0 = suc k })) refl
       where
         by_home : (o : Option Home) → home_of scenario (record { 0 = suc k }) ≡ o → HoldsAt seen.image o story
@@ -197,7 +204,7 @@ site_breaks n tells world old disks command scenario commands sized are rose b =
             let held = site_held (StandsBut (suc n) tells disks) world.cores.sites.items.items world.cores.marks.items world.traffic.items scenario story home
             (home-again scenario (record { 0 = suc k }) home e) b.sites in
             let own : home.site.0 ≡ suc k = numbered scenario (suc k) home e in
-            site_holds tells disks held.dbms scenario home (past_of home.site story) seen (held.holds (λ same. apart (sym own ∙ same)))
+            site_holds tells disks held.dbms scenario home (past_of home.site story) seen (site_not_found scenario commands home (home-again scenario (record { 0 = suc k }) home e)) (held.holds (λ same. apart (sym own ∙ same)))
             (subst (λ m. slice_get disks m ≡ Some seen) (sym own) at)
 
     by_asked : (asked : Request SiteEvent) → happens scenario story command ≡ requested b.home story asked
@@ -209,7 +216,7 @@ site_breaks n tells world old disks command scenario commands sized are rose b =
           rose = rose;
           disk = d.disk;
           own = subst (λ k. slice_get disks k ≡ Some d.disk) (sym b.number_is) d.own;
-          stop = site_stops_at tells b.dbms disks scenario story b.home d.disk d.own command (Submits event) (suc n) b.number_is b.declared e f;
+          stop = site_stops_at tells b.dbms disks scenario story b.home d.disk d.own (site_not_found scenario commands b.home b.declared) command (Submits event) (suc n) b.number_is b.declared e f;
           others = others;
         }
 
@@ -231,7 +238,7 @@ set_up_hold tells disks scenario done each site seen i at =
     let same : s.home.site ≡ site = its-site scenario site s.home s.declared in
     let stood : DbmsStands tells disks s.dbms s.home (own_programs s.home.site scenario.transactions) [] = subst (λ (x : SiteId). DbmsStands tells disks s.dbms s.home (own_programs x scenario.transactions) []) (sym same) s.stood in
     subst (λ (o : Option Home). HoldsAt seen.image o []) (sym s.declared)
-    (site_holds tells disks s.dbms scenario s.home [] seen stood (subst (λ (x : SiteId). slice_get disks x.0 ≡ Some seen) (sym same) at))
+    (site_holds tells disks s.dbms scenario s.home [] seen refl stood (subst (λ (x : SiteId). slice_get disks x.0 ≡ Some seen) (sym same) at))
 
 empty_nothing : (disks : List Seen) (done : List SiteId) → AreSized disks → EmptyBut done disks → NothingBut done disks
 empty_nothing disks done sized empty number seen at apart = no_byte disks number seen sized at (empty number seen at apart)

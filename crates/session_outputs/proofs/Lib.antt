@@ -1,6 +1,7 @@
 mod Again
 mod Ending
 mod Holding
+mod NotFound
 mod HostsHeard
 mod MakeLemmas
 mod OutputLemmas

@@ -1,14 +1,17 @@
 -- The output of a made scenario: what its end says, as the disks see it.
-use Rattle.std.proofs.Common.{◌≡◌, ℕ, Bool, IsTrue, Result, Ok, Err, List, [], ◌++◌, ◌∙◌}
+use Rattle.std.proofs.Common.{◌≡◌, ℕ, Bool, IsTrue, Result, Ok, Err, List, [], ◌++◌, reverse, ◌∙◌}
 use Rattle.mdb_base.specs.declared.names.Memory.{Memory}
 use Rattle.fed_rules.specs.declared.commands.Command.{Command}
 use Rattle.fed_rules.specs.declared.commands.Line.{Line}
 use Rattle.fed_rules.specs.declared.scenario.Scenario.{Scenario}
 use Rattle.fed_rules.specs.Headline.{Headline, OfStories}
+use Rattle.fed_rules.specs.Sessions.{fresh}
 use Rattle.fed_rules.specs.Story.{story_of}
 use Rattle.journal_disk.specs.Disk.{Seen}
 use Rattle.fed_world.specs.declared.world.World.{World}
-use Rattle.fed_world.specs.Worlds.{EachStory, Recalls, Rests}
+use Rattle.fed_world.specs.FreshWorlds.{Recalls, Rests}
+use Rattle.fed_world.specs.Worlds.{EachStory}
+use Rattle.fed_world.proofs.RightLines.{right_fresh}
 use Rattle.fed_rules.specs.Right.{AreLines}
 use Rattle.host_laws.specs.Merged.{commands_of}
 use Rattle.made_laws.specs.Summaries.{MadeLinesAreFixed}
@@ -41,7 +44,7 @@ made_output tells old new asked headlines everywhere fixed ends can told sized w
     let unchecked =
     ends scenario (host_commands e.merged)
     (hosts_unchecked scenario e.hosts.coordinator e.hosts.logs e.hosts.lists e.merged e.hosts.run.logged e.hosts.run.listed e.hosts.run.traced) in
-    let summed = p scenario commands (recalls tells world new scenario commands e.stands) e.finished.rest in
+    let summed = p scenario commands (recalls tells world new (fresh scenario) commands e.stands) e.finished.rest in
     record {
       merged = e.merged;
       hosts = e.hosts;
@@ -77,4 +80,4 @@ module _ (tells : Bool) (old new : List Seen) (asked : Making) (sized : AreSized
       let scenario = made_scenario asked in
       let lines = world.lines.items in
       let has = b.breaks.broken.has in
-      named (before tells old new scenario number world b) lines (record { commands_are = has.commands_are; right = has.right }) (off_breaks tells old new scenario number world b sized lines) r
+      named (before tells old new scenario number world b) lines (record { commands_are = has.commands_are; right = right_fresh scenario (reverse lines) has.right }) (off_breaks tells old new scenario number world b sized lines) r

@@ -5,15 +5,16 @@ use Rattle.fed_rules.specs.declared.commands.Line.{Line}
 use Rattle.fed_rules.specs.declared.scenario.Scenario.{Scenario}
 use Rattle.journal_disk.specs.Disk.{Seen}
 use Rattle.mdb_base.specs.declared.names.Memory.{Memory}
-use Rattle.closing.specs.Towards as towards
+use Rattle.closing.specs.FreshTowards as towards
 use Rattle.fed_world.specs.declared.world.World.{World}
 use Rattle.fed_world.specs.Faults.{RisesAt, faults_of}
 use Rattle.fed_rules.specs.Right.{AreLines}
 use Rattle.scenario_text.specs.declared.session.Session.{Session}
 use Rattle.line_text.specs.Spelling.{lines_bytes}
+use Rattle.left_disks.specs.Holding.{HoldAll}
 use Rattle.session_outputs.specs.declared.output.Output.{Output}
 use Rattle.session_outputs.specs.declared.output.Output.TheVariants.{Whole, Broken}
-use Rattle.session_outputs.specs.Disks.{HoldAll, HoldFrames}
+use Rattle.session_outputs.specs.Disks.{HoldFrames}
 use Rattle.session_outputs.specs.Outcomes.{AreUnrefused}
 use Rattle.session_outputs.specs.Outputs.{IfBroken, IfWhole, IsOutput}
 use Rattle.session_outputs.specs.Plays.{IsPrinted, closed_with}

@@ -14,7 +14,9 @@ use Rattle.fed_rules.specs.declared.scenario.Scenario.{Scenario}
 use Rattle.fed_rules.specs.declared.scenario.SiteLine.{SiteLine}
 use Rattle.fed_rules.specs.Closing.{closed}
 use Rattle.fed_rules.specs.Plans.{IsScenario, is_actor}
-use Rattle.closing.specs.Steps.{FitWith, with_commands}
+use Rattle.fed_rules.specs.Sessions.{fresh}
+use Rattle.closing.specs.FreshTowards.{FitWith}
+use Rattle.closing.specs.Steps.{with_commands}
 use Rattle.closing.proofs.Loops.{each_extends}
 use Rattle.closing.proofs.Parts.{fifth, fifth_in, fifth_on}
 use Rattle.closing.proofs.Towards.{Extends, extends_one, extends_twice}
@@ -32,7 +34,8 @@ push command commands = command ∷ commands
 
 -- a closed session ends with its own commands
 pub closed_on : (scenario : Scenario) (commands : List Command) → Extends (closed scenario commands) commands
-closed_on scenario commands = extends_twice commands (fifth scenario commands) (closed scenario commands) (fifth_in scenario commands) (fifth_on scenario commands)
+closed_on scenario commands =
+    let session = fresh scenario in extends_twice commands (fifth session commands) (closed scenario commands) (fifth_in session commands) (fifth_on session commands)
 
 -- commands behind others end with these
 pub with_extends : (more commands : List Command) → Extends (with_commands more commands) commands

@@ -6,6 +6,7 @@ use Rattle.order_laws.specs.Chains.{In}
 use Rattle.federation_laws.proofs.Declared.{declared-in}
 use Rattle.fed_rules.specs.declared.scenario.Scenario.{Scenario}
 use Rattle.fed_rules.specs.Scenarios.{home_of, sites}
+use Rattle.fed_rules.specs.Sessions.{fresh}
 use Rattle.fed_rules.specs.SiteRecords.{Home}
 use Rattle.fed_rules.specs.Story.{Story, past_of}
 use Rattle.any_engine.specs.declared.engine.AnyEngine.{AnyEngine}
@@ -31,7 +32,7 @@ pub record HeldAt (K : OfDbms) (scenario : Scenario) (home : Home) (story : Stor
   pub holds : K dbms home (own_programs home.site scenario.transactions) (past_of home.site story)
 
 pub site_held : (K : OfDbms) (cores : List (LocalDbms AnyEngine)) (marks : List Marks) (channels : List Traffic) (scenario : Scenario) (story : Story) (home : Home)
-    → home_of scenario home.site ≡ Some home → SitesAt K cores marks channels scenario story → HeldAt K scenario home story
+    → home_of scenario home.site ≡ Some home → SitesAt K cores marks channels (fresh scenario) story → HeldAt K scenario home story
 site_held K cores marks channels scenario story home declared s = by_place (place_in (sites scenario) home.site (declared-in scenario home.site home declared))
   where
     by_place : (place : ℕ) × (slice_get (sites scenario) place ≡ Some home.site) → HeldAt K scenario home story

@@ -1,4 +1,4 @@
--- What is on the disk of an actor's store: the bytes of the rules, and while the actor is up the frames of its records alone.
+-- What is on the disk of an actor's store: the bytes of the rules, of records of the format, and while the actor is up the frames of its records alone.
 use Rattle.std.proofs.Common.{◌≡◌, ℕ, Bool, true, false, IsTrue, Option, Some, List, [], ◌∷◌, ◌++◌, length, map, reverse, refl, sym, ◌∙◌, ap, subst, arith}
 use Rattle.std.proofs.lemmas.List.{append-nil, length-append}
 use Rattle.mdb_base.proofs.JoinLaws.{nothing_left}
@@ -13,6 +13,7 @@ use Rattle.journal_disk.specs.Frames.{Frame, frames}
 use Rattle.frame_journal.specs.Records.{AreRecordsOf, as_written, entry_frame, spelled, spelled_size}
 use Rattle.frame_journal.proofs.Keeping.{length-frames, none_is_part, not_torn}
 use Rattle.journal_rules.specs.Stands.{CountsFrames, record_frame}
+use Rattle.journal_rules.proofs.Journals.{all_standing}
 use Rattle.journal_rules.proofs.Keeps.{journal_stands}
 use Rattle.actor_store.specs.declared.store.Standing.{Standing}
 use Rattle.actor_store.specs.declared.store.Standing.TheVariants.{Up, Down, Failing}
@@ -24,17 +25,22 @@ use Rattle.coord_journal.specs.Spelling as of_coordinator
 use Rattle.site_journal.specs.Exact as site_exact
 use Rattle.site_journal.specs.Frames as site_frames
 use Rattle.site_journal.specs.Spelling as of_site
+use Rattle.left_disks.specs.Holding.{HoldsRecords}
 
 module _ {R : Type 0} (spelling : R → List ℕ) (reading : List ℕ → Option R) (is_record : R → Type 0) (frame_bytes : R → ℕ) (counts : CountsFrames spelling frame_bytes) (again : (entry : R) → is_record entry → reading (spelling entry) ≡ Some entry) where
-  -- the bytes on a store's disk are those of the rules
-  holds_bytes : (tells : Bool) (seen : Seen) (store : Stored R) (rules : Disk R) (trip : Option Trip) → Keeps spelling is_record frame_bytes tells seen store rules trip → HoldsBytes spelling frame_bytes seen.image rules
-  holds_bytes tells seen store rules trip k =
+  -- the bytes on a store's disk are those of the rules, and each record is one of the format
+  holds_records : (tells : Bool) (seen : Seen) (store : Stored R) (rules : Disk R) (trip : Option Trip) → Keeps spelling is_record frame_bytes tells seen store rules trip
+      → HoldsRecords spelling is_record frame_bytes seen.image rules
+  holds_records tells seen store rules trip k =
       let same = taken_bytes store.standing seen.image in
       let all = sizes spelling reading is_record frame_bytes counts again (taken_as store.standing seen.image) rules k.stands in
       record {
-        records = subst (λ (bytes : List ℕ). AreRecordsOf (record_frame spelling) bytes (reverse (journal frame_bytes rules))) same
-            (journal_stands spelling frame_bytes counts (taken_as store.standing seen.image) rules k.stands);
-        bytes = omega (arith, all.0, ap length same);
+        bytes = record {
+          records = subst (λ (bytes : List ℕ). AreRecordsOf (record_frame spelling) bytes (reverse (journal frame_bytes rules))) same
+              (journal_stands spelling frame_bytes counts (taken_as store.standing seen.image) rules k.stands);
+          bytes = omega (arith, all.0, ap length same);
+        };
+        format = all_standing is_record frame_bytes rules.trimmed rules.records k.written;
       }
 
   -- the frames of entries as they are written are those of their records
@@ -65,8 +71,8 @@ module _ {R : Type 0} (spelling : R → List ℕ) (reading : List ℕ → Option
 
 -- of the coordinator
 pub coord_bytes : (tells : Bool) (seen : Seen) (store : Stored CoordRecord) (rules : Disk CoordRecord) (trip : Option Trip) → Keeps of_coordinator.spelling of_coordinator.IsRecord coord_frame tells seen store rules trip
-    → HoldsBytes of_coordinator.spelling coord_frame seen.image rules
-coord_bytes = holds_bytes of_coordinator.spelling of_coordinator.reading of_coordinator.IsRecord coord_frame coord_frames.frame_has_size coord_exact.spelled_is_read
+    → HoldsRecords of_coordinator.spelling of_coordinator.IsRecord coord_frame seen.image rules
+coord_bytes = holds_records of_coordinator.spelling of_coordinator.reading of_coordinator.IsRecord coord_frame coord_frames.frame_has_size coord_exact.spelled_is_read
 
 pub coord_whole : (tells : Bool) (seen : Seen) (store : Stored CoordRecord) (rules : Disk CoordRecord) (trip : Option Trip) → IsTrue tells → length seen.image.bytes ≡ seen.size → is_up store.standing ≡ true
     → Keeps of_coordinator.spelling of_coordinator.IsRecord coord_frame tells seen store rules trip
@@ -75,8 +81,8 @@ coord_whole = holds_frames of_coordinator.spelling of_coordinator.reading of_coo
 
 -- and of a site
 pub site_bytes : (tells : Bool) (seen : Seen) (store : Stored SiteRecord) (rules : Disk SiteRecord) (trip : Option Trip) → Keeps of_site.spelling of_site.IsRecord site_frame tells seen store rules trip
-    → HoldsBytes of_site.spelling site_frame seen.image rules
-site_bytes = holds_bytes of_site.spelling of_site.reading of_site.IsRecord site_frame site_frames.frame_has_size site_exact.spelled_is_read
+    → HoldsRecords of_site.spelling of_site.IsRecord site_frame seen.image rules
+site_bytes = holds_records of_site.spelling of_site.reading of_site.IsRecord site_frame site_frames.frame_has_size site_exact.spelled_is_read
 
 pub site_whole : (tells : Bool) (seen : Seen) (store : Stored SiteRecord) (rules : Disk SiteRecord) (trip : Option Trip) → IsTrue tells → length seen.image.bytes ≡ seen.size → is_up store.standing ≡ true
     → Keeps of_site.spelling of_site.IsRecord site_frame tells seen store rules trip → seen.image.bytes ≡ spelled (record_frame of_site.spelling) (reverse (journal site_frame rules))

@@ -19,7 +19,8 @@ use Rattle.site_core.specs.Stands.{StopAt, stopped_past}
 use Rattle.site_core.specs.Store.{SomeStop}
 use Rattle.fed_world.specs.Asks.{terms_of}
 use Rattle.fed_world.specs.Faults.{RisesAt}
-use Rattle.session_outputs.specs.Disks.{AreSetUp, CoordHolds, HoldOthers, NothingBut, SiteHolds}
+use Rattle.left_disks.specs.Holding.{CoordHolds, HoldOthers, SiteHolds}
+use Rattle.session_outputs.specs.Disks.{AreSetUp, NothingBut}
 
 -- the coordinator's disk holds what a stop before the event leaves
 abbrev pub StopsBefore : Image → Terms → CoordPast → Type 0

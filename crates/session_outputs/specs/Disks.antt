@@ -6,18 +6,16 @@ use Rattle.order_laws.specs.Chains.{In}
 use Rattle.fed_rules.specs.declared.scenario.Scenario.{Scenario}
 use Rattle.fed_rules.specs.CoordPast as Coordinator
 use Rattle.fed_rules.specs.CoordPast.{CoordPast}
-use Rattle.fed_rules.specs.CoordRecords.{coord_frame}
 use Rattle.fed_rules.specs.Scenarios.{home_of}
 use Rattle.fed_rules.specs.SitePast as Site
-use Rattle.fed_rules.specs.SitePast.{SitePast}
-use Rattle.fed_rules.specs.SiteRecords.{Home, site_frame}
+use Rattle.fed_rules.specs.SiteRecords.{Home}
 use Rattle.fed_rules.specs.Story.{Story, coord_past, past_of}
-use Rattle.journal_disk.specs.Disk.{Image, Seen}
+use Rattle.journal_disk.specs.Disk.{Seen}
 use Rattle.frame_journal.specs.Records.{spelled}
 use Rattle.journal_rules.specs.Stands.{record_frame}
-use Rattle.actor_store.specs.Store as actor
 use Rattle.coord_journal.specs.Spelling as of_coordinator
 use Rattle.site_journal.specs.Spelling as of_site
+use Rattle.left_disks.specs.Holding.{HoldsAt}
 
 -- how many bytes each disk has
 abbrev pub sizes_of : List Seen → List ℕ
@@ -52,35 +50,6 @@ frames_at scenario story (suc n) = site_frames (home_of scenario (record { 0 = s
 abbrev pub HoldFrames : List Seen → Scenario → Story → Type 0
 HoldFrames disks scenario story =
     (number : ℕ) (disk : Seen) → slice_get disks number ≡ Some disk → disk.image.bytes ≡ frames_at scenario story number
-
--- ---- what the rules say is on a disk: these frames, synced or not, and where a stop tore the last one its rest behind them
-
--- on the coordinator's
-abbrev pub CoordHolds : Image → CoordPast → Type 0
-CoordHolds image past = actor.HoldsBytes of_coordinator.spelling coord_frame image (Coordinator.disk past)
-
--- on a site's
-abbrev pub SiteHolds : Image → Home → SitePast → Type 0
-SiteHolds image home past = actor.HoldsBytes of_site.spelling site_frame image (Site.disk home past)
-
--- nothing is on that of an undeclared one
-abbrev pub HoldsAt : Image → Option Home → Story → Type 0
-HoldsAt image None story = image.bytes ≡ []
-HoldsAt image (Some home) story = SiteHolds image home (past_of home.site story)
-
--- on the disk of this number
-abbrev pub Holds : Image → Scenario → Story → ℕ → Type 0
-Holds image scenario story zero = CoordHolds image (coord_past story)
-Holds image scenario story (suc n) = HoldsAt image (home_of scenario (record { 0 = suc n })) story
-
--- each disk holds what the rules say
-abbrev pub HoldAll : List Seen → Scenario → Story → Type 0
-HoldAll disks scenario story = (number : ℕ) (disk : Seen) → slice_get disks number ≡ Some disk → Holds disk.image scenario story number
-
--- and so does each but this one
-abbrev pub HoldOthers : ℕ → List Seen → Scenario → Story → Type 0
-HoldOthers broken disks scenario story =
-    (number : ℕ) (disk : Seen) → slice_get disks number ≡ Some disk → (number ≡ broken → ⊥) → Holds disk.image scenario story number
 
 -- ---- while the sites are set up
 

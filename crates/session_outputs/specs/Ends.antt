@@ -8,8 +8,8 @@ use Rattle.closing_laws.specs.Finished.{AllFinished}
 use Rattle.journal_disk.specs.Disk.{Seen}
 use Rattle.fed_world.specs.declared.world.World.{World}
 use Rattle.fed_world.specs.Faults.{RisesAt, faults_of}
-use Rattle.fed_world.specs.Worlds.{Stands}
-use Rattle.closing.specs.Towards.{BreaksAt}
+use Rattle.fed_world.specs.FreshWorlds.{Stands}
+use Rattle.closing.specs.FreshTowards.{BreaksAt}
 use Rattle.federation_run.specs.Running.{HasBroken, HasNotBegun, most_merged}
 use Rattle.session_outputs.specs.declared.threaded.Ended.{Ended}
 use Rattle.session_outputs.specs.declared.threaded.Ended.TheVariants as Is

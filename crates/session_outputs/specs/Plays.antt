@@ -7,8 +7,9 @@ use Rattle.fed_rules.specs.declared.scenario.Scenario.{Scenario}
 use Rattle.fed_rules.specs.Closing.{closed}
 use Rattle.fed_rules.specs.Plans.{IsScenario}
 use Rattle.fed_rules.specs.Story.{story_of}
-use Rattle.closing.specs.Steps.{CanClose, with_commands}
-use Rattle.fed_world.specs.Worlds.{Rests}
+use Rattle.closing.specs.FreshTowards.{CanClose}
+use Rattle.closing.specs.Steps.{with_commands}
+use Rattle.fed_world.specs.FreshWorlds.{Rests}
 use Rattle.fed_rules.specs.Right.{AreLines}
 use Rattle.line_laws.specs.Lines.{IsHeard}
 use Rattle.line_laws.specs.Printed.{printed}

@@ -1,7 +1,8 @@
 //! The output of a made scenario: the summary of its journals, or the disk that failed.
 ghost use Rattle.std.specs.Prelude.{◌≡◌, false, IsTrue, length, map};
 ghost use Rattle.fed_rules.specs.Story.{story_of};
-ghost use Rattle.fed_world.specs.Worlds.{EachStory, Recalls, Rests};
+ghost use Rattle.fed_world.specs.FreshWorlds.{Recalls, Rests};
+ghost use Rattle.fed_world.specs.Worlds.{EachStory};
 ghost use Rattle.report_text.specs.Summaries as summaries;
 ghost use Rattle.session_outputs.specs.Disks.{is_used, sizes_of};
 ghost use Rattle.session_outputs.specs.Makes.{IsMakeable};

@@ -1,7 +1,8 @@
 //! What is to be put: the lines of a session and its report, or the disk that failed.
 ghost use Rattle.std.specs.Prelude.{◌≡◌, ◌++◌, IsTrue, OnOk};
 ghost use Rattle.mdb_base.specs.Words.{Each};
-ghost use Rattle.fed_world.specs.Worlds.{EachStory, Recalls, SomeStory};
+ghost use Rattle.fed_world.specs.FreshWorlds.{Recalls};
+ghost use Rattle.fed_world.specs.Worlds.{EachStory, SomeStory};
 ghost use Rattle.line_text.specs.Fits.{line_fits};
 ghost use Rattle.line_text.specs.Spelling.{lines_bytes};
 ghost use Rattle.session_outputs.specs.Outputs.{IfBroken, IfWhole};
@@ -26,7 +27,7 @@ pub enum Output {
 }
 
 /// Appends the lines, a line feed behind each.
-fn put_lines(lines: &[Line], out: &mut Vec<u8>) -> Result<(), Memory>
+pub fn put_lines(lines: &[Line], out: &mut Vec<u8>) -> Result<(), Memory>
     requires { Each (λ line. IsTrue (line_fits line)) lines.now }
     ensures { OnOk result (out.new.items ≡ out.old.items ++ lines_bytes lines.now) }
 {
@@ -51,7 +52,7 @@ pub(crate) fn printed(alloc: Global, world: &World) -> Result<Output, Memory>
 }
 
 /// These lines, and behind them which disk failed.
-pub(crate) fn broken(alloc: Global, lines: &[Line], number: u8) -> Result<Output, Memory>
+pub fn broken(alloc: Global, lines: &[Line], number: u8) -> Result<Output, Memory>
     requires { Each (λ line. IsTrue (line_fits line)) lines.now }
     ensures { IfBroken result (λ bytes. bytes ≡ lines_bytes lines.now ++ disk_failed_text number) }
 {

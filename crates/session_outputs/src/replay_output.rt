@@ -1,10 +1,11 @@
 //! The output of a session that is replayed: the lines that it makes, and its report, or the disk that failed.
 ghost use Rattle.std.specs.Prelude.{◌≡◌, false, IsTrue, IfErr, OnOk, length, map};
 ghost use Rattle.fed_rules.specs.Plans.{IsScenario};
-ghost use Rattle.closing.specs.Steps.{FitWith, with_commands};
-ghost use Rattle.closing.specs.Towards.{FallsShort, Reaches};
+ghost use Rattle.closing.specs.FreshTowards.{FallsShort, FitWith, Reaches};
+ghost use Rattle.closing.specs.Steps.{with_commands};
 ghost use Rattle.fed_world.specs.Faults.{CountsTell};
-ghost use Rattle.fed_world.specs.Worlds.{SomeStory, Stands};
+ghost use Rattle.fed_world.specs.FreshWorlds.{Stands};
+ghost use Rattle.fed_world.specs.Worlds.{SomeStory};
 ghost use Rattle.scenario_text.specs.Kept.{AreCommands};
 ghost use Rattle.session_outputs.specs.Disks.{is_used, sizes_of};
 ghost use Rattle.session_outputs.specs.Outputs.{IsOutput};

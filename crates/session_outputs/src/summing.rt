@@ -3,7 +3,8 @@ ghost use Rattle.std.specs.Prelude.{◌≡◌, ◌+◌, IfOk, List};
 ghost use Rattle.fed_rules.specs.declared.commands.Command.{Command};
 ghost use Rattle.fed_rules.specs.declared.scenario.Scenario.{Scenario as TheScenario};
 ghost use Rattle.fed_rules.specs.Story.{Story, story_of};
-ghost use Rattle.fed_world.specs.Worlds.{ActorsRecall, EachStory, Recalls, Rests};
+ghost use Rattle.fed_world.specs.FreshWorlds.{ActorsRecall, Recalls, Rests};
+ghost use Rattle.fed_world.specs.Worlds.{EachStory};
 ghost use Rattle.report_text.specs.Summaries as summaries;
 ghost use Rattle.session_outputs.specs.Summing.{line_of};
 

@@ -1,9 +1,10 @@
 //! A scenario that runs in threads: its hosts, then what closes the session, and then what finishes each transaction alone.
 ghost use Rattle.std.specs.Prelude.{◌≡◌, IfErr, IfOk, OnOk, IsTrue, length, map};
-ghost use Rattle.closing.specs.Towards.{FallsShort, Reaches};
+ghost use Rattle.closing.specs.FreshTowards.{FallsShort, Reaches};
 ghost use Rattle.fed_world.specs.Faults.{CountsTell};
 ghost use Rattle.fed_world.specs.SettingUp.{AreEmpty};
-ghost use Rattle.fed_world.specs.Worlds.{SomeStory, Stands};
+ghost use Rattle.fed_world.specs.FreshWorlds.{Stands};
+ghost use Rattle.fed_world.specs.Worlds.{SomeStory};
 ghost use Rattle.session_outputs.specs.Ends.{CanEnd, ComesToEnd};
 ghost use Rattle.session_outputs.specs.Runs.{run_commands};
 

@@ -1,6 +1,6 @@
 use Rattle.std.proofs.Common.{[], ◌∷◌, ◌++◌, List, sym, ap, ◌∙◌}
 use Rattle.mdb_base.specs.declared.names.SiteTicket.{SiteTicket}
-use Rattle.audit_lines.proofs.Voters.{ticket_more, none_more}
+use Rattle.audit_lines.proofs.Candidates.{ticket_more, none_more}
 use Rattle.audit_lines.proofs.votes.tickets_with.Goals as goal
 use Rattle.audit_lines.proofs.votes.tickets_with.Goals.{in-Some+in_ok-push-in-Some, in-None}
 

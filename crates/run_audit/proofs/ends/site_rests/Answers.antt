@@ -5,6 +5,7 @@ use Rattle.commit_laws.proofs.Walks.{undeclared}
 use Rattle.fed_rules.specs.Closing as rules
 use Rattle.fed_rules.specs.SitePast.{live, records}
 use Rattle.fed_rules.specs.SiteRecords.{doubt_of}
+use Rattle.fed_rules.specs.Sessions.{fresh}
 use Rattle.fed_rules.specs.Story.{past_of, story_of}
 use Rattle.rules_laws.proofs.Declared.{its-site}
 use Rattle.site_book.specs.Listing.{Lists}
@@ -14,23 +15,23 @@ use Rattle.run_audit.proofs.ends.site_rests.Goals as goal
 
 pub returns-in_default : goal.returns-in_default
 returns-in_default c = λ scenario commands r.
-    let away = c.in_default.ensures scenario commands r in
+    let away = c.in_default.ensures (fresh scenario) commands r in
     nowhere scenario (story_of scenario commands) c.args.site (undeclared scenario c.args.site commands away) away
 
 pub returns-then-is_down : goal.returns-then-is_down
 returns-then-is_down c = λ scenario commands r.
-    let l = c.in-Some.ensures scenario commands r in
+    let l = c.in-Some.ensures (fresh scenario) commands r in
     stopped scenario (story_of scenario commands) c.args.site (c.if-is_down.ensures l.home _ (c.core-site_core.ensures.held l.home _ _ l.recalls))
 
 pub returns-then-is_armed : goal.returns-then-is_armed
 returns-then-is_armed c = λ scenario commands r.
-    let l = c.in-Some.ensures scenario commands r in
+    let l = c.in-Some.ensures (fresh scenario) commands r in
     let holds = c.core-site_core.ensures.held l.home _ _ l.recalls in
     armed scenario (story_of scenario commands) c.args.site (c.if-is_down.ensures l.home _ holds) (c.if-is_armed.ensures l.home _ holds)
 
 pub returns : goal.returns
 returns c = λ scenario commands r.
-    let l = c.in-Some.ensures scenario commands r in
+    let l = c.in-Some.ensures (fresh scenario) commands r in
     let story = story_of scenario commands in
     let holds = c.core-site_core.ensures.held l.home _ _ l.recalls in
     let up = c.if-is_down.ensures l.home _ holds in

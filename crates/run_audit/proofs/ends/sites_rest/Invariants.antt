@@ -2,7 +2,7 @@ use Rattle.std.proofs.Common.{◌≡◌, List, drop}
 use Rattle.fed_rules.specs.declared.commands.Command.{Command}
 use Rattle.fed_rules.specs.declared.scenario.Scenario.{Scenario}
 use Rattle.fed_rules.specs.Story.{story_of}
-use Rattle.fed_world.specs.Worlds.{Recalls}
+use Rattle.fed_world.specs.FreshWorlds.{Recalls}
 use Rattle.run_audit.specs.Resting.{sites_rest}
 use Rattle.run_audit.proofs.ends.sites_rest.Given as goal
 

@@ -1,5 +1,5 @@
 use Rattle.std.proofs.Common.{Option, ap, map, subst, ◌∙◌, arith}
-use Rattle.fed_world.specs.Worlds.{Stands}
+use Rattle.fed_world.specs.FreshWorlds.{Stands}
 use Rattle.scenario_text.specs.Pieces.{lines}
 use Rattle.audit_text.proofs.Parts.{no_lines, nothing}
 use Rattle.audit_rules.specs.declared.verdict.Verdict.{Verdict}
@@ -10,8 +10,8 @@ use Rattle.run_audit.proofs.lines.check_lines.Goals as goal
 pub check_printed-requires-clause-stood : goal.check_printed-requires-clause-stood
 check_printed-requires-clause-stood g c =
     let r = c.requires.stood in
-    let so = c.loop-rest.invariant.left r.scenario r.commands r.stood r.holds in
-    record { scenario = r.scenario; commands = so.commands; stood = so.stands; holds = has_room _ _ _ _ _ so }
+    let so = c.loop-rest.invariant.left r.session r.commands r.stood r.holds in
+    record { session = r.session; commands = so.commands; stood = so.stands; holds = has_room _ _ _ _ _ so }
 
 pub loop-rest-preserved : goal.loop-rest-preserved
 loop-rest-preserved g c =

@@ -2,7 +2,7 @@ use Rattle.std.proofs.Common.{◌≡◌, ◌+◌, ◌<◌, ◌^◌, List, length
 use Rattle.fed_rules.specs.declared.commands.Command.{Command}
 use Rattle.fed_rules.specs.declared.scenario.Scenario.{Scenario}
 use Rattle.fed_world.specs.Faults.{faults_of}
-use Rattle.fed_world.specs.Worlds.{Stands}
+use Rattle.fed_world.specs.FreshWorlds.{Stands}
 use Rattle.run_audit.specs.Audits.{WillFit, verdict_behind}
 use Rattle.run_audit.proofs.Reached.{HasReached}
 use Rattle.run_audit.proofs.lines.check_lines.Given as goal

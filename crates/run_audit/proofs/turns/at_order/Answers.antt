@@ -15,10 +15,10 @@ pub report_in-requires : goal.report_in-requires
 report_in-requires c =
     let r = c.requires.stood in
     record {
-      scenario = r.scenario;
+      session = r.session;
       commands = r.commands;
       stood = r.stood;
-      holds = (c.quiet_runs_rest.ensures r.scenario r.commands).0 (sym (c.in_ok-is_at_rest.ensures r.scenario r.commands r.stood) ∙ c.if-not-branch.false);
+      holds = (c.quiet_runs_rest.ensures r.session r.commands).0 (sym (c.in_ok-is_at_rest.ensures r.session r.commands r.stood) ∙ c.if-not-branch.false);
     }
 
 pub returns-in-None : goal.returns-in-None

@@ -1,7 +1,8 @@
 use Rattle.std.proofs.Common.{List, Option, map, subst, sym, ap, ◌∙◌}
 use Rattle.mdb_base.specs.declared.names.Tid.{Tid}
+use Rattle.fed_rules.specs.Sessions.{fresh}
 use Rattle.fed_rules.specs.Story.{story_of}
-use Rattle.fed_world.specs.Worlds.{Stands}
+use Rattle.fed_world.specs.FreshWorlds.{Stands}
 use Rattle.fed_world.proofs.Recalled.{recalls}
 use Rattle.scenario_text.specs.Pieces.{lines}
 use Rattle.audit_rules.specs.declared.verdict.What.{What}
@@ -34,11 +35,11 @@ returns-in-Says-clause-turns g c = λ scenario commands s room.
 pub at_order-requires-clause-stood : goal.at_order-requires-clause-stood
 at_order-requires-clause-stood g c =
     let r = c.requires.stood in
-    record { scenario = r.scenario; commands = r.commands; stood = recalls g.D.Disk.tells c.args.world.now (map g.D.Disk.seen c.args.disks.now.items) r.scenario r.commands r.stood; holds = tt }
+    record { session = r.session; commands = r.commands; stood = recalls g.D.Disk.tells c.args.world.now (map g.D.Disk.seen c.args.disks.now.items) (fresh r.session) r.commands r.stood; holds = tt }
 
 pub returns-in-Ok-at_order-clause-turns : goal.returns-in-Ok-at_order-clause-turns
 returns-in-Ok-at_order-clause-turns g c = λ scenario commands s room.
-    c.in-Ok-at_order.ensures scenario commands (recalls g.D.Disk.tells c.args.world.now (map g.D.Disk.seen c.args.disks.now.items) scenario commands s)
+    c.in-Ok-at_order.ensures scenario commands (recalls g.D.Disk.tells c.args.world.now (map g.D.Disk.seen c.args.disks.now.items) (fresh scenario) commands s)
     ∙ order_decides scenario c.args.number (line_of c.args.line) (lines c.args.line.behind.now) (story_of scenario commands) c.as_slice.result.now
     (sym c.in-Ok.ensures ∙ (ap (λ (p : Printed). as_printed p) c.in-Orders.is ∙ ap (λ (tids : List Tid). agreement.Orders tids) (sym c.as_slice.ensures)))
 

@@ -3,7 +3,8 @@ use Rattle.std.proofs.lemmas.List.{take_all}
 use Rattle.std.proofs.lemmas.Result.{err_from_is_err_and}
 use Rattle.fed_rules.specs.declared.commands.Command.{Command}
 use Rattle.fed_rules.specs.declared.commands.Command.TheVariants as Cmd
-use Rattle.fed_world.specs.Worlds.{Stands}
+use Rattle.fed_rules.specs.Sessions.{fresh}
+use Rattle.fed_world.specs.FreshWorlds.{Stands}
 use Rattle.closing.specs.Steps.{with_commands}
 use Rattle.fed_world.proofs.Faults.{failed_later}
 use Rattle.closing.proofs.Loops.{each_extends, each_more, next_begins, room_for}
@@ -23,10 +24,10 @@ apply-requires-clause-stood g c =
     let items = c.args.commands.now in
     let i = c.loop-command.command-index in
     record {
-      scenario = r.scenario;
+      session = fresh r.session;
       commands = with_commands (take i items) r.commands;
-      stood = c.loop-command.invariant.stands r.scenario r.commands r.stood r.holds;
-      holds = room_one (get_or items i none) _ (room_for push extends_one items i none r.commands c.loop-command-test.true r.holds);
+      stood = c.loop-command.invariant.stands r.session r.commands r.stood r.holds;
+      holds = room_one (fresh r.session) (get_or items i none) _ (room_for push extends_one (fresh r.session) items i none r.commands c.loop-command-test.true r.holds);
     }
 
 pub returns-in_err-apply-clause-failed : goal.returns-in_err-apply-clause-failed
@@ -36,10 +37,10 @@ returns-in_err-apply-clause-failed g c =
     let items = c.args.commands.now in
     let i = c.loop-command.command-index in
     let mid = with_commands (take i items) before in
-    let failed = c.in_err-apply.ensures.failed scenario mid (c.loop-command.invariant.stands scenario before s fits) (room_one (get_or items i none) _ (room_for push extends_one items i none before c.loop-command-test.true fits)) in
-    fails_within g.D.Disk.tells c.apply.new.self (map g.D.Disk.seen c.apply.new.disks.items) scenario c.in_err-apply.field-0.0 (with_commands items before) (get_or items i none ∷ mid) mid before
+    let failed = c.in_err-apply.ensures.failed (fresh scenario) mid (c.loop-command.invariant.stands scenario before s fits) (room_one (fresh scenario) (get_or items i none) _ (room_for push extends_one (fresh scenario) items i none before c.loop-command-test.true fits)) in
+    fails_within g.D.Disk.tells c.apply.new.self (map g.D.Disk.seen c.apply.new.disks.items) (fresh scenario) c.in_err-apply.field-0.0 (with_commands items before) (get_or items i none ∷ mid) mid before
     (next_begins push extends_one items i none before c.loop-command-test.true) (each_extends push extends_one (take i items) before)
-    (fails_at g.D.Disk.tells c.apply.new.self (map g.D.Disk.seen c.apply.new.disks.items) scenario c.in_err-apply.field-0.0 (get_or items i none) mid failed))
+    (fails_at g.D.Disk.tells c.apply.new.self (map g.D.Disk.seen c.apply.new.disks.items) (fresh scenario) c.in_err-apply.field-0.0 (get_or items i none) mid failed))
 
 pub returns-in_err-apply-clause-cause : goal.returns-in_err-apply-clause-cause
 returns-in_err-apply-clause-cause g c =
@@ -53,7 +54,7 @@ loop-command-preserved g c =
     record {
       stands = λ scenario before s fits.
           subst (λ more. Stands g.D.Disk.tells c.apply.new.self (map g.D.Disk.seen c.apply.new.disks.items) scenario more) (sym (each_more push items i none before c.loop-command-test.true))
-          (c.in_ok-apply.ensures.applied scenario (with_commands (take i items) before) (c.loop-command.invariant.stands scenario before s fits) (room_one (get_or items i none) _ (room_for push extends_one items i none before c.loop-command-test.true fits)));
+          (c.in_ok-apply.ensures.applied (fresh scenario) (with_commands (take i items) before) (c.loop-command.invariant.stands scenario before s fits) (room_one (fresh scenario) (get_or items i none) _ (room_for push extends_one (fresh scenario) items i none before c.loop-command-test.true fits)));
       calm = c.in_ok-apply.ensures.cause ∙ c.loop-command.invariant.calm;
     }
 

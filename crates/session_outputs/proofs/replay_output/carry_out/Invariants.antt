@@ -2,8 +2,9 @@ use Rattle.std.proofs.Common.{◌≡◌, List, map, take}
 use Rattle.fed_rules.specs.declared.commands.Command.{Command}
 use Rattle.fed_rules.specs.declared.scenario.Scenario.{Scenario}
 use Rattle.fed_world.specs.Faults.{faults_of}
-use Rattle.fed_world.specs.Worlds.{Stands}
-use Rattle.closing.specs.Steps.{FitWith, with_commands}
+use Rattle.fed_world.specs.FreshWorlds.{Stands}
+use Rattle.closing.specs.FreshTowards.{FitWith}
+use Rattle.closing.specs.Steps.{with_commands}
 use Rattle.session_outputs.proofs.replay_output.carry_out.Given as goal
 
 -- the world stands for the commands so far, and no disk failed

@@ -2,13 +2,14 @@ use Rattle.std.proofs.Common.{◌++◌, List, [], map, reverse, inl, inr, refl, 
 use Rattle.std.proofs.lemmas.List.{length-map}
 use Rattle.fed_rules.specs.declared.commands.Command.{Command}
 use Rattle.fed_rules.specs.Plans.{IsScenario}
+use Rattle.fed_rules.specs.Sessions.{fresh}
 use Rattle.fed_world.specs.declared.errors.WorldErr.{WorldErr}
 use Rattle.fed_world.specs.SettingUp.{FailsToStart}
 use Rattle.fed_world.specs.Faults.{FailedAs}
-use Rattle.fed_world.specs.Worlds.{Stands}
+use Rattle.fed_world.specs.FreshWorlds.{Stands}
 use Rattle.fed_world.proofs.Faults.{failed_later}
 use Rattle.fed_world.proofs.Recalled.{recalls}
-use Rattle.closing.specs.Towards.{FailsToward}
+use Rattle.closing.specs.FreshTowards.{FailsToward}
 use Rattle.closing.proofs.World.{nine}
 use Rattle.session_outputs.specs.Plays.{closed_with}
 use Rattle.session_outputs.specs.Sessions.{commands_of}
@@ -49,7 +50,7 @@ pub play-requires-clause-stood : goal.play-requires-clause-stood
 play-requires-clause-stood g c =
     let session = c.args.session in
     record {
-      scenario = session.scenario;
+      session = session.scenario;
       commands = [];
       stood = c.in-Ok.ensures.stands;
       holds = can_play session c.as_slice.result.now c.as_slice.ensures c.requires.commands;
@@ -64,9 +65,9 @@ printed-requires g c =
     let can = can_play session c.as_slice.result.now c.as_slice.ensures c.requires.commands in
     let stood = subst (λ (cs : List Command). Stands disk.tells c.play.new.world (map disk.seen c.play.new.disks.items) session.scenario cs) same (c.in-Ok-play.ensures.played session.scenario [] c.in-Ok.ensures.stands can) in
     record {
-      scenario = session.scenario;
+      session = session.scenario;
       commands = commands_of session;
-      stood = recalls disk.tells c.play.new.world (map disk.seen c.play.new.disks.items) session.scenario (commands_of session) stood;
+      stood = recalls disk.tells c.play.new.world (map disk.seen c.play.new.disks.items) (fresh session.scenario) (commands_of session) stood;
       holds = record {
         whole = whole;
         heard = session_heard session whole c.requires.commands c.closing_is_heard.ensures;
@@ -90,7 +91,7 @@ returns-in-Ok-play-clause-output g c =
     (stands_hold_frames disk.tells c.play.new.world new session.scenario (commands_of session) c.requires.told sized right.at_rest stood)
     (stands_hold_all disk.tells c.play.new.world new session.scenario (commands_of session) sized stood)
     (λ lines are. unrefused c.conservative_lines_refuse_none.ensures.all session.scenario whole (commands_of session) lines are)
-    (whole_weaker c.printed.result _ _ (λ bytes each. each session.scenario (commands_of session) (recalls disk.tells c.play.new.world new session.scenario (commands_of session) stood)) c.printed.ensures)
+    (whole_weaker c.printed.result _ _ (λ bytes each. each session.scenario (commands_of session) (recalls disk.tells c.play.new.world new (fresh session.scenario) (commands_of session) stood)) c.printed.ensures)
 
 pub broken-requires-in-Err-Disk-play : goal.broken-requires-in-Err-Disk-play
 broken-requires-in-Err-Disk-play g c =
@@ -105,7 +106,7 @@ broken-requires-in-Err-Disk-play g c =
     let front = front_before (commands_of session) b.command (b.done ++ []) (b.left, sym same ∙ b.of_whole) in
     lines_fit c.right_lines_fit.ensures session.scenario (b.done ++ []) c.lines.result.now whole
     (front_heard session.scenario.sites (commands_of session) (b.done ++ []) (session_heard session whole c.requires.commands c.closing_is_heard.ensures) front)
-    (c.lines.ensures.right session.scenario (b.done ++ []) b.broken.has)
+    (c.lines.ensures.fresh session.scenario (b.done ++ []) b.broken.has)
 
 pub returns-in-Err-Disk-play-clause-output : goal.returns-in-Err-Disk-play-clause-output
 returns-in-Err-Disk-play-clause-output g c =
@@ -121,8 +122,8 @@ returns-in-Err-Disk-play-clause-output g c =
     let rose = subst (λ (why : WorldErr). FailedAs why old new) c.in-Err-Disk-play.field-0-is
     (failed_later c.in-Err-Disk-play.field-0 old (map disk.seen c.new.new.disks.items) new c.in-Ok.ensures.cause c.in-Err-Disk-play.ensures.cause) in
     broken_output c.broken-in-Err-Disk-play.result old new session c.in-Err-Disk-play.number (b.done ++ []) c.lines.result.now
-    (c.lines.ensures.right session.scenario (b.done ++ []) b.broken.has)
-    (unrefused c.conservative_lines_refuse_none.ensures.all session.scenario c.scenario_is_whole.ensures (b.done ++ []) c.lines.result.now (c.lines.ensures.right session.scenario (b.done ++ []) b.broken.has))
+    (c.lines.ensures.fresh session.scenario (b.done ++ []) b.broken.has)
+    (unrefused c.conservative_lines_refuse_none.ensures.all session.scenario c.scenario_is_whole.ensures (b.done ++ []) c.lines.result.now (c.lines.ensures.fresh session.scenario (b.done ++ []) b.broken.has))
     (play_breaks disk.tells c.play.new.world old new session c.as_slice.result.now same sized c.in-Err-Disk-play.number rose b)
     c.broken-in-Err-Disk-play.ensures
 

@@ -1,7 +1,9 @@
 use Rattle.std.proofs.Common.{map}
 use Rattle.std.proofs.lemmas.Result.{err_from_is_err_and}
+use Rattle.fed_rules.specs.Sessions.{fresh}
 use Rattle.closing.specs.Steps.{with_commands}
 use Rattle.fed_world.proofs.Faults.{told_later}
+use Rattle.closing.proofs.FreshTowards.{fresh_can_close}
 use Rattle.closing.proofs.Towards.{extends_here, fails_within, on_failure, on_success}
 use Rattle.session_outputs.specs.Plays.{closed_with}
 use Rattle.session_outputs.proofs.PlayLemmas.{can_fit, closed_on, with_extends}
@@ -12,10 +14,10 @@ carry_out-requires-clause-stood g c =
     let r = c.requires.stood in
     let more = c.args.commands.now in
     record {
-      scenario = r.scenario;
+      session = r.session;
       commands = r.commands;
       stood = r.stood;
-      holds = can_fit more r.scenario r.commands r.holds;
+      holds = can_fit more r.session r.commands r.holds;
     }
 
 pub returns-in_err-carry_out-clause-failed : goal.returns-in_err-carry_out-clause-failed
@@ -24,19 +26,19 @@ returns-in_err-carry_out-clause-failed g c =
     let more = c.args.commands.now in
     rw (p.1, p.2) (λ scenario before s can.
     let on = closed_on scenario (with_commands more before) in
-    fails_within g.D.Disk.tells c.carry_out.new.world (map g.D.Disk.seen c.carry_out.new.disks.items) scenario c.in_err-carry_out.field-0.0 (closed_with more scenario before) (with_commands more before) before before
+    fails_within g.D.Disk.tells c.carry_out.new.world (map g.D.Disk.seen c.carry_out.new.disks.items) (fresh scenario) c.in_err-carry_out.field-0.0 (closed_with more scenario before) (with_commands more before) before before
     on (extends_here before) (c.in_err-carry_out.ensures.failed scenario before s (can_fit more scenario before can)))
 
 pub close-requires-clause-stood : goal.close-requires-clause-stood
 close-requires-clause-stood g c =
     let r = c.requires.stood in
     let more = c.args.commands.now in
-    let fits = can_fit more r.scenario r.commands r.holds in
+    let fits = can_fit more r.session r.commands r.holds in
     record {
-      scenario = r.scenario;
+      session = fresh r.session;
       commands = with_commands more r.commands;
-      stood = c.in_ok-carry_out.ensures.done r.scenario r.commands r.stood fits;
-      holds = r.holds;
+      stood = c.in_ok-carry_out.ensures.done r.session r.commands r.stood fits;
+      holds = fresh_can_close r.session (with_commands more r.commands) r.holds;
     }
 
 pub returns-clause-played : goal.returns-clause-played
@@ -44,9 +46,9 @@ returns-clause-played g c =
     let more = c.args.commands.now in
     on_success c.close.result
     (λ done scenario before s can.
-    done scenario (with_commands more before)
+    done (fresh scenario) (with_commands more before)
     (c.in_ok-carry_out.ensures.done scenario before s (can_fit more scenario before can))
-    can)
+    (fresh_can_close scenario (with_commands more before) can))
     c.close.ensures.done
 
 pub returns-clause-failed : goal.returns-clause-failed
@@ -54,11 +56,11 @@ returns-clause-failed g c =
     let more = c.args.commands.now in
     on_failure _ _ c.close.result
     (λ why failed scenario before s can.
-    fails_within g.D.Disk.tells c.close.new.world (map g.D.Disk.seen c.close.new.disks.items) scenario why (closed_with more scenario before) (closed_with more scenario before) (with_commands more before) before
+    fails_within g.D.Disk.tells c.close.new.world (map g.D.Disk.seen c.close.new.disks.items) (fresh scenario) why (closed_with more scenario before) (closed_with more scenario before) (with_commands more before) before
     (extends_here (closed_with more scenario before)) (with_extends more before)
-    (failed scenario (with_commands more before)
+    (failed (fresh scenario) (with_commands more before)
     (c.in_ok-carry_out.ensures.done scenario before s (can_fit more scenario before can))
-    can))
+    (fresh_can_close scenario (with_commands more before) can)))
     c.close.ensures.failed
 
 pub returns-clause-cause : goal.returns-clause-cause

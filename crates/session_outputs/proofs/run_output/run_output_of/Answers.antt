@@ -1,5 +1,6 @@
 use Rattle.std.proofs.Common.{List, map, sym, subst}
 use Rattle.fed_rules.specs.declared.commands.Line.{Line}
+use Rattle.fed_rules.specs.Sessions.{fresh}
 use Rattle.host_laws.specs.Merged.{commands_of}
 use Rattle.fed_world.proofs.Recalled.{recalls}
 use Rattle.session_outputs.specs.declared.threaded.Ended.{Ended}
@@ -24,9 +25,9 @@ printed-requires g c =
     let e = subst (λ (ended : Ended). ComesToEnd disk.tells old new scenario ended) c.in-Ok-Done.field-0-is c.in-Ok-Done.ensures.ended in
     let commands = run_commands scenario (host_commands e.merged) in
     record {
-      scenario = scenario;
+      session = scenario;
       commands = commands;
-      stood = recalls disk.tells world new scenario commands e.stands;
+      stood = recalls disk.tells world new (fresh scenario) commands e.stands;
       holds = ended_printable disk.tells old new scenario c.closing_is_heard.ensures c.ends_add_their_own.ensures.finishing world e;
     }
 
@@ -42,7 +43,7 @@ returns-in-Ok-Done-clause-output g c =
     let sized = all_sized disk.seen (λ one. (g.met.D.Disk g.world.𝓛 g.world.𝓜 g.world.𝓡 (λ s ok. ok, λ p. p, λ f. f, λ q. q)).told_size one c.requires.told) c.run_to_end.new.disks.items in
     ended_output disk.tells old new scenario c.federation_is_serializable.ensures.headline c.commits_are_settled_at_rest.ensures c.conservative_lines_refuse_none.ensures.all
     c.closing_adds_nothing.ensures c.commands_give_again.ensures c.requires.told sized world e c.printed.result
-    (whole_weaker c.printed.result _ _ (λ bytes each. each scenario commands (recalls disk.tells world new scenario commands e.stands)) c.printed.ensures)
+    (whole_weaker c.printed.result _ _ (λ bytes each. each scenario commands (recalls disk.tells world new (fresh scenario) commands e.stands)) c.printed.ensures)
 
 pub broken-requires : goal.broken-requires
 broken-requires g c =
@@ -77,7 +78,7 @@ broken-requires-in-Ok-Broken g c =
     let world = c.in-Ok-Broken.world in
     let b = subst (λ (ended : Ended). ComesToEnd disk.tells old new scenario ended) c.in-Ok-Broken.field-0-is c.in-Ok-Broken.ensures.ended in
     off_fit disk.tells old new scenario number world b c.right_lines_fit.ensures c.closing_is_heard.ensures c.ends_add_their_own.ensures.finishing c.lines-in-Ok-Broken.result.now
-    (c.lines-in-Ok-Broken.ensures.right scenario (before disk.tells old new scenario number world b) b.breaks.broken.has)
+    (c.lines-in-Ok-Broken.ensures.fresh scenario (before disk.tells old new scenario number world b) b.breaks.broken.has)
 
 pub returns-in-Ok-Broken-clause-output : goal.returns-in-Ok-Broken-clause-output
 returns-in-Ok-Broken-clause-output g c =
@@ -91,5 +92,5 @@ returns-in-Ok-Broken-clause-output g c =
     let sized = all_sized disk.seen (λ one. (g.met.D.Disk g.world.𝓛 g.world.𝓜 g.world.𝓡 (λ s ok. ok, λ p. p, λ f. f, λ q. q)).told_size one c.requires.told) c.run_to_end.new.disks.items in
     let b = subst (λ (ended : Ended). ComesToEnd disk.tells old new scenario ended) c.in-Ok-Broken.field-0-is c.in-Ok-Broken.ensures.ended in
     let done = before disk.tells old new scenario number world b in
-    failed_output disk.tells old new scenario c.conservative_lines_refuse_none.ensures.all c.scenario_is_whole.ensures number done lines (c.lines-in-Ok-Broken.ensures.right scenario done b.breaks.broken.has) (off_breaks disk.tells old new scenario number world b sized lines)
+    failed_output disk.tells old new scenario c.conservative_lines_refuse_none.ensures.all c.scenario_is_whole.ensures number done lines (c.lines-in-Ok-Broken.ensures.fresh scenario done b.breaks.broken.has) (off_breaks disk.tells old new scenario number world b sized lines)
     c.broken-in-Ok-Broken.result c.broken-in-Ok-Broken.ensures

@@ -3,7 +3,7 @@ use Rattle.std.specs.Prelude.{sum_by}
 use Rattle.fed_rules.specs.declared.scenario.Scenario.{Scenario}
 use Rattle.fed_rules.specs.Scenarios.{sites}
 use Rattle.fed_rules.specs.Story.{Story}
-use Rattle.fed_world.specs.Worlds.{ActorsRecall}
+use Rattle.fed_world.specs.FreshWorlds.{ActorsRecall}
 use Rattle.report_text.specs.Summaries.{commits_at}
 use Rattle.session_outputs.proofs.summing.local_commits_of.Given as goal
 

@@ -4,7 +4,7 @@ use Rattle.fed_rules.specs.declared.commands.Command.{Command}
 use Rattle.fed_rules.specs.declared.scenario.Scenario.{Scenario}
 use Rattle.fed_rules.specs.Scenarios.{sites}
 use Rattle.fed_rules.specs.Story.{story_of}
-use Rattle.fed_world.specs.Worlds.{ActorsRecall, Rests}
+use Rattle.fed_world.specs.FreshWorlds.{ActorsRecall, Rests}
 use Rattle.report_text.specs.Summaries.{total_at}
 use Rattle.session_outputs.proofs.summing.total_of.Given as goal
 

@@ -1,6 +1,6 @@
 use Rattle.std.proofs.Common.{map, sym, ◌∙◌, subst}
 use Rattle.std.proofs.lemmas.List.{length-map}
-use Rattle.closing.specs.Towards.{FailsToward}
+use Rattle.closing.specs.FreshTowards.{FailsToward}
 use Rattle.federation_run.specs.declared.errors.RunErr.{RunErr}
 use Rattle.federation_run.specs.Running.{EndsBadly}
 use Rattle.fed_world.specs.declared.errors.WorldErr.{WorldErr}
@@ -14,7 +14,7 @@ use Rattle.session_outputs.proofs.threaded.run_to_end.Goals as goal
 pub end-requires-clause-stood : goal.end-requires-clause-stood
 end-requires-clause-stood g c =
     let r = c.in-Ok.ensures.ran in
-    record { scenario = c.args.scenario; commands = host_commands r.merged; stood = r.stands; holds = r.run.few_lines }
+    record { session = c.args.scenario; commands = host_commands r.merged; stood = r.stands; holds = r.run.few_lines }
 
 pub returns-in-Err-Disk-clause-ended : goal.returns-in-Err-Disk-clause-ended
 returns-in-Err-Disk-clause-ended g c =

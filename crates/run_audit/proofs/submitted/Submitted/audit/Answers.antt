@@ -1,5 +1,6 @@
 use Rattle.std.proofs.Common.{[], sym, ◌∙◌}
 use Rattle.std.proofs.lemmas.List.{length-map}
+use Rattle.fed_world.proofs.Faults.{told_later}
 use Rattle.closing.proofs.Cores.{on_ok}
 use Rattle.run_audit.proofs.Whole.{run_audited, verdict_there, will_fit}
 use Rattle.run_audit.proofs.Whys.{as_many_disks}
@@ -20,6 +21,9 @@ returns-clause-headline g c =
     run_audited c.args.self.printed c.in-Some.text c.in-Some.is c.args.self.lines c.args.self.scenario c.every_scenario_is_one.ensures c.federation_is_serializable.ensures.headline c.federation_is_serializable.ensures.one_order verdict
     (so c.args.self.scenario [] c.in_ok-world.ensures.stands (will_fit c.args.self.printed c.in-Some.text c.in-Some.is c.args.self.lines c.args.self.scenario c.requires.short)) agrees)
     c.check_lines.ensures.verdict
+
+pub returns-clause-cause : goal.returns-clause-cause
+returns-clause-cause g c = told_later c.check_lines.result _ _ _ c.in_ok-world.ensures.cause c.check_lines.ensures.cause
 
 pub returns-clause-count : goal.returns-clause-count
 returns-clause-count g c =

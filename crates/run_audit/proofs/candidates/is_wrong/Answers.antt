@@ -5,7 +5,7 @@ use Rattle.fed_rules.specs.Story.{happens, story_of}
 use Rattle.audit_lines.specs.Compared.{TellsWrong}
 use Rattle.closing.proofs.Cores.{on_ok}
 use Rattle.run_audit.proofs.Told.{none_told, unnamed_edges}
-use Rattle.run_audit.proofs.voters.is_wrong.Goals as goal
+use Rattle.run_audit.proofs.candidates.is_wrong.Goals as goal
 
 pub returns-in-Some : goal.returns-in-Some
 returns-in-Some c =

@@ -1,6 +1,6 @@
 use Rattle.std.proofs.Common.{◌≡◌, drop, reverse}
 use Rattle.audit_lines.specs.Edges.{goes_on, is_edge}
-use Rattle.audit_lines.proofs.votes.Voter.goes_round.Given as goal
+use Rattle.audit_lines.proofs.votes.Candidate.goes_round.Given as goal
 
 -- the edges that are left decide
 abbrev pub invariant-loop-edge : goal.invariant-loop-edge

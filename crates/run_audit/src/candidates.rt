@@ -3,12 +3,13 @@ ghost use Rattle.std.specs.Prelude.{◌≡◌, IfOk};
 ghost use Rattle.mdb_base.specs.Words.{item_at};
 ghost use Rattle.fed_rules.specs.Scenarios.{protocols};
 ghost use Rattle.fed_rules.specs.Story.{coord_past, happens, sent_from, story_of};
-ghost use Rattle.fed_world.specs.Worlds.{EachStory, Recalls};
+ghost use Rattle.fed_world.specs.FreshWorlds.{Recalls};
+ghost use Rattle.fed_world.specs.Worlds.{EachStory};
 ghost use Rattle.audit_rules.specs.Faults.{edges_of};
 ghost use Rattle.audit_lines.specs.Compared.{TellsWrong};
-ghost use Rattle.run_audit.specs.Voters.{IsVoterAt, IsVoterOf, vote_of};
+ghost use Rattle.run_audit.specs.Candidates.{IsCandidateAt, IsCandidateOf, vote_of};
 
-use audit_lines::{Voter, edges_named};
+use audit_lines::{Candidate, edges_named};
 use coord_laws::coordinators_disks_say_all;
 use fed_rules::{Command, FromSite, Line};
 use fed_world::World;
@@ -16,17 +17,17 @@ use mdb_base::{Edge, Memory, SiteId, Tid};
 use std::alloc::Global;
 
 /// A known attempt, with this vote of the site.
-fn voter_at(
+fn candidate_at(
     alloc: Global,
     world: &World,
     site: SiteId,
     tid: Tid,
     vote: Option<u64>,
-) -> Result<Option<Voter>, Memory>
-    ensures { IfOk result (λ found. EachStory (Recalls world.now) (λ scenario commands. IsVoterAt (protocols scenario) (coord_past (story_of scenario commands)) site tid vote found)) }
+) -> Result<Option<Candidate>, Memory>
+    ensures { IfOk result (λ found. EachStory (Recalls world.now) (λ scenario commands. IsCandidateAt (protocols scenario) (coord_past (story_of scenario commands)) site tid vote found)) }
 {
     match world.coordinator().core().table().known(tid) {
-        Some(known) => Ok(Some(Voter::of(alloc, known, site, vote)?)),
+        Some(known) => Ok(Some(Candidate::of(alloc, known, site, vote)?)),
         None => Ok(None),
     }
 }
@@ -35,10 +36,7 @@ fn voter_at(
 fn message_at(world: &World, site: SiteId, place: u32) -> Option<FromSite>
     ensures { EachStory (Recalls world.now) (λ scenario commands. result ≡ item_at (sent_from site (story_of scenario commands)) place) }
 {
-    match world.sent_from(site).get(place as usize) {
-        Some(message) => Some(*message),
-        None => None,
-    }
+    world.sent_from(site).get(place as usize).copied()
 }
 
 /// The vote at this place: the attempt, and its ticket where it is a yes.
@@ -55,14 +53,14 @@ fn vote_at(world: &World, site: SiteId, place: u32) -> Option<(Tid, Option<u64>)
 }
 
 /// The attempt of which a command has the coordinator take a vote, with that vote, where it is known.
-fn voter_of(alloc: Global, world: &World, command: Command) -> Result<Option<Voter>, Memory>
-    ensures { IfOk result (λ found. EachStory (Recalls world.now) (λ scenario commands. IsVoterOf scenario (story_of scenario commands) command found)) }
+fn candidate_of(alloc: Global, world: &World, command: Command) -> Result<Option<Candidate>, Memory>
+    ensures { IfOk result (λ found. EachStory (Recalls world.now) (λ scenario commands. IsCandidateOf scenario (story_of scenario commands) command found)) }
 {
     let Command::Take { site, place } = command else {
         return Ok(None);
     };
     match vote_at(world, site, place) {
-        Some((tid, vote)) => voter_at(alloc, world, site, tid, vote),
+        Some((tid, vote)) => candidate_at(alloc, world, site, tid, vote),
         None => Ok(None),
     }
 }
@@ -74,8 +72,8 @@ fn are_wrong(alloc: Global, world: &World, command: Command, edges: &[Edge]) -> 
 {
     coordinators_disks_say_all();
     let records = world.coordinator().core().records();
-    match voter_of(alloc, world, command)? {
-        Some(voter) => Ok(!voter.goes_round(records, edges)),
+    match candidate_of(alloc, world, command)? {
+        Some(candidate) => Ok(!candidate.goes_round(records, edges)),
         None => Ok(true),
     }
 }
