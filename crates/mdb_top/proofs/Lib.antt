@@ -1,6 +1,8 @@
+pub mod Asking
 mod AuditLemmas
 mod InputLemmas
 mod OpenLemmas
 mod Progress
+mod ResumeLemmas
 mod TopLemmas
 mod UsedDisks

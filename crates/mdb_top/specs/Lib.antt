@@ -5,6 +5,7 @@ pub mod Made
 pub mod MemStreams
 pub mod Opening
 pub mod Progress
+pub mod Resuming
 pub mod Streams
 pub mod Texts
 pub mod Verdicts

@@ -6,7 +6,7 @@ use Rattle.scenario_text.specs.declared.bad.BadWhy.TheVariants as Bad
 use Rattle.session_outputs.specs.Texts.{line}
 
 abbrev pub usage_text : List ℕ
-usage_text = line (codes "usage: mdbfed replay | run | make NUMBER SITES TRANSACTIONS | audit | store FOLDER")
+usage_text = line (codes "usage: mdbfed replay | run | make NUMBER SITES TRANSACTIONS | audit | store FOLDER | resume FOLDER")
 
 abbrev pub read_failed_text : List ℕ
 read_failed_text = line (codes "read failed")
@@ -28,6 +28,14 @@ disk_used_text number = disk_text number (codes " is used")
 -- which disk has a journal that is too large to be opened
 abbrev pub disk_large_text : ℕ → List ℕ
 disk_large_text number = disk_text number (codes " is large")
+
+-- which disk is damaged, and at which place
+abbrev pub disk_damaged_text : ℕ → ℕ → List ℕ
+disk_damaged_text number at = disk_text number (codes " is damaged at " ++ decimal at)
+
+-- which disk has a journal that no session leaves
+abbrev pub disk_foreign_text : ℕ → List ℕ
+disk_foreign_text number = disk_text number (codes " is foreign")
 
 -- the word of a reason
 abbrev pub why_text : BadWhy → List ℕ

@@ -5,7 +5,7 @@ use Rattle.mdb_base.specs.Words.{map_some}
 use Rattle.scenario_text.specs.declared.bad.BadLine.{BadLine}
 use Rattle.session_outputs.specs.Makes.{IsMakeable}
 use Rattle.mdb_top.specs.declared.words.Job.{Job}
-use Rattle.mdb_top.specs.declared.words.Job.TheVariants.{Audit, Make, Replay, Run}
+use Rattle.mdb_top.specs.declared.words.Job.TheVariants.{Audit, Make, Replay, Resume, Run}
 use Rattle.mdb_top.specs.Made.{made_by}
 use Rattle.mdb_top.specs.Streams.{longest}
 
@@ -20,10 +20,14 @@ abbrev pub is_folder : List ℕ → Bool
 is_folder [] = false
 is_folder (first ∷ rest) = not (first == 45)
 
--- the words are `store FOLDER`
-abbrev pub is_store : List (List ℕ) → Bool
-is_store (word ∷ folder ∷ []) = cond (bytes_eq word (codes "store")) (is_folder folder) false
-is_store words = false
+-- what a word before a folder asks for: `store` is a replay
+abbrev pub folder_job : List ℕ → Option Job
+folder_job word = cond (bytes_eq word (codes "store")) (Some Replay) (cond (bytes_eq word (codes "resume")) (Some Resume) None)
+
+-- what a word with a folder asks for
+abbrev pub asked_of_folder : List (List ℕ) → Option Job
+asked_of_folder (word ∷ folder ∷ []) = cond (is_folder folder) (folder_job word) None
+asked_of_folder words = None
 
 -- what words without a folder ask for
 abbrev pub command_of : List (List ℕ) → Option Job
@@ -31,9 +35,13 @@ command_of [] = None
 command_of (word ∷ []) = job_of word
 command_of (word ∷ other ∷ words) = map_some Make (made_by (word ∷ other ∷ words))
 
--- what the words ask for: `store FOLDER` is a replay
+-- what the words ask for: what a word with a folder does, or else what they do without one
+abbrev pub or_command : Option Job → List (List ℕ) → Option Job
+or_command None words = command_of words
+or_command (Some job) words = Some job
+
 abbrev pub asked_by : List (List ℕ) → Option Job
-asked_by words = cond (is_store words) (Some Replay) (command_of words)
+asked_by words = or_command (asked_of_folder words) words
 
 -- what is asked for can be done: what is to be made can be made
 abbrev pub CanBeDone : Job → Type 0

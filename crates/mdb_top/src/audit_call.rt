@@ -2,18 +2,15 @@
 ghost use Rattle.std.specs.Prelude.{◌≡◌, [], ◌∷◌, IfOk, IsTrue, length, map};
 ghost use Rattle.order_laws.specs.Chains.{In};
 ghost use Rattle.run_audit.specs.Audits.{IsShort};
-ghost use Rattle.session_outputs.specs.Texts.{disk_failed_text};
 ghost use Rattle.mdb_top.specs.Audits as audits;
 ghost use Rattle.mdb_top.specs.Audits.{AuditEnds, HandedEnds, IsSaid, IsVerdictPut, TextEnds};
-ghost use Rattle.mdb_top.specs.Endings.{IsPutWhole};
 ghost use Rattle.mdb_top.specs.Inputs.{SomeInput};
 ghost use Rattle.mdb_top.specs.Streams.{stream};
 
 use crate::reading::{LONGEST, ReadErr, read_all};
 use crate::streams::{Sink, Source};
-use crate::telling::{named, refused, told, used};
+use crate::telling::{failed, put_whole, refused, told, used};
 use crate::used_disks::first_used;
-use crate::writing::put_all;
 use fed_world::WorldErr;
 use journal_disk::Disk;
 use mdb_base::{Memory, put_number, put_text};
@@ -62,29 +59,12 @@ fn differs<K: Sink>(alloc: Global, sink: &mut K, line: u32, what: What) -> u8
     }
 }
 
-/// Names the disk that failed.
-fn failed<K: Sink>(alloc: Global, sink: &mut K, number: u8) -> u8
-    ensures { IsSaid 5 (disk_failed_text number) result (stream K.tells (K.written sink.old) (K.written sink.new) (K.faults sink.old) (K.faults sink.new)) }
-{
-    named(alloc, sink, 5, usize::from(number), " failed")
-}
-
-/// Says that the run agrees.
-fn agrees<K: Sink>(sink: &mut K) -> u8
-    ensures { IsPutWhole result (stream K.tells (K.written sink.old) (K.written sink.new) (K.faults sink.old) (K.faults sink.new)) audits.agrees_text }
-{
-    match put_all(sink, b"agrees\n") {
-        Ok(()) => 0,
-        Err(_) => 4,
-    }
-}
-
 /// Puts the verdict, or why there is none.
 fn put_verdict<K: Sink>(alloc: Global, sink: &mut K, verdict: Result<Verdict, WorldErr>) -> u8
     ensures { IsVerdictPut result (stream K.tells (K.written sink.old) (K.written sink.new) (K.faults sink.old) (K.faults sink.new)) verdict }
 {
     match verdict {
-        Ok(Verdict::Agrees) => agrees(sink),
+        Ok(Verdict::Agrees) => put_whole(sink, b"agrees\n"),
         Ok(Verdict::Differs { line, what }) => differs(alloc, sink, line, what),
         Err(WorldErr::Disk { number }) => failed(alloc, sink, number),
         Err(WorldErr::Memory) => told(sink, 6, b"no memory\n"),

@@ -1,12 +1,14 @@
 //! The top call over a store: the disks are opened, and then the words are carried out on them.
-ghost use Rattle.std.specs.Prelude.{◌≡◌, ◌<◌, ◌≤◌, ◌↔◌, ◌⊎◌, [], ◌∷◌, IsTrue, OnOk, OnErr, IsErrOf, false, length, map, string_bytes};
+ghost use Rattle.std.specs.Prelude.{◌≡◌, ◌<◌, ◌≤◌, ◌↔◌, ◌⊎◌, [], ◌∷◌, IsTrue, OnOk, OnErr, IsErrOf, None, Some, length, map, string_bytes};
 ghost use Rattle.order_laws.specs.Chains.{In};
 ghost use Rattle.mdb_base.specs.Counts.{HasCauseOf};
 ghost use Rattle.file_disks.specs.Stores.{IsLarge, journal_of};
 ghost use Rattle.scenario_text.specs.Texts.{session_of};
+ghost use Rattle.mdb_top.specs.declared.words.Job.TheVariants as asks;
 ghost use Rattle.mdb_top.specs.Endings.{Ends};
 ghost use Rattle.mdb_top.specs.Inputs.{SomeInput};
 ghost use Rattle.mdb_top.specs.Opening.{Opens, SomeOpened, StopsAtOne, store_seen};
+ghost use Rattle.mdb_top.specs.Resuming.{ResumeEnds};
 ghost use Rattle.session_outputs.specs.Replays.{replaying};
 ghost use Rattle.session_outputs.specs.Texts.{disk_failed_text};
 ghost use Rattle.mdb_top.specs.Streams.{Gets, stream};
@@ -16,7 +18,7 @@ ghost use Rattle.mdb_top.specs.Verdicts as verdicts;
 use crate::streams::{Sink, Source};
 use crate::telling::{named, put_usage, told};
 use crate::top_call::federate;
-use crate::words::is_store;
+use crate::words::names_folder;
 use federation_run::Gate;
 use file_disks::{OpenErr, Store};
 use journal_disk::Disk;
@@ -62,8 +64,8 @@ fn stopped<K: Sink>(alloc: Global, sink: &mut K, why: OpenErr, number: usize) ->
     }
 }
 
-/// Carries out `store FOLDER` over a store of nine journals: opens the disks 0 to 8 in this order into `disks`, and
-/// then does what `federate` does with these words and disks, with its statuses; or answers 5 where the store fails
+/// Carries out `store FOLDER` or `resume FOLDER` over a store of nine journals: opens the disks 0 to 8 in this order into
+/// `disks`, and then does what `federate` does with these words and disks, with its statuses; or answers 5 where the store fails
 /// at a disk, 6 where memory is wanting and 12 where a journal has more than 67,108,864 bytes, with the first such
 /// disk named. The disks before it stay in `disks`. The status is 1 where the words are no such command. (This
 /// project's profile.)
@@ -88,14 +90,14 @@ pub fn federate_store<
     requires empty { disks.old.items ≡ [] }
 
     // Words that are no such command: the usage is told, and nothing is read or opened.
-    ensures usage { (result ≡ 1) ↔ (verdicts.is_store (map string_bytes words.now) ≡ false) }
+    ensures usage { (result ≡ 1) ↔ (verdicts.asked_of_folder (map string_bytes words.now) ≡ None) }
     ensures usage_text { result ≡ 1 →
         Gets (stream K.tells (K.written sink.old) (K.written sink.new) (K.faults sink.old) (K.faults sink.new)) texts.usage_text }
     ensures untouched { result ≡ 1 → (source.new ≡ source.old) × (store.new ≡ store.old) × (disks.new ≡ disks.old) }
 
-    // Else the disks are opened: up to one that isn't, and nothing is read; or all nine, and then it is a replay on them, of one input,
-    // which is that of the source where it tells.
-    ensures opens { IsTrue (verdicts.is_store (map string_bytes words.now)) →
+    // Else the disks are opened, up to one that isn't, and nothing is read; or all nine. To store is a replay on them, of one input, which is
+    // that of the source where it tells.
+    ensures stores { verdicts.asked_of_folder (map string_bytes words.now) ≡ Some asks.Replay →
         ((source.new ≡ source.old) × StopsAtOne result (store_seen T.tells (T.journals store.old) (T.faults store.old) (T.faults store.new))
         (stream K.tells (K.written sink.old) (K.written sink.new) (K.faults sink.old) (K.faults sink.new)) (map D.seen disks.new.items))
         ⊎ SomeOpened result (store_seen T.tells (T.journals store.old) (T.faults store.old) (T.faults store.new)) (map D.seen disks.new.items)
@@ -103,9 +105,17 @@ pub fn federate_store<
         (stream S.tells (S.left source.old) (S.left source.new) (S.faults source.old) (S.faults source.new))
         (stream K.tells (K.written sink.old) (K.written sink.new) (K.faults sink.old) (K.faults sink.new))
         opened (map D.seen disks.new.items))) }
+
+    // To resume is to go on from what they hold, and nothing is read.
+    ensures resumes { verdicts.asked_of_folder (map string_bytes words.now) ≡ Some asks.Resume → (source.new ≡ source.old)
+        × (StopsAtOne result (store_seen T.tells (T.journals store.old) (T.faults store.old) (T.faults store.new))
+        (stream K.tells (K.written sink.old) (K.written sink.new) (K.faults sink.old) (K.faults sink.new)) (map D.seen disks.new.items)
+        ⊎ SomeOpened result (store_seen T.tells (T.journals store.old) (T.faults store.old) (T.faults store.new)) (map D.seen disks.new.items)
+        (λ opened. ResumeEnds result
+        (stream K.tells (K.written sink.old) (K.written sink.new) (K.faults sink.old) (K.faults sink.new)) opened (map D.seen disks.new.items))) }
     ensures at_most_nine { length disks.new.items ≤ 9 }
 {
-    if !is_store(words) {
+    if !names_folder(words) {
         return put_usage(sink);
     }
     match open_all(store, disks) {

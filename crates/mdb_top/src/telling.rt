@@ -1,7 +1,9 @@
 //! What the top call puts, and the status that goes with it.
 ghost use Rattle.std.specs.Prelude.{◌≡◌, [], ◌∷◌, IfOk};
 ghost use Rattle.order_laws.specs.Chains.{In};
-ghost use Rattle.mdb_top.specs.Endings.{IsPut};
+ghost use Rattle.session_outputs.specs.Texts.{disk_failed_text};
+ghost use Rattle.mdb_top.specs.Audits.{IsSaid};
+ghost use Rattle.mdb_top.specs.Endings.{IsPut, IsPutWhole};
 ghost use Rattle.mdb_top.specs.Streams.{Gets, stream};
 ghost use Rattle.mdb_top.specs.Texts as texts;
 
@@ -32,7 +34,7 @@ pub(crate) fn put_usage<K: Sink>(sink: &mut K) -> u8
     told(
         sink,
         1,
-        b"usage: mdbfed replay | run | make NUMBER SITES TRANSACTIONS | audit | store FOLDER\n",
+        b"usage: mdbfed replay | run | make NUMBER SITES TRANSACTIONS | audit | store FOLDER | resume FOLDER\n",
     )
 }
 
@@ -91,15 +93,29 @@ pub(crate) fn used<K: Sink>(alloc: Global, sink: &mut K, number: usize) -> u8
     named(alloc, sink, 8, number, " is used")
 }
 
+/// Names the disk that failed.
+pub(crate) fn failed<K: Sink>(alloc: Global, sink: &mut K, number: u8) -> u8
+    ensures { IsSaid 5 (disk_failed_text number) result (stream K.tells (K.written sink.old) (K.written sink.new) (K.faults sink.old) (K.faults sink.new)) }
+{
+    named(alloc, sink, 5, usize::from(number), " failed")
+}
+
+/// Puts a whole output: 0 where the sink takes all of it, and else 4.
+pub(crate) fn put_whole<K: Sink>(sink: &mut K, output: &[u8]) -> u8
+    ensures { IsPutWhole result (stream K.tells (K.written sink.old) (K.written sink.new) (K.faults sink.old) (K.faults sink.new)) output.now }
+{
+    match put_all(sink, output) {
+        Ok(()) => 0,
+        Err(_) => 4,
+    }
+}
+
 /// Puts what was made: a whole output, or one that names a failed disk.
 pub(crate) fn put_made<K: Sink>(sink: &mut K, made: Result<Output, Memory>) -> u8
     ensures { IsPut result (stream K.tells (K.written sink.old) (K.written sink.new) (K.faults sink.old) (K.faults sink.new)) made }
 {
     match made {
-        Ok(Output::Whole(output)) => match put_all(sink, &output) {
-            Ok(()) => 0,
-            Err(_) => 4,
-        },
+        Ok(Output::Whole(output)) => put_whole(sink, &output),
         Ok(Output::Broken(output)) => told(sink, 5, &output),
         Err(_) => told(sink, 6, b"no memory\n"),
     }

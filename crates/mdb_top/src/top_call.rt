@@ -3,6 +3,8 @@ ghost use Rattle.std.specs.Prelude.{◌≡◌, ◌↔◌, [], ◌∷◌, IsTrue,
 ghost use Rattle.order_laws.specs.Chains.{In};
 ghost use Rattle.scenario_text.specs.Kept.{AreCommands};
 ghost use Rattle.scenario_text.specs.Texts.{scenario_of, session_of};
+ghost use Rattle.fed_world.specs.Reopening.{AreSynced};
+ghost use Rattle.found_disks.specs.Reading.{images_of};
 ghost use Rattle.session_outputs.specs.declared.making.Making.{Making as TheMaking};
 ghost use Rattle.session_outputs.specs.Makes as makes;
 ghost use Rattle.session_outputs.specs.Makes.{IsMakeable};
@@ -12,12 +14,14 @@ ghost use Rattle.mdb_top.specs.declared.words.Job.TheVariants as asks;
 ghost use Rattle.mdb_top.specs.Audits.{AuditEnds};
 ghost use Rattle.mdb_top.specs.Endings.{Carries, Ends};
 ghost use Rattle.mdb_top.specs.Inputs.{SomeInput};
+ghost use Rattle.mdb_top.specs.Resuming.{ResumeEnds};
 ghost use Rattle.mdb_top.specs.Streams.{Gets, stream};
 ghost use Rattle.mdb_top.specs.Texts as texts;
 ghost use Rattle.mdb_top.specs.Verdicts.{asked_by};
 
 use crate::audit_call::audit;
 use crate::input::{Unplayed, read_plan, read_session};
+use crate::resume_call::resume;
 use crate::streams::{Sink, Source};
 use crate::telling::{put_made, put_usage, refused, told, used};
 use crate::used_disks::first_used;
@@ -158,8 +162,9 @@ fn made<R: Threads + Wait + Sync, K: Sink, D: Disk + Send, G: Gate + Sync>(
 /// is to say, and answers the status: 0 where all is done; 1 where the words are no command; 2 where the bytes are no session, or no
 /// scenario of a run; 3 where a read failed; 4 where the sink failed while the output was put; 5 where a call of a disk failed; 6 where
 /// memory was wanting; 7 where there are more than 4,194,304 bytes; 8 where a disk isn't empty, the least of which is named; 9 where an
-/// audited run doesn't agree with its scenario, with the first line that differs (this project's profile). The words don't hold the
-/// program's name; `store FOLDER` is a replay on the disks that are handed in. What a source or a sink doesn't tell, nothing is said of. The
+/// audited run doesn't agree with its scenario, with the first line that differs; 10 where a disk is damaged, and 11 where none is and a
+/// journal isn't one that a session leaves, the least such disk of which is named (this project's profile). The words don't hold the
+/// program's name; `store FOLDER` is a replay on the disks that are handed in, and `resume FOLDER` goes on from them. What a source or a sink doesn't tell, nothing is said of. The
 /// gate is called at the start of each call on a host of a run, under that host's lock.
 pub fn federate<R: Threads + Wait + Sync, S: Source, K: Sink, D: Disk + Send, G: Gate + Sync>(
     rt: &R,
@@ -172,6 +177,7 @@ pub fn federate<R: Threads + Wait + Sync, S: Source, K: Sink, D: Disk + Send, G:
 ) -> u8
     requires told { IsTrue D.tells }
     requires nine { length disks.old.items ≡ 9 }
+    requires synced { asked_by (map string_bytes words.now) ≡ Some asks.Resume → AreSynced (images_of (map D.seen disks.old.items)) }
 
     // Words that are no command: the usage is told, and nothing is read.
     ensures usage { (result ≡ 1) ↔ (asked_by (map string_bytes words.now) ≡ None) }
@@ -204,6 +210,12 @@ pub fn federate<R: Threads + Wait + Sync, S: Source, K: Sink, D: Disk + Send, G:
         (stream K.tells (K.written sink.old) (K.written sink.new) (K.faults sink.old) (K.faults sink.new))
         (map D.seen disks.old.items) (map D.seen disks.new.items)) }
 
+    // A session that goes on from the disks, whose bytes are all synced: of no input; nothing is read.
+    ensures resumes { asked_by (map string_bytes words.now) ≡ Some asks.Resume → ResumeEnds result
+        (stream K.tells (K.written sink.old) (K.written sink.new) (K.faults sink.old) (K.faults sink.new))
+        (map D.seen disks.old.items) (map D.seen disks.new.items) }
+    ensures unread_resumed { asked_by (map string_bytes words.now) ≡ Some asks.Resume → source.new ≡ source.old }
+
     // No disk is touched but for an input that is carried out, and there are nine still.
     ensures untouched { In result (1 ∷ 2 ∷ 3 ∷ 7 ∷ 8 ∷ []) → disks.new ≡ disks.old }
     ensures still_nine { length disks.new.items ≡ 9 }
@@ -213,6 +225,7 @@ pub fn federate<R: Threads + Wait + Sync, S: Source, K: Sink, D: Disk + Send, G:
         Some(Job::Run) => run(rt, alloc, source, sink, disks, gate),
         Some(Job::Make(making)) => made(rt, alloc, sink, making, disks, gate),
         Some(Job::Audit) => audit(alloc, source, sink, disks),
+        Some(Job::Resume) => resume(alloc, sink, disks),
         None => put_usage(sink),
     }
 }

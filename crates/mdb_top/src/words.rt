@@ -1,5 +1,5 @@
 //! The words that the program is called with.
-ghost use Rattle.std.specs.Prelude.{◌≡◌, IfSome, map, string_bytes};
+ghost use Rattle.std.specs.Prelude.{◌≡◌, is_some, IfSome, map, string_bytes};
 ghost use Rattle.mdb_top.specs.Verdicts as verdicts;
 ghost use Rattle.mdb_top.specs.Verdicts.{CanBeDone, asked_by, command_of as commands};
 
@@ -17,28 +17,50 @@ pub(crate) enum Job {
     Make(Making),
     /// A printed run is compared with its scenario.
     Audit,
+    /// A session goes on from the journals on its disks.
+    Resume,
 }
 
-/// What the words ask for: `replay`, `run` or `audit` alone, `make NUMBER SITES TRANSACTIONS`, or `store FOLDER`, which is a replay.
-/// Other words are no command.
+/// What the words ask for: `replay`, `run` or `audit` alone, `make NUMBER SITES TRANSACTIONS`, `store FOLDER`, which is a replay, or
+/// `resume FOLDER`. Other words are no command.
 pub(crate) fn job_of(words: &[String]) -> Option<Job>
     ensures exact { result ≡ asked_by (map string_bytes words.now) }
     ensures doable { IfSome result CanBeDone }
 {
-    if is_store(words) {
-        return Some(Job::Replay);
+    match job_of_folder(words) {
+        Some(job) => Some(job),
+        None => command_of(words),
     }
-    command_of(words)
 }
 
-/// Whether the words are `store FOLDER`, where FOLDER isn't empty and doesn't begin with `-`.
-pub(crate) fn is_store(words: &[String]) -> bool
-    ensures { result ≡ verdicts.is_store (map string_bytes words.now) }
+/// What a word before the name of a folder asks for.
+fn folder_job(word: &str) -> Option<Job>
+    ensures exact { result ≡ verdicts.folder_job word.now }
+    ensures doable { IfSome result CanBeDone }
 {
-    if words.len() != 2 || words[0].as_str() != "store" {
-        return false;
+    match word {
+        "store" => Some(Job::Replay),
+        "resume" => Some(Job::Resume),
+        _ => None,
     }
-    is_folder(words[1].as_str())
+}
+
+/// What the words ask for, where they are `store FOLDER` or `resume FOLDER`; FOLDER isn't empty and doesn't begin with `-`.
+pub(crate) fn job_of_folder(words: &[String]) -> Option<Job>
+    ensures exact { result ≡ verdicts.asked_of_folder (map string_bytes words.now) }
+    ensures doable { IfSome result CanBeDone }
+{
+    if words.len() != 2 || !is_folder(words[1].as_str()) {
+        return None;
+    }
+    folder_job(words[0].as_str())
+}
+
+/// Whether the words are `store FOLDER` or `resume FOLDER`, which `federate_store` carries out over the journals of that folder.
+pub fn names_folder(words: &[String]) -> bool
+    ensures { result ≡ is_some (verdicts.asked_of_folder (map string_bytes words.now)) }
+{
+    job_of_folder(words).is_some()
 }
 
 /// Whether this may be the name of a folder.

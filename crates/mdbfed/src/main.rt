@@ -1,6 +1,6 @@
 //! The program: `mdbfed replay` reads a session from standard input, and `mdbfed run` a scenario; both write the lines and the report to
 //! standard output. `mdbfed make` reads nothing, and writes the summary of a made scenario. `mdbfed store FOLDER` is `mdbfed replay` with
-//! the journals in the files of a folder.
+//! the journals in the files of a folder, and `mdbfed resume FOLDER` goes on from them.
 #![tactic(auto)]
 
 ghost use Rattle.std.specs.Prelude.{◌≡◌, IfOk, length};
@@ -10,7 +10,7 @@ mod std_streams;
 use crate::std_streams::{StdSink, StdSource};
 use file_disks::FileStore;
 use mdb_base::Memory;
-use mdb_top::{MemDisk, NoGate, federate, federate_store};
+use mdb_top::{MemDisk, NoGate, federate, federate_store, names_folder};
 use std::alloc::Global;
 use std::env;
 use std::env::Env;
@@ -63,7 +63,7 @@ fn main(rt: HostRuntime) -> ExitCode {
     };
     let mut source = StdSource::new(rt.reader());
     let mut sink = StdSink::new(rt.stdout());
-    if word_at(&words, 0) == "store" {
+    if names_folder(&words) {
         let mut store = FileStore::new(rt.alloc(), &rt, word_at(&words, 1));
         let mut disks = Vec::new(rt.alloc());
         return ExitCode::from(federate_store(

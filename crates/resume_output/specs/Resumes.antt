@@ -1,0 +1,120 @@
+-- What becomes of a session that goes on from nine disks.
+use Rattle.std.specs.Prelude.{ℕ, ◌≡◌, List, ◌∷◌, ◌++◌, Result, Ok, Err}
+use Rattle.mdb_base.specs.declared.names.Memory.{Memory}
+use Rattle.fed_rules.specs.declared.commands.Command.{Command}
+use Rattle.fed_rules.specs.declared.commands.Line.{Line}
+use Rattle.fed_rules.specs.declared.scenario.Scenario.{Scenario}
+use Rattle.fed_rules.specs.Found.{Found}
+use Rattle.fed_rules.specs.Resumed.{going_on, plan_of, resumed, resuming}
+use Rattle.fed_rules.specs.Sessions.{Session}
+use Rattle.fed_rules.specs.Story.{Story, story_in, story_of}
+use Rattle.closing_laws.specs.AtRest.{IsAtRest}
+use Rattle.resume_laws.specs.FoundSessions.{AreUsable}
+use Rattle.journal_disk.specs.Disk.{Seen}
+use Rattle.line_text.specs.Spelling.{lines_bytes}
+use Rattle.report_text.specs.Spelling.{rest_bytes}
+use Rattle.found_disks.specs.declared.errors.ReopenErr.{ReopenErr}
+use Rattle.found_disks.specs.declared.errors.ReopenErr.TheVariants as Err_is
+use Rattle.found_disks.specs.declared.reading.Journals.{Journals}
+use Rattle.found_disks.specs.Faults.{RisesAt, faults_of}
+use Rattle.found_disks.specs.Finding.{FindsAs, found_in}
+use Rattle.found_disks.specs.Reading.{AreRead, images_of}
+use Rattle.left_disks.specs.Left.{GoesOnFrom, IsLeft}
+use Rattle.fed_world.specs.Beginnings.{GoesOn}
+use Rattle.fed_world.specs.Lines.{AreLinesIn}
+use Rattle.fed_world.specs.Reporting.{found_report}
+use Rattle.fed_world.specs.Worlds.{Rests}
+use Rattle.session_outputs.specs.declared.output.Output.{Output}
+use Rattle.session_outputs.specs.declared.output.Output.TheVariants.{Whole, Broken}
+use Rattle.session_outputs.specs.Texts.{disk_failed_text}
+
+-- ---- what is found
+
+-- this is found on the disks, and a session may go on from it
+pub record IsFoundOn (disks : List Seen) (found : Found) : Type 0 where
+  pub journals : Journals
+  pub read : AreRead (images_of disks) journals
+  pub is : found ≡ found_in (images_of disks) journals
+  pub usable : AreUsable found
+
+-- ---- what is printed
+
+-- the session goes on from disks, and is at rest
+pub record IsResumed (session : Session) (commands : List Command) : Type 0 where
+  pub goes_on : GoesOn session
+  pub rests : Rests session commands
+
+-- the text is that of the right lines of these commands, and of what is reported behind the reads
+pub record IsPrintedBehind (text : List ℕ) (session : Session) (commands : List Command) : Type 0 where
+  pub lines : List Line
+  pub lines_are : AreLinesIn lines session commands
+  pub text_is : text ≡ lines_bytes lines ++ rest_bytes (found_report session.found (story_in session commands))
+
+-- ---- what is answered
+
+-- every actor came back and the session was closed, and no disk failed: every actor is up, no trip is armed, and nothing is live, in doubt or known. The
+-- output is the lines of these commands, and what is reported behind the reads
+pub record ResumesWhole (output : List ℕ) (old new : List Seen) : Type 0 where
+  pub found : Found
+  pub is_found : IsFoundOn old found
+  pub printed : IsPrintedBehind output (going_on found) (resuming found)
+  pub rests : IsAtRest (plan_of found) (resumed found)
+  pub calm : faults_of new ≡ faults_of old
+
+-- a call of a disk failed within the command behind some of these: its count of faults rose and no other. The output is the lines of those, which are
+-- right, and behind them which disk
+pub record ResumesBroken (output : List ℕ) (old new : List Seen) : Type 0 where
+  pub found : Found
+  pub is_found : IsFoundOn old found
+  pub number : ℕ
+  pub done : List Command
+  pub command : Command
+  pub left : List Command
+  pub of_all : resuming found ≡ left ++ command ∷ done
+  pub lines : List Line
+  pub lines_are : AreLinesIn lines (going_on found) done
+  pub output_is : output ≡ lines_bytes lines ++ disk_failed_text number
+  pub rose : RisesAt number old new
+
+-- no session goes on: the first damaged disk is named exactly where one is, and else the first one that isn't usable; a disk is said to have failed only
+-- where its count of faults rose while the journals were read. The bytes on the disks stay
+pub record StopsAtOnce (why : ReopenErr) (old new : List Seen) : Type 0 where
+  pub finds : FindsAs (Err why) (images_of old)
+  pub images : images_of new ≡ images_of old
+
+-- and the counts of faults say whose call failed
+abbrev pub IsRefusedAs : ReopenErr → List Seen → List Seen → Type 0
+IsRefusedAs (Err_is.Damaged number at) old new = StopsAtOnce (Err_is.Damaged number at) old new × (faults_of new ≡ faults_of old)
+IsRefusedAs (Err_is.Foreign number) old new = StopsAtOnce (Err_is.Foreign number) old new × (faults_of new ≡ faults_of old)
+IsRefusedAs (Err_is.Disk number) old new = StopsAtOnce (Err_is.Disk number) old new × RisesAt number old new
+IsRefusedAs Err_is.Memory old new = Unit {0}
+
+-- what was made, or why nothing was
+abbrev pub answered : Result Output Memory → Result Output ReopenErr
+answered (Ok output) = Ok output
+answered (Err why) = Err Err_is.Memory
+
+-- what `resume` makes of the disks
+abbrev pub ResumesAs : Result Output ReopenErr → List Seen → List Seen → Type 0
+ResumesAs (Ok (Whole output)) old new = ResumesWhole output.items old new
+ResumesAs (Ok (Broken output)) old new = ResumesBroken output.items old new
+ResumesAs (Err why) old new = IsRefusedAs why old new
+
+-- ---- the disks that a session left
+
+-- no disk is damaged and none is foreign
+abbrev pub NoneIsBad : {T : Type 0} → Result T ReopenErr → Type 0
+NoneIsBad (Ok done) = Unit {0}
+NoneIsBad (Err (Err_is.Damaged number at)) = ⊥
+NoneIsBad (Err (Err_is.Foreign number)) = ⊥
+NoneIsBad (Err (Err_is.Disk number)) = Unit {0}
+NoneIsBad (Err Err_is.Memory) = Unit {0}
+
+-- whatever is found on the disks, the session goes on rightly from it
+abbrev pub AllGoesOn : List Seen → Scenario → Story → Type 0
+AllGoesOn disks scenario left = (found : Found) → IsFoundOn disks found → GoesOnFrom found scenario left
+
+-- so it is of the disks of each session that was stopped, whatever happened in it
+abbrev pub GoesOnFromLeft : {T : Type 0} → Result T ReopenErr → List Seen → Type 0
+GoesOnFromLeft result disks =
+    (scenario : Scenario) (commands : List Command) → IsLeft disks scenario commands → NoneIsBad result × AllGoesOn disks scenario (story_of scenario commands)
