@@ -11,6 +11,8 @@ mod coord_sums;
 #[cfg(test)]
 mod disks;
 #[cfg(test)]
+mod found;
+#[cfg(test)]
 mod site_payloads;
 #[cfg(test)]
 mod site_records;

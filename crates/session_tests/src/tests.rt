@@ -14,6 +14,7 @@ mod makes;
 mod protocols;
 mod refused;
 mod repeats;
+mod resumes;
 mod runs;
 mod serial_order;
 mod sessions;
@@ -22,7 +23,7 @@ mod tickets;
 mod trips;
 
 use mdb_base::Memory;
-use mdb_top::{Gate, MemDisk, MemSink, MemSource, NoGate, federate};
+use mdb_top::{Gate, MemDisk, MemSink, MemSource, NoGate, federate, names_folder};
 use std::alloc::Global;
 use std::process::Abort;
 use std::sync::Wait;
@@ -40,7 +41,7 @@ const ROOM: usize = 1_048_576;
 
 /// What words that are no command are told.
 const USAGE: &[u8] =
-    b"usage: mdbfed replay | run | make NUMBER SITES TRANSACTIONS | audit | store FOLDER\n";
+    b"usage: mdbfed replay | run | make NUMBER SITES TRANSACTIONS | audit | store FOLDER | resume FOLDER\n";
 
 /// Nine empty disks, of which no call fails.
 fn empty_disks(alloc: Global) -> Result<Vec<MemDisk>, Memory>
@@ -54,7 +55,7 @@ fn empty_disks(alloc: Global) -> Result<Vec<MemDisk>, Memory>
 }
 
 /// The status of these words on these bytes and disks with this gate, where the call of the source with the first number fails, counted from
-/// 1, and that of the sink with the second, and what was put; at call 0 none fails.
+/// 1, and that of the sink with the second, and what was put; at call 0 none fails. Words that name a folder are for `stores::stored`.
 fn called<R: Threads + Wait + Sync + AllocGlobal, G: Gate + Sync>(
     rt: &R,
     words: &[&str],
@@ -71,6 +72,9 @@ fn called<R: Threads + Wait + Sync + AllocGlobal, G: Gate + Sync>(
     let mut owned = Vec::new(alloc);
     for word in words {
         owned.push(String::from_str(alloc, word)?)?;
+    }
+    if names_folder(&owned) {
+        return Err(Memory);
     }
     let takes = vec![in alloc; take]?;
     let puts = vec![in alloc; put]?;

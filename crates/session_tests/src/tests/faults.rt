@@ -205,13 +205,13 @@ fn each_write_of_an_output_fails(rt: HostRuntime) -> Result<(), Fail> {
     Ok(())
 }
 
-/// 100 failed writes of the texts of four refusals: 9, 2, 2 and 87.
+/// 101 failed writes of the texts of four refusals: 10, 2, 2 and 87.
 #[test]
 fn each_write_of_a_refusal_fails(rt: HostRuntime) -> Result<(), Fail> {
     let mut failed: usize = 0;
     for ending in refusals() {
         failed = failed.saturating_add(sink_fails(&rt, ending)?);
     }
-    assert_eq!(rt; failed, 100);
+    assert_eq!(rt; failed, 101);
     Ok(())
 }

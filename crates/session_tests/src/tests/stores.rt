@@ -3,7 +3,7 @@ ghost use Rattle.std.specs.Prelude.{◌≡◌, [], IsTrue};
 
 use super::{GIVEN, ROOM, TAKEN, USAGE, called, empty_disks};
 use file_disks::{FileStore, MemStore, Store};
-use mdb_base::Memory;
+use mdb_base::{Memory, put_number};
 use mdb_top::{Disk, MemDisk, MemSink, MemSource, NoGate, federate_store};
 use std::alloc::Global;
 use std::fs;
@@ -21,7 +21,7 @@ fn words_of(alloc: Global, text: &str) -> Result<Vec<String>, Memory> {
 }
 
 // The status of these words on these bytes and this store, and what was put.
-fn stored<R: Threads + Wait + Sync + AllocGlobal, D: Disk + Send, T: Store<D>>(
+pub(super) fn stored<R: Threads + Wait + Sync + AllocGlobal, D: Disk + Send, T: Store<D>>(
     rt: &R,
     words: &str,
     input: &[u8],
@@ -51,12 +51,21 @@ fn stored<R: Threads + Wait + Sync + AllocGlobal, D: Disk + Send, T: Store<D>>(
 }
 
 // One committed local transaction at one site.
-const SESSION: &[u8] =
+pub(super) const SESSION: &[u8] =
     b"site 1 locking nothing\nlocal 1 1 set:5:7\ncommands\nbegin 1\nstep 1\ncommit 1\n";
+
+// What going on from its journals prints, where its site starts with this epoch.
+pub(super) fn gone_on(alloc: Global, epoch: u8) -> Result<Vec<u8>, Memory> {
+    let mut text = Vec::new(alloc);
+    text.extend_from_slice(b"back 0 => up known 0\nback 1 => up epoch ")?;
+    put_number(&mut text, u64::from(epoch))?;
+    text.extend_from_slice(b" doubtful 0\nforgotten\ntable 1 5=7\nend\n")?;
+    Ok(text)
+}
 
 // Words, the disk that has a byte, the call of the store that fails, the status, what is put, and how many disks
 // are opened.
-const CASES: [(&str, usize, u32, u8, &[u8], usize); 9] = [
+const CASES: [(&str, usize, u32, u8, &[u8], usize); 14] = [
     ("store", 9, 0, 1, USAGE, 0),
     ("store ", 9, 0, 1, USAGE, 0),
     ("store -x", 9, 0, 1, USAGE, 0),
@@ -66,6 +75,11 @@ const CASES: [(&str, usize, u32, u8, &[u8], usize); 9] = [
     ("store x", 9, 2, 5, b"disk 1 failed\n", 1),
     ("store x", 9, 9, 5, b"disk 8 failed\n", 8),
     ("store x", 3, 0, 8, b"disk 3 is used\n", 9),
+    ("resume", 9, 0, 1, USAGE, 0),
+    ("resume ", 9, 0, 1, USAGE, 0),
+    ("resume -x", 9, 0, 1, USAGE, 0),
+    ("resume x y", 9, 0, 1, USAGE, 0),
+    ("resume x", 9, 2, 5, b"disk 1 failed\n", 1),
 ];
 
 // A store of nine disks, of which this one has a byte, and whose call of this number fails.
@@ -119,7 +133,7 @@ fn a_session_in_a_folder_is_that_of_replay(rt: HostRuntime) -> Result<(), Fail> 
         fs::read(&rt, "stored_folder/disk1")?.as_slice(),
         journal.as_slice()
     );
-    // The disks are open still, so the folder is locked; then it is used.
+    // The disks are open still, so the folder is locked; then it is used, and the session goes on.
     let mut others = Vec::new(alloc);
     let locked = stored(&rt, "store stored_folder", SESSION, &mut store, &mut others)?;
     assert_eq!(rt; locked.1.as_slice(), b"disk 0 failed\n".as_slice());
@@ -129,6 +143,12 @@ fn a_session_in_a_folder_is_that_of_replay(rt: HostRuntime) -> Result<(), Fail> 
     assert_eq!(rt; used.0, 8);
     assert_eq!(rt; used.1.as_slice(), b"disk 1 is used\n".as_slice());
     drop(others);
+    for epoch in [2_u8, 3] {
+        let mut disks = Vec::new(alloc);
+        let resumed = stored(&rt, "resume stored_folder", b"", &mut store, &mut disks)?;
+        assert_eq!(rt; resumed.0, 0);
+        assert_eq!(rt; resumed.1.as_slice(), gone_on(alloc, epoch)?.as_slice());
+    }
     fs::remove_dir_all(&rt, folder)?;
     Ok(())
 }

@@ -6,4 +6,4 @@ pub new-requires-clause-empty : goal.new-requires-clause-empty
 new-requires-clause-empty c = are_empty c.args.disks.now.items c.requires.empty
 
 pub returns : goal.returns
-returns c = record { scenario = c.in_ok-scenario.scenario; commands = []; stood = c.in_ok-world.ensures.stands; holds = omega arith }
+returns c = record { session = c.in_ok-scenario.scenario; commands = []; stood = c.in_ok-world.ensures.stands; holds = omega arith }
