@@ -113,7 +113,7 @@ class Trying:
         for words in ([], ["store"], ["store", ""], ["store", "-x"], ["store", "x", "y"], ["stores", "x"]):
             status, output = self.storing.call(words, cwd=self.room)
             usage = usage or output
-            if status != 1 or output != usage or not re.fullmatch(rb"usage: [^\n]* \| store FOLDER\n", output):
+            if status != 1 or output != usage or not re.fullmatch(rb"usage: [^\n]* \| store FOLDER \| resume FOLDER\n", output):
                 raise Wrong(f"{words}: status {status} with {output!r}")
             if any((self.room / name).exists() for name in ("-x", "x", "y")):
                 raise Wrong(f"{words}: a folder was made")

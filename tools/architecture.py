@@ -20,7 +20,7 @@ FLOORS = [
     ("tests", "Tests and examples", "touch public calls alone",
      "text_tests part_tests file_tests journal_tests engine_tests actor_tests world_tests session_tests world_by_hand engine_alone"),
     ("top", "Top", "words, source, sink, disks, status, and what is printed; touches the world's public calls",
-     "mdbfed mdb_top session_outputs"),
+     "mdbfed mdb_top resume_output session_outputs"),
     ("threads", "A run in threads", "hosts behind a lock each; touch the actors' public calls",
      "federation_run fed_hosts"),
     ("world", "World", "who gets which message; touches the actors' public calls",
@@ -30,14 +30,14 @@ FLOORS = [
     ("engines", "Engines", "one rule of concurrency control each; touches the rows and runs of one site",
      "any_engine locking_engine timestamp_engine validation_engine multiversion_engine access_ages run_book engine_contract"),
     ("parts", "Parts", "one data structure each; touches its own fields",
-     "site_book site_tables ticket_item prepared_state journal_sums usable_journals coord_tables protocol_table global_exec ticket_graph conservative_take "
+     "site_book site_tables ticket_item prepared_state journal_sums usable_journals found_disks coord_tables protocol_table global_exec ticket_graph conservative_take "
      "audit_lines order_merge serial_machine trace_merge scripted_link client_drivers"),
     ("texts", "Texts", "one grammar each; touches nothing else",
      "line_text trace_lines scenario_text report_text audit_text scenario_maker"),
     ("bytes", "Bytes and disks", "one format each; touches its own bytes and its own disk",
      "actor_store journal_rules site_journal coord_journal frame_journal file_disks journal_disk fed_messages record_fields field_bytes byte_numbers"),
     ("printed", "Laws of lines and hosts", "touch definitions, those of parts and texts too",
-     "line_laws replay_laws made_laws host_laws"),
+     "line_laws replay_laws made_laws host_laws left_disks"),
     ("theorems", "Theorems", "touch definitions alone",
      "audit_laws resume_laws disk_laws progress_laws closing_laws refuted_rules sum_laws federation_laws world_laws commit_laws coord_laws "
      "site_history engine_laws rules_laws"),

@@ -1,11 +1,11 @@
 #!/usr/bin/env bash
-# Runs each session examples/NAME.fed, also with its journals in a folder, and compares what it prints with examples/NAME.out. It checks the tools
-# on them too. It is no part of the gate.
+# Runs each session examples/NAME.fed, also with its journals in a folder, from which it then goes on, and compares what it prints with
+# examples/NAME.out. It checks the tools on them too. It is no part of the gate.
 #
 # usage: tools/examples.sh
 #
 # The built program runs them where there is one, and threads.run besides; else one `rt try` runs the sessions from the source, without proof, and
-# none in a folder. The status is 0 where each session printed exactly what stands beside it, no journal in a folder is damaged, the threads left
+# none in a folder. The status is 0 where each session printed exactly what stands beside it, no journal in a folder is damaged, the tables stay behind a resume, the threads left
 # the tables that are due, and the tools did as they should.
 set -o pipefail
 top=$(cd -- "$(dirname -- "${BASH_SOURCE[0]}")/.." && pwd) || exit 2
@@ -34,6 +34,8 @@ for wanted in "$room/cases"/*.stdout; do
     mkdir "$room/journals" || exit 2
     "$crate/out/mdbfed" store "$room/journals" < "$room/cases/$name" | diff -u --label "$name, wanted" --label "$name, stored" "$wanted" - || failed=1
     "$top/tools/journal.py" "$room/journals" > "$room/records" || { echo "$name: a journal in its folder is damaged"; failed=1; }
+    "$crate/out/mdbfed" resume "$room/journals" > "$room/resumed" || { echo "$name: it doesn't go on from its folder"; failed=1; }
+    diff -u --label "$name, tables wanted" --label "$name, tables behind a resume" <(grep '^table' "$wanted") <(grep '^table' "$room/resumed") || failed=1
     rm -r -- "$room/journals"
 done
 
