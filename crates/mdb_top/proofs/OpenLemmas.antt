@@ -1,10 +1,19 @@
 -- Disks that are opened.
-use Rattle.std.proofs.Common.{◌≡◌, inl, inr, ℕ, zero, suc, ◌++◌, Bool, Some, List, [], ◌∷◌, length, slice_get, refl, sym, subst}
+use Rattle.std.proofs.Common.{◌≡◌, ◌<◌, inl, inr, ℕ, zero, suc, ◌++◌, Bool, IsTrue, Some, Result, Err, List, [], ◌∷◌, length, map, slice_get, refl, sym, ◌∙◌, ap, subst}
+use Rattle.std.proofs.lemmas.List.{length-map}
+use Rattle.mdb_base.specs.Counts.{HasCauseOf}
+use Rattle.order_laws.specs.Chains.{In}
 use Rattle.federation_run.proofs.Places.{before_or_last}
 use Rattle.journal_disk.specs.Disk.{Image, Seen}
 use Rattle.found_disks.specs.Reading.{images_of}
 use Rattle.fed_world.specs.Reopening.{AreSynced}
-use Rattle.mdb_top.specs.Opening.{IsOpened, Opens}
+use Rattle.file_disks.specs.declared.errors.OpenErr.{OpenErr}
+use Rattle.file_disks.specs.declared.errors.OpenErr.TheVariants as Open_err
+use Rattle.file_disks.specs.Stores.{IsLarge, journal_of}
+use Rattle.session_outputs.specs.Texts.{disk_failed_text}
+use Rattle.mdb_top.specs.Opening.{IsOpened, Opens, StopsAtOne, StoreSeen}
+use Rattle.mdb_top.specs.Streams.{Gets, Stream}
+use Rattle.mdb_top.specs.Texts.{disk_large_text, no_memory_text}
 
 -- of one disk more: each is one of those before, or the last one
 pub opens-more : (tells : Bool) (journals : List (List ℕ)) (opened : List Seen) (disk : Seen) → Opens tells journals opened → IsOpened tells journals (length opened) disk → Opens tells journals (opened ++ disk ∷ [])
@@ -23,3 +32,26 @@ opened_synced tells journals opened opens number image at =
     seen_at [] number image at = absurd cc
     seen_at (seen ∷ disks) zero image at = (seen, refl, (let same : seen.image ≡ image = cc in same))
     seen_at (seen ∷ disks) (suc number) image at = seen_at disks number image at
+
+-- the disks before one were opened, that one wasn't, and it was told why
+pub stops_at_one : {D T : Type 0} (see : D → Seen) (items : List D) (store : StoreSeen) (status number : ℕ) (sink : Stream) (why : OpenErr) → number ≡ length items → length items < 9
+    → Opens store.tells store.journals (map see items) → In status (5 ∷ 6 ∷ 12 ∷ []) → (status ≡ 5 → (why ≡ Open_err.Failed) × Gets sink (disk_failed_text number))
+    → (status ≡ 12 → (why ≡ Open_err.Large) × Gets sink (disk_large_text number)) → (status ≡ 6 → Gets sink no_memory_text)
+    → (◌≡◌ {A = Result T OpenErr} (Err why) (Err Open_err.Large) → IsTrue store.tells → IsLarge (journal_of (length items) store.journals))
+    → (◌≡◌ {A = Result T OpenErr} (Err why) (Err Open_err.Failed) → IsTrue store.tells → IsLarge (journal_of (length items) store.journals) → ⊥)
+    → HasCauseOf {T = T} Open_err.Failed store.faults_before store.faults_after (Err why) → StopsAtOne status store sink (map see items)
+stops_at_one see items store status number sink why counted few opens led failed large wanting is_large not_large cause =
+    let same : length (map see items) ≡ length items = length-map items see in
+    let told : number ≡ length (map see items) = counted ∙ sym same in
+    record {
+      few = subst (λ n. n < 9) (sym same) few;
+      opens = opens;
+      led = led;
+      failed = λ five. subst (λ n. Gets sink (disk_failed_text n)) told (failed five).1;
+      rose = λ five. cause.failed (ap Err (failed five).0);
+      not_large = λ five tells is. not_large (ap Err (failed five).0) tells (subst (λ n. IsLarge (journal_of n store.journals)) same is);
+      large = λ twelve. subst (λ n. Gets sink (disk_large_text n)) told (large twelve).1;
+      calm = λ twelve. cause.clean (λ fell. (let is = (large twelve).0 in cc));
+      is_large = λ twelve tells. subst (λ n. IsLarge (journal_of n store.journals)) (sym same) (is_large (ap Err (large twelve).0) tells);
+      no_memory = wanting;
+    }

@@ -1,5 +1,5 @@
 -- How a session ends that goes on: what was made of the disks was put, or why nothing was.
-use Rattle.std.proofs.Common.{◌≡◌, ◌⊎◌, ℕ, Result, Ok, Err, List, [], ◌∷◌, inl, inr, refl, sym, subst}
+use Rattle.std.proofs.Common.{◌≡◌, ◌⊎◌, ℕ, Ok, Err, List, [], ◌∷◌, inl, inr, refl, sym, subst}
 use Rattle.order_laws.specs.Chains.{In}
 use Rattle.fed_rules.specs.declared.commands.Command.{Command}
 use Rattle.fed_rules.specs.declared.scenario.Scenario.{Scenario}
@@ -7,8 +7,9 @@ use Rattle.fed_rules.specs.Story.{story_of}
 use Rattle.journal_disk.specs.Disk.{Seen}
 use Rattle.found_disks.specs.declared.errors.ReopenErr.{ReopenErr}
 use Rattle.found_disks.specs.declared.errors.ReopenErr.TheVariants.{Damaged, Disk, Foreign, Memory}
+use Rattle.found_disks.specs.Reading.{images_of}
 use Rattle.left_disks.specs.Left.{IsLeft}
-use Rattle.resume_output.specs.Resumes.{AllGoesOn, GoesOnFromLeft, IsRefusedAs, ResumesAs, ResumesBroken, ResumesWhole}
+use Rattle.resume_output.specs.Resumes.{AllGoesOn, GoesOnFromLeft, IsRefusedAs, ResumesAs, ResumesBroken, ResumesShort, ResumesWhole}
 use Rattle.session_outputs.specs.declared.output.Output.{Output}
 use Rattle.session_outputs.specs.declared.output.Output.TheVariants.{Whole, Broken}
 use Rattle.session_outputs.specs.Texts.{disk_failed_text}
@@ -17,11 +18,7 @@ use Rattle.mdb_top.specs.Endings.{GetsSome, IsPut, IsPutWhole}
 use Rattle.mdb_top.specs.Resuming.{IsRefusalPut, ResumeEnds, SomeFailed}
 use Rattle.mdb_top.specs.Streams.{Gets, Stream}
 use Rattle.mdb_top.specs.Texts.{disk_damaged_text, disk_foreign_text, no_memory_text}
-
-not_two : (status m n : ℕ) → (status ≡ m → ⊥) → (status ≡ n → ⊥) → In status (m ∷ n ∷ []) → ⊥
-not_two status m n f g (inl e) = f (sym e)
-not_two status m n f g (inr (inl e)) = g (sym e)
-not_two status m n f g (inr (inr e)) = e
+use Rattle.mdb_top.proofs.AuditLemmas.{not_two}
 
 not_four : (status a b c d : ℕ) → (status ≡ a → ⊥) → (status ≡ b → ⊥) → (status ≡ c → ⊥) → (status ≡ d → ⊥) → In status (a ∷ b ∷ c ∷ d ∷ []) → ⊥
 not_four status a b c d f g h k (inl e) = f (sym e)
@@ -34,8 +31,8 @@ Goes disks = (scenario : Scenario) (commands : List Command) → IsLeft disks sc
 
 module _ (sink : Stream) (old new : List Seen) where
   -- memory is wanting
-  short_ends : Goes old → Gets sink no_memory_text → ResumeEnds 6 sink old new
-  short_ends goes text = record {
+  short_ends : Goes old → ResumesShort old new → Gets sink no_memory_text → ResumeEnds 6 sink old new
+  short_ends goes short text = record {
     led = inr (inr (inr (inl refl)));
     done = λ e. absurd cc;
     no_write_failed = λ e. absurd cc;
@@ -44,6 +41,7 @@ module _ (sink : Stream) (old new : List Seen) where
     write_failed = λ e. absurd cc;
     broken = λ e. absurd cc;
     no_memory = λ e. text;
+    short = λ e. short;
     damaged = λ e. absurd cc;
     foreign = λ e. absurd cc;
     left = λ scenario commands l. (not_two 6 10 11 (λ e. cc) (λ e. cc), goes scenario commands l);
@@ -60,6 +58,7 @@ module _ (sink : Stream) (old new : List Seen) where
     write_failed = λ e. absurd cc;
     broken = λ e. broken;
     no_memory = λ e. absurd cc;
+    short = λ e. absurd cc;
     damaged = λ e. absurd cc;
     foreign = λ e. absurd cc;
     left = λ scenario commands l. (not_two 5 10 11 (λ e. cc) (λ e. cc), goes scenario commands l);
@@ -82,6 +81,7 @@ module _ (sink : Stream) (old new : List Seen) where
             write_failed = put.rose;
             broken = λ e. absurd (other 5 (λ f. cc) (λ f. cc) e);
             no_memory = λ e. absurd (other 6 (λ f. cc) (λ f. cc) e);
+            short = λ e. absurd (other 6 (λ f. cc) (λ f. cc) e);
             damaged = λ e. absurd (other 10 (λ f. cc) (λ f. cc) e);
             foreign = λ e. absurd (other 11 (λ f. cc) (λ f. cc) e);
             left = λ scenario commands l.
@@ -94,13 +94,13 @@ module _ (sink : Stream) (old new : List Seen) where
   output_ends status (Broken bytes) made left put = subst (λ (n : ℕ). ResumeEnds n sink old new) (sym put.0)
       (failed_ends (λ scenario commands l. (left scenario commands l).1) (inl (record { output = bytes.items; holds = made; put = put.1 })))
 
-  -- a text was said with its status, or memory was wanting for it
-  said_ends : (status own : ℕ) (text : List ℕ) → Goes old → IsSaid own text status sink → (Gets sink text → ResumeEnds own sink old new) → ResumeEnds status sink old new
-  said_ends status own text goes said ends = by_status said.either
+  -- a text was said with its status, or memory was wanting for it, and the bytes on the disks stay
+  said_ends : (status own : ℕ) (text : List ℕ) → Goes old → images_of new ≡ images_of old → IsSaid own text status sink → (Gets sink text → ResumeEnds own sink old new) → ResumeEnds status sink old new
+  said_ends status own text goes same said ends = by_status said.either
     where
       by_status : In status (own ∷ 6 ∷ []) → ResumeEnds status sink old new
       by_status (inl e) = subst (λ (n : ℕ). ResumeEnds n sink old new) e (ends (said.said (sym e)))
-      by_status (inr (inl e)) = subst (λ (n : ℕ). ResumeEnds n sink old new) e (short_ends goes (said.no_memory (sym e)))
+      by_status (inr (inl e)) = subst (λ (n : ℕ). ResumeEnds n sink old new) e (short_ends goes (inl same) (said.no_memory (sym e)))
       by_status (inr (inr e)) = absurd e
 
   -- a disk is damaged
@@ -114,6 +114,7 @@ module _ (sink : Stream) (old new : List Seen) where
     write_failed = λ e. absurd cc;
     broken = λ e. absurd cc;
     no_memory = λ e. absurd cc;
+    short = λ e. absurd cc;
     damaged = λ e. record { number = number; at = at; refused = refused; put = text };
     foreign = λ e. absurd cc;
     left = λ scenario commands l. absurd (left scenario commands l).0;
@@ -130,6 +131,7 @@ module _ (sink : Stream) (old new : List Seen) where
     write_failed = λ e. absurd cc;
     broken = λ e. absurd cc;
     no_memory = λ e. absurd cc;
+    short = λ e. absurd cc;
     damaged = λ e. absurd cc;
     foreign = λ e. record { number = number; refused = refused; put = text };
     left = λ scenario commands l. absurd (left scenario commands l).0;
@@ -138,10 +140,10 @@ module _ (sink : Stream) (old new : List Seen) where
   -- why no session goes on was put
   pub refusal_ends : (status : ℕ) (why : ReopenErr) → IsRefusedAs why old new → GoesOnFromLeft {T = Output} (Err why) old → IsRefusalPut status sink why → ResumeEnds status sink old new
   refusal_ends status (Damaged number at) refused left put =
-      said_ends status 10 (disk_damaged_text number at) (λ scenario commands l. (left scenario commands l).1) put (damaged_ends number at left refused)
+      said_ends status 10 (disk_damaged_text number at) (λ scenario commands l. (left scenario commands l).1) refused.0.images put (damaged_ends number at left refused)
   refusal_ends status (Foreign number) refused left put =
-      said_ends status 11 (disk_foreign_text number) (λ scenario commands l. (left scenario commands l).1) put (foreign_ends number left refused)
+      said_ends status 11 (disk_foreign_text number) (λ scenario commands l. (left scenario commands l).1) refused.0.images put (foreign_ends number left refused)
   refusal_ends status (Disk number) refused left put =
-      said_ends status 5 (disk_failed_text number) (λ scenario commands l. (left scenario commands l).1) put
+      said_ends status 5 (disk_failed_text number) (λ scenario commands l. (left scenario commands l).1) refused.0.images put
       (λ text. failed_ends (λ scenario commands l. (left scenario commands l).1) (inr (record { number = number; refused = refused; put = text })))
-  refusal_ends status Memory refused left put = subst (λ (n : ℕ). ResumeEnds n sink old new) (sym put.0) (short_ends (λ scenario commands l. (left scenario commands l).1) put.1)
+  refusal_ends status Memory refused left put = subst (λ (n : ℕ). ResumeEnds n sink old new) (sym put.0) (short_ends (λ scenario commands l. (left scenario commands l).1) refused put.1)

@@ -9,7 +9,7 @@ use Rattle.found_disks.specs.declared.errors.ReopenErr.{ReopenErr}
 use Rattle.found_disks.specs.declared.errors.ReopenErr.TheVariants.{Damaged, Disk, Foreign, Memory}
 use Rattle.found_disks.specs.Faults.{faults_of}
 use Rattle.left_disks.specs.Left.{IsLeft}
-use Rattle.resume_output.specs.Resumes.{AllGoesOn, IsRefusedAs, ResumesBroken, ResumesWhole}
+use Rattle.resume_output.specs.Resumes.{AllGoesOn, IsRefusedAs, ResumesBroken, ResumesShort, ResumesWhole}
 use Rattle.session_outputs.specs.Texts.{disk_failed_text}
 use Rattle.mdb_top.specs.Audits.{IsSaid}
 use Rattle.mdb_top.specs.Endings.{GetsAll, GetsFront, GetsSome}
@@ -46,6 +46,7 @@ pub record ResumeEnds (status : ℕ) (sink : Stream) (old new : List Seen) : Typ
   pub write_failed : status ≡ 4 → Rose sink
   pub broken : status ≡ 5 → GetsSome sink (λ output. ResumesBroken output old new) ⊎ SomeFailed sink old new
   pub no_memory : status ≡ 6 → Gets sink no_memory_text
+  pub short : status ≡ 6 → ResumesShort old new
   pub damaged : status ≡ 10 → SomeDamaged sink old new
   pub foreign : status ≡ 11 → SomeForeign sink old new
   -- the disks that a session left are neither damaged nor foreign, and the session goes on rightly from what is found on them: each attempt keeps its

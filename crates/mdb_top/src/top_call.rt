@@ -158,14 +158,14 @@ fn made<R: Threads + Wait + Sync, K: Sink, D: Disk + Send, G: Gate + Sync>(
     }
 }
 
-/// Carries out what the words ask for, over the source's bytes and with nine disks, of which disk a is that of actor a; puts what there
-/// is to say, and answers the status: 0 where all is done; 1 where the words are no command; 2 where the bytes are no session, or no
-/// scenario of a run; 3 where a read failed; 4 where the sink failed while the output was put; 5 where a call of a disk failed; 6 where
-/// memory was wanting; 7 where there are more than 4,194,304 bytes; 8 where a disk isn't empty, the least of which is named; 9 where an
-/// audited run doesn't agree with its scenario, with the first line that differs; 10 where a disk is damaged, and 11 where none is and a
-/// journal isn't one that a session leaves, the least such disk of which is named (this project's profile). The words don't hold the
-/// program's name; `store FOLDER` is a replay on the disks that are handed in, and `resume FOLDER` goes on from them. What a source or a sink doesn't tell, nothing is said of. The
-/// gate is called at the start of each call on a host of a run, under that host's lock.
+/// Carries out what the words ask for, over the source's bytes and with nine disks, of which disk a is that of actor a; puts what there is
+/// to say, and answers the status: 0 where all is done; 1 where the words are no command; 2 where the bytes are no session, or no scenario
+/// of a run; 3 where a read failed; 4 where the sink failed while the output was put; 5 where a call of a disk failed; 6 where memory was
+/// wanting; 7 where there are more than 4,194,304 bytes; 8 where a disk isn't empty, the least of which is named; 9 where an audited run
+/// doesn't agree with its scenario, with the first line that differs; 10 where a disk is damaged, and 11 where none is and a journal isn't
+/// one that a session leaves, the least such disk of which is named (this project's profile). The words don't hold the program's name;
+/// `store FOLDER` is a replay on the disks that are handed in, and `resume FOLDER` goes on from them. What a source or a sink doesn't tell,
+/// nothing is said of. The gate is called at the start of each call on a host of a run, under that host's lock.
 pub fn federate<R: Threads + Wait + Sync, S: Source, K: Sink, D: Disk + Send, G: Gate + Sync>(
     rt: &R,
     alloc: Global,

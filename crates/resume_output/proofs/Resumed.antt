@@ -1,5 +1,5 @@
 -- A session that goes on: what it is, what is printed of it, and what is said of the disks.
-use Rattle.std.proofs.Common.{◌≡◌, ◌++◌, ℕ, IsTrue, Option, Some, None, List, [], ◌∷◌, Result, Ok, Err, length, length-set, map, reverse, inl, inr, refl, sym, ap, subst, ◌∙◌}
+use Rattle.std.proofs.Common.{◌≡◌, ◌++◌, ℕ, Bool, IsTrue, Option, Some, None, List, [], ◌∷◌, Result, Ok, Err, length, length-set, reverse, inl, inr, refl, sym, ap, subst, ◌∙◌}
 use Rattle.std.proofs.lemmas.List.{length-map, reverse-reverse}
 use Rattle.mdb_base.specs.declared.names.Memory.{Memory}
 use Rattle.mdb_base.specs.Words.{Each}
@@ -11,7 +11,7 @@ use Rattle.fed_rules.specs.declared.scenario.Scenario.{Scenario}
 use Rattle.fed_rules.specs.Found.{Found, Journal}
 use Rattle.fed_rules.specs.Resumed.{going_on, plan_of, resuming}
 use Rattle.fed_rules.specs.Sessions.{Session}
-use Rattle.fed_rules.specs.Story.{Story, story_in, story_of}
+use Rattle.fed_rules.specs.Story.{story_in, story_of}
 use Rattle.journal_disk.specs.Disk.{Image, Seen}
 use Rattle.resume_laws.specs.FoundSessions.{AreUsable}
 use Rattle.line_text.specs.Fits.{line_fits}
@@ -27,14 +27,18 @@ use Rattle.left_disks.specs.Left as Left
 use Rattle.left_disks.specs.Left.{IsLeft, LeftDisksAreAccepted, LeftDisksGoOn}
 use Rattle.fed_world.specs.declared.errors.WorldErr.{WorldErr}
 use Rattle.fed_world.specs.declared.errors.WorldErr.TheVariants as World_err
+use Rattle.fed_world.specs.declared.world.World.{World}
 use Rattle.fed_world.specs.Beginnings.{Begins, GoesOn}
 use Rattle.fed_world.specs.Faults.{CountsTell}
 use Rattle.fed_world.specs.Lines.{AreLinesIn}
 use Rattle.fed_world.specs.Reporting.{found_report, report_by, report_for}
+use Rattle.closing.specs.Towards.{BreaksAt, IsShort}
+use Rattle.session_outputs.proofs.Holding.{AreSized}
+use Rattle.session_outputs.proofs.Kept.{actor_breaks, stands_keeps}
 use Rattle.session_outputs.specs.declared.output.Output.{Output}
 use Rattle.session_outputs.specs.declared.output.Output.TheVariants.{Whole, Broken}
 use Rattle.session_outputs.specs.Outputs.{IfBroken, IfWhole}
-use Rattle.resume_output.specs.Resumes.{AllGoesOn, GoesOnFromLeft, IsFoundOn, IsPrintedBehind, IsRefusedAs, NoneIsBad, ResumesAs, ResumesBroken, ResumesWhole, answered}
+use Rattle.resume_output.specs.Resumes.{AllGoesOn, BreaksBehind, GoesOnFromLeft, IsRefusedAs, NoneIsBad, ResumesAs, ResumesBroken, ResumesShort, ResumesWhole, StandsBehind, answered}
 
 -- its report is that of what is found: the journal of a coordinator is there
 pub found_reported : (session : Session) (commands : List Command) → GoesOn session → report_for session (story_in session commands) ≡ found_report session.found (story_in session commands)
@@ -105,24 +109,35 @@ pub refused_as : (why : ReopenErr) (old new : List Seen) → FindsAs (Err why) (
 refused_as (Err_is.Damaged number at) old new finds same told = (record { finds = finds; images = same }, told)
 refused_as (Err_is.Foreign number) old new finds same told = (record { finds = finds; images = same }, told)
 refused_as (Err_is.Disk number) old new finds same told = (record { finds = finds; images = same }, told)
-refused_as Err_is.Memory old new finds same told = tt
+refused_as Err_is.Memory old new finds same told = inl same
 
-pub whole_answered : (made : Result Output Memory) (old new : List Seen) → IfWhole made (λ bytes. ResumesWhole bytes old new) → ResumesAs (answered made) old new
-whole_answered (Ok (Whole bytes)) old new p = p
-whole_answered (Ok (Broken bytes)) old new p = absurd p
-whole_answered (Err why) old new p = tt
+-- an output was made, or memory was wanting for it
+pub whole_answered : (made : Result Output Memory) (old new : List Seen) → IfWhole made (λ bytes. ResumesWhole bytes old new) → ResumesShort old new → ResumesAs (answered made) old new
+whole_answered (Ok (Whole bytes)) old new p short = p
+whole_answered (Ok (Broken bytes)) old new p short = absurd p
+whole_answered (Err why) old new p short = short
 
-pub broken_answered : (made : Result Output Memory) (old new : List Seen) → IfBroken made (λ bytes. ResumesBroken bytes old new) → ResumesAs (answered made) old new
-broken_answered (Ok (Whole bytes)) old new p = absurd p
-broken_answered (Ok (Broken bytes)) old new p = p
-broken_answered (Err why) old new p = tt
-
-pub if_whole : (made : Result Output Memory) (P Q : List ℕ → Type 0) → ((bytes : List ℕ) → P bytes → Q bytes) → IfWhole made P → IfWhole made Q
-if_whole (Ok (Whole bytes)) P Q f p = f bytes.items p
-if_whole (Ok (Broken bytes)) P Q f p = p
-if_whole (Err why) P Q f p = p
+pub broken_answered : (made : Result Output Memory) (old new : List Seen) → IfBroken made (λ bytes. ResumesBroken bytes old new) → ResumesShort old new → ResumesAs (answered made) old new
+broken_answered (Ok (Whole bytes)) old new p short = absurd p
+broken_answered (Ok (Broken bytes)) old new p short = p
+broken_answered (Err why) old new p short = short
 
 pub if_broken : (made : Result Output Memory) (P Q : List ℕ → Type 0) → ((bytes : List ℕ) → P bytes → Q bytes) → IfBroken made P → IfBroken made Q
 if_broken (Ok (Whole bytes)) P Q f p = p
 if_broken (Ok (Broken bytes)) P Q f p = f bytes.items p
 if_broken (Err why) P Q f p = p
+
+-- ---- what is on the disks on the way to rest
+
+-- where a world breaks on the way to rest
+pub breaks_behind : (tells : Bool) (world : World) (old disks : List Seen) (found : Found) (number : ℕ) → IsTrue tells → AreSized disks → GoesOn (going_on found) → RisesAt number old disks
+    → (b : BreaksAt number tells world disks (resuming found) (going_on found) []) → (broke : BreaksBehind number found old disks) × (broke.done ≡ b.done ++ [])
+breaks_behind tells world old disks found number told sized goes rose b =
+    let (seen, at, stop, others) = actor_breaks tells world disks told sized (going_on found) goes b.broken.others b.command (story_in (going_on found) (b.done ++ [])) number b.broken.actor in
+    (record { done = b.done ++ []; command = b.command; left = b.left; of_all = b.of_whole; rose = rose; disk = seen; own = at; stop = stop; others = others }, refl)
+
+-- where memory is wanting on the way to rest
+pub stands_behind : (tells : Bool) (world : World) (disks : List Seen) (found : Found) → IsTrue tells → AreSized disks → GoesOn (going_on found) → IsShort tells world disks (resuming found) (going_on found) []
+    → StandsBehind found disks
+stands_behind tells world disks found told sized goes s =
+    record { done = s.done ++ []; left = s.left; of_all = s.of_whole; kept = stands_keeps tells world disks (going_on found) (s.done ++ []) told sized goes s.stood }

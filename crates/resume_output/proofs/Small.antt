@@ -1,10 +1,14 @@
 -- Journals that are short enough.
-use Rattle.std.proofs.Common.{◌≡◌, ◌≤◌, ◌<◌, ◌+◌, ◌^◌, ◌&&◌, ℕ, zero, suc, nat_le, Bool, true, false, List, [], ◌∷◌, length, map, arith, refl, sym, ap, subst}
+use Rattle.std.proofs.Common.{◌≡◌, ◌≤◌, ◌^◌, ◌&&◌, ℕ, zero, suc, nat_le, Bool, true, false, List, [], ◌∷◌, length, map, None, arith, refl, sym, ◌∙◌, ap, subst}
 use Rattle.std.proofs.lemmas.Bool.{leb-true}
 use Rattle.mdb_base.specs.Words.{each_of}
 use Rattle.journal_disk.specs.Disk.{Image, Seen}
-use Rattle.found_disks.specs.FoundLines.{AreShort}
-use Rattle.found_disks.specs.Reading.{images_of}
+use Rattle.fed_rules.specs.Resumed.{going_on}
+use Rattle.found_disks.specs.declared.reading.Journals.{Journals}
+use Rattle.found_disks.specs.Finding.{NamesOf, found_in}
+use Rattle.found_disks.specs.FoundLines.{AreShort, FoundSessionsBeginShortly}
+use Rattle.found_disks.specs.Reading.{AreRead, images_of}
+use Rattle.closing.specs.Steps.{CanClose}
 use Rattle.resume_output.specs.Sizes.{are_small}
 
 -- each of the disks is
@@ -28,6 +32,10 @@ are_short see told (one ∷ items) small zero image at =
 are_short see told (one ∷ items) small (suc place) image at =
     are_short see told items (both (nat_le (see one).size (2 ^ 26)) (are_small (map see items)) small).1 place image at
 
--- a session that begins with few lines may be closed
-pub few_lines : (n : ℕ) → n < 2 ^ 27 → n + 0 < 2 ^ 29
-few_lines n few = omega (arith, few)
+-- so a session that goes on from them may be closed
+pub may_close : {D : Type 0} → FoundSessionsBeginShortly → (see : D → Seen) → ((one : D) → length (see one).image.bytes ≡ (see one).size) → (items handed : List D) (small : Bool)
+    → handed ≡ items → small ≡ are_small (map see handed) → small ≡ true → (journals : Journals) → AreRead (images_of (map see items)) journals → NamesOf journals None
+    → CanClose (going_on (found_in (images_of (map see items)) journals)) []
+may_close law see told items handed small same is true_is journals read named =
+    let few : are_small (map see items) ≡ true = ap (λ xs. are_small (map see xs)) (sym same) ∙ (sym is ∙ true_is) in
+    omega (arith, law (images_of (map see items)) journals read named (are_short see told items few))

@@ -1,5 +1,5 @@
 -- What becomes of a session that goes on from nine disks.
-use Rattle.std.specs.Prelude.{ℕ, ◌≡◌, List, ◌∷◌, ◌++◌, Result, Ok, Err}
+use Rattle.std.specs.Prelude.{ℕ, ◌≡◌, ◌⊎◌, Some, List, ◌∷◌, ◌++◌, Result, Ok, Err, slice_get}
 use Rattle.mdb_base.specs.declared.names.Memory.{Memory}
 use Rattle.fed_rules.specs.declared.commands.Command.{Command}
 use Rattle.fed_rules.specs.declared.commands.Line.{Line}
@@ -24,6 +24,8 @@ use Rattle.fed_world.specs.Beginnings.{GoesOn}
 use Rattle.fed_world.specs.Lines.{AreLinesIn}
 use Rattle.fed_world.specs.Reporting.{found_report}
 use Rattle.fed_world.specs.Worlds.{Rests}
+use Rattle.session_outputs.specs.Breaks.{ActorStops}
+use Rattle.session_outputs.specs.Kept.{CoordKeeps, KeepAll, KeepOthers, SiteKeeps}
 use Rattle.session_outputs.specs.declared.output.Output.{Output}
 use Rattle.session_outputs.specs.declared.output.Output.TheVariants.{Whole, Broken}
 use Rattle.session_outputs.specs.Texts.{disk_failed_text}
@@ -50,31 +52,59 @@ pub record IsPrintedBehind (text : List ℕ) (session : Session) (commands : Lis
   pub lines_are : AreLinesIn lines session commands
   pub text_is : text ≡ lines_bytes lines ++ rest_bytes (found_report session.found (story_in session commands))
 
+-- ---- what is on the disks on the way to rest
+
+-- some of the commands that bring it to rest were carried out, and each disk has the records that its actor keeps behind them
+pub record StandsBehind (found : Found) (disks : List Seen) : Type 0 where
+  pub done : List Command
+  pub left : List Command
+  pub of_all : resuming found ≡ left ++ done
+  pub kept : KeepAll disks (plan_of found) (story_in (going_on found) done)
+
+-- a call of this disk failed within the command behind some of these: its count of faults rose and no other. It has the records that some stop within
+-- the command's event leaves, and each other disk those that its actor keeps
+pub record BreaksBehind (number : ℕ) (found : Found) (old new : List Seen) : Type 0 where
+  pub done : List Command
+  pub command : Command
+  pub left : List Command
+  pub of_all : resuming found ≡ left ++ command ∷ done
+  pub rose : RisesAt number old new
+  pub disk : Seen
+  pub own : slice_get new number ≡ Some disk
+  pub stop : ActorStops (CoordKeeps disk.image) (SiteKeeps disk.image) number command (plan_of found) (story_in (going_on found) done)
+  pub others : KeepOthers number new (plan_of found) (story_in (going_on found) done)
+
 -- ---- what is answered
 
--- every actor came back and the session was closed, and no disk failed: every actor is up, no trip is armed, and nothing is live, in doubt or known. The
--- output is the lines of these commands, and what is reported behind the reads
+-- every actor came back and the session was closed, and no disk failed: every actor is up, no trip is armed, and nothing is live, in doubt or known. Each
+-- disk has the records that its actor keeps. The output is the lines of these commands, and what is reported behind the reads
 pub record ResumesWhole (output : List ℕ) (old new : List Seen) : Type 0 where
   pub found : Found
   pub is_found : IsFoundOn old found
   pub printed : IsPrintedBehind output (going_on found) (resuming found)
   pub rests : IsAtRest (plan_of found) (resumed found)
+  pub kept : KeepAll new (plan_of found) (resumed found)
   pub calm : faults_of new ≡ faults_of old
 
--- a call of a disk failed within the command behind some of these: its count of faults rose and no other. The output is the lines of those, which are
--- right, and behind them which disk
+-- a call of a disk failed on the way to rest. The output is the lines of the commands before, which are right, and behind them which disk
 pub record ResumesBroken (output : List ℕ) (old new : List Seen) : Type 0 where
   pub found : Found
   pub is_found : IsFoundOn old found
   pub number : ℕ
-  pub done : List Command
-  pub command : Command
-  pub left : List Command
-  pub of_all : resuming found ≡ left ++ command ∷ done
+  pub broke : BreaksBehind number found old new
   pub lines : List Line
-  pub lines_are : AreLinesIn lines (going_on found) done
+  pub lines_are : AreLinesIn lines (going_on found) broke.done
   pub output_is : output ≡ lines_bytes lines ++ disk_failed_text number
-  pub rose : RisesAt number old new
+
+-- memory was wanting on the way to rest, or for what is to be put behind it
+pub record StopsShort (old new : List Seen) : Type 0 where
+  pub found : Found
+  pub is_found : IsFoundOn old found
+  pub where_to : StandsBehind found new ⊎ (number : ℕ) × BreaksBehind number found old new
+
+-- or before it: the bytes on the disks stay
+abbrev pub ResumesShort : List Seen → List Seen → Type 0
+ResumesShort old new = (images_of new ≡ images_of old) ⊎ StopsShort old new
 
 -- no session goes on: the first damaged disk is named exactly where one is, and else the first one that isn't usable; a disk is said to have failed only
 -- where its count of faults rose while the journals were read. The bytes on the disks stay
@@ -87,7 +117,7 @@ abbrev pub IsRefusedAs : ReopenErr → List Seen → List Seen → Type 0
 IsRefusedAs (Err_is.Damaged number at) old new = StopsAtOnce (Err_is.Damaged number at) old new × (faults_of new ≡ faults_of old)
 IsRefusedAs (Err_is.Foreign number) old new = StopsAtOnce (Err_is.Foreign number) old new × (faults_of new ≡ faults_of old)
 IsRefusedAs (Err_is.Disk number) old new = StopsAtOnce (Err_is.Disk number) old new × RisesAt number old new
-IsRefusedAs Err_is.Memory old new = Unit {0}
+IsRefusedAs Err_is.Memory old new = ResumesShort old new
 
 -- what was made, or why nothing was
 abbrev pub answered : Result Output Memory → Result Output ReopenErr

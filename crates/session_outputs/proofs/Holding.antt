@@ -14,6 +14,7 @@ use Rattle.fed_rules.specs.Requests.{Request, Submits, Declines}
 use Rattle.fed_rules.specs.Scenarios.{global_program, home_of}
 use Rattle.fed_rules.specs.SitePast.{SitePast, disk}
 use Rattle.fed_rules.specs.SiteRecords.{Home}
+use Rattle.fed_rules.specs.Sessions.{fresh}
 use Rattle.fed_rules.specs.Story.{Story, coord_past, coord_requested, happens, past_of, requested, story_of}
 use Rattle.journal_disk.specs.Disk.{Seen}
 use Rattle.actor_store.specs.declared.errors.StepErr.TheVariants as Step_err
@@ -28,10 +29,12 @@ use Rattle.conservative_take.specs.declared.any_policy.AnyPolicy.{AnyPolicy}
 use Rattle.any_engine.specs.declared.engine.AnyEngine.{AnyEngine}
 use Rattle.local_dbms.specs.declared.dbms.LocalDbms.{LocalDbms}
 use Rattle.local_dbms.specs.Stands as Dbms
-use Rattle.local_dbms.specs.Stands.{own_programs}
+use Rattle.local_dbms.specs.Stands.{OwnPrograms, own_programs}
 use Rattle.site_core.specs.Made.{was_found}
-use Rattle.site_core.specs.Stands.{stopped_past}
+use Rattle.site_core.specs.Stands.{StopAt, stopped_past}
 use Rattle.coord_core.specs.Found as Coord_found
+use Rattle.coord_core.specs.Stands.{stopped_before, stopped_within}
+use Rattle.coord_tables.specs.Terms.{Terms}
 use Rattle.fed_world.specs.declared.world.World.{World}
 use Rattle.fed_world.specs.Asks.{terms_of}
 use Rattle.fed_world.specs.Faults.{RisesAt, faults_of}
@@ -57,22 +60,21 @@ all_sized see sized (one ∷ items) zero seen at = let same : see one ≡ seen =
 all_sized see sized (one ∷ items) (suc place) seen at = all_sized see sized items place seen at
 
 -- what stands at a place is one thing
-one_at : (disks : List Seen) (place : ℕ) (a b : Seen) → slice_get disks place ≡ Some a → slice_get disks place ≡ Some b → a ≡ b
+pub one_at : (disks : List Seen) (place : ℕ) (a b : Seen) → slice_get disks place ≡ Some a → slice_get disks place ≡ Some b → a ≡ b
 one_at disks place a b e f = let both : Some a ≡ Some b = sym e ∙ f in cc
 
 -- the number of a declared site
-numbered : (scenario : Scenario) (n : ℕ) (home : Home) → home_of scenario (record { 0 = n }) ≡ Some home → home.site.0 ≡ n
+pub numbered : (scenario : Scenario) (n : ℕ) (home : Home) → home_of scenario (record { 0 = n }) ≡ Some home → home.site.0 ≡ n
 numbered scenario n home declared = ap (λ (s : SiteId). s.0) (its-site scenario (record { 0 = n }) home declared)
 
 -- ---- each disk holds what the rules say
 
 -- that of an actor that stands for its past
-coord_holds : (tells : Bool) (disks : List Seen) (manager : GlobalManager AnyPolicy) (scenario : Scenario) (story : Story) (seen : Seen)
-    → Coord_found.was_found (coord_past story) ≡ false → ManagerStands tells disks manager (terms_of scenario) (global_program scenario) (coord_past story) → slice_get disks 0 ≡ Some seen
-    → CoordHolds seen.image (coord_past story)
-coord_holds tells disks manager scenario story seen new m at =
-    subst (λ (s : Seen). CoordHolds s.image (coord_past story)) (one_at disks 0 m.disk seen m.own at)
-    (coord_bytes tells m.disk (stored manager.core.store) (Coordinator.disk (coord_past story)) _ (all_written new m.holds.core.stored))
+coord_holds : (tells : Bool) (disks : List Seen) (manager : GlobalManager AnyPolicy) (scenario : Scenario) (past : CoordPast) (seen : Seen)
+    → Coord_found.was_found past ≡ false → ManagerStands tells disks manager (terms_of scenario) (global_program scenario) past → slice_get disks 0 ≡ Some seen → CoordHolds seen.image past
+coord_holds tells disks manager scenario past seen new m at =
+    subst (λ (s : Seen). CoordHolds s.image past) (one_at disks 0 m.disk seen m.own at)
+    (coord_bytes tells m.disk (stored manager.core.store) (Coordinator.disk past) _ (all_written new m.holds.core.stored))
 
 site_holds : (tells : Bool) (disks : List Seen) (dbms : LocalDbms AnyEngine) (scenario : Scenario) (home : Home) (past : SitePast) (seen : Seen)
     → was_found past ≡ false → DbmsStands tells disks dbms home (own_programs home.site scenario.transactions) past → slice_get disks home.site.0 ≡ Some seen → SiteHolds seen.image home past
@@ -87,13 +89,13 @@ no_byte disks place seen sized at none = nothing_left seen.image.bytes (sized pl
 pub stands_hold_all : (tells : Bool) (world : World) (disks : List Seen) (scenario : Scenario) (commands : List Command) → AreSized disks → Stands tells world disks scenario commands
     → HoldAll disks scenario (story_of scenario commands)
 stands_hold_all tells world disks scenario commands sized s zero seen at =
-    coord_holds tells disks world.cores.coordinator scenario (story_of scenario commands) seen (coord_not_found scenario commands) s.stand.actors.coordinator at
+    coord_holds tells disks world.cores.coordinator scenario (coord_past (story_of scenario commands)) seen (coord_not_found scenario commands) s.stand.actors.coordinator at
 stands_hold_all tells world disks scenario commands sized s (suc n) seen at = by_home (home_of scenario (record { 0 = suc n })) refl
   where
     by_home : (o : Option Home) → home_of scenario (record { 0 = suc n }) ≡ o → HoldsAt seen.image o (story_of scenario commands)
     by_home None e = no_byte disks (suc n) seen sized at (s.stand.others.others (record { 0 = suc n }) seen (omega arith) e at)
     by_home (Some home) e =
-        let held = site_held (DbmsStands tells disks) world.cores.sites.items.items world.cores.marks.items world.traffic.items scenario (story_of scenario commands) home
+        let held = site_held (DbmsStands tells disks) world.cores.sites.items.items world.cores.marks.items world.traffic.items (fresh scenario) (story_of scenario commands) home
         (home-again scenario (record { 0 = suc n }) home e) s.stand.actors.sites in
         site_holds tells disks held.dbms scenario home (past_of home.site (story_of scenario commands)) seen (site_not_found scenario commands home (home-again scenario (record { 0 = suc n }) home e)) held.holds
         (subst (λ k. slice_get disks k ≡ Some seen) (sym (numbered scenario (suc n) home e)) at)
@@ -112,7 +114,7 @@ stands_hold_frames tells world disks scenario commands told sized rest s (suc n)
     by_home : (o : Option Home) → home_of scenario (record { 0 = suc n }) ≡ o → seen.image.bytes ≡ site_frames o (story_of scenario commands)
     by_home None e = no_byte disks (suc n) seen sized at (s.stand.others.others (record { 0 = suc n }) seen (omega arith) e at)
     by_home (Some home) e =
-        let held = site_held (DbmsStands tells disks) world.cores.sites.items.items world.cores.marks.items world.traffic.items scenario (story_of scenario commands) home
+        let held = site_held (DbmsStands tells disks) world.cores.sites.items.items world.cores.marks.items world.traffic.items (fresh scenario) (story_of scenario commands) home
         (home-again scenario (record { 0 = suc n }) home e) s.stand.actors.sites in
         let d = held.holds in
         let store = held.dbms.core.store in
@@ -123,39 +125,29 @@ stands_hold_frames tells world disks scenario commands told sized rest s (suc n)
 
 -- ---- a call of a disk failed at a command
 
--- what the coordinator's disk holds then
-module _ (tells : Bool) (manager : GlobalManager AnyPolicy) (disks : List Seen) (scenario : Scenario) (story : Story) (seen : Seen) (at : slice_get disks 0 ≡ Some seen) (new : Coord_found.was_found (coord_past story) ≡ false) where
-  coord_past_holds : (past : CoordPast) → Coord_found.was_found past ≡ false → ManagerStands tells disks manager (terms_of scenario) (global_program scenario) past → CoordHolds seen.image past
-  coord_past_holds past begun m =
-      subst (λ (s : Seen). CoordHolds s.image past) (one_at disks 0 m.disk seen m.own at) (coord_bytes tells m.disk (stored manager.core.store) (Coordinator.disk past) _ (all_written begun m.holds.core.stored))
+-- what holds of the coordinator's disk wherever the coordinator stands for a past holds of what the failed call left
+pub coord_stops : (K : Terms → OwnPrograms → CoordPast → Type 0) (M : CoordPast → Type 0) (scenario : Scenario) (story : Story) (command : Command) (asked : Request CoordEvent)
+    → ((cut : ℕ) → K (terms_of scenario) (global_program scenario) (stopped_before (terms_of scenario) (coord_past story) cut) → M (stopped_before (terms_of scenario) (coord_past story) cut))
+    → ((event : CoordEvent) (calls cut : ℕ) → K (terms_of scenario) (global_program scenario) (stopped_within (terms_of scenario) (coord_past story) event calls cut)
+        → M (stopped_within (terms_of scenario) (coord_past story) event calls cut))
+    → happens scenario story command ≡ coord_requested scenario story asked
+    → Manager.Fails K Step_err.Disk (terms_of scenario) (global_program scenario) (coord_past story) asked → CoordinatorStops M command scenario story
+coord_stops K M scenario story command (Declines answer) before within e f = absurd f
+coord_stops K M scenario story command (Submits event) before within e (inl f) = record { event = event; happens = e; stop = inl (f.cut, before f.cut f.stood) }
+coord_stops K M scenario story command (Submits event) before within e (inr f) =
+    record { event = event; happens = e; stop = inr (f.calls, f.cut, f.stops, within event f.calls f.cut f.stood) }
 
-  pub coord_stops : (command : Command) (asked : Request CoordEvent) → happens scenario story command ≡ coord_requested scenario story asked
-      → Manager.Fails (ManagerStands tells disks manager) Step_err.Disk (terms_of scenario) (global_program scenario) (coord_past story) asked → CoordinatorStops seen.image command scenario story
-  coord_stops command (Declines answer) e f = absurd f
-  coord_stops command (Submits event) e (inl before) = record { event = event; happens = e; stop = inl (before.cut, coord_past_holds _ (before_not_found (terms_of scenario) (coord_past story) before.cut new) before.stood) }
-  coord_stops command (Submits event) e (inr within) = record { event = event; happens = e; stop = inr (within.calls, within.cut, within.stops, coord_past_holds _ (within_not_found (terms_of scenario) (coord_past story) event within.calls within.cut new) within.stood) }
-
--- what a site's disk holds then
-module _ (tells : Bool) (dbms : LocalDbms AnyEngine) (disks : List Seen) (scenario : Scenario) (story : Story) (home : Home) (seen : Seen) (at : slice_get disks home.site.0 ≡ Some seen) (new : was_found (past_of home.site story) ≡ false) where
-  site_stops : (command : Command) (asked : Request SiteEvent) (number : ℕ) → number ≡ home.site.0 → home_of scenario home.site ≡ Some home → happens scenario story command ≡ requested home story asked
-      → Dbms.Fails (DbmsStands tells disks dbms) Step_err.Disk home (own_programs home.site scenario.transactions) (past_of home.site story) asked → SiteStops number seen.image command scenario story
-  site_stops command (Declines answer) number n declared e f = absurd f
-  site_stops command (Submits event) number n declared e f = record {
-    home = home;
-    declared = declared;
-    number_is = n;
-    event = event;
-    happens = e;
-    stop = (f.0, site_holds tells disks dbms scenario home (stopped_past home (past_of home.site story) event f.0) seen (stopped_not_found home (past_of home.site story) event f.0 new) f.1 at, f.2);
-  }
-
-  -- some disk of this number is there
-  pub site_stops_at : (command : Command) (asked : Request SiteEvent) (number : ℕ) → number ≡ home.site.0 → home_of scenario home.site ≡ Some home → happens scenario story command ≡ requested home story asked
-      → Dbms.Fails (DbmsStands tells disks dbms) Step_err.Disk home (own_programs home.site scenario.transactions) (past_of home.site story) asked → SiteStops number seen.image command scenario story
-  site_stops_at = site_stops
+-- and so of a site's
+pub site_stops : (S : Home → OwnPrograms → SitePast → Type 0) (K : Home → SitePast → Type 0) (scenario : Scenario) (story : Story) (home : Home) (programs : OwnPrograms) (command : Command) (asked : Request SiteEvent) (number : ℕ)
+    → ((event : SiteEvent) (at : StopAt) → S home programs (stopped_past home (past_of home.site story) event at) → K home (stopped_past home (past_of home.site story) event at))
+    → number ≡ home.site.0 → home_of scenario home.site ≡ Some home → happens scenario story command ≡ requested home story asked
+    → Dbms.Fails S Step_err.Disk home programs (past_of home.site story) asked → SiteStops number K command scenario story
+site_stops S K scenario story home programs command (Declines answer) number held n declared e f = absurd f
+site_stops S K scenario story home programs command (Submits event) number held n declared e f =
+    record { home = home; declared = declared; number_is = n; event = event; happens = e; stop = (f.0, held event f.0 f.1, f.2) }
 
 -- the disk of a number is there
-there_at : (disks : List Seen) (number : ℕ) → number < length disks → (seen : Seen) × (slice_get disks number ≡ Some seen)
+pub there_at : (disks : List Seen) (number : ℕ) → number < length disks → (seen : Seen) × (slice_get disks number ≡ Some seen)
 there_at [] number lt = absurd (omega arith)
 there_at (seen ∷ disks) zero lt = (seen, refl)
 there_at (seen ∷ disks) (suc number) lt = there_at disks number (omega arith)
@@ -165,24 +157,33 @@ coord_breaks : (tells : Bool) (world : World) (old disks : List Seen) (command :
     → CoordinatorBroke tells world disks command scenario (story_of scenario commands) → BreaksAtNext 0 old disks command scenario (story_of scenario commands)
 coord_breaks tells world old disks command scenario commands sized are rose b = by_disk (there_at disks 0 (omega (arith, are.nine)))
   where
-    others : HoldOthers 0 disks scenario (story_of scenario commands)
+    story : Story
+    story = story_of scenario commands
+
+    new : Coord_found.was_found (coord_past story) ≡ false
+    new = coord_not_found scenario commands
+
+    others : HoldOthers 0 disks scenario story
     others zero seen at apart = absurd (apart refl)
     others (suc n) seen at apart = by_home (home_of scenario (record { 0 = suc n })) refl
       where
-        by_home : (o : Option Home) → home_of scenario (record { 0 = suc n }) ≡ o → HoldsAt seen.image o (story_of scenario commands)
+        by_home : (o : Option Home) → home_of scenario (record { 0 = suc n }) ≡ o → HoldsAt seen.image o story
         by_home None e = no_byte disks (suc n) seen sized at (are.others (record { 0 = suc n }) seen (omega arith) e at)
         by_home (Some home) e =
-            let held = site_held (DbmsStands tells disks) world.cores.sites.items.items world.cores.marks.items world.traffic.items scenario (story_of scenario commands) home
+            let held = site_held (DbmsStands tells disks) world.cores.sites.items.items world.cores.marks.items world.traffic.items (fresh scenario) story home
             (home-again scenario (record { 0 = suc n }) home e) b.sites in
-            site_holds tells disks held.dbms scenario home (past_of home.site (story_of scenario commands)) seen (site_not_found scenario commands home (home-again scenario (record { 0 = suc n }) home e)) held.holds
+            site_holds tells disks held.dbms scenario home (past_of home.site story) seen (site_not_found scenario commands home (home-again scenario (record { 0 = suc n }) home e)) held.holds
             (subst (λ k. slice_get disks k ≡ Some seen) (sym (numbered scenario (suc n) home e)) at)
 
-    by_disk : (seen : Seen) × (slice_get disks 0 ≡ Some seen) → BreaksAtNext 0 old disks command scenario (story_of scenario commands)
+    by_disk : (seen : Seen) × (slice_get disks 0 ≡ Some seen) → BreaksAtNext 0 old disks command scenario story
     by_disk (seen, at) = record {
       rose = rose;
       disk = seen;
       own = at;
-      stop = coord_stops tells world.cores.coordinator disks scenario (story_of scenario commands) seen at (coord_not_found scenario commands) command b.asked b.happens b.coordinator;
+      stop = coord_stops (ManagerStands tells disks world.cores.coordinator) (CoordHolds seen.image) scenario story command b.asked
+          (λ cut m. coord_holds tells disks world.cores.coordinator scenario _ seen (before_not_found (terms_of scenario) (coord_past story) cut new) m at)
+          (λ event calls cut m. coord_holds tells disks world.cores.coordinator scenario _ seen (within_not_found (terms_of scenario) (coord_past story) event calls cut new) m at)
+          b.happens b.coordinator;
       others = others;
     }
 
@@ -195,13 +196,13 @@ site_breaks n tells world old disks command scenario commands sized are rose b =
     story = story_of scenario commands
 
     others : HoldOthers (suc n) disks scenario story
-    others zero seen at apart = coord_holds tells disks world.cores.coordinator scenario story seen (coord_not_found scenario commands) b.coordinator at
+    others zero seen at apart = coord_holds tells disks world.cores.coordinator scenario (coord_past story) seen (coord_not_found scenario commands) b.coordinator at
     others (suc k) seen at apart = by_home (home_of scenario (record { 0 = suc k })) refl
       where
         by_home : (o : Option Home) → home_of scenario (record { 0 = suc k }) ≡ o → HoldsAt seen.image o story
         by_home None e = no_byte disks (suc k) seen sized at (are.others (record { 0 = suc k }) seen (omega arith) e at)
         by_home (Some home) e =
-            let held = site_held (StandsBut (suc n) tells disks) world.cores.sites.items.items world.cores.marks.items world.traffic.items scenario story home
+            let held = site_held (StandsBut (suc n) tells disks) world.cores.sites.items.items world.cores.marks.items world.traffic.items (fresh scenario) story home
             (home-again scenario (record { 0 = suc k }) home e) b.sites in
             let own : home.site.0 ≡ suc k = numbered scenario (suc k) home e in
             site_holds tells disks held.dbms scenario home (past_of home.site story) seen (site_not_found scenario commands home (home-again scenario (record { 0 = suc k }) home e)) (held.holds (λ same. apart (sym own ∙ same)))
@@ -216,7 +217,9 @@ site_breaks n tells world old disks command scenario commands sized are rose b =
           rose = rose;
           disk = d.disk;
           own = subst (λ k. slice_get disks k ≡ Some d.disk) (sym b.number_is) d.own;
-          stop = site_stops_at tells b.dbms disks scenario story b.home d.disk d.own (site_not_found scenario commands b.home b.declared) command (Submits event) (suc n) b.number_is b.declared e f;
+          stop = site_stops (DbmsStands tells disks b.dbms) (SiteHolds d.disk.image) scenario story b.home (own_programs b.home.site scenario.transactions) command (Submits event) (suc n)
+              (λ event at d'. site_holds tells disks b.dbms scenario b.home _ d.disk (stopped_not_found b.home (past_of b.home.site story) event at (site_not_found scenario commands b.home b.declared)) d' d.own)
+              b.number_is b.declared e f;
           others = others;
         }
 

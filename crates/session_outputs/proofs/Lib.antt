@@ -1,10 +1,11 @@
 mod Again
 mod Ending
-mod Holding
+pub mod Holding
 mod NotFound
 mod HostsHeard
+pub mod Kept
 mod MakeLemmas
-mod OutputLemmas
+pub mod OutputLemmas
 mod PlayLemmas
 mod Recalled
 mod Rights

@@ -10,6 +10,7 @@ use Rattle.fed_rules.specs.Happenings.{Trip}
 use Rattle.fed_rules.specs.SiteRecords.{site_frame}
 use Rattle.journal_disk.specs.Disk.{Image, Seen}
 use Rattle.journal_disk.specs.Frames.{Frame, frames}
+use Rattle.frame_journal.specs.Journal.{IsKeptOn}
 use Rattle.frame_journal.specs.Records.{AreRecordsOf, as_written, entry_frame, spelled, spelled_size}
 use Rattle.frame_journal.proofs.Keeping.{length-frames, none_is_part, not_torn}
 use Rattle.journal_rules.specs.Stands.{CountsFrames, record_frame}
@@ -26,6 +27,23 @@ use Rattle.site_journal.specs.Exact as site_exact
 use Rattle.site_journal.specs.Frames as site_frames
 use Rattle.site_journal.specs.Spelling as of_site
 use Rattle.left_disks.specs.Holding.{HoldsRecords}
+
+-- while an actor is up nothing stands behind the frames of its entries
+pub nothing_behind : {R : Type 0} (spelling : R → List ℕ) (tells : Bool) (seen : Seen) (store : Stored R) (rules : Disk R) → IsTrue tells → length seen.image.bytes ≡ seen.size → is_up store.standing ≡ true
+    → IsInOrder store.standing store.journal rules → IsKeptOn spelling tells seen store.journal → seen.image.bytes ≡ spelled (entry_frame spelling) store.journal.entries
+nothing_behind spelling tells seen store rules told sized up order kept =
+    let entries = store.journal.entries in
+    let are = kept.records told in
+    let whole : store.journal.is_torn ≡ false = untorn store.standing up order in
+    let most = not_torn store.journal.is_torn (spelled_size (entry_frame spelling) entries) seen.size kept.is_torn whole in
+    let parts : length seen.image.bytes ≡ length (spelled (entry_frame spelling) entries ++ are.rest) = ap length are.parts in
+    let none : are.rest ≡ [] = nothing_left are.rest (omega (arith, most, parts, sized, length-append (spelled (entry_frame spelling) entries) are.rest, length-frames (map (entry_frame spelling) entries))) in
+    are.parts ∙ ap (λ rest. spelled (entry_frame spelling) entries ++ rest) none ∙ append-nil (spelled (entry_frame spelling) entries)
+  where
+    untorn : (standing : Standing) → is_up standing ≡ true → IsInOrder standing store.journal rules → store.journal.is_torn ≡ false
+    untorn Up e o = o
+    untorn Down e o = absurd cc
+    untorn Failing e o = absurd cc
 
 module _ {R : Type 0} (spelling : R → List ℕ) (reading : List ℕ → Option R) (is_record : R → Type 0) (frame_bytes : R → ℕ) (counts : CountsFrames spelling frame_bytes) (again : (entry : R) → is_record entry → reading (spelling entry) ≡ Some entry) where
   -- the bytes on a store's disk are those of the rules, and each record is one of the format
@@ -55,19 +73,8 @@ module _ {R : Type 0} (spelling : R → List ℕ) (reading : List ℕ → Option
   holds_frames : (tells : Bool) (seen : Seen) (store : Stored R) (rules : Disk R) (trip : Option Trip) → IsTrue tells → length seen.image.bytes ≡ seen.size → is_up store.standing ≡ true
       → Keeps spelling is_record frame_bytes tells seen store rules trip → seen.image.bytes ≡ spelled (record_frame spelling) (reverse (journal frame_bytes rules))
   holds_frames tells seen store rules trip told sized up k =
-      let entries = store.journal.entries in
-      let are = k.kept_on.records told in
-      let whole : store.journal.is_torn ≡ false = untorn store.standing up k.in_order in
-      let most = not_torn store.journal.is_torn (spelled_size (entry_frame spelling) entries) seen.size k.kept_on.is_torn whole in
-      let parts : length seen.image.bytes ≡ length (spelled (entry_frame spelling) entries ++ are.rest) = ap length are.parts in
-      let none : are.rest ≡ [] = nothing_left are.rest (omega (arith, most, parts, sized, length-append (spelled (entry_frame spelling) entries) are.rest, length-frames (map (entry_frame spelling) entries))) in
-      are.parts ∙ ap (λ rest. spelled (entry_frame spelling) entries ++ rest) none ∙ append-nil (spelled (entry_frame spelling) entries)
+      nothing_behind spelling tells seen store rules told sized up k.in_order k.kept_on
       ∙ ap (λ es. spelled (entry_frame spelling) es) k.records ∙ written_frames (reverse (journal frame_bytes rules))
-    where
-      untorn : (standing : Standing) → is_up standing ≡ true → IsInOrder standing store.journal rules → store.journal.is_torn ≡ false
-      untorn Up e o = o
-      untorn Down e o = absurd cc
-      untorn Failing e o = absurd cc
 
 -- of the coordinator
 pub coord_bytes : (tells : Bool) (seen : Seen) (store : Stored CoordRecord) (rules : Disk CoordRecord) (trip : Option Trip) → Keeps of_coordinator.spelling of_coordinator.IsRecord coord_frame tells seen store rules trip

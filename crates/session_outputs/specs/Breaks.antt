@@ -12,7 +12,7 @@ use Rattle.fed_rules.specs.Scenarios.{home_of, sites}
 use Rattle.fed_rules.specs.SitePast.{SitePast, set_up_calls}
 use Rattle.fed_rules.specs.SiteRecords.{Home}
 use Rattle.fed_rules.specs.Story.{Story, at_coordinator, at_site, coord_past, happens, past_of}
-use Rattle.journal_disk.specs.Disk.{Image, Seen}
+use Rattle.journal_disk.specs.Disk.{Seen}
 use Rattle.coord_core.specs.Stands.{stopped_before, stopped_within, with_trip}
 use Rattle.coord_tables.specs.Terms.{Terms, line_of}
 use Rattle.site_core.specs.Stands.{StopAt, stopped_past}
@@ -22,40 +22,39 @@ use Rattle.fed_world.specs.Faults.{RisesAt}
 use Rattle.left_disks.specs.Holding.{CoordHolds, HoldOthers, SiteHolds}
 use Rattle.session_outputs.specs.Disks.{AreSetUp, NothingBut}
 
--- the coordinator's disk holds what a stop before the event leaves
-abbrev pub StopsBefore : Image → Terms → CoordPast → Type 0
-StopsBefore image terms past = (cut : ℕ) × CoordHolds image (stopped_before terms past cut)
+-- the disk of the coordinator holds, as this fact says, what a stop before the event leaves
+abbrev pub StopsBefore : (CoordPast → Type 0) → Terms → CoordPast → Type 0
+StopsBefore M terms past = (cut : ℕ) × M (stopped_before terms past cut)
 
 -- or what a stop right after some disk call of the event leaves
-abbrev pub StopsWithin : Image → Terms → CoordPast → CoordEvent → Type 0
-StopsWithin image terms past event =
-    (calls : ℕ) × (cut : ℕ) × (stops (line_of terms (with_trip terms past calls cut) event).answer ≡ true)
-    × CoordHolds image (stopped_within terms past event calls cut)
+abbrev pub StopsWithin : (CoordPast → Type 0) → Terms → CoordPast → CoordEvent → Type 0
+StopsWithin M terms past event =
+    (calls : ℕ) × (cut : ℕ) × (stops (line_of terms (with_trip terms past calls cut) event).answer ≡ true) × M (stopped_within terms past event calls cut)
 
 -- the command is this event of the coordinator, and its disk holds what some stop within the event leaves
-pub record CoordinatorStops (image : Image) (command : Command) (scenario : Scenario) (story : Story) : Type 0 where
+pub record CoordinatorStops (M : CoordPast → Type 0) (command : Command) (scenario : Scenario) (story : Story) : Type 0 where
   pub event : CoordEvent
   pub happens : happens scenario story command ≡ at_coordinator scenario story event
-  pub stop : StopsBefore image (terms_of scenario) (coord_past story) ⊎ StopsWithin image (terms_of scenario) (coord_past story) event
+  pub stop : StopsBefore M (terms_of scenario) (coord_past story) ⊎ StopsWithin M (terms_of scenario) (coord_past story) event
 
 -- a site's disk holds what a stop before the event, or right after one of its disk calls, leaves
-abbrev pub SiteStopsWithin : Image → Home → SitePast → SiteEvent → Type 0
-SiteStopsWithin image home past event =
-    (at : StopAt) × SiteHolds image home (stopped_past home past event at) × (is_down (stopped_past home past event at) ≡ true)
+abbrev pub SiteStopsWithin : (Home → SitePast → Type 0) → Home → SitePast → SiteEvent → Type 0
+SiteStopsWithin K home past event =
+    (at : StopAt) × K home (stopped_past home past event at) × (is_down (stopped_past home past event at) ≡ true)
 
 -- the command is this event of the site of this number, and its disk holds what some stop within the event leaves
-pub record SiteStops (number : ℕ) (image : Image) (command : Command) (scenario : Scenario) (story : Story) : Type 0 where
+pub record SiteStops (number : ℕ) (K : Home → SitePast → Type 0) (command : Command) (scenario : Scenario) (story : Story) : Type 0 where
   pub home : Home
   pub declared : home_of scenario home.site ≡ Some home
   pub number_is : number ≡ home.site.0
   pub event : SiteEvent
   pub happens : happens scenario story command ≡ at_site home story event
-  pub stop : SiteStopsWithin image home (past_of home.site story) event
+  pub stop : SiteStopsWithin K home (past_of home.site story) event
 
 -- so it is of the actor of this number
-abbrev pub ActorStops : ℕ → Image → Command → Scenario → Story → Type 0
-ActorStops zero image command scenario story = CoordinatorStops image command scenario story
-ActorStops (suc n) image command scenario story = SiteStops (suc n) image command scenario story
+abbrev pub ActorStops : (CoordPast → Type 0) → (Home → SitePast → Type 0) → ℕ → Command → Scenario → Story → Type 0
+ActorStops M K zero command scenario story = CoordinatorStops M command scenario story
+ActorStops M K (suc n) command scenario story = SiteStops (suc n) K command scenario story
 
 -- behind these commands a call of this disk failed within the event of the next one: its count of faults rose and no other, it holds what some stop
 -- within that event leaves, and each other disk what the rules say
@@ -63,7 +62,7 @@ pub record BreaksAtNext (number : ℕ) (old new : List Seen) (command : Command)
   pub rose : RisesAt number old new
   pub disk : Seen
   pub own : slice_get new number ≡ Some disk
-  pub stop : ActorStops number disk.image command scenario story
+  pub stop : ActorStops (CoordHolds disk.image) (SiteHolds disk.image) number command scenario story
   pub others : HoldOthers number new scenario story
 
 -- a call of this disk failed while its site was set up: its count of faults rose and no other, it holds what some stop within the set-up leaves, the

@@ -1,5 +1,6 @@
 -- the nine disks, and what a failed call leaves on them
 pub mod Disks
+pub mod Kept
 pub mod Breaks
 -- a session, and what becomes of its commands
 pub mod Sessions

@@ -1,20 +1,26 @@
-use Rattle.std.proofs.Common.{◌≡◌, ◌++◌, true, List, [], ◌∷◌, map, refl, sym, ap, subst, ◌∙◌}
+use Rattle.std.proofs.Common.{◌≡◌, ◌++◌, [], ◌∷◌, length, map, inl, inr, refl, sym, subst, ◌∙◌}
 use Rattle.std.proofs.lemmas.List.{length-map}
 use Rattle.session_outputs.specs.declared.output.Output.{Output}
 use Rattle.fed_rules.specs.Resumed.{going_on, resuming}
-use Rattle.closing.specs.Towards.{BreaksAt, FailsToward}
+use Rattle.closing.specs.Towards.{BreaksAt, FailsToward, IsShort}
 use Rattle.fed_world.specs.declared.errors.WorldErr.{WorldErr}
 use Rattle.fed_world.specs.declared.errors.WorldErr.TheVariants as World_err
-use Rattle.fed_world.specs.Faults.{FailedAs}
+use Rattle.fed_world.specs.Faults.{FailedAs, RisesAt}
+use Rattle.fed_world.specs.Lines.{AreLinesIn}
 use Rattle.fed_world.proofs.Faults.{failed_later}
 use Rattle.fed_world.proofs.Recalled.{recalls}
 use Rattle.found_disks.specs.Finding.{found_in}
 use Rattle.found_disks.specs.Reading.{images_of}
-use Rattle.resume_output.specs.Resumes.{GoesOnFromLeft, ResumesAs}
-use Rattle.resume_output.specs.Sizes.{are_small}
-use Rattle.resume_output.proofs.Small.{are_short, few_lines}
-use Rattle.resume_output.proofs.Resumed.{answered_left, as_many_disks, broken_answered, found_goes_on, if_broken, if_whole, lines_fit, printed_front, refused_as, refused_left, short_left, whole_answered}
+use Rattle.session_outputs.proofs.Holding.{all_sized}
+use Rattle.session_outputs.proofs.OutputLemmas.{whole_weaker}
+use Rattle.resume_output.specs.Resumes.{GoesOnFromLeft, IsFoundOn, ResumesAs}
+use Rattle.session_outputs.proofs.Kept.{stands_keeps}
+use Rattle.resume_output.proofs.Small.{may_close}
+use Rattle.resume_output.proofs.Resumed.{answered_left, as_many_disks, breaks_behind, broken_answered, found_goes_on, if_broken, lines_fit, printed_front, refused_as, refused_left, short_left, stands_behind, whole_answered}
 use Rattle.resume_output.proofs.resuming.resume_output_of.Goals as goal
+
+pub returns-then-not-are_small-clause-output : goal.returns-then-not-are_small-clause-output
+returns-then-not-are_small-clause-output g c = inl refl
 
 pub returns-then-not-are_small-clause-left : goal.returns-then-not-are_small-clause-left
 returns-then-not-are_small-clause-left g c = short_left c.left_disks_go_on.ensures (map g.D.Disk.seen c.args.disks.now.items)
@@ -39,13 +45,12 @@ close-requires-clause-stood g c =
     let seen = g.D.Disk.seen in
     let old = map seen c.args.disks.now.items in
     let r = c.in-Ok.ensures.reopened in
-    let small : are_small old ≡ true = ap (λ (items : List g.row.D.Denot). are_small (map seen items)) (sym c.as_slice.ensures.value) ∙ (sym c.are_small.ensures ∙ c.if-not-are_small.false) in
-    let short = are_short seen (λ one. g.met.D.Disk.told_size one c.requires.told) c.args.disks.now.items small in
+    let sized : (one : g.row.D.Denot) → length (seen one).image.bytes ≡ (seen one).size = λ one. g.met.D.Disk.told_size one c.requires.told in
     record {
       session = going_on (found_in (images_of old) r.journals);
       commands = [];
       stood = r.stands;
-      holds = few_lines _ (c.found_sessions_begin_shortly.ensures (images_of old) r.journals r.read r.named short);
+      holds = may_close c.found_sessions_begin_shortly.ensures seen sized c.args.disks.now.items _ _ c.as_slice.ensures.value c.are_small.ensures c.if-not-are_small.false r.journals r.read r.named;
     }
 
 pub printed-requires-clause-stood : goal.printed-requires-clause-stood
@@ -55,9 +60,8 @@ printed-requires-clause-stood g c =
     let new = map seen c.close.new.disks.items in
     let r = c.in-Ok.ensures.reopened in
     let found = found_in (images_of old) r.journals in
-    let small : are_small old ≡ true = ap (λ (items : List g.row.D.Denot). are_small (map seen items)) (sym c.as_slice.ensures.value) ∙ (sym c.are_small.ensures ∙ c.if-not-are_small.false) in
-    let short = are_short seen (λ one. g.met.D.Disk.told_size one c.requires.told) c.args.disks.now.items small in
-    let can = few_lines _ (c.found_sessions_begin_shortly.ensures (images_of old) r.journals r.read r.named short) in
+    let sized : (one : g.row.D.Denot) → length (seen one).image.bytes ≡ (seen one).size = λ one. g.met.D.Disk.told_size one c.requires.told in
+    let can = may_close c.found_sessions_begin_shortly.ensures seen sized c.args.disks.now.items _ _ c.as_slice.ensures.value c.are_small.ensures c.if-not-are_small.false r.journals r.read r.named in
     record {
       session = going_on found;
       commands = resuming found;
@@ -71,9 +75,8 @@ printed-requires-clause-fit g c =
     let old = map seen c.args.disks.now.items in
     let r = c.in-Ok.ensures.reopened in
     let found = found_in (images_of old) r.journals in
-    let small : are_small old ≡ true = ap (λ (items : List g.row.D.Denot). are_small (map seen items)) (sym c.as_slice.ensures.value) ∙ (sym c.are_small.ensures ∙ c.if-not-are_small.false) in
-    let short = are_short seen (λ one. g.met.D.Disk.told_size one c.requires.told) c.args.disks.now.items small in
-    let can = few_lines _ (c.found_sessions_begin_shortly.ensures (images_of old) r.journals r.read r.named short) in
+    let sized : (one : g.row.D.Denot) → length (seen one).image.bytes ≡ (seen one).size = λ one. g.met.D.Disk.told_size one c.requires.told in
+    let can = may_close c.found_sessions_begin_shortly.ensures seen sized c.args.disks.now.items _ _ c.as_slice.ensures.value c.are_small.ensures c.if-not-are_small.false r.journals r.read r.named in
     let stood = c.in-Ok-close.ensures.done (going_on found) [] r.stands can in
     lines_fit c.resumed_lines_fit.ensures.all found (found_goes_on (images_of old) r.journals r.stands.has.begins).usable (resuming found) c.close.new.world.lines.items
     (c.sessions_close_heard.ensures.resuming found [] (resuming found) refl) (record { commands_are = stood.has.commands_are; right = stood.has.right })
@@ -85,23 +88,26 @@ returns-in-Ok-close-clause-output g c =
     let new = map seen c.close.new.disks.items in
     let r = c.in-Ok.ensures.reopened in
     let found = found_in (images_of old) r.journals in
-    let small : are_small old ≡ true = ap (λ (items : List g.row.D.Denot). are_small (map seen items)) (sym c.as_slice.ensures.value) ∙ (sym c.are_small.ensures ∙ c.if-not-are_small.false) in
-    let short = are_short seen (λ one. g.met.D.Disk.told_size one c.requires.told) c.args.disks.now.items small in
-    let can = few_lines _ (c.found_sessions_begin_shortly.ensures (images_of old) r.journals r.read r.named short) in
+    let sized : (one : g.row.D.Denot) → length (seen one).image.bytes ≡ (seen one).size = λ one. g.met.D.Disk.told_size one c.requires.told in
+    let can = may_close c.found_sessions_begin_shortly.ensures seen sized c.args.disks.now.items _ _ c.as_slice.ensures.value c.are_small.ensures c.if-not-are_small.false r.journals r.read r.named in
     let goes = found_goes_on (images_of old) r.journals r.stands.has.begins in
-    let stood = recalls g.D.Disk.tells c.close.new.world new (going_on found) (resuming found) (c.in-Ok-close.ensures.done (going_on found) [] r.stands can) in
+    let is_found : IsFoundOn old found = record { journals = r.journals; read = r.read; is = refl; usable = goes.usable } in
+    let stood = c.in-Ok-close.ensures.done (going_on found) [] r.stands can in
     let rests = c.in-Ok-close.ensures.rests (going_on found) [] r.stands can in
+    let kept = stands_keeps g.D.Disk.tells c.close.new.world new (going_on found) (resuming found) c.requires.told (all_sized seen sized c.close.new.disks.items) goes stood in
     subst (λ result. ResumesAs result old new) (sym c.answered.ensures)
     (whole_answered c.printed.result old new
-    (if_whole c.printed.result _ _
+    (whole_weaker c.printed.result _ _
     (λ bytes printed. record {
       found = found;
-      is_found = record { journals = r.journals; read = r.read; is = refl; usable = goes.usable };
-      printed = printed (going_on found) (resuming found) stood (record { goes_on = goes; rests = rests });
+      is_found = is_found;
+      printed = printed (going_on found) (resuming found) (recalls g.D.Disk.tells c.close.new.world new (going_on found) (resuming found) stood) (record { goes_on = goes; rests = rests });
       rests = rests;
+      kept = kept;
       calm = c.in-Ok-close.ensures.cause ∙ c.in-Ok.ensures.cause;
     })
-    c.printed.ensures))
+    c.printed.ensures)
+    (inr (record { found = found; is_found = is_found; where_to = inl (record { done = resuming found; left = []; of_all = refl; kept = kept }) })))
 
 pub returns-in-Ok-close-clause-left : goal.returns-in-Ok-close-clause-left
 returns-in-Ok-close-clause-left g c =
@@ -119,9 +125,8 @@ broken-requires g c =
     let old = map seen c.args.disks.now.items in
     let r = c.in-Ok.ensures.reopened in
     let found = found_in (images_of old) r.journals in
-    let small : are_small old ≡ true = ap (λ (items : List g.row.D.Denot). are_small (map seen items)) (sym c.as_slice.ensures.value) ∙ (sym c.are_small.ensures ∙ c.if-not-are_small.false) in
-    let short = are_short seen (λ one. g.met.D.Disk.told_size one c.requires.told) c.args.disks.now.items small in
-    let can = few_lines _ (c.found_sessions_begin_shortly.ensures (images_of old) r.journals r.read r.named short) in
+    let sized : (one : g.row.D.Denot) → length (seen one).image.bytes ≡ (seen one).size = λ one. g.met.D.Disk.told_size one c.requires.told in
+    let can = may_close c.found_sessions_begin_shortly.ensures seen sized c.args.disks.now.items _ _ c.as_slice.ensures.value c.are_small.ensures c.if-not-are_small.false r.journals r.read r.named in
     let b : BreaksAt c.in-Err-Disk.number g.D.Disk.tells c.close.new.world (map seen c.close.new.disks.items) (resuming found) (going_on found) [] =
     subst (λ (why : WorldErr). FailsToward g.D.Disk.tells why c.close.new.world (map seen c.close.new.disks.items) (resuming found) (going_on found) []) c.in-Err-Disk.field-0-is
     (c.in-Err-Disk.ensures.failed (going_on found) [] r.stands can) in
@@ -137,31 +142,30 @@ returns-in-Err-Disk-clause-output g c =
     let new = map seen c.close.new.disks.items in
     let r = c.in-Ok.ensures.reopened in
     let found = found_in (images_of old) r.journals in
-    let small : are_small old ≡ true = ap (λ (items : List g.row.D.Denot). are_small (map seen items)) (sym c.as_slice.ensures.value) ∙ (sym c.are_small.ensures ∙ c.if-not-are_small.false) in
-    let short = are_short seen (λ one. g.met.D.Disk.told_size one c.requires.told) c.args.disks.now.items small in
-    let can = few_lines _ (c.found_sessions_begin_shortly.ensures (images_of old) r.journals r.read r.named short) in
+    let sized : (one : g.row.D.Denot) → length (seen one).image.bytes ≡ (seen one).size = λ one. g.met.D.Disk.told_size one c.requires.told in
+    let can = may_close c.found_sessions_begin_shortly.ensures seen sized c.args.disks.now.items _ _ c.as_slice.ensures.value c.are_small.ensures c.if-not-are_small.false r.journals r.read r.named in
     let goes = found_goes_on (images_of old) r.journals r.stands.has.begins in
     let b : BreaksAt c.in-Err-Disk.number g.D.Disk.tells c.close.new.world (map seen c.close.new.disks.items) (resuming found) (going_on found) [] =
     subst (λ (why : WorldErr). FailsToward g.D.Disk.tells why c.close.new.world (map seen c.close.new.disks.items) (resuming found) (going_on found) []) c.in-Err-Disk.field-0-is
     (c.in-Err-Disk.ensures.failed (going_on found) [] r.stands can) in
+    let is_found : IsFoundOn old found = record { journals = r.journals; read = r.read; is = refl; usable = goes.usable } in
+    let rose : RisesAt c.in-Err-Disk.number old new =
+    failed_later (World_err.Disk c.in-Err-Disk.number) old mid new c.in-Ok.ensures.cause (subst (λ (why : WorldErr). FailedAs why mid new) c.in-Err-Disk.field-0-is c.in-Err-Disk.ensures.cause) in
+    let broke = breaks_behind g.D.Disk.tells c.close.new.world old new found c.in-Err-Disk.number c.requires.told (all_sized seen sized c.close.new.disks.items) goes rose b in
     subst (λ result. ResumesAs result old new) (sym c.answered-in-Err-Disk.ensures)
     (broken_answered c.broken.result old new
     (if_broken c.broken.result _ _
     (λ bytes is. record {
       found = found;
-      is_found = record { journals = r.journals; read = r.read; is = refl; usable = goes.usable };
+      is_found = is_found;
       number = c.in-Err-Disk.number;
-      done = b.done ++ [];
-      command = b.command;
-      left = b.left;
-      of_all = b.of_whole;
+      broke = broke.0;
       lines = c.lines.result.now;
-      lines_are = c.lines.ensures.right (going_on found) (b.done ++ []) b.broken.has;
+      lines_are = subst (λ done. AreLinesIn c.lines.result.now (going_on found) done) (sym broke.1) (c.lines.ensures.right (going_on found) (b.done ++ []) b.broken.has);
       output_is = is;
-      rose = failed_later (World_err.Disk c.in-Err-Disk.number) old mid new c.in-Ok.ensures.cause
-          (subst (λ (why : WorldErr). FailedAs why mid new) c.in-Err-Disk.field-0-is c.in-Err-Disk.ensures.cause);
     })
-    c.broken.ensures))
+    c.broken.ensures)
+    (inr (record { found = found; is_found = is_found; where_to = inr (c.in-Err-Disk.number, broke.0) })))
 
 pub returns-in-Err-Disk-clause-left : goal.returns-in-Err-Disk-clause-left
 returns-in-Err-Disk-clause-left g c =
@@ -172,6 +176,25 @@ pub returns-in-Err-Disk-clause-nine : goal.returns-in-Err-Disk-clause-nine
 returns-in-Err-Disk-clause-nine g c =
     sym (length-map c.close.new.disks.items g.D.Disk.seen)
     ∙ (as_many_disks c.close.result _ _ c.close.ensures.cause ∙ (length-map c.reopen.new.disks.items g.D.Disk.seen ∙ c.in-Ok.ensures.count))
+
+pub returns-in-Ok-clause-output : goal.returns-in-Ok-clause-output
+returns-in-Ok-clause-output g c =
+    let seen = g.D.Disk.seen in
+    let old = map seen c.args.disks.now.items in
+    let new = map seen c.close.new.disks.items in
+    let r = c.in-Ok.ensures.reopened in
+    let found = found_in (images_of old) r.journals in
+    let sized : (one : g.row.D.Denot) → length (seen one).image.bytes ≡ (seen one).size = λ one. g.met.D.Disk.told_size one c.requires.told in
+    let can = may_close c.found_sessions_begin_shortly.ensures seen sized c.args.disks.now.items _ _ c.as_slice.ensures.value c.are_small.ensures c.if-not-are_small.false r.journals r.read r.named in
+    let goes = found_goes_on (images_of old) r.journals r.stands.has.begins in
+    let s : IsShort g.D.Disk.tells c.close.new.world new (resuming found) (going_on found) [] =
+    subst (λ (why : WorldErr). FailsToward g.D.Disk.tells why c.close.new.world new (resuming found) (going_on found) []) c.in-Err-Memory.field-0-is
+    (c.in-Err-Memory.ensures.failed (going_on found) [] r.stands can) in
+    inr (record {
+      found = found;
+      is_found = record { journals = r.journals; read = r.read; is = refl; usable = goes.usable };
+      where_to = inl (stands_behind g.D.Disk.tells c.close.new.world new found c.requires.told (all_sized seen sized c.close.new.disks.items) goes s);
+    })
 
 pub returns-in-Ok-clause-left : goal.returns-in-Ok-clause-left
 returns-in-Ok-clause-left g c = short_left c.left_disks_go_on.ensures (map g.D.Disk.seen c.args.disks.now.items)
