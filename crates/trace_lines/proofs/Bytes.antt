@@ -1,11 +1,10 @@
 -- What the bytes of decimal numbers are, and what a list of bytes lacks.
-use Rattle.std.proofs.Common.{◌≡◌, ◌≢◌, ◌⊎◌, ℕ, zero, suc, ◌<◌, ◌^◌, List, [], ◌∷◌, length, get_or, decimal, arith, rules}
+use Rattle.std.proofs.Common.{◌≡◌, ◌≢◌, ◌⊎◌, inl, inr, ℕ, zero, suc, ◌<◌, ◌^◌, List, [], ◌∷◌, length, get_or, decimal, ap, arith, rules}
 use Rattle.std.specs.Int.{IsInRange}
 use Rattle.std.specs.List.{AllByRecursion}
 use Rattle.std.specs.Str.Parse.{digits_value}
 use Rattle.std.proofs.lemmas.Str.Parse.{IsNumeralModel, numerals_by_value}
-use Rattle.std.proofs.lemmas.Fmt.{digits_decimal, digits_value-decimal}
-use Rattle.mdb_base.proofs.EachLaws.{all_append}
+use Rattle.std.proofs.lemmas.Fmt.{digits_decimal, digits_value-decimal, decimal_digit, first_decimal}
 
 -- a weaker fact holds of each item too
 pub all_weaker : {A : Type 0} (P Q : A → Type 0) (xs : List A) → ((x : A) → P x → Q x) → AllByRecursion P xs → AllByRecursion Q xs
@@ -16,7 +15,7 @@ all_weaker P Q (x ∷ xs) f h = (f x h.0, all_weaker P Q xs f h.1)
 abbrev pub AreDigits : List ℕ → Type 0
 AreDigits = AllByRecursion (IsInRange 48 57)
 
-own : IsNumeralModel AreDigits (digits_value 10)
+pub own : IsNumeralModel AreDigits (digits_value 10)
 own = numerals_by_value AreDigits (search rules)
 
 pub digits-decimal : (n : ℕ) → n < 2 ^ 64 → AreDigits (decimal n)
@@ -24,6 +23,11 @@ digits-decimal n h = digits_decimal own n h
 
 pub value-decimal : (n : ℕ) → n < 2 ^ 64 → digits_value 10 (decimal n) ≡ n
 value-decimal n h = digits_value-decimal own n h
+
+-- a number begins with `0` only where that stands alone
+pub decimal_leads : (n : ℕ) → n < 2 ^ 64 → (48 < get_or (decimal n) 0 0) ⊎ (length (decimal n) ≡ 1)
+decimal_leads zero small = inr (ap length (decimal_digit 0 (omega arith)))
+decimal_leads (suc n) small = inl (first_decimal (suc n) (omega arith) small)
 
 -- a byte that doesn't stand in the list
 abbrev pub Lacks : ℕ → List ℕ → Type 0

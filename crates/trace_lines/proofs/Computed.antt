@@ -1,11 +1,11 @@
 -- What is computed of bytes is what is spelled so: the parts of a word, a word, and a line.
-use Rattle.std.proofs.Common.{◌≡◌, ◌⊎◌, inl, inr, ℕ, zero, suc, ◌<◌, ◌^◌, Bool, true, false, cond, ◌&&◌, eqb, IsTrue, List, [], ◌∷◌, ◌++◌, map, length, get_or, Option, Some, None, option_and_then, Result, Ok, Err, IfOk, IsErrOf, decimal, refl, sym, ap, ◌∙◌, subst, arith}
+use Rattle.std.proofs.Common.{◌≡◌, ◌⊎◌, inl, inr, ℕ, ◌<◌, ◌^◌, Bool, true, false, cond, ◌&&◌, eqb, IsTrue, List, [], ◌∷◌, ◌++◌, map, length, get_or, Option, Some, None, option_and_then, Result, Ok, Err, IfOk, IsErrOf, decimal, refl, sym, ap, ◌∙◌, subst, arith}
 use Rattle.std.specs.Char.{is_digit}
 use Rattle.std.specs.List.{join_with_byte}
 use Rattle.std.specs.Str.{bytes_eq}
 use Rattle.std.specs.Str.Parse.{AllDigits, digits_value}
 use Rattle.std.proofs.lemmas.Bool.{ltb-true, lt-ltb, eq-eqb, eqb-true, false≢true}
-use Rattle.std.proofs.lemmas.Fmt.{decimal-digits_value, decimal_digit, decimal_nonempty, first_decimal, digits_decimal, digits_value-decimal}
+use Rattle.std.proofs.lemmas.Fmt.{decimal-digits_value, decimal_nonempty, digits_decimal, digits_value-decimal}
 use Rattle.std.proofs.lemmas.Option.{none-some, same_Some, cond_some}
 use Rattle.std.proofs.lemmas.List.Splits.{join_with_byte-slice_split}
 use Rattle.std.proofs.lemmas.Slice.Eq.{bytes_eq-Decides}
@@ -29,7 +29,7 @@ use Rattle.trace_lines.specs.declared.error.LineErr.{LineErr}
 use Rattle.trace_lines.specs.declared.error.LineErr.TheVariants as errors
 use Rattle.trace_lines.specs.Reading.{Gives, Reads, line_of, tids_of}
 use Rattle.trace_lines.specs.Lexed.{keywords, keyword_in, leads, is_numeral, number_in, parts_at, pair_in, tid_in, place_in, site_in, target_in, edge_in, first_of, word_in, all_in, line_in, tids_in}
-use Rattle.trace_lines.proofs.Bytes.{Lacks, lacks-decimal}
+use Rattle.trace_lines.proofs.Bytes.{Lacks, lacks-decimal, decimal_leads}
 use Rattle.trace_lines.proofs.Pairs.{one_parting}
 use Rattle.trace_lines.proofs.Guards.{from_map, from_next}
 use Rattle.trace_lines.proofs.Named.{site_read, tid_read, place_read, edge_read, lacks-tid}
@@ -81,10 +81,6 @@ is_numeral_with [] h some lead = absurd (omega (arith, some))
 is_numeral_with (d ∷ []) h some lead = is_true_both _ _ (are_digits (d ∷ []) h) refl
 is_numeral_with (d ∷ next ∷ more) h some (inl above) = is_true_both _ _ (are_digits (d ∷ next ∷ more) h) (lt-ltb 48 d above)
 is_numeral_with (d ∷ next ∷ more) h some (inr one) = absurd (omega (arith, one))
-
-decimal_leads : (n : ℕ) → n < 2 ^ 64 → (48 < get_or (decimal n) 0 0) ⊎ (length (decimal n) ≡ 1)
-decimal_leads zero small = inr (ap length (decimal_digit 0 (omega arith)))
-decimal_leads (suc n) small = inl (first_decimal (suc n) (omega arith) small)
 
 number_again : (n : ℕ) → IsTrue (is_large n) → number_in (decimal n) ≡ Some n
 unfolding number_in

@@ -1,5 +1,5 @@
 -- A word has one spelling.
-use Rattle.std.proofs.Common.{◌≡◌, ◌≢◌, ◌⊎◌, inl, inr, ℕ, ◌<◌, ◌^◌, ◌&&◌, IsTrue, List, [], ◌∷◌, ◌++◌, map, Some, decimal, codes, length, get_or, nat_lt, append_assoc, append-nil, refl, sym, ap, ◌∙◌, arith}
+use Rattle.std.proofs.Common.{◌≡◌, ◌≢◌, ◌⊎◌, inl, inr, ℕ, ◌<◌, ◌^◌, ◌&&◌, IsTrue, List, [], ◌∷◌, ◌++◌, map, true, Some, None, decimal, codes, length, get_or, nat_lt, append_assoc, append-nil, refl, sym, ap, ◌∙◌, subst, arith}
 use Rattle.std.proofs.lemmas.Bool.{ltb-true}
 use Rattle.std.proofs.lemmas.Option.{same_Some}
 use Rattle.std.proofs.lemmas.Fmt.{decimal_nonempty}
@@ -16,7 +16,7 @@ use Rattle.line_text.specs.declared.word.Word.{Word}
 use Rattle.line_text.specs.declared.word.Word.TheVariants.{Plain, Number, Attempt, Sent, Joined}
 use Rattle.line_text.specs.Range.{is_large, is_site, is_tid, is_place, is_edge, is_word}
 use Rattle.line_text.specs.Words.{keyword_text, place_text, edge_text, word_text}
-use Rattle.trace_lines.specs.Lexing.{target_text, site_text}
+use Rattle.trace_lines.specs.Lexing.{Spells, target_text, site_text}
 use Rattle.trace_lines.specs.Lexed.{keyword_in}
 use Rattle.trace_lines.proofs.Bytes.{AreDigits, Lacks, digits-decimal, lacks-decimal}
 use Rattle.mdb_base.proofs.EachLaws.{all_append}
@@ -43,13 +43,17 @@ first_digit : (ds rest : List ℕ) → AreDigits ds → 0 < length ds → IsInRa
 first_digit [] rest h l = absurd (omega arith)
 first_digit (d ∷ ds) rest h l = h.0
 
-no_keyword : (keyword : Keyword) (n : ℕ) (rest : List ℕ) → IsTrue (is_large n) → keyword_text keyword ≡ decimal n ++ rest → ⊥
-no_keyword keyword n rest h e =
+-- bytes of which the first is no digit
+abbrev pub Undigited : List ℕ → Type 0
+Undigited bs = IsInRange 48 57 (get_or bs 0 0) → ⊥
+
+undigited : (keyword : Keyword) → Undigited (keyword_text keyword)
+undigited keyword digit = let letter = ltb-true 57 (get_or (keyword_text keyword) 0 0) (lettered keyword) in omega (arith, digit.1, letter)
+
+no_number : (bs : List ℕ) → Undigited bs → (n : ℕ) (rest : List ℕ) → IsTrue (is_large n) → bs ≡ decimal n ++ rest → ⊥
+no_number bs other n rest h e =
     let small = ltb-true n (2 ^ 64) h in
-    let digit = first_digit (decimal n) rest (digits-decimal n small) (decimal_nonempty n small) in
-    let letter = ltb-true 57 (get_or (keyword_text keyword) 0 0) (lettered keyword) in
-    let same = ap (λ bs. get_or bs 0 0) e in
-    omega (arith, digit.1, letter, same)
+    other (subst (IsInRange 48 57) (sym (ap (λ l. get_or l 0 0) e)) (first_digit (decimal n) rest (digits-decimal n small) (decimal_nonempty n small)))
 
 -- a list that lacks a byte isn't one with it
 pub lacks_not : (c : ℕ) (all xs ys : List ℕ) → Lacks c all → all ≡ xs ++ c ∷ ys → ⊥
@@ -96,18 +100,26 @@ place_lacks sent h =
     (number_lacks 62 sent.place (inr (omega arith)) large.1)
 
 -- each word but a keyword begins with a number
-no_keyword_tid : (keyword : Keyword) (tid : Tid) → IsTrue (is_tid tid) → keyword_text keyword ≡ tid_text tid → ⊥
-no_keyword_tid keyword tid h e = no_keyword keyword tid.tx.0 (46 ∷ decimal tid.attempt) (is_true_parts (is_large tid.tx.0) (is_large tid.attempt) (tid_is_large tid h)).0 (e ∙ tid_parts tid)
+no_tid : (bs : List ℕ) → Undigited bs → (tid : Tid) → IsTrue (is_tid tid) → bs ≡ tid_text tid → ⊥
+no_tid bs other tid h e = no_number bs other tid.tx.0 (46 ∷ decimal tid.attempt) (is_true_parts (is_large tid.tx.0) (is_large tid.attempt) (tid_is_large tid h)).0 (e ∙ tid_parts tid)
 
-no_keyword_place : (keyword : Keyword) (sent : Place) → IsTrue (is_place sent) → keyword_text keyword ≡ place_text sent → ⊥
-no_keyword_place keyword sent h e = no_keyword keyword sent.site.0 (47 ∷ decimal sent.place) (is_true_parts (is_large sent.site.0) (is_large sent.place) (place_is_large sent h)).0 (e ∙ place_parts sent)
+no_place : (bs : List ℕ) → Undigited bs → (sent : Place) → IsTrue (is_place sent) → bs ≡ place_text sent → ⊥
+no_place bs other sent h e = no_number bs other sent.site.0 (47 ∷ decimal sent.place) (is_true_parts (is_large sent.site.0) (is_large sent.place) (place_is_large sent h)).0 (e ∙ place_parts sent)
 
-no_keyword_edge : (keyword : Keyword) (edge : Edge) → IsTrue (is_edge edge) → keyword_text keyword ≡ edge_text edge → ⊥
-no_keyword_edge keyword edge h e =
+no_edge : (bs : List ℕ) → Undigited bs → (edge : Edge) → IsTrue (is_edge edge) → bs ≡ edge_text edge → ⊥
+no_edge bs other edge h e =
     let from = (is_true_parts (is_tid edge.from) (is_tid edge.to) (is_true_parts (is_tid edge.from && is_tid edge.to) (is_site edge.site) h).0).0 in
     let rest : List ℕ = 62 ∷ target_text (edge.to, edge.site) in
-    no_keyword keyword edge.from.tx.0 ((46 ∷ decimal edge.from.attempt) ++ rest) (is_true_parts (is_large edge.from.tx.0) (is_large edge.from.attempt) (tid_is_large edge.from from)).0
+    no_number bs other edge.from.tx.0 ((46 ∷ decimal edge.from.attempt) ++ rest) (is_true_parts (is_large edge.from.tx.0) (is_large edge.from.attempt) (tid_is_large edge.from from)).0
     (e ∙ edge_parts edge ∙ ap (λ bs. bs ++ rest) (tid_parts edge.from) ∙ append_assoc (decimal edge.from.tx.0) (46 ∷ decimal edge.from.attempt) rest)
+
+-- where the first byte is no digit and no keyword is spelled, no word is
+pub no_word : (bs : List ℕ) → Undigited bs → Spells (λ _. true) keyword_text bs None → Spells is_word word_text bs None
+no_word bs other none (Plain keyword) is spelled = none keyword refl spelled
+no_word bs other none (Number n) is spelled = no_number bs other n [] is (spelled ∙ sym (append-nil (decimal n)))
+no_word bs other none (Attempt tid) is spelled = no_tid bs other tid is spelled
+no_word bs other none (Sent sent) is spelled = no_place bs other sent is spelled
+no_word bs other none (Joined edge) is spelled = no_edge bs other edge is spelled
 
 no_number_tid : (n : ℕ) (tid : Tid) → IsTrue (is_large n) → decimal n ≡ tid_text tid → ⊥
 no_number_tid n tid h e = lacks_not 46 (decimal n) (decimal tid.tx.0) (decimal tid.attempt) (number_lacks 46 n (inl (omega arith)) h) (e ∙ tid_parts tid)
@@ -130,26 +142,26 @@ no_place_edge sent edge h e = lacks_not 62 (place_text sent) (tid_text edge.from
 -- two words that are spelled alike are one
 pub one_word : (w v : Word) → IsTrue (is_word w) → IsTrue (is_word v) → word_text w ≡ word_text v → w ≡ v
 one_word (Plain j) (Plain k) h i e = ap Plain (one_keyword j k e)
-one_word (Plain j) (Number n) h i e = absurd (no_keyword j n [] i (e ∙ sym (append-nil (decimal n))))
-one_word (Plain j) (Attempt tid) h i e = absurd (no_keyword_tid j tid i e)
-one_word (Plain j) (Sent sent) h i e = absurd (no_keyword_place j sent i e)
-one_word (Plain j) (Joined edge) h i e = absurd (no_keyword_edge j edge i e)
-one_word (Number m) (Plain k) h i e = absurd (no_keyword k m [] h (sym e ∙ sym (append-nil (decimal m))))
+one_word (Plain j) (Number n) h i e = absurd (no_number (keyword_text j) (undigited j) n [] i (e ∙ sym (append-nil (decimal n))))
+one_word (Plain j) (Attempt tid) h i e = absurd (no_tid (keyword_text j) (undigited j) tid i e)
+one_word (Plain j) (Sent sent) h i e = absurd (no_place (keyword_text j) (undigited j) sent i e)
+one_word (Plain j) (Joined edge) h i e = absurd (no_edge (keyword_text j) (undigited j) edge i e)
+one_word (Number m) (Plain k) h i e = absurd (no_number (keyword_text k) (undigited k) m [] h (sym e ∙ sym (append-nil (decimal m))))
 one_word (Number m) (Number n) h i e = ap Number (one_number m n h i e)
 one_word (Number m) (Attempt tid) h i e = absurd (no_number_tid m tid h e)
 one_word (Number m) (Sent sent) h i e = absurd (no_number_place m sent h e)
 one_word (Number m) (Joined edge) h i e = absurd (no_number_edge m edge h e)
-one_word (Attempt s) (Plain k) h i e = absurd (no_keyword_tid k s h (sym e))
+one_word (Attempt s) (Plain k) h i e = absurd (no_tid (keyword_text k) (undigited k) s h (sym e))
 one_word (Attempt s) (Number n) h i e = absurd (no_number_tid n s i (sym e))
 one_word (Attempt s) (Attempt t) h i e = ap Attempt (one_tid s t h i e)
 one_word (Attempt s) (Sent sent) h i e = absurd (no_tid_place s sent h e)
 one_word (Attempt s) (Joined edge) h i e = absurd (no_tid_edge s edge h e)
-one_word (Sent s) (Plain k) h i e = absurd (no_keyword_place k s h (sym e))
+one_word (Sent s) (Plain k) h i e = absurd (no_place (keyword_text k) (undigited k) s h (sym e))
 one_word (Sent s) (Number n) h i e = absurd (no_number_place n s i (sym e))
 one_word (Sent s) (Attempt t) h i e = absurd (no_tid_place t s i (sym e))
 one_word (Sent s) (Sent t) h i e = ap Sent (one_place s t h i e)
 one_word (Sent s) (Joined edge) h i e = absurd (no_place_edge s edge h e)
-one_word (Joined a) (Plain k) h i e = absurd (no_keyword_edge k a h (sym e))
+one_word (Joined a) (Plain k) h i e = absurd (no_edge (keyword_text k) (undigited k) a h (sym e))
 one_word (Joined a) (Number n) h i e = absurd (no_number_edge n a i (sym e))
 one_word (Joined a) (Attempt t) h i e = absurd (no_tid_edge t a i (sym e))
 one_word (Joined a) (Sent s) h i e = absurd (no_place_edge s a i (sym e))

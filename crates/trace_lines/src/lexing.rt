@@ -1,5 +1,6 @@
 //! Words from bytes.
-ghost use Rattle.std.specs.Prelude.{◌≡◌, ◌<◌, List, map, IsTrue, IfOk, IsErrOf, decimal};
+ghost use Rattle.std.specs.Prelude.{◌≡◌, ◌<◌, ◌↔◌, List, length, map, IsTrue, IfOk, IsErrOf, decimal, slice_index_or};
+ghost use Rattle.std.specs.Int.{IsInRange};
 ghost use Rattle.mdb_base.specs.Words.{Each};
 ghost use Rattle.mdb_base.specs.Texts.{tid_text};
 ghost use Rattle.trace_lines.specs.Lexing as lexing;
@@ -12,18 +13,29 @@ use crate::error::LineErr;
 use crate::keywords::keyword_of;
 use crate::numbers::site_of;
 use fed_rules::Place;
-use itoa::Buffer;
 use line_text::Word;
 use mdb_base::{Edge, SiteId, Tid, Tx};
 use std::alloc::Global;
+
+/// How many words a line has room for at first: most have no more.
+const WORDS: usize = 12;
+
+/// Whether a text begins as a number does: with a digit, and with `0` only where that stands alone.
+fn begins_as_number(text: &str) -> bool
+    ensures { IsTrue result ↔ (IsInRange 48 57 (slice_index_or text.now 0 0) × (slice_index_or text.now 0 0 ≡ 48 → length text.now ≡ 1)) }
+{
+    matches!(text.as_bytes(), [b'1'..=b'9', ..] | [b'0'])
+}
 
 /// The number that is printed so.
 fn number_of(text: &str) -> Option<u64>
     ensures { Spells is_large decimal text.now result }
 {
-    let number = text.parse::<u64>().ok()?;
-    let mut buffer = Buffer::new();
-    (buffer.format(number) == text).then_some(number)
+    if begins_as_number(text) {
+        text.parse::<u64>().ok()
+    } else {
+        None
+    }
 }
 
 /// Two numbers with a mark between them.
@@ -97,12 +109,19 @@ fn edge_of(text: &str) -> Option<Edge>
     Some(Edge { from, to, site })
 }
 
+/// Whether a text begins with a digit, as each word does but a keyword.
+fn begins_with_digit(text: &str) -> bool
+    ensures { IsTrue result ↔ IsInRange 48 57 (slice_index_or text.now 0 0) }
+{
+    matches!(text.as_bytes(), [b'0'..=b'9', ..])
+}
+
 /// The word that is spelled so.
 pub fn word_of(text: &str) -> Option<Word>
     ensures { Spells is_word word_text text.now result }
 {
-    if let Some(keyword) = keyword_of(text) {
-        return Some(Word::Plain(keyword));
+    if !begins_with_digit(text) {
+        return Some(Word::Plain(keyword_of(text)?));
     }
     if let Some(number) = number_of(text) {
         return Some(Word::Number(number));
@@ -122,7 +141,7 @@ pub fn words_of(alloc: Global, text: &str) -> Result<Vec<Word>, LineErr>
     ensures found { IfOk result (λ words. Each (λ word. IsTrue (is_word word)) words.items × (map word_text words.items ≡ pieces text.now)) }
     ensures none { IsErrOf result LineErr.NoLine → (words : List Word) → Each (λ word. IsTrue (is_word word)) words → map word_text words ≡ pieces text.now → ⊥ }
 {
-    let mut words = Vec::new(alloc);
+    let mut words = Vec::with_capacity(alloc, WORDS)?;
     for word in text.split(' ') {
         words.push(word_of(word).ok_or(LineErr::NoLine)?)?;
     }

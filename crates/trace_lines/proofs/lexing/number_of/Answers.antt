@@ -1,12 +1,11 @@
-use Rattle.std.proofs.Common.{rules}
-use Rattle.trace_lines.proofs.ParsedNumbers.{unparsed, compared}
+use Rattle.mdb_base.proofs.BoolLaws.{not_both}
+use Rattle.trace_lines.proofs.ParsedNumbers.{unbegun, parsed}
 use Rattle.trace_lines.proofs.lexing.number_of.Goals as goal
 
-pub returns-in_err-number : goal.returns-in_err-number
-returns-in_err-number c =
-    unparsed c.args.text.now c.parse.result c.ok.result _ c.parse.ensures.value.0 c.ok.ensures.value c.in_err-number.was c.from_residual.ensures
+pub returns-then-begins_as_number : goal.returns-then-begins_as_number
+returns-then-begins_as_number c =
+    parsed c.args.text.now c.parse.result c.ok.result (c.begins_as_number.ensures.0 c.if-begins_as_number.true) c.parse.ensures.value.0 c.ok.ensures.value
 
-pub returns : goal.returns
-returns c =
-    compared c.args.text.now c.parse.result c.ok.result _ c.in_ok-number.number _ c.eq.result (search rules) c.parse.ensures.value.0 c.ok.ensures.value
-    c.in_ok-number.was c.format.ensures.text c.eq.ensures c.then_some.ensures
+pub returns-else-begins_as_number : goal.returns-else-begins_as_number
+returns-else-begins_as_number c =
+    unbegun c.args.text.now (λ begins. not_both c.begins_as_number.result (c.begins_as_number.ensures.1 begins) c.if-begins_as_number.false)
