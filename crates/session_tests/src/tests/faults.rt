@@ -12,7 +12,7 @@ use std::test::Fail;
 use std::thread::Threads;
 
 /// Nine empty disks, of which this one fails at this call, counted from 1; at call 0 none fails.
-fn failing_disks(alloc: Global, number: u8, call: u32) -> Result<Vec<MemDisk>, Memory>
+pub(super) fn failing_disks(alloc: Global, number: u8, call: u32) -> Result<Vec<MemDisk>, Memory>
     ensures { IfOk result (λ disks. length disks.items ≡ 9) }
 {
     let mut disks = Vec::new(alloc);
@@ -24,7 +24,7 @@ fn failing_disks(alloc: Global, number: u8, call: u32) -> Result<Vec<MemDisk>, M
 }
 
 // A disk, and for each of its calls in the session how many lines stand before the one that makes it; those of the set-up have none.
-const CALLS: [(u8, &[usize]); 4] = [
+pub(super) const CALLS: [(u8, &[usize]); 4] = [
     // The Initiation and the Commit are forced, the End is appended.
     (0, &[4, 4, 18, 18, 23]),
     // Both records of the set-up are appended and then synced; Prepared and Ended are forced.

@@ -79,3 +79,16 @@ fn frames_of_version_1_stay_before_new_ones(rt: HostRuntime) -> Result<(), Fail>
     assert_eq!(rt; journal.as_slice(), OLD.as_slice());
     Ok(())
 }
+
+#[test]
+fn a_journal_that_is_too_long_is_not_opened(rt: HostRuntime) -> Result<(), Fail> {
+    let alloc = rt.alloc();
+    let long = vec![in alloc; 0; 67_108_865]?;
+    let mut store = store_with(alloc, 3, &long).ok_or("no memory")?;
+    let mut disks: Vec<MemDisk> = Vec::new(alloc);
+    let (status, put) = stored(&rt, "resume x", b"", &mut store, &mut disks)?;
+    assert_eq!(rt; status, 12);
+    assert_eq!(rt; put.as_slice(), b"disk 3 is large\n".as_slice());
+    assert_eq!(rt; disks.len(), 3);
+    Ok(())
+}

@@ -28,7 +28,7 @@ fn settled_in(line: &str) -> Option<&str> {
 }
 
 /// Whether each attempt that settles at a site settles as it comes out.
-fn settles_as_it_comes_out(alloc: Global, output: &str) -> Result<bool, Fail> {
+pub(super) fn settles_as_it_comes_out(alloc: Global, output: &str) -> Result<bool, Fail> {
     for line in output.lines() {
         if let Some(settled) = settled_in(line) {
             let outcome = format!(in alloc; "\noutcome {settled}\n")?;
