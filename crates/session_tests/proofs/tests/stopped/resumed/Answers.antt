@@ -1,4 +1,4 @@
-use Rattle.std.proofs.Common.{◌≡◌, ℕ, zero, suc, Some, List, [], ◌∷◌, length, map, subst}
+use Rattle.std.proofs.Common.{◌≡◌, zero, suc, List, [], ◌∷◌, length, map, subst}
 use Rattle.mdb_base.specs.Words.{Each}
 use Rattle.journal_disk.specs.Disk.{Image}
 use Rattle.journal_disk.specs.declared.mem_disk.MemDisk.{MemDisk}
