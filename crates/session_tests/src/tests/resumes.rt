@@ -80,11 +80,24 @@ fn frames_of_version_1_stay_before_new_ones(rt: HostRuntime) -> Result<(), Fail>
     Ok(())
 }
 
+// Puts 64 mebibytes and one byte on the disk.
+fn fill(alloc: Global, disk: &mut MemDisk) -> Result<(), Fail> {
+    let piece = vec![in alloc; 0; 1_048_576]?;
+    for _ in 0..64 {
+        disk.reserve(alloc, 1_048_576)?;
+        disk.append(&piece)?;
+    }
+    disk.reserve(alloc, 1)?;
+    disk.append(&[0])?;
+    Ok(())
+}
+
 #[test]
 fn a_journal_that_is_too_long_is_not_opened(rt: HostRuntime) -> Result<(), Fail> {
     let alloc = rt.alloc();
-    let long = vec![in alloc; 0; 67_108_865]?;
-    let mut store = store_with(alloc, 3, &long).ok_or("no memory")?;
+    let mut journals = empty_disks(alloc)?;
+    fill(alloc, &mut journals[3])?;
+    let mut store = MemStore::new(journals, Vec::new(alloc));
     let mut disks: Vec<MemDisk> = Vec::new(alloc);
     let (status, put) = stored(&rt, "resume x", b"", &mut store, &mut disks)?;
     assert_eq!(rt; status, 12);
