@@ -1,3 +1,4 @@
 pub mod GlobalSessions
 pub mod LocalSessions
+pub mod Reopened
 pub mod SiteSessions

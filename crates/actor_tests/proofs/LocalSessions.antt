@@ -59,7 +59,7 @@ set_up_on (Ok dbms) disk home transactions foreign apart stands = record {
 }
 set_up_on (Err why) disk home transactions foreign apart stands = tt
 
-module _ (K L : Home → OwnPrograms → SitePast → Type 0) (n : ℕ) (foreign : Tx) (few : n ≤ 1000) (s : Some_site K (IsWithin n foreign)) where
+module _ (K L : Home → OwnPrograms → SitePast → Type 0) (n : ℕ) (foreign : Tx) (few : n ≤ 30000) (s : Some_site K (IsWithin n foreign)) where
   is_short : length s.past < 2 ^ 30
   is_short = let le = s.holds.few in omega arith
 

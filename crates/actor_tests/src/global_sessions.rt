@@ -4,4 +4,5 @@ mod kept;
 mod limits;
 mod play;
 mod protocols;
+mod reopened;
 mod tickets;

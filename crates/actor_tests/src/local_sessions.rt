@@ -3,10 +3,12 @@ ghost use Rattle.std.specs.Prelude.{◌≡◌, ◌≤◌, ◌+◌, ◌<◌, IfOk
 ghost use Rattle.journal_disk.specs.MemDisk.{mem_size};
 ghost use Rattle.mdb_base.specs.Words.{Each};
 ghost use Rattle.local_dbms.specs.Stands.{IsNamed};
+ghost use Rattle.site_core.specs.Made.{about};
 ghost use Rattle.actor_tests.specs.LocalSessions.{IsAbout, IsApart, IsOfLines};
 
 mod again;
 mod faults;
+mod reopened;
 
 use crate::answers::is_cut;
 use any_engine::AnyEngine;
@@ -53,44 +55,65 @@ const SET_6_TO_1: Step = Step {
     act: Act::Set(Key(6), 1),
 };
 
-// The message of this place about the transaction: first those of its attempt 0, and an act of its attempt 1 at the end.
+// The first operation of an attempt.
+fn work(tid: Tid, act: PlainAct) -> ToSite
+    ensures { about result ≡ tid }
+{
+    ToSite::Work {
+        tid,
+        epoch: 0,
+        n: 0,
+        act,
+    }
+}
+
+// It takes its ticket behind that, in this epoch.
+fn take(tid: Tid, epoch: u32) -> ToSite
+    ensures { about result ≡ tid }
+{
+    ToSite::Take { tid, epoch, n: 1 }
+}
+
+// It is to be prepared behind that, in the first epoch.
+fn prepare(tid: Tid) -> ToSite
+    ensures { about result ≡ tid }
+{
+    ToSite::Prepare {
+        tid,
+        epoch: 1,
+        n: 2,
+    }
+}
+
+// It is decided.
+fn decide(tid: Tid, decision: Decision) -> ToSite
+    ensures { about result ≡ tid }
+{
+    ToSite::Decide { tid, decision }
+}
+
+// The message of this place about the transaction: of its attempt 0, and of its attempt 1.
 fn message(tx: Tx, place: u32) -> Option<ToSite>
     ensures { IfSome result (IsAbout tx) }
 {
-    let act = PlainAct::Write(Key(1), 11);
     let first = Tid { tx, attempt: 0 };
     let second = Tid { tx, attempt: 1 };
+    let write = PlainAct::Write(Key(1), 11);
     match place {
-        0 => Some(ToSite::Work {
-            tid: first,
-            epoch: 0,
-            n: 0,
-            act,
-        }),
-        1 => Some(ToSite::Take {
-            tid: first,
-            epoch: 1,
-            n: 1,
-        }),
-        2 => Some(ToSite::Prepare {
-            tid: first,
-            epoch: 1,
-            n: 2,
-        }),
-        3 => Some(ToSite::Decide {
-            tid: first,
-            decision: Decision::Commit,
-        }),
-        4 => Some(ToSite::Decide {
-            tid: first,
-            decision: Decision::Abort,
-        }),
-        5 => Some(ToSite::Work {
-            tid: second,
-            epoch: 0,
-            n: 0,
-            act,
-        }),
+        0 => Some(work(first, write)),
+        1 => Some(take(first, 1)),
+        2 => Some(prepare(first)),
+        3 => Some(decide(first, Decision::Commit)),
+        4 => Some(decide(first, Decision::Abort)),
+        5 => Some(work(second, write)),
+        6 => Some(work(first, PlainAct::Read(Key(1)))),
+        7 => Some(take(second, 1)),
+        8 => Some(prepare(second)),
+        9 => Some(decide(second, Decision::Abort)),
+        10 => Some(decide(second, Decision::Commit)),
+        11 => Some(work(second, PlainAct::Read(Key(3)))),
+        12 => Some(take(second, 2)),
+        13 => Some(take(second, 3)),
         _ => None,
     }
 }
@@ -116,7 +139,7 @@ fn asks(
     lines: u32,
     command: Command,
 ) -> Result<SiteStep, StepErr>
-    requires few { lines ≤ 1000 }
+    requires few { lines ≤ 30000 }
     requires stood { IsOfLines lines foreign dbms.old disk.old }
     ensures { IsOfLines (lines + 2) foreign dbms.new disk.new }
 {
@@ -165,7 +188,7 @@ fn play_line(
     sent: u32,
     text: &str,
 ) -> Result<Option<u32>, Fail>
-    requires few { lines ≤ 1000 }
+    requires few { lines ≤ 30000 }
     requires stood { IsOfLines lines foreign dbms.old disk.old }
     ensures { OnOk result (IsOfLines (lines + 2) foreign dbms.new disk.new) }
 {

@@ -217,8 +217,8 @@ fn lines_of(alloc: Global, transactions: &[Declared]) -> Result<Vec<TxLine>, Fai
     Ok(lines)
 }
 
-// The sites 1 to 3 with these protocols.
-fn sites_of(
+/// The sites 1 to 3 with these protocols.
+pub(super) fn sites_of(
     alloc: Global,
     first: Protocol,
     second: Protocol,

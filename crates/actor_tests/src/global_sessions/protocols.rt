@@ -14,9 +14,9 @@ const ABORT: [Protocol; 3] = [Protocol::Abort; 3];
 
 const COMMIT: [Protocol; 3] = [Protocol::Commit; 3];
 
-const MIXED: [Protocol; 3] = [Protocol::Nothing, Protocol::Abort, Protocol::Commit];
+pub(super) const MIXED: [Protocol; 3] = [Protocol::Nothing, Protocol::Abort, Protocol::Commit];
 
-const FIRST: Tid = Tid {
+pub(super) const FIRST: Tid = Tid {
     tx: Tx(1),
     attempt: 0,
 };
@@ -134,8 +134,8 @@ fn plays_mixed(rt: &impl Abort, alloc: Global, scripts: &[&str]) -> Result<Vec<S
     )
 }
 
-// It is carried out and prepared at all three, and the last vote is on its way.
-const PREPARED: &str = "go 1 => begun 1.0 sends 1/0
+/// It is carried out and prepared at all three, and the last vote is on its way.
+pub(super) const PREPARED: &str = "go 1 => begun 1.0 sends 1/0
 give 1 0 => did 1.0 done sends 0
 take 1 0 => sends 1/1 2/0
 give 1 1 => did 1.0 ticket 1 sends 1
@@ -154,13 +154,12 @@ give 3 1 => did 1.0 ticket 1 sends 1
 take 3 1 => sends 3/2
 give 3 2 => votes 1.0 yes 1 sends 2";
 
-// The last vote comes, and the first site settles.
-const COMMITTED: &str = "take 3 2 => decides commit sends 1/3 2/3 3/3
+/// The last vote comes, and the first site settles.
+pub(super) const COMMITTED: &str = "take 3 2 => decides commit sends 1/3 2/3 3/3
 give 3 3 => settles 1.0 commit";
 
-#[test]
-fn those_that_presume_the_other_way_acknowledge(rt: HostRuntime) -> Result<(), Fail> {
-    let script = "give 1 3 => settles 1.0 commit sends 3
+/// The other two acknowledge, and the first one asks behind a stop.
+pub(super) const ACKNOWLEDGED: &str = "give 1 3 => settles 1.0 commit sends 3
 take 1 3 => acked
 give 2 3 => settles 1.0 commit sends 3
 take 2 3 => forgets
@@ -169,7 +168,10 @@ back 3 => up epoch 2 doubtful 1
 ask 3 1.0 => asks 1.0 sends 3
 take 3 3 => presumes commit sends 3/4
 give 3 4 => settles 1.0 commit";
-    let sent = plays_mixed(&rt, rt.alloc(), &[PREPARED, COMMITTED, script])?;
+
+#[test]
+fn those_that_presume_the_other_way_acknowledge(rt: HostRuntime) -> Result<(), Fail> {
+    let sent = plays_mixed(&rt, rt.alloc(), &[PREPARED, COMMITTED, ACKNOWLEDGED])?;
     let expected = [
         work(1, 0, 0, PlainAct::Write(Key(1), 11)),
         take(1, 1),

@@ -5,23 +5,10 @@ use global_exec::Always;
 use presumptions::Protocol;
 use std::test::Fail;
 
-const NOTHING: [Protocol; 3] = [Protocol::Nothing; 3];
+pub(super) const NOTHING: [Protocol; 3] = [Protocol::Nothing; 3];
 
-// The committed one is forgotten, and then the refused one.
-const FORGOTTEN: &str = "again 1.0 => sends 1/8 2/8
-give 1 8 => settles 1.0 commit sends 6
-take 1 6 => acked
-give 2 8 => settles 1.0 commit sends 6
-take 2 6 => forgets
-again 2.0 => sends 1/9 2/9
-give 1 9 => settles 2.0 abort sends 7
-take 1 7 => acked
-give 2 9 => settles 2.0 abort sends 7
-take 2 7 => forgets";
-
-#[test]
-fn a_cycle_of_tickets_is_refused(rt: HostRuntime) -> Result<(), Fail> {
-    let script = "go 1 => begun 1.0 sends 1/0
+/// Both are prepared at two sites, with opposite tickets, and both last votes are missing.
+pub(super) const CYCLE: &str = "go 1 => begun 1.0 sends 1/0
 go 2 => begun 2.0 sends 2/0
 give 1 0 => did 1.0 value 0 sends 0
 take 1 0 => sends 1/1 2/1
@@ -44,26 +31,10 @@ give 2 1 => did 1.0 done sends 3
 take 2 3 => sends 2/4
 give 2 4 => did 1.0 ticket 2 sends 4
 take 2 4 => sends 2/5
-give 2 5 => votes 1.0 yes 2 sends 5
-take 2 5 => decides commit sends 1/6 2/6
-take 1 5 => decides abort cycle 2.0>1.0@2 1.0>2.0@1 sends 1/7 2/7";
-    let _sent = plays(
-        &rt,
-        rt.alloc(),
-        Always,
-        NOTHING,
-        &[
-            global(1, &[get(1, 1), set(2, 2, 5)]),
-            global(2, &[get(2, 2), set(1, 1, 7)]),
-        ],
-        &[script, FORGOTTEN],
-    )?;
-    Ok(())
-}
+give 2 5 => votes 1.0 yes 2 sends 5";
 
-#[test]
-fn a_cycle_over_local_transactions_is_refused(rt: HostRuntime) -> Result<(), Fail> {
-    let script = "go 1 => begun 1.0 sends 1/0
+/// The same without a common item: two local transactions close the cycle.
+pub(super) const CYCLE_OVER_LOCALS: &str = "go 1 => begun 1.0 sends 1/0
 go 2 => begun 2.0 sends 2/0
 give 1 0 => did 1.0 value 0 sends 0
 take 1 0 => sends 1/1 2/1
@@ -86,9 +57,42 @@ give 2 1 => did 1.0 value 6 sends 3
 take 2 3 => sends 2/4
 give 2 4 => did 1.0 ticket 2 sends 4
 take 2 4 => sends 2/5
-give 2 5 => votes 1.0 yes 2 sends 5
-take 2 5 => decides commit sends 1/6 2/6
+give 2 5 => votes 1.0 yes 2 sends 5";
+
+/// The first one commits, and the second one is refused.
+pub(super) const DECIDED: &str = "take 2 5 => decides commit sends 1/6 2/6
 take 1 5 => decides abort cycle 2.0>1.0@2 1.0>2.0@1 sends 1/7 2/7";
+
+/// The committed one is forgotten, and then the refused one.
+pub(super) const FORGOTTEN: &str = "again 1.0 => sends 1/8 2/8
+give 1 8 => settles 1.0 commit sends 6
+take 1 6 => acked
+give 2 8 => settles 1.0 commit sends 6
+take 2 6 => forgets
+again 2.0 => sends 1/9 2/9
+give 1 9 => settles 2.0 abort sends 7
+take 1 7 => acked
+give 2 9 => settles 2.0 abort sends 7
+take 2 7 => forgets";
+
+#[test]
+fn a_cycle_of_tickets_is_refused(rt: HostRuntime) -> Result<(), Fail> {
+    let _sent = plays(
+        &rt,
+        rt.alloc(),
+        Always,
+        NOTHING,
+        &[
+            global(1, &[get(1, 1), set(2, 2, 5)]),
+            global(2, &[get(2, 2), set(1, 1, 7)]),
+        ],
+        &[CYCLE, DECIDED, FORGOTTEN],
+    )?;
+    Ok(())
+}
+
+#[test]
+fn a_cycle_over_local_transactions_is_refused(rt: HostRuntime) -> Result<(), Fail> {
     let _sent = plays(
         &rt,
         rt.alloc(),
@@ -98,7 +102,7 @@ take 1 5 => decides abort cycle 2.0>1.0@2 1.0>2.0@1 sends 1/7 2/7";
             global(1, &[get(1, 1), get(2, 4)]),
             global(2, &[get(2, 2), get(1, 3)]),
         ],
-        &[script, FORGOTTEN],
+        &[CYCLE_OVER_LOCALS, DECIDED, FORGOTTEN],
     )?;
     Ok(())
 }
