@@ -129,7 +129,7 @@ stands_hold_frames tells world disks scenario commands told sized rest s (suc n)
 pub coord_stops : (K : Terms → OwnPrograms → CoordPast → Type 0) (M : CoordPast → Type 0) (scenario : Scenario) (story : Story) (command : Command) (asked : Request CoordEvent)
     → ((cut : ℕ) → K (terms_of scenario) (global_program scenario) (stopped_before (terms_of scenario) (coord_past story) cut) → M (stopped_before (terms_of scenario) (coord_past story) cut))
     → ((event : CoordEvent) (calls cut : ℕ) → K (terms_of scenario) (global_program scenario) (stopped_within (terms_of scenario) (coord_past story) event calls cut)
-        → M (stopped_within (terms_of scenario) (coord_past story) event calls cut))
+    → M (stopped_within (terms_of scenario) (coord_past story) event calls cut))
     → happens scenario story command ≡ coord_requested scenario story asked
     → Manager.Fails K Step_err.Disk (terms_of scenario) (global_program scenario) (coord_past story) asked → CoordinatorStops M command scenario story
 coord_stops K M scenario story command (Declines answer) before within e f = absurd f

@@ -11,7 +11,7 @@ returns-in-Err-clause-stores g c =
     λ is. inl (
       refl,
       stops_at_one g.D.Disk.seen c.open_all.new.disks.items store _ _ sink _ (c.len.ensures ∙ c.open_all.new.disks.ok.0) c.in-Err.ensures.few c.in-Err.ensures.opens c.stopped.ensures.led
-      c.stopped.ensures.failed c.stopped.ensures.large c.stopped.ensures.wanting c.in-Err.ensures.large c.in-Err.ensures.not_large c.in-Err.ensures.cause,
+          c.stopped.ensures.failed c.stopped.ensures.large c.stopped.ensures.wanting c.in-Err.ensures.large c.in-Err.ensures.not_large c.in-Err.ensures.cause,
     )
 
 pub returns-in-Err-clause-resumes : goal.returns-in-Err-clause-resumes
