@@ -1,5 +1,5 @@
 -- An actor that is reopened on a disk: the journal that is read there is found there, and the actor stands for what the tests ask of one.
-use Rattle.std.proofs.Common.{◌≡◌, ℕ, ◌+◌, ◌-◌, ◌*◌, ◌≤◌, true, false, is_some, Option, Some, None, List, [], ◌∷◌, length, map, refl, sym, ap, subst, ◌∙◌, arith}
+use Rattle.std.proofs.Common.{◌≡◌, ℕ, ◌+◌, ◌-◌, ◌*◌, ◌≤◌, true, false, is_some, Option, Some, None, List, [], ◌∷◌, length, refl, sym, ap, subst, ◌∙◌, arith}
 use Rattle.std.specs.Prelude.{reverse}
 use Rattle.std.specs.List.{AllByRecursion}
 use Rattle.mdb_base.specs.declared.names.Engine.{Engine}
@@ -8,7 +8,6 @@ use Rattle.presumptions.specs.declared.Participant.{Participant}
 use Rattle.fed_rules.specs.declared.records.CoordRecord.{CoordRecord}
 use Rattle.fed_rules.specs.declared.records.SiteRecord.{SiteRecord}
 use Rattle.fed_rules.specs.CoordRecords.{coord_frame}
-use Rattle.fed_rules.specs.Disk.{bytes_of}
 use Rattle.fed_rules.specs.Found.{Journal}
 use Rattle.fed_rules.specs.Reopened.{first_of, home_by, opened_site}
 use Rattle.fed_rules.specs.SiteRecords.{Home, site_frame}
