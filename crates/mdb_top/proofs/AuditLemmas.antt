@@ -24,8 +24,7 @@ use Rattle.mdb_top.specs.Texts.{no_memory_text, read_failed_text}
 use Rattle.mdb_top.specs.Verdicts.{Verdict, TooLong, BadInput, Spells, verdict}
 use Rattle.mdb_top.proofs.InputLemmas.{front_or_longer, verdict-long, verdict-short}
 
--- a status that is none of these
--- a status that is neither of two isn't among them
+-- a status that is none of these isn't among them
 pub not_two : (status m n : ℕ) → (status ≡ m → ⊥) → (status ≡ n → ⊥) → In status (m ∷ n ∷ []) → ⊥
 not_two status m n f g (inl e) = f (sym e)
 not_two status m n f g (inr (inl e)) = g (sym e)

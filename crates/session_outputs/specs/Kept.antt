@@ -18,8 +18,8 @@ use Rattle.site_journal.specs.Spelling as of_site
 
 -- ---- on one disk
 
--- the bytes are the frames of these records, the oldest first, each as it was found or as it is written; where a stop tore the last one its rest stands
--- behind them, and while the actor is up nothing does. Each record is one of the format
+-- the bytes are the frames of these records, the oldest first, each in either version; where a stop tore the last one its rest stands behind them, and
+-- while the actor is up nothing does. Each record is one of the format
 pub record KeepsRecords {R : Type 0} (spelling : R → List ℕ) (is_record : R → Type 0) (down : Bool) (bytes : List ℕ) (records : List R) : Type 0 where
   pub entries : List (Entry R)
   pub are : values entries ≡ records
