@@ -7,7 +7,6 @@ use Rattle.fed_rules.specs.Story.{story_of}
 use Rattle.journal_disk.specs.Disk.{Seen}
 use Rattle.found_disks.specs.declared.errors.ReopenErr.{ReopenErr}
 use Rattle.found_disks.specs.declared.errors.ReopenErr.TheVariants.{Damaged, Disk, Foreign, Memory}
-use Rattle.found_disks.specs.Reading.{images_of}
 use Rattle.left_disks.specs.Left.{IsLeft}
 use Rattle.resume_output.specs.Resumes.{AllGoesOn, GoesOnFromLeft, IsRefusedAs, ResumesAs, ResumesBroken, ResumesShort, ResumesWhole}
 use Rattle.session_outputs.specs.declared.output.Output.{Output}
@@ -15,7 +14,7 @@ use Rattle.session_outputs.specs.declared.output.Output.TheVariants.{Whole, Brok
 use Rattle.session_outputs.specs.Texts.{disk_failed_text}
 use Rattle.mdb_top.specs.Audits.{IsSaid}
 use Rattle.mdb_top.specs.Endings.{GetsSome, IsPut, IsPutWhole}
-use Rattle.mdb_top.specs.Resuming.{IsRefusalPut, ResumeEnds, SomeFailed}
+use Rattle.mdb_top.specs.Resuming.{IsRefusalPut, ResumeEnds, SomeFailed, SomeUntold}
 use Rattle.mdb_top.specs.Streams.{Gets, Stream}
 use Rattle.mdb_top.specs.Texts.{disk_damaged_text, disk_foreign_text, no_memory_text}
 use Rattle.mdb_top.proofs.AuditLemmas.{not_two}
@@ -31,7 +30,7 @@ Goes disks = (scenario : Scenario) (commands : List Command) → IsLeft disks sc
 
 module _ (sink : Stream) (old new : List Seen) where
   -- memory is wanting
-  short_ends : Goes old → ResumesShort old new → Gets sink no_memory_text → ResumeEnds 6 sink old new
+  short_ends : Goes old → (ResumesShort old new ⊎ SomeUntold old new) → Gets sink no_memory_text → ResumeEnds 6 sink old new
   short_ends goes short text = record {
     led = inr (inr (inr (inl refl)));
     done = λ e. absurd cc;
@@ -94,13 +93,13 @@ module _ (sink : Stream) (old new : List Seen) where
   output_ends status (Broken bytes) made left put = subst (λ (n : ℕ). ResumeEnds n sink old new) (sym put.0)
       (failed_ends (λ scenario commands l. (left scenario commands l).1) (inl (record { output = bytes.items; holds = made; put = put.1 })))
 
-  -- a text was said with its status, or memory was wanting for it, and the bytes on the disks stay
-  said_ends : (status own : ℕ) (text : List ℕ) → Goes old → images_of new ≡ images_of old → IsSaid own text status sink → (Gets sink text → ResumeEnds own sink old new) → ResumeEnds status sink old new
-  said_ends status own text goes same said ends = by_status said.either
+  -- a text was said with its status, or memory was wanting for it
+  said_ends : (status own : ℕ) (text : List ℕ) → Goes old → (ResumesShort old new ⊎ SomeUntold old new) → IsSaid own text status sink → (Gets sink text → ResumeEnds own sink old new) → ResumeEnds status sink old new
+  said_ends status own text goes short said ends = by_status said.either
     where
       by_status : In status (own ∷ 6 ∷ []) → ResumeEnds status sink old new
       by_status (inl e) = subst (λ (n : ℕ). ResumeEnds n sink old new) e (ends (said.said (sym e)))
-      by_status (inr (inl e)) = subst (λ (n : ℕ). ResumeEnds n sink old new) e (short_ends goes (inl same) (said.no_memory (sym e)))
+      by_status (inr (inl e)) = subst (λ (n : ℕ). ResumeEnds n sink old new) e (short_ends goes short (said.no_memory (sym e)))
       by_status (inr (inr e)) = absurd e
 
   -- a disk is damaged
@@ -140,10 +139,10 @@ module _ (sink : Stream) (old new : List Seen) where
   -- why no session goes on was put
   pub refusal_ends : (status : ℕ) (why : ReopenErr) → IsRefusedAs why old new → GoesOnFromLeft {T = Output} (Err why) old → IsRefusalPut status sink why → ResumeEnds status sink old new
   refusal_ends status (Damaged number at) refused left put =
-      said_ends status 10 (disk_damaged_text number at) (λ scenario commands l. (left scenario commands l).1) refused.0.images put (damaged_ends number at left refused)
+      said_ends status 10 (disk_damaged_text number at) (λ scenario commands l. (left scenario commands l).1) (inl (inl (refused.0.images, refused.1))) put (damaged_ends number at left refused)
   refusal_ends status (Foreign number) refused left put =
-      said_ends status 11 (disk_foreign_text number) (λ scenario commands l. (left scenario commands l).1) refused.0.images put (foreign_ends number left refused)
+      said_ends status 11 (disk_foreign_text number) (λ scenario commands l. (left scenario commands l).1) (inl (inl (refused.0.images, refused.1))) put (foreign_ends number left refused)
   refusal_ends status (Disk number) refused left put =
-      said_ends status 5 (disk_failed_text number) (λ scenario commands l. (left scenario commands l).1) refused.0.images put
+      said_ends status 5 (disk_failed_text number) (λ scenario commands l. (left scenario commands l).1) (inr (number, refused)) put
       (λ text. failed_ends (λ scenario commands l. (left scenario commands l).1) (inr (record { number = number; refused = refused; put = text })))
-  refusal_ends status Memory refused left put = subst (λ (n : ℕ). ResumeEnds n sink old new) (sym put.0) (short_ends (λ scenario commands l. (left scenario commands l).1) refused put.1)
+  refusal_ends status Memory refused left put = subst (λ (n : ℕ). ResumeEnds n sink old new) (sym put.0) (short_ends (λ scenario commands l. (left scenario commands l).1) (inl refused) put.1)

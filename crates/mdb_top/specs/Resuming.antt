@@ -35,6 +35,10 @@ pub record SomeFailed (sink : Stream) (old new : List Seen) : Type 0 where
   pub refused : IsRefusedAs (Disk number) old new
   pub put : Gets sink (disk_failed_text number)
 
+-- a call of a disk failed while the journals were read, and memory was wanting to say so
+abbrev pub SomeUntold : List Seen → List Seen → Type 0
+SomeUntold old new = (number : ℕ) × IsRefusedAs (Disk number) old new
+
 -- how it ends: each status with its cause, what the sink has got then, and what is said of the disks
 pub record ResumeEnds (status : ℕ) (sink : Stream) (old new : List Seen) : Type 0 where
   -- which status comes when; want of memory alone is free
@@ -46,7 +50,7 @@ pub record ResumeEnds (status : ℕ) (sink : Stream) (old new : List Seen) : Typ
   pub write_failed : status ≡ 4 → Rose sink
   pub broken : status ≡ 5 → GetsSome sink (λ output. ResumesBroken output old new) ⊎ SomeFailed sink old new
   pub no_memory : status ≡ 6 → Gets sink no_memory_text
-  pub short : status ≡ 6 → ResumesShort old new
+  pub short : status ≡ 6 → ResumesShort old new ⊎ SomeUntold old new
   pub damaged : status ≡ 10 → SomeDamaged sink old new
   pub foreign : status ≡ 11 → SomeForeign sink old new
   -- the disks that a session left are neither damaged nor foreign, and the session goes on rightly from what is found on them: each attempt keeps its

@@ -109,7 +109,7 @@ pub refused_as : (why : ReopenErr) (old new : List Seen) → FindsAs (Err why) (
 refused_as (Err_is.Damaged number at) old new finds same told = (record { finds = finds; images = same }, told)
 refused_as (Err_is.Foreign number) old new finds same told = (record { finds = finds; images = same }, told)
 refused_as (Err_is.Disk number) old new finds same told = (record { finds = finds; images = same }, told)
-refused_as Err_is.Memory old new finds same told = inl same
+refused_as Err_is.Memory old new finds same told = inl (same, told)
 
 -- an output was made, or memory was wanting for it
 pub whole_answered : (made : Result Output Memory) (old new : List Seen) → IfWhole made (λ bytes. ResumesWhole bytes old new) → ResumesShort old new → ResumesAs (answered made) old new
@@ -137,7 +137,7 @@ breaks_behind tells world old disks found number told sized goes rose b =
     (record { done = b.done ++ []; command = b.command; left = b.left; of_all = b.of_whole; rose = rose; disk = seen; own = at; stop = stop; others = others }, refl)
 
 -- where memory is wanting on the way to rest
-pub stands_behind : (tells : Bool) (world : World) (disks : List Seen) (found : Found) → IsTrue tells → AreSized disks → GoesOn (going_on found) → IsShort tells world disks (resuming found) (going_on found) []
-    → StandsBehind found disks
-stands_behind tells world disks found told sized goes s =
-    record { done = s.done ++ []; left = s.left; of_all = s.of_whole; kept = stands_keeps tells world disks (going_on found) (s.done ++ []) told sized goes s.stood }
+pub stands_behind : (tells : Bool) (world : World) (old disks : List Seen) (found : Found) → IsTrue tells → AreSized disks → GoesOn (going_on found) → faults_of disks ≡ faults_of old
+    → IsShort tells world disks (resuming found) (going_on found) [] → StandsBehind found old disks
+stands_behind tells world old disks found told sized goes calm s =
+    record { done = s.done ++ []; left = s.left; of_all = s.of_whole; kept = stands_keeps tells world disks (going_on found) (s.done ++ []) told sized goes s.stood; calm = calm }

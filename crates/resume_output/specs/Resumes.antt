@@ -54,12 +54,13 @@ pub record IsPrintedBehind (text : List ℕ) (session : Session) (commands : Lis
 
 -- ---- what is on the disks on the way to rest
 
--- some of the commands that bring it to rest were carried out, and each disk has the records that its actor keeps behind them
-pub record StandsBehind (found : Found) (disks : List Seen) : Type 0 where
+-- some of the commands that bring it to rest were carried out, no disk failed, and each has the records that its actor keeps behind them
+pub record StandsBehind (found : Found) (old new : List Seen) : Type 0 where
   pub done : List Command
   pub left : List Command
   pub of_all : resuming found ≡ left ++ done
-  pub kept : KeepAll disks (plan_of found) (story_in (going_on found) done)
+  pub kept : KeepAll new (plan_of found) (story_in (going_on found) done)
+  pub calm : faults_of new ≡ faults_of old
 
 -- a call of this disk failed within the command behind some of these: its count of faults rose and no other. It has the records that some stop within
 -- the command's event leaves, and each other disk those that its actor keeps
@@ -100,11 +101,11 @@ pub record ResumesBroken (output : List ℕ) (old new : List Seen) : Type 0 wher
 pub record StopsShort (old new : List Seen) : Type 0 where
   pub found : Found
   pub is_found : IsFoundOn old found
-  pub where_to : StandsBehind found new ⊎ (number : ℕ) × BreaksBehind number found old new
+  pub came_to : StandsBehind found old new ⊎ (number : ℕ) × BreaksBehind number found old new
 
--- or before it: the bytes on the disks stay
+-- or before it: the bytes on the disks stay, and none failed
 abbrev pub ResumesShort : List Seen → List Seen → Type 0
-ResumesShort old new = (images_of new ≡ images_of old) ⊎ StopsShort old new
+ResumesShort old new = ((images_of new ≡ images_of old) × (faults_of new ≡ faults_of old)) ⊎ StopsShort old new
 
 -- no session goes on: the first damaged disk is named exactly where one is, and else the first one that isn't usable; a disk is said to have failed only
 -- where its count of faults rose while the journals were read. The bytes on the disks stay

@@ -5,7 +5,7 @@ use Rattle.fed_rules.specs.Resumed.{going_on, resuming}
 use Rattle.closing.specs.Towards.{BreaksAt, FailsToward, IsShort}
 use Rattle.fed_world.specs.declared.errors.WorldErr.{WorldErr}
 use Rattle.fed_world.specs.declared.errors.WorldErr.TheVariants as World_err
-use Rattle.fed_world.specs.Faults.{FailedAs, RisesAt}
+use Rattle.fed_world.specs.Faults.{FailedAs, RisesAt, faults_of}
 use Rattle.fed_world.specs.Lines.{AreLinesIn}
 use Rattle.fed_world.proofs.Faults.{failed_later}
 use Rattle.fed_world.proofs.Recalled.{recalls}
@@ -20,7 +20,7 @@ use Rattle.resume_output.proofs.Resumed.{answered_left, as_many_disks, breaks_be
 use Rattle.resume_output.proofs.resuming.resume_output_of.Goals as goal
 
 pub returns-then-not-are_small-clause-output : goal.returns-then-not-are_small-clause-output
-returns-then-not-are_small-clause-output g c = inl refl
+returns-then-not-are_small-clause-output g c = inl (refl, refl)
 
 pub returns-then-not-are_small-clause-left : goal.returns-then-not-are_small-clause-left
 returns-then-not-are_small-clause-left g c = short_left c.left_disks_go_on.ensures (map g.D.Disk.seen c.args.disks.now.items)
@@ -107,7 +107,7 @@ returns-in-Ok-close-clause-output g c =
       calm = c.in-Ok-close.ensures.cause ∙ c.in-Ok.ensures.cause;
     })
     c.printed.ensures)
-    (inr (record { found = found; is_found = is_found; where_to = inl (record { done = resuming found; left = []; of_all = refl; kept = kept }) })))
+    (inr (record { found = found; is_found = is_found; came_to = inl (record { done = resuming found; left = []; of_all = refl; kept = kept; calm = c.in-Ok-close.ensures.cause ∙ c.in-Ok.ensures.cause }) })))
 
 pub returns-in-Ok-close-clause-left : goal.returns-in-Ok-close-clause-left
 returns-in-Ok-close-clause-left g c =
@@ -165,7 +165,7 @@ returns-in-Err-Disk-clause-output g c =
       output_is = is;
     })
     c.broken.ensures)
-    (inr (record { found = found; is_found = is_found; where_to = inr (c.in-Err-Disk.number, broke.0) })))
+    (inr (record { found = found; is_found = is_found; came_to = inr (c.in-Err-Disk.number, broke.0) })))
 
 pub returns-in-Err-Disk-clause-left : goal.returns-in-Err-Disk-clause-left
 returns-in-Err-Disk-clause-left g c =
@@ -190,10 +190,12 @@ returns-in-Ok-clause-output g c =
     let s : IsShort g.D.Disk.tells c.close.new.world new (resuming found) (going_on found) [] =
     subst (λ (why : WorldErr). FailsToward g.D.Disk.tells why c.close.new.world new (resuming found) (going_on found) []) c.in-Err-Memory.field-0-is
     (c.in-Err-Memory.ensures.failed (going_on found) [] r.stands can) in
+    let calm : faults_of new ≡ faults_of old =
+    subst (λ (why : WorldErr). FailedAs why (map seen c.reopen.new.disks.items) new) c.in-Err-Memory.field-0-is c.in-Err-Memory.ensures.cause ∙ c.in-Ok.ensures.cause in
     inr (record {
       found = found;
       is_found = record { journals = r.journals; read = r.read; is = refl; usable = goes.usable };
-      where_to = inl (stands_behind g.D.Disk.tells c.close.new.world new found c.requires.told (all_sized seen sized c.close.new.disks.items) goes s);
+      came_to = inl (stands_behind g.D.Disk.tells c.close.new.world old new found c.requires.told (all_sized seen sized c.close.new.disks.items) goes calm s);
     })
 
 pub returns-in-Ok-clause-left : goal.returns-in-Ok-clause-left
