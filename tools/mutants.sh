@@ -3,9 +3,10 @@
 #
 # usage: tools/mutants.sh [CRATE ..]
 #
-# mutants/CRATE/NAME.edit is an edit as those of crates/CRATE/must-fail/: a file, and pairs of lines, old and new. Those of the crates named, or of
-# all, are put into a scratch clone of what is committed, and `rt must-fail` tries them there, a crate at a time. Run it for each crate whose
-# bodies or contracts change, and for all before a release.
+# mutants/CRATE/NAME.edit is an edit as those of crates/CRATE/must-fail/: a file, and pairs of lines, old and new. In a scratch clone of what is
+# committed those of the crates named, or of all, take the place of all edits, and `rt ci` proves these crates and tries their edits there, many
+# side by side. What an earlier run proved on this machine isn't proved again, so run it behind the gate: for each crate whose bodies or contracts
+# change, and for all before a release.
 #
 # It prints each edit that is still proved, each that can't be tried, and each that is refused only because a proof file names what the edit
 # took away or for a limit of the prover, which shows little of the contract; then the counts. The status is 0 where each edit was refused.
@@ -27,24 +28,27 @@ done
 
 git clone --quiet --shared -- "$top" "$room/repo" || exit 2
 cd -- "$room/repo" || exit 2
-tried=0 refused=0 little=0 passed=0
+rm -rf -- crates/*/must-fail
+named=()
+gone=0
 for crate in "${crates[@]}"; do
-    if [ ! -d "crates/$crate" ]; then
+    if [ -d "crates/$crate" ]; then
+        cp -r -- "$top/mutants/$crate" "crates/$crate/must-fail" || exit 2
+        named+=("$crate")
+    else
         echo "$crate: no such crate, though mutants/$crate stands"
-        passed=$((passed + 1))
-        continue
+        gone=$((gone + 1))
     fi
-    rm -rf -- "crates/$crate/must-fail"
-    cp -r -- "$top/mutants/$crate" "crates/$crate/must-fail" || exit 2
-    ( cd -- "crates/$crate" && rt check ) > "$room/check" 2>&1 || { echo "$crate: not proved as it stands"; tail -n 3 -- "$room/check"; }
-    rt must-fail "$crate" > "$room/said" 2>&1
-    count=$(find "crates/$crate/must-fail" -name '*.edit' | wc -l)
-    good=$(grep -c ': refused, as it must be' "$room/said")
-    weak=$(grep -cE 'refused, as it must be \(only (because a proof file|by a limit)' "$room/said")
-    grep -E 'NOT REFUSED|BAD EDIT|NOT TRIED|refused, as it must be \(only' -- "$room/said"
-    echo "$crate: $count tried, $good refused, $weak of them for a name or a limit"
-    tried=$((tried + count)) refused=$((refused + good)) little=$((little + weak)) passed=$((passed + count - good))
-    rm -rf -- "crates/$crate/must-fail"
 done
-echo "mutants: $tried tried, $refused refused, $little of them for a name or a limit, $passed not refused"
-[ "$passed" = 0 ]
+[ "${#named[@]}" = 0 ] || rt ci "${named[@]}" > "$room/said" 2>&1
+tried=0 refused=0 little=0
+for crate in "${named[@]}"; do
+    grep -E "must-fail $crate/[^:]*: (NOT REFUSED|BAD EDIT|NOT TRIED|refused, as it must be \\(only)" -- "$room/said"
+    count=$(find "crates/$crate/must-fail" -name '*.edit' | wc -l)
+    good=$(grep -c "must-fail $crate/[^:]*: refused, as it must be" -- "$room/said")
+    weak=$(grep -c "must-fail $crate/[^:]*: refused, as it must be (only" -- "$room/said")
+    echo "$crate: $count edits, $good refused, $weak of them for a name or a limit"
+    tried=$((tried + count)) refused=$((refused + good)) little=$((little + weak))
+done
+echo "mutants: $tried edits, $refused refused, $little of them for a name or a limit, $((tried - refused)) not refused"
+[ "$((tried - refused + gone))" = 0 ]
