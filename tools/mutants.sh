@@ -50,5 +50,7 @@ for crate in "${named[@]}"; do
     echo "$crate: $count edits, $good refused, $weak of them for a name or a limit"
     tried=$((tried + count)) refused=$((refused + good)) little=$((little + weak))
 done
+# where the crates aren't proved as they stand, or a library isn't, this says so
+[ "$tried" = "$refused" ] || tail -n 3 -- "$room/said"
 echo "mutants: $tried edits, $refused refused, $little of them for a name or a limit, $((tried - refused)) not refused"
 [ "$((tried - refused + gone))" = 0 ]
