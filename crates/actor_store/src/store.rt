@@ -45,6 +45,8 @@ pub struct Store<R: Drop, F: Format<R>> {
     pub journal: Journal<R, F>,
     pub trip: Option<SetTrip>,
     pub standing: Standing,
+    /// Whether the journal was found and not read again since: a first start needn't read it once more.
+    pub is_fresh: bool,
 }
 
 impl<R: Drop, F: Format<R>> Store<R, F> {
@@ -56,6 +58,7 @@ impl<R: Drop, F: Format<R>> Store<R, F> {
             journal: Journal::new(alloc),
             trip: None,
             standing: Standing::Up,
+            is_fresh: false,
         }
     }
 
@@ -76,6 +79,7 @@ impl<R: Drop, F: Format<R>> Store<R, F> {
                 journal,
                 trip: None,
                 standing: Standing::Down,
+                is_fresh: true,
             }),
             Err(JournalErr::Failed) => Err(StepErr::Disk),
             Err(JournalErr::Memory) => Err(StepErr::Memory),
@@ -246,7 +250,8 @@ impl<R: Drop, F: Format<R>> Store<R, F> {
         }
     }
 
-    /// Reads the journal again: a stop loses what was in memory. A failed read changes nothing.
+    /// Reads the journal again: a stop loses what was in memory. One that was found, and not read again since, is as it was read. A failed
+    /// read changes nothing.
     pub fn reload<D: Disk>(&mut self, alloc: Global, disk: &mut D) -> Result<(), StepErr>
         requires told { IsTrue D.tells }
         requires kept { SomeKeptBehind (KeepsBehind F.spelling F.is_record F.frame_bytes D.tells (D.seen disk.old) (stored self.old)) }
@@ -259,6 +264,11 @@ impl<R: Drop, F: Format<R>> Store<R, F> {
         ensures image { (D.seen disk.new).image ≡ (D.seen disk.old).image }
         ensures cause { HasCauseOf StepErr.Disk (D.seen disk.old).faults (D.seen disk.new).faults result }
     {
+        if self.is_fresh {
+            self.is_fresh = false;
+            self.journal.give_up_room();
+            return Ok(());
+        }
         match Journal::load(alloc, disk) {
             Ok(journal) => {
                 self.journal = journal;

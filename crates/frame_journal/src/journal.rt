@@ -171,6 +171,14 @@ impl<R: Drop, F: Format<R>> Journal<R, F> {
         self.make_room(alloc, disk, places, room)
     }
 
+    /// Gives up what was reserved.
+    pub fn give_up_room(&mut self)
+        ensures { self.new ≡ record self.old { places = 0; room = 0 } }
+    {
+        self.places = 0;
+        self.room = 0;
+    }
+
     /// Cuts back what stands behind the last whole frame, by one cut_back, and so syncs all records. What was reserved stays.
     pub fn cut<D: Disk>(&mut self, disk: &mut D) -> Result<(), Failed>
         requires { IsKeptOn F.spelling D.tells (D.seen disk.old) self.old }

@@ -28,7 +28,7 @@ pub in_tids : (ns : List Ticketed) (a : Ticketed) → In a ns → In a.tid (tids
 in_tids ns a i = map_among (λ (t : Tid). t ≡ a.tid) (λ (b : Ticketed). b.tid) ns (is_among (λ (b : Ticketed). b.tid ≡ a.tid) a ns i refl)
 
 -- attempts of one list that are all of the other one too
-tids_more : (ns ms : List Ticketed) → ((a : Ticketed) → In a ns → In a ms) → (tid : Tid) → In tid (tids_of ns) → In tid (tids_of ms)
+pub tids_more : (ns ms : List Ticketed) → ((a : Ticketed) → In a ns → In a ms) → (tid : Tid) → In tid (tids_of ns) → In tid (tids_of ms)
 tids_more ns ms h tid i = let a = tid_in ns tid i in subst (λ t. In t (tids_of ms)) a.2 (in_tids ms a.0 (h a.0 a.1))
 
 edge_more : (ns ms : List Ticketed) → ((a : Ticketed) → In a ns → In a ms) → (e : Edge) → IsEdge ns e → IsEdge ms e

@@ -16,3 +16,4 @@ pub mod Heights
 pub mod Pruning
 pub mod Standing
 pub mod Restoring
+pub mod Entering

@@ -3,3 +3,4 @@ pub mod Steps
 pub mod Trail
 pub mod Reach
 pub mod Graph
+pub mod Entered

@@ -4,6 +4,7 @@
 #![tactic(auto)]
 
 mod added;
+mod cycle_free;
 mod entries;
 mod find;
 mod floors;
@@ -15,6 +16,7 @@ mod steps;
 mod verdict;
 
 pub use added::Added;
+pub use cycle_free::are_cycle_free;
 pub use graph::TicketGraph;
 pub use lowest::Lowest;
 pub use verdict::Verdict;

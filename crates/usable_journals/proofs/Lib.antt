@@ -1,6 +1,6 @@
 pub mod Sets
 pub mod Recording
-pub mod Adding
+pub mod Committing
 pub mod Reflected
 pub mod Words
 pub mod Readings

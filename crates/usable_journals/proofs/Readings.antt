@@ -24,7 +24,7 @@ use Rattle.usable_journals.specs.declared.coord_sums.Reading.{Reading}
 use Rattle.usable_journals.specs.CoordTests.{in_order, is_decided_of, may_stand}
 use Rattle.usable_journals.specs.Reads.{Reads, Says, begun, ended, ends_of, forgotten, open_in, tickets_in}
 use Rattle.fed_rules.specs.Reopened.{commit_read, coord_sum_read, initiation_read}
-use Rattle.usable_journals.proofs.Adding.{and_parts, stays_true}
+use Rattle.usable_journals.proofs.Committing.{and_parts, stays_true}
 use Rattle.usable_journals.proofs.Recording.{drop_one, end_at, ends_of as ends_in, ends_one, sum_reads}
 use Rattle.mdb_base.proofs.NameOrders.{tid_ties}
 use Rattle.usable_journals.proofs.Words.{or_second}

@@ -27,7 +27,7 @@ use Rattle.fed_rules.specs.Usable.{CoordSumsFit, RiseBy, coord_read}
 use Rattle.usable_journals.specs.CoordTests.{in_order, same_member, same_ticket}
 use Rattle.usable_journals.specs.declared.coord_sums.Reading.{Reading}
 use Rattle.usable_journals.specs.Reads.{Fits, Reads, Says, committed_pair, open_in, open_pair, tickets_in}
-use Rattle.usable_journals.proofs.Adding.{stays_true}
+use Rattle.usable_journals.proofs.Committing.{stays_true}
 use Rattle.usable_journals.proofs.Readings.{committed_rise, open_rise}
 use Rattle.usable_journals.proofs.Recording.{read_behind, reverse_more, reverse_rest}
 use Rattle.usable_journals.proofs.Reflected.{member_back, member_there}

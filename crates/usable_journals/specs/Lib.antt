@@ -1,6 +1,5 @@
 pub mod CoordTests
 pub mod Recorded
-pub mod Closing
 pub mod Rising
 pub mod Reads
 pub mod SiteTests

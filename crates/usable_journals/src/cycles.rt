@@ -1,86 +1,76 @@
 //! The tickets of the committed attempts close no cycle.
-ghost use Rattle.std.specs.Prelude.{◌≡◌, ◌↔◌, true, IfOk, IsTrue, [], ◌∷◌, map, reverse};
+ghost use Rattle.std.specs.Prelude.{◌≡◌, ◌↔◌, ◌++◌, true, IfOk, OnOk, IsTrue, [], ◌∷◌, map, reverse};
 ghost use Rattle.order_laws.specs.Tickets.{HasNoCycle};
-ghost use Rattle.fed_rules.specs.declared.records.CoordRecord.TheVariants as Rec;
 ghost use Rattle.fed_rules.specs.CoordRecords.{commits};
 ghost use Rattle.fed_rules.specs.Reopened.{commit_read};
 ghost use Rattle.fed_rules.specs.Usable.{coord_read};
-ghost use Rattle.usable_journals.specs.Closing as closing;
-ghost use Rattle.usable_journals.specs.Closing.{Adds, MayFollow};
 ghost use Rattle.usable_journals.specs.CoordTests.{in_order};
 
 use fed_rules::{CommittedAttempt, CoordRecord};
-use mdb_base::{Memory, Tickets, Tid};
+use mdb_base::Memory;
 use std::alloc::Global;
-use ticket_graph::{TicketGraph, Verdict};
+use ticket_graph::{Added, are_cycle_free};
 
-fn is_added(verdict: &Verdict) -> bool
-    ensures { result ≡ closing.is_added verdict.now }
-{
-    matches!(verdict, Verdict::Added)
-}
-
-/// Adds a committed attempt: whether it closes no cycle.
-fn add(graph: &mut TicketGraph, alloc: Global, tid: Tid, tickets: &Tickets) -> Result<bool, Memory>
-    requires { MayFollow graph.old (Rec.Commit tid tickets.now ∷ []) }
-    ensures { IfOk result (Adds graph.old graph.new (Rec.Commit tid tickets.now ∷ [])) }
-{
-    Ok(is_added(&graph.try_add(alloc, tid, tickets)?))
-}
-
-/// Adds the next record's attempt, if it is a Commit: whether it closes no cycle.
-fn take(graph: &mut TicketGraph, alloc: Global, entry: &CoordRecord) -> Result<bool, Memory>
-    requires { MayFollow graph.old (entry.now ∷ []) }
-    ensures { IfOk result (Adds graph.old graph.new (entry.now ∷ [])) }
+/// Puts a record's attempt behind the others, if it is a Commit.
+fn add(alloc: Global, attempts: &mut Vec<Added>, entry: &CoordRecord) -> Result<(), Memory>
+    ensures { OnOk result (attempts.new.items ≡ attempts.old.items ++ commits (entry.now ∷ [])) }
 {
     match entry {
-        CoordRecord::Commit { tid, tickets } => add(graph, alloc, *tid, tickets),
-        _ => Ok(true),
-    }
-}
-
-/// Adds the committed attempts of a first Checkpoint, the last one first: whether they close no cycle.
-fn add_all(
-    graph: &mut TicketGraph,
-    alloc: Global,
-    committed: &[CommittedAttempt],
-) -> Result<bool, Memory>
-    requires { MayFollow graph.old (map commit_read committed.now) }
-    ensures { IfOk result (Adds graph.old graph.new (map commit_read committed.now)) }
-{
-    let mut left = committed.len();
-    while left > 0 {
-        left -= 1;
-        let attempt = &committed[left];
-        if !add(graph, alloc, attempt.tid, &attempt.tickets)? {
-            return Ok(false);
+        CoordRecord::Commit { tid, tickets } => {
+            attempts.push(Added::of(alloc, *tid, tickets)?)?;
+            Ok(())
         }
+        _ => Ok(()),
     }
-    Ok(true)
 }
 
-/// The first record, or what it is read as.
-fn take_first(graph: &mut TicketGraph, alloc: Global, first: &CoordRecord) -> Result<bool, Memory>
-    requires { MayFollow graph.old (coord_read (first.now ∷ [])) }
-    ensures { IfOk result (Adds graph.old graph.new (coord_read (first.now ∷ []))) }
+/// Puts the committed attempts of a first Checkpoint behind the others.
+fn add_committed(
+    alloc: Global,
+    attempts: &mut Vec<Added>,
+    committed: &[CommittedAttempt],
+) -> Result<(), Memory>
+    ensures { OnOk result (attempts.new.items ≡ attempts.old.items ++ commits (map commit_read committed.now)) }
+{
+    for attempt in committed {
+        attempts.push(Added::of(alloc, attempt.tid, &attempt.tickets)?)?;
+    }
+    Ok(())
+}
+
+/// Puts those of the first record, or of what it is read as, behind the others.
+fn add_first(alloc: Global, attempts: &mut Vec<Added>, first: &CoordRecord) -> Result<(), Memory>
+    ensures { OnOk result (attempts.new.items ≡ attempts.old.items ++ commits (coord_read (first.now ∷ []))) }
 {
     match first {
-        CoordRecord::Checkpoint(sum) => add_all(graph, alloc, sum.committed.as_slice()),
-        _ => take(graph, alloc, first),
+        CoordRecord::Checkpoint(sum) => add_committed(alloc, attempts, sum.committed.as_slice()),
+        _ => add(alloc, attempts, first),
     }
 }
 
-/// The next records, the oldest first: whether their attempts close no cycle.
-fn take_all(graph: &mut TicketGraph, alloc: Global, entries: &[CoordRecord]) -> Result<bool, Memory>
-    requires { MayFollow graph.old (reverse entries.now) }
-    ensures { IfOk result (Adds graph.old graph.new (reverse entries.now)) }
+/// Puts those of these records behind the others, the last one first.
+fn add_all(alloc: Global, attempts: &mut Vec<Added>, entries: &[CoordRecord]) -> Result<(), Memory>
+    ensures { OnOk result (attempts.new.items ≡ attempts.old.items ++ commits (reverse entries.now)) }
 {
-    for entry in entries {
-        if !take(graph, alloc, entry)? {
-            return Ok(false);
-        }
+    let mut left = entries.len();
+    while left > 0 {
+        left -= 1;
+        add(alloc, attempts, &entries[left])?;
     }
-    Ok(true)
+    Ok(())
+}
+
+/// The committed attempts, the last one first, a first Checkpoint read as what it sums.
+fn committed_attempts(alloc: Global, records: &[CoordRecord]) -> Result<Vec<Added>, Memory>
+    ensures { IfOk result (λ attempts. attempts.items ≡ commits (coord_read (reverse records.now))) }
+{
+    let mut attempts = Vec::new(alloc);
+    let Some((first, newer)) = records.split_first() else {
+        return Ok(attempts);
+    };
+    add_all(alloc, &mut attempts, newer)?;
+    add_first(alloc, &mut attempts, first)?;
+    Ok(attempts)
 }
 
 /// Whether the tickets of the committed attempts close no cycle, a first Checkpoint read as what it sums.
@@ -88,12 +78,6 @@ pub(crate) fn close_no_cycle(alloc: Global, records: &[CoordRecord]) -> Result<b
     requires { in_order (coord_read (reverse records.now)) ≡ true }
     ensures { IfOk result (λ free. IsTrue free ↔ HasNoCycle (commits (coord_read (reverse records.now)))) }
 {
-    let Some((first, newer)) = records.split_first() else {
-        return Ok(true);
-    };
-    let mut graph = TicketGraph::new(alloc)?;
-    if !take_first(&mut graph, alloc, first)? {
-        return Ok(false);
-    }
-    take_all(&mut graph, alloc, newer)
+    let attempts = committed_attempts(alloc, records)?;
+    Ok(are_cycle_free(attempts))
 }
