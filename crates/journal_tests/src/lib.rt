@@ -9,6 +9,8 @@ mod coord_records;
 #[cfg(test)]
 mod coord_sums;
 #[cfg(test)]
+mod cycles;
+#[cfg(test)]
 mod disks;
 #[cfg(test)]
 mod found;
@@ -18,3 +20,5 @@ mod site_payloads;
 mod site_records;
 #[cfg(test)]
 mod sums;
+#[cfg(test)]
+mod usable;

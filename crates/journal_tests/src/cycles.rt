@@ -1,0 +1,97 @@
+//! Commits whose tickets close a cycle, from which no session goes on, and others.
+use fed_rules::CoordRecord;
+use mdb_base::{Memory, SiteId, SiteTicket, Tickets, Tid, Tx};
+use presumptions::{Participant, Participants, Protocol};
+use std::alloc::Global;
+use std::test::Fail;
+use usable_journals::is_usable_coordinator;
+
+// Transactions that committed, each with its sites and tickets, and whether they close no cycle.
+const COMMITS: [(&[(u16, &[(u8, u64)])], bool); 9] = [
+    (&[], true),
+    // before each other, at two sites
+    (&[(7, &[(1, 1), (2, 2)]), (8, &[(1, 2), (2, 1)])], false),
+    (&[(7, &[(1, 1), (2, 1)]), (8, &[(1, 2), (2, 2)])], true),
+    // no edge leads between equal tickets
+    (&[(7, &[(1, 1), (2, 2)]), (8, &[(1, 1), (2, 1)])], true),
+    (&[(7, &[(1, 1)]), (8, &[(1, 1)])], true),
+    // a round of three sites, and the same without its last edge
+    (
+        &[
+            (7, &[(1, 1), (3, 2)]),
+            (8, &[(1, 2), (2, 1)]),
+            (9, &[(2, 2), (3, 1)]),
+        ],
+        false,
+    ),
+    (
+        &[
+            (7, &[(1, 1), (3, 2)]),
+            (8, &[(1, 2), (2, 1)]),
+            (9, &[(2, 2), (3, 3)]),
+        ],
+        true,
+    ),
+    // some before and some behind a cycle
+    (
+        &[
+            (6, &[(1, 1)]),
+            (7, &[(1, 2), (2, 3)]),
+            (8, &[(1, 3), (2, 2)]),
+            (9, &[(2, 4)]),
+        ],
+        false,
+    ),
+    // none of no tickets lies on one
+    (&[(7, &[]), (8, &[(1, 1)]), (9, &[])], true),
+];
+
+fn tickets_of(alloc: Global, tickets: &[(u8, u64)]) -> Result<Tickets, Memory> {
+    let mut items = Vec::new(alloc);
+    for (site, ticket) in tickets {
+        items.push(SiteTicket {
+            site: SiteId(*site),
+            ticket: *ticket,
+        })?;
+    }
+    Ok(Tickets::of(items))
+}
+
+fn journal_of(alloc: Global, commits: &[(u16, &[(u8, u64)])]) -> Result<Vec<CoordRecord>, Memory> {
+    let mut records = Vec::new(alloc);
+    for (tx, tickets) in commits {
+        let tid = Tid {
+            tx: Tx(*tx),
+            attempt: 0,
+        };
+        let tickets = tickets_of(alloc, tickets)?;
+        records.push(CoordRecord::Commit { tid, tickets })?;
+    }
+    Ok(records)
+}
+
+// Sites 1 to 3, each with presumed abort.
+fn three_sites(alloc: Global) -> Result<Participants, Memory> {
+    let mut members = Vec::new(alloc);
+    for site in 1..4 {
+        members.push(Participant {
+            site: SiteId(site),
+            protocol: Protocol::Abort,
+        })?;
+    }
+    Ok(Participants::of(members))
+}
+
+#[test]
+fn commits_that_close_a_cycle_are_refused(rt: HostRuntime) -> Result<(), Fail> {
+    let alloc = rt.alloc();
+    let sites = three_sites(alloc)?;
+    for (commits, usable) in COMMITS {
+        let records = journal_of(alloc, commits)?;
+        assert_eq!(&rt;
+            is_usable_coordinator(alloc, &sites, records.as_slice())?,
+            usable
+        );
+    }
+    Ok(())
+}
