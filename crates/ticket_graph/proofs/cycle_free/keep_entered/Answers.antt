@@ -1,6 +1,5 @@
-use Rattle.std.proofs.Common.{rules, ◌∙◌}
+use Rattle.std.proofs.Common.{rules}
 use Rattle.std.proofs.lemmas.Fn.{filter_same}
-use Rattle.order_laws.specs.Tickets.{Ticketed}
 use Rattle.ticket_graph.specs.Entered.{is_entered}
 use Rattle.ticket_graph.proofs.cycle_free.keep_entered.Goals as goal
 

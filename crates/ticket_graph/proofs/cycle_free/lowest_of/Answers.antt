@@ -1,4 +1,4 @@
-use Rattle.std.proofs.Common.{◌++◌, [], List, length, map, take, ap, sym, ◌∙◌, subst, arith}
+use Rattle.std.proofs.Common.{◌++◌, [], List, map, take, ap, sym, ◌∙◌, subst, arith}
 use Rattle.std.proofs.lemmas.List.{length-map, take_all}
 use Rattle.mdb_base.specs.declared.names.SiteTicket.{SiteTicket}
 use Rattle.order_laws.specs.Tickets.{Ticketed}
@@ -13,8 +13,8 @@ loop-attempt-preserved c =
     let waiting = map (λ (a : Ticketed). a.tickets) ns in
     let i = c.loop-attempt.attempt-index in
     let x = c.attempt-item.result in
-    met_all_more c.meet.new.lowest.at [] waiting i x.tickets x.tickets (omega (arith, length-map (λ (a : Ticketed). a.tickets) ns)) (ap (λ (a : Ticketed). a.tickets) c.attempt-item.is ∙ sym (tickets_at ns i x))
-    (subst (λ (zs : List SiteTicket). IsLowest c.meet.new.lowest.at (joined (take i waiting) ++ zs)) c.tickets.ensures.items
+    met_all_more c.meet.new.self.at [] waiting i x.tickets x.tickets (omega (arith, length-map ns (λ (a : Ticketed). a.tickets))) (ap (λ (a : Ticketed). a.tickets) c.attempt-item.is ∙ sym (tickets_at ns i x))
+    (subst (λ (zs : List SiteTicket). IsLowest c.meet.new.self.at (joined (take i waiting) ++ zs)) c.tickets.ensures.items
     (c.meet.ensures (joined (take i waiting)) c.loop-attempt.invariant))
 
 pub returns : goal.returns
@@ -22,4 +22,4 @@ returns c =
     let ns = c.args.attempts.now in
     let waiting = map (λ (a : Ticketed). a.tickets) ns in
     let i = c.loop-attempt.attempt-index in
-    subst (IsLowest c.loop-attempt.lowest.at) (ap joined (take_all i waiting (omega (arith, length-map (λ (a : Ticketed). a.tickets) ns)))) c.loop-attempt.invariant
+    subst (IsLowest c.loop-attempt.lowest.at) (ap joined (take_all i waiting (omega (arith, length-map ns (λ (a : Ticketed). a.tickets))))) c.loop-attempt.invariant

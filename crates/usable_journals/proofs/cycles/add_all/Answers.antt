@@ -1,12 +1,11 @@
 use Rattle.std.proofs.Common.{◌-◌, ◌++◌, [], ◌∷◌, List, drop, reverse, ap, sym, ◌∙◌, arith}
-use Rattle.std.proofs.Math.Seq.{drop-zero}
 use Rattle.fed_rules.specs.declared.records.CoordRecord.{CoordRecord}
 use Rattle.fed_rules.specs.CoordRecords.{commits}
 use Rattle.usable_journals.proofs.Committing.{adds_before, adds_nothing}
 use Rattle.usable_journals.proofs.cycles.add_all.Goals as goal
 
-pub loop-left-enters : goal.loop-left-enters
-loop-left-enters c = record { within = omega arith; added = adds_nothing c.args.attempts.now.items c.args.entries.now _ (omega arith) }
+pub loop-left-init : goal.loop-left-init
+loop-left-init c = record { within = omega arith; added = adds_nothing c.args.attempts.now.items c.args.entries.now _ (omega arith) }
 
 pub loop-left-preserved : goal.loop-left-preserved
 loop-left-preserved c = record {

@@ -7,8 +7,8 @@ use Rattle.fed_rules.specs.Reopened.{commit_read}
 use Rattle.usable_journals.proofs.Committing.{adds_committed}
 use Rattle.usable_journals.proofs.cycles.add_committed.Goals as goal
 
-pub loop-attempt-enters : goal.loop-attempt-enters
-loop-attempt-enters c = sym (append-nil c.args.attempts.now.items)
+pub loop-attempt-init : goal.loop-attempt-init
+loop-attempt-init c = sym (append-nil c.args.attempts.now.items)
 
 pub loop-attempt-preserved : goal.loop-attempt-preserved
 loop-attempt-preserved c =

@@ -6,7 +6,7 @@ use Rattle.usable_journals.proofs.cycles.close_no_cycle.Goals as goal
 
 pub are_cycle_free-requires : goal.are_cycle_free-requires
 are_cycle_free-requires c =
-    subst (λ (cs : List Ticketed). OneEach cs) (sym c.in_ok-committed_attempts.ensures) (one_each (coord_read (reverse c.args.records.now)) c.requires)
+    subst (λ (cs : List Ticketed). OneEach cs) (sym c.in_ok-attempts.ensures) (one_each (coord_read (reverse c.args.records.now)) c.requires)
 
 pub returns : goal.returns
-returns c = subst (λ (cs : List Ticketed). (c.are_cycle_free.result ≡ true) ↔ HasNoCycle cs) c.in_ok-committed_attempts.ensures c.are_cycle_free.ensures
+returns c = subst (λ (cs : List Ticketed). (c.are_cycle_free.result ≡ true) ↔ HasNoCycle cs) c.in_ok-attempts.ensures c.are_cycle_free.ensures
