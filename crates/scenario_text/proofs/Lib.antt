@@ -5,6 +5,7 @@ pub mod MoreSites
 pub mod DraftLemmas
 pub mod EntryLemmas
 mod Examples
+pub mod FrontLemmas
 pub mod LineLemmas
 pub mod ListLemmas
 pub mod Opened
@@ -13,3 +14,4 @@ pub mod Readings
 pub mod SeenLemmas
 pub mod SizeLemmas
 pub mod StepLemmas
+pub mod UsualLemmas

@@ -1,10 +1,11 @@
 -- Cutting at the first mark, by its place, and what it says of the pieces.
-use Rattle.std.proofs.Common.{◌≡◌, ℕ, suc, ◌+◌, ◌<◌, Bool, true, false, cond, not, List, [], ◌∷◌, take, drop, length, Option, Some, None, refl, ap, ◌∙◌, add-one, arith, eqb, ltb}
+use Rattle.std.proofs.Common.{◌≡◌, ℕ, suc, ◌+◌, ◌<◌, Bool, true, false, cond, not, IsTrue, List, [], ◌∷◌, ◌++◌, take, drop, length, Option, Some, None, refl, ap, ◌∙◌, add-one, arith, eqb, ltb, eq-eqb}
 use Rattle.std.specs.Prelude.{position}
-use Rattle.std.specs.List.{onto_first}
+use Rattle.std.specs.List.{list_all, onto_first}
 use Rattle.std.proofs.Math.Numerals.{one-add}
 use Prim.Native.Nat.compare.{suc-suc}
 use Rattle.mdb_base.specs.Words.{map_some}
+use Rattle.mdb_base.proofs.BoolLaws.{is_true_parts, not_true}
 use Rattle.scenario_text.specs.Pieces.{cut_at, pieces, only_one, first_and_more, as_lines, lines, line_feed}
 
 abbrev Parts : Type 0
@@ -85,6 +86,22 @@ more_by_cut mark bs front rest h = ap first_and_more (pieces_cut mark bs front r
 pub none_by_cut : (mark : ℕ) (bs : List ℕ) → cut_at mark bs ≡ None → first_and_more (pieces mark bs) ≡ None
 unfolding first_and_more
 none_by_cut mark bs h = ap first_and_more (pieces_uncut mark bs h)
+
+-- bytes without a mark are one piece, up to a mark and up to the end
+pub piece_to_mark : (mark : ℕ) (piece rest : List ℕ) → IsTrue (list_all (λ b. not (eqb b mark)) piece) → pieces mark (piece ++ mark ∷ rest) ≡ piece ∷ pieces mark rest
+unfolding pieces
+piece_to_mark mark [] rest h = ap (λ t. cond t ([] ∷ pieces mark rest) (onto_first mark (pieces mark rest))) (eq-eqb mark mark refl)
+piece_to_mark mark (b ∷ piece) rest h =
+    let parts = is_true_parts (not (eqb b mark)) (list_all (λ b. not (eqb b mark)) piece) h in
+    let more = pieces mark (piece ++ mark ∷ rest) in
+    ap (λ t. cond t ([] ∷ more) (onto_first b more)) (not_true (eqb b mark) parts.0) ∙ ap (onto_first b) (piece_to_mark mark piece rest parts.1)
+
+pub piece_to_end : (mark : ℕ) (piece : List ℕ) → IsTrue (list_all (λ b. not (eqb b mark)) piece) → pieces mark piece ≡ piece ∷ []
+unfolding pieces
+piece_to_end mark [] h = refl
+piece_to_end mark (b ∷ piece) h =
+    let parts = is_true_parts (not (eqb b mark)) (list_all (λ b. not (eqb b mark)) piece) h in
+    ap (λ t. cond t ([] ∷ pieces mark piece) (onto_first b (pieces mark piece))) (not_true (eqb b mark) parts.0) ∙ ap (onto_first b) (piece_to_end mark piece parts.1)
 
 -- what the code uses to cut at a mark
 pub ruleset cuts = (cut_by_place, uncut_by_place, pieces_cut, pieces_uncut, more_by_cut, none_by_cut)

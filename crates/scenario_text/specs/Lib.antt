@@ -1,6 +1,7 @@
 pub mod CommandLines
 pub mod Drafts
 pub mod FirstBad
+pub mod FirstLines
 pub mod Kept
 pub mod Names
 pub mod Pieces

@@ -5,11 +5,8 @@ ghost use Rattle.scenario_text.specs.Pieces.{words_of};
 
 use crate::bad::BadWhy;
 use crate::draft::SiteDraft;
-use crate::first_words::{
-    behind_begin, behind_commit, behind_fate, behind_give, behind_go, behind_step, behind_take,
-};
 use crate::names::{number_in, tid_of, tx_of};
-use crate::pieces::{first_word, four_pieces, one_piece, three_pieces, two_pieces};
+use crate::pieces::{first_word, four_pieces, three_pieces, two_pieces};
 use fed_rules::Command;
 use mdb_base::{SiteId, Tid, Tx};
 
@@ -118,9 +115,9 @@ fn actor_command(sites: &SiteDraft, line: &[u8]) -> Result<Command, BadWhy>
     }
 }
 
-/// What any command says, by its first word.
+/// What a command says, by its first word.
 #[tactic(auto, unfolding(crate::specs::CommandLines::command_line))]
-fn any_command(sites: &SiteDraft, line: &[u8]) -> Result<Command, BadWhy>
+pub fn command_line(sites: &SiteDraft, line: &[u8]) -> Result<Command, BadWhy>
     ensures { result ≡ spells.command_line sites.now (words_of line.now) }
 {
     let first = first_word(line);
@@ -143,55 +140,4 @@ fn any_command(sites: &SiteDraft, line: &[u8]) -> Result<Command, BadWhy>
     } else {
         actor_command(sites, line)
     }
-}
-
-/// The transaction of a line `WORD T`, where these bytes stand behind the space.
-#[tactic(auto, unfolding(crate::specs::CommandLines::tx_behind))]
-fn tx_behind(rest: &[u8]) -> Result<Tx, BadWhy>
-    ensures { result ≡ spells.tx_behind (words_of rest.now) }
-{
-    let tx = one_piece(rest, b' ').ok_or(BadWhy::Count)?;
-    tx_of(tx)
-}
-
-/// The site and the message of a line `WORD S I`, where these bytes stand behind the space.
-#[tactic(auto, unfolding(crate::specs::CommandLines::message_behind))]
-fn message_behind(sites: &SiteDraft, rest: &[u8]) -> Result<(SiteId, u32), BadWhy>
-    ensures { result ≡ spells.message_behind sites.now (words_of rest.now) }
-{
-    let (site, place) = two_pieces(rest, b' ').ok_or(BadWhy::Count)?;
-    let site = sites.site_of(site)?;
-    let place = number_in(0, u64::from(u32::MAX), place)?;
-    Ok((site, place as u32))
-}
-
-/// What a command says, by its first word. Those of which there are most are told by their bytes.
-#[tactic(auto, using(crate::proofs::CommandLemmas::said_take, crate::proofs::CommandLemmas::said_give, crate::proofs::CommandLemmas::said_step, crate::proofs::CommandLemmas::said_fate, crate::proofs::CommandLemmas::said_begin, crate::proofs::CommandLemmas::said_commit, crate::proofs::CommandLemmas::said_go))]
-pub fn command_line(sites: &SiteDraft, line: &[u8]) -> Result<Command, BadWhy>
-    ensures { result ≡ spells.command_line sites.now (words_of line.now) }
-{
-    if let Some(rest) = behind_take(line) {
-        let (site, place) = message_behind(sites, rest)?;
-        return Ok(Command::Take { site, place });
-    }
-    if let Some(rest) = behind_give(line) {
-        let (site, place) = message_behind(sites, rest)?;
-        return Ok(Command::Give { site, place });
-    }
-    if let Some(rest) = behind_fate(line) {
-        return Ok(Command::Fate(tx_behind(rest)?));
-    }
-    if let Some(rest) = behind_go(line) {
-        return Ok(Command::Go(tx_behind(rest)?));
-    }
-    if let Some(rest) = behind_step(line) {
-        return Ok(Command::Step(tx_behind(rest)?));
-    }
-    if let Some(rest) = behind_begin(line) {
-        return Ok(Command::Begin(tx_behind(rest)?));
-    }
-    if let Some(rest) = behind_commit(line) {
-        return Ok(Command::Commit(tx_behind(rest)?));
-    }
-    any_command(sites, line)
 }

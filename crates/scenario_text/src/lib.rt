@@ -7,12 +7,14 @@ mod draft;
 mod entry;
 mod fault;
 mod first_words;
+mod fronts;
 mod names;
 mod pieces;
 mod reading;
 mod scenario_lines;
 mod session;
 mod steps;
+mod usual_commands;
 
 pub use bad::{BadLine, BadWhy, TextErr};
 pub use fed_rules::{Command, Commands, ItemLine, LinkLine, Scenario, SiteLine, StopLine, TxLine};

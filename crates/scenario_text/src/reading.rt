@@ -1,10 +1,11 @@
 //! Reading a whole text.
-ghost use Rattle.std.specs.Prelude.{true, false, ◌≡◌, ◌<◌, ◌∷◌, length, IfOk, IfErr};
+ghost use Rattle.std.specs.Prelude.{true, false, ◌≡◌, ◌<◌, ◌∷◌, length, IfOk, IfErr, IfSome, MatchResult};
 ghost use Rattle.scenario_text.specs.FirstBad.{NamesFirstBad};
+ghost use Rattle.scenario_text.specs.FirstLines.{RefusesFirst, Says, TakesFirst, command_said};
 ghost use Rattle.scenario_text.specs.Kept.{IsDraft, AreCommands};
 ghost use Rattle.scenario_text.specs.Pieces.{lines};
 ghost use Rattle.scenario_text.specs.Drafts.{plan_of};
-ghost use Rattle.scenario_text.specs.Texts.{Answers, scenario_of, session_of};
+ghost use Rattle.scenario_text.specs.Texts.{Answers, most_bytes, scenario_of, session_of};
 ghost use Rattle.scenario_text.specs.Texts as texts;
 
 use crate::bad::{BadLine, TextErr};
@@ -12,7 +13,8 @@ use crate::draft::Draft;
 use crate::fault::Fault;
 use crate::pieces::cut;
 use crate::session::Session;
-use fed_rules::{Commands, Scenario};
+use crate::usual_commands::usual_command;
+use fed_rules::{Command, Commands, Scenario};
 use std::alloc::Global;
 
 /// The first line of a text that isn't empty, whether a line feed ends it, and the text behind it.
@@ -26,6 +28,37 @@ fn first_line(text: &[u8]) -> (&[u8], bool, &[u8])
         Some((line, rest)) => (line, true, rest),
         None => (text, false, &[]),
     }
+}
+
+/// The usual command that the first line of a text says, where commands are read, and the text behind that line.
+fn next_command<'a>(draft: &Draft, text: &'a [u8]) -> Option<(Command, &'a [u8])>
+    ensures { IfSome result (λ p. (draft.now.in_commands ≡ true) × Says (command_said draft.now.sites) most_bytes p.0 text.now p.1.now) }
+{
+    if draft.in_commands {
+        usual_command(&draft.sites, text)
+    } else {
+        None
+    }
+}
+
+/// Takes the first line of a text that isn't empty, and says what stands behind it. A draft that refused a line is of no further use.
+fn take_first<'a>(
+    draft: &mut Draft,
+    alloc: Global,
+    with_commands: bool,
+    text: &'a [u8],
+) -> Result<&'a [u8], Fault>
+    requires { 0 < length text.now }
+    ensures taken { MatchResult result (λ rest. TakesFirst with_commands text.now draft.old draft.new rest.now) (λ fault. RefusesFirst with_commands text.now draft.old fault) }
+    ensures shorter { IfOk result (λ rest. length rest.now < length text.now) }
+{
+    if let Some((command, rest)) = next_command(draft, text) {
+        draft.commands.add(command)?;
+        return Ok(rest);
+    }
+    let (line, ended, rest) = first_line(text);
+    draft.take_line(alloc, with_commands, line, ended)?;
+    Ok(rest)
 }
 
 /// Why a text isn't read, where this is why its line isn't.
@@ -48,11 +81,10 @@ fn draft_of(alloc: Global, with_commands: bool, text: &[u8]) -> Result<Draft, Te
     let mut rest = text;
     let mut number: u32 = 1;
     while !rest.is_empty() {
-        let (line, ended, more) = first_line(rest);
-        if let Err(fault) = draft.take_line(alloc, with_commands, line, ended) {
-            return Err(at_line(number, fault));
+        match take_first(&mut draft, alloc, with_commands, rest) {
+            Ok(more) => rest = more,
+            Err(fault) => return Err(at_line(number, fault)),
         }
-        rest = more;
         number += 1;
     }
     Ok(draft)

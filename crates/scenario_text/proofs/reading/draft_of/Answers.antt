@@ -20,9 +20,10 @@ overflow_add-number c = omega (arith, c.loop-rest.invariant.sized, size_few c.lo
 
 pub returns-in-Err : goal.returns-in-Err
 returns-in-Err c =
-    let cut = ap (λ left. with_lines c.args.with_commands c.loop-rest.number left c.loop-rest.draft) c.first_line-ended.ensures.lines in
+    let first = c.in-Err.ensures.taken in
+    let cut = ap (λ left. with_lines c.args.with_commands c.loop-rest.number left c.loop-rest.draft) first.parts in
     let failed : Answers {A = Draft} (Err (at_line c.loop-rest.number c.in-Err.fault)) (draft_of c.args.with_commands c.args.text.now) =
-    rw (← c.loop-rest.invariant.so_far, cut) (line_failed c.args.with_commands c.loop-rest.number _ _ c.loop-rest.draft _ c.in-Err.ensures) in
+    rw (← c.loop-rest.invariant.so_far, cut) (line_failed c.args.with_commands c.loop-rest.number _ _ c.loop-rest.draft _ first.refused) in
     record {
       exact = rw c.at_line.ensures failed;
       kept = tt;
@@ -30,16 +31,18 @@ returns-in-Err c =
     }
 
 pub loop-rest-preserved : goal.loop-rest-preserved
-loop-rest-preserved c = record {
-  so_far =
-      let taken = line_taken c.args.with_commands c.loop-rest.number _ _ c.loop-rest.draft _ c.in_default.ensures in
-      let cut = ap (λ left. with_lines c.args.with_commands c.loop-rest.number left c.loop-rest.draft) c.first_line-ended.ensures.lines in
-      rw add-one (sym taken ∙ sym cut ∙ c.loop-rest.invariant.so_far);
-  kept = (line_added c.args.with_commands _ c.loop-rest.draft c.loop-rest.invariant.kept).value _ c.in_default.ensures;
-  sized =
-      let more = (line_sized c.args.with_commands _ c.loop-rest.draft).value _ c.in_default.ensures in
-      omega (arith, more, c.loop-rest.invariant.sized);
-}
+loop-rest-preserved c =
+    let first = c.in-Ok.ensures.taken in
+    record {
+      so_far =
+          let taken = line_taken c.args.with_commands c.loop-rest.number _ _ c.loop-rest.draft _ first.taken in
+          let cut = ap (λ left. with_lines c.args.with_commands c.loop-rest.number left c.loop-rest.draft) first.parts in
+          rw add-one (sym taken ∙ sym cut ∙ c.loop-rest.invariant.so_far);
+      kept = (line_added c.args.with_commands _ c.loop-rest.draft c.loop-rest.invariant.kept).value _ first.taken;
+      sized =
+          let more = (line_sized c.args.with_commands _ c.loop-rest.draft).value _ first.taken in
+          omega (arith, more, c.loop-rest.invariant.sized);
+    }
 
 pub returns-clause-exact : goal.returns-clause-exact
 returns-clause-exact c = sym c.loop-rest.invariant.so_far ∙ lines_end c.args.with_commands c.loop-rest.number c.loop-rest.rest.now c.loop-rest.draft (eqb-true _ 0 (sym c.loop-rest-test.ensures))
