@@ -41,6 +41,24 @@ fn next_command<'a>(draft: &Draft, text: &'a [u8]) -> Option<(Command, &'a [u8])
     }
 }
 
+/// Takes the first line of a text that isn't empty, cut out of it, and says what stands behind it. A draft that refused a line is of no
+/// further use.
+#[inline(never)]
+fn take_cut<'a>(
+    draft: &mut Draft,
+    alloc: Global,
+    with_commands: bool,
+    text: &'a [u8],
+) -> Result<&'a [u8], Fault>
+    requires { 0 < length text.now }
+    ensures taken { MatchResult result (λ rest. TakesFirst with_commands text.now draft.old draft.new rest.now) (λ fault. RefusesFirst with_commands text.now draft.old fault) }
+    ensures shorter { IfOk result (λ rest. length rest.now < length text.now) }
+{
+    let (line, ended, rest) = first_line(text);
+    draft.take_line(alloc, with_commands, line, ended)?;
+    Ok(rest)
+}
+
 /// Takes the first line of a text that isn't empty, and says what stands behind it. A draft that refused a line is of no further use.
 fn take_first<'a>(
     draft: &mut Draft,
@@ -56,9 +74,7 @@ fn take_first<'a>(
         draft.commands.add(command)?;
         return Ok(rest);
     }
-    let (line, ended, rest) = first_line(text);
-    draft.take_line(alloc, with_commands, line, ended)?;
-    Ok(rest)
+    take_cut(draft, alloc, with_commands, text)
 }
 
 /// Why a text isn't read, where this is why its line isn't.

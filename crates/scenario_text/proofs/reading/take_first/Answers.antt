@@ -18,17 +18,3 @@ returns-in-Some c =
       taken = command_taken c.args.with_commands c.args.draft.now c.in-Some.command c.args.text.now c.in-Some.rest.now next.0 next.1 _ c.in_ok-add.ensures;
       shorter = less_behind c.args.with_commands c.args.draft.now c.in-Some.command c.args.text.now c.in-Some.rest.now next.0 next.1;
     }
-
-pub returns-in_err-take_line : goal.returns-in_err-take_line
-returns-in_err-take_line c =
-    let p = err_from_is_err_and c.from_residual-in_err-take_line.result c.from_residual-in_err-take_line.ensures.1 in
-    rw (p.1, p.2) (record {
-      taken = record { line = record { bytes = c.first_line-ended.result.0.now; ended = c.first_line-ended.result.1 }; behind = _; parts = c.first_line-ended.ensures.lines; refused = c.in_err-take_line.ensures };
-      shorter = tt;
-    })
-
-pub returns : goal.returns
-returns c = record {
-  taken = record { line = record { bytes = c.first_line-ended.result.0.now; ended = c.first_line-ended.result.1 }; parts = c.first_line-ended.ensures.lines; taken = c.in_ok-take_line.ensures };
-  shorter = c.first_line-ended.ensures.shorter;
-}
