@@ -15,3 +15,4 @@ pub mod SeenLemmas
 pub mod SizeLemmas
 pub mod StepLemmas
 pub mod UsualLemmas
+pub mod UsualSteps

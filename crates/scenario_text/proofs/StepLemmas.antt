@@ -6,11 +6,12 @@ use Rattle.mdb_base.specs.declared.acts.Step.{Step}
 use Rattle.fed_rules.specs.declared.scenario.SiteLine.{SiteLine}
 use Rattle.scenario_text.specs.declared.bad.BadWhy.{BadWhy}
 use Rattle.scenario_text.specs.Reads.{◌>>=◌}
-use Rattle.scenario_text.specs.Steps.{step_of, steps_of}
+use Rattle.scenario_text.specs.Steps.{behind, step_of, steps_of}
 
--- the steps behind those that were read
-abbrev pub behind : List Step → Result (List Step) BadWhy → Result (List Step) BadWhy
-behind front read = read >>= λ rest. Ok (front ++ rest)
+-- no steps stand before those that are read
+pub behind_none : (read : Result (List Step) BadWhy) → behind [] read ≡ read
+behind_none (Ok rest) = refl
+behind_none (Err why) = refl
 
 regroup : (front : List Step) (step : Step) (read : Result (List Step) BadWhy) → behind front (read >>= λ rest. Ok (step ∷ rest)) ≡ behind (front ++ step ∷ []) read
 regroup front step (Ok rest) = ap (λ (xs : List Step). Ok xs) (sym (append_assoc front (step ∷ []) rest))

@@ -48,6 +48,13 @@ pub record Says {A : Type 0} (reads : List ℕ → Result A BadWhy) (most : ℕ)
   pub short : length line ≤ most
   pub said : reads line ≡ Ok what
 
+-- a text begins with bytes that say this, none of them the mark, and the mark, and this stands behind it
+pub record SaysTo {A : Type 0} (reads : List ℕ → Result A BadWhy) (mark : ℕ) (what : A) (text rest : List ℕ) : Type 0 where
+  pub word : List ℕ
+  pub parts : text ≡ word ++ mark ∷ rest
+  pub unmarked : IsTrue (list_all (λ b. not (b == mark)) word)
+  pub said : reads word ≡ Ok what
+
 -- what the bytes of a line say behind a command's word, and what those of a whole line say
 abbrev pub tx_said : List ℕ → Result Tx BadWhy
 tx_said line = tx_behind (words_of line)

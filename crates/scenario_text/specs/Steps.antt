@@ -1,6 +1,6 @@
 -- The steps of a transaction: `get:K`, `set:K:V` and `add:K:R:N`, in a global transaction each behind its site and a `/`.
 -- The form of a step, its act's word with as many pieces as that act has, is tested first; then its pieces from the left.
-use Rattle.std.specs.Prelude.{ℕ, Bool, true, false, if◌then◌else◌, codes, Option, Some, None, List, [], ◌∷◌, Result, Ok, Err}
+use Rattle.std.specs.Prelude.{ℕ, Bool, true, false, if◌then◌else◌, codes, Option, Some, None, List, [], ◌∷◌, ◌++◌, Result, Ok, Err}
 use Rattle.std.specs.Str.{bytes_eq}
 use Rattle.mdb_base.specs.declared.names.SiteId.{SiteId}
 use Rattle.mdb_base.specs.declared.acts.Act.{Act}
@@ -76,3 +76,7 @@ steps_of sites home (word ∷ words) = do
   step ← step_of sites home word
   steps ← steps_of sites home words
   Ok (step ∷ steps)
+
+-- these steps, and behind them those that are read
+abbrev pub behind : List Step → Result (List Step) BadWhy → Result (List Step) BadWhy
+behind front read = read >>= λ rest. Ok (front ++ rest)

@@ -15,6 +15,7 @@ mod scenario_lines;
 mod session;
 mod steps;
 mod usual_commands;
+mod usual_steps;
 
 pub use bad::{BadLine, BadWhy, TextErr};
 pub use fed_rules::{Command, Commands, ItemLine, LinkLine, Scenario, SiteLine, StopLine, TxLine};

@@ -10,6 +10,7 @@ use crate::entry::Steps;
 use crate::fault::Fault;
 use crate::names::{key_of, number_in, value_of};
 use crate::pieces::{cut, one_piece, three_pieces, two_pieces};
+use crate::usual_steps::read_usual;
 use mdb_base::{Act, SiteId, Step};
 use std::alloc::Global;
 
@@ -105,7 +106,7 @@ pub fn steps_of(
     ensures { Gives (λ s. s) result (steps.steps_of sites.now home (pieces space words.now)) }
 {
     let mut steps = Vec::new(alloc);
-    let mut rest = words;
+    let mut rest = read_usual(&mut steps, sites, home, words)?;
     while let Some((word, more)) = cut(rest, b' ') {
         steps.push(step_of(sites, home, word)?)?;
         rest = more;
