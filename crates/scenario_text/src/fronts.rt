@@ -36,7 +36,7 @@ fn are_plain(digits: &[u8]) -> bool
 }
 
 /// The number of at most nine digits that a text begins with, and the text behind it.
-pub fn front_number(text: &[u8]) -> Option<(u32, &[u8])>
+fn front_number(text: &[u8]) -> Option<(u32, &[u8])>
     ensures { IfSome result (λ p. BeginsWith p.0 text.now p.1.now) }
 {
     let mut number: u32 = 0;
@@ -57,7 +57,7 @@ pub fn front_number(text: &[u8]) -> Option<(u32, &[u8])>
 }
 
 /// What stands behind a mark, where the text begins with one.
-pub fn behind_mark(text: &[u8], mark: u8) -> Option<&[u8]>
+fn behind_mark(text: &[u8], mark: u8) -> Option<&[u8]>
     ensures { IfSome result (λ rest. text.now ≡ mark ∷ rest.now) }
 {
     match text {
