@@ -10,6 +10,8 @@ pub mod Keeps
 pub mod Lives
 pub mod Named
 pub mod Written
+pub mod LastReads
+pub mod NewsLeft
 pub mod ExecPasts
 pub mod CountPasts
 pub mod NewsPasts

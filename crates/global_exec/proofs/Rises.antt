@@ -1,10 +1,12 @@
--- Rising lists: they rise by their numbers alone, and what a look-up finds in one rises with it.
-use Rattle.std.proofs.Common.{◌≡◌, ℕ, ◌<◌, Bool, true, false, cond, Option, Some, None, List, [], ◌∷◌, map, refl, sym, ap, subst, arith}
+-- Rising lists: they rise by their numbers alone, no two items have one number, and what a look-up finds in one rises with it.
+use Rattle.std.proofs.Common.{◌≡◌, ℕ, ◌<◌, ◌==◌, Bool, true, false, cond, Option, Some, None, List, [], ◌∷◌, map, refl, sym, ap, subst, arith, eqb-true}
 use Rattle.mdb_base.specs.Rising.{IsRising}
 use Rattle.mdb_base.specs.Words.{Each, found, with_some}
 use Rattle.mdb_base.proofs.ListLaws.{each_map}
+use Rattle.mdb_base.proofs.NumberLaws.{not_same_after}
 use Rattle.mdb_base.proofs.RisingLaws.{rising_rest}
 use Rattle.global_exec.specs.Firsts.{replaced}
+use Rattle.global_exec.specs.Pasts.{IsOnly}
 
 to_numbers : {A : Type 0} (number : A → ℕ) (xs : List A) → IsRising number xs → IsRising (λ (n : ℕ). n) (map number xs)
 to_numbers number [] h = tt
@@ -39,6 +41,15 @@ pub each_above : {A : Type 0} (number : A → ℕ) (x : A) (xs : List A) → IsR
 each_above number x [] h = tt
 each_above number x (y ∷ ys) h =
     (h.0, each_map (λ z. number y < number z) (λ z. number x < number z) (λ z less. omega (arith, h.0)) ys (each_above number y ys h.1))
+
+-- at most one item has this number
+pub only_number : {A : Type 0} (number : A → ℕ) (n : ℕ) (xs : List A) → IsRising number xs → IsOnly (λ x. number x == n) xs
+only_number number n [] h = tt
+only_number number n (x ∷ xs) h = (
+  λ e. each_map (λ y. number x < number y) (λ y. (number y == n) ≡ false) (λ y less. not_same_after (number y) n (omega (arith, less, eqb-true (number x) n e))) xs
+      (each_above number x xs h),
+  only_number number n xs (rising_rest number x xs h),
+)
 
 rises_behind : {B : Type 0} (key : B → ℕ) (y : B) (ys : List B) → Above key (key y) ys → IsRising key ys → IsRising key (y ∷ ys)
 rises_behind key y [] above h = tt

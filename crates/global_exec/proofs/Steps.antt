@@ -4,6 +4,7 @@ use Rattle.std.proofs.lemmas.Bool.{and_parts, false≢true}
 use Rattle.mdb_base.specs.declared.acts.Act.{Act}
 use Rattle.mdb_base.specs.declared.acts.Act.TheVariants.{Get, Set, Add}
 use Rattle.mdb_base.specs.declared.acts.Step.{Step}
+use Rattle.mdb_base.specs.declared.names.SiteId.{SiteId}
 use Rattle.mdb_base.specs.declared.program.Next.{Next}
 use Rattle.mdb_base.specs.declared.replies.Reply.{Reply}
 use Rattle.mdb_base.specs.declared.replies.Reply.TheVariants as Reply_is
@@ -12,8 +13,9 @@ use Rattle.mdb_base.specs.Programs.{is_get, next_of, plain_act}
 use Rattle.mdb_base.specs.Words.{pick, how_many, item_at}
 use Rattle.fed_rules.specs.declared.messages.Due.TheVariants as Due_is
 use Rattle.fed_rules.specs.Coord.{fits, fits_act, fits_take}
-use Rattle.fed_rules.specs.CoordPast.{visits}
+use Rattle.fed_rules.specs.CoordPast.{is_ticket, visits}
 use Rattle.global_exec.specs.declared.progress.Progress.{Progress}
+use Rattle.global_exec.specs.Counted.{is_answer}
 use Rattle.global_exec.specs.Due.{due, work, take as take_due, prepare}
 
 abbrev pub next_at : List ℕ → Option Step → Option Next
@@ -63,6 +65,39 @@ module _ (program : List Step) (done : ℕ) (reads : List ℕ) (progress : Progr
       by_visit true e =
           inl (work_fits (item_at program done) refl (ap (λ (o : Option Next). fits (work progress o) n reply) (sym (next_of-at program done reads)) ∙ e))
       by_visit false e = inr (else_fits progress.ticket refl e)
+
+-- the next step is at the site
+pub record IsNextAt (program : List Step) (done : ℕ) (site : SiteId) : Type 0 where
+  pub step : Step
+  pub next : item_at program done ≡ Some step
+  pub here : same_site step.site site ≡ true
+
+-- of the answers a take has a ticket alone
+no_take : (r : Reply) → is_answer r ≡ true → is_ticket r ≡ false → fits_take r ≡ true → ⊥
+no_take Reply_is.Done a plain e = false≢true e
+no_take (Reply_is.Value value) a plain e = false≢true e
+no_take (Reply_is.Ticket ticket) a plain e = false≢true (sym plain)
+no_take (Reply_is.Wait by) a plain e = false≢true a
+no_take (Reply_is.Refused why) a plain e = false≢true a
+no_take Reply_is.Unknown a plain e = false≢true a
+
+module _ (program : List Step) (done : ℕ) (reads : List ℕ) (progress : Progress) (n : ℕ) (reply : Reply) where
+  work_here : (o : Option Step) → item_at program done ≡ o → fits (work progress (next_at reads o)) n reply ≡ true → IsNextAt program done progress.site
+  work_here None is e = absurd (false≢true e)
+  work_here (Some step) is e = by_test (same_site step.site progress.site) refl e
+    where
+      by_test : (b : Bool) → same_site step.site progress.site ≡ b → fits (cond b (Some (Due_is.Work progress.site progress.epoch progress.n (plain_act reads step.act))) None) n reply ≡ true → IsNextAt program done progress.site
+      by_test true here e = record { step = step; next = is; here = here }
+      by_test false here e = absurd (false≢true e)
+
+  -- an answer other than a ticket is one to the next step
+  pub answers_next : is_answer reply ≡ true → is_ticket reply ≡ false → fits (due program done reads progress) n reply ≡ true → IsNextAt program done progress.site
+  answers_next answers plain e = by_visit (visits progress.site (drop done program)) e
+    where
+      by_visit : (b : Bool) → fits (cond b (work progress (next_of program done reads)) (cond progress.ticket (prepare progress) (take_due progress))) n reply ≡ true → IsNextAt program done progress.site
+      by_visit true e =
+          work_here (item_at program done) refl (ap (λ (o : Option Next). fits (work progress o) n reply) (sym (next_of-at program done reads)) ∙ e)
+      by_visit false e = absurd (no_take reply answers plain (else_fits program done reads progress n reply progress.ticket refl e).fits)
 
 -- a value answers a read, and a write isn't one
 pub value_of_get : (reads : List ℕ) (act : Act) (value : ℕ) → fits_act (plain_act reads act) (Reply_is.Value value) ≡ true → is_get act ≡ true

@@ -2,6 +2,7 @@
 use Rattle.std.specs.Prelude.{ℕ, ◌+◌, ◌<◌, ◌==◌, Bool, true, false, cond, ◌&&◌, ◌||◌, Option, None, List, [], ◌∷◌, ◌++◌}
 use Rattle.mdb_base.specs.declared.acts.Step.{Step}
 use Rattle.mdb_base.specs.declared.names.SiteId.{SiteId}
+use Rattle.mdb_base.specs.declared.program.Next.{Next}
 use Rattle.mdb_base.specs.declared.replies.Reply.{Reply}
 use Rattle.mdb_base.specs.declared.replies.Reply.TheVariants as Reply_is
 use Rattle.mdb_base.specs.Names.{same_site}
@@ -12,7 +13,7 @@ use Rattle.fed_rules.specs.CoordPast.{is_ticket}
 use Rattle.global_exec.specs.declared.progress.Progress.{Progress}
 use Rattle.global_exec.specs.declared.ends.DidEnd.{DidEnd}
 use Rattle.global_exec.specs.declared.ends.DidEnd.TheVariants as Did
-use Rattle.global_exec.specs.Due.{due, is_idle}
+use Rattle.global_exec.specs.Due.{due_left, is_idle, work}
 use Rattle.global_exec.specs.Firsts.{replaced}
 use Rattle.global_exec.specs.Live.{Live, due_in, is_at, progress_at}
 
@@ -70,10 +71,6 @@ advanced site epoch reply live = record live {
 abbrev pub is_news : SiteId → List Step → ℕ → Progress → Bool
 is_news site program before progress = same_site progress.site site || is_idle program before progress
 
--- what became outstanding at a participant, once so many steps of the program gave these reads
-abbrev pub news_in : List Step → ℕ → List ℕ → SiteId → ℕ → Progress → Option Due
-news_in program done reads site before progress = cond (is_news site program before progress) (due program done reads progress) None
-
 -- what became outstanding: at this site what is outstanding now, elsewhere what is outstanding where nothing was
 abbrev pub news_at : SiteId → ℕ → Live → Progress → Option Due
 news_at site before now progress =
@@ -81,6 +78,13 @@ news_at site before now progress =
 
 abbrev pub news : SiteId → ℕ → Live → List Due
 news site before now = found (news_at site before now) now.sites
+
+-- the same, told from the participant as it was, where these steps are left behind the answer and this is the first of them: at this site what
+-- is outstanding then, elsewhere that step, unless the answer is a ticket
+abbrev pub news_left : SiteId → ℕ → Reply → List Step → Option Next → Progress → Option Due
+news_left site epoch reply left next progress =
+    cond (same_site progress.site site) (due_left left next (answered epoch reply progress))
+    (cond (is_ticket reply) None (work progress next))
 
 -- what a reply that counts answers
 abbrev pub end_of : SiteId → ℕ → Reply → Live → DidEnd

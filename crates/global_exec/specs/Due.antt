@@ -27,12 +27,15 @@ take progress = Some (Take progress.site progress.epoch progress.n)
 abbrev pub prepare : Progress → Option Due
 prepare progress = cond progress.voted None (Some (Prepare progress.site progress.epoch progress.n))
 
--- what is outstanding: the next step where it is at the site; else the ticket, once all steps there are answered; else the vote, once the
--- ticket is there
+-- what is outstanding where these steps are left and this is the first of them: that step where it is at the site; else the ticket, once all
+-- steps there are answered; else the vote, once the ticket is there
+abbrev pub due_left : List Step → Option Next → Progress → Option Due
+due_left left next progress =
+    cond (visits progress.site left) (work progress next) (cond progress.ticket (prepare progress) (take progress))
+
+-- what is outstanding once so many steps of the program gave these reads
 abbrev pub due : List Step → ℕ → List ℕ → Progress → Option Due
-due program done reads progress =
-    cond (visits progress.site (drop done program)) (work progress (next_of program done reads))
-    (cond progress.ticket (prepare progress) (take progress))
+due program done reads progress = due_left (drop done program) (next_of program done reads) progress
 
 -- whether nothing is outstanding
 abbrev pub is_idle : List Step → ℕ → Progress → Bool

@@ -10,6 +10,7 @@ ghost use Rattle.global_exec.specs.Live as spec;
 ghost use Rattle.global_exec.specs.declared.ends.DidEnd.TheVariants as Did;
 
 use crate::ends::DidEnd;
+use crate::following::next_behind;
 use crate::news::{news, put_some};
 use crate::policy::SiteSet;
 use crate::progress::{Progress, fits, is_due_vote, steps_of, visits};
@@ -122,33 +123,6 @@ fn put_value(reads: &mut Vec<u64>, reply: Reply)
     if let Reply::Value(value) = reply {
         reads.push_reserved(value);
     }
-}
-
-/// The values with the one that was read.
-fn with_value(alloc: Global, reads: &[u64], reply: Reply) -> Result<Vec<u64>, Memory>
-    ensures { IfOk result (λ all. all.items ≡ reads.now ++ counted.value_of reply) }
-{
-    let mut all = Vec::from_slice(alloc, reads)?;
-    if let Reply::Value(value) = reply {
-        all.push(value)?;
-    }
-    Ok(all)
-}
-
-/// The participants with one more reply of the site, with this epoch.
-fn with_answer(
-    alloc: Global,
-    sites: &[Progress],
-    site: SiteId,
-    epoch: u32,
-    reply: Reply,
-) -> Result<Vec<Progress>, Memory>
-    requires { Each counted.HasRoom sites.now }
-    ensures { IfOk result (λ all. all.items ≡ replaced (spec.is_at site) (counted.answered epoch reply) sites.now) }
-{
-    let mut all = Vec::from_slice(alloc, sites)?;
-    answer_at(all.as_mut_slice(), site, epoch, reply);
-    Ok(all)
 }
 
 impl Attempt {
@@ -270,17 +244,16 @@ impl Attempt {
         requires answers { IsTrue (counted.is_answer reply) }
         ensures { IfOk result (λ dues. dues ≡ counted.news site self.now.done (counted.advanced site epoch reply self.now)) }
     {
-        let reads = with_value(alloc, self.reads.as_slice(), reply)?;
-        let sites = with_answer(alloc, self.sites.as_slice(), site, epoch, reply)?;
         let done = self.done + steps_of(reply);
+        let next = next_behind(&self.program, done, self.reads.as_slice(), reply);
         news(
             alloc,
-            &self.program,
-            done,
-            reads.as_slice(),
-            sites.as_slice(),
+            &self.program.steps()[done..],
+            next,
+            self.sites.as_slice(),
             site,
-            self.done,
+            epoch,
+            reply,
         )
     }
 

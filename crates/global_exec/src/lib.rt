@@ -8,6 +8,7 @@ mod attempt;
 mod ends;
 mod entries;
 mod exec;
+mod following;
 mod laws;
 mod news;
 mod policy;

@@ -1,13 +1,13 @@
 //! How far an attempt has come at a participant.
-ghost use Rattle.std.specs.Prelude.{◌≡◌, ◌≤◌, ◌==◌, length, take, drop, List};
-ghost use Rattle.mdb_base.specs.Programs.{next_of, reads_of};
+ghost use Rattle.std.specs.Prelude.{◌≡◌, ◌≤◌, ◌==◌, cond, length, take, drop, List};
+ghost use Rattle.mdb_base.specs.Programs.{reads_of};
 ghost use Rattle.fed_rules.specs.Coord as coord;
 ghost use Rattle.fed_rules.specs.CoordPast as past;
 ghost use Rattle.global_exec.specs.Due as spec;
 ghost use Rattle.global_exec.specs.Counted as counted;
 
 use fed_rules::Due;
-use mdb_base::{PlainAct, Program, Reply, SiteId, Step, Why, next_act};
+use mdb_base::{Next, PlainAct, Program, Reply, SiteId, Step, Why, next_act};
 
 /// A participant of an attempt: the epoch of the replies that counted from it, 0 before the first; how many of them there were but
 /// for waits; and whether its ticket and its yes vote counted.
@@ -69,6 +69,13 @@ pub fn is_due_vote(due: Option<Due>) -> bool
     matches!(due, Some(Due::Prepare { .. }))
 }
 
+/// Whether a reply is a ticket.
+pub fn is_ticket(reply: Reply) -> bool
+    ensures { result ≡ past.is_ticket reply }
+{
+    matches!(reply, Reply::Ticket(_))
+}
+
 /// How many steps a reply answers: a ticket none, and a value or a write one.
 pub fn steps_of(reply: Reply) -> usize
     ensures { result ≡ counted.steps_of reply }
@@ -94,12 +101,10 @@ impl Progress {
     }
 
     /// The next step's work, where that step is here.
-    fn work(&self, program: &Program, done: usize, reads: &[u64]) -> Option<Due>
-        requires within { done ≤ length program.now }
-        requires read { length reads.now ≡ reads_of (take done program.now) }
-        ensures { result ≡ spec.work self.now (next_of program.now done reads.now) }
+    pub(crate) fn work(&self, next: Option<Next>) -> Option<Due>
+        ensures { result ≡ spec.work self.now next }
     {
-        match next_act(program, done, reads) {
+        match next {
             Some(next) if next.site == self.site => Some(Due::Work {
                 site: self.site,
                 epoch: self.epoch,
@@ -110,15 +115,10 @@ impl Progress {
         }
     }
 
-    /// What is outstanding here, once so many steps of the program gave these reads.
-    pub fn due(&self, program: &Program, done: usize, reads: &[u64]) -> Option<Due>
-        requires within { done ≤ length program.now }
-        requires read { length reads.now ≡ reads_of (take done program.now) }
-        ensures { result ≡ spec.due program.now done reads.now self.now }
+    /// What is outstanding here once all steps here are answered: the ticket, and the vote once the ticket is there.
+    fn closing(&self) -> Option<Due>
+        ensures { result ≡ cond self.now.ticket (spec.prepare self.now) (spec.take self.now) }
     {
-        if visits(&program.steps()[done..], self.site) {
-            return self.work(program, done, reads);
-        }
         if !self.ticket {
             return Some(Due::Take {
                 site: self.site,
@@ -134,6 +134,28 @@ impl Progress {
             epoch: self.epoch,
             n: self.n,
         })
+    }
+
+    /// What is outstanding here, once so many steps of the program gave these reads.
+    pub fn due(&self, program: &Program, done: usize, reads: &[u64]) -> Option<Due>
+        requires within { done ≤ length program.now }
+        requires read { length reads.now ≡ reads_of (take done program.now) }
+        ensures { result ≡ spec.due program.now done reads.now self.now }
+    {
+        if visits(&program.steps()[done..], self.site) {
+            return self.work(next_act(program, done, reads));
+        }
+        self.closing()
+    }
+
+    /// What is outstanding here, where these steps are left and this is the first of them.
+    pub(crate) fn due_left(&self, left: &[Step], next: Option<Next>) -> Option<Due>
+        ensures { result ≡ spec.due_left left.now next self.now }
+    {
+        if visits(left, self.site) {
+            return self.work(next);
+        }
+        self.closing()
     }
 
     /// Whether nothing was outstanding here when so many steps were answered.
