@@ -12,8 +12,9 @@ ghost use Rattle.coord_core.specs.Steps.{Answers, CanStep, Refuses, SomePast};
 ghost use Rattle.coord_tables.specs.Terms.{Terms, line_of};
 
 use crate::coord::{CoordCore, silent};
+use crate::sending::let_through;
 use actor_store::{Standing, StepErr};
-use coord_tables::{Taken, passed, some_held};
+use coord_tables::{Taken, some_held};
 use fed_rules::{Answer, Cause, CoordEvent, CoordStep, FromSite};
 use global_exec::{DidEnd, TakePolicy};
 use journal_disk::Disk;
@@ -54,10 +55,10 @@ impl<P: TakePolicy> CoordCore<P> {
         let Ok(may) = self.may_send(alloc, disk, tid, &dues) else {
             return Err(StepErr::Memory);
         };
-        let Ok(through) = passed(alloc, may, &dues) else {
+        let defers = some_held(may, &dues);
+        let Ok(through) = let_through(alloc, may, dues) else {
             return Err(StepErr::Memory);
         };
-        let defers = some_held(may, &dues);
         self.send(alloc, disk, tid, Some(taken), defers, &through)
     }
 

@@ -11,8 +11,9 @@ ghost use Rattle.coord_core.specs.Steps.{Answers, CanStep, EachPast, Refuses, So
 ghost use Rattle.coord_tables.specs.Terms.{Terms, line_of};
 
 use crate::coord::{CoordCore, silent};
+use crate::sending::let_through;
 use actor_store::{Standing, StepErr};
-use coord_tables::{decide_to, passed, some_held};
+use coord_tables::{decide_to, some_held};
 use fed_rules::{Answer, CoordEvent, CoordStep};
 use global_exec::TakePolicy;
 use journal_disk::Disk;
@@ -89,10 +90,10 @@ impl<P: TakePolicy> CoordCore<P> {
         let Ok(may) = self.may_take(alloc, disk, tid) else {
             return Err(StepErr::Memory);
         };
-        let Ok(through) = passed(alloc, may, &dues) else {
+        let held = some_held(may, &dues);
+        let Ok(through) = let_through(alloc, may, dues) else {
             return Err(StepErr::Memory);
         };
-        let held = some_held(may, &dues);
         let none = through.len() == 0;
         let defers = held & none;
         self.send(alloc, disk, tid, None, defers, &through)

@@ -4,7 +4,7 @@ ghost use Rattle.mdb_base.specs.Counts.{HasCauseOf};
 ghost use Rattle.fed_rules.specs.declared.events.CoordEvent.{CoordEvent as TheEvent};
 ghost use Rattle.fed_rules.specs.Coord.{may_take as rules_may_take};
 ghost use Rattle.fed_rules.specs.CoordPast.{CoordPast, is_open};
-ghost use Rattle.coord_tables.specs.Sending.{HoldsTheSame, IsSending, after_taken, says_sent};
+ghost use Rattle.coord_tables.specs.Sending.{HoldsTheSame, IsSending, after_taken, passed, says_sent};
 ghost use Rattle.coord_core.specs.Stands.{Fails, Stands, Steps};
 ghost use Rattle.coord_core.specs.Steps.{Answers, CanStep, EachPast, Refuses, SomePast};
 ghost use Rattle.coord_tables.specs.Terms.{Terms, line_of};
@@ -12,12 +12,22 @@ ghost use Rattle.coord_tables.specs.Terms.{Terms, line_of};
 use crate::coord::{CoordCore, silent};
 use crate::ending::room_for;
 use actor_store::{Standing, StepErr};
-use coord_tables::{Taken, send_dues, some_take};
+use coord_tables::{Taken, passed, send_dues, some_take};
 use fed_rules::{Answer, CoordEvent, CoordStep, Dues};
 use global_exec::TakePolicy;
 use journal_disk::Disk;
 use mdb_base::{Memory, Reply, SiteId, Tid};
 use std::alloc::Global;
+
+/// What the policy lets pass: all that there is, where it lets Takes pass.
+pub(crate) fn let_through(alloc: Global, may: bool, dues: Dues) -> Result<Dues, Memory>
+    ensures { IfOk result (λ through. through ≡ passed may dues) }
+{
+    if may {
+        return Ok(dues);
+    }
+    passed(alloc, may, &dues)
+}
 
 impl<P: TakePolicy> CoordCore<P> {
     /// Whether an undecided attempt may take tickets beside the others in their phases.

@@ -1,7 +1,9 @@
--- What the policy holds back is a Take: where there is none, it makes no difference.
-use Rattle.std.proofs.Common.{◌≡◌, Bool, false, cond, not, ◌&&◌, ◌||◌, List, [], ◌∷◌, refl, sym, ap, ◌∙◌}
+-- What the policy holds back is a Take: where there is none, it makes no difference; and where it lets Takes pass, all pass.
+use Rattle.std.proofs.Common.{◌≡◌, Bool, true, false, cond, not, ◌&&◌, ◌||◌, List, [], ◌∷◌, refl, sym, ap, ◌∙◌}
 use Rattle.std.proofs.lemmas.Bool.{or_parts}
 use Rattle.mdb_base.specs.Words.{some_of}
+use Rattle.mdb_base.proofs.BoolLaws.{and_false}
+use Rattle.mdb_base.proofs.ListLaws.{each_all, those_all}
 use Rattle.fed_rules.specs.declared.messages.Due.{Due}
 use Rattle.fed_rules.specs.Coord.{is_take}
 use Rattle.coord_tables.specs.Sending.{HoldsTheSame, is_held, passed}
@@ -22,3 +24,9 @@ module _ (may other : Bool) where
             ∙ ap (λ (ds : List Due). cond (not (is_held other due)) (due ∷ ds) ds) rest.passes;
         held = ap (λ b. b || some_of (is_held may) dues) same ∙ ap (λ b. is_held other due || b) rest.held;
       }
+
+-- a policy that lets Takes pass holds nothing back
+pub all_passed : (dues : List Due) → passed true dues ≡ dues
+all_passed dues =
+    those_all (λ (due : Due). not (is_held true due)) dues
+    (each_all (λ (due : Due). not (is_held true due) ≡ true) (λ (due : Due). ap not (and_false (is_take due))) dues)

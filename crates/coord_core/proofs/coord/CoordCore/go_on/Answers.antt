@@ -24,7 +24,7 @@ returns-clause-answered g c = map_ok _ _ c.send.result c.send.ensures.answered (
     let same = c.in-Ok-may_send.ensures terms past k u in
     each terms past (reply_event c.args.tid taken) k
     (did_sending c.args.self.now.tables terms past k.holds.sound s taken.site c.args.tid taken.epoch taken.n taken.reply n.among n.counts c.requires.answers
-    (may_take terms.protocols terms.policy past c.args.tid) c.some_held-defers.result c.in-Next.dues c.in-Ok-passed.through refl fresh (c.in-Ok-passed.ensures ∙ same.passes) (c.some_held-defers.ensures ∙ same.held)))
+    (may_take terms.protocols terms.policy past c.args.tid) c.some_held-defers.result c.in-Next.dues c.in-Ok-let_through.through refl fresh (c.in-Ok-let_through.ensures ∙ same.passes) (c.some_held-defers.ensures ∙ same.held)))
 
 pub returns-clause-failed : goal.returns-clause-failed
 returns-clause-failed g c = map_err _ _ c.send.result c.send.ensures.failed (λ why each terms past k n.
@@ -35,4 +35,4 @@ returns-clause-failed g c = map_err _ _ c.send.result c.send.ensures.failed (λ 
     let same = c.in-Ok-may_send.ensures terms past k u in
     each terms past (reply_event c.args.tid taken) k
     (did_sending c.args.self.now.tables terms past k.holds.sound s taken.site c.args.tid taken.epoch taken.n taken.reply n.among n.counts c.requires.answers
-    (may_take terms.protocols terms.policy past c.args.tid) c.some_held-defers.result c.in-Next.dues c.in-Ok-passed.through refl fresh (c.in-Ok-passed.ensures ∙ same.passes) (c.some_held-defers.ensures ∙ same.held)))
+    (may_take terms.protocols terms.policy past c.args.tid) c.some_held-defers.result c.in-Next.dues c.in-Ok-let_through.through refl fresh (c.in-Ok-let_through.ensures ∙ same.passes) (c.some_held-defers.ensures ∙ same.held)))

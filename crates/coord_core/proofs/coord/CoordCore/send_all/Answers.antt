@@ -9,7 +9,7 @@ returns-clause-answered g c = map_ok _ _ c.send.result c.send.ensures.answered (
     let old = c.args.self.now in
     let s = serves g.P.TakePolicy.policy g.D.Disk.tells old terms past k.holds c.requires.up in
     each terms past (Ev.Again c.args.tid) k
-    (again_sends old.tables terms past c.args.tid c.in-Ok-may_take.may c.some_held-held.result c.in-Ok.dues c.in-Ok-passed.through c.len-none.result s u (c.in-Ok-may_take.ensures terms past k u) c.in-Ok.ensures c.in-Ok-passed.ensures
+    (again_sends old.tables terms past c.args.tid c.in-Ok-may_take.may c.some_held-held.result c.in-Ok.dues c.in-Ok-let_through.through c.len-none.result s u (c.in-Ok-may_take.ensures terms past k u) c.in-Ok.ensures c.in-Ok-let_through.ensures
     c.some_held-held.ensures c.len-none.ensures.count))
 
 pub returns-clause-failed : goal.returns-clause-failed
@@ -17,5 +17,5 @@ returns-clause-failed g c = map_err _ _ c.send.result c.send.ensures.failed (λ 
     let old = c.args.self.now in
     let s = serves g.P.TakePolicy.policy g.D.Disk.tells old terms past k.holds c.requires.up in
     each terms past (Ev.Again c.args.tid) k
-    (again_sends old.tables terms past c.args.tid c.in-Ok-may_take.may c.some_held-held.result c.in-Ok.dues c.in-Ok-passed.through c.len-none.result s u (c.in-Ok-may_take.ensures terms past k u) c.in-Ok.ensures c.in-Ok-passed.ensures
+    (again_sends old.tables terms past c.args.tid c.in-Ok-may_take.may c.some_held-held.result c.in-Ok.dues c.in-Ok-let_through.through c.len-none.result s u (c.in-Ok-may_take.ensures terms past k u) c.in-Ok.ensures c.in-Ok-let_through.ensures
     c.some_held-held.ensures c.len-none.ensures.count))
