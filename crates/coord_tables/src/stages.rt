@@ -72,15 +72,14 @@ impl Stage {
         }
     }
 
-    /// The stage once a reply of the attempt counts.
-    fn after_reply(self, tid: Tid, site: SiteId, reply: Reply) -> Stage
-        ensures { result ≡ spec.after_reply tid site reply self }
+    /// Notes the ticket of a reply of the attempt that counts, where it has one.
+    fn note_reply(&mut self, tid: Tid, site: SiteId, reply: Reply)
+        ensures { self.new ≡ spec.after_reply tid site reply self.old }
     {
-        let mut stage = self;
-        if stage.tid == tid {
-            note_ticket(&mut stage.tickets, site, reply);
+        if self.tid != tid {
+            return;
         }
-        stage
+        note_ticket(&mut self.tickets, site, reply);
     }
 
     /// Whether it is one of the other attempts that take their tickets.
@@ -90,19 +89,15 @@ impl Stage {
         self.tid != tid && self.takes
     }
 
-    /// The stage once these were sent too of the attempt.
-    fn after_sending(self, tid: Tid, takes: bool, prepares: bool) -> Stage
-        ensures { result ≡ spec.after_sending tid takes prepares self }
+    /// Notes that these were sent too of the attempt.
+    fn note_sent(&mut self, tid: Tid, takes: bool, prepares: bool)
+        ensures { self.new ≡ spec.after_sending tid takes prepares self.old }
     {
-        if self.tid == tid {
-            Stage {
-                takes: self.takes || takes,
-                prepares: self.prepares || prepares,
-                ..self
-            }
-        } else {
-            self
+        if self.tid != tid {
+            return;
         }
+        self.takes = self.takes || takes;
+        self.prepares = self.prepares || prepares;
     }
 }
 
@@ -222,7 +217,7 @@ impl Stages {
             Some(stage) => stage,
             None => return,
         };
-        *stage = stage.after_sending(tid, takes, prepares);
+        stage.note_sent(tid, takes, prepares);
     }
 
     /// Notes the ticket of a reply of the attempt that counts, where it has one.
@@ -233,7 +228,7 @@ impl Stages {
             Some(stage) => stage,
             None => return,
         };
-        *stage = stage.after_reply(tid, site, reply);
+        stage.note_reply(tid, site, reply);
     }
 
     /// The least ticket at each site of those that are noted.

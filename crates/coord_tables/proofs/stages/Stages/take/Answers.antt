@@ -16,16 +16,16 @@ returns-in-None c =
 pub invariant_of-self-2 : goal.invariant_of-self-2
 invariant_of-self-2 c =
     let k = c.in-Some.stage.now in
-    let w = c.after_reply.result in
+    let w = c.note_reply.new.self in
     subst AreStaged (sym (c.get_mut.follows.holds w).0)
     (staged_set c.args.tid.tx.0 c.self.inside.stages.entries k w c.self.invariant (sym c.in-Some.ensures.value)
-    (ap (λ (s : Stage). s.tid) c.after_reply.ensures ∙ same_name_after c.args.tid (λ (s : Stage). record s { tickets = noting c.args.site c.args.reply s.tickets }) k refl))
+    (ap (λ (s : Stage). s.tid) c.note_reply.ensures ∙ same_name_after c.args.tid (λ (s : Stage). record s { tickets = noting c.args.site c.args.reply s.tickets }) k refl))
 
 pub returns : goal.returns
 returns c =
     let change : Stage → Stage = after_reply c.args.tid c.args.site c.args.reply in
     let k = c.in-Some.stage.now in
-    let w = c.after_reply.result in
+    let w = c.note_reply.new.self in
     ap values_of (c.get_mut.follows.holds w).0
-    ∙ values_set c.args.tid.tx.0 change (own_change c.args.tid (λ (s : Stage). record s { tickets = noting c.args.site c.args.reply s.tickets })) c.self.inside.stages.entries k w c.self.invariant (sym c.in-Some.ensures.value) c.after_reply.ensures
+    ∙ values_set c.args.tid.tx.0 change (own_change c.args.tid (λ (s : Stage). record s { tickets = noting c.args.site c.args.reply s.tickets })) c.self.inside.stages.entries k w c.self.invariant (sym c.in-Some.ensures.value) c.note_reply.ensures
     ∙ ap (λ b. map change b.listed) c.self.view_is
