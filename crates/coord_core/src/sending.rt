@@ -106,6 +106,9 @@ impl<P: TakePolicy> CoordCore<P> {
         self.tables.take_reply(tid, taken);
         self.tables.sent(tid, dues, initiates);
         let answer = said(initiates, defers);
+        if !initiates {
+            return Ok(CoordStep { answer, sends });
+        }
         self.end(alloc, disk, entry, CoordStep { answer, sends })
     }
 }

@@ -1,12 +1,17 @@
-use Rattle.std.proofs.Common.{refl, ◌∙◌}
+use Rattle.std.proofs.Common.{Option, option_to_list, refl, sym, subst, ◌∙◌}
+use Rattle.mdb_base.proofs.OptionLaws.{nothing_is}
 use Rattle.mdb_base.proofs.ResultLaws.{map_err, map_ok}
 use Rattle.fed_rules.specs.declared.events.CoordStep.{CoordStep}
+use Rattle.fed_rules.specs.declared.records.CoordRecord.{CoordRecord}
+use Rattle.fed_rules.specs.Coord.{forced}
 use Rattle.fed_rules.specs.CoordPast.{disk, trip}
 use Rattle.actor_store.proofs.FromLaws.{from_kept}
 use Rattle.coord_core.specs.declared.coord.CoordCore.{CoordCore}
+use Rattle.coord_core.specs.Pending.{IsPending}
 use Rattle.coord_tables.specs.Sending.{after_taken}
 use Rattle.coord_tables.proofs.Initiations.{initiation_fits, initiation_in_range}
 use Rattle.coord_tables.proofs.Sent.{initiates_is, sent_line, sent_tables}
+use Rattle.coord_core.proofs.Endings.{pending_quiet}
 use Rattle.coord_core.proofs.Sent.{sent_pending}
 use Rattle.coord_core.proofs.Roomed.{stands_roomed}
 use Rattle.coord_core.proofs.Still.{serves, up_is}
@@ -38,6 +43,26 @@ end-requires-clause-payload g c =
     let m = c.requires.may in
     let s = serves g.P.TakePolicy.policy g.D.Disk.tells c.args.self.now m.terms m.past m.stood.holds c.requires.up in
     initiation_fits m.terms m.past c.args.tid c.args.dues.now c.in-Ok.entry m.stood.holds.sound (c.in-Ok.ensures m.terms m.past m.stood.holds.sound s m.holds)
+
+pub returns-then-not-initiates-clause-answered : goal.returns-then-not-initiates-clause-answered
+returns-then-not-initiates-clause-answered g c = λ terms past event k i.
+    let old = c.args.self.now in
+    let core : CoordCore g.row.P.Denot = record old { tables = c.sent.new.self; store = c.room_for.new.store } in
+    let step : CoordStep = record { answer = c.said-answer.result; sends = c.in-Ok-send_dues.sends } in
+    let after = g.D.Disk.seen c.room_for.new.disk in
+    let x = sent_line terms.protocols past event c.args.tid c.args.defers c.args.dues.now c.is_some-initiates.result in
+    let s = serves g.P.TakePolicy.policy g.D.Disk.tells old terms past k.holds c.requires.up in
+    let entry = c.in-Ok.ensures terms past k.holds.sound s i.undecided in
+    let forces = c.is_some-initiates.ensures ∙ initiates_is terms past c.args.tid c.args.dues.now c.in-Ok.entry entry in
+    let none = nothing_is c.in-Ok.entry (sym c.is_some-initiates.ensures ∙ c.if-not-initiates.true) in
+    let served = sent_tables terms past event c.args.tid c.args.taken c.args.defers c.args.dues.now old.tables.exec (after_taken c.args.tid c.args.taken old.tables.exec) i c.is_some-initiates.result old.tables c.take_reply.new.self c.sent.new.self
+    refl c.take_reply.ensures.known c.take_reply.ensures.exec c.take_reply.ensures.stages c.take_reply.ensures.committed c.take_reply.ensures.graph c.sent.ensures.known c.sent.ensures.stages c.sent.ensures.exec c.sent.ensures.committed c.sent.ensures.graph s in
+    pending_quiet g.P.TakePolicy.policy g.D.Disk.tells step core after terms past event x
+    (subst (λ (o : Option CoordRecord). IsPending g.P.TakePolicy.policy g.D.Disk.tells (forced (option_to_list o)) step core after terms past event x) none
+    (sent_pending terms past event c.args.tid c.args.taken c.args.defers c.args.dues.now old.tables.exec (after_taken c.args.tid c.args.taken old.tables.exec) i c.is_some-initiates.result g.P.TakePolicy.policy g.D.Disk.tells step old core
+    (g.D.Disk.seen c.args.disk.now) after c.in-Ok.entry k forces entry c.said-answer.ensures c.in-Ok-send_dues.ensures (from_kept k.stored (c.room_for.ensures.keeps _ _ _ k.stored.behind))
+    (up_is g.P.TakePolicy.policy g.D.Disk.tells old terms past k.holds c.requires.up) refl refl refl served))
+    (c.room_for.ensures.standing ∙ c.requires.up)
 
 pub returns-clause-answered : goal.returns-clause-answered
 returns-clause-answered g c =
