@@ -16,7 +16,7 @@ use crate::sending::let_through;
 use actor_store::{Standing, StepErr};
 use coord_tables::{Taken, some_held};
 use fed_rules::{Answer, Cause, CoordEvent, CoordStep, FromSite};
-use global_exec::{DidEnd, TakePolicy};
+use global_exec::TakePolicy;
 use journal_disk::Disk;
 use mdb_base::{Reply, SiteId, Tid, Why};
 use std::alloc::Global;
@@ -46,11 +46,8 @@ impl<P: TakePolicy> CoordCore<P> {
             n,
             reply,
         } = taken;
-        let Ok(end) = self.tables.exec.answers(alloc, tid, site, epoch, n, reply) else {
+        let Ok(dues) = self.tables.exec.news(alloc, tid, site, epoch, n, reply) else {
             return Err(StepErr::Memory);
-        };
-        let DidEnd::Next(dues) = end else {
-            unreachable!()
         };
         let Ok(may) = self.may_send(alloc, disk, tid, &dues) else {
             return Err(StepErr::Memory);

@@ -27,11 +27,10 @@ use Rattle.fed_rules.specs.CoordPast.{CoordHappening, CoordPast, begins, counted
 use Rattle.fed_rules.specs.CoordPast as Past
 use Rattle.rules_laws.proofs.CoordPasts.{counts_open}
 use Rattle.global_exec.specs.Agreement.{IsOfPast, progress_in}
-use Rattle.global_exec.specs.Counted.{advanced, after_did, counts, did_end, is_answer, news}
+use Rattle.global_exec.specs.Counted.{advanced, after_did, counts, is_answer, news_by}
 use Rattle.global_exec.specs.Firsts.{replaced}
 use Rattle.global_exec.specs.Live.{Live, is_of, live_of}
 use Rattle.global_exec.specs.Pasts.{IsAmong, IsOnly}
-use Rattle.global_exec.specs.declared.ends.DidEnd.TheVariants as Did
 use Rattle.global_exec.proofs.Keeps.{did_same}
 use Rattle.global_exec.proofs.CountPasts.{counts_link}
 use Rattle.global_exec.proofs.ExecPasts.{answer_of_past}
@@ -153,24 +152,6 @@ did_goes terms past site tid epoch n (Reply_is.Wait by) e = absurd (false≢true
 did_goes terms past site tid epoch n (Reply_is.Refused why) e = absurd (false≢true e)
 did_goes terms past site tid epoch n Reply_is.Unknown e = absurd (false≢true e)
 
--- an answer that counts leads to this
-next_dues : (site : SiteId) (epoch n : ℕ) (reply : Reply) (live : Live) (dues : List Due) → counts site epoch n reply live ≡ true → is_answer reply ≡ true → did_end site epoch n reply live ≡ Did.Next dues
-    → dues ≡ news site live.done (advanced site epoch reply live)
-next_dues site epoch n Reply_is.Done live dues c a e = let f : Did.Next (news site live.done (advanced site epoch Reply_is.Done live)) ≡ Did.Next dues = sym (cond-true _ _ _ c) ∙ e in cc
-next_dues site epoch n (Reply_is.Value v) live dues c a e = let f : Did.Next (news site live.done (advanced site epoch (Reply_is.Value v) live)) ≡ Did.Next dues = sym (cond-true _ _ _ c) ∙ e in cc
-next_dues site epoch n (Reply_is.Ticket t) live dues c a e = let f : Did.Next (news site live.done (advanced site epoch (Reply_is.Ticket t) live)) ≡ Did.Next dues = sym (cond-true _ _ _ c) ∙ e in cc
-next_dues site epoch n (Reply_is.Wait by) live dues c a e = absurd (false≢true a)
-next_dues site epoch n (Reply_is.Refused why) live dues c a e = absurd (false≢true a)
-next_dues site epoch n Reply_is.Unknown live dues c a e = absurd (false≢true a)
-
-ends_next : (site : SiteId) (epoch n : ℕ) (reply : Reply) (live : Live) → counts site epoch n reply live ≡ true → is_answer reply ≡ true → (dues : List Due) × (did_end site epoch n reply live ≡ Did.Next dues)
-ends_next site epoch n Reply_is.Done live c a = (_, cond-true _ _ _ c)
-ends_next site epoch n (Reply_is.Value v) live c a = (_, cond-true _ _ _ c)
-ends_next site epoch n (Reply_is.Ticket t) live c a = (_, cond-true _ _ _ c)
-ends_next site epoch n (Reply_is.Wait by) live c a = absurd (false≢true a)
-ends_next site epoch n (Reply_is.Refused why) live c a = absurd (false≢true a)
-ends_next site epoch n Reply_is.Unknown live c a = absurd (false≢true a)
-
 advances : (site : SiteId) (epoch n : ℕ) (reply : Reply) (live : Live) → counts site epoch n reply live ≡ true → is_answer reply ≡ true → after_did site epoch n reply live ≡ advanced site epoch reply live
 advances site epoch n Reply_is.Done live c a = cond-true _ _ _ c
 advances site epoch n (Reply_is.Value v) live c a = cond-true _ _ _ c
@@ -195,20 +176,13 @@ module _ (tables : Tables) (terms : Terms) (past : CoordPast) (sound : IsSound t
     by_live None e l = absurd l
     by_live (Some live) e l = (live, e, l, sym (ap (holds_of (counts site epoch n reply)) e) ∙ counts_are tables terms past s site tid epoch n reply among ∙ c)
 
-  -- an answer leads to something
-  pub goes_next : is_answer reply ≡ true → (dues : List Due) × (or_else (map_some (did_end site epoch n reply) (live_of tid tables.exec)) Did.Ignored ≡ Did.Next dues)
-  goes_next a =
-      let (live, e, l, k) = own_live in
-      let next = ends_next site epoch n reply live k a in
-      (next.0, ap (λ o. or_else (map_some (did_end site epoch n reply) o) Did.Ignored) e ∙ next.1)
-
-  -- namely to what became outstanding
-  pub news_are : is_answer reply ≡ true → (dues : List Due) → or_else (map_some (did_end site epoch n reply) (live_of tid tables.exec)) Did.Ignored ≡ Did.Next dues → dues ≡ fresh_news terms past site tid epoch n reply
+  -- what the table says becomes outstanding by an answer is what became so
+  pub news_are : is_answer reply ≡ true → (dues : List Due) → dues ≡ or_else (map_some (news_by site epoch reply) (live_of tid tables.exec)) [] → dues ≡ fresh_news terms past site tid epoch n reply
   news_are a dues d =
       let (live, e, l, k) = own_live in
-      let here = next_dues site epoch n reply live dues k a (sym (ap (λ o. or_else (map_some (did_end site epoch n reply) o) Did.Ignored) e) ∙ d) in
       let now = answer_of_past terms.protocols past tid live l site epoch n reply (quiet (did_event site tid epoch n reply) Say.Only) refl refl refl (rising_only site live.program terms.protocols sound.rising) a in
-      here ∙ news_link terms.protocols past (quiet (did_event site tid epoch n reply) Say.Only ∷ past) tid live (advanced site epoch reply live) l now site refl (elsewhere_same past site tid epoch n reply)
+      d ∙ ap (λ (o : Option Live). or_else (map_some (news_by site epoch reply) o) []) e
+      ∙ news_link terms.protocols past (quiet (did_event site tid epoch n reply) Say.Only ∷ past) tid live (advanced site epoch reply live) l now site refl (elsewhere_same past site tid epoch n reply)
 
   -- an answer that counts is sent on
   pub did_sending : is_answer reply ≡ true → (may held : Bool) (dues through : List Due) → may ≡ may_take terms.protocols terms.policy past tid → dues ≡ fresh_news terms past site tid epoch n reply → through ≡ passed may dues → held ≡ some_of (is_held may) dues

@@ -86,12 +86,16 @@ news_left site epoch reply left next progress =
     cond (same_site progress.site site) (due_left left next (answered epoch reply progress))
     (cond (is_ticket reply) None (work progress next))
 
+-- what becomes outstanding by an answer that counts
+abbrev pub news_by : SiteId → ℕ → Reply → Live → List Due
+news_by site epoch reply live = news site live.done (advanced site epoch reply live)
+
 -- what a reply that counts answers
 abbrev pub end_of : SiteId → ℕ → Reply → Live → DidEnd
 end_of site epoch (Reply_is.Wait by) live = Did.Waits
 end_of site epoch (Reply_is.Refused why) live = Did.Refused
 end_of site epoch Reply_is.Unknown live = Did.Refused
-end_of site epoch reply live = Did.Next (news site live.done (advanced site epoch reply live))
+end_of site epoch reply live = Did.Next (news_by site epoch reply live)
 
 -- what a reply that counts makes of the attempt
 abbrev pub after_reply : SiteId → ℕ → Reply → Live → Live

@@ -232,7 +232,7 @@ impl Attempt {
     }
 
     /// What becomes outstanding by an answer of the site other than a wait and a refusal, which counts by its epoch and count.
-    fn news(
+    pub(crate) fn news(
         &self,
         alloc: Global,
         site: SiteId,
@@ -242,7 +242,7 @@ impl Attempt {
     ) -> Result<Dues, Memory>
         requires counts { IsTrue (counted.counts site epoch n reply self.now) }
         requires answers { IsTrue (counted.is_answer reply) }
-        ensures { IfOk result (λ dues. dues ≡ counted.news site self.now.done (counted.advanced site epoch reply self.now)) }
+        ensures { IfOk result (λ dues. dues ≡ counted.news_by site epoch reply self.now) }
     {
         let done = self.done + steps_of(reply);
         let next = next_behind(&self.program, done, self.reads.as_slice(), reply);

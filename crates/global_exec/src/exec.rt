@@ -1,5 +1,5 @@
 //! The table and its calls.
-ghost use Rattle.std.specs.Prelude.{◌≡◌, ◌<◌, map, reverse, length, slice_get, Some, None, [], ◌∷◌, ◌++◌, IfOk, OnOk, OnErr};
+ghost use Rattle.std.specs.Prelude.{◌≡◌, ◌<◌, map, reverse, length, slice_get, Some, None, [], ◌∷◌, ◌++◌, IfOk, IsTrue, OnOk, OnErr};
 ghost use Rattle.mdb_base.specs.Words.{first_where, holds_of, map_some, or_else};
 ghost use Rattle.mdb_base.specs.Names.{same_tx};
 ghost use Rattle.indexmap.specs.IndexMap.{values};
@@ -124,6 +124,26 @@ impl GlobalExec {
         match find(&self.attempts, tid) {
             Some(attempt) => attempt.answers(alloc, site, epoch, n, reply),
             None => Ok(DidEnd::Ignored),
+        }
+    }
+
+    /// What becomes outstanding by a site's reply that counts and is no wait and no refusal. Without memory nothing is answered.
+    pub fn news(
+        &self,
+        alloc: Global,
+        tid: Tid,
+        site: SiteId,
+        epoch: u32,
+        n: u8,
+        reply: Reply,
+    ) -> Result<Dues, Memory>
+        requires counts { IsTrue (holds_of (counted.counts site epoch n reply) (spec.live_of tid self.now)) }
+        requires answers { IsTrue (counted.is_answer reply) }
+        ensures { IfOk result (λ dues. dues ≡ or_else (map_some (counted.news_by site epoch reply) (spec.live_of tid self.now)) []) }
+    {
+        match find(&self.attempts, tid) {
+            Some(attempt) => attempt.news(alloc, site, epoch, n, reply),
+            None => Ok(Dues::none()),
         }
     }
 
