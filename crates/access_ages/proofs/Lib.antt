@@ -1,4 +1,5 @@
 pub mod Commits
+pub mod KeyMaps
 pub mod Listed
 pub mod Live
 pub mod Outcomes

@@ -13,7 +13,7 @@ use Rattle.mdb_base.specs.Words.{Each, with_some, map_some}
 use Rattle.mdb_base.proofs.NameLaws.{same_tid-equal}
 use Rattle.mdb_base.proofs.ListLaws.{each_map, each_all}
 use Rattle.fed_rules.specs.Runs.{Start, EngineLine, Begins, Acts, Takes, Seals, Refuses, Commits, Aborts, Got, Run, tid_of, restored, run_at, committed, aborted, gives_up}
-use Rattle.fed_rules.specs.Replies.{age_of, reads, has_read}
+use Rattle.fed_rules.specs.Replies.{age_of, has_read}
 use Rattle.fed_rules.specs.EngineLines.{IsRightLine, IsRight}
 use Rattle.engine_laws.specs.ReplyLaws.{IsUnended, IsAmong}
 use Rattle.engine_laws.specs.Unended.{EachRun}

@@ -1,5 +1,5 @@
 -- A tree by numbers, as a map.
-use Rattle.std.proofs.Common.{◌≡◌, ℕ, ◌≤◌, Bool, true, false, ◌&&◌, cond, is_some, nat_eq, Option, Some, None, IsSome, List, [], ◌∷◌, refl, sym, ap, ◌∙◌, arith}
+use Rattle.std.proofs.Common.{◌≡◌, ℕ, ◌≤◌, Bool, true, false, cond, is_some, nat_eq, Option, Some, None, IsSome, List, [], ◌∷◌, refl, sym, ap, ◌∙◌, arith}
 use Rattle.std.specs.Cmp.{nat_cmp_total}
 use Rattle.std.specs.Ordering.{nat_cmp, is_lt, eq_by_cmp}
 use Rattle.std.specs.FinMap.{FinMap, from_entries, find, get, get-insert, get-remove, get-from_entries, insert, remove, same_map, nat_cmp-IsAntisymmetric}
@@ -7,13 +7,8 @@ use Rattle.std.specs.Map.{lookup}
 use Rattle.std.specs.BTreeMap.{is_at}
 use Rattle.std.proofs.lemmas.Bool.{eqb-true}
 use Rattle.std.proofs.lemmas.Bool.Decides.{nat_tests}
-use Rattle.mdb_base.specs.declared.names.Key.{Key}
 use Rattle.mdb_base.specs.declared.names.Tid.{Tid}
-use Rattle.mdb_base.specs.Names.{same_key}
-use Rattle.mdb_base.specs.Words.{or_else}
 use Rattle.mdb_base.proofs.OptionLaws.{is_some-true}
-use Rattle.access_ages.specs.declared.key_ages.KeyAges.{KeyAges}
-use Rattle.access_ages.specs.Ages.{no_ages, ages_of}
 use Rattle.access_ages.specs.Takers.{IsYoungestOf}
 
 -- what a look-up in the tree finds
@@ -61,41 +56,6 @@ pub entries_gone : {X : Type 0} (es fs : List (ℕ × X)) (k : ℕ) → ((q : �
 entries_gone es fs k h =
     same_numbers _ _ (λ q. get_look fs q ∙ (h q ∙ (ap (λ (b : Bool). cond b None (look es q)) (at_is k q)
     ∙ sym (get-gone (from_entries es) k q ∙ ap (cond (nat_eq k q) None) (get_look es q)))))
-
-pub true_some : {A : Type 0} (o : Option A) → IsSome o → is_some o ≡ true
-true_some None e = cc
-true_some (Some x) e = refl
-
--- the ages of a key in the tree
-pub ages_look : (es : List (ℕ × KeyAges)) (q : Key) → ages_of (from_entries es) q ≡ or_else (look es q.0) no_ages
-ages_look es q = ap (λ (o : Option KeyAges). or_else o no_ages) (get_look es q.0)
-
--- an entry of nobody, where there was none, changes nothing
-pub room_same : (es fs : List (ℕ × KeyAges)) (k : ℕ) (nobody : KeyAges) → nobody ≡ no_ages → ((q : ℕ) → look fs q ≡ cond (is_at (nat_cmp k) q) (Some nobody) (look es q)) → is_some (look es k) ≡ false →
-    (q : Key) → ages_of (from_entries fs) q ≡ ages_of (from_entries es) q
-room_same es fs k nobody is h none q =
-    ages_look fs q ∙ (ap (λ (o : Option KeyAges). or_else o no_ages) (h q.0 ∙ ap (λ (b : Bool). cond b (Some nobody) (look es q.0)) (at_is k q.0))
-    ∙ (by_key (nat_eq k q.0) refl ∙ sym (ages_look es q)))
-  where
-    absent : (o : Option KeyAges) → is_some o ≡ false → or_else o no_ages ≡ no_ages
-    absent None e = refl
-    absent (Some a) e = cc
-
-    by_key : (b : Bool) → nat_eq k q.0 ≡ b → or_else (cond b (Some nobody) (look es q.0)) no_ages ≡ or_else (look es q.0) no_ages
-    by_key true e = is ∙ sym (absent (look es q.0) (ap (λ (n : ℕ). is_some (look es n)) (sym (eqb-true k q.0 e)) ∙ none))
-    by_key false e = refl
-
--- the ages of one key are set
-pub ages_set : (es fs : List (ℕ × KeyAges)) (key : Key) (ages : KeyAges) → ((q : ℕ) → look fs q ≡ cond (is_at (nat_cmp key.0) q) (Some ages) (look es q)) → IsSome (look es key.0) →
-    (q : Key) → ages_of (from_entries fs) q ≡ cond (is_some (get (from_entries {R = nat_cmp} es) key.0) && same_key key q) ages (ages_of (from_entries es) q)
-ages_set es fs key ages h there q =
-    let room : is_some (get (from_entries {R = nat_cmp} es) key.0) ≡ true = ap (λ (o : Option KeyAges). is_some o) (get_look es key.0) ∙ true_some (look es key.0) there in
-    ages_look fs q ∙ (ap (λ (o : Option KeyAges). or_else o no_ages) (h q.0 ∙ ap (λ (b : Bool). cond b (Some ages) (look es q.0)) (at_is key.0 q.0))
-    ∙ (spread (same_key key q) ∙ sym (ap (λ (b : Bool). cond (b && same_key key q) ages (ages_of (from_entries es) q)) room)))
-  where
-    spread : (b : Bool) → or_else (cond b (Some ages) (look es q.0)) no_ages ≡ cond b ages (ages_of (from_entries es) q)
-    spread true = refl
-    spread false = sym (ages_look es q)
 
 -- the greatest entry of a tree of runs is the youngest one
 not_above : (x y : ℕ) → is_lt (nat_cmp x y) ≡ false → y ≤ x

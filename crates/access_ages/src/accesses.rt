@@ -1,5 +1,5 @@
 //! Who accessed each key.
-ghost use Rattle.std.specs.Prelude.{◌≡◌, ◌&&◌, cond, is_some, reverse, None, OnOk, IfOk, IsSome};
+ghost use Rattle.std.specs.Prelude.{◌≡◌, cond, reverse, None, OnOk, IfOk, IsSome};
 ghost use Rattle.std.specs.FinMap.{empty, get};
 ghost use Rattle.mdb_base.specs.declared.names.Key.{Key};
 ghost use Rattle.mdb_base.specs.Names.{same_key};
@@ -13,14 +13,15 @@ use fed_rules::Kept;
 use mdb_base::{Key, Memory, Put};
 use run_book::{Granted, HeldRun, Rival};
 use std::alloc::Global;
-use std::collections::BTreeMap;
+use std::collections::HashMap;
 use std::marker::Model;
 
-/// Who accessed each key, seen as a finite map from keys to their ages. An access takes time by the logarithm of the keys, the end of
-/// a run that for each of its writes. Memory is taken by `make_room` alone, before an access is granted.
+/// Who accessed each key, seen as a finite map from keys to their ages. An access takes the time of a look-up, which doesn't grow with
+/// the count of keys; the end of a run takes that for each of its writes. Memory is taken by `make_room` alone, before an access is
+/// granted.
 #[derive(Drop)]
 pub struct AccessAges {
-    keys: BTreeMap<u16, KeyAges>,
+    keys: HashMap<u16, KeyAges>,
 }
 
 impl Model for AccessAges {
@@ -40,7 +41,7 @@ impl AccessAges {
         ensures { result ≡ empty }
     {
         AccessAges {
-            keys: BTreeMap::new(alloc),
+            keys: HashMap::new(alloc),
         }
     }
 
@@ -92,23 +93,13 @@ impl AccessAges {
         Ok(())
     }
 
-    /// Sets the ages of a key, where there is room for them.
-    fn set(&mut self, key: Key, ages: KeyAges)
-        ensures { (q : Key) → ages_of self.new q ≡ cond (is_some (get self.old key.0) && same_key key q) ages (ages_of self.old q) }
-    {
-        let Some(place) = self.keys.get_mut(&key.0) else {
-            return;
-        };
-        *place = ages;
-    }
-
     /// Notes that a run was granted a read of the key, for which there is room.
     pub fn read(&mut self, key: Key, run: Rival)
         requires { IsSome (get self.old key.0) }
         ensures { (q : Key) → ages_of self.new q ≡ cond (same_key key q) (with_reader run (ages_of self.old q)) (ages_of self.old q) }
     {
-        let ages = self.of(key).with_reader(run);
-        self.set(key, ages);
+        let place = self.keys.get_mut(&key.0).unwrap();
+        *place = place.with_reader(run);
     }
 
     /// Notes that a run was granted a write of the key, for which there is room.
@@ -116,8 +107,8 @@ impl AccessAges {
         requires { IsSome (get self.old key.0) }
         ensures { (q : Key) → ages_of self.new q ≡ cond (same_key key q) (with_writer run (ages_of self.old q)) (ages_of self.old q) }
     {
-        let ages = self.of(key).with_writer(run);
-        self.set(key, ages);
+        let place = self.keys.get_mut(&key.0).unwrap();
+        *place = place.with_writer(run);
     }
 
     /// Notes that a run committed: it is the last writer of its keys.
@@ -150,7 +141,16 @@ impl AccessAges {
         let Some(row) = access.written_row() else {
             return;
         };
-        let ages = self.of(row.key).ended(end);
-        self.set(row.key, ages);
+        self.end_at(row.key, end);
+    }
+
+    /// The writer of a key ends so. Where nobody accessed the key, nothing changes.
+    fn end_at(&mut self, key: Key, end: End)
+        ensures { (q : Key) → ages_of self.new q ≡ cond (same_key key q) (ended end (ages_of self.old q)) (ages_of self.old q) }
+    {
+        let Some(place) = self.keys.get_mut(&key.0) else {
+            return;
+        };
+        *place = place.ended(end);
     }
 }

@@ -1,29 +1,22 @@
--- The writers of each key, as a map and as the entries of the tree that keeps them.
-use Rattle.std.proofs.Common.{◌≡◌, ℕ, Bool, true, false, cond, nat_eq, Option, Some, None, List, [], ◌∷◌, refl, sym, ap, ◌∙◌}
+-- The writers of each key, as a map and as the entries of the hash map that keeps them.
+use Rattle.std.proofs.Common.{◌≡◌, ℕ, Bool, true, false, cond, nat_eq, Option, Some, None, List, refl, sym, ap, ◌∙◌}
 use Rattle.std.specs.Cmp.{nat_cmp_total}
 use Rattle.std.specs.Ordering.{nat_cmp}
-use Rattle.std.specs.FinMap.{from_entries, find, get, get-insert, get-from_entries, insert, same_map, nat_cmp-IsAntisymmetric}
+use Rattle.std.specs.FinMap.{from_entries, get, get-insert, insert, same_map, nat_cmp-IsAntisymmetric}
 use Rattle.std.specs.Map.{lookup}
-use Rattle.std.specs.BTreeMap.{is_at}
 use Rattle.std.proofs.lemmas.Bool.{cond-true, cond-false, eqb-true}
 use Rattle.mdb_base.specs.declared.names.Key.{Key}
 use Rattle.mdb_base.specs.Names.{same_key}
 use Rattle.mdb_base.specs.Words.{map_some}
 use Rattle.mdb_base.proofs.NumberLaws.{is_eq-nat_cmp}
 use Rattle.mdb_base.proofs.RowLaws.{nat_eq-sym}
+use Rattle.site_tables.proofs.Looks.{get-lookup}
 use Rattle.validation_engine.specs.declared.index.Writers.{Writers}
 use Rattle.validation_engine.specs.Index.{Index, nobody, has_entry, with_key}
 
--- what a look-up in the tree finds
+-- what a look-up in the hash map finds
 abbrev pub look : List (ℕ × Writers) → ℕ → Option Writers
-look es q = lookup (is_at (nat_cmp q)) es
-
-find_entry : (es : List (ℕ × Writers)) (q : ℕ) → find nat_cmp q es ≡ look es q
-find_entry [] q = refl
-find_entry (e ∷ es) q = ap (cond (is_at (nat_cmp q) e.0) (Some e.1)) (find_entry es q)
-
-pub get_entry : (es : List (ℕ × Writers)) (q : ℕ) → get (from_entries {R = nat_cmp} es) q ≡ look es q
-get_entry es q = get-from_entries nat_cmp_total es q ∙ find_entry es q
+look es q = lookup (nat_eq q) es
 
 pub same_index : (m n : Index) → ((q : ℕ) → get m q ≡ get n q) → m ≡ n
 same_index m n h = same_map nat_cmp_total nat_cmp-IsAntisymmetric m n h
@@ -32,11 +25,10 @@ same_index m n h = same_map nat_cmp_total nat_cmp-IsAntisymmetric m n h
 pub entry-put : (m : Index) (p q : ℕ) (w : Writers) → get (insert m p w) q ≡ cond (nat_eq p q) (Some w) (get m q)
 entry-put m p q w = get-insert nat_cmp_total m p w q ∙ ap (λ (b : Bool). cond b (Some w) (get m q)) (is_eq-nat_cmp q p ∙ nat_eq-sym q p)
 
-pub entries_put : (es fs : List (ℕ × Writers)) (p : ℕ) (w : Writers) → ((q : ℕ) → look fs q ≡ cond (is_at (nat_cmp p) q) (Some w) (look es q)) →
+pub entries_put : (es fs : List (ℕ × Writers)) (p : ℕ) (w : Writers) → ((q : ℕ) → look fs q ≡ cond (nat_eq p q) (Some w) (look es q)) →
     from_entries {R = nat_cmp} fs ≡ insert (from_entries es) p w
 entries_put es fs p w h =
-    same_index _ _ (λ q. get_entry fs q ∙ (h q ∙ (ap (λ (b : Bool). cond b (Some w) (look es q)) (is_eq-nat_cmp p q)
-    ∙ sym (entry-put (from_entries es) p q w ∙ ap (cond (nat_eq p q) (Some w)) (get_entry es q)))))
+    same_index _ _ (λ q. get-lookup fs q ∙ (h q ∙ sym (entry-put (from_entries es) p q w ∙ ap (cond (nat_eq p q) (Some w)) (get-lookup es q))))
 
 -- an entry that was there, and one that wasn't
 pub added_there : (key : Key) (m : Index) → has_entry m key ≡ true → m ≡ with_key key m
@@ -47,11 +39,11 @@ added_new key m e = sym (cond-false _ _ _ e)
 
 -- a change at one key, where it has an entry or not
 pub change_there : (es fs : List (ℕ × Writers)) (key k : Key) (was now : Writers) (f : Writers → Writers) → look es key.0 ≡ Some was → now ≡ f was →
-    ((q : ℕ) → look fs q ≡ cond (is_at (nat_cmp key.0) q) (Some now) (look es q)) →
+    ((q : ℕ) → look fs q ≡ cond (nat_eq key.0 q) (Some now) (look es q)) →
     get (from_entries {R = nat_cmp} fs) k.0 ≡ cond (same_key key k) (map_some f (get (from_entries {R = nat_cmp} es) k.0)) (get (from_entries {R = nat_cmp} es) k.0)
 change_there es fs key k was now f there made h =
-    get_entry fs k.0 ∙ (h k.0 ∙ (ap (λ (b : Bool). cond b (Some now) (look es k.0)) (is_eq-nat_cmp key.0 k.0) ∙ (by_key (same_key key k) refl
-    ∙ ap (λ (o : Option Writers). cond (same_key key k) (map_some f o) o) (sym (get_entry es k.0)))))
+    get-lookup fs k.0 ∙ (h k.0 ∙ (by_key (same_key key k) refl
+    ∙ ap (λ (o : Option Writers). cond (same_key key k) (map_some f o) o) (sym (get-lookup es k.0))))
   where
     by_key : (b : Bool) → same_key key k ≡ b → cond b (Some now) (look es k.0) ≡ cond b (map_some f (look es k.0)) (look es k.0)
     by_key true e =

@@ -14,7 +14,7 @@ use Rattle.mdb_base.specs.Words.{Each, or_else}
 use Rattle.mdb_base.proofs.NameLaws.{same_key-equal, same_tid-equal, same_tid-refl}
 use Rattle.fed_rules.specs.declared.runs.Kept.{Kept}
 use Rattle.fed_rules.specs.Runs.{Run, restored, restored_at, run_at}
-use Rattle.fed_rules.specs.Replies.{has_written, writes}
+use Rattle.fed_rules.specs.Replies.{has_written}
 use Rattle.fed_rules.specs.EngineLines.{AreApart, AllApart, IsStart, has_row}
 use Rattle.engine_contract.specs.Calls.{start_from}
 use Rattle.engine_laws.proofs.Conflicts.{written_rows}

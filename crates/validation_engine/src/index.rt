@@ -9,7 +9,7 @@ use fed_rules::Kept;
 use mdb_base::{Key, Memory, Put, Tid};
 use run_book::{Granted, HeldRun, Rival};
 use std::alloc::Global;
-use std::collections::BTreeMap;
+use std::collections::HashMap;
 use std::marker::Model;
 
 /// A writer that ended by commit: its attempt, its serial number, and the moment of its end, which is the greatest number that was
@@ -63,11 +63,11 @@ impl Change {
     }
 }
 
-/// The writers of each key, seen as a finite map. Each call takes time by the logarithm of all keys, for each access that it is
-/// about.
+/// The writers of each key, seen as a finite map. Each call takes the time of a look-up, which doesn't grow with the count of keys,
+/// for each access that it is about.
 #[derive(Drop)]
 pub struct Index {
-    keys: BTreeMap<u16, Writers>,
+    keys: HashMap<u16, Writers>,
 }
 
 impl Model for Index {
@@ -87,7 +87,7 @@ impl Index {
         ensures { result ≡ empty }
     {
         Index {
-            keys: BTreeMap::new(alloc),
+            keys: HashMap::new(alloc),
         }
     }
 
@@ -134,9 +134,10 @@ impl Index {
     fn change_at(&mut self, key: Key, change: Change)
         ensures { (k : Key) → get self.new k.0 ≡ cond (same_key key k) (map_some (changed_by change) (get self.old k.0)) (get self.old k.0) }
     {
-        if let Some(writers) = self.keys.get_mut(&key.0) {
-            *writers = change.of(*writers);
-        }
+        let Some(writers) = self.keys.get_mut(&key.0) else {
+            return;
+        };
+        *writers = change.of(*writers);
     }
 
     /// Changes the writers of each key that a run wrote. It takes no memory.

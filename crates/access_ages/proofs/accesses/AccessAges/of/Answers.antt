@@ -3,15 +3,15 @@ use Rattle.std.specs.Option.{option_copied}
 use Rattle.mdb_base.specs.Words.{or_else}
 use Rattle.access_ages.specs.declared.key_ages.KeyAges.{KeyAges}
 use Rattle.access_ages.specs.Ages.{Ages, ages_of, no_ages}
-use Rattle.access_ages.proofs.Trees.{ages_look}
+use Rattle.access_ages.proofs.KeyMaps.{ages_kept}
 use Rattle.access_ages.proofs.accesses.AccessAges.of.Goals as goal
 
 pub returns-in-Some : goal.returns-in-Some
 returns-in-Some c =
     ap (λ (o : Option KeyAges). or_else o no_ages) (sym (ap option_copied c.in-Some.is) ∙ c.get.ensures.value)
-    ∙ (sym (ages_look c.self.inside.keys.entries c.args.key) ∙ ap (λ (m : Ages). ages_of m c.args.key) c.self.view_is)
+    ∙ (sym (ages_kept c.self.inside.keys.entries c.args.key) ∙ ap (λ (m : Ages). ages_of m c.args.key) c.self.view_is)
 
 pub returns-in-None : goal.returns-in-None
 returns-in-None c =
     c.none.ensures ∙ (ap (λ (o : Option KeyAges). or_else o no_ages) (sym (ap option_copied c.in-None.is) ∙ c.get.ensures.value)
-    ∙ (sym (ages_look c.self.inside.keys.entries c.args.key) ∙ ap (λ (m : Ages). ages_of m c.args.key) c.self.view_is))
+    ∙ (sym (ages_kept c.self.inside.keys.entries c.args.key) ∙ ap (λ (m : Ages). ages_of m c.args.key) c.self.view_is))
