@@ -9,7 +9,7 @@ use Rattle.mdb_base.proofs.NameLaws.{same_tid-equal, same_tid-refl}
 use Rattle.mdb_base.specs.Words.{some_of}
 use Rattle.fed_rules.specs.Runs.{Start, EngineLine, Run, tid_of, changed, run_at}
 use Rattle.fed_rules.specs.Replies.{access_key}
-use Rattle.locking_engine.specs.declared.holders.Place.{Place}
+use Rattle.locking_engine.specs.Places.{Place}
 use Rattle.locking_engine.specs.Holders.{Holders, place_of, held_by, is_touched}
 use Rattle.locking_engine.specs.Stands.{HasDone, AreHolders}
 use Rattle.locking_engine.proofs.Places.{same_place, place-equal, holder-put}

@@ -1,7 +1,9 @@
+pub mod ByAge
 pub mod Holding
+pub mod KeyLists
 pub mod Lines
 pub mod Numbers
 pub mod Places
-pub mod Ranges
 pub mod Restored
+pub mod Touched
 pub mod Way

@@ -1,20 +1,16 @@
 -- Keys and ages, by key and then by age.
-use Rattle.std.proofs.Common.{◌≡◌, ℕ, ◌<◌, ◌≤◌, ◌⊎◌, Bool, true, false, not, ◌&&◌, cond, nat_eq, is_some, Option, Some, None, List, [], ◌∷◌, inl, inr, refl, sym, ap, ◌∙◌, arith}
-use Rattle.std.specs.declared.cmp.Ordering.{Ordering}
-use Rattle.std.specs.declared.cmp.Ordering.TheVariants.{Less, Equal, Greater}
+use Rattle.std.proofs.Common.{◌≡◌, ℕ, Bool, true, false, not, ◌&&◌, cond, nat_eq, is_some, Option, Some, None, List, [], ◌∷◌, refl, sym, ap, ◌∙◌}
 use Rattle.std.specs.Cmp.{IsTotalOrder, nat_cmp_total}
-use Rattle.std.specs.Ordering.{nat_cmp, ordering_then, is_eq, is_gt}
+use Rattle.std.specs.Ordering.{nat_cmp, is_eq}
 use Rattle.std.specs.FinMap.{from_entries, find, get, get-insert, get-remove, get-from_entries, insert, remove, same_map}
 use Rattle.std.specs.Map.{lookup}
 use Rattle.std.specs.BTreeMap.{is_at}
-use Rattle.std.proofs.lemmas.Bool.{cond-true, cond-false, eqb-true, and_parts}
-use Rattle.std.proofs.lemmas.Bool.Decides.{nat_tests}
+use Rattle.std.proofs.lemmas.Bool.{cond-false, eqb-true, and_parts}
 use Rattle.std.proofs.lemmas.Cmp.{on_total, then_total}
 use Rattle.std.proofs.lemmas.Map.Lookups.{CmpEqualImpliesEq, exact_pairs, exact_unsigned}
-use Rattle.std.proofs.lemmas.Map.Keys.{le_from_not_gt}
 use Rattle.mdb_base.specs.declared.names.Tid.{Tid}
-use Rattle.mdb_base.proofs.NumberLaws.{is_eq-nat_cmp, is_eq-then, nat_cmp-less, nat_cmp-equal, less-nat_cmp, nat_cmp-same, le-nat_cmp}
-use Rattle.locking_engine.specs.declared.holders.Place.{Place}
+use Rattle.mdb_base.proofs.NumberLaws.{is_eq-nat_cmp, is_eq-then}
+use Rattle.locking_engine.specs.Places.{Place}
 use Rattle.locking_engine.specs.Holders.{Holders, place_cmp, held_by}
 
 exact_places : CmpEqualImpliesEq place_cmp
@@ -28,7 +24,7 @@ places_total = then_total (on_total (λ p. p.key) nat_cmp_total) (on_total (λ p
 abbrev pub same_place : Place → Place → Bool
 same_place a b = nat_eq a.key b.key && nat_eq a.age b.age
 
-ties : (a b : Place) → is_eq (place_cmp a b) ≡ same_place a b
+pub ties : (a b : Place) → is_eq (place_cmp a b) ≡ same_place a b
 ties a b =
     is_eq-then (nat_cmp a.key b.key) (nat_cmp a.age b.age)
     ∙ ap (λ (x : Bool). x && is_eq (nat_cmp a.age b.age)) (is_eq-nat_cmp a.key b.key)
@@ -50,7 +46,7 @@ holder-gone m p q = get-remove places_total m p q ∙ ap (λ (b : Bool). cond b 
 pub same_holders_map : (m n : Holders) → ((q : Place) → get m q ≡ get n q) → m ≡ n
 same_holders_map m n h = same_map places_total exact_places m n h
 
--- the tree that keeps them
+-- a look-up in a list of them
 abbrev pub look : List (Place × Tid) → Place → Option Tid
 look es q = lookup (is_at (place_cmp q)) es
 
@@ -61,49 +57,7 @@ find_holder (e ∷ es) q = ap (cond (is_at (place_cmp q) e.0) (Some e.1)) (find_
 pub get_holder : (es : List (Place × Tid)) (q : Place) → get (from_entries {R = place_cmp} es) q ≡ look es q
 get_holder es q = get-from_entries places_total es q ∙ find_holder es q
 
-turned : (a b : Place) → is_eq (place_cmp a b) ≡ same_place b a
-turned a b = ties a b ∙ same_turned a b
-  where
-    same_turned : (x y : Place) → same_place x y ≡ same_place y x
-    same_turned x y = grind (arith, nat_tests)
-
-pub entries_put : (es fs : List (Place × Tid)) (p : Place) (t : Tid) → ((q : Place) → look fs q ≡ cond (is_at (place_cmp p) q) (Some t) (look es q)) → from_entries {R = place_cmp} fs ≡ insert (from_entries es) p t
-entries_put es fs p t h =
-    same_holders_map _ _ (λ q. get_holder fs q ∙ h q ∙ ap (λ (b : Bool). cond b (Some t) (look es q)) (turned p q)
-    ∙ sym (holder-put (from_entries es) p q t ∙ ap (cond (same_place q p) (Some t)) (get_holder es q)))
-
-pub entries_gone : (es fs : List (Place × Tid)) (p : Place) → ((q : Place) → look fs q ≡ cond (is_at (place_cmp p) q) None (look es q)) → from_entries {R = place_cmp} fs ≡ remove (from_entries es) p
-entries_gone es fs p h =
-    same_holders_map _ _ (λ q. get_holder fs q ∙ h q ∙ ap (λ (b : Bool). cond b None (look es q)) (turned p q)
-    ∙ sym (holder-gone (from_entries es) p q ∙ ap (cond (same_place q p) None) (get_holder es q)))
-
--- comparisons of places
-pub below_of : (a b : Place) → place_cmp a b ≡ Less → (a.key < b.key) ⊎ ((a.key ≡ b.key) × (a.age < b.age))
-below_of a b h = by_order (nat_cmp a.key b.key) refl h
-  where
-    by_order : (o : Ordering) → nat_cmp a.key b.key ≡ o → ordering_then o (nat_cmp a.age b.age) ≡ Less → (a.key < b.key) ⊎ ((a.key ≡ b.key) × (a.age < b.age))
-    by_order Less e h = inl (nat_cmp-less _ _ e)
-    by_order Equal e h = inr (nat_cmp-equal _ _ e, nat_cmp-less _ _ h)
-    by_order Greater e h = cc
-
-pub up_to_of : (a b : Place) → is_gt (place_cmp a b) ≡ false → (a.key < b.key) ⊎ ((a.key ≡ b.key) × (a.age ≤ b.age))
-up_to_of a b h = by_order (nat_cmp a.key b.key) refl h
-  where
-    by_order : (o : Ordering) → nat_cmp a.key b.key ≡ o → is_gt (ordering_then o (nat_cmp a.age b.age)) ≡ false → (a.key < b.key) ⊎ ((a.key ≡ b.key) × (a.age ≤ b.age))
-    by_order Less e h = inl (nat_cmp-less _ _ e)
-    by_order Equal e h = inr (nat_cmp-equal _ _ e, le_from_not_gt _ _ h)
-    by_order Greater e h = cc
-
-pub below_here : (key x y : ℕ) → x < y → place_cmp (record { key = key; age = x }) (record { key = key; age = y }) ≡ Less
-below_here key x y h = ap (λ (o : Ordering). ordering_then o (nat_cmp x y)) (nat_cmp-same key) ∙ less-nat_cmp x y h
-
-pub up_to_here : (key x y : ℕ) → x ≤ y → is_gt (place_cmp (record { key = key; age = x }) (record { key = key; age = y })) ≡ false
-up_to_here key x y h = ap (λ (o : Ordering). is_gt (ordering_then o (nat_cmp x y))) (nat_cmp-same key) ∙ le-nat_cmp x y h
-
--- who is put in where nobody stands, and nobody is where one does
-pub held_there : (m : Holders) (p : Place) (t : Tid) → is_some (get m p) ≡ true → m ≡ held_by p t m
-held_there m p t e = sym (cond-true _ _ _ e)
-
+-- who is put in where nobody stands
 pub held_new : (m : Holders) (p : Place) (t : Tid) → is_some (get m p) ≡ false → insert m p t ≡ held_by p t m
 held_new m p t e = sym (cond-false _ _ _ e)
 

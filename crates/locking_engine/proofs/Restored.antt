@@ -10,11 +10,11 @@ use Rattle.mdb_base.specs.Words.{Each}
 use Rattle.mdb_base.proofs.NameLaws.{same_tid-equal, same_tid-refl}
 use Rattle.fed_rules.specs.declared.runs.Kept.{Kept}
 use Rattle.fed_rules.specs.Runs.{Run, restored, restored_at, has_ticket, is_sealed}
-use Rattle.fed_rules.specs.Replies.{has_written, has_read, writes}
+use Rattle.fed_rules.specs.Replies.{has_written, has_read}
 use Rattle.fed_rules.specs.EngineLines.{AreApart, AllApart, has_row}
 use Rattle.engine_laws.proofs.Conflicts.{written_rows, read_none}
 use Rattle.engine_laws.proofs.RunLines.{restored_one}
-use Rattle.locking_engine.specs.declared.holders.Place.{Place}
+use Rattle.locking_engine.specs.Places.{Place}
 use Rattle.locking_engine.specs.Holders.{Holders, place_cmp, place_of, held_by, with_rows_held, with_restored}
 use Rattle.locking_engine.specs.Stands.{HasDone, AreHolders}
 use Rattle.locking_engine.proofs.Holding.{self_place, some_is}

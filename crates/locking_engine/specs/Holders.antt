@@ -17,7 +17,7 @@ use Rattle.mdb_base.specs.declared.acts.PlainAct.{PlainAct}
 use Rattle.mdb_base.specs.declared.acts.PlainAct.TheVariants.{Read, Write}
 use Rattle.mdb_base.specs.declared.replies.Reply.{Reply}
 use Rattle.locking_engine.specs.Rule.{stop_by, older_of_two}
-use Rattle.locking_engine.specs.declared.holders.Place.{Place}
+use Rattle.locking_engine.specs.Places.{Place}
 
 -- by key, and then by age
 abbrev pub place_cmp : Place → Place → Ordering
@@ -56,17 +56,6 @@ touches acts age q = (q.age == age) && some_of (λ access. (access_key access).0
 
 abbrev pub is_touched : Run → Place → Bool
 is_touched run q = touches run.acts run.age q
-
--- nobody holds the key, or this is the oldest one who does
-abbrev pub IsOldest : Holders → Key → Option Rival → Type 0
-IsOldest holders key None = (age : ℕ) → get holders (place_of key age) ≡ None
-IsOldest holders key (Some rival) = (get holders (place_of key rival.rank) ≡ Some rival.tid) × ((age : ℕ) → age < rival.rank → get holders (place_of key age) ≡ None)
-
--- nobody younger than this age holds the key, or this is the oldest one who does
-abbrev pub IsOldestAbove : Holders → Key → ℕ → Option Rival → Type 0
-IsOldestAbove holders key me None = (age : ℕ) → me < age → get holders (place_of key age) ≡ None
-IsOldestAbove holders key me (Some rival) =
-    (get holders (place_of key rival.rank) ≡ Some rival.tid) × (me < rival.rank) × ((age : ℕ) → me < age → age < rival.rank → get holders (place_of key age) ≡ None)
 
 -- nobody but the one of this age holds the key, or this is the oldest one who does
 abbrev pub IsOldestOther : Holders → Key → ℕ → Option Rival → Type 0

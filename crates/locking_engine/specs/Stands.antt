@@ -12,7 +12,7 @@ use Rattle.fed_rules.specs.Replies.{has_read, has_written}
 use Rattle.run_book.specs.Keeps.{KeepsRoomy}
 use Rattle.run_book.specs.Rivals.{IsOldest}
 use Rattle.locking_engine.specs.Holders.{Holders, place_of, is_touched}
-use Rattle.locking_engine.specs.declared.holders.Place.{Place}
+use Rattle.locking_engine.specs.Places.{Place}
 use Rattle.locking_engine.specs.declared.engine.LockingEngine.{LockingEngine}
 
 -- the attempt has a run of this age that does so with the key

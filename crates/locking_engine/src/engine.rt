@@ -22,20 +22,25 @@ pub struct LockingEngine {
     taker: Option<Rival>,
 }
 
-/// Grants an access to a live run, who is then a holder of its key. Without memory nothing changes.
-fn grant(book: &mut RunBook, holders: &mut Holders, tid: Tid, access: Granted) -> Result<(), Memory>
+/// Grants an access to a live run of this age, who is then a holder of its key. Without memory nothing changes.
+fn grant(
+    alloc: Global,
+    book: &mut RunBook,
+    holders: &mut Holders,
+    tid: Tid,
+    age: u64,
+    access: Granted,
+) -> Result<(), Memory>
     requires held { IsSome (held_in book.old.book.runs tid) }
     requires live { IfSome (held_in book.old.book.runs tid) (λ held. held.run.sealed ≡ None) }
     ensures granted { OnOk result (book.new.book ≡ grants tid access book.old.book) }
-    ensures held { OnOk result (IfSome (held_in book.old.book.runs tid)
-        (λ held. holders.new ≡ held_by (place_of (access_key access) held.run.age) tid holders.old)) }
+    ensures held { OnOk result (holders.new ≡ held_by (place_of (access_key access) age) tid holders.old) }
     ensures memory { OnErr result (book.new.book ≡ book.old.book) }
     ensures let_go { OnErr result (holders.new ≡ holders.old) }
     ensures room { book.old.room ≤ book.new.room }
 {
     let key = access.key();
-    let age = book.run(tid).age();
-    let fresh = holders.hold(key, age, tid)?;
+    let fresh = holders.hold(alloc, key, age, tid)?;
     let granted = book.grant(tid, access);
     if granted.is_err() && fresh {
         holders.let_go(key, age);
@@ -83,13 +88,10 @@ impl LockingEngine {
         }
     }
 
-    /// What stops an access of a run, if anything.
-    fn access_stop(&self, tid: Tid, act: PlainAct) -> Option<Reply>
-        requires { IsSome (held_in self.now.book.book.runs tid) }
-        ensures { IfSome (held_in self.now.book.book.runs tid)
-            (λ held. IsStop self.now.readers self.now.writers held.run.age act result) }
+    /// What stops an access of a run of this age, if anything.
+    fn access_stop(&self, age: u64, act: PlainAct) -> Option<Reply>
+        ensures { IsStop self.now.readers self.now.writers age act result }
     {
-        let age = self.book.run(tid).age();
         wait_die(age, self.in_the_way(age, act))
     }
 
@@ -163,22 +165,24 @@ impl LocalEngine for LockingEngine {
         self.book.begin(alloc, tid)
     }
 
-    fn read(&mut self, _alloc: Global, tid: Tid, key: Key) -> Result<Reply, Memory> {
-        if let Some(stop) = self.access_stop(tid, PlainAct::Read(key)) {
+    fn read(&mut self, alloc: Global, tid: Tid, key: Key) -> Result<Reply, Memory> {
+        let age = self.book.run(tid).age();
+        if let Some(stop) = self.access_stop(age, PlainAct::Read(key)) {
             return Ok(self.stop(tid, stop));
         }
         let value = self.book.value_for(tid, key);
         let access = Granted::read(key, value);
-        grant(&mut self.book, &mut self.readers, tid, access)?;
+        grant(alloc, &mut self.book, &mut self.readers, tid, age, access)?;
         Ok(Reply::Value(value))
     }
 
-    fn write(&mut self, _alloc: Global, tid: Tid, key: Key, value: u64) -> Result<Reply, Memory> {
-        if let Some(stop) = self.access_stop(tid, PlainAct::Write(key, value)) {
+    fn write(&mut self, alloc: Global, tid: Tid, key: Key, value: u64) -> Result<Reply, Memory> {
+        let age = self.book.run(tid).age();
+        if let Some(stop) = self.access_stop(age, PlainAct::Write(key, value)) {
             return Ok(self.stop(tid, stop));
         }
         let access = Granted::write(key, value);
-        grant(&mut self.book, &mut self.writers, tid, access)?;
+        grant(alloc, &mut self.book, &mut self.writers, tid, age, access)?;
         Ok(Reply::Done)
     }
 

@@ -3,8 +3,10 @@
 //! by the key, and not by a walk over the runs.
 #![tactic(auto)]
 
+mod by_age;
 mod engine;
 mod holders;
+mod key_lists;
 mod rule;
 
 pub use engine::LockingEngine;

@@ -10,6 +10,6 @@ on_err_all (Err e) p = p
 
 pub returns-then-fresh-clause-let_go : goal.returns-then-fresh-clause-let_go
 returns-then-fresh-clause-let_go c =
-    let place = place_of c.key-key.result c.age-age.result in
+    let place = place_of c.key-key.result c.args.age in
     on_err_all c.grant-granted.result
     (c.let_go.ensures ∙ (ap (λ (m : Holders). remove m place) c.in_ok-fresh.ensures.held ∙ undone c.args.holders.now place c.args.tid (sym c.in_ok-fresh.ensures.fresh ∙ c.if-fresh.true)))

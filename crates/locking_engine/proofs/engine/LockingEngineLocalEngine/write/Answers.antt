@@ -1,12 +1,13 @@
-use Rattle.std.proofs.Common.{◌≡◌, Some, None, refl, ap, ◌∙◌}
+use Rattle.std.proofs.Common.{ℕ, Some, None, refl, sym, ap, ◌∙◌, subst}
+use Rattle.std.proofs.lemmas.Option.{same_Some}
 use Rattle.mdb_base.specs.declared.names.Engine.TheVariants.{Locking}
 use Rattle.mdb_base.specs.declared.acts.PlainAct.TheVariants.{Write}
 use Rattle.mdb_base.specs.declared.replies.Reply.TheVariants.{Done}
 use Rattle.fed_rules.specs.Runs.{Access}
 use Rattle.fed_rules.specs.Replies.{access_key}
+use Rattle.run_book.specs.Held.{Held}
 use Rattle.run_book.specs.Book.{grants}
 use Rattle.run_book.proofs.HeldBy.{live_held}
-use Rattle.run_book.proofs.InOrder.{of_found}
 use Rattle.locking_engine.specs.Holders.{IsStop, held_by, place_of}
 use Rattle.locking_engine.proofs.Lines.{stands_wrote}
 use Rattle.locking_engine.proofs.Numbers.{right_access, stands_stopped}
@@ -17,7 +18,8 @@ returns-in-Some-clause-answered c =
     let old = c.args.self.now in
     let act = Write c.args.key c.args.value in
     let here = live_held Locking old.book.book c.requires.start c.requires.lines c.args.tid c.requires.stood.keeps.keeps c.requires.holds in
-    let is = of_found (λ h. IsStop old.readers old.writers h.run.age act (Some c.in-Some.stop)) _ here.held here.found c.in-Some.ensures in
+    let age = c.age-age.ensures ∙ ap (λ (h : Held). h.run.age) (same_Some c.run.result.now here.held (sym c.run.ensures ∙ here.found)) in
+    let is = subst (λ (n : ℕ). IsStop old.readers old.writers n act (Some c.in-Some.stop)) age c.in-Some.ensures in
     λ start lines s. rw c.stop.ensures.answer
     (stands_stopped old c.stop.new.self start lines c.args.tid here.held act c.in-Some.stop s here.found here.live is c.stop.ensures.stopped)
 
@@ -27,8 +29,9 @@ returns-clause-answered c =
     let book = old.book.book in
     let act = Write c.args.key c.args.value in
     let here = live_held Locking book c.requires.start c.requires.lines c.args.tid c.requires.stood.keeps.keeps c.requires.holds in
-    let free = of_found (λ h. IsStop old.readers old.writers h.run.age act None) _ here.held here.found c.in_default.ensures in
-    let held = of_found (λ h. c.grant.new.holders ≡ held_by (place_of (access_key c.write-access.result) h.run.age) c.args.tid old.writers) _ here.held here.found c.in_ok-grant.ensures.held in
+    let age = c.age-age.ensures ∙ ap (λ (h : Held). h.run.age) (same_Some c.run.result.now here.held (sym c.run.ensures ∙ here.found)) in
+    let free = subst (λ (n : ℕ). IsStop old.readers old.writers n act None) age c.in_default.ensures in
+    let held = c.in_ok-grant.ensures.held ∙ ap (λ (n : ℕ). held_by (place_of (access_key c.write-access.result) n) c.args.tid old.writers) age in
     λ start lines s.
     stands_wrote old _ start lines c.args.tid here.held c.args.key c.args.value s here.found
     (right_access old start lines s c.args.tid here.held here.found act Done None here.live free refl)

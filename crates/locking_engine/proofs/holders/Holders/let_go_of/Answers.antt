@@ -6,7 +6,7 @@ use Rattle.fed_rules.specs.Runs.{Access}
 use Rattle.run_book.proofs.Words.{take_more-turned}
 use Rattle.locking_engine.specs.Holders.{Holders, place_of, touches}
 use Rattle.locking_engine.proofs.Places.{holder-gone, same_place}
-use Rattle.locking_engine.proofs.Ranges.{touched_more}
+use Rattle.locking_engine.proofs.Touched.{touched_more}
 use Rattle.locking_engine.proofs.holders.Holders.let_go_of.Goals as goal
 
 pub loop-access-preserved : goal.loop-access-preserved

@@ -1,6 +1,6 @@
 use Rattle.std.proofs.Common.{◌≡◌, cond, None, take, reverse}
 use Rattle.std.specs.FinMap.{get}
-use Rattle.locking_engine.specs.declared.holders.Place.{Place}
+use Rattle.locking_engine.specs.Places.{Place}
 use Rattle.locking_engine.specs.Holders.{touches}
 use Rattle.locking_engine.proofs.holders.Holders.let_go_of.Given as goal
 
