@@ -2,6 +2,7 @@ pub mod Followed
 pub mod InOrder
 pub mod Listed
 pub mod Maps
+pub mod NamedMaps
 pub mod Numbered
 pub mod Ordered
 pub mod Starts

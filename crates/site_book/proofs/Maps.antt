@@ -1,21 +1,16 @@
 -- A tree's entries as a finite map, at keys of any total order that ties only equal ones.
-use Rattle.std.proofs.Common.{◌≡◌, Bool, true, false, cond, Option, Some, None, IsSome, List, [], ◌∷◌, refl, sym, ap, ◌∙◌}
+use Rattle.std.proofs.Common.{◌≡◌, Bool, true, false, cond, Option, Some, None, List, [], ◌∷◌, refl, sym, ap, ◌∙◌}
 use Rattle.std.specs.declared.cmp.Ordering.{Ordering}
 use Rattle.std.specs.Cmp.{IsTotalOrder, Equal-is, eq_by_cmp_equiv}
 use Rattle.std.specs.Ordering.{eq_by_cmp}
 use Rattle.std.specs.FinMap.{FinMap, from_entries, find, get, get-insert, get-remove, get-from_entries, insert, remove, same_map}
-use Rattle.std.specs.Map.{lookup, set_value}
+use Rattle.std.specs.Map.{lookup}
 use Rattle.std.specs.BTreeMap.{is_at}
 use Rattle.std.proofs.lemmas.Bool.{cond-false}
-use Rattle.std.proofs.lemmas.Map.{lookup-set_value}
 use Rattle.std.proofs.lemmas.Map.Lookups.{CmpEqualImpliesEq}
-use Rattle.mdb_base.specs.Words.{map_some, or_else}
 
 turned : {K : Type 0} {R : K → K → Ordering} → IsTotalOrder R → (t q : K) → eq_by_cmp R q t ≡ eq_by_cmp R t q
 turned total t q = (eq_by_cmp_equiv total).symm q t
-
-own_test : {K : Type 0} {R : K → K → Ordering} → IsTotalOrder R → (t x y : K) → eq_by_cmp R t x ≡ true → eq_by_cmp R t y ≡ eq_by_cmp R x y
-own_test total t x y e = (eq_by_cmp_equiv total).congr t x y e
 
 module _ {K X : Type 0} {R : K → K → Ordering} (total : IsTotalOrder R) (exact : CmpEqualImpliesEq R) where
   -- what a look-up in the tree finds
@@ -46,28 +41,6 @@ module _ {K X : Type 0} {R : K → K → Ordering} (total : IsTotalOrder R) (exa
   pub entries_gone : (es fs : List (K × X)) (t : K) → ((q : K) → look fs q ≡ cond (is_at (R t) q) None (look es q)) → from_entries {R = R} fs ≡ remove (from_entries es) t
   entries_gone es fs t h =
       same _ _ (λ q. get_look fs q ∙ h q ∙ sym (get-gone (from_entries es) t q ∙ ap (cond (eq_by_cmp R t q) None) (get_look es q)))
-
-  -- a value written in place of one
-  pub entries_set : (es : List (K × X)) (t : K) (v : X) → IsSome (look es t) → from_entries {R = R} (set_value (is_at (R t)) es v) ≡ insert (from_entries es) t v
-  entries_set es t v there =
-      entries_put es (set_value (is_at (R t)) es v) t v (λ q. lookup-set_value (eq_by_cmp_equiv total) (is_at (R t)) (own_test total t) q v es there)
-
-  -- this is done to the value at a key
-  abbrev pub changed_at : K → (X → X) → FinMap R X → FinMap R X
-  changed_at t change m = or_else (map_some (λ x. insert m t (change x)) (get m t)) m
-
-  some_is : (o : Option X) (x : X) → o ≡ Some x → IsSome o
-  some_is (Some y) x e = refl
-  some_is None x e = cc
-
-  pub entries_changed : (es : List (K × X)) (t : K) (change : X → X) (old new : X) → look es t ≡ Some old → new ≡ change old → from_entries {R = R} (set_value (is_at (R t)) es new) ≡ changed_at t change (from_entries es)
-  entries_changed es t change old new is made =
-      entries_set es t new (some_is (look es t) old is) ∙ ap (insert (from_entries {R = R} es) t) made
-      ∙ sym (ap (λ (o : Option X). or_else (map_some (λ x. insert (from_entries {R = R} es) t (change x)) o) (from_entries es)) (get_look es t ∙ is))
-
-  pub entries_kept : (es : List (K × X)) (t : K) (change : X → X) → look es t ≡ None → from_entries {R = R} es ≡ changed_at t change (from_entries es)
-  entries_kept es t change none =
-      sym (ap (λ (o : Option X). or_else (map_some (λ x. insert (from_entries {R = R} es) t (change x)) o) (from_entries es)) (get_look es t ∙ none))
 
   -- what is put where nothing is, and taken out, leaves the map as it was
   pub gone-put : (m : FinMap R X) (t : K) (v : X) → get m t ≡ None → remove (insert m t v) t ≡ m

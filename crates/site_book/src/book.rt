@@ -6,29 +6,31 @@ ghost use Rattle.site_book.specs.declared.progress.Progress.TheVariants as Is;
 ghost use Rattle.site_book.specs.Book.{begins_global, begins_local, begun_in, blank, closes, commits_local, committed_in, enters, forgets, is_closed_in, is_sealed_in, live_in, notes_reply, notes_take, progress_of, restarted, running_in, runs_local, seals, stopped, unbegins_local};
 ghost use Rattle.site_book.specs.Listing.{Lists, is_live_in};
 
+use crate::attempt_map::{self, Attempts};
 use crate::live_run::LiveRun;
+use crate::local_map;
 use crate::progress::{Progress, Standing};
-use crate::{attempt_map, local_map};
 use mdb_base::{Memory, PlainAct, Reply, Tid, Tx};
 use std::alloc::Global;
-use std::collections::BTreeMap;
+use std::collections::HashMap;
 use std::marker::Model;
 
-/// How far each attempt of this epoch is, in a tree, and in lists by number how each local transaction stands, and how many attempts of
-/// each were begun behind the first. A queried entry, a begin and a change each take time by the logarithm of how many attempts are kept,
-/// and a list is made longer where the number of a transaction is beyond its end. What may take memory changes nothing where there is
-/// none, and has a call that takes it back.
+/// How far each attempt of this epoch is, in a hash map, and in lists by number how each local transaction stands, and how many attempts
+/// of each were begun behind the first. A queried entry, a begin and a change each take a time that doesn't grow with how many attempts
+/// are kept, and a list is made longer where the number of a transaction is beyond its end. What may take memory changes nothing where
+/// there is none, and has a call that takes it back.
 #[derive(Drop)]
 pub struct SiteBook {
-    attempts: BTreeMap<Tid, Progress>,
+    attempts: Attempts,
     locals: Vec<Option<Standing>>,
     again: Vec<Option<u8>>,
 }
 
 impl Model for SiteBook {
     ghost use Rattle.std.specs.Coded.{codes};
-    ghost use Rattle.std.specs.FinMap.{code, from_entries};
+    ghost use Rattle.std.specs.FinMap.{code};
     ghost use Rattle.site_book.specs.Book.{Book};
+    ghost use Rattle.site_book.specs.Named.{kept_in};
     ghost use Rattle.site_book.specs.Numbered.{by_number};
 
     ghost Value = { Book };
@@ -36,7 +38,7 @@ impl Model for SiteBook {
     ghost coded = { Prim.hlevel (codes, code) };
 
     ghost view = { λ b. record {
-      attempts = from_entries b.attempts.entries;
+      attempts = kept_in b.attempts.entries;
       locals = by_number b.locals.items;
       again = by_number b.again.items;
     } };
@@ -48,7 +50,7 @@ impl SiteBook {
         ensures { result ≡ blank }
     {
         SiteBook {
-            attempts: BTreeMap::new(alloc),
+            attempts: HashMap::new(alloc),
             locals: Vec::new(alloc),
             again: Vec::new(alloc),
         }
@@ -267,7 +269,7 @@ impl SiteBook {
     pub fn stop(&mut self, alloc: Global)
         ensures { self.new ≡ stopped self.old }
     {
-        self.attempts = BTreeMap::new(alloc);
+        self.attempts = HashMap::new(alloc);
         self.locals = Vec::new(alloc);
     }
 

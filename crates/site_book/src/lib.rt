@@ -1,6 +1,7 @@
 //! The book of transactions that a site's core keeps: how far each attempt of this epoch is, and of each local transaction how many
-//! attempts were begun, which one is running, and which one is committed. Each call but a stop and a restart takes time by the
-//! logarithm of how many attempts are kept; the lists of local transactions are made longer where a greater number comes.
+//! attempts were begun, which one is running, and which one is committed. Each call but a stop, a restart and a list of the live
+//! attempts takes a time that doesn't grow with how many attempts are kept; the lists of local transactions are made longer where a
+//! greater number comes.
 #![tactic(auto)]
 
 mod attempt_map;

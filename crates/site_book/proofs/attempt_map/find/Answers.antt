@@ -1,7 +1,11 @@
-use Rattle.std.proofs.Common.{sym, ◌∙◌}
-use Rattle.mdb_base.proofs.NameOrders.{tids_total, tids_exact}
-use Rattle.site_book.proofs.Maps.{get_look}
+use Rattle.std.proofs.Common.{sym, ap, ◌∙◌}
+use Rattle.std.specs.Map.{lookup}
+use Rattle.site_book.specs.declared.attempt_map.Name.{Name}
+use Rattle.site_book.specs.Named.{same_name}
+use Rattle.site_book.proofs.NamedMaps.{get-named}
 use Rattle.site_book.proofs.attempt_map.find.Goals as goal
 
 pub returns : goal.returns
-returns c = c.get.ensures.value ∙ sym (get_look tids_total tids_exact _ c.args.tid)
+returns c =
+    let es = c.args.attempts.now.entries in
+    c.get.ensures.value ∙ ap (λ (n : Name). lookup (same_name n) es) c.of.ensures ∙ sym (get-named es c.args.tid)
