@@ -1,4 +1,5 @@
 pub mod Places
+pub mod Rooms
 pub mod Homes
 pub mod Untrimmed
 pub mod Unchecked

@@ -1,6 +1,6 @@
 -- The sites of a run are given their rings one after another.
 use Rattle.std.proofs.Common.{◌≡◌, Bool, ℕ, zero, suc, ◌+◌, ◌<◌, ◌⊎◌, inl, inr, Some, List, [], ◌∷◌, ◌++◌, length, drop, slice_get, slice_index_or, refl, sym, ap, ◌∙◌, subst, arith}
-use Rattle.std.proofs.lemmas.List.{length-append}
+use Rattle.std.proofs.lemmas.List.{length-append, length-drop}
 use Rattle.std.proofs.lemmas.Option.{slice_get_within}
 use Rattle.mdb_base.specs.declared.names.SiteId.{SiteId}
 use Rattle.mdb_base.proofs.PlaceLaws.{slice_get-one}
@@ -20,6 +20,7 @@ use Rattle.federation_run.specs.declared.crews.Crew.{Crew}
 use Rattle.federation_run.specs.Crews.{AreMoored, IsCrew, IsManned, IsMoored, IsStood}
 use Rattle.federation_run.specs.Plans.{stops_in}
 use Rattle.federation_run.proofs.Places.{before_or_last}
+use Rattle.federation_run.proofs.Rooms.{some_rest}
 
 -- so many sites have their rings, and the local database systems of the others are left
 pub record AreMooredTo (scenario : Scenario) (sites : List SiteId) (cores rest : List (LocalDbms AnyEngine)) (index : ℕ) (berths : List Berth) (ports : List Port) : Type 0 where
@@ -28,6 +29,21 @@ pub record AreMooredTo (scenario : Scenario) (sites : List SiteId) (cores rest :
   pub ports_count : length ports ≡ index
   pub each : (place : ℕ) (site : SiteId) (dbms : LocalDbms AnyEngine) (berth : Berth) (port : Port) → slice_get sites place ≡ Some site → slice_get cores place ≡ Some dbms
       → slice_get berths place ≡ Some berth → slice_get ports place ≡ Some port → IsMoored scenario site dbms berth port
+
+-- none has its rings yet
+pub moored_none : (scenario : Scenario) (sites : List SiteId) (cores : List (LocalDbms AnyEngine)) (berths : List Berth) (ports : List Port) → berths ≡ [] → ports ≡ [] → AreMooredTo scenario sites cores cores 0 berths ports
+moored_none scenario sites cores berths ports no_berth no_port = record {
+  rest_is = refl;
+  berths_count = ap (λ (bs : List Berth). length bs) no_berth;
+  ports_count = ap (λ (ps : List Port). length ps) no_port;
+  each = λ place site dbms berth port at dat bat pat. (let nothing : slice_get [] place ≡ Some berth = subst (λ (bs : List Berth). slice_get bs place ≡ Some berth) no_berth bat in cc);
+}
+
+-- the local database system of the next site is left
+pub rest_some : (scenario : Scenario) (sites : List SiteId) (cores rest : List (LocalDbms AnyEngine)) (index : ℕ) (berths : List Berth) (ports : List Port) (len : ℕ) → length cores ≡ length sites → index < length sites
+    → AreMooredTo scenario sites cores rest index berths ports → len ≡ length rest → 0 < len
+rest_some scenario sites cores rest index berths ports len same within m long =
+    some_rest (length cores) (length sites) index (length rest) len same within (ap (λ (ls : List (LocalDbms AnyEngine)). length ls) m.rest_is ∙ length-drop index cores) long
 
 -- the first item of the rest of a list, and what is left then
 pub first_of_rest : {A : Type 0} (xs : List A) (i : ℕ) (x : A) → i < length xs → x ≡ slice_index_or (drop i xs) 0 x → slice_get xs i ≡ Some x

@@ -44,6 +44,7 @@ fn close_seat<D: Disk, N: Plan>(seat: Seat<D, N>, disks: &mut Vec<D>, lefts: &mu
 
 /// Takes all hosts out of their seats, which are those of the actors 8 to 1, in this order: their disks go back to their places behind
 /// that of the coordinator. It takes no memory.
+#[tactic(none)]
 pub(crate) fn close_all<D: Disk, N: Plan>(
     seats: Vec<Seat<D, N>>,
     disks: &mut Vec<D>,

@@ -29,6 +29,7 @@ pub(crate) struct SiteLock<'a, R: Wait, D: Disk, G: Gate, N: Plan> {
     pub(crate) site: SiteId,
 }
 
+#[tactic(none)]
 impl<'a, R: Wait, D: Disk, G: Gate, N: Plan> SiteDoor for SiteLock<'a, R, D, G, N> {
     ghost tells = { λ door. λ calls. ⊥ };
 
@@ -74,6 +75,7 @@ pub(crate) struct CoordLock<'a, R: Wait, D: Disk, G: Gate, N: Plan> {
     pub(crate) moves: &'a Moves,
 }
 
+#[tactic(none)]
 impl<'a, R: Wait, D: Disk, G: Gate, N: Plan> CoordDoor for CoordLock<'a, R, D, G, N> {
     ghost tells = { λ door. λ calls. ⊥ };
 

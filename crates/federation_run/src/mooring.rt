@@ -4,7 +4,8 @@ ghost use Rattle.fed_rules.specs.Plans.{IsScenario};
 ghost use Rattle.fed_rules.specs.Scenarios.{global_program, sites};
 ghost use Rattle.journal_disk.specs.Disk.{Seen};
 ghost use Rattle.fed_world.specs.FreshWorlds.{Stands};
-ghost use Rattle.federation_run.specs.Crews.{AreMoored, AreRinged, IsCrew, IsManned, IsMoored};
+ghost use Rattle.federation_run.specs.Crews.{AreMoored, AreRinged, IsCrew, IsManned};
+ghost use Rattle.federation_run.specs.Plans.{stops_in};
 
 use crate::crews::{Berth, Crew};
 use crate::scripts::script_of;
@@ -12,7 +13,7 @@ use crate::stops::stops_of;
 use any_engine::AnyEngine;
 use conservative_take::AnyPolicy;
 use fed_hosts::{HostEnds, Port};
-use fed_rules::Scenario;
+use fed_rules::{Scenario, StopLine};
 use fed_world::SiteCores;
 use global_manager::GlobalManager;
 use local_dbms::LocalDbms;
@@ -59,28 +60,30 @@ fn ring_site(alloc: Global, scenario: &Scenario, site: SiteId) -> Result<Ringed,
     })
 }
 
-/// What the host of a site is made of, and the coordinator's ends of the rings of the site.
+/// What the host of a site has beside its local database system, and the coordinator's ends of the rings of the site.
 #[derive(Drop)]
 struct Moored {
-    berth: Berth,
+    stops: Vec<StopLine>,
+    ends: HostEnds,
     port: Port,
 }
 
-/// What the host of a site is made of.
-fn moor(
-    alloc: Global,
-    scenario: &Scenario,
-    site: SiteId,
-    dbms: LocalDbms<AnyEngine>,
-) -> Result<Moored, Memory>
-    ensures { IfOk result (λ moored. IsMoored scenario.now site dbms moored.berth moored.port) }
+/// What the host of a site has beside its local database system.
+fn moor(alloc: Global, scenario: &Scenario, site: SiteId) -> Result<Moored, Memory>
+    ensures stops { IfOk result (λ moored. moored.stops.items ≡ stops_in scenario.now site.0) }
+    ensures rings { IfOk result (λ moored. AreRinged scenario.now site moored.ends moored.port) }
 {
     let stops = stops_of(alloc, scenario, site.0)?;
     let Ringed { ends, port } = ring_site(alloc, scenario, site)?;
-    Ok(Moored {
-        berth: Berth { dbms, stops, ends },
-        port,
-    })
+    Ok(Moored { stops, ends, port })
+}
+
+/// The berth of a site.
+#[tactic(none)]
+fn berth_of(dbms: LocalDbms<AnyEngine>, stops: Vec<StopLine>, ends: HostEnds) -> Berth
+    ensures { result ≡ record { dbms = dbms; stops = stops; ends = ends } }
+{
+    Berth { dbms, stops, ends }
 }
 
 /// The berths of the sites, and the coordinator's ends of their rings.
@@ -104,15 +107,41 @@ fn moor_all(
     let mut berths = Vec::new(alloc);
     let mut ports = Vec::new(alloc);
     for site in sites {
+        let Moored { stops, ends, port } = moor(alloc, scenario, *site)?;
         let dbms = rest.remove(0);
-        let Moored { berth, port } = moor(alloc, scenario, *site, dbms)?;
-        berths.push(berth)?;
+        berths.push(berth_of(dbms, stops, ends))?;
         ports.push(port)?;
     }
     Ok(Harbour { berths, ports })
 }
 
+/// What the hosts of a run are made of but their disks and the coordinator's front.
+#[derive(Drop)]
+struct Fleet {
+    stops: Vec<StopLine>,
+    berths: Vec<Berth>,
+    ports: Vec<Port>,
+}
+
+/// What the hosts of a run are made of beside the coordinator's front, from the sites of a world to which nothing happened yet.
+fn fleet_of(alloc: Global, scenario: &Scenario, cores: SiteCores) -> Result<Fleet, Memory>
+    requires { length cores.items.items ≡ length (sites scenario.now) }
+    ensures stops { IfOk result (λ fleet. fleet.stops.items ≡ stops_in scenario.now 0) }
+    ensures moored { IfOk result (λ fleet. AreMoored scenario.now (sites scenario.now) cores.items.items fleet.berths.items fleet.ports.items) }
+{
+    let sites = cores.items;
+    let declared = declared_sites(alloc, scenario)?;
+    let stops = stops_of(alloc, scenario, 0)?;
+    let Harbour { berths, ports } = moor_all(alloc, scenario, declared.as_slice(), sites)?;
+    Ok(Fleet {
+        stops,
+        berths,
+        ports,
+    })
+}
+
 /// All that the hosts of a run are made of, but their disks, from the actors of a world to which nothing happened yet.
+#[tactic(none)]
 pub(crate) fn crew_of(
     alloc: Global,
     scenario: &Scenario,
@@ -122,13 +151,22 @@ pub(crate) fn crew_of(
     requires { length cores.items.items ≡ length (sites scenario.now) }
     ensures { IfOk result (λ crew. (tells : Bool) (disks : List Seen) → IsManned tells disks scenario.now manager cores.items.items → IsCrew tells disks scenario.now crew) }
 {
-    let declared = declared_sites(alloc, scenario)?;
-    let stops = stops_of(alloc, scenario, 0)?;
-    let Harbour { berths, ports } = moor_all(alloc, scenario, declared.as_slice(), cores.items)?;
-    Ok(Crew {
-        manager,
-        stops,
-        ports,
-        berths,
-    })
+    match fleet_of(alloc, scenario, cores) {
+        Ok(
+            Fleet {
+                stops,
+                berths,
+                ports,
+            },
+        ) => Ok(Crew {
+            manager,
+            stops,
+            ports,
+            berths,
+        }),
+        Err(why) => {
+            drop(manager);
+            Err(why)
+        }
+    }
 }

@@ -18,6 +18,11 @@ const IDLE: u32 = 4_096;
 /// The count of moves of a host whose thread has ended is at least this. A run has far fewer moves.
 const ENDED: u64 = 1 << 63;
 
+/// Adds to a count.
+fn raise(count: &AtomicU64, more: u64) {
+    count.fetch_add(more, Ordering::SeqCst);
+}
+
 /// What the threads of a run tell each other. Each count is modulo 2^64.
 #[derive(Drop)]
 pub(crate) struct Moves {
@@ -61,25 +66,25 @@ impl Moves {
     }
 
     fn add(&self, actor: u8, moves: u64) {
-        if let Some(made) = self.made.get(usize::from(actor)) {
-            made.fetch_add(moves, Ordering::SeqCst);
+        match self.made.get(usize::from(actor)) {
+            Some(made) => raise(made, moves),
+            None => {}
         }
     }
 
     /// Notes a turn of this actor's host that made a line.
     pub(crate) fn note_turn(&self, actor: u8) {
         self.add(actor, 1);
-        let sent = if actor == 0 {
-            &self.to_sites
+        if actor == 0 {
+            raise(&self.to_sites, 1);
         } else {
-            &self.from_sites
-        };
-        sent.fetch_add(1, Ordering::SeqCst);
+            raise(&self.from_sites, 1);
+        }
     }
 
     /// Notes that a client had the coordinator send something.
     pub(crate) fn note_asked(&self) {
-        self.to_sites.fetch_add(1, Ordering::SeqCst);
+        raise(&self.to_sites, 1);
     }
 
     /// Notes that a local transaction of the site may have ended.
@@ -99,12 +104,11 @@ impl Moves {
 
     /// How many calls may have sent something to this actor.
     pub(crate) fn sent_to(&self, actor: u8) -> u64 {
-        let sent = if actor == 0 {
-            &self.from_sites
+        if actor == 0 {
+            self.from_sites.load(Ordering::SeqCst)
         } else {
-            &self.to_sites
-        };
-        sent.load(Ordering::SeqCst)
+            self.to_sites.load(Ordering::SeqCst)
+        }
     }
 
     /// Yields, once at least, until something may have been sent to this actor since this was its count, or no client calls.

@@ -1,5 +1,6 @@
 //! How a scenario runs in threads.
-ghost use Rattle.std.specs.Prelude.{◌≡◌, IfErr, IfOk, IsTrue, OnErr, length, map};
+ghost use Rattle.std.specs.Prelude.{◌≡◌, ◌<◌, ◌≤◌, [], IfErr, IfOk, IsTrue, OnErr, length, map, vec_len, vec_capacity};
+ghost use Rattle.fed_rules.specs.Plans.{IsScenario};
 ghost use Rattle.fed_world.specs.Faults.{faults_of};
 ghost use Rattle.fed_world.specs.SettingUp.{AreEmpty};
 ghost use Rattle.federation_run.specs.Crews.{IsCrew};
@@ -7,17 +8,18 @@ ghost use Rattle.federation_run.specs.Lefts.{HasLeft};
 ghost use Rattle.federation_run.specs.Running.{EndsBadly, HasRun};
 ghost use Rattle.federation_run.specs.Seats.{IsNamed};
 
-use crate::clients::rides_of;
+use crate::clients::{Rides, rides_of};
 use crate::closing_up::close_all;
 use crate::crews::Crew;
 use crate::errors::RunErr;
-use crate::lefts::{CoordLeft, Left};
+use crate::lefts::{CoordLeft, Left, SiteLeft};
 use crate::mooring::{crew_of, declared_sites};
 use crate::seats::{Seat, open_all};
 use crate::settling::settle;
-use crate::tasks::{run_tasks, tasks_of};
+use crate::tasks::{Task, run_tasks, tasks_of};
+use any_engine::AnyEngine;
 use conservative_take::AnyPolicy;
-use fed_hosts::{CoordHost, CoordParts, Gate, Plan};
+use fed_hosts::{CoordHost, CoordParts, Gate, Plan, SiteHost};
 use fed_rules::{Lines, Scenario};
 use fed_world::{Cores, World, WorldErr};
 use journal_disk::Disk;
@@ -27,8 +29,45 @@ use std::marker::Brand;
 use std::sync::{Mutex, Wait};
 use std::thread::Threads;
 
+/// All the memory that a run takes.
+#[derive(Drop)]
+struct Rooms<'h, D: Disk, N: Plan> {
+    rides: Rides,
+    tasks: Vec<Task>,
+    seats: Vec<Seat<D, N>>,
+    shared: Vec<Option<&'h Mutex<SiteHost<AnyEngine, D, N>>>>,
+    sites: Vec<SiteLeft>,
+}
+
+/// Takes all the memory that a run of the scenario takes.
+fn rooms_for<'h, D: Disk, N: Plan>(
+    alloc: Global,
+    scenario: &Scenario,
+) -> Result<Rooms<'h, D, N>, Memory>
+    ensures whole { IfOk result (λ rooms. IsScenario scenario.now) }
+    ensures tasks { IfOk result (λ rooms. 0 < vec_len rooms.tasks) }
+    ensures seats { IfOk result (λ rooms. (rooms.seats.items ≡ []) × (8 ≤ vec_capacity rooms.seats)) }
+    ensures shared { IfOk result (λ rooms. (vec_len rooms.shared ≡ 0) × (8 ≤ vec_capacity rooms.shared)) }
+    ensures sites { IfOk result (λ rooms. (rooms.sites.items ≡ []) × (8 ≤ vec_capacity rooms.sites)) }
+{
+    let declared = declared_sites(alloc, scenario)?;
+    let rides = rides_of(alloc, scenario)?;
+    let tasks = tasks_of(alloc, declared.as_slice(), scenario.clients)?;
+    let seats = Vec::with_capacity(alloc, 8)?;
+    let shared = Vec::with_capacity(alloc, 8)?;
+    let sites = Vec::with_capacity(alloc, 8)?;
+    Ok(Rooms {
+        rides,
+        tasks,
+        seats,
+        shared,
+        sites,
+    })
+}
+
 /// Runs the hosts of a crew in threads, each with the disk of its number, until every task is done. All memory is taken before the first
 /// disk leaves its place, and each one is back there in the end. Without memory no disk is touched.
+#[tactic(none)]
 pub(crate) fn run_over<R: Threads + Wait + Sync, D: Disk + Send, G: Gate + Sync, N: Plan + Send>(
     rt: &R,
     alloc: Global,
@@ -43,12 +82,19 @@ pub(crate) fn run_over<R: Threads + Wait + Sync, D: Disk + Send, G: Gate + Sync,
     ensures left { IfOk result (HasLeft D.tells scenario.now N.sites N.coordinator N.rings (map D.seen disks.old.items) (map D.seen disks.new.items)) }
     ensures untouched { OnErr result (disks.new.items ≡ disks.old.items) }
 {
-    let declared = declared_sites(alloc, scenario)?;
-    let rides = rides_of(alloc, scenario)?;
-    let mut tasks = tasks_of(alloc, declared.as_slice(), scenario.clients)?;
-    let mut seats: Vec<Seat<D, N>> = Vec::with_capacity(alloc, 8)?;
-    let shared = Vec::with_capacity(alloc, 8)?;
-    let mut sites = Vec::with_capacity(alloc, 8)?;
+    let Rooms {
+        rides,
+        mut tasks,
+        mut seats,
+        shared,
+        mut sites,
+    } = match rooms_for::<D, N>(alloc, scenario) {
+        Ok(rooms) => rooms,
+        Err(why) => {
+            drop(crew);
+            return Err(why);
+        }
+    };
     let Crew {
         manager,
         stops,
@@ -91,6 +137,7 @@ pub(crate) fn run_over<R: Threads + Wait + Sync, D: Disk + Send, G: Gate + Sync,
 /// host lies behind a lock of its own, and messages go over rings with the scenario's scripts. The lines of all hosts by their stamps
 /// (Lamport 1978) are right, and the world stands for them. Where a disk call fails, the others go on, and the error has the right lines
 /// so far. Every disk is back in its place in the end. Want of memory is the one answer without a cause.
+#[tactic(none)]
 pub fn run_threads<R: Threads + Wait + Sync, D: Disk + Send, G: Gate + Sync>(
     rt: &R,
     alloc: Global,

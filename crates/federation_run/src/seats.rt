@@ -18,6 +18,7 @@ pub(crate) enum Seat<D: Disk, N: Plan> {
 }
 
 /// Whether the last berth is that of this actor.
+#[tactic(none)]
 fn is_next(berths: &Vec<Berth>, actor: u8) -> bool
     ensures { IsTrue result → IsLastBerth actor berths.now.items }
 {

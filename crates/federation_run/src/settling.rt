@@ -62,6 +62,7 @@ fn merge_all(
 }
 
 /// The world of the coordinator and of what is sorted of the sites, with these lines.
+#[tactic(none)]
 fn gather_all(
     alloc: Global,
     scenario: Scenario,
@@ -98,6 +99,7 @@ pub(crate) fn settle(alloc: Global, scenario: Scenario, left: Left) -> Result<Wo
 {
     laws_hold();
     let Ok(failed) = survey(alloc, &scenario, &left) else {
+        drop(left);
         return Err(RunErr::Memory);
     };
     let Left { coordinator, sites } = left;
@@ -108,13 +110,14 @@ pub(crate) fn settle(alloc: Global, scenario: Scenario, left: Left) -> Result<Wo
         ..
     } = coordinator;
     let Ok(merged) = merge_all(alloc, lines, sites, ports) else {
+        drop(manager);
         return Err(RunErr::Memory);
     };
     if let Some(number) = failed {
-        return Err(RunErr::Disk {
-            number,
-            lines: merged.lines,
-        });
+        let Merged { sorted, lines } = merged;
+        drop(sorted);
+        drop(manager);
+        return Err(RunErr::Disk { number, lines });
     }
     match gather_all(alloc, scenario, manager, merged) {
         Ok(world) => Ok(world),

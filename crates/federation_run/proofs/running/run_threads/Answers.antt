@@ -1,4 +1,4 @@
-use Rattle.std.proofs.Common.{◌≡◌, ◌∙◌, inl, length, map, refl, rules, subst, sym, ap}
+use Rattle.std.proofs.Common.{◌∙◌, inl, length, map, refl, rules, subst, sym, ap}
 use Rattle.std.proofs.lemmas.List.{length-map}
 use Rattle.fed_world.specs.declared.errors.WorldErr.{WorldErr}
 use Rattle.fed_world.specs.Faults.{FailedAs, faults_of}
@@ -17,9 +17,30 @@ returns-in-Err-Disk-clause-failed g c =
       rose = subst (λ (why : WorldErr). FailedAs why old new) c.in-Err-Disk.field-0-is c.in-Err-Disk.ensures.cause;
     })
 
+pub same-scenario : goal.same-scenario
+same-scenario g c = refl
+
 pub crew_of-requires : goal.crew_of-requires
 crew_of-requires g c =
     (manned_apart g.D.Disk.tells c.in-Ok.world (map g.D.Disk.seen c.new.new.disks.items) c.args.scenario c.in-Ok.ensures.stands c.into_cores-scenario.result c.into_cores-scenario.ensures).count
+
+pub new-requires-clause-told : goal.new-requires-clause-told
+new-requires-clause-told g c = c.requires.told
+
+pub new-requires-clause-nine : goal.new-requires-clause-nine
+new-requires-clause-nine g c = c.requires.nine
+
+pub new-requires-clause-empty : goal.new-requires-clause-empty
+new-requires-clause-empty g c = c.requires.empty
+
+pub returns-in-Err-Memory-clause-count : goal.returns-in-Err-Memory-clause-count
+returns-in-Err-Memory-clause-count g c = c.new.ensures.count
+
+pub returns-in-Err-Disk-clause-count : goal.returns-in-Err-Disk-clause-count
+returns-in-Err-Disk-clause-count g c = c.new.ensures.count
+
+pub returns-in_default-clause-count : goal.returns-in_default-clause-count
+returns-in_default-clause-count g c = c.new.ensures.count
 
 pub run_over-requires : goal.run_over-requires
 run_over-requires g c =

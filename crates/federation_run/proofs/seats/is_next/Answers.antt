@@ -8,3 +8,6 @@ returns-in-Some c = λ is. record {
   at = subst (λ (bs : List Berth). slice_get bs (length bs - 1) ≡ Some c.in-Some.berth.now) c.as_slice.ensures.value (sym c.in-Some.ensures.value);
   site = eqb-true c.in-Some.berth.now.ends.site.0 c.args.actor is;
 }
+
+pub returns-in-None : goal.returns-in-None
+returns-in-None c = λ is. absurd (cc)

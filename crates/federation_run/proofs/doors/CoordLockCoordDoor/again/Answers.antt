@@ -1,0 +1,5 @@
+use Rattle.federation_run.proofs.doors.CoordLockCoordDoor.again.Goals as goal
+
+-- the door told nothing before
+pub returns : goal.returns
+returns g c = λ before none. none
