@@ -1,5 +1,5 @@
 -- Reached attempts are kept, and the others are dropped: how far a walk along the attempts has come.
-use Rattle.std.proofs.Common.{ℕ, suc, ◌≡◌, ◌+◌, ◌<◌, ◌≤◌, nat_lt, Bool, true, false, cond, Option, List, [], ◌∷◌, ◌++◌, length, take, drop, set, get_or, refl, sym, ap, ◌∙◌, subst, inl, inr, append_assoc, arith}
+use Rattle.std.proofs.Common.{ℕ, suc, ◌≡◌, ◌+◌, ◌<◌, ◌≤◌, nat_lt, Bool, true, false, cond, List, [], ◌∷◌, ◌++◌, length, take, drop, set, get_or, refl, sym, ap, ◌∙◌, subst, inl, inr, append_assoc, arith}
 use Rattle.std.specs.List.{SwappedAt}
 use Rattle.std.proofs.Math.Seq.{drop-cons}
 use Rattle.std.proofs.lemmas.List.{take_more_set, take-set, take-set-le, drop-set-lt, length-set, drop-drop}
@@ -40,19 +40,19 @@ swapped_drop xs ys i j d h s =
 -- ---- the walk
 
 -- the walk has kept the first of these attempts, and what is left decides
-pub record IsKeeping (met : List SiteTicket) (all : List Ticketed) (old : List ℕ) (kept rest : List Ticketed) (floors : List ℕ) (lowest : List (Option ℕ)) : Type 0 where
+pub record IsKeeping (met : List SiteTicket) (all : List Ticketed) (old : List ℕ) (kept rest : List Ticketed) (floors : List ℕ) (lowest : List ℕ) : Type 0 where
   pub now : List SiteTicket
   pub is_lowest : IsLowest lowest now
   pub is_kept : reached met all ≡ kept ++ reached now rest
   pub is_dropped : (site : SiteId) → highest_of site (floor_in old site) (unreached met all) ≡ highest_of site (floor_in floors site) (unreached now rest)
 
-pub keeping_starts : (met : List SiteTicket) (all : List Ticketed) (old : List ℕ) (lowest : List (Option ℕ)) → IsLowest lowest met →
+pub keeping_starts : (met : List SiteTicket) (all : List Ticketed) (old : List ℕ) (lowest : List ℕ) → IsLowest lowest met →
     IsKeeping met all old [] all old lowest
 keeping_starts met all old lowest h = record { now = met; is_lowest = h; is_kept = refl; is_dropped = λ site. refl }
 
 -- one more is kept
 pub keeping_keeps : (met : List SiteTicket) (all : List Ticketed) (old : List ℕ) (kept : List Ticketed) (x : Ticketed) (rest : List Ticketed) (floors : List ℕ)
-    (lowest lower : List (Option ℕ)) (leads : Bool) → IsKeeping met all old kept (x ∷ rest) floors lowest →
+    (lowest lower : List ℕ) (leads : Bool) → IsKeeping met all old kept (x ∷ rest) floors lowest →
     ((now : List SiteTicket) → IsLowest lowest now → leads ≡ are_before now x.tickets) → leads ≡ true →
     ((now : List SiteTicket) → IsLowest lowest now → IsLowest lower (now ++ x.tickets)) →
     IsKeeping met all old (kept ++ x ∷ []) rest floors lower
@@ -71,7 +71,7 @@ keeping_keeps met all old kept x rest floors lowest lower leads k test is meets 
 
 -- one more is dropped
 pub keeping_drops : (met : List SiteTicket) (all : List Ticketed) (old : List ℕ) (kept : List Ticketed) (x : Ticketed) (rest : List Ticketed) (floors higher : List ℕ)
-    (lowest : List (Option ℕ)) (leads : Bool) → IsKeeping met all old kept (x ∷ rest) floors lowest →
+    (lowest : List ℕ) (leads : Bool) → IsKeeping met all old kept (x ∷ rest) floors lowest →
     ((now : List SiteTicket) → IsLowest lowest now → leads ≡ are_before now x.tickets) → leads ≡ false →
     ((site : SiteId) → floor_in higher site ≡ highest site (floor_in floors site) x.tickets) →
     IsKeeping met all old kept rest higher lowest
@@ -87,21 +87,21 @@ keeping_drops met all old kept x rest floors higher lowest leads k test is raise
           ∙ ap (λ n. highest_of site n (unreached k.now rest)) (sym (raises site)));
     }
 
-pub keeping_ends : (met : List SiteTicket) (all : List Ticketed) (old : List ℕ) (kept : List Ticketed) (floors : List ℕ) (lowest : List (Option ℕ)) →
+pub keeping_ends : (met : List SiteTicket) (all : List Ticketed) (old : List ℕ) (kept : List Ticketed) (floors : List ℕ) (lowest : List ℕ) →
     IsKeeping met all old kept [] floors lowest → kept ≡ reached met all
 keeping_ends met all old kept floors lowest k = sym (k.is_kept ∙ append_nil kept)
 
 -- ---- the walk that parts them
 
 -- those that were parted so far, and what is left decides
-pub record IsParting (met : List SiteTicket) (all front behind front_now behind_now rest : List Ticketed) (lowest : List (Option ℕ)) : Type 0 where
+pub record IsParting (met : List SiteTicket) (all front behind front_now behind_now rest : List Ticketed) (lowest : List ℕ) : Type 0 where
   pub now : List SiteTicket
   pub is_lowest : IsLowest lowest now
   pub is_front : front ++ unreached met all ≡ front_now ++ unreached now rest
   pub is_behind : behind ++ reached met all ≡ behind_now ++ reached now rest
 
 pub parting_goes_behind : (met : List SiteTicket) (all front behind front_now behind_now : List Ticketed) (x : Ticketed) (rest : List Ticketed)
-    (lowest lower : List (Option ℕ)) (leads : Bool) → IsParting met all front behind front_now behind_now (x ∷ rest) lowest →
+    (lowest lower : List ℕ) (leads : Bool) → IsParting met all front behind front_now behind_now (x ∷ rest) lowest →
     ((now : List SiteTicket) → IsLowest lowest now → leads ≡ are_before now x.tickets) → leads ≡ true →
     ((now : List SiteTicket) → IsLowest lowest now → IsLowest lower (now ++ x.tickets)) →
     IsParting met all front behind front_now (behind_now ++ x ∷ []) rest lower
@@ -117,7 +117,7 @@ parting_goes_behind met all front behind front_now behind_now x rest lowest lowe
     }
 
 pub parting_goes_front : (met : List SiteTicket) (all front behind front_now behind_now : List Ticketed) (x : Ticketed) (rest : List Ticketed)
-    (lowest : List (Option ℕ)) (leads : Bool) → IsParting met all front behind front_now behind_now (x ∷ rest) lowest →
+    (lowest : List ℕ) (leads : Bool) → IsParting met all front behind front_now behind_now (x ∷ rest) lowest →
     ((now : List SiteTicket) → IsLowest lowest now → leads ≡ are_before now x.tickets) → leads ≡ false →
     IsParting met all front behind (front_now ++ x ∷ []) behind_now rest lowest
 parting_goes_front met all front behind front_now behind_now x rest lowest leads k test is =
@@ -131,7 +131,7 @@ parting_goes_front met all front behind front_now behind_now x rest lowest leads
       is_behind = k.is_behind ∙ ap (λ b. behind_now ++ cond b (x ∷ reached (k.now ++ x.tickets) rest) (reached k.now rest)) fails;
     }
 
-pub parting_ends : (met : List SiteTicket) (all front behind front_now behind_now : List Ticketed) (lowest : List (Option ℕ)) →
+pub parting_ends : (met : List SiteTicket) (all front behind front_now behind_now : List Ticketed) (lowest : List ℕ) →
     IsParting met all front behind front_now behind_now [] lowest →
     (front_now ≡ front ++ unreached met all) × (behind_now ≡ behind ++ reached met all)
 parting_ends met all front behind front_now behind_now lowest k = (sym (k.is_front ∙ append_nil front_now), sym (k.is_behind ∙ append_nil behind_now))
@@ -148,11 +148,11 @@ drop_on xs ys i e =
     sym (drop-drop 1 i xs) ∙ (ap (drop 1) e ∙ drop-drop 1 i ys)
 
 -- what holds of some values holds of the same under other names
-pub of_same : (P : ℕ → List Ticketed → List ℕ → List (Option ℕ) → Type 0) (n m : ℕ) (xs ys : List Ticketed) (fs gs : List ℕ) (us vs : List (Option ℕ)) →
+pub of_same : (P : ℕ → List Ticketed → List ℕ → List ℕ → Type 0) (n m : ℕ) (xs ys : List Ticketed) (fs gs : List ℕ) (us vs : List ℕ) →
     n ≡ m → xs ≡ ys → fs ≡ gs → us ≡ vs → P m ys gs vs → P n xs fs us
 of_same P n m xs ys fs gs us vs e f g h p =
     subst (λ k. P k xs fs us) (sym e) (subst (λ zs. P m zs fs us) (sym f) (subst (λ zs. P m ys zs us) (sym g) (subst (λ zs. P m ys gs zs) (sym h) p)))
 
-pub parting_starts : (met : List SiteTicket) (all front behind : List Ticketed) (lowest : List (Option ℕ)) → IsLowest lowest met →
+pub parting_starts : (met : List SiteTicket) (all front behind : List Ticketed) (lowest : List ℕ) → IsLowest lowest met →
     IsParting met all front behind front behind all lowest
 parting_starts met all front behind lowest h = record { now = met; is_lowest = h; is_front = refl; is_behind = refl }

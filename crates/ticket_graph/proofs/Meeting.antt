@@ -1,11 +1,11 @@
 -- Tickets that are met one after the other.
-use Rattle.std.proofs.Common.{ℕ, suc, ◌≡◌, ◌+◌, ◌<◌, false, Option, List, [], ◌∷◌, ◌++◌, length, take, drop, get_or, refl, sym, ap, ◌∙◌, subst, append_assoc, arith}
+use Rattle.std.proofs.Common.{ℕ, suc, ◌≡◌, ◌+◌, ◌<◌, false, List, [], ◌∷◌, ◌++◌, length, take, drop, get_or, refl, sym, ap, ◌∙◌, subst, append_assoc, arith}
 use Rattle.std.proofs.Math.Seq.{drop-cons}
 use Rattle.std.proofs.lemmas.List.{take_more}
 use Rattle.mdb_base.specs.declared.names.SiteTicket.{SiteTicket}
 use Rattle.ticket_graph.specs.Reach.{is_over, are_before, joined, IsLowest}
 
-pub met_more : (lowest : List (Option ℕ)) (met ks : List SiteTicket) (i : ℕ) (d : SiteTicket) → i < length ks →
+pub met_more : (lowest : List ℕ) (met ks : List SiteTicket) (i : ℕ) (d : SiteTicket) → i < length ks →
     IsLowest lowest ((met ++ take i ks) ++ get_or ks i d ∷ []) → IsLowest lowest (met ++ take (i + 1) ks)
 met_more lowest met ks i d h is =
     subst (IsLowest lowest) (append_assoc met (take i ks) (get_or ks i d ∷ []) ∙ ap (λ zs. met ++ zs) (sym (take_more ks i d h))) is
@@ -18,7 +18,7 @@ joined_last [] ks = nil ks
     nil (x ∷ xs) = ap (λ zs. x ∷ zs) (nil xs)
 joined_last (k ∷ waiting) ks = ap (λ zs. k ++ zs) (joined_last waiting ks) ∙ sym (append_assoc k (joined waiting) ks)
 
-pub met_all_more : (lowest : List (Option ℕ)) (met : List SiteTicket) (waiting : List (List SiteTicket)) (i : ℕ) (ks d : List SiteTicket) → i < length waiting →
+pub met_all_more : (lowest : List ℕ) (met : List SiteTicket) (waiting : List (List SiteTicket)) (i : ℕ) (ks d : List SiteTicket) → i < length waiting →
     ks ≡ get_or waiting i d → IsLowest lowest ((met ++ joined (take i waiting)) ++ ks) → IsLowest lowest (met ++ joined (take (i + 1) waiting))
 met_all_more lowest met waiting i ks d h e is =
     subst (IsLowest lowest) (append_assoc met (joined (take i waiting)) ks

@@ -1,5 +1,5 @@
 -- Which attempts of a list in order tickets lead to, and how high the tickets of the others are.
-use Rattle.std.specs.Prelude.{ℕ, ◌≡◌, ◌<◌, Bool, false, cond, nat_lt, ◌&&◌, Option, Some, None, List, [], ◌∷◌, ◌++◌, get_or}
+use Rattle.std.specs.Prelude.{ℕ, ◌≡◌, ◌<◌, ◌^◌, Bool, cond, nat_lt, ◌&&◌, List, [], ◌∷◌, ◌++◌, get_or}
 use Rattle.mdb_base.specs.declared.names.SiteId.{SiteId}
 use Rattle.mdb_base.specs.declared.names.SiteTicket.{SiteTicket}
 use Rattle.mdb_base.specs.Names.{same_site}
@@ -47,11 +47,7 @@ highest_of site floor (a ∷ attempts) = highest_of site (highest site floor a.t
 abbrev pub floor_in : List ℕ → SiteId → ℕ
 floor_in floors site = get_or floors site.0 0
 
--- whether this number, where there is one, is smaller
-abbrev pub is_under : Option ℕ → ℕ → Bool
-is_under None n = false
-is_under (Some least) n = nat_lt least n
-
--- the table has the least of these tickets at each site
-abbrev pub IsLowest : List (Option ℕ) → List SiteTicket → Type 0
-IsLowest lowest met = (ticket : SiteTicket) → ticket.site.0 < 256 → is_under (get_or lowest ticket.site.0 None) ticket.ticket ≡ is_over met ticket
+-- the table has the least of these tickets at each site, and 2 ^ 64 - 1 where there is none
+abbrev pub IsLowest : List ℕ → List SiteTicket → Type 0
+IsLowest lowest met =
+    (ticket : SiteTicket) → ticket.site.0 < 256 → ticket.ticket < 2 ^ 64 → nat_lt (get_or lowest ticket.site.0 0) ticket.ticket ≡ is_over met ticket

@@ -8,8 +8,8 @@ use mdb_base::{SiteTicket, Tickets};
 /// The least ticket at each site of those that were met.
 #[derive(Drop)]
 pub struct Lowest {
-    /// By the number of the site.
-    pub at: [Option<u64>; 256],
+    /// By the number of the site; 2^64 - 1, which is less than no ticket, where none was met.
+    pub at: [u64; 256],
 }
 
 impl Lowest {
@@ -17,7 +17,9 @@ impl Lowest {
     pub fn new() -> Lowest
         ensures { IsLowest result.at [] }
     {
-        Lowest { at: [None; 256] }
+        Lowest {
+            at: [u64::MAX; 256],
+        }
     }
 
     /// Meets a ticket.
@@ -25,11 +27,9 @@ impl Lowest {
         ensures { (met : List TheTicket) → IsLowest self.old.at met → IsLowest self.new.at (met ++ ticket ∷ []) }
     {
         let place = usize::from(ticket.site.0);
-        let least = match self.at[place] {
-            Some(least) if least <= ticket.ticket => least,
-            _ => ticket.ticket,
-        };
-        self.at[place] = Some(least);
+        if ticket.ticket < self.at[place] {
+            self.at[place] = ticket.ticket;
+        }
     }
 
     /// Meets the tickets of an attempt.
@@ -54,10 +54,7 @@ impl Lowest {
     fn is_under(&self, ticket: SiteTicket) -> bool
         ensures { (met : List TheTicket) → IsLowest self.now.at met → result ≡ is_over met ticket }
     {
-        match self.at[usize::from(ticket.site.0)] {
-            Some(least) => least < ticket.ticket,
-            None => false,
-        }
+        self.at[usize::from(ticket.site.0)] < ticket.ticket
     }
 
     /// Whether for one of the tickets a smaller one of its site was met.

@@ -1,4 +1,4 @@
-use Rattle.std.proofs.Common.{ℕ, Option, ◌≡◌, ◌+◌, ◌<◌, ◌≤◌, List, [], ◌∷◌, ◌++◌, length, take, drop, sym, ap, ◌∙◌, subst, arith}
+use Rattle.std.proofs.Common.{ℕ, ◌≡◌, ◌+◌, ◌<◌, ◌≤◌, List, [], ◌∷◌, ◌++◌, length, take, drop, sym, ap, ◌∙◌, subst, arith}
 use Rattle.std.proofs.lemmas.List.{drop_all}
 use Rattle.mdb_base.specs.declared.names.SiteId.{SiteId}
 use Rattle.mdb_base.specs.declared.names.SiteTicket.{SiteTicket}
@@ -26,7 +26,7 @@ loop-place-preserved c =
     let before : (met : List SiteTicket) → IsLowest c.args.lowest.at met → IsKeeping met old c.args.floors.now (take kept now) (x ∷ drop (i + 1) now) floors lowest =
     λ met h. subst (λ (xs : List Ticketed). IsKeeping met old c.args.floors.now (take kept now) xs floors lowest) rest (c.loop-place.invariant.3 met h) in
     let left : drop (i + 1) now ≡ drop (i + 1) old = drop_on now old i c.loop-place.invariant.2 in
-    let Good : ℕ → List Ticketed → List ℕ → List (Option ℕ) → Type 0 =
+    let Good : ℕ → List Ticketed → List ℕ → List ℕ → Type 0 =
     λ n xs fs ls. (n ≤ i + 1) × (length xs ≡ length old) × (drop (i + 1) xs ≡ drop (i + 1) old)
     × ((met : List SiteTicket) → IsLowest c.args.lowest.at met → IsKeeping met old c.args.floors.now (take n xs) (drop (i + 1) xs) fs ls) in
     elim c.if-leads_to.branch [

@@ -1,9 +1,9 @@
-use Rattle.std.proofs.Common.{ℕ, Option, None, ap}
-use Rattle.ticket_graph.specs.Reach.{is_under}
-use Rattle.ticket_graph.proofs.Tables.{same_everywhere}
+use Rattle.std.proofs.Common.{ℕ, nat_lt, ap, ◌∙◌, arith}
+use Rattle.std.proofs.lemmas.List.{get_or-replicate}
+use Rattle.mdb_base.proofs.NumberLaws.{not_below}
 use Rattle.ticket_graph.proofs.lowest.Lowest.new.Goals as goal
 
 pub returns : goal.returns
-returns c =
-    let nothing : Option ℕ = None in
-    λ ticket small. ap (λ o. is_under o ticket.ticket) (same_everywhere 256 ticket.site.0 nothing)
+returns c = λ ticket small fits.
+    ap (λ (n : ℕ). nat_lt n ticket.ticket) (get_or-replicate 256 ticket.site.0 18446744073709551615 0 small)
+    ∙ not_below 18446744073709551615 ticket.ticket (omega arith)
