@@ -26,11 +26,15 @@ pub enum Output {
     Broken(Vec<u8>),
 }
 
+/// So many bytes are taken for a line and its line feed, where room is made for lines.
+const LINE_LENGTH: usize = 40;
+
 /// Appends the lines, a line feed behind each.
 pub fn put_lines(lines: &[Line], out: &mut Vec<u8>) -> Result<(), Memory>
     requires { Each (λ line. IsTrue (line_fits line)) lines.now }
     ensures { OnOk result (out.new.items ≡ out.old.items ++ lines_bytes lines.now) }
 {
+    out.reserve(lines.len().saturating_mul(LINE_LENGTH))?;
     for line in lines {
         print_line(line, out)?;
         put_text(out, "\n")?;
