@@ -40,7 +40,7 @@ impl Tables {
         ensures rising { OnOk result (IsRising (λ put. put.key.0) items.now) }
     {
         let mut versions = HashMap::with_capacity(alloc, items.len())?;
-        versions::write_all(&mut versions, items.as_slice(), 0);
+        versions::write_first(&mut versions, items.as_slice());
         Ok(Tables { versions })
     }
 

@@ -1,7 +1,8 @@
 //! Look-ups and writes in the hash table of a site's rows.
-ghost use Rattle.std.specs.Prelude.{◌≡◌, ◌+◌, ◌<◌, ◌≤◌, length, [], ◌∷◌, IfOk, nat_eq};
+ghost use Rattle.std.specs.Prelude.{◌≡◌, ◌+◌, ◌<◌, ◌≤◌, length, [], ◌∷◌, cond, IfOk, None, Some, nat_eq};
 ghost use Rattle.std.specs.HashMap.{get, spare};
 ghost use Rattle.mdb_base.specs.declared.names.Key.{Key};
+ghost use Rattle.mdb_base.specs.Rising.{IsRising};
 ghost use Rattle.mdb_base.specs.Rows.{HaveOwnKeys, value_in};
 ghost use Rattle.site_tables.specs.Tables.{is_newer, value_of, row_of, written};
 
@@ -60,6 +61,32 @@ pub fn write_all(versions: &mut HashMap<u16, Version>, writes: &[Put], number: u
 {
     for put in writes {
         write(versions, *put, number);
+    }
+}
+
+/// Writes one row by number 0, whatever its key has.
+fn write_over(versions: &mut HashMap<u16, Version>, put: Put)
+    requires { 0 < spare versions.old }
+    ensures written { (key : Key) → get nat_eq versions.new key.0 ≡ cond (nat_eq put.key.0 key.0) (Some (record { value = put.value; number = 0 })) (get nat_eq versions.old key.0) }
+    ensures room { spare versions.old ≤ spare versions.new + 1 }
+{
+    let version = Version {
+        value: put.value,
+        number: 0,
+    };
+    let inserted: Result<_, _> = versions.insert(put.key.0, version);
+    let _ = inserted.unwrap();
+}
+
+/// Writes rows of which none is there, each by number 0. Their keys rise, so none is written twice, and nothing is looked up.
+pub fn write_first(versions: &mut HashMap<u16, Version>, rows: &[Put])
+    requires room { length rows.now ≤ spare versions.old }
+    requires none { (key : Key) → get nat_eq versions.old key.0 ≡ None }
+    requires rising { IsRising (λ put. put.key.0) rows.now }
+    ensures { (key : Key) → get nat_eq versions.new key.0 ≡ written 0 (value_in rows.now key) None }
+{
+    for put in rows {
+        write_over(versions, *put);
     }
 }
 
