@@ -97,7 +97,9 @@ fn rises<T: Item>(items: &[T]) -> bool
 fn taken<T: Item>(alloc: Global, count: usize, bytes: &[u8]) -> Result<(Vec<T>, &[u8]), DecodeErr>
     ensures { Reads (λ found. (found.0.items, found.1.now)) result (items_at T.field.reading count bytes.now) }
 {
-    let mut items = Vec::new(alloc);
+    let Ok(mut items) = Vec::with_capacity(alloc, count.min(bytes.len())) else {
+        return Err(DecodeErr::Memory);
+    };
     let mut rest = bytes;
     for _ in 0..count {
         let (item, after) = match T::take(alloc, rest) {

@@ -12,8 +12,8 @@ returns-in-Err g c =
 pub loop-preserved : goal.loop-preserved
 loop-preserved g c =
     let reading = g.T.Item.field.reading in
-    let pushed : c.push.new.self.items ≡ c.loop.items.items ++ c.in-Ok.found.0 ∷ [] = grind (arith, common_steps) in
-    rw pushed (goes_on reading c.loop.items.items c.args.count c.loop.counter c.loop.rest.now c.in-Ok.found.0 c.in-Ok.found.1.now (items_at reading c.args.count c.args.bytes.now) c.loop-test.true c.in-Ok.ensures c.loop.invariant)
+    let pushed : c.push.new.self.items ≡ c.loop.items.items ++ c.in-Ok-take.found.0 ∷ [] = grind (arith, common_steps) in
+    rw pushed (goes_on reading c.loop.items.items c.args.count c.loop.counter c.loop.rest.now c.in-Ok-take.found.0 c.in-Ok-take.found.1.now (items_at reading c.args.count c.args.bytes.now) c.loop-test.true c.in-Ok-take.ensures c.loop.invariant)
 
 pub returns : goal.returns
 returns g c =
