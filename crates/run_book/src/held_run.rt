@@ -18,6 +18,9 @@ use site_tables::Tables;
 use std::alloc::Global;
 use std::marker::Model;
 
+/// For how many accesses there is room from the first one on.
+const FIRST_ROOM: usize = 8;
+
 /// A run, with its granted accesses, the oldest first, and the marks that were noted at it.
 #[derive(Drop)]
 pub struct HeldRun {
@@ -192,7 +195,8 @@ impl HeldRun {
             (self.new ≡ record self.old { run = record self.old.run { acts = access ∷ self.old.run.acts } }) }
         ensures memory { OnErr result (self.new ≡ self.old) }
     {
-        self.acts.reserve(1)?;
+        let more = if self.acts.is_empty() { FIRST_ROOM } else { 1 };
+        self.acts.reserve(more)?;
         self.acts.push_reserved(access);
         Ok(())
     }
