@@ -1,5 +1,5 @@
 -- Each step of closing adds commands, and which ones.
-use Rattle.std.proofs.Common.{◌≡◌, ℕ, not, is_some, List, [], ◌∷◌, ◌++◌, map, refl, ◌∙◌, ap, ap₂}
+use Rattle.std.proofs.Common.{◌≡◌, ℕ, not, is_some, Some, List, [], ◌∷◌, ◌++◌, map, refl, sym, ◌∙◌, ap, ap₂}
 use Rattle.mdb_base.specs.declared.names.SiteId.{SiteId}
 use Rattle.mdb_base.specs.declared.names.Tid.{Tid}
 use Rattle.mdb_base.specs.Words.{those}
@@ -15,7 +15,7 @@ use Rattle.fed_rules.specs.Sessions.{Session}
 use Rattle.fed_rules.specs.SitePast.{is_local, trip}
 use Rattle.fed_rules.specs.Story.{Story, past_of, story_in}
 use Rattle.closing.specs.declared.actors.SiteTids.{SiteTids}
-use Rattle.closing.specs.Steps.{AreDoubtful, asks_all, back_of, clearing_at, clearing_of, disarm_of, give_of, given, late_of, take_of, with_commands}
+use Rattle.closing.specs.Steps.{AreDoubtful, asks_all, back_of, clearing_at, clearing_of, disarm_of, give_of, given, late_of, only_of, take_of, with_commands}
 use Rattle.closing.proofs.Loops.{each_extends}
 use Rattle.closing.proofs.Towards.{Extends, extends_here, extends_one, extends_twice}
 
@@ -103,6 +103,19 @@ pub gives_made : (session : Session) (commands now items : List Command) (places
     → with_commands now commands ≡ given session commands
 gives_made session commands now items places sent e f g h =
     ap (λ more. with_commands more commands) (e ∙ (f ∙ ap (map give_of) (g ∙ h))) ∙ pushes_are give_of (last_sends session commands) commands
+
+-- where one has an item alone, there is no other
+only_one : {A : Type 0} (xs : List A) (x : A) → Some x ≡ only_of xs → xs ≡ x ∷ []
+only_one [] x e = cc
+only_one (y ∷ []) x e = let same : y ≡ x = cc in ap (λ z. z ∷ []) same
+only_one (y ∷ z ∷ xs) x e = cc
+
+-- the only message that was sent is taken by this command
+pub take_made : (session : Session) (commands : List Command) (place : Place) → Some place ≡ only_of (last_sends session commands)
+    → with_commands (take_of place ∷ []) commands ≡ taken session commands
+take_made session commands place e =
+    takes_made session commands (take_of place ∷ []) (take_of place ∷ []) (place ∷ []) (place ∷ []) refl refl refl
+    (sym (only_one (last_sends session commands) place e))
 
 with_both : (xs ys commands : List Command) → with_commands (xs ++ ys) commands ≡ with_commands ys (with_commands xs commands)
 with_both [] ys commands = refl

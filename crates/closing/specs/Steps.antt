@@ -1,5 +1,5 @@
 -- The steps of closing, as what they add to the commands.
-use Rattle.std.specs.Prelude.{ℕ, ◌≡◌, ◌<◌, ◌+◌, ◌^◌, Bool, true, false, not, List, [], ◌∷◌, ◌++◌, length, map}
+use Rattle.std.specs.Prelude.{ℕ, ◌≡◌, ◌<◌, ◌+◌, ◌^◌, Bool, true, false, not, Option, Some, None, List, [], ◌∷◌, ◌++◌, length, map}
 use Rattle.mdb_base.specs.declared.names.SiteId.{SiteId}
 use Rattle.mdb_base.specs.declared.names.Tid.{Tid}
 use Rattle.mdb_base.specs.Words.{those}
@@ -47,6 +47,12 @@ give_of place = Cmd.Give place.site place.place
 -- and taken
 abbrev pub take_of : Place → Command
 take_of place = Cmd.Take place.site place.place
+
+-- the item of a list that has one alone
+abbrev pub only_of : {A : Type 0} → List A → Option A
+only_of [] = None
+only_of (x ∷ []) = Some x
+only_of (x ∷ y ∷ xs) = None
 
 -- what the coordinator just sent is given
 abbrev pub given : Session → List Command → List Command

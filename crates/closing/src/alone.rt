@@ -10,10 +10,10 @@ ghost use Rattle.closing.specs.FreshTowards.{FallsShort, Reaches, WillFit};
 
 use crate::delivering::take_sent;
 use crate::reading::every_scenario_is_one;
-use crate::sent::last_places;
+use crate::sent::{last_places, sent_again};
 use crate::unfinished::undone;
 use closing_laws::{finished_sessions_commit, finishing_is_bounded};
-use fed_rules::{Command, Place, TxLine};
+use fed_rules::{Command, Place, Places, TxLine};
 use fed_world::{World, WorldErr};
 use journal_disk::Disk;
 use mdb_base::{Memory, Step, Tx};
@@ -60,13 +60,13 @@ fn local_alone<D: Disk>(
 }
 
 /// The places of what the coordinator just sent, where it took any of these.
-fn sent_at(alloc: Global, world: &World, answers: &[Place]) -> Result<Vec<Place>, Memory>
-    ensures { IfOk result (λ sent. EachStory (HasLines world.now) (λ scenario commands. sent.items ≡ sent_next scenario commands answers.now)) }
+fn sent_at(world: &World, answers: &[Place]) -> Result<Places, Memory>
+    ensures { IfOk result (λ sent. EachStory (HasLines world.now) (λ scenario commands. sent ≡ sent_next scenario commands answers.now)) }
 {
     if answers.is_empty() {
-        return Ok(Vec::new(alloc));
+        return Ok(Places::none());
     }
-    last_places(alloc, world)
+    sent_again(world)
 }
 
 /// The message at this place is delivered; the places of what the coordinator sends at that.
@@ -75,10 +75,10 @@ fn deliver_next<D: Disk>(
     world: &mut World,
     disks: &mut Vec<D>,
     place: Place,
-) -> Result<Vec<Place>, WorldErr>
+) -> Result<Places, WorldErr>
     requires told { IsTrue D.tells }
     requires stood { SomeStory (Stands D.tells world.old (map D.seen disks.old.items)) (WillFit (delivered_next place)) }
-    ensures sent { IfOk result (λ sent. EachStory (Stands D.tells world.old (map D.seen disks.old.items)) (λ scenario commands. WillFit (delivered_next place) scenario commands → sent.items ≡ queue_after scenario place commands)) }
+    ensures sent { IfOk result (λ sent. EachStory (Stands D.tells world.old (map D.seen disks.old.items)) (λ scenario commands. WillFit (delivered_next place) scenario commands → sent ≡ queue_after scenario place commands)) }
     ensures done { OnOk result (Reaches D.tells world.old (map D.seen disks.old.items) world.new (map D.seen disks.new.items) (WillFit (delivered_next place)) (delivered_next place)) }
     ensures failed { IfErr result (λ why. FallsShort D.tells world.old (map D.seen disks.old.items) why world.new (map D.seen disks.new.items) (WillFit (delivered_next place)) (delivered_next place)) }
     ensures cause { CountsTell result (map D.seen disks.old.items) (map D.seen disks.new.items) }
@@ -88,11 +88,11 @@ fn deliver_next<D: Disk>(
         place: place.place,
     };
     world.apply(alloc, disks, command)?;
-    let Ok(answers) = last_places(alloc, world) else {
+    let Ok(answers) = sent_again(world) else {
         return Err(WorldErr::Memory);
     };
     take_sent(alloc, world, disks)?;
-    match sent_at(alloc, world, &answers) {
+    match sent_at(world, answers.as_slice()) {
         Ok(sent) => Ok(sent),
         Err(_) => Err(WorldErr::Memory),
     }
@@ -122,7 +122,7 @@ fn global_alone<D: Disk>(
         }
         let place = places[next];
         let sent = deliver_next(alloc, world, disks, place)?;
-        let Ok(()) = places.extend_from_slice(&sent) else {
+        let Ok(()) = places.extend_from_slice(sent.as_slice()) else {
             return Err(WorldErr::Memory);
         };
     }

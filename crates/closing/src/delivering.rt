@@ -7,18 +7,14 @@ ghost use Rattle.closing.specs.Steps.{given};
 ghost use Rattle.closing.specs.Towards.{FallsShort, Reaches, WillFit};
 
 use crate::carrying::carry_out;
-use crate::sent::{gives, last_places, takes};
+use crate::sent::{gives, last_places, only_sent, takes};
 use fed_rules::{Command, Place};
 use fed_world::{World, WorldErr};
 use journal_disk::Disk;
 use std::alloc::Global;
 
-/// What a site just sent is taken.
-pub(crate) fn take_sent<D: Disk>(
-    alloc: Global,
-    world: &mut World,
-    disks: &mut Vec<D>,
-) -> Result<(), WorldErr>
+/// What a site just sent is taken, where it may be several messages.
+fn take_all<D: Disk>(alloc: Global, world: &mut World, disks: &mut Vec<D>) -> Result<(), WorldErr>
     requires told { IsTrue D.tells }
     requires stood { SomeStory (Stands D.tells world.old (map D.seen disks.old.items)) (WillFit taken) }
     ensures done { OnOk result (Reaches D.tells world.old (map D.seen disks.old.items) world.new (map D.seen disks.new.items) (WillFit taken) taken) }
@@ -32,6 +28,30 @@ pub(crate) fn take_sent<D: Disk>(
         return Err(WorldErr::Memory);
     };
     carry_out(alloc, world, disks, &commands)
+}
+
+/// What a site just sent is taken. One message takes no list.
+pub(crate) fn take_sent<D: Disk>(
+    alloc: Global,
+    world: &mut World,
+    disks: &mut Vec<D>,
+) -> Result<(), WorldErr>
+    requires told { IsTrue D.tells }
+    requires stood { SomeStory (Stands D.tells world.old (map D.seen disks.old.items)) (WillFit taken) }
+    ensures done { OnOk result (Reaches D.tells world.old (map D.seen disks.old.items) world.new (map D.seen disks.new.items) (WillFit taken) taken) }
+    ensures failed { IfErr result (λ why. FallsShort D.tells world.old (map D.seen disks.old.items) why world.new (map D.seen disks.new.items) (WillFit taken) taken) }
+    ensures cause { CountsTell result (map D.seen disks.old.items) (map D.seen disks.new.items) }
+{
+    match only_sent(world) {
+        Some(place) => {
+            let command = Command::Take {
+                site: place.site,
+                place: place.place,
+            };
+            carry_out(alloc, world, disks, &[command])
+        }
+        None => take_all(alloc, world, disks),
+    }
 }
 
 /// What the coordinator just sent is given to its sites.

@@ -2,9 +2,9 @@
 ghost use Rattle.std.specs.Prelude.{◌≡◌, IfOk, map};
 ghost use Rattle.fed_rules.specs.Closing.{last_sends};
 ghost use Rattle.fed_world.specs.Worlds.{EachStory, HasLines};
-ghost use Rattle.closing.specs.Steps.{give_of, take_of};
+ghost use Rattle.closing.specs.Steps.{give_of, only_of, take_of};
 
-use fed_rules::{Command, Place};
+use fed_rules::{Command, Place, Places};
 use fed_world::World;
 use mdb_base::Memory;
 use std::alloc::Global;
@@ -25,6 +25,41 @@ fn sent_last(world: &World) -> &[Place]
         return &[];
     }
     lines[lines.len() - 1].sends.as_slice()
+}
+
+/// The only one of these places, where there is one alone.
+fn only(places: &[Place]) -> Option<Place>
+    ensures { result ≡ only_of places.now }
+{
+    match places {
+        [place] => Some(*place),
+        _ => None,
+    }
+}
+
+/// The place of the message that the last line sent, where it sent one alone.
+pub(crate) fn only_sent(world: &World) -> Option<Place>
+    ensures { EachStory (HasLines world.now) (λ session commands. result ≡ only_of (last_sends session commands)) }
+{
+    only(sent_last(world))
+}
+
+/// These places again. Up to one takes no memory.
+fn again(places: &Places) -> Result<Places, Memory>
+    ensures { IfOk result (λ copy. copy ≡ places.now) }
+{
+    Ok(places.clone()?)
+}
+
+/// The places of what the last line sent again.
+pub(crate) fn sent_again(world: &World) -> Result<Places, Memory>
+    ensures { IfOk result (λ places. EachStory (HasLines world.now) (λ session commands. places ≡ last_sends session commands)) }
+{
+    let lines = world.lines();
+    if lines.is_empty() {
+        return Ok(Places::none());
+    }
+    again(&lines[lines.len() - 1].sends)
 }
 
 /// The places of what the last line sent, in memory of their own.

@@ -79,7 +79,7 @@ returns-in-Ok-sent_at-clause-sent g c scenario commands s fits =
     let next = c.in_ok-apply.ensures.applied (fresh scenario) commands s (room scenario place commands fits) in
     let last = c.in_ok-take_sent.ensures.done (fresh scenario) one next fits in
     c.in-Ok-sent_at.ensures scenario (delivered_next place scenario commands) (has_lines _ _ _ _ _ last)
-    ∙ ap (sent_next scenario (delivered_next place scenario commands)) (c.deref.ensures.value ∙ c.in-Ok.ensures (fresh scenario) one (has_lines _ _ _ _ _ next))
+    ∙ ap (sent_next scenario (delivered_next place scenario commands)) (c.as_slice.ensures ∙ c.in-Ok.ensures (fresh scenario) one (has_lines _ _ _ _ _ next))
 
 pub returns-in-Ok-sent_at-clause-done : goal.returns-in-Ok-sent_at-clause-done
 returns-in-Ok-sent_at-clause-done g c scenario commands s fits =

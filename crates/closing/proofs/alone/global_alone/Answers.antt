@@ -154,7 +154,7 @@ loop-next-preserved g c =
             mid = delivered_next place scenario w.mid;
             stood = c.in_ok-sent.ensures.done scenario w.mid w.stood few;
             rest = delivery_rest scenario places n (4 * length steps - n) (4 * length steps - (n + 1)) c.index-place.result.now w.mid whole (omega (arith, c.loop-next.places.ok.0, c.len.ensures, c.if-next-len.false)) c.index-place.ensures (one_less (4 * length steps) n c.loop-next-test.true) w.rest
-                c.in_ok-sent.sent.items c.extend_from_slice.new.self.items (c.in_ok-sent.ensures.sent scenario w.mid w.stood few) (c.in-Ok-extend_from_slice.ensures.items ∙ ap (λ ps. places ++ ps) c.deref.ensures.value);
+                c.in_ok-sent.sent c.extend_from_slice.new.self.items (c.in_ok-sent.ensures.sent scenario w.mid w.stood few) (c.in-Ok-extend_from_slice.ensures.items ∙ ap (λ ps. places ++ ps) c.as_slice.ensures);
             on = extends_twice commands w.mid (delivered_next place scenario w.mid) (next_grows scenario place w.mid) w.on;
           };
       calm = c.in_ok-sent.ensures.cause ∙ c.loop-next.invariant.calm;

@@ -1,0 +1,41 @@
+use Rattle.std.proofs.Common.{map, sym, subst}
+use Rattle.fed_world.specs.Worlds.{Stands}
+use Rattle.closing.specs.Towards.{FailsToward, Fits}
+use Rattle.closing.proofs.Grows.{takes_made, taken_grows}
+use Rattle.closing.proofs.Towards.{on_failure, on_success, short_here}
+use Rattle.closing.proofs.World.{has_lines}
+use Rattle.fed_rules.specs.Closing.{taken}
+use Rattle.closing.proofs.delivering.take_all.Goals as goal
+
+pub returns-in_default-clause-failed : goal.returns-in_default-clause-failed
+returns-in_default-clause-failed g c session commands s fits =
+    short_here g.D.Disk.tells c.args.world.now (map g.D.Disk.seen c.args.disks.now.items) session (taken session commands) commands (taken_grows session commands) s
+
+pub returns-in_default-takes-clause-failed : goal.returns-in_default-takes-clause-failed
+returns-in_default-takes-clause-failed g c session commands s fits =
+    short_here g.D.Disk.tells c.args.world.now (map g.D.Disk.seen c.args.disks.now.items) session (taken session commands) commands (taken_grows session commands) s
+
+pub carry_out-requires-clause-stood : goal.carry_out-requires-clause-stood
+carry_out-requires-clause-stood g c =
+    let r = c.requires.stood in
+    let are = takes_made r.session r.commands c.deref-2.result.now c.in-Ok-takes.commands.items c.deref.result.now c.in-Ok.places.items c.deref-2.ensures.value c.in-Ok-takes.ensures c.deref.ensures.value
+    (c.in-Ok.ensures r.session r.commands (has_lines _ _ _ _ _ r.stood)) in
+    record { session = r.session; commands = r.commands; stood = r.stood; holds = subst (Fits r.session) (sym are) r.holds }
+
+pub returns-clause-done : goal.returns-clause-done
+returns-clause-done g c =
+    on_success c.carry_out.result
+    (λ done session commands s fits.
+    let are = takes_made session commands c.deref-2.result.now c.in-Ok-takes.commands.items c.deref.result.now c.in-Ok.places.items c.deref-2.ensures.value c.in-Ok-takes.ensures c.deref.ensures.value
+    (c.in-Ok.ensures session commands (has_lines _ _ _ _ _ s)) in
+    subst (λ all. Stands g.D.Disk.tells c.carry_out.new.world (map g.D.Disk.seen c.carry_out.new.disks.items) session all) are (done session commands s (subst (Fits session) (sym are) fits)))
+    c.carry_out.ensures.done
+
+pub returns-clause-failed : goal.returns-clause-failed
+returns-clause-failed g c =
+    on_failure _ _ c.carry_out.result
+    (λ why failed session commands s fits.
+    let are = takes_made session commands c.deref-2.result.now c.in-Ok-takes.commands.items c.deref.result.now c.in-Ok.places.items c.deref-2.ensures.value c.in-Ok-takes.ensures c.deref.ensures.value
+    (c.in-Ok.ensures session commands (has_lines _ _ _ _ _ s)) in
+    subst (λ all. FailsToward g.D.Disk.tells why c.carry_out.new.world (map g.D.Disk.seen c.carry_out.new.disks.items) all session commands) are (failed session commands s (subst (Fits session) (sym are) fits)))
+    c.carry_out.ensures.failed
