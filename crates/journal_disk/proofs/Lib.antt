@@ -1,3 +1,4 @@
+pub mod Counted
 pub mod Parts
 pub mod Room
 pub mod Scan

@@ -1,6 +1,7 @@
 -- Where frames stand among the bytes of a journal.
 use Rattle.std.specs.Prelude.{ℕ, ◌≡◌, ◌≤◌, ◌-◌, ◌++◌, ◌∷◌, List, length, map, take, drop}
 use Rattle.std.specs.List.{AllByRecursion}
+use Rattle.byte_numbers.specs.Numbers.{number}
 use Rattle.journal_disk.specs.Frames.{Frame, Old, New, AreRight, frames, frames_size}
 use Rattle.journal_disk.specs.declared.frames.Version.{Version}
 use Rattle.journal_disk.specs.declared.frames.Version.TheVariants.{First, Second}
@@ -36,6 +37,11 @@ pub record IsWithin (bytes : List ℕ) (span : Span) : Type 0 where
   pub payload : span.start ≤ span.end
   pub digest : span.end ≤ span.next
   pub next : span.next ≤ length bytes
+
+-- before a span's payload stand the two bytes of its length
+pub record IsCounted (bytes : List ℕ) (span : Span) : Type 0 where
+  pub room : 2 ≤ span.start
+  pub is : between bytes (span.start - 2) span.end ≡ number 2 (length (piece bytes span)) ++ piece bytes span
 
 -- the spans are those of the first whole frames, which are right and end at this place
 pub record Scans (bytes : List ℕ) (spans : List Span) (place : ℕ) : Type 0 where

@@ -1,8 +1,9 @@
 //! Frames on a disk: two bytes of 0, the payload's length in two bytes, the highest first, the payload, and the digest of both.
 ghost use Rattle.std.specs.Prelude.{◌≡◌, ◌≤◌, ◌<◌, ◌-◌, ◌+◌, ◌^◌, ◌↔◌, ℕ, length, drop, take, OnOk, OnErr, IsErrOf, IsTrue};
+ghost use Rattle.sha2.specs.Sha256.{sha256};
 ghost use Rattle.mdb_base.specs.Counts.{HasCauseOf};
 ghost use Rattle.journal_disk.specs.Disk.{appended, AppendsSome};
-ghost use Rattle.journal_disk.specs.Frames.{IsPayload, digest_of as digest_of_payload, frame as frame_of};
+ghost use Rattle.journal_disk.specs.Frames.{IsPayload, frame as frame_of};
 ghost use Rattle.journal_disk.specs.Room.{payload_in};
 
 use crate::disk::Disk;
@@ -28,16 +29,12 @@ pub enum Version {
     Second,
 }
 
-/// The SHA-256 of the payload's length in two bytes and the payload.
-pub(crate) fn digest_of(payload: &[u8]) -> [u8; 32]
-    requires { IsPayload payload.now }
-    ensures { result ≡ digest_of_payload payload.now }
+/// The SHA-256 of these bytes of a frame: the two of the payload's length, and the payload.
+pub(crate) fn digest_of(counted: &[u8]) -> [u8; 32]
+    ensures { result ≡ sha256 counted.now }
 {
-    let mut length = [0; 2];
-    BigEndian::write_u16(&mut length, payload.len() as u16);
     let mut hasher = Sha256::new();
-    hasher.update(length.as_slice());
-    hasher.update(payload);
+    hasher.update(counted);
     hasher.finalize()
 }
 
@@ -73,9 +70,9 @@ fn fill_in(frame: &mut [u8])
     ensures { frame.new ≡ frame_of (payload_in frame.old) }
 {
     let end = frame.len() - ROOM_BEHIND;
-    let digest = digest_of(&frame[ROOM_BEFORE..end]);
     let mut head = [0; 4];
     BigEndian::write_u16(&mut head[2..], (end - ROOM_BEFORE) as u16);
     frame[..ROOM_BEFORE].copy_from_slice(&head);
+    let digest = digest_of(&frame[2..end]);
     frame[end..].copy_from_slice(&digest);
 }

@@ -2,8 +2,8 @@
 ghost use Rattle.std.specs.Prelude.{◌≡◌, ◌≤◌, ◌<◌, ◌-◌, ◌+◌, ◌++◌, ◌^◌, ℕ, Some, [], length, drop, slice_get, IfOk, IfSome, OnOk, IfNone, IsErrOf, IsTrue, ◌↔◌};
 ghost use Rattle.mdb_base.specs.Words.{map_some};
 ghost use Rattle.mdb_base.specs.Counts.{HasCauseOf};
-ghost use Rattle.journal_disk.specs.Frames.{frame_bytes, frames_size, payload_of, version_of, AreRight, AreWhole, IsDamaged, IsFrame, IsFront, IsPartOfFrame, IsPayload, IsRight};
-ghost use Rattle.journal_disk.specs.Spans.{frame_at, frames_at, BeginsNew, IsWithin, Scans};
+ghost use Rattle.journal_disk.specs.Frames.{digest_of as digest_of_payload, frame_bytes, frames_size, payload_of, version_of, AreRight, AreWhole, IsDamaged, IsFrame, IsFront, IsPartOfFrame, IsPayload, IsRight};
+ghost use Rattle.journal_disk.specs.Spans.{frame_at, frames_at, piece, BeginsNew, IsCounted, IsWithin, Scans};
 
 use crate::disk::Disk;
 use crate::errors::DiskErr;
@@ -25,6 +25,7 @@ struct Span {
 fn span_at(bytes: &[u8], place: usize) -> Option<Span>
     requires { place ≤ length bytes.now }
     ensures within { IfSome result (IsWithin bytes.now) }
+    ensures counted { IfSome result (IsCounted bytes.now) }
     ensures is_frame { IfSome result (λ span. IsFrame (frame_at bytes.now span)) }
     ensures parts { IfSome result (λ span. drop place bytes.now ≡ frame_bytes (frame_at bytes.now span) ++ drop span.next bytes.now) }
     ensures later { IfSome result (λ span. place < span.next) }
@@ -52,6 +53,7 @@ fn new_span_at(bytes: &[u8], place: usize) -> Option<Span>
     requires place { place + 2 ≤ length bytes.now }
     requires zeros { BeginsNew (drop place bytes.now) }
     ensures within { IfSome result (IsWithin bytes.now) }
+    ensures counted { IfSome result (IsCounted bytes.now) }
     ensures is_frame { IfSome result (λ span. IsFrame (frame_at bytes.now span)) }
     ensures parts { IfSome result (λ span. drop place bytes.now ≡ frame_bytes (frame_at bytes.now span) ++ drop span.next bytes.now) }
     ensures later { IfSome result (λ span. place < span.next) }
@@ -71,16 +73,26 @@ fn new_span_at(bytes: &[u8], place: usize) -> Option<Span>
     })
 }
 
+// The digest that the frame of this span should have, of version 2.
+fn digest_at(bytes: &[u8], span: Span) -> [u8; 32]
+    requires within { IsWithin bytes.now span }
+    requires counted { IsCounted bytes.now span }
+    ensures { result ≡ digest_of_payload (piece bytes.now span) }
+{
+    digest_of(&bytes[span.start - 2..span.end])
+}
+
 // Whether the frame of this span is right.
 fn is_right(bytes: &[u8], span: Span) -> bool
     requires within { IsWithin bytes.now span }
+    requires counted { IsCounted bytes.now span }
     requires is_frame { IsFrame (frame_at bytes.now span) }
     ensures { IsTrue result ↔ IsRight (frame_at bytes.now span) }
 {
     match span.version {
         Version::First => true,
         Version::Second => {
-            let digest = digest_of(&bytes[span.start..span.end]);
+            let digest = digest_at(bytes, span);
             digest.as_slice() == &bytes[span.end..span.next]
         }
     }

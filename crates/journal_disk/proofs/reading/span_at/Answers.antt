@@ -1,4 +1,7 @@
-use Rattle.std.proofs.Common.{arith}
+use Rattle.std.proofs.Common.{◌+◌, refl, arith}
+use Rattle.journal_disk.specs.declared.frames.Version.TheVariants.{First}
+use Rattle.journal_disk.specs.declared.reading.Span.{Span}
+use Rattle.journal_disk.proofs.Counted.{is_counted}
 use Rattle.journal_disk.proofs.Parts.{short_at, open_at, whole_at}
 use Rattle.journal_disk.proofs.reading.span_at.Goals as goal
 
@@ -10,3 +13,10 @@ returns-then-rest-count-clause-torn c = open_at c.args.bytes.now c.args.place c.
 
 pub returns-clause-parts : goal.returns-clause-parts
 returns-clause-parts c = whole_at c.args.bytes.now c.args.place c.in_ok-first.first c.in_ok-first.rest.now (λ i. omega (arith, c.type_inv.bytes i)) c.in_ok-first.ensures c.if-rest-count.false
+
+pub returns-clause-counted : goal.returns-clause-counted
+returns-clause-counted c =
+    let start = c.args.place + 2 in
+    let n = c.in_ok-first.first in
+    let span : Span = record { version = First; start = start; end = start + n; next = start + n } in
+    is_counted c.args.bytes.now span c.args.place n c.in_ok-first.rest.now (λ i. omega (arith, c.type_inv.bytes i)) c.in_ok-first.ensures c.if-rest-count.false refl refl
