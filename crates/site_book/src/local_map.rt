@@ -25,8 +25,9 @@ fn reach<A: Copy>(items: &mut Vec<Option<A>>, tx: Tx) -> Result<(), Memory>
     ensures reached { OnOk result (tx.0 < length items.new.items) }
     ensures same { by_number items.new.items ≡ by_number items.old.items }
 {
+    items.reserve((tx.0 as usize + 1).saturating_sub(items.len()))?;
     while items.len() <= tx.0 as usize {
-        items.push(None)?;
+        items.push_reserved(None);
     }
     Ok(())
 }
