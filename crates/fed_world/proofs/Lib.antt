@@ -19,7 +19,6 @@ pub mod FoundMessages
 pub mod FoundSites
 pub mod FreshWorlds
 pub mod Gathered
-pub mod GatheredParts
 pub mod GoingBack
 pub mod Growing
 pub mod LocalInstalls

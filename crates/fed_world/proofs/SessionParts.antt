@@ -30,13 +30,12 @@ use Rattle.any_engine.specs.declared.engine.AnyEngine.{AnyEngine}
 use Rattle.closing_laws.specs.AtRest.{IsAtRest}
 use Rattle.local_dbms.specs.declared.dbms.LocalDbms.{LocalDbms}
 use Rattle.session_report.specs.declared.marks.Marks.{Marks}
-use Rattle.session_report.specs.declared.session.Channel.{Channel}
 use Rattle.session_report.specs.Marks.{kept_marks}
 use Rattle.session_report.specs.Session.{HoldsMarks, HoldsMessages, IsOver, IsSession, marks_at, marks_of, story_of_lines}
 use Rattle.session_routes.specs.declared.traffic.Traffic.{Traffic}
 use Rattle.fed_world.specs.Seats.{OfDbms, SiteAt, SitesAt}
 use Rattle.fed_world.specs.declared.world.World.{World}
-use Rattle.fed_world.specs.Reporting.{Tells, channel_of, rows_at}
+use Rattle.fed_world.specs.Reporting.{Tells, rows_at}
 use Rattle.fed_world.specs.Worlds.{DbmsRecalls, HasLines, Recalls}
 use Rattle.fed_world.specs.Beginnings.{Begins, programs_at}
 use Rattle.fed_world.proofs.EngineRows.{engine_rows, found_rows}
@@ -109,16 +108,16 @@ module _ (K : OfDbms) (cores : List (LocalDbms AnyEngine)) (marks : List Marks) 
       let same = same_one t.traffic traffic (slice_get channels n) t.traffic_is at in
       subst (λ (one : Traffic). IsOf one site) same (t.site_at.part.site ∙ t.site_at.is, t.site_at.part.from))
 
-  pub messages_held : HoldsMessages session.plan story (map channel_of channels)
+  pub messages_held : HoldsMessages session.plan story channels
   messages_held = record { sites = named channels (sites session.plan) are_of; sent = sent channels (sites session.plan) are_of }
     where
-      named : (ts : List Traffic) (ss : List SiteId) → AllPairs IsOf ts ss → map (λ (channel : Channel). channel.site) (map channel_of ts) ≡ ss
+      named : (ts : List Traffic) (ss : List SiteId) → AllPairs IsOf ts ss → map (λ (channel : Traffic). channel.site) ts ≡ ss
       named [] [] h = refl
       named (t ∷ ts) (s ∷ ss) h = ap₂ (λ (x : SiteId) (xs : List SiteId). x ∷ xs) h.0.0 (named ts ss h.1)
       named [] (s ∷ ss) h = absurd h
       named (t ∷ ts) [] h = absurd h
 
-      sent : (ts : List Traffic) (ss : List SiteId) → AllPairs IsOf ts ss → Each (λ (channel : Channel). channel.from ≡ sent_from channel.site story) (map channel_of ts)
+      sent : (ts : List Traffic) (ss : List SiteId) → AllPairs IsOf ts ss → Each (λ (channel : Traffic). channel.from.items ≡ sent_from channel.site story) ts
       sent [] [] h = tt
       sent (t ∷ ts) (s ∷ ss) h = (h.0.1 ∙ ap (λ z. sent_from z story) (sym h.0.0), sent ts ss h.1)
       sent [] (s ∷ ss) h = absurd h
@@ -210,26 +209,26 @@ told_story world scenario commands h =
 
 -- it is a session, with these rows
 pub is_session : (scenario : Scenario) (commands : List Command) (world : World) → Recalls world (fresh scenario) commands → IsAtRest scenario (story_of scenario commands) → (puts : List SiteRows)
-    → puts ≡ tables scenario (story_of scenario commands) → IsSession world.cores.scenario world.lines.items (map channel_of world.traffic.items) world.cores.marks.items puts
+    → puts ≡ tables scenario (story_of scenario commands) → IsSession world.cores.scenario world.lines.items world.traffic.items world.cores.marks.items puts
 is_session scenario commands world r rest puts shown =
-    subst (λ (z : Scenario). IsSession z world.lines.items (map channel_of world.traffic.items) world.cores.marks.items puts) (sym r.has.scenario_is)
+    subst (λ (z : Scenario). IsSession z world.lines.items world.traffic.items world.cores.marks.items puts) (sym r.has.scenario_is)
     (record {
       right = right_fresh scenario (reverse world.lines.items) r.has.right;
       over = subst (λ (cs : List Command). IsOver scenario (story_of scenario cs)) (sym r.has.commands_are) (record { up = rest.coordinator_up; none_known = rest.none_known });
-      messages = subst (λ (cs : List Command). HoldsMessages scenario (story_of scenario cs) (map channel_of world.traffic.items)) (sym r.has.commands_are)
+      messages = subst (λ (cs : List Command). HoldsMessages scenario (story_of scenario cs) world.traffic.items) (sym r.has.commands_are)
           (messages_held DbmsRecalls world.cores.sites.items.items world.cores.marks.items world.traffic.items (fresh scenario) (story_of scenario commands) r.actors.sites);
       marked = subst (λ (cs : List Command). HoldsMarks scenario (story_of scenario cs) world.cores.marks.items) (sym r.has.commands_are)
           (marks_held DbmsRecalls world.cores.sites.items.items world.cores.marks.items world.traffic.items scenario (story_of scenario commands) r.actors.sites);
       shown = shown ∙ ap (λ (cs : List Command). tables scenario (story_of scenario cs)) (sym r.has.commands_are);
     })
 
--- what its lines, its channels and its marks are copied to is so too
-pub session_again : (world : World) (channels : List Channel) (puts : List SiteRows) → IsSession world.cores.scenario world.lines.items channels world.cores.marks.items puts → (lines : List Line) (sent : List Channel)
-    (marks : List Marks) → lines ≡ world.lines.items → sent ≡ channels → marks ≡ world.cores.marks.items → IsSession world.cores.scenario lines sent marks puts
-session_again world channels puts session lines sent marks told copied kept =
+-- with its lines, its channels and its marks as slices too
+pub session_again : (world : World) (puts : List SiteRows) → IsSession world.cores.scenario world.lines.items world.traffic.items world.cores.marks.items puts → (lines : List Line) (sent : List Traffic)
+    (marks : List Marks) → lines ≡ world.lines.items → sent ≡ world.traffic.items → marks ≡ world.cores.marks.items → IsSession world.cores.scenario lines sent marks puts
+session_again world puts session lines sent marks told lent kept =
     subst (λ (ls : List Line). IsSession world.cores.scenario ls sent marks puts) (sym told)
-    (subst (λ (cs : List Channel). IsSession world.cores.scenario world.lines.items cs marks puts) (sym copied)
-    (subst (λ (ms : List Marks). IsSession world.cores.scenario world.lines.items channels ms puts) (sym kept) session))
+    (subst (λ (ts : List Traffic). IsSession world.cores.scenario world.lines.items ts marks puts) (sym lent)
+    (subst (λ (ms : List Marks). IsSession world.cores.scenario world.lines.items world.traffic.items ms puts) (sym kept) session))
 
 -- the coordinator tells of its commits
 pub tells_commits : (scenario : Scenario) (commands : List Command) (world : World) → Recalls world (fresh scenario) commands → IsAtRest scenario (story_of scenario commands) → (lines : List Line) → lines ≡ world.lines.items

@@ -21,14 +21,8 @@ use Rattle.fed_rules.specs.Resumed.{rest_of}
 use Rattle.fed_rules.specs.Sessions.{Session}
 use Rattle.fed_rules.specs.Story.{Story, coord_past}
 use Rattle.global_manager.specs.Stands.{EachManaged}
-use Rattle.session_report.specs.declared.session.Channel.{Channel}
-use Rattle.session_routes.specs.declared.traffic.Traffic.{Traffic}
 use Rattle.fed_world.specs.declared.world.World.{World}
 use Rattle.fed_world.specs.Worlds.{ManagerRecalls}
-
--- the messages to and from a site, as the report reads them
-abbrev pub channel_of : Traffic → Channel
-channel_of traffic = record { site = traffic.site; to = traffic.to.items; from = traffic.from.items }
 
 -- the rows of a site in a story
 abbrev pub rows_at : Scenario → Story → SiteId → SiteRows

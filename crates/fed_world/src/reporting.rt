@@ -1,53 +1,19 @@
 //! The report of a world's session.
-ghost use Rattle.std.specs.Prelude.{◌≡◌, ◌<◌, IfOk, Some, length, map, slice_get};
+ghost use Rattle.std.specs.Prelude.{◌≡◌, ◌<◌, IfOk, Some, length, slice_get};
 ghost use Rattle.mdb_base.specs.declared.names.SiteId.{SiteId as TheSite};
 ghost use Rattle.fed_rules.specs.Reports.{report_of, tables};
 ghost use Rattle.fed_rules.specs.Scenarios.{sites};
 ghost use Rattle.fed_rules.specs.Sessions.{fresh};
 ghost use Rattle.fed_rules.specs.Story.{story_in, story_of};
 ghost use Rattle.session_report.specs.InOrder.{IsReportIn};
-ghost use Rattle.session_report.specs.Session.{IsSession};
 ghost use Rattle.fed_world.specs.Reporting as reporting;
 ghost use Rattle.fed_world.specs.Worlds.{AnyStory, EachStory, Recalls, Rests, SomeStory};
 
 use crate::world::World;
-use fed_rules::{FromMessages, Report, ToMessages};
+use fed_rules::Report;
 use mdb_base::{Memory, SiteRows, Tid, Tx};
-use session_report::{Channel, report, report_in};
-use session_routes::Traffic;
+use session_report::{report, report_in};
 use std::alloc::Global;
-
-/// What a world hands to the report of its session beside what it keeps: the messages and the rows of each site, by rising site.
-#[derive(Drop)]
-struct Handed {
-    channels: Vec<Channel>,
-    tables: Vec<SiteRows>,
-}
-
-/// The messages to and from a site, as the report reads them.
-fn channel_of(alloc: Global, traffic: &Traffic) -> Result<Channel, Memory>
-    ensures { IfOk result (λ channel. channel ≡ reporting.channel_of traffic.now) }
-{
-    let to = Vec::from_slice(alloc, traffic.to.as_slice())?;
-    let from = Vec::from_slice(alloc, traffic.from.as_slice())?;
-    Ok(Channel {
-        site: traffic.site,
-        to: ToMessages::of(to),
-        from: FromMessages::of(from),
-    })
-}
-
-/// The messages to and from each of these sites, in their order.
-pub(crate) fn channels_of(alloc: Global, traffic: &[Traffic]) -> Result<Vec<Channel>, Memory>
-    ensures { IfOk result (λ channels. channels.items ≡ map reporting.channel_of traffic.now) }
-{
-    let mut channels = Vec::new(alloc);
-    for one in traffic {
-        let channel = channel_of(alloc, one)?;
-        channels.push(channel)?;
-    }
-    Ok(channels)
-}
 
 impl World {
     /// The rows of the site at this place, in a session at rest.
@@ -78,16 +44,6 @@ impl World {
         Ok(tables)
     }
 
-    /// What the report of a session at rest that began with empty disks reads beside the lines and the marks: with them, it is the session's.
-    fn handed(&self, alloc: Global) -> Result<Handed, Memory>
-        requires { SomeStory (λ scenario. Recalls self.now (fresh scenario)) (λ scenario. Rests (fresh scenario)) }
-        ensures { IfOk result (λ handed. IsSession self.now.cores.scenario self.now.lines.items handed.channels.items self.now.cores.marks.items handed.tables.items) }
-    {
-        let channels = channels_of(alloc, self.traffic.as_slice())?;
-        let tables = self.tables(alloc)?;
-        Ok(Handed { channels, tables })
-    }
-
     /// The committed attempt of a global transaction, where the coordinator is up.
     fn committed(&self, tx: Tx) -> Option<Tid>
         ensures { reporting.Tells self.now tx result }
@@ -114,7 +70,7 @@ impl World {
         requires { SomeStory (λ scenario. Recalls self.now (fresh scenario)) (λ scenario. Rests (fresh scenario)) }
         ensures { IfOk result (λ report. EachStory (λ scenario. Recalls self.now (fresh scenario)) (λ scenario commands. report ≡ report_of scenario (story_of scenario commands))) }
     {
-        let Handed { channels, tables } = self.handed(alloc)?;
+        let tables = self.tables(alloc)?;
         let committed = |tx: Tx|
             ensures { reporting.Tells self.entry.now tx result }
         { self.committed(tx) };
@@ -122,7 +78,7 @@ impl World {
             alloc,
             &self.cores.scenario,
             self.lines.as_slice(),
-            channels.as_slice(),
+            self.traffic.as_slice(),
             self.cores.marks.as_slice(),
             tables,
             &committed,
@@ -135,7 +91,7 @@ impl World {
         requires { SomeStory (λ scenario. Recalls self.now (fresh scenario)) (λ scenario. Rests (fresh scenario)) }
         ensures { IfOk result (λ report. EachStory (λ scenario. Recalls self.now (fresh scenario)) (λ scenario commands. IsReportIn scenario (story_of scenario commands) order.now report)) }
     {
-        let Handed { channels, tables } = self.handed(alloc)?;
+        let tables = self.tables(alloc)?;
         let committed = |tx: Tx|
             ensures { reporting.Tells self.entry.now tx result }
         { self.committed(tx) };
@@ -143,7 +99,7 @@ impl World {
             alloc,
             &self.cores.scenario,
             self.lines.as_slice(),
-            channels.as_slice(),
+            self.traffic.as_slice(),
             self.cores.marks.as_slice(),
             tables,
             &committed,

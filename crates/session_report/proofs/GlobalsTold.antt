@@ -40,7 +40,7 @@ use Rattle.federation_laws.proofs.CoordHolds.{begun-next, is_begun}
 use Rattle.federation_laws.proofs.StoryGlobals.{coord-made, fresh-line, story-holds}
 use Rattle.federation_laws.proofs.Told as Fed
 use Rattle.federation_laws.proofs.Dues.{reads_of}
-use Rattle.session_report.specs.declared.session.Channel.{Channel}
+use Rattle.session_routes.specs.declared.traffic.Traffic.{Traffic}
 use Rattle.session_report.specs.Told.{Reads, Told, after_begin, after_command, after_step, is_counted, message_at, told_by, with_begun, with_go, with_reply, with_taken, with_value}
 use Rattle.session_report.proofs.Lookups.{look, look_begun, look_value, tids_begun, tids_of, tids_value}
 use Rattle.session_report.proofs.Silences.{BeginsNone, IsSilent, Silence, silent, value_says}
@@ -63,10 +63,10 @@ globals_of [] = []
 globals_of (x ∷ past) = after_coord x.event x.answer (globals_of past)
 
 -- the channels have each message of the story at its place
-abbrev pub Covers : List Channel → Story → Type 0
+abbrev pub Covers : List Traffic → Story → Type 0
 Covers channels story = (site : SiteId) (place : ℕ) (message : FromSite) → item_at (sent_from site story) place ≡ Some message → message_at channels site place ≡ Some message
 
-pub covers_before : (channels : List Channel) (scenario : Scenario) (command : Command) (commands : List Command) → Covers channels (story_of scenario (command ∷ commands)) → Covers channels (story_of scenario commands)
+pub covers_before : (channels : List Traffic) (scenario : Scenario) (command : Command) (commands : List Command) → Covers channels (story_of scenario (command ∷ commands)) → Covers channels (story_of scenario commands)
 covers_before channels scenario command commands c site place message e =
     c site place message (item_at-front (sent_from site (story_of scenario commands)) (sends_from site (happens scenario (story_of scenario commands) command)) place message e)
 
@@ -112,7 +112,7 @@ taken_coord protocols policy past site (From.Vote tid ticket) printed answer rea
 taken_coord protocols policy past site (From.Ack tid) printed answer reads s is = either_same (is_counted printed) reads ∙ sym (either_same (counts answer) reads)
 taken_coord protocols policy past site (From.Inquiry tid) printed answer reads s is = either_same (is_counted printed) reads ∙ sym (either_same (counts answer) reads)
 
-module _ (scenario : Scenario) (channels : List Channel) (story : Story) (told : Told) where
+module _ (scenario : Scenario) (channels : List Traffic) (story : Story) (told : Told) where
   abbrev global_reads : Reads
   global_reads = told.globals
 
@@ -180,7 +180,7 @@ quiet_there : (scenario : Scenario) (story : Story) (command : Command) (happene
 quiet_there scenario story command happened e answer f = subst (Silence command) (e ∙ f) (silent scenario story command)
 
 -- what right lines tell of them
-pub globals_told : (scenario : Scenario) (channels : List Channel) (lines : List Line) → IsRightStory scenario lines → Covers channels (story_told scenario lines)
+pub globals_told : (scenario : Scenario) (channels : List Traffic) (lines : List Line) → IsRightStory scenario lines → Covers channels (story_told scenario lines)
     → (told_by channels lines).globals ≡ globals_of (coord_past (story_told scenario lines))
 globals_told scenario channels [] right covers = refl
 globals_told scenario channels (line ∷ lines) (right, next) covers =

@@ -32,7 +32,7 @@ use Rattle.rules_laws.proofs.Lines as Asked
 use Rattle.rules_laws.proofs.SitePasts.{live_is_of, BeginsNone as NoBegin}
 use Rattle.site_history.specs.Stories.{StoriesHaveRightLines}
 use Rattle.federation_laws.proofs.LocalStories.{local-story}
-use Rattle.session_report.specs.declared.session.Channel.{Channel}
+use Rattle.session_routes.specs.declared.traffic.Traffic.{Traffic}
 use Rattle.session_report.specs.Told.{Told, after_begin, after_command, after_step, told_by, with_begun, with_step, with_value}
 use Rattle.session_report.proofs.Answered.{BeginsSo, Says, site_says}
 use Rattle.session_report.proofs.LastBegun.{begun_in, last_begun, lasts}
@@ -273,7 +273,7 @@ module _ (rights : StoriesHaveRightLines) (scenario : Scenario) (whole : IsScena
     step_line tx tid act here e own last answer a =
         kept_on home x (Cmd.Step tx) told (λ q. ap (λ ev. read_by q ev x.answer) (says.heard ∙ e) ∙ ap (read_by q (Ev.Act tid act)) a) (λ q older. ap (λ z. begun_in q z older) a) h
 
-    site_locals : (channels : List Channel) (command : Command) (printed : Answer) → Lines.SiteCause scenario home story command event → printed ≡ x.answer
+    site_locals : (channels : List Traffic) (command : Command) (printed : Answer) → Lines.SiteCause scenario home story command event → printed ≡ x.answer
         → Locals scenario (record { command = command; happened = AtSite home.site x } ∷ story) (after_command channels command printed told)
     site_locals channels (Cmd.Begin tx) printed c a = begin_line tx c.here c.asks.is printed (sym a)
     site_locals channels (Cmd.Step tx) printed c a =
@@ -297,14 +297,14 @@ module _ (rights : StoriesHaveRightLines) (scenario : Scenario) (whole : IsScena
     site_locals channels (Cmd.Take site place) printed c a = absurd c
 
   -- a line of the coordinator tells nothing of them
-  coord_locals : (channels : List Channel) (command : Command) (x : _) (event : _) (printed : Answer) (told : Told) → Lines.CoordCause scenario story command event → Locals scenario story told
+  coord_locals : (channels : List Traffic) (command : Command) (x : _) (event : _) (printed : Answer) (told : Told) → Lines.CoordCause scenario story command event → Locals scenario story told
       → Locals scenario (record { command = command; happened = AtCoordinator x } ∷ story) (after_command channels command printed told)
   coord_locals channels (Cmd.Begin tx) x event printed told c h = absurd c
   coord_locals channels (Cmd.Step tx) x event printed told c h = absurd c
   coord_locals channels command x event printed told c h = record { reads = h.reads; running = h.running; stands = h.stands }
 
   -- nor does one that no actor hears of
-  nowhere_locals : (channels : List Channel) (command : Command) (answer printed : Answer) (told : Told) → IsSilent command printed → Locals scenario story told
+  nowhere_locals : (channels : List Traffic) (command : Command) (answer printed : Answer) (told : Told) → IsSilent command printed → Locals scenario story told
       → Locals scenario (record { command = command; happened = Nowhere answer } ∷ story) (after_command channels command printed told)
   nowhere_locals channels (Cmd.Begin tx) answer printed told s h =
       subst (Locals scenario (record { command = Cmd.Begin tx; happened = Nowhere answer } ∷ story)) (sym (begins_none printed s tx told)) (record { reads = h.reads; running = h.running; stands = h.stands })
@@ -312,7 +312,7 @@ module _ (rights : StoriesHaveRightLines) (scenario : Scenario) (whole : IsScena
       subst (Locals scenario (record { command = Cmd.Step tx; happened = Nowhere answer } ∷ story)) (sym (reads_none printed s tx told)) (record { reads = h.reads; running = h.running; stands = h.stands })
   nowhere_locals channels command answer printed told s h = record { reads = h.reads; running = h.running; stands = h.stands }
 
-  line_locals : (channels : List Channel) (command : Command) (happened : Happened) (printed : Answer) (told : Told) → Lines.IsLine scenario story command happened → ((answer : Answer) → happened ≡ Nowhere answer → IsSilent command answer)
+  line_locals : (channels : List Traffic) (command : Command) (happened : Happened) (printed : Answer) (told : Told) → Lines.IsLine scenario story command happened → ((answer : Answer) → happened ≡ Nowhere answer → IsSilent command answer)
       → IsAnswer (protocols scenario) story happened printed → Locals scenario story told → Locals scenario (record { command = command; happened = happened } ∷ story) (after_command channels command printed told)
   line_locals channels command (AtSite site x) printed told line s a h =
       subst (λ z. Locals scenario (record { command = command; happened = AtSite z x } ∷ story) (after_command channels command printed told)) (sym line.here)
@@ -321,7 +321,7 @@ module _ (rights : StoriesHaveRightLines) (scenario : Scenario) (whole : IsScena
   line_locals channels command (Nowhere answer) printed told line s a h = nowhere_locals channels command answer printed told (subst (IsSilent command) (sym a) (s answer refl)) h
 
 -- what right lines tell of them
-pub locals_told : StoriesHaveRightLines → (scenario : Scenario) → IsScenario scenario → (channels : List Channel) (lines : List Line) → IsRightStory scenario lines → Locals scenario (story_told scenario lines) (told_by channels lines)
+pub locals_told : StoriesHaveRightLines → (scenario : Scenario) → IsScenario scenario → (channels : List Traffic) (lines : List Line) → IsRightStory scenario lines → Locals scenario (story_told scenario lines) (told_by channels lines)
 locals_told rights scenario whole channels [] right = record { reads = λ home tid here. refl; running = λ home tx here. refl; stands = λ tx tid e. cc }
 locals_told rights scenario whole channels (line ∷ lines) (right, next) =
     let commands = map (λ (l : Line). l.command) lines in

@@ -50,7 +50,7 @@ use Rattle.federation_laws.proofs.Told.{home-again}
 use Rattle.federation_laws.proofs.Headlines.{none_rising}
 use Rattle.session_report.specs.declared.gathering.Gathered.{Gathered}
 use Rattle.session_report.specs.declared.marks.Marks.{Marks}
-use Rattle.session_report.specs.declared.session.Channel.{Channel}
+use Rattle.session_routes.specs.declared.traffic.Traffic.{Traffic}
 use Rattle.session_report.specs.Gathering.{IsGathered}
 use Rattle.session_report.specs.Outcomes.{decision_by, is_abort, is_refused, outcomes_by}
 use Rattle.session_report.specs.Ranks.{order_told, orders_told}
@@ -62,13 +62,13 @@ use Rattle.session_report.proofs.Lookups.{look, tids_of}
 use Rattle.session_report.proofs.OrdersTold.{Agree, order_is}
 use Rattle.session_report.proofs.OutcomesTold.{abort_is, decision_is, refused_is}
 
-covers_in : (story : Story) (channels : List Channel) (site : SiteId) (place : ℕ) (message : FromSite) → Among (λ channel. channel.site ≡ site) channels → Each (λ channel. channel.from ≡ sent_from channel.site story) channels
+covers_in : (story : Story) (channels : List Traffic) (site : SiteId) (place : ℕ) (message : FromSite) → Among (λ channel. channel.site ≡ site) channels → Each (λ channel. channel.from.items ≡ sent_from channel.site story) channels
     → item_at (sent_from site story) place ≡ Some message → message_at channels site place ≡ Some message
 covers_in story [] site place message i sent e = absurd i
 covers_in story (channel ∷ channels) site place message i sent e = by_test (same_site channel.site site) refl i (λ j. covers_in story channels site place message j sent.1 e)
   where
-    by_test : (b : Bool) → same_site channel.site site ≡ b → Among (λ (c : Channel). c.site ≡ site) (channel ∷ channels) → (Among (λ (c : Channel). c.site ≡ site) channels → message_at channels site place ≡ Some message)
-        → cond b (item_at channel.from place) (message_at channels site place) ≡ Some message
+    by_test : (b : Bool) → same_site channel.site site ≡ b → Among (λ (c : Traffic). c.site ≡ site) (channel ∷ channels) → (Among (λ (c : Traffic). c.site ≡ site) channels → message_at channels site place ≡ Some message)
+        → cond b (item_at channel.from.items place) (message_at channels site place) ≡ Some message
     by_test true q i h = ap (λ ms. item_at ms place) (sent.0 ∙ ap (λ z. sent_from z story) (same_site-equal channel.site site q)) ∙ e
     by_test false q (inl same) h = (let tie = subst (λ z. same_site channel.site z ≡ true) same (same_site-refl channel.site) in let clash = sym q ∙ tie in cc)
     by_test false q (inr j) h = h j
@@ -78,12 +78,12 @@ listed_in [] site i = i
 listed_in (m ∷ ms) site (inl e) = inl e
 listed_in (m ∷ ms) site (inr i) = inr (listed_in ms site i)
 
-channel_in : (channels : List Channel) (site : SiteId) → In site (map (λ channel. channel.site) channels) → Among (λ channel. channel.site ≡ site) channels
+channel_in : (channels : List Traffic) (site : SiteId) → In site (map (λ channel. channel.site) channels) → Among (λ channel. channel.site ≡ site) channels
 channel_in [] site i = i
 channel_in (c ∷ cs) site (inl e) = inl e
 channel_in (c ∷ cs) site (inr i) = inr (channel_in cs site i)
 
-covers : (scenario : Scenario) (commands : List Command) (channels : List Channel) → HoldsMessages scenario (story_of scenario commands) channels → Covers channels (story_of scenario commands)
+covers : (scenario : Scenario) (commands : List Command) (channels : List Traffic) → HoldsMessages scenario (story_of scenario commands) channels → Covers channels (story_of scenario commands)
 covers scenario commands channels m site place message e = by_home (home_of scenario site) refl
   where
     weaker : (ms : List Participant) (home : Home) → Among (λ (p : Participant). (p.site ≡ site) × (p.protocol ≡ home.protocol)) ms → Among (λ (p : Participant). p.site ≡ site) ms
@@ -132,7 +132,7 @@ site_of_order scenario story [] ts i = absurd i
 site_of_order scenario story (s ∷ ss) ts (inl e) = (s, e)
 site_of_order scenario story (s ∷ ss) ts (inr i) = site_of_order scenario story ss ts i
 
-module _ (rights : StoriesHaveRightLines) (one_order : OfStories HasOneOrder) (scenario : Scenario) (whole : IsScenario scenario) (lines : List Line) (channels : List Channel) (marks : List Marks) (rows : List SiteRows)
+module _ (rights : StoriesHaveRightLines) (one_order : OfStories HasOneOrder) (scenario : Scenario) (whole : IsScenario scenario) (lines : List Line) (channels : List Traffic) (marks : List Marks) (rows : List SiteRows)
     (session : IsSession scenario lines channels marks rows) where
   abbrev commands : List Command
   commands = map (λ (l : Line). l.command) (reverse lines)

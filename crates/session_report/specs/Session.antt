@@ -18,7 +18,7 @@ use Rattle.fed_rules.specs.SiteRecords.{Home}
 use Rattle.fed_rules.specs.Story.{Story, coord_past, past_of, sent_from}
 use Rattle.session_report.specs.declared.marks.Mark.{Mark}
 use Rattle.session_report.specs.declared.marks.Marks.{Marks}
-use Rattle.session_report.specs.declared.session.Channel.{Channel}
+use Rattle.session_routes.specs.declared.traffic.Traffic.{Traffic}
 use Rattle.session_report.specs.Marks.{kept_marks}
 use Rattle.session_report.specs.Outcomes.{Gives}
 
@@ -35,9 +35,9 @@ abbrev pub marks_of : Scenario → Story → SiteId → List Mark
 marks_of scenario story site = marks_at (home_of scenario site) story
 
 -- a channel for each declared site, by rising site, has all messages that the site sent
-pub record HoldsMessages (scenario : Scenario) (story : Story) (channels : List Channel) : Type 0 where
+pub record HoldsMessages (scenario : Scenario) (story : Story) (channels : List Traffic) : Type 0 where
   pub sites : map (λ channel. channel.site) channels ≡ sites scenario
-  pub sent : Each (λ channel. channel.from ≡ sent_from channel.site story) channels
+  pub sent : Each (λ channel. channel.from.items ≡ sent_from channel.site story) channels
 
 -- the marks of each declared site, by rising site
 pub record HoldsMarks (scenario : Scenario) (story : Story) (marks : List Marks) : Type 0 where
@@ -54,7 +54,7 @@ pub record IsOver (scenario : Scenario) (story : Story) : Type 0 where
   pub none_known : known scenario story ≡ []
 
 -- these are a session's: lines that are right, of a session that is over, with its messages, marks and tables
-pub record IsSession (scenario : Scenario) (lines : List Line) (channels : List Channel) (marks : List Marks) (rows : List SiteRows) : Type 0 where
+pub record IsSession (scenario : Scenario) (lines : List Line) (channels : List Traffic) (marks : List Marks) (rows : List SiteRows) : Type 0 where
   pub right : IsRightStory scenario (reverse lines)
   pub over : IsOver scenario (story_of_lines scenario lines)
   pub messages : HoldsMessages scenario (story_of_lines scenario lines) channels

@@ -17,7 +17,7 @@ use Rattle.fed_rules.specs.declared.messages.FromSite.{FromSite}
 use Rattle.fed_rules.specs.declared.messages.FromSite.TheVariants as From
 use Rattle.fed_rules.specs.declared.report.TxReads.{TxReads}
 use Rattle.fed_rules.specs.CoordPast.{counts}
-use Rattle.session_report.specs.declared.session.Channel.{Channel}
+use Rattle.session_routes.specs.declared.traffic.Traffic.{Traffic}
 
 -- values with the attempts that read them, by rising attempt
 abbrev pub Reads : Type 0
@@ -45,9 +45,9 @@ abbrev pub untold : Told
 untold = record { globals = []; locals = []; running = [] }
 
 -- the message at this place of those that the site sent
-abbrev pub message_at : List Channel → SiteId → ℕ → Option FromSite
+abbrev pub message_at : List Traffic → SiteId → ℕ → Option FromSite
 message_at [] site place = None
-message_at (channel ∷ channels) site place = cond (same_site channel.site site) (item_at channel.from place) (message_at channels site place)
+message_at (channel ∷ channels) site place = cond (same_site channel.site site) (item_at channel.from.items place) (message_at channels site place)
 
 -- whether a line that takes a message counts it: there is one, the coordinator is up, and the message is a new one
 abbrev pub is_counted : Answer → Bool
@@ -85,7 +85,7 @@ after_step tx (Say.Read key value) told = record told { locals = with_step (look
 after_step tx answer told = told
 
 -- one line more
-abbrev pub after_command : List Channel → Command → Answer → Told → Told
+abbrev pub after_command : List Traffic → Command → Answer → Told → Told
 after_command channels (Cmd.Begin tx) answer told = after_begin tx answer told
 after_command channels (Cmd.Step tx) answer told = after_step tx answer told
 after_command channels (Cmd.Go tx) answer told = record told { globals = with_go answer told.globals }
@@ -93,16 +93,16 @@ after_command channels (Cmd.Take site place) answer told =
     record told { globals = with_taken (message_at channels site place) answer told.globals }
 after_command channels command answer told = told
 
-abbrev pub after_line : List Channel → Line → Told → Told
+abbrev pub after_line : List Traffic → Line → Told → Told
 after_line channels line told = after_command channels line.command line.answer told
 
 -- what these lines tell, the last one first
-abbrev pub told_by : List Channel → List Line → Told
+abbrev pub told_by : List Traffic → List Line → Told
 told_by channels [] = untold
 told_by channels (line ∷ lines) = after_line channels line (told_by channels lines)
 
 -- what is told behind these further lines, the first one first
-abbrev pub told_on : List Channel → List Line → Told → Told
+abbrev pub told_on : List Traffic → List Line → Told → Told
 told_on channels [] told = told
 told_on channels (line ∷ lines) told = told_on channels lines (after_line channels line told)
 

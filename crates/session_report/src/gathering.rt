@@ -6,11 +6,11 @@ ghost use Rattle.session_report.specs.Session.{IsSession, TellsCommits, story_of
 use crate::commits::{outcomes, refused};
 use crate::marks::Marks;
 use crate::orders::site_orders;
-use crate::session::Channel;
 use crate::telling::Telling;
 use fed_rules::{Line, Outcome, Scenario};
 use federation_laws::federation_is_serializable;
 use mdb_base::{Memory, SiteRows, Tid, Tids, Tx};
+use session_routes::Traffic;
 use site_history::stories_have_right_lines;
 use std::alloc::Global;
 
@@ -31,7 +31,7 @@ pub(crate) fn gather<F: Fn(Tx) -> Option<Tid>>(
     alloc: Global,
     scenario: &Scenario,
     lines: &[Line],
-    channels: &[Channel],
+    channels: &[Traffic],
     marks: &[Marks],
     tables: Vec<SiteRows>,
     committed: &F,

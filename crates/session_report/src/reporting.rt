@@ -15,11 +15,11 @@ ghost use Rattle.session_report.specs.Told.{reads_told};
 
 use crate::gathering::{Gathered, gather};
 use crate::marks::Marks;
-use crate::session::Channel;
 use crate::telling::Telling;
 use fed_rules::{AllReads, AllRows, Line, Outcomes, Report, Scenario, TxReads};
 use mdb_base::{Memory, SiteRows, Tid, Tids, Tx};
 use order_merge::{is_merge, merge_orders};
+use session_routes::Traffic;
 use std::alloc::Global;
 
 /// All attempts of these orders, one order after the other. There is room for so many of them.
@@ -66,7 +66,7 @@ pub fn report<F: Fn(Tx) -> Option<Tid>>(
     alloc: Global,
     scenario: &Scenario,
     lines: &[Line],
-    channels: &[Channel],
+    channels: &[Traffic],
     marks: &[Marks],
     tables: Vec<SiteRows>,
     committed: &F,
@@ -90,7 +90,7 @@ pub fn report_in<F: Fn(Tx) -> Option<Tid>>(
     alloc: Global,
     scenario: &Scenario,
     lines: &[Line],
-    channels: &[Channel],
+    channels: &[Traffic],
     marks: &[Marks],
     tables: Vec<SiteRows>,
     committed: &F,

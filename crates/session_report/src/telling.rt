@@ -7,9 +7,9 @@ ghost use Rattle.session_report.specs.Told.{after_begin, after_line, after_step,
 ghost use Rattle.mdb_base.specs.Names.{tx_cmp};
 
 use crate::reads::{begun, note_begun, note_value, values_of};
-use crate::session::Channel;
 use fed_rules::{Answer, Command, FromSite, Line, TxReads};
 use mdb_base::{Memory, Reply, SiteId, Tid, Tx, Values};
+use session_routes::Traffic;
 use std::alloc::Global;
 use std::collections::BTreeMap;
 use std::marker::Model;
@@ -34,7 +34,7 @@ impl Model for Telling {
 
 impl Telling {
     /// What these lines tell, the first line first, with the messages that the sites sent.
-    pub(crate) fn of(alloc: Global, channels: &[Channel], lines: &[Line]) -> Result<Telling, Memory>
+    pub(crate) fn of(alloc: Global, channels: &[Traffic], lines: &[Line]) -> Result<Telling, Memory>
         ensures { IfOk result (λ telling. telling ≡ told_by channels.now (reverse lines.now)) }
     {
         let mut telling = Telling {
@@ -74,7 +74,7 @@ impl Telling {
     }
 
     /// One line more.
-    fn hear(&mut self, alloc: Global, channels: &[Channel], line: &Line) -> Result<(), Memory>
+    fn hear(&mut self, alloc: Global, channels: &[Traffic], line: &Line) -> Result<(), Memory>
         ensures { OnOk result (self.new ≡ after_line channels.now line.now self.old) }
     {
         match line.command {
@@ -159,7 +159,7 @@ fn is_counted(answer: &Answer) -> bool
 }
 
 /// The message at this place of those that the site sent.
-fn message_at(channels: &[Channel], site: SiteId, place: u32) -> Option<FromSite>
+fn message_at(channels: &[Traffic], site: SiteId, place: u32) -> Option<FromSite>
     ensures { result ≡ message_at channels.now site place }
 {
     for channel in channels {

@@ -1,5 +1,9 @@
-use Rattle.fed_world.proofs.SessionParts.{session_again, tells_commits}
+use Rattle.fed_rules.specs.Sessions.{fresh}
+use Rattle.fed_world.proofs.SessionParts.{is_session, session_again, tells_commits}
 use Rattle.fed_world.proofs.world.World.report_in.Goals as goal
+
+pub tables-requires : goal.tables-requires
+tables-requires c = let r = c.requires in record { session = fresh r.session; commands = r.commands; stood = r.stood; holds = tt }
 
 pub report_in-requires-clause-told : goal.report_in-requires-clause-told
 report_in-requires-clause-told c = λ tx found small post.
@@ -8,5 +12,8 @@ report_in-requires-clause-told c = λ tx found small post.
 
 pub report_in-requires-clause-session : goal.report_in-requires-clause-session
 report_in-requires-clause-session c =
-    session_again c.args.self.now c.in_ok-channels.field-0.channels.items c.in_ok-channels.field-0.tables.items c.in_ok-channels.ensures c.as_slice.result.now c.as_slice-2.result.now c.as_slice-3.result.now
-    c.as_slice.ensures.value c.as_slice-2.ensures.value c.as_slice-3.ensures.value
+    let world = c.args.self.now in
+    let r = c.requires in
+    let puts = c.in_ok-tables.tables.items in
+    session_again world puts (is_session r.session r.commands world r.stood r.holds puts (c.in_ok-tables.ensures (fresh r.session) r.commands r.stood r.holds)) c.as_slice.result.now
+    c.as_slice-2.result.now c.as_slice-3.result.now c.as_slice.ensures.value c.as_slice-2.ensures.value c.as_slice-3.ensures.value
