@@ -36,7 +36,7 @@ module _ {E D : Type 0} (stands : E → Start → List EngineLine → Type 0) (t
       let turns = k.turns in
       let past = past_of plan turns in
       let same : told ≡ record told { command = command_of verb tx; send = None; after = 0 } =
-      shape ∙ ap (λ (c : Command). let t : Told = record { command = c; answer = told.answer; send = None; after = 0; places = told.places } in t) command in
+      shape ∙ ap (λ (c : Command). let t : Told = record { command = c; answer = told.answer; send = None; after = 0 } in t) command in
       let is : IsTold plan turns told None = subst (λ (t : Told). IsTold plan turns t None) (sym same) (asked_told plan turns verb tx told (Stands stands tells dbms (seen disk)) serves k.standing.core.holds.made own may) in
       let stood : Stands stands tells dbms (seen disk) plan.home plan.programs (past_behind plan.home past (request_of plan past told.command None)) =
       subst (λ (c : Command). Stands stands tells dbms (seen disk) plan.home plan.programs (past_behind plan.home past (request_of plan past c None))) (sym command)

@@ -1,7 +1,5 @@
 -- What a turn of a site's host leaves: of a start, of an inquiry, and of a packet.
 use Rattle.std.proofs.Common.{◌≡◌, ◌+◌, ◌≤◌, ◌<◌, ◌^◌, Bool, true, false, is_some, Err, Option, Some, None, List, [], ◌∷◌, ◌++◌, length, refl, sym, ap, ap₂, ◌∙◌, subst, arith}
-use Rattle.std.specs.Global.{Vec}
-use Rattle.std.specs.Vec.{vec_capacity}
 use Rattle.mdb_base.specs.declared.names.SiteId.{SiteId}
 use Rattle.mdb_base.specs.declared.names.Tid.{Tid}
 use Rattle.mdb_base.specs.Counts.{HasCauseOf}
@@ -9,7 +7,6 @@ use Rattle.mdb_base.specs.Words.{found}
 use Rattle.mdb_base.proofs.JoinLaws.{length-append}
 use Rattle.fed_rules.specs.declared.answers.Answer.{Answer}
 use Rattle.fed_rules.specs.declared.commands.Command.TheVariants as Cmd
-use Rattle.fed_rules.specs.declared.commands.Place.{Place}
 use Rattle.fed_rules.specs.declared.events.SiteEvent.TheVariants as Ev
 use Rattle.fed_rules.specs.declared.events.SiteStep.{SiteStep}
 use Rattle.fed_rules.specs.declared.messages.ToSite.{ToSite}
@@ -147,41 +144,41 @@ module _ {E D : Type 0} (stands : E → Start → List EngineLine → Type 0) (t
   module _ (old : SiteActor E D) (dbms : LocalDbms E) (disk : D) (new : SiteActor E D) (few : length old.lines.items < most_lines) (faults : (seen disk).faults ≡ (seen old.disk).faults)
       (beside : IsBesideLines (record old { dbms = dbms; disk = disk }) new) (moved_on : HasMovedOn new.ends.outlet) where
     -- the line of a start
-    pub start_line : (k : Keeps stands tells seen sites rings false old) (answer : Answer) (places : Vec Place)
+    pub start_line : (k : Keeps stands tells seen sites rings false old) (answer : Answer)
         → Serves (Stands stands tells dbms (seen disk)) answer k.plan.home k.plan.programs (past_of k.plan k.turns) (Submits Ev.Back)
-        → Carries stands tells (seen disk) (record old { dbms = dbms; disk = disk }) new (record { command = Cmd.Back old.ends.site.0; answer = answer; send = None; after = 0; places = places })
-        → HasLine stands tells seen sites rings old new (record { command = Cmd.Back old.ends.site.0; answer = answer; send = None; after = 0; places = places })
-    start_line k answer places serves carries =
-        let told : Told = record { command = Cmd.Back old.ends.site.0; answer = answer; send = None; after = 0; places = places } in
+        → Carries stands tells (seen disk) (record old { dbms = dbms; disk = disk }) new (record { command = Cmd.Back old.ends.site.0; answer = answer; send = None; after = 0 })
+        → HasLine stands tells seen sites rings old new (record { command = Cmd.Back old.ends.site.0; answer = answer; send = None; after = 0 })
+    start_line k answer serves carries =
+        let told : Told = record { command = Cmd.Back old.ends.site.0; answer = answer; send = None; after = 0 } in
         let none = (line_back k.plan.home (past_of k.plan k.turns)).0 in
         let is = event_told k.plan k.turns told None Ev.Back (ap (λ (s : SiteId). s.0) k.planned.site, refl) refl (omega arith) refl k.standing.core.holds.made tt serves.said (sym none) in
         line_carried stands tells seen sites rings old dbms disk new k.plan k.turns told None (taken old.ends.inlet) k.planned k.kept few is refl serves.next refl k.heard (faults ∙ k.faults) carries beside moved_on
 
     -- the line of an inquiry
-    pub ask_line : (k : Keeps stands tells seen sites rings false old) (tid : Tid) (step : SiteStep) (places : Vec Place)
+    pub ask_line : (k : Keeps stands tells seen sites rings false old) (tid : Tid) (step : SiteStep)
         → Sends (Stands stands tells dbms (seen disk)) step k.plan.home k.plan.programs (past_of k.plan k.turns) (Ev.Ask tid)
-        → Carries stands tells (seen disk) (record old { dbms = dbms; disk = disk }) new (record { command = Cmd.Ask old.ends.site tid; answer = step.answer; send = step.sends; after = 0; places = places })
-        → HasLine stands tells seen sites rings old new (record { command = Cmd.Ask old.ends.site tid; answer = step.answer; send = step.sends; after = 0; places = places })
-    ask_line k tid step places sends carries =
-        let told : Told = record { command = Cmd.Ask old.ends.site tid; answer = step.answer; send = step.sends; after = 0; places = places } in
+        → Carries stands tells (seen disk) (record old { dbms = dbms; disk = disk }) new (record { command = Cmd.Ask old.ends.site tid; answer = step.answer; send = step.sends; after = 0 })
+        → HasLine stands tells seen sites rings old new (record { command = Cmd.Ask old.ends.site tid; answer = step.answer; send = step.sends; after = 0 })
+    ask_line k tid step sends carries =
+        let told : Told = record { command = Cmd.Ask old.ends.site tid; answer = step.answer; send = step.sends; after = 0 } in
         let is = event_told k.plan k.turns told None (Ev.Ask tid) (k.planned.site, refl) refl (omega arith) refl k.standing.core.holds.made tt sends.said sends.sent in
         line_carried stands tells seen sites rings old dbms disk new k.plan k.turns told None (taken old.ends.inlet) k.planned k.kept few is refl sends.next refl k.heard (faults ∙ k.faults) carries beside moved_on
 
     -- the line of a message that is taken
-    pub give_line : (packet : Packet) (h : HoldsPacket stands tells seen sites rings packet old) (envelope : Envelope ToSite) (step : SiteStep) (places : Vec Place)
+    pub give_line : (packet : Packet) (h : HoldsPacket stands tells seen sites rings packet old) (envelope : Envelope ToSite) (step : SiteStep)
         → Bears h.keeps.plan.programs packet envelope → Sends (Stands stands tells dbms (seen disk)) step h.keeps.plan.home h.keeps.plan.programs (past_of h.keeps.plan h.keeps.turns) (Ev.Give envelope.message)
-        → Carries stands tells (seen disk) (record old { dbms = dbms; disk = disk }) new (record { command = Cmd.Give old.ends.site envelope.index; answer = step.answer; send = step.sends; after = envelope.stamp; places = places })
-        → HasLine stands tells seen sites rings old new (record { command = Cmd.Give old.ends.site envelope.index; answer = step.answer; send = step.sends; after = envelope.stamp; places = places })
-    give_line packet h envelope step places bears sends carries =
+        → Carries stands tells (seen disk) (record old { dbms = dbms; disk = disk }) new (record { command = Cmd.Give old.ends.site envelope.index; answer = step.answer; send = step.sends; after = envelope.stamp })
+        → HasLine stands tells seen sites rings old new (record { command = Cmd.Give old.ends.site envelope.index; answer = step.answer; send = step.sends; after = envelope.stamp })
+    give_line packet h envelope step bears sends carries =
         let k = h.keeps in
-        let told : Told = record { command = Cmd.Give old.ends.site envelope.index; answer = step.answer; send = step.sends; after = envelope.stamp; places = places } in
+        let told : Told = record { command = Cmd.Give old.ends.site envelope.index; answer = step.answer; send = step.sends; after = envelope.stamp } in
         let is = event_told k.plan k.turns told (Some envelope) (Ev.Give envelope.message) (k.planned.site, record { envelope = envelope; is = refl; place_is = refl }) refl bears.small refl k.standing.core.holds.made tt sends.said sends.sent in
         line_carried stands tells seen sites rings old dbms disk new k.plan k.turns told (Some envelope) (h.before ++ packet ∷ []) k.planned k.kept few is refl sends.next h.took
         (heard_more k.plan.programs h.before (found (λ (t : SiteTurn). t.took) k.turns) packet (Some envelope) k.heard bears) (faults ∙ k.faults) carries beside moved_on
 
   -- the room and the numbers of a line that may send a message
-  pub line_ready : (actor : SiteActor E D) (plan : SitePlan) (turns : List SiteTurn) (told : Told) → IsKept plan turns actor → HasRoom actor → told.after < 2 ^ 62 → (told.places.items ≡ []) × (1 ≤ vec_capacity told.places) → IsReady actor told
-  line_ready actor plan turns told kept room small places =
+  pub line_ready : (actor : SiteActor E D) (plan : SitePlan) (turns : List SiteTurn) (told : Told) → IsKept plan turns actor → HasRoom actor → told.after < 2 ^ 62 → IsReady actor told
+  line_ready actor plan turns told kept room small =
       let l = kept.logged in
       let last = l.last in
       let low = l.low in
@@ -193,8 +190,7 @@ module _ {E D : Type 0} (stands : E → Start → List EngineLine → Type 0) (t
         line = omega (arith, lines);
         last = omega (arith, last, low, short);
         after = omega (arith, small);
-        places = places.0;
-        send = λ some. record { number = omega (arith, sent, few, short); place = places.1; sent = room.sent; outlet = room.outlet };
+        send = λ some. record { number = omega (arith, sent, few, short); sent = room.sent; outlet = room.outlet };
       }
 
   pub last_fits : (actor : SiteActor E D) (plan : SitePlan) (turns : List SiteTurn) → IsKept plan turns actor → actor.last + 2 < 2 ^ 64

@@ -1,5 +1,5 @@
 -- The room that a host has for its next lines, and what a step of its bookkeeping leaves alone.
-use Rattle.std.specs.Prelude.{ℕ, ◌≡◌, ◌+◌, ◌<◌, ◌≤◌, ◌^◌, [], ◌∷◌, ◌++◌, IsSome, length, option_to_list}
+use Rattle.std.specs.Prelude.{◌≡◌, ◌+◌, ◌<◌, ◌≤◌, ◌^◌, [], ◌∷◌, ◌++◌, IsSome, length, option_to_list}
 use Rattle.std.specs.Vec.{vec_len, vec_capacity}
 use Rattle.scripted_link.specs.Outlets.{IsReserved, free_slots, offered, outlet_wire, queued}
 use Rattle.fed_hosts.specs.declared.site_actor.SiteActor.{SiteActor}
@@ -17,10 +17,9 @@ pub record HasRoom {E D : Type 0} (actor : SiteActor E D) : Type 0 where
 abbrev pub HasLineRoom : {E D : Type 0} → SiteActor E D → Type 0
 HasLineRoom actor = vec_len actor.lines < vec_capacity actor.lines
 
--- a message that is sent has its number, a place for it in the line, and room among the messages that were sent and in the outlet
-pub record IsSendReady {E D : Type 0} (actor : SiteActor E D) (places : ℕ) : Type 0 where
+-- a message that is sent has its number, and room among the messages that were sent and in the outlet
+pub record IsSendReady {E D : Type 0} (actor : SiteActor E D) : Type 0 where
   pub number : length actor.sent.items < 2 ^ 32
-  pub place : 1 ≤ places
   pub sent : vec_len actor.sent + 1 ≤ vec_capacity actor.sent
   pub outlet : IsReserved actor.ends.outlet
 
@@ -29,8 +28,7 @@ pub record IsReady {E D : Type 0} (actor : SiteActor E D) (told : Told) : Type 0
   pub line : HasLineRoom actor
   pub last : actor.last + 1 < 2 ^ 64
   pub after : told.after + 1 < 2 ^ 64
-  pub places : told.places.items ≡ []
-  pub send : IsSome told.send → IsSendReady actor (vec_capacity told.places)
+  pub send : IsSome told.send → IsSendReady actor
 
 -- the line stands behind the others, and what it sends was kept and offered
 pub record HasAdded {E D : Type 0} (old new : SiteActor E D) (told : Told) : Type 0 where

@@ -54,7 +54,6 @@ impl<E: LocalEngine, D: Disk> SiteActor<E, D> {
             answer,
             send: None,
             after: 0,
-            places: Vec::new(self.alloc),
         });
     }
 

@@ -1,5 +1,5 @@
 //! The lines of a site's host, with their stamps and what they send.
-ghost use Rattle.std.specs.Prelude.{◌≡◌, ◌+◌, ◌≤◌, [], ◌++◌, IsSome, length, max, option_to_list};
+ghost use Rattle.std.specs.Prelude.{◌≡◌, ◌+◌, ◌≤◌, ◌++◌, IsSome, length, max, option_to_list};
 ghost use Rattle.std.specs.Vec.{vec_len, vec_capacity};
 ghost use Rattle.fed_rules.specs.Story.{place_from};
 ghost use Rattle.scripted_link.specs.Outlets.{offered};
@@ -24,9 +24,8 @@ pub(crate) fn later(a: u64, b: u64) -> u64
 impl<E: LocalEngine, D: Disk> SiteActor<E, D> {
     /// Keeps and offers what a line with this stamp sends, as an envelope with the number of the message among those that were sent, and
     /// gives its place.
-    fn post(&mut self, send: Option<FromSite>, stamp: u64, places: Vec<Place>) -> Places
-        requires none { places.items ≡ [] }
-        requires ready { IsSome send → IsSendReady self.old (vec_capacity places) }
+    fn post(&mut self, send: Option<FromSite>, stamp: u64) -> Places
+        requires ready { IsSome send → IsSendReady self.old }
         ensures places { result ≡ place_from self.old.ends.site (length self.old.sent.items) (option_to_list send) }
         ensures sent { self.new.sent.items ≡ self.old.sent.items ++ option_to_list send }
         ensures offers { offered self.new.ends.outlet ≡ offered self.old.ends.outlet ++ packets_at (length self.old.sent.items) stamp (option_to_list send) }
@@ -35,14 +34,9 @@ impl<E: LocalEngine, D: Disk> SiteActor<E, D> {
         ensures last { self.new.last ≡ self.old.last }
     {
         let Some(message) = send else {
-            return Places::of(places);
+            return Places::none();
         };
-        let mut places = places;
         let place = self.sent.len() as u32;
-        places.push_reserved(Place {
-            site: self.ends.site,
-            place,
-        });
         let packet = encode_from(&Envelope {
             index: place,
             stamp,
@@ -50,7 +44,10 @@ impl<E: LocalEngine, D: Disk> SiteActor<E, D> {
         });
         self.ends.outlet.offer(packet);
         self.sent.push_reserved(message);
-        Places::of(places)
+        Places::one(Place {
+            site: self.ends.site,
+            place,
+        })
     }
 
     /// Keeps a line with the next stamp, behind the last one and that of the message that it takes (Lamport 1978), and offers what it
@@ -67,10 +64,9 @@ impl<E: LocalEngine, D: Disk> SiteActor<E, D> {
             answer,
             send,
             after,
-            places,
         } = told;
         let stamp = later(self.last, after) + 1;
-        let sends = self.post(send, stamp, places);
+        let sends = self.post(send, stamp);
         self.lines.push_reserved(Stamped {
             stamp,
             line: Line {

@@ -4,7 +4,7 @@ ghost use Rattle.fed_hosts.specs.Rooms.{HasRoom, IsSame};
 
 use crate::ends::HostEnds;
 use engine_contract::LocalEngine;
-use fed_rules::{Answer, Command, FromSite, Place, Stamped, StopLine};
+use fed_rules::{Answer, Command, FromSite, Stamped, StopLine};
 use journal_disk::Disk;
 use local_dbms::LocalDbms;
 use mdb_base::Memory;
@@ -32,15 +32,14 @@ pub(crate) struct SiteActor<E: LocalEngine, D: Disk> {
     pub(crate) idle: u8,
 }
 
-/// What a line is made of: the command with its answer, the message that it sends, the stamp of the message that it takes, 0 without
-/// one, and room for the place of what it sends.
+/// What a line is made of: the command with its answer, the message that it sends, and the stamp of the message that it takes, 0 without
+/// one.
 #[derive(Drop)]
 pub(crate) struct Told {
     pub(crate) command: Command,
     pub(crate) answer: Answer,
     pub(crate) send: Option<FromSite>,
     pub(crate) after: u64,
-    pub(crate) places: Vec<Place>,
 }
 
 impl<E: LocalEngine, D: Disk> SiteActor<E, D> {

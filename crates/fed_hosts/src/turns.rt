@@ -1,12 +1,11 @@
 //! A turn of a site's host.
-ghost use Rattle.std.specs.Prelude.{◌≡◌, ◌<◌, ◌≤◌, ◌++◌, ◌∷◌, [], false, true, None, length, IfOk, IfErr, IsTrue};
+ghost use Rattle.std.specs.Prelude.{◌≡◌, ◌<◌, ◌++◌, ◌∷◌, [], false, true, None, length, IfOk, IfErr, IsTrue};
 ghost use Rattle.fed_rules.specs.Happenings.{is_down};
 ghost use Rattle.site_core.specs.Made.{about};
 ghost use Rattle.scripted_link.specs.Inlets.{empty_count, returned, taken};
 ghost use Rattle.fed_hosts.specs.Keeps.{HoldsPacket, Keeps};
 ghost use Rattle.host_laws.specs.Plans.{most_lines};
 ghost use Rattle.fed_hosts.specs.Rooms.{HasRoom};
-ghost use Rattle.std.specs.Vec.{vec_capacity};
 ghost use Rattle.fed_hosts.specs.Serving.{HasFailed};
 ghost use Rattle.local_dbms.specs.Stands.{Each_site, Stands};
 ghost use Rattle.fed_hosts.specs.Turns.{HasTurned, Inquires, Restarts, Takes};
@@ -16,7 +15,7 @@ use crate::plans::Plan;
 use crate::site_actor::{MOST_LINES, SiteActor, Told};
 use engine_contract::LocalEngine;
 use fed_messages::{Packet, decode_to};
-use fed_rules::{Command, Place, ToSite};
+use fed_rules::{Command, ToSite};
 use journal_disk::Disk;
 use local_dbms::StepErr;
 use mdb_base::Tid;
@@ -54,27 +53,23 @@ impl<E: LocalEngine, D: Disk> SiteActor<E, D> {
         if self.lines.len() >= MOST_LINES {
             return Ok(false);
         }
-        let Ok(places) = Vec::with_capacity(self.alloc, 1) else {
-            return Err(StepErr::Memory);
-        };
         if self.reserve().is_err() {
             return Err(StepErr::Memory);
         }
         if self.dbms.core().is_down() {
-            return self.start::<N>(places);
+            return self.start::<N>();
         }
         match self.ends.inlet.next() {
-            Some(packet) => self.hear::<N>(packet, places),
-            None => self.inquire::<N>(places),
+            Some(packet) => self.hear::<N>(packet),
+            None => self.inquire::<N>(),
         }
     }
 
     /// Starts the site again.
-    fn start<N: Plan>(&mut self, places: Vec<Place>) -> Result<bool, StepErr>
+    fn start<N: Plan>(&mut self) -> Result<bool, StepErr>
         requires told { IsTrue D.tells }
         requires few { length self.old.lines.items < most_lines }
         requires room { HasRoom self.old }
-        requires places { (places.items ≡ []) × (1 ≤ vec_capacity places) }
         requires keeps { Keeps E.stands D.tells D.seen N.sites N.rings false self.old }
         ensures keeps { IfOk result (λ _. Keeps E.stands D.tells D.seen N.sites N.rings false self.new) }
         ensures turned { IfOk result (Restarts (view_of self.old false) (view_of self.new false)) }
@@ -89,18 +84,16 @@ impl<E: LocalEngine, D: Disk> SiteActor<E, D> {
             answer,
             send: None,
             after: 0,
-            places,
         });
         Ok(true)
     }
 
     /// Takes a packet. One that spells no envelope, or has a stamp of 2^62 or more, or is about a transaction of the site's own, is left
     /// aside. Where the message isn't answered the packet is put back.
-    fn hear<N: Plan>(&mut self, packet: Packet, places: Vec<Place>) -> Result<bool, StepErr>
+    fn hear<N: Plan>(&mut self, packet: Packet) -> Result<bool, StepErr>
         requires told { IsTrue D.tells }
         requires few { length self.old.lines.items < most_lines }
         requires room { HasRoom self.old }
-        requires places { (places.items ≡ []) × (1 ≤ vec_capacity places) }
         requires keeps { HoldsPacket E.stands D.tells D.seen N.sites N.rings packet self.old }
         requires back { returned self.old.ends.inlet ≡ None }
         ensures keeps { IfOk result (λ _. Keeps E.stands D.tells D.seen N.sites N.rings false self.new) }
@@ -129,7 +122,6 @@ impl<E: LocalEngine, D: Disk> SiteActor<E, D> {
                     answer: step.answer,
                     send: step.sends,
                     after: envelope.stamp,
-                    places,
                 });
                 Ok(true)
             }
@@ -141,11 +133,10 @@ impl<E: LocalEngine, D: Disk> SiteActor<E, D> {
     }
 
     /// Counts a turn that found no message, and at each eighth one asks about the least attempt in doubt.
-    fn inquire<N: Plan>(&mut self, places: Vec<Place>) -> Result<bool, StepErr>
+    fn inquire<N: Plan>(&mut self) -> Result<bool, StepErr>
         requires told { IsTrue D.tells }
         requires few { length self.old.lines.items < most_lines }
         requires room { HasRoom self.old }
-        requires places { (places.items ≡ []) × (1 ≤ vec_capacity places) }
         requires keeps { Keeps E.stands D.tells D.seen N.sites N.rings false self.old }
         ensures keeps { IfOk result (λ _. Keeps E.stands D.tells D.seen N.sites N.rings false self.new) }
         ensures inquires { Each_site (Stands E.stands D.tells self.old.dbms (D.seen self.old.disk)) (λ home programs past.
@@ -174,7 +165,6 @@ impl<E: LocalEngine, D: Disk> SiteActor<E, D> {
             answer: step.answer,
             send: step.sends,
             after: 0,
-            places,
         });
         Ok(true)
     }

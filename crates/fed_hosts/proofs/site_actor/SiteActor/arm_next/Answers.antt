@@ -37,7 +37,7 @@ returns-clause-armed g c tells seen plan turns logged some stops site stood =
     let old = c.args.self.now in
     let new = c.keep.new.self in
     let stop = c.stop_at-stop.result in
-    let told : Told = record { command = Cmd.Trip stop.actor stop.calls stop.cut; answer = c.arm-answer.result; send = None; after = 0; places = c.new.result } in
+    let told : Told = record { command = Cmd.Trip stop.actor stop.calls stop.cut; answer = c.arm-answer.result; send = None; after = 0 } in
     let set = c.is_armed.ensures plan.home past (c.core.ensures.stood tells seen plan.home plan.programs past stood).holds in
     let same = as_many plan turns old logged in
     let a = c.keep.ensures.added in

@@ -67,9 +67,9 @@ carry-requires-clause-ready g c =
     let k = c.requires.keeps.keeps in
     let old = c.args.self.now in
     let mid = record old { dbms = c.give.new.self; disk = c.give.new.disk } in
-    let told : Told = record { command = Cmd.Give old.ends.site c.in-Some.envelope.index; answer = c.in-Ok.step.answer; send = c.in-Ok.step.sends; after = c.in-Some.envelope.stamp; places = c.args.places } in
+    let told : Told = record { command = Cmd.Give old.ends.site c.in-Some.envelope.index; answer = c.in-Ok.step.answer; send = c.in-Ok.step.sends; after = c.in-Some.envelope.stamp } in
     line_ready g.E.LocalEngine.stands g.D.Disk.tells g.D.Disk.seen g.N.Plan.sites g.N.Wires.rings mid k.plan k.turns told (kept_beside old c.give.new.self c.give.new.disk k.plan k.turns k.kept)
-    (record { lines = c.requires.room.lines; sent = c.requires.room.sent; outlet = c.requires.room.outlet }) (omega (arith, c.if-envelope-ge-MOST_STAMP.false)) c.requires.places
+    (record { lines = c.requires.room.lines; sent = c.requires.room.sent; outlet = c.requires.room.outlet }) (omega (arith, c.if-envelope-ge-MOST_STAMP.false))
 
 pub carry-requires-clause-last : goal.carry-requires-clause-last
 carry-requires-clause-last g c =
@@ -96,7 +96,7 @@ returns-in-Ok-clause-keeps g c =
     record { in_range = c.in-Some.ensures.in_range; spelled = c.in-Some.ensures.spelled; small = omega (arith, c.if-envelope-ge-MOST_STAMP.false); foreign = foreign } in
     let short = short_past stands tells seen g.N.Plan.sites g.N.Wires.rings false h.before old k in
     let sends = c.in-Ok.ensures.served k.plan.home k.plan.programs past k.standing (record { short = short; foreign = foreign; in_range = about_in_range envelope.message c.in-Some.ensures.in_range.message }) in
-    (give_line stands tells seen g.N.Plan.sites g.N.Wires.rings old c.give.new.self c.give.new.disk c.carry.new.self c.requires.few (clean _ _ c.in-Ok.step c.in-Ok.ensures.cause) c.carry.ensures.beside c.carry.ensures.moved_on c.args.packet h envelope c.in-Ok.step c.args.places bears sends
+    (give_line stands tells seen g.N.Plan.sites g.N.Wires.rings old c.give.new.self c.give.new.disk c.carry.new.self c.requires.few (clean _ _ c.in-Ok.step c.in-Ok.ensures.cause) c.carry.ensures.beside c.carry.ensures.moved_on c.args.packet h envelope c.in-Ok.step bears sends
     (c.carry.ensures.carried tells (seen c.give.new.disk))).keeps
 
 pub returns-in_default-clause-takes : goal.returns-in_default-clause-takes
@@ -137,7 +137,7 @@ returns-in-Ok-clause-takes g c home programs past' stood =
     record { in_range = c.in-Some.ensures.in_range; spelled = c.in-Some.ensures.spelled; small = omega (arith, c.if-envelope-ge-MOST_STAMP.false); foreign = foreign } in
     let short = short_past stands tells seen g.N.Plan.sites g.N.Wires.rings false h.before old k in
     let sends = c.in-Ok.ensures.served k.plan.home k.plan.programs past k.standing (record { short = short; foreign = foreign; in_range = about_in_range envelope.message c.in-Some.ensures.in_range.message }) in
-    let line = give_line stands tells seen g.N.Plan.sites g.N.Wires.rings old c.give.new.self c.give.new.disk c.carry.new.self c.requires.few (clean _ _ c.in-Ok.step c.in-Ok.ensures.cause) c.carry.ensures.beside c.carry.ensures.moved_on c.args.packet h envelope c.in-Ok.step c.args.places bears sends
+    let line = give_line stands tells seen g.N.Plan.sites g.N.Wires.rings old c.give.new.self c.give.new.disk c.carry.new.self c.requires.few (clean _ _ c.in-Ok.step c.in-Ok.ensures.cause) c.carry.ensures.beside c.carry.ensures.moved_on c.args.packet h envelope c.in-Ok.step bears sends
     (c.carry.ensures.carried tells (seen c.give.new.disk)) in
     record {
       bears = Some envelope;

@@ -55,11 +55,11 @@ carry-requires-clause-ready g c =
     let k = c.requires.keeps in
     let old = record c.args.self.now { idle = 0 } in
     let mid = record old { dbms = c.ask.new.self; disk = c.ask.new.disk } in
-    let told : Told = record { command = Cmd.Ask c.args.self.now.ends.site c.at.result.now.tid; answer = c.in_ok-step.step.answer; send = c.in_ok-step.step.sends; after = 0; places = c.args.places } in
+    let told : Told = record { command = Cmd.Ask c.args.self.now.ends.site c.at.result.now.tid; answer = c.in_ok-step.step.answer; send = c.in_ok-step.step.sends; after = 0 } in
     line_ready g.E.LocalEngine.stands g.D.Disk.tells g.D.Disk.seen g.N.Plan.sites g.N.Wires.rings mid k.plan k.turns told
     (kept_beside old c.ask.new.self c.ask.new.disk k.plan k.turns
     (kept_same c.args.self.now old (record { dbms = refl; disk = refl; site = refl; inlet = refl; wire = refl; offers = refl; waiting = refl; free = refl; stops = refl; armed = refl; lines = refl; sent = refl; last = refl }) k.plan k.turns k.kept))
-    (record { lines = c.requires.room.lines; sent = c.requires.room.sent; outlet = c.requires.room.outlet }) (omega arith) c.requires.places
+    (record { lines = c.requires.room.lines; sent = c.requires.room.sent; outlet = c.requires.room.outlet }) (omega arith)
 
 pub carry-requires-clause-last : goal.carry-requires-clause-last
 carry-requires-clause-last g c =
@@ -78,7 +78,7 @@ returns-clause-keeps g c =
     let now = keeps_same stands tells seen sites rings false c.args.self.now old (record { dbms = refl; disk = refl; site = refl; inlet = refl; wire = refl; offers = refl; waiting = refl; free = refl; stops = refl; armed = refl; lines = refl; sent = refl; last = refl }) k in
     let short = short_past stands tells seen sites rings false (taken c.args.self.now.ends.inlet) c.args.self.now k in
     let sends = c.in_ok-step.ensures.served k.plan.home k.plan.programs (past_of k.plan k.turns) k.standing short in
-    (ask_line stands tells seen sites rings old c.ask.new.self c.ask.new.disk c.carry.new.self c.requires.few (clean _ _ c.in_ok-step.step c.in_ok-step.ensures.cause) c.carry.ensures.beside c.carry.ensures.moved_on now c.at.result.now.tid c.in_ok-step.step c.args.places sends
+    (ask_line stands tells seen sites rings old c.ask.new.self c.ask.new.disk c.carry.new.self c.requires.few (clean _ _ c.in_ok-step.step c.in_ok-step.ensures.cause) c.carry.ensures.beside c.carry.ensures.moved_on now c.at.result.now.tid c.in_ok-step.step sends
     (c.carry.ensures.carried tells (seen c.ask.new.disk))).keeps
 
 pub returns-then-self-clause-inquires : goal.returns-then-self-clause-inquires
@@ -108,7 +108,7 @@ returns-clause-inquires g c home programs past stood up =
     let short = short_past stands tells seen sites rings false (taken c.args.self.now.ends.inlet) c.args.self.now k in
     let sends = c.in_ok-step.ensures.served k.plan.home k.plan.programs (past_of k.plan k.turns) k.standing short in
     let doubts = c.doubts-doubts.ensures home past (c.core.ensures.stood tells (seen old.disk) home programs past stood).holds up in
-    let line = ask_line stands tells seen sites rings old c.ask.new.self c.ask.new.disk c.carry.new.self c.requires.few (clean _ _ c.in_ok-step.step c.in_ok-step.ensures.cause) c.carry.ensures.beside c.carry.ensures.moved_on now c.at.result.now.tid c.in_ok-step.step c.args.places sends
+    let line = ask_line stands tells seen sites rings old c.ask.new.self c.ask.new.disk c.carry.new.self c.requires.few (clean _ _ c.in_ok-step.step c.in_ok-step.ensures.cause) c.carry.ensures.beside c.carry.ensures.moved_on now c.at.result.now.tid c.in_ok-step.step sends
     (c.carry.ensures.carried tells (seen c.ask.new.disk)) in
     inr (inl (record {
       eighth = omega (arith, c.if-self.false);

@@ -120,7 +120,7 @@ returns-clause-keeps g c =
     let served = c.in_ok-answer.ensures.served k.plan.home k.plan.programs past k.standing short in
     let own : IsSome (k.plan.programs c.args.tx) = sym (c.if-not-is_own.ensures k.plan.home k.plan.programs past (recalled stands tells old.dbms (seen old.disk) k.plan.home k.plan.programs past now.standing)) in
     let count = ap length c.reserve.ensures.same.lines in
-    let told : Told = record { command = c.command.result; answer = c.in_ok-answer.answer; send = None; after = 0; places = c.new.result } in
+    let told : Told = record { command = c.command.result; answer = c.in_ok-answer.answer; send = None; after = 0 } in
     (call_line stands tells seen sites rings ready c.ask.new.dbms c.ask.new.disk c.carry.new.self c.args.verb c.args.tx told k refl c.command.ensures served own
     (λ begin. c.if-is_spent.ensures.left refl tells (seen old.disk) k.plan.home k.plan.programs past now.standing own begin)
     (omega (arith, count, old.lines.ok.0, c.len.ensures, c.if-len-ge-MOST_LINES.false)) (clean _ _ c.in_ok-answer.answer c.in_ok-answer.ensures.cause) (c.carry.ensures.carried tells (seen c.ask.new.disk)) c.carry.ensures.beside c.carry.ensures.moved_on).keeps
@@ -141,7 +141,7 @@ returns-clause-served g c =
     let served = c.in_ok-answer.ensures.served k.plan.home k.plan.programs past k.standing short in
     let own : IsSome (k.plan.programs c.args.tx) = sym (c.if-not-is_own.ensures k.plan.home k.plan.programs past (recalled stands tells old.dbms (seen old.disk) k.plan.home k.plan.programs past now.standing)) in
     let count = ap length c.reserve.ensures.same.lines in
-    let told : Told = record { command = c.command.result; answer = c.in_ok-answer.answer; send = None; after = 0; places = c.new.result } in
+    let told : Told = record { command = c.command.result; answer = c.in_ok-answer.answer; send = None; after = 0 } in
     let line = call_line stands tells seen sites rings ready c.ask.new.dbms c.ask.new.disk c.carry.new.self c.args.verb c.args.tx told k refl c.command.ensures served own
     (λ begin. c.if-is_spent.ensures.left refl tells (seen old.disk) k.plan.home k.plan.programs past now.standing own begin)
     (omega (arith, count, old.lines.ok.0, c.len.ensures, c.if-len-ge-MOST_LINES.false)) (clean _ _ c.in_ok-answer.answer c.in_ok-answer.ensures.cause) (c.carry.ensures.carried tells (seen c.ask.new.disk)) c.carry.ensures.beside c.carry.ensures.moved_on in

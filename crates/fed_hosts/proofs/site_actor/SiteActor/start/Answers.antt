@@ -44,7 +44,7 @@ returns-clause-keeps g c =
     let old = c.args.self.now in
     let short = short_past stands tells seen g.N.Plan.sites g.N.Wires.rings false (taken old.ends.inlet) old k in
     let served = c.in_ok-answer.ensures.served k.plan.home k.plan.programs (past_of k.plan k.turns) k.standing short in
-    (start_line stands tells seen g.N.Plan.sites g.N.Wires.rings old c.back.new.self c.back.new.disk c.carry.new.self c.requires.few (clean _ _ c.in_ok-answer.answer c.in_ok-answer.ensures.cause) c.carry.ensures.beside c.carry.ensures.moved_on k c.in_ok-answer.answer c.args.places served
+    (start_line stands tells seen g.N.Plan.sites g.N.Wires.rings old c.back.new.self c.back.new.disk c.carry.new.self c.requires.few (clean _ _ c.in_ok-answer.answer c.in_ok-answer.ensures.cause) c.carry.ensures.beside c.carry.ensures.moved_on k c.in_ok-answer.answer served
     (c.carry.ensures.carried tells (seen c.back.new.disk))).keeps
 
 pub returns-clause-turned : goal.returns-clause-turned
@@ -56,6 +56,6 @@ returns-clause-turned g c =
     let old = c.args.self.now in
     let short = short_past stands tells seen g.N.Plan.sites g.N.Wires.rings false (taken old.ends.inlet) old k in
     let served = c.in_ok-answer.ensures.served k.plan.home k.plan.programs (past_of k.plan k.turns) k.standing short in
-    let line = start_line stands tells seen g.N.Plan.sites g.N.Wires.rings old c.back.new.self c.back.new.disk c.carry.new.self c.requires.few (clean _ _ c.in_ok-answer.answer c.in_ok-answer.ensures.cause) c.carry.ensures.beside c.carry.ensures.moved_on k c.in_ok-answer.answer c.args.places served
+    let line = start_line stands tells seen g.N.Plan.sites g.N.Wires.rings old c.back.new.self c.back.new.disk c.carry.new.self c.requires.few (clean _ _ c.in_ok-answer.answer c.in_ok-answer.ensures.cause) c.carry.ensures.beside c.carry.ensures.moved_on k c.in_ok-answer.answer served
     (c.carry.ensures.carried tells (seen c.back.new.disk)) in
     record { line = record { answer = c.in_ok-answer.answer; adds = line.adds; says = refl }; others = line.view }
