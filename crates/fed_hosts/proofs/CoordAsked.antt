@@ -252,7 +252,7 @@ module _ {P D : Type 0} (test : P → Policy) (tells : Bool) (seen : D → Seen)
       let turns = k.turns in
       let past = coord_past_of plan turns in
       let same : told ≡ record told { command = command_of_call call; after = 0 } =
-      shape ∙ ap (λ (c : Command). let t : CoordTold = record { command = c; answer = told.answer; sends = told.sends; after = 0; places = told.places } in t) command in
+      shape ∙ ap (λ (c : Command). let t : CoordTold = record { command = c; answer = told.answer; sends = told.sends; after = 0 } in t) command in
       let is : IsCoordTold plan turns told None = subst (λ (t : CoordTold). IsCoordTold plan turns t None) (sym same) (call_told plan turns call told (Stands test tells manager (seen disk)) serves known may) in
       let stood : Stands test tells manager (seen disk) plan.terms plan.programs (coord_behind plan.terms past (coord_request plan past told.command None)) =
       subst (λ (c : Command). Stands test tells manager (seen disk) plan.terms plan.programs (coord_behind plan.terms past (coord_request plan past c None))) (sym command)

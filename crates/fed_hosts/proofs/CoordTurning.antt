@@ -1,5 +1,5 @@
 -- What a turn of the coordinator's host leaves: of a start, and of a packet.
-use Rattle.std.proofs.Common.{◌≡◌, ℕ, zero, suc, ◌||◌, ◌+◌, ◌≤◌, ◌<◌, ◌^◌, Bool, true, false, cond, Err, Option, Some, None, List, [], ◌∷◌, ◌++◌, length, slice_get, slice_set, append-nil, eq-eqb, refl, sym, ap, ◌∙◌, subst, arith}
+use Rattle.std.proofs.Common.{◌≡◌, ℕ, zero, suc, ◌||◌, ◌+◌, ◌<◌, ◌^◌, Bool, true, false, cond, Err, Option, Some, None, List, [], ◌∷◌, ◌++◌, length, slice_get, slice_set, append-nil, eq-eqb, refl, sym, ap, ◌∙◌, subst, arith}
 use Rattle.std.specs.Global.{Vec}
 use Rattle.std.specs.Prelude.{option_map, option_to_list}
 use Rattle.std.specs.Vec.{vec_capacity, vec_len}
@@ -12,7 +12,6 @@ use Rattle.mdb_base.proofs.PlaceLaws.{slice_get-there}
 use Rattle.session_routes.proofs.Posts.{get_put}
 use Rattle.presumptions.specs.declared.Participant.{Participant}
 use Rattle.fed_rules.specs.declared.commands.Command.TheVariants as Cmd
-use Rattle.fed_rules.specs.declared.commands.Place.{Place}
 use Rattle.fed_rules.specs.declared.commands.Stamped.{Stamped}
 use Rattle.fed_rules.specs.declared.events.CoordEvent.{CoordEvent}
 use Rattle.fed_rules.specs.declared.events.CoordEvent.TheVariants as Ev
@@ -98,9 +97,8 @@ few_sent plan turns actor kept place port at =
     omega (arith, sent, few, short)
 
 -- the room and the numbers of a line
-pub coord_line_ready : {P D : Type 0} (actor : CoordActor P D) (plan : CoordPlan) (turns : List CoordTurn) (told : CoordTold) → IsCoordKept plan turns actor → HasCoordRoom actor → told.after < 2 ^ 62
-    → (told.places.items ≡ []) × (length actor.ports.items ≤ vec_capacity told.places) → IsCoordReady actor told
-coord_line_ready actor plan turns told kept room small places =
+pub coord_line_ready : {P D : Type 0} (actor : CoordActor P D) (plan : CoordPlan) (turns : List CoordTurn) (told : CoordTold) → IsCoordKept plan turns actor → HasCoordRoom actor → told.after < 2 ^ 62 → IsCoordReady actor told
+coord_line_ready actor plan turns told kept room small =
     let l = kept.logged in
     let last = l.last in
     let low = l.low in
@@ -110,8 +108,7 @@ coord_line_ready actor plan turns told kept room small places =
       line = omega (arith, lines);
       last = omega (arith, last, low, short);
       after = omega (arith, small);
-      places = places.0;
-      fits = places.1;
+      places = room.places;
       ports = room.ports;
       few = few_sent plan turns actor kept;
     }
@@ -261,12 +258,12 @@ module _ {P D : Type 0} (test : P → Policy) (tells : Bool) (seen : D → Seen)
   module _ (old : CoordActor P D) (manager : GlobalManager P) (disk : D) (new : CoordActor P D) (few : length old.lines.items < most_lines) (faults : (seen disk).faults ≡ (seen old.disk).faults)
       (beside : IsBesideCoordLines (record old { manager = manager; disk = disk }) new) (moved_on : HaveMovedOn new.ports.items) where
     -- the line of a start
-    pub coord_start_line : (k : CoordKeeps test tells seen plan rings false old) (step : CoordStep) (places : Vec Place)
+    pub coord_start_line : (k : CoordKeeps test tells seen plan rings false old) (step : CoordStep)
         → Sends (Stands test tells manager (seen disk)) step plan.terms plan.programs (coord_past_of plan k.turns) Ev.Back → (told : CoordTold)
-        → told ≡ record { command = Cmd.Back 0; answer = step.answer; sends = step.sends; after = 0; places = places }
+        → told ≡ record { command = Cmd.Back 0; answer = step.answer; sends = step.sends; after = 0 }
         → CoordCarries test tells (seen disk) (record old { manager = manager; disk = disk }) new told → HasCoordLine test tells seen plan rings old new told
-    coord_start_line k step places sends told told_is carries =
-        let made : CoordTold = record { command = Cmd.Back 0; answer = step.answer; sends = step.sends; after = 0; places = places } in
+    coord_start_line k step sends told told_is carries =
+        let made : CoordTold = record { command = Cmd.Back 0; answer = step.answer; sends = step.sends; after = 0 } in
         let is = event_told plan k.turns made None Ev.Back (refl, refl) refl (omega arith) refl tt sends.said sends.sent in
         subst (λ (t : CoordTold). HasCoordLine test tells seen plan rings old new t) (sym told_is)
         (coord_line_carried test tells seen plan rings old manager disk new k.turns made None k.planned k.kept few is refl sends.next
@@ -274,14 +271,14 @@ module _ {P D : Type 0} (test : P → Policy) (tells : Bool) (seen : D → Seen)
         (subst (λ (t : CoordTold). CoordCarries test tells (seen disk) (record old { manager = manager; disk = disk }) new t) told_is carries) beside moved_on)
 
     -- the line of a message that is taken
-    pub coord_take_line : (arrived : Arrived) (h : HoldsFrom test tells seen plan rings arrived old) (from : Port) (envelope : Envelope FromSite) (step : CoordStep) (places : Vec Place)
+    pub coord_take_line : (arrived : Arrived) (h : HoldsFrom test tells seen plan rings arrived old) (from : Port) (envelope : Envelope FromSite) (step : CoordStep)
         → slice_get old.ports.items arrived.place ≡ Some from → BearsFrom arrived.packet envelope
         → Sends (Stands test tells manager (seen disk)) step plan.terms plan.programs (coord_past_of plan h.keeps.turns) (Ev.Take from.ends.site envelope.message) → (told : CoordTold)
-        → told ≡ record { command = Cmd.Take from.ends.site envelope.index; answer = step.answer; sends = step.sends; after = envelope.stamp; places = places }
+        → told ≡ record { command = Cmd.Take from.ends.site envelope.index; answer = step.answer; sends = step.sends; after = envelope.stamp }
         → CoordCarries test tells (seen disk) (record old { manager = manager; disk = disk }) new told → HasCoordLine test tells seen plan rings old new told
-    coord_take_line arrived h from envelope step places at bears sends told told_is carries =
+    coord_take_line arrived h from envelope step at bears sends told told_is carries =
         let k = h.keeps in
-        let made : CoordTold = record { command = Cmd.Take from.ends.site envelope.index; answer = step.answer; sends = step.sends; after = envelope.stamp; places = places } in
+        let made : CoordTold = record { command = Cmd.Take from.ends.site envelope.index; answer = step.answer; sends = step.sends; after = envelope.stamp } in
         let among = port_among rings plan old.ports.items arrived.place from k.planned at in
         let is = event_told plan k.turns made (Some envelope) (Ev.Take from.ends.site envelope.message) (among, record { envelope = envelope; is = refl; place_is = refl }) refl bears.small refl tt sends.said sends.sent in
         subst (λ (t : CoordTold). HasCoordLine test tells seen plan rings old new t) (sym told_is)

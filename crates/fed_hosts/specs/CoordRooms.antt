@@ -1,6 +1,8 @@
 -- The room that the coordinator's host has for its next lines, and what a step of its bookkeeping leaves alone.
 use Rattle.std.specs.Prelude.{ℕ, ◌≡◌, ◌+◌, ◌<◌, ◌≤◌, ◌^◌, [], ◌∷◌, ◌++◌, List, length}
+use Rattle.std.specs.Global.{Vec}
 use Rattle.std.specs.Vec.{vec_len, vec_capacity}
+use Rattle.fed_rules.specs.declared.commands.Place.{Place}
 use Rattle.fed_rules.specs.declared.commands.Stamped.{Stamped}
 use Rattle.fed_hosts.specs.declared.coord_actor.CoordActor.{CoordActor}
 use Rattle.fed_hosts.specs.declared.coord_actor.CoordTold.{CoordTold}
@@ -8,10 +10,16 @@ use Rattle.fed_hosts.specs.declared.ports.Port.{Port}
 use Rattle.host_laws.specs.Lines.{next_stamp}
 use Rattle.fed_hosts.specs.Ports.{ArePosted, AreSamePorts, HaveFewSent, HavePortRoom, places_at}
 
+-- no place is noted yet, and one of each port fits
+pub record HasPlaceRoom (ports : List Port) (places : Vec Place) : Type 0 where
+  pub none : places.items ≡ []
+  pub fits : length ports ≤ vec_capacity places
+
 -- two lines fit, of which one sends a message to each site
 pub record HasCoordRoom {P D : Type 0} (actor : CoordActor P D) : Type 0 where
   pub lines : vec_len actor.lines + 2 ≤ vec_capacity actor.lines
   pub ports : HavePortRoom actor.ports.items
+  pub places : HasPlaceRoom actor.ports.items actor.spare
 
 -- one line fits
 abbrev pub HasCoordLineRoom : {P D : Type 0} → CoordActor P D → Type 0
@@ -22,8 +30,7 @@ pub record IsCoordReady {P D : Type 0} (actor : CoordActor P D) (told : CoordTol
   pub line : HasCoordLineRoom actor
   pub last : actor.last + 1 < 2 ^ 64
   pub after : told.after + 1 < 2 ^ 64
-  pub places : told.places.items ≡ []
-  pub fits : length actor.ports.items ≤ vec_capacity told.places
+  pub places : HasPlaceRoom actor.ports.items actor.spare
   pub ports : HavePortRoom actor.ports.items
   pub few : HaveFewSent actor.ports.items
 

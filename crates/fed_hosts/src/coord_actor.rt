@@ -12,8 +12,8 @@ use mdb_base::Memory;
 use std::alloc::Global;
 
 /// A global transaction manager with its disk, and what its host keeps: its ends of the rings to and from each site, by rising site, with
-/// the messages that were sent, the scripted stops and how many of them were armed, the stamped lines, the last stamp, and the port whose
-/// inlet is asked first at the next turn.
+/// the messages that were sent, the scripted stops and how many of them were armed, the stamped lines, the last stamp, the port whose inlet
+/// is asked first at the next turn, and room for the places of what a line sends.
 #[derive(Drop)]
 pub(crate) struct CoordActor<P: TakePolicy, D: Disk> {
     pub(crate) alloc: Global,
@@ -25,27 +25,31 @@ pub(crate) struct CoordActor<P: TakePolicy, D: Disk> {
     pub(crate) lines: Vec<Stamped>,
     pub(crate) last: u64,
     pub(crate) first: usize,
+    pub(crate) spare: Vec<Place>,
 }
 
-/// What a line of the coordinator is made of: the command with its answer, the messages that it sends, the stamp of the message that it
-/// takes, 0 without one, and room for the places of what it sends.
+/// What a line of the coordinator is made of: the command with its answer, the messages that it sends, and the stamp of the message that it
+/// takes, 0 without one.
 #[derive(Drop)]
 pub(crate) struct CoordTold {
     pub(crate) command: Command,
     pub(crate) answer: Answer,
     pub(crate) sends: Sends,
     pub(crate) after: u64,
-    pub(crate) places: Vec<Place>,
 }
 
 impl<P: TakePolicy, D: Disk> CoordActor<P, D> {
-    /// Makes room for two lines, of which one sends a message to each site. It changes nothing else, also without memory.
+    /// Makes room for two lines, of which one sends a message to each site, and for the places of these. It changes nothing else, also
+    /// without memory.
     pub(crate) fn reserve(&mut self) -> Result<(), Memory>
         ensures room { OnOk result (HasCoordRoom self.new) }
         ensures same { IsSameCoord self.old self.new }
         ensures first { self.new.first ≡ self.old.first }
     {
         self.lines.try_reserve(2)?;
-        make_room(&mut self.ports)
+        make_room(&mut self.ports)?;
+        self.spare.clear();
+        self.spare.try_reserve(self.ports.len())?;
+        Ok(())
     }
 }

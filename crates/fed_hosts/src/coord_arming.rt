@@ -49,7 +49,7 @@ impl<P: TakePolicy, D: Disk> CoordActor<P, D> {
             calls: stop.calls,
             cut: stop.cut,
         };
-        self.note(command, answer, Vec::new(self.alloc));
+        self.note(command, answer);
     }
 
     /// Adds a line, arms the next scripted stop behind it, and moves what is sent on its way.

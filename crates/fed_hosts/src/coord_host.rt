@@ -72,6 +72,7 @@ impl<P: TakePolicy, D: Disk, N: Plan> CoordHost<P, D, N> {
                 lines: Vec::new(alloc),
                 last: 0,
                 first: 0,
+                spare: Vec::new(alloc),
             },
             failed: false,
             of: PhantomData,

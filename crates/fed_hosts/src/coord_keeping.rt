@@ -6,7 +6,7 @@ ghost use Rattle.fed_hosts.specs.CoordRooms.{HasCoordAdded, HasCoordLineRoom, Is
 use crate::coord_actor::{CoordActor, CoordTold};
 use crate::keeping::later;
 use crate::posting::post_all;
-use fed_rules::{Answer, Command, Line, Place, Places, Stamped};
+use fed_rules::{Answer, Command, Line, Places, Stamped};
 use global_exec::TakePolicy;
 use journal_disk::Disk;
 
@@ -25,27 +25,25 @@ impl<P: TakePolicy, D: Disk> CoordActor<P, D> {
             answer,
             sends,
             after,
-            places,
         } = told;
         let stamp = later(self.last, after) + 1;
-        let mut places = places;
-        post_all(&mut self.ports, sends.as_slice(), stamp, &mut places);
+        post_all(&mut self.ports, sends.as_slice(), stamp, &mut self.spare);
+        let places = Places::taken(self.alloc, &mut self.spare);
         self.lines.push_reserved(Stamped {
             stamp,
             line: Line {
                 command,
                 answer,
-                sends: Places::of(places),
+                sends: places,
             },
         });
         self.last = stamp;
     }
 
     /// Keeps a line with the next stamp that takes no message and sends none.
-    pub(crate) fn note(&mut self, command: Command, answer: Answer, places: Vec<Place>)
+    pub(crate) fn note(&mut self, command: Command, answer: Answer)
         requires line { HasCoordLineRoom self.old }
         requires last { self.old.last + 1 < 2 ^ 64 }
-        requires none { places.items ≡ [] }
         ensures lines { self.new.lines.items ≡ self.old.lines.items ++ record { stamp = self.old.last + 1; line = record { command = command; answer = answer; sends = [] } } ∷ [] }
         ensures ports { self.new.ports ≡ self.old.ports }
         ensures last { self.new.last ≡ self.old.last + 1 }
@@ -57,7 +55,7 @@ impl<P: TakePolicy, D: Disk> CoordActor<P, D> {
             line: Line {
                 command,
                 answer,
-                sends: Places::of(places),
+                sends: Places::none(),
             },
         });
         self.last = stamp;

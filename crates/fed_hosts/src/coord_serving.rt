@@ -99,9 +99,6 @@ impl<P: TakePolicy, D: Disk> CoordActor<P, D> {
         if is_last(&self.manager, call) {
             return Ok(Answer::Spent);
         }
-        let Ok(places) = Vec::with_capacity(self.alloc, self.ports.len()) else {
-            return Err(StepErr::Memory);
-        };
         if self.reserve().is_err() {
             return Err(StepErr::Memory);
         }
@@ -112,7 +109,6 @@ impl<P: TakePolicy, D: Disk> CoordActor<P, D> {
             answer: step.answer,
             sends: step.sends,
             after: 0,
-            places,
         });
         Ok(copy)
     }

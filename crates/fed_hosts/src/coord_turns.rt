@@ -1,6 +1,5 @@
 //! A turn of the coordinator's host.
-ghost use Rattle.std.specs.Prelude.{◌≡◌, ◌<◌, ◌≤◌, [], false, true, IfErr, IfOk, IsTrue, length};
-ghost use Rattle.std.specs.Vec.{vec_capacity};
+ghost use Rattle.std.specs.Prelude.{◌≡◌, ◌<◌, false, true, IfErr, IfOk, IsTrue, length};
 ghost use Rattle.fed_hosts.specs.CoordKeeps.{CoordKeeps};
 ghost use Rattle.fed_hosts.specs.CoordRooms.{HasCoordRoom};
 ghost use Rattle.fed_hosts.specs.CoordServing.{HasCoordFailed, HoldsFrom};
@@ -16,7 +15,7 @@ use crate::rounds::{Arrived, next_arrived};
 use crate::site_actor::MOST_LINES;
 use crate::turns::MOST_STAMP;
 use fed_messages::decode_from;
-use fed_rules::{Command, Place};
+use fed_rules::Command;
 use global_exec::TakePolicy;
 use global_manager::StepErr;
 use journal_disk::Disk;
@@ -36,17 +35,14 @@ impl<P: TakePolicy, D: Disk> CoordActor<P, D> {
         if self.lines.len() >= MOST_LINES {
             return Ok(false);
         }
-        let Ok(places) = Vec::with_capacity(self.alloc, self.ports.len()) else {
-            return Err(StepErr::Memory);
-        };
         if self.reserve().is_err() {
             return Err(StepErr::Memory);
         }
         if self.manager.core().is_down() {
-            return self.start::<N>(places);
+            return self.start::<N>();
         }
         match next_arrived(&mut self.ports, self.first) {
-            Some(arrived) => match self.hear::<N>(arrived, places) {
+            Some(arrived) => match self.hear::<N>(arrived) {
                 Ok(made) => {
                     self.first = arrived.place + 1;
                     Ok(made)
@@ -58,11 +54,10 @@ impl<P: TakePolicy, D: Disk> CoordActor<P, D> {
     }
 
     /// Starts the coordinator again.
-    fn start<N: Plan>(&mut self, places: Vec<Place>) -> Result<bool, StepErr>
+    fn start<N: Plan>(&mut self) -> Result<bool, StepErr>
         requires told { IsTrue D.tells }
         requires few { length self.old.lines.items < most_lines }
         requires room { HasCoordRoom self.old }
-        requires places { (places.items ≡ []) × (length self.old.ports.items ≤ vec_capacity places) }
         requires keeps { CoordKeeps P.policy D.tells D.seen N.coordinator N.rings false self.old }
         ensures keeps { IfOk result (λ _. CoordKeeps P.policy D.tells D.seen N.coordinator N.rings false self.new) }
         ensures turned { IfOk result (RestartsCoord (coord_view_of self.old false) (coord_view_of self.new false)) }
@@ -75,18 +70,16 @@ impl<P: TakePolicy, D: Disk> CoordActor<P, D> {
             answer: step.answer,
             sends: step.sends,
             after: 0,
-            places,
         });
         Ok(true)
     }
 
     /// Takes a packet. One that spells no envelope, or has a stamp of 2^62 or more, is left aside. Where the message isn't answered the
     /// packet is put back.
-    fn hear<N: Plan>(&mut self, arrived: Arrived, places: Vec<Place>) -> Result<bool, StepErr>
+    fn hear<N: Plan>(&mut self, arrived: Arrived) -> Result<bool, StepErr>
         requires told { IsTrue D.tells }
         requires few { length self.old.lines.items < most_lines }
         requires room { HasCoordRoom self.old }
-        requires places { (places.items ≡ []) × (length self.old.ports.items ≤ vec_capacity places) }
         requires arrived { HasArrived self.old.ports.items arrived }
         requires keeps { HoldsFrom P.policy D.tells D.seen N.coordinator N.rings arrived self.old }
         ensures keeps { IfOk result (λ _. CoordKeeps P.policy D.tells D.seen N.coordinator N.rings false self.new) }
@@ -117,7 +110,6 @@ impl<P: TakePolicy, D: Disk> CoordActor<P, D> {
                     answer: step.answer,
                     sends: step.sends,
                     after: envelope.stamp,
-                    places,
                 });
                 Ok(true)
             }

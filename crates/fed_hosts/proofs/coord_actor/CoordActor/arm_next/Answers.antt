@@ -35,7 +35,7 @@ returns-clause-armed g c tells seen rings plan turns logged some planned stood =
     let old = c.args.self.now in
     let new = c.note.new.self in
     let stop = c.stop_at-stop.result in
-    let told : CoordTold = record { command = Cmd.Trip stop.actor stop.calls stop.cut; answer = c.arm-answer.result; sends = []; after = 0; places = c.new.result } in
+    let told : CoordTold = record { command = Cmd.Trip stop.actor stop.calls stop.cut; answer = c.arm-answer.result; sends = []; after = 0 } in
     let set = c.is_armed.ensures plan.terms past (c.core.ensures.stood tells seen plan.terms plan.programs past stood).holds in
     let same = coord_as_many plan turns old logged in
     coord_arms test tells seen plan turns rings old new stop told logged some planned

@@ -76,7 +76,7 @@ take-requires-clause-stood g c =
     record { terms = plan.terms; programs = plan.programs; past = past; stood = k.standing; holds = among }
 
 pub carry-requires-clause-room : goal.carry-requires-clause-room
-carry-requires-clause-room g c = record { lines = c.requires.room.lines; ports = c.requires.room.ports }
+carry-requires-clause-room g c = record { lines = c.requires.room.lines; ports = c.requires.room.ports; places = c.requires.room.places }
 
 pub carry-requires-clause-ready : goal.carry-requires-clause-ready
 carry-requires-clause-ready g c =
@@ -97,9 +97,9 @@ carry-requires-clause-ready g c =
     let envelope = c.in-Some.envelope in
     let step = c.in-Ok.step in
     let mid = record old { manager = c.take.new.self; disk = c.take.new.disk } in
-    let told : CoordTold = record { command = Cmd.Take from.ends.site envelope.index; answer = step.answer; sends = step.sends; after = envelope.stamp; places = c.args.places } in
-    coord_line_ready mid plan k.turns told (coord_kept_for old c.take.new.self c.take.new.disk plan k.turns k.kept) (record { lines = c.requires.room.lines; ports = c.requires.room.ports })
-    (omega (arith, c.if-envelope-ge-MOST_STAMP.false)) c.requires.places
+    let told : CoordTold = record { command = Cmd.Take from.ends.site envelope.index; answer = step.answer; sends = step.sends; after = envelope.stamp } in
+    coord_line_ready mid plan k.turns told (coord_kept_for old c.take.new.self c.take.new.disk plan k.turns k.kept) (record { lines = c.requires.room.lines; ports = c.requires.room.ports; places = c.requires.room.places })
+    (omega (arith, c.if-envelope-ge-MOST_STAMP.false))
 
 pub carry-requires-clause-last : goal.carry-requires-clause-last
 carry-requires-clause-last g c = coord_last_fits c.args.self.now g.N.Plan.coordinator c.requires.keeps.keeps.turns c.requires.keeps.keeps.kept
@@ -153,8 +153,8 @@ returns-in-Ok-clause-keeps g c =
     let step = c.in-Ok.step in
     let bears : BearsFrom arrived.packet envelope = record { in_range = c.in-Some.ensures.in_range; spelled = c.in-Some.ensures.spelled; small = omega (arith, c.if-envelope-ge-MOST_STAMP.false) } in
     let sends = c.in-Ok.ensures.served plan.terms plan.programs past k.standing among in
-    let told : CoordTold = record { command = Cmd.Take from.ends.site envelope.index; answer = step.answer; sends = step.sends; after = envelope.stamp; places = c.args.places } in
-    let line = coord_take_line test tells seen plan rings old c.take.new.self c.take.new.disk c.carry.new.self c.requires.few (clean _ _ step c.in-Ok.ensures.cause) c.carry.ensures.beside c.carry.ensures.moved_on arrived held from envelope step c.args.places at bears sends told refl
+    let told : CoordTold = record { command = Cmd.Take from.ends.site envelope.index; answer = step.answer; sends = step.sends; after = envelope.stamp } in
+    let line = coord_take_line test tells seen plan rings old c.take.new.self c.take.new.disk c.carry.new.self c.requires.few (clean _ _ step c.in-Ok.ensures.cause) c.carry.ensures.beside c.carry.ensures.moved_on arrived held from envelope step at bears sends told refl
     (c.carry.ensures.carried tells (seen c.take.new.disk)) in
     line.keeps
 
@@ -178,8 +178,8 @@ returns-in-Ok-clause-takes g c =
     let step = c.in-Ok.step in
     let bears : BearsFrom arrived.packet envelope = record { in_range = c.in-Some.ensures.in_range; spelled = c.in-Some.ensures.spelled; small = omega (arith, c.if-envelope-ge-MOST_STAMP.false) } in
     let sends = c.in-Ok.ensures.served plan.terms plan.programs past k.standing among in
-    let told : CoordTold = record { command = Cmd.Take from.ends.site envelope.index; answer = step.answer; sends = step.sends; after = envelope.stamp; places = c.args.places } in
-    let line = coord_take_line test tells seen plan rings old c.take.new.self c.take.new.disk c.carry.new.self c.requires.few (clean _ _ step c.in-Ok.ensures.cause) c.carry.ensures.beside c.carry.ensures.moved_on arrived held from envelope step c.args.places at bears sends told refl
+    let told : CoordTold = record { command = Cmd.Take from.ends.site envelope.index; answer = step.answer; sends = step.sends; after = envelope.stamp } in
+    let line = coord_take_line test tells seen plan rings old c.take.new.self c.take.new.disk c.carry.new.self c.requires.few (clean _ _ step c.in-Ok.ensures.cause) c.carry.ensures.beside c.carry.ensures.moved_on arrived held from envelope step at bears sends told refl
     (c.carry.ensures.carried tells (seen c.take.new.disk)) in
     let p = k.planned.each arrived.place from at in
     record {

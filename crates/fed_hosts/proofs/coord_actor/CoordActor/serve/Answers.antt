@@ -134,11 +134,9 @@ carry-requires-clause-ready g c =
     let k = coord_keeps_same test tells seen plan rings c.args.self.now ready c.reserve.ensures.same c.requires.keeps in
     let mid = record ready { manager = c.ask.new.manager; disk = c.ask.new.disk } in
     let step = c.in_ok-step.step in
-    let told : CoordTold = record { command = c.command.result; answer = step.answer; sends = step.sends; after = 0; places = c.in-Ok.places } in
+    let told : CoordTold = record { command = c.command.result; answer = step.answer; sends = step.sends; after = 0 } in
     let room : HasCoordRoom ready = ok_so c.reserve.result (sym c.is_err.ensures.value ∙ c.if-is_err.false) c.reserve.ensures.room in
-    let count = c.reserve.ensures.same.ports.count in
-    coord_line_ready mid plan k.turns told (coord_kept_for ready c.ask.new.manager c.ask.new.disk plan k.turns k.kept) (record { lines = room.lines; ports = room.ports }) (omega arith)
-    (c.in-Ok.ensures.items, omega (arith, count, c.args.self.now.ports.ok.0, c.len-2.ensures, c.in-Ok.ensures.capacity))
+    coord_line_ready mid plan k.turns told (coord_kept_for ready c.ask.new.manager c.ask.new.disk plan k.turns k.kept) (record { lines = room.lines; ports = room.ports; places = room.places }) (omega arith)
 
 pub carry-requires-clause-last : goal.carry-requires-clause-last
 carry-requires-clause-last g c =
@@ -169,7 +167,7 @@ returns-clause-keeps g c =
     let known = c.if-is_unknown.ensures.known refl plan.terms plan.programs past recalls in
     let may = c.if-is_last.ensures.left refl plan.terms plan.programs past recalls in
     let count = ap length c.reserve.ensures.same.lines in
-    let told : CoordTold = record { command = c.command.result; answer = step.answer; sends = step.sends; after = 0; places = c.in-Ok.places } in
+    let told : CoordTold = record { command = c.command.result; answer = step.answer; sends = step.sends; after = 0 } in
     let line = coord_call_line test tells seen plan rings ready c.ask.new.manager c.ask.new.disk c.carry.new.self c.args.call told k refl c.command.ensures served known may
     (omega (arith, count, old.lines.ok.0, c.len.ensures, c.if-len-ge-MOST_LINES.false)) (clean _ _ step c.in_ok-step.ensures.cause) (c.carry.ensures.carried tells (seen c.ask.new.disk)) c.carry.ensures.beside c.carry.ensures.moved_on in
     line.keeps
@@ -192,7 +190,7 @@ returns-clause-served g c =
     let known = c.if-is_unknown.ensures.known refl plan.terms plan.programs past recalls in
     let may = c.if-is_last.ensures.left refl plan.terms plan.programs past recalls in
     let count = ap length c.reserve.ensures.same.lines in
-    let told : CoordTold = record { command = c.command.result; answer = step.answer; sends = step.sends; after = 0; places = c.in-Ok.places } in
+    let told : CoordTold = record { command = c.command.result; answer = step.answer; sends = step.sends; after = 0 } in
     let line = coord_call_line test tells seen plan rings ready c.ask.new.manager c.ask.new.disk c.carry.new.self c.args.call told k refl c.command.ensures served known may
     (omega (arith, count, old.lines.ok.0, c.len.ensures, c.if-len-ge-MOST_LINES.false)) (clean _ _ step c.in_ok-step.ensures.cause) (c.carry.ensures.carried tells (seen c.ask.new.disk)) c.carry.ensures.beside c.carry.ensures.moved_on in
     record {
@@ -229,4 +227,4 @@ returns-in_err-step-clause-same g c =
 pub carry-requires-clause-room : goal.carry-requires-clause-room
 carry-requires-clause-room g c =
     let room : HasCoordRoom c.reserve.new.self = ok_so c.reserve.result (sym c.is_err.ensures.value ∙ c.if-is_err.false) c.reserve.ensures.room in
-    record { lines = room.lines; ports = room.ports }
+    record { lines = room.lines; ports = room.ports; places = room.places }

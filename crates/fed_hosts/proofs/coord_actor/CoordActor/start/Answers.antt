@@ -33,7 +33,7 @@ returns-in_err-step-clause-failed g c =
     (c.in_err-step.ensures.failed plan.terms plan.programs (coord_past_of plan k.turns) k.standing) c.in_err-step.ensures.cause (same_coord new))
 
 pub carry-requires-clause-room : goal.carry-requires-clause-room
-carry-requires-clause-room g c = record { lines = c.requires.room.lines; ports = c.requires.room.ports }
+carry-requires-clause-room g c = record { lines = c.requires.room.lines; ports = c.requires.room.ports; places = c.requires.room.places }
 
 pub carry-requires-clause-ready : goal.carry-requires-clause-ready
 carry-requires-clause-ready g c =
@@ -41,8 +41,8 @@ carry-requires-clause-ready g c =
     let k = c.requires.keeps in
     let old = c.args.self.now in
     let mid = record old { manager = c.back.new.self; disk = c.back.new.disk } in
-    let told : CoordTold = record { command = Cmd.Back 0; answer = c.in_ok-step.step.answer; sends = c.in_ok-step.step.sends; after = 0; places = c.args.places } in
-    coord_line_ready mid plan k.turns told (coord_kept_for old c.back.new.self c.back.new.disk plan k.turns k.kept) (record { lines = c.requires.room.lines; ports = c.requires.room.ports }) (omega arith) c.requires.places
+    let told : CoordTold = record { command = Cmd.Back 0; answer = c.in_ok-step.step.answer; sends = c.in_ok-step.step.sends; after = 0 } in
+    coord_line_ready mid plan k.turns told (coord_kept_for old c.back.new.self c.back.new.disk plan k.turns k.kept) (record { lines = c.requires.room.lines; ports = c.requires.room.ports; places = c.requires.room.places }) (omega arith)
 
 pub carry-requires-clause-last : goal.carry-requires-clause-last
 carry-requires-clause-last g c = coord_last_fits c.args.self.now g.N.Plan.coordinator c.requires.keeps.turns c.requires.keeps.kept
@@ -58,8 +58,8 @@ returns-clause-keeps g c =
     let old = c.args.self.now in
     let step = c.in_ok-step.step in
     let served = c.in_ok-step.ensures.served plan.terms plan.programs (coord_past_of plan k.turns) k.standing in
-    let told : CoordTold = record { command = Cmd.Back 0; answer = step.answer; sends = step.sends; after = 0; places = c.args.places } in
-    (coord_start_line test tells seen plan rings old c.back.new.self c.back.new.disk c.carry.new.self c.requires.few (clean _ _ step c.in_ok-step.ensures.cause) c.carry.ensures.beside c.carry.ensures.moved_on k step c.args.places served told refl
+    let told : CoordTold = record { command = Cmd.Back 0; answer = step.answer; sends = step.sends; after = 0 } in
+    (coord_start_line test tells seen plan rings old c.back.new.self c.back.new.disk c.carry.new.self c.requires.few (clean _ _ step c.in_ok-step.ensures.cause) c.carry.ensures.beside c.carry.ensures.moved_on k step served told refl
     (c.carry.ensures.carried tells (seen c.back.new.disk))).keeps
 
 pub returns-clause-turned : goal.returns-clause-turned
@@ -73,7 +73,7 @@ returns-clause-turned g c =
     let old = c.args.self.now in
     let step = c.in_ok-step.step in
     let served = c.in_ok-step.ensures.served plan.terms plan.programs (coord_past_of plan k.turns) k.standing in
-    let told : CoordTold = record { command = Cmd.Back 0; answer = step.answer; sends = step.sends; after = 0; places = c.args.places } in
-    let line = coord_start_line test tells seen plan rings old c.back.new.self c.back.new.disk c.carry.new.self c.requires.few (clean _ _ step c.in_ok-step.ensures.cause) c.carry.ensures.beside c.carry.ensures.moved_on k step c.args.places served told refl
+    let told : CoordTold = record { command = Cmd.Back 0; answer = step.answer; sends = step.sends; after = 0 } in
+    let line = coord_start_line test tells seen plan rings old c.back.new.self c.back.new.disk c.carry.new.self c.requires.few (clean _ _ step c.in_ok-step.ensures.cause) c.carry.ensures.beside c.carry.ensures.moved_on k step served told refl
     (c.carry.ensures.carried tells (seen c.back.new.disk)) in
     record { line = record { answer = step.answer; adds = line.adds; says = refl }; others = line.view }

@@ -55,8 +55,8 @@ returns-then-is_down-clause-same g c =
     let shown = coord_view_same c.args.self.now c.reserve.new.self c.reserve.ensures.same c.reserve.ensures.first false in
     err_map c.start.result (λ (e : new ≡ ready). coord_same_but new old (e ∙ shown)) c.start.ensures.same
 
-pub returns-in-Ok-hear-clause-turned : goal.returns-in-Ok-hear-clause-turned
-returns-in-Ok-hear-clause-turned g c =
+pub returns-in-Ok-clause-turned : goal.returns-in-Ok-clause-turned
+returns-in-Ok-clause-turned g c =
     let old = c.args.self.now in
     let ready = c.reserve.new.self in
     let same = c.reserve.ensures.same in
@@ -84,8 +84,8 @@ returns-in-Ok-hear-clause-turned g c =
         seen = is_seen;
         does = inr (
           up,
-          inl (hears_from plan (length ready.ports.items) arrived.place (arrived.place + 1) arrived.packet (coord_view_of old false) (coord_view_of ready false) heard (tooks_of mid.ports.items) (empties_of mid.ports.items) c.in-Ok-hear.made shown
-              c.in-Ok-hear.ensures.others count c.in-Ok-hear.ensures.takes (taken_one ready.ports.items mid.ports.items arrived c.in-Some.ensures.polled) c.in-Some.ensures.passed refl),
+          inl (hears_from plan (length ready.ports.items) arrived.place (arrived.place + 1) arrived.packet (coord_view_of old false) (coord_view_of ready false) heard (tooks_of mid.ports.items) (empties_of mid.ports.items) c.in-Ok.made shown
+              c.in-Ok.ensures.others count c.in-Ok.ensures.takes (taken_one ready.ports.items mid.ports.items arrived c.in-Some.ensures.polled) c.in-Some.ensures.passed refl),
         );
       },
     )
@@ -121,20 +121,17 @@ returns-in-None-clause-turned g c =
       },
     )
 
-pub start-requires-clause-places : goal.start-requires-clause-places
-start-requires-clause-places g c = let count = c.reserve.ensures.same.ports.count in (c.in-Ok.ensures.items, omega (arith, count, c.args.self.now.ports.ok.0, c.len-2.ensures, c.in-Ok.ensures.capacity))
-
 pub hear-requires-clause-room : goal.hear-requires-clause-room
 hear-requires-clause-room g c =
     let ready = c.reserve.new.self in
     let room : HasCoordRoom ready = ok_so c.reserve.result (sym c.is_err.ensures.value ∙ c.if-is_err.false) c.reserve.ensures.room in
-    record { lines = room.lines; ports = room_polled (Some c.in-Some.arrived) ready.ports.items c.next_arrived.new.ports.items c.in-Some.ensures.polled room.ports }
-
-pub hear-requires-clause-places : goal.hear-requires-clause-places
-hear-requires-clause-places g c =
-    let count = c.reserve.ensures.same.ports.count in
-    let polled = c.in-Some.ensures.polled.count in
-    (c.in-Ok.ensures.items, omega (arith, count, polled, c.args.self.now.ports.ok.0, c.len-2.ensures, c.in-Ok.ensures.capacity))
+    let count = c.in-Some.ensures.polled.count in
+    let fits = room.places.fits in
+    record {
+      lines = room.lines;
+      ports = room_polled (Some c.in-Some.arrived) ready.ports.items c.next_arrived.new.ports.items c.in-Some.ensures.polled room.ports;
+      places = record { none = room.places.none; fits = omega (arith, count, fits) };
+    }
 
 pub hear-requires-clause-keeps : goal.hear-requires-clause-keeps
 hear-requires-clause-keeps g c =
